@@ -1,0 +1,11 @@
+pub mod Lists
+pub mod Depths
+pub mod Digits
+pub mod Loops
+pub mod Values
+pub mod Laws
+pub mod Strings
+pub mod Results
+pub mod Takes
+pub mod ValuesTake
+pub mod Parts

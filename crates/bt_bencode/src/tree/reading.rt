@@ -1,0 +1,297 @@
+ghost use Rattle.std.specs.Prelude.{◌≡◌, ℕ, List, ◌+◌, ◌<◌, ◌≤◌, ◌^◌, length, Ok, Some, None, nat_lt, if◌then◌else◌, All, IsTrue, IfOk};
+ghost use Rattle.std.specs.Char.{is_ascii_digit};
+ghost use Rattle.std.specs.Str.Parse.{digits_value};
+ghost use Rattle.bt_bencode.specs.Term.{Term, span_of, get, depth, depth_of_terms, depth_of_entries};
+ghost use Rattle.bt_bencode.specs.Grammar.{Spells, IsTree, IsSound, AreSound, EntriesAreSound, spelling, keys_rise};
+ghost use Rattle.bt_bencode.specs.Placed.{placed, StandsAt};
+ghost use Rattle.bt_bencode.specs.View.{terms_from, entries_from, last_key};
+ghost use Rattle.bt_bencode.specs.Reading.{Gives, tree_of, value_at, items_at, entries_at};
+ghost use Rattle.bt_bencode.specs.Reading.{is_late, no_key, run_at, is_padded, string_at, integer_at, signed_of};
+
+use super::{MAX_DEPTH, Node, Tree};
+use crate::fault::BenFault;
+use crate::span::Span;
+use std::alloc::Global;
+
+/// The tree that all of the bytes spell, or the first fault that is met from left to right (BEP 3, "bencoding"; beyond it
+/// repeated keys, leading zeros in a length, numbers past 64 bits and a nesting above 64 are refused).
+///
+/// It goes over the bytes once. For a length that is announced it makes no room before as many bytes are there.
+pub fn parse(alloc: Global, source: &[u8]) -> Result<Tree, BenFault>
+    // Nothing but the spelling of a tree is taken, and each part's span is where it stands.
+    ensures found { IfOk result (λ t. Spells t source.now) }
+    ensures spans { IfOk result (λ t. placed 0 t ≡ t) }
+    // The value at a key stands in the source where its span says.
+    ensures parts { IfOk result (λ t. (key : List ℕ) (part : Term) → get t key ≡ Some part →
+        StandsAt source.now (span_of part) (spelling part)) }
+    // The spelling of a tree is taken as that tree, unless memory runs out.
+    ensures only { (t : Term) → Spells t source.now → Gives (λ r. r) result (Ok (placed 0 t)) }
+    // Which tree or which fault it is.
+    ensures exact { Gives (λ t. t) result (tree_of source.now) }
+{
+    whole(alloc, source)
+}
+
+/// The tree that is read from all of the bytes.
+#[tactic(auto, unfolding(crate::specs::Reading::tree_of))]
+fn whole(alloc: Global, source: &[u8]) -> Result<Tree, BenFault>
+    ensures read { Gives (λ t. t) result (tree_of source.now) }
+    ensures is_tree { IfOk result IsTree }
+{
+    let (tree, end) = value(alloc, source, 0, MAX_DEPTH)?;
+    if end < source.len() {
+        return Err(BenFault::Trailing);
+    }
+    Ok(tree)
+}
+
+/// The items of a list, the levels of the deepest, and the place behind the list.
+#[derive(Drop)]
+struct ReadItems {
+    items: Vec<Tree>,
+    levels: u8,
+    end: usize,
+}
+
+/// The entries of a dictionary, the levels of the deepest value, and the place behind the dictionary.
+#[derive(Drop)]
+struct ReadEntries {
+    entries: Vec<(Vec<u8>, Tree)>,
+    levels: u8,
+    end: usize,
+}
+
+/// The value at a place with room for this many levels, and the place behind it.
+#[cycle(value)]
+#[tactic(auto, using(crate::proofs::Values::value_rules))]
+fn value(alloc: Global, source: &[u8], at: usize, room: u8) -> Result<(Tree, usize), BenFault>
+    requires place { at ≤ length source.now }
+    requires room { room ≤ 64 }
+    ensures read { Gives (λ x. x) result (value_at room source.now at) }
+    ensures end { IfOk result (λ x. (at < x.1) × (x.1 ≤ length source.now)) }
+    ensures levels { IfOk result (λ x. depth x.0 ≤ room) }
+    ensures sound { IfOk result (λ x. IsSound x.0) }
+{
+    if at == source.len() {
+        return Err(BenFault::Truncated);
+    }
+    let byte = source[at];
+    let (node, levels, end) = match byte {
+        b'i' => {
+            let (number, end) = integer(source, at + 1)?;
+            (Node::Int(number), 0, end)
+        }
+        b'l' | b'd' if room == 0 => return Err(BenFault::TooDeep),
+        b'l' => {
+            let read = list_items(alloc, source, at + 1, room - 1)?;
+            (Node::List(read.items), read.levels + 1, read.end)
+        }
+        b'd' => {
+            let read = dict_entries(alloc, source, at + 1, room - 1)?;
+            (Node::Dict(read.entries), read.levels + 1, read.end)
+        }
+        _ if byte.is_ascii_digit() => {
+            let (bytes, end) = string(source, at)?;
+            (Node::Text(Vec::from_slice(alloc, bytes)?), 0, end)
+        }
+        _ => return Err(BenFault::BadByte),
+    };
+    let span = Span { start: at, end };
+    Ok((Tree { span, levels, node }, end))
+}
+
+/// What stands behind the `l` of a list, up to its end.
+#[cycle(value)]
+fn list_items(alloc: Global, source: &[u8], at: usize, room: u8) -> Result<ReadItems, BenFault>
+    requires place { at ≤ length source.now }
+    requires room { room < 64 }
+    ensures read { Gives (λ r. (terms_from r.items.items, r.end)) result
+        (items_at (value_at room source.now) source.now (length source.now) at) }
+    ensures end { IfOk result (λ r. (at < r.end) × (r.end ≤ length source.now)) }
+    ensures levels { IfOk result (λ r. (r.levels ≡ depth_of_terms (terms_from r.items.items)) × (r.levels ≤ room)) }
+    ensures sound { IfOk result (λ r. AreSound (terms_from r.items.items)) }
+{
+    let mut items = Vec::new(alloc);
+    let mut levels = 0;
+    let mut place = at;
+    while place < source.len() {
+        if source[place] == b'e' {
+            let end = place + 1;
+            return Ok(ReadItems { items, levels, end });
+        }
+        let (item, end) = value(alloc, source, place, room)?;
+        levels = item.levels.max(levels);
+        items.push(item)?;
+        place = end;
+    }
+    Err(BenFault::Truncated)
+}
+
+/// What stands behind the `d` of a dictionary, up to its end.
+#[cycle(value)]
+fn dict_entries(alloc: Global, source: &[u8], at: usize, room: u8) -> Result<ReadEntries, BenFault>
+    requires place { at ≤ length source.now }
+    requires room { room < 64 }
+    ensures read { Gives (λ r. (entries_from r.entries.items, r.end)) result
+        (entries_at (value_at room source.now) source.now (length source.now) None at) }
+    ensures end { IfOk result (λ r. (at < r.end) × (r.end ≤ length source.now)) }
+    ensures levels { IfOk result (λ r. (r.levels ≡ depth_of_entries (entries_from r.entries.items)) × (r.levels ≤ room)) }
+    ensures sound { IfOk result (λ r. IsTrue (keys_rise (entries_from r.entries.items)) × EntriesAreSound (entries_from r.entries.items)) }
+{
+    let mut entries: Vec<(Vec<u8>, Tree)> = Vec::new(alloc);
+    let mut levels = 0;
+    let mut place = at;
+    while place < source.len() {
+        if source[place] == b'e' {
+            let end = place + 1;
+            return Ok(ReadEntries {
+                entries,
+                levels,
+                end,
+            });
+        }
+        if !source[place].is_ascii_digit() {
+            return Err(no_key(source[place]));
+        }
+        let (key, end) = string(source, place)?;
+        if is_late(&entries, key) {
+            return Err(BenFault::KeyOrder);
+        }
+        let (value, end) = value(alloc, source, end, room)?;
+        levels = value.levels.max(levels);
+        entries.push((Vec::from_slice(alloc, key)?, value))?;
+        place = end;
+    }
+    Err(BenFault::Truncated)
+}
+
+/// Why no key begins with this byte.
+fn no_key(byte: u8) -> BenFault
+    ensures { result ≡ no_key byte }
+{
+    match byte {
+        b'i' | b'l' | b'd' => BenFault::KeyKind,
+        _ => BenFault::BadByte,
+    }
+}
+
+/// Whether a key isn't above the one before it.
+fn is_late(entries: &[(Vec<u8>, Tree)], key: &[u8]) -> bool
+    ensures { result ≡ is_late (last_key entries.now) key.now }
+{
+    let count = entries.len();
+    if count == 0 {
+        return false;
+    }
+    let last = &entries[count - 1];
+    !last.0.as_slice().cmp(key).is_lt()
+}
+
+/// The integer behind an `i`, and the place behind it.
+#[tactic(auto, unfolding(crate::specs::Reading::integer_at))]
+fn integer(source: &[u8], at: usize) -> Result<(i64, usize), BenFault>
+    requires { at ≤ length source.now }
+    ensures read { Gives (λ x. x) result (integer_at source.now at) }
+    ensures end { IfOk result (λ x. (at < x.1) × (x.1 ≤ length source.now)) }
+{
+    let negative = at < source.len() && source[at] == b'-';
+    let start = if negative { at + 1 } else { at };
+    let run = digits(source, start);
+    let end = start + run.len();
+    if end == source.len() {
+        return Err(BenFault::Truncated);
+    }
+    if source[end] != b'e' {
+        return Err(BenFault::BadInteger);
+    }
+    if run.is_empty() || padded(run) || (negative && run[0] == b'0') {
+        return Err(BenFault::BadInteger);
+    }
+    let Some(number) = number(run) else {
+        return Err(BenFault::IntegerRange);
+    };
+    match signed(negative, number) {
+        Some(number) => Ok((number, end + 1)),
+        None => Err(BenFault::IntegerRange),
+    }
+}
+
+/// The number with its sign, where an i64 holds it.
+fn signed(negative: bool, number: u64) -> Option<i64>
+    ensures { result ≡ (if nat_lt number (if negative then 2 ^ 63 + 1 else 2 ^ 63) then Some (signed_of negative number) else None) }
+{
+    if negative {
+        if number == 1 << 63 {
+            return Some(i64::MIN);
+        }
+        if number > 1 << 63 {
+            return None;
+        }
+        return Some(-(number as i64));
+    }
+    if number >= 1 << 63 {
+        return None;
+    }
+    Some(number as i64)
+}
+
+/// The string at whose place a digit stands, and the place behind it.
+#[tactic(auto, unfolding(crate::specs::Reading::string_at))]
+fn string(source: &[u8], at: usize) -> Result<(&[u8], usize), BenFault>
+    requires { at ≤ length source.now }
+    ensures read { Gives (λ x. (x.0.now, x.1)) result (string_at source.now at) }
+    ensures end { IfOk result (λ x. (at < x.1) × (x.1 ≤ length source.now)) }
+{
+    let run = digits(source, at);
+    let end = at + run.len();
+    if end == source.len() {
+        return Err(BenFault::Truncated);
+    }
+    if source[end] != b':' || padded(run) {
+        return Err(BenFault::BadLength);
+    }
+    let start = end + 1;
+    match number(run) {
+        Some(len) if len <= (source.len() - start) as u64 => {
+            let len = len as usize;
+            Ok((&source[start..start + len], start + len))
+        }
+        _ => Err(BenFault::Truncated),
+    }
+}
+
+/// The longest run of digits at a place.
+fn digits(source: &[u8], at: usize) -> &[u8]
+    requires { at ≤ length source.now }
+    ensures run { result.now ≡ run_at source.now at }
+    ensures within { at + length result.now ≤ length source.now }
+{
+    let mut end = at;
+    while end < source.len() && source[end].is_ascii_digit() {
+        end += 1;
+    }
+    &source[at..end]
+}
+
+/// Whether a zero stands before another digit.
+fn padded(run: &[u8]) -> bool
+    ensures { result ≡ is_padded run.now }
+{
+    run.len() > 1 && run[0] == b'0'
+}
+
+/// The number that digits write, where 64 bits hold it.
+fn number(run: &[u8]) -> Option<u64>
+    requires { All (λ c. IsTrue (is_ascii_digit c)) run.now }
+    ensures { result ≡ (if nat_lt (digits_value 10 run.now) (2 ^ 64) then Some (digits_value 10 run.now) else None) }
+{
+    let mut number: u64 = 0;
+    for digit in run {
+        let value = (*digit - b'0') as u64;
+        if number > (u64::MAX - value) / 10 {
+            return None;
+        }
+        number = number * 10 + value;
+    }
+    Some(number)
+}

@@ -1,0 +1,17 @@
+-- What a check of a piece looked at.
+use Rattle.std.specs.Prelude.{ℕ, List}
+use Rattle.std.specs.List.{concat}
+use Rattle.sha1.specs.Sha1.{sha1}
+
+-- a piece, and the blocks of it that were hashed
+pub record Checked : Type 0 where
+  pub piece : ℕ
+  pub blocks : List (List ℕ)
+
+-- the bytes that were hashed
+abbrev pub joined : Checked → List ℕ
+joined v = concat v.blocks
+
+-- their SHA-1
+abbrev pub digest_of : Checked → List ℕ
+digest_of v = sha1 (joined v)

@@ -1,0 +1,8 @@
+//! Hashing a piece: the job, and the verdict that keeps its digest with the bytes that gave it.
+#![tactic(auto)]
+
+mod job;
+#[cfg(test)]
+mod tests;
+
+pub use job::{Job, Verdict};

@@ -1,0 +1,7 @@
+pub mod Absent
+pub mod Counts
+pub mod Numbers
+pub mod Played
+pub mod Results
+pub mod Settled
+pub mod Written

@@ -1,0 +1,35 @@
+-- How a command ends: the exit status, and the line on standard error.
+use Rattle.std.specs.Prelude.{ℕ, ◌+◌, List, ◌++◌, codes}
+use Rattle.std.specs.Fmt.{decimal}
+use Rattle.bt_meta.specs.declared.fault.MetaFault.{MetaFault}
+use Rattle.bt_meta.specs.declared.fault.MetaFault.TheVariants.{NoMemory}
+use Rattle.bt_meta.specs.Faults.{fault_number}
+use Rattle.bt_cli.specs.declared.script.fault.LineFault.{LineFault}
+use Rattle.bt_cli.specs.declared.script.fault.LineFault.TheVariants.{NotAllowed}
+use Rattle.bt_cli.specs.declared.script.fault.LineFault.TheVariants as lines
+use Rattle.bt_cli.specs.declared.fault.Fault.{Fault}
+use Rattle.bt_cli.specs.declared.fault.Fault.TheVariants.{Line, Metainfo, File, Memory}
+
+-- the exit status; that of a command that is done is 0
+abbrev pub status_of : Fault → ℕ
+status_of (Line number) = 2
+status_of (Metainfo fault) = 3
+status_of File = 4
+status_of Memory = 5
+
+-- the line on standard error, without its end
+abbrev pub fault_text : Fault → List ℕ
+fault_text (Line number) = codes "line " ++ decimal number
+fault_text (Metainfo fault) = codes "metainfo fault " ++ decimal (fault_number fault)
+fault_text File = codes "file fault"
+fault_text Memory = codes "memory"
+
+-- a fault of a metainfo file as one of the command; want of memory is want of memory
+abbrev pub of_metainfo : MetaFault → Fault
+of_metainfo NoMemory = Memory
+of_metainfo fault = Metainfo fault
+
+-- a fault of line `index`, counted from 0, as one of the command
+abbrev pub of_line : LineFault → ℕ → Fault
+of_line NotAllowed index = Line (index + 1)
+of_line lines.NoMemory index = Memory

@@ -1,0 +1,107 @@
+//! How a command ends.
+
+ghost use Rattle.std.specs.Prelude.{◌≡◌, Some, MatchResult};
+ghost use Rattle.bt_cli.specs.Statuses.{status_of, fault_text, of_metainfo};
+ghost use Rattle.bt_cli.specs.declared.fault.Fault.TheVariants.{Memory};
+
+use bt_meta::MetaFault;
+use std::alloc::{AllocError, AllocFailed};
+use std::io::Write;
+use std::{fmt, io};
+
+/// Why a command ended before it was done.
+#[derive(Clone, Copy, Debug, PartialEq, Eq)]
+pub enum Fault {
+    /// A line of a script, counted from 1.
+    Line(u64),
+    Metainfo(MetaFault),
+    /// A file that can't be opened, read whole or written; standard input and output are files too.
+    File,
+    Memory,
+}
+
+impl Fault {
+    /// The exit status of the program.
+    pub fn status(self) -> u8
+        ensures { result ≡ status_of self }
+    {
+        match self {
+            Fault::Line(_) => 2,
+            Fault::Metainfo(_) => 3,
+            Fault::File => 4,
+            Fault::Memory => 5,
+        }
+    }
+}
+
+/// The line that tells the fault on standard error, without its end.
+impl fmt::Display for Fault {
+    ghost output = { λ fault. Some (fault_text fault) };
+
+    fn fmt<W: fmt::Write>(&self, f: &mut fmt::Formatter<W>) -> fmt::Result {
+        match *self {
+            Fault::Line(number) => write!(f, "line {number}"),
+            Fault::Metainfo(fault) => {
+                let number = fault.number();
+                write!(f, "metainfo fault {number}")
+            }
+            Fault::File => write!(f, "file fault"),
+            Fault::Memory => write!(f, "memory"),
+        }
+    }
+}
+
+impl From<MetaFault> for Fault {
+    ghost from_gives = { λ fault e. e ≡ of_metainfo fault };
+
+    fn from(fault: MetaFault) -> Fault {
+        match fault {
+            MetaFault::NoMemory => Fault::Memory,
+            fault => Fault::Metainfo(fault),
+        }
+    }
+}
+
+impl From<AllocError> for Fault {
+    ghost from_gives = { λ _ e. e ≡ Memory };
+
+    fn from(_e: AllocError) -> Fault {
+        Fault::Memory
+    }
+}
+
+impl<T: Drop> From<AllocFailed<T>> for Fault {
+    ghost from_gives = { λ _ e. e ≡ Memory };
+
+    fn from(_e: AllocFailed<T>) -> Fault {
+        Fault::Memory
+    }
+}
+
+/// A writer over memory fails for want of memory; any other failure is the file's.
+impl From<io::Error> for Fault {
+    ghost use Rattle.std.specs.Prelude.{◌⊎◌};
+    ghost use Rattle.bt_cli.specs.declared.fault.Fault.TheVariants.{Memory, File};
+
+    ghost from_gives = { λ _ e. (e ≡ Memory) ⊎ (e ≡ File) };
+
+    fn from(e: io::Error) -> Fault {
+        match e.kind() {
+            io::ErrorKind::OutOfMemory => Fault::Memory,
+            _ => Fault::File,
+        }
+    }
+}
+
+/// The exit status of a command. A fault is told on `err`; that this fails changes nothing.
+pub fn conclude<E: Write>(done: Result<(), Fault>, err: &mut E) -> u8
+    ensures { MatchResult done (λ _. result ≡ 0) (λ fault. result ≡ status_of fault) }
+{
+    match done {
+        Ok(()) => 0,
+        Err(fault) => {
+            let _ = writeln!(err, "{fault}");
+            fault.status()
+        }
+    }
+}

@@ -1,0 +1,131 @@
+//! The command `script`.
+
+ghost use Rattle.std.specs.Prelude.{◌≡◌, ◌<◌, ◌+◌, ◌^◌, length, map, IfOk, IfErr, OnOk, None};
+ghost use Rattle.bt_cli.specs.Setups.{setup_in};
+ghost use Rattle.bt_cli.specs.Played.{AnswersLine};
+ghost use Rattle.bt_cli.specs.Scripts.{Blames, Explains, IsScript, IsScriptStatus, IsFirstLine, Opens, Passes, line_at, lines_of};
+
+mod fault;
+mod fields;
+mod line;
+mod player;
+mod setup;
+
+use crate::fault::{Fault, conclude};
+use crate::text::Said;
+pub use fault::LineFault;
+pub use line::{Command, Line};
+pub use player::Player;
+pub use setup::Setup;
+use std::alloc::{AllocError, Global};
+use std::io::{BufWriter, Write};
+
+/// Plays a script on a desk of its own, and prints a reply for each call, a line each; a fault goes to `err`.
+///
+/// Answers the exit status: 0 for a script; 2 for bytes that are none, with the number of the first line at fault; 4 where `out` fails;
+/// 5 for want of memory. The replies to the lines before a fault are printed.
+pub fn script_to<W: Write, E: Write>(alloc: Global, input: &[u8], out: &mut W, err: &mut E) -> u8
+    ensures { IsScriptStatus input.now result }
+{
+    conclude(print_replies(alloc, input, out), err)
+}
+
+/// The same, and no fault is told.
+pub fn run_script<W: Write>(alloc: Global, input: &[u8], out: &mut W) -> u8
+    ensures { IsScriptStatus input.now result }
+{
+    script_to(alloc, input, out, &mut std::io::sink())
+}
+
+fn print_replies<W: Write>(alloc: Global, input: &[u8], out: &mut W) -> Result<(), Fault>
+    ensures done { OnOk result (IsScript input.now) }
+    ensures fault { IfErr result (Explains input.now) }
+{
+    let mut out = BufWriter::new(alloc, out)?;
+    let played = play(alloc, input, &mut out);
+    out.flush()?;
+    played
+}
+
+fn play<O: Write>(alloc: Global, input: &[u8], out: &mut O) -> Result<(), Fault>
+    ensures done { OnOk result (IsScript input.now) }
+    ensures fault { IfErr result (Explains input.now) }
+{
+    let lines = lines(alloc, input)?;
+    let Some(first) = first_line(&lines) else {
+        return Err(Fault::Line(1));
+    };
+    let mut player = open(alloc, line_at(&lines, first), first)?;
+    for index in first + 1..lines.len() {
+        answer(alloc, &mut player, line_at(&lines, index), index, out)?;
+    }
+    Ok(())
+}
+
+/// The parts between line feeds, and what is behind the last one.
+fn lines(alloc: Global, input: &[u8]) -> Result<Vec<&[u8]>, AllocError>
+    ensures { IfOk result (λ v. map (λ x. x.now) v.items ≡ lines_of input.now) }
+{
+    input.split(|byte| *byte == b'\n').collect(alloc)
+}
+
+/// The line that isn't empty, the first one.
+fn first_line(lines: &[&[u8]]) -> Option<usize>
+    ensures { IsFirstLine (map (λ x. x.now) lines.now) result }
+{
+    for index in 0..lines.len() {
+        if !line_at(lines, index).is_empty() {
+            return Some(index);
+        }
+    }
+    None
+}
+
+fn line_at<'a>(lines: &[&'a [u8]], index: usize) -> &'a [u8]
+    requires { index < length lines.now }
+    ensures { result.now ≡ line_at (map (λ x. x.now) lines.now) index }
+{
+    lines[index]
+}
+
+/// The desk that line `index` opens, counted from 0.
+fn open(alloc: Global, text: &[u8], index: usize) -> Result<Player, Fault>
+    requires { index + 1 < 2 ^ 64 }
+    ensures ok { IfOk result (λ player. Opens text.now player.workers player.pieces) }
+    ensures err { IfErr result (λ fault. Blames fault (index + 1) (setup_in text.now ≡ None)) }
+{
+    match Setup::parse(alloc, text) {
+        Ok(setup) => Ok(Player::new(alloc, setup)?),
+        Err(fault) => Err(fault.at(index)),
+    }
+}
+
+/// Makes the call that line `index` says, and prints the reply; an empty line says nothing.
+fn answer<O: Write>(
+    alloc: Global,
+    player: &mut Player,
+    text: &[u8],
+    index: usize,
+    out: &mut O,
+) -> Result<(), Fault>
+    requires { index + 1 < 2 ^ 64 }
+    ensures ok { OnOk result (Passes player.old.workers player.old.pieces text.now) }
+    ensures err { IfErr result (λ fault.
+        Blames fault (index + 1) (¬ (Passes player.old.workers player.old.pieces text.now))) }
+    ensures prints { OnOk result (AnswersLine player.old.desk player.new.desk text.now
+        (O.contents out.old) (O.contents out.new)) }
+    ensures workers { player.new.workers ≡ player.old.workers }
+    ensures pieces { player.new.pieces ≡ player.old.pieces }
+{
+    if text.is_empty() {
+        return Ok(());
+    }
+    match player.play(alloc, text) {
+        Ok(reply) => {
+            let said = Said(reply);
+            writeln!(out, "{said}")?;
+            Ok(())
+        }
+        Err(fault) => Err(fault.at(index)),
+    }
+}

@@ -1,0 +1,6 @@
+mod examples;
+mod faults;
+mod info;
+mod reports;
+mod samples;
+mod scripts;

@@ -1,0 +1,151 @@
+//! Bytes that are no script, with the line at fault and the replies to the lines before.
+
+use crate::*;
+use std::test::*;
+
+/// Three pieces for two workers: `abc`, `abc` and `a`.
+const TORRENT: &[u8] =
+    b"torrent 3 7 2 a9993e364706816aba3e25717850c26c9cd0d89d a9993e364706816aba3e25717850c26c9cd0d89d 86f7e437faa5a7fce15d1ddcb9eaeaea377667b8\n";
+
+/// What stands behind the torrent line, the line at fault and what was printed; no line where there is no fault.
+const BEHIND: [(&[u8], u64, &[u8]); 48] = [
+    (b"", 0, b""),
+    (b"\n\n\n", 0, b""),
+    (b"0 join", 0, b"joined\n"),
+    (b"\n\n0 join\n\n", 0, b"joined\n"),
+    (b"1 join\n", 0, b"joined\n"),
+    (b"2 join\n", 2, b""),
+    (b"0 join\n2 join\n1 join\n", 3, b"joined\n"),
+    (b"\n0 join\n\n2 join", 5, b"joined\n"),
+    (b"0 bits f0\n", 2, b""),
+    (b"0 bits e000\n", 2, b""),
+    (b"0 join\n0 bits f0\n", 3, b"joined\n"),
+    (b"0 join\r\n", 2, b""),
+    (b"\r\n", 2, b""),
+    (b"0 join \n", 2, b""),
+    (b" 0 join\n", 2, b""),
+    (b"0  join\n", 2, b""),
+    (b"0\tjoin\n", 2, b""),
+    (b"0 JOIN\n", 2, b""),
+    (b"0 joi\n", 2, b""),
+    (b"0 joined\n", 2, b""),
+    (b"0\n", 2, b""),
+    (b"join\n", 2, b""),
+    (b"0 \n", 2, b""),
+    (b" \n", 2, b""),
+    (b"+0 join\n", 2, b""),
+    (b"-0 join\n", 2, b""),
+    (b"0x0 join\n", 2, b""),
+    (b"4294967296 join\n", 2, b""),
+    (b"4294967295 join\n", 2, b""),
+    (b"0 join 1\n", 2, b""),
+    (b"0 have\n", 2, b""),
+    (b"0 have +1\n", 2, b""),
+    (b"0 have 1 \n", 2, b""),
+    (b"0 have 4294967296\n", 2, b""),
+    (b"0 next 18446744073709551616\n", 2, b""),
+    (b"0 next 100000000000000000000\n", 2, b""),
+    (b"0 next\n", 2, b""),
+    (b"0 bits\n", 2, b""),
+    (b"0 bits \n", 2, b""),
+    (b"0 bits e\n", 2, b""),
+    (b"0 bits eg\n", 2, b""),
+    (b"0 block 0 0\n", 2, b""),
+    (b"0 block 0 0 \n", 2, b""),
+    (b"0 block 0 0 6\n", 2, b""),
+    (b"0 block 0 0 61 62\n", 2, b""),
+    (b"0 settle x\n", 2, b""),
+    (b"0 join\xff\n", 2, b""),
+    (b"0 join\n\xff\xfe\n", 3, b"joined\n"),
+];
+
+/// Whole scripts whose first line that isn't empty is at fault.
+const FIRST_LINES: [(&[u8], u64); 19] = [
+    (b"", 1),
+    (b"\n", 1),
+    (b"\n\n\n", 1),
+    (b"0 join\n", 1),
+    (b"\n\n0 join\n", 3),
+    (
+        b"torrent 3 7 1 a9993e364706816aba3e25717850c26c9cd0d89d\n",
+        1,
+    ),
+    (b"torrent 3 3 0 a9993e364706816aba3e25717850c26c9cd0d89d", 1),
+    (
+        b"torrent 3 3 1025 a9993e364706816aba3e25717850c26c9cd0d89d",
+        1,
+    ),
+    (b"torrent 0 3 1 a9993e364706816aba3e25717850c26c9cd0d89d", 1),
+    (
+        b"torrent 2147483649 3 1 a9993e364706816aba3e25717850c26c9cd0d89d",
+        1,
+    ),
+    (b"torrent 3 0 1", 1),
+    (b"torrent 3 0 1 a9993e364706816aba3e25717850c26c9cd0d89d", 1),
+    (
+        b"torrent 3 9223372036854775808 1 a9993e364706816aba3e25717850c26c9cd0d89d",
+        1,
+    ),
+    (
+        b"torrent 3 18446744073709551616 1 a9993e364706816aba3e25717850c26c9cd0d89d",
+        1,
+    ),
+    (b"torrent 3 3 1 a9993e364706816aba3e25717850c26c9cd0d89", 1),
+    (
+        b"torrent 3 3 1 a9993e364706816aba3e25717850c26c9cd0d89d00",
+        1,
+    ),
+    (b"torrent 3 3 1 a9993e364706816aba3e25717850c26c9cd0d89g", 1),
+    (
+        b"torrent 3 3 1 a9993e364706816aba3e25717850c26c9cd0d89d ",
+        1,
+    ),
+    (b"Torrent 3 3 1 a9993e364706816aba3e25717850c26c9cd0d89d", 1),
+];
+
+#[test]
+fn lines_behind_the_first(rt: HostRuntime) -> Result<(), Fail> {
+    for (behind, number, printed) in BEHIND {
+        let mut script = Vec::from_slice(rt.alloc(), TORRENT)?;
+        script.extend_from_slice(behind)?;
+        let mut out = Vec::new(rt.alloc());
+        let mut err = Vec::new(rt.alloc());
+        let status = script_to(rt.alloc(), &script, &mut out, &mut err);
+        assert_eq!(rt; status, if number == 0 { 0 } else { 2 }, "{behind:?}");
+        assert_eq!(rt; out.as_slice(), printed, "{behind:?}");
+        let told = if number == 0 {
+            String::new(rt.alloc())
+        } else {
+            format!(in rt.alloc(); "line {number}\n")?
+        };
+        assert_eq!(rt; err.as_slice(), told.as_bytes(), "{behind:?}");
+    }
+    Ok(())
+}
+
+#[test]
+fn first_lines(rt: HostRuntime) -> Result<(), Fail> {
+    for (script, number) in FIRST_LINES {
+        let mut out = Vec::new(rt.alloc());
+        let mut err = Vec::new(rt.alloc());
+        assert_eq!(rt;
+            script_to(rt.alloc(), script, &mut out, &mut err),
+            2,
+            "{script:?}"
+        );
+        assert_eq!(rt; out.as_slice(), b"".as_slice(), "{script:?}");
+        let told = format!(in rt.alloc(); "line {number}\n")?;
+        assert_eq!(rt; err.as_slice(), told.as_bytes(), "{script:?}");
+    }
+    Ok(())
+}
+
+#[test]
+fn most_workers(rt: HostRuntime) -> Result<(), Fail> {
+    let script =
+        b"torrent 3 3 1024 a9993e364706816aba3e25717850c26c9cd0d89d\n1023 join\n".as_slice();
+    let mut out = Vec::new(rt.alloc());
+    assert_eq!(rt; run_script(rt.alloc(), script, &mut out), 0);
+    assert_eq!(rt; out.as_slice(), b"joined\n".as_slice());
+    Ok(())
+}

@@ -1,0 +1,70 @@
+//! Scripts by their replies.
+
+use super::examples::EXAMPLES;
+use crate::*;
+use std::alloc::{AllocError, Global};
+use std::io::Cursor;
+use std::test::*;
+
+/// The lines of an example without their replies, and the replies.
+fn parts(alloc: Global, torrent: &str, lines: &str) -> Result<(String, String), AllocError> {
+    let mut script = String::from_str(alloc, torrent)?;
+    let mut replies = String::new(alloc);
+    for line in lines.lines() {
+        let (call, reply) = line.split_once(" = ").unwrap_or((line, ""));
+        script.push('\n')?;
+        script.push_str(call)?;
+        replies.push_str(reply)?;
+        replies.push('\n')?;
+    }
+    Ok((script, replies))
+}
+
+#[test]
+fn worked_examples(rt: HostRuntime) -> Result<(), Fail> {
+    for example in EXAMPLES {
+        let name = example.name;
+        let (script, replies) = parts(rt.alloc(), example.torrent, example.lines)?;
+        let mut out = Vec::new(rt.alloc());
+        let status = run_script(rt.alloc(), script.as_bytes(), &mut out);
+        assert_eq!(rt; status, 0, "{name}");
+        assert_eq!(rt; out.as_slice(), replies.as_bytes(), "{name}");
+    }
+    Ok(())
+}
+
+/// Blocks of their full size, in a piece of two.
+#[test]
+fn blocks_of_two(rt: HostRuntime) -> Result<(), Fail> {
+    let torrent =
+        "torrent 32768 65536 1 a9993e364706816aba3e25717850c26c9cd0d89d a9993e364706816aba3e25717850c26c9cd0d89d";
+    let mut block = String::new(rt.alloc());
+    for _ in 0..16384 {
+        block.push_str("61")?;
+    }
+    let script = format!(in rt.alloc();
+        "{torrent}\n0 join\n0 block 0 0 {block}\n0 block 0 0 {block}\n0 block 0 16384 {block}\n0 settle 0\n"
+    )?;
+    let mut out = Vec::new(rt.alloc());
+    assert_eq!(rt; run_script(rt.alloc(), script.as_bytes(), &mut out), 0);
+    assert_eq!(rt;
+        out.as_slice(),
+        b"joined\nstored\ndropped\ncompleted\nfailed\n".as_slice()
+    );
+    Ok(())
+}
+
+/// An output that takes no more than so many bytes.
+#[test]
+fn a_full_output(rt: HostRuntime) -> Result<(), Fail> {
+    let script = "torrent 3 3 1 a9993e364706816aba3e25717850c26c9cd0d89d\n0 join\n";
+    let mut err = Vec::new(rt.alloc());
+    let mut room = [0; 3];
+    let mut out = Cursor::new(room.as_mut_slice());
+    assert_eq!(rt;
+        script_to(rt.alloc(), script.as_bytes(), &mut out, &mut err),
+        4
+    );
+    assert_eq!(rt; err.as_slice(), b"file fault\n".as_slice());
+    Ok(())
+}

@@ -1,0 +1,273 @@
+-- What an entry that is allowed shows of the history before it.
+use Rattle.std.proofs.Common.{◌≡◌, ◌≢◌, ◌⊎◌, ℕ, ◌==◌, ◌<◌, Bool, true, false, not, ◌&&◌, ◌||◌, List, [], ◌∷◌, Option, None, Some, refl, ap, sym, ◌∙◌, subst, inl, inr, ⊎_elim}
+use Rattle.std.specs.Prelude.{if◌then◌else◌, nat_le}
+use Rattle.std.proofs.lemmas.Bool.{and_parts, not-true, not-false, or_parts, leb-false, eqb-true}
+use Rattle.bt_meta.specs.declared.block.Block.{Block}
+use Rattle.bt_meta.specs.Layout.{Layout, piece_count, hash_of}
+use Rattle.sha1.specs.Sha1.{sha1}
+use Rattle.bt_history.specs.declared.call.Reason.{Reason}
+use Rattle.bt_history.specs.declared.call.Reason.TheVariants.{NoSuchPiece, NotWaiting, Stale}
+use Rattle.bt_history.specs.declared.call.Reply.{Reply}
+use Rattle.bt_history.specs.declared.call.Reply.TheVariants.{Joined, Noted, Quiet, Cancel, Request, Choked, PipeFull, Idle, NothingLeft, Stored, Completed, Dropped, Had, Failed, Refused}
+use Rattle.bt_history.specs.declared.event.Action.{Action}
+use Rattle.bt_history.specs.declared.event.Action.TheVariants.{Join, Bits, Have, Choke, Unchoke, Next, Arrived, Settle, Leave}
+use Rattle.bt_history.specs.declared.event.Event.{Event}
+use Rattle.bt_history.specs.Setting.{Setting, some_block, some_block_of, each_block_of, is_block}
+use Rattle.bt_history.specs.History.{History, settles, is_had, is_failed}
+use Rattle.bt_history.specs.Peers.{asked, asked_count, due}
+use Rattle.bt_history.specs.Pieces.{held, full, content, had, asked_of_some, unasked, wanted, endgame, begun}
+use Rattle.bt_history.specs.Next.{Answer, Exactly, usable, continues, starts, doubles, next_answer}
+use Rattle.bt_history.specs.Legal.{same_bytes, first_cause, refusal, answer, answer_unless, arrived_answer, settled_answer, Permits, IsAllowed}
+use Rattle.bt_history.specs.Logs.{answers, answers_next, answers_arrived, call_mark}
+use Rattle.bt_history.proofs.Below.{any_fails}
+use Rattle.bt_history.proofs.NextCases.{next_is, next_answers, next_request}
+
+-- the answer to an arrival is one reply
+pub arrived_exactly : (s : Setting) (h : History) (p begin : ℕ) → (reply : Reply) × (arrived_answer s h p begin ≡ Exactly reply) × (answers_arrived reply ≡ true)
+unfolding arrived_answer
+arrived_exactly s h p begin = by_cases (some_block_of s.torrent p (λ b. (b.begin == begin) && held h b)) (each_block_of s.torrent p (λ b. (b.begin == begin) || held h b)) where
+  by_cases : (x y : Bool) → (reply : Reply) × ((if x then Exactly Dropped else if y then Exactly Completed else Exactly Stored) ≡ Exactly reply) × (answers_arrived reply ≡ true)
+  by_cases true y = (Dropped, refl, refl)
+  by_cases false true = (Completed, refl, refl)
+  by_cases false false = (Stored, refl, refl)
+
+-- a call with one reply is refused, or has that one
+exactly : (t : Layout) (cause : Option Reason) (only reply : Reply) (call : Action) → answers (call_mark call) only ≡ true
+    → Permits t (answer_unless cause (Exactly only)) reply → answers (call_mark call) reply ≡ true
+exactly t None only reply call fits h = ap (answers (call_mark call)) h ∙ fits
+exactly t (Some reason) only reply call fits h = ap (answers (call_mark call)) h ∙ refused (call_mark call) where
+  refused : (mark : _) → answers mark (Refused reason) ≡ true
+  refused mark = refl
+
+next_fits : (t : Layout) (cause : Option Reason) (s : Setting) (h : History) (w word : ℕ) (reply : Reply)
+    → Permits t (answer_unless cause (next_answer s h w)) reply → answers (call_mark (Next word)) reply ≡ true
+next_fits t None s h w word reply is = fits reply (next_answers t _ _ _ _ _ _ _ _ _ _ _ reply (subst (λ (a : Answer). Permits t a reply) (next_is s h w) is)) where
+  fits : (r : Reply) → answers_next r ≡ true → answers (call_mark (Next word)) r ≡ true
+  fits (Cancel b) h = refl
+  fits (Request b) h = refl
+  fits Choked h = refl
+  fits PipeFull h = refl
+  fits Idle h = refl
+  fits NothingLeft h = refl
+  fits (Refused reason) h = refl
+  fits Joined h = h
+  fits (Noted x) h = h
+  fits Quiet h = h
+  fits Stored h = h
+  fits Completed h = h
+  fits Dropped h = h
+  fits Had h = h
+  fits Failed h = h
+next_fits t (Some reason) s h w word reply is = ap (answers (call_mark (Next word))) is
+
+-- a reply that is allowed is one that a call of its kind can have
+pub allowed_answers : (s : Setting) (h : History) (e : Event) → IsAllowed s h e → answers (call_mark e.action) e.reply ≡ true
+unfolding IsAllowed answer settled_answer
+allowed_answers s h e allowed = by_call e.action allowed.1 where
+  by_call : (call : Action) → Permits s.torrent (answer_unless (refusal s h e.worker call) (answer s h e.worker call)) e.reply → answers (call_mark call) e.reply ≡ true
+  by_call Join is = exactly s.torrent (refusal s h e.worker Join) Joined e.reply Join refl is
+  by_call (Bits flags) is = exactly s.torrent (refusal s h e.worker (Bits flags)) _ e.reply (Bits flags) refl is
+  by_call (Have p) is = exactly s.torrent (refusal s h e.worker (Have p)) _ e.reply (Have p) refl is
+  by_call Choke is = exactly s.torrent (refusal s h e.worker Choke) Quiet e.reply Choke refl is
+  by_call Unchoke is = exactly s.torrent (refusal s h e.worker Unchoke) Quiet e.reply Unchoke refl is
+  by_call (Next word) is = next_fits s.torrent (refusal s h e.worker (Next word)) s h e.worker word e.reply is
+  by_call (Arrived p begin bytes) is =
+      let only = arrived_exactly s h p begin in
+      exactly s.torrent (refusal s h e.worker (Arrived p begin bytes)) only.0 e.reply (Arrived p begin bytes) (arrived_fits only.0 only.2)
+      (subst (λ (a : Answer). Permits s.torrent (answer_unless (refusal s h e.worker (Arrived p begin bytes)) a) e.reply) only.1 is) where
+        arrived_fits : (r : Reply) → answers_arrived r ≡ true → answers (call_mark (Arrived p begin bytes)) r ≡ true
+        arrived_fits Stored h = refl
+        arrived_fits Completed h = refl
+        arrived_fits Dropped h = refl
+        arrived_fits (Refused reason) h = refl
+        arrived_fits Joined h = h
+        arrived_fits (Noted x) h = h
+        arrived_fits Quiet h = h
+        arrived_fits (Cancel b) h = h
+        arrived_fits (Request b) h = h
+        arrived_fits Choked h = h
+        arrived_fits PipeFull h = h
+        arrived_fits Idle h = h
+        arrived_fits NothingLeft h = h
+        arrived_fits Had h = h
+        arrived_fits Failed h = h
+  by_call (Settle p bytes) is = settled_fits (same_bytes (sha1 (content s h p)) (hash_of s.torrent p)) is where
+    settled_fits : (x : Bool) → Permits s.torrent (answer_unless (refusal s h e.worker (Settle p bytes)) (Exactly (if x then Had else Failed))) e.reply
+        → answers (call_mark (Settle p bytes)) e.reply ≡ true
+    settled_fits true is = exactly s.torrent (refusal s h e.worker (Settle p bytes)) Had e.reply (Settle p bytes) refl is
+    settled_fits false is = exactly s.torrent (refusal s h e.worker (Settle p bytes)) Failed e.reply (Settle p bytes) refl is
+  by_call Leave is = exactly s.torrent (refusal s h e.worker Leave) Quiet e.reply Leave refl is
+
+-- ---- refusals
+
+-- a reply that is no refusal shows that no cause of refusal holds
+pub no_cause : (s : Setting) (h : History) (e : Event) → ((reason : Reason) → e.reply ≢ Refused reason) → IsAllowed s h e → refusal s h e.worker e.action ≡ None
+unfolding IsAllowed
+no_cause s h e unrefused allowed = either (refusal s h e.worker e.action) refl where
+  either : (r : Option Reason) → refusal s h e.worker e.action ≡ r → r ≡ None
+  either None is = refl
+  either (Some reason) is =
+      absurd (unrefused reason (subst (λ (o : Option Reason). Permits s.torrent (answer_unless o (answer s h e.worker e.action)) e.reply) is allowed.1))
+
+-- where no cause of refusal holds the reply is one of the answer
+pub answered : (s : Setting) (h : History) (e : Event) → refusal s h e.worker e.action ≡ None → IsAllowed s h e → Permits s.torrent (answer s h e.worker e.action) e.reply
+unfolding IsAllowed
+answered s h e no_reason allowed = subst (λ (o : Option Reason). Permits s.torrent (answer_unless o (answer s h e.worker e.action)) e.reply) no_reason allowed.1
+
+pub worker_below : (s : Setting) (h : History) (e : Event) → IsAllowed s h e → e.worker < s.workers
+unfolding IsAllowed
+worker_below s h e allowed = allowed.0
+
+-- ---- requests
+
+-- what a request of block b to w shows of the history before it
+pub record RequestFacts (s : Setting) (h : History) (w : ℕ) (b : Block) : Type 0 where
+  pub block : is_block s.torrent b ≡ true
+  pub not_asked : asked h w b ≡ false
+  pub not_held : held h b ≡ false
+  pub none_due : some_block s.torrent (due h w) ≡ false
+  pub room : asked_count s h w < s.depth
+  pub alone : (asked_of_some s h b ≡ false) ⊎ (endgame s h ≡ true)
+
+unasked_facts : (s : Setting) (h : History) (b : Block) → unasked s h b ≡ true → (held h b ≡ false) × (asked_of_some s h b ≡ false)
+unasked_facts s h b is = or_parts (held h b) (asked_of_some s h b) (not-true _ is)
+
+request_kind : (s : Setting) (h : History) (w : ℕ) (b : Block) → w < s.workers
+    → (continues s h w b ≡ true) ⊎ ((starts s h w b ≡ true) ⊎ (((endgame s h && some_block s.torrent (doubles s h w)) ≡ true) × (doubles s h w b ≡ true)))
+    → (asked h w b ≡ false) × (held h b ≡ false) × ((asked_of_some s h b ≡ false) ⊎ (endgame s h ≡ true))
+request_kind s h w b lt kind = ⊎_elim
+    (λ (on : continues s h w b ≡ true). from_usable (and_parts (usable s h w b) (begun s h b.piece) on).0)
+    (λ rest. ⊎_elim
+    (λ (first : starts s h w b ≡ true). from_usable (and_parts (usable s h w b) _ first).0)
+    (λ (both : ((endgame s h && some_block s.torrent (doubles s h w)) ≡ true) × (doubles s h w b ≡ true)).
+    let ending = (and_parts (endgame s h) _ both.0).0 in
+    let lacking = (and_parts (not (held h b)) (not (asked h w b)) (and_parts _ _ (and_parts (wanted s h b.piece) _ both.1).1).1) in
+    (not-true (asked h w b) lacking.1, not-true (held h b) lacking.0, inr ending))
+    rest)
+    kind where
+      from_usable : usable s h w b ≡ true → (asked h w b ≡ false) × (held h b ≡ false) × ((asked_of_some s h b ≡ false) ⊎ (endgame s h ≡ true))
+      from_usable is =
+          let free = unasked_facts s h b (and_parts (unasked s h b) _ is).0 in
+          (any_fails s.workers (λ q. asked h q b) w free.1 lt, free.0, inl free.1)
+
+next_facts : (s : Setting) (h : History) (w : ℕ) (b : Block) → w < s.workers → Permits s.torrent (next_answer s h w) (Request b) → RequestFacts s h w b
+next_facts s h w b lt is =
+    let facts = next_request s.torrent _ _ _ _ _ _ _ _ _ _ _ b (subst (λ (a : Answer). Permits s.torrent a (Request b)) (next_is s h w) is) in
+    let kind = request_kind s h w b lt facts.kind in
+    record {
+      block = facts.block;
+      not_asked = kind.0;
+      not_held = kind.1;
+      none_due = facts.none_due;
+      room = leb-false s.depth (asked_count s h w) facts.room;
+      alone = kind.2;
+    }
+
+-- only Next is replied by a request
+next_alone : (call : Action) (b : Block) → answers (call_mark call) (Request b) ≡ true → (word : ℕ) × (call ≡ Next word)
+next_alone (Next word) b is = (word, refl)
+next_alone Join b is = absurd (cc is)
+next_alone (Bits flags) b is = absurd (cc is)
+next_alone (Have p) b is = absurd (cc is)
+next_alone Choke b is = absurd (cc is)
+next_alone Unchoke b is = absurd (cc is)
+next_alone (Arrived p begin bytes) b is = absurd (cc is)
+next_alone (Settle p bytes) b is = absurd (cc is)
+next_alone Leave b is = absurd (cc is)
+
+pub request_facts : (s : Setting) (h : History) (e : Event) (b : Block) → IsAllowed s h e → e.reply ≡ Request b → RequestFacts s h e.worker b
+unfolding answer
+request_facts s h e b allowed is =
+    let call = next_alone e.action b (subst (λ (r : Reply). answers (call_mark e.action) r ≡ true) is (allowed_answers s h e allowed)) in
+    let permitted = answered s h e (no_cause s h e (λ reason refused. absurd (cc (refused, is))) allowed) allowed in
+    next_facts s h e.worker b (worker_below s h e allowed)
+    (subst (λ (r : Reply). Permits s.torrent (next_answer s h e.worker) r) is
+    (subst (λ (c : Action). Permits s.torrent (answer s h e.worker c) e.reply) call.1 permitted))
+
+-- ---- checks
+
+waiting_cases : (a b c d : Bool) → first_cause ((a, NoSuchPiece) ∷ (not b || c, NotWaiting) ∷ (d, Stale) ∷ []) ≡ None → (a ≡ false) × (b ≡ true) × (c ≡ false) × (d ≡ false)
+waiting_cases true b c d is = absurd (cc is)
+waiting_cases false false c d is = absurd (cc is)
+waiting_cases false true true d is = absurd (cc is)
+waiting_cases false true false true is = absurd (cc is)
+waiting_cases false true false false is = (refl, refl, refl, refl)
+
+settled : (call : Action) (p : ℕ) → settles call p ≡ true → (bytes : List ℕ) × (call ≡ Settle p bytes)
+settled (Settle r bytes) p is = (bytes, ap (λ (m : ℕ). Settle m bytes) (eqb-true r p is))
+settled Join p is = absurd (cc is)
+settled (Bits flags) p is = absurd (cc is)
+settled (Have r) p is = absurd (cc is)
+settled Choke p is = absurd (cc is)
+settled Unchoke p is = absurd (cc is)
+settled (Next word) p is = absurd (cc is)
+settled (Arrived r begin bytes) p is = absurd (cc is)
+settled Leave p is = absurd (cc is)
+
+-- what a check of piece p that was made shows of the history before it
+pub record CheckFacts (s : Setting) (h : History) (p : ℕ) (bytes : List ℕ) : Type 0 where
+  pub piece : nat_le (piece_count s.torrent) p ≡ false
+  pub is_full : full s h p ≡ true
+  pub not_had : had h p ≡ false
+  pub current : same_bytes bytes (content s h p) ≡ true
+
+pub settle_facts : (s : Setting) (h : History) (w p : ℕ) (bytes : List ℕ) → refusal s h w (Settle p bytes) ≡ None → CheckFacts s h p bytes
+unfolding refusal
+settle_facts s h w p bytes is =
+    let parts = waiting_cases (nat_le (piece_count s.torrent) p) (full s h p) (had h p) (not (same_bytes bytes (content s h p))) is in
+    record { piece = parts.0; is_full = parts.1; not_had = parts.2; current = not-false _ parts.3 }
+
+pub check_facts : (s : Setting) (h : History) (e : Event) (p : ℕ) → IsAllowed s h e → ((reason : Reason) → e.reply ≢ Refused reason) → settles e.action p ≡ true
+    → (full s h p ≡ true) × (had h p ≡ false)
+check_facts s h e p allowed unrefused settling =
+    let call = settled e.action p settling in
+    let facts = settle_facts s h e.worker p call.0 (ap (refusal s h e.worker) (sym call.1) ∙ no_cause s h e unrefused allowed) in
+    (facts.is_full, facts.not_had)
+
+-- a check that passed was of bytes with the hash of their piece
+pub passed_hash : (s : Setting) (h : History) (e : Event) (p : ℕ) → IsAllowed s h e → e.reply ≡ Had → settles e.action p ≡ true
+    → same_bytes (sha1 (content s h p)) (hash_of s.torrent p) ≡ true
+unfolding answer settled_answer
+passed_hash s h e p allowed is settling =
+    let call = settled e.action p settling in
+    let permitted = answered s h e (no_cause s h e (λ reason refused. absurd (cc (refused, is))) allowed) allowed in
+    had_only (same_bytes (sha1 (content s h p)) (hash_of s.torrent p))
+    (subst (λ (r : Reply). Permits s.torrent (settled_answer s h p) r) is
+    (subst (λ (c : Action). Permits s.torrent (answer s h e.worker c) e.reply) call.1 permitted)) where
+      had_only : (x : Bool) → Had ≡ (if x then Had else Failed) → x ≡ true
+      had_only true h = refl
+      had_only false h = absurd (cc h)
+
+pub had_reply : (r : Reply) → is_had r ≡ true → r ≡ Had
+had_reply Had is = refl
+had_reply Joined is = absurd (cc is)
+had_reply (Noted x) is = absurd (cc is)
+had_reply Quiet is = absurd (cc is)
+had_reply (Cancel b) is = absurd (cc is)
+had_reply (Request b) is = absurd (cc is)
+had_reply Choked is = absurd (cc is)
+had_reply PipeFull is = absurd (cc is)
+had_reply Idle is = absurd (cc is)
+had_reply NothingLeft is = absurd (cc is)
+had_reply Stored is = absurd (cc is)
+had_reply Completed is = absurd (cc is)
+had_reply Dropped is = absurd (cc is)
+had_reply Failed is = absurd (cc is)
+had_reply (Refused reason) is = absurd (cc is)
+
+pub failed_reply : (r : Reply) → is_failed r ≡ true → r ≡ Failed
+failed_reply Failed is = refl
+failed_reply Joined is = absurd (cc is)
+failed_reply (Noted x) is = absurd (cc is)
+failed_reply Quiet is = absurd (cc is)
+failed_reply (Cancel b) is = absurd (cc is)
+failed_reply (Request b) is = absurd (cc is)
+failed_reply Choked is = absurd (cc is)
+failed_reply PipeFull is = absurd (cc is)
+failed_reply Idle is = absurd (cc is)
+failed_reply NothingLeft is = absurd (cc is)
+failed_reply Stored is = absurd (cc is)
+failed_reply Completed is = absurd (cc is)
+failed_reply Dropped is = absurd (cc is)
+failed_reply Had is = absurd (cc is)
+failed_reply (Refused reason) is = absurd (cc is)

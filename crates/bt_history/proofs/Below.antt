@@ -1,0 +1,132 @@
+-- Tests and sums over the numbers below a bound.
+use Rattle.std.proofs.Common.{◌≡◌, ◌≢◌, ◌≤◌, ℕ, zero, suc, ◌+◌, ◌<◌, Bool, true, false, ◌||◌, refl, ap, sym, ◌∙◌, arith, ⊎_elim}
+use Rattle.std.proofs.lemmas.Bool.{or_cases, or_from, or_left, or_right, or_parts, and_from, and_parts, cases_eq}
+use Rattle.std.specs.Prelude.{if◌then◌else◌}
+use Rattle.bt_history.specs.Counting.{any_below, all_below, count_below, sum_below}
+
+-- one that passes shows that some does
+pub any_found : (n : ℕ) (test : ℕ → Bool) (k : ℕ) → k < n → test k ≡ true → any_below n test ≡ true
+any_found zero test k lt is = absurd (omega arith)
+any_found (suc n) test k lt is =
+    ⊎_elim (λ (same : k ≡ n). or_right (any_below n test) (test n) (ap test (sym same) ∙ is))
+    (λ (other : k ≡ n → ⊥). or_left (any_below n test) (test n) (any_found n test k (omega arith) is))
+    (cases_eq k n)
+
+-- none does where each fails
+pub any_none : (n : ℕ) (test : ℕ → Bool) → ((k : ℕ) → k < n → test k ≡ false) → any_below n test ≡ false
+any_none zero test h = refl
+any_none (suc n) test h = or_from (any_below n test) (test n) (any_none n test (λ k lt. h k (omega arith))) (h n (omega arith))
+
+pub any_fails : (n : ℕ) (test : ℕ → Bool) (k : ℕ) → any_below n test ≡ false → k < n → test k ≡ false
+any_fails zero test k none lt = absurd (omega arith)
+any_fails (suc n) test k none lt =
+    let parts = or_parts (any_below n test) (test n) none in
+    ⊎_elim (λ (same : k ≡ n). ap test same ∙ parts.1)
+    (λ (other : k ≡ n → ⊥). any_fails n test k parts.0 (omega arith))
+    (cases_eq k n)
+
+-- tests that agree below n
+pub any_same : (n : ℕ) (f g : ℕ → Bool) → ((k : ℕ) → k < n → f k ≡ g k) → any_below n f ≡ any_below n g
+any_same zero f g h = refl
+any_same (suc n) f g h =
+    ap (λ (b : Bool). b || f n) (any_same n f g (λ k lt. h k (omega arith))) ∙ ap (λ (b : Bool). any_below n g || b) (h n (omega arith))
+
+pub all_found : (n : ℕ) (test : ℕ → Bool) → ((k : ℕ) → k < n → test k ≡ true) → all_below n test ≡ true
+all_found zero test h = refl
+all_found (suc n) test h = and_from (all_below n test) (test n) (all_found n test (λ k lt. h k (omega arith))) (h n (omega arith))
+
+pub all_at : (n : ℕ) (test : ℕ → Bool) (k : ℕ) → all_below n test ≡ true → k < n → test k ≡ true
+all_at zero test k all lt = absurd (omega arith)
+all_at (suc n) test k all lt =
+    let parts = and_parts (all_below n test) (test n) all in
+    ⊎_elim (λ (same : k ≡ n). ap test same ∙ parts.1)
+    (λ (other : k ≡ n → ⊥). all_at n test k parts.0 (omega arith))
+    (cases_eq k n)
+
+-- one that fails shows that not all pass
+pub all_fails : (n : ℕ) (test : ℕ → Bool) (k : ℕ) → k < n → test k ≡ false → all_below n test ≡ false
+all_fails n test k lt fails = either_way (all_below n test) refl where
+  either_way : (b : Bool) → all_below n test ≡ b → b ≡ false
+  either_way true all = sym (all_at n test k all lt) ∙ fails
+  either_way false all = refl
+
+-- where some number passes, one can be named
+pub any_witness : (n : ℕ) (test : ℕ → Bool) → any_below n test ≡ true → (k : ℕ) × (k < n) × (test k ≡ true)
+any_witness zero test is = absurd (cc is)
+any_witness (suc n) test is =
+    ⊎_elim (λ (before : any_below n test ≡ true). let found = any_witness n test before in (found.0, omega arith, found.2))
+    (λ (last : test n ≡ true). (n, omega arith, last))
+    (or_cases (any_below n test) (test n) is)
+
+-- 1 for a test that passes
+abbrev pub one_if : Bool → ℕ
+one_if b = if b then 1 else 0
+
+pub count_same : (n : ℕ) (f g : ℕ → Bool) → ((k : ℕ) → k < n → f k ≡ g k) → count_below n f ≡ count_below n g
+count_same zero f g h = refl
+count_same (suc n) f g h =
+    let step = count_same n f g (λ k lk. h k (omega arith)) in
+    let last : one_if (f n) ≡ one_if (g n) = ap one_if (h n (omega arith)) in
+    omega arith
+
+-- counts of tests that agree but at i
+pub count_at : (n : ℕ) (f g : ℕ → Bool) (i : ℕ) → i < n → ((k : ℕ) → k < n → k ≢ i → f k ≡ g k)
+    → count_below n f + one_if (g i) ≡ count_below n g + one_if (f i)
+count_at zero f g i lt same = absurd (omega arith)
+count_at (suc n) f g i lt same =
+    ⊎_elim
+    (λ (here : i ≡ n).
+    let below : count_below n f ≡ count_below n g = count_same n f g (λ k lk. same k (omega arith) (omega arith)) in
+    rw here (omega arith))
+    (λ (before : i ≡ n → ⊥).
+    let step = count_at n f g i (omega arith) (λ k lk apart. same k (omega arith) apart) in
+    let last : one_if (f n) ≡ one_if (g n) = ap one_if (same n (omega arith) (λ e. before (sym e))) in
+    omega arith)
+    (cases_eq i n)
+
+pub count_most : (n : ℕ) (f : ℕ → Bool) → count_below n f ≤ n
+count_most zero f = omega arith
+count_most (suc n) f =
+    let step = count_most n f in
+    let last : one_if (f n) ≤ 1 = at_most_one (f n) in
+    omega arith
+  where
+    at_most_one : (b : Bool) → one_if b ≤ 1
+    at_most_one true = omega arith
+    at_most_one false = omega arith
+
+pub count_none : (n : ℕ) (f : ℕ → Bool) → ((k : ℕ) → k < n → f k ≡ false) → count_below n f ≡ 0
+count_none zero f h = refl
+count_none (suc n) f h =
+    let step = count_none n f (λ k lk. h k (omega arith)) in
+    let last : one_if (f n) ≡ 0 = ap one_if (h n (omega arith)) in
+    omega arith
+
+pub sum_same : (n : ℕ) (f g : ℕ → ℕ) → ((k : ℕ) → k < n → f k ≡ g k) → sum_below n f ≡ sum_below n g
+sum_same zero f g h = refl
+sum_same (suc n) f g h =
+    let step = sum_same n f g (λ k lk. h k (omega arith)) in
+    let last = h n (omega arith) in
+    omega arith
+
+pub sum_none : (n : ℕ) (f : ℕ → ℕ) → ((k : ℕ) → k < n → f k ≡ 0) → sum_below n f ≡ 0
+sum_none zero f h = refl
+sum_none (suc n) f h =
+    let step = sum_none n f (λ k lk. h k (omega arith)) in
+    let last = h n (omega arith) in
+    omega arith
+
+-- sums of functions that agree but at i
+pub sum_at : (n : ℕ) (f g : ℕ → ℕ) (i : ℕ) → i < n → ((k : ℕ) → k < n → k ≢ i → f k ≡ g k)
+    → sum_below n f + g i ≡ sum_below n g + f i
+sum_at zero f g i lt same = absurd (omega arith)
+sum_at (suc n) f g i lt same =
+    ⊎_elim
+    (λ (here : i ≡ n).
+    let below : sum_below n f ≡ sum_below n g = sum_same n f g (λ k lk. same k (omega arith) (omega arith)) in
+    rw here (omega arith))
+    (λ (before : i ≡ n → ⊥).
+    let step = sum_at n f g i (omega arith) (λ k lk apart. same k (omega arith) apart) in
+    let last = same n (omega arith) (λ e. before (sym e)) in
+    omega arith)
+    (cases_eq i n)

@@ -1,0 +1,200 @@
+-- Laws of what is held and had in a legal history, and of blocks asked twice.
+use Rattle.std.proofs.Common.{◌≡◌, ◌⊎◌, ℕ, zero, suc, ◌<◌, Bool, true, false, not, ◌&&◌, ◌||◌, List, [], ◌∷◌, ◌++◌, Option, None, Some, refl, ap, sym, ◌∙◌, arith, ⊎_elim, inl, inr, subst}
+use Rattle.std.specs.Prelude.{is_some, is_none, if◌then◌else◌, unwrap_or}
+use Rattle.std.specs.List.{list_any}
+use Rattle.std.specs.Cmp.Lexicographic.{same_text}
+use Rattle.std.proofs.lemmas.Bool.{and_parts, and_left, and_right, or_from, or_cases, or_left, or_right, false≢true, true≢false, false_from_ne_true}
+use Rattle.sha1.specs.Sha1.{sha1}
+use Rattle.bt_meta.specs.declared.block.Block.{Block}
+use Rattle.bt_meta.specs.Layout.{block_count, block, hash_of}
+use Rattle.bt_history.specs.declared.call.Reply.{Reply}
+use Rattle.bt_history.specs.declared.call.Reply.TheVariants.{Had, Failed}
+use Rattle.bt_history.specs.declared.event.Event.{Event}
+use Rattle.bt_history.specs.Setting.{Setting}
+use Rattle.bt_history.specs.History.{History, own_call, same_place, stored, stores, bytes_for, failed, is_failed, is_had, settles, passed, requested}
+use Rattle.bt_history.specs.Peers.{asked, asks, resets, outstanding}
+use Rattle.bt_history.specs.Pieces.{kept, held, content, joined_below, full, had, asked_of_some, endgame, was_endgame}
+use Rattle.bt_history.specs.Legal.{IsLegal, IsAllowed, same_bytes}
+use Rattle.bt_history.proofs.Below.{any_fails, all_at, all_found}
+use Rattle.bt_history.proofs.SamePlace.{held_at}
+use Rattle.bt_history.proofs.Allowed.{request_facts, check_facts, passed_hash, had_reply, failed_reply, worker_below}
+use Rattle.bt_history.proofs.Arrivals.{stored_unheld}
+use Rattle.bt_history.proofs.Lines.{asked_outstanding}
+use Rattle.bt_history.proofs.LineLaws.{Asks, asks_or_none, place_resized}
+
+-- ---- what an entry leaves
+
+-- the entry stored nothing for b, or something
+stored_cases : (e : Event) (b : Block) → (stored e b ≡ None) ⊎ (is_some (stored e b) ≡ true)
+stored_cases e b = either (stored e b) where
+  either : (o : Option (List ℕ)) → (o ≡ None) ⊎ (is_some o ≡ true)
+  either None = inl refl
+  either (Some x) = inr refl
+
+-- an entry that stores is no request
+storing_asks_nothing : (q : ℕ) (e : Event) (b : Block) → is_some (stored e b) ≡ true → requested q e ≡ []
+storing_asks_nothing q e b is = ⊎_elim
+    (λ (asking : (c : Block) × Asks q e c). absurd (false≢true (sym (ap (λ (r : Reply). is_some (if stores r then bytes_for b e.action else None)) asking.1.reply) ∙ is)))
+    (λ (none : requested q e ≡ []). none)
+    (asks_or_none q e)
+
+kept_unstored : (h : History) (e : Event) (b : Block) → stored e b ≡ None → kept (e ∷ h) b ≡ (if failed e b.piece then None else kept h b)
+unfolding kept
+kept_unstored h e b none = ap (λ (o : Option (List ℕ)). if failed e b.piece then None else if is_some o then o else kept h b) none
+
+-- ---- a held block is asked of nobody
+
+pub held_unasked : (s : Setting) (h : History) (q : ℕ) (b : Block) → IsLegal s h → held h b ≡ true → asked h q b ≡ false
+unfolding kept asked
+held_unasked s [] q b legal is = refl
+held_unasked s (e ∷ h) q b legal is = ⊎_elim
+    (λ (none : stored e b ≡ None).
+    let before : held h b ≡ true = was_held (failed e b.piece) (sym (ap is_some (kept_unstored h e b none)) ∙ is) in
+    and_right (not (resets (own_call q e))) _ (or_from (is_none (stored e b) && asked h q b) (asks q e b)
+    (and_right (is_none (stored e b)) (asked h q b) (held_unasked s h q b legal.0 before))
+    (not_asked_now before)))
+    (λ (some : is_some (stored e b) ≡ true).
+    and_right (not (resets (own_call q e))) _ (or_from (is_none (stored e b) && asked h q b) (asks q e b)
+    (and_left (is_none (stored e b)) (asked h q b) (opposite (stored e b) some))
+    (ap (list_any (λ a. same_place a b)) (storing_asks_nothing q e b some))))
+    (stored_cases e b)
+  where
+    was_held : (x : Bool) → is_some (if x then None else kept h b) ≡ true → held h b ≡ true
+    was_held true is = absurd (cc is)
+    was_held false is = is
+
+    opposite : (o : Option (List ℕ)) → is_some o ≡ true → is_none o ≡ false
+    opposite (Some x) is = refl
+    opposite None is = absurd (cc is)
+
+    not_asked_now : held h b ≡ true → asks q e b ≡ false
+    not_asked_now before = ⊎_elim
+        (λ (asking : (c : Block) × Asks q e c).
+        let facts = request_facts s h e asking.0 legal.1 asking.1.reply in
+        ap (list_any (λ a. same_place a b)) asking.1.only
+        ∙ or_from (same_place asking.0 b) false
+        (false_from_ne_true (same_place asking.0 b) (λ same. true≢false (sym before ∙ (held_at h asking.0 b same ∙ facts.not_held)))) refl)
+        (λ (none : requested q e ≡ []). ap (list_any (λ a. same_place a b)) none)
+        (asks_or_none q e)
+
+-- ---- a piece that is had is full, with the bytes of its hash
+
+-- no check of a piece that is had fails
+no_failure : (s : Setting) (h : History) (e : Event) (p : ℕ) → IsAllowed s h e → had h p ≡ true → failed e p ≡ false
+no_failure s h e p allowed before = false_from_ne_true (failed e p) (λ fails.
+    let parts = and_parts (is_failed e.reply) (settles e.action p) fails in
+    let reply : e.reply ≡ Failed = failed_reply e.reply parts.0 in
+    let check = check_facts s h e p allowed (λ reason refused. absurd (cc (reply, refused))) parts.1 in
+    false≢true (sym check.1 ∙ before))
+
+-- an allowed entry leaves the bytes of a held block whose piece does not fail
+kept_on : (s : Setting) (h : History) (e : Event) (b : Block) → IsAllowed s h e → failed e b.piece ≡ false → held h b ≡ true → kept (e ∷ h) b ≡ kept h b
+kept_on s h e b allowed lasting is = ⊎_elim
+    (λ (none : stored e b ≡ None). kept_unstored h e b none ∙ ap (λ (x : Bool). if x then None else kept h b) lasting)
+    (λ (some : is_some (stored e b) ≡ true). absurd (true≢false (sym is ∙ stored_unheld s h e b allowed some)))
+    (stored_cases e b)
+
+-- a piece that is had: each of its blocks is held, and its joined bytes have its hash
+pub record HadFacts (s : Setting) (h : History) (p : ℕ) : Type 0 where
+  pub is_full : full s h p ≡ true
+  pub hash : same_bytes (sha1 (content s h p)) (hash_of s.torrent p) ≡ true
+
+joined_same : (n : ℕ) (f g : ℕ → List ℕ) → ((k : ℕ) → k < n → f k ≡ g k) → joined_below n f ≡ joined_below n g
+joined_same zero f g h = refl
+joined_same (suc n) f g h =
+    ap (λ (xs : List ℕ). xs ++ f n) (joined_same n f g (λ k lk. h k (omega arith))) ∙ ap (λ (xs : List ℕ). joined_below n g ++ xs) (h n (omega arith))
+
+-- an allowed entry that does not fail a full piece leaves it full, with the same bytes
+had_on : (s : Setting) (h : History) (e : Event) (p : ℕ) → IsAllowed s h e → failed e p ≡ false → HadFacts s h p → HadFacts s (e ∷ h) p
+had_on s h e p allowed lasting facts =
+    let same : (k : ℕ) → k < block_count s.torrent p → kept (e ∷ h) (block s.torrent p k) ≡ kept h (block s.torrent p k) =
+    λ k lk. kept_on s h e (block s.torrent p k) allowed lasting (all_at (block_count s.torrent p) (λ j. held h (block s.torrent p j)) k facts.is_full lk) in
+    let content_same : content s (e ∷ h) p ≡ content s h p =
+    joined_same (block_count s.torrent p) _ _ (λ k lk. ap (λ (o : Option (List ℕ)). unwrap_or o []) (same k lk)) in
+    record {
+      is_full = all_found (block_count s.torrent p) (λ k. held (e ∷ h) (block s.torrent p k))
+          (λ k lk. ap is_some (same k lk) ∙ all_at (block_count s.torrent p) (λ j. held h (block s.torrent p j)) k facts.is_full lk);
+      hash = ap (λ (bytes : List ℕ). same_bytes (sha1 bytes) (hash_of s.torrent p)) content_same ∙ facts.hash;
+    }
+
+pub had_facts : (s : Setting) (h : History) (p : ℕ) → IsLegal s h → had h p ≡ true → HadFacts s h p
+unfolding had
+had_facts s [] p legal is = absurd (cc is)
+had_facts s (e ∷ h) p legal is = ⊎_elim
+    (λ (now : passed e p ≡ true).
+    let parts = and_parts (is_had e.reply) (settles e.action p) now in
+    let reply : e.reply ≡ Had = had_reply e.reply parts.0 in
+    let check = check_facts s h e p legal.1 (λ reason refused. absurd (cc (reply, refused))) parts.1 in
+    had_on s h e p legal.1 (ap (λ (r : Reply). is_failed r && settles e.action p) reply)
+    (record { is_full = check.0; hash = passed_hash s h e p legal.1 reply parts.1 }))
+    (λ (before : had h p ≡ true). had_on s h e p legal.1 (no_failure s h e p legal.1 before) (had_facts s h p legal.0 before))
+    (or_cases (passed e p) (had h p) is)
+
+pub had_full : (s : Setting) (h : History) (p k : ℕ) → IsLegal s h → had h p ≡ true → k < block_count s.torrent p → held h (block s.torrent p k) ≡ true
+had_full s h p k legal is lk = all_at (block_count s.torrent p) (λ j. held h (block s.torrent p j)) k (had_facts s h p legal is).is_full lk
+
+-- the joined bytes of a piece that is had have its hash
+pub had_hash : (s : Setting) (h : History) (p : ℕ) → IsLegal s h → had h p ≡ true → sha1 (content s h p) ≡ hash_of s.torrent p
+had_hash s h p legal is = same_text (sha1 (content s h p)) (hash_of s.torrent p) (sym (had_facts s h p legal is).hash)
+
+-- ---- a block asked of two peers
+
+-- a block is asked of q after an entry that just asked it, or was asked before
+asked_cases : (h : History) (e : Event) (q : ℕ) (b : Block) → asked (e ∷ h) q b ≡ true → (asks q e b ≡ true) ⊎ (asked h q b ≡ true)
+unfolding asked
+asked_cases h e q b is =
+    ⊎_elim (λ (before : (is_none (stored e b) && asked h q b) ≡ true). inr (and_parts (is_none (stored e b)) (asked h q b) before).1)
+    (λ (now : asks q e b ≡ true). inl now)
+    (or_cases (is_none (stored e b) && asked h q b) (asks q e b) (and_parts (not (resets (own_call q e))) _ is).1)
+
+-- what asked b of q is a request by q of a block at its place
+asking : (q : ℕ) (e : Event) (b : Block) → asks q e b ≡ true → (c : Block) × Asks q e c × (same_place c b ≡ true)
+asking q e b is = ⊎_elim
+    (λ (named : (c : Block) × Asks q e c). (named.0, named.1, only (same_place named.0 b) (sym (ap (list_any (λ a. same_place a b)) named.1.only) ∙ is)))
+    (λ (none : requested q e ≡ []). absurd (false≢true (sym (ap (list_any (λ a. same_place a b)) none) ∙ is)))
+    (asks_or_none q e)
+  where
+    only : (x : Bool) → (x || false) ≡ true → x ≡ true
+    only true h = refl
+    only false h = absurd (cc h)
+
+asked_at : (h : History) (q : ℕ) (a b : Block) → same_place a b ≡ true → asked h q b ≡ asked h q a
+asked_at h q a b same = asked_outstanding h q b ∙ (place_resized (outstanding h q) a b same ∙ sym (asked_outstanding h q a))
+
+-- where the newest entry asked b of one peer while it was asked of another, that was in endgame
+asked_again : (s : Setting) (h : History) (e : Event) (q other : ℕ) (b : Block) → IsAllowed s h e → other < s.workers → (q ≡ other → ⊥)
+    → asks q e b ≡ true → asked (e ∷ h) other b ≡ true → endgame s h ≡ true
+asked_again s h e q other b allowed lt apart now is =
+    let request = asking q e b now in
+    let facts = request_facts s h e request.0 allowed request.1.reply in
+    let before : asked h other b ≡ true = ⊎_elim
+    (λ (too : asks other e b ≡ true). absurd (apart (sym request.1.worker ∙ (asking other e b too).1.worker)))
+    (λ (old : asked h other b ≡ true). old)
+    (asked_cases h e other b is) in
+    ⊎_elim
+    (λ (alone : asked_of_some s h request.0 ≡ false).
+    absurd (true≢false (sym before ∙ (asked_at h other request.0 b request.2 ∙ any_fails s.workers (λ w. asked h w request.0) other alone lt))))
+    (λ (ending : endgame s h ≡ true). ending)
+    facts.alone
+
+-- only peers of the desk's workers are asked
+pub asked_below : (s : Setting) (h : History) (q : ℕ) (b : Block) → IsLegal s h → asked h q b ≡ true → q < s.workers
+unfolding asked
+asked_below s [] q b legal is = absurd (cc is)
+asked_below s (e ∷ h) q b legal is = ⊎_elim
+    (λ (now : asks q e b ≡ true). subst (λ (w : ℕ). w < s.workers) (asking q e b now).1.worker (worker_below s h e legal.1))
+    (λ (before : asked h q b ≡ true). asked_below s h q b legal.0 before)
+    (asked_cases h e q b is)
+
+-- two peers have the same block asked only if an earlier point was endgame
+pub doubles_after_endgame : (s : Setting) (h : History) (q other : ℕ) (b : Block) → IsLegal s h → q < s.workers → other < s.workers → (q ≡ other → ⊥)
+    → asked h q b ≡ true → asked h other b ≡ true → was_endgame s h ≡ true
+unfolding was_endgame asked
+doubles_after_endgame s [] q other b legal lq lo apart one two = absurd (cc one)
+doubles_after_endgame s (e ∷ h) q other b legal lq lo apart one two = ⊎_elim
+    (λ (now : asks q e b ≡ true). or_left (endgame s h) (was_endgame s h) (asked_again s h e q other b legal.1 lo apart now two))
+    (λ (before : asked h q b ≡ true). ⊎_elim
+    (λ (now : asks other e b ≡ true). or_left (endgame s h) (was_endgame s h) (asked_again s h e other q b legal.1 lq (λ same. apart (sym same)) now one))
+    (λ (too : asked h other b ≡ true). or_right (endgame s h) (was_endgame s h) (doubles_after_endgame s h q other b legal.0 lq lo apart before too))
+    (asked_cases h e other b two))
+    (asked_cases h e q b one)

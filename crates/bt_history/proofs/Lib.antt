@@ -1,0 +1,9 @@
+pub mod ExampleProofs
+pub mod Below
+pub mod SamePlace
+pub mod Lines
+pub mod NextCases
+pub mod Allowed
+pub mod Arrivals
+pub mod LineLaws
+pub mod HeldLaws

@@ -1,0 +1,356 @@
+-- The lines of a peer in a legal history: blocks of the torrent, none twice, and together no more than the depth.
+use Rattle.std.proofs.Common.{◌≡◌, ◌⊎◌, ℕ, ◌==◌, ◌+◌, ◌*◌, ◌<◌, ◌≤◌, Bool, true, false, not, ◌&&◌, ◌||◌, List, [], ◌∷◌, ◌++◌, Option, None, Some, length, refl, ap, sym, ◌∙◌, subst, arith, ⊎_elim, inl, inr, suc}
+use Rattle.std.specs.Prelude.{is_some, is_none, if◌then◌else◌, nat_lt}
+use Rattle.std.specs.List.{filter}
+use Rattle.std.proofs.lemmas.Bool.{and_parts, and_from, and_left, and_right, or_parts, or_from, or_left, eq-eqb, eqb-true, ne_eqb, cases_eq, cases_Bool, ltb-true, lt-ltb, false≢true}
+use Rattle.std.proofs.lemmas.List.{length-append}
+use Rattle.std.proofs.lemmas.List.Filters.{length-filter_both}
+use Rattle.bt_meta.specs.declared.block.Block.{Block}
+use Rattle.bt_meta.specs.Layout.{Layout, piece_count, block_count, block, block_size}
+use Rattle.bt_history.specs.declared.call.Reply.{Reply}
+use Rattle.bt_history.specs.declared.call.Reply.TheVariants.{Joined, Noted, Quiet, Cancel, Request, Choked, PipeFull, Idle, NothingLeft, Stored, Completed, Dropped, Had, Failed, Refused}
+use Rattle.bt_history.specs.declared.event.Event.{Event}
+use Rattle.bt_history.specs.Counting.{count_below}
+use Rattle.bt_history.specs.Setting.{Setting, some_block, some_block_of, is_block, count_blocks}
+use Rattle.bt_history.specs.History.{History, own_call, same_place, stored, requested, requested_by, cancelled}
+use Rattle.bt_history.specs.Peers.{asked, asked_count, outstanding, due, due_count, dues, resets}
+use Rattle.bt_history.specs.Legal.{IsLegal}
+use Rattle.bt_history.proofs.Below.{any_found, any_witness, count_at, count_same, count_none, sum_at, sum_same, sum_none, one_if}
+use Rattle.bt_history.proofs.SamePlace.{same_place_self, same_place_sym, same_but_len}
+use Rattle.bt_history.proofs.Lines.{any_append, has_place, asked_outstanding, due_dues}
+use Rattle.bt_history.proofs.Allowed.{request_facts}
+
+-- ---- blocks of the torrent
+
+pub block_is_block : (t : Layout) (p k : ℕ) → p < piece_count t → k < block_count t p → is_block t (block t p k) ≡ true
+block_is_block t p k lt lk =
+    let b = block t p k in
+    and_from _ _ (lt-ltb p (piece_count t) lt) (any_found (block_count t p) (λ j. ((block t p j).begin == b.begin) && ((block t p j).len == b.len)) k lk
+    (and_from (b.begin == b.begin) (b.len == b.len) (eq-eqb b.begin b.begin refl) (eq-eqb b.len b.len refl)))
+
+-- which block of its piece a block of the torrent is
+pub record IsBlockAt (t : Layout) (b : Block) : Type 0 where
+  pub piece : b.piece < piece_count t
+  pub index : ℕ
+  pub within : index < block_count t b.piece
+  pub is : b ≡ block t b.piece index
+
+pub block_index : (t : Layout) (b : Block) → is_block t b ≡ true → IsBlockAt t b
+block_index t b is =
+    let parts = and_parts (nat_lt b.piece (piece_count t)) _ is in
+    let found = any_witness (block_count t b.piece) (λ k. ((block t b.piece k).begin == b.begin) && ((block t b.piece k).len == b.len)) parts.1 in
+    let c = block t b.piece found.0 in
+    let same = and_parts (c.begin == b.begin) (c.len == b.len) found.2 in
+    let begin : c.begin ≡ b.begin = eqb-true c.begin b.begin same.0 in
+    let len : c.len ≡ b.len = eqb-true c.len b.len same.1 in
+    record {
+      piece = ltb-true b.piece (piece_count t) parts.0;
+      index = found.0;
+      within = found.1;
+      is = (λ i. record { piece = b.piece; begin = sym begin i; len = sym len i });
+    }
+
+-- a block of the torrent that passes shows that some does
+pub some_found : (t : Layout) (test : Block → Bool) (b : Block) → is_block t b ≡ true → test b ≡ true → some_block t test ≡ true
+some_found t test b is passes =
+    let at = block_index t b is in
+    any_found (piece_count t) (λ p. some_block_of t p test) b.piece at.piece
+    (any_found (block_count t b.piece) (λ k. test (block t b.piece k)) at.index at.within (ap test (sym at.is) ∙ passes))
+
+-- each block of the list is one of the torrent
+unfoldable pub AreBlocks : Layout → List Block → Type 0
+AreBlocks t [] = Unit {0}
+AreBlocks t (b ∷ bs) = (is_block t b ≡ true) × AreBlocks t bs
+
+-- no two blocks of the list begin at one place
+unfoldable pub AreApart : List Block → Type 0
+AreApart [] = Unit {0}
+AreApart (b ∷ bs) = (has_place b bs ≡ false) × AreApart bs
+
+blocks_filter : (t : Layout) (test : Block → Bool) (bs : List Block) → AreBlocks t bs → AreBlocks t (filter test bs)
+unfolding AreBlocks
+blocks_filter t test [] are = tt
+blocks_filter t test (b ∷ bs) are = either (test b) (blocks_filter t test bs are.1) where
+  either : (x : Bool) → AreBlocks t (filter test bs) → AreBlocks t (if x then b ∷ filter test bs else filter test bs)
+  either true rest = (are.0, rest)
+  either false rest = rest
+
+blocks_append : (t : Layout) (bs cs : List Block) → AreBlocks t bs → AreBlocks t cs → AreBlocks t (bs ++ cs)
+unfolding AreBlocks
+blocks_append t [] cs are too = too
+blocks_append t (b ∷ bs) cs are too = (are.0, blocks_append t bs cs are.1 too)
+
+-- a list without some of its blocks has no place that the list lacks
+place_filter : (test : Block → Bool) (b : Block) (bs : List Block) → has_place b bs ≡ false → has_place b (filter test bs) ≡ false
+place_filter test b [] none = refl
+place_filter test b (c ∷ bs) none =
+    let parts = or_parts (same_place c b) (has_place b bs) none in
+    either (test c) parts.0 (place_filter test b bs parts.1) where
+      either : (x : Bool) → same_place c b ≡ false → has_place b (filter test bs) ≡ false → has_place b (if x then c ∷ filter test bs else filter test bs) ≡ false
+      either true first rest = or_from (same_place c b) (has_place b (filter test bs)) first rest
+      either false first rest = rest
+
+apart_filter : (test : Block → Bool) (bs : List Block) → AreApart bs → AreApart (filter test bs)
+unfolding AreApart
+apart_filter test [] are = tt
+apart_filter test (b ∷ bs) are = either (test b) (apart_filter test bs are.1) where
+  either : (x : Bool) → AreApart (filter test bs) → AreApart (if x then b ∷ filter test bs else filter test bs)
+  either true rest = (place_filter test b bs are.0, rest)
+  either false rest = rest
+
+other_place : (a b : Block) → same_place a b ≡ false → same_place b a ≡ false
+other_place a b is = ⊎_elim (λ (same : same_place b a ≡ true). absurd (false≢true (sym is ∙ same_place_sym b a same))) (λ (apart : same_place b a ≡ false). apart) (cases_Bool (same_place b a))
+
+-- one more block at the end, whose place the list lacks
+apart_push : (bs : List Block) (b : Block) → AreApart bs → has_place b bs ≡ false → AreApart (bs ++ b ∷ [])
+unfolding AreApart
+apart_push [] b are none = (refl, tt)
+apart_push (c ∷ bs) b are none =
+    let parts = or_parts (same_place c b) (has_place b bs) none in (
+      any_append (λ (a : Block). same_place a c) bs (b ∷ [])
+          ∙ or_from (has_place c bs) (same_place b c || false) are.0 (or_from (same_place b c) false (other_place c b parts.0) refl),
+      apart_push bs b are.1 parts.1,
+    )
+
+apart_either : (x : Bool) (bs : List Block) → AreApart bs → AreApart (if x then [] else bs)
+unfolding AreApart
+apart_either true bs are = tt
+apart_either false bs are = are
+
+blocks_either : (t : Layout) (x : Bool) (bs : List Block) → AreBlocks t bs → AreBlocks t (if x then [] else bs)
+unfolding AreBlocks
+blocks_either t true bs are = tt
+blocks_either t false bs are = are
+
+-- a reply is a request, or asks for nothing
+pub request_or_none : (r : Reply) → ((b : Block) × (r ≡ Request b)) ⊎ (requested_by r ≡ [])
+request_or_none (Request b) = inl (b, refl)
+request_or_none Joined = inr refl
+request_or_none (Noted x) = inr refl
+request_or_none Quiet = inr refl
+request_or_none (Cancel b) = inr refl
+request_or_none Choked = inr refl
+request_or_none PipeFull = inr refl
+request_or_none Idle = inr refl
+request_or_none NothingLeft = inr refl
+request_or_none Stored = inr refl
+request_or_none Completed = inr refl
+request_or_none Dropped = inr refl
+request_or_none Had = inr refl
+request_or_none Failed = inr refl
+request_or_none (Refused reason) = inr refl
+
+-- what an entry asked of q: a block that its reply names, of q's own worker, or nothing
+pub record Asks (q : ℕ) (e : Event) (b : Block) : Type 0 where
+  pub worker : e.worker ≡ q
+  pub reply : e.reply ≡ Request b
+  pub only : requested q e ≡ b ∷ []
+
+pub asks_or_none : (q : ℕ) (e : Event) → ((b : Block) × Asks q e b) ⊎ (requested q e ≡ [])
+asks_or_none q e = ⊎_elim
+    (λ (same : e.worker ≡ q). ⊎_elim
+    (λ (named : (b : Block) × (e.reply ≡ Request b)). inl (
+      named.0,
+      record {
+        worker = same;
+        reply = named.1;
+        only = ap (λ (x : Bool). if x then requested_by e.reply else []) (eq-eqb e.worker q same) ∙ ap requested_by named.1;
+      },
+    ))
+    (λ (none : requested_by e.reply ≡ []). inr (ap (λ (bs : List Block). if e.worker == q then bs else []) none ∙ empty (e.worker == q)))
+    (request_or_none e.reply))
+    (λ (other : e.worker ≡ q → ⊥). inr (ap (λ (x : Bool). if x then requested_by e.reply else []) (ne_eqb e.worker q other)))
+    (cases_eq e.worker q)
+  where
+    empty : (x : Bool) → if◌then◌else◌ {A = List Block} x [] [] ≡ []
+    empty true = refl
+    empty false = refl
+
+-- the blocks asked of a peer are blocks of the torrent
+pub outstanding_blocks : (s : Setting) (h : History) (q : ℕ) → IsLegal s h → AreBlocks s.torrent (outstanding h q)
+unfolding outstanding AreBlocks
+outstanding_blocks s [] q legal = tt
+outstanding_blocks s (e ∷ h) q legal =
+    blocks_either s.torrent (resets (own_call q e)) _
+    (blocks_append s.torrent (filter (λ b. is_none (stored e b)) (outstanding h q)) (requested q e)
+    (blocks_filter s.torrent (λ b. is_none (stored e b)) (outstanding h q) (outstanding_blocks s h q legal.0))
+    (⊎_elim
+    (λ (asking : (b : Block) × Asks q e b). subst (AreBlocks s.torrent) (sym asking.1.only) ((request_facts s h e asking.0 legal.1 asking.1.reply).block, tt))
+    (λ (none : requested q e ≡ []). subst (AreBlocks s.torrent) (sym none) tt)
+    (asks_or_none q e)))
+
+-- no block is twice in a peer's line
+pub outstanding_apart : (s : Setting) (h : History) (q : ℕ) → IsLegal s h → AreApart (outstanding h q)
+unfolding outstanding AreApart
+outstanding_apart s [] q legal = tt
+outstanding_apart s (e ∷ h) q legal =
+    let lasting : List Block = filter (λ b. is_none (stored e b)) (outstanding h q) in
+    let older : AreApart lasting = apart_filter (λ b. is_none (stored e b)) (outstanding h q) (outstanding_apart s h q legal.0) in
+    apart_either (resets (own_call q e)) (lasting ++ requested q e)
+    (⊎_elim
+    (λ (asking : (b : Block) × Asks q e b).
+    let b = asking.0 in
+    let free : asked h q b ≡ false = ap (λ (w : ℕ). asked h w b) (sym asking.1.worker) ∙ (request_facts s h e b legal.1 asking.1.reply).not_asked in
+    subst (λ (bs : List Block). AreApart (lasting ++ bs)) (sym asking.1.only)
+    (apart_push lasting b older (place_filter (λ c. is_none (stored e c)) b (outstanding h q) (sym (asked_outstanding h q b) ∙ free))))
+    (λ (none : requested q e ≡ []). subst (λ (bs : List Block). AreApart (lasting ++ bs)) (sym none) (apart_nil lasting older))
+    (asks_or_none q e))
+  where
+    apart_nil : (bs : List Block) → AreApart bs → AreApart (bs ++ [])
+    apart_nil bs are = subst AreApart (sym (append_nil bs)) are where
+      append_nil : (xs : List Block) → xs ++ [] ≡ xs
+      append_nil [] = refl
+      append_nil (x ∷ xs) = ap (λ (l : List Block). x ∷ l) (append_nil xs)
+
+-- ---- how many blocks are asked, and due
+
+-- the test passes at one block of the torrent more
+pub count_blocks_more : (t : Layout) (f g : Block → Bool) (x : Block) → is_block t x ≡ true → f x ≡ true → g x ≡ false
+    → ((b : Block) → same_place x b ≡ false → f b ≡ g b) → count_blocks t f ≡ count_blocks t g + 1
+count_blocks_more t f g x is now before others =
+    let at = block_index t x is in
+    let blocks : (Block → Bool) → ℕ → ℕ = λ test p. count_below (block_count t p) (λ k. test (block t p k)) in
+    let in_piece : count_below (block_count t x.piece) (λ k. f (block t x.piece k)) + one_if (g (block t x.piece at.index))
+    ≡ count_below (block_count t x.piece) (λ k. g (block t x.piece k)) + one_if (f (block t x.piece at.index)) =
+    count_at (block_count t x.piece) (λ k. f (block t x.piece k)) (λ k. g (block t x.piece k)) at.index at.within
+    (λ k lk apart. others (block t x.piece k) (and_right (x.piece == x.piece) _
+    (ne_eqb x.begin (block_size * k) (λ same. apart (omega (arith, same, ap (λ (b : Block). b.begin) at.is)))))) in
+    let here : one_if (f (block t x.piece at.index)) ≡ 1 = ap one_if (ap f (sym at.is) ∙ now) in
+    let gone : one_if (g (block t x.piece at.index)) ≡ 0 = ap one_if (ap g (sym at.is) ∙ before) in
+    let in_all : count_blocks t f + blocks g x.piece ≡ count_blocks t g + blocks f x.piece =
+    sum_at (piece_count t) (blocks f) (blocks g) x.piece at.piece
+    (λ p lp apart. count_same (block_count t p) (λ k. f (block t p k)) (λ k. g (block t p k))
+    (λ k lk. others (block t p k) (and_left (x.piece == p) _ (ne_eqb x.piece p (λ same. apart (sym same)))))) in
+    omega (arith, in_piece, here, gone, in_all)
+
+-- a list of blocks of the torrent, none twice, has as many blocks as have their place in it
+pub count_listed : (t : Layout) (bs : List Block) → AreBlocks t bs → AreApart bs → count_blocks t (λ b. has_place b bs) ≡ length bs
+unfolding AreBlocks AreApart
+count_listed t [] are apart = sum_none (piece_count t) _ (λ p lp. count_none (block_count t p) (λ k. false) (λ k lk. refl))
+count_listed t (x ∷ bs) are apart =
+    count_blocks_more t (λ b. has_place b (x ∷ bs)) (λ b. has_place b bs) x are.0
+    (or_left (same_place x x) (has_place x bs) (same_place_self x)) apart.0
+    (λ b other. ap (λ (y : Bool). y || has_place b bs) other)
+    ∙ (ap (λ (n : ℕ). n + 1) (count_listed t bs are.1 apart.1) ∙ suc_is (length bs))
+  where
+    suc_is : (n : ℕ) → n + 1 ≡ suc n
+    suc_is n = omega arith
+
+pub count_blocks_same : (t : Layout) (f g : Block → Bool) → ((b : Block) → f b ≡ g b) → count_blocks t f ≡ count_blocks t g
+count_blocks_same t f g same =
+    sum_same (piece_count t) _ _ (λ p lp. count_same (block_count t p) (λ k. f (block t p k)) (λ k. g (block t p k)) (λ k lk. same (block t p k)))
+
+-- so many blocks are asked of a peer as its line has
+pub asked_count_is : (s : Setting) (h : History) (q : ℕ) → IsLegal s h → asked_count s h q ≡ length (outstanding h q)
+asked_count_is s h q legal =
+    count_blocks_same s.torrent (asked h q) (λ b. has_place b (outstanding h q)) (asked_outstanding h q)
+    ∙ count_listed s.torrent (outstanding h q) (outstanding_blocks s h q legal) (outstanding_apart s h q legal)
+
+-- ---- due cancels
+
+pub dues_blocks : (s : Setting) (h : History) (q : ℕ) → IsLegal s h → AreBlocks s.torrent (dues h q)
+unfolding dues AreBlocks
+dues_blocks s [] q legal = tt
+dues_blocks s (e ∷ h) q legal =
+    blocks_either s.torrent (resets (own_call q e)) _
+    (blocks_append s.torrent (filter (λ b. not (cancelled q e b)) (dues h q)) _
+    (blocks_filter s.torrent (λ b. not (cancelled q e b)) (dues h q) (dues_blocks s h q legal.0))
+    (blocks_either s.torrent (e.worker == q) _
+    (blocks_filter s.torrent (λ b. is_some (stored e b)) (outstanding h q) (outstanding_blocks s h q legal.0))))
+
+-- where no block is due, the line of cancels is empty
+pub dues_empty : (s : Setting) (h : History) (q : ℕ) → IsLegal s h → some_block s.torrent (due h q) ≡ false → dues h q ≡ []
+unfolding AreBlocks
+dues_empty s h q legal none = by_line (dues h q) refl where
+  by_line : (bs : List Block) → dues h q ≡ bs → bs ≡ []
+  by_line [] is = refl
+  by_line (b ∷ bs) is =
+      let block : is_block s.torrent b ≡ true = first_is_block (subst (AreBlocks s.torrent) is (dues_blocks s h q legal)) in
+      let is_due : due h q b ≡ true = due_dues h q b ∙ ap (has_place b) is ∙ or_left (same_place b b) (has_place b bs) (same_place_self b) in
+      absurd (false≢true (sym none ∙ some_found s.torrent (due h q) b block is_due)) where
+        first_is_block : AreBlocks s.torrent (b ∷ bs) → is_block s.torrent b ≡ true
+        first_is_block are = are.0
+
+-- the lines of a peer have room: together they are no longer than the depth
+pub lines_room : (s : Setting) (h : History) (q : ℕ) → IsLegal s h → length (outstanding h q) + length (dues h q) ≤ s.depth
+unfolding outstanding dues
+lines_room s [] q legal = omega arith
+lines_room s (e ∷ h) q legal = by_reset (resets (own_call q e)) (asks_or_none q e) (lines_room s h q legal.0) where
+  old : List Block
+  old = filter (λ b. is_none (stored e b)) (outstanding h q)
+
+  new : List Block
+  new = filter (λ b. is_some (stored e b)) (outstanding h q)
+
+  still : List Block
+  still = filter (λ b. not (cancelled q e b)) (dues h q)
+
+  split : length old + length new ≡ length (outstanding h q)
+  split = length-filter_both (λ b. is_none (stored e b)) (λ b. is_some (stored e b)) (λ b. opposite (stored e b)) (outstanding h q) where
+    opposite : (o : Option (List ℕ)) → is_some o ≡ not (is_none o)
+    opposite None = refl
+    opposite (Some x) = refl
+
+  fewer : (test : Block → Bool) (bs : List Block) → length (filter test bs) ≤ length bs
+  fewer test bs = let both = length-filter_both test (λ b. not (test b)) (λ b. refl) bs in omega arith
+
+  of_others : (x : Bool) → length (if x then [] else new) ≤ length new
+  of_others true = omega arith
+  of_others false = omega arith
+
+  by_reset : (x : Bool) → ((b : Block) × Asks q e b) ⊎ (requested q e ≡ []) → length (outstanding h q) + length (dues h q) ≤ s.depth
+      → length (if x then [] else old ++ requested q e) + length (if x then [] else still ++ (if e.worker == q then [] else new)) ≤ s.depth
+  by_reset true asking room = omega arith
+  by_reset false asking room = ⊎_elim
+      (λ (named : (b : Block) × Asks q e b).
+      let facts = request_facts s h e named.0 legal.1 named.1.reply in
+      let none : dues h q ≡ [] = dues_empty s h q legal.0 (ap (λ (w : ℕ). some_block s.torrent (due h w)) (sym named.1.worker) ∙ facts.none_due) in
+      let count : length (outstanding h q) < s.depth = subst (λ (n : ℕ). n < s.depth) (ap (asked_count s h) named.1.worker ∙ asked_count_is s h q legal.0) facts.room in
+      let own : (e.worker == q) ≡ true = eq-eqb e.worker q named.1.worker in
+      let no_new : length (if◌then◌else◌ {A = List Block} (e.worker == q) [] new) ≡ 0 = ap (λ (x : Bool). length (if◌then◌else◌ {A = List Block} x [] new)) own in
+      let no_still : length still ≤ 0 = subst (λ (bs : List Block). length still ≤ length bs) none (fewer (λ b. not (cancelled q e b)) (dues h q)) in
+      let one : length (requested q e) ≡ 1 = ap length named.1.only in
+      let short = fewer (λ b. is_none (stored e b)) (outstanding h q) in
+      omega (arith, length-append old (requested q e), length-append still (if e.worker == q then [] else new), count, no_new, no_still, one, short))
+      (λ (nothing : requested q e ≡ []).
+      let zero : length (requested q e) ≡ 0 = ap length nothing in
+      let others = of_others (e.worker == q) in
+      let short = fewer (λ b. not (cancelled q e b)) (dues h q) in
+      omega (arith, length-append old (requested q e), length-append still (if e.worker == q then [] else new), zero, split, others, short, room))
+      asking
+
+pub place_resized : (bs : List Block) (a b : Block) → same_place a b ≡ true → has_place b bs ≡ has_place a bs
+place_resized [] a b same = refl
+place_resized (c ∷ bs) a b same =
+    ap (λ (x : Block). same_place c x || has_place b bs) (same_but_len a b same)
+    ∙ ap (λ (y : Bool). same_place c a || y) (place_resized bs a b same)
+
+-- a list of blocks of the torrent has at least as many blocks as have their place in it
+count_listed_most : (t : Layout) (bs : List Block) → AreBlocks t bs → count_blocks t (λ b. has_place b bs) ≤ length bs
+unfolding AreBlocks
+count_listed_most t [] are = let none : count_blocks t (λ b. false) ≡ 0 = sum_none (piece_count t) _ (λ p lp. count_none (block_count t p) (λ k. false) (λ k lk. refl)) in omega arith
+count_listed_most t (x ∷ bs) are = ⊎_elim
+    (λ (again : has_place x bs ≡ true).
+    let same = count_blocks_same t (λ b. has_place b (x ∷ bs)) (λ b. has_place b bs) (λ b. one_of b (same_place x b) refl again) in
+    let rest = count_listed_most t bs are.1 in
+    omega (arith, same, rest))
+    (λ (fresh : has_place x bs ≡ false).
+    let more = count_blocks_more t (λ b. has_place b (x ∷ bs)) (λ b. has_place b bs) x are.0
+    (or_left (same_place x x) (has_place x bs) (same_place_self x)) fresh (λ b other. ap (λ (y : Bool). y || has_place b bs) other) in
+    let rest = count_listed_most t bs are.1 in
+    omega (arith, more, rest))
+    (cases_Bool (has_place x bs))
+  where
+    one_of : (b : Block) (y : Bool) → same_place x b ≡ y → has_place x bs ≡ true → (y || has_place b bs) ≡ has_place b bs
+    one_of b true same again = sym (place_resized bs x b same ∙ again)
+    one_of b false apart again = refl
+
+-- the blocks asked of one peer and those due at it are together at most the depth
+pub asked_and_due : (s : Setting) (h : History) (q : ℕ) → IsLegal s h → asked_count s h q + due_count s h q ≤ s.depth
+asked_and_due s h q legal =
+    let due_most : due_count s h q ≤ length (dues h q) =
+    subst (λ (n : ℕ). n ≤ length (dues h q)) (sym (count_blocks_same s.torrent (due h q) (λ b. has_place b (dues h q)) (due_dues h q)))
+    (count_listed_most s.torrent (dues h q) (dues_blocks s h q legal)) in
+    let asked_is = asked_count_is s h q legal in
+    let room = lines_room s h q legal in
+    omega (arith, due_most, asked_is, room)

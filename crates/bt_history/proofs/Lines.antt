@@ -1,0 +1,112 @@
+-- A peer's line of asked blocks and its line of due cancels hold just the blocks that are asked and due.
+use Rattle.std.proofs.Common.{◌≡◌, ℕ, ◌==◌, Bool, true, false, not, ◌&&◌, ◌||◌, List, [], ◌∷◌, ◌++◌, refl, ap, sym, ◌∙◌}
+use Rattle.std.specs.Prelude.{is_none, is_some, if◌then◌else◌, None}
+use Rattle.std.specs.List.{filter, list_any}
+use Rattle.std.proofs.lemmas.Bool.{and_parts}
+use Rattle.std.proofs.lemmas.Map.Views.{any-filter_same}
+use Rattle.std.proofs.Math.Bool.{or_assoc}
+use Rattle.bt_meta.specs.declared.block.Block.{Block}
+use Rattle.bt_history.specs.declared.call.Reply.{Reply}
+use Rattle.bt_history.specs.declared.call.Reply.TheVariants.{Joined, Noted, Quiet, Cancel, Request, Choked, PipeFull, Idle, NothingLeft, Stored, Completed, Dropped, Had, Failed, Refused}
+use Rattle.bt_history.specs.declared.event.Event.{Event}
+use Rattle.bt_history.specs.History.{History, own_call, same_place, stored, stores, requested, cancelled, cancelled_by, bytes_for}
+use Rattle.bt_history.specs.Peers.{asked, asks, outstanding, due, dues, resets}
+use Rattle.bt_history.proofs.SamePlace.{stored_at, same_but_len}
+
+pub any_append : {A : Type 0} (test : A → Bool) (xs ys : List A) → list_any test (xs ++ ys) ≡ (list_any test xs || list_any test ys)
+any_append test [] ys = refl
+any_append test (x ∷ xs) ys = ap (λ (b : Bool). test x || b) (any_append test xs ys) ∙ sym (or_assoc (test x) (list_any test xs) (list_any test ys))
+
+any_either : (resetting : Bool) (test : Block → Bool) (xs : List Block) → list_any test (if resetting then [] else xs) ≡ (not resetting && list_any test xs)
+any_either true test xs = refl
+any_either false test xs = refl
+
+-- a block of the list begins where b does
+abbrev pub has_place : Block → List Block → Bool
+has_place b = list_any (λ a. same_place a b)
+
+-- the blocks asked of a peer are those in its line
+pub asked_outstanding : (h : History) (q : ℕ) (b : Block) → asked h q b ≡ has_place b (outstanding h q)
+unfolding asked outstanding
+asked_outstanding [] q b = refl
+asked_outstanding (e ∷ h) q b =
+    let lasting : Block → Bool = λ a. is_none (stored e a) in
+    let older : (is_none (stored e b) && asked h q b) ≡ has_place b (filter lasting (outstanding h q)) =
+    ap (λ (x : Bool). is_none (stored e b) && x) (asked_outstanding h q b)
+    ∙ sym (any-filter_same (λ (a : Block). same_place a b) lasting (is_none (stored e b)) (λ a same. ap is_none (sym (stored_at e a b same))) (outstanding h q)) in
+    sym (any_either (resets (own_call q e)) (λ (a : Block). same_place a b) (filter lasting (outstanding h q) ++ requested q e)
+    ∙ ap (λ (x : Bool). not (resets (own_call q e)) && x)
+    (any_append (λ (a : Block). same_place a b) (filter lasting (outstanding h q)) (requested q e) ∙ ap (λ (x : Bool). x || asks q e b) (sym older)))
+
+-- an entry that cancels stores nothing
+cancel_stores_nothing : (reply : Reply) (b : Block) → cancelled_by reply b ≡ true → stores reply ≡ false
+cancel_stores_nothing (Cancel a) b is = refl
+cancel_stores_nothing Joined b is = refl
+cancel_stores_nothing (Noted x) b is = refl
+cancel_stores_nothing Quiet b is = refl
+cancel_stores_nothing (Request a) b is = refl
+cancel_stores_nothing Choked b is = refl
+cancel_stores_nothing PipeFull b is = refl
+cancel_stores_nothing Idle b is = refl
+cancel_stores_nothing NothingLeft b is = refl
+cancel_stores_nothing Stored b is = absurd (cc is)
+cancel_stores_nothing Completed b is = absurd (cc is)
+cancel_stores_nothing Dropped b is = refl
+cancel_stores_nothing Had b is = refl
+cancel_stores_nothing Failed b is = refl
+cancel_stores_nothing (Refused reason) b is = refl
+
+cancelled_at : (q : ℕ) (e : Event) (a b : Block) → same_place a b ≡ true → cancelled q e a ≡ cancelled q e b
+cancelled_at q e a b same = ap (λ (x : Bool). (e.worker == q) && x) (sym (ap (cancelled_by e.reply) (same_but_len a b same) ∙ resized_reply e.reply a b.len)) where
+  resized_reply : (reply : Reply) (c : Block) (n : ℕ) → cancelled_by reply (record { piece = c.piece; begin = c.begin; len = n }) ≡ cancelled_by reply c
+  resized_reply (Cancel a) c n = refl
+  resized_reply Joined c n = refl
+  resized_reply (Noted x) c n = refl
+  resized_reply Quiet c n = refl
+  resized_reply (Request a) c n = refl
+  resized_reply Choked c n = refl
+  resized_reply PipeFull c n = refl
+  resized_reply Idle c n = refl
+  resized_reply NothingLeft c n = refl
+  resized_reply Stored c n = refl
+  resized_reply Completed c n = refl
+  resized_reply Dropped c n = refl
+  resized_reply Had c n = refl
+  resized_reply Failed c n = refl
+  resized_reply (Refused reason) c n = refl
+
+-- the blocks whose cancel is due at a peer are those in its line of cancels
+pub due_dues : (h : History) (q : ℕ) (b : Block) → due h q b ≡ has_place b (dues h q)
+unfolding due dues
+due_dues [] q b = refl
+due_dues (e ∷ h) q b =
+    let keeps : Block → Bool = λ a. not (cancelled q e a) in
+    let arrived : Block → Bool = λ a. is_some (stored e a) in
+    let here : Block → Bool = λ a. same_place a b in
+    let older : (not (cancelled q e b) && due h q b) ≡ has_place b (filter keeps (dues h q)) =
+    ap (λ (x : Bool). not (cancelled q e b) && x) (due_dues h q b)
+    ∙ sym (any-filter_same here keeps (not (cancelled q e b)) (λ a same. ap not (cancelled_at q e a b same)) (dues h q)) in
+    let newer : (is_some (stored e b) && (not (e.worker == q) && asked h q b)) ≡ has_place b (if e.worker == q then [] else filter arrived (outstanding h q)) =
+    shuffled (is_some (stored e b)) (e.worker == q) (asked h q b)
+    ∙ (ap (λ (x : Bool). not (e.worker == q) && (is_some (stored e b) && x)) (asked_outstanding h q b)
+    ∙ (ap (λ (x : Bool). not (e.worker == q) && x) (sym (any-filter_same here arrived (is_some (stored e b)) (λ a same. ap is_some (sym (stored_at e a b same))) (outstanding h q)))
+    ∙ sym (any_either (e.worker == q) here (filter arrived (outstanding h q))))) in
+    sym (any_either (resets (own_call q e)) here (filter keeps (dues h q) ++ (if e.worker == q then [] else filter arrived (outstanding h q)))
+    ∙ ap (λ (x : Bool). not (resets (own_call q e)) && x)
+    (any_append here (filter keeps (dues h q)) (if e.worker == q then [] else filter arrived (outstanding h q))
+    ∙ (ap (λ (x : Bool). x || has_place b (if e.worker == q then [] else filter arrived (outstanding h q))) (sym older)
+    ∙ (ap (λ (x : Bool). (not (cancelled q e b) && due h q b) || x) (sym newer)
+    ∙ joined_tests (cancelled q e b) (due h q b) (is_some (stored e b)) (not (e.worker == q) && asked h q b) (stores_none b))))) where
+      shuffled : (x y z : Bool) → (x && (not y && z)) ≡ (not y && (x && z))
+      shuffled true y z = refl
+      shuffled false true z = refl
+      shuffled false false z = refl
+
+      joined_tests : (cancels is_due stores others : Bool) → (cancels ≡ true → stores ≡ false)
+          → ((not cancels && is_due) || (stores && others)) ≡ (not cancels && (is_due || (stores && others)))
+      joined_tests true is_due true others none = absurd (cc (none refl))
+      joined_tests true is_due false others none = refl
+      joined_tests false is_due stores others none = refl
+
+      stores_none : (a : Block) → cancelled q e a ≡ true → is_some (stored e a) ≡ false
+      stores_none a is = ap (λ (x : Bool). is_some (if x then bytes_for a e.action else None)) (cancel_stores_nothing e.reply a (and_parts (e.worker == q) (cancelled_by e.reply a) is).1)

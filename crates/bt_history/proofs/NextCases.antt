@@ -1,0 +1,73 @@
+-- The answer to Next as a function of its seven tests, and what a reply that it permits shows.
+use Rattle.std.proofs.Common.{◌≡◌, ◌⊎◌, Bool, true, false, not, ◌&&◌, refl, ap, ◌∙◌, inl, inr}
+use Rattle.std.specs.Prelude.{if◌then◌else◌, ℕ, nat_le}
+use Rattle.bt_meta.specs.declared.block.Block.{Block}
+use Rattle.bt_meta.specs.Layout.{Layout}
+use Rattle.bt_history.specs.declared.call.Reply.{Reply}
+use Rattle.bt_history.specs.declared.call.Reply.TheVariants.{Request, Choked, PipeFull, Idle, NothingLeft}
+use Rattle.bt_history.specs.Setting.{Setting, some_block, is_block}
+use Rattle.bt_history.specs.History.{History}
+use Rattle.bt_history.specs.Peers.{is_open, asked_count, due}
+use Rattle.bt_history.specs.Pieces.{endgame, interesting}
+use Rattle.bt_history.specs.Next.{Answer, Exactly, CancelOf, RequestOf, usable, continues, starts, doubles, next_answer}
+use Rattle.bt_history.specs.Legal.{Permits}
+use Rattle.bt_history.specs.Logs.{answers_next}
+
+-- the answer by its tests: a cancel is due, the peer is open, its pipe is full, a begun piece goes on, a block is usable,
+-- a block may be asked twice, the peer is interesting
+unfoldable pub next_cases : (has_due opened full goes_on starts_one doubles_one waits : Bool) (cancels ons firsts seconds : Block → Bool) → Answer
+next_cases has_due opened full goes_on starts_one doubles_one waits cancels ons firsts seconds =
+    if has_due then CancelOf cancels
+    else if not opened then Exactly Choked
+    else if full then Exactly PipeFull
+    else if goes_on then RequestOf ons
+    else if starts_one then RequestOf firsts
+    else if doubles_one then RequestOf seconds
+    else if waits then Exactly Idle
+    else Exactly NothingLeft
+
+pub next_is : (s : Setting) (h : History) (q : ℕ) → next_answer s h q
+    ≡ next_cases (some_block s.torrent (due h q)) (is_open h q) (nat_le s.depth (asked_count s h q))
+    (some_block s.torrent (continues s h q)) (some_block s.torrent (usable s h q))
+    (endgame s h && some_block s.torrent (doubles s h q)) (interesting s h q)
+    (due h q) (continues s h q) (starts s h q) (doubles s h q)
+unfolding next_answer next_cases
+next_is s h q = refl
+
+-- the reply is one of those to Next
+pub next_answers : (t : Layout) (a b c d e f g : Bool) (cancels ons firsts seconds : Block → Bool) (reply : Reply)
+    → Permits t (next_cases a b c d e f g cancels ons firsts seconds) reply → answers_next reply ≡ true
+unfolding next_cases
+next_answers t true b c d e f g cancels ons firsts seconds reply h = ap answers_next (h.1)
+next_answers t false false c d e f g cancels ons firsts seconds reply h = ap answers_next h
+next_answers t false true true d e f g cancels ons firsts seconds reply h = ap answers_next h
+next_answers t false true false true e f g cancels ons firsts seconds reply h = ap answers_next (h.1)
+next_answers t false true false false true f g cancels ons firsts seconds reply h = ap answers_next (h.1)
+next_answers t false true false false false true g cancels ons firsts seconds reply h = ap answers_next (h.1)
+next_answers t false true false false false false true cancels ons firsts seconds reply h = ap answers_next h
+next_answers t false true false false false false false cancels ons firsts seconds reply h = ap answers_next h
+
+-- what a request shows of the tests
+pub record Requests (t : Layout) (has_due full doubles_one : Bool) (ons firsts seconds : Block → Bool) (b : Block) : Type 0 where
+  pub none_due : has_due ≡ false
+  pub room : full ≡ false
+  pub block : is_block t b ≡ true
+  pub kind : (ons b ≡ true) ⊎ ((firsts b ≡ true) ⊎ ((doubles_one ≡ true) × (seconds b ≡ true)))
+
+named : (test : Block → Bool) (b c : Block) → Request b ≡ Request c → test c ≡ true → test b ≡ true
+named test b c is passes = let same : b ≡ c = cc is in ap test same ∙ passes
+
+pub next_request : (t : Layout) (a b c d e f g : Bool) (cancels ons firsts seconds : Block → Bool) (x : Block)
+    → Permits t (next_cases a b c d e f g cancels ons firsts seconds) (Request x) → Requests t a c f ons firsts seconds x
+unfolding next_cases
+next_request t true b c d e f g cancels ons firsts seconds x h = absurd (cc (h.1))
+next_request t false false c d e f g cancels ons firsts seconds x h = absurd (cc h)
+next_request t false true true d e f g cancels ons firsts seconds x h = absurd (cc h)
+next_request t false true false true e f g cancels ons firsts seconds x h =
+    record { none_due = refl; room = refl; block = named (is_block t) x (h.0) (h.1) (h.2); kind = inl (named ons x (h.0) (h.1) (h.3)) }
+next_request t false true false false true f g cancels ons firsts seconds x h =
+    record { none_due = refl; room = refl; block = named (is_block t) x (h.0) (h.1) (h.2); kind = inr (inl (named firsts x (h.0) (h.1) (h.3))) }
+next_request t false true false false false true g cancels ons firsts seconds x h =
+    record { none_due = refl; room = refl; block = named (is_block t) x (h.0) (h.1) (h.2); kind = inr (inr (refl, named seconds x (h.0) (h.1) (h.3))) }
+next_request t false true false false false false true cancels ons firsts seconds x h = absurd (cc h)
+next_request t false true false false false false false cancels ons firsts seconds x h = absurd (cc h)

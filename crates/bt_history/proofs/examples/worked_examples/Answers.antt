@@ -1,0 +1,27 @@
+use Rattle.bt_history.proofs.ExampleProofs.{first_request_legal, another_first_request_legal, one_peer_to_the_end_legal, rarest_first_legal, full_pipe_legal, choke_frees_legal, cancel_in_endgame_legal, no_double_before_endgame_legal, double_outlasts_endgame_legal, failed_check_legal, failed_check_in_endgame_legal, held_block_dropped_legal, block_by_block_legal, refusals_legal, wrong_count_legal, stale_verdict_legal, random_first_piece_legal, rare_first_piece_too_legal, strict_priority_legal, gone_peer_not_counted_legal, rejoin_in_endgame_legal}
+use Rattle.bt_history.proofs.examples.worked_examples.Goals as goal
+
+pub returns : goal.returns
+returns c = record {
+  first_request = first_request_legal;
+  another_first_request = another_first_request_legal;
+  one_peer_to_the_end = one_peer_to_the_end_legal;
+  rarest_first = rarest_first_legal;
+  full_pipe = full_pipe_legal;
+  choke_frees = choke_frees_legal;
+  cancel_in_endgame = cancel_in_endgame_legal;
+  no_double_before_endgame = no_double_before_endgame_legal;
+  double_outlasts_endgame = double_outlasts_endgame_legal;
+  failed_check = failed_check_legal;
+  failed_check_in_endgame = failed_check_in_endgame_legal;
+  held_block_dropped = held_block_dropped_legal;
+  block_by_block = block_by_block_legal;
+  refusals = refusals_legal;
+  wrong_count = wrong_count_legal;
+  stale_verdict = stale_verdict_legal;
+  random_first_piece = random_first_piece_legal;
+  rare_first_piece_too = rare_first_piece_too_legal;
+  strict_priority = strict_priority_legal;
+  gone_peer_not_counted = gone_peer_not_counted_legal;
+  rejoin_in_endgame = rejoin_in_endgame_legal;
+}

@@ -1,0 +1,34 @@
+-- Entries by their plain values, and the history that a journal tells.
+use Rattle.std.specs.Prelude.{ℕ, List, map, reverse}
+use Rattle.bt_check.specs.Checked.{joined}
+use Rattle.bt_history.specs.declared.call.Call.{Call}
+use Rattle.bt_history.specs.declared.call.Call.TheVariants as calls
+use Rattle.bt_history.specs.declared.call.Entry.{Entry}
+use Rattle.bt_history.specs.declared.call.Reply.{Reply}
+use Rattle.bt_history.specs.declared.event.Action.{Action}
+use Rattle.bt_history.specs.declared.event.Action.TheVariants.{Join, Bits, Have, Choke, Unchoke, Next, Arrived, Settle, Leave}
+use Rattle.bt_history.specs.declared.event.Event.{Event}
+use Rattle.bt_history.specs.History.{History}
+
+-- a call by its plain values
+abbrev pub action_of : Call → Action
+action_of calls.Join = Join
+action_of (calls.Bits flags) = Bits flags
+action_of (calls.Have p) = Have p
+action_of calls.Choke = Choke
+action_of calls.Unchoke = Unchoke
+action_of (calls.Next word) = Next word
+action_of (calls.Arrived p begin bytes) = Arrived p begin bytes
+action_of (calls.Settle verdict) = Settle verdict.value.piece (joined verdict.value)
+action_of calls.Leave = Leave
+
+-- the entry that this worker's call with this reply makes
+abbrev pub event : ℕ → Call → Reply → Event
+event w call reply = record { worker = w; action = action_of call; reply = reply }
+
+abbrev pub event_of : Entry → Event
+event_of e = event e.worker e.call e.reply
+
+-- the history that a journal tells, its newest entry first: a journal is kept the oldest first
+abbrev pub history_of : List Entry → History
+history_of journal = reverse (map event_of journal)

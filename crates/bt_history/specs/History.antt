@@ -1,0 +1,77 @@
+-- What one entry says. A history is the list of its entries, the newest first, so that a question is answered by the newest entry
+-- or, where that doesn't speak of it, by the older ones.
+use Rattle.std.specs.Prelude.{ℕ, ◌==◌, Bool, true, false, ◌&&◌, List, [], ◌∷◌, Option, Some, None, if◌then◌else◌}
+use Rattle.bt_meta.specs.declared.block.Block.{Block}
+use Rattle.bt_history.specs.declared.call.Reply.{Reply}
+use Rattle.bt_history.specs.declared.call.Reply.TheVariants.{Cancel, Request, Stored, Completed, Had, Failed, Refused}
+use Rattle.bt_history.specs.declared.event.Action.{Action}
+use Rattle.bt_history.specs.declared.event.Action.TheVariants.{Arrived, Settle}
+use Rattle.bt_history.specs.declared.event.Event.{Event}
+
+abbrev pub History : Type 0
+History = List Event
+
+-- an entry counts if it was not refused
+abbrev pub counts : Reply → Bool
+counts (Refused reason) = false
+counts reply = true
+
+-- the call of the entry, if it counts and is of worker q
+abbrev pub own_call : ℕ → Event → Option Action
+own_call q e = if counts e.reply && (e.worker == q) then Some e.action else None
+
+-- both begin at the same place of the content
+abbrev pub same_place : Block → Block → Bool
+same_place a b = (a.piece == b.piece) && (a.begin == b.begin)
+
+-- the arrival was stored
+abbrev pub stores : Reply → Bool
+stores Stored = true
+stores Completed = true
+stores reply = false
+
+-- the bytes that the call brings for block b
+abbrev pub bytes_for : Block → Action → Option (List ℕ)
+bytes_for b (Arrived piece begin bytes) = if (piece == b.piece) && (begin == b.begin) then Some bytes else None
+bytes_for b action = None
+
+-- the bytes that the entry stored for block b
+abbrev pub stored : Event → Block → Option (List ℕ)
+stored e b = if stores e.reply then bytes_for b e.action else None
+
+abbrev pub requested_by : Reply → List Block
+requested_by (Request b) = b ∷ []
+requested_by reply = []
+
+-- the blocks that the entry asked of q: one, or none
+abbrev pub requested : ℕ → Event → List Block
+requested q e = if e.worker == q then requested_by e.reply else []
+
+abbrev pub cancelled_by : Reply → Block → Bool
+cancelled_by (Cancel a) b = same_place a b
+cancelled_by reply b = false
+
+-- the entry cancelled block b at q
+abbrev pub cancelled : ℕ → Event → Block → Bool
+cancelled q e b = (e.worker == q) && cancelled_by e.reply b
+
+-- the call tells the check of piece p
+abbrev pub settles : Action → ℕ → Bool
+settles (Settle piece bytes) p = piece == p
+settles action p = false
+
+abbrev pub is_failed : Reply → Bool
+is_failed Failed = true
+is_failed reply = false
+
+abbrev pub is_had : Reply → Bool
+is_had Had = true
+is_had reply = false
+
+-- the entry is a check of piece p that failed
+abbrev pub failed : Event → ℕ → Bool
+failed e p = is_failed e.reply && settles e.action p
+
+-- the entry is a check of piece p that passed
+abbrev pub passed : Event → ℕ → Bool
+passed e p = is_had e.reply && settles e.action p

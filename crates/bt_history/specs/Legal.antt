@@ -1,0 +1,105 @@
+-- Which reply is allowed after a history, and which histories are legal.
+use Rattle.std.specs.Prelude.{ℕ, ◌<◌, ◌≡◌, IsTrue, ◌==◌, nat_le, Bool, not, ◌&&◌, ◌||◌, List, [], ◌∷◌, Option, Some, None, length, if◌then◌else◌}
+use lib.Pointwise.{pointwise}
+use Rattle.sha1.specs.Sha1.{sha1}
+use Rattle.bt_meta.specs.declared.block.Block.{Block}
+use Rattle.bt_meta.specs.Layout.{Layout, piece_count, hash_of}
+use Rattle.bt_history.specs.declared.call.Reason.{Reason}
+use Rattle.bt_history.specs.declared.call.Reason.TheVariants.{NotJoined, AlreadyJoined, LateBits, WrongCount, NoSuchPiece, NoSuchBlock, WrongLength, NotWaiting, Stale}
+use Rattle.bt_history.specs.declared.call.Reply.{Reply}
+use Rattle.bt_history.specs.declared.call.Reply.TheVariants.{Joined, Noted, Quiet, Cancel, Request, Stored, Completed, Dropped, Had, Failed, Refused}
+use Rattle.bt_history.specs.declared.event.Action.{Action}
+use Rattle.bt_history.specs.declared.event.Action.TheVariants.{Join, Bits, Have, Choke, Unchoke, Next, Arrived, Settle, Leave}
+use Rattle.bt_history.specs.declared.event.Event.{Event}
+use Rattle.bt_history.specs.Setting.{Setting, some_block_of, each_block_of, is_block}
+use Rattle.bt_history.specs.History.{History}
+use Rattle.bt_history.specs.Peers.{joined, late, shows, shows_after}
+use Rattle.bt_history.specs.Pieces.{held, full, content, had, lacks}
+use Rattle.bt_history.specs.Next.{Answer, Exactly, CancelOf, RequestOf, next_answer}
+
+-- the same bytes
+abbrev pub same_bytes : List ℕ → List ℕ → Bool
+same_bytes xs ys = pointwise ◌==◌ xs ys
+
+-- ---- refusals
+
+-- the first cause that holds
+abbrev pub first_cause : List (Bool × Reason) → Option Reason
+first_cause [] = None
+first_cause (cause ∷ causes) = if cause.0 then Some cause.1 else first_cause causes
+
+abbrev pub no_peer : History → ℕ → Bool × Reason
+no_peer h w = (not (joined h w), NotJoined)
+
+abbrev pub no_piece : Setting → ℕ → Bool × Reason
+no_piece s p = (nat_le (piece_count s.torrent) p, NoSuchPiece)
+
+-- why the call is refused, if it is: the causes are tried in order
+unfoldable pub refusal : Setting → History → ℕ → Action → Option Reason
+refusal s h w Join = first_cause ((joined h w, AlreadyJoined) ∷ [])
+refusal s h w (Bits flags) =
+    first_cause (no_peer h w ∷ (late h w, LateBits) ∷ (not (length flags == piece_count s.torrent), WrongCount) ∷ [])
+refusal s h w (Have p) = first_cause (no_peer h w ∷ no_piece s p ∷ [])
+refusal s h w Choke = first_cause (no_peer h w ∷ [])
+refusal s h w Unchoke = first_cause (no_peer h w ∷ [])
+refusal s h w (Next word) = first_cause (no_peer h w ∷ [])
+refusal s h w (Arrived p begin bytes) = first_cause (
+    no_peer h w ∷ no_piece s p
+    ∷ (not (some_block_of s.torrent p (λ b. b.begin == begin)), NoSuchBlock)
+    ∷ (not (some_block_of s.torrent p (λ b. (b.begin == begin) && (b.len == length bytes))), WrongLength) ∷ [])
+refusal s h w (Settle p bytes) = first_cause (
+    no_piece s p ∷ (not (full s h p) || had h p, NotWaiting) ∷ (not (same_bytes bytes (content s h p)), Stale) ∷ [])
+refusal s h w Leave = first_cause (no_peer h w ∷ [])
+
+-- ---- answers
+
+-- after this call of w, it shows a wanted piece that isn't had
+abbrev pub interesting_after : Setting → History → ℕ → Action → Bool
+interesting_after s h w call = lacks s h (λ p. shows_after (Some call) p (shows h w p))
+
+-- the answer to an arrival: the block is held already, or was the last one lacking of its piece, or neither
+unfoldable pub arrived_answer : Setting → History → ℕ → ℕ → Answer
+arrived_answer s h p begin =
+    if some_block_of s.torrent p (λ b. (b.begin == begin) && held h b) then Exactly Dropped
+    else if each_block_of s.torrent p (λ b. (b.begin == begin) || held h b) then Exactly Completed
+    else Exactly Stored
+
+-- the answer to a check of piece p: its bytes have its hash, or another
+unfoldable pub settled_answer : Setting → History → ℕ → Answer
+settled_answer s h p =
+    Exactly (if same_bytes (sha1 (content s h p)) (hash_of s.torrent p) then Had else Failed)
+
+-- the answer to a call that isn't refused
+unfoldable pub answer : Setting → History → ℕ → Action → Answer
+answer s h w Join = Exactly Joined
+answer s h w (Bits flags) = Exactly (Noted (interesting_after s h w (Bits flags)))
+answer s h w (Have p) = Exactly (Noted (interesting_after s h w (Have p)))
+answer s h w Choke = Exactly Quiet
+answer s h w Unchoke = Exactly Quiet
+answer s h w (Next word) = next_answer s h w
+answer s h w (Arrived p begin bytes) = arrived_answer s h p begin
+answer s h w (Settle p bytes) = settled_answer s h p
+answer s h w Leave = Exactly Quiet
+
+abbrev pub answer_unless : Option Reason → Answer → Answer
+answer_unless (Some reason) a = Exactly (Refused reason)
+answer_unless None a = a
+
+-- the reply is one that the answer has
+abbrev pub Permits : Layout → Answer → Reply → Type 0
+Permits t (Exactly r) reply = reply ≡ r
+Permits t (CancelOf test) reply = (b : Block) × (reply ≡ Cancel b) × IsTrue (is_block t b) × IsTrue (test b)
+Permits t (RequestOf test) reply = (b : Block) × (reply ≡ Request b) × IsTrue (is_block t b) × IsTrue (test b)
+
+-- ---- histories
+
+-- the entry may come after the history: its worker is one of the desk's, and its reply is the first refusal or a reply of the answer
+unfoldable pub IsAllowed : Setting → History → Event → Type 0
+IsAllowed s h e =
+    (e.worker < s.workers)
+    × Permits s.torrent (answer_unless (refusal s h e.worker e.action) (answer s h e.worker e.action)) e.reply
+
+-- each entry is allowed after those before it
+abbrev pub IsLegal : Setting → History → Type 0
+IsLegal s [] = Unit {0}
+IsLegal s (e ∷ h) = IsLegal s h × IsAllowed s h e

@@ -1,0 +1,10 @@
+pub mod Counting
+pub mod Setting
+pub mod History
+pub mod Peers
+pub mod Pieces
+pub mod Next
+pub mod Legal
+pub mod Entries
+pub mod Logs
+pub mod Examples

@@ -1,0 +1,66 @@
+-- What a worker's log says of a history, and which replies fit which call.
+use Rattle.std.specs.Prelude.{ℕ, ◌≡◌, ◌==◌, Bool, true, false, List, [], ◌∷◌, ◌++◌, length, if◌then◌else◌}
+use Rattle.bt_history.specs.declared.call.Reply.{Reply}
+use Rattle.bt_history.specs.declared.call.Reply.TheVariants.{Joined, Noted, Quiet, Cancel, Request, Choked, PipeFull, Idle, NothingLeft, Stored, Completed, Dropped, Had, Failed, Refused}
+use Rattle.bt_history.specs.declared.event.Action.{Action}
+use Rattle.bt_history.specs.declared.event.Action.TheVariants as actions
+use Rattle.bt_history.specs.declared.event.Event.{Event}
+use Rattle.bt_history.specs.declared.mark.CallMark.{CallMark}
+use Rattle.bt_history.specs.declared.mark.CallMark.TheVariants.{Join, Bits, Have, Choke, Unchoke, Next, Arrived, Settle, Leave}
+use Rattle.bt_history.specs.declared.mark.Mark.{Mark}
+use Rattle.bt_history.specs.History.{History}
+
+-- a call without its bytes and its bitfield
+abbrev pub call_mark : Action → CallMark
+call_mark actions.Join = Join
+call_mark (actions.Bits flags) = Bits
+call_mark (actions.Have p) = Have p
+call_mark actions.Choke = Choke
+call_mark actions.Unchoke = Unchoke
+call_mark (actions.Next word) = Next word
+call_mark (actions.Arrived p begin bytes) = Arrived p begin (length bytes)
+call_mark (actions.Settle p bytes) = Settle p
+call_mark actions.Leave = Leave
+
+-- the mark of an entry that so many entries are older than
+abbrev pub mark_of : ℕ → Event → Mark
+mark_of place e = record { place = place; call = call_mark e.action; reply = e.reply }
+
+-- the marks of worker w's entries, the oldest first
+abbrev pub marks_of : History → ℕ → List Mark
+marks_of [] w = []
+marks_of (e ∷ h) w = marks_of h w ++ (if e.worker == w then mark_of (length h) e ∷ [] else [])
+
+-- the log has a mark of each entry of worker w, in order, and no other
+pub record Agrees (h : History) (w : ℕ) (log : List Mark) : Type 0 where
+  pub exact : log ≡ marks_of h w
+
+abbrev pub answers_next : Reply → Bool
+answers_next (Cancel b) = true
+answers_next (Request b) = true
+answers_next Choked = true
+answers_next PipeFull = true
+answers_next Idle = true
+answers_next NothingLeft = true
+answers_next reply = false
+
+abbrev pub answers_arrived : Reply → Bool
+answers_arrived Stored = true
+answers_arrived Completed = true
+answers_arrived Dropped = true
+answers_arrived reply = false
+
+-- the reply is one that a call of this kind can have
+abbrev pub answers : CallMark → Reply → Bool
+answers call (Refused reason) = true
+answers Join Joined = true
+answers Bits (Noted shown) = true
+answers (Have p) (Noted shown) = true
+answers Choke Quiet = true
+answers Unchoke Quiet = true
+answers Leave Quiet = true
+answers (Next word) reply = answers_next reply
+answers (Arrived p begin len) reply = answers_arrived reply
+answers (Settle p) Had = true
+answers (Settle p) Failed = true
+answers call reply = false

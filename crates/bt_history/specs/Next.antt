@@ -1,0 +1,56 @@
+-- What may be asked of a peer next (Cohen 2003, "Piece selection"; BEP 3 on the end game).
+use Rattle.std.specs.Prelude.{ℕ, Bool, not, ◌&&◌, ◌||◌, nat_lt, nat_le, if◌then◌else◌}
+use Rattle.bt_meta.specs.declared.block.Block.{Block}
+use Rattle.bt_meta.specs.Layout.{piece_count}
+use Rattle.bt_history.specs.declared.call.Reply.{Reply}
+use Rattle.bt_history.specs.declared.call.Reply.TheVariants.{Choked, PipeFull, Idle, NothingLeft}
+use Rattle.bt_history.specs.Counting.{all_below}
+use Rattle.bt_history.specs.Setting.{Setting, some_block}
+use Rattle.bt_history.specs.History.{History}
+use Rattle.bt_history.specs.Peers.{shows, is_open, asked, asked_count, due}
+use Rattle.bt_history.specs.Pieces.{held, unasked, begun, unbegun, availability, wanted, endgame, interesting, had_count}
+
+-- just this reply, or a Cancel or a Request of any block that passes the test
+pub data Answer : Type 0 where
+  Exactly : (reply : Reply) → Answer
+  CancelOf : (test : Block → Bool) → Answer
+  RequestOf : (test : Block → Bool) → Answer
+
+-- block b is unasked, and its piece is wanted and q shows it
+abbrev pub usable : Setting → History → ℕ → Block → Bool
+usable s h q b = unasked s h b && (wanted s h b.piece && shows h q b.piece)
+
+-- strict priority: a usable block of a begun piece
+abbrev pub continues : Setting → History → ℕ → Block → Bool
+continues s h q b = usable s h q b && begun s h b.piece
+
+-- a wanted unbegun piece that q shows
+abbrev pub is_candidate : Setting → History → ℕ → ℕ → Bool
+is_candidate s h q p = wanted s h p && (shows h q p && unbegun s h p)
+
+-- rarest first: no candidate has less availability than p
+abbrev pub is_rarest : Setting → History → ℕ → ℕ → Bool
+is_rarest s h q p =
+    all_below (piece_count s.torrent) (λ r. not (is_candidate s h q r) || nat_le (availability s h p) (availability s h r))
+
+-- a usable block of an unbegun piece: of a rarest one, but for the first pieces, which any may be
+abbrev pub starts : Setting → History → ℕ → Block → Bool
+starts s h q b =
+    usable s h q b && (unbegun s h b.piece
+    && (nat_lt (had_count s h) s.random || is_rarest s h q b.piece))
+
+-- a block that is lacking, of a wanted piece that q shows, and not asked of q yet
+abbrev pub doubles : Setting → History → ℕ → Block → Bool
+doubles s h q b = wanted s h b.piece && (shows h q b.piece && (not (held h b) && not (asked h q b)))
+
+-- the answer to Next of q: the first case that applies
+unfoldable pub next_answer : Setting → History → ℕ → Answer
+next_answer s h q =
+    if some_block s.torrent (due h q) then CancelOf (due h q)
+    else if not (is_open h q) then Exactly Choked
+    else if nat_le s.depth (asked_count s h q) then Exactly PipeFull
+    else if some_block s.torrent (continues s h q) then RequestOf (continues s h q)
+    else if some_block s.torrent (usable s h q) then RequestOf (starts s h q)
+    else if endgame s h && some_block s.torrent (doubles s h q) then RequestOf (doubles s h q)
+    else if interesting s h q then Exactly Idle
+    else Exactly NothingLeft

@@ -1,0 +1,108 @@
+-- What a history says of a peer. A peer is named by the worker q that speaks for it.
+use Rattle.std.specs.Prelude.{ℕ, ◌==◌, Bool, true, false, not, ◌&&◌, ◌||◌, List, [], ◌∷◌, ◌++◌, Option, Some, is_some, is_none, slice_index_or, if◌then◌else◌}
+use Rattle.std.specs.List.{filter, list_any}
+use Rattle.bt_meta.specs.declared.block.Block.{Block}
+use Rattle.bt_history.specs.declared.event.Action.{Action}
+use Rattle.bt_history.specs.declared.event.Action.TheVariants.{Join, Bits, Have, Choke, Unchoke, Arrived, Leave}
+use Rattle.bt_history.specs.declared.event.Event.{Event}
+use Rattle.bt_history.specs.History.{History, own_call, same_place, stored, requested, cancelled}
+use Rattle.bt_history.specs.Setting.{Setting, count_blocks}
+
+abbrev pub joined_after : Option Action → Bool → Bool
+joined_after (Some Join) before = true
+joined_after (Some Leave) before = false
+joined_after call before = before
+
+-- the newest of q's Join and Leave is Join
+unfoldable pub joined : History → ℕ → Bool
+joined [] q = false
+joined (e ∷ h) q = joined_after (own_call q e) (joined h q)
+
+abbrev pub late_after : Option Action → Bool → Bool
+late_after (Some Join) before = false
+late_after (Some (Bits flags)) before = true
+late_after (Some (Have p)) before = true
+late_after (Some Choke) before = true
+late_after (Some Unchoke) before = true
+late_after (Some (Arrived piece begin bytes)) before = true
+late_after call before = before
+
+-- since q's newest Join there is a Bits, Have, Choke, Unchoke or Arrived of q: a bitfield would come too late
+unfoldable pub late : History → ℕ → Bool
+late [] q = false
+late (e ∷ h) q = late_after (own_call q e) (late h q)
+
+-- the flag of piece p
+abbrev pub flag : List Bool → ℕ → Bool
+flag flags p = slice_index_or flags p false
+
+abbrev pub shows_after : Option Action → ℕ → Bool → Bool
+shows_after (Some Join) p before = false
+shows_after (Some Leave) p before = false
+shows_after (Some (Bits flags)) p before = flag flags p
+shows_after (Some (Have piece)) p before = (piece == p) || before
+shows_after call p before = before
+
+-- q told that it has piece p
+unfoldable pub shows : History → ℕ → ℕ → Bool
+shows [] q p = false
+shows (e ∷ h) q p = shows_after (own_call q e) p (shows h q p)
+
+abbrev pub is_open_after : Option Action → Bool → Bool
+is_open_after (Some Unchoke) before = true
+is_open_after (Some Choke) before = false
+is_open_after (Some Join) before = false
+is_open_after (Some Leave) before = false
+is_open_after call before = before
+
+-- q lets us ask: it unchoked us, and has not choked us since
+unfoldable pub is_open : History → ℕ → Bool
+is_open [] q = false
+is_open (e ∷ h) q = is_open_after (own_call q e) (is_open h q)
+
+-- the call frees what was asked of the peer, and drops its due cancels
+abbrev pub resets : Option Action → Bool
+resets (Some Choke) = true
+resets (Some Join) = true
+resets (Some Leave) = true
+resets call = false
+
+-- the entry asked block b of q
+abbrev pub asks : ℕ → Event → Block → Bool
+asks q e b = list_any (λ a. same_place a b) (requested q e)
+
+-- block b is asked of q: requested, and since then neither stored from anybody nor freed
+unfoldable pub asked : History → ℕ → Block → Bool
+asked [] q b = false
+asked (e ∷ h) q b =
+    not (resets (own_call q e)) && ((is_none (stored e b) && asked h q b) || asks q e b)
+
+-- how many blocks are asked of q
+abbrev pub asked_count : Setting → History → ℕ → ℕ
+asked_count s h q = count_blocks s.torrent (asked h q)
+
+-- the blocks asked of q, the oldest request first
+unfoldable pub outstanding : History → ℕ → List Block
+outstanding [] q = []
+outstanding (e ∷ h) q =
+    if resets (own_call q e) then []
+    else filter (λ b. is_none (stored e b)) (outstanding h q) ++ requested q e
+
+-- a cancel of block b is due at q: it was stored from another peer while it was asked of q, and was not cancelled or freed since
+unfoldable pub due : History → ℕ → Block → Bool
+due [] q b = false
+due (e ∷ h) q b =
+    not (resets (own_call q e)) && (not (cancelled q e b)
+    && (due h q b || (is_some (stored e b) && (not (e.worker == q) && asked h q b))))
+
+-- the blocks whose cancel is due at q, the one that came due first in front
+unfoldable pub dues : History → ℕ → List Block
+dues [] q = []
+dues (e ∷ h) q =
+    if resets (own_call q e) then []
+    else filter (λ b. not (cancelled q e b)) (dues h q)
+    ++ (if e.worker == q then [] else filter (λ b. is_some (stored e b)) (outstanding h q))
+
+-- how many cancels are due at q
+abbrev pub due_count : Setting → History → ℕ → ℕ
+due_count s h q = count_blocks s.torrent (due h q)

@@ -1,0 +1,90 @@
+-- What a history says of blocks and pieces.
+use Rattle.std.specs.Prelude.{ℕ, zero, suc, Bool, false, not, ◌&&◌, ◌||◌, List, [], ◌∷◌, ◌++◌, Option, None, is_some, unwrap_or, nat_lt, if◌then◌else◌}
+use Rattle.bt_meta.specs.declared.block.Block.{Block}
+use Rattle.bt_meta.specs.Layout.{piece_count, block_count, block}
+use Rattle.bt_history.specs.Counting.{any_below, count_below}
+use Rattle.bt_history.specs.Setting.{Setting, some_block_of, each_block_of, some_block, each_block}
+use Rattle.bt_history.specs.History.{History, stored, failed, passed}
+use Rattle.bt_history.specs.Peers.{joined, shows, asked}
+
+-- the bytes of block b, if it is held: stored, and its piece has not failed a check since
+unfoldable pub kept : History → Block → Option (List ℕ)
+kept [] b = None
+kept (e ∷ h) b =
+    if failed e b.piece then None else if is_some (stored e b) then stored e b else kept h b
+
+-- block b is held
+abbrev pub held : History → Block → Bool
+held h b = is_some (kept h b)
+
+abbrev pub content_of_block : History → Block → List ℕ
+content_of_block h b = unwrap_or (kept h b) []
+
+-- each block of piece p is held
+abbrev pub full : Setting → History → ℕ → Bool
+full s h p = each_block_of s.torrent p (held h)
+
+-- the first n lists, joined
+abbrev pub joined_below : ℕ → (ℕ → List ℕ) → List ℕ
+joined_below zero bytes = []
+joined_below (suc n) bytes = joined_below n bytes ++ bytes n
+
+-- the blocks of piece p, joined in order
+abbrev pub content : Setting → History → ℕ → List ℕ
+content s h p = joined_below (block_count s.torrent p) (λ k. content_of_block h (block s.torrent p k))
+
+-- piece p was checked, and had its hash
+unfoldable pub had : History → ℕ → Bool
+had [] p = false
+had (e ∷ h) p = passed e p || had h p
+
+-- block b is asked of some peer
+abbrev pub asked_of_some : Setting → History → Block → Bool
+asked_of_some s h b = any_below s.workers (λ q. asked h q b)
+
+-- block b is held, or asked of some peer
+abbrev pub held_or_asked : Setting → History → Block → Bool
+held_or_asked s h b = held h b || asked_of_some s h b
+
+-- block b is neither held nor asked of anybody
+abbrev pub unasked : Setting → History → Block → Bool
+unasked s h b = not (held_or_asked s h b)
+
+-- piece p isn't had, and some block of it is held or asked
+abbrev pub begun : Setting → History → ℕ → Bool
+begun s h p = not (had h p) && some_block_of s.torrent p (held_or_asked s h)
+
+-- piece p isn't had, and no block of it is held or asked
+abbrev pub unbegun : Setting → History → ℕ → Bool
+unbegun s h p = not (had h p) && not (some_block_of s.torrent p (held_or_asked s h))
+
+-- how many joined peers show piece p
+abbrev pub availability : Setting → History → ℕ → ℕ
+availability s h p = count_below s.workers (λ q. joined h q && shows h q p)
+
+-- piece p is to be downloaded: each piece of the torrent is
+abbrev pub wanted : Setting → History → ℕ → Bool
+wanted s h p = nat_lt p (piece_count s.torrent)
+
+-- endgame: no block of a wanted piece is unasked, and some block of a wanted piece isn't held
+abbrev pub endgame : Setting → History → Bool
+endgame s h =
+    each_block s.torrent (λ b. not (wanted s h b.piece) || held_or_asked s h b)
+    && some_block s.torrent (λ b. wanted s h b.piece && not (held h b))
+
+-- some point before the newest entry was endgame
+unfoldable pub was_endgame : Setting → History → Bool
+was_endgame s [] = false
+was_endgame s (e ∷ h) = endgame s h || was_endgame s h
+
+-- some piece that is shown is wanted and isn't had
+abbrev pub lacks : Setting → History → (ℕ → Bool) → Bool
+lacks s h shown = any_below (piece_count s.torrent) (λ p. wanted s h p && (shown p && not (had h p)))
+
+-- q shows a wanted piece that isn't had
+abbrev pub interesting : Setting → History → ℕ → Bool
+interesting s h q = lacks s h (shows h q)
+
+-- how many pieces are had
+abbrev pub had_count : Setting → History → ℕ
+had_count s h = count_below (piece_count s.torrent) (had h)

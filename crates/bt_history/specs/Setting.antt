@@ -1,0 +1,42 @@
+-- What a history is judged by, and tests over the blocks of its torrent.
+use Rattle.std.specs.Prelude.{ℕ, Bool, ◌&&◌, ◌==◌, nat_lt}
+use Rattle.bt_meta.specs.declared.block.Block.{Block}
+use Rattle.bt_meta.specs.Layout.{Layout, piece_count, block_count, block}
+use Rattle.bt_history.specs.Counting.{any_below, all_below, count_below, sum_below}
+
+-- the torrent, how many workers there are, how many blocks may be asked of one peer,
+-- and how many pieces are picked at random before the rarest come first
+pub record Setting : Type 0 where
+  pub torrent : Layout
+  pub workers : ℕ
+  pub depth : ℕ
+  pub random : ℕ
+
+-- the usual rules: five blocks in a peer's pipe, and the first piece at random
+abbrev pub usual : Layout → ℕ → Setting
+usual t n = record { torrent = t; workers = n; depth = 5; random = 1 }
+
+-- some block of piece p passes the test
+abbrev pub some_block_of : Layout → ℕ → (Block → Bool) → Bool
+some_block_of t p test = any_below (block_count t p) (λ k. test (block t p k))
+
+-- each block of piece p passes the test
+abbrev pub each_block_of : Layout → ℕ → (Block → Bool) → Bool
+each_block_of t p test = all_below (block_count t p) (λ k. test (block t p k))
+
+-- some block of the torrent passes the test
+abbrev pub some_block : Layout → (Block → Bool) → Bool
+some_block t test = any_below (piece_count t) (λ p. some_block_of t p test)
+
+-- each block of the torrent passes the test
+abbrev pub each_block : Layout → (Block → Bool) → Bool
+each_block t test = all_below (piece_count t) (λ p. each_block_of t p test)
+
+-- how many blocks of the torrent pass the test
+abbrev pub count_blocks : Layout → (Block → Bool) → ℕ
+count_blocks t test = sum_below (piece_count t) (λ p. count_below (block_count t p) (λ k. test (block t p k)))
+
+-- b is a block of the torrent
+abbrev pub is_block : Layout → Block → Bool
+is_block t b =
+    nat_lt b.piece (piece_count t) && some_block_of t b.piece (λ c. (c.begin == b.begin) && (c.len == b.len))

@@ -1,0 +1,140 @@
+ghost use Rattle.std.specs.Prelude.{◌≡◌, not};
+ghost use Rattle.bt_history.specs.Entries.{action_of};
+ghost use Rattle.bt_history.specs.Logs.{call_mark};
+
+use crate::mark::CallMark;
+use bt_check::Verdict;
+use bt_meta::{Bitfield, Block};
+use bytes::Bytes;
+use std::sync::Arc;
+
+/// What a peer's worker tells the picker of its peer, or asks of it. All but `Next` and `Settle` tell what came on the wire (BEP 3).
+#[derive(Drop)]
+pub enum Call {
+    /// The handshakes were exchanged.
+    Join,
+    /// A `bitfield` message: the pieces that the peer has.
+    Bits(Bitfield),
+    /// A `have` message: the peer has this piece too.
+    Have(u32),
+    /// A `choke` message.
+    Choke,
+    /// An `unchoke` message.
+    Unchoke,
+    /// What to say to the peer next. The word settles what the rules leave to chance.
+    Next(u64),
+    /// A `piece` message: a block, `begin` bytes into the piece.
+    Arrived {
+        piece: u32,
+        begin: u32,
+        bytes: Bytes,
+    },
+    /// A piece was hashed. Any worker may tell this.
+    Settle(Arc<Verdict>),
+    /// The connection is gone.
+    Leave,
+}
+
+/// Why a call was refused.
+#[derive(Clone, Copy, Debug, PartialEq, Eq)]
+pub enum Reason {
+    NotJoined,
+    AlreadyJoined,
+    /// A bitfield after another one, or after a have, choke, unchoke or block, since the peer joined.
+    LateBits,
+    /// A bitfield of another number of pieces than the torrent has.
+    WrongCount,
+    NoSuchPiece,
+    /// No block begins there.
+    NoSuchBlock,
+    WrongLength,
+    /// The piece isn't full, or was had already.
+    NotWaiting,
+    /// The bytes that were hashed are no longer those held.
+    Stale,
+}
+
+/// What the picker answers to a call.
+#[derive(Clone, Copy, Debug, PartialEq, Eq)]
+pub enum Reply {
+    Joined,
+    /// Whether the peer now shows a wanted piece that isn't had.
+    Noted(bool),
+    Quiet,
+    /// To be sent as `cancel`: the block came from another peer.
+    Cancel(Block),
+    /// To be sent as `request`.
+    Request(Block),
+    /// Nothing to ask: the peer chokes us.
+    Choked,
+    /// Nothing to ask: as many blocks as may be are asked of the peer.
+    PipeFull,
+    /// Nothing to ask now, though the peer shows a wanted piece that isn't had.
+    Idle,
+    /// The peer shows no wanted piece that isn't had.
+    NothingLeft,
+    /// The block is held now.
+    Stored,
+    /// The block is held now, and so is each of its piece.
+    Completed,
+    /// The block was held already.
+    Dropped,
+    /// The piece has the hash that it must have.
+    Had,
+    /// The piece has another hash; its blocks are held no more.
+    Failed,
+    Refused(Reason),
+}
+
+impl Call {
+    /// The call without its bytes and its bitfield.
+    pub fn mark(&self) -> CallMark
+        ensures { result ≡ call_mark (action_of self.now) }
+    {
+        match self {
+            Call::Join => CallMark::Join,
+            Call::Bits(_) => CallMark::Bits,
+            Call::Have(piece) => CallMark::Have(*piece),
+            Call::Choke => CallMark::Choke,
+            Call::Unchoke => CallMark::Unchoke,
+            Call::Next(word) => CallMark::Next(*word),
+            Call::Arrived {
+                piece,
+                begin,
+                bytes,
+            } => CallMark::Arrived {
+                piece: *piece,
+                begin: *begin,
+                len: bytes.len(),
+            },
+            Call::Settle(verdict) => CallMark::Settle(verdict.piece()),
+            Call::Leave => CallMark::Leave,
+        }
+    }
+}
+
+impl Reply {
+    ghost use Rattle.bt_history.specs.History.{counts, stores};
+
+    /// Whether the call was refused, and so changed nothing but the journal.
+    pub fn is_refusal(self) -> bool
+        ensures { result ≡ not (counts self) }
+    {
+        matches!(self, Reply::Refused(_))
+    }
+
+    /// Whether the block that arrived was stored.
+    pub fn is_stored(self) -> bool
+        ensures { result ≡ stores self }
+    {
+        matches!(self, Reply::Stored | Reply::Completed)
+    }
+}
+
+/// One call with its reply, as the journal keeps it.
+#[derive(Drop)]
+pub struct Entry {
+    pub worker: u32,
+    pub call: Call,
+    pub reply: Reply,
+}

@@ -1,0 +1,31 @@
+//! Entries by their plain values: they stand in contracts, in models and in views of threads, and no value of them is made.
+
+use crate::call::Reply;
+use std::collections::LinkedList;
+
+/// A call by its plain values. A verdict is its piece with the joined bytes that were hashed.
+pub enum Action {
+    Join,
+    Bits(LinkedList<bool>),
+    Have(u32),
+    Choke,
+    Unchoke,
+    Next(u64),
+    Arrived {
+        piece: u32,
+        begin: u32,
+        bytes: LinkedList<u8>,
+    },
+    Settle {
+        piece: u32,
+        bytes: LinkedList<u8>,
+    },
+    Leave,
+}
+
+/// An entry by its plain values.
+pub struct Event {
+    pub worker: u32,
+    pub action: Action,
+    pub reply: Reply,
+}

@@ -1,0 +1,58 @@
+//! What holds after every legal history, whoever made it: laws of the definitions alone. Each is a function with an empty body
+//! whose contract is the law; a journal that a desk keeps, or that `audit` accepts, meets what they require.
+ghost use Rattle.std.specs.Prelude.{◌≡◌, ◌≢◌, ◌≤◌, ◌+◌, IsTrue, false};
+ghost use Rattle.sha1.specs.Sha1.{sha1};
+ghost use Rattle.bt_meta.specs.Layout.{hash_of};
+ghost use Rattle.bt_history.specs.Setting.{usual};
+ghost use Rattle.bt_history.specs.Entries.{history_of};
+ghost use Rattle.bt_history.specs.Peers.{asked, asked_count, due_count};
+ghost use Rattle.bt_history.specs.Pieces.{held, full, content, had, was_endgame};
+ghost use Rattle.bt_history.specs.Legal.{IsLegal};
+
+use crate::call::Entry;
+use bt_meta::{Block, Torrent};
+
+/// A block that is held is asked of nobody.
+pub fn held_is_asked_of_nobody(
+    torrent: &Torrent,
+    workers: u32,
+    journal: &[Entry],
+    block: Block,
+    worker: u32,
+)
+    requires legal { IsLegal (usual torrent.now.layout workers) (history_of journal.now) }
+    requires held { IsTrue (held (history_of journal.now) block) }
+    ensures { asked (history_of journal.now) worker block ≡ false }
+{}
+
+/// The blocks asked of one peer and the cancels due at it are together at most five.
+pub fn asked_and_due_are_few(torrent: &Torrent, workers: u32, journal: &[Entry], worker: u32)
+    requires { IsLegal (usual torrent.now.layout workers) (history_of journal.now) }
+    ensures { asked_count (usual torrent.now.layout workers) (history_of journal.now) worker
+        + due_count (usual torrent.now.layout workers) (history_of journal.now) worker ≤ 5 }
+{}
+
+/// A piece that is had is full, and its joined bytes have the hash that the metainfo gives.
+pub fn had_is_full_and_hashed(torrent: &Torrent, workers: u32, journal: &[Entry], piece: u32)
+    requires legal { IsLegal (usual torrent.now.layout workers) (history_of journal.now) }
+    requires had { IsTrue (had (history_of journal.now) piece) }
+    ensures full { IsTrue (full (usual torrent.now.layout workers) (history_of journal.now) piece) }
+    ensures hash { sha1 (content (usual torrent.now.layout workers) (history_of journal.now) piece)
+        ≡ hash_of torrent.now.layout piece }
+{}
+
+/// Two peers have the same block asked only if some earlier point was endgame.
+pub fn doubles_come_of_endgame(
+    torrent: &Torrent,
+    workers: u32,
+    journal: &[Entry],
+    block: Block,
+    worker: u32,
+    other: u32,
+)
+    requires legal { IsLegal (usual torrent.now.layout workers) (history_of journal.now) }
+    requires apart { worker ≢ other }
+    requires asked { IsTrue (asked (history_of journal.now) worker block) }
+    requires too { IsTrue (asked (history_of journal.now) other block) }
+    ensures { IsTrue (was_endgame (usual torrent.now.layout workers) (history_of journal.now)) }
+{}

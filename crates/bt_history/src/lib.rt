@@ -1,0 +1,13 @@
+//! What a journal says: the calls of the picker with their replies, and, in `specs/`, which reply is allowed after which history.
+#![tactic(auto)]
+
+mod call;
+mod event;
+mod examples;
+pub mod laws;
+mod mark;
+
+pub use call::{Call, Entry, Reason, Reply};
+pub use event::{Action, Event};
+pub use examples::{worked_examples, wrong_replies};
+pub use mark::{CallMark, Mark};

@@ -1,0 +1,23 @@
+use crate::call::Reply;
+
+/// A call without its bytes and its bitfield.
+#[derive(Clone, Copy, Debug, PartialEq, Eq)]
+pub enum CallMark {
+    Join,
+    Bits,
+    Have(u32),
+    Choke,
+    Unchoke,
+    Next(u64),
+    Arrived { piece: u32, begin: u32, len: usize },
+    Settle(u32),
+    Leave,
+}
+
+/// What a worker's log keeps of an entry: its place in the journal (the number of older entries), its call and its reply.
+#[derive(Clone, Copy, Debug, PartialEq, Eq)]
+pub struct Mark {
+    pub place: usize,
+    pub call: CallMark,
+    pub reply: Reply,
+}

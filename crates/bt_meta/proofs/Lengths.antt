@@ -1,0 +1,76 @@
+-- The lengths of files that are added one after the other, as a loop does.
+use Rattle.std.proofs.Common.{◌≡◌, ℕ, ◌+◌, ◌-◌, ◌^◌, ◌<◌, ◌≤◌, min, List, ◌∷◌, length, get_or, drop, Result, Ok, Err, refl}
+use Rattle.std.proofs.Common.{ap, arith}
+use Rattle.std.specs.Prelude.{sum}
+use Rattle.std.proofs.lemmas.List.{drop_more, drop_all}
+use Rattle.std.proofs.lemmas.List.Sums.{sum_by-cons}
+use Rattle.bt_bencode.specs.Term.{Term}
+use Rattle.bt_bencode.specs.Reading.{◌>>=◌}
+use Rattle.bt_meta.specs.declared.fault.MetaFault.{MetaFault}
+use Rattle.bt_meta.specs.declared.torrent.reading.Content.{Content}
+use Rattle.bt_meta.specs.Reading.{file_length_in, file_lengths_in}
+use Rattle.bt_meta.specs.Counting.{content_of, content_of_files}
+
+abbrev counts : Content → Result Content MetaFault
+counts content = Ok content
+
+-- the content of files of which some are counted already
+abbrev pub content_with : ℕ → ℕ → List ℕ → Content
+content_with total files lengths = record { total = min (total + sum lengths) (2 ^ 64 - 1); files = files + length lengths }
+
+-- the content when these files are counted too
+abbrev pub counted : ℕ → ℕ → List Term → Result Content MetaFault
+counted total files rest = file_lengths_in rest >>= λ lengths. Ok (content_with total files lengths)
+
+none_with : (lengths : List ℕ) → content_with 0 0 lengths ≡ content_of lengths
+none_with lengths =
+    let t : 0 + sum lengths ≡ sum lengths = omega arith in
+    let f : 0 + length lengths ≡ length lengths = omega arith in
+    rw (t, f) refl
+
+none_counted : (rest : Result (List ℕ) MetaFault) →
+    (rest >>= λ lengths. Ok (content_with 0 0 lengths)) ≡ (rest >>= λ lengths. Ok (content_of lengths))
+none_counted (Ok lengths) = ap (λ (c : Content). counts c) (none_with lengths)
+none_counted (Err fault) = refl
+
+pub counted_none : (files : List Term) → counted 0 0 files ≡ content_of_files files
+counted_none files = none_counted (file_lengths_in files)
+
+-- one file more
+add_one : (total files n : ℕ) (lengths : List ℕ) →
+    content_with total files (n ∷ lengths) ≡ content_with (min (total + n) (2 ^ 64 - 1)) (files + 1) lengths
+add_one total files n lengths =
+    let s : sum (n ∷ lengths) ≡ n + sum lengths = sum_by-cons (λ x. x) n lengths in
+    let t : min (total + sum (n ∷ lengths)) (2 ^ 64 - 1) ≡ min (min (total + n) (2 ^ 64 - 1) + sum lengths) (2 ^ 64 - 1) = omega arith in
+    let f : files + length (n ∷ lengths) ≡ files + 1 + length lengths = omega arith in
+    rw (t, f) refl
+
+with_one : (total files n : ℕ) (rest : Result (List ℕ) MetaFault) →
+    ((rest >>= λ ns. Ok (n ∷ ns)) >>= λ lengths. Ok (content_with total files lengths))
+    ≡ (rest >>= λ lengths. Ok (content_with (min (total + n) (2 ^ 64 - 1)) (files + 1) lengths))
+with_one total files n (Ok lengths) = ap (λ (c : Content). counts c) (add_one total files n lengths)
+with_one total files n (Err fault) = refl
+
+counted_cons : (total files n : ℕ) (t : Term) (ts : List Term) → file_length_in t ≡ Ok n →
+    counted total files (t ∷ ts) ≡ counted (min (total + n) (2 ^ 64 - 1)) (files + 1) ts
+unfolding file_lengths_in
+counted_cons total files n t ts is = rw is (with_one total files n (file_lengths_in ts))
+
+pub counted_more : (all : List Term) (i total n : ℕ) (t : Term) → i < length all → t ≡ get_or all i t → file_length_in t ≡ Ok n →
+    counted total i (drop i all) ≡ counted (min (total + n) (2 ^ 64 - 1)) (i + 1) (drop (i + 1) all)
+counted_more all i total n t h at is =
+    rw (drop_more all i t h, ← at) (counted_cons total i n t (drop (i + 1) all) is)
+
+-- a file that isn't one
+pub counted_fault : (all : List Term) (i total : ℕ) (t : Term) (fault : MetaFault) → i < length all → t ≡ get_or all i t →
+    file_length_in t ≡ Err fault → counted total i (drop i all) ≡ Err fault
+unfolding file_lengths_in
+counted_fault all i total t fault h at is = rw (drop_more all i t h, ← at, is) refl
+
+pub counted_all : (all : List Term) (i total : ℕ) → length all ≤ i → total < 2 ^ 64 →
+    counted total i (drop i all) ≡ Ok (record { total = total; files = i })
+unfolding file_lengths_in
+counted_all all i total h small =
+    let t : min (total + 0) (2 ^ 64 - 1) ≡ total = omega arith in
+    let f : i + 0 ≡ i = omega arith in
+    rw (drop_all i all h, t, f) refl

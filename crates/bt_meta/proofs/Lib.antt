@@ -1,0 +1,7 @@
+pub mod WireBytes
+pub mod Lengths
+pub mod Sizes
+pub mod Digests
+pub mod Found
+pub mod Laws
+pub mod Counted

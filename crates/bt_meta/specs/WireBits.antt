@@ -1,0 +1,23 @@
+-- How a set of pieces is spelled as bytes in a `bitfield` message (BEP 3).
+use Rattle.std.specs.Prelude.{ℕ, ◌+◌, ◌-◌, ◌*◌, ◌/◌, ◌%◌, ◌<◌, ◌≤◌, ◌≡◌, ◌==◌, Bool, true, false, List, length, slice_index, slice_index_or}
+use Rattle.std.specs.Int.{bit_at}
+
+-- how many bytes hold a bit for each of so many pieces
+abbrev pub wire_len : ℕ → ℕ
+wire_len pieces = (pieces + 7) / 8
+
+-- the bit of piece p: the high bit of the first byte is that of piece 0
+abbrev pub wire_bit : List ℕ → ℕ → Bool
+wire_bit bytes p = bit_at (slice_index bytes (p / 8)) (7 - p % 8) == 1
+
+-- a bit behind those of the pieces is set
+pub record HasSpareBit (bytes : List ℕ) (pieces : ℕ) : Type 0 where
+  pub place : ℕ
+  pub behind : pieces ≤ place
+  pub within : place < 8 * length bytes
+  pub set : wire_bit bytes place ≡ true
+
+-- the bytes spell these flags: a bit for each, and zeros behind the last
+pub record IsSpelled (flags : List Bool) (bytes : List ℕ) : Type 0 where
+  pub len : length bytes ≡ wire_len (length flags)
+  pub bits : (p : ℕ) → p < 8 * length bytes → wire_bit bytes p ≡ slice_index_or flags p false

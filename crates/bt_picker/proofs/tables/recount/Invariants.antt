@@ -1,0 +1,12 @@
+use Rattle.std.proofs.Common.{◌≡◌, length, false, []}
+use Rattle.std.specs.Prelude.{slice_index_or, unwrap_or}
+use Rattle.std.specs.Option.{option_copied}
+use Rattle.bt_picker.specs.Tables.{table, piece_row, more_available, less_available}
+use Rattle.bt_picker.proofs.Tabled.{upto}
+use Rattle.bt_picker.proofs.tables.recount.Given as goal
+
+abbrev pub invariant-loop-index : goal.invariant-loop-index
+invariant-loop-index l =
+    l.pieces ≡ table (length l.initial.pieces) (upto l.index
+    (λ p. more_available (slice_index_or (unwrap_or (option_copied l.after) []) p false) (less_available (slice_index_or l.before p false) (piece_row l.initial.pieces p)))
+    (piece_row l.initial.pieces))

@@ -1,0 +1,5 @@
+pub mod Tables
+pub mod Search
+pub mod Positions
+pub mod Checks
+pub mod Audits

@@ -1,0 +1,22 @@
+//! The piece picker: which block to request next, and from which peer.
+#![tactic(auto)]
+
+mod allow;
+mod auditing;
+mod choose;
+mod desk;
+mod jobs;
+mod peer;
+mod piece;
+mod position;
+mod refuse;
+mod ruling;
+mod tables;
+#[cfg(test)]
+mod tests;
+mod unread;
+
+pub use auditing::{AuditFault, audit};
+pub use bt_check::{Job, Verdict};
+pub use bt_history::{Action, Call, CallMark, Entry, Event, Mark, Reason, Reply, laws};
+pub use desk::Desk;

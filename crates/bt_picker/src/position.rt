@@ -1,0 +1,284 @@
+//! A journal with its tables: each question that the rules ask, answered by its definition.
+ghost use Rattle.std.specs.Prelude.{◌≡◌, ◌<◌, ◌≤◌, ◌∷◌, [], ℕ, Bool, false, true, length, slice_index_or, IfSome, IfNone, Some, None, IsTrue, is_some, option_and_then};
+ghost use Rattle.bt_meta.specs.declared.block.Block.{Block};
+ghost use Rattle.bt_meta.specs.Layout.{piece_count, block_count, block};
+ghost use Rattle.std.specs.List.{list_any};
+ghost use Rattle.bt_history.specs.Setting.{is_block, some_block_of};
+ghost use Rattle.bt_history.specs.History.{same_place};
+ghost use Rattle.bt_history.specs.Peers.{joined, late, shows, is_open, outstanding, asked, due, dues, flag};
+ghost use Rattle.bt_history.specs.Pieces.{availability, asked_of_some, begun, full, had, held, held_or_asked, interesting, kept, lacks, unbegun, wanted};
+ghost use Rattle.bt_picker.specs.Tables.{AreTables, cell_of, peer_of, piece_of, place};
+
+use crate::peer::Peer;
+use crate::piece::{Cell, Piece};
+use crate::tables::Tables;
+use bt_history::{Call, Entry};
+use bt_meta::{Bitfield, Block, Torrent};
+use std::marker::Model;
+
+/// A journal and the tables that tell of it. Contracts see the setting and the history.
+#[derive(Drop)]
+pub struct Position<'a> {
+    pub(crate) tables: &'a Tables,
+    pub(crate) journal: &'a [Entry],
+}
+
+impl<'a> Model for Position<'a> {
+    ghost use Rattle.bt_history.specs.Entries.{history_of};
+    ghost use Rattle.bt_picker.specs.Positions.{DeskState};
+    ghost use Rattle.bt_picker.specs.Tables.{AreTables};
+
+    ghost Value = { DeskState };
+
+    ghost view = { λ p. record { setting = p.tables.now.setting; history = history_of p.journal.now } };
+
+    ghost invariant = { λ p. AreTables p.tables.now (history_of p.journal.now) };
+}
+
+impl<'a> Position<'a> {
+    ghost use Rattle.bt_history.specs.Entries.{history_of};
+
+    pub fn new(tables: &'a Tables, journal: &'a [Entry]) -> Position<'a>
+        requires { AreTables tables.now (history_of journal.now) }
+        ensures setting { result.setting ≡ tables.now.setting }
+        ensures history { result.history ≡ history_of journal.now }
+    {
+        Position { tables, journal }
+    }
+
+    pub fn torrent(&self) -> &Torrent
+        ensures { result.now.layout ≡ self.now.setting.torrent }
+    {
+        self.tables.torrent()
+    }
+
+    pub fn workers(&self) -> u32
+        ensures { result ≡ self.now.setting.workers }
+    {
+        self.tables.workers()
+    }
+
+    pub fn piece_count(&self) -> u32
+        ensures { result ≡ piece_count self.now.setting.torrent }
+    {
+        self.torrent().piece_count()
+    }
+
+    pub fn block_count(&self, piece: u32) -> u32
+        requires { piece < piece_count self.now.setting.torrent }
+        ensures { result ≡ block_count self.now.setting.torrent piece }
+    {
+        self.torrent().block_count(piece)
+    }
+
+    pub fn block(&self, piece: u32, index: u32) -> Block
+        requires piece { piece < piece_count self.now.setting.torrent }
+        requires index { index < block_count self.now.setting.torrent piece }
+        ensures { result ≡ block self.now.setting.torrent piece index }
+    {
+        self.torrent().block(piece, index)
+    }
+
+    fn peer(&self, worker: u32) -> &Peer
+        requires { worker < self.now.setting.workers }
+        ensures { result.now ≡ peer_of self.now.setting self.now.history worker }
+    {
+        self.tables.peer(worker)
+    }
+
+    fn piece(&self, piece: u32) -> &Piece
+        requires { piece < piece_count self.now.setting.torrent }
+        ensures { result.now ≡ piece_of self.now.setting self.now.history piece }
+    {
+        self.tables.piece(piece)
+    }
+
+    fn cell(&self, piece: u32, index: u32) -> Cell
+        requires piece { piece < piece_count self.now.setting.torrent }
+        requires index { index < block_count self.now.setting.torrent piece }
+        ensures { result ≡ cell_of self.now.setting self.now.history (block self.now.setting.torrent piece index) }
+    {
+        self.piece(piece).cell(index)
+    }
+
+    pub fn is_joined(&self, worker: u32) -> bool
+        requires { worker < self.now.setting.workers }
+        ensures { result ≡ joined self.now.history worker }
+    {
+        self.peer(worker).is_joined()
+    }
+
+    pub fn is_late(&self, worker: u32) -> bool
+        requires { worker < self.now.setting.workers }
+        ensures { result ≡ late self.now.history worker }
+    {
+        self.peer(worker).is_late()
+    }
+
+    pub fn is_open(&self, worker: u32) -> bool
+        requires { worker < self.now.setting.workers }
+        ensures { result ≡ is_open self.now.history worker }
+    {
+        self.peer(worker).is_open()
+    }
+
+    pub fn shows(&self, worker: u32, piece: u32) -> bool
+        requires worker { worker < self.now.setting.workers }
+        requires piece { piece < piece_count self.now.setting.torrent }
+        ensures { result ≡ shows self.now.history worker piece }
+    {
+        self.peer(worker).shows(piece)
+    }
+
+    /// The blocks asked of the worker's peer, the oldest request first.
+    pub fn outstanding(&self, worker: u32) -> &[Block]
+        requires { worker < self.now.setting.workers }
+        ensures { result.now ≡ outstanding self.now.history worker }
+    {
+        self.peer(worker).asked()
+    }
+
+    /// The blocks whose cancel is due at the worker's peer, the one that came due first in front.
+    pub fn dues(&self, worker: u32) -> &[Block]
+        requires { worker < self.now.setting.workers }
+        ensures { result.now ≡ dues self.now.history worker }
+    {
+        self.peer(worker).due()
+    }
+
+    pub fn had(&self, piece: u32) -> bool
+        requires { piece < piece_count self.now.setting.torrent }
+        ensures { result ≡ had self.now.history piece }
+    {
+        self.piece(piece).is_had()
+    }
+
+    /// How many joined peers show the piece.
+    pub fn availability(&self, piece: u32) -> u32
+        requires { piece < piece_count self.now.setting.torrent }
+        ensures { result ≡ availability self.now.setting self.now.history piece }
+    {
+        self.piece(piece).availability()
+    }
+
+    /// Whether the block is held.
+    #[tactic(auto, using(crate::proofs::Cells::place_kept))]
+    pub fn holds(&self, piece: u32, index: u32) -> bool
+        requires piece { piece < piece_count self.now.setting.torrent }
+        requires index { index < block_count self.now.setting.torrent piece }
+        ensures { result ≡ held self.now.history (block self.now.setting.torrent piece index) }
+    {
+        self.cell(piece, index).stored_at.is_some()
+    }
+
+    /// Whether the block is held, or asked of some peer.
+    pub fn is_held_or_asked(&self, piece: u32, index: u32) -> bool
+        requires piece { piece < piece_count self.now.setting.torrent }
+        requires index { index < block_count self.now.setting.torrent piece }
+        ensures { result ≡ held_or_asked self.now.setting self.now.history (block self.now.setting.torrent piece index) }
+    {
+        let cell = self.cell(piece, index);
+        cell.stored_at.is_some() || cell.askers > 0
+    }
+
+    /// Whether the block is asked of the worker's peer.
+    pub fn asks(&self, worker: u32, block: &Block) -> bool
+        requires { worker < self.now.setting.workers }
+        ensures { result ≡ asked self.now.history worker block.now }
+    {
+        contains_place(self.outstanding(worker), block)
+    }
+
+    /// Whether a cancel of the block is due at the worker's peer.
+    pub fn is_due(&self, worker: u32, block: &Block) -> bool
+        requires { worker < self.now.setting.workers }
+        ensures { result ≡ due self.now.history worker block.now }
+    {
+        contains_place(self.dues(worker), block)
+    }
+
+    /// Whether each block of the piece is held.
+    #[tactic(auto, using(crate::proofs::Scans::full_fails, crate::proofs::Scans::full_found))]
+    pub fn is_full(&self, piece: u32) -> bool
+        requires { piece < piece_count self.now.setting.torrent }
+        ensures { result ≡ full self.now.setting self.now.history piece }
+    {
+        for index in 0..self.block_count(piece) {
+            if !self.holds(piece, index) {
+                return false;
+            }
+        }
+        true
+    }
+
+    /// Whether some block of the piece is held or asked.
+    #[tactic(auto, using(crate::proofs::Scans::touched_found, crate::proofs::Scans::touched_none))]
+    fn is_touched(&self, piece: u32) -> bool
+        requires { piece < piece_count self.now.setting.torrent }
+        ensures { result ≡ some_block_of self.now.setting.torrent piece (held_or_asked self.now.setting self.now.history) }
+    {
+        for index in 0..self.block_count(piece) {
+            if self.is_held_or_asked(piece, index) {
+                return true;
+            }
+        }
+        false
+    }
+
+    pub fn is_begun(&self, piece: u32) -> bool
+        requires { piece < piece_count self.now.setting.torrent }
+        ensures { result ≡ begun self.now.setting self.now.history piece }
+    {
+        !self.had(piece) && self.is_touched(piece)
+    }
+
+    pub fn is_unbegun(&self, piece: u32) -> bool
+        requires { piece < piece_count self.now.setting.torrent }
+        ensures { result ≡ unbegun self.now.setting self.now.history piece }
+    {
+        !self.had(piece) && !self.is_touched(piece)
+    }
+
+    /// Whether the piece is to be downloaded.
+    pub fn is_wanted(&self, piece: u32) -> bool
+        requires { piece < piece_count self.now.setting.torrent }
+        ensures { result ≡ wanted self.now.setting self.now.history piece }
+    {
+        piece < self.piece_count()
+    }
+
+    /// Whether the worker's peer shows a wanted piece that isn't had.
+    #[tactic(auto, using(crate::proofs::Scans::lacks_found, crate::proofs::Scans::lacks_none))]
+    pub fn is_interesting(&self, worker: u32) -> bool
+        requires { worker < self.now.setting.workers }
+        ensures { result ≡ interesting self.now.setting self.now.history worker }
+    {
+        for piece in 0..self.piece_count() {
+            if self.is_wanted(piece) && self.shows(worker, piece) && !self.had(piece) {
+                return true;
+            }
+        }
+        false
+    }
+
+    /// The number of the block's entry in the journal, if the block is held.
+    pub fn place(&self, piece: u32, index: u32) -> Option<usize>
+        requires piece { piece < piece_count self.now.setting.torrent }
+        requires index { index < block_count self.now.setting.torrent piece }
+        ensures { result ≡ place self.now.history (block self.now.setting.torrent piece index) }
+    {
+        self.cell(piece, index).stored_at
+    }
+}
+
+/// Whether a block of the line begins where this one does.
+fn contains_place(line: &[Block], block: &Block) -> bool
+    ensures { result ≡ list_any (λ a. same_place a block.now) line.now }
+{
+    for other in line {
+        if other.piece == block.piece && other.begin == block.begin {
+            return true;
+        }
+    }
+    false
+}

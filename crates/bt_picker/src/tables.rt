@@ -1,0 +1,332 @@
+ghost use Rattle.std.specs.Prelude.{◌≡◌, ◌<◌, ◌≤◌, ◌+◌, ◌^◌, ◌*◌, ◌/◌, ◌==◌, ◌∷◌, [], ℕ, Bool, false, length, slice_index_or, not, IfOk, Some, IsTrue, EachIndex, unwrap_or};
+ghost use Rattle.bt_meta.specs.Layout.{block_count, piece_count, block_size};
+ghost use Rattle.std.specs.Option.{option_copied};
+ghost use Rattle.bt_history.specs.Setting.{usual};
+ghost use Rattle.bt_history.specs.Entries.{event, history_of};
+ghost use Rattle.bt_history.specs.Legal.{IsAllowed};
+ghost use Rattle.bt_history.specs.History.{stores};
+ghost use Rattle.bt_meta.specs.declared.block.Block.{Block};
+ghost use Rattle.bt_picker.specs.Tables.{AreTables, HasBlock, HasRoomFor, bits_row, leave_row, PeerState, PieceState, TablesState, after_arrival, after_check, after_next, announced, cancel_row, late_row, empty_cell, entered_call, fresh_peer, fresh_piece, have_row, join_row, choke_row, unchoke_row, less_available, lowered, lowered_by, more_available, peer_row, piece_row, released, reshown, table, with_block, with_peer, without_block};
+
+use crate::peer::Peer;
+use crate::piece::Piece;
+use bt_history::{Call, Entry, Reply};
+use bt_meta::{BLOCK_SIZE, Bitfield, Block, Torrent};
+use std::alloc::{AllocError, Global};
+use std::marker::Model;
+use std::sync::Arc;
+
+/// A row for each worker's peer and a row for each piece: what the picker answers from, so that it never reads the journal but for the
+/// bytes of held blocks. Beside the journal that they tell of they make a `Position`, which answers by the definitions.
+#[derive(Drop)]
+pub struct Tables {
+    torrent: Arc<Torrent>,
+    workers: u32,
+    peers: Vec<Peer>,
+    pieces: Vec<Piece>,
+}
+
+impl Model for Tables {
+    ghost use Rattle.bt_history.specs.Setting.{usual};
+    ghost use Rattle.bt_picker.specs.Tables.{TablesState};
+
+    ghost Value = { TablesState };
+
+    ghost view = { λ t. record {
+      setting = usual t.torrent.value.layout t.workers;
+      peers = t.peers.items;
+      pieces = t.pieces.items;
+    } };
+}
+
+impl Tables {
+    /// The tables of an empty journal.
+    pub fn new(alloc: Global, torrent: Arc<Torrent>, workers: u32) -> Result<Tables, AllocError>
+        requires { workers ≤ 1024 }
+        ensures setting { IfOk result (λ t. t.setting ≡ usual torrent.value.layout workers) }
+        ensures are { IfOk result (λ t. AreTables t []) }
+    {
+        let peers = new_peers(alloc, workers, torrent.piece_count())?;
+        let pieces = new_pieces(alloc, &torrent)?;
+        Ok(Tables {
+            torrent,
+            workers,
+            peers,
+            pieces,
+        })
+    }
+
+    pub fn workers(&self) -> u32
+        ensures { result ≡ self.now.setting.workers }
+    {
+        self.workers
+    }
+
+    pub fn torrent(&self) -> &Torrent
+        ensures { result.now.layout ≡ self.now.setting.torrent }
+    {
+        &self.torrent
+    }
+
+    pub fn peer(&self, worker: u32) -> &Peer
+        requires { worker < length self.now.peers }
+        ensures { result.now ≡ peer_row self.now.peers worker }
+    {
+        &self.peers[worker as usize]
+    }
+
+    pub fn piece(&self, piece: u32) -> &Piece
+        requires { piece < length self.now.pieces }
+        ensures { result.now ≡ piece_row self.now.pieces piece }
+    {
+        &self.pieces[piece as usize]
+    }
+
+    /// Enters one more entry: `older` is the journal before it.
+    pub fn enter(&mut self, older: &[Entry], worker: u32, call: &Call, reply: Reply)
+        requires are { AreTables self.old (history_of older.now) }
+        requires allowed { IsAllowed self.old.setting (history_of older.now) (event worker call.now reply) }
+        ensures are { AreTables self.new (event worker call.now reply ∷ history_of older.now) }
+        ensures setting { self.new.setting ≡ self.old.setting }
+    {
+        if reply.is_refusal() {
+            return;
+        }
+        match call {
+            Call::Join => self.join(worker),
+            Call::Bits(flags) => self.put_bits(worker, flags),
+            Call::Have(piece) => self.put_have(worker, *piece),
+            Call::Choke => self.choke(worker),
+            Call::Unchoke => self.unchoke(worker),
+            Call::Next(_) => self.put_next(worker, reply),
+            Call::Arrived { piece, begin, .. } => {
+                self.put_arrival(worker, *piece, *begin, older.len(), reply);
+            }
+            Call::Settle(verdict) => self.put_check(verdict.piece(), reply),
+            Call::Leave => self.leave(worker),
+        }
+    }
+
+    /// Frees what was asked of the worker's peer.
+    fn release(&mut self, worker: u32)
+        requires { worker < length self.old.peers }
+        ensures { self.new ≡ released self.old worker }
+    {
+        lower_all(&mut self.pieces, self.peers[worker as usize].asked());
+    }
+
+    /// The worker's peer shows these pieces in place of those that it showed, or none.
+    fn reshow(&mut self, worker: u32, flags: Option<&Bitfield>)
+        requires worker { worker < length self.old.peers }
+        requires few { EachIndex self.old.pieces (λ p. (piece_row self.old.pieces p).availability ≤ 1024) }
+        ensures { self.new ≡ reshown self.old worker (unwrap_or (option_copied flags.entry) []) }
+    {
+        recount(&mut self.pieces, self.peers[worker as usize].shown(), flags);
+    }
+
+    fn join(&mut self, worker: u32)
+        requires { worker < length self.old.peers }
+        ensures { self.new ≡ with_peer (released self.old worker) worker join_row }
+    {
+        self.release(worker);
+        self.peers[worker as usize].join();
+    }
+
+    fn choke(&mut self, worker: u32)
+        requires { worker < length self.old.peers }
+        ensures { self.new ≡ with_peer (released self.old worker) worker choke_row }
+    {
+        self.release(worker);
+        self.peers[worker as usize].choke();
+    }
+
+    fn unchoke(&mut self, worker: u32)
+        requires { worker < length self.old.peers }
+        ensures { self.new ≡ with_peer self.old worker unchoke_row }
+    {
+        self.peers[worker as usize].unchoke();
+    }
+
+    fn put_bits(&mut self, worker: u32, flags: &Bitfield)
+        requires worker { worker < length self.old.peers }
+        requires flags { length flags.now ≡ length (peer_row self.old.peers worker).shows }
+        requires few { EachIndex self.old.pieces (λ p. (piece_row self.old.pieces p).availability ≤ 1024) }
+        ensures { self.new ≡ with_peer (reshown self.old worker flags.now) worker (bits_row flags.now) }
+    {
+        self.reshow(worker, Some(flags));
+        self.peers[worker as usize].put_bits(flags);
+    }
+
+    fn put_have(&mut self, worker: u32, piece: u32)
+        requires worker { worker < length self.old.peers }
+        requires piece { piece < length self.old.pieces }
+        requires shown { piece < length (peer_row self.old.peers worker).shows }
+        requires few { (piece_row self.old.pieces piece).availability ≤ 1024 }
+        ensures { self.new ≡ announced self.old worker piece }
+    {
+        let is_new = !self.peers[worker as usize].shows(piece);
+        self.pieces[piece as usize].recount(false, is_new);
+        self.peers[worker as usize].put_have(piece);
+    }
+
+    fn leave(&mut self, worker: u32)
+        requires worker { worker < length self.old.peers }
+        requires few { EachIndex (released self.old worker).pieces
+            (λ p. (piece_row (released self.old worker).pieces p).availability ≤ 1024) }
+        ensures { self.new ≡ with_peer (reshown (released self.old worker) worker []) worker leave_row }
+    {
+        self.release(worker);
+        self.reshow(worker, None);
+        self.peers[worker as usize].leave();
+    }
+
+    fn put_next(&mut self, worker: u32, reply: Reply)
+        requires worker { worker < length self.old.peers }
+        requires request { (b : Block) → reply ≡ Reply.Request b → HasRoomFor self.old worker b }
+        ensures { self.new ≡ after_next self.old worker reply }
+    {
+        match reply {
+            Reply::Request(block) => self.ask(worker, block),
+            Reply::Cancel(block) => self.cancel(worker, block),
+            _ => {}
+        }
+    }
+
+    fn ask(&mut self, worker: u32, block: Block)
+        requires worker { worker < length self.old.peers }
+        requires room { HasRoomFor self.old worker block }
+        ensures { self.new ≡ after_next self.old worker (Reply.Request block) }
+    {
+        self.peers[worker as usize].ask(block);
+        self.pieces[block.piece as usize].raise(block.begin / BLOCK_SIZE);
+    }
+
+    fn cancel(&mut self, worker: u32, block: Block)
+        requires { worker < length self.old.peers }
+        ensures { self.new ≡ with_peer self.old worker (cancel_row block) }
+    {
+        self.peers[worker as usize].cancel(block);
+    }
+
+    /// Block `index` of the piece is held now, stored by the entry that so many are older than.
+    fn put_block(&mut self, worker: u32, piece: u32, index: u32, older: usize)
+        requires worker { worker < length self.old.peers }
+        requires stored { HasBlock self.old piece index }
+        requires begin { block_size * index < 2 ^ 32 }
+        requires room { EachIndex self.old.peers
+            (λ q. length (peer_row self.old.peers q).asked + length (peer_row self.old.peers q).due ≤ 5) }
+        ensures { self.new ≡ with_block self.old worker piece index older }
+    {
+        forget_all(&mut self.peers, worker, piece, BLOCK_SIZE * index);
+        self.pieces[piece as usize].store(index, older);
+    }
+
+    /// Puts an arrival in, where so many entries are older than it.
+    fn put_arrival(&mut self, worker: u32, piece: u32, begin: u32, older: usize, reply: Reply)
+        requires worker { worker < length self.old.peers }
+        requires stored { IsTrue (stores reply) → HasBlock self.old piece (begin / block_size) }
+        requires room { EachIndex self.old.peers
+            (λ q. length (peer_row self.old.peers q).asked + length (peer_row self.old.peers q).due ≤ 5) }
+        ensures { self.new ≡ after_arrival self.old worker piece begin older reply }
+    {
+        if reply.is_stored() {
+            self.put_block(worker, piece, begin / BLOCK_SIZE, older);
+            self.note_arrival(worker);
+        } else {
+            self.note_arrival(worker);
+        }
+    }
+
+    fn note_arrival(&mut self, worker: u32)
+        requires { worker < length self.old.peers }
+        ensures { self.new ≡ with_peer self.old worker late_row }
+    {
+        self.peers[worker as usize].note_arrival();
+    }
+
+    fn put_check(&mut self, piece: u32, reply: Reply)
+        requires { piece < length self.old.pieces }
+        ensures { self.new ≡ after_check self.old piece reply }
+    {
+        match reply {
+            Reply::Had => self.pieces[piece as usize].pass(),
+            _ => self.pieces[piece as usize].fail(),
+        }
+    }
+}
+
+/// Frees the blocks of the line: one peer less is asked for each.
+fn lower_all(pieces: &mut [Piece], line: &[Block])
+    ensures { pieces.new ≡ lowered_by line.now pieces.old }
+{
+    for block in line {
+        lower(pieces, *block);
+    }
+}
+
+/// One peer less is asked for the block.
+fn lower(pieces: &mut [Piece], block: Block)
+    ensures { pieces.new ≡ lowered block pieces.old }
+{
+    if (block.piece as usize) < pieces.len() {
+        pieces[block.piece as usize].lower(block.begin / BLOCK_SIZE);
+    }
+}
+
+/// A peer that showed the pieces of `before` shows those of `after` in their place, or none.
+fn recount(pieces: &mut [Piece], before: &[bool], after: Option<&Bitfield>)
+    requires { EachIndex pieces.old (λ p. (piece_row pieces.old p).availability ≤ 1024) }
+    ensures { pieces.new ≡ table (length pieces.old) (λ p.
+        more_available (slice_index_or (unwrap_or (option_copied after.entry) []) p false)
+        (less_available (slice_index_or before.now p false) (piece_row pieces.old p))) }
+{
+    for index in 0..pieces.len() {
+        pieces[index].recount(is_set(before, index), flag_at(after, index));
+    }
+}
+
+fn is_set(flags: &[bool], index: usize) -> bool
+    ensures { result ≡ slice_index_or flags.now index false }
+{
+    index < flags.len() && flags[index]
+}
+
+fn flag_at(flags: Option<&Bitfield>, index: usize) -> bool
+    ensures { result ≡ slice_index_or (unwrap_or (option_copied flags.entry) []) index false }
+{
+    match flags {
+        Some(flags) => index < flags.count() as usize && flags.has(index as u32),
+        None => false,
+    }
+}
+
+/// Tells each peer's row that the block at this place was stored, brought by the worker's own peer.
+fn forget_all(peers: &mut [Peer], worker: u32, piece: u32, begin: u32)
+    requires { EachIndex peers.old (λ q. length (peer_row peers.old q).asked + length (peer_row peers.old q).due ≤ 5) }
+    ensures { peers.new ≡ table (length peers.old) (λ q. without_block piece begin (worker == q) (peer_row peers.old q)) }
+{
+    for index in 0..peers.len() {
+        peers[index].forget(piece, begin, worker as usize == index);
+    }
+}
+
+fn new_peers(alloc: Global, workers: u32, pieces: u32) -> Result<Vec<Peer>, AllocError>
+    ensures { IfOk result (λ peers. peers.items ≡ table workers (λ q. fresh_peer pieces)) }
+{
+    let mut peers = Vec::new(alloc);
+    for _worker in 0..workers {
+        peers.push(Peer::new(alloc, pieces)?)?;
+    }
+    Ok(peers)
+}
+
+fn new_pieces(alloc: Global, torrent: &Torrent) -> Result<Vec<Piece>, AllocError>
+    ensures { IfOk result (λ pieces. pieces.items
+        ≡ table (piece_count torrent.now.layout) (λ p. fresh_piece (block_count torrent.now.layout p))) }
+{
+    let mut pieces = Vec::new(alloc);
+    for piece in 0..torrent.piece_count() {
+        pieces.push(Piece::new(alloc, torrent.block_count(piece))?)?;
+    }
+    Ok(pieces)
+}

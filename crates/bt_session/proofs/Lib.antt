@@ -1,0 +1,12 @@
+pub mod Asking
+pub mod Desks
+pub mod Failing
+pub mod Heard
+pub mod Leaving
+pub mod Opening
+pub mod Staying
+pub mod Runs
+pub mod Stretches
+pub mod Telling
+pub mod TurnParts
+pub mod Written

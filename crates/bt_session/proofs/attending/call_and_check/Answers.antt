@@ -1,0 +1,24 @@
+use Rattle.std.proofs.Common.{◌≡◌, Some, sym, ap, ◌∙◌, inr, refl}
+use Rattle.std.proofs.lemmas.Result.{err_from_is_err_and}
+use Rattle.bt_session.specs.Events.{mark_of_call}
+use Rattle.bt_session.specs.Turns.{if_completed, arrived_piece}
+use Rattle.bt_session.proofs.Opening.{opening_stops, opening_unchecked, opening_checked}
+use Rattle.bt_session.proofs.attending.call_and_check.Goals as goal
+
+pub returns-in_err-reply-clause-err : goal.returns-in_err-reply-clause-err
+returns-in_err-reply-clause-err g c =
+    let p = err_from_is_err_and c.from_residual.result c.from_residual.ensures.1 in
+    rw (p.1, p.2) (opening_stops (mark_of_call c.args.call) _ _ _ c.requires c.in_err-reply.ensures.err)
+
+pub returns-in_err-completed-clause-err : goal.returns-in_err-completed-clause-err
+returns-in_err-completed-clause-err g c =
+    let p = err_from_is_err_and c.from_residual-in_err-completed.result c.from_residual-in_err-completed.ensures.1 in
+    rw (p.1, p.2) (opening_unchecked (mark_of_call c.args.call) c.in_ok-reply.reply _ _ _ _ (inr refl) c.in_ok-reply.ensures.ok_accepted c.in_ok-reply.ensures.ok c.in_err-completed.ensures.err)
+
+pub returns-in_ok-completed-clause-ok : goal.returns-in_ok-completed-clause-ok
+returns-in_ok-completed-clause-ok g c =
+    let mark = mark_of_call c.args.call in
+    let reply = c.in_ok-reply.reply in
+    let is : if_completed (arrived_piece mark) reply ≡ Some c.in-Some.piece =
+    ap (λ piece. if_completed piece reply) (sym c.arrived_piece-arrived.ensures) ∙ sym c.completed.ensures ∙ c.in-Some.is in
+    opening_checked mark reply c.in-Some.piece _ _ _ is c.in_ok-reply.ensures.ok_accepted c.in_ok-reply.ensures.ok c.in_ok-completed.ensures.ok

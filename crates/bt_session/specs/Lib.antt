@@ -1,0 +1,9 @@
+pub mod Desks
+pub mod Events
+pub mod Hearing
+pub mod Outlets
+pub mod Places
+pub mod Saying
+pub mod Sessions
+pub mod Turning
+pub mod Turns

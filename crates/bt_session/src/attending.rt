@@ -1,0 +1,146 @@
+//! What a session does for a message after the handshake.
+
+ghost use Rattle.std.specs.Prelude.{◌≡◌, ◌⊎◌, None, Some, true, false, List, [], ◌++◌, IfErr, IfOk, OnOk, MatchOption};
+ghost use Rattle.bt_meta.specs.Layout.{piece_count};
+ghost use Rattle.bt_session.specs.declared.fault.SessionFault.TheVariants.{WriteFault, NoMemory, BadBits};
+ghost use Rattle.bt_session.specs.Events.{Event, is_check, mark_of_call};
+ghost use Rattle.bt_session.specs.Turns.{call_of, arrived_piece as piece_of_mark, if_completed, Opens, IsTurn, IsAcceptable, NoneRefused, IsLater};
+ghost use Rattle.bt_session.specs.Outlets.{outlet, Performs, PerformsUpTo, EndsCalls};
+ghost use Rattle.bt_session.specs.Turning.{StopsOpening, StopsTurn, TellsNews};
+
+use crate::calling::{ask, make_call, tell_news};
+use crate::fault::SessionFault;
+use crate::place::Place;
+use bt_history::{Call, Reply};
+use bt_meta::{BitFault, Bitfield, Sink, Torrent};
+use bt_wire::Message;
+use rand_core::Rng;
+use std::alloc::Global;
+
+/// The call that a message makes.
+fn call_for(
+    alloc: Global,
+    torrent: &Torrent,
+    message: Message,
+) -> Result<Option<Call>, SessionFault>
+    requires { IsLater message }
+    ensures ok { IfOk result (λ o. IsAcceptable (piece_count torrent.now.layout) message
+        × MatchOption o (call_of message ≡ None) (λ call. call_of message ≡ Some (mark_of_call call))) }
+    ensures err { IfErr result (λ fault.
+        ((fault ≡ NoMemory) × IsAcceptable (piece_count torrent.now.layout) message)
+        ⊎ ((fault ≡ BadBits) × ¬ IsAcceptable (piece_count torrent.now.layout) message)) }
+{
+    Ok(match message {
+        Message::Choke => Some(Call::Choke),
+        Message::Unchoke => Some(Call::Unchoke),
+        Message::Have(piece) => Some(Call::Have(piece)),
+        Message::Bits(bits) => match Bitfield::from_wire(alloc, &bits, torrent.piece_count()) {
+            Ok(bitfield) => Some(Call::Bits(bitfield)),
+            Err(BitFault::NoMemory) => return Err(SessionFault::NoMemory),
+            Err(_) => return Err(SessionFault::BadBits),
+        },
+        Message::Piece {
+            piece,
+            begin,
+            bytes,
+        } => Some(Call::Arrived {
+            piece,
+            begin,
+            bytes,
+        }),
+        _ => None,
+    })
+}
+
+/// The piece of a block that arrived.
+fn arrived_piece(call: &Call) -> Option<u32>
+    ensures { result ≡ piece_of_mark (mark_of_call call.now) }
+{
+    match call {
+        Call::Arrived { piece, .. } => Some(*piece),
+        _ => None,
+    }
+}
+
+/// That piece, where the reply completes it.
+fn completed(arrived: Option<u32>, reply: &Reply) -> Option<u32>
+    ensures { result ≡ if_completed arrived reply.now }
+{
+    match reply {
+        Reply::Completed => arrived,
+        _ => None,
+    }
+}
+
+/// Makes a call, and sees to the check of a piece that it completes.
+fn call_and_check<P: Place, W: Sink>(
+    alloc: Global,
+    place: &mut P,
+    writer: &mut W,
+    interested: &mut bool,
+    call: Call,
+) -> Result<(), SessionFault>
+    requires { is_check (mark_of_call call) ≡ false }
+    ensures ok { OnOk result ((events : List Event) × (Opens (Some (mark_of_call call)) events × NoneRefused events
+        × Performs (outlet P.past W.written place.old writer.old interested.old) events (outlet P.past W.written place.new writer.new interested.new))) }
+    ensures ok_sound { OnOk result (W.failed writer.new ≡ W.failed writer.old) }
+    ensures err { IfErr result (λ fault. (events : List Event) × ((rest : List Event) × (Opens (Some (mark_of_call call)) (events ++ rest) × EndsCalls fault events
+        × PerformsUpTo fault (outlet P.past W.written place.old writer.old interested.old) events (outlet P.past W.written place.new writer.new interested.new)))) }
+    ensures err_failed { IfErr result (λ fault. fault ≡ WriteFault → W.failed writer.new ≡ true) }
+{
+    let arrived = arrived_piece(&call);
+    let reply = make_call(alloc, place, writer, interested, call)?;
+    if let Some(piece) = completed(arrived, &reply) {
+        place.completed(alloc, piece)?;
+    }
+    Ok(())
+}
+
+/// Makes the call of a message, if it has one.
+fn open<P: Place, W: Sink>(
+    alloc: Global,
+    torrent: &Torrent,
+    message: Message,
+    place: &mut P,
+    writer: &mut W,
+    interested: &mut bool,
+) -> Result<(), SessionFault>
+    requires { IsLater message }
+    ensures acceptable { OnOk result (IsAcceptable (piece_count torrent.now.layout) message) }
+    ensures ok { OnOk result ((events : List Event) × (Opens (call_of message) events × NoneRefused events
+        × Performs (outlet P.past W.written place.old writer.old interested.old) events (outlet P.past W.written place.new writer.new interested.new))) }
+    ensures ok_sound { OnOk result (W.failed writer.new ≡ W.failed writer.old) }
+    ensures err { IfErr result (λ fault. (events : List Event) × (StopsOpening fault (piece_count torrent.now.layout) message events
+        × PerformsUpTo fault (outlet P.past W.written place.old writer.old interested.old) events (outlet P.past W.written place.new writer.new interested.new))) }
+    ensures err_failed { IfErr result (λ fault. fault ≡ WriteFault → W.failed writer.new ≡ true) }
+{
+    match call_for(alloc, torrent, message)? {
+        Some(call) => call_and_check(alloc, place, writer, interested, call),
+        None => Ok(()),
+    }
+}
+
+/// The turn of a message after the handshake: its call, then news, then Next calls.
+pub fn attend<P: Place, W: Sink, N: Rng>(
+    alloc: Global,
+    torrent: &Torrent,
+    message: Message,
+    place: &mut P,
+    writer: &mut W,
+    interested: &mut bool,
+    rng: &mut N,
+) -> Result<(), SessionFault>
+    requires { IsLater message }
+    ensures ok { OnOk result ((events : List Event) × (IsTurn (piece_count torrent.now.layout) message events × NoneRefused events
+        × TellsNews (piece_count torrent.now.layout) (P.past place.old) events (P.past place.new)
+        × Performs (outlet P.past W.written place.old writer.old interested.old) events (outlet P.past W.written place.new writer.new interested.new))) }
+    ensures ok_sound { OnOk result (W.failed writer.new ≡ W.failed writer.old) }
+    ensures err { IfErr result (λ fault. (events : List Event) × (StopsTurn fault (piece_count torrent.now.layout) message events
+        × PerformsUpTo fault (outlet P.past W.written place.old writer.old interested.old) events (outlet P.past W.written place.new writer.new interested.new))) }
+    ensures err_failed { IfErr result (λ fault. fault ≡ WriteFault → W.failed writer.new ≡ true) }
+{
+    open(alloc, torrent, message, place, writer, interested)?;
+    tell_news(alloc, place, writer, torrent.piece_count())?;
+    ask(alloc, place, writer, interested, rng)?;
+    Ok(())
+}

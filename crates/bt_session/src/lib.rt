@@ -1,0 +1,22 @@
+//! Sessions with peers: what comes from a peer is turned into calls of the picker, and the picker's replies into what is sent.
+#![tactic(auto)]
+
+mod attending;
+mod calling;
+mod desk_place;
+mod fault;
+mod greeting;
+mod hearing;
+mod place;
+mod session;
+mod turning;
+pub mod whole;
+mod writing;
+
+pub use desk_place::DeskPlace;
+pub use fault::{End, SessionFault};
+pub use place::Place;
+pub use session::Session;
+
+#[cfg(test)]
+mod tests;

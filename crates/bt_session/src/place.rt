@@ -1,0 +1,34 @@
+//! Where a session makes its calls.
+
+ghost use Rattle.std.specs.Prelude.{List, [], ◌∷◌, IsTrue, IfOk, IfSome, IfNone, OnOk, OnErr};
+ghost use Rattle.bt_history.specs.Logs.{answers};
+ghost use Rattle.bt_session.specs.Events.{Event, Called, News, mark_of_call};
+ghost use Rattle.bt_session.specs.Places.{PlaceRecord, Gains, AllTold, LacksMemory};
+ghost use Rattle.bt_session.specs.Turns.{ChecksAtMost};
+
+use bt_history::{Call, Reply};
+use std::alloc::{AllocError, Global};
+
+/// A worker's place at a picker, its own or a shared one.
+pub trait Place {
+    /// Its calls with their replies, the pieces that were told as news, and whether a call has found no memory.
+    ghost past: { Self → PlaceRecord };
+
+    /// Makes a call in the worker's name.
+    fn call(&mut self, alloc: Global, call: Call) -> Result<Reply, AllocError>
+        ensures ok { IfOk result (λ reply.
+            Gains (past self.old) (Called (mark_of_call call) reply ∷ []) (past self.new)) }
+        ensures fits { IfOk result (λ reply. IsTrue (answers (mark_of_call call) reply)) }
+        ensures err { OnErr result (LacksMemory (past self.old) (past self.new)) };
+
+    /// A finished piece that wasn't told before; none only if all that are known to be finished were told.
+    fn news(&mut self) -> Option<u32>
+        ensures some { IfSome result (λ piece. Gains (past self.old) (News piece ∷ []) (past self.new)) }
+        ensures none { IfNone result (Gains (past self.old) [] (past self.new) × AllTold (past self.new)) };
+
+    /// Sees to the check of a piece whose last block came: here and now, or by someone else later.
+    fn completed(&mut self, alloc: Global, piece: u32) -> Result<(), AllocError>
+        ensures ok { OnOk result ((events : List Event) × (ChecksAtMost piece events
+            × Gains (past self.old) events (past self.new))) }
+        ensures err { OnErr result (LacksMemory (past self.old) (past self.new)) };
+}

@@ -1,0 +1,43 @@
+//! A whole session.
+
+ghost use Rattle.std.specs.Prelude.{ℕ, ◌≡◌, ◌≤◌, true, IfOk, IfErr};
+ghost use Rattle.bt_session.specs.declared.fault.SessionFault.TheVariants.{WriteFault};
+ghost use Rattle.bt_session.specs.Hearing.{most_reads, source_state};
+ghost use Rattle.bt_session.specs.Turning.{surroundings};
+ghost use Rattle.bt_session.specs.Sessions.{IsWhole, IsCutShort};
+
+use crate::fault::{End, SessionFault};
+use crate::place::Place;
+use crate::session::Session;
+use bt_meta::{Sink, Source, Torrent};
+use rand_pcg::Lcg64Xsh32;
+use std::alloc::Global;
+use std::sync::Arc;
+
+/// A session from its first turn to its end, or to a fault.
+pub fn session<R: Source, W: Sink, P: Place>(
+    alloc: Global,
+    torrent: Arc<Torrent>,
+    worker: u32,
+    reader: &mut R,
+    writer: &mut W,
+    place: &mut P,
+    rng: &mut Lcg64Xsh32,
+) -> Result<End, SessionFault>
+    ensures whole { IfOk result (λ end. IsWhole end torrent.value worker
+        (surroundings P.past R.left W.written place.old reader.old writer.old)
+        (surroundings P.past R.left W.written place.new reader.new writer.new)) }
+    ensures cut_short { IfErr result (λ fault. (asked : ℕ) × IsCutShort fault torrent.value worker
+        (surroundings P.past R.left W.written place.old reader.old writer.old)
+        (source_state R.left R.ended R.failed reader.new asked)
+        (surroundings P.past R.left W.written place.new reader.new writer.new)) }
+    ensures failed { IfErr result (λ fault. fault ≡ WriteFault → W.failed writer.new ≡ true) }
+    ensures most { R.asked reader.old ≡ 0 → R.asked reader.new ≤ most_reads }
+{
+    let mut session = Session::new(alloc, torrent, worker);
+    'turns: loop {
+        if let Some(end) = session.turn(alloc, reader, writer, place, rng)? {
+            return Ok(end);
+        }
+    }
+}

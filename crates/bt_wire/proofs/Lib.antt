@@ -1,0 +1,6 @@
+pub mod Bodies
+pub mod Frames
+pub mod Front
+pub mod Fronts
+pub mod Parts
+pub mod Readings

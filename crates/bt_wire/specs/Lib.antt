@@ -1,0 +1,4 @@
+pub mod Laws
+pub mod Limit
+pub mod Messages
+pub mod Stream

@@ -1,0 +1,234 @@
+#!/usr/bin/env python3
+"""Writes the worked examples of crates/bt_history from script lines.
+
+Each example is a torrent, a number of workers and lines `CALL = REPLY`, as a person writes them from the rules; nothing here runs the
+picker. The definitions in specs/ judge them: `worked_examples` proves each legal, `wrong_replies` proves each wrong reply not allowed.
+Run it from the top of the repository after an edit, then `rt fmt` in crates/bt_history.
+"""
+
+ABC = "a9993e364706816aba3e25717850c26c9cd0d89d"  # SHA-1 of abc
+A = "86f7e437faa5a7fce15d1ddcb9eaeaea377667b8"  # of a
+MILLION = "34aa973cd4c4daa4f61eeb2bdbad27316534016f"  # of a million a
+
+TORRENTS = {  # name: piece length, total, hashes
+    "short_last": (3, 7, [ABC, ABC, A]),
+    "one_piece": (3, 3, [ABC]),
+    "two_pieces": (3, 6, [ABC, ABC]),
+    "two_blocks": (32768, 65536, [ABC, ABC]),
+    "many_blocks": (1000000, 1000000, [MILLION]),
+}
+
+
+def enters(worker, bits):
+    return [f"{worker} join = joined", f"{worker} bits {bits} = noted yes", f"{worker} unchoke = quiet"]
+
+
+def checked(worker, piece, hexadecimal, reply="had"):
+    return [f"{worker} block {piece} 0 {hexadecimal} = completed", f"{worker} settle {piece} {hexadecimal} = {reply}"]
+
+
+FULL_PIPE = enters(0, "80") + [f"0 next 0 = request 0 {16384 * k} 16384" for k in range(5)] + ["0 next 0 = pipefull"]
+ENDGAME = enters(0, "80") + enters(1, "80") + ["0 next 0 = request 0 0 3", "1 next 0 = request 0 0 3"]
+
+EXAMPLES = {  # name: torrent, workers, lines
+    "first_request": ("short_last", 1, enters(0, "e0") + ["0 next 5 = request 2 0 1"]),
+    "another_first_request": ("short_last", 1, enters(0, "e0") + ["0 next 5 = request 0 0 3"]),
+    "one_peer_to_the_end": ("short_last", 1, enters(0, "e0") + [
+        "0 next 5 = request 2 0 1", "0 next 0 = request 0 0 3", "0 next 0 = request 1 0 3", "0 next 0 = idle"]
+        + checked(0, 2, "61") + checked(0, 0, "616263") + checked(0, 1, "616263") + ["0 next 0 = nothing"]),
+    "rarest_first": ("short_last", 2, [
+        "0 join = joined", "0 bits e0 = noted yes", "1 join = joined", "1 bits 40 = noted yes", "0 unchoke = quiet",
+        "0 next 2 = request 2 0 1"] + checked(0, 2, "61") + ["0 next 1 = request 0 0 3"]),
+    "full_pipe": ("many_blocks", 2, FULL_PIPE),
+    "choke_frees": ("many_blocks", 2, FULL_PIPE + ["0 choke = quiet"] + enters(1, "80") + [
+        "1 next 0 = request 0 0 16384", "0 next 0 = choked"]),
+    "cancel_in_endgame": ("one_piece", 2, ENDGAME + [
+        "0 block 0 0 616263 = completed", "1 next 0 = cancel 0 0 3", "1 next 0 = idle", "0 settle 0 616263 = had",
+        "1 next 0 = nothing", "1 block 0 0 616263 = dropped"]),
+    "no_double_before_endgame": ("two_pieces", 2, enters(0, "c0") + ["0 next 0 = request 0 0 3"] + enters(1, "80") + [
+        "1 next 0 = idle"]),
+    "double_outlasts_endgame": ("two_pieces", 4, enters(0, "80") + enters(2, "40") + enters(1, "80") + [
+        "0 next 0 = request 0 0 3", "2 next 0 = request 1 0 3", "1 next 0 = request 0 0 3", "2 choke = quiet"]
+        + enters(3, "80") + ["3 next 0 = idle", "0 block 0 0 616263 = completed", "1 next 0 = cancel 0 0 3"]),
+    "failed_check": ("short_last", 1, enters(0, "e0") + ["0 next 0 = request 0 0 3"] + checked(0, 0, "616264", "failed") + [
+        "0 next 0 = request 0 0 3", "0 settle 0 616264 = refused NotWaiting"]),
+    "failed_check_in_endgame": ("one_piece", 2, ENDGAME + checked(0, 0, "616264", "failed") + [
+        "1 next 0 = cancel 0 0 3", "1 next 0 = request 0 0 3"]),
+    "held_block_dropped": ("short_last", 1, [
+        "0 join = joined", "0 block 2 0 61 = completed", "0 block 2 0 61 = dropped"]),
+    "block_by_block": ("two_blocks", 1, [
+        "0 join = joined", "0 block 0 0 X = stored", "0 block 0 0 X = dropped", "0 block 0 16384 X = completed"]),
+    "refusals": ("short_last", 2, [
+        "0 leave = refused NotJoined", "1 block 9 9 61 = refused NotJoined", "0 join = joined", "0 join = refused AlreadyJoined",
+        "0 have 0 = noted yes", "0 bits e0 = refused LateBits", "0 have 3 = refused NoSuchPiece",
+        "0 block 3 1 61 = refused NoSuchPiece", "0 block 0 1 6263 = refused NoSuchBlock", "0 block 0 0 6162 = refused WrongLength",
+        "0 settle 0 61 = refused NotWaiting", "0 settle 3 61 = refused NoSuchPiece", "0 leave = quiet", "0 join = joined",
+        "0 bits e0 = noted yes", "1 join = joined", "1 bits 00 = noted no", "1 unchoke = quiet", "1 next 0 = nothing"]),
+    "wrong_count": ("short_last", 1, ["0 join = joined", "0 flags 0000 = refused WrongCount", "0 bits e0 = noted yes"]),
+    "stale_verdict": ("short_last", 1, [
+        "0 join = joined"] + checked(0, 0, "616264", "failed") + [
+        "0 block 0 0 616263 = completed", "0 settle 0 616264 = refused Stale", "0 settle 0 616263 = had",
+        "0 settle 0 616263 = refused NotWaiting", "0 settle 9 61 = refused NoSuchPiece", "0 choke = quiet", "0 leave = quiet"]),
+    "random_first_piece": ("short_last", 2, enters(0, "e0") + ["1 join = joined", "1 bits c0 = noted yes", "0 next 1 = request 1 0 3"]),
+    "rare_first_piece_too": ("short_last", 2, enters(0, "e0") + ["1 join = joined", "1 bits c0 = noted yes", "0 next 1 = request 2 0 1"]),
+    "strict_priority": ("two_blocks", 1, enters(0, "c0") + [
+        "0 next 0 = request 0 0 16384", "0 next 1 = request 0 16384 16384", "0 next 1 = request 1 0 16384"]),
+    "gone_peer_not_counted": ("short_last", 3, [
+        "0 join = joined", "0 bits e0 = noted yes", "1 join = joined", "1 bits 80 = noted yes", "2 join = joined",
+        "2 bits 40 = noted yes", "1 leave = quiet", "0 unchoke = quiet", "0 next 2 = request 2 0 1"]
+        + checked(0, 2, "61") + ["0 next 1 = request 0 0 3"]),
+    "rejoin_in_endgame": ("one_piece", 2, ENDGAME + [
+        "0 leave = quiet", "0 join = joined", "0 next 0 = choked"] + checked(1, 0, "616264", "failed") + [
+        "0 bits 80 = noted yes", "0 unchoke = quiet", "0 next 0 = request 0 0 3"]),
+}
+
+WRONG = {  # name: example, how many entries of it came before, the wrong entry
+    "idle_though_a_block_is_usable": ("one_peer_to_the_end", 3, "0 next 5 = idle"),
+    "second_piece_started_while_a_begun_one_has_a_usable_block": ("strict_priority", 4, "0 next 1 = request 1 0 16384"),
+    "availability_counts_a_peer_that_left": ("gone_peer_not_counted", 11, "0 next 1 = request 1 0 3"),
+    "commoner_piece_started": ("rarest_first", 8, "0 next 1 = request 1 0 3"),
+    "second_peer_asked_while_a_block_is_unasked": ("double_outlasts_endgame", 16, "3 next 0 = request 0 0 3"),
+    "second_peer_asked_before_endgame": ("no_double_before_endgame", 7, "1 next 0 = request 0 0 3"),
+    "had_with_another_hash": ("failed_check_in_endgame", 9, "0 settle 0 616264 = had"),
+    "replaced_bytes_settled": ("failed_check_in_endgame", 9, "0 settle 0 616263 = had"),
+    "replaced_bytes_failed": ("stale_verdict", 4, "0 settle 0 616264 = failed"),
+    "idle_though_a_cancel_is_due": ("cancel_in_endgame", 9, "1 next 0 = idle"),
+    "sixth_request": ("full_pipe", 8, "0 next 0 = request 0 81920 16384"),
+    "pipe_full_after_four": ("full_pipe", 7, "0 next 0 = pipefull"),
+    "pipe_full_at_a_choked_peer": ("choke_frees", 13, "0 next 0 = pipefull"),
+    "noted_from_before_the_bits": ("first_request", 1, "0 bits e0 = noted no"),
+    "block_stored_twice": ("held_block_dropped", 2, "0 block 2 0 61 = completed"),
+    "late_bits_noted": ("held_block_dropped", 2, "0 bits e0 = noted yes"),
+    "request_of_a_wrong_length": ("first_request", 3, "0 next 5 = request 2 0 3"),
+}
+
+
+def items(xs):
+    return " ∷ ".join([*xs, "[]"])
+
+
+def in_bytes(text):
+    if text == "X":
+        return "(replicate 16384 97)"
+    return "(" + items([str(b) for b in bytes.fromhex(text)]) + ")"
+
+
+def flags(text, count):
+    value, width = int(text, 16), 4 * len(text)
+    return "(" + items(["true" if value >> (width - 1 - p) & 1 else "false" for p in range(count)]) + ")"
+
+
+PLAIN = {"joined": "Joined", "quiet": "Quiet", "idle": "Idle", "nothing": "NothingLeft", "completed": "Completed", "stored": "Stored",
+         "had": "Had", "failed": "Failed", "dropped": "Dropped", "choked": "Choked", "pipefull": "PipeFull"}
+
+
+def action(words, pieces):
+    match words:
+        case ["bits", text]: return f"(Bits {flags(text, pieces)})"
+        case ["flags", text]: return f"(Bits {flags(text, len(text))})"
+        case ["have", piece]: return f"(Have {piece})"
+        case ["next", word]: return f"(Next {word})"
+        case ["block", piece, begin, text]: return f"(Arrived {piece} {begin} {in_bytes(text)})"
+        case ["settle", piece, text]: return f"(Settle {piece} {in_bytes(text)})"
+        case [word]: return word.capitalize()
+
+
+def reply(words):
+    match words:
+        case ["noted", answer]: return f"(Noted {'true' if answer == 'yes' else 'false'})"
+        case ["refused", reason]: return f"(Refused {reason})"
+        case ["request" | "cancel" as kind, piece, begin, length]: return f"({kind.capitalize()} (block_of {piece} {begin} {length}))"
+        case [word]: return PLAIN[word]
+
+
+def entry(line, torrent):
+    call, said = (side.split() for side in line.split("="))
+    return f"entry {call[0]} {action(call[1:], len(TORRENTS[torrent][2]))} {reply(said)}"
+
+
+def evidence(line):
+    """Why an entry is allowed: the block of a request or a cancel, else nothing."""
+    said = line.split("=")[1].split()
+    if said[0] in ("request", "cancel"):
+        return f"allowed_block {said[1]} {said[2]} {said[3]}"
+    return "allowed"
+
+
+def clause(text):
+    return text + "\n"
+
+
+def main():
+    spec = open("tools/examples_head.antt.txt").read()
+    for name, (piece_length, total, hashes) in TORRENTS.items():
+        digests = items(["(" + items([f"0x{h[i:i + 2]}" for i in range(0, 40, 2)]) + ")" for h in hashes])
+        spec += (f"abbrev pub torrent_{name} : Layout\ntorrent_{name} =\n    record {{ piece_length = {piece_length}; total = {total};"
+                 f" hashes = {digests} }}\n\n")
+    proofs = open("tools/example_proofs_head.antt.txt").read()
+    for name, (torrent, workers, lines) in EXAMPLES.items():
+        spec += f"abbrev pub {name} : List Event\n{name} =\n    " + "\n    ∷ ".join(entry(line, torrent) for line in lines) + "\n    ∷ []\n\n"
+        proofs += f"pub {name}_legal : IsLegal (usual torrent_{torrent} {workers}) (reverse {name})\nUNFOLDING\n"
+        term = "tt"
+        for line in lines:
+            said = line.split("=")[1].split()
+            is_block = said[0] in ("request", "cancel")
+            term = f"({term}, (lit< tt, " + (f"(block_of {said[1]} {said[2]} {said[3]}, refl, refl, refl)" if is_block else "refl") + "))"
+        proofs += f"{name}_legal =\n" + "\n".join(wrapped(term)) + "\n\n"
+    for name, (example, before, line) in WRONG.items():
+        torrent, workers, _ = EXAMPLES[example]
+        spec += f"abbrev pub {name} : Event\n{name} = {entry(line, torrent)}\n\n"
+        proofs += (f"pub {name}_wrong :\n    ¬ IsAllowed (usual torrent_{torrent} {workers}) (reverse (take {before} {example})) {name}\nUNFOLDING\n"
+                   f"{name}_wrong h = {wrong(name, torrent, line)}\n\n")
+    unfolding = open("tools/example_unfolding.txt").read().strip()
+    names = ["entry", "block_of", *(f"torrent_{name}" for name in TORRENTS), *EXAMPLES, *WRONG]
+    open("crates/bt_history/specs/Examples.antt", "w").write(spec.rstrip() + "\n")
+    proofs = proofs.replace("UNFOLDING", unfolding).replace("NAMES", ", ".join(names))
+    open("crates/bt_history/proofs/ExampleProofs.antt", "w").write(proofs.rstrip() + "\n")
+    rust()
+
+
+def wrapped(term):
+    lines, line = [], "   "
+    for word in term.split(" "):
+        if len(line) + len(word) > 120:
+            lines.append(line)
+            line = "   "
+        line += " " + word
+    return lines + [line]
+
+
+def wrong(name, torrent, line):
+    if name in ("request_of_a_wrong_length",):
+        return f"not_a_block torrent_{torrent} _ _ refl h.1"
+    if "request" in line and name not in ("sixth_request", "second_peer_asked_while_a_block_is_unasked", "second_peer_asked_before_endgame"):
+        return f"not_requested torrent_{torrent} _ _ refl h.1"
+    if name in ("idle_though_a_block_is_usable", "pipe_full_after_four", "idle_though_a_cancel_is_due"):
+        return "absurd (cc (h.1.1))"
+    return "absurd (cc (h.1))"
+
+
+def rust():
+    text = open("tools/examples_head.rt.txt").read()
+    text += "/// The worked examples are legal histories.\n#[tactic(auto)]\npub fn worked_examples()\n".replace("#[tactic(auto)]\n", "")
+    for name, (torrent, workers, _) in EXAMPLES.items():
+        text += f"    ensures {name} {{ IsLegal (usual torrent_{torrent} {workers}) (reverse {name}) }}\n"
+    text += "{\n}\n\n/// One wrong reply to the next call of a worked example isn't allowed, for each way to go wrong.\npub fn wrong_replies()\n"
+    for name, (example, before, _) in WRONG.items():
+        torrent, workers, _ = EXAMPLES[example]
+        text += (f"    ensures {name} {{ ¬ IsAllowed (usual torrent_{torrent} {workers})\n"
+                 f"        (reverse (take {before} {example})) {name} }}\n")
+    text += "{\n}\n"
+    names = [*(f"torrent_{name}" for name in TORRENTS), *EXAMPLES, *WRONG]
+    text = text.replace("NAMES", ", ".join(names))
+    open("crates/bt_history/src/examples.rt", "w").write(text)
+    import os
+    for function, suffix, group in (("worked_examples", "legal", EXAMPLES), ("wrong_replies", "wrong", WRONG)):
+        folder = f"crates/bt_history/proofs/examples/{function}"
+        os.makedirs(folder, exist_ok=True)
+        answers = f"use Rattle.bt_history.proofs.ExampleProofs.{{{', '.join(f'{name}_{suffix}' for name in group)}}}\n"
+        answers += f"use Rattle.bt_history.proofs.examples.{function}.Goals as goal\n\npub returns : goal.returns\nreturns c = record {{\n"
+        answers += "".join(f"  {name} = {name}_{suffix};\n" for name in group) + "}\n"
+        open(f"{folder}/Answers.antt", "w").write(answers)
+
+
+main()
