@@ -8,6 +8,6 @@ returns c =
     let s = usual c.args.torrent.now.layout c.args.workers in
     let h = history_of c.args.journal.now in
     doubles_after_endgame s h c.args.worker c.args.other c.args.block c.requires.legal
-        (asked_below s h c.args.worker c.args.block c.requires.legal c.requires.asked)
-        (asked_below s h c.args.other c.args.block c.requires.legal c.requires.too)
-        c.requires.apart c.requires.asked c.requires.too
+    (asked_below s h c.args.worker c.args.block c.requires.legal c.requires.asked)
+    (asked_below s h c.args.other c.args.block c.requires.legal c.requires.too)
+    c.requires.apart c.requires.asked c.requires.too
