@@ -1,10 +1,12 @@
 #!/usr/bin/env python3
-"""Writes the worked examples of crates/bt_history from script lines.
+"""Writes the worked examples of crates/bt_history and the audits of them in crates/bt_picker from script lines.
 
 Each example is a torrent, a number of workers and lines `CALL = REPLY`, as a person writes them from the rules; nothing here runs the
 picker. The definitions in specs/ judge them: `worked_examples` proves each legal, `wrong_replies` proves each wrong reply not allowed.
-Run it from the top of the repository after an edit, then `rt fmt` in crates/bt_history.
+The same lines are data of a test of `audit`. Run it from the top of the repository after an edit, then `rt fmt` in both crates.
 """
+
+import os
 
 ABC = "a9993e364706816aba3e25717850c26c9cd0d89d"  # SHA-1 of abc
 A = "86f7e437faa5a7fce15d1ddcb9eaeaea377667b8"  # of a
@@ -100,6 +102,17 @@ WRONG = {  # name: example, how many entries of it came before, the wrong entry
     "block_stored_twice": ("held_block_dropped", 2, "0 block 2 0 61 = completed"),
     "late_bits_noted": ("held_block_dropped", 2, "0 bits e0 = noted yes"),
     "request_of_a_wrong_length": ("first_request", 3, "0 next 5 = request 2 0 3"),
+}
+
+WRONG_IN_AUDITS = {  # example: how many entries of it came before, the wrong entry; for the examples that have none above
+    "another_first_request": (3, "0 next 5 = nothing"),
+    "failed_check": (7, "0 settle 0 616264 = refused Stale"),
+    "block_by_block": (3, "0 block 0 16384 X = stored"),
+    "refusals": (8, "0 block 0 1 6263 = refused WrongLength"),
+    "wrong_count": (1, "0 flags 0000 = noted no"),
+    "random_first_piece": (5, "0 next 1 = idle"),
+    "rare_first_piece_too": (5, "0 next 1 = pipefull"),
+    "rejoin_in_endgame": (10, "0 next 0 = request 0 0 3"),
 }
 
 
@@ -221,7 +234,6 @@ def rust():
     names = [*(f"torrent_{name}" for name in TORRENTS), *EXAMPLES, *WRONG]
     text = text.replace("NAMES", ", ".join(names))
     open("crates/bt_history/src/examples.rt", "w").write(text)
-    import os
     for function, suffix, group in (("worked_examples", "legal", EXAMPLES), ("wrong_replies", "wrong", WRONG)):
         folder = f"crates/bt_history/proofs/examples/{function}"
         os.makedirs(folder, exist_ok=True)
@@ -231,4 +243,56 @@ def rust():
         open(f"{folder}/Answers.antt", "w").write(answers)
 
 
+def rust_bytes(text):
+    return "&SIXTEENS" if text == "X" else "&[" + ", ".join(f"0x{b:02x}" for b in bytes.fromhex(text)) + "]"
+
+
+def rust_call(words, pieces):
+    match words:
+        case ["bits", text]: return f"Bits(&[0x{text}], {pieces})"
+        case ["flags", text]: return f"Bits(&[0x00], {len(text)})"
+        case ["have", piece]: return f"Have({piece})"
+        case ["next", word]: return f"Next({word})"
+        case ["block", piece, begin, text]: return f"Arrived({piece}, {begin}, {rust_bytes(text)})"
+        case ["settle", piece, text]: return f"Settle({piece}, {rust_bytes(text)})"
+        case [word]: return f"{word.capitalize()}"
+
+
+def rust_reply(words):
+    match words:
+        case ["noted", answer]: return f"Is(Noted({'true' if answer == 'yes' else 'false'}))"
+        case ["refused", reason]: return f"Is(Refused({reason}))"
+        case ["request" | "cancel" as kind, piece, begin, length]: return f"{kind.capitalize()}({piece}, {begin}, {length})"
+        case [word]: return f"Is({PLAIN[word]})"
+
+
+def rust_step(line, torrent):
+    call, said = (side.split() for side in line.split("="))
+    return f"Step({call[0]}, {rust_call(call[1:], len(TORRENTS[torrent][2]))}, {rust_reply(said)})"
+
+
+def audits():
+    text = open("tools/audits_head.rt.txt").read()
+    for name, (torrent, workers, lines) in EXAMPLES.items():
+        piece_length, total, hashes = TORRENTS[torrent]
+        wrongs = [(before, line) for example, before, line in WRONG.values() if example == name]
+        wrongs += [WRONG_IN_AUDITS[name]] if name in WRONG_IN_AUDITS else []
+        digests = ", ".join({ABC: "ABC", A: "A", MILLION: "MILLION"}[h] for h in hashes)
+        text += f"""
+pub const {name.upper()}: Example = Example {{
+    piece_length: {piece_length},
+    total: {total},
+    hashes: &[{digests}],
+    workers: {workers},
+    steps: &[
+{"".join(f"        {rust_step(line, torrent)},{chr(10)}" for line in lines)}    ],
+    wrong: &[
+{"".join(f"        ({before}, {rust_step(line, torrent)}),{chr(10)}" for before, line in wrongs)}    ],
+}};
+"""
+    text += "\n/// All of them.\npub const EXAMPLES: &[Example] = &[\n" + "".join(f"    {name.upper()},\n" for name in EXAMPLES) + "];\n"
+    open("crates/bt_picker/src/tests/examples.rt", "w").write(text)
+
+
 main()
+audits()

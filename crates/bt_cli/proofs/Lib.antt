@@ -1,4 +1,4 @@
-pub mod Absent
+pub mod Numbered
 pub mod Counts
 pub mod Numbers
 pub mod Played

@@ -5,3 +5,4 @@ pub mod Digests
 pub mod Found
 pub mod Laws
 pub mod Counted
+pub mod Written

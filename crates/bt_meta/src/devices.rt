@@ -1,9 +1,9 @@
 //! Devices: where bytes come from, and where they go.
 
-ghost use Rattle.std.specs.Prelude.{◌≡◌, ◌||◌, ℕ, Bool, false, List, Option, is_err};
+ghost use Rattle.std.specs.Prelude.{◌≡◌, ◌||◌, ℕ, Bool, true, false, List, Option, is_err, OnOk, OnErr};
 ghost use Rattle.std.specs.Io.{ReadsAtMost, WritesAtMost};
-ghost use Rattle.std.specs.Io.KnownBytes.{ReadConsumes, WriteAppends};
-ghost use Rattle.bt_meta.specs.Devices.{one_more, is_end, is_refused};
+ghost use Rattle.std.specs.Io.KnownBytes.{Appends, ReadConsumes, WriteAppends};
+ghost use Rattle.bt_meta.specs.Devices.{one_more, is_end, is_refused, WroteFront};
 
 use std::io::{Read, Write};
 use thiserror::Error;
@@ -49,6 +49,23 @@ pub trait Sink {
         ensures bound { WritesAtMost result bytes.now }
         ensures bytes { WriteAppends (written self.old) (written self.new) result bytes.now }
         ensures failed { failed self.new ≡ (failed self.old || is_refused result bytes.now) };
+}
+
+/// Writes all the bytes, in as many writes as it takes. A write that fails, or takes none of them, ends it: then a front is written.
+pub fn write_all<W: Sink>(writer: &mut W, bytes: &[u8]) -> Result<(), DeviceFault>
+    ensures ok { OnOk result (Appends (W.written writer.old) (W.written writer.new) bytes.now) }
+    ensures sound { OnOk result (W.failed writer.new ≡ W.failed writer.old) }
+    ensures err { OnErr result (WroteFront (W.written writer.old) bytes.now (W.written writer.new)) }
+    ensures failed { OnErr result (W.failed writer.new ≡ true) }
+{
+    let mut rest = bytes;
+    while !rest.is_empty() {
+        match writer.write(rest)? {
+            0 => return Err(DeviceFault),
+            count => rest = rest.split_at(count).1,
+        }
+    }
+    Ok(())
 }
 
 /// A source made of a reader.
@@ -148,36 +165,5 @@ impl<W: Write> Sink for ToWrite<W> {
                 Err(DeviceFault)
             }
         }
-    }
-}
-
-#[cfg(test)]
-mod tests {
-    use super::*;
-    use std::io::Cursor;
-    use std::test::Fail;
-
-    /// Moves bytes through a small room until the source ends.
-    fn copy<R: Source, W: Sink>(from: &mut R, to: &mut W) -> Result<(), DeviceFault> {
-        let mut room = [0; 2];
-        for _ in 0..20 {
-            let count = from.read(&mut room)?;
-            if count == 0 {
-                return Ok(());
-            }
-            for byte in &room[..count] {
-                to.write(&[*byte])?;
-            }
-        }
-        Ok(())
-    }
-
-    #[test]
-    fn memory_is_a_device(rt: HostRuntime) -> Result<(), Fail> {
-        let mut from = FromRead::new(Cursor::new(b"abcde".as_slice()));
-        let mut to = ToWrite::new(Vec::new(rt.alloc()));
-        copy(&mut from, &mut to)?;
-        assert_eq!(rt; to.into_inner().as_slice(), b"abcde".as_slice());
-        Ok(())
     }
 }

@@ -11,7 +11,7 @@ mod torrent;
 
 pub use bitfield::Bitfield;
 pub use block::Block;
-pub use devices::{DeviceFault, FromRead, Sink, Source, ToWrite};
+pub use devices::{DeviceFault, FromRead, Sink, Source, ToWrite, write_all};
 pub use fault::{BitFault, MetaFault};
 pub use intervals::{blocks_tile_a_piece, pieces_tile_the_content};
 pub use key::Key;

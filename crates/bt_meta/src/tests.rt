@@ -1,3 +1,4 @@
+mod devices;
 mod geometry;
 mod metainfo;
 mod samples;

@@ -17,3 +17,4 @@ pub mod Checking
 pub mod Allowing
 pub mod Audited
 pub mod Finishing
+pub mod Contents

@@ -3,3 +3,4 @@ pub mod Search
 pub mod Positions
 pub mod Checks
 pub mod Audits
+pub mod Contents

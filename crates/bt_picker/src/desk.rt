@@ -1,5 +1,6 @@
 //! The desk: the journal of all calls, and what answers from it.
-ghost use Rattle.std.specs.Prelude.{◌≡◌, ◌<◌, ◌≤◌, ◌∷◌, [], ◌&&◌, not, nat_lt, true, false, ℕ, Ok, IfOk, IsOk, OnErr, OnOk, IsTrue};
+ghost use Rattle.std.specs.Prelude.{◌≡◌, ◌<◌, ◌≤◌, ◌∷◌, [], ◌&&◌, not, nat_lt, true, false, ℕ, Ok, IfOk, IfErr, IsOk, OnErr, OnOk, IsTrue};
+ghost use Rattle.std.specs.Io.KnownBytes.{Appends};
 ghost use Rattle.bt_meta.specs.Layout.{IsLayout, piece_count};
 ghost use Rattle.bt_history.specs.declared.call.Reply.{Reply};
 ghost use Rattle.bt_history.specs.Entries.{action_of, event, history_of};
@@ -9,13 +10,16 @@ ghost use Rattle.bt_history.specs.Peers.{outstanding};
 ghost use Rattle.bt_history.specs.Pieces.{availability, had};
 ghost use Rattle.bt_history.specs.Setting.{usual};
 ghost use Rattle.bt_picker.specs.Checks.{FinishedBelow, IsJobOf, SettlesNow, settling, waits};
+ghost use Rattle.bt_picker.specs.Contents.{complete, whole_content, WritesShort};
+ghost use Rattle.bt_picker.specs.declared.content.ContentFault.TheVariants.{Incomplete, WriteFault};
 ghost use Rattle.bt_picker.specs.Positions.{Gains};
 
+use crate::content::ContentFault;
 use crate::position::Position;
 use crate::tables::Tables;
 use bt_check::Job;
 use bt_history::{Call, Entry, Reason, Reply};
-use bt_meta::{Block, Torrent};
+use bt_meta::{Block, Sink, Torrent};
 use std::alloc::{AllocError, Global};
 use std::marker::Model;
 use std::sync::Arc;
@@ -159,6 +163,19 @@ impl Desk {
             self.settle_now(alloc, worker, piece)?;
         }
         Ok(())
+    }
+
+    /// Writes the content of all pieces, block by block as it is held, if each piece is had. Takes no memory.
+    pub fn write_content<W: Sink>(&self, writer: &mut W) -> Result<(), ContentFault>
+        ensures ok { OnOk result ((complete self.now.setting self.now.history ≡ true)
+            × Appends (W.written writer.old) (W.written writer.new) (whole_content self.now.setting self.now.history)) }
+        ensures sound { OnOk result (W.failed writer.new ≡ W.failed writer.old) }
+        ensures err { IfErr result (λ fault.
+            WritesShort fault self.now.setting self.now.history (W.written writer.old) (W.written writer.new)) }
+        ensures untouched { IfErr result (λ fault. fault ≡ Incomplete → writer.new ≡ writer.old) }
+        ensures failed { IfErr result (λ fault. fault ≡ WriteFault → W.failed writer.new ≡ true) }
+    {
+        self.position().write_content(writer)
     }
 
     fn piece_count(&self) -> u32

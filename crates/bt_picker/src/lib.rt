@@ -4,6 +4,7 @@
 mod allow;
 mod auditing;
 mod choose;
+mod content;
 mod desk;
 mod jobs;
 mod peer;
@@ -19,4 +20,5 @@ mod unread;
 pub use auditing::{AuditFault, audit};
 pub use bt_check::{Job, Verdict};
 pub use bt_history::{Action, Call, CallMark, Entry, Event, Mark, Reason, Reply, laws};
+pub use content::ContentFault;
 pub use desk::Desk;
