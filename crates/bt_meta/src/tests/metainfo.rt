@@ -105,7 +105,7 @@ fn several_files(rt: HostRuntime) -> Result<(), Fail> {
 fn infohashes(rt: HostRuntime) -> Result<(), Fail> {
     let one_file =
         b"\x8c\x98\x3b\xc3\xdc\x1b\xcd\xae\x5f\x59\xaa\x68\x33\xea\xa3\x0c\xfd\xc7\x25\xfa";
-    let rows: [(&[u8], &[u8; 20]); 4] = [
+    let rows: [(&[u8], &[u8; 20]); 5] = [
         (b"d4:infod6:lengthi7e4:name1:s12:piece lengthi3e", one_file),
         // Keys that aren't read change nothing, where they stand outside of the info dictionary.
         (
@@ -120,6 +120,10 @@ fn infohashes(rt: HostRuntime) -> Result<(), Fail> {
         (
             b"d4:infod0:3:abc6:lengthi7e4:name1:s12:piece lengthi3e",
             b"\x9e\x0f\xb3\x2f\x45\xeb\xb8\xde\x50\xc4\xd7\xd5\x87\xdc\xd8\x08\xa3\x69\xe8\x09",
+        ),
+        (
+            b"d4:infod9:file treed1:sd0:d6:lengthi7eeee6:lengthi7e4:name1:s12:piece lengthi3e",
+            b"\x8a\x07\x06\x7a\xf8\x4b\x2e\xc9\xa7\xa6\xaf\x9b\x8c\x86\x99\x4d\xef\x88\x47\x58",
         ),
     ];
     for (before, infohash) in rows {
