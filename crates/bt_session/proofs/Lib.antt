@@ -4,6 +4,9 @@ pub mod Failing
 pub mod Heard
 pub mod Leaving
 pub mod Opening
+pub mod Own
+pub mod Standing
+pub mod EachStream
 pub mod Staying
 pub mod Runs
 pub mod Stretches
