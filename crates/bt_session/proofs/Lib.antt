@@ -2,6 +2,7 @@ pub mod Asking
 pub mod Desks
 pub mod Failing
 pub mod Heard
+pub mod LastChecks
 pub mod Leaving
 pub mod Opening
 pub mod Own

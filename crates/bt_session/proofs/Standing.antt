@@ -14,9 +14,9 @@ use Rattle.bt_session.specs.Events.{Event, is_in}
 use Rattle.bt_session.specs.Hearing.{SourceState, most_reads}
 use Rattle.bt_session.specs.Places.{PlaceRecord, Gains, GainsUpTo}
 use Rattle.bt_session.specs.Outlets.{WroteFront}
-use Rattle.bt_session.specs.Serial.{StreamRecord, EndsAs, around, own_record, source_of}
+use Rattle.bt_session.specs.Serial.{StreamRecord, DevicesAfter, EndsAs, around, own_record, source_of}
 use Rattle.bt_session.specs.Sessions.{SessionState, GoesOn, Ends, FailsWith, IsWhole, IsUntouched, TookTurns, Running}
-use Rattle.bt_session.specs.Standing.{Standing, Stands, StandsBy, Keeps, LeavesOthers}
+use Rattle.bt_session.specs.Standing.{Standing, Stands, StandsBy, DevicesBy, Keeps, LeavesOthers}
 use Rattle.bt_session.specs.Turning.{Surroundings, Departs}
 use Rattle.bt_session.proofs.Own.{others_left, own, own_goes_on, own_ends, own_fails}
 use Rattle.bt_session.proofs.Runs.{running_on, running_ends, running_fails}
@@ -151,9 +151,9 @@ others_stand worker other old new session told stream left apart =
     record {
       still = λ torrent. λ out. λ first. λ stands. record {
         stands = stands_later session.outcome torrent other out session (source_of stream session.asked) _ _ later stands.stands;
+        devices = stands.devices;
         counted = stands.counted;
         few = stands.few;
-        failed = stands.failed;
       };
     }
 
@@ -180,6 +180,7 @@ pub record Turned (result : Result (Option End) SessionFault) (old new : AfterTu
   pub fails : old.session.outcome ≡ None → IfErr result (λ fault. FailsWith fault old.session (around_turn old) (source_of new.stream new.session.asked) new.session (around_turn new))
   pub counted : old.stream.asked ≡ old.session.asked → new.stream.asked ≡ new.session.asked
   pub most : new.session.asked ≤ most_reads
+  pub sound : IfOk result (λ o. (new.stream.failed ≡ old.stream.failed) × (new.stream.broken ≡ old.stream.broken))
   pub failed : old.session.outcome ≡ None → IfErr result (λ fault. fault ≡ faults.WriteFault → new.stream.broken ≡ true)
 
 -- what a turn gained
@@ -241,6 +242,16 @@ broke_off fault torrent worker out first old new p q is is' runs stands fails =
     subst (λ (o : Option (Result End SessionFault)). StandsBy o torrent worker out new.session source' (λ short. around new.desk worker new.told short new.stream))
     (sym fails.outcome) (q.short, running_fails fault torrent worker out old.session _ source' new.session _ running (λ none. to))
 
+sound_on : (first : StreamRecord) (old new : Standing) {torrent : Metainfo} {worker : ℕ} {out : Surroundings} → old.session.outcome ≡ None → Stands torrent worker out first old →
+    (new.stream.failed ≡ old.stream.failed) × (new.stream.broken ≡ old.stream.broken) → (new.stream.failed ≡ first.failed) × (new.stream.broken ≡ first.broken)
+sound_on first old new runs stands sound =
+    let before : DevicesBy None first old.stream = subst (λ (o : Option (Result End SessionFault)). DevicesBy o first old.stream) runs stands.devices in
+    (sound.0 ∙ before.0, sound.1 ∙ before.1)
+
+devices_of : (fault : SessionFault) (old new : StreamRecord) → (fault ≡ faults.WriteFault → new.broken ≡ true) → DevicesAfter (Err fault) old new
+devices_of faults.WriteFault old new failed = failed refl
+devices_of _ old new failed = tt
+
 -- a turn of its own
 pub turn_stands : (result : Result (Option End) SessionFault) (worker : ℕ) (old new : Standing) (p q : PlaceRecord) →
     own p ≡ own_record old.desk worker old.told false → own q ≡ own_record new.desk worker new.told q.short → old.session.outcome ≡ None →
@@ -251,9 +262,9 @@ turn_stands (Ok None) worker old new p q is is' runs turned =
     record {
       still = λ torrent. λ out. λ first. λ stands. record {
         stands = went_on torrent worker out first old new (own p) (own q) is is' runs stands go;
+        devices = subst (λ (o : Option (Result End SessionFault)). DevicesBy o first new.stream) (sym go.unended) (sound_on first old new runs stands turned.sound);
         counted = λ none. turned.counted (stands.counted none);
         few = turned.most;
-        failed = λ failed. let never : None ≡ Some (Err faults.WriteFault) = sym go.unended ∙ failed in absurd cc;
       };
     }
 turn_stands (Ok (Some end)) worker old new p q is is' runs turned =
@@ -261,9 +272,11 @@ turn_stands (Ok (Some end)) worker old new p q is is' runs turned =
     record {
       still = λ torrent. λ out. λ first. λ stands. record {
         stands = came_to_end end torrent worker out first old new (own p) (own q) new.stream.ended is is' runs stands ends;
+        devices =
+            let sound = sound_on first old new runs stands turned.sound in
+            subst (λ (o : Option (Result End SessionFault)). DevicesBy o first new.stream) (sym ends.outcome) (ends.leave.hears.ended, sound.0, sound.1);
         counted = λ none. turned.counted (stands.counted none);
         few = turned.most;
-        failed = λ failed. let never : Some (Ok end) ≡ Some (Err faults.WriteFault) = sym ends.outcome ∙ failed in absurd cc;
       };
     }
 turn_stands (Err fault) worker old new p q is is' runs turned =
@@ -271,12 +284,9 @@ turn_stands (Err fault) worker old new p q is is' runs turned =
     record {
       still = λ torrent. λ out. λ first. λ stands. record {
         stands = broke_off fault torrent worker out first old new (own p) (own q) is is' runs stands fails;
+        devices = subst (λ (o : Option (Result End SessionFault)). DevicesBy o first new.stream) (sym fails.outcome) (devices_of fault first new.stream (turned.failed runs));
         counted = λ none. turned.counted (stands.counted none);
         few = turned.most;
-        failed = λ failed.
-            let same : Some (Err fault) ≡ Some (Err faults.WriteFault) = sym fails.outcome ∙ failed in
-            let is_write : fault ≡ faults.WriteFault = cc in
-            turned.failed runs is_write;
       };
     }
 

@@ -1,5 +1,5 @@
 -- Several streams' sessions at one desk: what each of them sees there, and how it ended.
-use Rattle.std.specs.Prelude.{◌≡◌, ◌≤◌, ℕ, Bool, true, false, List, [], ◌&&◌, nat_lt, replicate, slice_index_or, Option, Result, Ok, Err}
+use Rattle.std.specs.Prelude.{◌≡◌, ◌≤◌, ◌<◌, ℕ, Bool, true, false, List, [], ◌&&◌, nat_lt, length, replicate, slice_index_or, Option, Result, Ok, Err}
 use Rattle.bt_meta.specs.Layout.{Metainfo, piece_count}
 use Rattle.bt_history.specs.Pieces.{had}
 use Rattle.bt_history.specs.Setting.{Setting}
@@ -78,6 +78,13 @@ abbrev pub EndsAs : Result End SessionFault → Metainfo → ℕ → Surrounding
 EndsAs (Ok end) torrent worker out source out' = IsWhole end torrent worker out out'
 EndsAs (Err fault) torrent worker out source out' = IsCutShort fault torrent worker out source out'
 
+-- what a stream's devices say after such an end: after an end the reader has ended, and neither has failed meanwhile; after the fault of a
+-- write the writer has failed
+abbrev pub DevicesAfter : Result End SessionFault → StreamRecord → StreamRecord → Type 0
+DevicesAfter (Ok end) old new = (new.ended ≡ true) × (new.failed ≡ old.failed) × (new.broken ≡ old.broken)
+DevicesAfter (Err faults.WriteFault) old new = new.broken ≡ true
+DevicesAfter (Err fault) old new = Unit {0}
+
 -- A stream's session ended so: from the empty desk, and the stream as it was handed in, to this desk, and the stream as it was given back.
 pub record Ended (outcome : Result End SessionFault) (torrent : Metainfo) (worker : ℕ) (old : StreamRecord) (desk : DeskState) (new : StreamRecord) : Type 0 where
   -- the pieces that were told to the peer
@@ -87,11 +94,17 @@ pub record Ended (outcome : Result End SessionFault) (torrent : Metainfo) (worke
   -- the reads that the session counted
   pub asked : ℕ
   pub ends : EndsAs outcome torrent worker (before_all desk.setting worker old) (source_of new asked) (around desk worker told short new)
+  pub devices : DevicesAfter outcome old new
   pub counted : old.asked ≡ 0 → new.asked ≡ asked
   pub few : asked ≤ most_reads
-  pub failed : outcome ≡ Err faults.WriteFault → new.broken ≡ true
 
--- a worker that made no other call made these at the end: it settled each piece that waited for a check, unless memory ran out
+-- the sessions of the streams, as they were handed in and as they were given back, ended so, in order
+abbrev pub EachEnded : {X : Type 0} → (X → StreamRecord) → Metainfo → List X → DeskState → List X → List (Result End SessionFault) → Type 0
+EachEnded {X} told_by torrent streams desk streams' ends = (i : ℕ) (stream : X) (end : Result End SessionFault) → i < length streams →
+    Ended (slice_index_or ends i end) torrent i (told_by (slice_index_or streams i stream)) desk (told_by (slice_index_or streams' i stream))
+
+-- A worker made the last checks and no other call: each piece that waited for one was settled, the least first, or up to where memory ran
+-- out.
 pub record Finishes (worker : ℕ) (short : Bool) (desk : DeskState) : Type 0 where
   pub before : DeskState
   pub idle : calls_in before.history worker ≡ []

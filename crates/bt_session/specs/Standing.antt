@@ -1,14 +1,13 @@
 -- How a session stands that takes its turns among others. Only contracts within the crate cite this module.
-use Rattle.std.specs.Prelude.{◌≡◌, ◌≢◌, ◌≤◌, ◌<◌, ℕ, Bool, true, false, List, All, length, replicate, slice_index_or, suc, Option, Some, None, Result, Err}
+use Rattle.std.specs.Prelude.{◌≡◌, ◌≢◌, ◌≤◌, ◌<◌, ℕ, Bool, true, false, List, All, length, replicate, slice_index_or, suc, Option, Some, None, Result}
 use Rattle.bt_meta.specs.Layout.{Metainfo, piece_count}
 use Rattle.bt_picker.specs.Positions.{DeskState}
 use Rattle.bt_session.specs.declared.fault.End.{End}
 use Rattle.bt_session.specs.declared.fault.SessionFault.{SessionFault}
-use Rattle.bt_session.specs.declared.fault.SessionFault.TheVariants as faults
 use Rattle.bt_session.specs.declared.seat.Seat.{Seat}
 use Rattle.bt_session.specs.Desks.{calls_in}
 use Rattle.bt_session.specs.Hearing.{SourceState, most_reads}
-use Rattle.bt_session.specs.Serial.{StreamRecord, EndsAs, around, had_at, source_of}
+use Rattle.bt_session.specs.Serial.{StreamRecord, DevicesAfter, EndsAs, around, had_at, source_of}
 use Rattle.bt_session.specs.Sessions.{SessionState, Running, begun, to_hear}
 use Rattle.bt_session.specs.Turning.{Surroundings}
 
@@ -28,13 +27,18 @@ StandsBy None torrent worker out session source here = Running torrent worker ou
 StandsBy (Some outcome) torrent worker out session source here =
     (short : Bool) × EndsAs outcome torrent worker out source (here short)
 
+-- what the devices say of a session that runs, or that ended so
+abbrev pub DevicesBy : Option (Result End SessionFault) → StreamRecord → StreamRecord → Type 0
+DevicesBy None old new = (new.failed ≡ old.failed) × (new.broken ≡ old.broken)
+DevicesBy (Some outcome) old new = DevicesAfter outcome old new
+
 -- a session that began in these surroundings, with that stream, stands so
 pub record Stands (torrent : Metainfo) (worker : ℕ) (out : Surroundings) (first : StreamRecord) (now : Standing) : Type 0 where
   pub stands : StandsBy now.session.outcome torrent worker out now.session (source_of now.stream now.session.asked)
       (λ short. around now.desk worker now.told short now.stream)
+  pub devices : DevicesBy now.session.outcome first now.stream
   pub counted : first.asked ≡ 0 → now.stream.asked ≡ now.session.asked
   pub few : now.session.asked ≤ most_reads
-  pub failed : now.session.outcome ≡ Some (Err faults.WriteFault) → now.stream.broken ≡ true
 
 -- a session that stood goes on standing
 pub record Keeps (worker : ℕ) (old new : Standing) : Type 0 where

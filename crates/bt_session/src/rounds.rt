@@ -1,9 +1,11 @@
 //! Several recorded peers at one desk, in one thread.
 
-ghost use Rattle.std.specs.Prelude.{◌≡◌, ◌≤◌, ◌<◌, ◌+◌, ◌∷◌, [], length, map, Some, true, false, sum_by, All, IfOk, OnErr, vec_capacity};
+ghost use Rattle.std.specs.Prelude.{◌≡◌, ◌≤◌, ◌<◌, ◌+◌, [], ℕ, length, map, Some, true, false, sum_by, All, IfOk, OnErr, vec_capacity};
 ghost use Rattle.std.specs.List.{HoldsAt};
 ghost use Rattle.bt_history.specs.Setting.{usual};
-ghost use Rattle.bt_session.specs.Serial.{stream_record};
+ghost use Rattle.bt_meta.specs.Layout.{Metainfo};
+ghost use Rattle.bt_picker.specs.Checks.{waits};
+ghost use Rattle.bt_session.specs.Serial.{EachEnded, Finishes, stream_record};
 ghost use Rattle.bt_session.specs.Standing.{AreNew, EachKeeps, Fit, HasEnded, IsNew, LeavesRest, left_of};
 
 use crate::fault::{End, SessionFault};
@@ -138,28 +140,32 @@ fn tell_ends(seats: &[Seat], ends: &mut Vec<Result<End, SessionFault>>)
     }
 }
 
-/// Rounds until all sessions have ended, and how each ended.
+/// Rounds until all sessions have ended, how each ended, and the last checks. Answers whether these were given up for want of memory.
 fn play_out<R: Source, W: Sink>(
     alloc: Global,
     desk: &mut Desk,
     seats: &mut [Seat],
     streams: &mut [Stream<R, W>],
     ends: &mut Vec<Result<End, SessionFault>>,
-)
+) -> bool
     requires seats { length seats.old ≡ length streams.old }
     requires workers { length streams.old < desk.old.setting.workers }
     requires few { length streams.old ≤ 64 }
     requires fit { Fit desk.old seats.old }
+    requires fresh { desk.old.history ≡ [] }
     requires empty { ends.old.items ≡ [] }
     requires room { length streams.old ≤ vec_capacity ends.old }
-    ensures keeps { EachKeeps (stream_record R.left R.ended R.failed R.asked W.written W.failed)
-        desk.old seats.old streams.old desk.new seats.new streams.new }
-    ensures rest { LeavesRest (length streams.old) desk.old desk.new }
-    ensures ends { map Some ends.new.items ≡ map (λ seat. seat.session.outcome) seats.new }
+    ensures setting { desk.new.setting ≡ desk.old.setting }
     ensures count { length ends.new.items ≡ length streams.old }
+    ensures sessions { (torrent : Metainfo) → desk.old.setting.torrent ≡ torrent.layout → AreNew torrent seats.old →
+        EachEnded (stream_record R.left R.ended R.failed R.asked W.written W.failed)
+        torrent streams.old desk.new streams.new ends.new.items }
+    ensures finishes { Finishes (length streams.old) result desk.new }
+    ensures none_waits { result ≡ false → (piece : ℕ) → waits desk.new.setting desk.new.history piece ≡ false }
 {
     play(alloc, desk, seats, streams);
     tell_ends(seats, ends);
+    desk.finish(alloc, streams.len() as u32).is_err()
 }
 
 /// Sessions with recorded peers at one desk, in one thread. Worker `i` speaks for stream `i`, with the words of the generator `i` of the
@@ -175,13 +181,19 @@ pub fn serial<R: Source, W: Sink>(
     requires { (1 ≤ length streams.old) × (length streams.old ≤ 64) }
     ensures setting { IfOk result (λ run. run.desk.setting ≡ usual torrent.value.layout (length streams.old + 1)) }
     ensures ends { IfOk result (λ run. length run.ends.items ≡ length streams.old) }
+    // Each session ended as its stream says; what it saw of the desk is what the desk's journal has of its worker.
+    ensures sessions { IfOk result (λ run. EachEnded (stream_record R.left R.ended R.failed R.asked W.written W.failed)
+        torrent.value streams.old run.desk streams.new run.ends.items) }
+    // The last worker did nothing but the last checks.
+    ensures finishes { IfOk result (λ run. Finishes (length streams.old) run.short run.desk) }
+    ensures none_waits { IfOk result (λ run. run.short ≡ false → (piece : ℕ) →
+        waits run.desk.setting run.desk.history piece ≡ false) }
     ensures err { OnErr result (streams.new ≡ streams.old) }
 {
-    let finisher = streams.len() as u32;
-    let mut desk = Desk::new(alloc, torrent.clone()?, finisher + 1)?;
-    let mut seats = new_seats(alloc, &torrent, finisher, seed)?;
+    let count = streams.len() as u32;
+    let mut desk = Desk::new(alloc, torrent.clone()?, count + 1)?;
+    let mut seats = new_seats(alloc, &torrent, count, seed)?;
     let mut ends = Vec::with_capacity(alloc, seats.len())?;
-    play_out(alloc, &mut desk, &mut seats, streams, &mut ends);
-    let short = desk.finish(alloc, finisher).is_err();
+    let short = play_out(alloc, &mut desk, &mut seats, streams, &mut ends);
     Ok(SerialRun { ends, desk, short })
 }

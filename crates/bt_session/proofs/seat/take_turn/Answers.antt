@@ -20,6 +20,7 @@ returns g c =
       fails = c.turn.ensures.fails;
       counted = c.turn.ensures.counted;
       most = c.turn.ensures.most;
+      sound = c.turn.ensures.sound;
       failed = c.turn.ensures.failed;
     }) in
     let name = first_name _ _ _ _ (sym took.same_lent) in
