@@ -33,12 +33,12 @@ calls_in-own h e worker own =
     ∙ map-append (λ (mark : Mark). (mark.call, mark.reply)) (marks_of h worker) (mark_of (length h) e ∷ [])
 
 -- another worker made none
-calls_in-other : (h : History) (e : Entry) (worker : ℕ) → (e.worker == worker) ≡ false → calls_in (e ∷ h) worker ≡ calls_in h worker
+pub calls_in-other : (h : History) (e : Entry) (worker : ℕ) → (e.worker == worker) ≡ false → calls_in (e ∷ h) worker ≡ calls_in h worker
 calls_in-other h e worker other =
     ap (λ (b : Bool). calls_of_marks (marks_of h worker ++ (if b then mark_of (length h) e ∷ [] else []))) other
     ∙ ap calls_of_marks (append-nil (marks_of h worker))
 
-and-more : (a b c : Bool) → (b ≡ true → c ≡ true) → (a && b) ≡ true → (a && c) ≡ true
+pub and-more : (a b c : Bool) → (b ≡ true → c ≡ true) → (a && b) ≡ true → (a && c) ≡ true
 and-more true b c more is = more is
 and-more false b c more is = is
 
@@ -47,7 +47,7 @@ or-true true b is = refl
 or-true false b is = is
 
 -- a piece that is had stays so
-had-more : (h : History) (e : Entry) (piece : ℕ) → had h piece ≡ true → had (e ∷ h) piece ≡ true
+pub had-more : (h : History) (e : Entry) (piece : ℕ) → had h piece ≡ true → had (e ∷ h) piece ≡ true
 unfolding had
 had-more h e piece is = or-true (passed e piece) (had h piece) is
 

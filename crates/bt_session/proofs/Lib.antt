@@ -2,8 +2,12 @@ pub mod Asking
 pub mod Desks
 pub mod Failing
 pub mod Heard
+pub mod LastChecks
 pub mod Leaving
 pub mod Opening
+pub mod Own
+pub mod Standing
+pub mod EachStream
 pub mod Staying
 pub mod Runs
 pub mod Stretches

@@ -1,5 +1,5 @@
 -- Turns of a session, one after another.
-use Rattle.std.proofs.Common.{◌≡◌, ◌+◌, ℕ, List, [], ◌∷◌, ◌++◌, length-append, Bool, true, false, None, refl, sym, ap, subst, ◌∙◌, append_assoc, inl, inr, arith}
+use Rattle.std.proofs.Common.{◌≡◌, ◌+◌, ℕ, List, [], ◌∷◌, ◌++◌, length-append, Bool, true, false, Option, None, refl, sym, ap, subst, ◌∙◌, append_assoc, inl, inr, arith}
 use Rattle.std.specs.Prelude.{if◌then◌else◌}
 use Rattle.std.proofs.lemmas.List.{append-nil}
 use Rattle.std.specs.Io.KnownBytes.{Appends, Consumes}
@@ -16,7 +16,7 @@ use Rattle.bt_session.specs.Events.{Event, Called}
 use Rattle.bt_session.specs.Saying.{greeting, says, interest_after}
 use Rattle.bt_session.specs.Turns.{IsTurn, NoneRefused, TurnsOf, AreTurns}
 use Rattle.bt_session.specs.Turning.{Surroundings}
-use Rattle.bt_session.specs.Sessions.{SessionState, begun, GoesOn, Ends, FailsWith, IsWhole, TookTurns, Running, IsCutShort}
+use Rattle.bt_session.specs.Sessions.{SessionState, begun, GoesOn, Ends, FailsWith, IsWhole, IsUntouched, TookTurns, Running, IsCutShort}
 use Rattle.bt_session.proofs.Written.{Appends-join}
 use Rattle.bt_session.proofs.Heard.{Consumes-join}
 use Rattle.bt_session.proofs.Stretches.{says-append, interest_after-append, Gains-join}
@@ -68,11 +68,12 @@ TurnsOf-left pieces (m ∷ ms) events turned = (
   ),
 )
 
-so_far_first : (torrent : Metainfo) (worker : ℕ) (out : Surroundings) (new : SessionState) (out' : Surroundings) →
-    GoesOn (begun torrent worker) out new out' → TookTurns torrent worker out new out'
-so_far_first torrent worker out new out' go =
+so_far_first : (torrent : Metainfo) (worker : ℕ) (out : Surroundings) (now : SessionState) (mid : Surroundings) (new : SessionState) (out' : Surroundings) →
+    IsUntouched torrent worker out now mid → GoesOn (begun torrent worker) mid new out' → TookTurns torrent worker out new out'
+so_far_first torrent worker out now mid new out' fresh go =
     let turn = go.turn in
     let gives = turn.hears.gives in
+    let said = greeting torrent.infohash worker ++ says false turn.events in
     record {
       first = turn.message;
       text = gives.text;
@@ -80,12 +81,13 @@ so_far_first torrent worker out new out' go =
       messages = [];
       events = turn.events;
       spells = gives.spells;
-      consumed = subst (Consumes out.left out'.left) gives.bytes turn.hears.consumed;
+      consumed = subst (λ (left : Option (List ℕ)). Consumes left out'.left (gives.text ++ new.stream.bytes)) fresh.left
+          (subst (Consumes mid.left out'.left) gives.bytes turn.hears.consumed);
       begins = refl;
       counted = sym go.messages;
       turned = (turn.events, ([], (turn.turn, turn.accepted, refl, sym (append-nil turn.events))));
-      gains = turn.gains;
-      wrote = turn.wrote;
+      gains = Gains-join out.past mid.past out'.past [] turn.events fresh.gains turn.gains;
+      wrote = subst (λ (written : Option (List ℕ)). Appends written out'.written said) fresh.written turn.wrote;
       interest = turn.interest;
       torrent_is = go.keeps.torrent;
       limit = ap (λ (stream : InboundState). stream.limit) gives.after;
@@ -180,7 +182,7 @@ pub running_on : (torrent : Metainfo) (worker : ℕ) (out : Surroundings) (now :
 running_on torrent worker out now mid new out' running go =
     elim running [
       | inl fresh ↦
-          inr (so_far_first torrent worker out new out' (subst (λ (before : Surroundings). GoesOn (begun torrent worker) before new out') fresh.nothing (subst (λ (state : SessionState). GoesOn state mid new out') fresh.state go)))
+          inr (so_far_first torrent worker out now mid new out' fresh (subst (λ (state : SessionState). GoesOn state mid new out') fresh.state go))
       | inr so_far ↦ inr (so_far_more torrent worker out now mid new out' so_far go)
     ]
 

@@ -4,6 +4,8 @@ pub mod Hearing
 pub mod Outlets
 pub mod Places
 pub mod Saying
+pub mod Serial
 pub mod Sessions
+pub mod Standing
 pub mod Turning
 pub mod Turns

@@ -106,10 +106,12 @@ pub record IsWhole (end : End) (torrent : Metainfo) (worker : ℕ) (out out' : S
   pub gains : Gains out.past events out'.past
   pub wrote : Appends out.written out'.written (greeting torrent.infohash worker ++ says false events)
 
--- no turn was taken yet
+-- no turn was taken yet: nothing was read, called or written
 pub record IsUntouched (torrent : Metainfo) (worker : ℕ) (out : Surroundings) (now : SessionState) (out' : Surroundings) : Type 0 where
   pub state : now ≡ begun torrent worker
-  pub nothing : out' ≡ out
+  pub left : out'.left ≡ out.left
+  pub gains : Gains out.past [] out'.past
+  pub written : out'.written ≡ out.written
 
 -- The first turn and some more were taken: what was read is the handshake, the messages and what is held; the place gained a turn for each
 -- of them; and the greeting was written, then what the events say.

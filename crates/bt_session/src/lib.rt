@@ -8,7 +8,10 @@ mod fault;
 mod greeting;
 mod hearing;
 mod place;
+mod rounds;
+mod seat;
 mod session;
+mod stream;
 mod turning;
 pub mod whole;
 mod writing;
@@ -16,7 +19,9 @@ mod writing;
 pub use desk_place::DeskPlace;
 pub use fault::{End, SessionFault};
 pub use place::Place;
+pub use rounds::serial;
 pub use session::Session;
+pub use stream::{SerialRun, Stream};
 
 #[cfg(test)]
 mod tests;

@@ -62,6 +62,13 @@ impl Session {
         }
     }
 
+    /// How it ended, if it has.
+    pub(crate) fn outcome(&self) -> Option<Result<End, SessionFault>>
+        ensures { result ≡ self.now.outcome }
+    {
+        self.outcome
+    }
+
     /// The next turn: first the handshakes, then a message each, and at the end of the peer's stream the departure. After an `End` or a
     /// fault each turn answers the same, and reads, writes and calls nothing.
     pub fn turn<R: Source, W: Sink, P: Place>(

@@ -2,11 +2,12 @@ use Rattle.std.proofs.Common.{refl, inl, sym, ap, ◌∙◌}
 use Rattle.std.proofs.lemmas.Result.{err_from_is_err_and}
 use Rattle.bt_session.specs.Hearing.{source_state}
 use Rattle.bt_session.specs.Sessions.{SessionState}
+use Rattle.bt_session.proofs.Stretches.{Gains-none}
 use Rattle.bt_session.proofs.Runs.{running_on, running_ends, running_fails}
 use Rattle.bt_session.proofs.whole.session.Goals as goal
 
 pub turns-init : goal.turns-init
-turns-init g c = record { running = inl (record { state = c.new-session.ensures; nothing = refl }); counted = λ none. none ∙ sym (ap (λ (state : SessionState). state.asked) c.new-session.ensures) }
+turns-init g c = record { running = inl (record { state = c.new-session.ensures; left = refl; gains = Gains-none _; written = refl }); counted = λ none. none ∙ sym (ap (λ (state : SessionState). state.asked) c.new-session.ensures) }
 
 pub turns-preserved : goal.turns-preserved
 turns-preserved g c = record {

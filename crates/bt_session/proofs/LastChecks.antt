@@ -1,0 +1,180 @@
+-- What the last checks of a run leave, and how its sessions ended.
+use Rattle.std.proofs.Common.{◌≡◌, ◌≢◌, ◌<◌, ◌≤◌, ℕ, zero, suc, Bool, true, false, List, [], ◌∷◌, Option, Some, None, Result, Ok, Err, length, map, get_or, replicate, lit≤, refl, sym, ap, subst, ◌==◌, ◌∙◌, arith, inl}
+use Rattle.std.specs.Prelude.{nat_lt, is_err, OnOk, OnErr}
+use Rattle.std.proofs.lemmas.Bool.Decides.{nat_tests}
+use Rattle.std.proofs.lemmas.List.{get_or-map}
+use Rattle.bt_meta.specs.Layout.{Layout, Metainfo, piece_count}
+use Rattle.bt_history.specs.declared.event.Event.{Event as Entry}
+use Rattle.bt_history.specs.History.{History}
+use Rattle.bt_history.specs.Pieces.{had}
+use Rattle.bt_history.specs.Setting.{Setting}
+use Rattle.bt_picker.specs.Checks.{FinishedBelow, FinishesOne, settling, waits}
+use Rattle.bt_picker.specs.Positions.{DeskState, Gains as Enters}
+use Rattle.bt_session.specs.declared.fault.End.{End}
+use Rattle.bt_session.specs.declared.fault.SessionFault.{SessionFault}
+use Rattle.bt_session.specs.declared.seat.Seat.{Seat}
+use Rattle.bt_session.specs.Desks.{calls_in}
+use Rattle.bt_session.specs.Hearing.{most_reads}
+use Rattle.bt_session.specs.Places.{PlaceRecord, Gains}
+use Rattle.bt_session.specs.Sessions.{SessionState, Running}
+use Rattle.bt_session.specs.Serial.{StreamRecord, Ended, EachEnded, Finishes, around, before_all, own_record, source_of}
+use Rattle.bt_session.specs.Standing.{Standing, Stands, StandsBy, DevicesBy, EachKeeps, LeavesOthers, LeavesRest, IsNew, AreNew, standing}
+use Rattle.bt_session.proofs.EachStream.{ends_count}
+use Rattle.bt_session.proofs.Desks.{calls_in-other, and-more, had-more}
+use Rattle.bt_session.proofs.Standing.{Keeps-join, others_stand}
+use Rattle.bt_session.proofs.Stretches.{Gains-none}
+
+-- an entry of a worker leaves the others alone
+entered_leaves : (old new : DeskState) (e : Entry) → Enters old new e → LeavesOthers e.worker old new
+entered_leaves old new e enters =
+    let h = old.history in
+    let after : DeskState = record { setting = old.setting; history = e ∷ h } in
+    let is : new ≡ after =
+    ap (λ (setting : Setting). let desk : DeskState = record { setting = setting; history = new.history } in desk) enters.setting
+    ∙ ap (λ (history : History). let desk : DeskState = record { setting = old.setting; history = history } in desk) enters.entered in
+    let left : LeavesOthers e.worker old after = record {
+      setting = refl;
+      calls = λ other. λ apart.
+          let differs : (e.worker == other) ≡ false = grind (arith, nat_tests) in
+          calls_in-other h e other differs;
+      had = λ piece. and-more (nat_lt piece (piece_count old.setting.torrent)) (had h piece) (had (e ∷ h) piece) (had-more h e piece);
+    } in
+    subst (LeavesOthers e.worker old) (sym is) left
+
+LeavesOthers-refl : (worker : ℕ) (desk : DeskState) → LeavesOthers worker desk desk
+LeavesOthers-refl worker desk = record { setting = refl; calls = λ other. λ apart. refl; had = λ piece. λ is. is }
+
+LeavesOthers-join : (worker : ℕ) (a b c : DeskState) → LeavesOthers worker a b → LeavesOthers worker b c → LeavesOthers worker a c
+LeavesOthers-join worker a b c first then = record {
+  setting = then.setting ∙ first.setting;
+  calls = λ other. λ apart. then.calls other apart ∙ first.calls other apart;
+  had = λ piece. λ is. then.had piece (first.had piece is);
+}
+
+one_leaves : (waiting : Bool) (desk : DeskState) (worker piece : ℕ) (new : DeskState) → FinishesOne waiting desk worker piece new → LeavesOthers worker desk new
+one_leaves true desk worker piece new settles = entered_leaves desk new (settling desk.setting desk.history worker piece settles.0) settles.1
+one_leaves false desk worker piece new same = subst (LeavesOthers worker desk) (sym same) (LeavesOthers-refl worker desk)
+
+-- the last checks leave the others alone
+pub finished_leaves : (first : DeskState) (worker count : ℕ) (new : DeskState) → FinishedBelow first worker count new → LeavesOthers worker first new
+finished_leaves first worker zero new same = subst (LeavesOthers worker first) (sym same) (LeavesOthers-refl worker first)
+finished_leaves first worker (suc count) new finished =
+    LeavesOthers-join worker first finished.0 new (finished_leaves first worker count finished.0 finished.1)
+    (one_leaves (waits first.setting first.history count) finished.0 worker count new finished.2)
+
+by_result : {E : Type 0} (result : Result Unit E) (worker : ℕ) (before desk : DeskState) → calls_in before.history worker ≡ [] →
+    OnOk result (FinishedBelow before worker (piece_count before.setting.torrent) desk) →
+    OnErr result ((n : ℕ) × FinishedBelow before worker n desk) → Finishes worker (is_err result) desk
+by_result (Ok unit) worker before desk idle done broken =
+    let left = finished_leaves before worker (piece_count before.setting.torrent) desk done in
+    record {
+      before = before;
+      idle = idle;
+      count = piece_count before.setting.torrent;
+      finished = done;
+      all = λ off. sym (ap (λ (setting : Setting). piece_count setting.torrent) left.setting);
+    }
+by_result (Err e) worker before desk idle done broken =
+    record { before = before; idle = idle; count = broken.0; finished = broken.1; all = λ off. absurd cc }
+
+-- the last checks, whether memory ran out or not
+pub finishes : {E : Type 0} (result : Result Unit E) (short : Bool) (worker count : ℕ) (before desk : DeskState) → short ≡ is_err result → worker ≡ count →
+    calls_in before.history count ≡ [] → OnOk result (FinishedBelow before worker (piece_count before.setting.torrent) desk) →
+    OnErr result ((n : ℕ) × FinishedBelow before worker n desk) → Finishes count short desk
+finishes result short worker count before desk is same idle done broken =
+    let idle' = subst (λ (w : ℕ). calls_in before.history w ≡ []) (sym same) idle in
+    subst (λ (b : Bool). Finishes count b desk) (sym is)
+    (subst (λ (w : ℕ). Finishes w (is_err result) desk) same (by_result result worker before desk idle' done broken))
+
+-- they leave the sessions alone
+pub checks_leave : {E : Type 0} (result : Result Unit E) (worker count : ℕ) (before desk : DeskState) → worker ≡ count →
+    OnOk result (FinishedBelow before worker (piece_count before.setting.torrent) desk) →
+    OnErr result ((n : ℕ) × FinishedBelow before worker n desk) → LeavesOthers count before desk
+checks_leave (Ok unit) worker count before desk same done broken =
+    subst (λ (w : ℕ). LeavesOthers w before desk) same (finished_leaves before worker (piece_count before.setting.torrent) desk done)
+checks_leave (Err e) worker count before desk same done broken =
+    subst (λ (w : ℕ). LeavesOthers w before desk) same (finished_leaves before worker broken.0 desk broken.1)
+
+-- a worker beyond those that had turns made no call
+pub still_idle : (count : ℕ) (first mid : DeskState) → first.history ≡ [] → LeavesRest count first mid → calls_in mid.history count ≡ []
+still_idle count first mid empty rest = rest.calls count (omega arith) ∙ ap (λ (h : History). calls_in h count) empty
+
+-- what a stream's session began in
+begun_in : (torrent : Metainfo) (worker : ℕ) (setting : Setting) (desk : DeskState) (seat : Seat) (stream : StreamRecord) →
+    setting.torrent ≡ torrent.layout → desk.setting ≡ setting → desk.history ≡ [] → IsNew torrent worker seat →
+    Stands torrent worker (before_all setting worker stream) stream (standing desk seat stream)
+begun_in torrent worker setting desk seat stream layout same_setting empty new =
+    let first : DeskState = record { setting = setting; history = [] } in
+    let is_desk : first ≡ desk =
+    sym (ap (λ (s : Setting). let d : DeskState = record { setting = s; history = desk.history } in d) same_setting
+    ∙ ap (λ (h : History). let d : DeskState = record { setting = setting; history = h } in d) empty) in
+    let untold : replicate (piece_count setting.torrent) false ≡ seat.told = ap (λ (t : Layout). replicate (piece_count t) false) layout ∙ sym new.told in
+    let before : PlaceRecord = own_record first worker (replicate (piece_count setting.torrent) false) false in
+    let same : before ≡ own_record desk worker seat.told false =
+    ap (λ (d : DeskState). own_record d worker (replicate (piece_count setting.torrent) false) false) is_desk
+    ∙ ap (λ (told : List Bool). own_record desk worker told false) untold in
+    let runs : seat.session.outcome ≡ None = ap (λ (session : SessionState). session.outcome) new.session in
+    let unasked : seat.session.asked ≡ 0 = ap (λ (session : SessionState). session.asked) new.session in
+    let source = source_of stream seat.session.asked in
+    let running : Running torrent worker (before_all setting worker stream) seat.session (around desk worker seat.told false stream) =
+    inl (record { state = new.session; left = refl; gains = subst (Gains before []) same (Gains-none before); written = refl }) in
+    record {
+      stands = subst (λ (o : Option (Result End SessionFault)). StandsBy o torrent worker (before_all setting worker stream) seat.session source (λ short. around desk worker seat.told short stream)) (sym runs) running;
+      devices = subst (λ (o : Option (Result End SessionFault)). DevicesBy o stream stream) (sym runs) (refl, refl);
+      counted = λ none. none ∙ sym unasked;
+      few = subst (λ (n : ℕ). n ≤ most_reads) (sym unasked) (lit≤ tt);
+    }
+
+-- how a stream's session ended that stands
+ended_so : (torrent : Metainfo) (worker : ℕ) (stream : StreamRecord) (now : Standing) (outcome : Result End SessionFault) → now.session.outcome ≡ Some outcome →
+    Stands torrent worker (before_all now.desk.setting worker stream) stream now → Ended outcome torrent worker stream now.desk now.stream
+ended_so torrent worker stream now outcome is stands =
+    let source = source_of now.stream now.session.asked in
+    let ends : StandsBy (Some outcome) torrent worker (before_all now.desk.setting worker stream) now.session source (λ short. around now.desk worker now.told short now.stream) =
+    subst (λ (o : Option (Result End SessionFault)). StandsBy o torrent worker (before_all now.desk.setting worker stream) now.session source (λ short. around now.desk worker now.told short now.stream)) is stands.stands in
+    record {
+      told = now.told;
+      short = ends.0;
+      asked = now.session.asked;
+      ends = ends.1;
+      devices = subst (λ (o : Option (Result End SessionFault)). DevicesBy o stream now.stream) is stands.devices;
+      counted = stands.counted;
+      few = stands.few;
+    }
+
+first_of : {X : Type 0} (xs : List X) (i : ℕ) → i < length xs → X
+first_of [] i within = absurd (omega arith)
+first_of (x ∷ xs) i within = x
+
+-- the end at a place is the one that the seat there keeps
+end_at : (ends : List (Result End SessionFault)) (seats : List Seat) (i : ℕ) (end : Result End SessionFault) (any : Seat) →
+    map Some ends ≡ map (λ seat. seat.session.outcome) seats → i < length seats → (get_or seats i any).session.outcome ≡ Some (get_or ends i end)
+end_at ends seats i end any told within =
+    let outcome : Seat → Option (Result End SessionFault) = λ seat. seat.session.outcome in
+    let within' : i < length ends = omega (arith, ends_count ends seats told) in
+    sym (get_or-map outcome seats i any (Some end) within)
+    ∙ ap (λ (os : List (Option (Result End SessionFault))). get_or os i (Some end)) (sym told)
+    ∙ get_or-map Some ends i end (Some end) within'
+
+-- each stream's session ended so, once the last checks were made
+pub each_ended : {X : Type 0} (told_by : X → StreamRecord) (torrent : Metainfo) (first mid last : DeskState) (seats seats' : List Seat) (streams streams' : List X)
+    (ends : List (Result End SessionFault)) →
+    first.setting.torrent ≡ torrent.layout → first.history ≡ [] → AreNew torrent seats → length seats ≡ length streams → length seats' ≡ length streams →
+    EachKeeps told_by first seats streams mid seats' streams' → LeavesRest (length streams) first mid → LeavesOthers (length streams) mid last →
+    map Some ends ≡ map (λ seat. seat.session.outcome) seats' → EachEnded told_by torrent streams last streams' ends
+each_ended told_by torrent first mid last seats seats' streams streams' ends layout empty new same same' keeps rest left told =
+    λ i. λ stream. λ end. λ within.
+    let within_seats : i < length seats = omega (arith, same) in
+    let within_seats' : i < length seats' = omega (arith, same') in
+    let any = first_of seats i within_seats in
+    let apart : i ≢ length streams = omega arith in
+    let seat = get_or seats' i any in
+    let old = told_by (get_or streams i stream) in
+    let now = told_by (get_or streams' i stream) in
+    let kept = Keeps-join i (standing first (get_or seats i any) old) (standing mid seat now) (standing last seat now)
+    (keeps i any stream within) (others_stand (length streams) i mid last seat.session seat.told now left apart) in
+    let setting : first.setting ≡ last.setting = sym (left.setting ∙ rest.setting) in
+    let layout' : last.setting.torrent ≡ torrent.layout = sym (ap (λ (s : Setting). s.torrent) setting) ∙ layout in
+    let start = begun_in torrent i last.setting first (get_or seats i any) old layout' setting empty (new i any within_seats) in
+    ended_so torrent i old (standing last seat now) (get_or ends i end) (end_at ends seats' i end any told within_seats')
+    (kept.still torrent (before_all last.setting i old) old start)

@@ -1,0 +1,86 @@
+-- How a session stands that takes its turns among others. Only contracts within the crate cite this module.
+use Rattle.std.specs.Prelude.{◌≡◌, ◌≢◌, ◌≤◌, ◌<◌, ℕ, Bool, true, false, List, All, length, replicate, slice_index_or, suc, Option, Some, None, Result}
+use Rattle.bt_meta.specs.Layout.{Metainfo, piece_count}
+use Rattle.bt_picker.specs.Positions.{DeskState}
+use Rattle.bt_session.specs.declared.fault.End.{End}
+use Rattle.bt_session.specs.declared.fault.SessionFault.{SessionFault}
+use Rattle.bt_session.specs.declared.seat.Seat.{Seat}
+use Rattle.bt_session.specs.Desks.{calls_in}
+use Rattle.bt_session.specs.Hearing.{SourceState, most_reads}
+use Rattle.bt_session.specs.Serial.{StreamRecord, DevicesAfter, EndsAs, around, had_at, source_of}
+use Rattle.bt_session.specs.Sessions.{SessionState, Running, begun, to_hear}
+use Rattle.bt_session.specs.Turning.{Surroundings}
+
+-- what a run knows of one of its streams
+pub record Standing : Type 0 where
+  pub desk : DeskState
+  pub session : SessionState
+  pub told : List Bool
+  pub stream : StreamRecord
+
+abbrev pub standing : DeskState → Seat → StreamRecord → Standing
+standing desk seat stream = record { desk = desk; session = seat.session; told = seat.told; stream = stream }
+
+-- the session runs, or it ended so
+abbrev pub StandsBy : Option (Result End SessionFault) → Metainfo → ℕ → Surroundings → SessionState → SourceState → (Bool → Surroundings) → Type 0
+StandsBy None torrent worker out session source here = Running torrent worker out session (here false)
+StandsBy (Some outcome) torrent worker out session source here =
+    (short : Bool) × EndsAs outcome torrent worker out source (here short)
+
+-- what the devices say of a session that runs, or that ended so
+abbrev pub DevicesBy : Option (Result End SessionFault) → StreamRecord → StreamRecord → Type 0
+DevicesBy None old new = (new.failed ≡ old.failed) × (new.broken ≡ old.broken)
+DevicesBy (Some outcome) old new = DevicesAfter outcome old new
+
+-- a session that began in these surroundings, with that stream, stands so
+pub record Stands (torrent : Metainfo) (worker : ℕ) (out : Surroundings) (first : StreamRecord) (now : Standing) : Type 0 where
+  pub stands : StandsBy now.session.outcome torrent worker out now.session (source_of now.stream now.session.asked)
+      (λ short. around now.desk worker now.told short now.stream)
+  pub devices : DevicesBy now.session.outcome first now.stream
+  pub counted : first.asked ≡ 0 → now.stream.asked ≡ now.session.asked
+  pub few : now.session.asked ≤ most_reads
+
+-- a session that stood goes on standing
+pub record Keeps (worker : ℕ) (old new : Standing) : Type 0 where
+  pub still : (torrent : Metainfo) (out : Surroundings) (first : StreamRecord) → Stands torrent worker out first old → Stands torrent worker out first new
+
+-- a worker's turn leaves alone what the others called, and what is had stays had
+pub record LeavesOthers (worker : ℕ) (old new : DeskState) : Type 0 where
+  pub setting : new.setting ≡ old.setting
+  pub calls : (other : ℕ) → other ≢ worker → calls_in new.history other ≡ calls_in old.history other
+  pub had : (piece : ℕ) → had_at old piece ≡ true → had_at new piece ≡ true
+
+-- what may be left of a session: nothing once it has ended
+abbrev pub left_after : Option (Result End SessionFault) → ℕ → ℕ
+left_after None left = suc left
+left_after (Some outcome) left = 0
+
+abbrev pub left_of : Seat → ℕ
+left_of seat = left_after seat.session.outcome (to_hear seat.session)
+
+-- each stream's session goes on standing
+abbrev pub EachKeeps : {X : Type 0} → (X → StreamRecord) → DeskState → List Seat → List X → DeskState → List Seat → List X → Type 0
+EachKeeps {X} told_by desk seats streams desk' seats' streams' = (i : ℕ) (seat : Seat) (stream : X) → i < length streams →
+    Keeps i (standing desk (slice_index_or seats i seat) (told_by (slice_index_or streams i stream)))
+    (standing desk' (slice_index_or seats' i seat) (told_by (slice_index_or streams' i stream)))
+
+-- turns of the first so many workers leave the others alone
+pub record LeavesRest (count : ℕ) (old new : DeskState) : Type 0 where
+  pub setting : new.setting ≡ old.setting
+  pub calls : (other : ℕ) → count ≤ other → calls_in new.history other ≡ calls_in old.history other
+
+-- each seat notes pieces of the desk's torrent
+abbrev pub Fit : DeskState → List Seat → Type 0
+Fit desk seats = All (λ seat. length seat.told ≡ piece_count desk.setting.torrent) seats
+
+abbrev pub HasEnded : Seat → Type 0
+HasEnded seat = seat.session.outcome ≢ None
+
+-- a worker's seat before its first turn
+pub record IsNew (torrent : Metainfo) (worker : ℕ) (seat : Seat) : Type 0 where
+  pub session : seat.session ≡ begun torrent worker
+  pub told : seat.told ≡ replicate (piece_count torrent.layout) false
+
+-- that of each worker
+abbrev pub AreNew : Metainfo → List Seat → Type 0
+AreNew torrent seats = (i : ℕ) (any : Seat) → i < length seats → IsNew torrent i (slice_index_or seats i any)

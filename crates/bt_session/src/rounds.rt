@@ -1,0 +1,199 @@
+//! Several recorded peers at one desk, in one thread.
+
+ghost use Rattle.std.specs.Prelude.{◌≡◌, ◌≤◌, ◌<◌, ◌+◌, [], ℕ, length, map, Some, true, false, sum_by, All, IfOk, OnErr, vec_capacity};
+ghost use Rattle.std.specs.List.{HoldsAt};
+ghost use Rattle.bt_history.specs.Setting.{usual};
+ghost use Rattle.bt_meta.specs.Layout.{Metainfo};
+ghost use Rattle.bt_picker.specs.Checks.{waits};
+ghost use Rattle.bt_session.specs.Serial.{EachEnded, Finishes, stream_record};
+ghost use Rattle.bt_session.specs.Standing.{AreNew, EachKeeps, Fit, HasEnded, IsNew, LeavesRest, left_of};
+
+use crate::fault::{End, SessionFault};
+use crate::seat::{Seat, take_turn};
+use crate::session::Session;
+use crate::stream::{SerialRun, Stream};
+use bt_meta::{Bitfield, Sink, Source, Torrent};
+use bt_picker::Desk;
+use rand_pcg::Lcg64Xsh32;
+use std::alloc::{AllocError, Global};
+use std::sync::Arc;
+
+/// A worker's seat, with the generator of its number.
+fn new_seat(
+    alloc: Global,
+    torrent: &Arc<Torrent>,
+    worker: u32,
+    seed: u64,
+) -> Result<Seat, AllocError>
+    ensures { IfOk result (IsNew torrent.now.value worker) }
+{
+    let told = Bitfield::empty(alloc, torrent.piece_count())?;
+    Ok(Seat {
+        session: Session::new(alloc, torrent.clone()?, worker),
+        told,
+        rng: Lcg64Xsh32::new(seed, u64::from(worker)),
+    })
+}
+
+/// A seat for each of so many workers.
+fn new_seats(
+    alloc: Global,
+    torrent: &Arc<Torrent>,
+    count: u32,
+    seed: u64,
+) -> Result<Vec<Seat>, AllocError>
+    ensures count { IfOk result (λ seats. length seats.items ≡ count) }
+    ensures new { IfOk result (λ seats. AreNew torrent.now.value seats.items) }
+{
+    let mut seats = Vec::with_capacity(alloc, count as usize)?;
+    for worker in 0..count {
+        seats.push(new_seat(alloc, torrent, worker, seed)?)?;
+    }
+    Ok(seats)
+}
+
+/// The turn of one stream's session. Answers whether it took one: there is none after its end.
+fn turn_of<R: Source, W: Sink>(
+    alloc: Global,
+    desk: &mut Desk,
+    seats: &mut [Seat],
+    streams: &mut [Stream<R, W>],
+    i: usize,
+) -> bool
+    requires i { i < length streams.old }
+    requires seats { length seats.old ≡ length streams.old }
+    requires workers { length streams.old < desk.old.setting.workers }
+    requires few { length streams.old ≤ 64 }
+    requires fit { Fit desk.old seats.old }
+    ensures keeps { EachKeeps (stream_record R.left R.ended R.failed R.asked W.written W.failed)
+        desk.old seats.old streams.old desk.new seats.new streams.new }
+    ensures rest { LeavesRest (length streams.old) desk.old desk.new }
+    ensures fit { Fit desk.new seats.new }
+    ensures falls { result ≡ true → sum_by left_of seats.new < sum_by left_of seats.old }
+    ensures same { result ≡ false → seats.new ≡ seats.old }
+    ensures ended { result ≡ false → HoldsAt HasEnded seats.new i }
+{
+    if seats[i].session.outcome().is_some() {
+        return false;
+    }
+    take_turn(alloc, desk, i as u32, &mut seats[i], &mut streams[i]);
+    true
+}
+
+/// A turn of each session that hasn't ended, in order. Answers whether there was one.
+fn round<R: Source, W: Sink>(
+    alloc: Global,
+    desk: &mut Desk,
+    seats: &mut [Seat],
+    streams: &mut [Stream<R, W>],
+) -> bool
+    requires seats { length seats.old ≡ length streams.old }
+    requires workers { length streams.old < desk.old.setting.workers }
+    requires few { length streams.old ≤ 64 }
+    requires fit { Fit desk.old seats.old }
+    ensures keeps { EachKeeps (stream_record R.left R.ended R.failed R.asked W.written W.failed)
+        desk.old seats.old streams.old desk.new seats.new streams.new }
+    ensures rest { LeavesRest (length streams.old) desk.old desk.new }
+    ensures fit { Fit desk.new seats.new }
+    ensures falls { result ≡ true → sum_by left_of seats.new < sum_by left_of seats.old }
+    ensures ended { result ≡ false → All HasEnded seats.new }
+{
+    let mut turns = false;
+    for i in 0..streams.len() {
+        if turn_of(alloc, desk, seats, streams, i) {
+            turns = true;
+        }
+    }
+    turns
+}
+
+/// Rounds until all sessions have ended.
+fn play<R: Source, W: Sink>(
+    alloc: Global,
+    desk: &mut Desk,
+    seats: &mut [Seat],
+    streams: &mut [Stream<R, W>],
+)
+    requires seats { length seats.old ≡ length streams.old }
+    requires workers { length streams.old < desk.old.setting.workers }
+    requires few { length streams.old ≤ 64 }
+    requires fit { Fit desk.old seats.old }
+    ensures keeps { EachKeeps (stream_record R.left R.ended R.failed R.asked W.written W.failed)
+        desk.old seats.old streams.old desk.new seats.new streams.new }
+    ensures rest { LeavesRest (length streams.old) desk.old desk.new }
+    ensures ended { All HasEnded seats.new }
+{
+    'rounds: while round(alloc, desk, seats, streams) {}
+}
+
+/// How each session ended.
+fn tell_ends(seats: &[Seat], ends: &mut Vec<Result<End, SessionFault>>)
+    requires ended { All HasEnded seats.now }
+    requires empty { ends.old.items ≡ [] }
+    requires room { length seats.now ≤ vec_capacity ends.old }
+    ensures { map Some ends.new.items ≡ map (λ seat. seat.session.outcome) seats.now }
+{
+    for seat in seats {
+        if let Some(end) = seat.session.outcome() {
+            ends.push_reserved(end);
+        }
+    }
+}
+
+/// Rounds until all sessions have ended, how each ended, and the last checks. Answers whether these were given up for want of memory.
+fn play_out<R: Source, W: Sink>(
+    alloc: Global,
+    desk: &mut Desk,
+    seats: &mut [Seat],
+    streams: &mut [Stream<R, W>],
+    ends: &mut Vec<Result<End, SessionFault>>,
+) -> bool
+    requires seats { length seats.old ≡ length streams.old }
+    requires workers { length streams.old < desk.old.setting.workers }
+    requires few { length streams.old ≤ 64 }
+    requires fit { Fit desk.old seats.old }
+    requires fresh { desk.old.history ≡ [] }
+    requires empty { ends.old.items ≡ [] }
+    requires room { length streams.old ≤ vec_capacity ends.old }
+    ensures setting { desk.new.setting ≡ desk.old.setting }
+    ensures count { length ends.new.items ≡ length streams.old }
+    ensures sessions { (torrent : Metainfo) → desk.old.setting.torrent ≡ torrent.layout → AreNew torrent seats.old →
+        EachEnded (stream_record R.left R.ended R.failed R.asked W.written W.failed)
+        torrent streams.old desk.new streams.new ends.new.items }
+    ensures finishes { Finishes (length streams.old) result desk.new }
+    ensures none_waits { result ≡ false → (piece : ℕ) → waits desk.new.setting desk.new.history piece ≡ false }
+{
+    play(alloc, desk, seats, streams);
+    tell_ends(seats, ends);
+    desk.finish(alloc, streams.len() as u32).is_err()
+}
+
+/// Sessions with recorded peers at one desk, in one thread. Worker `i` speaks for stream `i`, with the words of the generator `i` of the
+/// seed. In rounds each session that hasn't ended takes a turn, in the order of the streams; one more worker makes the last checks.
+///
+/// All memory for the sessions is taken before the first turn: after want of it nothing was read or written.
+pub fn serial<R: Source, W: Sink>(
+    alloc: Global,
+    torrent: Arc<Torrent>,
+    streams: &mut [Stream<R, W>],
+    seed: u64,
+) -> Result<SerialRun, AllocError>
+    requires { (1 ≤ length streams.old) × (length streams.old ≤ 64) }
+    ensures setting { IfOk result (λ run. run.desk.setting ≡ usual torrent.value.layout (length streams.old + 1)) }
+    ensures ends { IfOk result (λ run. length run.ends.items ≡ length streams.old) }
+    // Each session ended as its stream says; what it saw of the desk is what the desk's journal has of its worker.
+    ensures sessions { IfOk result (λ run. EachEnded (stream_record R.left R.ended R.failed R.asked W.written W.failed)
+        torrent.value streams.old run.desk streams.new run.ends.items) }
+    // The last worker did nothing but the last checks.
+    ensures finishes { IfOk result (λ run. Finishes (length streams.old) run.short run.desk) }
+    ensures none_waits { IfOk result (λ run. run.short ≡ false → (piece : ℕ) →
+        waits run.desk.setting run.desk.history piece ≡ false) }
+    ensures err { OnErr result (streams.new ≡ streams.old) }
+{
+    let count = streams.len() as u32;
+    let mut desk = Desk::new(alloc, torrent.clone()?, count + 1)?;
+    let mut seats = new_seats(alloc, &torrent, count, seed)?;
+    let mut ends = Vec::with_capacity(alloc, seats.len())?;
+    let short = play_out(alloc, &mut desk, &mut seats, streams, &mut ends);
+    Ok(SerialRun { ends, desk, short })
+}
