@@ -5,3 +5,4 @@ pub mod Played
 pub mod Results
 pub mod Settled
 pub mod Written
+pub mod Runs

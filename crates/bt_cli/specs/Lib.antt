@@ -8,3 +8,4 @@ pub mod Scripts
 pub mod Played
 pub mod Journals
 pub mod Reports
+pub mod Runs

@@ -1,9 +1,10 @@
 //! A journal as text.
 
-ghost use Rattle.std.specs.Prelude.{IfOk};
+ghost use Rattle.std.specs.Prelude.{IfOk, map};
 ghost use Rattle.std.specs.String.{string_bytes};
 ghost use Rattle.bt_history.specs.Entries.{action_of, event_of};
 ghost use Rattle.bt_cli.specs.Journals.{IsCallText, IsJournalLine};
+ghost use Rattle.bt_cli.specs.Runs.{AreJournalLines};
 
 use crate::text::Said;
 use bt_picker::{Call, Entry};
@@ -18,6 +19,19 @@ pub fn journal_line(alloc: Global, entry: &Entry) -> Result<String, AllocError>
     let call = call_text(alloc, &entry.call)?;
     let said = Said(entry.reply);
     format!(in alloc; "{worker} {call} = {said}")
+}
+
+/// The lines of a journal.
+pub fn journal_text(alloc: Global, journal: &[Entry]) -> Result<String, AllocError>
+    ensures { IfOk result (λ text. AreJournalLines (map event_of journal.now) (string_bytes text)) }
+{
+    let mut text = String::new(alloc);
+    for entry in journal {
+        let line = journal_line(alloc, entry)?;
+        text.push_str(line.as_str())?;
+        text.push('\n')?;
+    }
+    Ok(text)
 }
 
 fn call_text(alloc: Global, call: &Call) -> Result<String, AllocError>

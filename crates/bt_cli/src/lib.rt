@@ -6,13 +6,15 @@ mod info;
 mod journal;
 mod report;
 mod script;
+mod serial;
 mod text;
 
 pub use fault::{Fault, conclude};
 pub use info::run_info;
-pub use journal::journal_line;
-pub use report::{Missing, session_fault_number};
+pub use journal::{journal_line, journal_text};
+pub use report::{Judged, Missing, Report, session_fault_number};
 pub use script::{run_script, script_to};
+pub use serial::{Options, run_serial};
 
 #[cfg(test)]
 mod tests;

@@ -42,7 +42,8 @@ impl fmt::Display for Missing<'_> {
     }
 }
 
-fn are_all(flags: &[bool]) -> bool
+/// Whether all are set.
+pub fn are_all(flags: &[bool]) -> bool
     ensures { result ≡ list_all (λ had. had) flags.now }
 {
     flags.iter().all(|had| *had)

@@ -1,0 +1,113 @@
+-- What is told of a run.
+use Rattle.std.proofs.Common.{◌≡◌, ◌<◌, ◌≤◌, ◌+◌, ℕ, zero, suc, Bool, false, List, [], ◌∷◌, ◌++◌, length, map, take, drop, slice_index_or, refl, sym, ap, ◌∙◌, subst, append_assoc, append-nil, arith, ◌⊎◌, ⊎_elim, Ok, Result}
+use Rattle.std.specs.Prelude.{codes, reverse, ◌&&◌}
+use Rattle.std.specs.List.{list_all}
+use Rattle.std.proofs.lemmas.List.{take_more, map-append, reverse-append, take-append-drop}
+use Rattle.std.proofs.Math.Seq.{take-length}
+use Rattle.std.proofs.lemmas.List.Folds.{list_all_more}
+use Rattle.bt_history.specs.Counting.{all_below}
+use Rattle.bt_history.specs.Pieces.{had}
+use Rattle.bt_picker.specs.Audits.{IsFirstWrong}
+use Rattle.bt_picker.specs.Contents.{complete}
+use Rattle.bt_picker.specs.Positions.{DeskState}
+use Rattle.bt_history.specs.declared.call.Entry.{Entry}
+use Rattle.bt_history.specs.declared.event.Event.{Event}
+use Rattle.bt_history.specs.Entries.{event_of, history_of}
+use Rattle.bt_history.specs.History.{History}
+use Rattle.bt_history.specs.Legal.{IsLegal, IsAllowed}
+use Rattle.bt_history.specs.Setting.{Setting}
+use Rattle.bt_cli.specs.Journals.{IsJournalLine}
+use Rattle.bt_meta.specs.Layout.{Metainfo}
+use Rattle.bt_meta.specs.declared.fault.MetaFault.{MetaFault}
+use Rattle.bt_cli.specs.declared.fault.Fault.{Fault}
+use Rattle.bt_cli.specs.declared.fault.Fault.TheVariants as faults
+use Rattle.bt_cli.specs.Statuses.{status_of}
+use Rattle.bt_cli.specs.Runs.{AreHad, AreJournalLines, IsRunFault}
+
+-- ---- the lines of a journal
+
+lines_more : (events : List Event) (e : Event) (text line : List ℕ) → AreJournalLines events text → IsJournalLine e line
+    → AreJournalLines (events ++ e ∷ []) (text ++ (line ++ codes "\n"))
+lines_more [] e text line are is =
+    (line, ([], (is, refl, ap (λ (xs : List ℕ). xs ++ (line ++ codes "\n")) are ∙ sym (append-nil (line ++ codes "\n")))))
+lines_more (first ∷ events) e text line are is =
+    let more = line ++ codes "\n" in (
+      are.0,
+      (
+        are.1.0 ++ more,
+        (
+          are.1.1.0,
+          lines_more events e are.1.0 line are.1.1.1 is,
+          ap (λ (xs : List ℕ). xs ++ more) are.1.1.2 ∙ append_assoc (are.0 ++ codes "\n") are.1.0 more,
+        ),
+      ),
+    )
+
+-- the line of one more entry
+pub entries_more : (entries : List Entry) (i : ℕ) (d : Entry) (text line : List ℕ) → i < length entries
+    → AreJournalLines (map event_of (take i entries)) text → IsJournalLine (event_of (slice_index_or entries i d)) line
+    → AreJournalLines (map event_of (take (i + 1) entries)) (text ++ (line ++ codes "\n"))
+entries_more entries i d text line lt are is =
+    let e = slice_index_or entries i d in
+    let same : map event_of (take (i + 1) entries) ≡ map event_of (take i entries) ++ event_of e ∷ [] =
+    ap (map event_of) (take_more entries i d lt) ∙ map-append event_of (take i entries) (e ∷ []) in
+    subst (λ (events : List Event). AreJournalLines events (text ++ (line ++ codes "\n"))) (sym same)
+    (lines_more (map event_of (take i entries)) (event_of e) text line are is)
+
+-- ---- whether all pieces are had
+
+all_first : (flags : List Bool) (test : ℕ → Bool) → ((k : ℕ) → k < length flags → slice_index_or flags k false ≡ test k)
+    → (n : ℕ) → n ≤ length flags → list_all (λ is. is) (take n flags) ≡ all_below n test
+all_first flags test each zero le = refl
+all_first flags test each (suc n) le =
+    let next : suc n ≡ n + 1 = omega arith in
+    ap (λ (m : ℕ). list_all (λ is. is) (take m flags)) next
+    ∙ (list_all_more (λ is. is) flags n false (omega (arith, le))
+    ∙ (ap (λ (x : Bool). x && slice_index_or flags n false) (all_first flags test each n (omega (arith, le)))
+    ∙ ap (λ (x : Bool). all_below n test && x) (each n (omega (arith, le)))))
+
+pub all_had : (desk : DeskState) (flags : List Bool) → AreHad desk flags → list_all (λ is. is) flags ≡ complete desk.setting desk.history
+all_had desk flags are =
+    ap (list_all (λ is. is)) (sym (take-length flags))
+    ∙ (all_first flags (had desk.history) are.each (length flags) (omega arith) ∙ ap (λ (n : ℕ). all_below n (had desk.history)) are.count)
+
+-- ---- a legal journal has no wrong entry
+
+legal_back : (s : Setting) (newer h : History) → IsLegal s (newer ++ h) → IsLegal s h
+legal_back s [] h legal = legal
+legal_back s (e ∷ newer) h legal = legal_back s newer h legal.0
+
+history-append : (xs ys : List Entry) → history_of (xs ++ ys) ≡ history_of ys ++ history_of xs
+history-append xs ys = ap reverse (map-append event_of xs ys) ∙ reverse-append (map event_of xs) (map event_of ys)
+
+pub legal_at : (s : Setting) (entries : List Entry) (i : ℕ) (d : Entry) → i < length entries → IsLegal s (history_of entries)
+    → IsAllowed s (history_of (take i entries)) (event_of (slice_index_or entries i d))
+legal_at s entries i d lt legal =
+    let before = take i entries in
+    let e = slice_index_or entries i d in
+    let front : history_of (take (i + 1) entries) ≡ event_of e ∷ history_of before =
+    ap history_of (take_more entries i d lt) ∙ history-append before (e ∷ []) in
+    let whole : history_of entries ≡ history_of (drop (i + 1) entries) ++ (event_of e ∷ history_of before) =
+    ap history_of (sym (take-append-drop (i + 1) entries)) ∙ (history-append (take (i + 1) entries) (drop (i + 1) entries)
+    ∙ ap (λ (h : History). history_of (drop (i + 1) entries) ++ h) front) in
+    (legal_back s (history_of (drop (i + 1) entries)) (event_of e ∷ history_of before) (subst (λ (h : History). IsLegal s h) whole legal)).1
+
+-- an audit doesn't find a legal journal wrong
+pub not_wrong : (s : Setting) (entries : List Entry) (place : ℕ) → IsLegal s (history_of entries) → IsFirstWrong s entries place → ⊥
+not_wrong s [] place legal wrong = absurd (omega (arith, wrong.0))
+not_wrong s (e ∷ entries) place legal wrong = wrong.2 e (legal_at s (e ∷ entries) place e wrong.0 legal)
+
+-- a run that a fault ended has another status than one that was told
+pub not_told : (fault : Fault) (status : ℕ) → IsRunFault fault → status ≡ status_of fault → (status ≡ 0) ⊎ (status ≡ 1) → ⊥
+not_told fault status is of told = ⊎_elim
+    (λ (file : fault ≡ faults.File). apart status 4 (of ∙ ap status_of file) told (omega arith))
+    (λ (memory : fault ≡ faults.Memory). apart status 5 (of ∙ ap status_of memory) told (omega arith))
+    is where
+      apart : (status n : ℕ) → status ≡ n → (status ≡ 0) ⊎ (status ≡ 1) → 1 < n → ⊥
+      apart status n is told more = ⊎_elim
+          (λ (zero_is : status ≡ 0). absurd (omega (arith, is, zero_is, more)))
+          (λ (one_is : status ≡ 1). absurd (omega (arith, is, one_is, more)))
+          told
+
+pub same_torrent : (r : Result Metainfo MetaFault) (t u : Metainfo) → r ≡ Ok t → r ≡ Ok u → t ≡ u
+same_torrent r t u is too = cc
