@@ -78,26 +78,22 @@ by_result (Err e) worker before desk idle done broken =
     record { before = before; idle = idle; count = broken.0; finished = broken.1; all = λ off. absurd cc }
 
 -- the last checks, whether memory ran out or not
-pub finishes : {E : Type 0} (result : Result Unit E) (short : Bool) (worker count : ℕ) (before desk : DeskState) → short ≡ is_err result → worker ≡ count →
-    calls_in before.history count ≡ [] → OnOk result (FinishedBelow before worker (piece_count before.setting.torrent) desk) →
-    OnErr result ((n : ℕ) × FinishedBelow before worker n desk) → Finishes count short desk
-finishes result short worker count before desk is same idle done broken =
-    let idle' = subst (λ (w : ℕ). calls_in before.history w ≡ []) (sym same) idle in
-    subst (λ (b : Bool). Finishes count b desk) (sym is)
-    (subst (λ (w : ℕ). Finishes w (is_err result) desk) same (by_result result worker before desk idle' done broken))
+pub checks_finish : {E : Type 0} (result : Result Unit E) (short : Bool) (worker : ℕ) (before desk : DeskState) → short ≡ is_err result →
+    calls_in before.history worker ≡ [] → OnOk result (FinishedBelow before worker (piece_count before.setting.torrent) desk) →
+    OnErr result ((n : ℕ) × FinishedBelow before worker n desk) → Finishes worker short desk
+checks_finish result short worker before desk is idle done broken =
+    subst (λ (b : Bool). Finishes worker b desk) (sym is) (by_result result worker before desk idle done broken)
 
 -- they leave the sessions alone
-pub checks_leave : {E : Type 0} (result : Result Unit E) (worker count : ℕ) (before desk : DeskState) → worker ≡ count →
+pub checks_leave : {E : Type 0} (result : Result Unit E) (worker : ℕ) (before desk : DeskState) →
     OnOk result (FinishedBelow before worker (piece_count before.setting.torrent) desk) →
-    OnErr result ((n : ℕ) × FinishedBelow before worker n desk) → LeavesOthers count before desk
-checks_leave (Ok unit) worker count before desk same done broken =
-    subst (λ (w : ℕ). LeavesOthers w before desk) same (finished_leaves before worker (piece_count before.setting.torrent) desk done)
-checks_leave (Err e) worker count before desk same done broken =
-    subst (λ (w : ℕ). LeavesOthers w before desk) same (finished_leaves before worker broken.0 desk broken.1)
+    OnErr result ((n : ℕ) × FinishedBelow before worker n desk) → LeavesOthers worker before desk
+checks_leave (Ok unit) worker before desk done broken = finished_leaves before worker (piece_count before.setting.torrent) desk done
+checks_leave (Err e) worker before desk done broken = finished_leaves before worker broken.0 desk broken.1
 
 -- a worker beyond those that had turns made no call
-pub still_idle : (count : ℕ) (first mid : DeskState) → first.history ≡ [] → LeavesRest count first mid → calls_in mid.history count ≡ []
-still_idle count first mid empty rest = rest.calls count (omega arith) ∙ ap (λ (h : History). calls_in h count) empty
+pub still_idle : (count worker : ℕ) (first mid : DeskState) → count ≤ worker → first.history ≡ [] → LeavesRest count first mid → calls_in mid.history worker ≡ []
+still_idle count worker first mid above empty rest = rest.calls worker above ∙ ap (λ (h : History). calls_in h worker) empty
 
 -- what a stream's session began in
 begun_in : (torrent : Metainfo) (worker : ℕ) (setting : Setting) (desk : DeskState) (seat : Seat) (stream : StreamRecord) →
@@ -160,19 +156,19 @@ end_at ends seats i end any told within =
 pub each_ended : {X : Type 0} (told_by : X → StreamRecord) (torrent : Metainfo) (first mid last : DeskState) (seats seats' : List Seat) (streams streams' : List X)
     (ends : List (Result End SessionFault)) →
     first.setting.torrent ≡ torrent.layout → first.history ≡ [] → AreNew torrent seats → length seats ≡ length streams → length seats' ≡ length streams →
-    EachKeeps told_by first seats streams mid seats' streams' → LeavesRest (length streams) first mid → LeavesOthers (length streams) mid last →
+    EachKeeps told_by first seats streams mid seats' streams' → LeavesRest (length streams) first mid → (worker : ℕ) → length streams ≤ worker → LeavesOthers worker mid last →
     map Some ends ≡ map (λ seat. seat.session.outcome) seats' → EachEnded told_by torrent streams last streams' ends
-each_ended told_by torrent first mid last seats seats' streams streams' ends layout empty new same same' keeps rest left told =
+each_ended told_by torrent first mid last seats seats' streams streams' ends layout empty new same same' keeps rest worker above left told =
     λ i. λ stream. λ end. λ within.
     let within_seats : i < length seats = omega (arith, same) in
     let within_seats' : i < length seats' = omega (arith, same') in
     let any = first_of seats i within_seats in
-    let apart : i ≢ length streams = omega arith in
+    let apart : i ≢ worker = omega arith in
     let seat = get_or seats' i any in
     let old = told_by (get_or streams i stream) in
     let now = told_by (get_or streams' i stream) in
     let kept = Keeps-join i (standing first (get_or seats i any) old) (standing mid seat now) (standing last seat now)
-    (keeps i any stream within) (others_stand (length streams) i mid last seat.session seat.told now left apart) in
+    (keeps i any stream within) (others_stand worker i mid last seat.session seat.told now left apart) in
     let setting : first.setting ≡ last.setting = sym (left.setting ∙ rest.setting) in
     let layout' : last.setting.torrent ≡ torrent.layout = sym (ap (λ (s : Setting). s.torrent) setting) ∙ layout in
     let start = begun_in torrent i last.setting first (get_or seats i any) old layout' setting empty (new i any within_seats) in

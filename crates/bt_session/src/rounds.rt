@@ -5,8 +5,9 @@ ghost use Rattle.std.specs.List.{HoldsAt};
 ghost use Rattle.bt_history.specs.Setting.{usual};
 ghost use Rattle.bt_meta.specs.Layout.{Metainfo};
 ghost use Rattle.bt_picker.specs.Checks.{waits};
+ghost use Rattle.bt_session.specs.Desks.{calls_in};
 ghost use Rattle.bt_session.specs.Serial.{EachEnded, Finishes, stream_record};
-ghost use Rattle.bt_session.specs.Standing.{AreNew, EachKeeps, Fit, HasEnded, IsNew, LeavesRest, left_of};
+ghost use Rattle.bt_session.specs.Standing.{AreNew, EachKeeps, Fit, HasEnded, IsNew, LeavesOthers, LeavesRest, left_of};
 
 use crate::fault::{End, SessionFault};
 use crate::seat::{Seat, take_turn};
@@ -140,6 +141,19 @@ fn tell_ends(seats: &[Seat], ends: &mut Vec<Result<End, SessionFault>>)
     }
 }
 
+/// The last checks, by a worker that made no call yet. Answers whether they were given up for want of memory.
+#[tactic(auto, using(crate::proofs::LastChecks::checks_finish, crate::proofs::LastChecks::checks_leave))]
+fn last_checks(alloc: Global, desk: &mut Desk, worker: u32) -> bool
+    requires worker { worker < desk.old.setting.workers }
+    requires idle { calls_in desk.old.history worker ≡ [] }
+    ensures setting { desk.new.setting ≡ desk.old.setting }
+    ensures finishes { Finishes worker result desk.new }
+    ensures leaves { LeavesOthers worker desk.old desk.new }
+    ensures none_waits { result ≡ false → (piece : ℕ) → waits desk.new.setting desk.new.history piece ≡ false }
+{
+    desk.finish(alloc, worker).is_err()
+}
+
 /// Rounds until all sessions have ended, how each ended, and the last checks. Answers whether these were given up for want of memory.
 fn play_out<R: Source, W: Sink>(
     alloc: Global,
@@ -165,7 +179,7 @@ fn play_out<R: Source, W: Sink>(
 {
     play(alloc, desk, seats, streams);
     tell_ends(seats, ends);
-    desk.finish(alloc, streams.len() as u32).is_err()
+    last_checks(alloc, desk, streams.len() as u32)
 }
 
 /// Sessions with recorded peers at one desk, in one thread. Worker `i` speaks for stream `i`, with the words of the generator `i` of the

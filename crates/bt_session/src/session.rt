@@ -1,6 +1,6 @@
 //! A session, turn by turn.
 
-ghost use Rattle.std.specs.Prelude.{◌≡◌, ◌<◌, ◌≤◌, true, None, IfOk, IfSome, IfNone, IfErr};
+ghost use Rattle.std.specs.Prelude.{◌≡◌, ◌<◌, ◌≤◌, true, false, None, IfOk, IfSome, IfNone, IfErr, OnOk};
 
 use crate::fault::{End, SessionFault};
 use crate::greeting::greeting;
@@ -69,6 +69,52 @@ impl Session {
         self.outcome
     }
 
+    /// The first turn: our handshake, the peer's, and Join.
+    fn first_turn<R: Source, W: Sink, P: Place>(
+        &mut self,
+        alloc: Global,
+        reader: &mut R,
+        writer: &mut W,
+        place: &mut P,
+    ) -> Result<(), SessionFault>
+        requires fresh { self.old.outcome ≡ None }
+        requires joined { self.old.joined ≡ false }
+        ensures goes_on { OnOk result (GoesOn
+            self.old (surroundings P.past R.left W.written place.old reader.old writer.old)
+            self.new (surroundings P.past R.left W.written place.new reader.new writer.new)) }
+        ensures shrinks { OnOk result (to_hear self.new < to_hear self.old) }
+        ensures fails { IfErr result (λ fault. FailsWith fault
+            self.old (surroundings P.past R.left W.written place.old reader.old writer.old)
+            (source_state R.left R.ended R.failed reader.new self.new.asked)
+            self.new (surroundings P.past R.left W.written place.new reader.new writer.new)) }
+        ensures counted { R.asked reader.old ≡ self.old.asked → R.asked reader.new ≡ self.new.asked }
+        ensures most { self.new.asked ≤ most_reads }
+        ensures sound { OnOk result (
+            (R.failed reader.new ≡ R.failed reader.old) × (W.failed writer.new ≡ W.failed writer.old)) }
+        ensures failed { IfErr result (λ fault. fault ≡ WriteFault → W.failed writer.new ≡ true) }
+    {
+        let hello = greeting(self.torrent.infohash(), self.worker);
+        let greeted = greet(
+            alloc,
+            &self.torrent,
+            &hello,
+            &mut self.peer,
+            reader,
+            writer,
+            place,
+        );
+        match greeted {
+            Ok(()) => {
+                self.joined = true;
+                Ok(())
+            }
+            Err(fault) => {
+                self.outcome = Some(Err(fault));
+                Err(fault)
+            }
+        }
+    }
+
     /// The next turn: first the handshakes, then a message each, and at the end of the peer's stream the departure. After an `End` or a
     /// fault each turn answers the same, and reads, writes and calls nothing.
     pub fn turn<R: Source, W: Sink, P: Place>(
@@ -108,25 +154,8 @@ impl Session {
             None => {}
         }
         if !self.joined {
-            let hello = greeting(self.torrent.infohash(), self.worker);
-            return match greet(
-                alloc,
-                &self.torrent,
-                &hello,
-                &mut self.peer,
-                reader,
-                writer,
-                place,
-            ) {
-                Ok(()) => {
-                    self.joined = true;
-                    Ok(None)
-                }
-                Err(fault) => {
-                    self.outcome = Some(Err(fault));
-                    Err(fault)
-                }
-            };
+            self.first_turn(alloc, reader, writer, place)?;
+            return Ok(None);
         }
         match listen(
             alloc,

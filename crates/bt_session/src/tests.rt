@@ -1,3 +1,5 @@
+mod serial;
+
 use crate::whole::session;
 use crate::{DeskPlace, End, SessionFault};
 use bt_meta::{Bitfield, FromRead, ToWrite, Torrent};
@@ -10,13 +12,16 @@ use std::io::Cursor;
 use std::sync::Arc;
 use std::test::Fail;
 
-/// One piece of the three bytes `abc`.
+/// The SHA-1 of the three bytes `abc` (FIPS 180-4).
+const ABC: [u8; 20] = [
+    0xa9, 0x99, 0x3e, 0x36, 0x47, 0x06, 0x81, 0x6a, 0xba, 0x3e, 0x25, 0x71, 0x78, 0x50, 0xc2, 0x6c,
+    0x9c, 0xd0, 0xd8, 0x9d,
+];
+
+/// One piece of these bytes.
 fn torrent(alloc: Global) -> Result<Arc<Torrent>, Fail> {
     let mut hashes = Vec::new(alloc);
-    hashes.push([
-        0xa9, 0x99, 0x3e, 0x36, 0x47, 0x06, 0x81, 0x6a, 0xba, 0x3e, 0x25, 0x71, 0x78, 0x50, 0xc2,
-        0x6c, 0x9c, 0xd0, 0xd8, 0x9d,
-    ])?;
+    hashes.push(ABC)?;
     Ok(Arc::new(alloc, Torrent::of_parts(3, 3, hashes, [1; 20])?)?)
 }
 

@@ -27,10 +27,12 @@ pub fn session<R: Source, W: Sink, P: Place>(
     ensures whole { IfOk result (λ end. IsWhole end torrent.value worker
         (surroundings P.past R.left W.written place.old reader.old writer.old)
         (surroundings P.past R.left W.written place.new reader.new writer.new)) }
-    ensures cut_short { IfErr result (λ fault. (asked : ℕ) × IsCutShort fault torrent.value worker
+    // The reads that the session counted are those that its source was asked for, if none were before.
+    ensures cut_short { IfErr result (λ fault. (asked : ℕ) × ((R.asked reader.old ≡ 0 → R.asked reader.new ≡ asked)
+        × IsCutShort fault torrent.value worker
         (surroundings P.past R.left W.written place.old reader.old writer.old)
         (source_state R.left R.ended R.failed reader.new asked)
-        (surroundings P.past R.left W.written place.new reader.new writer.new)) }
+        (surroundings P.past R.left W.written place.new reader.new writer.new))) }
     ensures failed { IfErr result (λ fault. fault ≡ WriteFault → W.failed writer.new ≡ true) }
     ensures most { R.asked reader.old ≡ 0 → R.asked reader.new ≤ most_reads }
 {

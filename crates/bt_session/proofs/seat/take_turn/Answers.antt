@@ -3,7 +3,7 @@ use Rattle.std.proofs.lemmas.Grind.{common_steps}
 use Rattle.bt_session.specs.Serial.{stream_record}
 use Rattle.bt_session.specs.Standing.{standing}
 use Rattle.bt_session.proofs.seat.take_turn.Goals as goal
-use Rattle.bt_session.proofs.Standing.{at_same_desk, turn_at_desk}
+use Rattle.bt_session.proofs.OwnTurns.{at_same_desk, turn_at_desk}
 use Rattle.bt_session.proofs.Own.{first_name, others_left_at}
 
 pub returns : goal.returns

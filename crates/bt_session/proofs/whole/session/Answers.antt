@@ -1,4 +1,4 @@
-use Rattle.std.proofs.Common.{refl, inl, sym, ap, ◌∙◌}
+use Rattle.std.proofs.Common.{◌≡◌, refl, inl, sym, ap, ◌∙◌}
 use Rattle.std.proofs.lemmas.Result.{err_from_is_err_and}
 use Rattle.bt_session.specs.Hearing.{source_state}
 use Rattle.bt_session.specs.Sessions.{SessionState}
@@ -23,4 +23,6 @@ pub returns-in_err-end-clause-cut_short : goal.returns-in_err-end-clause-cut_sho
 returns-in_err-end-clause-cut_short g c =
     let p = err_from_is_err_and c.from_residual.result c.from_residual.ensures.1 in
     let source = source_state g.R.Source.left g.R.Source.ended g.R.Source.failed c.turn.new.reader c.turn.new.self.asked in
-    rw (p.1, p.2) (c.turn.new.self.asked, running_fails _ _ _ _ _ _ source _ _ c.turns.invariant.running (λ fresh. c.in_err-end.ensures.fails fresh))
+    let counted : g.R.Source.asked c.args.reader.now ≡ 0 → g.R.Source.asked c.turn.new.reader ≡ c.turn.new.self.asked =
+    λ none. c.in_err-end.ensures.counted (c.turns.invariant.counted none) in
+    rw (p.1, p.2) (c.turn.new.self.asked, (counted, running_fails _ _ _ _ _ _ source _ _ c.turns.invariant.running (λ fresh. c.in_err-end.ensures.fails fresh)))
