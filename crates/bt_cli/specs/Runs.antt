@@ -1,5 +1,5 @@
 -- A run with recorded peers: what is printed of it, and how the command ends.
-use Rattle.std.specs.Prelude.{◌≡◌, ◌⊎◌, ◌<◌, ℕ, Bool, true, false, List, [], ◌∷◌, ◌++◌, length, map, codes, slice_index_or, Option, Some, None, Result, Ok, Err}
+use Rattle.std.specs.Prelude.{◌≡◌, ◌⊎◌, ◌<◌, ℕ, Bool, true, false, List, [], ◌∷◌, ◌++◌, length, map, codes, slice_index_or, ◌==◌, if◌then◌else◌, Option, Some, None, Result, Ok, Err}
 use Rattle.std.specs.Io.KnownBytes.{Appends}
 use Rattle.bt_meta.specs.Layout.{Metainfo, piece_count}
 use Rattle.bt_meta.specs.declared.fault.MetaFault.{MetaFault}
@@ -16,7 +16,7 @@ use Rattle.bt_cli.specs.declared.fault.Fault.TheVariants as faults
 use Rattle.bt_cli.specs.declared.report.Judged.{Judged}
 use Rattle.bt_cli.specs.Journals.{IsJournalLine}
 use Rattle.bt_cli.specs.Reports.{report_text}
-use Rattle.bt_cli.specs.Statuses.{of_metainfo}
+use Rattle.bt_cli.specs.Statuses.{of_metainfo, status_of}
 
 -- of each piece of the desk, whether it is had
 pub record AreHad (desk : DeskState) (flags : List Bool) : Type 0 where
@@ -67,3 +67,8 @@ IsSerialStatus (Ok t) status (Some desk) =
     ⊎ (status ≡ 4) ⊎ (status ≡ 5)
 IsSerialStatus (Err fault) status None = (status ≡ 3) ⊎ (status ≡ 5)
 IsSerialStatus (Err fault) status (Some desk) = ⊥
+
+-- the status after a run, once its content was written: want of memory in the run comes before a file that can't be written
+abbrev pub status_after : ℕ → Result (Unit {0}) Fault → ℕ
+status_after status (Ok done) = status
+status_after status (Err fault) = if status == 5 then status else status_of fault

@@ -1,6 +1,7 @@
 //! The command `serial`.
 
-ghost use Rattle.std.specs.Prelude.{◌≡◌, ◌≤◌, ◌+◌, ◌⊎◌, List, length, map, true, false, Result, Ok, Err, IfOk, IfErr, IfSome};
+ghost use Rattle.std.specs.Prelude.{◌≡◌, ◌≤◌, ◌+◌, ◌⊎◌, List, length, map, true, false, Result, Ok, Err, IfOk, IfErr, IfSome, OnOk};
+ghost use Rattle.bt_cli.specs.declared.fault.Fault.TheVariants.{File};
 ghost use Rattle.std.specs.String.{string_bytes};
 ghost use Rattle.bt_meta.specs.Layout.{Metainfo, piece_count};
 ghost use Rattle.bt_meta.specs.Reading.{torrent_of_file};
@@ -10,12 +11,12 @@ ghost use Rattle.bt_session.specs.declared.fault.End.{End};
 ghost use Rattle.bt_session.specs.declared.fault.SessionFault.{SessionFault};
 ghost use Rattle.bt_session.specs.Serial.{EachEnded, stream_record};
 ghost use Rattle.bt_cli.specs.declared.report.Judged.TheVariants.{Sound, Unjudged};
-ghost use Rattle.bt_cli.specs.Runs.{AreHad, IsPrelude, IsRunFault, IsSerialStatus, IsStartFault, TellsRun};
+ghost use Rattle.bt_cli.specs.Runs.{AreHad, IsPrelude, IsRunFault, IsSerialStatus, IsStartFault, TellsRun, status_after};
 
 use crate::fault::{Fault, conclude};
 use crate::journal::journal_text;
 use crate::report::{Judged, Report, are_all};
-use bt_meta::{Sink, Source, Torrent};
+use bt_meta::{Sink, Source, ToWrite, Torrent};
 use bt_picker::{AuditFault, Desk, audit};
 use bt_session::{SerialRun, SessionFault, Stream, serial};
 use std::alloc::{AllocError, Global};
@@ -72,6 +73,31 @@ pub fn run_serial<R: Source, W: Sink, O: Write, E: Write>(
             (status, Some(desk))
         }
         Err(fault) => (conclude(Err(fault), err), None),
+    }
+}
+
+/// Writes the content of a desk that has all pieces to a file; `err` as `Fault::File` where a write fails.
+pub fn write_out<W: Write>(desk: &Desk, file: &mut W) -> Result<(), Fault>
+    ensures ok { OnOk result (complete desk.now.setting desk.now.history ≡ true) }
+    ensures err { IfErr result (λ fault. fault ≡ File) }
+{
+    match desk.write_content(&mut ToWrite::new(file)) {
+        Ok(()) => Ok(()),
+        Err(_) => Err(Fault::File),
+    }
+}
+
+/// The exit status where a run ended with this one, and then its content was written. Want of memory in the run comes before a file that
+/// can't be written.
+pub fn after_run<E: Write>(status: u8, written: Result<(), Fault>, err: &mut E) -> u8
+    ensures { result ≡ status_after status written }
+{
+    if status == Fault::Memory.status() {
+        return status;
+    }
+    match written {
+        Ok(()) => status,
+        Err(fault) => conclude(Err(fault), err),
     }
 }
 

@@ -4,3 +4,4 @@ mod info;
 mod reports;
 mod samples;
 mod scripts;
+mod serial;

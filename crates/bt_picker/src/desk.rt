@@ -165,6 +165,13 @@ impl Desk {
         Ok(())
     }
 
+    /// Whether each piece is had.
+    pub fn is_complete(&self) -> bool
+        ensures { result ≡ complete self.now.setting self.now.history }
+    {
+        self.position().is_complete()
+    }
+
     /// Writes the content of all pieces, block by block as it is held, if each piece is had. Takes no memory.
     pub fn write_content<W: Sink>(&self, writer: &mut W) -> Result<(), ContentFault>
         ensures ok { OnOk result ((complete self.now.setting self.now.history ≡ true)

@@ -1,6 +1,6 @@
 //! The command line.
 
-use clap::{Arg, ArgAction, Command};
+use clap::{Arg, ArgAction, Command, value_parser};
 use std::alloc::{AllocError, Global};
 
 /// The program's commands and their arguments.
@@ -10,7 +10,8 @@ pub fn command<'a>(alloc: Global) -> Result<Command<'a>, AllocError> {
         .subcommand_required(true)
         .arg_required_else_help(true)
         .subcommand(script(alloc))?
-        .subcommand(info(alloc)?)
+        .subcommand(info(alloc)?)?
+        .subcommand(serial(alloc)?)
 }
 
 fn script<'a>(alloc: Global) -> Command<'a> {
@@ -31,4 +32,47 @@ fn meta<'a>(alloc: Global) -> Arg<'a> {
         .help("A metainfo file (.torrent)")
         .required(true)
         .action(ArgAction::Set)
+}
+
+fn serial<'a>(alloc: Global) -> Result<Command<'a>, AllocError> {
+    Command::new(alloc, "serial")
+        .about("Plays recorded streams of peers at one desk, and reports which pieces are had")
+        .arg(seed(alloc))?
+        .arg(journal(alloc))?
+        .arg(out(alloc))?
+        .arg(meta(alloc))?
+        .arg(streams(alloc))
+}
+
+fn seed<'a>(alloc: Global) -> Arg<'a> {
+    Arg::new(alloc, "seed")
+        .long("seed")
+        .value_name("N")
+        .help("Settles what the picker leaves to chance")
+        .value_parser(value_parser!(u64))
+        .default_value("0")
+}
+
+fn journal<'a>(alloc: Global) -> Arg<'a> {
+    Arg::new(alloc, "journal")
+        .long("journal")
+        .help("Prints all calls with their replies before the report")
+        .action(ArgAction::SetTrue)
+}
+
+fn out<'a>(alloc: Global) -> Arg<'a> {
+    Arg::new(alloc, "out")
+        .long("out")
+        .value_name("FILE")
+        .help("Writes the content to this file, if all pieces are had")
+        .action(ArgAction::Set)
+}
+
+/// The recorded streams, as many as a run takes.
+fn streams<'a>(alloc: Global) -> Arg<'a> {
+    Arg::new(alloc, "STREAM")
+        .help("What a peer sent, from its handshake on")
+        .required(true)
+        .num_args(1..=64)
+        .action(ArgAction::Append)
 }

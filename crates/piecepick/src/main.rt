@@ -4,7 +4,10 @@
 mod arguments;
 
 use arguments::command;
-use bt_cli::{Fault, conclude, run_info, script_to};
+use bt_cli::{Fault, Options, after_run, conclude, run_info, run_serial, script_to, write_out};
+use bt_meta::{FromRead, ToWrite};
+use bt_picker::Desk;
+use bt_session::Stream;
 use clap::ArgMatches;
 use clap::error::ErrorKind;
 use std::io::{BufReader, Read, Write};
@@ -14,6 +17,9 @@ use std::{env, fs, io};
 
 /// The status where the arguments are wrong.
 const WRONG_ARGUMENTS: u8 = 2;
+
+/// The most streams that one run takes.
+const MOST_STREAMS: usize = 64;
 
 fn main(rt: HostRuntime) -> ExitCode {
     let mut err = rt.stderr();
@@ -44,6 +50,7 @@ fn obey<R: Runtime + AllocGlobal, E: Write>(rt: &R, err: &mut E) -> Result<u8, F
     match matches.subcommand() {
         Some(("info", arguments)) => info(rt, arguments, err),
         Some(("script", _)) => script(rt, err),
+        Some(("serial", arguments)) => serial(rt, arguments, err),
         _ => Ok(WRONG_ARGUMENTS),
     }
 }
@@ -64,4 +71,62 @@ fn script<R: Runtime + AllocGlobal, E: Write>(rt: &R, err: &mut E) -> Result<u8,
     let mut input = Vec::new(rt.alloc());
     BufReader::new(rt.alloc(), rt.reader())?.read_to_end(&mut input)?;
     Ok(script_to(rt.alloc(), &input, &mut io::writer(rt), err))
+}
+
+fn serial<R: Runtime + AllocGlobal, E: Write>(
+    rt: &R,
+    arguments: &ArgMatches<'_>,
+    err: &mut E,
+) -> Result<u8, Fault> {
+    let Some(meta) = arguments.get_str("META") else {
+        return Ok(WRONG_ARGUMENTS);
+    };
+    let options = Options {
+        seed: arguments.get_one::<u64>("seed").unwrap_or(0),
+        journal: arguments.get_flag("journal"),
+    };
+    let meta = fs::read(rt, meta)?;
+    let mut streams = recorded(rt, arguments)?;
+    if streams.is_empty() || streams.len() > MOST_STREAMS {
+        return Ok(WRONG_ARGUMENTS);
+    }
+    let out = &mut io::writer(rt);
+    let (status, desk) = run_serial(rt.alloc(), &meta, &mut streams, &options, out, err);
+    match (desk, arguments.get_str("out")) {
+        (Some(desk), Some(path)) => Ok(save(rt, &desk, path, status, err)),
+        _ => Ok(status),
+    }
+}
+
+/// The streams that are named, each opened. What is said to them is dropped.
+fn recorded<R: Runtime + AllocGlobal>(
+    rt: &R,
+    arguments: &ArgMatches<'_>,
+) -> Result<Vec<Stream<FromRead<R::File>, ToWrite<io::Sink>>>, Fault> {
+    let mut streams = Vec::new(rt.alloc());
+    for name in arguments.get_strs("STREAM").unwrap_or(&[]) {
+        streams.push(Stream {
+            reader: FromRead::new(fs::open(rt, *name)?),
+            writer: ToWrite::new(io::sink()),
+        })?;
+    }
+    Ok(streams)
+}
+
+/// Writes the content to the file, if all pieces are had, and answers the status that the command ends with then.
+fn save<R: Runtime + AllocGlobal, E: Write>(
+    rt: &R,
+    desk: &Desk,
+    path: &str,
+    status: u8,
+    err: &mut E,
+) -> u8 {
+    if !desk.is_complete() {
+        return status;
+    }
+    let written = match fs::create(rt, path) {
+        Ok(mut file) => write_out(desk, &mut file),
+        Err(e) => Err(Fault::from(e)),
+    };
+    after_run(status, written, err)
 }

@@ -1,0 +1,155 @@
+//! The command `serial`: what it prints, its statuses, and the desk that it gives.
+
+use crate::*;
+use bt_meta::{FromRead, ToWrite};
+use bt_picker::{ContentFault, Desk};
+use bt_session::Stream;
+use std::alloc::{AllocError, Global};
+use std::io::Cursor;
+use std::test::*;
+
+/// A file of the three bytes `abc`, in one piece.
+const FILE: &[u8] =
+    b"d4:infod6:lengthi3e4:name1:s12:piece lengthi3e6:pieces20:\xa9\x99\x3e\x36\x47\x06\x81\x6a\xba\x3e\x25\x71\x78\x50\xc2\x6c\x9c\xd0\xd8\x9dee";
+
+/// The SHA-1 of its info value, by another program.
+const INFOHASH: &[u8; 20] =
+    b"\x1d\x78\x90\xe0\x79\x47\x27\x96\x67\x77\x2e\x39\x46\xc6\x96\x86\x93\x09\xfe\x2c";
+
+/// What a peer sends after its handshake: its bitfield, unchoke, and the piece.
+const FRAMES: &[u8; 27] = b"\0\0\0\x02\x05\x80\0\0\0\x01\x01\0\0\0\x0c\x07\0\0\0\0\0\0\0\0abc";
+
+type Recorded<'a> = Stream<FromRead<Cursor<&'a [u8]>>, ToWrite<Vec<u8>>>;
+
+/// A peer's stream: its handshake for this infohash, then these bytes.
+fn stream(alloc: Global, infohash: &[u8; 20], frames: &[u8]) -> Result<Vec<u8>, AllocError> {
+    let mut bytes = Vec::from_slice(alloc, b"\x13BitTorrent protocol")?;
+    bytes.extend_from_slice(&[0; 8])?;
+    bytes.extend_from_slice(infohash)?;
+    bytes.extend_from_slice(&[9; 20])?;
+    bytes.extend_from_slice(frames)?;
+    Ok(bytes)
+}
+
+fn recorded(alloc: Global, sent: &[u8]) -> Recorded<'_> {
+    Stream {
+        reader: FromRead::new(Cursor::new(sent)),
+        writer: ToWrite::new(Vec::new(alloc)),
+    }
+}
+
+/// How the command ended with one stream: its status, its output, its line of a fault and its desk.
+#[derive(Drop)]
+struct Ended {
+    status: u8,
+    out: Vec<u8>,
+    err: Vec<u8>,
+    desk: Option<Desk>,
+}
+
+fn run(alloc: Global, meta: &[u8], sent: &[u8], journal: bool) -> Ended {
+    let mut streams = [recorded(alloc, sent)];
+    let mut out = Vec::new(alloc);
+    let mut err = Vec::new(alloc);
+    let options = Options { seed: 0, journal };
+    let (status, desk) = run_serial(alloc, meta, &mut streams, &options, &mut out, &mut err);
+    Ended {
+        status,
+        out,
+        err,
+        desk,
+    }
+}
+
+#[test]
+fn one_piece_of_one_peer(rt: HostRuntime) -> Result<(), Fail> {
+    let sent = stream(rt.alloc(), INFOHASH, FRAMES)?;
+    let ended = run(rt.alloc(), FILE, &sent, true);
+    assert_eq!(rt; ended.status, 0);
+    assert_eq!(rt;
+        ended.out.as_slice(),
+        b"0 join = joined\n0 bits 80 = noted yes\n0 next = choked\n0 unchoke = quiet\n0 next = request 0 0 3\n0 next = idle\n0 block 0 0 3 = completed\n0 settle 0 = had\n0 next = nothing\n0 leave = quiet\nstream 0 end\npieces 1\nhad 1\nmissing -\ncomplete yes\njournal ok\n".as_slice()
+    );
+    assert_eq!(rt; ended.err.as_slice(), b"".as_slice());
+    let desk = ended.desk.expect(&rt, "there was a run");
+    let mut file = ToWrite::new(Vec::new(rt.alloc()));
+    assert!(rt; desk.write_content(&mut file) == Ok(()));
+    assert_eq!(rt; file.into_inner().as_slice(), b"abc".as_slice());
+    Ok(())
+}
+
+#[test]
+fn a_stream_that_breaks_off(rt: HostRuntime) -> Result<(), Fail> {
+    let sent = stream(rt.alloc(), INFOHASH, &FRAMES[..26])?;
+    let ended = run(rt.alloc(), FILE, &sent, true);
+    assert_eq!(rt; ended.status, 1);
+    assert_eq!(rt;
+        ended.out.as_slice(),
+        b"0 join = joined\n0 bits 80 = noted yes\n0 next = choked\n0 unchoke = quiet\n0 next = request 0 0 3\n0 next = idle\n0 leave = quiet\nstream 0 fault 3\npieces 1\nhad 0\nmissing 0\ncomplete no\njournal ok\n".as_slice()
+    );
+    assert_eq!(rt; ended.err.as_slice(), b"".as_slice());
+    let desk = ended.desk.expect(&rt, "there was a run");
+    let mut file = ToWrite::new(Vec::new(rt.alloc()));
+    assert!(rt; desk.write_content(&mut file) == Err(ContentFault::Incomplete));
+    assert!(rt; file.into_inner().is_empty());
+    Ok(())
+}
+
+#[test]
+fn a_peer_of_another_torrent(rt: HostRuntime) -> Result<(), Fail> {
+    let sent = stream(rt.alloc(), &[0; 20], FRAMES)?;
+    let ended = run(rt.alloc(), FILE, &sent, true);
+    assert_eq!(rt; ended.status, 1);
+    assert_eq!(rt;
+        ended.out.as_slice(),
+        b"stream 0 fault 2\npieces 1\nhad 0\nmissing 0\ncomplete no\njournal ok\n".as_slice()
+    );
+    Ok(())
+}
+
+#[test]
+fn a_report_without_its_journal(rt: HostRuntime) -> Result<(), Fail> {
+    let sent = stream(rt.alloc(), INFOHASH, FRAMES)?;
+    let ended = run(rt.alloc(), FILE, &sent, false);
+    assert_eq!(rt; ended.status, 0);
+    assert_eq!(rt;
+        ended.out.as_slice(),
+        b"stream 0 end\npieces 1\nhad 1\nmissing -\ncomplete yes\njournal ok\n".as_slice()
+    );
+    Ok(())
+}
+
+#[test]
+fn a_file_that_is_none(rt: HostRuntime) -> Result<(), Fail> {
+    let sent = stream(rt.alloc(), INFOHASH, FRAMES)?;
+    let ended = run(rt.alloc(), b"de", &sent, true);
+    assert_eq!(rt; ended.status, 3);
+    assert!(rt; ended.out.is_empty());
+    assert_eq!(rt; ended.err.as_slice(), b"metainfo fault 3\n".as_slice());
+    assert!(rt; ended.desk.is_none());
+    Ok(())
+}
+
+#[test]
+fn a_full_output(rt: HostRuntime) -> Result<(), Fail> {
+    let sent = stream(rt.alloc(), INFOHASH, FRAMES)?;
+    let mut streams = [recorded(rt.alloc(), &sent)];
+    let mut room = [0; 20];
+    let mut err = Vec::new(rt.alloc());
+    let options = Options {
+        seed: 0,
+        journal: false,
+    };
+    let (status, desk) = run_serial(
+        rt.alloc(),
+        FILE,
+        &mut streams,
+        &options,
+        &mut room.as_mut_slice(),
+        &mut err,
+    );
+    assert_eq!(rt; status, 4);
+    assert_eq!(rt; err.as_slice(), b"file fault\n".as_slice());
+    assert!(rt; desk.is_some());
+    Ok(())
+}
