@@ -1,6 +1,9 @@
 use super::{ABC, PEER, peer, tell, torrent};
 use crate::{End, SerialRun, SessionFault, Stream, serial};
 use bt_meta::{FromRead, ToWrite, Torrent};
+use bt_picker::Call;
+use rand_core::Rng;
+use rand_pcg::Lcg64Xsh32;
 use std::alloc::{AllocError, Global};
 use std::fmt::Write;
 use std::io::Cursor;
@@ -163,5 +166,27 @@ fn a_fault_ends_one_session_alone(rt: HostRuntime) -> Result<(), Fail> {
     assert!(rt; run.ends[1] == Err(SessionFault::Truncated));
     assert!(rt; run.ends[2] == Ok(End { messages: 3 }));
     assert!(rt; run.desk.had(0));
+    Ok(())
+}
+
+#[test]
+fn words_come_from_the_seed(rt: HostRuntime) -> Result<(), Fail> {
+    let first = peer(rt.alloc(), 1, &FIRST)?;
+    let second = peer(rt.alloc(), 1, &SECOND)?;
+    let mut streams = [recorded(rt.alloc(), &first), recorded(rt.alloc(), &second)];
+    let run = serial(rt.alloc(), two_pieces(rt.alloc())?, &mut streams, 5)?;
+    for worker in 0..2u32 {
+        let mut rng = Lcg64Xsh32::new(5, u64::from(worker));
+        let mut asked = false;
+        for entry in run.desk.journal() {
+            if entry.worker == worker {
+                if let Call::Next(word) = &entry.call {
+                    assert_eq!(rt; *word, rng.next_u64());
+                    asked = true;
+                }
+            }
+        }
+        assert!(rt; asked);
+    }
     Ok(())
 }
