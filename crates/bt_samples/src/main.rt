@@ -1,0 +1,109 @@
+//! Real clients' streams: the messages of each by type, however it is cut, and what a run of all of a torrent's streams comes to.
+#![tactic(auto)]
+
+mod counts;
+
+use anyhow::{Context, Result};
+use bt_cli::{Options, run_serial};
+use bt_meta::{FromRead, ToWrite};
+use bt_picker::Desk;
+use bt_session::Stream;
+use bt_wire::Inbound;
+use counts::Counts;
+use sha1::Sha1;
+use std::alloc::Global;
+use std::rt::Runtime;
+use std::{env, fs, io};
+
+/// 1 MiB, the limit of a torrent of up to 8,388,600 pieces.
+const LIMIT: u32 = 1 << 20;
+
+/// The most streams that one run takes.
+const MOST_STREAMS: usize = 64;
+
+const OPTIONS: Options = Options {
+    seed: 0,
+    journal: false,
+};
+
+fn main(rt: HostRuntime) -> Result<()> {
+    let mut args = env::args(&rt)?.skip(1);
+    let lens = args
+        .next()
+        .context("the lengths of the pieces, as 1,65536")?;
+    let words: Vec<String> = args.collect(rt.alloc())?;
+    for sample in words.split(|word| word.as_str() == "--") {
+        let (meta, streams) = sample.split_first().context("a metainfo file")?;
+        for name in streams {
+            decode(&rt, name.as_str(), lens.as_str())?;
+        }
+        play(&rt, meta.as_str(), streams)?;
+    }
+    Ok(())
+}
+
+/// Prints the messages of a stream by type, for each of these lengths of pieces that it may come in.
+fn decode<R: Runtime + AllocGlobal>(rt: &R, name: &str, lens: &str) -> Result<()> {
+    let bytes = fs::read(rt, name)?;
+    for len in lens.split(',') {
+        let counts = count(rt.alloc(), &bytes, len.parse::<usize>()?)?;
+        println!(rt; "{name} in pieces of {len}: {counts}")?;
+    }
+    Ok(())
+}
+
+/// Prints the report of a run of these streams, its status, and the SHA-1 of the content.
+fn play<R: Runtime + AllocGlobal>(rt: &R, meta: &str, names: &[String]) -> Result<()> {
+    let meta = fs::read(rt, meta)?;
+    let mut streams = Vec::new(rt.alloc());
+    for name in names.iter().take(MOST_STREAMS) {
+        streams.push(Stream {
+            reader: FromRead::new(fs::open(rt, name.as_str())?),
+            writer: ToWrite::new(io::sink()),
+        })?;
+    }
+    if streams.is_empty() {
+        return Ok(());
+    }
+    let out = &mut io::writer(rt);
+    let (status, desk) = run_serial(
+        rt.alloc(),
+        &meta,
+        &mut streams,
+        &OPTIONS,
+        out,
+        &mut io::sink(),
+    );
+    println!(rt; "status {status}")?;
+    if let Some(desk) = desk {
+        tell_content(rt, &desk)?;
+    }
+    Ok(())
+}
+
+fn tell_content<R: Runtime + AllocGlobal>(rt: &R, desk: &Desk) -> Result<()> {
+    let mut content = ToWrite::new(Vec::new(rt.alloc()));
+    desk.write_content(&mut content)?;
+    let content = content.into_inner();
+    let digest = hex::encode(rt.alloc(), Sha1::digest(&content).as_slice())?;
+    let len = content.len();
+    println!(rt; "content bytes {len} sha1 {digest}")?;
+    Ok(())
+}
+
+/// The messages of a stream that comes in pieces of this many bytes.
+fn count(alloc: Global, bytes: &[u8], len: usize) -> Result<Counts> {
+    let mut inbound = Inbound::new(alloc, LIMIT);
+    let mut counts = Counts::new();
+    for piece in bytes.chunks(len.max(1)) {
+        inbound.feed(piece)?;
+        for _ in 0..u64::MAX {
+            let Some(message) = inbound.next(alloc)? else {
+                break;
+            };
+            counts.add(&message);
+        }
+    }
+    counts.set_rest(inbound.rest());
+    Ok(counts)
+}
