@@ -24,7 +24,7 @@ use Rattle.bt_session.specs.Turning.{Start, start, Surroundings, BreaksBy, Stops
 use Rattle.bt_session.proofs.Opening.{unchecked}
 use Rattle.bt_session.proofs.Staying.{stays_in}
 use Rattle.bt_session.proofs.Stretches.{Gains-none, GainsUpTo-join, up_to}
-use Rattle.bt_session.proofs.Written.{Appends-none}
+use Rattle.std.proofs.KnownBytes.{Appends-nil}
 
 -- what the first turn left that broke off
 abbrev pub FirstFails : SessionFault → List ℕ → Bool → Start → SourceState → PlaceRecord → Option (List ℕ) → PlaceRecord → Option (List ℕ) → Type 0
@@ -46,7 +46,7 @@ nothing_gained : (past : PlaceRecord) → GainsUpTo past [] past
 nothing_gained past = up_to past past [] (Gains-none past)
 
 wrote_nothing : (fault : SessionFault) (written : Option (List ℕ)) → WroteFront fault written [] written
-wrote_nothing fault written = record { front = []; rest = []; parts = refl; wrote = Appends-none written; all = inr refl }
+wrote_nothing fault written = record { front = []; rest = []; parts = refl; wrote = Appends-nil written; all = inr refl }
 
 -- the greeting was cut off
 pub greeting_fails : (fault : SessionFault) (greeting : List ℕ) (interested : Bool) (old : Start) (source : SourceState) (past : PlaceRecord) (written written' : Option (List ℕ)) →

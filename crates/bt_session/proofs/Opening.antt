@@ -15,7 +15,7 @@ use Rattle.bt_session.specs.Places.{PlaceRecord, Gains, LacksMemory}
 use Rattle.bt_session.specs.Turns.{Opens, Checks, ChecksAtMost, if_completed, arrived_piece, NoneRefused}
 use Rattle.bt_session.specs.Outlets.{Outlet, Performs, PerformsUpTo, StopsCall, EndsCalls, IsCut}
 use Rattle.std.specs.Io.KnownBytes.{Appends}
-use Rattle.bt_session.proofs.Written.{Appends-none}
+use Rattle.std.proofs.KnownBytes.{Appends-nil}
 use Rattle.bt_session.proofs.Stretches.{Performs-join, Performs-stops}
 use Rattle.bt_session.proofs.Asking.{stops_ways, ends_cut}
 
@@ -86,7 +86,7 @@ pub opening_unchecked : (mark : CallMark) (reply : Reply) (fault : SessionFault)
     is_refusal reply ≡ false → Performs a (Called mark reply ∷ []) b → LacksMemory b.past past → OpeningStops fault mark a (record b { past = past })
 opening_unchecked mark reply fault a b past cut accepted does lacks =
     let stops : PerformsUpTo fault b [] (record b { past = past }) =
-    record { gains = lacks.gains; wrote = record { front = []; rest = []; parts = refl; wrote = Appends-none b.written; all = inr refl } } in
+    record { gains = lacks.gains; wrote = record { front = []; rest = []; parts = refl; wrote = Appends-nil b.written; all = inr refl } } in
     stops_one fault mark reply a (record b { past = past }) cut accepted
     (Performs-stops fault a b (record b { past = past }) (Called mark reply ∷ []) [] does stops)
 
@@ -114,13 +114,13 @@ pub opening_checked : (mark : CallMark) (reply : Reply) (piece : ℕ) (a b : Out
 opening_checked mark reply piece a b past is accepted does seen =
     elim seen.1.0 [
       | inl none ↦
-          let nothing : Performs b [] (record b { past = past }) = record { gains = subst (λ (es : List Event). Gains b.past es past) none seen.1.1; wrote = Appends-none b.written; interest = refl } in
+          let nothing : Performs b [] (record b { past = past }) = record { gains = subst (λ (es : List Event). Gains b.past es past) none seen.1.1; wrote = Appends-nil b.written; interest = refl } in
           (Called mark reply ∷ [], ((refl, unchecked mark reply), accepted_one mark reply accepted, Performs-join a b (record b { past = past }) (Called mark reply ∷ []) [] does nothing))
       | inr check ↦
           let event : Event = Called (marks.Settle piece) check.0 in
           let does_check : Performs b (event ∷ []) (record b { past = past }) = record {
             gains = subst (λ (es : List Event). Gains b.past es past) check.1.1 seen.1.1;
-            wrote = subst (Appends b.written b.written) (sym (check_says piece b.interested check.0 check.1.0)) (Appends-none b.written);
+            wrote = subst (Appends b.written b.written) (sym (check_says piece b.interested check.0 check.1.0)) (Appends-nil b.written);
             interest = check_interest piece b.interested check.0 check.1.0;
           } in (
             Called mark reply ∷ event ∷ [],

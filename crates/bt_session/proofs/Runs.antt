@@ -17,7 +17,7 @@ use Rattle.bt_session.specs.Saying.{greeting, says, interest_after}
 use Rattle.bt_session.specs.Turns.{IsTurn, NoneRefused, TurnsOf, AreTurns}
 use Rattle.bt_session.specs.Turning.{Surroundings}
 use Rattle.bt_session.specs.Sessions.{SessionState, begun, GoesOn, Ends, FailsWith, IsWhole, IsUntouched, TookTurns, Running, IsCutShort}
-use Rattle.bt_session.proofs.Written.{Appends-join}
+use Rattle.std.proofs.KnownBytes.{Appends-trans}
 use Rattle.bt_session.proofs.Heard.{Consumes-join}
 use Rattle.bt_session.proofs.Stretches.{says-append, interest_after-append, Gains-join}
 
@@ -131,7 +131,7 @@ so_far_more torrent worker out now mid new out' so_far go =
       turned = TurnsOf-last (piece_count torrent.layout) (so_far.first ∷ so_far.messages) so_far.events turn.message turn.events so_far.turned
           (subst (λ (t : Metainfo). IsTurn (piece_count t.layout) turn.message turn.events) so_far.torrent_is turn.turn) turn.accepted;
       gains = Gains-join out.past mid.past out'.past so_far.events turn.events so_far.gains turn.gains;
-      wrote = subst (Appends out.written out'.written) same (Appends-join out.written mid.written out'.written (hello ++ before) said so_far.wrote wrote);
+      wrote = subst (Appends out.written out'.written) same (Appends-trans out.written mid.written out'.written (hello ++ before) said so_far.wrote wrote);
       interest = turn.interest ∙ ap (λ i. interest_after i turn.events) so_far.interest ∙ sym (interest_after-append false so_far.events turn.events);
       torrent_is = go.keeps.torrent ∙ so_far.torrent_is;
       limit = ap (λ (stream : InboundState). stream.limit) gives.after ∙ so_far.limit;
@@ -173,7 +173,7 @@ so_far_ends end torrent worker out now mid has_ended new out' so_far ends =
       turns = TurnsOf-left (piece_count torrent.layout) (so_far.first ∷ so_far.messages) so_far.events so_far.turned;
       gains = Gains-join out.past mid.past out'.past so_far.events last so_far.gains ends.leave.gains;
       wrote = subst (Appends out.written out'.written) same
-          (Appends-join out.written mid.written out'.written (hello ++ before) [] so_far.wrote ends.leave.wrote);
+          (Appends-trans out.written mid.written out'.written (hello ++ before) [] so_far.wrote ends.leave.wrote);
     }
 
 -- one turn more

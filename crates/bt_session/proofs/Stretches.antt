@@ -12,7 +12,7 @@ use Rattle.bt_session.specs.Events.{Event, Called, News, calls_of, news_of, is_r
 use Rattle.bt_session.specs.Saying.{says, answer, interest_by, interest_after}
 use Rattle.bt_session.specs.Places.{PlaceRecord, Gains, GainsUpTo, AllHad, Tells}
 use Rattle.bt_session.specs.Outlets.{Outlet, Performs, PerformsUpTo, StopsCall, WroteFront, IsCut}
-use Rattle.bt_session.proofs.Written.{Appends-none, Appends-join}
+use Rattle.std.proofs.KnownBytes.{Appends-nil, Appends-trans}
 
 calls_of-append : (es fs : List Event) → calls_of (es ++ fs) ≡ calls_of es ++ calls_of fs
 calls_of-append [] fs = refl
@@ -95,14 +95,14 @@ pub Gains-join : (a b c : PlaceRecord) (es fs : List Event) → Gains a es b →
 Gains-join a b c es fs g h = record { up_to = GainsUpTo-join a b c es fs g.up_to h.up_to; short = h.short ∙ g.short }
 
 pub Performs-none : (a : Outlet) → Performs a [] a
-Performs-none a = record { gains = Gains-none a.past; wrote = Appends-none a.written; interest = refl }
+Performs-none a = record { gains = Gains-none a.past; wrote = Appends-nil a.written; interest = refl }
 
 pub Performs-join : (a b c : Outlet) (es fs : List Event) → Performs a es b → Performs b fs c → Performs a (es ++ fs) c
 Performs-join a b c es fs p q =
     record {
       gains = Gains-join a.past b.past c.past es fs p.gains q.gains;
       wrote = subst (Appends a.written c.written) (sym (says-append a.interested es fs ∙ ap (λ i. says a.interested es ++ says i fs) (sym p.interest)))
-          (Appends-join a.written b.written c.written (says a.interested es) (says b.interested fs) p.wrote q.wrote);
+          (Appends-trans a.written b.written c.written (says a.interested es) (says b.interested fs) p.wrote q.wrote);
       interest = q.interest ∙ ap (λ i. interest_after i fs) p.interest ∙ sym (interest_after-append a.interested es fs);
     }
 
@@ -112,7 +112,7 @@ WroteFront-join fault a b c xs ys p q =
       front = xs ++ q.front;
       rest = q.rest;
       parts = ap (λ (zs : List ℕ). xs ++ zs) q.parts ∙ sym (append_assoc xs q.front q.rest);
-      wrote = Appends-join a b c xs q.front p q.wrote;
+      wrote = Appends-trans a b c xs q.front p q.wrote;
       all = q.all;
     }
 

@@ -17,7 +17,7 @@ use Rattle.bt_session.specs.Turns.{call_of, Opens, Asks, most_next, Attends, IsT
 use Rattle.bt_session.specs.Outlets.{Outlet, Performs, PerformsUpTo, EndsCalls, IsCut, WroteFront}
 use Rattle.bt_session.specs.Turning.{StopsOpening, StopsTurn, TellsNews}
 use Rattle.bt_session.specs.Places.{AllTold}
-use Rattle.bt_session.proofs.Written.{Appends-none}
+use Rattle.std.proofs.KnownBytes.{Appends-nil}
 use Rattle.bt_session.proofs.Stretches.{Performs-join, Performs-stops, Gains-none, up_to}
 use Rattle.bt_session.proofs.Asking.{asks_some, ends_cut}
 
@@ -75,7 +75,7 @@ OpenedStops fault pieces m a b = (events : List Event) × (StopsOpening fault pi
 stops_at_once : (fault : SessionFault) (a : Outlet) → PerformsUpTo fault a [] a
 stops_at_once fault a = record {
   gains = up_to a.past a.past [] (Gains-none a.past);
-  wrote = record { front = []; rest = []; parts = refl; wrote = Appends-none a.written; all = inr refl };
+  wrote = record { front = []; rest = []; parts = refl; wrote = Appends-nil a.written; all = inr refl };
 }
 
 -- no call was made of the message

@@ -9,11 +9,12 @@ ghost use Rattle.bt_session.specs.Saying.{answer, interest_by};
 
 use crate::fault::SessionFault;
 use bt_history::Reply;
-use bt_meta::{Block, Sink};
+use bt_meta::{Block, DeviceFault, Sink};
 use bt_wire::{Message, encode};
 use std::alloc::Global;
 
 /// Writes all the bytes.
+#[tactic(auto, using(crate::proofs::Written::front_cut))]
 pub fn write_all<W: Sink>(writer: &mut W, bytes: &[u8]) -> Result<(), SessionFault>
     ensures ok { OnOk result (Appends (W.written writer.old) (W.written writer.new) bytes.now) }
     ensures ok_sound { OnOk result (W.failed writer.new ≡ W.failed writer.old) }
@@ -21,14 +22,10 @@ pub fn write_all<W: Sink>(writer: &mut W, bytes: &[u8]) -> Result<(), SessionFau
     ensures err_failed { OnErr result (W.failed writer.new ≡ true) }
     ensures cause { IfErr result (λ fault. fault ≡ WriteFault) }
 {
-    let mut rest = bytes;
-    while !rest.is_empty() {
-        match writer.write(rest) {
-            Ok(0) | Err(_) => return Err(SessionFault::WriteFault),
-            Ok(n) => rest = rest.split_at(n).1,
-        }
+    match bt_meta::write_all(writer, bytes) {
+        Ok(()) => Ok(()),
+        Err(DeviceFault) => Err(SessionFault::WriteFault),
     }
-    Ok(())
 }
 
 /// Writes a message.

@@ -1,7 +1,7 @@
 use Rattle.std.proofs.Common.{◌≡◌, ◌+◌, ◌≤◌, arith, refl, ◌∙◌}
 use Rattle.std.proofs.lemmas.Result.{err_from_is_err_and}
 use Rattle.bt_session.proofs.Telling.{Telling-more, Telling-cut, Telling-done, Telling-full}
-use Rattle.bt_session.proofs.Written.{Appends-none}
+use Rattle.std.proofs.KnownBytes.{Appends-nil}
 use Rattle.bt_session.proofs.calling.tell_news.Goals as goal
 
 pub returns-in_err-send-clause-err : goal.returns-in_err-send-clause-err
@@ -20,7 +20,7 @@ news-preserved g c =
 pub returns-in_default-clause-ok : goal.returns-in_default-clause-ok
 returns-in_default-clause-ok g c =
     let few : c.news.counter ≤ c.args.most = omega arith in
-    Telling-done _ _ _ c.news.counter _ c.news.invariant.telling few c.in_default.ensures.none.0 c.in_default.ensures.none.1 (Appends-none _) refl
+    Telling-done _ _ _ c.news.counter _ c.news.invariant.telling few c.in_default.ensures.none.0 c.in_default.ensures.none.1 (Appends-nil _) refl
 
 pub returns-clause-ok : goal.returns-clause-ok
 returns-clause-ok g c =
