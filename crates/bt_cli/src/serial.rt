@@ -2,11 +2,12 @@
 
 ghost use Rattle.std.specs.Prelude.{◌≡◌, ◌≤◌, ◌+◌, ◌⊎◌, List, length, map, true, false, Result, Ok, Err, IfOk, IfErr, IfSome, OnOk};
 ghost use Rattle.bt_cli.specs.declared.fault.Fault.TheVariants.{File};
+ghost use Rattle.std.specs.Io.KnownBytes.{Appends};
 ghost use Rattle.std.specs.String.{string_bytes};
 ghost use Rattle.bt_meta.specs.Layout.{Metainfo, piece_count};
 ghost use Rattle.bt_meta.specs.Reading.{torrent_of_file};
 ghost use Rattle.bt_history.specs.Setting.{usual};
-ghost use Rattle.bt_picker.specs.Contents.{complete};
+ghost use Rattle.bt_picker.specs.Contents.{complete, whole_content};
 ghost use Rattle.bt_session.specs.declared.fault.End.{End};
 ghost use Rattle.bt_session.specs.declared.fault.SessionFault.{SessionFault};
 ghost use Rattle.bt_session.specs.Serial.{EachEnded, stream_record};
@@ -76,13 +77,17 @@ pub fn run_serial<R: Source, W: Sink, O: Write, E: Write>(
     }
 }
 
-/// Writes the content of a desk that has all pieces to a file; `err` as `Fault::File` where a write fails.
-pub fn write_out<W: Write>(desk: &Desk, file: &mut W) -> Result<(), Fault>
+/// Writes the content to a file, and gives that back. A write that fails is `Fault::File`, and so is a desk that lacks a piece, of which
+/// nothing is written.
+pub fn write_out<W: Write + Drop>(desk: &Desk, file: W) -> Result<W, Fault>
     ensures ok { OnOk result (complete desk.now.setting desk.now.history ≡ true) }
+    ensures content { IfOk result (λ written. Appends (W.contents file) (W.contents written)
+        (whole_content desk.now.setting desk.now.history)) }
     ensures err { IfErr result (λ fault. fault ≡ File) }
 {
-    match desk.write_content(&mut ToWrite::new(file)) {
-        Ok(()) => Ok(()),
+    let mut sink = ToWrite::new(file);
+    match desk.write_content(&mut sink) {
+        Ok(()) => Ok(sink.into_inner()),
         Err(_) => Err(Fault::File),
     }
 }

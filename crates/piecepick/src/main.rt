@@ -124,9 +124,11 @@ fn save<R: Runtime + AllocGlobal, E: Write>(
     if !desk.is_complete() {
         return status;
     }
-    let written = match fs::create(rt, path) {
-        Ok(mut file) => write_out(desk, &mut file),
-        Err(e) => Err(Fault::from(e)),
-    };
-    after_run(status, written, err)
+    after_run(status, write_file(rt, desk, path), err)
+}
+
+fn write_file<R: Runtime + AllocGlobal>(rt: &R, desk: &Desk, path: &str) -> Result<(), Fault> {
+    let file = fs::create(rt, path)?;
+    write_out(desk, file)?;
+    Ok(())
 }
