@@ -12,7 +12,7 @@ pub struct Job {
     pub blocks: Vec<Bytes>,
 }
 
-/// The digest of a piece's blocks, with the blocks themselves. Its type keeps that the digest is the SHA-1 of the joined blocks
+/// The digest of a piece's blocks, with the blocks themselves. Every such value has the SHA-1 of those blocks, joined, as digest
 /// (FIPS 180-4): only `Job::hash` makes one.
 ///
 /// Contracts see the piece and the blocks.

@@ -1,5 +1,5 @@
 -- What is told of a run.
-use Rattle.std.proofs.Common.{◌≡◌, ◌<◌, ◌≤◌, ◌+◌, ℕ, zero, suc, Bool, false, List, [], ◌∷◌, ◌++◌, length, map, take, drop, slice_index_or, refl, sym, ap, ◌∙◌, subst, append_assoc, append-nil, arith, ◌⊎◌, ⊎_elim, Ok, Result}
+use Rattle.std.proofs.Common.{true, ◌≡◌, ◌<◌, ◌≤◌, ◌+◌, ℕ, zero, suc, Bool, false, List, [], ◌∷◌, ◌++◌, length, map, take, drop, slice_index_or, refl, sym, ap, ◌∙◌, subst, append_assoc, append-nil, arith, ◌⊎◌, ⊎_elim, Ok, Err, Result}
 use Rattle.std.specs.Prelude.{codes, reverse, ◌&&◌}
 use Rattle.std.specs.List.{list_all}
 use Rattle.std.proofs.lemmas.List.{take_more, map-append, reverse-append, take-append-drop}
@@ -97,9 +97,9 @@ pub not_wrong : (s : Setting) (entries : List Entry) (place : ℕ) → IsLegal s
 not_wrong s [] place legal wrong = absurd (omega (arith, wrong.0))
 not_wrong s (e ∷ entries) place legal wrong = wrong.2 e (legal_at s (e ∷ entries) place e wrong.0 legal)
 
--- a run that a fault ended has another status than one that was told
-pub not_told : (fault : Fault) (status : ℕ) → IsRunFault fault → status ≡ status_of fault → (status ≡ 0) ⊎ (status ≡ 1) → ⊥
-not_told fault status is of told = ⊎_elim
+-- the status of a run that a fault ended is 4 or 5
+pub fault_status : (fault : Fault) (status : ℕ) → IsRunFault fault → status ≡ status_of fault → (status ≡ 0) ⊎ (status ≡ 1) → ⊥
+fault_status fault status is of told = ⊎_elim
     (λ (file : fault ≡ faults.File). apart status 4 (of ∙ ap status_of file) told (omega arith))
     (λ (memory : fault ≡ faults.Memory). apart status 5 (of ∙ ap status_of memory) told (omega arith))
     is where
@@ -108,6 +108,20 @@ not_told fault status is of told = ⊎_elim
           (λ (zero_is : status ≡ 0). absurd (omega (arith, is, zero_is, more)))
           (λ (one_is : status ≡ 1). absurd (omega (arith, is, one_is, more)))
           told
+
+-- a run that was told gave nothing up, and neither did one that a file ended
+pub spared_told : (gave : Bool) (r : Result Bool Fault) (all : Bool) → (gave ≡ true → r ≡ Err faults.Memory) → r ≡ Ok all → gave ≡ false
+spared_told false r all memory is = refl
+spared_told true r all memory is = let same : Ok all ≡ Err faults.Memory = sym is ∙ memory refl in absurd (cc same)
+
+pub spared_ended : (gave : Bool) (r : Result Bool Fault) (fault : Fault) (status : ℕ) → (gave ≡ true → r ≡ Err faults.Memory) → r ≡ Err fault
+    → status ≡ status_of fault → (status ≡ 5 → ⊥) → gave ≡ false
+spared_ended false r fault status memory is of apart = refl
+spared_ended true r fault status memory is of apart =
+    let same : fault ≡ faults.Memory = same_fault (Err fault) fault faults.Memory refl (sym is ∙ memory refl) in
+    absurd (apart (of ∙ ap status_of same)) where
+      same_fault : (r : Result Bool Fault) (e f : Fault) → r ≡ Err e → r ≡ Err f → e ≡ f
+      same_fault r e f is too = cc
 
 pub same_torrent : (r : Result Metainfo MetaFault) (t u : Metainfo) → r ≡ Ok t → r ≡ Ok u → t ≡ u
 same_torrent r t u is too = cc

@@ -1,5 +1,6 @@
 -- A run with recorded peers: what is printed of it, and how the command ends.
-use Rattle.std.specs.Prelude.{◌≡◌, ◌⊎◌, ◌<◌, ℕ, Bool, true, false, List, [], ◌∷◌, ◌++◌, length, map, codes, slice_index_or, ◌==◌, if◌then◌else◌, Option, Some, None, Result, Ok, Err}
+use Rattle.std.specs.Prelude.{◌≡◌, ◌⊎◌, ◌<◌, ℕ, Bool, true, false, List, [], ◌∷◌, ◌++◌, length, map, max, codes, slice_index_or, ◌||◌, Option, Some, None, Result, Ok, Err}
+use Rattle.std.specs.List.{list_any}
 use Rattle.std.specs.Io.KnownBytes.{Appends}
 use Rattle.bt_meta.specs.Layout.{Metainfo, piece_count}
 use Rattle.bt_meta.specs.declared.fault.MetaFault.{MetaFault}
@@ -7,13 +8,17 @@ use Rattle.bt_history.specs.declared.call.Entry.{Entry}
 use Rattle.bt_history.specs.declared.event.Event.{Event}
 use Rattle.bt_history.specs.Entries.{event_of, history_of}
 use Rattle.bt_history.specs.Pieces.{had}
+use Rattle.bt_picker.specs.Checks.{waits}
 use Rattle.bt_picker.specs.Contents.{complete}
 use Rattle.bt_picker.specs.Positions.{DeskState}
 use Rattle.bt_session.specs.declared.fault.End.{End}
 use Rattle.bt_session.specs.declared.fault.SessionFault.{SessionFault}
+use Rattle.bt_session.specs.declared.fault.SessionFault.TheVariants as sessions
+use Rattle.bt_session.specs.Serial.{EachEnded, Finishes, StreamRecord}
 use Rattle.bt_cli.specs.declared.fault.Fault.{Fault}
 use Rattle.bt_cli.specs.declared.fault.Fault.TheVariants as faults
 use Rattle.bt_cli.specs.declared.report.Judged.{Judged}
+use Rattle.bt_cli.specs.declared.report.Judged.TheVariants.{Sound}
 use Rattle.bt_cli.specs.Journals.{IsJournalLine}
 use Rattle.bt_cli.specs.Reports.{report_text}
 use Rattle.bt_cli.specs.Statuses.{of_metainfo, status_of}
@@ -48,6 +53,29 @@ pub record TellsRun (journal : Bool) (ends : List (Result End SessionFault)) (de
   pub are_had : AreHad desk flags
   pub wrote : Appends old new (prelude ++ report_text ends flags judged)
 
+-- a session ended for want of memory
+abbrev pub ended_short : Result End SessionFault → Bool
+ended_short (Ok end) = false
+ended_short (Err sessions.NoMemory) = true
+ended_short (Err fault) = false
+
+-- something was given up for want of memory: the last checks, or a session
+abbrev pub gave_up : Bool → List (Result End SessionFault) → Bool
+gave_up short ends = short || list_any ended_short ends
+
+-- A run of these streams came to this desk and ended with this status: an end for each stream, each as its session's; the last worker
+-- made the last checks alone; a status that isn't 5 where nothing was given up for want of memory; and with 0 or 1 the run was told.
+pub record Ran {X : Type 0} (record_of : X → StreamRecord) (torrent : Metainfo) (streams : List X) (desk : DeskState) (streams' : List X)
+    (status : ℕ) (journal : Bool) (old new : Option (List ℕ)) : Type 0 where
+  pub ends : List (Result End SessionFault)
+  pub short : Bool
+  pub count : length ends ≡ length streams
+  pub sessions : EachEnded record_of torrent streams desk streams' ends
+  pub finishes : Finishes (length streams) short desk
+  pub none_waits : short ≡ false → (piece : ℕ) → waits desk.setting desk.history piece ≡ false
+  pub spared : (status ≡ 5 → ⊥) → gave_up short ends ≡ false
+  pub told : (status ≡ 0) ⊎ (status ≡ 1) → TellsRun journal ends desk Sound old new
+
 -- with which fault a run may end before it is told whole
 abbrev pub IsRunFault : Fault → Type 0
 IsRunFault fault = (fault ≡ faults.File) ⊎ (fault ≡ faults.Memory)
@@ -68,7 +96,7 @@ IsSerialStatus (Ok t) status (Some desk) =
 IsSerialStatus (Err fault) status None = (status ≡ 3) ⊎ (status ≡ 5)
 IsSerialStatus (Err fault) status (Some desk) = ⊥
 
--- the status after a run, once its content was written: want of memory in the run comes before a file that can't be written
+-- the status after a run, once its content was written: the greater one, want of memory before a file that fails
 abbrev pub status_after : ℕ → Result (Unit {0}) Fault → ℕ
 status_after status (Ok done) = status
-status_after status (Err fault) = if status == 5 then status else status_of fault
+status_after status (Err fault) = max status (status_of fault)

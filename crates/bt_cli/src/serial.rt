@@ -1,25 +1,25 @@
 //! The command `serial`.
 
-ghost use Rattle.std.specs.Prelude.{◌≡◌, ◌≤◌, ◌+◌, ◌⊎◌, List, length, map, true, false, Result, Ok, Err, IfOk, IfErr, IfSome, OnOk};
-ghost use Rattle.bt_cli.specs.declared.fault.Fault.TheVariants.{File};
+ghost use Rattle.std.specs.Prelude.{◌≡◌, ◌≤◌, ◌+◌, ◌⊎◌, ℕ, length, map, true, false, Ok, Err, IfOk, IfErr, IfSome, OnOk};
+ghost use Rattle.bt_cli.specs.declared.fault.Fault.TheVariants.{File, Memory};
+ghost use Rattle.std.specs.List.{list_any};
 ghost use Rattle.std.specs.Io.KnownBytes.{Appends};
 ghost use Rattle.std.specs.String.{string_bytes};
 ghost use Rattle.bt_meta.specs.Layout.{Metainfo, piece_count};
 ghost use Rattle.bt_meta.specs.Reading.{torrent_of_file};
 ghost use Rattle.bt_history.specs.Setting.{usual};
+ghost use Rattle.bt_picker.specs.Checks.{waits};
 ghost use Rattle.bt_picker.specs.Contents.{complete, whole_content};
-ghost use Rattle.bt_session.specs.declared.fault.End.{End};
-ghost use Rattle.bt_session.specs.declared.fault.SessionFault.{SessionFault};
-ghost use Rattle.bt_session.specs.Serial.{EachEnded, stream_record};
+ghost use Rattle.bt_session.specs.Serial.{EachEnded, Finishes, stream_record};
 ghost use Rattle.bt_cli.specs.declared.report.Judged.TheVariants.{Sound, Unjudged};
-ghost use Rattle.bt_cli.specs.Runs.{AreHad, IsPrelude, IsRunFault, IsSerialStatus, IsStartFault, TellsRun, status_after};
+ghost use Rattle.bt_cli.specs.Runs.{AreHad, IsPrelude, IsRunFault, IsSerialStatus, IsStartFault, Ran, TellsRun, ended_short, gave_up, status_after};
 
 use crate::fault::{Fault, conclude};
 use crate::journal::journal_text;
 use crate::report::{Judged, Report, are_all};
 use bt_meta::{Sink, Source, ToWrite, Torrent};
 use bt_picker::{AuditFault, Desk, audit};
-use bt_session::{SerialRun, SessionFault, Stream, serial};
+use bt_session::{End, SerialRun, SessionFault, Stream, serial};
 use std::alloc::{AllocError, Global};
 use std::io::Write;
 use std::sync::Arc;
@@ -52,10 +52,10 @@ pub fn run_serial<R: Source, W: Sink, O: Write, E: Write>(
     ensures status { IsSerialStatus (torrent_of_file meta.now) result.0 result.1 }
     ensures setting { IfSome result.1 (λ desk. (t : Metainfo) → torrent_of_file meta.now ≡ Ok t →
         desk.setting ≡ usual t.layout (length streams.old + 1)) }
-    // With status 0 or 1 it was printed how each session ended.
-    ensures told { (result.0 ≡ 0) ⊎ (result.0 ≡ 1) → IfSome result.1 (λ desk. (t : Metainfo) → torrent_of_file meta.now ≡ Ok t →
-        (ends : List (Result End SessionFault)) × (EachEnded (stream_record R.left R.ended R.failed R.asked W.written W.failed)
-        t streams.old desk streams.new ends × TellsRun options.now.journal ends desk Sound (O.contents out.old) (O.contents out.new))) }
+    // Where there is a desk, it is the one of a run of these streams, and the status and what was printed are that run's.
+    ensures ran { IfSome result.1 (λ desk. (t : Metainfo) → torrent_of_file meta.now ≡ Ok t →
+        Ran (stream_record R.left R.ended R.failed R.asked W.written W.failed) t streams.old desk streams.new
+        result.0 options.now.journal (O.contents out.old) (O.contents out.new)) }
 {
     let workers = streams.len() as u32 + 1;
     match play(alloc, meta, streams, options.seed) {
@@ -92,17 +92,20 @@ pub fn write_out<W: Write + Drop>(desk: &Desk, file: W) -> Result<W, Fault>
     }
 }
 
-/// The exit status where a run ended with this one, and then its content was written. Want of memory in the run comes before a file that
-/// can't be written.
+/// The exit status where a run ended with this one, and then its content was written. Want of memory comes before a file that fails; a
+/// fault is told on `err` where it gives the status.
 pub fn after_run<E: Write>(status: u8, written: Result<(), Fault>, err: &mut E) -> u8
     ensures { result ≡ status_after status written }
 {
-    if status == Fault::Memory.status() {
-        return status;
-    }
     match written {
         Ok(()) => status,
-        Err(fault) => conclude(Err(fault), err),
+        Err(fault) => {
+            if fault.status() > status {
+                conclude(Err(fault), err)
+            } else {
+                status
+            }
+        }
     }
 }
 
@@ -124,6 +127,10 @@ fn play<R: Source, W: Sink>(
     ensures setting { IfOk result (λ p. p.run.desk.setting ≡ usual p.torrent.value.layout (length streams.old + 1)) }
     ensures sessions { IfOk result (λ p. EachEnded (stream_record R.left R.ended R.failed R.asked W.written W.failed)
         p.torrent.value streams.old p.run.desk streams.new p.run.ends.items) }
+    ensures count { IfOk result (λ p. length p.run.ends.items ≡ length streams.old) }
+    ensures finishes { IfOk result (λ p. Finishes (length streams.old) p.run.short p.run.desk) }
+    ensures none_waits { IfOk result (λ p. p.run.short ≡ false → (piece : ℕ) →
+        waits p.run.desk.setting p.run.desk.history piece ≡ false) }
     ensures err { IfErr result (IsStartFault (torrent_of_file meta.now)) }
 {
     let torrent = Arc::new(alloc, Torrent::read(alloc, meta)?)?;
@@ -145,6 +152,7 @@ fn tell<O: Write>(
     ensures told { IfOk result (λ all. TellsRun journal played.now.run.ends.items played.now.run.desk Sound
         (O.contents out.old) (O.contents out.new)) }
     ensures err { IfErr result IsRunFault }
+    ensures spared { gave_up played.now.run.short played.now.run.ends.items ≡ true → result ≡ Err Memory }
 {
     let judged = judge(alloc, &played.torrent, workers, &played.run.desk);
     let pieces = played.torrent.piece_count();
@@ -168,9 +176,32 @@ fn judge(alloc: Global, torrent: &Torrent, workers: u32, desk: &Desk) -> Judged
     }
 }
 
-/// Whether something was given up for want of memory.
-fn lacks_memory(run: &SerialRun) -> bool {
-    run.short || run.ends.contains(&Err(SessionFault::NoMemory))
+/// Whether something was given up for want of memory: the last checks, or a session.
+fn lacks_memory(run: &SerialRun) -> bool
+    ensures { result ≡ gave_up run.now.short run.now.ends.items }
+{
+    run.short || is_some_short(&run.ends)
+}
+
+fn is_some_short(ends: &[Result<End, SessionFault>]) -> bool
+    ensures { result ≡ list_any ended_short ends.now }
+{
+    for end in ends {
+        if ended_short(*end) {
+            return true;
+        }
+    }
+    false
+}
+
+fn ended_short(end: Result<End, SessionFault>) -> bool
+    ensures { result ≡ ended_short end }
+{
+    match end {
+        Err(SessionFault::NoMemory) => true,
+        Err(_) => false,
+        Ok(_) => false,
+    }
 }
 
 /// Prints the journal, if it is asked for, and the report, and answers whether all pieces are had.

@@ -150,7 +150,7 @@ impl Desk {
         self.check(alloc, worker, piece)
     }
 
-    /// Settles each full piece that isn't had, the least first. Without memory the pieces before are settled, and the rest is as it was.
+    /// Checks all pieces that wait for it, in rising order. Where memory runs out those up to there are settled, and nothing else is done.
     #[tactic(auto, using(crate::proofs::Finishing::finishing_none, crate::proofs::Finishing::finishing_more, crate::proofs::Finishing::finishing_all))]
     pub fn finish(&mut self, alloc: Global, worker: u32) -> Result<(), AllocError>
         requires { worker < self.old.setting.workers }

@@ -185,7 +185,7 @@ fn play_out<R: Source, W: Sink>(
 /// Sessions with recorded peers at one desk, in one thread. Worker `i` speaks for stream `i`, with the words of the generator `i` of the
 /// seed. In rounds each session that hasn't ended takes a turn, in the order of the streams; one more worker makes the last checks.
 ///
-/// All memory for the sessions is taken before the first turn: after want of it nothing was read or written.
+/// The memory that this takes itself is taken before the first turn: after want of it nothing was read or written.
 pub fn serial<R: Source, W: Sink>(
     alloc: Global,
     torrent: Arc<Torrent>,

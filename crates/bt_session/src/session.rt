@@ -115,8 +115,8 @@ impl Session {
         }
     }
 
-    /// The next turn: first the handshakes, then a message each, and at the end of the peer's stream the departure. After an `End` or a
-    /// fault each turn answers the same, and reads, writes and calls nothing.
+    /// The next turn: first the handshakes, then a message each, and at the end of the peer's stream the departure. Once the session has
+    /// ended, well or not, a turn gives that answer again and touches neither devices nor place.
     pub fn turn<R: Source, W: Sink, P: Place>(
         &mut self,
         alloc: Global,

@@ -12,7 +12,7 @@ pub fn one_reading(limit: u32)
     ensures { OneReading limit }
 {}
 
-/// However the stream is cut, and whenever messages are taken, the bytes fed are those of the messages given, then those held.
+/// In whatever portions bytes are fed and messages fetched, the messages' bytes and behind them the unread ones are all that was fed.
 pub fn fed_is_given_then_held(limit: u32)
     ensures { FedIsGivenThenHeld limit }
 {}

@@ -85,8 +85,14 @@ fn serial<R: Runtime + AllocGlobal, E: Write>(
         seed: arguments.get_one::<u64>("seed").unwrap_or(0),
         journal: arguments.get_flag("journal"),
     };
+    let names = arguments.get_strs("STREAM").unwrap_or(&[]);
+    if names.is_empty() || names.len() > MOST_STREAMS {
+        rt.eprintln("error: a run takes 1 to 64 streams")?;
+        return Ok(WRONG_ARGUMENTS);
+    }
     let meta = fs::read(rt, meta)?;
-    let mut streams = recorded(rt, arguments)?;
+    let mut streams = recorded(rt, names)?;
+    // There is one for each name.
     if streams.is_empty() || streams.len() > MOST_STREAMS {
         return Ok(WRONG_ARGUMENTS);
     }
@@ -101,10 +107,10 @@ fn serial<R: Runtime + AllocGlobal, E: Write>(
 /// The streams that are named, each opened. What is said to them is dropped.
 fn recorded<R: Runtime + AllocGlobal>(
     rt: &R,
-    arguments: &ArgMatches<'_>,
+    names: &[&str],
 ) -> Result<Vec<Stream<FromRead<R::File>, ToWrite<io::Sink>>>, Fault> {
     let mut streams = Vec::new(rt.alloc());
-    for name in arguments.get_strs("STREAM").unwrap_or(&[]) {
+    for name in names {
         streams.push(Stream {
             reader: FromRead::new(fs::open(rt, *name)?),
             writer: ToWrite::new(io::sink()),

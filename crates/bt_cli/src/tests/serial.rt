@@ -5,7 +5,7 @@ use bt_meta::{FromRead, ToWrite};
 use bt_picker::{ContentFault, Desk};
 use bt_session::Stream;
 use std::alloc::{AllocError, Global};
-use std::io::Cursor;
+use std::io::{BufWriter, Cursor};
 use std::test::*;
 
 /// A file of the three bytes `abc`, in one piece.
@@ -151,5 +151,96 @@ fn a_full_output(rt: HostRuntime) -> Result<(), Fail> {
     assert_eq!(rt; status, 4);
     assert_eq!(rt; err.as_slice(), b"file fault\n".as_slice());
     assert!(rt; desk.is_some());
+    Ok(())
+}
+
+/// What is kept back until the end reaches the output, or the command has failed.
+#[test]
+fn a_full_output_behind_a_buffer(rt: HostRuntime) -> Result<(), Fail> {
+    let sent = stream(rt.alloc(), INFOHASH, FRAMES)?;
+    let mut streams = [recorded(rt.alloc(), &sent)];
+    let mut room = [0; 20];
+    let mut out = BufWriter::new(rt.alloc(), room.as_mut_slice())?;
+    let mut err = Vec::new(rt.alloc());
+    let options = Options {
+        seed: 0,
+        journal: false,
+    };
+    let (status, _) = run_serial(rt.alloc(), FILE, &mut streams, &options, &mut out, &mut err);
+    assert_eq!(rt; status, 4);
+    Ok(())
+}
+
+#[test]
+fn content_in_a_file(rt: HostRuntime) -> Result<(), Fail> {
+    let sent = stream(rt.alloc(), INFOHASH, FRAMES)?;
+    let desk = run(rt.alloc(), FILE, &sent, false)
+        .desk
+        .expect(&rt, "there was a run");
+    let file = write_out(&desk, Vec::new(rt.alloc()))?;
+    assert_eq!(rt; file.as_slice(), b"abc".as_slice());
+    let mut room = [0; 2];
+    assert!(rt; write_out(&desk, room.as_mut_slice()).is_err());
+    Ok(())
+}
+
+/// The greater status stands, and its fault is told once.
+#[test]
+fn statuses_once_the_content_was_written(rt: HostRuntime) -> Result<(), Fail> {
+    let rows: [(u8, Result<(), Fault>, u8, &[u8]); 6] = [
+        (0, Ok(()), 0, b""),
+        (0, Err(Fault::File), 4, b"file fault\n"),
+        (0, Err(Fault::Memory), 5, b"memory\n"),
+        (4, Err(Fault::File), 4, b""),
+        (4, Err(Fault::Memory), 5, b"memory\n"),
+        (5, Err(Fault::File), 5, b""),
+    ];
+    for (status, written, wanted, told) in rows {
+        let mut err = Vec::new(rt.alloc());
+        assert_eq!(rt; after_run(status, written, &mut err), wanted);
+        assert_eq!(rt; err.as_slice(), told);
+    }
+    Ok(())
+}
+
+/// Pieces `abc`, `abc` and `a`.
+const THREE_PIECES: &[u8] =
+    b"d4:infod6:lengthi7e4:name1:s12:piece lengthi3e6:pieces60:\xa9\x99\x3e\x36\x47\x06\x81\x6a\xba\x3e\x25\x71\x78\x50\xc2\x6c\x9c\xd0\xd8\x9d\xa9\x99\x3e\x36\x47\x06\x81\x6a\xba\x3e\x25\x71\x78\x50\xc2\x6c\x9c\xd0\xd8\x9d\x86\xf7\xe4\x37\xfa\xa5\xa7\xfc\xe1\x5d\x1d\xdc\xb9\xea\xea\xea\x37\x76\x67\xb8ee";
+
+/// The SHA-1 of its info value, by another program.
+const INFOHASH_OF_THREE: &[u8; 20] =
+    b"\x8c\x98\x3b\xc3\xdc\x1b\xcd\xae\x5f\x59\xaa\x68\x33\xea\xa3\x0c\xfd\xc7\x25\xfa";
+
+/// The first piece is chosen by the seed.
+#[test]
+fn seeds(rt: HostRuntime) -> Result<(), Fail> {
+    let frames = b"\0\0\0\x02\x05\xe0\0\0\0\x01\x01";
+    let sent = stream(rt.alloc(), INFOHASH_OF_THREE, frames)?;
+    let mut others = 0_u32;
+    let mut first = Vec::new(rt.alloc());
+    for seed in 0..8 {
+        let mut streams = [recorded(rt.alloc(), &sent)];
+        let mut out = Vec::new(rt.alloc());
+        let options = Options {
+            seed,
+            journal: true,
+        };
+        let mut err = Vec::new(rt.alloc());
+        let (status, _) = run_serial(
+            rt.alloc(),
+            THREE_PIECES,
+            &mut streams,
+            &options,
+            &mut out,
+            &mut err,
+        );
+        assert_eq!(rt; status, 1);
+        if seed == 0 {
+            first = out;
+        } else if out.as_slice() != first.as_slice() {
+            others = others.saturating_add(1);
+        }
+    }
+    assert!(rt; others > 0);
     Ok(())
 }
