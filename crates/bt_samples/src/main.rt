@@ -3,7 +3,7 @@
 
 mod counts;
 
-use anyhow::{Context, Result};
+use anyhow::{Context, Result, bail};
 use bt_cli::{Options, run_serial};
 use bt_meta::{FromRead, ToWrite};
 use bt_picker::Desk;
@@ -56,14 +56,14 @@ fn decode<R: Runtime + AllocGlobal>(rt: &R, name: &str, lens: &str) -> Result<()
 fn play<R: Runtime + AllocGlobal>(rt: &R, meta: &str, names: &[String]) -> Result<()> {
     let meta = fs::read(rt, meta)?;
     let mut streams = Vec::new(rt.alloc());
-    for name in names.iter().take(MOST_STREAMS) {
+    for name in names {
         streams.push(Stream {
             reader: FromRead::new(fs::open(rt, name.as_str())?),
             writer: ToWrite::new(io::sink()),
         })?;
     }
-    if streams.is_empty() {
-        return Ok(());
+    if streams.is_empty() || streams.len() > MOST_STREAMS {
+        bail!("a run takes 1 to 64 streams");
     }
     let out = &mut io::writer(rt);
     let (status, desk) = run_serial(
