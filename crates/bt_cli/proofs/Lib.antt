@@ -6,3 +6,4 @@ pub mod Results
 pub mod Settled
 pub mod Written
 pub mod Runs
+pub mod Taken

@@ -1,6 +1,7 @@
 -- Which bytes are a script, and at which line one that isn't is at fault.
-use Rattle.std.specs.Prelude.{◌≡◌, ◌≢◌, ◌⊎◌, ◌<◌, ◌+◌, ◌==◌, ℕ, List, [], length, slice_index_or, Option, Some, None, Result, Ok, Err}
+use Rattle.std.specs.Prelude.{◌≡◌, ◌≢◌, ◌⊎◌, ◌<◌, ◌+◌, ◌==◌, ℕ, List, [], length, take, slice_index_or, Option, Some, None, Result, Ok, Err}
 use Rattle.std.specs.List.{slice_split}
+use Rattle.std.specs.Io.KnownBytes.{Appends}
 use Rattle.bt_meta.specs.declared.fault.BitFault.{BitFault}
 use Rattle.bt_meta.specs.declared.fault.BitFault.TheVariants as bitfault
 use Rattle.bt_meta.specs.Layout.{piece_count}
@@ -12,6 +13,7 @@ use Rattle.bt_cli.specs.declared.script.fault.LineFault.TheVariants.{NotAllowed,
 use Rattle.bt_cli.specs.declared.script.setup.Setup.{Setup}
 use Rattle.bt_cli.specs.Lines.{Order, OrderLine, bits, line_in}
 use Rattle.bt_cli.specs.Setups.{setup_in}
+use Rattle.bt_cli.specs.Played.{IsPrintedOf}
 
 -- what became of a line, by whether it can be done. Memory may run out
 abbrev pub Judges : {X : Type 0} → Result X LineFault → Type 0 → Type 0
@@ -130,8 +132,33 @@ Explains input (faults.Metainfo fault) = ⊥
 Explains input faults.File = Unit {0}
 Explains input faults.Memory = Unit {0}
 
--- the exit status tells what the bytes are: 0 for a script, 2 for none; 4 where the output failed and 5 for want of memory say neither
-pub record IsScriptStatus (input : List ℕ) (status : ℕ) : Type 0 where
+-- so many lines were answered when the script came to this end
+abbrev pub EndsAfter : List ℕ → Result (Unit {0}) Fault → ℕ → Type 0
+EndsAfter input (Ok done) count = count ≡ length (lines_of input)
+EndsAfter input (Err (faults.Line number)) count = number ≡ count + 1
+EndsAfter input (Err fault) count = Unit {0}
+
+-- the text is what is printed of a script that came to this end: of its lines up to there
+pub record IsPrintedBy (input : List ℕ) (result : Result (Unit {0}) Fault) (text : List ℕ) : Type 0 where
+  pub count : ℕ
+  pub ends : EndsAfter input result count
+  pub is : IsPrintedOf (take count (lines_of input)) text
+
+-- the first lines of the script, so many of them, were answered, and what was printed is that
+pub record PrintsFront (input : List ℕ) (count : ℕ) (old new : Option (List ℕ)) : Type 0 where
+  pub text : List ℕ
+  pub is : IsPrintedOf (take count (lines_of input)) text
+  pub wrote : Appends old new text
+
+-- what was printed by the end of a script, or by the fault of one of its lines; of other faults nothing is said
+abbrev pub Prints : List ℕ → Result (Unit {0}) Fault → Option (List ℕ) → Option (List ℕ) → Type 0
+Prints input (Ok done) old new = PrintsFront input (length (lines_of input)) old new
+Prints input (Err (faults.Line number)) old new = (before : ℕ) × (number ≡ before + 1) × PrintsFront input before old new
+Prints input (Err fault) old new = Unit {0}
+
+-- The exit status tells what the bytes are: 0 for a script, and the replies of all its lines were printed; 2 for none, and those of the
+-- lines before the first at fault were printed; 4 where the output failed and 5 for want of memory say neither.
+pub record IsScriptStatus (input : List ℕ) (status : ℕ) (old new : Option (List ℕ)) : Type 0 where
   pub one_of : (status ≡ 0) ⊎ (status ≡ 2) ⊎ (status ≡ 4) ⊎ (status ≡ 5)
-  pub done : status ≡ 0 → IsScript input
-  pub fault : status ≡ 2 → (number : ℕ) × IsFaultAt input number
+  pub done : status ≡ 0 → IsScript input × PrintsFront input (length (lines_of input)) old new
+  pub fault : status ≡ 2 → (before : ℕ) × IsFaultAt input (before + 1) × PrintsFront input before old new

@@ -1,6 +1,6 @@
 //! How a command ends.
 
-ghost use Rattle.std.specs.Prelude.{◌≡◌, Some, MatchResult};
+ghost use Rattle.std.specs.Prelude.{◌≡◌, Some, MatchResult, OnOk};
 ghost use Rattle.bt_cli.specs.Statuses.{status_of, fault_text, of_metainfo};
 ghost use Rattle.bt_cli.specs.declared.fault.Fault.TheVariants.{Memory};
 
@@ -95,7 +95,8 @@ impl From<io::Error> for Fault {
 
 /// The exit status of a command. A fault is told on `err`; that this fails changes nothing.
 pub fn conclude<E: Write>(done: Result<(), Fault>, err: &mut E) -> u8
-    ensures { MatchResult done (λ _. result ≡ 0) (λ fault. result ≡ status_of fault) }
+    ensures status { MatchResult done (λ _. result ≡ 0) (λ fault. result ≡ status_of fault) }
+    ensures quiet { OnOk done (err.new ≡ err.old) }
 {
     match done {
         Ok(()) => 0,

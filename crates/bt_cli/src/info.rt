@@ -17,7 +17,9 @@ use std::io::Write;
 ///
 /// Answers the exit status: 0; 3 for bytes that are no metainfo file; 4 where `out` fails; 5 for want of memory.
 pub fn run_info<W: Write, E: Write>(alloc: Global, meta: &[u8], out: &mut W, err: &mut E) -> u8
-    ensures { IsInfoStatus (torrent_of_file meta.now) result }
+    ensures status { IsInfoStatus (torrent_of_file meta.now) result }
+    ensures printed { result ≡ 0 → PrintsInfo (torrent_of_file meta.now) (W.contents out.old) (W.contents out.new) }
+    ensures quiet { result ≡ 0 → err.new ≡ err.old }
 {
     conclude(print_info(alloc, meta, out), err)
 }

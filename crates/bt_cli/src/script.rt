@@ -1,9 +1,10 @@
 //! The command `script`.
 
-ghost use Rattle.std.specs.Prelude.{◌≡◌, ◌<◌, ◌+◌, ◌^◌, length, map, IfOk, IfErr, OnOk, None};
+ghost use Rattle.std.specs.Prelude.{◌≡◌, ◌<◌, ◌+◌, ◌^◌, [], length, map, IfOk, IfErr, OnOk, None};
+ghost use Rattle.std.specs.String.{string_bytes};
 ghost use Rattle.bt_cli.specs.Setups.{setup_in};
-ghost use Rattle.bt_cli.specs.Played.{AnswersLine};
-ghost use Rattle.bt_cli.specs.Scripts.{Blames, Explains, IsScript, IsScriptStatus, IsFirstLine, Opens, Passes, line_at, lines_of};
+ghost use Rattle.bt_cli.specs.Played.{AnswersLine, OpensDesk};
+ghost use Rattle.bt_cli.specs.Scripts.{Blames, Explains, IsPrintedBy, IsScript, IsScriptStatus, Prints, IsFirstLine, Opens, Passes, line_at, lines_of};
 
 mod fault;
 mod fields;
@@ -18,38 +19,45 @@ pub use line::{Command, Line};
 pub use player::Player;
 pub use setup::Setup;
 use std::alloc::{AllocError, Global};
-use std::io::{BufWriter, Write};
+use std::io::Write;
 
 /// Plays a script on a desk of its own, and prints a reply for each call, a line each; a fault goes to `err`.
 ///
 /// Answers the exit status: 0 for a script; 2 for bytes that are none, with the number of the first line at fault; 4 where `out` fails;
 /// 5 for want of memory. The replies to the lines before a fault are printed.
 pub fn script_to<W: Write, E: Write>(alloc: Global, input: &[u8], out: &mut W, err: &mut E) -> u8
-    ensures { IsScriptStatus input.now result }
+    ensures status { IsScriptStatus input.now result (W.contents out.old) (W.contents out.new) }
+    ensures quiet { result ≡ 0 → err.new ≡ err.old }
 {
     conclude(print_replies(alloc, input, out), err)
 }
 
 /// The same, and no fault is told.
 pub fn run_script<W: Write>(alloc: Global, input: &[u8], out: &mut W) -> u8
-    ensures { IsScriptStatus input.now result }
+    ensures { IsScriptStatus input.now result (W.contents out.old) (W.contents out.new) }
 {
     script_to(alloc, input, out, &mut std::io::sink())
 }
 
+/// Plays a script, and then prints the replies, those of the lines before a fault too.
 fn print_replies<W: Write>(alloc: Global, input: &[u8], out: &mut W) -> Result<(), Fault>
     ensures done { OnOk result (IsScript input.now) }
     ensures fault { IfErr result (Explains input.now) }
+    ensures prints { Prints input.now result (W.contents out.old) (W.contents out.new) }
 {
-    let mut out = BufWriter::new(alloc, out)?;
-    let played = play(alloc, input, &mut out);
+    let mut text = String::new(alloc);
+    let played = play(alloc, input, &mut text);
+    out.write_all(text.as_bytes())?;
     out.flush()?;
     played
 }
 
-fn play<O: Write>(alloc: Global, input: &[u8], out: &mut O) -> Result<(), Fault>
+/// Plays a script on a desk of its own, and gathers the replies, a line each.
+fn play(alloc: Global, input: &[u8], text: &mut String) -> Result<(), Fault>
+    requires { string_bytes text.old ≡ [] }
     ensures done { OnOk result (IsScript input.now) }
     ensures fault { IfErr result (Explains input.now) }
+    ensures replies { IsPrintedBy input.now result (string_bytes text.new) }
 {
     let lines = lines(alloc, input)?;
     let Some(first) = first_line(&lines) else {
@@ -57,7 +65,8 @@ fn play<O: Write>(alloc: Global, input: &[u8], out: &mut O) -> Result<(), Fault>
     };
     let mut player = open(alloc, line_at(&lines, first), first)?;
     for index in first + 1..lines.len() {
-        answer(alloc, &mut player, line_at(&lines, index), index, out)?;
+        let reply = answer(alloc, &mut player, line_at(&lines, index), index)?;
+        text.push_str(&reply)?;
     }
     Ok(())
 }
@@ -92,6 +101,7 @@ fn line_at<'a>(lines: &[&'a [u8]], index: usize) -> &'a [u8]
 fn open(alloc: Global, text: &[u8], index: usize) -> Result<Player, Fault>
     requires { index + 1 < 2 ^ 64 }
     ensures ok { IfOk result (λ player. Opens text.now player.workers player.pieces) }
+    ensures desk { IfOk result (λ player. OpensDesk text.now player.desk) }
     ensures err { IfErr result (λ fault. Blames fault (index + 1) (setup_in text.now ≡ None)) }
 {
     match Setup::parse(alloc, text) {
@@ -100,31 +110,23 @@ fn open(alloc: Global, text: &[u8], index: usize) -> Result<Player, Fault>
     }
 }
 
-/// Makes the call that line `index` says, and prints the reply; an empty line says nothing.
-fn answer<O: Write>(
-    alloc: Global,
-    player: &mut Player,
-    text: &[u8],
-    index: usize,
-    out: &mut O,
-) -> Result<(), Fault>
+/// Makes the call that line `index` says, and tells the reply, a line; an empty line says nothing.
+fn answer(alloc: Global, player: &mut Player, text: &[u8], index: usize) -> Result<String, Fault>
     requires { index + 1 < 2 ^ 64 }
     ensures ok { OnOk result (Passes player.old.workers player.old.pieces text.now) }
     ensures err { IfErr result (λ fault.
         Blames fault (index + 1) (¬ (Passes player.old.workers player.old.pieces text.now))) }
-    ensures prints { OnOk result (AnswersLine player.old.desk player.new.desk text.now
-        (O.contents out.old) (O.contents out.new)) }
+    ensures answers { IfOk result (λ reply. AnswersLine player.old.desk player.new.desk text.now (string_bytes reply)) }
     ensures workers { player.new.workers ≡ player.old.workers }
     ensures pieces { player.new.pieces ≡ player.old.pieces }
 {
     if text.is_empty() {
-        return Ok(());
+        return Ok(String::new(alloc));
     }
     match player.play(alloc, text) {
         Ok(reply) => {
             let said = Said(reply);
-            writeln!(out, "{said}")?;
-            Ok(())
+            Ok(format!(in alloc; "{said}\n")?)
         }
         Err(fault) => Err(fault.at(index)),
     }

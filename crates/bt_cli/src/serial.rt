@@ -56,6 +56,7 @@ pub fn run_serial<R: Source, W: Sink, O: Write, E: Write>(
     ensures ran { IfSome result.1 (λ desk. (t : Metainfo) → torrent_of_file meta.now ≡ Ok t →
         Ran (stream_record R.left R.ended R.failed R.asked W.written W.failed) t streams.old desk streams.new
         result.0 options.now.journal (O.contents out.old) (O.contents out.new)) }
+    ensures quiet { (result.0 ≡ 0) ⊎ (result.0 ≡ 1) → err.new ≡ err.old }
 {
     let workers = streams.len() as u32 + 1;
     match play(alloc, meta, streams, options.seed) {

@@ -1,6 +1,6 @@
 //! A desk that is played by lines of a script.
 
-ghost use Rattle.std.specs.Prelude.{◌≡◌, ◌<◌, ◌≤◌, IfOk, IfErr};
+ghost use Rattle.std.specs.Prelude.{◌≡◌, ◌<◌, ◌≤◌, [], IfOk, IfErr};
 ghost use Rattle.bt_meta.specs.Layout.{piece_count};
 ghost use Rattle.bt_cli.specs.Scripts.{CanBeDone, IsOfTorrent, Judges};
 ghost use Rattle.bt_cli.specs.Lines.{seen_command};
@@ -24,6 +24,7 @@ pub struct Player {
 
 impl Player {
     ghost use Rattle.bt_history.specs.Entries.{event};
+    ghost use Rattle.bt_history.specs.Setting.{usual};
     ghost use Rattle.bt_picker.specs.Positions.{Gains};
     ghost use Rattle.bt_picker.specs.Checks.{SettlesNow};
     ghost use Rattle.bt_cli.specs.Played.{PlaysOrder, PlaysLine};
@@ -32,6 +33,8 @@ impl Player {
         requires { (1 ≤ setup.workers) × (setup.workers ≤ 1024) }
         ensures workers { IfOk result (λ player. player.workers ≡ setup.workers) }
         ensures pieces { IfOk result (λ player. player.pieces ≡ piece_count setup.torrent.layout) }
+        ensures setting { IfOk result (λ player. player.desk.setting ≡ usual setup.torrent.layout setup.workers) }
+        ensures history { IfOk result (λ player. player.desk.history ≡ []) }
     {
         let Setup { torrent, workers } = setup;
         let pieces = torrent.piece_count();

@@ -23,11 +23,11 @@ returns-after-tell-clause-ran g c = λ t is.
         | in-Ok-true w ↦ spared_told gave c.tell.result w.in-Ok-true.field-0 c.tell.ensures.spared w.in-Ok-true.is
         | in-Ok-false w ↦ spared_told gave c.tell.result w.in-Ok-false.field-0 c.tell.ensures.spared w.in-Ok-false.is
         | in-Err-tell w ↦ spared_ended gave c.tell.result w.in-Err-tell.fault c.match-tell.status c.tell.ensures.spared w.in-Err-tell.is
-            (w.status-is ∙ w.conclude-status.ensures) apart
+            (w.status-is ∙ w.conclude-status.ensures.status) apart
       ];
       told = λ status. elim c.match-tell.branch [
         | in-Ok-true w ↦ w.in-Ok-true.ensures.told
         | in-Ok-false w ↦ w.in-Ok-false.ensures.told
-        | in-Err-tell w ↦ absurd (fault_status w.in-Err-tell.fault c.match-tell.status w.in-Err-tell.ensures.err (w.status-is ∙ w.conclude-status.ensures) status)
+        | in-Err-tell w ↦ absurd (fault_status w.in-Err-tell.fault c.match-tell.status w.in-Err-tell.ensures.err (w.status-is ∙ w.conclude-status.ensures.status) status)
       ];
     }
