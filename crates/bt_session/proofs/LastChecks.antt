@@ -8,7 +8,7 @@ use Rattle.bt_history.specs.declared.event.Event.{Event as Entry}
 use Rattle.bt_history.specs.History.{History}
 use Rattle.bt_history.specs.Pieces.{had}
 use Rattle.bt_history.specs.Setting.{Setting}
-use Rattle.bt_picker.specs.Checks.{FinishedBelow, FinishesOne, settling, waits}
+use Rattle.bt_picker.specs.Checks.{FinishedBelow, FinishesOne, GivesUp, settling, waits}
 use Rattle.bt_picker.specs.Positions.{DeskState, Gains as Enters}
 use Rattle.bt_session.specs.declared.fault.End.{End}
 use Rattle.bt_session.specs.declared.fault.SessionFault.{SessionFault}
@@ -64,8 +64,8 @@ finished_leaves first worker (suc count) new finished =
 
 by_result : {E : Type 0} (result : Result Unit E) (worker : ℕ) (before desk : DeskState) → calls_in before.history worker ≡ [] →
     OnOk result (FinishedBelow before worker (piece_count before.setting.torrent) desk) →
-    OnErr result ((n : ℕ) × FinishedBelow before worker n desk) → Finishes worker (is_err result) desk
-by_result (Ok unit) worker before desk idle done broken =
+    OnErr result (GivesUp before worker desk) → Finishes worker (is_err result) desk
+by_result (Ok unit) worker before desk idle done given_up =
     let left = finished_leaves before worker (piece_count before.setting.torrent) desk done in
     record {
       before = before;
@@ -73,23 +73,31 @@ by_result (Ok unit) worker before desk idle done broken =
       count = piece_count before.setting.torrent;
       finished = done;
       all = λ off. sym (ap (λ (setting : Setting). piece_count setting.torrent) left.setting);
+      still = λ on. absurd cc;
     }
-by_result (Err e) worker before desk idle done broken =
-    record { before = before; idle = idle; count = broken.0; finished = broken.1; all = λ off. absurd cc }
+by_result (Err e) worker before desk idle done given_up =
+    record {
+      before = before;
+      idle = idle;
+      count = given_up.piece;
+      finished = given_up.below;
+      all = λ off. absurd cc;
+      still = λ on. given_up.still;
+    }
 
 -- the last checks, whether memory ran out or not
 pub checks_finish : {E : Type 0} (result : Result Unit E) (short : Bool) (worker : ℕ) (before desk : DeskState) → short ≡ is_err result →
     calls_in before.history worker ≡ [] → OnOk result (FinishedBelow before worker (piece_count before.setting.torrent) desk) →
-    OnErr result ((n : ℕ) × FinishedBelow before worker n desk) → Finishes worker short desk
-checks_finish result short worker before desk is idle done broken =
-    subst (λ (b : Bool). Finishes worker b desk) (sym is) (by_result result worker before desk idle done broken)
+    OnErr result (GivesUp before worker desk) → Finishes worker short desk
+checks_finish result short worker before desk is idle done given_up =
+    subst (λ (b : Bool). Finishes worker b desk) (sym is) (by_result result worker before desk idle done given_up)
 
 -- they leave the sessions alone
 pub checks_leave : {E : Type 0} (result : Result Unit E) (worker : ℕ) (before desk : DeskState) →
     OnOk result (FinishedBelow before worker (piece_count before.setting.torrent) desk) →
-    OnErr result ((n : ℕ) × FinishedBelow before worker n desk) → LeavesOthers worker before desk
-checks_leave (Ok unit) worker before desk done broken = finished_leaves before worker (piece_count before.setting.torrent) desk done
-checks_leave (Err e) worker before desk done broken = finished_leaves before worker broken.0 desk broken.1
+    OnErr result (GivesUp before worker desk) → LeavesOthers worker before desk
+checks_leave (Ok unit) worker before desk done given_up = finished_leaves before worker (piece_count before.setting.torrent) desk done
+checks_leave (Err e) worker before desk done given_up = finished_leaves before worker given_up.piece desk given_up.below
 
 -- a worker beyond those that had turns made no call
 pub still_idle : (count worker : ℕ) (first mid : DeskState) → count ≤ worker → first.history ≡ [] → LeavesRest count first mid → calls_in mid.history worker ≡ []

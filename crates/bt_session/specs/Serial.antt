@@ -3,7 +3,7 @@ use Rattle.std.specs.Prelude.{◌≡◌, ◌≤◌, ◌<◌, ℕ, Bool, true, fa
 use Rattle.bt_meta.specs.Layout.{Metainfo, piece_count}
 use Rattle.bt_history.specs.Pieces.{had}
 use Rattle.bt_history.specs.Setting.{Setting}
-use Rattle.bt_picker.specs.Checks.{FinishedBelow}
+use Rattle.bt_picker.specs.Checks.{FinishedBelow, waits}
 use Rattle.bt_picker.specs.Positions.{DeskState}
 use Rattle.bt_session.specs.declared.fault.End.{End}
 use Rattle.bt_session.specs.declared.fault.SessionFault.{SessionFault}
@@ -103,11 +103,12 @@ abbrev pub EachEnded : {X : Type 0} → (X → StreamRecord) → Metainfo → Li
 EachEnded {X} told_by torrent streams desk streams' ends = (i : ℕ) (stream : X) (end : Result End SessionFault) → i < length streams →
     Ended (slice_index_or ends i end) torrent i (told_by (slice_index_or streams i stream)) desk (told_by (slice_index_or streams' i stream))
 
--- A worker made the last checks and no other call: each piece that waited for one was settled, the least first, or up to where memory ran
--- out.
+-- A worker made the last checks and no other call: each piece that waited for one was settled, the least first, or, where memory ran out,
+-- those below one that still waits.
 pub record Finishes (worker : ℕ) (short : Bool) (desk : DeskState) : Type 0 where
   pub before : DeskState
   pub idle : calls_in before.history worker ≡ []
   pub count : ℕ
   pub finished : FinishedBelow before worker count desk
   pub all : short ≡ false → count ≡ piece_count desk.setting.torrent
+  pub still : short ≡ true → waits desk.setting desk.history count ≡ true
