@@ -6,4 +6,5 @@ pub mod NextCases
 pub mod Allowed
 pub mod Arrivals
 pub mod LineLaws
+pub mod Listed
 pub mod HeldLaws

@@ -13,11 +13,11 @@ use Rattle.bt_history.specs.declared.event.Event.{Event}
 use Rattle.bt_history.specs.Counting.{count_below}
 use Rattle.bt_history.specs.Setting.{Setting, some_block, some_block_of, is_block, count_blocks}
 use Rattle.bt_history.specs.History.{History, own_call, same_place, stored, requested, requested_by, cancelled}
-use Rattle.bt_history.specs.Peers.{asked, asked_count, outstanding, due, due_count, dues, resets}
+use Rattle.bt_history.specs.Peers.{asked, asked_count, outstanding, has_place, AreApart, due, due_count, dues, resets}
 use Rattle.bt_history.specs.Legal.{IsLegal}
 use Rattle.bt_history.proofs.Below.{any_found, any_witness, count_at, count_same, count_none, sum_at, sum_same, sum_none, one_if}
 use Rattle.bt_history.proofs.SamePlace.{same_place_self, same_place_sym, same_but_len}
-use Rattle.bt_history.proofs.Lines.{any_append, has_place, asked_outstanding, due_dues}
+use Rattle.bt_history.proofs.Lines.{any_append, asked_outstanding, due_dues}
 use Rattle.bt_history.proofs.Allowed.{request_facts}
 
 -- ---- blocks of the torrent
@@ -61,11 +61,6 @@ some_found t test b is passes =
 unfoldable pub AreBlocks : Layout → List Block → Type 0
 AreBlocks t [] = Unit {0}
 AreBlocks t (b ∷ bs) = (is_block t b ≡ true) × AreBlocks t bs
-
--- no two blocks of the list begin at one place
-unfoldable pub AreApart : List Block → Type 0
-AreApart [] = Unit {0}
-AreApart (b ∷ bs) = (has_place b bs ≡ false) × AreApart bs
 
 blocks_filter : (t : Layout) (test : Block → Bool) (bs : List Block) → AreBlocks t bs → AreBlocks t (filter test bs)
 unfolding AreBlocks

@@ -10,7 +10,7 @@ use Rattle.bt_history.specs.declared.call.Reply.{Reply}
 use Rattle.bt_history.specs.declared.call.Reply.TheVariants.{Joined, Noted, Quiet, Cancel, Request, Choked, PipeFull, Idle, NothingLeft, Stored, Completed, Dropped, Had, Failed, Refused}
 use Rattle.bt_history.specs.declared.event.Event.{Event}
 use Rattle.bt_history.specs.History.{History, own_call, same_place, stored, stores, requested, cancelled, cancelled_by, bytes_for}
-use Rattle.bt_history.specs.Peers.{asked, asks, outstanding, due, dues, resets}
+use Rattle.bt_history.specs.Peers.{asked, asks, outstanding, has_place, due, dues, resets}
 use Rattle.bt_history.proofs.SamePlace.{stored_at, same_but_len}
 
 pub any_append : {A : Type 0} (test : A → Bool) (xs ys : List A) → list_any test (xs ++ ys) ≡ (list_any test xs || list_any test ys)
@@ -20,10 +20,6 @@ any_append test (x ∷ xs) ys = ap (λ (b : Bool). test x || b) (any_append test
 any_either : (resetting : Bool) (test : Block → Bool) (xs : List Block) → list_any test (if resetting then [] else xs) ≡ (not resetting && list_any test xs)
 any_either true test xs = refl
 any_either false test xs = refl
-
--- a block of the list begins where b does
-abbrev pub has_place : Block → List Block → Bool
-has_place b = list_any (λ a. same_place a b)
 
 -- the blocks asked of a peer are those in its line
 pub asked_outstanding : (h : History) (q : ℕ) (b : Block) → asked h q b ≡ has_place b (outstanding h q)

@@ -1,12 +1,13 @@
 -- What a history says of a peer. A peer is named by the worker q that speaks for it.
-use Rattle.std.specs.Prelude.{ℕ, ◌==◌, Bool, true, false, not, ◌&&◌, ◌||◌, List, [], ◌∷◌, ◌++◌, Option, Some, is_some, is_none, slice_index_or, if◌then◌else◌}
+use Rattle.std.specs.Prelude.{◌≡◌, ℕ, ◌==◌, Bool, true, false, not, ◌&&◌, ◌||◌, List, [], ◌∷◌, ◌++◌, All, length, if◌then◌else◌}
+use Rattle.std.specs.Prelude.{Option, Some, is_some, is_none, slice_index_or}
 use Rattle.std.specs.List.{filter, list_any}
 use Rattle.bt_meta.specs.declared.block.Block.{Block}
 use Rattle.bt_history.specs.declared.event.Action.{Action}
 use Rattle.bt_history.specs.declared.event.Action.TheVariants.{Join, Bits, Have, Choke, Unchoke, Arrived, Leave}
 use Rattle.bt_history.specs.declared.event.Event.{Event}
 use Rattle.bt_history.specs.History.{History, own_call, same_place, stored, requested, cancelled}
-use Rattle.bt_history.specs.Setting.{Setting, count_blocks}
+use Rattle.bt_history.specs.Setting.{Setting, count_blocks, is_block}
 
 abbrev pub joined_after : Option Action → Bool → Bool
 joined_after (Some Join) before = true
@@ -87,6 +88,26 @@ outstanding [] q = []
 outstanding (e ∷ h) q =
     if resets (own_call q e) then []
     else filter (λ b. is_none (stored e b)) (outstanding h q) ++ requested q e
+
+-- a block of the list begins where b does
+abbrev pub has_place : Block → List Block → Bool
+has_place b = list_any (λ a. same_place a b)
+
+-- no two blocks of the list begin at one place
+unfoldable pub AreApart : List Block → Type 0
+AreApart [] = Unit {0}
+AreApart (b ∷ bs) = (has_place b bs ≡ false) × AreApart bs
+
+-- the line of outstanding blocks of q lists exactly the blocks that are asked of it
+pub record ListsAsked (s : Setting) (h : History) (q : ℕ) : Type 0 where
+  -- each listed block is one of the torrent, and is asked
+  pub listed : All (λ b. (is_block s.torrent b ≡ true) × (asked h q b ≡ true)) (outstanding h q)
+  -- a block is asked exactly where one is listed that begins at its place
+  pub places : (b : Block) → asked h q b ≡ has_place b (outstanding h q)
+  -- none is listed twice
+  pub apart : AreApart (outstanding h q)
+  -- as many are listed as are asked
+  pub count : length (outstanding h q) ≡ asked_count s h q
 
 -- a cancel of block b is due at q: it was stored from another peer while it was asked of q, and was not cancelled or freed since
 unfoldable pub due : History → ℕ → Block → Bool

@@ -5,7 +5,7 @@ ghost use Rattle.sha1.specs.Sha1.{sha1};
 ghost use Rattle.bt_meta.specs.Layout.{hash_of};
 ghost use Rattle.bt_history.specs.Setting.{usual};
 ghost use Rattle.bt_history.specs.Entries.{history_of};
-ghost use Rattle.bt_history.specs.Peers.{asked, asked_count, due_count};
+ghost use Rattle.bt_history.specs.Peers.{asked, asked_count, due_count, ListsAsked};
 ghost use Rattle.bt_history.specs.Pieces.{held, full, content, had, was_endgame};
 ghost use Rattle.bt_history.specs.Legal.{IsLegal};
 
@@ -30,6 +30,12 @@ pub fn asked_and_due_are_few(torrent: &Torrent, workers: u32, journal: &[Entry],
     requires { IsLegal (usual torrent.now.layout workers) (history_of journal.now) }
     ensures { asked_count (usual torrent.now.layout workers) (history_of journal.now) worker
         + due_count (usual torrent.now.layout workers) (history_of journal.now) worker ≤ 5 }
+{}
+
+/// The blocks outstanding at a peer are exactly those asked of it, each listed once.
+pub fn outstanding_are_the_asked(torrent: &Torrent, workers: u32, journal: &[Entry], worker: u32)
+    requires { IsLegal (usual torrent.now.layout workers) (history_of journal.now) }
+    ensures { ListsAsked (usual torrent.now.layout workers) (history_of journal.now) worker }
 {}
 
 /// A piece that is had is full, and its joined bytes have the hash that the metainfo gives.
