@@ -24,42 +24,42 @@ standing-same desk seat seat' stream stream' same same' =
     subst (λ (s : Seat). standing desk seat stream ≡ standing desk s stream') same (ap (λ (s : StreamRecord). standing desk seat s) same')
 
 -- the stream whose turn it was, or another
-each_at : {X : Type 0} (told_by : X → StreamRecord) (desk new : DeskState) (seats : List Seat) (streams : List X) (i : ℕ) (seat seat' : Seat) (stream stream' : X) →
+each_at : {X : Type 0} (record_of : X → StreamRecord) (desk new : DeskState) (seats : List Seat) (streams : List X) (i : ℕ) (seat seat' : Seat) (stream stream' : X) →
     i < length seats → i < length streams →
-    Keeps i (standing desk (get_or seats i seat) (told_by (get_or streams i stream))) (standing new seat' (told_by stream')) → LeavesOthers i desk new →
+    Keeps i (standing desk (get_or seats i seat) (record_of (get_or streams i stream))) (standing new seat' (record_of stream')) → LeavesOthers i desk new →
     (same : Bool) (j : ℕ) (s : Seat) (x : X) → (j == i) ≡ same →
-    Keeps j (standing desk (get_or seats j s) (told_by (get_or streams j x))) (standing new (get_or (set seats i seat') j s) (told_by (get_or (set streams i stream') j x)))
-each_at told_by desk new seats streams i seat seat' stream stream' within within' keeps others true j s x test =
+    Keeps j (standing desk (get_or seats j s) (record_of (get_or streams j x))) (standing new (get_or (set seats i seat') j s) (record_of (get_or (set streams i stream') j x)))
+each_at record_of desk new seats streams i seat seat' stream stream' within within' keeps others true j s x test =
     let here : j ≡ i = grind (arith, nat_tests) in
     let was = get_or_default seats i s seat within in
     let was' = get_or_default streams i x stream within' in
     let now = get_or-set_at seats i i seat' s refl within in
     let now' = get_or-set_at streams i i stream' x refl within' in
-    subst (λ (k : ℕ). Keeps k (standing desk (get_or seats k s) (told_by (get_or streams k x))) (standing new (get_or (set seats i seat') k s) (told_by (get_or (set streams i stream') k x))))
+    subst (λ (k : ℕ). Keeps k (standing desk (get_or seats k s) (record_of (get_or streams k x))) (standing new (get_or (set seats i seat') k s) (record_of (get_or (set streams i stream') k x))))
     (sym here)
-    (Keeps-same i _ _ _ _ (standing-same desk _ _ _ _ was (ap told_by was')) (standing-same new _ _ _ _ now (ap told_by now')) keeps)
-each_at told_by desk new seats streams i seat seat' stream stream' within within' keeps others false j s x test =
+    (Keeps-same i _ _ _ _ (standing-same desk _ _ _ _ was (ap record_of was')) (standing-same new _ _ _ _ now (ap record_of now')) keeps)
+each_at record_of desk new seats streams i seat seat' stream stream' within within' keeps others false j s x test =
     let apart : j ≢ i = grind (arith, nat_tests) in
     let kept = get_or-set_other seats i j seat' s apart in
     let kept' = get_or-set_other streams i j stream' x apart in
     let old = get_or seats j s in
-    Keeps-same j _ _ _ _ refl (standing-same new _ _ _ _ kept (ap told_by kept'))
-    (others_stand i j desk new old.session old.told (told_by (get_or streams j x)) others apart)
+    Keeps-same j _ _ _ _ refl (standing-same new _ _ _ _ kept (ap record_of kept'))
+    (others_stand i j desk new old.session old.told (record_of (get_or streams j x)) others apart)
 
 -- after one stream's turn
-pub each_turn : {X : Type 0} (told_by : X → StreamRecord) (desk new : DeskState) (seats : List Seat) (streams : List X) (i : ℕ) (seat seat' : Seat) (stream stream' : X) →
+pub each_turn : {X : Type 0} (record_of : X → StreamRecord) (desk new : DeskState) (seats : List Seat) (streams : List X) (i : ℕ) (seat seat' : Seat) (stream stream' : X) →
     i < length seats → i < length streams →
-    Keeps i (standing desk (get_or seats i seat) (told_by (get_or streams i stream))) (standing new seat' (told_by stream')) → LeavesOthers i desk new →
-    EachKeeps told_by desk seats streams new (set seats i seat') (set streams i stream')
-each_turn told_by desk new seats streams i seat seat' stream stream' within within' keeps others =
-    λ j. λ s. λ x. λ few. each_at told_by desk new seats streams i seat seat' stream stream' within within' keeps others (j == i) j s x refl
+    Keeps i (standing desk (get_or seats i seat) (record_of (get_or streams i stream))) (standing new seat' (record_of stream')) → LeavesOthers i desk new →
+    EachKeeps record_of desk seats streams new (set seats i seat') (set streams i stream')
+each_turn record_of desk new seats streams i seat seat' stream stream' within within' keeps others =
+    λ j. λ s. λ x. λ few. each_at record_of desk new seats streams i seat seat' stream stream' within within' keeps others (j == i) j s x refl
 
-pub EachKeeps-refl : {X : Type 0} (told_by : X → StreamRecord) (desk : DeskState) (seats : List Seat) (streams : List X) → EachKeeps told_by desk seats streams desk seats streams
-EachKeeps-refl told_by desk seats streams = λ j. λ s. λ x. λ few. Keeps-refl j _
+pub EachKeeps-refl : {X : Type 0} (record_of : X → StreamRecord) (desk : DeskState) (seats : List Seat) (streams : List X) → EachKeeps record_of desk seats streams desk seats streams
+EachKeeps-refl record_of desk seats streams = λ j. λ s. λ x. λ few. Keeps-refl j _
 
-pub EachKeeps-join : {X : Type 0} (told_by : X → StreamRecord) (a b c : DeskState) (seats seats' seats'' : List Seat) (streams streams' streams'' : List X) → length streams' ≡ length streams →
-    EachKeeps told_by a seats streams b seats' streams' → EachKeeps told_by b seats' streams' c seats'' streams'' → EachKeeps told_by a seats streams c seats'' streams''
-EachKeeps-join told_by a b c seats seats' seats'' streams streams' streams'' same first then =
+pub EachKeeps-join : {X : Type 0} (record_of : X → StreamRecord) (a b c : DeskState) (seats seats' seats'' : List Seat) (streams streams' streams'' : List X) → length streams' ≡ length streams →
+    EachKeeps record_of a seats streams b seats' streams' → EachKeeps record_of b seats' streams' c seats'' streams'' → EachKeeps record_of a seats streams c seats'' streams''
+EachKeeps-join record_of a b c seats seats' seats'' streams streams' streams'' same first then =
     λ j. λ s. λ x. λ few. Keeps-join j _ _ _ (first j s x few) (then j s x (omega arith))
 
 pub LeavesRest-join : (count : ℕ) (a b c : DeskState) → LeavesRest count a b → LeavesRest count b c → LeavesRest count a c

@@ -126,7 +126,7 @@ begun_in torrent worker setting desk seat stream layout same_setting empty new =
       stands = subst (λ (o : Option (Result End SessionFault)). StandsBy o torrent worker (before_all setting worker stream) seat.session source (λ short. around desk worker seat.told short stream)) (sym runs) running;
       devices = subst (λ (o : Option (Result End SessionFault)). DevicesBy o stream stream) (sym runs) (refl, refl);
       counted = λ none. none ∙ sym unasked;
-      few = subst (λ (n : ℕ). n ≤ most_reads) (sym unasked) (lit≤ tt);
+      most = subst (λ (n : ℕ). n ≤ most_reads) (sym unasked) (lit≤ tt);
     }
 
 -- how a stream's session ended that stands
@@ -143,7 +143,7 @@ ended_so torrent worker stream now outcome is stands =
       ends = ends.1;
       devices = subst (λ (o : Option (Result End SessionFault)). DevicesBy o stream now.stream) is stands.devices;
       counted = stands.counted;
-      few = stands.few;
+      most = stands.most;
     }
 
 first_of : {X : Type 0} (xs : List X) (i : ℕ) → i < length xs → X
@@ -161,20 +161,20 @@ end_at ends seats i end any told within =
     ∙ get_or-map Some ends i end (Some end) within'
 
 -- each stream's session ended so, once the last checks were made
-pub each_ended : {X : Type 0} (told_by : X → StreamRecord) (torrent : Metainfo) (first mid last : DeskState) (seats seats' : List Seat) (streams streams' : List X)
+pub each_ended : {X : Type 0} (record_of : X → StreamRecord) (torrent : Metainfo) (first mid last : DeskState) (seats seats' : List Seat) (streams streams' : List X)
     (ends : List (Result End SessionFault)) →
     first.setting.torrent ≡ torrent.layout → first.history ≡ [] → AreNew torrent seats → length seats ≡ length streams → length seats' ≡ length streams →
-    EachKeeps told_by first seats streams mid seats' streams' → LeavesRest (length streams) first mid → (worker : ℕ) → length streams ≤ worker → LeavesOthers worker mid last →
-    map Some ends ≡ map (λ seat. seat.session.outcome) seats' → EachEnded told_by torrent streams last streams' ends
-each_ended told_by torrent first mid last seats seats' streams streams' ends layout empty new same same' keeps rest worker above left told =
+    EachKeeps record_of first seats streams mid seats' streams' → LeavesRest (length streams) first mid → (worker : ℕ) → length streams ≤ worker → LeavesOthers worker mid last →
+    map Some ends ≡ map (λ seat. seat.session.outcome) seats' → EachEnded record_of torrent streams last streams' ends
+each_ended record_of torrent first mid last seats seats' streams streams' ends layout empty new same same' keeps rest worker above left told =
     λ i. λ stream. λ end. λ within.
     let within_seats : i < length seats = omega (arith, same) in
     let within_seats' : i < length seats' = omega (arith, same') in
     let any = first_of seats i within_seats in
     let apart : i ≢ worker = omega arith in
     let seat = get_or seats' i any in
-    let old = told_by (get_or streams i stream) in
-    let now = told_by (get_or streams' i stream) in
+    let old = record_of (get_or streams i stream) in
+    let now = record_of (get_or streams' i stream) in
     let kept = Keeps-join i (standing first (get_or seats i any) old) (standing mid seat now) (standing last seat now)
     (keeps i any stream within) (others_stand worker i mid last seat.session seat.told now left apart) in
     let setting : first.setting ≡ last.setting = sym (left.setting ∙ rest.setting) in

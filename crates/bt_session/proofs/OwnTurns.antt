@@ -34,8 +34,8 @@ pub record Turned (result : Result (Option End) SessionFault) (old new : AfterTu
   pub fails : old.session.outcome ≡ None → IfErr result (λ fault. FailsWith fault old.session (around_turn old) (source_of new.stream new.session.asked) new.session (around_turn new))
   pub counted : old.stream.asked ≡ old.session.asked → new.stream.asked ≡ new.session.asked
   pub most : new.session.asked ≤ most_reads
-  pub sound : IfOk result (λ o. (new.stream.failed ≡ old.stream.failed) × (new.stream.broken ≡ old.stream.broken))
-  pub failed : old.session.outcome ≡ None → IfErr result (λ fault. fault ≡ faults.WriteFault → new.stream.broken ≡ true)
+  pub sound : IfOk result (λ o. (new.stream.failed ≡ old.stream.failed) × (new.stream.writer_failed ≡ old.stream.writer_failed))
+  pub failed : old.session.outcome ≡ None → IfErr result (λ fault. fault ≡ faults.WriteFault → new.stream.writer_failed ≡ true)
 
 -- what a turn gained
 pub turn_gains : (result : Result (Option End) SessionFault) (old new : AfterTurn) → old.session.outcome ≡ None → Turned result old new →
@@ -97,12 +97,12 @@ broke_off fault torrent worker out first old new p q is is' runs stands fails =
     (sym fails.outcome) (q.short, running_fails fault torrent worker out old.session _ source' new.session _ running (λ none. to))
 
 sound_on : (first : StreamRecord) (old new : Standing) {torrent : Metainfo} {worker : ℕ} {out : Surroundings} → old.session.outcome ≡ None → Stands torrent worker out first old →
-    (new.stream.failed ≡ old.stream.failed) × (new.stream.broken ≡ old.stream.broken) → (new.stream.failed ≡ first.failed) × (new.stream.broken ≡ first.broken)
+    (new.stream.failed ≡ old.stream.failed) × (new.stream.writer_failed ≡ old.stream.writer_failed) → (new.stream.failed ≡ first.failed) × (new.stream.writer_failed ≡ first.writer_failed)
 sound_on first old new runs stands sound =
     let before : DevicesBy None first old.stream = subst (λ (o : Option (Result End SessionFault)). DevicesBy o first old.stream) runs stands.devices in
     (sound.0 ∙ before.0, sound.1 ∙ before.1)
 
-devices_of : (fault : SessionFault) (old new : StreamRecord) → (fault ≡ faults.WriteFault → new.broken ≡ true) → DevicesAfter (Err fault) old new
+devices_of : (fault : SessionFault) (old new : StreamRecord) → (fault ≡ faults.WriteFault → new.writer_failed ≡ true) → DevicesAfter (Err fault) old new
 devices_of faults.WriteFault old new failed = failed refl
 devices_of _ old new failed = tt
 
@@ -118,7 +118,7 @@ turn_stands (Ok None) worker old new p q is is' runs turned =
         stands = went_on torrent worker out first old new (own p) (own q) is is' runs stands go;
         devices = subst (λ (o : Option (Result End SessionFault)). DevicesBy o first new.stream) (sym go.unended) (sound_on first old new runs stands turned.sound);
         counted = λ none. turned.counted (stands.counted none);
-        few = turned.most;
+        most = turned.most;
       };
     }
 turn_stands (Ok (Some end)) worker old new p q is is' runs turned =
@@ -130,7 +130,7 @@ turn_stands (Ok (Some end)) worker old new p q is is' runs turned =
             let sound = sound_on first old new runs stands turned.sound in
             subst (λ (o : Option (Result End SessionFault)). DevicesBy o first new.stream) (sym ends.outcome) (ends.leave.hears.ended, sound.0, sound.1);
         counted = λ none. turned.counted (stands.counted none);
-        few = turned.most;
+        most = turned.most;
       };
     }
 turn_stands (Err fault) worker old new p q is is' runs turned =
@@ -140,7 +140,7 @@ turn_stands (Err fault) worker old new p q is is' runs turned =
         stands = broke_off fault torrent worker out first old new (own p) (own q) is is' runs stands fails;
         devices = subst (λ (o : Option (Result End SessionFault)). DevicesBy o first new.stream) (sym fails.outcome) (devices_of fault first new.stream (turned.failed runs));
         counted = λ none. turned.counted (stands.counted none);
-        few = turned.most;
+        most = turned.most;
       };
     }
 

@@ -147,7 +147,7 @@ others_stand worker other old new session told stream left apart =
         stands = stands_later session.outcome torrent other out session (source_of stream session.asked) _ _ later stands.stands;
         devices = stands.devices;
         counted = stands.counted;
-        few = stands.few;
+        most = stands.most;
       };
     }
 

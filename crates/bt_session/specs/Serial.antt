@@ -28,17 +28,17 @@ pub record StreamRecord : Type 0 where
   -- the bytes that were written
   pub written : Option (List ℕ)
   -- the writer has failed
-  pub broken : Bool
+  pub writer_failed : Bool
 
 abbrev pub stream_record : {R W : Type 0} → (R → Option (List ℕ)) → (R → Bool) → (R → Bool) → (R → ℕ) → (W → Option (List ℕ)) → (W → Bool) →
     Stream R W → StreamRecord
-stream_record left ended failed asked written broken stream = record {
+stream_record left ended failed asked written writer_failed stream = record {
   left = left stream.reader;
   ended = ended stream.reader;
   failed = failed stream.reader;
   asked = asked stream.reader;
   written = written stream.writer;
-  broken = broken stream.writer;
+  writer_failed = writer_failed stream.writer;
 }
 
 -- a piece of the torrent that is had
@@ -81,8 +81,8 @@ EndsAs (Err fault) torrent worker out source out' = IsCutShort fault torrent wor
 -- what a stream's devices say after such an end: after an end the reader has ended, and neither has failed meanwhile; after the fault of a
 -- write the writer has failed
 abbrev pub DevicesAfter : Result End SessionFault → StreamRecord → StreamRecord → Type 0
-DevicesAfter (Ok end) old new = (new.ended ≡ true) × (new.failed ≡ old.failed) × (new.broken ≡ old.broken)
-DevicesAfter (Err faults.WriteFault) old new = new.broken ≡ true
+DevicesAfter (Ok end) old new = (new.ended ≡ true) × (new.failed ≡ old.failed) × (new.writer_failed ≡ old.writer_failed)
+DevicesAfter (Err faults.WriteFault) old new = new.writer_failed ≡ true
 DevicesAfter (Err fault) old new = Unit {0}
 
 -- A stream's session ended so: from the empty desk, and the stream as it was handed in, to this desk, and the stream as it was given back.
@@ -96,12 +96,12 @@ pub record Ended (outcome : Result End SessionFault) (torrent : Metainfo) (worke
   pub ends : EndsAs outcome torrent worker (before_all desk.setting worker old) (source_of new asked) (around desk worker told short new)
   pub devices : DevicesAfter outcome old new
   pub counted : old.asked ≡ 0 → new.asked ≡ asked
-  pub few : asked ≤ most_reads
+  pub most : asked ≤ most_reads
 
 -- the sessions of the streams, as they were handed in and as they were given back, ended so, in order
 abbrev pub EachEnded : {X : Type 0} → (X → StreamRecord) → Metainfo → List X → DeskState → List X → List (Result End SessionFault) → Type 0
-EachEnded {X} told_by torrent streams desk streams' ends = (i : ℕ) (stream : X) (end : Result End SessionFault) → i < length streams →
-    Ended (slice_index_or ends i end) torrent i (told_by (slice_index_or streams i stream)) desk (told_by (slice_index_or streams' i stream))
+EachEnded {X} record_of torrent streams desk streams' ends = (i : ℕ) (stream : X) (end : Result End SessionFault) → i < length streams →
+    Ended (slice_index_or ends i end) torrent i (record_of (slice_index_or streams i stream)) desk (record_of (slice_index_or streams' i stream))
 
 -- A worker made the last checks and no other call: each piece that waited for one was settled, the least first, or, where memory ran out,
 -- those below one that still waits.

@@ -29,7 +29,7 @@ StandsBy (Some outcome) torrent worker out session source here =
 
 -- what the devices say of a session that runs, or that ended so
 abbrev pub DevicesBy : Option (Result End SessionFault) → StreamRecord → StreamRecord → Type 0
-DevicesBy None old new = (new.failed ≡ old.failed) × (new.broken ≡ old.broken)
+DevicesBy None old new = (new.failed ≡ old.failed) × (new.writer_failed ≡ old.writer_failed)
 DevicesBy (Some outcome) old new = DevicesAfter outcome old new
 
 -- a session that began in these surroundings, with that stream, stands so
@@ -38,7 +38,7 @@ pub record Stands (torrent : Metainfo) (worker : ℕ) (out : Surroundings) (firs
       (λ short. around now.desk worker now.told short now.stream)
   pub devices : DevicesBy now.session.outcome first now.stream
   pub counted : first.asked ≡ 0 → now.stream.asked ≡ now.session.asked
-  pub few : now.session.asked ≤ most_reads
+  pub most : now.session.asked ≤ most_reads
 
 -- a session that stood goes on standing
 pub record Keeps (worker : ℕ) (old new : Standing) : Type 0 where
@@ -60,9 +60,9 @@ left_of seat = left_after seat.session.outcome (to_hear seat.session)
 
 -- each stream's session goes on standing
 abbrev pub EachKeeps : {X : Type 0} → (X → StreamRecord) → DeskState → List Seat → List X → DeskState → List Seat → List X → Type 0
-EachKeeps {X} told_by desk seats streams desk' seats' streams' = (i : ℕ) (seat : Seat) (stream : X) → i < length streams →
-    Keeps i (standing desk (slice_index_or seats i seat) (told_by (slice_index_or streams i stream)))
-    (standing desk' (slice_index_or seats' i seat) (told_by (slice_index_or streams' i stream)))
+EachKeeps {X} record_of desk seats streams desk' seats' streams' = (i : ℕ) (seat : Seat) (stream : X) → i < length streams →
+    Keeps i (standing desk (slice_index_or seats i seat) (record_of (slice_index_or streams i stream)))
+    (standing desk' (slice_index_or seats' i seat) (record_of (slice_index_or streams' i stream)))
 
 -- turns of the first so many workers leave the others alone
 pub record LeavesRest (count : ℕ) (old new : DeskState) : Type 0 where

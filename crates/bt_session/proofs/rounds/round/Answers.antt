@@ -7,7 +7,7 @@ use Rattle.bt_session.proofs.rounds.round.Goals.{then-turn_of, else-turn_of}
 
 pub loop-i-preserved : goal.loop-i-preserved
 loop-i-preserved g c =
-    let told_by = stream_record g.R.Source.left g.R.Source.ended g.R.Source.failed g.R.Source.asked g.W.Sink.written g.W.Sink.failed in
+    let record_of = stream_record g.R.Source.left g.R.Source.ended g.R.Source.failed g.R.Source.asked g.W.Sink.written g.W.Sink.failed in
     let before = c.loop-i.invariant in
     let turn = c.turn_of.ensures in
     let progress : Progress c.loop-i.turns c.loop-i.i c.args.seats.now c.loop-i.seats =
@@ -24,7 +24,7 @@ loop-i-preserved g c =
     ] in
     let after = progress_on c.turn_of.result c.loop-i.turns c.if-turn_of.turns c.loop-i.i c.args.seats.now c.loop-i.seats c.turn_of.new.seats taken idle progress turn.falls turn.same turn.ended in
     record {
-      keeps = EachKeeps-join told_by c.args.desk.now c.loop-i.desk c.turn_of.new.desk c.args.seats.now c.loop-i.seats c.turn_of.new.seats c.args.streams.now c.loop-i.streams c.turn_of.new.streams
+      keeps = EachKeeps-join record_of c.args.desk.now c.loop-i.desk c.turn_of.new.desk c.args.seats.now c.loop-i.seats c.turn_of.new.seats c.args.streams.now c.loop-i.streams c.turn_of.new.streams
           c.loop-i.auto.streams before.keeps turn.keeps;
       rest = LeavesRest-join _ _ _ _ before.rest (subst (λ count. LeavesRest count c.loop-i.desk c.turn_of.new.desk) c.loop-i.auto.streams turn.rest);
       fit = turn.fit;
