@@ -1,5 +1,6 @@
 -- What a place at a desk gains by an entry of its worker, and by news.
-use Rattle.std.proofs.Common.{◌≡◌, ◌≢◌, ℕ, Bool, true, false, List, [], ◌∷◌, ◌++◌, length, refl, sym, ap, subst, ◌∙◌, inl, inr, ◌==◌, ◌<◌, eq-eqb, arith}
+use Rattle.std.proofs.Common.{◌≡◌, ◌≢◌, ℕ, Bool, true, false, List, [], ◌∷◌, ◌++◌, length, refl, sym, ap, subst, ◌∙◌, inl, inr, ◌==◌, ◌<◌, eq-eqb}
+use Rattle.std.proofs.Common.{arith}
 use Rattle.std.specs.Prelude.{if◌then◌else◌, ◌||◌, ◌&&◌, nat_lt, slice_index_or, slice_set}
 use Rattle.std.proofs.lemmas.List.{append-nil, map-append, get_or-set_other}
 use Rattle.std.proofs.lemmas.Grind.{get_or-set_at}
@@ -80,7 +81,8 @@ called lent old new worker action reply told short enters =
     let is : new ≡ record { setting = old.setting; history = e ∷ h } =
     ap (λ (setting : Setting). desk_of setting new.history) enters.setting ∙ ap (λ (history : History). desk_of old.setting history) enters.entered in
     let own : (e.worker == worker) ≡ true = eq-eqb worker worker refl in
-    let gained : Gains (desk_record lent old worker told short) (Called (call_mark action) reply ∷ []) (desk_record lent (record old { history = e ∷ h }) worker told short) =
+    let gained : Gains (desk_record lent old worker told short) (Called (call_mark action) reply ∷ [])
+    (desk_record lent (record old { history = e ∷ h }) worker told short) =
     record {
       up_to = record {
         lent = refl;
@@ -94,7 +96,8 @@ called lent old new worker action reply told short enters =
       };
       short = refl;
     } in
-    subst (λ (desk : DeskState). Gains (desk_record lent old worker told short) (Called (call_mark action) reply ∷ []) (desk_record lent desk worker told short)) (sym is) gained
+    subst (λ (desk : DeskState). Gains (desk_record lent old worker told short) (Called (call_mark action) reply ∷ [])
+    (desk_record lent desk worker told short)) (sym is) gained
 
 told_by : (same : Bool) (piece other : ℕ) (told : List Bool) → (other == piece) ≡ same → piece < length told →
     slice_index_or (slice_set told piece true) other false ≡ (if other == piece then true else slice_index_or told other false)
@@ -108,7 +111,8 @@ told_by false piece other told is within =
 -- what a check leaves, for a piece that waits for one or doesn't
 settled_if : (waits : Bool) (lent : List GName) (old new : DeskState) (worker piece : ℕ) (reply : Reply) (told : List Bool) (short : Bool) →
     SettlesIf waits old new worker piece reply →
-    (events : List Event) × (ChecksAtMost piece events × Gains (desk_record lent old worker told short) events (desk_record lent new worker told short))
+    (events : List Event) × (ChecksAtMost piece events
+    × Gains (desk_record lent old worker told short) events (desk_record lent new worker told short))
 settled_if true lent old new worker piece reply told short enters =
     let e = settling old.setting old.history worker piece reply in
     let fits : answers (marks.Settle piece) reply ≡ true = allowed_answers old.setting old.history e enters.allowed in
@@ -121,7 +125,8 @@ settled_if false lent old new worker piece reply told short unchanged =
 -- a piece was settled now, where it waited for that
 pub settled : (lent : List GName) (old new : DeskState) (worker piece : ℕ) (reply : Reply) (told : List Bool) (short : Bool) →
     SettlesNow old new worker piece reply →
-    (events : List Event) × (ChecksAtMost piece events × Gains (desk_record lent old worker told short) events (desk_record lent new worker told short))
+    (events : List Event) × (ChecksAtMost piece events
+    × Gains (desk_record lent old worker told short) events (desk_record lent new worker told short))
 settled lent old new worker piece reply told short settles =
     settled_if (waits old.setting old.history piece) lent old new worker piece reply told short settles
 

@@ -1,5 +1,6 @@
 -- Rounds of several streams' sessions.
-use Rattle.std.proofs.Common.{◌≡◌, ◌≢◌, ◌<◌, ◌+◌, ◌∙◌, ℕ, Bool, true, false, List, [], ◌∷◌, ◌++◌, length-append, length, map, Some, Result, get_or, set, sum_by, refl, sym, ap, subst, ◌==◌, arith}
+use Rattle.std.proofs.Common.{◌≡◌, ◌≢◌, ◌<◌, ◌+◌, ◌∙◌, ℕ, Bool, true, false, List, [], ◌∷◌, ◌++◌, length-append, length, map, Some, Result, get_or}
+use Rattle.std.proofs.Common.{set, sum_by, refl, sym, ap, subst, ◌==◌, arith}
 use Rattle.std.specs.List.{AllWithin, HoldsAt}
 use Rattle.std.proofs.lemmas.Bool.Decides.{nat_tests}
 use Rattle.std.proofs.lemmas.Grind.{get_or-set_at}
@@ -24,18 +25,22 @@ standing-same desk seat seat' stream stream' same same' =
     subst (λ (s : Seat). standing desk seat stream ≡ standing desk s stream') same (ap (λ (s : StreamRecord). standing desk seat s) same')
 
 -- the stream whose turn it was, or another
-each_at : {X : Type 0} (record_of : X → StreamRecord) (desk new : DeskState) (seats : List Seat) (streams : List X) (i : ℕ) (seat seat' : Seat) (stream stream' : X) →
+each_at : {X : Type 0} (record_of : X → StreamRecord) (desk new : DeskState) (seats : List Seat) (streams : List X) (i : ℕ) (seat seat' : Seat)
+    (stream stream' : X) →
     i < length seats → i < length streams →
-    Keeps i (standing desk (get_or seats i seat) (record_of (get_or streams i stream))) (standing new seat' (record_of stream')) → LeavesOthers i desk new →
+    Keeps i (standing desk (get_or seats i seat) (record_of (get_or streams i stream))) (standing new seat' (record_of stream')) →
+    LeavesOthers i desk new →
     (same : Bool) (j : ℕ) (s : Seat) (x : X) → (j == i) ≡ same →
-    Keeps j (standing desk (get_or seats j s) (record_of (get_or streams j x))) (standing new (get_or (set seats i seat') j s) (record_of (get_or (set streams i stream') j x)))
+    Keeps j (standing desk (get_or seats j s) (record_of (get_or streams j x)))
+    (standing new (get_or (set seats i seat') j s) (record_of (get_or (set streams i stream') j x)))
 each_at record_of desk new seats streams i seat seat' stream stream' within within' keeps others true j s x test =
     let here : j ≡ i = grind (arith, nat_tests) in
     let was = get_or_default seats i s seat within in
     let was' = get_or_default streams i x stream within' in
     let now = get_or-set_at seats i i seat' s refl within in
     let now' = get_or-set_at streams i i stream' x refl within' in
-    subst (λ (k : ℕ). Keeps k (standing desk (get_or seats k s) (record_of (get_or streams k x))) (standing new (get_or (set seats i seat') k s) (record_of (get_or (set streams i stream') k x))))
+    subst (λ (k : ℕ). Keeps k (standing desk (get_or seats k s) (record_of (get_or streams k x)))
+    (standing new (get_or (set seats i seat') k s) (record_of (get_or (set streams i stream') k x))))
     (sym here)
     (Keeps-same i _ _ _ _ (standing-same desk _ _ _ _ was (ap record_of was')) (standing-same new _ _ _ _ now (ap record_of now')) keeps)
 each_at record_of desk new seats streams i seat seat' stream stream' within within' keeps others false j s x test =
@@ -47,18 +52,23 @@ each_at record_of desk new seats streams i seat seat' stream stream' within with
     (others_stand i j desk new old.session old.told (record_of (get_or streams j x)) others apart)
 
 -- after one stream's turn
-pub each_turn : {X : Type 0} (record_of : X → StreamRecord) (desk new : DeskState) (seats : List Seat) (streams : List X) (i : ℕ) (seat seat' : Seat) (stream stream' : X) →
+pub each_turn : {X : Type 0} (record_of : X → StreamRecord) (desk new : DeskState) (seats : List Seat) (streams : List X) (i : ℕ) (seat seat' : Seat)
+    (stream stream' : X) →
     i < length seats → i < length streams →
-    Keeps i (standing desk (get_or seats i seat) (record_of (get_or streams i stream))) (standing new seat' (record_of stream')) → LeavesOthers i desk new →
+    Keeps i (standing desk (get_or seats i seat) (record_of (get_or streams i stream))) (standing new seat' (record_of stream')) →
+    LeavesOthers i desk new →
     EachKeeps record_of desk seats streams new (set seats i seat') (set streams i stream')
 each_turn record_of desk new seats streams i seat seat' stream stream' within within' keeps others =
     λ j. λ s. λ x. λ few. each_at record_of desk new seats streams i seat seat' stream stream' within within' keeps others (j == i) j s x refl
 
-pub EachKeeps-refl : {X : Type 0} (record_of : X → StreamRecord) (desk : DeskState) (seats : List Seat) (streams : List X) → EachKeeps record_of desk seats streams desk seats streams
+pub EachKeeps-refl : {X : Type 0} (record_of : X → StreamRecord) (desk : DeskState) (seats : List Seat) (streams : List X) →
+    EachKeeps record_of desk seats streams desk seats streams
 EachKeeps-refl record_of desk seats streams = λ j. λ s. λ x. λ few. Keeps-refl j _
 
-pub EachKeeps-join : {X : Type 0} (record_of : X → StreamRecord) (a b c : DeskState) (seats seats' seats'' : List Seat) (streams streams' streams'' : List X) → length streams' ≡ length streams →
-    EachKeeps record_of a seats streams b seats' streams' → EachKeeps record_of b seats' streams' c seats'' streams'' → EachKeeps record_of a seats streams c seats'' streams''
+pub EachKeeps-join : {X : Type 0} (record_of : X → StreamRecord) (a b c : DeskState) (seats seats' seats'' : List Seat)
+    (streams streams' streams'' : List X) → length streams' ≡ length streams →
+    EachKeeps record_of a seats streams b seats' streams' → EachKeeps record_of b seats' streams' c seats'' streams'' →
+    EachKeeps record_of a seats streams c seats'' streams''
 EachKeeps-join record_of a b c seats seats' seats'' streams streams' streams'' same first then =
     λ j. λ s. λ x. λ few. Keeps-join j _ _ _ (first j s x few) (then j s x (omega arith))
 
@@ -74,13 +84,15 @@ pub record Progress (turns : Bool) (i : ℕ) (first now : List Seat) : Type 0 wh
   pub same : turns ≡ false → now ≡ first
   pub ended : turns ≡ false → AllWithin HasEnded now 0 i
 
-not_more : (turns : Bool) {i : ℕ} (first now new : List Seat) → Progress turns i first now → sum_by left_of new < sum_by left_of now → sum_by left_of new < sum_by left_of first
+not_more : (turns : Bool) {i : ℕ} (first now new : List Seat) → Progress turns i first now → sum_by left_of new < sum_by left_of now →
+    sum_by left_of new < sum_by left_of first
 not_more true first now new progress falls = let before = progress.falls refl in omega arith
 not_more false first now new progress falls = subst (λ (seats : List Seat). sum_by left_of new < sum_by left_of seats) (progress.same refl) falls
 
 -- one stream more
 pub progress_on : (took turns turns' : Bool) (i : ℕ) (first now new : List Seat) → (took ≡ true → turns' ≡ true) → (took ≡ false → turns' ≡ turns) →
-    Progress turns i first now → (took ≡ true → sum_by left_of new < sum_by left_of now) → (took ≡ false → new ≡ now) → (took ≡ false → HoldsAt HasEnded new i) →
+    Progress turns i first now → (took ≡ true → sum_by left_of new < sum_by left_of now) → (took ≡ false → new ≡ now) →
+    (took ≡ false → HoldsAt HasEnded new i) →
     Progress turns' (i + 1) first new
 progress_on true turns turns' i first now new taken idle progress falls same ended =
     let is = taken refl in
@@ -99,7 +111,8 @@ progress_on false turns turns' i first now new taken idle progress falls same en
     }
 
 new_at : (torrent : Metainfo) (seats : List Seat) (seat : Seat) → AreNew torrent seats → IsNew torrent (length seats) seat →
-    (last : Bool) (i : ℕ) (any : Seat) → (i == length seats) ≡ last → i < length (seats ++ seat ∷ []) → IsNew torrent i (get_or (seats ++ seat ∷ []) i any)
+    (last : Bool) (i : ℕ) (any : Seat) → (i == length seats) ≡ last → i < length (seats ++ seat ∷ []) →
+    IsNew torrent i (get_or (seats ++ seat ∷ []) i any)
 new_at torrent seats seat each one true i any test within =
     let here : i ≡ length seats = grind (arith, nat_tests) in
     let is = get_or_push seats seat any i (sym here) in
@@ -117,7 +130,8 @@ AreNew-push torrent seats new seat worker count is each one =
     subst (AreNew torrent) (sym is) (λ i. λ any. λ within. new_at torrent seats seat each last (i == length seats) i any refl within)
 
 -- there is an end for each seat
-pub ends_count : (ends : List (Result End SessionFault)) (seats : List Seat) → map Some ends ≡ map (λ seat. seat.session.outcome) seats → length ends ≡ length seats
+pub ends_count : (ends : List (Result End SessionFault)) (seats : List Seat) → map Some ends ≡ map (λ seat. seat.session.outcome) seats →
+    length ends ≡ length seats
 ends_count ends seats told =
     let same : length (map Some ends) ≡ length (map (λ (seat : Seat). seat.session.outcome) seats) = ap length told in
     sym (length-map ends Some) ∙ same ∙ length-map seats (λ (seat : Seat). seat.session.outcome)

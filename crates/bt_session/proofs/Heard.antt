@@ -1,7 +1,8 @@
 -- Reading piece by piece.
 use Rattle.bt_wire.specs.declared.message.Message.{Message}
 use Rattle.bt_wire.specs.declared.message.Message.TheVariants as messages
-use Rattle.std.proofs.Common.{Bool, true, false, ◌≤◌, length, length-append, ◌≡◌, ℕ, ◌+◌, List, [], ◌++◌, Option, Some, None, refl, sym, ap, subst, ◌∙◌, append_assoc, arith}
+use Rattle.std.proofs.Common.{Bool, true, false, ◌≤◌, length, length-append, ◌≡◌, ℕ, ◌+◌, List, [], ◌++◌, Option, Some, None, refl, sym, ap, subst}
+use Rattle.std.proofs.Common.{◌∙◌, append_assoc, arith}
 use Rattle.std.proofs.lemmas.List.{append-nil}
 use Rattle.std.specs.Io.KnownBytes.{Consumes, Keeps}
 use Rattle.bt_wire.specs.Stream.{InboundState, Gives, Spells}
@@ -38,7 +39,8 @@ fed-more held xs ys = ap (λ (zs : List ℕ). record held { bytes = zs }) (appen
 pub BytesRead-start : (a : Option (List ℕ)) (held : InboundState) → BytesRead a a held held
 BytesRead-start a held = record { read = []; consumed = Consumes-none a; now = sym (fed-none held) }
 
-pub BytesRead-more : (a b c : Option (List ℕ)) (held now new : InboundState) (xs : List ℕ) → BytesRead a b held now → Consumes b c xs → new ≡ fed now xs → BytesRead a c held new
+pub BytesRead-more : (a b c : Option (List ℕ)) (held now new : InboundState) (xs : List ℕ) → BytesRead a b held now → Consumes b c xs →
+    new ≡ fed now xs → BytesRead a c held new
 BytesRead-more a b c held now new xs r more is =
     record {
       read = r.read ++ xs;
@@ -70,6 +72,7 @@ framed limit (messages.Hello h) text is = is.1.0
 framed limit _ text is = tt
 
 -- a message after the handshake is no handshake
-pub later : (old : InboundState) (left left' : Option (List ℕ)) (m : Message) (new : InboundState) → old.greeted ≡ true → Hears old left left' m new → IsLater m
+pub later : (old : InboundState) (left left' : Option (List ℕ)) (m : Message) (new : InboundState) → old.greeted ≡ true → Hears old left left' m new →
+    IsLater m
 later old left left' m new greeted hears =
     framed old.limit m hears.gives.text (subst (λ (b : Bool). Spells b old.limit m hears.gives.text) greeted hears.gives.spells)

@@ -1,5 +1,6 @@
 -- What the last checks of a run leave, and how its sessions ended.
-use Rattle.std.proofs.Common.{◌≡◌, ◌≢◌, ◌<◌, ◌≤◌, ℕ, zero, suc, Bool, true, false, List, [], ◌∷◌, Option, Some, None, Result, Ok, Err, length, map, get_or, replicate, lit≤, refl, sym, ap, subst, ◌==◌, ◌∙◌, arith, inl}
+use Rattle.std.proofs.Common.{◌≡◌, ◌≢◌, ◌<◌, ◌≤◌, ℕ, zero, suc, Bool, true, false, List, [], ◌∷◌, Option, Some, None, Result, Ok, Err, length, map}
+use Rattle.std.proofs.Common.{get_or, replicate, lit≤, refl, sym, ap, subst, ◌==◌, ◌∙◌, arith, inl}
 use Rattle.std.specs.Prelude.{nat_lt, is_err, OnOk, OnErr}
 use Rattle.std.proofs.lemmas.Bool.Decides.{nat_tests}
 use Rattle.std.proofs.lemmas.List.{get_or-map}
@@ -51,7 +52,8 @@ LeavesOthers-join worker a b c first then = record {
   had = λ piece. λ is. then.had piece (first.had piece is);
 }
 
-one_leaves : (waiting : Bool) (desk : DeskState) (worker piece : ℕ) (new : DeskState) → FinishesOne waiting desk worker piece new → LeavesOthers worker desk new
+one_leaves : (waiting : Bool) (desk : DeskState) (worker piece : ℕ) (new : DeskState) → FinishesOne waiting desk worker piece new →
+    LeavesOthers worker desk new
 one_leaves true desk worker piece new settles = entered_leaves desk new (settling desk.setting desk.history worker piece settles.0) settles.1
 one_leaves false desk worker piece new same = subst (LeavesOthers worker desk) (sym same) (LeavesOthers-refl worker desk)
 
@@ -100,7 +102,8 @@ checks_leave (Ok unit) worker before desk done given_up = finished_leaves before
 checks_leave (Err e) worker before desk done given_up = finished_leaves before worker given_up.piece desk given_up.below
 
 -- a worker beyond those that had turns made no call
-pub still_idle : (count worker : ℕ) (first mid : DeskState) → count ≤ worker → first.history ≡ [] → LeavesRest count first mid → calls_in mid.history worker ≡ []
+pub still_idle : (count worker : ℕ) (first mid : DeskState) → count ≤ worker → first.history ≡ [] → LeavesRest count first mid →
+    calls_in mid.history worker ≡ []
 still_idle count worker first mid above empty rest = rest.calls worker above ∙ ap (λ (h : History). calls_in h worker) empty
 
 -- what a stream's session began in
@@ -112,7 +115,8 @@ begun_in torrent worker setting desk seat stream layout same_setting empty new =
     let is_desk : first ≡ desk =
     sym (ap (λ (s : Setting). let d : DeskState = record { setting = s; history = desk.history } in d) same_setting
     ∙ ap (λ (h : History). let d : DeskState = record { setting = setting; history = h } in d) empty) in
-    let untold : replicate (piece_count setting.torrent) false ≡ seat.told = ap (λ (t : Layout). replicate (piece_count t) false) layout ∙ sym new.told in
+    let untold : replicate (piece_count setting.torrent) false ≡ seat.told =
+    ap (λ (t : Layout). replicate (piece_count t) false) layout ∙ sym new.told in
     let before : PlaceRecord = own_record first worker (replicate (piece_count setting.torrent) false) false in
     let same : before ≡ own_record desk worker seat.told false =
     ap (λ (d : DeskState). own_record d worker (replicate (piece_count setting.torrent) false) false) is_desk
@@ -123,19 +127,23 @@ begun_in torrent worker setting desk seat stream layout same_setting empty new =
     let running : Running torrent worker (before_all setting worker stream) seat.session (around desk worker seat.told false stream) =
     inl (record { state = new.session; left = refl; gains = subst (Gains before []) same (Gains-none before); written = refl }) in
     record {
-      stands = subst (λ (o : Option (Result End SessionFault)). StandsBy o torrent worker (before_all setting worker stream) seat.session source (λ short. around desk worker seat.told short stream)) (sym runs) running;
+      stands = subst (λ (o : Option (Result End SessionFault)). StandsBy o torrent worker (before_all setting worker stream) seat.session source
+          (λ short. around desk worker seat.told short stream)) (sym runs) running;
       devices = subst (λ (o : Option (Result End SessionFault)). DevicesBy o stream stream) (sym runs) (refl, refl);
       counted = λ none. none ∙ sym unasked;
       most = subst (λ (n : ℕ). n ≤ most_reads) (sym unasked) (lit≤ tt);
     }
 
 -- how a stream's session ended that stands
-ended_so : (torrent : Metainfo) (worker : ℕ) (stream : StreamRecord) (now : Standing) (outcome : Result End SessionFault) → now.session.outcome ≡ Some outcome →
+ended_so : (torrent : Metainfo) (worker : ℕ) (stream : StreamRecord) (now : Standing) (outcome : Result End SessionFault) →
+    now.session.outcome ≡ Some outcome →
     Stands torrent worker (before_all now.desk.setting worker stream) stream now → Ended outcome torrent worker stream now.desk now.stream
 ended_so torrent worker stream now outcome is stands =
     let source = source_of now.stream now.session.asked in
-    let ends : StandsBy (Some outcome) torrent worker (before_all now.desk.setting worker stream) now.session source (λ short. around now.desk worker now.told short now.stream) =
-    subst (λ (o : Option (Result End SessionFault)). StandsBy o torrent worker (before_all now.desk.setting worker stream) now.session source (λ short. around now.desk worker now.told short now.stream)) is stands.stands in
+    let ends : StandsBy (Some outcome) torrent worker (before_all now.desk.setting worker stream) now.session source
+    (λ short. around now.desk worker now.told short now.stream) =
+    subst (λ (o : Option (Result End SessionFault)). StandsBy o torrent worker (before_all now.desk.setting worker stream) now.session source
+    (λ short. around now.desk worker now.told short now.stream)) is stands.stands in
     record {
       told = now.told;
       short = ends.0;
@@ -161,10 +169,12 @@ end_at ends seats i end any told within =
     ∙ get_or-map Some ends i end (Some end) within'
 
 -- each stream's session ended so, once the last checks were made
-pub each_ended : {X : Type 0} (record_of : X → StreamRecord) (torrent : Metainfo) (first mid last : DeskState) (seats seats' : List Seat) (streams streams' : List X)
-    (ends : List (Result End SessionFault)) →
-    first.setting.torrent ≡ torrent.layout → first.history ≡ [] → AreNew torrent seats → length seats ≡ length streams → length seats' ≡ length streams →
-    EachKeeps record_of first seats streams mid seats' streams' → LeavesRest (length streams) first mid → (worker : ℕ) → length streams ≤ worker → LeavesOthers worker mid last →
+pub each_ended : {X : Type 0} (record_of : X → StreamRecord) (torrent : Metainfo) (first mid last : DeskState) (seats seats' : List Seat)
+    (streams streams' : List X) (ends : List (Result End SessionFault)) →
+    first.setting.torrent ≡ torrent.layout → first.history ≡ [] → AreNew torrent seats → length seats ≡ length streams →
+    length seats' ≡ length streams →
+    EachKeeps record_of first seats streams mid seats' streams' → LeavesRest (length streams) first mid → (worker : ℕ) → length streams ≤ worker →
+    LeavesOthers worker mid last →
     map Some ends ≡ map (λ seat. seat.session.outcome) seats' → EachEnded record_of torrent streams last streams' ends
 each_ended record_of torrent first mid last seats seats' streams streams' ends layout empty new same same' keeps rest worker above left told =
     λ i. λ stream. λ end. λ within.

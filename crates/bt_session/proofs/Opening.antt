@@ -40,7 +40,8 @@ pub unchecked : (mark : CallMark) (reply : Reply) → Checks mark reply []
 unchecked mark reply = none_follows (if_completed (arrived_piece mark) reply) [] refl
 
 abbrev OpeningStops : SessionFault → CallMark → Outlet → Outlet → Type 0
-OpeningStops fault mark a c = (events : List Event) × ((rest : List Event) × (Opens (Some mark) (events ++ rest) × EndsCalls fault events × PerformsUpTo fault a events c))
+OpeningStops fault mark a c = (events : List Event)
+    × ((rest : List Event) × (Opens (Some mark) (events ++ rest) × EndsCalls fault events × PerformsUpTo fault a events c))
 
 stops_refused : (mark : CallMark) (reason : Reason) (a c : Outlet) → is_check mark ≡ false →
     PerformsUpTo (faults.Refused reason) a (Called mark (replies.Refused reason) ∷ []) c → OpeningStops (faults.Refused reason) mark a c
@@ -62,8 +63,17 @@ stops_none fault mark a c cut stops =
 
 stops_one : (fault : SessionFault) (mark : CallMark) (reply : Reply) (a c : Outlet) → IsCut fault → is_refusal reply ≡ false →
     PerformsUpTo fault a (Called mark reply ∷ []) c → OpeningStops fault mark a c
-stops_one fault mark reply a c cut accepted stops =
-    (Called mark reply ∷ [], ([], ((refl, unchecked mark reply), ends_cut fault (Called mark reply ∷ []) cut (accepted_one mark reply accepted), stops)))
+stops_one fault mark reply a c cut accepted stops = (
+  Called mark reply ∷ [],
+  (
+    [],
+    (
+      (refl, unchecked mark reply),
+      ends_cut fault (Called mark reply ∷ []) cut (accepted_one mark reply accepted),
+      stops,
+    ),
+  ),
+)
 
 -- the call stopped
 pub opening_stops : (mark : CallMark) (fault : SessionFault) (a c : Outlet) → is_check mark ≡ false →
@@ -74,7 +84,8 @@ opening_stops mark fault a c own stopped =
       | inl refused ↦
           let event : Event = Called mark (replies.Refused refused.0) in
           subst (λ (f : SessionFault). OpeningStops f mark a c) (sym refused.1.0)
-          (stops_refused mark refused.0 a c own (subst (λ (f : SessionFault). PerformsUpTo f a (event ∷ []) c) refused.1.0 (at (event ∷ []) refused.1.1)))
+          (stops_refused mark refused.0 a c own (subst (λ (f : SessionFault). PerformsUpTo f a (event ∷ []) c) refused.1.0
+          (at (event ∷ []) refused.1.1)))
       | inr cut ↦ elim cut.1 [
         | inl none ↦ stops_none fault mark a c cut.0 (at [] none)
         | inr some ↦ stops_one fault mark some.0 a c cut.0 some.1.0 (at (Called mark some.0 ∷ []) some.1.1)
@@ -106,16 +117,26 @@ check_interest piece i _ h = absurd cc
 abbrev OpeningDoes : CallMark → Outlet → Outlet → Type 0
 OpeningDoes mark a c = (events : List Event) × (Opens (Some mark) events × NoneRefused events × Performs a events c)
 
-checked_by : (o : Option ℕ) (piece : ℕ) (events : List Event) → o ≡ Some piece → ChecksAtMost piece events → MatchOption o (events ≡ []) (λ p. ChecksAtMost p events)
+checked_by : (o : Option ℕ) (piece : ℕ) (events : List Event) → o ≡ Some piece → ChecksAtMost piece events →
+    MatchOption o (events ≡ []) (λ p. ChecksAtMost p events)
 checked_by o piece events is checks = subst (λ (q : Option ℕ). MatchOption q (events ≡ []) (λ p. ChecksAtMost p events)) (sym is) checks
 
 -- the piece was completed, and seen to
-pub opening_checked : (mark : CallMark) (reply : Reply) (piece : ℕ) (a b : Outlet) (past : PlaceRecord) → if_completed (arrived_piece mark) reply ≡ Some piece → is_refusal reply ≡ false → Performs a (Called mark reply ∷ []) b → (events : List Event) × (ChecksAtMost piece events × Gains b.past events past) → OpeningDoes mark a (record b { past = past })
+pub opening_checked : (mark : CallMark) (reply : Reply) (piece : ℕ) (a b : Outlet) (past : PlaceRecord) →
+    if_completed (arrived_piece mark) reply ≡ Some piece → is_refusal reply ≡ false → Performs a (Called mark reply ∷ []) b →
+    (events : List Event) × (ChecksAtMost piece events × Gains b.past events past) → OpeningDoes mark a (record b { past = past })
 opening_checked mark reply piece a b past is accepted does seen =
     elim seen.1.0 [
       | inl none ↦
-          let nothing : Performs b [] (record b { past = past }) = record { gains = subst (λ (es : List Event). Gains b.past es past) none seen.1.1; wrote = Appends-nil b.written; interest = refl } in
-          (Called mark reply ∷ [], ((refl, unchecked mark reply), accepted_one mark reply accepted, Performs-join a b (record b { past = past }) (Called mark reply ∷ []) [] does nothing))
+          let nothing : Performs b [] (record b { past = past }) =
+          record { gains = subst (λ (es : List Event). Gains b.past es past) none seen.1.1; wrote = Appends-nil b.written; interest = refl } in (
+            Called mark reply ∷ [],
+            (
+              (refl, unchecked mark reply),
+              accepted_one mark reply accepted,
+              Performs-join a b (record b { past = past }) (Called mark reply ∷ []) [] does nothing,
+            ),
+          )
       | inr check ↦
           let event : Event = Called (marks.Settle piece) check.0 in
           let does_check : Performs b (event ∷ []) (record b { past = past }) = record {

@@ -40,7 +40,8 @@ own_up_to a b events gains = record {
 own_gains : (a b : PlaceRecord) (events : List Event) → Gains a events b → Gains (own a) events (own b)
 own_gains a b events gains = record { up_to = own_up_to a b events gains.up_to; short = gains.short }
 
-own_news : (pieces : ℕ) (old : PlaceRecord) (events : List Event) (new : PlaceRecord) → TellsNews pieces old events new → TellsNews pieces (own old) events (own new)
+own_news : (pieces : ℕ) (old : PlaceRecord) (events : List Event) (new : PlaceRecord) → TellsNews pieces old events new →
+    TellsNews pieces (own old) events (own new)
 own_news pieces old events new tells = record {
   opening = tells.opening;
   news = tells.news;
@@ -110,7 +111,8 @@ own_fails fault old out source new out' fails = record {
 }
 
 -- what a worker gained at a desk leaves the others alone
-pub others_left : (lent lent' : List GName) (old new : DeskState) (worker worker' : ℕ) (told told' : List Bool) (short short' : Bool) (events : List Event) →
+pub others_left : (lent lent' : List GName) (old new : DeskState) (worker worker' : ℕ) (told told' : List Bool) (short short' : Bool)
+    (events : List Event) →
     GainsUpTo (desk_record lent old worker told short) events (desk_record lent' new worker' told' short') → LeavesOthers worker old new
 others_left lent lent' old new worker worker' told told' short short' events gains = record {
   setting = gains.setting;

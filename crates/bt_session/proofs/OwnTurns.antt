@@ -30,8 +30,10 @@ around_turn now = record { past = now.place; left = now.stream.left; written = n
 -- what the contract of a turn says, for whichever answer
 pub record Turned (result : Result (Option End) SessionFault) (old new : AfterTurn) : Type 0 where
   pub goes_on : IfOk result (λ o. IfNone o (GoesOn old.session (around_turn old) new.session (around_turn new)))
-  pub ends : old.session.outcome ≡ None → IfOk result (λ o. IfSome o (λ end. Ends end old.session (around_turn old) new.stream.ended new.session (around_turn new)))
-  pub fails : old.session.outcome ≡ None → IfErr result (λ fault. FailsWith fault old.session (around_turn old) (source_of new.stream new.session.asked) new.session (around_turn new))
+  pub ends : old.session.outcome ≡ None → IfOk result
+      (λ o. IfSome o (λ end. Ends end old.session (around_turn old) new.stream.ended new.session (around_turn new)))
+  pub fails : old.session.outcome ≡ None →
+      IfErr result (λ fault. FailsWith fault old.session (around_turn old) (source_of new.stream new.session.asked) new.session (around_turn new))
   pub counted : old.stream.asked ≡ old.session.asked → new.stream.asked ≡ new.session.asked
   pub most : new.session.asked ≤ most_reads
   pub sound : IfOk result (λ o. (new.stream.failed ≡ old.stream.failed) × (new.stream.writer_failed ≡ old.stream.writer_failed))
@@ -51,72 +53,95 @@ around_place place stream = record { past = place; left = stream.left; written =
 went_on : (torrent : Metainfo) (worker : ℕ) (out : Surroundings) (first : StreamRecord) (old new : Standing) (p q : PlaceRecord) →
     p ≡ own_record old.desk worker old.told false → q ≡ own_record new.desk worker new.told q.short → old.session.outcome ≡ None →
     Stands torrent worker out first old → GoesOn old.session (around_place p old.stream) new.session (around_place q new.stream) →
-    StandsBy new.session.outcome torrent worker out new.session (source_of new.stream new.session.asked) (λ short. around new.desk worker new.told short new.stream)
+    StandsBy new.session.outcome torrent worker out new.session (source_of new.stream new.session.asked)
+    (λ short. around new.desk worker new.told short new.stream)
 went_on torrent worker out first old new p q is is' runs stands go =
     let short : q.short ≡ false = go.turn.gains.short ∙ ap (λ (r : PlaceRecord). r.short) is in
     let same : q ≡ own_record new.desk worker new.told false = is' ∙ ap (own_record new.desk worker new.told) short in
     let source = source_of old.stream old.session.asked in
     let running : Running torrent worker out old.session (around old.desk worker old.told false old.stream) =
-    subst (λ (o : Option (Result End SessionFault)). StandsBy o torrent worker out old.session source (λ short. around old.desk worker old.told short old.stream)) runs stands.stands in
+    subst (λ (o : Option (Result End SessionFault)). StandsBy o torrent worker out old.session source
+    (λ short. around old.desk worker old.told short old.stream)) runs stands.stands in
     let from : GoesOn old.session (around old.desk worker old.told false old.stream) new.session (around_place q new.stream) =
     subst (λ (r : PlaceRecord). GoesOn old.session (around_place r old.stream) new.session (around_place q new.stream)) is go in
     let to : GoesOn old.session (around old.desk worker old.told false old.stream) new.session (around new.desk worker new.told false new.stream) =
-    subst (λ (r : PlaceRecord). GoesOn old.session (around old.desk worker old.told false old.stream) new.session (around_place r new.stream)) same from in
-    subst (λ (o : Option (Result End SessionFault)). StandsBy o torrent worker out new.session (source_of new.stream new.session.asked) (λ short. around new.desk worker new.told short new.stream))
+    subst (λ (r : PlaceRecord). GoesOn old.session (around old.desk worker old.told false old.stream)
+    new.session (around_place r new.stream)) same from in
+    subst (λ (o : Option (Result End SessionFault)). StandsBy o torrent worker out new.session (source_of new.stream new.session.asked)
+    (λ short. around new.desk worker new.told short new.stream))
     (sym go.unended) (running_on torrent worker out old.session _ new.session _ running to)
 
-came_to_end : (end : End) (torrent : Metainfo) (worker : ℕ) (out : Surroundings) (first : StreamRecord) (old new : Standing) (p q : PlaceRecord) (has_ended : Bool) →
+came_to_end : (end : End) (torrent : Metainfo) (worker : ℕ) (out : Surroundings) (first : StreamRecord) (old new : Standing) (p q : PlaceRecord)
+    (has_ended : Bool) →
     p ≡ own_record old.desk worker old.told false → q ≡ own_record new.desk worker new.told q.short → old.session.outcome ≡ None →
     Stands torrent worker out first old → Ends end old.session (around_place p old.stream) has_ended new.session (around_place q new.stream) →
-    StandsBy new.session.outcome torrent worker out new.session (source_of new.stream new.session.asked) (λ short. around new.desk worker new.told short new.stream)
+    StandsBy new.session.outcome torrent worker out new.session (source_of new.stream new.session.asked)
+    (λ short. around new.desk worker new.told short new.stream)
 came_to_end end torrent worker out first old new p q has_ended is is' runs stands ends =
     let source = source_of old.stream old.session.asked in
     let running : Running torrent worker out old.session (around old.desk worker old.told false old.stream) =
-    subst (λ (o : Option (Result End SessionFault)). StandsBy o torrent worker out old.session source (λ short. around old.desk worker old.told short old.stream)) runs stands.stands in
+    subst (λ (o : Option (Result End SessionFault)). StandsBy o torrent worker out old.session source
+    (λ short. around old.desk worker old.told short old.stream)) runs stands.stands in
     let from : Ends end old.session (around old.desk worker old.told false old.stream) has_ended new.session (around_place q new.stream) =
     subst (λ (r : PlaceRecord). Ends end old.session (around_place r old.stream) has_ended new.session (around_place q new.stream)) is ends in
-    let to : Ends end old.session (around old.desk worker old.told false old.stream) has_ended new.session (around new.desk worker new.told q.short new.stream) =
-    subst (λ (r : PlaceRecord). Ends end old.session (around old.desk worker old.told false old.stream) has_ended new.session (around_place r new.stream)) is' from in
-    subst (λ (o : Option (Result End SessionFault)). StandsBy o torrent worker out new.session (source_of new.stream new.session.asked) (λ short. around new.desk worker new.told short new.stream))
+    let to : Ends end old.session (around old.desk worker old.told false old.stream) has_ended new.session
+    (around new.desk worker new.told q.short new.stream) =
+    subst (λ (r : PlaceRecord). Ends end old.session (around old.desk worker old.told false old.stream) has_ended new.session
+    (around_place r new.stream)) is' from in
+    subst (λ (o : Option (Result End SessionFault)). StandsBy o torrent worker out new.session (source_of new.stream new.session.asked)
+    (λ short. around new.desk worker new.told short new.stream))
     (sym ends.outcome) (q.short, running_ends end torrent worker out old.session _ has_ended new.session _ running (λ none. to))
 
-broke_off : (fault : SessionFault) (torrent : Metainfo) (worker : ℕ) (out : Surroundings) (first : StreamRecord) (old new : Standing) (p q : PlaceRecord) →
+broke_off : (fault : SessionFault) (torrent : Metainfo) (worker : ℕ) (out : Surroundings) (first : StreamRecord) (old new : Standing)
+    (p q : PlaceRecord) →
     p ≡ own_record old.desk worker old.told false → q ≡ own_record new.desk worker new.told q.short → old.session.outcome ≡ None →
-    Stands torrent worker out first old → FailsWith fault old.session (around_place p old.stream) (source_of new.stream new.session.asked) new.session (around_place q new.stream) →
-    StandsBy new.session.outcome torrent worker out new.session (source_of new.stream new.session.asked) (λ short. around new.desk worker new.told short new.stream)
+    Stands torrent worker out first old → FailsWith fault old.session (around_place p old.stream) (source_of new.stream new.session.asked) new.session
+    (around_place q new.stream) →
+    StandsBy new.session.outcome torrent worker out new.session (source_of new.stream new.session.asked)
+    (λ short. around new.desk worker new.told short new.stream)
 broke_off fault torrent worker out first old new p q is is' runs stands fails =
     let source = source_of old.stream old.session.asked in
     let source' = source_of new.stream new.session.asked in
     let running : Running torrent worker out old.session (around old.desk worker old.told false old.stream) =
-    subst (λ (o : Option (Result End SessionFault)). StandsBy o torrent worker out old.session source (λ short. around old.desk worker old.told short old.stream)) runs stands.stands in
+    subst (λ (o : Option (Result End SessionFault)). StandsBy o torrent worker out old.session source
+    (λ short. around old.desk worker old.told short old.stream)) runs stands.stands in
     let from : FailsWith fault old.session (around old.desk worker old.told false old.stream) source' new.session (around_place q new.stream) =
     subst (λ (r : PlaceRecord). FailsWith fault old.session (around_place r old.stream) source' new.session (around_place q new.stream)) is fails in
-    let to : FailsWith fault old.session (around old.desk worker old.told false old.stream) source' new.session (around new.desk worker new.told q.short new.stream) =
-    subst (λ (r : PlaceRecord). FailsWith fault old.session (around old.desk worker old.told false old.stream) source' new.session (around_place r new.stream)) is' from in
-    subst (λ (o : Option (Result End SessionFault)). StandsBy o torrent worker out new.session source' (λ short. around new.desk worker new.told short new.stream))
+    let to : FailsWith fault old.session (around old.desk worker old.told false old.stream) source' new.session
+    (around new.desk worker new.told q.short new.stream) =
+    subst (λ (r : PlaceRecord). FailsWith fault old.session (around old.desk worker old.told false old.stream) source' new.session
+    (around_place r new.stream)) is' from in
+    subst (λ (o : Option (Result End SessionFault)). StandsBy o torrent worker out new.session source'
+    (λ short. around new.desk worker new.told short new.stream))
     (sym fails.outcome) (q.short, running_fails fault torrent worker out old.session _ source' new.session _ running (λ none. to))
 
-sound_on : (first : StreamRecord) (old new : Standing) {torrent : Metainfo} {worker : ℕ} {out : Surroundings} → old.session.outcome ≡ None → Stands torrent worker out first old →
-    (new.stream.failed ≡ old.stream.failed) × (new.stream.writer_failed ≡ old.stream.writer_failed) → (new.stream.failed ≡ first.failed) × (new.stream.writer_failed ≡ first.writer_failed)
+sound_on : (first : StreamRecord) (old new : Standing) {torrent : Metainfo} {worker : ℕ} {out : Surroundings} → old.session.outcome ≡ None →
+    Stands torrent worker out first old →
+    (new.stream.failed ≡ old.stream.failed) × (new.stream.writer_failed ≡ old.stream.writer_failed) →
+    (new.stream.failed ≡ first.failed) × (new.stream.writer_failed ≡ first.writer_failed)
 sound_on first old new runs stands sound =
-    let before : DevicesBy None first old.stream = subst (λ (o : Option (Result End SessionFault)). DevicesBy o first old.stream) runs stands.devices in
+    let before : DevicesBy None first old.stream =
+    subst (λ (o : Option (Result End SessionFault)). DevicesBy o first old.stream) runs stands.devices in
     (sound.0 ∙ before.0, sound.1 ∙ before.1)
 
-devices_of : (fault : SessionFault) (old new : StreamRecord) → (fault ≡ faults.WriteFault → new.writer_failed ≡ true) → DevicesAfter (Err fault) old new
+devices_of : (fault : SessionFault) (old new : StreamRecord) → (fault ≡ faults.WriteFault → new.writer_failed ≡ true) →
+    DevicesAfter (Err fault) old new
 devices_of faults.WriteFault old new failed = failed refl
 devices_of _ old new failed = tt
 
 -- a turn of its own
 pub turn_stands : (result : Result (Option End) SessionFault) (worker : ℕ) (old new : Standing) (p q : PlaceRecord) →
     own p ≡ own_record old.desk worker old.told false → own q ≡ own_record new.desk worker new.told q.short → old.session.outcome ≡ None →
-    Turned result (record { session = old.session; place = p; stream = old.stream }) (record { session = new.session; place = q; stream = new.stream }) →
+    Turned result (record { session = old.session; place = p; stream = old.stream })
+    (record { session = new.session; place = q; stream = new.stream }) →
     Keeps worker old new
 turn_stands (Ok None) worker old new p q is is' runs turned =
     let go = own_goes_on old.session (around_place p old.stream) new.session (around_place q new.stream) turned.goes_on in
     record {
       still = λ torrent. λ out. λ first. λ stands. record {
         stands = went_on torrent worker out first old new (own p) (own q) is is' runs stands go;
-        devices = subst (λ (o : Option (Result End SessionFault)). DevicesBy o first new.stream) (sym go.unended) (sound_on first old new runs stands turned.sound);
+        devices = subst (λ (o : Option (Result End SessionFault)). DevicesBy o first new.stream) (sym go.unended)
+            (sound_on first old new runs stands turned.sound);
         counted = λ none. turned.counted (stands.counted none);
         most = turned.most;
       };
@@ -128,17 +153,20 @@ turn_stands (Ok (Some end)) worker old new p q is is' runs turned =
         stands = came_to_end end torrent worker out first old new (own p) (own q) new.stream.ended is is' runs stands ends;
         devices =
             let sound = sound_on first old new runs stands turned.sound in
-            subst (λ (o : Option (Result End SessionFault)). DevicesBy o first new.stream) (sym ends.outcome) (ends.leave.hears.ended, sound.0, sound.1);
+            subst (λ (o : Option (Result End SessionFault)). DevicesBy o first new.stream) (sym ends.outcome)
+            (ends.leave.hears.ended, sound.0, sound.1);
         counted = λ none. turned.counted (stands.counted none);
         most = turned.most;
       };
     }
 turn_stands (Err fault) worker old new p q is is' runs turned =
-    let fails = own_fails fault old.session (around_place p old.stream) (source_of new.stream new.session.asked) new.session (around_place q new.stream) (turned.fails runs) in
+    let fails = own_fails fault old.session (around_place p old.stream) (source_of new.stream new.session.asked) new.session
+    (around_place q new.stream) (turned.fails runs) in
     record {
       still = λ torrent. λ out. λ first. λ stands. record {
         stands = broke_off fault torrent worker out first old new (own p) (own q) is is' runs stands fails;
-        devices = subst (λ (o : Option (Result End SessionFault)). DevicesBy o first new.stream) (sym fails.outcome) (devices_of fault first new.stream (turned.failed runs));
+        devices = subst (λ (o : Option (Result End SessionFault)). DevicesBy o first new.stream) (sym fails.outcome)
+            (devices_of fault first new.stream (turned.failed runs));
         counted = λ none. turned.counted (stands.counted none);
         most = turned.most;
       };
@@ -151,7 +179,8 @@ pub record TookTurn (lent lent' : List GName) (worker : ℕ) (old new : Standing
   pub others : LeavesOthers worker old.desk new.desk
 
 -- a turn at a place that was made for it
-pub turn_at_desk : (result : Result (Option End) SessionFault) (lent lent' : List GName) (worker worker' : ℕ) (short : Bool) (old new : Standing) (place : PlaceRecord) →
+pub turn_at_desk : (result : Result (Option End) SessionFault) (lent lent' : List GName) (worker worker' : ℕ) (short : Bool) (old new : Standing)
+    (place : PlaceRecord) →
     place ≡ desk_record lent old.desk worker old.told false → old.session.outcome ≡ None →
     Turned result (record { session = old.session; place = place; stream = old.stream })
     (record { session = new.session; place = desk_record lent' new.desk worker' new.told short; stream = new.stream }) →
@@ -172,6 +201,7 @@ turn_at_desk result lent lent' worker worker' short old new place is runs turned
       others = others_left lent lent' old.desk new.desk worker worker' old.told new.told false short gained.0 gained.1;
     }
 
-pub at_same_desk : (worker : ℕ) (old new : Standing) (desk : DeskState) → desk ≡ new.desk → Keeps worker old new → Keeps worker old (record new { desk = desk })
+pub at_same_desk : (worker : ℕ) (old new : Standing) (desk : DeskState) → desk ≡ new.desk → Keeps worker old new →
+    Keeps worker old (record new { desk = desk })
 at_same_desk worker old new desk same keeps =
     subst (λ (d : DeskState). Keeps worker old (record new { desk = d })) (sym same) keeps

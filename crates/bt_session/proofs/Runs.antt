@@ -1,5 +1,6 @@
 -- Turns of a session, one after another.
-use Rattle.std.proofs.Common.{◌≡◌, ◌+◌, ℕ, List, [], ◌∷◌, ◌++◌, length-append, Bool, true, false, Option, None, refl, sym, ap, subst, ◌∙◌, append_assoc, inl, inr, arith}
+use Rattle.std.proofs.Common.{◌≡◌, ◌+◌, ℕ, List, [], ◌∷◌, ◌++◌, length-append, Bool, true, false, Option, None, refl, sym, ap, subst, ◌∙◌}
+use Rattle.std.proofs.Common.{append_assoc, inl, inr, arith}
 use Rattle.std.specs.Prelude.{if◌then◌else◌}
 use Rattle.std.proofs.lemmas.List.{append-nil}
 use Rattle.std.specs.Io.KnownBytes.{Appends, Consumes}
@@ -24,8 +25,17 @@ use Rattle.bt_session.proofs.Stretches.{says-append, interest_after-append, Gain
 Begins-more : (greeted : Bool) (limit : ℕ) (bytes : List ℕ) (ms : List Message) (rest more : List ℕ) → Begins greeted limit bytes ms rest →
     Begins greeted limit (bytes ++ more) ms (rest ++ more)
 Begins-more greeted limit bytes [] rest more is = ap (λ (xs : List ℕ). xs ++ more) is
-Begins-more greeted limit bytes (m ∷ ms) rest more is =
-    (is.0, (is.1.0 ++ more, (is.1.1.0, ap (λ (xs : List ℕ). xs ++ more) is.1.1.1 ∙ append_assoc is.0 is.1.0 more, Begins-more true limit is.1.0 ms rest more is.1.1.2)))
+Begins-more greeted limit bytes (m ∷ ms) rest more is = (
+  is.0,
+  (
+    is.1.0 ++ more,
+    (
+      is.1.1.0,
+      ap (λ (xs : List ℕ). xs ++ more) is.1.1.1 ∙ append_assoc is.0 is.1.0 more,
+      Begins-more true limit is.1.0 ms rest more is.1.1.2,
+    ),
+  ),
+)
 
 Begins-last : (limit : ℕ) (bytes : List ℕ) (ms : List Message) (rest : List ℕ) (m : Message) (text after : List ℕ) → Begins true limit bytes ms rest →
     Spells true limit m text → rest ≡ text ++ after → Begins true limit bytes (ms ++ m ∷ []) after
@@ -33,7 +43,8 @@ Begins-last limit bytes [] rest m text after begins spells is = (text, (after, (
 Begins-last limit bytes (n ∷ ms) rest m text after begins spells is =
     (begins.0, (begins.1.0, (begins.1.1.0, begins.1.1.1, Begins-last limit begins.1.0 ms rest m text after begins.1.1.2 spells is)))
 
-TurnsOf-last : (pieces : ℕ) (ms : List Message) (events : List Event) (m : Message) (es : List Event) → TurnsOf pieces ms events → IsTurn pieces m es → NoneRefused es →
+TurnsOf-last : (pieces : ℕ) (ms : List Message) (events : List Event) (m : Message) (es : List Event) → TurnsOf pieces ms events →
+    IsTurn pieces m es → NoneRefused es →
     TurnsOf pieces (ms ++ m ∷ []) (events ++ es)
 TurnsOf-last pieces [] events m es turned turn none =
     (es, ([], (turn, none, refl, ap (λ (xs : List Event). xs ++ es) turned ∙ sym (append-nil es))))
@@ -68,7 +79,8 @@ TurnsOf-left pieces (m ∷ ms) events turned = (
   ),
 )
 
-so_far_first : (torrent : Metainfo) (worker : ℕ) (out : Surroundings) (now : SessionState) (mid : Surroundings) (new : SessionState) (out' : Surroundings) →
+so_far_first : (torrent : Metainfo) (worker : ℕ) (out : Surroundings) (now : SessionState) (mid : Surroundings) (new : SessionState)
+    (out' : Surroundings) →
     IsUntouched torrent worker out now mid → GoesOn (begun torrent worker) mid new out' → TookTurns torrent worker out new out'
 so_far_first torrent worker out now mid new out' fresh go =
     let turn = go.turn in
@@ -96,7 +108,8 @@ so_far_first torrent worker out now mid new out' fresh go =
       unended = go.unended;
     }
 
-so_far_more : (torrent : Metainfo) (worker : ℕ) (out : Surroundings) (now : SessionState) (mid : Surroundings) (new : SessionState) (out' : Surroundings) →
+so_far_more : (torrent : Metainfo) (worker : ℕ) (out : Surroundings) (now : SessionState) (mid : Surroundings) (new : SessionState)
+    (out' : Surroundings) →
     TookTurns torrent worker out now mid → GoesOn now mid new out' → TookTurns torrent worker out new out'
 so_far_more torrent worker out now mid new out' so_far go =
     let turn = go.turn in
@@ -109,7 +122,8 @@ so_far_more torrent worker out now mid new out' so_far go =
     subst (λ (l : ℕ). Spells true l turn.message gives.text) so_far.limit
     (subst (λ (b : Bool). Spells b now.stream.limit turn.message gives.text) so_far.greeted gives.spells) in
     let plain : Appends mid.written out'.written (says now.interested turn.events) =
-    subst (λ (b : Bool). Appends mid.written out'.written ((if b then [] else greeting now.torrent.infohash now.worker) ++ says now.interested turn.events)) so_far.joined turn.wrote in
+    subst (λ (b : Bool). Appends mid.written out'.written
+    ((if b then [] else greeting now.torrent.infohash now.worker) ++ says now.interested turn.events)) so_far.joined turn.wrote in
     let wrote : Appends mid.written out'.written said =
     subst (Appends mid.written out'.written) (ap (λ i. says i turn.events) so_far.interest) plain in
     let same : (hello ++ before) ++ said ≡ hello ++ says false (so_far.events ++ turn.events) =
@@ -125,13 +139,15 @@ so_far_more torrent worker out now mid new out' so_far go =
       spells = so_far.spells;
       consumed = subst (Consumes out.left out'.left) (append_assoc so_far.text so_far.read turn.hears.read)
           (Consumes-join out.left mid.left out'.left (so_far.text ++ so_far.read) turn.hears.read so_far.consumed turn.hears.consumed);
-      begins = Begins-last limit (so_far.read ++ turn.hears.read) so_far.messages (now.stream.bytes ++ turn.hears.read) turn.message gives.text new.stream.bytes
+      begins = Begins-last limit (so_far.read ++ turn.hears.read) so_far.messages
+          (now.stream.bytes ++ turn.hears.read) turn.message gives.text new.stream.bytes
           (Begins-more true limit so_far.read so_far.messages now.stream.bytes turn.hears.read so_far.begins) spells gives.bytes;
       counted = omega (arith, more, so_far.counted, length-append so_far.messages (turn.message ∷ []));
       turned = TurnsOf-last (piece_count torrent.layout) (so_far.first ∷ so_far.messages) so_far.events turn.message turn.events so_far.turned
           (subst (λ (t : Metainfo). IsTurn (piece_count t.layout) turn.message turn.events) so_far.torrent_is turn.turn) turn.accepted;
       gains = Gains-join out.past mid.past out'.past so_far.events turn.events so_far.gains turn.gains;
-      wrote = subst (Appends out.written out'.written) same (Appends-trans out.written mid.written out'.written (hello ++ before) said so_far.wrote wrote);
+      wrote = subst (Appends out.written out'.written) same
+          (Appends-trans out.written mid.written out'.written (hello ++ before) said so_far.wrote wrote);
       interest = turn.interest ∙ ap (λ i. interest_after i turn.events) so_far.interest ∙ sym (interest_after-append false so_far.events turn.events);
       torrent_is = go.keeps.torrent ∙ so_far.torrent_is;
       limit = ap (λ (stream : InboundState). stream.limit) gives.after ∙ so_far.limit;
@@ -140,7 +156,8 @@ so_far_more torrent worker out now mid new out' so_far go =
       unended = go.unended;
     }
 
-so_far_ends : (end : End) (torrent : Metainfo) (worker : ℕ) (out : Surroundings) (now : SessionState) (mid : Surroundings) (has_ended : Bool) (new : SessionState) (out' : Surroundings) →
+so_far_ends : (end : End) (torrent : Metainfo) (worker : ℕ) (out : Surroundings) (now : SessionState) (mid : Surroundings) (has_ended : Bool)
+    (new : SessionState) (out' : Surroundings) →
     TookTurns torrent worker out now mid → Ends end now mid has_ended new out' → IsWhole end torrent worker out out'
 so_far_ends end torrent worker out now mid has_ended new out' so_far ends =
     let hears = ends.leave.hears in
@@ -177,7 +194,8 @@ so_far_ends end torrent worker out now mid has_ended new out' so_far ends =
     }
 
 -- one turn more
-pub running_on : (torrent : Metainfo) (worker : ℕ) (out : Surroundings) (now : SessionState) (mid : Surroundings) (new : SessionState) (out' : Surroundings) →
+pub running_on : (torrent : Metainfo) (worker : ℕ) (out : Surroundings) (now : SessionState) (mid : Surroundings) (new : SessionState)
+    (out' : Surroundings) →
     Running torrent worker out now mid → GoesOn now mid new out' → Running torrent worker out new out'
 running_on torrent worker out now mid new out' running go =
     elim running [
@@ -186,12 +204,14 @@ running_on torrent worker out now mid new out' running go =
       | inr so_far ↦ inr (so_far_more torrent worker out now mid new out' so_far go)
     ]
 
-unended : (torrent : Metainfo) (worker : ℕ) (out : Surroundings) (now : SessionState) (mid : Surroundings) → Running torrent worker out now mid → now.outcome ≡ None
+unended : (torrent : Metainfo) (worker : ℕ) (out : Surroundings) (now : SessionState) (mid : Surroundings) → Running torrent worker out now mid →
+    now.outcome ≡ None
 unended torrent worker out now mid running =
     elim running [ inl fresh ↦ ap (λ (state : SessionState). state.outcome) fresh.state | inr so_far ↦ so_far.unended ]
 
 -- the last turn
-pub running_ends : (end : End) (torrent : Metainfo) (worker : ℕ) (out : Surroundings) (now : SessionState) (mid : Surroundings) (has_ended : Bool) (new : SessionState) (out' : Surroundings) →
+pub running_ends : (end : End) (torrent : Metainfo) (worker : ℕ) (out : Surroundings) (now : SessionState) (mid : Surroundings) (has_ended : Bool)
+    (new : SessionState) (out' : Surroundings) →
     Running torrent worker out now mid → (now.outcome ≡ None → Ends end now mid has_ended new out') → IsWhole end torrent worker out out'
 running_ends end torrent worker out now mid has_ended new out' running ends =
     let ended = ends (unended torrent worker out now mid running) in
@@ -203,7 +223,9 @@ running_ends end torrent worker out now mid has_ended new out' running ends =
     ]
 
 -- the turn that broke off
-pub running_fails : (fault : SessionFault) (torrent : Metainfo) (worker : ℕ) (out : Surroundings) (now : SessionState) (mid : Surroundings) (source : SourceState) (new : SessionState) (out' : Surroundings) →
-    Running torrent worker out now mid → (now.outcome ≡ None → FailsWith fault now mid source new out') → IsCutShort fault torrent worker out source out'
+pub running_fails : (fault : SessionFault) (torrent : Metainfo) (worker : ℕ) (out : Surroundings) (now : SessionState) (mid : Surroundings)
+    (source : SourceState) (new : SessionState) (out' : Surroundings) →
+    Running torrent worker out now mid → (now.outcome ≡ None → FailsWith fault now mid source new out') →
+    IsCutShort fault torrent worker out source out'
 running_fails fault torrent worker out now mid source new out' running fails =
     record { now = now; mid = mid; new = new; turns = running; fails = fails (unended torrent worker out now mid running) }

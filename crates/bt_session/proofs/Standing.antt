@@ -26,7 +26,8 @@ gains_later : (first : PlaceRecord) (events : List Event) (old new : PlaceRecord
 gains_later first events old new gains later =
     subst (λ (es : List Event). Gains first es new) (append-nil events) (Gains-join first old new events [] gains later)
 
-up_to_later : (first : PlaceRecord) (events : List Event) (old new : PlaceRecord) → GainsUpTo first events old → Gains old [] new → GainsUpTo first events new
+up_to_later : (first : PlaceRecord) (events : List Event) (old new : PlaceRecord) → GainsUpTo first events old → Gains old [] new →
+    GainsUpTo first events new
 up_to_later first events old new gains later =
     subst (λ (es : List Event). GainsUpTo first es new) (append-nil events) (GainsUpTo-join first old new events [] gains later.up_to)
 
@@ -90,7 +91,8 @@ whole_later end torrent worker out old new later whole = record {
   wrote = appends_later _ _ _ _ later.written whole.wrote;
 }
 
-fails_later : (fault : SessionFault) (state : SessionState) (out : Surroundings) (source : SourceState) (last : SessionState) (old new : Surroundings) →
+fails_later : (fault : SessionFault) (state : SessionState) (out : Surroundings) (source : SourceState) (last : SessionState)
+    (old new : Surroundings) →
     IsLater old new → FailsWith fault state out source last old → FailsWith fault state out source last new
 fails_later fault state out source last old new later fails = record {
   events = fails.events;
@@ -102,7 +104,8 @@ fails_later fault state out source last old new later fails = record {
   outcome = fails.outcome;
 }
 
-ends_later : (outcome : Result End SessionFault) (torrent : Metainfo) (worker : ℕ) (out : Surroundings) (source : SourceState) (old new : Surroundings) →
+ends_later : (outcome : Result End SessionFault) (torrent : Metainfo) (worker : ℕ) (out : Surroundings) (source : SourceState)
+    (old new : Surroundings) →
     IsLater old new → EndsAs outcome torrent worker out source old → EndsAs outcome torrent worker out source new
 ends_later (Ok end) torrent worker out source old new later whole = whole_later end torrent worker out old new later whole
 ends_later (Err fault) torrent worker out source old new later cut = record {
@@ -113,16 +116,19 @@ ends_later (Err fault) torrent worker out source old new later cut = record {
   fails = fails_later fault cut.now cut.mid source cut.new old new later cut.fails;
 }
 
-pub stands_later : (outcome : Option (Result End SessionFault)) (torrent : Metainfo) (worker : ℕ) (out : Surroundings) (now : SessionState) (source : SourceState)
-    (old new : Bool → Surroundings) → ((short : Bool) → IsLater (old short) (new short)) →
+pub stands_later : (outcome : Option (Result End SessionFault)) (torrent : Metainfo) (worker : ℕ) (out : Surroundings) (now : SessionState)
+    (source : SourceState) (old new : Bool → Surroundings) → ((short : Bool) → IsLater (old short) (new short)) →
     StandsBy outcome torrent worker out now source old → StandsBy outcome torrent worker out now source new
-stands_later None torrent worker out now source old new later stands = running_later torrent worker out now (old false) (new false) (later false) stands
+stands_later None torrent worker out now source old new later stands =
+    running_later torrent worker out now (old false) (new false) (later false) stands
 stands_later (Some outcome) torrent worker out now source old new later stands =
     (stands.0, ends_later outcome torrent worker out source (old stands.0) (new stands.0) (later stands.0) stands.1)
 
 -- while another worker takes a turn
-pub others_stand : (worker other : ℕ) (old new : DeskState) (session : SessionState) (told : List Bool) (stream : StreamRecord) → LeavesOthers worker old new → other ≢ worker →
-    Keeps other (record { desk = old; session = session; told = told; stream = stream }) (record { desk = new; session = session; told = told; stream = stream })
+pub others_stand : (worker other : ℕ) (old new : DeskState) (session : SessionState) (told : List Bool) (stream : StreamRecord) →
+    LeavesOthers worker old new → other ≢ worker →
+    Keeps other (record { desk = old; session = session; told = told; stream = stream })
+    (record { desk = new; session = session; told = told; stream = stream })
 others_stand worker other old new session told stream left apart =
     let later : (short : Bool) → IsLater (around old other told short stream) (around new other told short stream) =
     λ short. record {

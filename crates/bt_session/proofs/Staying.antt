@@ -63,13 +63,15 @@ check_stays (Some piece) events checks =
       | inr check ↦ ap (list_any leaves) check.1.1
     ]
 
-opening_stays : (call : Option CallMark) (events : List Event) → ((mark : CallMark) → call ≡ Some mark → is_leave mark ≡ false) → Opens call events → Stays events
+opening_stays : (call : Option CallMark) (events : List Event) → ((mark : CallMark) → call ≡ Some mark → is_leave mark ≡ false) → Opens call events →
+    Stays events
 opening_stays None events own opens = ap (list_any leaves) opens
 opening_stays (Some call) [] own opens = absurd opens
 opening_stays (Some call) (News piece ∷ events) own opens = absurd opens
 opening_stays (Some call) (Called mark reply ∷ events) own opens =
     let first : is_leave mark ≡ false = ap is_leave opens.0 ∙ own call refl in
-    both_false (is_leave mark) false (list_any leaves events) (ap (λ b. b || false) first) (λ nothing. check_stays (if_completed (arrived_piece call) reply) events opens.1)
+    both_false (is_leave mark) false (list_any leaves events) (ap (λ b. b || false) first)
+    (λ nothing. check_stays (if_completed (arrived_piece call) reply) events opens.1)
 
 news_stay : (news : List ℕ) → Stays (map News news)
 news_stay [] = refl
@@ -91,13 +93,15 @@ turn_stays pieces m events turn =
     let front = turn.opening ++ map News turn.news in
     let opening = opening_stays (call_of m) turn.opening (own_call m) turn.opens in
     ap (list_any leaves) turn.parts
-    ∙ Stays-append front turn.asking (Stays-append turn.opening (map News turn.news) opening (news_stay turn.news)) (asking_stays most_next turn.asking turn.asks)
+    ∙ Stays-append front turn.asking (Stays-append turn.opening (map News turn.news) opening (news_stay turn.news))
+    (asking_stays most_next turn.asking turn.asks)
 
 begun_stays : (pieces : ℕ) (m : Message) (events : List Event) → IsLater m → BeginsTurn pieces m events → Stays events
 begun_stays pieces (messages.Hello hello) events later begins = absurd later
 begun_stays pieces m events later begins = Stays-front events begins.0 (turn_stays pieces m (events ++ begins.0) begins.1)
 
 -- after any part of the turn of a message the peer is in
-pub stays_in : (fault : SessionFault) (pieces : ℕ) (m : Message) (events : List Event) → IsLater m → StopsTurn fault pieces m events → is_in true events ≡ true
+pub stays_in : (fault : SessionFault) (pieces : ℕ) (m : Message) (events : List Event) → IsLater m → StopsTurn fault pieces m events →
+    is_in true events ≡ true
 stays_in faults.BadBits pieces m events later stops = ap (is_in true) stops.1
 stays_in _ pieces m events later stops = still_in events (begun_stays pieces m events later stops.0)

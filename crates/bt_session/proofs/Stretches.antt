@@ -43,7 +43,8 @@ Tells-along : (a b : ℕ → Bool) (pieces : List ℕ) (c : ℕ → Bool) → ((
 Tells-along a b [] c same tells = λ p. tells p ∙ same p
 Tells-along a b (first ∷ pieces) c same tells = (
   sym (same first) ∙ tells.0,
-  Tells-along (λ p. if p == first then true else a p) (λ p. if p == first then true else b p) pieces c (λ p. ap (λ v. if p == first then true else v) (same p)) tells.1,
+  Tells-along (λ p. if p == first then true else a p) (λ p. if p == first then true else b p) pieces c
+      (λ p. ap (λ v. if p == first then true else v) (same p)) tells.1,
 )
 
 Tells-join : (a b c : ℕ → Bool) (ps qs : List ℕ) → Tells a ps b → Tells b qs c → Tells a (ps ++ qs) c
@@ -66,11 +67,14 @@ GainsUpTo-join a b c es fs g h =
       lent = h.lent ∙ g.lent;
       worker = h.worker ∙ g.worker;
       setting = h.setting ∙ g.setting;
-      calls = h.calls ∙ ap (λ (xs : List (CallMark × Reply)). xs ++ calls_of fs) g.calls ∙ append_assoc a.calls (calls_of es) (calls_of fs) ∙ ap (λ (xs : List (CallMark × Reply)). a.calls ++ xs) (sym (calls_of-append es fs));
+      calls = h.calls ∙ ap (λ (xs : List (CallMark × Reply)). xs ++ calls_of fs) g.calls ∙ append_assoc a.calls (calls_of es) (calls_of fs)
+          ∙ ap (λ (xs : List (CallMark × Reply)). a.calls ++ xs) (sym (calls_of-append es fs));
       others = λ other. h.others other ∙ g.others other;
       had = λ piece. λ before. h.had piece (g.had piece before);
-      told = subst (λ (ps : List ℕ). Tells a.told ps c.told) (sym (news_of-append es fs)) (Tells-join a.told b.told c.told (news_of es) (news_of fs) g.told h.told);
-      finished = subst (AllHad c.had) (sym (news_of-append es fs)) (AllHad-append c.had (news_of es) (news_of fs) (AllHad-along b.had c.had (news_of es) h.had g.finished) h.finished);
+      told = subst (λ (ps : List ℕ). Tells a.told ps c.told) (sym (news_of-append es fs))
+          (Tells-join a.told b.told c.told (news_of es) (news_of fs) g.told h.told);
+      finished = subst (AllHad c.had) (sym (news_of-append es fs))
+          (AllHad-append c.had (news_of es) (news_of fs) (AllHad-along b.had c.had (news_of es) h.had g.finished) h.finished);
     }
 
 pub Gains-none : (a : PlaceRecord) → Gains a [] a
@@ -101,12 +105,14 @@ pub Performs-join : (a b c : Outlet) (es fs : List Event) → Performs a es b �
 Performs-join a b c es fs p q =
     record {
       gains = Gains-join a.past b.past c.past es fs p.gains q.gains;
-      wrote = subst (Appends a.written c.written) (sym (says-append a.interested es fs ∙ ap (λ i. says a.interested es ++ says i fs) (sym p.interest)))
+      wrote = subst (Appends a.written c.written)
+          (sym (says-append a.interested es fs ∙ ap (λ i. says a.interested es ++ says i fs) (sym p.interest)))
           (Appends-trans a.written b.written c.written (says a.interested es) (says b.interested fs) p.wrote q.wrote);
       interest = q.interest ∙ ap (λ i. interest_after i fs) p.interest ∙ sym (interest_after-append a.interested es fs);
     }
 
-pub WroteFront-join : (fault : SessionFault) (a b c : Option (List ℕ)) (xs ys : List ℕ) → Appends a b xs → WroteFront fault b ys c → WroteFront fault a (xs ++ ys) c
+pub WroteFront-join : (fault : SessionFault) (a b c : Option (List ℕ)) (xs ys : List ℕ) → Appends a b xs → WroteFront fault b ys c →
+    WroteFront fault a (xs ++ ys) c
 WroteFront-join fault a b c xs ys p q =
     record {
       front = xs ++ q.front;
@@ -116,15 +122,18 @@ WroteFront-join fault a b c xs ys p q =
       all = q.all;
     }
 
-pub Performs-stops : (fault : SessionFault) (a b c : Outlet) (es fs : List Event) → Performs a es b → PerformsUpTo fault b fs c → PerformsUpTo fault a (es ++ fs) c
+pub Performs-stops : (fault : SessionFault) (a b c : Outlet) (es fs : List Event) → Performs a es b → PerformsUpTo fault b fs c →
+    PerformsUpTo fault a (es ++ fs) c
 Performs-stops fault a b c es fs p q =
     record {
       gains = GainsUpTo-join a.past b.past c.past es fs (up_to a.past b.past es p.gains) q.gains;
-      wrote = subst (λ (xs : List ℕ). WroteFront fault a.written xs c.written) (sym (says-append a.interested es fs ∙ ap (λ i. says a.interested es ++ says i fs) (sym p.interest)))
+      wrote = subst (λ (xs : List ℕ). WroteFront fault a.written xs c.written)
+          (sym (says-append a.interested es fs ∙ ap (λ i. says a.interested es ++ says i fs) (sym p.interest)))
           (WroteFront-join fault a.written b.written c.written (says a.interested es) (says b.interested fs) p.wrote q.wrote);
     }
 
-cut_call : (call : CallMark) (reply : Reply) (fault : SessionFault) → is_refusal reply ≡ false → IsCut fault → StopsCall call fault (Called call reply ∷ [])
+cut_call : (call : CallMark) (reply : Reply) (fault : SessionFault) → is_refusal reply ≡ false → IsCut fault →
+    StopsCall call fault (Called call reply ∷ [])
 cut_call call reply fault accepted cut =
     elim cut [
       | inl is ↦ subst (λ (f : SessionFault). StopsCall call f (Called call reply ∷ [])) (sym is) (inl refl, inr (reply, (accepted, refl)))
@@ -132,7 +141,14 @@ cut_call call reply fault accepted cut =
     ]
 
 -- a call whose answer was cut off
-pub call_cut : (a b : Outlet) (call : CallMark) (reply : Reply) (fault : SessionFault) → Gains a.past (Called call reply ∷ []) b.past → is_refusal reply ≡ false → IsCut fault → WroteFront fault a.written (answer a.interested reply) b.written → (events : List Event) × (StopsCall call fault events × PerformsUpTo fault a events b)
+pub call_cut : (a b : Outlet) (call : CallMark) (reply : Reply) (fault : SessionFault) → Gains a.past (Called call reply ∷ []) b.past →
+    is_refusal reply ≡ false → IsCut fault → WroteFront fault a.written (answer a.interested reply) b.written →
+    (events : List Event) × (StopsCall call fault events × PerformsUpTo fault a events b)
 call_cut a b call reply fault gains accepted cut wrote =
-    let stops : PerformsUpTo fault a (Called call reply ∷ []) b = record { gains = up_to a.past b.past (Called call reply ∷ []) gains; wrote = subst (λ (xs : List ℕ). WroteFront fault a.written xs b.written) (sym (append-nil (answer a.interested reply))) wrote } in
+    let stops : PerformsUpTo fault a (Called call reply ∷ []) b =
+    record {
+      gains = up_to a.past b.past (Called call reply ∷ []) gains;
+      wrote =
+          subst (λ (xs : List ℕ). WroteFront fault a.written xs b.written) (sym (append-nil (answer a.interested reply))) wrote;
+    } in
     (Called call reply ∷ [], (cut_call call reply fault accepted cut, stops))

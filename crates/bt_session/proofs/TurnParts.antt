@@ -1,5 +1,6 @@
 -- The parts of a turn, one after another.
-use Rattle.std.proofs.Common.{◌≡◌, ℕ, ◌≤◌, List, [], ◌∷◌, ◌++◌, length, map, Bool, true, false, Option, Some, None, refl, sym, ap, subst, ◌∙◌, append_assoc, inl, inr, ◌⊎◌, arith}
+use Rattle.std.proofs.Common.{◌≡◌, ℕ, ◌≤◌, List, [], ◌∷◌, ◌++◌, length, map, Bool, true, false, Option, Some, None, refl, sym, ap, subst, ◌∙◌}
+use Rattle.std.proofs.Common.{append_assoc, inl, inr, ◌⊎◌, arith}
 use Rattle.std.specs.Prelude.{◌||◌}
 use Rattle.std.specs.List.{list_any}
 use Rattle.std.specs.Io.KnownBytes.{Appends}
@@ -27,7 +28,8 @@ or_false false b c p f = f p
 
 none_refused-append : (es fs : List Event) → NoneRefused es → NoneRefused fs → NoneRefused (es ++ fs)
 none_refused-append [] fs p q = q
-none_refused-append (e ∷ es) fs p q = or_false (is_refused_call e) (list_any is_refused_call es) (list_any is_refused_call (es ++ fs)) p (λ r. none_refused-append es fs r q)
+none_refused-append (e ∷ es) fs p q = or_false (is_refused_call e) (list_any is_refused_call es) (list_any is_refused_call (es ++ fs)) p
+    (λ r. none_refused-append es fs r q)
 
 none_refused-news : (news : List ℕ) → NoneRefused (map News news)
 none_refused-news [] = refl
@@ -42,7 +44,8 @@ news_interest : (i : Bool) (news : List ℕ) → interest_after i (map News news
 news_interest i [] = refl
 news_interest i (piece ∷ news) = news_interest i news
 
-news_do : (b c : Outlet) (news : List ℕ) → Performs (record b { interested = false }) (map News news) (record c { interested = false }) → c.interested ≡ b.interested → Performs b (map News news) c
+news_do : (b c : Outlet) (news : List ℕ) → Performs (record b { interested = false }) (map News news) (record c { interested = false }) →
+    c.interested ≡ b.interested → Performs b (map News news) c
 news_do b c news does same =
     record {
       gains = does.gains;
@@ -50,7 +53,8 @@ news_do b c news does same =
       interest = same ∙ sym (news_interest b.interested news);
     }
 
-news_stop : (fault : SessionFault) (b c : Outlet) (news : List ℕ) → PerformsUpTo fault (record b { interested = false }) (map News news) (record c { interested = false }) → PerformsUpTo fault b (map News news) c
+news_stop : (fault : SessionFault) (b c : Outlet) (news : List ℕ) →
+    PerformsUpTo fault (record b { interested = false }) (map News news) (record c { interested = false }) → PerformsUpTo fault b (map News news) c
 news_stop fault b c news stops =
     record {
       gains = stops.gains;
@@ -120,7 +124,8 @@ ends_after _ es fs none h = absurd h
 
 abbrev Told : ℕ → Outlet → Outlet → Type 0
 Told pieces b c = (news : List ℕ) ×
-    ((length news ≤ pieces) × ((length news ≡ pieces) ⊎ AllTold c.past) × Performs (record b { interested = false }) (map News news) (record c { interested = false }))
+    ((length news ≤ pieces) × ((length news ≡ pieces) ⊎ AllTold c.past)
+    × Performs (record b { interested = false }) (map News news) (record c { interested = false }))
 
 -- a whole turn
 pub turn_done : (pieces : ℕ) (m : Message) (a b c d : Outlet) → IsLater m → IsAcceptable pieces m → Opened (call_of m) a b → Told pieces b c →
@@ -161,11 +166,13 @@ turn_done pieces m a b c d later acceptable opened told same asked =
 abbrev pub TurnStops : SessionFault → ℕ → Message → Outlet → Outlet → Type 0
 TurnStops fault pieces m a d = (events : List Event) × (StopsTurn fault pieces m events × PerformsUpTo fault a events d)
 
-stops_turn : (fault : SessionFault) (pieces : ℕ) (m : Message) (es : List Event) → BeginsTurn pieces m es → EndsCalls fault es → StopsTurn fault pieces m es
+stops_turn : (fault : SessionFault) (pieces : ℕ) (m : Message) (es : List Event) → BeginsTurn pieces m es → EndsCalls fault es →
+    StopsTurn fault pieces m es
 stops_turn faults.BadBits pieces m es begins ends = absurd ends
 stops_turn _ pieces m es begins ends = (begins, ends)
 
-opening_begins : (pieces : ℕ) (m : Message) (es rest : List Event) → IsLater m → IsAcceptable pieces m → Opens (call_of m) (es ++ rest) → BeginsTurn pieces m es
+opening_begins : (pieces : ℕ) (m : Message) (es rest : List Event) → IsLater m → IsAcceptable pieces m → Opens (call_of m) (es ++ rest) →
+    BeginsTurn pieces m es
 opening_begins pieces m es rest later acceptable opens =
     let idle = asks_some most_next in
     let all = es ++ rest in
@@ -183,17 +190,21 @@ opening_begins pieces m es rest later acceptable opens =
     } in
     (rest ++ idle.0, later_turn pieces m (es ++ (rest ++ idle.0)) later attends)
 
-opening_stopped : (fault : SessionFault) (pieces : ℕ) (m : Message) (es : List Event) → IsLater m → StopsOpening fault pieces m es → StopsTurn fault pieces m es
+opening_stopped : (fault : SessionFault) (pieces : ℕ) (m : Message) (es : List Event) → IsLater m → StopsOpening fault pieces m es →
+    StopsTurn fault pieces m es
 opening_stopped faults.BadBits pieces m es later stops = stops
 opening_stopped _ pieces m es later stops = (opening_begins pieces m es stops.1.0 later stops.0 stops.1.1.0, stops.1.1.1)
 
 -- the opening stopped
-pub turn_stops_open : (fault : SessionFault) (pieces : ℕ) (m : Message) (a b : Outlet) → IsLater m → OpenedStops fault pieces m a b → TurnStops fault pieces m a b
+pub turn_stops_open : (fault : SessionFault) (pieces : ℕ) (m : Message) (a b : Outlet) → IsLater m → OpenedStops fault pieces m a b →
+    TurnStops fault pieces m a b
 turn_stops_open fault pieces m a b later h = (h.0, (opening_stopped fault pieces m h.0 later h.1.0, h.1.1))
 
 -- news were cut off
-pub turn_stops_news : (fault : SessionFault) (pieces : ℕ) (m : Message) (a b c : Outlet) → IsLater m → IsAcceptable pieces m → Opened (call_of m) a b →
-    (news : List ℕ) × ((length news ≤ pieces) × IsCut fault × PerformsUpTo fault (record b { interested = false }) (map News news) (record c { interested = false })) →
+pub turn_stops_news : (fault : SessionFault) (pieces : ℕ) (m : Message) (a b c : Outlet) → IsLater m → IsAcceptable pieces m →
+    Opened (call_of m) a b →
+    (news : List ℕ) × ((length news ≤ pieces) × IsCut fault
+    × PerformsUpTo fault (record b { interested = false }) (map News news) (record c { interested = false })) →
     TurnStops fault pieces m a c
 turn_stops_news fault pieces m a b c later acceptable opened told =
     let idle = asks_some most_next in
@@ -217,7 +228,8 @@ turn_stops_news fault pieces m a b c later acceptable opened told =
     )
 
 -- a Next call stopped
-pub turn_stops_ask : (fault : SessionFault) (pieces : ℕ) (m : Message) (a b c d : Outlet) → IsLater m → IsAcceptable pieces m → Opened (call_of m) a b → Told pieces b c →
+pub turn_stops_ask : (fault : SessionFault) (pieces : ℕ) (m : Message) (a b c d : Outlet) → IsLater m → IsAcceptable pieces m →
+    Opened (call_of m) a b → Told pieces b c →
     c.interested ≡ b.interested →
     (asking : List Event) × ((rest : List Event) × (Asks most_next (asking ++ rest) × EndsCalls fault asking × PerformsUpTo fault c asking d)) →
     TurnStops fault pieces m a d
@@ -238,7 +250,8 @@ turn_stops_ask fault pieces m a b c d later acceptable opened told same asked =
     } in (
       events,
       (
-        stops_turn fault pieces m events (asked.1.0, later_turn pieces m (events ++ asked.1.0) later attends) (ends_after fault front asked.0 none asked.1.1.1),
+        stops_turn fault pieces m events (asked.1.0, later_turn pieces m (events ++ asked.1.0) later attends)
+            (ends_after fault front asked.0 none asked.1.1.1),
         Performs-stops fault a c d front asked.0 does_front asked.1.1.2,
       ),
     )

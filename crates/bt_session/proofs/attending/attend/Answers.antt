@@ -13,15 +13,18 @@ pub returns-in_err-tell_news-clause-err : goal.returns-in_err-tell_news-clause-e
 returns-in_err-tell_news-clause-err g c =
     let p = err_from_is_err_and c.from_residual-in_err-tell_news.result c.from_residual-in_err-tell_news.ensures.1 in
     let told = rw c.piece_count.ensures.count at c.in_err-tell_news.ensures.err in
-    rw (p.1, p.2) (turn_stops_news _ (piece_count c.args.torrent.now.layout) c.args.message _ _ _ c.requires c.in_ok-open.ensures.acceptable c.in_ok-open.ensures.ok told)
+    rw (p.1, p.2) (turn_stops_news _ (piece_count c.args.torrent.now.layout) c.args.message _ _ _ c.requires c.in_ok-open.ensures.acceptable
+    c.in_ok-open.ensures.ok told)
 
 pub returns-in_err-ask-clause-err : goal.returns-in_err-ask-clause-err
 returns-in_err-ask-clause-err g c =
     let p = err_from_is_err_and c.from_residual-in_err-ask.result c.from_residual-in_err-ask.ensures.1 in
     let told = rw c.piece_count.ensures.count at c.in_ok-tell_news.ensures.ok in
-    rw (p.1, p.2) (turn_stops_ask _ (piece_count c.args.torrent.now.layout) c.args.message _ _ _ _ c.requires c.in_ok-open.ensures.acceptable c.in_ok-open.ensures.ok told refl c.in_err-ask.ensures.err)
+    rw (p.1, p.2) (turn_stops_ask _ (piece_count c.args.torrent.now.layout) c.args.message _ _ _ _ c.requires c.in_ok-open.ensures.acceptable
+    c.in_ok-open.ensures.ok told refl c.in_err-ask.ensures.err)
 
 pub returns-clause-ok : goal.returns-clause-ok
 returns-clause-ok g c =
     let told = rw c.piece_count.ensures.count at c.in_ok-tell_news.ensures.ok in
-    turn_done (piece_count c.args.torrent.now.layout) c.args.message _ _ _ _ c.requires c.in_ok-open.ensures.acceptable c.in_ok-open.ensures.ok told refl c.in_ok-ask.ensures.ok
+    turn_done (piece_count c.args.torrent.now.layout) c.args.message _ _ _ _ c.requires c.in_ok-open.ensures.acceptable c.in_ok-open.ensures.ok told
+    refl c.in_ok-ask.ensures.ok

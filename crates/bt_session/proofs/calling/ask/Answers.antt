@@ -12,7 +12,8 @@ returns-in_err-reply-clause-err g c =
 pub returns-then-not-has_more-clause-ok : goal.returns-then-not-has_more-clause-ok
 returns-then-not-has_more-clause-ok g c =
     let last : has_more c.in_ok-reply.reply ≡ false = sym c.has_more.ensures ∙ c.if-not-has_more.true in
-    Asking-last c.next_u64.result c.in_ok-reply.reply _ _ _ c.next.counter _ c.next.invariant.asking c.next-test.true c.in_ok-reply.ensures.ok c.in_ok-reply.ensures.ok_accepted last
+    Asking-last c.next_u64.result c.in_ok-reply.reply _ _ _ c.next.counter _ c.next.invariant.asking c.next-test.true c.in_ok-reply.ensures.ok
+    c.in_ok-reply.ensures.ok_accepted last
 
 pub next-preserved : goal.next-preserved
 next-preserved g c =

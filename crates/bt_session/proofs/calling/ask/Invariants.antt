@@ -5,6 +5,7 @@ use Rattle.bt_session.proofs.calling.ask.Given as goal
 
 abbrev pub invariant-next : goal.invariant-next
 invariant-next g l = record {
-  asking : Asking (outlet g.P.Place.past g.W.Sink.written l.fn.place l.fn.writer l.fn.interested) (outlet g.P.Place.past g.W.Sink.written l.place l.writer l.interested) l.counter;
+  asking : Asking (outlet g.P.Place.past g.W.Sink.written l.fn.place l.fn.writer l.fn.interested)
+      (outlet g.P.Place.past g.W.Sink.written l.place l.writer l.interested) l.counter;
   sound : g.W.Sink.failed l.writer ≡ g.W.Sink.failed l.fn.writer;
 }

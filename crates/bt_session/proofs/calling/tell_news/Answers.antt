@@ -8,7 +8,8 @@ pub returns-in_err-send-clause-err : goal.returns-in_err-send-clause-err
 returns-in_err-send-clause-err g c =
     let p = err_from_is_err_and c.from_residual.result c.from_residual.ensures.1 in
     let le : c.news.counter + 1 ≤ c.args.most = omega arith in
-    rw (p.1, p.2) (Telling-cut _ c.in-Some.piece _ _ _ c.news.counter _ c.news.invariant.telling le c.in-Some.ensures.some c.in_err-send.ensures.cause c.in_err-send.ensures.err)
+    rw (p.1, p.2) (Telling-cut _ c.in-Some.piece _ _ _ c.news.counter _ c.news.invariant.telling le c.in-Some.ensures.some c.in_err-send.ensures.cause
+    c.in_err-send.ensures.err)
 
 pub news-preserved : goal.news-preserved
 news-preserved g c =

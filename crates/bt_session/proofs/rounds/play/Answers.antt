@@ -10,7 +10,8 @@ rounds-preserved g c =
     let before = c.rounds.invariant in
     let round = c.round.ensures in
     record {
-      keeps = EachKeeps-join record_of c.args.desk.now c.rounds.desk c.round.new.desk c.args.seats.now c.rounds.seats c.round.new.seats c.args.streams.now c.rounds.streams c.round.new.streams
+      keeps = EachKeeps-join record_of c.args.desk.now c.rounds.desk c.round.new.desk c.args.seats.now c.rounds.seats c.round.new.seats
+          c.args.streams.now c.rounds.streams c.round.new.streams
           c.rounds.auto.streams before.keeps round.keeps;
       rest = LeavesRest-join _ _ _ _ before.rest (subst (λ count. LeavesRest count c.rounds.desk c.round.new.desk) c.rounds.auto.streams round.rest);
       fit = round.fit;
@@ -19,5 +20,6 @@ rounds-preserved g c =
 pub returns-clause-keeps : goal.returns-clause-keeps
 returns-clause-keeps g c =
     let record_of = stream_record g.R.Source.left g.R.Source.ended g.R.Source.failed g.R.Source.asked g.W.Sink.written g.W.Sink.failed in
-    EachKeeps-join record_of c.args.desk.now c.rounds.desk c.round.new.desk c.args.seats.now c.rounds.seats c.round.new.seats c.args.streams.now c.rounds.streams c.round.new.streams
+    EachKeeps-join record_of c.args.desk.now c.rounds.desk c.round.new.desk c.args.seats.now c.rounds.seats c.round.new.seats c.args.streams.now
+    c.rounds.streams c.round.new.streams
     c.rounds.auto.streams c.rounds.invariant.keeps c.round.ensures.keeps

@@ -6,7 +6,8 @@ use Rattle.bt_session.proofs.rounds.play_out.Goals as goal
 
 pub returns-clause-count : goal.returns-clause-count
 returns-clause-count g c =
-    let ends : length c.tell_ends.new.ends.items ≡ length c.play.new.seats = ends_count c.tell_ends.new.ends.items c.play.new.seats c.tell_ends.ensures in
+    let ends : length c.tell_ends.new.ends.items ≡ length c.play.new.seats =
+    ends_count c.tell_ends.new.ends.items c.play.new.seats c.tell_ends.ensures in
     omega arith
 
 pub returns-clause-sessions : goal.returns-clause-sessions
@@ -14,8 +15,11 @@ returns-clause-sessions g c =
     let record_of = stream_record g.R.Source.left g.R.Source.ended g.R.Source.failed g.R.Source.asked g.W.Sink.written g.W.Sink.failed in
     let seats : length c.play.new.seats ≡ length c.args.streams.now = omega arith in
     λ torrent. λ layout. λ new.
-    each_ended record_of torrent c.args.desk.now c.play.new.desk c.last_checks.new.desk c.args.seats.now c.play.new.seats c.args.streams.now c.play.new.streams c.tell_ends.new.ends.items
-    layout c.requires.fresh new c.requires.seats seats c.play.ensures.keeps c.play.ensures.rest _ (omega arith) c.last_checks.ensures.leaves c.tell_ends.ensures
+    each_ended record_of torrent c.args.desk.now c.play.new.desk c.last_checks.new.desk c.args.seats.now c.play.new.seats c.args.streams.now
+    c.play.new.streams c.tell_ends.new.ends.items
+    layout c.requires.fresh new c.requires.seats seats c.play.ensures.keeps c.play.ensures.rest _
+    (omega arith) c.last_checks.ensures.leaves c.tell_ends.ensures
 
 pub last_checks-requires-clause-idle : goal.last_checks-requires-clause-idle
-last_checks-requires-clause-idle g c = still_idle (length c.args.streams.now) _ c.args.desk.now c.play.new.desk (omega arith) c.requires.fresh c.play.ensures.rest
+last_checks-requires-clause-idle g c = still_idle (length c.args.streams.now) _ c.args.desk.now c.play.new.desk
+    (omega arith) c.requires.fresh c.play.ensures.rest

@@ -22,9 +22,11 @@ loop-i-preserved g c =
       | then-turn_of w ↦ let never : true ≡ false = sym w.if-turn_of.true ∙ no' in absurd cc
       | else-turn_of w ↦ w.turns-is
     ] in
-    let after = progress_on c.turn_of.result c.loop-i.turns c.if-turn_of.turns c.loop-i.i c.args.seats.now c.loop-i.seats c.turn_of.new.seats taken idle progress turn.falls turn.same turn.ended in
+    let after = progress_on c.turn_of.result c.loop-i.turns c.if-turn_of.turns c.loop-i.i c.args.seats.now c.loop-i.seats c.turn_of.new.seats taken
+    idle progress turn.falls turn.same turn.ended in
     record {
-      keeps = EachKeeps-join record_of c.args.desk.now c.loop-i.desk c.turn_of.new.desk c.args.seats.now c.loop-i.seats c.turn_of.new.seats c.args.streams.now c.loop-i.streams c.turn_of.new.streams
+      keeps = EachKeeps-join record_of c.args.desk.now c.loop-i.desk c.turn_of.new.desk c.args.seats.now c.loop-i.seats c.turn_of.new.seats
+          c.args.streams.now c.loop-i.streams c.turn_of.new.streams
           c.loop-i.auto.streams before.keeps turn.keeps;
       rest = LeavesRest-join _ _ _ _ before.rest (subst (λ count. LeavesRest count c.loop-i.desk c.turn_of.new.desk) c.loop-i.auto.streams turn.rest);
       fit = turn.fit;

@@ -27,7 +27,8 @@ returns-in_err-reason-in-Ok-None-2-clause-err g c =
     let p = err_from_is_err_and c.from_residual.result c.from_residual.ensures.1 in
     let old = start c.args.torrent.now true c.args.peer.now.inbound (g.R.Source.left c.args.reader.now) in
     let source = source_state g.R.Source.left g.R.Source.ended g.R.Source.failed c.hear.new.reader c.hear.new.asked in
-    rw (p.1, p.2) (leave_lacks_memory _ c.args.peer.now.interested old source _ _ (g.W.Sink.written c.args.writer.now) refl c.in_err-reason-in-Ok-None-2.ensures.err)
+    rw (p.1, p.2) (leave_lacks_memory _ c.args.peer.now.interested old source _ _
+    (g.W.Sink.written c.args.writer.now) refl c.in_err-reason-in-Ok-None-2.ensures.err)
 
 pub returns-in-Refused-clause-err : goal.returns-in-Refused-clause-err
 returns-in-Refused-clause-err g c =
@@ -43,5 +44,6 @@ returns-in-Err-attend-clause-err g c =
     let source = source_state g.R.Source.left g.R.Source.ended g.R.Source.failed c.hear.new.reader c.hear.new.asked in
     let hears = rw c.in-Ok-Some.field-0-is at c.in-Ok-Some.ensures.message in
     rw c.leave_by-in-Err-attend.ensures.fault
-    (attending_fails _ c.in-Ok-Some.message c.hear.new.inbound old source _ _ _ (later _ _ _ _ _ c.requires.greeted hears) hears c.in-Err-attend.ensures.err
+    (attending_fails _ c.in-Ok-Some.message c.hear.new.inbound old source _ _ _
+    (later _ _ _ _ _ c.requires.greeted hears) hears c.in-Err-attend.ensures.err
     c.leave_by-in-Err-attend.ensures.leave)

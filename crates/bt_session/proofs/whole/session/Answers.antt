@@ -7,7 +7,11 @@ use Rattle.bt_session.proofs.Runs.{running_on, running_ends, running_fails}
 use Rattle.bt_session.proofs.whole.session.Goals as goal
 
 pub turns-init : goal.turns-init
-turns-init g c = record { running = inl (record { state = c.new-session.ensures; left = refl; gains = Gains-none _; written = refl }); counted = λ none. none ∙ sym (ap (λ (state : SessionState). state.asked) c.new-session.ensures) }
+turns-init g c = record {
+  running = inl (record { state = c.new-session.ensures; left = refl; gains = Gains-none _; written = refl });
+  counted =
+      λ none. none ∙ sym (ap (λ (state : SessionState). state.asked) c.new-session.ensures);
+}
 
 pub turns-preserved : goal.turns-preserved
 turns-preserved g c = record {
@@ -25,4 +29,10 @@ returns-in_err-end-clause-cut_short g c =
     let source = source_state g.R.Source.left g.R.Source.ended g.R.Source.failed c.turn.new.reader c.turn.new.self.asked in
     let counted : g.R.Source.asked c.args.reader.now ≡ 0 → g.R.Source.asked c.turn.new.reader ≡ c.turn.new.self.asked =
     λ none. c.in_err-end.ensures.counted (c.turns.invariant.counted none) in
-    rw (p.1, p.2) (c.turn.new.self.asked, (counted, running_fails _ _ _ _ _ _ source _ _ c.turns.invariant.running (λ fresh. c.in_err-end.ensures.fails fresh)))
+    rw (p.1, p.2) (
+      c.turn.new.self.asked,
+      (
+        counted,
+        running_fails _ _ _ _ _ _ source _ _ c.turns.invariant.running (λ fresh. c.in_err-end.ensures.fails fresh),
+      ),
+    )

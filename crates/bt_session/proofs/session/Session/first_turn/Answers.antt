@@ -21,16 +21,27 @@ returns-in-Err-clause-fails g c =
       messages = inside.messages;
       outcome = inside.outcome;
     } in
-    let new : SessionState = record state { stream = c.greet-greeted.new.peer.inbound; interested = c.greet-greeted.new.peer.interested; asked = c.greet-greeted.new.peer.asked; outcome = Some (Err fault) } in
+    let new : SessionState = record state {
+      stream = c.greet-greeted.new.peer.inbound;
+      interested = c.greet-greeted.new.peer.interested;
+      asked =
+          c.greet-greeted.new.peer.asked;
+      outcome = Some (Err fault);
+    } in
     let out = surroundings g.P.Place.past g.R.Source.left g.W.Sink.written c.args.place.now c.args.reader.now c.args.writer.now in
-    let out' = surroundings g.P.Place.past g.R.Source.left g.W.Sink.written c.greet-greeted.new.place c.greet-greeted.new.reader c.greet-greeted.new.writer in
+    let out' = surroundings g.P.Place.past g.R.Source.left g.W.Sink.written c.greet-greeted.new.place c.greet-greeted.new.reader
+    c.greet-greeted.new.writer in
     let source = source_state g.R.Source.left g.R.Source.ended g.R.Source.failed c.greet-greeted.new.reader c.greet-greeted.new.peer.asked in
     let said : c.greeting-hello.result ≡ greeting state.torrent.infohash state.worker =
-    c.greeting-hello.ensures ∙ ap (λ (hash : List ℕ). greeting hash state.worker) (c.infohash.ensures ∙ ap (λ (t : Metainfo). t.infohash) c.deref.ensures) in
-    let fails : FirstFails fault c.greeting-hello.result state.interested (start state.torrent false state.stream out.left) source out.past out.written out'.past out'.written =
-    subst (λ (t : Metainfo). FirstFails fault c.greeting-hello.result state.interested (start t false state.stream out.left) source out.past out.written out'.past out'.written)
+    c.greeting-hello.ensures ∙ ap (λ (hash : List ℕ). greeting hash state.worker)
+    (c.infohash.ensures ∙ ap (λ (t : Metainfo). t.infohash) c.deref.ensures) in
+    let fails : FirstFails fault c.greeting-hello.result state.interested
+    (start state.torrent false state.stream out.left) source out.past out.written out'.past out'.written =
+    subst (λ (t : Metainfo). FirstFails fault c.greeting-hello.result state.interested
+    (start t false state.stream out.left) source out.past out.written out'.past out'.written)
     c.deref-2.ensures c.in-Err.ensures.err in
-    let same = subst (λ (hello : List ℕ). FirstFails fault hello state.interested (start state.torrent false state.stream out.left) source out.past out.written out'.past out'.written) said fails in
+    let same = subst (λ (hello : List ℕ). FirstFails fault hello state.interested
+    (start state.torrent false state.stream out.left) source out.past out.written out'.past out'.written) said fails in
     let first : state.joined ≡ false = ap (λ (now : SessionState). now.joined) c.self.view_is ∙ c.requires.joined in
     subst (λ (old : SessionState). FailsWith fault old out source new out') c.self.view_is
     (session_fails_first fault state new out out' source first refl same)
