@@ -32,7 +32,7 @@ digit_zero = 48
 abbrev pub string : List ℕ → List ℕ
 string bytes = decimal (length bytes) ++ colon ∷ bytes
 
--- An integer is `i`, base ten, `e`. A list is `l`, the items, `e`. A dictionary is `d`, keys and values in turn, `e`.
+-- how a tree is spelled: numbers in base ten between `i` and `e`, lists between `l` and `e`, dictionaries as their entries between `d` and `e`
 abbrev mutual
   pub spelling : Term → List ℕ
   spelling (int s n) = letter_i ∷ signed_decimal n ++ letter_e ∷ []
@@ -74,7 +74,7 @@ abbrev mutual
   EntriesAreSound no_entries = Unit {0}
   EntriesAreSound (more_entries k t es) = (length k < 2 ^ 64) × IsSound t × EntriesAreSound es
 
--- a tree of bencode: at most 64 lists and dictionaries inside one another
+-- a tree of bencode: sound, and no deeper than 64 levels of lists and dictionaries
 abbrev pub IsTree : Term → Type 0
 IsTree t = IsSound t × (depth t ≤ 64)
 

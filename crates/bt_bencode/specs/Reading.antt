@@ -34,7 +34,7 @@ Gives view (Err fault) reading = Fails fault reading
 abbrev pub run_at : List ℕ → ℕ → List ℕ
 run_at source at = take_while is_ascii_digit (drop at source)
 
--- a leading zero and another digit
+-- the run begins with a zero that isn't all of it
 abbrev pub is_padded : List ℕ → Bool
 is_padded run = nat_lt 1 (length run) && slice_index run 0 == digit_zero
 
@@ -93,7 +93,7 @@ unfoldable pub items_at : (ℕ → Result (Term × ℕ) BenFault) → List ℕ �
 items_at value source zero at = Err Truncated
 items_at value source (suc turns) at = items_behind value (items_at value source turns) at (drop at source)
 
--- a key that isn't above the one before it
+-- a key that should have come earlier: it is no greater than the last one
 abbrev pub is_late : Option (List ℕ) → List ℕ → Bool
 is_late None key = false
 is_late (Some last) key = not (is_lt (slice_cmp nat_cmp last key))
@@ -130,7 +130,7 @@ value_behind items entries source at (c ∷ cs) =
     else (if c == letter_d then (entries (at + 1) >>= λ es. Ok (dict (span at es.1) es.0, es.1))
     else Err BadByte)))
 
--- the value at a place, with room for this many lists and dictionaries inside one another
+-- the value at a place, with room for this many levels of lists and dictionaries
 unfoldable pub value_at : ℕ → List ℕ → ℕ → Result (Term × ℕ) BenFault
 value_at zero source at = value_behind (λ _. Err TooDeep) (λ _. Err TooDeep) source at (drop at source)
 value_at (suc room) source at =

@@ -15,7 +15,7 @@ pub enum BenFault {
     IntegerRange = 3,
     #[error("a length has a leading zero or no colon behind it")]
     BadLength = 4,
-    #[error("a key isn't above the one before it")]
+    #[error("a key comes too late in the order of keys")]
     KeyOrder = 5,
     #[error("a key isn't a string")]
     KeyKind = 6,

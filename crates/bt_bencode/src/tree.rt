@@ -19,8 +19,8 @@ pub use writing::write;
 /// How many lists and dictionaries may stand inside one another, the outermost counted.
 const MAX_DEPTH: u8 = 64;
 
-/// A bencoded value, with all that stands in it. However it was made, its keys are in sorted order, none twice, and at most
-/// 64 lists and dictionaries stand inside one another. Contracts see it as a `Term`.
+/// A bencoded value, with all that stands in it. However it was made, its keys are in sorted order, none twice, and it is
+/// no deeper than 64 levels of lists and dictionaries. Contracts see it as a `Term`.
 #[cycle(tree)]
 #[derive(Drop)]
 pub struct Tree {
@@ -62,7 +62,7 @@ impl Model for Tree {
 }
 
 impl Tree {
-    /// Where it stands in the source that it was read from; 0 and 0 for a tree that was made by hand.
+    /// Where it stands in the source that it was read from; 0 and 0 where it was made by hand.
     pub fn span(&self) -> Span
         ensures { result ≡ span_of self.now }
     {

@@ -15,7 +15,7 @@ pub enum Fault {
     /// A line of a script, counted from 1.
     Line(u64),
     Metainfo(MetaFault),
-    /// A file that can't be opened, read whole or written; standard input and output are files too.
+    /// Opening, reading or writing a file failed; standard input and output are files too.
     File,
     Memory,
 }

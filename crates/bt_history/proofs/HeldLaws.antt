@@ -42,7 +42,7 @@ kept_unstored : (h : History) (e : Event) (b : Block) → stored e b ≡ None �
 unfolding kept
 kept_unstored h e b none = ap (λ (o : Option (List ℕ)). if failed e b.piece then None else if is_some o then o else kept h b) none
 
--- ---- a held block is asked of nobody
+-- ---- nobody is asked for a held block
 
 pub held_unasked : (s : Setting) (h : History) (q : ℕ) (b : Block) → IsLegal s h → held h b ≡ true → asked h q b ≡ false
 unfolding kept asked
@@ -186,7 +186,7 @@ asked_below s (e ∷ h) q b legal is = ⊎_elim
     (λ (before : asked h q b ≡ true). asked_below s h q b legal.0 before)
     (asked_cases h e q b is)
 
--- two peers have the same block asked only if an earlier point was endgame
+-- a block asked of two peers tells of an endgame before
 pub doubles_after_endgame : (s : Setting) (h : History) (q other : ℕ) (b : Block) → IsLegal s h → q < s.workers → other < s.workers → (q ≡ other → ⊥)
     → asked h q b ≡ true → asked h other b ≡ true → was_endgame s h ≡ true
 unfolding was_endgame asked

@@ -340,7 +340,7 @@ count_listed_most t (x ∷ bs) are = ⊎_elim
     one_of b true same again = sym (place_resized bs x b same ∙ again)
     one_of b false apart again = refl
 
--- the blocks asked of one peer and those due at it are together at most the depth
+-- asked blocks and due cancels of a peer, counted together, stay within the depth
 pub asked_and_due : (s : Setting) (h : History) (q : ℕ) → IsLegal s h → asked_count s h q + due_count s h q ≤ s.depth
 asked_and_due s h q legal =
     let due_most : due_count s h q ≤ length (dues h q) =

@@ -53,7 +53,7 @@ refusal s h w Leave = first_cause (no_peer h w ∷ [])
 
 -- ---- answers
 
--- after this call of w, it shows a wanted piece that isn't had
+-- w has something for us once it made this call
 abbrev pub interesting_after : Setting → History → ℕ → Action → Bool
 interesting_after s h w call = lacks s h (λ p. shows_after (Some call) p (shows h w p))
 

@@ -16,11 +16,11 @@ pub data Answer : Type 0 where
   CancelOf : (test : Block → Bool) → Answer
   RequestOf : (test : Block → Bool) → Answer
 
--- block b is unasked, and its piece is wanted and q shows it
+-- block b may be asked of q anew: nobody was asked for it, and q shows its piece, which is wanted
 abbrev pub usable : Setting → History → ℕ → Block → Bool
 usable s h q b = unasked s h b && (wanted s h b.piece && shows h q b.piece)
 
--- strict priority: a usable block of a begun piece
+-- strict priority: a usable block whose piece has begun
 abbrev pub continues : Setting → History → ℕ → Block → Bool
 continues s h q b = usable s h q b && begun s h b.piece
 
@@ -33,13 +33,13 @@ abbrev pub is_rarest : Setting → History → ℕ → ℕ → Bool
 is_rarest s h q p =
     all_below (piece_count s.torrent) (λ r. not (is_candidate s h q r) || nat_le (availability s h p) (availability s h r))
 
--- a usable block of an unbegun piece: of a rarest one, but for the first pieces, which any may be
+-- a usable block that begins a piece: a rarest one, but the first pieces may be any
 abbrev pub starts : Setting → History → ℕ → Block → Bool
 starts s h q b =
     usable s h q b && (unbegun s h b.piece
     && (nat_lt (had_count s h) s.random || is_rarest s h q b.piece))
 
--- a block that is lacking, of a wanted piece that q shows, and not asked of q yet
+-- a wanted block that is lacking, which q could give and isn't asked for
 abbrev pub doubles : Setting → History → ℕ → Block → Bool
 doubles s h q b = wanted s h b.piece && (shows h q b.piece && (not (held h b) && not (asked h q b)))
 

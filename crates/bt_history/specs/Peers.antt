@@ -1,4 +1,4 @@
--- What a history says of a peer. A peer is named by the worker q that speaks for it.
+-- What a history says of a peer. It goes by the number q of its worker.
 use Rattle.std.specs.Prelude.{◌≡◌, ℕ, ◌==◌, Bool, true, false, not, ◌&&◌, ◌||◌, List, [], ◌∷◌, ◌++◌, All, length, if◌then◌else◌}
 use Rattle.std.specs.Prelude.{Option, Some, is_some, is_none, slice_index_or}
 use Rattle.std.specs.List.{filter, list_any}
@@ -14,7 +14,7 @@ joined_after (Some Join) before = true
 joined_after (Some Leave) before = false
 joined_after call before = before
 
--- the newest of q's Join and Leave is Join
+-- q has joined, and has not left since
 unfoldable pub joined : History → ℕ → Bool
 joined [] q = false
 joined (e ∷ h) q = joined_after (own_call q e) (joined h q)
@@ -28,7 +28,7 @@ late_after (Some Unchoke) before = true
 late_after (Some (Arrived piece begin bytes)) before = true
 late_after call before = before
 
--- since q's newest Join there is a Bits, Have, Choke, Unchoke or Arrived of q: a bitfield would come too late
+-- q has said something that BEP 3 wants behind the bitfield, since it joined: a bitfield would come too late
 unfoldable pub late : History → ℕ → Bool
 late [] q = false
 late (e ∷ h) q = late_after (own_call q e) (late h q)
@@ -61,7 +61,7 @@ unfoldable pub is_open : History → ℕ → Bool
 is_open [] q = false
 is_open (e ∷ h) q = is_open_after (own_call q e) (is_open h q)
 
--- the call frees what was asked of the peer, and drops its due cancels
+-- the call takes back all that was asked of the peer, and with it the cancels that it is owed
 abbrev pub resets : Option Action → Bool
 resets (Some Choke) = true
 resets (Some Join) = true

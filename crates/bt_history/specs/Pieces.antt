@@ -46,15 +46,15 @@ asked_of_some s h b = any_below s.workers (λ q. asked h q b)
 abbrev pub held_or_asked : Setting → History → Block → Bool
 held_or_asked s h b = held h b || asked_of_some s h b
 
--- block b is neither held nor asked of anybody
+-- block b is lacking, and no peer is asked for it
 abbrev pub unasked : Setting → History → Block → Bool
 unasked s h b = not (held_or_asked s h b)
 
--- piece p isn't had, and some block of it is held or asked
+-- work on piece p has begun: a block of it came or is asked, and the piece isn't had yet
 abbrev pub begun : Setting → History → ℕ → Bool
 begun s h p = not (had h p) && some_block_of s.torrent p (held_or_asked s h)
 
--- piece p isn't had, and no block of it is held or asked
+-- piece p isn't had, and no work on it has begun
 abbrev pub unbegun : Setting → History → ℕ → Bool
 unbegun s h p = not (had h p) && not (some_block_of s.torrent p (held_or_asked s h))
 
@@ -66,7 +66,7 @@ availability s h p = count_below s.workers (λ q. joined h q && shows h q p)
 abbrev pub wanted : Setting → History → ℕ → Bool
 wanted s h p = nat_lt p (piece_count s.torrent)
 
--- endgame: no block of a wanted piece is unasked, and some block of a wanted piece isn't held
+-- endgame: every wanted block that is lacking has been asked for, and there is one that is lacking
 abbrev pub endgame : Setting → History → Bool
 endgame s h =
     each_block s.torrent (λ b. not (wanted s h b.piece) || held_or_asked s h b)
@@ -81,7 +81,7 @@ was_endgame s (e ∷ h) = endgame s h || was_endgame s h
 abbrev pub lacks : Setting → History → (ℕ → Bool) → Bool
 lacks s h shown = any_below (piece_count s.torrent) (λ p. wanted s h p && (shown p && not (had h p)))
 
--- q shows a wanted piece that isn't had
+-- q has something for us: it shows a piece that we want and haven't got
 abbrev pub interesting : Setting → History → ℕ → Bool
 interesting s h q = lacks s h (shows h q)
 

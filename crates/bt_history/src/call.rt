@@ -58,7 +58,7 @@ pub enum Reason {
 #[derive(Clone, Copy, Debug, PartialEq, Eq)]
 pub enum Reply {
     Joined,
-    /// Whether the peer now shows a wanted piece that isn't had.
+    /// Whether the peer now has something for us: a piece that is wanted and lacking.
     Noted(bool),
     Quiet,
     /// To be sent as `cancel`: the block came from another peer.
@@ -69,7 +69,7 @@ pub enum Reply {
     Choked,
     /// Nothing to ask: as many blocks as may be are asked of the peer.
     PipeFull,
-    /// Nothing to ask now, though the peer shows a wanted piece that isn't had.
+    /// Nothing to ask now, though the peer has a piece that is wanted and lacking.
     Idle,
     /// The peer shows no wanted piece that isn't had.
     NothingLeft,

@@ -12,7 +12,7 @@ ghost use Rattle.bt_history.specs.Legal.{IsLegal};
 use crate::call::Entry;
 use bt_meta::{Block, Torrent};
 
-/// A block that is held is asked of nobody.
+/// Nobody is asked for a block that is held.
 pub fn held_is_asked_of_nobody(
     torrent: &Torrent,
     workers: u32,
@@ -25,7 +25,7 @@ pub fn held_is_asked_of_nobody(
     ensures { asked (history_of journal.now) worker block ≡ false }
 {}
 
-/// The blocks asked of one peer and the cancels due at it are together at most five.
+/// Asked blocks and due cancels of a peer, counted together, are never more than five.
 pub fn asked_and_due_are_few(torrent: &Torrent, workers: u32, journal: &[Entry], worker: u32)
     requires { IsLegal (usual torrent.now.layout workers) (history_of journal.now) }
     ensures { asked_count (usual torrent.now.layout workers) (history_of journal.now) worker
@@ -47,7 +47,7 @@ pub fn had_is_full_and_hashed(torrent: &Torrent, workers: u32, journal: &[Entry]
         ≡ hash_of torrent.now.layout piece }
 {}
 
-/// Two peers have the same block asked only if some earlier point was endgame.
+/// A block that is asked of two peers tells that there was an endgame before.
 pub fn doubles_come_of_endgame(
     torrent: &Torrent,
     workers: u32,

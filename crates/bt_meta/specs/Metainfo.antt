@@ -82,5 +82,5 @@ pub record IsMeta (bytes : List ℕ) (t : Metainfo) : Type 0 where
   pub spans : placed 0 tree ≡ tree
   pub info_is : get tree (key_name Info) ≡ Some info
   pub described : Describes info t
-  -- the SHA-1 of the bytes of the info value as they stand
+  -- SHA-1 over the info value, byte by byte as the file has it
   pub infohash : t.infohash ≡ sha1 (part bytes (span_of info))

@@ -73,7 +73,7 @@ piece_length_in info = int_in info key.PieceLength >>= λ n. piece_length_of n
 unfoldable pub pieces_in : Term → Result (List ℕ) MetaFault
 pieces_in info = text_in info key.Pieces >>= λ bytes. if length bytes % 20 == 0 then Ok bytes else Err PiecesLength
 
--- whether there is a `path`, a list of strings that isn't empty
+-- whether there is a `path`: at least one string, in a list
 unfoldable pub path_in : Term → Result (Unit {0}) MetaFault
 path_in file = items_in file key.Path >>= λ parts. if is_path parts then Ok tt else Err (WrongKind key.Path)
 

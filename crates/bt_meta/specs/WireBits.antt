@@ -6,7 +6,7 @@ use Rattle.std.specs.Int.{bit_at}
 abbrev pub wire_len : ℕ → ℕ
 wire_len pieces = (pieces + 7) / 8
 
--- the bit of piece p: the high bit of the first byte is that of piece 0
+-- the bit of piece p: the first byte has pieces 0 to 7, from its high bit down
 abbrev pub wire_bit : List ℕ → ℕ → Bool
 wire_bit bytes p = bit_at (slice_index bytes (p / 8)) (7 - p % 8) == 1
 

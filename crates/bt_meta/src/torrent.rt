@@ -57,7 +57,7 @@ impl Clone for Torrent {
 }
 
 impl Torrent {
-    /// The torrent of these parts, with an empty name and one file. Lengths are in bytes, and `hashes` has the SHA-1 of each piece in order.
+    /// The torrent of these parts, with no name, as one file. Lengths are in bytes, and `hashes` has the SHA-1 of each piece in order.
     ///
     /// Refuses, in this order: a piece length that isn't 1 to 2^31; no content; content of 2^63 bytes or more, or of 2^32 pieces or more;
     /// another number of digests than of pieces. Takes no memory.

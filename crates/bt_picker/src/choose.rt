@@ -15,7 +15,7 @@ use bt_history::Reply;
 use bt_meta::Block;
 
 impl<'a> Position<'a> {
-    /// The first block of the piece that is neither held nor asked of anybody.
+    /// The first block of the piece that is lacking and that nobody is asked for.
     #[tactic(auto, using(crate::proofs::Scans::none_unasked))]
     fn unasked_in(&self, piece: u32) -> Option<Block>
         requires { piece < piece_count self.now.setting.torrent }
@@ -239,7 +239,7 @@ impl<'a> Position<'a> {
         self.is_wanted(piece) && !self.is_full(piece)
     }
 
-    /// Whether no block of a wanted piece is unasked.
+    /// Whether every wanted block that is lacking has been asked for.
     #[tactic(auto, using(crate::proofs::Scans::all_asked_found, crate::proofs::Scans::all_asked_fails))]
     fn is_all_asked(&self) -> bool
         ensures { result ≡ each_block self.now.setting.torrent (λ b.

@@ -93,7 +93,7 @@ abbrev pub answer_again : Result End SessionFault → Result (Option End) Sessio
 answer_again (Ok end) = Ok (Some end)
 answer_again (Err fault) = Err fault
 
--- A session that came to its end: what was read is a whole stream; the place gained a turn for each of its messages, and Leave; and the
+-- A session that came to its end: the source gave a whole stream; each of its messages made a turn at the place, and then Leave; and the
 -- greeting was written, then what the events say.
 pub record IsWhole (end : End) (torrent : Metainfo) (worker : ℕ) (out out' : Surroundings) : Type 0 where
   pub read : List ℕ

@@ -58,8 +58,8 @@ abbrev pub AsksForNews : ℕ → Message → PlaceRecord → List Event → Plac
 AsksForNews pieces (messages.Hello hello) old events new = Unit {0}
 AsksForNews pieces m old events new = TellsNews pieces old events new
 
--- A turn that goes on: what was held and read are one message, then what is held now; the place gained a turn of that message; and what
--- its events say was written, after the greeting.
+-- A turn that goes on: one message was taken off the bytes held and read; the place gained what a turn makes of it; and what its events
+-- say was written, after the greeting.
 pub record TakesTurn (torrent : Metainfo) (greeting : List ℕ) (old : Reading) (out : Surroundings) (new : Reading) (out' : Surroundings) : Type 0 where
   pub message : Message
   pub events : List Event

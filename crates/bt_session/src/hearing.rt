@@ -14,7 +14,7 @@ const MOST: u64 = 1 << 32;
 /// The bytes that one read may give.
 const ROOM: usize = 64 * 1024;
 
-/// Reads until a whole message is there. There is none where the input ends first.
+/// Reads as much as the next message needs. There is none where the input ends first.
 pub fn hear<R: Source>(
     alloc: Global,
     inbound: &mut Inbound,

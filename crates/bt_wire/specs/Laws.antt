@@ -46,7 +46,7 @@ given (Fed piece ∷ steps) = given steps
 given (Gave m ∷ steps) = m ∷ given steps
 given (Failed fault ∷ steps) = given steps
 
--- however the stream was cut, the bytes fed are those of the messages given, then those held
+-- in whatever portions a stream came: what was fed is what the given messages spell, and behind it what is still unread
 abbrev pub FedIsGivenThenHeld : ℕ → Type 0
 FedIsGivenThenHeld limit = (steps : List Step) (state : InboundState) →
     Leads (opened limit) steps state → Begins false limit (fed steps) (given steps) state.bytes

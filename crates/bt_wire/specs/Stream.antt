@@ -60,7 +60,7 @@ abbrev pub HasFault : Bool → ℕ → List ℕ → WireFault → Type 0
 HasFault false limit bytes faults.BadHandshake = (68 ≤ length bytes) × (take 20 bytes ≢ protocol)
 -- a length above the limit
 HasFault true limit bytes faults.TooLong = (4 ≤ length bytes) × (limit < from_be_bytes w32 (take 4 bytes))
--- a whole frame within the limit whose length its known type doesn't have
+-- a whole frame within the limit of a known type, with another length than that type's
 HasFault true limit bytes faults.BadLength =
     (text : List ℕ) × ((rest : List ℕ) × (IsMisfit text × (length text ≤ limit) × (bytes ≡ frame text ++ rest)))
 HasFault _ limit bytes _ = ⊥

@@ -65,7 +65,7 @@ impl Inbound {
         Ok(())
     }
 
-    /// The message at the front, the handshake first. There is none where neither a whole message nor a fault stands there: feed more.
+    /// The message at the front, the handshake first. None says that more bytes are needed to tell what stands there.
     pub fn next(&mut self, alloc: Global) -> Result<Option<Message>, WireFault>
         ensures message { IfOk result (λ o. IfSome o (λ m. Gives self.old m self.new)) }
         ensures none { IfOk result (λ o. IfNone o

@@ -121,6 +121,20 @@ fn handshakes(rt: HostRuntime) -> Result<(), Fail> {
     Ok(())
 }
 
+/// The handshake, a message and a length beyond the limit, all in one piece.
+#[test]
+fn a_fault_behind_messages(rt: HostRuntime) -> Result<(), Fail> {
+    let mut stream = Vec::from_slice(rt.alloc(), &HELLO.write())?;
+    stream.extend_from_slice(&[0, 0, 0, 1, 0, 0, 16, 0, 1])?;
+    let mut inbound = Inbound::new(rt.alloc(), LIMIT);
+    assert!(rt; inbound.feed(&stream) == Ok(()));
+    assert!(rt; inbound.next(rt.alloc())? == Some(Message::Hello(HELLO)));
+    assert!(rt; inbound.next(rt.alloc())? == Some(Message::Choke));
+    assert!(rt; inbound.next(rt.alloc()) == Err(WireFault::TooLong));
+    assert_eq!(rt; inbound.rest(), 4);
+    Ok(())
+}
+
 #[test]
 fn a_frame_at_the_limit(rt: HostRuntime) -> Result<(), Fail> {
     let mut inbound = greeted(rt.alloc())?;

@@ -18,7 +18,7 @@ use std::alloc::Global;
 ///
 /// It goes over the bytes once. For a length that is announced it makes no room before as many bytes are there.
 pub fn parse(alloc: Global, source: &[u8]) -> Result<Tree, BenFault>
-    // Nothing but the spelling of a tree is taken, and each part's span is where it stands.
+    // Nothing but the spelling of a tree is taken, and each part knows its place there.
     ensures found { IfOk result (λ t. Spells t source.now) }
     ensures spans { IfOk result (λ t. placed 0 t ≡ t) }
     // The value at a key stands in the source where its span says.
@@ -175,7 +175,7 @@ fn no_key(byte: u8) -> BenFault
     }
 }
 
-/// Whether a key isn't above the one before it.
+/// Whether a key should have come earlier: it is no greater than the last one.
 fn is_late(entries: &[(Vec<u8>, Tree)], key: &[u8]) -> bool
     ensures { result ≡ is_late (last_key entries.now) key.now }
 {

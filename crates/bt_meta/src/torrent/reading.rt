@@ -29,9 +29,9 @@ struct Content {
 impl Torrent {
     /// The torrent whose metainfo file these bytes are (BEP 3, "metainfo files"), or the first fault.
     ///
-    /// The file is a dictionary with `info`, which has `name`, `piece length`, `pieces` and either `length` or `files`; other keys are
-    /// ignored, and so are the names in `path`. A file of no bytes is taken where there is another. The infohash is the SHA-1 of the
-    /// bytes of the info value as they stand.
+    /// What is read is the entry `info`, and there `name`, `piece length`, `pieces` and either `length` or `files`; other keys are
+    /// ignored, and so are the names in `path`. A file of no bytes is taken where there is another. The infohash hashes the info value
+    /// byte by byte as the file has it.
     pub fn read(alloc: Global, source: &[u8]) -> Result<Torrent, MetaFault>
         // Nothing but a metainfo file is taken, and the torrent is the one that it describes.
         ensures found { IfOk result (λ t. IsMeta source.now t) }
@@ -172,7 +172,7 @@ fn file_length(file: &Tree) -> Result<u64, MetaFault>
     Ok(length)
 }
 
-/// Whether a file of several has a `path`, a list of strings that isn't empty.
+/// Whether a file of several has a `path`: at least one string, in a list.
 #[tactic(auto, unfolding(crate::specs::Reading::path_in))]
 fn check_path(file: &Tree) -> Result<(), MetaFault>
     ensures { result ≡ path_in file.now }
