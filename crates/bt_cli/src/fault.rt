@@ -80,10 +80,13 @@ impl<T: Drop> From<AllocFailed<T>> for Fault {
 
 /// A writer over memory fails for want of memory; any other failure is the file's.
 impl From<io::Error> for Fault {
-    ghost use Rattle.std.specs.Prelude.{◌⊎◌};
+    ghost use Rattle.std.specs.Prelude.{◌≢◌, ◌⊎◌};
+    ghost use Rattle.std.specs.IoError.{error_kind};
+    ghost use Rattle.std.specs.declared.io.ErrorKind.TheVariants.{OutOfMemory};
     ghost use Rattle.bt_cli.specs.declared.fault.Fault.TheVariants.{Memory, File};
 
-    ghost from_gives = { λ _ e. (e ≡ Memory) ⊎ (e ≡ File) };
+    ghost from_gives = { λ error e.
+        ((e ≡ Memory) × (error_kind error ≡ OutOfMemory)) ⊎ ((e ≡ File) × (error_kind error ≢ OutOfMemory)) };
 
     fn from(e: io::Error) -> Fault {
         match e.kind() {

@@ -1,12 +1,11 @@
 -- A body is read in one way.
-use Rattle.std.proofs.Common.{◌≡◌, ◌≢◌, ℕ, List, [], ◌∷◌, ◌++◌, ◌<◌, ◌≤◌, ◌+◌, ◌^◌, ◌==◌, ◌⊎◌, true, false, Bool, length, take, drop, ap, sym, refl, subst, ◌∙◌, arith, nat_le, if◌then◌else◌, inl, inr}
+use Rattle.std.proofs.Common.{◌≡◌, ℕ, List, [], ◌∷◌, ◌<◌, ◌==◌, take, drop, ap, sym, ◌∙◌, arith, if◌then◌else◌}
 use Rattle.std.proofs.lemmas.Bool.Decides.{nat_tests}
 use Rattle.std.proofs.lemmas.Nat.{from_be_bytes-to_be_bytes_4}
 use Rattle.std.specs.Int.{w32, from_be_bytes}
 use Rattle.bt_wire.specs.declared.message.Message.{Message}
 use Rattle.bt_wire.specs.declared.message.Message.TheVariants as messages
-use Rattle.bt_wire.specs.Messages.{number, body}
-use Rattle.bt_wire.specs.Stream.{NumbersFit, IsBody, IsMisfit, length_fits}
+use Rattle.bt_wire.specs.Stream.{IsBody}
 
 -- the number in the first four bytes
 abbrev first_number : List ℕ → ℕ

@@ -1,10 +1,10 @@
 -- Frames at the front of bytes: their length is read off, so one frame stands there.
-use Rattle.std.proofs.Common.{◌≡◌, ℕ, List, [], ◌∷◌, ◌++◌, ◌<◌, ◌≤◌, ◌^◌, length, take, drop, ap, sym, refl, subst, ◌∙◌, append_assoc, arith}
+use Rattle.std.proofs.Common.{◌≡◌, ℕ, List, ◌++◌, ◌<◌, ◌^◌, length, take, drop, ap, sym, ◌∙◌}
 use Rattle.std.proofs.Math.Seq.{take-append_seam}
 use Rattle.std.proofs.lemmas.List.{append_cancel_left}
 use Rattle.std.proofs.lemmas.Nat.{from_be_bytes-to_be_bytes_4}
 use Rattle.std.specs.Int.{w32, from_be_bytes}
-use Rattle.bt_wire.specs.Messages.{number, frame}
+use Rattle.bt_wire.specs.Messages.{frame}
 
 -- two fronts of one length
 pub same_front : (a b after_a after_b : List ℕ) → length a ≡ length b → a ++ after_a ≡ b ++ after_b → (a ≡ b) × (after_a ≡ after_b)

@@ -1,5 +1,5 @@
 -- One message stands at the front of a stream.
-use Rattle.std.proofs.Common.{◌≡◌, ◌≢◌, ℕ, List, [], ◌∷◌, ◌++◌, ◌<◌, ◌≤◌, ◌+◌, ◌^◌, true, false, Bool, length, take, drop, ap, sym, refl, subst, ◌∙◌, arith, length-append}
+use Rattle.std.proofs.Common.{◌≡◌, ℕ, List, ◌++◌, ◌<◌, ◌^◌, true, false, Bool, length, ap, sym, refl, subst, ◌∙◌, arith, length-append}
 use Rattle.bt_wire.specs.declared.hello.Hello.{Hello}
 use Rattle.bt_wire.specs.declared.message.Message.{Message}
 use Rattle.bt_wire.specs.declared.message.Message.TheVariants as messages

@@ -1,7 +1,7 @@
 -- Bytes are read as messages in one way, and in any cutting.
 use Rattle.std.proofs.Common.{Some, append-nil, ◌≡◌, ℕ, List, [], ◌∷◌, ◌++◌, ◌<◌, ◌^◌, true, false, Bool, ap, sym, refl, subst, ◌∙◌, append_assoc}
 use Rattle.bt_wire.specs.declared.message.Message.{Message}
-use Rattle.bt_wire.specs.Stream.{Spells, HasMessage, Begins, Reads, greeted_after, InboundState, opened, Gives}
+use Rattle.bt_wire.specs.Stream.{HasMessage, Begins, greeted_after, InboundState, opened}
 use Rattle.bt_wire.specs.Laws.{OneReading, Step, Fed, Gave, Failed, Leads, fed, given, FedIsGivenThenHeld, AnyCutting}
 use Rattle.bt_wire.proofs.Fronts.{same_text}
 
