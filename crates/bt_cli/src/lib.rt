@@ -11,8 +11,6 @@ mod text;
 
 pub use fault::{Fault, conclude};
 pub use info::run_info;
-pub use journal::{journal_line, journal_text};
-pub use report::{Judged, Missing, Report, session_fault_number};
 pub use script::{run_script, script_to};
 pub use serial::{Options, after_run, run_serial, write_out};
 

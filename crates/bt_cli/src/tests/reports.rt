@@ -1,6 +1,7 @@
 //! Journal lines and parts of a report.
 
-use crate::*;
+use crate::journal::journal_line;
+use crate::report::Missing;
 use bt_meta::{Bitfield, Block};
 use bt_picker::{Call, Entry, Reason, Reply};
 use bytes::Bytes;

@@ -66,5 +66,6 @@ fn a_full_output(rt: HostRuntime) -> Result<(), Fail> {
         4
     );
     assert_eq!(rt; err.as_slice(), b"file fault\n".as_slice());
+    assert_eq!(rt; room.as_slice(), b"joi".as_slice());
     Ok(())
 }

@@ -151,6 +151,7 @@ fn a_full_output(rt: HostRuntime) -> Result<(), Fail> {
     assert_eq!(rt; status, 4);
     assert_eq!(rt; err.as_slice(), b"file fault\n".as_slice());
     assert!(rt; desk.is_some());
+    assert_eq!(rt; room.as_slice(), b"stream 0 end\npieces ".as_slice());
     Ok(())
 }
 
