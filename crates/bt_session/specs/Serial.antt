@@ -86,7 +86,8 @@ DevicesAfter (Err faults.WriteFault) old new = new.writer_failed ≡ true
 DevicesAfter (Err fault) old new = Unit {0}
 
 -- A stream's session ended so: from the empty desk, and the stream as it was handed in, to this desk, and the stream as it was given back.
-pub record Ended (outcome : Result End SessionFault) (torrent : Metainfo) (worker : ℕ) (old : StreamRecord) (desk : DeskState) (new : StreamRecord) : Type 0 where
+pub record Ended (outcome : Result End SessionFault) (torrent : Metainfo) (worker : ℕ)
+    (old : StreamRecord) (desk : DeskState) (new : StreamRecord) : Type 0 where
   -- the pieces that were told to the peer
   pub told : List Bool
   -- a call found no memory

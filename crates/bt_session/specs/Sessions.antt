@@ -1,5 +1,6 @@
 -- A session as its callers see it, and what one turn of it does.
-use Rattle.std.specs.Prelude.{◌≡◌, ◌⊎◌, ◌∷◌, ℕ, ◌+◌, ◌*◌, ◌-◌, Bool, true, false, if◌then◌else◌, List, [], ◌++◌, length, Option, Some, None, Result, Ok, Err}
+use Rattle.std.specs.Prelude.{◌≡◌, ◌⊎◌, ◌∷◌, ℕ, ◌+◌, ◌*◌, ◌-◌, Bool, true, false, if◌then◌else◌, List, [], ◌++◌, length}
+use Rattle.std.specs.Prelude.{Option, Some, None, Result, Ok, Err}
 use Rattle.std.specs.Io.KnownBytes.{Appends, Consumes}
 use Rattle.bt_meta.specs.Layout.{Metainfo, piece_count}
 use Rattle.bt_wire.specs.Limit.{frame_limit}
@@ -79,7 +80,8 @@ pub record Ends (end : End) (old : SessionState) (out : Surroundings) (has_ended
   pub outcome : new.outcome ≡ Some (Ok end)
 
 -- the last turn, broken off: after its events Leave, if the peer is in
-pub record FailsWith (fault : SessionFault) (old : SessionState) (out : Surroundings) (source : SourceState) (new : SessionState) (out' : Surroundings) : Type 0 where
+pub record FailsWith (fault : SessionFault) (old : SessionState) (out : Surroundings) (source : SourceState)
+    (new : SessionState) (out' : Surroundings) : Type 0 where
   pub events : List Event
   pub leave : List Event
   pub gains : GainsUpTo out.past (events ++ leave) out'.past
@@ -140,7 +142,8 @@ abbrev pub Running : Metainfo → ℕ → Surroundings → SessionState → Surr
 Running torrent worker out now out' = IsUntouched torrent worker out now out' ⊎ TookTurns torrent worker out now out'
 
 -- a session that a fault cut short: some turns that went on, then the turn that broke off
-pub record IsCutShort (fault : SessionFault) (torrent : Metainfo) (worker : ℕ) (out : Surroundings) (source : SourceState) (out' : Surroundings) : Type 0 where
+pub record IsCutShort (fault : SessionFault) (torrent : Metainfo) (worker : ℕ)
+    (out : Surroundings) (source : SourceState) (out' : Surroundings) : Type 0 where
   pub now : SessionState
   pub mid : Surroundings
   pub new : SessionState

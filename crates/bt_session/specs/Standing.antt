@@ -42,7 +42,8 @@ pub record Stands (torrent : Metainfo) (worker : ℕ) (out : Surroundings) (firs
 
 -- a session that stood goes on standing
 pub record Keeps (worker : ℕ) (old new : Standing) : Type 0 where
-  pub still : (torrent : Metainfo) (out : Surroundings) (first : StreamRecord) → Stands torrent worker out first old → Stands torrent worker out first new
+  pub still : (torrent : Metainfo) (out : Surroundings) (first : StreamRecord) →
+      Stands torrent worker out first old → Stands torrent worker out first new
 
 -- a worker's turn leaves alone what the others called, and what is had stays had
 pub record LeavesOthers (worker : ℕ) (old new : DeskState) : Type 0 where

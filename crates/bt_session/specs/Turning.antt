@@ -60,7 +60,8 @@ AsksForNews pieces m old events new = TellsNews pieces old events new
 
 -- A turn that goes on: one message was taken off the bytes held and read; the place gained what a turn makes of it; and what its events
 -- say was written, after the greeting.
-pub record TakesTurn (torrent : Metainfo) (greeting : List ℕ) (old : Reading) (out : Surroundings) (new : Reading) (out' : Surroundings) : Type 0 where
+pub record TakesTurn (torrent : Metainfo) (greeting : List ℕ) (old : Reading) (out : Surroundings)
+    (new : Reading) (out' : Surroundings) : Type 0 where
   pub message : Message
   pub events : List Event
   pub hears : Hears old.stream out.left out'.left message new.stream

@@ -1,5 +1,6 @@
 -- The events of a turn: what a session calls for a message, and what it asks for then.
-use Rattle.std.specs.Prelude.{◌≡◌, ℕ, zero, suc, ◌≤◌, ◌⊎◌, Bool, true, false, IsTrue, MatchBool, MatchOption, List, [], ◌∷◌, ◌++◌, length, map, Option, Some, None}
+use Rattle.std.specs.Prelude.{◌≡◌, ℕ, zero, suc, ◌≤◌, ◌⊎◌, Bool, true, false, IsTrue, MatchBool, MatchOption}
+use Rattle.std.specs.Prelude.{List, [], ◌∷◌, ◌++◌, length, map, Option, Some, None}
 use Rattle.std.specs.List.{list_any}
 use Rattle.bt_meta.specs.WireBits.{wire_len, HasSpareBit}
 use Rattle.bt_wire.specs.declared.message.Message.{Message}

@@ -82,10 +82,13 @@ fn call_and_check<P: Place, W: Sink>(
 ) -> Result<(), SessionFault>
     requires { is_check (mark_of_call call) ≡ false }
     ensures ok { OnOk result ((events : List Event) × (Opens (Some (mark_of_call call)) events × NoneRefused events
-        × Performs (outlet P.past W.written place.old writer.old interested.old) events (outlet P.past W.written place.new writer.new interested.new))) }
+        × Performs (outlet P.past W.written place.old writer.old interested.old) events
+        (outlet P.past W.written place.new writer.new interested.new))) }
     ensures ok_sound { OnOk result (W.failed writer.new ≡ W.failed writer.old) }
-    ensures err { IfErr result (λ fault. (events : List Event) × ((rest : List Event) × (Opens (Some (mark_of_call call)) (events ++ rest) × EndsCalls fault events
-        × PerformsUpTo fault (outlet P.past W.written place.old writer.old interested.old) events (outlet P.past W.written place.new writer.new interested.new)))) }
+    ensures err { IfErr result (λ fault. (events : List Event) × ((rest : List Event) × (Opens (Some (mark_of_call call)) (events ++ rest)
+        × EndsCalls fault events
+        × PerformsUpTo fault (outlet P.past W.written place.old writer.old interested.old) events
+        (outlet P.past W.written place.new writer.new interested.new)))) }
     ensures err_failed { IfErr result (λ fault. fault ≡ WriteFault → W.failed writer.new ≡ true) }
 {
     let arrived = arrived_piece(&call);
@@ -108,10 +111,12 @@ fn open<P: Place, W: Sink>(
     requires { IsLater message }
     ensures acceptable { OnOk result (IsAcceptable (piece_count torrent.now.layout) message) }
     ensures ok { OnOk result ((events : List Event) × (Opens (call_of message) events × NoneRefused events
-        × Performs (outlet P.past W.written place.old writer.old interested.old) events (outlet P.past W.written place.new writer.new interested.new))) }
+        × Performs (outlet P.past W.written place.old writer.old interested.old) events
+        (outlet P.past W.written place.new writer.new interested.new))) }
     ensures ok_sound { OnOk result (W.failed writer.new ≡ W.failed writer.old) }
     ensures err { IfErr result (λ fault. (events : List Event) × (StopsOpening fault (piece_count torrent.now.layout) message events
-        × PerformsUpTo fault (outlet P.past W.written place.old writer.old interested.old) events (outlet P.past W.written place.new writer.new interested.new))) }
+        × PerformsUpTo fault (outlet P.past W.written place.old writer.old interested.old) events
+        (outlet P.past W.written place.new writer.new interested.new))) }
     ensures err_failed { IfErr result (λ fault. fault ≡ WriteFault → W.failed writer.new ≡ true) }
 {
     match call_for(alloc, torrent, message)? {
@@ -133,10 +138,12 @@ pub fn attend<P: Place, W: Sink, N: Rng>(
     requires { IsLater message }
     ensures ok { OnOk result ((events : List Event) × (IsTurn (piece_count torrent.now.layout) message events × NoneRefused events
         × TellsNews (piece_count torrent.now.layout) (P.past place.old) events (P.past place.new)
-        × Performs (outlet P.past W.written place.old writer.old interested.old) events (outlet P.past W.written place.new writer.new interested.new))) }
+        × Performs (outlet P.past W.written place.old writer.old interested.old) events
+        (outlet P.past W.written place.new writer.new interested.new))) }
     ensures ok_sound { OnOk result (W.failed writer.new ≡ W.failed writer.old) }
     ensures err { IfErr result (λ fault. (events : List Event) × (StopsTurn fault (piece_count torrent.now.layout) message events
-        × PerformsUpTo fault (outlet P.past W.written place.old writer.old interested.old) events (outlet P.past W.written place.new writer.new interested.new))) }
+        × PerformsUpTo fault (outlet P.past W.written place.old writer.old interested.old) events
+        (outlet P.past W.written place.new writer.new interested.new))) }
     ensures err_failed { IfErr result (λ fault. fault ≡ WriteFault → W.failed writer.new ≡ true) }
 {
     open(alloc, torrent, message, place, writer, interested)?;

@@ -27,10 +27,14 @@ pub fn make_call<P: Place, W: Sink>(
     interested: &mut bool,
     call: Call,
 ) -> Result<Reply, SessionFault>
-    ensures ok { IfOk result (λ reply. Performs (outlet P.past W.written place.old writer.old interested.old) (Called (mark_of_call call) reply ∷ []) (outlet P.past W.written place.new writer.new interested.new)) }
+    ensures ok { IfOk result (λ reply. Performs
+        (outlet P.past W.written place.old writer.old interested.old) (Called (mark_of_call call) reply ∷ [])
+        (outlet P.past W.written place.new writer.new interested.new)) }
     ensures ok_accepted { IfOk result (λ reply. is_refusal reply ≡ false) }
     ensures ok_sound { OnOk result (W.failed writer.new ≡ W.failed writer.old) }
-    ensures err { IfErr result (λ fault. (events : List Event) × (StopsCall (mark_of_call call) fault events × PerformsUpTo fault (outlet P.past W.written place.old writer.old interested.old) events (outlet P.past W.written place.new writer.new interested.new))) }
+    ensures err { IfErr result (λ fault. (events : List Event) × (StopsCall (mark_of_call call) fault events
+        × PerformsUpTo fault (outlet P.past W.written place.old writer.old interested.old) events
+        (outlet P.past W.written place.new writer.new interested.new))) }
     ensures err_failed { IfErr result (λ fault. fault ≡ WriteFault → W.failed writer.new ≡ true) }
 {
     let reply = place.call(alloc, call)?;
@@ -51,7 +55,9 @@ pub fn tell_news<P: Place, W: Sink>(
     ensures ok { OnOk result ((news : List ℕ) × ((length news ≤ most) × ((length news ≡ most) ⊎ AllTold (P.past place.new))
         × Performs (outlet P.past W.written place.old writer.old false) (map News news) (outlet P.past W.written place.new writer.new false))) }
     ensures ok_sound { OnOk result (W.failed writer.new ≡ W.failed writer.old) }
-    ensures err { IfErr result (λ fault. (news : List ℕ) × ((length news ≤ most) × IsCut fault × PerformsUpTo fault (outlet P.past W.written place.old writer.old false) (map News news) (outlet P.past W.written place.new writer.new false))) }
+    ensures err { IfErr result (λ fault. (news : List ℕ) × ((length news ≤ most) × IsCut fault
+        × PerformsUpTo fault (outlet P.past W.written place.old writer.old false) (map News news)
+        (outlet P.past W.written place.new writer.new false))) }
     ensures err_failed { IfErr result (λ fault. fault ≡ WriteFault → W.failed writer.new ≡ true) }
 {
     'news: for _ in 0..most {
@@ -78,9 +84,14 @@ pub fn ask<P: Place, W: Sink, N: Rng>(
     interested: &mut bool,
     rng: &mut N,
 ) -> Result<(), SessionFault>
-    ensures ok { OnOk result ((asking : List Event) × (Asks most_next asking × NoneRefused asking × Performs (outlet P.past W.written place.old writer.old interested.old) asking (outlet P.past W.written place.new writer.new interested.new))) }
+    ensures ok { OnOk result ((asking : List Event) × (Asks most_next asking × NoneRefused asking
+        × Performs (outlet P.past W.written place.old writer.old interested.old) asking
+        (outlet P.past W.written place.new writer.new interested.new))) }
     ensures ok_sound { OnOk result (W.failed writer.new ≡ W.failed writer.old) }
-    ensures err { IfErr result (λ fault. (asking : List Event) × ((rest : List Event) × (Asks most_next (asking ++ rest) × EndsCalls fault asking × PerformsUpTo fault (outlet P.past W.written place.old writer.old interested.old) asking (outlet P.past W.written place.new writer.new interested.new)))) }
+    ensures err { IfErr result (λ fault. (asking : List Event) × ((rest : List Event) × (Asks most_next (asking ++ rest)
+        × EndsCalls fault asking
+        × PerformsUpTo fault (outlet P.past W.written place.old writer.old interested.old) asking
+        (outlet P.past W.written place.new writer.new interested.new)))) }
     ensures err_failed { IfErr result (λ fault. fault ≡ WriteFault → W.failed writer.new ≡ true) }
 {
     'next: for _ in 0..MOST_NEXT {

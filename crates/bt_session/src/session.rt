@@ -31,7 +31,16 @@ impl Model for Session {
 
     ghost Value = { SessionState };
 
-    ghost view = { λ a. record { torrent = a.torrent.value; worker = a.worker; stream = a.peer.inbound; joined = a.joined; interested = a.peer.interested; asked = a.peer.asked; messages = a.messages; outcome = a.outcome } };
+    ghost view = { λ a. record {
+      torrent = a.torrent.value;
+      worker = a.worker;
+      stream = a.peer.inbound;
+      joined = a.joined;
+      interested = a.peer.interested;
+      asked = a.peer.asked;
+      messages = a.messages;
+      outcome = a.outcome;
+    } };
 
     ghost invariant = { λ a. (a.peer.asked ≤ most_reads) × (a.outcome ≡ None →
         (a.peer.inbound.greeted ≡ a.joined) × (4 * a.messages + length a.peer.inbound.bytes ≤ room_len * a.peer.asked)) };

@@ -45,7 +45,8 @@ pub fn greet<R: Source, W: Sink, P: Place>(
         (reading peer.old.inbound peer.old.interested) (surroundings P.past R.left W.written place.old reader.old writer.old)
         (reading peer.new.inbound peer.new.interested) (surroundings P.past R.left W.written place.new reader.new writer.new)) }
     ensures ok_sound { OnOk result ((R.failed reader.new ≡ R.failed reader.old) × (W.failed writer.new ≡ W.failed writer.old)) }
-    ensures few { OnOk result (length peer.new.inbound.bytes + 4 + room_len * peer.old.asked ≤ length peer.old.inbound.bytes + room_len * peer.new.asked) }
+    ensures few { OnOk result (
+        length peer.new.inbound.bytes + 4 + room_len * peer.old.asked ≤ length peer.old.inbound.bytes + room_len * peer.new.asked) }
     ensures err { IfErr result (λ fault. (events : List Event) × (GainsUpTo (P.past place.old) events (P.past place.new)
         × (is_in false events ≡ false)
         × WroteFront fault (W.written writer.old) (greeting.now ++ says peer.old.interested events) (W.written writer.new)
@@ -105,7 +106,8 @@ pub fn listen<R: Source, W: Sink, P: Place, N: Rng>(
         (reading peer.old.inbound peer.old.interested) (surroundings P.past R.left W.written place.old reader.old writer.old) (R.ended reader.new)
         (reading peer.new.inbound peer.new.interested) (surroundings P.past R.left W.written place.new reader.new writer.new))) }
     ensures ok_sound { OnOk result ((R.failed reader.new ≡ R.failed reader.old) × (W.failed writer.new ≡ W.failed writer.old)) }
-    ensures err { IfErr result (λ fault. (events : List Event) × ((leave : List Event) × (GainsUpTo (P.past place.old) (events ++ leave) (P.past place.new)
+    ensures err { IfErr result (λ fault. (events : List Event) × ((leave : List Event) ×
+        (GainsUpTo (P.past place.old) (events ++ leave) (P.past place.new)
         × Departs (is_in true events) (P.past place.new).short leave
         × WroteFront fault (W.written writer.old) (says peer.old.interested events) (W.written writer.new)
         × BreaksBy fault (start torrent.now true peer.old.inbound (R.left reader.old))
