@@ -5,21 +5,15 @@ mod counts;
 
 use anyhow::{Context, Result, bail};
 use bt_cli::{Options, run_serial};
-use bt_meta::{FromRead, ToWrite};
+use bt_meta::{FromRead, ToWrite, Torrent};
 use bt_picker::Desk;
-use bt_session::Stream;
-use bt_wire::Inbound;
+use bt_session::{MOST_STREAMS, Stream};
+use bt_wire::{Inbound, frame_limit};
 use counts::Counts;
 use sha1::Sha1;
 use std::alloc::Global;
 use std::rt::Runtime;
 use std::{env, fs, io};
-
-/// 1 MiB, the limit of a torrent of up to 8,388,600 pieces.
-const LIMIT: u32 = 1 << 20;
-
-/// The most streams that one run takes.
-const MOST_STREAMS: usize = 64;
 
 const OPTIONS: Options = Options {
     seed: 0,
@@ -34,27 +28,29 @@ fn main(rt: HostRuntime) -> Result<()> {
     let words: Vec<String> = args.collect(rt.alloc())?;
     for sample in words.split(|word| word.as_str() == "--") {
         let (meta, streams) = sample.split_first().context("a metainfo file")?;
+        let meta = fs::read(&rt, meta.as_str())?;
+        let torrent = Torrent::read(rt.alloc(), &meta)?;
+        let limit = frame_limit(torrent.piece_count());
         for name in streams {
-            decode(&rt, name.as_str(), lens.as_str())?;
+            decode(&rt, name.as_str(), lens.as_str(), limit)?;
         }
-        play(&rt, meta.as_str(), streams)?;
+        play(&rt, &meta, streams)?;
     }
     Ok(())
 }
 
 /// Prints the messages of a stream by type, for each of these lengths of pieces that it may come in.
-fn decode<R: Runtime + AllocGlobal>(rt: &R, name: &str, lens: &str) -> Result<()> {
+fn decode<R: Runtime + AllocGlobal>(rt: &R, name: &str, lens: &str, limit: u32) -> Result<()> {
     let bytes = fs::read(rt, name)?;
     for len in lens.split(',') {
-        let counts = count(rt.alloc(), &bytes, len.parse::<usize>()?)?;
+        let counts = count(rt.alloc(), &bytes, len.parse::<usize>()?, limit)?;
         println!(rt; "{name} in pieces of {len}: {counts}")?;
     }
     Ok(())
 }
 
 /// Prints the report of a run of these streams, its status, and the SHA-1 of the content.
-fn play<R: Runtime + AllocGlobal>(rt: &R, meta: &str, names: &[String]) -> Result<()> {
-    let meta = fs::read(rt, meta)?;
+fn play<R: Runtime + AllocGlobal>(rt: &R, meta: &[u8], names: &[String]) -> Result<()> {
     let mut streams = Vec::new(rt.alloc());
     for name in names {
         streams.push(Stream {
@@ -63,12 +59,12 @@ fn play<R: Runtime + AllocGlobal>(rt: &R, meta: &str, names: &[String]) -> Resul
         })?;
     }
     if streams.is_empty() || streams.len() > MOST_STREAMS {
-        bail!("a run takes 1 to 64 streams");
+        bail!("a run takes 1 to {MOST_STREAMS} streams");
     }
     let out = &mut io::writer(rt);
     let (status, desk) = run_serial(
         rt.alloc(),
-        &meta,
+        meta,
         &mut streams,
         &OPTIONS,
         out,
@@ -92,18 +88,21 @@ fn tell_content<R: Runtime + AllocGlobal>(rt: &R, desk: &Desk) -> Result<()> {
 }
 
 /// The messages of a stream that comes in pieces of this many bytes.
-fn count(alloc: Global, bytes: &[u8], len: usize) -> Result<Counts> {
-    let mut inbound = Inbound::new(alloc, LIMIT);
+fn count(alloc: Global, bytes: &[u8], len: usize, limit: u32) -> Result<Counts> {
+    let mut inbound = Inbound::new(alloc, limit);
     let mut counts = Counts::new();
     for piece in bytes.chunks(len.max(1)) {
         inbound.feed(piece)?;
-        for _ in 0..u64::MAX {
-            let Some(message) = inbound.next(alloc)? else {
-                break;
-            };
-            counts.add(&message);
-        }
+        take_all(alloc, &mut inbound, &mut counts)?;
     }
     counts.set_rest(inbound.rest());
     Ok(counts)
+}
+
+/// Counts the messages that are there.
+fn take_all(alloc: Global, inbound: &mut Inbound, counts: &mut Counts) -> Result<()> {
+    'messages: while let Some(message) = inbound.next(alloc)? {
+        counts.add(&message);
+    }
+    Ok(())
 }

@@ -21,7 +21,7 @@ pub use fault::{End, SessionFault};
 pub use place::Place;
 pub use rounds::serial;
 pub use session::Session;
-pub use stream::{SerialRun, Stream};
+pub use stream::{MOST_STREAMS, SerialRun, Stream};
 
 #[cfg(test)]
 mod tests;

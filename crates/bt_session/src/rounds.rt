@@ -12,7 +12,7 @@ ghost use Rattle.bt_session.specs.Standing.{AreNew, EachKeeps, Fit, HasEnded, Is
 use crate::fault::{End, SessionFault};
 use crate::seat::{Seat, take_turn};
 use crate::session::Session;
-use crate::stream::{SerialRun, Stream};
+use crate::stream::{MOST_STREAMS, SerialRun, Stream};
 use bt_meta::{Bitfield, Sink, Source, Torrent};
 use bt_picker::Desk;
 use rand_pcg::Lcg64Xsh32;
@@ -64,7 +64,7 @@ fn turn_of<R: Source, W: Sink>(
     requires i { i < length streams.old }
     requires seats { length seats.old ≡ length streams.old }
     requires workers { length streams.old < desk.old.setting.workers }
-    requires few { length streams.old ≤ 64 }
+    requires few { length streams.old ≤ MOST_STREAMS }
     requires fit { Fit desk.old seats.old }
     ensures keeps { EachKeeps (stream_record R.left R.ended R.failed R.asked W.written W.failed)
         desk.old seats.old streams.old desk.new seats.new streams.new }
@@ -90,7 +90,7 @@ fn round<R: Source, W: Sink>(
 ) -> bool
     requires seats { length seats.old ≡ length streams.old }
     requires workers { length streams.old < desk.old.setting.workers }
-    requires few { length streams.old ≤ 64 }
+    requires few { length streams.old ≤ MOST_STREAMS }
     requires fit { Fit desk.old seats.old }
     ensures keeps { EachKeeps (stream_record R.left R.ended R.failed R.asked W.written W.failed)
         desk.old seats.old streams.old desk.new seats.new streams.new }
@@ -117,7 +117,7 @@ fn play<R: Source, W: Sink>(
 )
     requires seats { length seats.old ≡ length streams.old }
     requires workers { length streams.old < desk.old.setting.workers }
-    requires few { length streams.old ≤ 64 }
+    requires few { length streams.old ≤ MOST_STREAMS }
     requires fit { Fit desk.old seats.old }
     ensures keeps { EachKeeps (stream_record R.left R.ended R.failed R.asked W.written W.failed)
         desk.old seats.old streams.old desk.new seats.new streams.new }
@@ -164,7 +164,7 @@ fn play_out<R: Source, W: Sink>(
 ) -> bool
     requires seats { length seats.old ≡ length streams.old }
     requires workers { length streams.old < desk.old.setting.workers }
-    requires few { length streams.old ≤ 64 }
+    requires few { length streams.old ≤ MOST_STREAMS }
     requires fit { Fit desk.old seats.old }
     requires fresh { desk.old.history ≡ [] }
     requires empty { ends.old.items ≡ [] }
@@ -192,7 +192,7 @@ pub fn serial<R: Source, W: Sink>(
     streams: &mut [Stream<R, W>],
     seed: u64,
 ) -> Result<SerialRun, AllocError>
-    requires { (1 ≤ length streams.old) × (length streams.old ≤ 64) }
+    requires { (1 ≤ length streams.old) × (length streams.old ≤ MOST_STREAMS) }
     ensures setting { IfOk result (λ run. run.desk.setting ≡ usual torrent.value.layout (length streams.old + 1)) }
     ensures ends { IfOk result (λ run. length run.ends.items ≡ length streams.old) }
     // Each session ended as its stream says; what it saw of the desk is what the desk's journal has of its worker.

@@ -3,6 +3,9 @@
 use crate::fault::{End, SessionFault};
 use bt_picker::Desk;
 
+/// The most streams that one run takes.
+pub const MOST_STREAMS: usize = 64;
+
 /// A recorded peer: what it sends is read, and what is sent to it is written.
 #[derive(Drop)]
 pub struct Stream<R, W> {

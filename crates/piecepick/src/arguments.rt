@@ -1,5 +1,6 @@
 //! The command line.
 
+use bt_session::MOST_STREAMS;
 use clap::{Arg, ArgAction, Command, value_parser};
 use std::alloc::{AllocError, Global};
 
@@ -73,6 +74,6 @@ fn streams<'a>(alloc: Global) -> Arg<'a> {
     Arg::new(alloc, "STREAM")
         .help("What a peer sent, from its handshake on")
         .required(true)
-        .num_args(1..=64)
+        .num_args(1..=MOST_STREAMS)
         .action(ArgAction::Append)
 }

@@ -1,13 +1,15 @@
 //! The program `piecepick`: reads the command line, opens files, and leaves the rest to `bt_cli`.
 #![tactic(auto)]
 
+ghost use Rattle.std.specs.Prelude.{◌≡◌, length, IfOk};
+
 mod arguments;
 
 use arguments::command;
 use bt_cli::{Fault, Options, after_run, conclude, run_info, run_serial, script_to, write_out};
 use bt_meta::{FromRead, ToWrite};
 use bt_picker::Desk;
-use bt_session::Stream;
+use bt_session::{MOST_STREAMS, Stream};
 use clap::ArgMatches;
 use clap::error::ErrorKind;
 use std::io::{BufReader, Read, Write};
@@ -17,9 +19,6 @@ use std::{env, fs, io};
 
 /// The status where the arguments are wrong.
 const WRONG_ARGUMENTS: u8 = 2;
-
-/// The most streams that one run takes.
-const MOST_STREAMS: usize = 64;
 
 fn main(rt: HostRuntime) -> ExitCode {
     let mut err = rt.stderr();
@@ -86,16 +85,13 @@ fn serial<R: Runtime + AllocGlobal, E: Write>(
         journal: arguments.get_flag("journal"),
     };
     let names = arguments.get_strs("STREAM").unwrap_or(&[]);
+    // `clap` refuses other numbers of them, but none of its contracts says so.
     if names.is_empty() || names.len() > MOST_STREAMS {
-        rt.eprintln("error: a run takes 1 to 64 streams")?;
+        eprintln!(rt; "error: a run takes 1 to {MOST_STREAMS} streams")?;
         return Ok(WRONG_ARGUMENTS);
     }
     let meta = fs::read(rt, meta)?;
     let mut streams = recorded(rt, names)?;
-    // There is one for each name.
-    if streams.is_empty() || streams.len() > MOST_STREAMS {
-        return Ok(WRONG_ARGUMENTS);
-    }
     let out = &mut io::writer(rt);
     let (status, desk) = run_serial(rt.alloc(), &meta, &mut streams, &options, out, err);
     match (desk, arguments.get_str("out")) {
@@ -104,11 +100,13 @@ fn serial<R: Runtime + AllocGlobal, E: Write>(
     }
 }
 
-/// The streams that are named, each opened. What is said to them is dropped.
+/// The streams that are named, each opened: one for each name. What is said to them is dropped.
 fn recorded<R: Runtime + AllocGlobal>(
     rt: &R,
     names: &[&str],
-) -> Result<Vec<Stream<FromRead<R::File>, ToWrite<io::Sink>>>, Fault> {
+) -> Result<Vec<Stream<FromRead<R::File>, ToWrite<io::Sink>>>, Fault>
+    ensures { IfOk result (λ streams. length streams.items ≡ length names.now) }
+{
     let mut streams = Vec::new(rt.alloc());
     for name in names {
         streams.push(Stream {
