@@ -85,7 +85,7 @@ fn serial<R: Runtime + AllocGlobal, E: Write>(
         journal: arguments.get_flag("journal"),
     };
     let names = arguments.get_strs("STREAM").unwrap_or(&[]);
-    // `clap` refuses other numbers of them, but none of its contracts says so.
+    // `clap` refuses other numbers of them, but nothing here proves that of what it found.
     if names.is_empty() || names.len() > MOST_STREAMS {
         eprintln!(rt; "error: a run takes 1 to {MOST_STREAMS} streams")?;
         return Ok(WRONG_ARGUMENTS);
