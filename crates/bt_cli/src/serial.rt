@@ -19,7 +19,7 @@ use crate::journal::journal_text;
 use crate::report::{Judged, Report, are_all};
 use bt_meta::{Sink, Source, ToWrite, Torrent};
 use bt_picker::{AuditFault, Desk, audit};
-use bt_session::{End, SerialRun, SessionFault, Stream, serial};
+use bt_session::{End, MOST_STREAMS, SerialRun, SessionFault, Stream, serial};
 use std::alloc::{AllocError, Global};
 use std::io::Write;
 use std::sync::Arc;
@@ -48,7 +48,7 @@ pub fn run_serial<R: Source, W: Sink, O: Write, E: Write>(
     out: &mut O,
     err: &mut E,
 ) -> (u8, Option<Desk>)
-    requires { (1 ≤ length streams.old) × (length streams.old ≤ 64) }
+    requires { (1 ≤ length streams.old) × (length streams.old ≤ MOST_STREAMS) }
     ensures status { IsSerialStatus (torrent_of_file meta.now) result.0 result.1 }
     ensures setting { IfSome result.1 (λ desk. (t : Metainfo) → torrent_of_file meta.now ≡ Ok t →
         desk.setting ≡ usual t.layout (length streams.old + 1)) }
@@ -123,7 +123,7 @@ fn play<R: Source, W: Sink>(
     streams: &mut [Stream<R, W>],
     seed: u64,
 ) -> Result<Played, Fault>
-    requires { (1 ≤ length streams.old) × (length streams.old ≤ 64) }
+    requires { (1 ≤ length streams.old) × (length streams.old ≤ MOST_STREAMS) }
     ensures torrent { IfOk result (λ p. torrent_of_file meta.now ≡ Ok p.torrent.value) }
     ensures setting { IfOk result (λ p. p.run.desk.setting ≡ usual p.torrent.value.layout (length streams.old + 1)) }
     ensures sessions { IfOk result (λ p. EachEnded (stream_record R.left R.ended R.failed R.asked W.written W.failed)
