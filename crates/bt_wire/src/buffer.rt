@@ -10,8 +10,8 @@ use std::marker::Model;
 const SLACK: usize = 64 * 1024;
 
 /// Bytes that come in at the end and go out at the front. Both take time linear in the bytes, however they are cut: a byte
-/// is copied when it comes in, and moved only where the block grows by half or where as many bytes have gone out in front.
-/// So a block has less than six bytes to each unread one, and four times the slack.
+/// is copied when it comes in, and moved only where the block doubles or where as many bytes have gone out in front.
+/// So a block has less than four bytes to each unread one, and twice the slack, while there is memory to give it back.
 #[derive(Drop)]
 pub struct Buffer {
     unread: BytesMut,
