@@ -152,6 +152,7 @@ impl<'a> Position<'a> {
             × IsTrue (starts self.now.setting self.now.history worker b)) }
         ensures none { IfNone result (some_block self.now.setting.torrent (usable self.now.setting self.now.history worker) ≡ false) }
     {
+        // Read so that the proof has what holds of every position: its history is legal.
         let _legal = &self.tables;
         let rare = self.has_had();
         match self.candidate(worker, rare, word) {
@@ -319,6 +320,7 @@ impl<'a> Position<'a> {
         requires { worker < self.now.setting.workers }
         ensures { Finds self.now.setting.torrent (due self.now.history worker) result }
     {
+        // Read so that the proof has what holds of every position: its history is legal.
         let _legal = &self.tables;
         self.dues(worker).first().copied()
     }
@@ -328,6 +330,7 @@ impl<'a> Position<'a> {
         requires { worker < self.now.setting.workers }
         ensures { result ≡ nat_le self.now.setting.depth (asked_count self.now.setting self.now.history worker) }
     {
+        // Read so that the proof has what holds of every position: its history is legal, and its depth is `DEPTH`.
         let _legal = &self.tables;
         self.outstanding(worker).len() >= DEPTH
     }
