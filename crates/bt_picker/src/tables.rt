@@ -231,10 +231,8 @@ impl Tables {
     {
         if reply.is_stored() {
             self.put_block(worker, piece, begin / BLOCK_SIZE, older);
-            self.note_arrival(worker);
-        } else {
-            self.note_arrival(worker);
         }
+        self.note_arrival(worker);
     }
 
     fn note_arrival(&mut self, worker: u32)
