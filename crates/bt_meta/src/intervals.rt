@@ -16,6 +16,7 @@ pub fn pieces_tile_the_content(torrent: &Torrent, piece: u32)
         piece_start torrent.now.layout piece + piece_len torrent.now.layout piece
         ≡ torrent.now.layout.total }
 {
+    // Says to the proof that the torrent's parts fit together.
     let _layout = torrent.piece_count();
 }
 
