@@ -16,7 +16,7 @@ pub data Answer : Type 0 where
   CancelOf : (test : Block → Bool) → Answer
   RequestOf : (test : Block → Bool) → Answer
 
--- block b may be asked of q anew: nobody was asked for it, and q shows its piece, which is wanted
+-- a request of block b to q is of use: the block is unasked, and q shows its piece, which is wanted
 abbrev pub usable : Setting → History → ℕ → Block → Bool
 usable s h q b = unasked s h b && (wanted s h b.piece && shows h q b.piece)
 

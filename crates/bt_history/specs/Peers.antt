@@ -28,7 +28,7 @@ late_after (Some Unchoke) before = true
 late_after (Some (Arrived piece begin bytes)) before = true
 late_after call before = before
 
--- q has said something that BEP 3 wants behind the bitfield, since it joined: a bitfield would come too late
+-- since it joined q has sent a bitfield, or a message behind which none may come: another bitfield would be too late
 unfoldable pub late : History → ℕ → Bool
 late [] q = false
 late (e ∷ h) q = late_after (own_call q e) (late h q)

@@ -50,11 +50,11 @@ held_or_asked s h b = held h b || asked_of_some s h b
 abbrev pub unasked : Setting → History → Block → Bool
 unasked s h b = not (held_or_asked s h b)
 
--- work on piece p has begun: a block of it came or is asked, and the piece isn't had yet
+-- piece p is under way: of its blocks one or more are held or asked, but it isn't had yet
 abbrev pub begun : Setting → History → ℕ → Bool
 begun s h p = not (had h p) && some_block_of s.torrent p (held_or_asked s h)
 
--- piece p isn't had, and no work on it has begun
+-- piece p is yet to be started: it isn't had, and none of its blocks is held or asked
 abbrev pub unbegun : Setting → History → ℕ → Bool
 unbegun s h p = not (had h p) && not (some_block_of s.torrent p (held_or_asked s h))
 
@@ -66,7 +66,7 @@ availability s h p = count_below s.workers (λ q. joined h q && shows h q p)
 abbrev pub wanted : Setting → History → ℕ → Bool
 wanted s h p = nat_lt p (piece_count s.torrent)
 
--- endgame: every wanted block that is lacking has been asked for, and there is one that is lacking
+-- endgame: every wanted block that is lacking is asked of somebody, and there is one that is lacking
 abbrev pub endgame : Setting → History → Bool
 endgame s h =
     each_block s.torrent (λ b. not (wanted s h b.piece) || held_or_asked s h b)

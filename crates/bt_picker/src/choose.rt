@@ -240,7 +240,7 @@ impl<'a> Position<'a> {
         self.is_wanted(piece) && !self.is_full(piece)
     }
 
-    /// Whether every wanted block that is lacking has been asked for.
+    /// Whether every wanted block that is lacking is asked of somebody.
     #[tactic(auto, using(crate::proofs::Scans::all_asked_found, crate::proofs::Scans::all_asked_fails))]
     fn is_all_asked(&self) -> bool
         ensures { result ≡ each_block self.now.setting.torrent (λ b.
