@@ -18,3 +18,4 @@ pub mod Allowing
 pub mod Audited
 pub mod Finishing
 pub mod Contents
+pub mod Completing
