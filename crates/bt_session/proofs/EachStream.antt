@@ -11,6 +11,7 @@ use Rattle.bt_picker.specs.Positions.{DeskState}
 use Rattle.bt_session.specs.declared.fault.End.{End}
 use Rattle.bt_session.specs.declared.fault.SessionFault.{SessionFault}
 use Rattle.bt_session.specs.declared.seat.Seat.{Seat}
+use Rattle.bt_session.specs.Conduct.{answers_of}
 use Rattle.bt_session.specs.Serial.{StreamRecord}
 use Rattle.bt_session.specs.Standing.{Standing, Keeps, EachKeeps, LeavesOthers, LeavesRest, HasEnded, IsNew, AreNew, left_of, standing}
 use Rattle.bt_session.proofs.Standing.{Keeps-join, Keeps-refl, others_stand}
@@ -49,7 +50,7 @@ each_at record_of desk new seats streams i seat seat' stream stream' within with
     let kept' = get_or-set_other streams i j stream' x apart in
     let old = get_or seats j s in
     Keeps-same j _ _ _ _ refl (standing-same new _ _ _ _ kept (ap record_of kept'))
-    (others_stand i j desk new old.session old.told (record_of (get_or streams j x)) others apart)
+    (others_stand i j desk new old.session old.told (record_of (get_or streams j x)) (answers_of old.rng) others apart)
 
 -- after one stream's turn
 pub each_turn : {X : Type 0} (record_of : X → StreamRecord) (desk new : DeskState) (seats : List Seat) (streams : List X) (i : ℕ) (seat seat' : Seat)
@@ -110,24 +111,24 @@ progress_on false turns turns' i first now new taken idle progress falls same en
           (subst (λ (seats : List Seat). AllWithin HasEnded seats 0 i) (sym (same refl)) (progress.ended (sym is ∙ off))) (ended refl);
     }
 
-new_at : (torrent : Metainfo) (seats : List Seat) (seat : Seat) → AreNew torrent seats → IsNew torrent (length seats) seat →
-    (last : Bool) (i : ℕ) (any : Seat) → (i == length seats) ≡ last → i < length (seats ++ seat ∷ []) →
-    IsNew torrent i (get_or (seats ++ seat ∷ []) i any)
-new_at torrent seats seat each one true i any test within =
+new_at : (torrent : Metainfo) (seed : ℕ) (seats : List Seat) (seat : Seat) → AreNew torrent seed seats →
+    IsNew torrent seed (length seats) seat → (last : Bool) (i : ℕ) (any : Seat) → (i == length seats) ≡ last → i < length (seats ++ seat ∷ []) →
+    IsNew torrent seed i (get_or (seats ++ seat ∷ []) i any)
+new_at torrent seed seats seat each one true i any test within =
     let here : i ≡ length seats = grind (arith, nat_tests) in
     let is = get_or_push seats seat any i (sym here) in
-    subst (IsNew torrent i) (sym is) (subst (λ (k : ℕ). IsNew torrent k seat) (sym here) one)
-new_at torrent seats seat each one false i any test within =
+    subst (IsNew torrent seed i) (sym is) (subst (λ (k : ℕ). IsNew torrent seed k seat) (sym here) one)
+new_at torrent seed seats seat each one false i any test within =
     let apart : i ≢ length seats = grind (arith, nat_tests) in
     let before : i < length seats = omega (arith, length-append seats (seat ∷ [])) in
-    subst (IsNew torrent i) (sym (get_or_append_left seats (seat ∷ []) any i before)) (each i any before)
+    subst (IsNew torrent seed i) (sym (get_or_append_left seats (seat ∷ []) any i before)) (each i any before)
 
 -- one more seat
-pub AreNew-push : (torrent : Metainfo) (seats new : List Seat) (seat : Seat) (worker : ℕ) → length seats ≡ worker → new ≡ seats ++ seat ∷ [] →
-    AreNew torrent seats → IsNew torrent worker seat → AreNew torrent new
-AreNew-push torrent seats new seat worker count is each one =
-    let last = subst (λ (k : ℕ). IsNew torrent k seat) (sym count) one in
-    subst (AreNew torrent) (sym is) (λ i. λ any. λ within. new_at torrent seats seat each last (i == length seats) i any refl within)
+pub AreNew-push : (torrent : Metainfo) (seed : ℕ) (seats new : List Seat) (seat : Seat) (worker : ℕ) → length seats ≡ worker →
+    new ≡ seats ++ seat ∷ [] → AreNew torrent seed seats → IsNew torrent seed worker seat → AreNew torrent seed new
+AreNew-push torrent seed seats new seat worker count is each one =
+    let last = subst (λ (k : ℕ). IsNew torrent seed k seat) (sym count) one in
+    subst (AreNew torrent seed) (sym is) (λ i. λ any. λ within. new_at torrent seed seats seat each last (i == length seats) i any refl within)
 
 -- there is an end for each seat
 pub ends_count : (ends : List (Result End SessionFault)) (seats : List Seat) → map Some ends ≡ map (λ seat. seat.session.outcome) seats →

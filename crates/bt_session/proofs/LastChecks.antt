@@ -14,12 +14,15 @@ use Rattle.bt_picker.specs.Positions.{DeskState, Gains as Enters}
 use Rattle.bt_session.specs.declared.fault.End.{End}
 use Rattle.bt_session.specs.declared.fault.SessionFault.{SessionFault}
 use Rattle.bt_session.specs.declared.seat.Seat.{Seat}
+use Rattle.rand_core.specs.Stream.{Stream as Words}
+use Rattle.bt_session.specs.Conduct.{Calls, Conducts, DrawsWords, all_checked, answers_of, generator_of}
 use Rattle.bt_session.specs.Desks.{calls_in}
 use Rattle.bt_session.specs.Hearing.{most_reads}
 use Rattle.bt_session.specs.Places.{PlaceRecord, Gains}
 use Rattle.bt_session.specs.Sessions.{SessionState, Running}
-use Rattle.bt_session.specs.Serial.{StreamRecord, Ended, EachEnded, Finishes, around, before_all, own_record, source_of}
-use Rattle.bt_session.specs.Standing.{Standing, Stands, StandsBy, DevicesBy, EachKeeps, LeavesOthers, LeavesRest, IsNew, AreNew, standing}
+use Rattle.bt_session.specs.Serial.{StreamRecord, Ended, EachEnded, ChecksAfter, Finishes, around, before_all, own_record, source_of}
+use Rattle.bt_session.specs.Standing.{Standing, Stands, StandsBy, ConductBy, DevicesBy, EachKeeps, LeavesOthers, LeavesRest, IsNew, AreNew, standing}
+use Rattle.bt_session.proofs.Conduct.{Conducts-none, Conducts-draws}
 use Rattle.bt_session.proofs.EachStream.{ends_count}
 use Rattle.bt_session.proofs.Desks.{calls_in-other, and-more, had-more}
 use Rattle.bt_session.proofs.Standing.{Keeps-join, others_stand}
@@ -107,10 +110,10 @@ pub still_idle : (count worker : ℕ) (first mid : DeskState) → count ≤ work
 still_idle count worker first mid above empty rest = rest.calls worker above ∙ ap (λ (h : History). calls_in h worker) empty
 
 -- what a stream's session began in
-begun_in : (torrent : Metainfo) (worker : ℕ) (setting : Setting) (desk : DeskState) (seat : Seat) (stream : StreamRecord) →
-    setting.torrent ≡ torrent.layout → desk.setting ≡ setting → desk.history ≡ [] → IsNew torrent worker seat →
-    Stands torrent worker (before_all setting worker stream) stream (standing desk seat stream)
-begun_in torrent worker setting desk seat stream layout same_setting empty new =
+begun_in : (torrent : Metainfo) (seed worker : ℕ) (setting : Setting) (desk : DeskState) (seat : Seat) (stream : StreamRecord) →
+    setting.torrent ≡ torrent.layout → desk.setting ≡ setting → desk.history ≡ [] → IsNew torrent seed worker seat →
+    Stands torrent worker (generator_of seed worker) (before_all setting worker stream) stream (standing desk seat stream)
+begun_in torrent seed worker setting desk seat stream layout same_setting empty new =
     let first : DeskState = record { setting = setting; history = [] } in
     let is_desk : first ≡ desk =
     sym (ap (λ (s : Setting). let d : DeskState = record { setting = s; history = desk.history } in d) same_setting
@@ -124,31 +127,54 @@ begun_in torrent worker setting desk seat stream layout same_setting empty new =
     let runs : seat.session.outcome ≡ None = ap (λ (session : SessionState). session.outcome) new.session in
     let unasked : seat.session.asked ≡ 0 = ap (λ (session : SessionState). session.asked) new.session in
     let source = source_of stream seat.session.asked in
+    let uncalled : calls_in desk.history worker ≡ [] = ap (λ (h : History). calls_in h worker) empty in
+    let conduct : Conducts true (generator_of seed worker) [] (calls_in desk.history worker) (answers_of seat.rng) =
+    subst (Conducts true (generator_of seed worker) [] (calls_in desk.history worker)) (sym new.generator)
+    (subst (λ (calls : Calls). Conducts true (generator_of seed worker) [] calls (generator_of seed worker)) (sym uncalled)
+    (Conducts-none true (generator_of seed worker) [])) in
     let running : Running torrent worker (before_all setting worker stream) seat.session (around desk worker seat.told false stream) =
     inl (record { state = new.session; left = refl; gains = subst (Gains before []) same (Gains-none before); written = refl }) in
     record {
       stands = subst (λ (o : Option (Result End SessionFault)). StandsBy o torrent worker (before_all setting worker stream) seat.session source
           (λ short. around desk worker seat.told short stream)) (sym runs) running;
+      conduct = subst (λ (o : Option (Result End SessionFault)). ConductBy o (generator_of seed worker) [] (calls_in desk.history worker)
+          (answers_of seat.rng)) (sym runs) conduct;
       devices = subst (λ (o : Option (Result End SessionFault)). DevicesBy o stream stream) (sym runs) (refl, refl);
       counted = λ none. none ∙ sym unasked;
       most = subst (λ (n : ℕ). n ≤ most_reads) (sym unasked) (lit≤ tt);
     }
 
 -- how a stream's session ended that stands
-ended_so : (torrent : Metainfo) (worker : ℕ) (stream : StreamRecord) (now : Standing) (outcome : Result End SessionFault) →
+words_after : (outcome : Result End SessionFault) (generator left : Words) (calls : Calls) → ConductBy (Some outcome) generator [] calls left →
+    DrawsWords generator [] calls
+words_after (Ok end) generator left calls conduct = Conducts-draws true generator left [] calls conduct
+words_after (Err fault) generator left calls words = words
+
+checks_after : (outcome : Result End SessionFault) (generator left : Words) (calls : Calls) → ConductBy (Some outcome) generator [] calls left →
+    ChecksAfter outcome calls
+checks_after (Ok end) generator left calls conduct = ap all_checked conduct.calls ∙ conduct.checked refl
+checks_after (Err fault) generator left calls words = tt
+
+ended_so : (torrent : Metainfo) (seed worker : ℕ) (stream : StreamRecord) (now : Standing) (outcome : Result End SessionFault) →
     now.session.outcome ≡ Some outcome →
-    Stands torrent worker (before_all now.desk.setting worker stream) stream now → Ended outcome torrent worker stream now.desk now.stream
-ended_so torrent worker stream now outcome is stands =
+    Stands torrent worker (generator_of seed worker) (before_all now.desk.setting worker stream) stream now →
+    Ended outcome torrent seed worker stream now.desk now.stream
+ended_so torrent seed worker stream now outcome is stands =
     let source = source_of now.stream now.session.asked in
     let ends : StandsBy (Some outcome) torrent worker (before_all now.desk.setting worker stream) now.session source
     (λ short. around now.desk worker now.told short now.stream) =
     subst (λ (o : Option (Result End SessionFault)). StandsBy o torrent worker (before_all now.desk.setting worker stream) now.session source
     (λ short. around now.desk worker now.told short now.stream)) is stands.stands in
+    let conduct : ConductBy (Some outcome) (generator_of seed worker) [] (calls_in now.desk.history worker) now.generator =
+    subst (λ (o : Option (Result End SessionFault)). ConductBy o (generator_of seed worker) [] (calls_in now.desk.history worker) now.generator)
+    is stands.conduct in
     record {
       told = now.told;
       short = ends.0;
       asked = now.session.asked;
       ends = ends.1;
+      words = words_after outcome (generator_of seed worker) now.generator (calls_in now.desk.history worker) conduct;
+      checks = checks_after outcome (generator_of seed worker) now.generator (calls_in now.desk.history worker) conduct;
       devices = subst (λ (o : Option (Result End SessionFault)). DevicesBy o stream now.stream) is stands.devices;
       counted = stands.counted;
       most = stands.most;
@@ -169,14 +195,14 @@ end_at ends seats i end any told within =
     ∙ get_or-map Some ends i end (Some end) within'
 
 -- each stream's session ended so, once the last checks were made
-pub each_ended : {X : Type 0} (record_of : X → StreamRecord) (torrent : Metainfo) (first mid last : DeskState) (seats seats' : List Seat)
+pub each_ended : {X : Type 0} (record_of : X → StreamRecord) (torrent : Metainfo) (seed : ℕ) (first mid last : DeskState) (seats seats' : List Seat)
     (streams streams' : List X) (ends : List (Result End SessionFault)) →
-    first.setting.torrent ≡ torrent.layout → first.history ≡ [] → AreNew torrent seats → length seats ≡ length streams →
+    first.setting.torrent ≡ torrent.layout → first.history ≡ [] → AreNew torrent seed seats → length seats ≡ length streams →
     length seats' ≡ length streams →
     EachKeeps record_of first seats streams mid seats' streams' → LeavesRest (length streams) first mid → (worker : ℕ) → length streams ≤ worker →
     LeavesOthers worker mid last →
-    map Some ends ≡ map (λ seat. seat.session.outcome) seats' → EachEnded record_of torrent streams last streams' ends
-each_ended record_of torrent first mid last seats seats' streams streams' ends layout empty new same same' keeps rest worker above left told =
+    map Some ends ≡ map (λ seat. seat.session.outcome) seats' → EachEnded record_of torrent seed streams last streams' ends
+each_ended record_of torrent seed first mid last seats seats' streams streams' ends layout empty new same same' keeps rest worker above left told =
     λ i. λ stream. λ end. λ within.
     let within_seats : i < length seats = omega (arith, same) in
     let within_seats' : i < length seats' = omega (arith, same') in
@@ -186,9 +212,9 @@ each_ended record_of torrent first mid last seats seats' streams streams' ends l
     let old = record_of (get_or streams i stream) in
     let now = record_of (get_or streams' i stream) in
     let kept = Keeps-join i (standing first (get_or seats i any) old) (standing mid seat now) (standing last seat now)
-    (keeps i any stream within) (others_stand worker i mid last seat.session seat.told now left apart) in
+    (keeps i any stream within) (others_stand worker i mid last seat.session seat.told now (answers_of seat.rng) left apart) in
     let setting : first.setting ≡ last.setting = sym (left.setting ∙ rest.setting) in
     let layout' : last.setting.torrent ≡ torrent.layout = sym (ap (λ (s : Setting). s.torrent) setting) ∙ layout in
-    let start = begun_in torrent i last.setting first (get_or seats i any) old layout' setting empty (new i any within_seats) in
-    ended_so torrent i old (standing last seat now) (get_or ends i end) (end_at ends seats' i end any told within_seats')
-    (kept.still torrent (before_all last.setting i old) old start)
+    let start = begun_in torrent seed i last.setting first (get_or seats i any) old layout' setting empty (new i any within_seats) in
+    ended_so torrent seed i old (standing last seat now) (get_or ends i end) (end_at ends seats' i end any told within_seats')
+    (kept.still torrent (generator_of seed i) (before_all last.setting i old) old start)

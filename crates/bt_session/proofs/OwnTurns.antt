@@ -1,20 +1,23 @@
 -- How a session goes on standing by turns of its own.
 use Rattle.std.proofs.Common.{◌≡◌, ◌≤◌, ℕ, Bool, true, false, List, Option, Some, None, Result, Ok, Err, refl, sym, ap, subst, ◌∙◌}
-use Rattle.std.specs.Prelude.{IfOk, IfErr, IfSome, IfNone}
+use Rattle.std.specs.Prelude.{IfOk, IfErr, IfSome, IfNone, OnOk, OnErr}
 use Rattle.std.specs.Borrow.{GName}
 use Rattle.bt_meta.specs.Layout.{Metainfo}
 use Rattle.bt_picker.specs.Positions.{DeskState}
 use Rattle.bt_session.specs.declared.fault.End.{End}
 use Rattle.bt_session.specs.declared.fault.SessionFault.{SessionFault}
 use Rattle.bt_session.specs.declared.fault.SessionFault.TheVariants as faults
-use Rattle.bt_session.specs.Desks.{desk_record}
+use Rattle.rand_core.specs.Stream.{Stream as Words}
+use Rattle.bt_session.specs.Conduct.{Calls, Conducts, DrawsWords}
+use Rattle.bt_session.specs.Desks.{calls_in, desk_record}
 use Rattle.bt_session.specs.Events.{Event}
 use Rattle.bt_session.specs.Hearing.{most_reads}
 use Rattle.bt_session.specs.Places.{PlaceRecord, GainsUpTo}
 use Rattle.bt_session.specs.Serial.{StreamRecord, DevicesAfter, around, own_record, source_of}
 use Rattle.bt_session.specs.Sessions.{SessionState, GoesOn, Ends, FailsWith, Running}
-use Rattle.bt_session.specs.Standing.{Standing, Stands, StandsBy, DevicesBy, Keeps, LeavesOthers}
+use Rattle.bt_session.specs.Standing.{Standing, Stands, StandsBy, ConductBy, DevicesBy, Keeps, LeavesOthers}
 use Rattle.bt_session.specs.Turning.{Surroundings}
+use Rattle.bt_session.proofs.Conduct.{Conducts-join, DrawsWords-join}
 use Rattle.bt_session.proofs.Own.{others_left, own, own_goes_on, own_ends, own_fails}
 use Rattle.bt_session.proofs.Runs.{running_on, running_ends, running_fails}
 
@@ -23,6 +26,7 @@ pub record AfterTurn : Type 0 where
   pub session : SessionState
   pub place : PlaceRecord
   pub stream : StreamRecord
+  pub generator : Words
 
 abbrev pub around_turn : AfterTurn → Surroundings
 around_turn now = record { past = now.place; left = now.stream.left; written = now.stream.written }
@@ -34,6 +38,8 @@ pub record Turned (result : Result (Option End) SessionFault) (old new : AfterTu
       (λ o. IfSome o (λ end. Ends end old.session (around_turn old) new.stream.ended new.session (around_turn new)))
   pub fails : old.session.outcome ≡ None →
       IfErr result (λ fault. FailsWith fault old.session (around_turn old) (source_of new.stream new.session.asked) new.session (around_turn new))
+  pub conduct : OnOk result (Conducts true old.generator old.place.calls new.place.calls new.generator)
+  pub words : OnErr result (DrawsWords old.generator old.place.calls new.place.calls)
   pub counted : old.stream.asked ≡ old.session.asked → new.stream.asked ≡ new.session.asked
   pub most : new.session.asked ≤ most_reads
   pub sound : IfOk result (λ o. (new.stream.failed ≡ old.stream.failed) × (new.stream.writer_failed ≡ old.stream.writer_failed))
@@ -50,12 +56,12 @@ turn_gains (Err fault) old new runs turned = (_, (turned.fails runs).gains)
 abbrev around_place : PlaceRecord → StreamRecord → Surroundings
 around_place place stream = record { past = place; left = stream.left; written = stream.written }
 
-went_on : (torrent : Metainfo) (worker : ℕ) (out : Surroundings) (first : StreamRecord) (old new : Standing) (p q : PlaceRecord) →
+went_on : (torrent : Metainfo) (worker : ℕ) (begun : Words) (out : Surroundings) (first : StreamRecord) (old new : Standing) (p q : PlaceRecord) →
     p ≡ own_record old.desk worker old.told false → q ≡ own_record new.desk worker new.told q.short → old.session.outcome ≡ None →
-    Stands torrent worker out first old → GoesOn old.session (around_place p old.stream) new.session (around_place q new.stream) →
+    Stands torrent worker begun out first old → GoesOn old.session (around_place p old.stream) new.session (around_place q new.stream) →
     StandsBy new.session.outcome torrent worker out new.session (source_of new.stream new.session.asked)
     (λ short. around new.desk worker new.told short new.stream)
-went_on torrent worker out first old new p q is is' runs stands go =
+went_on torrent worker begun out first old new p q is is' runs stands go =
     let short : q.short ≡ false = go.turn.gains.short ∙ ap (λ (r : PlaceRecord). r.short) is in
     let same : q ≡ own_record new.desk worker new.told false = is' ∙ ap (own_record new.desk worker new.told) short in
     let source = source_of old.stream old.session.asked in
@@ -71,13 +77,13 @@ went_on torrent worker out first old new p q is is' runs stands go =
     (λ short. around new.desk worker new.told short new.stream))
     (sym go.unended) (running_on torrent worker out old.session _ new.session _ running to)
 
-came_to_end : (end : End) (torrent : Metainfo) (worker : ℕ) (out : Surroundings) (first : StreamRecord) (old new : Standing) (p q : PlaceRecord)
+came_to_end : (end : End) (torrent : Metainfo) (worker : ℕ) (begun : Words) (out : Surroundings) (first : StreamRecord) (old new : Standing) (p q : PlaceRecord)
     (has_ended : Bool) →
     p ≡ own_record old.desk worker old.told false → q ≡ own_record new.desk worker new.told q.short → old.session.outcome ≡ None →
-    Stands torrent worker out first old → Ends end old.session (around_place p old.stream) has_ended new.session (around_place q new.stream) →
+    Stands torrent worker begun out first old → Ends end old.session (around_place p old.stream) has_ended new.session (around_place q new.stream) →
     StandsBy new.session.outcome torrent worker out new.session (source_of new.stream new.session.asked)
     (λ short. around new.desk worker new.told short new.stream)
-came_to_end end torrent worker out first old new p q has_ended is is' runs stands ends =
+came_to_end end torrent worker begun out first old new p q has_ended is is' runs stands ends =
     let source = source_of old.stream old.session.asked in
     let running : Running torrent worker out old.session (around old.desk worker old.told false old.stream) =
     subst (λ (o : Option (Result End SessionFault)). StandsBy o torrent worker out old.session source
@@ -92,14 +98,14 @@ came_to_end end torrent worker out first old new p q has_ended is is' runs stand
     (λ short. around new.desk worker new.told short new.stream))
     (sym ends.outcome) (q.short, running_ends end torrent worker out old.session _ has_ended new.session _ running (λ none. to))
 
-broke_off : (fault : SessionFault) (torrent : Metainfo) (worker : ℕ) (out : Surroundings) (first : StreamRecord) (old new : Standing)
+broke_off : (fault : SessionFault) (torrent : Metainfo) (worker : ℕ) (begun : Words) (out : Surroundings) (first : StreamRecord) (old new : Standing)
     (p q : PlaceRecord) →
     p ≡ own_record old.desk worker old.told false → q ≡ own_record new.desk worker new.told q.short → old.session.outcome ≡ None →
-    Stands torrent worker out first old → FailsWith fault old.session (around_place p old.stream) (source_of new.stream new.session.asked) new.session
+    Stands torrent worker begun out first old → FailsWith fault old.session (around_place p old.stream) (source_of new.stream new.session.asked) new.session
     (around_place q new.stream) →
     StandsBy new.session.outcome torrent worker out new.session (source_of new.stream new.session.asked)
     (λ short. around new.desk worker new.told short new.stream)
-broke_off fault torrent worker out first old new p q is is' runs stands fails =
+broke_off fault torrent worker begun out first old new p q is is' runs stands fails =
     let source = source_of old.stream old.session.asked in
     let source' = source_of new.stream new.session.asked in
     let running : Running torrent worker out old.session (around old.desk worker old.told false old.stream) =
@@ -115,14 +121,40 @@ broke_off fault torrent worker out first old new p q is is' runs stands fails =
     (λ short. around new.desk worker new.told short new.stream))
     (sym fails.outcome) (q.short, running_fails fault torrent worker out old.session _ source' new.session _ running (λ none. to))
 
-sound_on : (first : StreamRecord) (old new : Standing) {torrent : Metainfo} {worker : ℕ} {out : Surroundings} → old.session.outcome ≡ None →
-    Stands torrent worker out first old →
+sound_on : (first : StreamRecord) (old new : Standing) {torrent : Metainfo} {worker : ℕ} {begun : Words} {out : Surroundings} → old.session.outcome ≡ None →
+    Stands torrent worker begun out first old →
     (new.stream.failed ≡ old.stream.failed) × (new.stream.writer_failed ≡ old.stream.writer_failed) →
     (new.stream.failed ≡ first.failed) × (new.stream.writer_failed ≡ first.writer_failed)
 sound_on first old new runs stands sound =
     let before : DevicesBy None first old.stream =
     subst (λ (o : Option (Result End SessionFault)). DevicesBy o first old.stream) runs stands.devices in
     (sound.0 ∙ before.0, sound.1 ∙ before.1)
+
+-- the calls so far of a session that runs
+conduct_so_far : (torrent : Metainfo) (worker : ℕ) (begun : Words) (out : Surroundings) (first : StreamRecord) (old : Standing) (p : PlaceRecord) →
+    own p ≡ own_record old.desk worker old.told false → old.session.outcome ≡ None → Stands torrent worker begun out first old →
+    Conducts true begun out.past.calls p.calls old.generator
+conduct_so_far torrent worker begun out first old p is runs stands =
+    subst (λ (calls : Calls). Conducts true begun out.past.calls calls old.generator) (sym (ap (λ (r : PlaceRecord). r.calls) is))
+    (subst (λ (o : Option (Result End SessionFault)). ConductBy o begun out.past.calls (calls_in old.desk.history worker) old.generator)
+    runs stands.conduct)
+
+conduct_on : (torrent : Metainfo) (worker : ℕ) (begun : Words) (out : Surroundings) (first : StreamRecord) (old new : Standing) (p q : PlaceRecord) →
+    own p ≡ own_record old.desk worker old.told false → own q ≡ own_record new.desk worker new.told q.short → old.session.outcome ≡ None →
+    Stands torrent worker begun out first old → Conducts true old.generator p.calls q.calls new.generator →
+    Conducts true begun out.past.calls (calls_in new.desk.history worker) new.generator
+conduct_on torrent worker begun out first old new p q is is' runs stands turn =
+    subst (λ (calls : Calls). Conducts true begun out.past.calls calls new.generator) (ap (λ (r : PlaceRecord). r.calls) is')
+    (Conducts-join true begun old.generator new.generator out.past.calls p.calls q.calls
+    (conduct_so_far torrent worker begun out first old p is runs stands) turn)
+
+words_on : (torrent : Metainfo) (worker : ℕ) (begun : Words) (out : Surroundings) (first : StreamRecord) (old new : Standing) (p q : PlaceRecord) →
+    own p ≡ own_record old.desk worker old.told false → own q ≡ own_record new.desk worker new.told q.short → old.session.outcome ≡ None →
+    Stands torrent worker begun out first old → DrawsWords old.generator p.calls q.calls →
+    DrawsWords begun out.past.calls (calls_in new.desk.history worker)
+words_on torrent worker begun out first old new p q is is' runs stands turn =
+    subst (DrawsWords begun out.past.calls) (ap (λ (r : PlaceRecord). r.calls) is')
+    (DrawsWords-join true begun old.generator out.past.calls p.calls q.calls (conduct_so_far torrent worker begun out first old p is runs stands) turn)
 
 devices_of : (fault : SessionFault) (old new : StreamRecord) → (fault ≡ faults.WriteFault → new.writer_failed ≡ true) →
     DevicesAfter (Err fault) old new
@@ -132,14 +164,16 @@ devices_of _ old new failed = tt
 -- a turn of its own
 pub turn_stands : (result : Result (Option End) SessionFault) (worker : ℕ) (old new : Standing) (p q : PlaceRecord) →
     own p ≡ own_record old.desk worker old.told false → own q ≡ own_record new.desk worker new.told q.short → old.session.outcome ≡ None →
-    Turned result (record { session = old.session; place = p; stream = old.stream })
-    (record { session = new.session; place = q; stream = new.stream }) →
+    Turned result (record { session = old.session; place = p; stream = old.stream; generator = old.generator })
+    (record { session = new.session; place = q; stream = new.stream; generator = new.generator }) →
     Keeps worker old new
 turn_stands (Ok None) worker old new p q is is' runs turned =
     let go = own_goes_on old.session (around_place p old.stream) new.session (around_place q new.stream) turned.goes_on in
     record {
-      still = λ torrent. λ out. λ first. λ stands. record {
-        stands = went_on torrent worker out first old new (own p) (own q) is is' runs stands go;
+      still = λ torrent. λ begun. λ out. λ first. λ stands. record {
+        stands = went_on torrent worker begun out first old new (own p) (own q) is is' runs stands go;
+        conduct = subst (λ (o : Option (Result End SessionFault)). ConductBy o begun out.past.calls (calls_in new.desk.history worker) new.generator)
+            (sym go.unended) (conduct_on torrent worker begun out first old new p q is is' runs stands turned.conduct);
         devices = subst (λ (o : Option (Result End SessionFault)). DevicesBy o first new.stream) (sym go.unended)
             (sound_on first old new runs stands turned.sound);
         counted = λ none. turned.counted (stands.counted none);
@@ -149,8 +183,10 @@ turn_stands (Ok None) worker old new p q is is' runs turned =
 turn_stands (Ok (Some end)) worker old new p q is is' runs turned =
     let ends = own_ends end old.session (around_place p old.stream) new.stream.ended new.session (around_place q new.stream) (turned.ends runs) in
     record {
-      still = λ torrent. λ out. λ first. λ stands. record {
-        stands = came_to_end end torrent worker out first old new (own p) (own q) new.stream.ended is is' runs stands ends;
+      still = λ torrent. λ begun. λ out. λ first. λ stands. record {
+        stands = came_to_end end torrent worker begun out first old new (own p) (own q) new.stream.ended is is' runs stands ends;
+        conduct = subst (λ (o : Option (Result End SessionFault)). ConductBy o begun out.past.calls (calls_in new.desk.history worker) new.generator)
+            (sym ends.outcome) (conduct_on torrent worker begun out first old new p q is is' runs stands turned.conduct);
         devices =
             let sound = sound_on first old new runs stands turned.sound in
             subst (λ (o : Option (Result End SessionFault)). DevicesBy o first new.stream) (sym ends.outcome)
@@ -163,8 +199,10 @@ turn_stands (Err fault) worker old new p q is is' runs turned =
     let fails = own_fails fault old.session (around_place p old.stream) (source_of new.stream new.session.asked) new.session
     (around_place q new.stream) (turned.fails runs) in
     record {
-      still = λ torrent. λ out. λ first. λ stands. record {
-        stands = broke_off fault torrent worker out first old new (own p) (own q) is is' runs stands fails;
+      still = λ torrent. λ begun. λ out. λ first. λ stands. record {
+        stands = broke_off fault torrent worker begun out first old new (own p) (own q) is is' runs stands fails;
+        conduct = subst (λ (o : Option (Result End SessionFault)). ConductBy o begun out.past.calls (calls_in new.desk.history worker) new.generator)
+            (sym fails.outcome) (words_on torrent worker begun out first old new p q is is' runs stands turned.words);
         devices = subst (λ (o : Option (Result End SessionFault)). DevicesBy o first new.stream) (sym fails.outcome)
             (devices_of fault first new.stream (turned.failed runs));
         counted = λ none. turned.counted (stands.counted none);
@@ -182,16 +220,16 @@ pub record TookTurn (lent lent' : List GName) (worker : ℕ) (old new : Standing
 pub turn_at_desk : (result : Result (Option End) SessionFault) (lent lent' : List GName) (worker worker' : ℕ) (short : Bool) (old new : Standing)
     (place : PlaceRecord) →
     place ≡ desk_record lent old.desk worker old.told false → old.session.outcome ≡ None →
-    Turned result (record { session = old.session; place = place; stream = old.stream })
-    (record { session = new.session; place = desk_record lent' new.desk worker' new.told short; stream = new.stream }) →
+    Turned result (record { session = old.session; place = place; stream = old.stream; generator = old.generator })
+    (record { session = new.session; place = desk_record lent' new.desk worker' new.told short; stream = new.stream; generator = new.generator }) →
     TookTurn lent lent' worker old new
 turn_at_desk result lent lent' worker worker' short old new place is runs turned =
     let before = desk_record lent old.desk worker old.told false in
     let after = desk_record lent' new.desk worker' new.told short in
-    let first : AfterTurn = record { session = old.session; place = before; stream = old.stream } in
-    let second : AfterTurn = record { session = new.session; place = after; stream = new.stream } in
+    let first : AfterTurn = record { session = old.session; place = before; stream = old.stream; generator = old.generator } in
+    let second : AfterTurn = record { session = new.session; place = after; stream = new.stream; generator = new.generator } in
     let fresh : Turned result first second =
-    subst (λ (p : PlaceRecord). Turned result (record { session = old.session; place = p; stream = old.stream }) second) is turned in
+    subst (λ (p : PlaceRecord). Turned result (record { session = old.session; place = p; stream = old.stream; generator = old.generator }) second) is turned in
     let gained : (events : List Event) × GainsUpTo before events after = turn_gains result first second runs fresh in
     let same : own_record new.desk worker' new.told short ≡ own_record new.desk worker new.told short =
     ap (λ (w : ℕ). own_record new.desk w new.told short) gained.1.worker in

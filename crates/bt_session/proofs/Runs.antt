@@ -6,6 +6,7 @@ use Rattle.std.proofs.lemmas.List.{append-nil}
 use Rattle.std.specs.Io.KnownBytes.{Appends, Consumes}
 use Rattle.bt_meta.specs.Layout.{Metainfo, piece_count}
 use Rattle.bt_wire.specs.declared.message.Message.{Message}
+use Rattle.bt_wire.specs.declared.message.Message.TheVariants as messages
 use Rattle.bt_wire.specs.Limit.{frame_limit}
 use Rattle.bt_wire.specs.Stream.{InboundState, Spells, Begins, HasMessage}
 use Rattle.bt_history.specs.declared.mark.CallMark.TheVariants as marks
@@ -16,8 +17,8 @@ use Rattle.bt_session.specs.Hearing.{SourceState}
 use Rattle.bt_session.specs.Events.{Event, Called}
 use Rattle.bt_session.specs.Saying.{greeting, says, interest_after}
 use Rattle.bt_session.specs.Turns.{IsTurn, NoneRefused, TurnsOf, AreTurns}
-use Rattle.bt_session.specs.Turning.{Surroundings}
-use Rattle.bt_session.specs.Sessions.{SessionState, begun, GoesOn, Ends, FailsWith, IsWhole, IsUntouched, TookTurns, Running, IsCutShort}
+use Rattle.bt_session.specs.Turning.{Surroundings, IsOfTorrent}
+use Rattle.bt_session.specs.Sessions.{SessionState, begun, GoesOn, Ends, FailsWith, IsWhole, NamesTorrent, IsUntouched, TookTurns, Running, IsCutShort}
 use Rattle.std.proofs.KnownBytes.{Appends-trans}
 use Rattle.bt_session.proofs.Heard.{Consumes-join}
 use Rattle.bt_session.proofs.Stretches.{says-append, interest_after-append, Gains-join}
@@ -79,6 +80,12 @@ TurnsOf-left pieces (m ∷ ms) events turned = (
   ),
 )
 
+-- a handshake that is taken is of the torrent
+names_torrent : (infohash : List ℕ) (limit : ℕ) (m : Message) (text : List ℕ) → Spells false limit m text → IsOfTorrent infohash m →
+    NamesTorrent infohash m
+names_torrent infohash limit (messages.Hello hello) text spells same = same
+names_torrent infohash limit _ text spells same = absurd spells
+
 so_far_first : (torrent : Metainfo) (worker : ℕ) (out : Surroundings) (now : SessionState) (mid : Surroundings) (new : SessionState)
     (out' : Surroundings) →
     IsUntouched torrent worker out now mid → GoesOn (begun torrent worker) mid new out' → TookTurns torrent worker out new out'
@@ -93,6 +100,7 @@ so_far_first torrent worker out now mid new out' fresh go =
       messages = [];
       events = turn.events;
       spells = gives.spells;
+      same_torrent = names_torrent torrent.infohash (frame_limit (piece_count torrent.layout)) turn.message gives.text gives.spells turn.same_torrent;
       consumed = subst (λ (left : Option (List ℕ)). Consumes left out'.left (gives.text ++ new.stream.bytes)) fresh.left
           (subst (Consumes mid.left out'.left) gives.bytes turn.hears.consumed);
       begins = refl;
@@ -137,6 +145,7 @@ so_far_more torrent worker out now mid new out' so_far go =
       messages = so_far.messages ++ turn.message ∷ [];
       events = so_far.events ++ turn.events;
       spells = so_far.spells;
+      same_torrent = so_far.same_torrent;
       consumed = subst (Consumes out.left out'.left) (append_assoc so_far.text so_far.read turn.hears.read)
           (Consumes-join out.left mid.left out'.left (so_far.text ++ so_far.read) turn.hears.read so_far.consumed turn.hears.consumed);
       begins = Begins-last limit (so_far.read ++ turn.hears.read) so_far.messages
@@ -182,6 +191,8 @@ so_far_ends end torrent worker out now mid has_ended new out' so_far ends =
       events = so_far.events ++ last;
       consumed = subst (Consumes out.left out'.left) (append_assoc so_far.text so_far.read hears.read)
           (Consumes-join out.left mid.left out'.left (so_far.text ++ so_far.read) hears.read so_far.consumed hears.consumed);
+      at_end = hears.at_end;
+      same_torrent = so_far.same_torrent;
       stream = record {
         begins = (so_far.text, (so_far.read ++ hears.read, (so_far.spells, refl, begins)));
         whole = none;
@@ -204,7 +215,8 @@ running_on torrent worker out now mid new out' running go =
       | inr so_far ↦ inr (so_far_more torrent worker out now mid new out' so_far go)
     ]
 
-unended : (torrent : Metainfo) (worker : ℕ) (out : Surroundings) (now : SessionState) (mid : Surroundings) → Running torrent worker out now mid →
+-- a session that runs hasn't ended
+pub unended : (torrent : Metainfo) (worker : ℕ) (out : Surroundings) (now : SessionState) (mid : Surroundings) → Running torrent worker out now mid →
     now.outcome ≡ None
 unended torrent worker out now mid running =
     elim running [ inl fresh ↦ ap (λ (state : SessionState). state.outcome) fresh.state | inr so_far ↦ so_far.unended ]

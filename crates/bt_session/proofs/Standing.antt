@@ -1,18 +1,20 @@
 -- How a session goes on standing while others take their turns.
 use Rattle.std.proofs.Common.{◌≡◌, ◌≢◌, ℕ, Bool, false, List, [], ◌++◌, Option, Some, None, Result, Ok, Err, refl, sym, subst, ◌∙◌, inl, inr}
 use Rattle.std.proofs.lemmas.List.{append-nil}
-use Rattle.std.specs.Io.KnownBytes.{Appends, Consumes}
+use Rattle.std.specs.Io.KnownBytes.{Appends, Consumes, IsAtEnd}
 use Rattle.bt_meta.specs.Layout.{Metainfo}
 use Rattle.bt_picker.specs.Positions.{DeskState}
 use Rattle.bt_session.specs.declared.fault.End.{End}
 use Rattle.bt_session.specs.declared.fault.SessionFault.{SessionFault}
+use Rattle.rand_core.specs.Stream.{Stream as Words}
+use Rattle.bt_session.specs.Conduct.{Calls}
 use Rattle.bt_session.specs.Events.{Event, is_in}
 use Rattle.bt_session.specs.Hearing.{SourceState}
 use Rattle.bt_session.specs.Places.{PlaceRecord, Gains, GainsUpTo}
 use Rattle.bt_session.specs.Outlets.{WroteFront}
 use Rattle.bt_session.specs.Serial.{StreamRecord, EndsAs, around, source_of}
 use Rattle.bt_session.specs.Sessions.{SessionState, FailsWith, IsWhole, IsUntouched, TookTurns, Running}
-use Rattle.bt_session.specs.Standing.{Standing, StandsBy, Keeps, LeavesOthers}
+use Rattle.bt_session.specs.Standing.{Standing, StandsBy, ConductBy, Keeps, LeavesOthers}
 use Rattle.bt_session.specs.Turning.{Surroundings, Departs}
 use Rattle.bt_session.proofs.Stretches.{GainsUpTo-join, Gains-join}
 
@@ -55,6 +57,7 @@ took_later torrent worker out now old new later took = record {
   messages = took.messages;
   events = took.events;
   spells = took.spells;
+  same_torrent = took.same_torrent;
   consumed = subst (λ (left : Option (List ℕ)). Consumes out.left left (took.text ++ took.read)) (sym later.left) took.consumed;
   begins = took.begins;
   counted = took.counted;
@@ -84,7 +87,9 @@ whole_later end torrent worker out old new later whole = record {
   messages = whole.messages;
   events = whole.events;
   consumed = subst (λ (left : Option (List ℕ)). Consumes out.left left whole.read) (sym later.left) whole.consumed;
+  at_end = subst IsAtEnd (sym later.left) whole.at_end;
   stream = whole.stream;
+  same_torrent = whole.same_torrent;
   counted = whole.counted;
   turns = whole.turns;
   gains = gains_later out.past whole.events old.past new.past whole.gains later.gains;
@@ -125,11 +130,12 @@ stands_later (Some outcome) torrent worker out now source old new later stands =
     (stands.0, ends_later outcome torrent worker out source (old stands.0) (new stands.0) (later stands.0) stands.1)
 
 -- while another worker takes a turn
-pub others_stand : (worker other : ℕ) (old new : DeskState) (session : SessionState) (told : List Bool) (stream : StreamRecord) →
+pub others_stand : (worker other : ℕ) (old new : DeskState) (session : SessionState) (told : List Bool) (stream : StreamRecord)
+    (generator : Words) →
     LeavesOthers worker old new → other ≢ worker →
-    Keeps other (record { desk = old; session = session; told = told; stream = stream })
-    (record { desk = new; session = session; told = told; stream = stream })
-others_stand worker other old new session told stream left apart =
+    Keeps other (record { desk = old; session = session; told = told; stream = stream; generator = generator })
+    (record { desk = new; session = session; told = told; stream = stream; generator = generator })
+others_stand worker other old new session told stream generator left apart =
     let later : (short : Bool) → IsLater (around old other told short stream) (around new other told short stream) =
     λ short. record {
       left = refl;
@@ -149,8 +155,9 @@ others_stand worker other old new session told stream left apart =
       written = refl;
     } in
     record {
-      still = λ torrent. λ out. λ first. λ stands. record {
+      still = λ torrent. λ begun. λ out. λ first. λ stands. record {
         stands = stands_later session.outcome torrent other out session (source_of stream session.asked) _ _ later stands.stands;
+        conduct = subst (λ (calls : Calls). ConductBy session.outcome begun out.past.calls calls generator) (sym (left.calls other apart)) stands.conduct;
         devices = stands.devices;
         counted = stands.counted;
         most = stands.most;
@@ -158,8 +165,11 @@ others_stand worker other old new session told stream left apart =
     }
 
 pub Keeps-refl : (worker : ℕ) (now : Standing) → Keeps worker now now
-Keeps-refl worker now = record { still = λ torrent. λ out. λ first. λ stands. stands }
+Keeps-refl worker now = record { still = λ torrent. λ generator. λ out. λ first. λ stands. stands }
 
 pub Keeps-join : (worker : ℕ) (a b c : Standing) → Keeps worker a b → Keeps worker b c → Keeps worker a c
 Keeps-join worker a b c first then =
-    record { still = λ torrent. λ out. λ stream. λ stands. then.still torrent out stream (first.still torrent out stream stands) }
+    record {
+      still = λ torrent. λ generator. λ out. λ stream. λ stands.
+          then.still torrent generator out stream (first.still torrent generator out stream stands);
+    }

@@ -1,3 +1,4 @@
+pub mod Conduct
 pub mod Desks
 pub mod Events
 pub mod Hearing

@@ -9,6 +9,7 @@ use Rattle.bt_session.specs.declared.fault.End.{End}
 use Rattle.bt_session.specs.declared.fault.SessionFault.{SessionFault}
 use Rattle.bt_session.specs.declared.fault.SessionFault.TheVariants as faults
 use Rattle.bt_session.specs.declared.stream.Stream.{Stream}
+use Rattle.bt_session.specs.Conduct.{Calls, DrawsWords, all_checked, generator_of}
 use Rattle.bt_session.specs.Desks.{calls_in}
 use Rattle.bt_session.specs.Hearing.{SourceState, most_reads}
 use Rattle.bt_session.specs.Places.{PlaceRecord}
@@ -85,8 +86,13 @@ DevicesAfter (Ok end) old new = (new.ended ≡ true) × (new.failed ≡ old.fail
 DevicesAfter (Err faults.WriteFault) old new = new.writer_failed ≡ true
 DevicesAfter (Err fault) old new = Unit {0}
 
+-- after an end each piece that the calls completed was checked at once
+abbrev pub ChecksAfter : Result End SessionFault → Calls → Type 0
+ChecksAfter (Ok end) calls = all_checked calls ≡ true
+ChecksAfter (Err fault) calls = Unit {0}
+
 -- A stream's session ended so: from the empty desk, and the stream as it was handed in, to this desk, and the stream as it was given back.
-pub record Ended (outcome : Result End SessionFault) (torrent : Metainfo) (worker : ℕ)
+pub record Ended (outcome : Result End SessionFault) (torrent : Metainfo) (seed worker : ℕ)
     (old : StreamRecord) (desk : DeskState) (new : StreamRecord) : Type 0 where
   -- the pieces that were told to the peer
   pub told : List Bool
@@ -95,14 +101,17 @@ pub record Ended (outcome : Result End SessionFault) (torrent : Metainfo) (worke
   -- the reads that the session counted
   pub asked : ℕ
   pub ends : EndsAs outcome torrent worker (before_all desk.setting worker old) (source_of new asked) (around desk worker told short new)
+  -- the words of its Next calls are those of the generator of its number, made of the seed
+  pub words : DrawsWords (generator_of seed worker) [] (calls_in desk.history worker)
+  pub checks : ChecksAfter outcome (calls_in desk.history worker)
   pub devices : DevicesAfter outcome old new
   pub counted : old.asked ≡ 0 → new.asked ≡ asked
   pub most : asked ≤ most_reads
 
 -- the sessions of the streams, as they were handed in and as they were given back, ended so, in order
-abbrev pub EachEnded : {X : Type 0} → (X → StreamRecord) → Metainfo → List X → DeskState → List X → List (Result End SessionFault) → Type 0
-EachEnded {X} record_of torrent streams desk streams' ends = (i : ℕ) (stream : X) (end : Result End SessionFault) → i < length streams →
-    Ended (slice_index_or ends i end) torrent i (record_of (slice_index_or streams i stream)) desk (record_of (slice_index_or streams' i stream))
+abbrev pub EachEnded : {X : Type 0} → (X → StreamRecord) → Metainfo → ℕ → List X → DeskState → List X → List (Result End SessionFault) → Type 0
+EachEnded {X} record_of torrent seed streams desk streams' ends = (i : ℕ) (stream : X) (end : Result End SessionFault) → i < length streams →
+    Ended (slice_index_or ends i end) torrent seed i (record_of (slice_index_or streams i stream)) desk (record_of (slice_index_or streams' i stream))
 
 -- A worker made the last checks and no other call: each piece that waited for one was settled, the least first, or, where memory ran out,
 -- those below one that still waits.

@@ -1,10 +1,11 @@
 -- A session as its callers see it, and what one turn of it does.
 use Rattle.std.specs.Prelude.{◌≡◌, ◌⊎◌, ◌∷◌, ℕ, ◌+◌, ◌*◌, ◌-◌, Bool, true, false, if◌then◌else◌, List, [], ◌++◌, length}
 use Rattle.std.specs.Prelude.{Option, Some, None, Result, Ok, Err}
-use Rattle.std.specs.Io.KnownBytes.{Appends, Consumes}
+use Rattle.std.specs.Io.KnownBytes.{Appends, Consumes, IsAtEnd}
 use Rattle.bt_meta.specs.Layout.{Metainfo, piece_count}
 use Rattle.bt_wire.specs.Limit.{frame_limit}
 use Rattle.bt_wire.specs.declared.message.Message.{Message}
+use Rattle.bt_wire.specs.declared.message.Message.TheVariants as messages
 use Rattle.bt_wire.specs.Stream.{InboundState, Spells, Begins, IsStream, opened}
 use Rattle.bt_session.specs.declared.fault.SessionFault.{SessionFault}
 use Rattle.bt_session.specs.declared.fault.End.{End}
@@ -95,14 +96,26 @@ abbrev pub answer_again : Result End SessionFault → Result (Option End) Sessio
 answer_again (Ok end) = Ok (Some end)
 answer_again (Err fault) = Err fault
 
--- A session that came to its end: the source gave a whole stream; each of its messages made a turn at the place, and then Leave; and the
+-- the message is a handshake of this torrent
+abbrev pub NamesTorrent : List ℕ → Message → Type 0
+NamesTorrent infohash (messages.Hello hello) = hello.infohash ≡ infohash
+NamesTorrent infohash _ = ⊥
+
+-- the first of the messages is a handshake of this torrent
+abbrev pub BeginsWith : List ℕ → List Message → Type 0
+BeginsWith infohash [] = ⊥
+BeginsWith infohash (m ∷ ms) = NamesTorrent infohash m
+
+-- A session that came to its end: the source gave a whole stream, of this torrent, and nothing is left of it; each of its messages made a turn at the place, and then Leave; and the
 -- greeting was written, then what the events say.
 pub record IsWhole (end : End) (torrent : Metainfo) (worker : ℕ) (out out' : Surroundings) : Type 0 where
   pub read : List ℕ
   pub messages : List Message
   pub events : List Event
   pub consumed : Consumes out.left out'.left read
+  pub at_end : IsAtEnd out'.left
   pub stream : IsStream (frame_limit (piece_count torrent.layout)) read messages []
+  pub same_torrent : BeginsWith torrent.infohash messages
   pub counted : length messages ≡ end.messages + 1
   pub turns : AreTurns (piece_count torrent.layout) messages events
   pub gains : Gains out.past events out'.past
@@ -124,6 +137,7 @@ pub record TookTurns (torrent : Metainfo) (worker : ℕ) (out : Surroundings) (n
   pub messages : List Message
   pub events : List Event
   pub spells : Spells false (frame_limit (piece_count torrent.layout)) first text
+  pub same_torrent : NamesTorrent torrent.infohash first
   pub consumed : Consumes out.left out'.left (text ++ read)
   pub begins : Begins true (frame_limit (piece_count torrent.layout)) read messages now.stream.bytes
   pub counted : length messages ≡ now.messages

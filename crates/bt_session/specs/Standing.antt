@@ -1,10 +1,12 @@
 -- How a session stands that takes its turns among others. Only contracts within the crate cite this module.
-use Rattle.std.specs.Prelude.{◌≡◌, ◌≢◌, ◌≤◌, ◌<◌, ℕ, Bool, true, false, List, All, length, replicate, slice_index_or, suc, Option, Some, None, Result}
+use Rattle.std.specs.Prelude.{◌≡◌, ◌≢◌, ◌≤◌, ◌<◌, ℕ, Bool, true, false, List, All, length, replicate, slice_index_or, suc, Option, Some, None, Result, Ok, Err}
 use Rattle.bt_meta.specs.Layout.{Metainfo, piece_count}
 use Rattle.bt_picker.specs.Positions.{DeskState}
 use Rattle.bt_session.specs.declared.fault.End.{End}
 use Rattle.bt_session.specs.declared.fault.SessionFault.{SessionFault}
 use Rattle.bt_session.specs.declared.seat.Seat.{Seat}
+use Rattle.rand_core.specs.Stream.{Stream as Words}
+use Rattle.bt_session.specs.Conduct.{Calls, Conducts, DrawsWords, answers_of, generator_of}
 use Rattle.bt_session.specs.Desks.{calls_in}
 use Rattle.bt_session.specs.Hearing.{SourceState, most_reads}
 use Rattle.bt_session.specs.Serial.{StreamRecord, DevicesAfter, EndsAs, around, had_at, source_of}
@@ -17,9 +19,12 @@ pub record Standing : Type 0 where
   pub session : SessionState
   pub told : List Bool
   pub stream : StreamRecord
+  -- all that its generator will answer
+  pub generator : Words
 
 abbrev pub standing : DeskState → Seat → StreamRecord → Standing
-standing desk seat stream = record { desk = desk; session = seat.session; told = seat.told; stream = stream }
+standing desk seat stream =
+    record { desk = desk; session = seat.session; told = seat.told; stream = stream; generator = answers_of seat.rng }
 
 -- the session runs, or it ended so
 abbrev pub StandsBy : Option (Result End SessionFault) → Metainfo → ℕ → Surroundings → SessionState → SourceState → (Bool → Surroundings) → Type 0
@@ -32,18 +37,25 @@ abbrev pub DevicesBy : Option (Result End SessionFault) → StreamRecord → Str
 DevicesBy None old new = (new.failed ≡ old.failed) × (new.writer_failed ≡ old.writer_failed)
 DevicesBy (Some outcome) old new = DevicesAfter outcome old new
 
--- a session that began in these surroundings, with that stream, stands so
-pub record Stands (torrent : Metainfo) (worker : ℕ) (out : Surroundings) (first : StreamRecord) (now : Standing) : Type 0 where
+-- the calls of a session that runs, or that ended so, from this generator on
+abbrev pub ConductBy : Option (Result End SessionFault) → Words → Calls → Calls → Words → Type 0
+ConductBy None generator old new left = Conducts true generator old new left
+ConductBy (Some (Ok end)) generator old new left = Conducts true generator old new left
+ConductBy (Some (Err fault)) generator old new left = DrawsWords generator old new
+
+-- a session that began in these surroundings, with that generator and that stream, stands so
+pub record Stands (torrent : Metainfo) (worker : ℕ) (generator : Words) (out : Surroundings) (first : StreamRecord) (now : Standing) : Type 0 where
   pub stands : StandsBy now.session.outcome torrent worker out now.session (source_of now.stream now.session.asked)
       (λ short. around now.desk worker now.told short now.stream)
+  pub conduct : ConductBy now.session.outcome generator out.past.calls (calls_in now.desk.history worker) now.generator
   pub devices : DevicesBy now.session.outcome first now.stream
   pub counted : first.asked ≡ 0 → now.stream.asked ≡ now.session.asked
   pub most : now.session.asked ≤ most_reads
 
 -- a session that stood goes on standing
 pub record Keeps (worker : ℕ) (old new : Standing) : Type 0 where
-  pub still : (torrent : Metainfo) (out : Surroundings) (first : StreamRecord) →
-      Stands torrent worker out first old → Stands torrent worker out first new
+  pub still : (torrent : Metainfo) (generator : Words) (out : Surroundings) (first : StreamRecord) →
+      Stands torrent worker generator out first old → Stands torrent worker generator out first new
 
 -- a worker's turn leaves alone what the others called, and what is had stays had
 pub record LeavesOthers (worker : ℕ) (old new : DeskState) : Type 0 where
@@ -78,10 +90,11 @@ abbrev pub HasEnded : Seat → Type 0
 HasEnded seat = seat.session.outcome ≢ None
 
 -- a worker's seat before its first turn
-pub record IsNew (torrent : Metainfo) (worker : ℕ) (seat : Seat) : Type 0 where
+pub record IsNew (torrent : Metainfo) (seed worker : ℕ) (seat : Seat) : Type 0 where
   pub session : seat.session ≡ begun torrent worker
   pub told : seat.told ≡ replicate (piece_count torrent.layout) false
+  pub generator : answers_of seat.rng ≡ generator_of seed worker
 
 -- that of each worker
-abbrev pub AreNew : Metainfo → List Seat → Type 0
-AreNew torrent seats = (i : ℕ) (any : Seat) → i < length seats → IsNew torrent i (slice_index_or seats i any)
+abbrev pub AreNew : Metainfo → ℕ → List Seat → Type 0
+AreNew torrent seed seats = (i : ℕ) (any : Seat) → i < length seats → IsNew torrent seed i (slice_index_or seats i any)

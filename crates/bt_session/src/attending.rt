@@ -1,8 +1,10 @@
 //! What a session does for a message after the handshake.
 
-ghost use Rattle.std.specs.Prelude.{◌≡◌, ◌⊎◌, None, Some, true, false, List, [], ◌++◌, IfErr, IfOk, OnOk, MatchOption};
+ghost use Rattle.std.specs.Prelude.{◌≡◌, ◌⊎◌, None, Some, true, false, List, [], ◌++◌, IfErr, IfOk, OnOk, OnErr, MatchOption};
 ghost use Rattle.bt_meta.specs.Layout.{piece_count};
 ghost use Rattle.bt_session.specs.declared.fault.SessionFault.TheVariants.{WriteFault, NoMemory, BadBits};
+ghost use Rattle.rand_core.specs.Stream.{Stream};
+ghost use Rattle.bt_session.specs.Conduct.{Conducts, DrawsWords, word_of};
 ghost use Rattle.bt_session.specs.Events.{Event, is_check, mark_of_call};
 ghost use Rattle.bt_session.specs.Turns.{call_of, arrived_piece as piece_of_mark, if_completed, Opens, IsTurn, IsAcceptable, NoneRefused, IsLater};
 ghost use Rattle.bt_session.specs.Outlets.{outlet, Performs, PerformsUpTo, EndsCalls};
@@ -84,11 +86,16 @@ fn call_and_check<P: Place, W: Sink>(
     ensures ok { OnOk result ((events : List Event) × (Opens (Some (mark_of_call call)) events × NoneRefused events
         × Performs (outlet P.past W.written place.old writer.old interested.old) events
         (outlet P.past W.written place.new writer.new interested.new))) }
+    // At a call that isn't Next no word is drawn.
+    ensures conduct { OnOk result (word_of (mark_of_call call) ≡ [] → (generator : Stream) →
+        Conducts P.settles generator (P.past place.old).calls (P.past place.new).calls generator) }
     ensures ok_sound { OnOk result (W.failed writer.new ≡ W.failed writer.old) }
     ensures err { IfErr result (λ fault. (events : List Event) × ((rest : List Event) × (Opens (Some (mark_of_call call)) (events ++ rest)
         × EndsCalls fault events
         × PerformsUpTo fault (outlet P.past W.written place.old writer.old interested.old) events
         (outlet P.past W.written place.new writer.new interested.new)))) }
+    ensures words { OnErr result (word_of (mark_of_call call) ≡ [] → (generator : Stream) →
+        DrawsWords generator (P.past place.old).calls (P.past place.new).calls) }
     ensures err_failed { IfErr result (λ fault. fault ≡ WriteFault → W.failed writer.new ≡ true) }
 {
     let arrived = arrived_piece(&call);
@@ -113,10 +120,14 @@ fn open<P: Place, W: Sink>(
     ensures ok { OnOk result ((events : List Event) × (Opens (call_of message) events × NoneRefused events
         × Performs (outlet P.past W.written place.old writer.old interested.old) events
         (outlet P.past W.written place.new writer.new interested.new))) }
+    ensures conduct { OnOk result ((generator : Stream) →
+        Conducts P.settles generator (P.past place.old).calls (P.past place.new).calls generator) }
     ensures ok_sound { OnOk result (W.failed writer.new ≡ W.failed writer.old) }
     ensures err { IfErr result (λ fault. (events : List Event) × (StopsOpening fault (piece_count torrent.now.layout) message events
         × PerformsUpTo fault (outlet P.past W.written place.old writer.old interested.old) events
         (outlet P.past W.written place.new writer.new interested.new))) }
+    ensures words { OnErr result ((generator : Stream) →
+        DrawsWords generator (P.past place.old).calls (P.past place.new).calls) }
     ensures err_failed { IfErr result (λ fault. fault ≡ WriteFault → W.failed writer.new ≡ true) }
 {
     match call_for(alloc, torrent, message)? {
@@ -140,10 +151,13 @@ pub fn attend<P: Place, W: Sink, N: Rng>(
         × TellsNews (piece_count torrent.now.layout) (P.past place.old) events (P.past place.new)
         × Performs (outlet P.past W.written place.old writer.old interested.old) events
         (outlet P.past W.written place.new writer.new interested.new))) }
+    ensures conduct { OnOk result (Conducts P.settles
+        (N.stream rng.old) (P.past place.old).calls (P.past place.new).calls (N.stream rng.new)) }
     ensures ok_sound { OnOk result (W.failed writer.new ≡ W.failed writer.old) }
     ensures err { IfErr result (λ fault. (events : List Event) × (StopsTurn fault (piece_count torrent.now.layout) message events
         × PerformsUpTo fault (outlet P.past W.written place.old writer.old interested.old) events
         (outlet P.past W.written place.new writer.new interested.new))) }
+    ensures words { OnErr result (DrawsWords (N.stream rng.old) (P.past place.old).calls (P.past place.new).calls) }
     ensures err_failed { IfErr result (λ fault. fault ≡ WriteFault → W.failed writer.new ≡ true) }
 {
     open(alloc, torrent, message, place, writer, interested)?;

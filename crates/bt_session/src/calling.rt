@@ -1,9 +1,10 @@
 //! Calls of a turn, each with what is written for it.
 
-ghost use Rattle.std.specs.Prelude.{◌≡◌, ◌≤◌, ◌⊎◌, ℕ, false, true, List, [], ◌∷◌, ◌++◌, length, map, IfErr, IfOk, OnOk};
+ghost use Rattle.std.specs.Prelude.{◌≡◌, ◌≤◌, ◌⊎◌, ℕ, false, true, List, [], ◌∷◌, ◌++◌, length, map, Some, IfErr, IfOk, OnOk, OnErr};
 ghost use Rattle.bt_session.specs.declared.fault.SessionFault.TheVariants.{WriteFault};
+ghost use Rattle.bt_session.specs.Conduct.{Conducts, DrawsWords};
 ghost use Rattle.bt_session.specs.Events.{Event, Called, News, is_refusal, mark_of_call};
-ghost use Rattle.bt_session.specs.Turns.{Asks, has_more as more_after, most_next, NoneRefused};
+ghost use Rattle.bt_session.specs.Turns.{Asks, arrived_piece, has_more as more_after, if_completed, most_next, NoneRefused};
 ghost use Rattle.bt_session.specs.Places.{AllTold};
 ghost use Rattle.bt_session.specs.Outlets.{outlet, Performs, PerformsUpTo, StopsCall, EndsCalls, IsCut};
 
@@ -31,6 +32,8 @@ pub fn make_call<P: Place, W: Sink>(
         (outlet P.past W.written place.old writer.old interested.old) (Called (mark_of_call call) reply ∷ [])
         (outlet P.past W.written place.new writer.new interested.new)) }
     ensures ok_accepted { IfOk result (λ reply. is_refusal reply ≡ false) }
+    ensures completes { IfOk result (λ reply. P.settles ≡ true → (piece : ℕ) →
+        if_completed (arrived_piece (mark_of_call call)) reply ≡ Some piece → P.awaits place.new piece ≡ true) }
     ensures ok_sound { OnOk result (W.failed writer.new ≡ W.failed writer.old) }
     ensures err { IfErr result (λ fault. (events : List Event) × (StopsCall (mark_of_call call) fault events
         × PerformsUpTo fault (outlet P.past W.written place.old writer.old interested.old) events
@@ -87,11 +90,14 @@ pub fn ask<P: Place, W: Sink, N: Rng>(
     ensures ok { OnOk result ((asking : List Event) × (Asks most_next asking × NoneRefused asking
         × Performs (outlet P.past W.written place.old writer.old interested.old) asking
         (outlet P.past W.written place.new writer.new interested.new))) }
+    ensures conduct { OnOk result (Conducts P.settles
+        (N.stream rng.old) (P.past place.old).calls (P.past place.new).calls (N.stream rng.new)) }
     ensures ok_sound { OnOk result (W.failed writer.new ≡ W.failed writer.old) }
     ensures err { IfErr result (λ fault. (asking : List Event) × ((rest : List Event) × (Asks most_next (asking ++ rest)
         × EndsCalls fault asking
         × PerformsUpTo fault (outlet P.past W.written place.old writer.old interested.old) asking
         (outlet P.past W.written place.new writer.new interested.new)))) }
+    ensures words { OnErr result (DrawsWords (N.stream rng.old) (P.past place.old).calls (P.past place.new).calls) }
     ensures err_failed { IfErr result (λ fault. fault ≡ WriteFault → W.failed writer.new ≡ true) }
 {
     'next: for _ in 0..MOST_NEXT {

@@ -4,10 +4,11 @@ ghost use Rattle.std.specs.Prelude.{◌≡◌, ◌<◌, ◌∷◌, ℕ, List, []
 ghost use Rattle.bt_meta.specs.Layout.{piece_count};
 ghost use Rattle.bt_history.specs.Pieces.{had};
 ghost use Rattle.bt_history.specs.declared.call.Reply.{Reply};
-ghost use Rattle.bt_picker.specs.Checks.{SettlesNow};
+ghost use Rattle.bt_picker.specs.Checks.{SettlesNow, waits};
+ghost use Rattle.bt_session.specs.Conduct.{SettlesAtOnce};
 ghost use Rattle.bt_session.specs.Desks.{desk_record};
-ghost use Rattle.bt_session.specs.Events.{Event};
-ghost use Rattle.bt_session.specs.Places.{Gains, LacksMemory};
+ghost use Rattle.bt_session.specs.Events.{Event, News};
+ghost use Rattle.bt_session.specs.Places.{AllTold, Gains, LacksMemory};
 ghost use Rattle.bt_session.specs.Turns.{ChecksAtMost};
 
 use crate::place::Place;
@@ -47,6 +48,10 @@ impl<'a> DeskPlace<'a> {
 impl<'a> Place for DeskPlace<'a> {
     ghost past = { λ s. desk_record (s.desk.ghost_name ∷ s.told.ghost_name ∷ []) s.desk.now s.worker s.told.now s.short };
 
+    ghost settles = { true };
+
+    ghost awaits = { λ s piece. waits s.desk.now.setting s.desk.now.history piece };
+
     fn call(&mut self, _alloc: Global, call: Call) -> Result<Reply, AllocError> {
         match self.desk.call(self.worker, call) {
             Ok(reply) => Ok(reply),
@@ -57,7 +62,15 @@ impl<'a> Place for DeskPlace<'a> {
         }
     }
 
-    fn news(&mut self) -> Option<u32> {
+    /// The least piece that is had and wasn't told.
+    fn news(&mut self) -> Option<u32>
+        ensures some { IfSome result (λ piece. Gains (⟦<DeskPlace<'a> as Place>⟧.past self.old) (News piece ∷ [])
+            (⟦<DeskPlace<'a> as Place>⟧.past self.new)) }
+        ensures none { IfNone result (Gains (⟦<DeskPlace<'a> as Place>⟧.past self.old) [] (⟦<DeskPlace<'a> as Place>⟧.past self.new)
+            × AllTold (⟦<DeskPlace<'a> as Place>⟧.past self.new)) }
+        ensures least { IfSome result (λ piece. (other : ℕ) → other < piece → had self.old.desk.now.history other ≡ true →
+            slice_index_or self.old.told.now other false ≡ true) }
+    {
         let piece = first_untold(self.desk, self.told)?;
         self.told.set(piece);
         Some(piece)
@@ -67,6 +80,8 @@ impl<'a> Place for DeskPlace<'a> {
         ensures ok { OnOk result ((events : List Event) × (ChecksAtMost piece events
             × Gains (⟦<DeskPlace<'a> as Place>⟧.past self.old) events (⟦<DeskPlace<'a> as Place>⟧.past self.new))) }
         ensures err { OnErr result (LacksMemory (⟦<DeskPlace<'a> as Place>⟧.past self.old) (⟦<DeskPlace<'a> as Place>⟧.past self.new)) }
+        ensures at_once { OnOk result (true ≡ true → waits self.old.desk.now.setting self.old.desk.now.history piece ≡ true →
+            SettlesAtOnce piece (⟦<DeskPlace<'a> as Place>⟧.past self.old).calls (⟦<DeskPlace<'a> as Place>⟧.past self.new).calls) }
         // The check is made here and now.
         ensures settles { OnOk result ((reply : Reply) × SettlesNow self.old.desk.now self.new.desk.now self.old.worker piece reply) }
     {
@@ -85,6 +100,8 @@ fn first_untold(desk: &Desk, told: &Bitfield) -> Option<u32>
     requires { length told.now ≡ piece_count desk.now.setting.torrent }
     ensures some { IfSome result (λ piece. (piece < length told.now)
         × (had desk.now.history piece ≡ true) × (slice_index_or told.now piece false ≡ false)) }
+    ensures least { IfSome result (λ piece. (other : ℕ) → other < piece →
+        had desk.now.history other ≡ true → slice_index_or told.now other false ≡ true) }
     ensures none { IfNone result ((piece : ℕ) → piece < length told.now →
         had desk.now.history piece ≡ true → slice_index_or told.now piece false ≡ true) }
 {

@@ -26,7 +26,7 @@ fn new_seat(
     worker: u32,
     seed: u64,
 ) -> Result<Seat, AllocError>
-    ensures { IfOk result (IsNew torrent.now.value worker) }
+    ensures { IfOk result (IsNew torrent.now.value seed worker) }
 {
     let told = Bitfield::empty(alloc, torrent.piece_count())?;
     Ok(Seat {
@@ -44,7 +44,7 @@ fn new_seats(
     seed: u64,
 ) -> Result<Vec<Seat>, AllocError>
     ensures count { IfOk result (λ seats. length seats.items ≡ count) }
-    ensures new { IfOk result (λ seats. AreNew torrent.now.value seats.items) }
+    ensures new { IfOk result (λ seats. AreNew torrent.now.value seed seats.items) }
 {
     let mut seats = Vec::with_capacity(alloc, count as usize)?;
     for worker in 0..count {
@@ -171,9 +171,9 @@ fn play_out<R: Source, W: Sink>(
     requires room { length streams.old ≤ vec_capacity ends.old }
     ensures setting { desk.new.setting ≡ desk.old.setting }
     ensures count { length ends.new.items ≡ length streams.old }
-    ensures sessions { (torrent : Metainfo) → desk.old.setting.torrent ≡ torrent.layout → AreNew torrent seats.old →
+    ensures sessions { (torrent : Metainfo) (seed : ℕ) → desk.old.setting.torrent ≡ torrent.layout → AreNew torrent seed seats.old →
         EachEnded (stream_record R.left R.ended R.failed R.asked W.written W.failed)
-        torrent streams.old desk.new streams.new ends.new.items }
+        torrent seed streams.old desk.new streams.new ends.new.items }
     ensures finishes { Finishes (length streams.old) result desk.new }
     ensures none_waits { result ≡ false → (piece : ℕ) → waits desk.new.setting desk.new.history piece ≡ false }
 {
@@ -195,9 +195,10 @@ pub fn serial<R: Source, W: Sink>(
     requires { (1 ≤ length streams.old) × (length streams.old ≤ MOST_STREAMS) }
     ensures setting { IfOk result (λ run. run.desk.setting ≡ usual torrent.value.layout (length streams.old + 1)) }
     ensures ends { IfOk result (λ run. length run.ends.items ≡ length streams.old) }
-    // Each session ended as its stream says; what it saw of the desk is what the desk's journal has of its worker.
+    // Each session ended as its stream says; what it saw of the desk is what the desk's journal has of its worker, and the words of its
+    // Next calls are those of the generator of the seed and its number.
     ensures sessions { IfOk result (λ run. EachEnded (stream_record R.left R.ended R.failed R.asked W.written W.failed)
-        torrent.value streams.old run.desk streams.new run.ends.items) }
+        torrent.value seed streams.old run.desk streams.new run.ends.items) }
     // The last worker did nothing but the last checks.
     ensures finishes { IfOk result (λ run. Finishes (length streams.old) run.short run.desk) }
     ensures none_waits { IfOk result (λ run. run.short ≡ false → (piece : ℕ) →

@@ -1,6 +1,6 @@
 //! A session, turn by turn.
 
-ghost use Rattle.std.specs.Prelude.{◌≡◌, ◌<◌, ◌≤◌, true, false, None, IfOk, IfSome, IfNone, IfErr, OnOk};
+ghost use Rattle.std.specs.Prelude.{◌≡◌, ◌<◌, ◌≤◌, true, false, None, IfOk, IfSome, IfNone, IfErr, OnOk, OnErr};
 
 use crate::fault::{End, SessionFault};
 use crate::greeting::greeting;
@@ -47,7 +47,9 @@ impl Model for Session {
 }
 
 impl Session {
+    ghost use Rattle.rand_core.specs.Stream.{Stream};
     ghost use Rattle.bt_session.specs.declared.fault.SessionFault.TheVariants.{WriteFault};
+    ghost use Rattle.bt_session.specs.Conduct.{Conducts, DrawsWords, answers_of};
     ghost use Rattle.bt_session.specs.Hearing.{most_reads, source_state};
     ghost use Rattle.bt_session.specs.Turning.{surroundings};
     ghost use Rattle.bt_session.specs.Sessions.{SessionState, begun, to_hear, GoesOn, Ends, FailsWith, answer_again};
@@ -96,6 +98,11 @@ impl Session {
             self.old (surroundings P.past R.left W.written place.old reader.old writer.old)
             (source_state R.left R.ended R.failed reader.new self.new.asked)
             self.new (surroundings P.past R.left W.written place.new reader.new writer.new)) }
+        // No word is drawn.
+        ensures conduct { OnOk result ((generator : Stream) →
+            Conducts P.settles generator (P.past place.old).calls (P.past place.new).calls generator) }
+        ensures words { OnErr result ((generator : Stream) →
+            DrawsWords generator (P.past place.old).calls (P.past place.new).calls) }
         ensures counted { R.asked reader.old ≡ self.old.asked → R.asked reader.new ≡ self.new.asked }
         ensures most { self.new.asked ≤ most_reads }
         ensures sound { OnOk result (
@@ -146,6 +153,10 @@ impl Session {
             self.old (surroundings P.past R.left W.written place.old reader.old writer.old)
             (source_state R.left R.ended R.failed reader.new self.new.asked)
             self.new (surroundings P.past R.left W.written place.new reader.new writer.new)) }
+        // The words of Next are the generator's, and a piece is checked at once where the place checks it itself.
+        ensures conduct { OnOk result (Conducts P.settles
+            (answers_of rng.old) (P.past place.old).calls (P.past place.new).calls (answers_of rng.new)) }
+        ensures words { OnErr result (DrawsWords (answers_of rng.old) (P.past place.old).calls (P.past place.new).calls) }
         // What the session counts is what the source was asked, where that was so before.
         ensures counted { R.asked reader.old ≡ self.old.asked → R.asked reader.new ≡ self.new.asked }
         ensures most { self.new.asked ≤ most_reads }

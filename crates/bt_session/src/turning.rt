@@ -1,8 +1,10 @@
 //! The turns of a session: the handshakes, and one message after another.
 
-ghost use Rattle.std.specs.Prelude.{◌≡◌, ◌≤◌, ◌+◌, ◌*◌, ◌++◌, length, [], true, false, List, IfOk, IfErr, OnOk};
+ghost use Rattle.std.specs.Prelude.{◌≡◌, ◌≤◌, ◌+◌, ◌*◌, ◌++◌, length, [], true, false, List, IfOk, IfErr, OnOk, OnErr};
 ghost use Rattle.std.specs.Bool.{OnTrue, OnFalse};
 ghost use Rattle.bt_session.specs.declared.fault.SessionFault.TheVariants.{WriteFault};
+ghost use Rattle.rand_core.specs.Stream.{Stream};
+ghost use Rattle.bt_session.specs.Conduct.{Conducts, DrawsWords};
 ghost use Rattle.bt_session.specs.Events.{Event, is_in};
 ghost use Rattle.bt_session.specs.Places.{Gains, GainsUpTo};
 ghost use Rattle.bt_session.specs.Saying.{says};
@@ -44,6 +46,9 @@ pub fn greet<R: Source, W: Sink, P: Place>(
     ensures ok { OnOk result (TakesTurn torrent.now greeting.now
         (reading peer.old.inbound peer.old.interested) (surroundings P.past R.left W.written place.old reader.old writer.old)
         (reading peer.new.inbound peer.new.interested) (surroundings P.past R.left W.written place.new reader.new writer.new)) }
+    // No word is drawn.
+    ensures conduct { OnOk result ((generator : Stream) →
+        Conducts P.settles generator (P.past place.old).calls (P.past place.new).calls generator) }
     ensures ok_sound { OnOk result ((R.failed reader.new ≡ R.failed reader.old) × (W.failed writer.new ≡ W.failed writer.old)) }
     ensures few { OnOk result (
         length peer.new.inbound.bytes + 4 + room_len * peer.old.asked ≤ length peer.old.inbound.bytes + room_len * peer.new.asked) }
@@ -52,6 +57,8 @@ pub fn greet<R: Source, W: Sink, P: Place>(
         × WroteFront fault (W.written writer.old) (greeting.now ++ says peer.old.interested events) (W.written writer.new)
         × BreaksBy fault (start torrent.now false peer.old.inbound (R.left reader.old))
         (source_state R.left R.ended R.failed reader.new peer.new.asked) events)) }
+    ensures words { OnErr result ((generator : Stream) →
+        DrawsWords generator (P.past place.old).calls (P.past place.new).calls) }
     ensures err_failed { IfErr result (λ fault. fault ≡ WriteFault → W.failed writer.new ≡ true) }
     ensures most { peer.new.asked ≤ most_reads }
     ensures counted { R.asked reader.old ≡ peer.old.asked → R.asked reader.new ≡ peer.new.asked }
@@ -105,6 +112,8 @@ pub fn listen<R: Source, W: Sink, P: Place, N: Rng>(
     ensures leaves { IfOk result (λ goes_on. OnFalse goes_on (TakesLeave
         (reading peer.old.inbound peer.old.interested) (surroundings P.past R.left W.written place.old reader.old writer.old) (R.ended reader.new)
         (reading peer.new.inbound peer.new.interested) (surroundings P.past R.left W.written place.new reader.new writer.new))) }
+    ensures conduct { OnOk result (Conducts P.settles
+        (N.stream rng.old) (P.past place.old).calls (P.past place.new).calls (N.stream rng.new)) }
     ensures ok_sound { OnOk result ((R.failed reader.new ≡ R.failed reader.old) × (W.failed writer.new ≡ W.failed writer.old)) }
     ensures err { IfErr result (λ fault. (events : List Event) × ((leave : List Event) ×
         (GainsUpTo (P.past place.old) (events ++ leave) (P.past place.new)
@@ -112,6 +121,7 @@ pub fn listen<R: Source, W: Sink, P: Place, N: Rng>(
         × WroteFront fault (W.written writer.old) (says peer.old.interested events) (W.written writer.new)
         × BreaksBy fault (start torrent.now true peer.old.inbound (R.left reader.old))
         (source_state R.left R.ended R.failed reader.new peer.new.asked) events))) }
+    ensures words { OnErr result (DrawsWords (N.stream rng.old) (P.past place.old).calls (P.past place.new).calls) }
     ensures err_failed { IfErr result (λ fault. fault ≡ WriteFault → W.failed writer.new ≡ true) }
     ensures most { peer.new.asked ≤ most_reads }
     ensures counted { R.asked reader.old ≡ peer.old.asked → R.asked reader.new ≡ peer.new.asked }

@@ -1,7 +1,8 @@
 //! A whole session.
 
-ghost use Rattle.std.specs.Prelude.{ℕ, ◌≡◌, ◌≤◌, true, IfOk, IfErr};
+ghost use Rattle.std.specs.Prelude.{ℕ, ◌≡◌, ◌≤◌, true, IfOk, IfErr, OnOk, OnErr};
 ghost use Rattle.bt_session.specs.declared.fault.SessionFault.TheVariants.{WriteFault};
+ghost use Rattle.bt_session.specs.Conduct.{Conducts, DrawsWords, answers_of};
 ghost use Rattle.bt_session.specs.Hearing.{most_reads, source_state};
 ghost use Rattle.bt_session.specs.Turning.{surroundings};
 ghost use Rattle.bt_session.specs.Sessions.{IsWhole, IsCutShort};
@@ -27,6 +28,12 @@ pub fn session<R: Source, W: Sink, P: Place>(
     ensures whole { IfOk result (λ end. IsWhole end torrent.value worker
         (surroundings P.past R.left W.written place.old reader.old writer.old)
         (surroundings P.past R.left W.written place.new reader.new writer.new)) }
+    // It comes to its end only where its source did.
+    ensures ended { OnOk result (R.ended reader.new ≡ true) }
+    // The words of Next are the generator's, and a piece is checked at once where the place checks it itself.
+    ensures conduct { OnOk result (Conducts P.settles
+        (answers_of rng.old) (P.past place.old).calls (P.past place.new).calls (answers_of rng.new)) }
+    ensures words { OnErr result (DrawsWords (answers_of rng.old) (P.past place.old).calls (P.past place.new).calls) }
     // The reads that the session counted are those that its source was asked for, if none were before.
     ensures cut_short { IfErr result (λ fault. (asked : ℕ) × ((R.asked reader.old ≡ 0 → R.asked reader.new ≡ asked)
         × IsCutShort fault torrent.value worker

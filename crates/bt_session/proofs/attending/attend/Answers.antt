@@ -1,6 +1,8 @@
 use Rattle.std.proofs.Common.{refl}
 use Rattle.std.proofs.lemmas.Result.{err_from_is_err_and}
 use Rattle.bt_meta.specs.Layout.{piece_count}
+use Rattle.bt_picker.proofs.Contents.{on_err}
+use Rattle.bt_session.proofs.Conduct.{Conducts-join, Conducts-draws, DrawsWords-join, told_conducts}
 use Rattle.bt_session.proofs.TurnParts.{turn_done, turn_stops_open, turn_stops_news, turn_stops_ask}
 use Rattle.bt_session.proofs.attending.attend.Goals as goal
 
@@ -28,3 +30,27 @@ returns-clause-ok g c =
     let told = rw c.piece_count.ensures.count at c.in_ok-tell_news.ensures.ok in
     turn_done (piece_count c.args.torrent.now.layout) c.args.message _ _ _ _ c.requires c.in_ok-open.ensures.acceptable c.in_ok-open.ensures.ok told
     refl c.in_ok-ask.ensures.ok
+
+pub returns-in_err-tell_news-clause-words : goal.returns-in_err-tell_news-clause-words
+returns-in_err-tell_news-clause-words g c =
+    let generator = g.N.Rng.stream c.args.rng.now in
+    let told = c.in_err-tell_news.ensures.err in
+    on_err _ _ (Conducts-draws g.P.Place.settles generator generator _ _
+    (Conducts-join g.P.Place.settles generator generator generator _ _ _ (c.in_ok-open.ensures.conduct generator)
+    (told_conducts g.P.Place.settles generator _ _ told.0 told.1.2.gains)))
+
+pub returns-in_err-ask-clause-words : goal.returns-in_err-ask-clause-words
+returns-in_err-ask-clause-words g c =
+    let generator = g.N.Rng.stream c.args.rng.now in
+    let told = c.in_ok-tell_news.ensures.ok in
+    on_err _ _ (DrawsWords-join g.P.Place.settles generator generator _ _ _
+    (Conducts-join g.P.Place.settles generator generator generator _ _ _ (c.in_ok-open.ensures.conduct generator)
+    (told_conducts g.P.Place.settles generator _ _ told.0 told.1.2.gains.up_to)) c.in_err-ask.ensures.words)
+
+pub returns-clause-conduct : goal.returns-clause-conduct
+returns-clause-conduct g c =
+    let generator = g.N.Rng.stream c.args.rng.now in
+    let told = c.in_ok-tell_news.ensures.ok in
+    Conducts-join g.P.Place.settles generator generator _ _ _ _
+    (Conducts-join g.P.Place.settles generator generator generator _ _ _ (c.in_ok-open.ensures.conduct generator)
+    (told_conducts g.P.Place.settles generator _ _ told.0 told.1.2.gains.up_to)) c.in_ok-ask.ensures.conduct

@@ -1,8 +1,9 @@
-use Rattle.std.proofs.lemmas.Result.{err_from_is_err_and, IfErr-weaker}
+use Rattle.std.proofs.lemmas.Result.{err_from_is_err_and, IfErr-weaker, on_ok_weaker}
 use Rattle.std.proofs.Common.{◌≡◌, Option, Some, None, [], refl, subst, sym}
 use Rattle.bt_session.specs.Events.{mark_of_call}
 use Rattle.bt_history.specs.declared.mark.CallMark.{CallMark}
 use Rattle.bt_session.specs.Turns.{call_of, Opens}
+use Rattle.bt_session.proofs.Conduct.{own_word}
 use Rattle.bt_session.proofs.Stretches.{Performs-none}
 use Rattle.bt_session.proofs.TurnParts.{nothing_came, opened_stops}
 use Rattle.bt_session.proofs.attending.open.Goals as goal
@@ -23,3 +24,8 @@ returns-in-None-clause-ok g c =
     let made = rw c.in-None.is at c.in_ok-call.ensures.ok in
     let none : call_of c.args.message ≡ None = made.1 in
     ([], (subst (λ (call : Option CallMark). Opens call []) (sym none) refl, refl, Performs-none _))
+
+pub returns-in-Some-clause-conduct : goal.returns-in-Some-clause-conduct
+returns-in-Some-clause-conduct g c =
+    let made = rw c.in-Some.is at c.in_ok-call.ensures.ok in
+    on_ok_weaker c.call_and_check.result (λ conduct. conduct (own_word c.args.message _ made.1)) c.call_and_check.ensures.conduct

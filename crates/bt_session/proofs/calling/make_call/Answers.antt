@@ -11,6 +11,7 @@ returns-in_err-tell g c =
     rw (p.1, p.2) (record {
       ok = tt;
       ok_accepted = tt;
+      completes = tt;
       ok_sound = tt;
       err =
           call_cut _ _ _ _ _ c.in_ok-reply.ensures.ok accepted c.in_err-tell.ensures.cause c.in_err-tell.ensures.err;

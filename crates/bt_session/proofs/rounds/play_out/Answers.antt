@@ -14,8 +14,8 @@ pub returns-clause-sessions : goal.returns-clause-sessions
 returns-clause-sessions g c =
     let record_of = stream_record g.R.Source.left g.R.Source.ended g.R.Source.failed g.R.Source.asked g.W.Sink.written g.W.Sink.failed in
     let seats : length c.play.new.seats ≡ length c.args.streams.now = omega arith in
-    λ torrent. λ layout. λ new.
-    each_ended record_of torrent c.args.desk.now c.play.new.desk c.last_checks.new.desk c.args.seats.now c.play.new.seats c.args.streams.now
+    λ torrent. λ seed. λ layout. λ new.
+    each_ended record_of torrent seed c.args.desk.now c.play.new.desk c.last_checks.new.desk c.args.seats.now c.play.new.seats c.args.streams.now
     c.play.new.streams c.tell_ends.new.ends.items
     layout c.requires.fresh new c.requires.seats seats c.play.ensures.keeps c.play.ensures.rest _
     (omega arith) c.last_checks.ensures.leaves c.tell_ends.ensures

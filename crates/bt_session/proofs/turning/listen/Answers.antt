@@ -3,6 +3,8 @@ use Rattle.std.proofs.lemmas.List.{nil_from_length}
 use Rattle.std.proofs.lemmas.Result.{err_from_is_err_and}
 use Rattle.bt_session.specs.Hearing.{source_state}
 use Rattle.bt_session.specs.Turning.{start}
+use Rattle.bt_picker.proofs.Contents.{on_err}
+use Rattle.bt_session.proofs.Conduct.{DrawsWords-none, left_draws}
 use Rattle.bt_session.proofs.Failing.{hearing_fails, ends_within, leave_refused, leave_lacks_memory, attending_fails}
 use Rattle.bt_session.proofs.Heard.{later}
 use Rattle.bt_session.proofs.turning.listen.Goals as goal
@@ -47,3 +49,18 @@ returns-in-Err-attend-clause-err g c =
     (attending_fails _ c.in-Ok-Some.message c.hear.new.inbound old source _ _ _
     (later _ _ _ _ _ c.requires.greeted hears) hears c.in-Err-attend.ensures.err
     c.leave_by-in-Err-attend.ensures.leave)
+
+pub returns-in-Err-clause-words : goal.returns-in-Err-clause-words
+returns-in-Err-clause-words g c =
+    let past = g.P.Place.past c.args.place.now in
+    left_draws _ past past _ (DrawsWords-none _ past.calls) c.leave_by-in-Err.ensures.leave
+
+pub returns-in-Ok-None-clause-words : goal.returns-in-Ok-None-clause-words
+returns-in-Ok-None-clause-words g c =
+    let past = g.P.Place.past c.args.place.now in
+    left_draws _ past past _ (DrawsWords-none _ past.calls) c.leave_by.ensures.leave
+
+pub returns-in-Err-attend-clause-words : goal.returns-in-Err-attend-clause-words
+returns-in-Err-attend-clause-words g c =
+    let past = g.P.Place.past c.args.place.now in
+    left_draws _ past (g.P.Place.past c.attend.new.place) _ c.in-Err-attend.ensures.words c.leave_by-in-Err-attend.ensures.leave

@@ -1,4 +1,5 @@
 use Rattle.std.proofs.Common.{◌≡◌}
+use Rattle.bt_session.specs.Conduct.{Conducts, answers_of}
 use Rattle.bt_session.specs.Sessions.{to_hear, Running}
 use Rattle.bt_session.specs.Turning.{surroundings}
 use Rattle.bt_session.proofs.whole.session.Given as goal
@@ -9,6 +10,7 @@ invariant-turns g l = record {
       (surroundings g.P.Place.past g.R.Source.left g.W.Sink.written l.fn.place l.fn.reader l.fn.writer) l.session
       (surroundings g.P.Place.past g.R.Source.left g.W.Sink.written l.place l.reader l.writer);
   counted : g.R.Source.asked l.fn.reader ≡ 0 → g.R.Source.asked l.reader ≡ l.session.asked;
+  conduct : Conducts g.P.Place.settles (answers_of l.fn.rng) (g.P.Place.past l.fn.place).calls (g.P.Place.past l.place).calls (answers_of l.rng);
 }
 
 abbrev pub decreases-turns : goal.decreases-turns
