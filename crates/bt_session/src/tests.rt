@@ -1,8 +1,9 @@
 mod serial;
+mod sips;
 
 use crate::whole::session;
 use crate::{DeskPlace, End, SessionFault};
-use bt_meta::{Bitfield, FromRead, ToWrite, Torrent};
+use bt_meta::{Bitfield, FromRead, Source, ToWrite, Torrent};
 use bt_picker::{Call, Desk, Entry};
 use bt_wire::{Hello, WireFault};
 use rand_pcg::Lcg64Xsh32;
@@ -63,10 +64,17 @@ fn told(
     alloc: Global,
     stream: &[u8],
 ) -> Result<(Result<End, SessionFault>, String, Vec<u8>), Fail> {
+    told_of(alloc, FromRead::new(Cursor::new(stream)))
+}
+
+/// The same of a source, which is read to its end.
+fn told_of<R: Source + Drop>(
+    alloc: Global,
+    mut reader: R,
+) -> Result<(Result<End, SessionFault>, String, Vec<u8>), Fail> {
     let torrent = torrent(alloc)?;
     let mut told = Bitfield::empty(alloc, torrent.piece_count())?;
     let mut desk = Desk::new(alloc, torrent.clone()?, 4)?;
-    let mut reader = FromRead::new(Cursor::new(stream));
     let mut writer = ToWrite::new(Vec::new(alloc));
     let mut rng = Lcg64Xsh32::new(0, 3);
     let mut place = DeskPlace::new(&mut desk, 3, &mut told);

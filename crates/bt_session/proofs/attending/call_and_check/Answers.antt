@@ -33,7 +33,7 @@ returns-in_err-reply-clause-words g c =
     let mark = mark_of_call c.args.call in
     let cut = c.in_err-reply.ensures.err in
     let words : word_of mark ≡ [] → (generator : Stream) →
-        DrawsWords generator (g.P.Place.past c.args.place.now).calls (g.P.Place.past c.make_call.new.place).calls =
+    DrawsWords generator (g.P.Place.past c.args.place.now).calls (g.P.Place.past c.make_call.new.place).calls =
     λ silent. λ generator. other_cut generator mark _ cut.0 _ _ silent cut.1.0 cut.1.1.gains in
     on_err _ _ words
 
@@ -42,7 +42,7 @@ returns-in_err-completed-clause-words g c =
     let mark = mark_of_call c.args.call in
     let made = c.in_ok-reply.ensures.ok.gains.up_to.calls in
     let words : word_of mark ≡ [] → (generator : Stream) →
-        DrawsWords generator (g.P.Place.past c.args.place.now).calls (g.P.Place.past c.completed-in-Some.new.self).calls =
+    DrawsWords generator (g.P.Place.past c.args.place.now).calls (g.P.Place.past c.completed-in-Some.new.self).calls =
     λ silent. λ generator. DrawsWords-silent generator _ _ _ []
     (silent_draws generator _ _ _ made (ap (λ (words : List ℕ). words ++ []) silent)) c.in_err-completed.ensures.err.gains.calls refl in
     on_err _ _ words
