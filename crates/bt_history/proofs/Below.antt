@@ -1,5 +1,5 @@
 -- Tests and sums over the numbers below a bound.
-use Rattle.std.proofs.Common.{◌≡◌, ◌≢◌, ◌≤◌, ℕ, zero, suc, ◌+◌, ◌<◌, Bool, true, false, ◌||◌, refl, ap, sym, ◌∙◌, arith, ⊎_elim}
+use Rattle.std.proofs.Common.{◌≡◌, ◌≢◌, ◌≤◌, ℕ, zero, suc, ◌+◌, ◌<◌, Bool, true, false, ◌||◌, refl, ap, sym, ◌∙◌, arith, ⊎_elim, subst}
 use Rattle.std.proofs.lemmas.Bool.{or_cases, or_from, or_left, or_right, or_parts, and_from, and_parts, cases_eq}
 use Rattle.std.specs.Prelude.{if◌then◌else◌}
 use Rattle.bt_history.specs.Counting.{any_below, all_below, count_below, sum_below}
@@ -94,6 +94,24 @@ count_most (suc n) f =
     at_most_one : (b : Bool) → one_if b ≤ 1
     at_most_one true = omega arith
     at_most_one false = omega arith
+
+-- where one number fails, fewer pass than there are
+pub count_short : (n : ℕ) (f : ℕ → Bool) (i : ℕ) → i < n → f i ≡ false → count_below n f < n
+count_short zero f i lt fails = absurd (omega arith)
+count_short (suc n) f i lt fails =
+    ⊎_elim
+    (λ (here : i ≡ n).
+    let most = count_most n f in
+    let last : one_if (f n) ≡ 0 = ap one_if (subst (λ (k : ℕ). f k ≡ false) here fails) in
+    omega arith)
+    (λ (before : i ≡ n → ⊥).
+    let step = count_short n f i (omega (arith, before)) fails in
+    one_more (f n) step)
+    (cases_eq i n)
+  where
+    one_more : (b : Bool) → count_below n f < n → count_below n f + one_if b < suc n
+    one_more true step = omega arith
+    one_more false step = omega arith
 
 pub count_none : (n : ℕ) (f : ℕ → Bool) → ((k : ℕ) → k < n → f k ≡ false) → count_below n f ≡ 0
 count_none zero f h = refl

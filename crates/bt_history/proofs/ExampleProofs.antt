@@ -10,7 +10,7 @@ use Rattle.bt_history.specs.Peers.{joined, late, shows, is_open, outstanding, as
 use Rattle.bt_history.specs.Pieces.{kept, had}
 use Rattle.bt_history.specs.Next.{next_answer, RequestOf}
 use Rattle.bt_history.specs.Legal.{IsLegal, IsAllowed, Permits, refusal, answer, arrived_answer, settled_answer}
-use Rattle.bt_history.specs.Examples.{block_of, torrent_short_last, torrent_one_piece, torrent_two_pieces, torrent_two_blocks, torrent_many_blocks, first_request, another_first_request, one_peer_to_the_end, rarest_first, full_pipe, choke_frees, cancel_in_endgame, no_double_before_endgame, double_outlasts_endgame, failed_check, failed_check_in_endgame, held_block_dropped, block_by_block, refusals, wrong_count, stale_verdict, random_first_piece, rare_first_piece_too, strict_priority, gone_peer_not_counted, rejoin_in_endgame, idle_though_a_block_is_usable, second_piece_started_while_a_begun_one_has_a_usable_block, availability_counts_a_peer_that_left, commoner_piece_started, second_peer_asked_while_a_block_is_unasked, second_peer_asked_before_endgame, had_with_another_hash, replaced_bytes_settled, replaced_bytes_failed, idle_though_a_cancel_is_due, sixth_request, pipe_full_after_four, pipe_full_at_a_choked_peer, noted_from_before_the_bits, block_stored_twice, late_bits_noted, request_of_a_wrong_length}
+use Rattle.bt_history.specs.Examples.{block_of, torrent_short_last, torrent_one_piece, torrent_two_pieces, torrent_two_blocks, torrent_many_blocks, first_request, another_first_request, one_peer_to_the_end, rarest_first, full_pipe, choke_frees, cancel_in_endgame, no_double_before_endgame, double_outlasts_endgame, failed_check, failed_check_in_endgame, held_block_dropped, block_by_block, refusals, wrong_count, stale_verdict, random_first_piece, rare_first_piece_too, strict_priority, gone_peer_not_counted, rejoin_in_endgame, idle_though_a_block_is_usable, second_piece_started_while_a_begun_one_has_a_usable_block, availability_counts_a_peer_that_left, commoner_piece_started, second_peer_asked_while_a_block_is_unasked, second_peer_asked_before_endgame, had_with_another_hash, replaced_bytes_settled, replaced_bytes_failed, idle_though_a_cancel_is_due, sixth_request, pipe_full_after_four, pipe_full_though_the_choke_freed_it, noted_from_before_the_bits, block_stored_twice, late_bits_noted, request_of_a_wrong_length}
 
 -- a block that fails the test may not be requested
 not_requested : (t : Layout) (test : Block → Bool) (b : Block) → test b ≡ false → Permits t (RequestOf test) (Request b) → ⊥
@@ -648,10 +648,10 @@ pub pipe_full_after_four_wrong :
 unfolding IsAllowed refusal answer next_answer arrived_answer settled_answer joined late shows is_open outstanding asked due kept had sha1 first_words schedule rounds compress hash_after digest_bytes
 pipe_full_after_four_wrong h = absurd (cc (h.1.1))
 
-pub pipe_full_at_a_choked_peer_wrong :
-    ¬ IsAllowed (usual torrent_many_blocks 2) (reverse (take 13 choke_frees)) pipe_full_at_a_choked_peer
+pub pipe_full_though_the_choke_freed_it_wrong :
+    ¬ IsAllowed (usual torrent_many_blocks 2) (reverse (take 13 choke_frees)) pipe_full_though_the_choke_freed_it
 unfolding IsAllowed refusal answer next_answer arrived_answer settled_answer joined late shows is_open outstanding asked due kept had sha1 first_words schedule rounds compress hash_after digest_bytes
-pipe_full_at_a_choked_peer_wrong h = absurd (cc (h.1))
+pipe_full_though_the_choke_freed_it_wrong h = absurd (cc (h.1))
 
 pub noted_from_before_the_bits_wrong :
     ¬ IsAllowed (usual torrent_short_last 1) (reverse (take 1 first_request)) noted_from_before_the_bits

@@ -356,8 +356,8 @@ sixth_request = entry 0 (Next 0) (Request (block_of 0 81920 16384))
 abbrev pub pipe_full_after_four : Event
 pipe_full_after_four = entry 0 (Next 0) PipeFull
 
-abbrev pub pipe_full_at_a_choked_peer : Event
-pipe_full_at_a_choked_peer = entry 0 (Next 0) PipeFull
+abbrev pub pipe_full_though_the_choke_freed_it : Event
+pipe_full_though_the_choke_freed_it = entry 0 (Next 0) PipeFull
 
 abbrev pub noted_from_before_the_bits : Event
 noted_from_before_the_bits = entry 0 (Bits (true ∷ true ∷ true ∷ [])) (Noted false)

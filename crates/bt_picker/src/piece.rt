@@ -1,4 +1,4 @@
-ghost use Rattle.std.specs.Prelude.{◌≡◌, ◌<◌, ◌≤◌, ◌+◌, ◌-◌, length, slice_index_or, IfOk, Bool, true, false, replicate};
+ghost use Rattle.std.specs.Prelude.{◌≡◌, ◌<◌, ◌≤◌, ◌+◌, ◌-◌, ◌^◌, length, slice_index_or, IfOk, Bool, true, false, replicate};
 ghost use Rattle.bt_picker.specs.Tables.{PieceState, edit, empty_cell, failed_row, fresh_piece, had_row, less_available, more_available, one_less, one_more, stored_row};
 
 use std::alloc::{AllocError, Global};
@@ -92,7 +92,7 @@ impl Piece {
     /// One peer more is asked for the block.
     pub fn raise(&mut self, index: u32)
         requires index { index < length self.old.blocks }
-        requires few { (slice_index_or self.old.blocks index empty_cell).askers ≤ 1024 }
+        requires few { (slice_index_or self.old.blocks index empty_cell).askers + 1 < 2 ^ 32 }
         ensures { self.new ≡ record self.old {
           blocks = edit self.old.blocks index
               (λ cell. record { stored_at = cell.stored_at; askers = cell.askers + 1 });
@@ -117,7 +117,7 @@ impl Piece {
 
     /// A peer that showed the piece, or did not, shows it now, or does not.
     pub fn recount(&mut self, before: bool, after: bool)
-        requires { self.old.availability ≤ 1024 }
+        requires { (more_available after (less_available before self.old)).availability < 2 ^ 32 }
         ensures { self.new ≡ more_available after (less_available before self.old) }
     {
         if before {

@@ -6,7 +6,8 @@ ghost use Rattle.bt_history.specs.Entries.{event, history_of};
 ghost use Rattle.bt_history.specs.Legal.{IsAllowed};
 ghost use Rattle.bt_history.specs.History.{stores};
 ghost use Rattle.bt_meta.specs.declared.block.Block.{Block};
-ghost use Rattle.bt_picker.specs.Tables.{AreTables, HasBlock, HasRoomFor, bits_row, leave_row, PeerState, PieceState, TablesState, after_arrival, after_check, after_next, announced, cancel_row, late_row, empty_cell, entered_call, fresh_peer, fresh_piece, have_row, join_row, choke_row, unchoke_row, less_available, lowered, lowered_by, more_available, peer_row, piece_row, released, reshown, table, with_block, with_peer, without_block};
+ghost use Rattle.bt_history.specs.Counting.{table};
+ghost use Rattle.bt_picker.specs.Tables.{AreCounted, AreTables, HasBlock, HasRoomFor, bits_row, leave_row, PeerState, PieceState, TablesState, after_arrival, after_check, after_next, announced, cancel_row, late_row, empty_cell, entered_call, fresh_peer, fresh_piece, have_row, join_row, choke_row, unchoke_row, less_available, lowered, lowered_by, more_available, peer_row, piece_row, recounted, released, reshown, with_block, with_peer, without_block};
 
 use crate::peer::Peer;
 use crate::piece::Piece;
@@ -42,7 +43,6 @@ impl Model for Tables {
 impl Tables {
     /// The tables of an empty journal.
     pub fn new(alloc: Global, torrent: Arc<Torrent>, workers: u32) -> Result<Tables, AllocError>
-        requires { workers ≤ 1024 }
         ensures setting { IfOk result (λ t. t.setting ≡ usual torrent.value.layout workers) }
         ensures are { IfOk result (λ t. AreTables t []) }
     {
@@ -118,7 +118,7 @@ impl Tables {
     /// The worker's peer shows these pieces in place of those that it showed, or none.
     fn reshow(&mut self, worker: u32, flags: Option<&Bitfield>)
         requires worker { worker < length self.old.peers }
-        requires few { EachIndex self.old.pieces (λ p. (piece_row self.old.pieces p).availability ≤ 1024) }
+        requires few { AreCounted (reshown self.old worker (unwrap_or (option_copied flags) [])).pieces }
         ensures { self.new ≡ reshown self.old worker (unwrap_or (option_copied flags.entry) []) }
     {
         recount(&mut self.pieces, self.peers[worker as usize].shown(), flags);
@@ -150,7 +150,7 @@ impl Tables {
     fn put_bits(&mut self, worker: u32, flags: &Bitfield)
         requires worker { worker < length self.old.peers }
         requires flags { length flags.now ≡ length (peer_row self.old.peers worker).shows }
-        requires few { EachIndex self.old.pieces (λ p. (piece_row self.old.pieces p).availability ≤ 1024) }
+        requires few { AreCounted (reshown self.old worker flags.now).pieces }
         ensures { self.new ≡ with_peer (reshown self.old worker flags.now) worker (bits_row flags.now) }
     {
         self.reshow(worker, Some(flags));
@@ -161,7 +161,7 @@ impl Tables {
         requires worker { worker < length self.old.peers }
         requires piece { piece < length self.old.pieces }
         requires shown { piece < length (peer_row self.old.peers worker).shows }
-        requires few { (piece_row self.old.pieces piece).availability ≤ 1024 }
+        requires few { AreCounted (announced self.old worker piece).pieces }
         ensures { self.new ≡ announced self.old worker piece }
     {
         let is_new = !self.peers[worker as usize].shows(piece);
@@ -171,8 +171,7 @@ impl Tables {
 
     fn leave(&mut self, worker: u32)
         requires worker { worker < length self.old.peers }
-        requires few { EachIndex (released self.old worker).pieces
-            (λ p. (piece_row (released self.old worker).pieces p).availability ≤ 1024) }
+        requires few { AreCounted (reshown (released self.old worker) worker []).pieces }
         ensures { self.new ≡ with_peer (reshown (released self.old worker) worker []) worker leave_row }
     {
         self.release(worker);
@@ -273,10 +272,8 @@ fn lower(pieces: &mut [Piece], block: Block)
 
 /// A peer that showed the pieces of `before` shows those of `after` in their place, or none.
 fn recount(pieces: &mut [Piece], before: &[bool], after: Option<&Bitfield>)
-    requires { EachIndex pieces.old (λ p. (piece_row pieces.old p).availability ≤ 1024) }
-    ensures { pieces.new ≡ table (length pieces.old) (λ p.
-        more_available (slice_index_or (unwrap_or (option_copied after.entry) []) p false)
-        (less_available (slice_index_or before.now p false) (piece_row pieces.old p))) }
+    requires { AreCounted (recounted pieces.old before.now (unwrap_or (option_copied after) [])) }
+    ensures { pieces.new ≡ recounted pieces.old before.now (unwrap_or (option_copied after.entry) []) }
 {
     for index in 0..pieces.len() {
         pieces[index].recount(is_set(before, index), flag_at(after, index));

@@ -1,4 +1,4 @@
-use Rattle.bt_history.proofs.ExampleProofs.{idle_though_a_block_is_usable_wrong, second_piece_started_while_a_begun_one_has_a_usable_block_wrong, availability_counts_a_peer_that_left_wrong, commoner_piece_started_wrong, second_peer_asked_while_a_block_is_unasked_wrong, second_peer_asked_before_endgame_wrong, had_with_another_hash_wrong, replaced_bytes_settled_wrong, replaced_bytes_failed_wrong, idle_though_a_cancel_is_due_wrong, sixth_request_wrong, pipe_full_after_four_wrong, pipe_full_at_a_choked_peer_wrong, noted_from_before_the_bits_wrong, block_stored_twice_wrong, late_bits_noted_wrong, request_of_a_wrong_length_wrong}
+use Rattle.bt_history.proofs.ExampleProofs.{idle_though_a_block_is_usable_wrong, second_piece_started_while_a_begun_one_has_a_usable_block_wrong, availability_counts_a_peer_that_left_wrong, commoner_piece_started_wrong, second_peer_asked_while_a_block_is_unasked_wrong, second_peer_asked_before_endgame_wrong, had_with_another_hash_wrong, replaced_bytes_settled_wrong, replaced_bytes_failed_wrong, idle_though_a_cancel_is_due_wrong, sixth_request_wrong, pipe_full_after_four_wrong, pipe_full_though_the_choke_freed_it_wrong, noted_from_before_the_bits_wrong, block_stored_twice_wrong, late_bits_noted_wrong, request_of_a_wrong_length_wrong}
 use Rattle.bt_history.proofs.examples.wrong_replies.Goals as goal
 
 pub returns : goal.returns
@@ -15,7 +15,7 @@ returns c = record {
   idle_though_a_cancel_is_due = idle_though_a_cancel_is_due_wrong;
   sixth_request = sixth_request_wrong;
   pipe_full_after_four = pipe_full_after_four_wrong;
-  pipe_full_at_a_choked_peer = pipe_full_at_a_choked_peer_wrong;
+  pipe_full_though_the_choke_freed_it = pipe_full_though_the_choke_freed_it_wrong;
   noted_from_before_the_bits = noted_from_before_the_bits_wrong;
   block_stored_twice = block_stored_twice_wrong;
   late_bits_noted = late_bits_noted_wrong;

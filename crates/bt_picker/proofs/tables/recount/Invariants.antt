@@ -1,7 +1,8 @@
 use Rattle.std.proofs.Common.{◌≡◌, length, false, []}
 use Rattle.std.specs.Prelude.{slice_index_or, unwrap_or}
 use Rattle.std.specs.Option.{option_copied}
-use Rattle.bt_picker.specs.Tables.{table, piece_row, more_available, less_available}
+use Rattle.bt_history.specs.Counting.{table}
+use Rattle.bt_picker.specs.Tables.{piece_row, more_available, less_available}
 use Rattle.bt_picker.proofs.Tabled.{upto}
 use Rattle.bt_picker.proofs.tables.recount.Given as goal
 

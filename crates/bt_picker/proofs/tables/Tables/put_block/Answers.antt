@@ -2,7 +2,8 @@ use Rattle.std.proofs.Common.{◌≡◌, ◌==◌, ◌*◌, ◌∙◌, ap, sym, 
 use Rattle.std.proofs.lemmas.List.{with_items_is}
 use Rattle.bt_meta.specs.Layout.{block_size}
 use Rattle.bt_history.specs.Setting.{usual}
-use Rattle.bt_picker.specs.Tables.{TablesState, PeerState, peer_row, stored_row, table, with_block, without_block}
+use Rattle.bt_history.specs.Counting.{table}
+use Rattle.bt_picker.specs.Tables.{TablesState, PeerState, peer_row, stored_row, with_block, without_block}
 use Rattle.bt_picker.proofs.Tabled.{length_table}
 use Rattle.bt_picker.proofs.Changes.{changed_piece, with_pieces}
 use Rattle.bt_picker.proofs.tables.Tables.put_block.Goals as goal
