@@ -4,14 +4,16 @@ ghost use Rattle.bt_picker.specs.Tables.{PieceState, edit, empty_cell, failed_ro
 use std::alloc::{AllocError, Global};
 use std::marker::Model;
 
-/// What is kept of a block: the place in the journal of the entry that stored it, if it is held, and how many peers it is asked of.
+/// What is kept of a block: the place in the journal of the entry that stored it, if it is held, and how many peers it is asked of, so
+/// that whether it is unasked is one look. Its bytes aren't here (they are in that entry), nor which peers are asked (their lines say it).
 #[derive(Clone, Copy, Debug, Default, PartialEq, Eq)]
 pub struct Cell {
     pub stored_at: Option<usize>,
     pub askers: u32,
 }
 
-/// What is kept of a piece: whether it is had, how many joined peers show it, and its blocks in order.
+/// What is kept of a piece: whether it is had, how many joined peers show it, and a cell for each of its blocks, in order, so that a
+/// block is found by its place. Whether it is full or begun isn't kept: the cells say it. The rows stand by the piece's number.
 #[derive(Drop)]
 pub struct Piece {
     had: bool,

@@ -25,7 +25,7 @@ const SHOWN: [u8; 1] = [0b1100_0000];
 /// As long as this example waits for its peer.
 const MOST_ANSWERS: u32 = 100;
 
-/// More asks at once than the picker has replies for.
+/// Asks of one turn: a full pipe's requests, as many cancels, and the reply that ends them.
 const MOST_ASKS: u32 = 11;
 
 fn main(rt: HostRuntime) -> Result<()> {
