@@ -1,6 +1,7 @@
 //! Scripts by their replies.
 
 use super::examples::EXAMPLES;
+use super::picks::PICKS;
 use crate::*;
 use std::alloc::{AllocError, Global};
 use std::io::Cursor;
@@ -22,7 +23,7 @@ fn parts(alloc: Global, torrent: &str, lines: &str) -> Result<(String, String), 
 
 #[test]
 fn worked_examples(rt: HostRuntime) -> Result<(), Fail> {
-    for example in EXAMPLES {
+    for example in EXAMPLES.iter().chain(&PICKS) {
         let name = example.name;
         let (script, replies) = parts(rt.alloc(), example.torrent, example.lines)?;
         let mut out = Vec::new(rt.alloc());
