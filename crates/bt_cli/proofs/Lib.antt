@@ -5,5 +5,6 @@ pub mod Played
 pub mod Results
 pub mod Settled
 pub mod Written
+pub mod Hexadecimal
 pub mod Runs
 pub mod Taken

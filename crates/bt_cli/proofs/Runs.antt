@@ -22,7 +22,7 @@ use Rattle.bt_meta.specs.declared.fault.MetaFault.{MetaFault}
 use Rattle.bt_cli.specs.declared.fault.Fault.{Fault}
 use Rattle.bt_cli.specs.declared.fault.Fault.TheVariants as faults
 use Rattle.bt_cli.specs.Statuses.{status_of}
-use Rattle.bt_cli.specs.Runs.{AreHad, AreJournalLines, IsRunFault}
+use Rattle.bt_cli.specs.Runs.{AreJournalLines}
 
 -- ---- the lines of a journal
 
@@ -54,23 +54,6 @@ entries_more entries i d text line lt are is =
     subst (λ (events : List Event). AreJournalLines events (text ++ (line ++ codes "\n"))) (sym same)
     (lines_more (map event_of (take i entries)) (event_of e) text line are is)
 
--- ---- whether all pieces are had
-
-all_first : (flags : List Bool) (test : ℕ → Bool) → ((k : ℕ) → k < length flags → slice_index_or flags k false ≡ test k)
-    → (n : ℕ) → n ≤ length flags → list_all (λ is. is) (take n flags) ≡ all_below n test
-all_first flags test each zero le = refl
-all_first flags test each (suc n) le =
-    let next : suc n ≡ n + 1 = omega arith in
-    ap (λ (m : ℕ). list_all (λ is. is) (take m flags)) next
-    ∙ (list_all_more (λ is. is) flags n false (omega (arith, le))
-    ∙ (ap (λ (x : Bool). x && slice_index_or flags n false) (all_first flags test each n (omega (arith, le)))
-    ∙ ap (λ (x : Bool). all_below n test && x) (each n (omega (arith, le)))))
-
-pub all_had : (desk : DeskState) (flags : List Bool) → AreHad desk flags → list_all (λ is. is) flags ≡ complete desk.setting desk.history
-all_had desk flags are =
-    ap (list_all (λ is. is)) (sym (take-length flags))
-    ∙ (all_first flags (had desk.history) are.each (length flags) (omega arith) ∙ ap (λ (n : ℕ). all_below n (had desk.history)) are.count)
-
 -- ---- a legal journal has no wrong entry
 
 legal_back : (s : Setting) (newer h : History) → IsLegal s (newer ++ h) → IsLegal s h
@@ -96,32 +79,3 @@ legal_at s entries i d lt legal =
 pub not_wrong : (s : Setting) (entries : List Entry) (place : ℕ) → IsLegal s (history_of entries) → IsFirstWrong s entries place → ⊥
 not_wrong s [] place legal wrong = absurd (omega (arith, wrong.0))
 not_wrong s (e ∷ entries) place legal wrong = wrong.2 e (legal_at s (e ∷ entries) place e wrong.0 legal)
-
--- the status of a run that a fault ended is 4 or 5
-pub fault_status : (fault : Fault) (status : ℕ) → IsRunFault fault → status ≡ status_of fault → (status ≡ 0) ⊎ (status ≡ 1) → ⊥
-fault_status fault status is of told = ⊎_elim
-    (λ (file : fault ≡ faults.File). apart status 4 (of ∙ ap status_of file) told (omega arith))
-    (λ (memory : fault ≡ faults.Memory). apart status 5 (of ∙ ap status_of memory) told (omega arith))
-    is where
-      apart : (status n : ℕ) → status ≡ n → (status ≡ 0) ⊎ (status ≡ 1) → 1 < n → ⊥
-      apart status n is told more = ⊎_elim
-          (λ (zero_is : status ≡ 0). absurd (omega (arith, is, zero_is, more)))
-          (λ (one_is : status ≡ 1). absurd (omega (arith, is, one_is, more)))
-          told
-
--- a run that was told gave nothing up, and neither did one that a file ended
-pub spared_told : (gave : Bool) (r : Result Bool Fault) (all : Bool) → (gave ≡ true → r ≡ Err faults.Memory) → r ≡ Ok all → gave ≡ false
-spared_told false r all memory is = refl
-spared_told true r all memory is = let same : Ok all ≡ Err faults.Memory = sym is ∙ memory refl in absurd (cc same)
-
-pub spared_ended : (gave : Bool) (r : Result Bool Fault) (fault : Fault) (status : ℕ) → (gave ≡ true → r ≡ Err faults.Memory) → r ≡ Err fault
-    → status ≡ status_of fault → (status ≡ 5 → ⊥) → gave ≡ false
-spared_ended false r fault status memory is of apart = refl
-spared_ended true r fault status memory is of apart =
-    let same : fault ≡ faults.Memory = same_fault (Err fault) fault faults.Memory refl (sym is ∙ memory refl) in
-    absurd (apart (of ∙ ap status_of same)) where
-      same_fault : (r : Result Bool Fault) (e f : Fault) → r ≡ Err e → r ≡ Err f → e ≡ f
-      same_fault r e f is too = cc
-
-pub same_torrent : (r : Result Metainfo MetaFault) (t u : Metainfo) → r ≡ Ok t → r ≡ Ok u → t ≡ u
-same_torrent r t u is too = cc

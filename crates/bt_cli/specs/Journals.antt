@@ -8,6 +8,10 @@ use Rattle.bt_history.specs.declared.event.Action.TheVariants.{Join, Bits, Have,
 use Rattle.bt_history.specs.declared.event.Event.{Event}
 use Rattle.bt_cli.specs.Texts.{reply_text}
 
+-- the text of a block that arrived: its piece, where it begins and its length
+abbrev pub arrived_text : ℕ → ℕ → ℕ → List ℕ
+arrived_text piece begin len = codes "block " ++ (decimal piece ++ (codes " " ++ (decimal begin ++ (codes " " ++ decimal len))))
+
 -- the text of a call
 abbrev pub IsCallText : Action → List ℕ → Type 0
 IsCallText Join text = text ≡ codes "join"
@@ -16,8 +20,7 @@ IsCallText (Have p) text = text ≡ codes "have " ++ decimal p
 IsCallText Choke text = text ≡ codes "choke"
 IsCallText Unchoke text = text ≡ codes "unchoke"
 IsCallText (Next word) text = text ≡ codes "next"
-IsCallText (Arrived p begin bytes) text =
-    text ≡ codes "block " ++ (decimal p ++ (codes " " ++ (decimal begin ++ (codes " " ++ decimal (length bytes)))))
+IsCallText (Arrived p begin bytes) text = text ≡ arrived_text p begin (length bytes)
 IsCallText (Settle p bytes) text = text ≡ codes "settle " ++ decimal p
 IsCallText Leave text = text ≡ codes "leave"
 

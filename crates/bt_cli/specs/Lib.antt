@@ -9,3 +9,4 @@ pub mod Played
 pub mod Journals
 pub mod Reports
 pub mod Runs
+pub mod Saves

@@ -1,7 +1,8 @@
 -- The report of a run.
-use Rattle.std.specs.Prelude.{ℕ, ◌+◌, Bool, true, false, List, [], ◌∷◌, ◌++◌, length, codes, count_by, Result, Ok, Err, if◌then◌else◌}
-use Rattle.std.specs.List.{list_all}
+use Rattle.std.specs.Prelude.{ℕ, ◌+◌, Bool, true, false, List, [], ◌∷◌, ◌++◌, codes, Result, Ok, Err, if◌then◌else◌}
 use Rattle.std.specs.Fmt.{decimal}
+use Rattle.bt_history.specs.Counting.{all_below, count_below}
+use Rattle.bt_history.specs.Pieces.{joined_below}
 use Rattle.bt_cli.specs.declared.report.Judged.{Judged}
 use Rattle.bt_cli.specs.declared.report.Judged.TheVariants.{Sound, Wrong, Unjudged}
 use Rattle.bt_session.specs.declared.fault.End.{End}
@@ -29,9 +30,9 @@ abbrev pub numbered : {A : Type 0} → (ℕ → A → List ℕ) → ℕ → List
 numbered text n [] = []
 numbered text n (x ∷ xs) = text n x ++ numbered text (n + 1) xs
 
--- all that aren't had, or a dash
-abbrev pub missing_text : List Bool → List ℕ
-missing_text flags = if list_all (λ had. had) flags then codes " -" else numbered missing_piece 0 flags
+-- of this many pieces those that aren't had, or a dash
+abbrev pub missing_text : ℕ → (ℕ → Bool) → List ℕ
+missing_text pieces had = if all_below pieces had then codes " -" else joined_below pieces (λ p. missing_piece p (had p))
 
 -- how stream i ended
 abbrev pub end_text : ℕ → Result End SessionFault → List ℕ
@@ -39,8 +40,9 @@ end_text i (Ok end) = codes "stream " ++ (decimal i ++ codes " end\n")
 end_text i (Err fault) = codes "stream " ++ (decimal i ++ (codes " fault " ++ (decimal (session_fault_number fault) ++ codes "\n")))
 
 -- whether all are had
-abbrev pub yes_or_no : List Bool → List ℕ
-yes_or_no flags = if list_all (λ had. had) flags then codes "yes" else codes "no"
+abbrev pub yes_or_no : Bool → List ℕ
+yes_or_no true = codes "yes"
+yes_or_no false = codes "no"
 
 -- what the audit says, if it found memory
 abbrev pub judged_text : Judged → List ℕ
@@ -48,10 +50,16 @@ judged_text Sound = codes "journal ok\n"
 judged_text (Wrong place) = codes "journal bad " ++ (decimal place ++ codes "\n")
 judged_text Unjudged = []
 
--- how the streams ended, which pieces are had, and what the audit says
-abbrev pub report_text : List (Result End SessionFault) → List Bool → Judged → List ℕ
-report_text ends had judged =
-    numbered end_text 0 ends
-    ++ (codes "pieces " ++ (decimal (length had) ++ (codes "\nhad " ++ (decimal (count_by (λ is. is) had) ++ codes "\n"))))
-    ++ (codes "missing" ++ (missing_text had ++ (codes "\ncomplete " ++ (yes_or_no had ++ codes "\n"))))
-    ++ judged_text judged
+-- how many pieces there are, and how many are had
+abbrev pub counts_text : ℕ → ℕ → List ℕ
+counts_text pieces had = codes "pieces " ++ (decimal pieces ++ (codes "\nhad " ++ (decimal had ++ codes "\n")))
+
+-- which pieces aren't had, and whether all are
+abbrev pub pieces_text : ℕ → (ℕ → Bool) → List ℕ
+pieces_text pieces had =
+    codes "missing" ++ (missing_text pieces had ++ (codes "\ncomplete " ++ (yes_or_no (all_below pieces had) ++ codes "\n")))
+
+-- how the streams ended, which of so many pieces are had, and what the audit says
+abbrev pub report_text : List (Result End SessionFault) → ℕ → (ℕ → Bool) → Judged → List ℕ
+report_text ends pieces had judged =
+    numbered end_text 0 ends ++ (counts_text pieces (count_below pieces had) ++ (pieces_text pieces had ++ judged_text judged))

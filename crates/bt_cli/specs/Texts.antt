@@ -2,7 +2,10 @@
 use Rattle.std.specs.Prelude.{ℕ, ◌/◌, ◌%◌, List, [], ◌∷◌, ◌++◌, codes, nat_le, ◌==◌, Bool, true, false, ◌&&◌, not, if◌then◌else◌}
 use Rattle.std.specs.List.{flat_map}
 use Rattle.std.specs.Fmt.{decimal, digit_glyph}
-use Rattle.bt_meta.specs.declared.block.Block.{Block}
+use Rattle.bt_meta.specs.declared.block.Block as blocks
+use Rattle.bt_cli.specs.declared.text.Said.{Said}
+use Rattle.bt_cli.specs.declared.text.Tail.{Tail}
+use Rattle.bt_cli.specs.declared.text.Tail.TheVariants.{Nothing, Block, Number}
 use Rattle.bt_history.specs.declared.call.Reason.{Reason}
 use Rattle.bt_history.specs.declared.call.Reason.TheVariants.{NotJoined, AlreadyJoined, LateBits, WrongCount, NoSuchPiece, NoSuchBlock, WrongLength, NotWaiting, Stale}
 use Rattle.bt_history.specs.declared.call.Reply.{Reply}
@@ -36,7 +39,7 @@ reason_number NotWaiting = 8
 reason_number Stale = 9
 
 -- where a block stands: piece, beginning and length
-abbrev pub block_text : Block → List ℕ
+abbrev pub block_text : blocks.Block → List ℕ
 block_text b = decimal b.piece ++ (codes " " ++ (decimal b.begin ++ (codes " " ++ decimal b.len)))
 
 -- a reply, as it is printed
@@ -57,3 +60,13 @@ reply_text Dropped = codes "dropped"
 reply_text Had = codes "had"
 reply_text Failed = codes "failed"
 reply_text (Refused reason) = codes "refused " ++ decimal (reason_number reason)
+
+-- what stands behind the word of a reply
+abbrev pub tail_text : Tail → List ℕ
+tail_text Nothing = []
+tail_text (Block b) = codes " " ++ block_text b
+tail_text (Number n) = codes " " ++ decimal n
+
+-- a reply in its two parts
+abbrev pub said_text : Said → List ℕ
+said_text said = said.word.now ++ tail_text said.tail

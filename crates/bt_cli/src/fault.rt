@@ -1,12 +1,11 @@
 //! How a command ends.
 
-ghost use Rattle.std.specs.Prelude.{◌≡◌, Some, MatchResult, OnOk};
+ghost use Rattle.std.specs.Prelude.{◌≡◌, Some};
 ghost use Rattle.bt_cli.specs.Statuses.{status_of, fault_text, of_metainfo};
 ghost use Rattle.bt_cli.specs.declared.fault.Fault.TheVariants.{Memory};
 
 use bt_meta::MetaFault;
 use std::alloc::{AllocError, AllocFailed};
-use std::io::Write;
 use std::{fmt, io};
 
 /// Why a command ended before it was done.
@@ -92,20 +91,6 @@ impl From<io::Error> for Fault {
         match e.kind() {
             io::ErrorKind::OutOfMemory => Fault::Memory,
             _ => Fault::File,
-        }
-    }
-}
-
-/// The exit status of a command. A fault is told on `err`; that this fails changes nothing.
-pub fn conclude<E: Write>(done: Result<(), Fault>, err: &mut E) -> u8
-    ensures status { MatchResult done (λ _. result ≡ 0) (λ fault. result ≡ status_of fault) }
-    ensures quiet { OnOk done (err.new ≡ err.old) }
-{
-    match done {
-        Ok(()) => 0,
-        Err(fault) => {
-            let _ = writeln!(err, "{fault}");
-            fault.status()
         }
     }
 }

@@ -4,27 +4,19 @@ ghost use Rattle.std.specs.Prelude.{◌≡◌, Some, Ok, Err, IfOk, IfErr, OnOk}
 ghost use Rattle.std.specs.String.{string_bytes};
 ghost use Rattle.std.specs.Io.KnownBytes.{Appends};
 ghost use Rattle.bt_meta.specs.Reading.{torrent_of_file};
-ghost use Rattle.bt_cli.specs.Info.{info_lines, blocks_of, Describes, IsInfoStatus, IsInfoFault, PrintsInfo};
+ghost use Rattle.bt_cli.specs.Info.{info_lines, blocks_of, Describes, IsInfoFault, PrintsInfo};
 
-use crate::fault::{Fault, conclude};
+use crate::fault::Fault;
 use crate::text::Name;
 use bt_meta::Torrent;
 use std::alloc::{AllocError, Global};
 use std::fmt;
 use std::io::Write;
 
-/// Prints what a metainfo file says of its content, a line each; a fault goes to `err`.
+/// Prints what a metainfo file says of its content, a line each.
 ///
-/// Answers the exit status: 0; 3 for bytes that are no metainfo file; 4 where `out` fails; 5 for want of memory.
-pub fn run_info<W: Write, E: Write>(alloc: Global, meta: &[u8], out: &mut W, err: &mut E) -> u8
-    ensures status { IsInfoStatus (torrent_of_file meta.now) result }
-    ensures printed { result ≡ 0 → PrintsInfo (torrent_of_file meta.now) (W.contents out.old) (W.contents out.new) }
-    ensures quiet { result ≡ 0 → err.new ≡ err.old }
-{
-    conclude(print_info(alloc, meta, out), err)
-}
-
-fn print_info<W: Write>(alloc: Global, meta: &[u8], out: &mut W) -> Result<(), Fault>
+/// Refuses bytes that are no metainfo file; else it fails where `out` does, and for want of memory.
+pub fn run_info<W: Write>(alloc: Global, meta: &[u8], out: &mut W) -> Result<(), Fault>
     ensures ok { OnOk result (PrintsInfo (torrent_of_file meta.now) (W.contents out.old) (W.contents out.new)) }
     ensures err { IfErr result (IsInfoFault (torrent_of_file meta.now)) }
 {

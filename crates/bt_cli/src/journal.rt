@@ -1,65 +1,135 @@
 //! A journal as text.
 
-ghost use Rattle.std.specs.Prelude.{IfOk, map};
-ghost use Rattle.std.specs.String.{string_bytes};
+ghost use Rattle.std.specs.Prelude.{◌≡◌, ◌<◌, ◌==◌, ◌+◌, ◌-◌, ◌++◌, ◌^◌, ◌∷◌, [], ℕ, List, codes, false, length, map, slice_index_or, true, OnOk, OnErr};
+ghost use Rattle.std.specs.Int.{bit_at};
+ghost use Rattle.std.specs.Io.KnownBytes.{Appends};
+ghost use Rattle.hex.specs.Hex.{encode_lower};
+ghost use Rattle.bt_meta.specs.WireBits.{IsSpelled};
 ghost use Rattle.bt_history.specs.Entries.{action_of, event_of};
-ghost use Rattle.bt_cli.specs.Journals.{IsCallText, IsJournalLine};
+ghost use Rattle.bt_cli.specs.Journals.{arrived_text, IsCallText, IsJournalLine};
 ghost use Rattle.bt_cli.specs.Runs.{AreJournalLines};
 
+use crate::print::{print, print_number, print_said};
 use crate::text::Said;
+use bt_meta::{Bitfield, DeviceFault, Sink, write_all};
 use bt_picker::{Call, Entry};
-use std::alloc::{AllocError, Global};
 
-/// The line of one entry, without its end: the worker, the call as a script has it, and the reply. The word of `next` is left out, a
+/// Prints the lines of a journal: of each entry the worker, the call as a script has it, and the reply. The word of `next` is left out, a
 /// block has its length in place of its bytes, and a bitfield is in lower case.
-pub fn journal_line(alloc: Global, entry: &Entry) -> Result<String, AllocError>
-    ensures { IfOk result (λ text. IsJournalLine (event_of entry.now) (string_bytes text)) }
+pub fn print_journal<O: Sink>(out: &mut O, journal: &[Entry]) -> Result<(), DeviceFault>
+    ensures ok { OnOk result ((text : List ℕ) × AreJournalLines (map event_of journal.now) text
+        × Appends (O.written out.old) (O.written out.new) text) }
+    ensures err { OnErr result (O.failed out.new ≡ true) }
 {
-    let worker = entry.worker;
-    let call = call_text(alloc, &entry.call)?;
-    let said = Said(entry.reply);
-    format!(in alloc; "{worker} {call} = {said}")
-}
-
-/// The lines of a journal.
-pub fn journal_text(alloc: Global, journal: &[Entry]) -> Result<String, AllocError>
-    ensures { IfOk result (λ text. AreJournalLines (map event_of journal.now) (string_bytes text)) }
-{
-    let mut text = String::new(alloc);
     for entry in journal {
-        let line = journal_line(alloc, entry)?;
-        text.push_str(line.as_str())?;
-        text.push('\n')?;
+        print_entry(out, entry)?;
     }
-    Ok(text)
+    Ok(())
 }
 
-fn call_text(alloc: Global, call: &Call) -> Result<String, AllocError>
-    ensures { IfOk result (λ text. IsCallText (action_of call.now) (string_bytes text)) }
+/// Prints the line of one entry.
+pub fn print_entry<O: Sink>(out: &mut O, entry: &Entry) -> Result<(), DeviceFault>
+    ensures ok { OnOk result ((line : List ℕ) × IsJournalLine (event_of entry.now) line
+        × Appends (O.written out.old) (O.written out.new) (line ++ codes "\n")) }
+    ensures err { OnErr result (O.failed out.new ≡ true) }
+{
+    print_number(out, u64::from(entry.worker))?;
+    print(out, " ")?;
+    print_call(out, &entry.call)?;
+    print(out, " = ")?;
+    print_said(out, Said::new(entry.reply))?;
+    print(out, "\n")
+}
+
+fn print_call<O: Sink>(out: &mut O, call: &Call) -> Result<(), DeviceFault>
+    ensures ok { OnOk result ((text : List ℕ) × IsCallText (action_of call.now) text
+        × Appends (O.written out.old) (O.written out.new) text) }
+    ensures err { OnErr result (O.failed out.new ≡ true) }
 {
     match call {
-        Call::Join => String::from_str(alloc, "join"),
+        Call::Join => print(out, "join"),
         Call::Bits(flags) => {
-            let wire = flags.to_wire(alloc)?;
-            let text = hex::encode(alloc, wire.as_slice())?;
-            format!(in alloc; "bits {text}")
+            print(out, "bits ")?;
+            print_bits(out, flags)
         }
-        Call::Have(piece) => format!(in alloc; "have {piece}"),
-        Call::Choke => String::from_str(alloc, "choke"),
-        Call::Unchoke => String::from_str(alloc, "unchoke"),
-        Call::Next(_) => String::from_str(alloc, "next"),
+        Call::Have(piece) => {
+            print(out, "have ")?;
+            print_number(out, u64::from(*piece))
+        }
+        Call::Choke => print(out, "choke"),
+        Call::Unchoke => print(out, "unchoke"),
+        Call::Next(_) => print(out, "next"),
         Call::Arrived {
             piece,
             begin,
             bytes,
-        } => {
-            let len = bytes.len();
-            format!(in alloc; "block {piece} {begin} {len}")
-        }
+        } => print_arrived(out, *piece, *begin, bytes.len()),
         Call::Settle(verdict) => {
-            let piece = verdict.piece();
-            format!(in alloc; "settle {piece}")
+            print(out, "settle ")?;
+            print_number(out, u64::from(verdict.piece()))
         }
-        Call::Leave => String::from_str(alloc, "leave"),
+        Call::Leave => print(out, "leave"),
     }
+}
+
+fn print_arrived<O: Sink>(
+    out: &mut O,
+    piece: u32,
+    begin: u32,
+    len: usize,
+) -> Result<(), DeviceFault>
+    ensures ok { OnOk result (Appends (O.written out.old) (O.written out.new) (arrived_text piece begin len)) }
+    ensures err { OnErr result (O.failed out.new ≡ true) }
+{
+    print(out, "block ")?;
+    print_number(out, u64::from(piece))?;
+    print(out, " ")?;
+    print_number(out, u64::from(begin))?;
+    print(out, " ")?;
+    print_number(out, len as u64)
+}
+
+/// Prints a bitfield as its message spells it, in hexadecimal.
+fn print_bits<O: Sink>(out: &mut O, flags: &Bitfield) -> Result<(), DeviceFault>
+    ensures ok { OnOk result ((wire : List ℕ) × IsSpelled flags.now wire
+        × Appends (O.written out.old) (O.written out.new) (encode_lower wire)) }
+    ensures err { OnErr result (O.failed out.new ≡ true) }
+{
+    let count = flags.count() as usize;
+    for place in 0..(count + 7) / 8 {
+        print_byte(out, wire_byte(flags, 8 * place))?;
+    }
+    Ok(())
+}
+
+fn print_byte<O: Sink>(out: &mut O, byte: u8) -> Result<(), DeviceFault>
+    ensures ok { OnOk result (Appends (O.written out.old) (O.written out.new) (encode_lower (byte ∷ []))) }
+    ensures err { OnErr result (O.failed out.new ≡ true) }
+{
+    let mut digits = [0; 2];
+    // It fails only where there is room for more or fewer digits.
+    let _ = hex::encode_to_slice([byte], &mut digits);
+    write_all(out, &digits)
+}
+
+/// Whether there is such a piece and it is in the set.
+fn has(flags: &Bitfield, piece: usize) -> bool
+    ensures { result ≡ slice_index_or flags.now piece false }
+{
+    piece < flags.count() as usize && flags.has(piece as u32)
+}
+
+/// The byte whose bits are the eight flags from `first` on, the first of them the high bit; flags that aren't there are clear.
+fn wire_byte(flags: &Bitfield, first: usize) -> u8
+    requires first { first < length flags.now }
+    requires len { length flags.now < 2 ^ 32 }
+    ensures { (k : ℕ) → k < 8 → (bit_at result (7 - k) == 1) ≡ slice_index_or flags.now (first + k) false }
+{
+    let mut byte = 0u8;
+    for place in 0..8u32 {
+        if has(flags, first + place as usize) {
+            byte |= 1 << (7 - place);
+        }
+    }
+    byte
 }

@@ -4,15 +4,18 @@
 mod fault;
 mod info;
 mod journal;
+mod print;
 mod report;
+mod saving;
 mod script;
 mod serial;
 mod text;
 
-pub use fault::{Fault, conclude};
+pub use fault::Fault;
 pub use info::run_info;
+pub use saving::{NewFile, save};
 pub use script::{run_script, script_to};
-pub use serial::{Options, after_run, run_serial, write_out};
+pub use serial::{Options, Run, run_serial};
 
 #[cfg(test)]
 mod tests;

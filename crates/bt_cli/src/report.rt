@@ -1,11 +1,16 @@
 //! The report of a run.
 
-ghost use Rattle.std.specs.Prelude.{◌≡◌, Some, count_by};
-ghost use Rattle.std.specs.List.{list_all};
-ghost use Rattle.bt_cli.specs.Reports.{end_text, judged_text, missing_piece, missing_text, numbered, report_text, session_fault_number};
+ghost use Rattle.std.specs.Prelude.{◌≡◌, true, OnOk, OnErr};
+ghost use Rattle.std.specs.Io.KnownBytes.{Appends};
+ghost use Rattle.bt_meta.specs.Layout.{piece_count};
+ghost use Rattle.bt_history.specs.Counting.{count_below};
+ghost use Rattle.bt_history.specs.Pieces.{had, had_count};
+ghost use Rattle.bt_cli.specs.Reports.{counts_text, end_text, judged_text, missing_piece, missing_text, numbered, pieces_text, report_text, session_fault_number};
 
+use crate::print::{print, print_number};
+use bt_meta::{DeviceFault, Sink};
+use bt_picker::Desk;
 use bt_session::{End, SessionFault};
-use std::fmt;
 
 /// The number by which the end of a session is told.
 pub fn session_fault_number(fault: SessionFault) -> u8
@@ -23,51 +28,6 @@ pub fn session_fault_number(fault: SessionFault) -> u8
     }
 }
 
-/// The pieces that aren't had, by a flag for each piece whether it is: in rising order, each behind a space, or a dash.
-#[derive(Clone, Copy)]
-pub struct Missing<'a>(pub &'a [bool]);
-
-impl fmt::Display for Missing<'_> {
-    ghost output = { λ missing. Some (missing_text missing.0.now) };
-
-    fn fmt<W: fmt::Write>(&self, f: &mut fmt::Formatter<W>) -> fmt::Result {
-        if are_all(self.0) {
-            return write!(f, " -");
-        }
-        for (piece, had) in self.0.iter().enumerate() {
-            let piece = MissingPiece { piece, had: *had };
-            write!(f, "{piece}")?;
-        }
-        Ok(())
-    }
-}
-
-/// Whether all are set.
-pub fn are_all(flags: &[bool]) -> bool
-    ensures { result ≡ list_all (λ had. had) flags.now }
-{
-    flags.iter().all(|had| *had)
-}
-
-/// A piece, unless it is had.
-#[derive(Clone, Copy)]
-struct MissingPiece {
-    piece: usize,
-    had: bool,
-}
-
-impl fmt::Display for MissingPiece {
-    ghost output = { λ p. Some (missing_piece p.piece p.had) };
-
-    fn fmt<W: fmt::Write>(&self, f: &mut fmt::Formatter<W>) -> fmt::Result {
-        if self.had {
-            return Ok(());
-        }
-        let piece = self.piece;
-        write!(f, " {piece}")
-    }
-}
-
 /// What the audit of a run's journal says.
 #[derive(Clone, Copy, Debug, PartialEq, Eq)]
 pub enum Judged {
@@ -78,85 +38,135 @@ pub enum Judged {
     Unjudged,
 }
 
-impl fmt::Display for Judged {
-    ghost output = { λ judged. Some (judged_text judged) };
-
-    fn fmt<W: fmt::Write>(&self, f: &mut fmt::Formatter<W>) -> fmt::Result {
-        match self {
-            Judged::Sound => write!(f, "journal ok\n"),
-            Judged::Wrong(place) => write!(f, "journal bad {place}\n"),
-            Judged::Unjudged => Ok(()),
-        }
-    }
+/// Prints what is told of a run: how each stream ended, which of so many pieces are had, and what the audit says.
+pub fn print_report<O: Sink>(
+    out: &mut O,
+    ends: &[Result<End, SessionFault>],
+    desk: &Desk,
+    pieces: u32,
+    judged: Judged,
+) -> Result<(), DeviceFault>
+    requires { pieces ≡ piece_count desk.now.setting.torrent }
+    ensures ok { OnOk result (Appends (O.written out.old) (O.written out.new)
+        (report_text ends.now pieces (had desk.now.history) judged)) }
+    ensures err { OnErr result (O.failed out.new ≡ true) }
+{
+    print_ends(out, ends)?;
+    print_counts(out, pieces, count_had(desk, pieces))?;
+    print_pieces(out, desk, pieces)?;
+    print_judged(out, judged)
 }
 
-/// How a stream ended.
-#[derive(Clone, Copy)]
-struct EndLine {
+/// Prints how the streams ended, a line each.
+fn print_ends<O: Sink>(out: &mut O, ends: &[Result<End, SessionFault>]) -> Result<(), DeviceFault>
+    ensures ok { OnOk result (Appends (O.written out.old) (O.written out.new) (numbered end_text 0 ends.now)) }
+    ensures err { OnErr result (O.failed out.new ≡ true) }
+{
+    for (stream, end) in ends.iter().enumerate() {
+        print_end(out, stream, *end)?;
+    }
+    Ok(())
+}
+
+fn print_end<O: Sink>(
+    out: &mut O,
     stream: usize,
     end: Result<End, SessionFault>,
-}
-
-impl fmt::Display for EndLine {
-    ghost output = { λ line. Some (end_text line.stream line.end) };
-
-    fn fmt<W: fmt::Write>(&self, f: &mut fmt::Formatter<W>) -> fmt::Result {
-        let stream = self.stream;
-        match self.end {
-            Ok(_) => write!(f, "stream {stream} end\n"),
-            Err(fault) => {
-                let number = session_fault_number(fault);
-                write!(f, "stream {stream} fault {number}\n")
-            }
-        }
-    }
-}
-
-/// How the streams ended, a line each.
-#[derive(Clone, Copy)]
-struct Ends<'a>(&'a [Result<End, SessionFault>]);
-
-impl fmt::Display for Ends<'_> {
-    ghost output = { λ ends. Some (numbered end_text 0 ends.0.now) };
-
-    fn fmt<W: fmt::Write>(&self, f: &mut fmt::Formatter<W>) -> fmt::Result {
-        for (stream, end) in self.0.iter().enumerate() {
-            let line = EndLine { stream, end: *end };
-            write!(f, "{line}")?;
-        }
-        Ok(())
-    }
-}
-
-/// What is told of a run.
-#[derive(Clone, Copy)]
-pub struct Report<'a> {
-    /// How each stream ended.
-    pub ends: &'a [Result<End, SessionFault>],
-    /// Of each piece, whether it is had.
-    pub had: &'a [bool],
-    pub judged: Judged,
-}
-
-impl fmt::Display for Report<'_> {
-    ghost output = { λ report. Some (report_text report.ends.now report.had.now report.judged) };
-
-    fn fmt<W: fmt::Write>(&self, f: &mut fmt::Formatter<W>) -> fmt::Result {
-        let ends = Ends(self.ends);
-        let pieces = self.had.len();
-        let had = count(self.had);
-        let missing = Missing(self.had);
-        let complete = if are_all(self.had) { "yes" } else { "no" };
-        let judged = self.judged;
-        write!(f, "{ends}")?;
-        write!(f, "pieces {pieces}\nhad {had}\n")?;
-        write!(f, "missing{missing}\ncomplete {complete}\n")?;
-        write!(f, "{judged}")
-    }
-}
-
-fn count(flags: &[bool]) -> usize
-    ensures { result ≡ count_by (λ flag. flag) flags.now }
+) -> Result<(), DeviceFault>
+    ensures ok { OnOk result (Appends (O.written out.old) (O.written out.new) (end_text stream end)) }
+    ensures err { OnErr result (O.failed out.new ≡ true) }
 {
-    flags.iter().filter(|flag| **flag).count()
+    print(out, "stream ")?;
+    print_number(out, stream as u64)?;
+    match end {
+        Ok(_) => print(out, " end\n"),
+        Err(fault) => {
+            print(out, " fault ")?;
+            print_number(out, u64::from(session_fault_number(fault)))?;
+            print(out, "\n")
+        }
+    }
+}
+
+/// How many pieces are had.
+fn count_had(desk: &Desk, pieces: u32) -> u32
+    requires { pieces ≡ piece_count desk.now.setting.torrent }
+    ensures { result ≡ count_below pieces (had desk.now.history) }
+{
+    let mut count = 0;
+    for piece in 0..pieces {
+        if desk.had(piece) {
+            count += 1;
+        }
+    }
+    count
+}
+
+fn print_counts<O: Sink>(out: &mut O, pieces: u32, had: u32) -> Result<(), DeviceFault>
+    ensures ok { OnOk result (Appends (O.written out.old) (O.written out.new) (counts_text pieces had)) }
+    ensures err { OnErr result (O.failed out.new ≡ true) }
+{
+    print(out, "pieces ")?;
+    print_number(out, u64::from(pieces))?;
+    print(out, "\nhad ")?;
+    print_number(out, u64::from(had))?;
+    print(out, "\n")
+}
+
+/// Prints which pieces aren't had, and whether all are.
+fn print_pieces<O: Sink>(out: &mut O, desk: &Desk, pieces: u32) -> Result<(), DeviceFault>
+    requires { pieces ≡ piece_count desk.now.setting.torrent }
+    ensures ok { OnOk result (Appends (O.written out.old) (O.written out.new)
+        (pieces_text pieces (had desk.now.history))) }
+    ensures err { OnErr result (O.failed out.new ≡ true) }
+{
+    let complete = if desk.is_complete() { "yes" } else { "no" };
+    print(out, "missing")?;
+    print_missing(out, desk, pieces)?;
+    print(out, "\ncomplete ")?;
+    print(out, complete)?;
+    print(out, "\n")
+}
+
+/// Prints the pieces that aren't had, in rising order, each behind a space, or a dash.
+fn print_missing<O: Sink>(out: &mut O, desk: &Desk, pieces: u32) -> Result<(), DeviceFault>
+    requires { pieces ≡ piece_count desk.now.setting.torrent }
+    ensures ok { OnOk result (Appends (O.written out.old) (O.written out.new)
+        (missing_text pieces (had desk.now.history))) }
+    ensures err { OnErr result (O.failed out.new ≡ true) }
+{
+    if desk.is_complete() {
+        return print(out, " -");
+    }
+    for piece in 0..pieces {
+        print_missing_piece(out, piece, desk.had(piece))?;
+    }
+    Ok(())
+}
+
+/// Prints a piece, unless it is had.
+fn print_missing_piece<O: Sink>(out: &mut O, piece: u32, had: bool) -> Result<(), DeviceFault>
+    ensures ok { OnOk result (Appends (O.written out.old) (O.written out.new) (missing_piece piece had)) }
+    ensures err { OnErr result (O.failed out.new ≡ true) }
+{
+    if had {
+        return Ok(());
+    }
+    print(out, " ")?;
+    print_number(out, u64::from(piece))
+}
+
+fn print_judged<O: Sink>(out: &mut O, judged: Judged) -> Result<(), DeviceFault>
+    ensures ok { OnOk result (Appends (O.written out.old) (O.written out.new) (judged_text judged)) }
+    ensures err { OnErr result (O.failed out.new ≡ true) }
+{
+    match judged {
+        Judged::Sound => print(out, "journal ok\n"),
+        Judged::Wrong(place) => {
+            print(out, "journal bad ")?;
+            print_number(out, place as u64)?;
+            print(out, "\n")
+        }
+        Judged::Unjudged => Ok(()),
+    }
 }

@@ -12,7 +12,7 @@ mod line;
 mod player;
 mod setup;
 
-use crate::fault::{Fault, conclude};
+use crate::fault::Fault;
 use crate::text::Said;
 pub use fault::LineFault;
 pub use line::{Command, Line};
@@ -21,26 +21,10 @@ pub use setup::Setup;
 use std::alloc::{AllocError, Global};
 use std::io::Write;
 
-/// Plays a script on a desk of its own, and prints a reply for each call, a line each; a fault goes to `err`.
+/// Plays a script on a desk of its own, and then prints the replies, a line each, those to the lines before a fault too.
 ///
-/// Answers the exit status: 0 for a script; 2 for bytes that are none, with the number of the first line at fault; 4 where `out` fails;
-/// 5 for want of memory. The replies to the lines before a fault are printed.
-pub fn script_to<W: Write, E: Write>(alloc: Global, input: &[u8], out: &mut W, err: &mut E) -> u8
-    ensures status { IsScriptStatus input.now result (W.contents out.old) (W.contents out.new) }
-    ensures quiet { result ≡ 0 → err.new ≡ err.old }
-{
-    conclude(print_replies(alloc, input, out), err)
-}
-
-/// The same, and no fault is told.
-pub fn run_script<W: Write>(alloc: Global, input: &[u8], out: &mut W) -> u8
-    ensures { IsScriptStatus input.now result (W.contents out.old) (W.contents out.new) }
-{
-    script_to(alloc, input, out, &mut std::io::sink())
-}
-
-/// Plays a script, and then prints the replies, those of the lines before a fault too.
-fn print_replies<W: Write>(alloc: Global, input: &[u8], out: &mut W) -> Result<(), Fault>
+/// Refuses bytes that are no script, with the number of the first line at fault; else it fails where `out` does, and for want of memory.
+pub fn script_to<W: Write>(alloc: Global, input: &[u8], out: &mut W) -> Result<(), Fault>
     ensures done { OnOk result (IsScript input.now) }
     ensures fault { IfErr result (Explains input.now) }
     ensures prints { Prints input.now result (W.contents out.old) (W.contents out.new) }
@@ -50,6 +34,16 @@ fn print_replies<W: Write>(alloc: Global, input: &[u8], out: &mut W) -> Result<(
     out.write_all(text.as_bytes())?;
     out.flush()?;
     played
+}
+
+/// The same, with its exit status: 0 for a script; 2 for bytes that are none; 4 where `out` fails; 5 for want of memory.
+pub fn run_script<W: Write>(alloc: Global, input: &[u8], out: &mut W) -> u8
+    ensures { IsScriptStatus input.now result (W.contents out.old) (W.contents out.new) }
+{
+    match script_to(alloc, input, out) {
+        Ok(()) => 0,
+        Err(fault) => fault.status(),
+    }
 }
 
 /// Plays a script on a desk of its own, and gathers the replies, a line each.
@@ -125,7 +119,7 @@ fn answer(alloc: Global, player: &mut Player, text: &[u8], index: usize) -> Resu
     }
     match player.play(alloc, text) {
         Ok(reply) => {
-            let said = Said(reply);
+            let said = Said::new(reply);
             Ok(format!(in alloc; "{said}\n")?)
         }
         Err(fault) => Err(fault.at(index)),

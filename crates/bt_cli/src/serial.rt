@@ -1,27 +1,23 @@
 //! The command `serial`.
 
-ghost use Rattle.std.specs.Prelude.{◌≡◌, ◌≤◌, ◌+◌, ◌⊎◌, ℕ, length, map, true, false, Ok, Err, IfOk, IfErr, IfSome, OnOk};
-ghost use Rattle.bt_cli.specs.declared.fault.Fault.TheVariants.{File, Memory};
+ghost use Rattle.std.specs.Prelude.{◌≡◌, ◌≤◌, ◌+◌, ◌⊎◌, ℕ, List, length, true, false, IfOk, IfErr, IsOk, OnOk, OnErr};
 ghost use Rattle.std.specs.List.{list_any};
 ghost use Rattle.std.specs.Io.KnownBytes.{Appends};
-ghost use Rattle.std.specs.String.{string_bytes};
 ghost use Rattle.bt_meta.specs.Layout.{Metainfo, piece_count};
 ghost use Rattle.bt_meta.specs.Reading.{torrent_of_file};
 ghost use Rattle.bt_history.specs.Setting.{usual};
 ghost use Rattle.bt_picker.specs.Checks.{waits};
-ghost use Rattle.bt_picker.specs.Contents.{complete, whole_content};
 ghost use Rattle.bt_session.specs.Serial.{EachEnded, Finishes, stream_record};
 ghost use Rattle.bt_cli.specs.declared.report.Judged.TheVariants.{Sound, Unjudged};
-ghost use Rattle.bt_cli.specs.Runs.{AreHad, IsPrelude, IsRunFault, IsSerialStatus, IsStartFault, Ran, TellsRun, ended_short, gave_up, status_after};
+ghost use Rattle.bt_cli.specs.Runs.{Ended, IsPrelude, IsStartFault, Ran, TellsRun, ended_short, gave_up, run_status};
 
-use crate::fault::{Fault, conclude};
-use crate::journal::journal_text;
-use crate::report::{Judged, Report, are_all};
-use bt_meta::{Sink, Source, ToWrite, Torrent};
+use crate::fault::Fault;
+use crate::journal::print_journal;
+use crate::report::{Judged, print_report};
+use bt_meta::{DeviceFault, Sink, Source, Torrent};
 use bt_picker::{AuditFault, Desk, audit};
 use bt_session::{End, MOST_STREAMS, SerialRun, SessionFault, Stream, serial};
-use std::alloc::{AllocError, Global};
-use std::io::Write;
+use std::alloc::Global;
 use std::sync::Arc;
 
 /// The status of a run that isn't complete.
@@ -36,78 +32,58 @@ pub struct Options {
     pub journal: bool,
 }
 
-/// Plays the streams of 1 to 64 recorded peers at one desk, and prints how each ended and which pieces are had; a fault goes to `err`.
+/// A run that came to its end.
+#[derive(Drop)]
+pub struct Run {
+    pub desk: Desk,
+    /// Whether all pieces are had, or why the run can't be vouched for: `Fault::Memory` where something was given up for want of memory,
+    /// though it was told as far as `out` took it; else `Fault::File` where `out` failed.
+    pub ended: Result<bool, Fault>,
+}
+
+impl Run {
+    /// The exit status: 0 where all pieces are had, and 1 where one isn't; else the fault's.
+    pub fn status(&self) -> u8
+        ensures { result ≡ run_status self.now.ended }
+    {
+        match self.ended {
+            Ok(true) => 0,
+            Ok(false) => INCOMPLETE,
+            Err(fault) => fault.status(),
+        }
+    }
+}
+
+/// Plays the streams of 1 to 64 recorded peers at one desk, and prints how each ended and which pieces are had, with no memory.
 ///
-/// Answers the exit status: 0 where all pieces are had, and 1 where one isn't; 3 for bytes that are no metainfo file; 4 where `out`
-/// fails; 5 for want of memory, also where a session met it. The desk is given where there was a run.
-pub fn run_serial<R: Source, W: Sink, O: Write, E: Write>(
+/// Refuses bytes that are no metainfo file, and for want of memory; then nothing is printed.
+pub fn run_serial<R: Source, W: Sink, O: Sink>(
     alloc: Global,
     meta: &[u8],
     streams: &mut [Stream<R, W>],
     options: &Options,
     out: &mut O,
-    err: &mut E,
-) -> (u8, Option<Desk>)
+) -> Result<Run, Fault>
     requires { (1 ≤ length streams.old) × (length streams.old ≤ MOST_STREAMS) }
-    ensures status { IsSerialStatus (torrent_of_file meta.now) result.0 result.1 }
-    ensures setting { IfSome result.1 (λ desk. (t : Metainfo) → torrent_of_file meta.now ≡ Ok t →
-        desk.setting ≡ usual t.layout (length streams.old + 1)) }
-    // Where there is a desk, it is the one of a run of these streams, and the status and what was printed are that run's.
-    ensures ran { IfSome result.1 (λ desk. (t : Metainfo) → torrent_of_file meta.now ≡ Ok t →
-        Ran (stream_record R.left R.ended R.failed R.asked W.written W.failed) t streams.old desk streams.new
-        result.0 options.now.journal (O.contents out.old) (O.contents out.new)) }
-    ensures quiet { (result.0 ≡ 0) ⊎ (result.0 ≡ 1) → err.new ≡ err.old }
+    ensures meta { OnOk result (IsOk (torrent_of_file meta.now)) }
+    ensures setting { IfOk result (λ run. (t : Metainfo) → torrent_of_file meta.now ≡ Ok t →
+        run.desk.setting ≡ usual t.layout (length streams.old + 1)) }
+    ensures ran { IfOk result (λ run. (t : Metainfo) → torrent_of_file meta.now ≡ Ok t →
+        Ran (stream_record R.left R.ended R.failed R.asked W.written W.failed) t streams.old run.desk streams.new
+        run.ended options.now.journal (O.written out.old) (O.written out.new) (O.failed out.new)) }
+    ensures err { IfErr result (IsStartFault (torrent_of_file meta.now)) }
+    ensures unprinted { OnErr result (out.new ≡ out.old) }
 {
     let workers = streams.len() as u32 + 1;
-    match play(alloc, meta, streams, options.seed) {
-        Ok(played) => {
-            let status = match tell(alloc, &played, workers, options.journal, out) {
-                Ok(true) => 0,
-                Ok(false) => INCOMPLETE,
-                Err(fault) => conclude(Err(fault), err),
-            };
-            let Played { torrent: _, run } = played;
-            let SerialRun {
-                ends: _,
-                desk,
-                short: _,
-            } = run;
-            (status, Some(desk))
-        }
-        Err(fault) => (conclude(Err(fault), err), None),
-    }
-}
-
-/// Writes the content to a file, and gives that back. A write that fails is `Fault::File`, and so is a desk that lacks a piece, of which
-/// nothing is written.
-pub fn write_out<W: Write + Drop>(desk: &Desk, file: W) -> Result<W, Fault>
-    ensures ok { OnOk result (complete desk.now.setting desk.now.history ≡ true) }
-    ensures content { IfOk result (λ written. Appends (W.contents file) (W.contents written)
-        (whole_content desk.now.setting desk.now.history)) }
-    ensures err { IfErr result (λ fault. fault ≡ File) }
-{
-    let mut sink = ToWrite::new(file);
-    match desk.write_content(&mut sink) {
-        Ok(()) => Ok(sink.into_inner()),
-        Err(_) => Err(Fault::File),
-    }
-}
-
-/// The exit status where a run ended with this one, and then its content was written. Want of memory comes before a file that fails; a
-/// fault is told on `err` where it gives the status.
-pub fn after_run<E: Write>(status: u8, written: Result<(), Fault>, err: &mut E) -> u8
-    ensures { result ≡ status_after status written }
-{
-    match written {
-        Ok(()) => status,
-        Err(fault) => {
-            if fault.status() > status {
-                conclude(Err(fault), err)
-            } else {
-                status
-            }
-        }
-    }
+    let played = play(alloc, meta, streams, options.seed)?;
+    let ended = tell(alloc, &played, workers, options.journal, out);
+    let Played { torrent: _, run } = played;
+    let SerialRun {
+        ends: _,
+        desk,
+        short: _,
+    } = run;
+    Ok(Run { desk, ended })
 }
 
 /// A run with recorded peers, and its torrent.
@@ -140,7 +116,7 @@ fn play<R: Source, W: Sink>(
 }
 
 /// Judges and prints a run, and answers whether all pieces are had.
-fn tell<O: Write>(
+fn tell<O: Sink>(
     alloc: Global,
     played: &Played,
     workers: u32,
@@ -149,19 +125,19 @@ fn tell<O: Write>(
 ) -> Result<bool, Fault>
     requires setting { played.now.run.desk.setting ≡ usual played.now.torrent.value.layout workers }
     requires workers { workers ≤ 1024 }
-    ensures complete { IfOk result (λ all. all ≡ complete played.now.run.desk.setting played.now.run.desk.history) }
-    ensures told { IfOk result (λ all. TellsRun journal played.now.run.ends.items played.now.run.desk Sound
-        (O.contents out.old) (O.contents out.new)) }
-    ensures err { IfErr result IsRunFault }
-    ensures spared { gave_up played.now.run.short played.now.run.ends.items ≡ true → result ≡ Err Memory }
+    ensures { Ended played.now.run.short played.now.run.ends.items played.now.run.desk result journal
+        (O.written out.old) (O.written out.new) (O.failed out.new) }
 {
     let judged = judge(alloc, &played.torrent, workers, &played.run.desk);
     let pieces = played.torrent.piece_count();
-    let printed = print_run(alloc, &played.run, pieces, judged, journal, out);
+    let printed = print_run(&played.run, pieces, judged, journal, out);
     if judged == Judged::Unjudged || lacks_memory(&played.run) {
         return Err(Fault::Memory);
     }
-    printed
+    match printed {
+        Ok(()) => Ok(played.run.desk.is_complete()),
+        Err(DeviceFault) => Err(Fault::File),
+    }
 }
 
 /// What an audit says of the desk's journal.
@@ -205,53 +181,31 @@ fn ended_short(end: Result<End, SessionFault>) -> bool
     }
 }
 
-/// Prints the journal, if it is asked for, and the report, and answers whether all pieces are had.
-fn print_run<O: Write>(
-    alloc: Global,
+/// Prints the journal, if it is asked for, and the report.
+fn print_run<O: Sink>(
     run: &SerialRun,
     pieces: u32,
     judged: Judged,
     journal: bool,
     out: &mut O,
-) -> Result<bool, Fault>
+) -> Result<(), DeviceFault>
     requires { pieces ≡ piece_count run.now.desk.setting.torrent }
-    ensures complete { IfOk result (λ all. all ≡ complete run.now.desk.setting run.now.desk.history) }
-    ensures told { IfOk result (λ all. TellsRun journal run.now.ends.items run.now.desk judged (O.contents out.old) (O.contents out.new)) }
-    ensures err { IfErr result IsRunFault }
+    ensures ok { OnOk result (TellsRun journal run.now.ends.items run.now.desk judged (O.written out.old) (O.written out.new)) }
+    ensures err { OnErr result (O.failed out.new ≡ true) }
 {
-    let mut text = prelude(alloc, &run.desk, journal)?;
-    let had = had_flags(alloc, &run.desk, pieces)?;
-    let report = Report {
-        ends: &run.ends,
-        had: &had,
-        judged,
-    };
-    let report = report.to_string(alloc)?;
-    text.push_str(report.as_str())?;
-    out.write_all(text.as_bytes())?;
-    out.flush()?;
-    Ok(are_all(&had))
+    print_prelude(&run.desk, journal, out)?;
+    print_report(out, &run.ends, &run.desk, pieces, judged)
 }
 
-/// What is printed before the report: the lines of the journal, where it is asked for.
-fn prelude(alloc: Global, desk: &Desk, journal: bool) -> Result<String, AllocError>
-    ensures { IfOk result (λ text. IsPrelude journal desk.now (string_bytes text)) }
+/// Prints the lines of the journal, where it is asked for.
+fn print_prelude<O: Sink>(desk: &Desk, journal: bool, out: &mut O) -> Result<(), DeviceFault>
+    ensures ok { OnOk result ((text : List ℕ) × IsPrelude journal desk.now text
+        × Appends (O.written out.old) (O.written out.new) text) }
+    ensures err { OnErr result (O.failed out.new ≡ true) }
 {
     if journal {
-        journal_text(alloc, desk.journal())
+        print_journal(out, desk.journal())
     } else {
-        Ok(String::new(alloc))
+        Ok(())
     }
-}
-
-/// Of each piece, whether it is had.
-fn had_flags(alloc: Global, desk: &Desk, pieces: u32) -> Result<Vec<bool>, AllocError>
-    requires { pieces ≡ piece_count desk.now.setting.torrent }
-    ensures { IfOk result (λ flags. AreHad desk.now flags.items) }
-{
-    let mut flags = Vec::new(alloc);
-    for piece in 0..pieces {
-        flags.push(desk.had(piece))?;
-    }
-    Ok(flags)
 }

@@ -1,6 +1,7 @@
 mod examples;
 mod faults;
 mod info;
+mod picks;
 mod reports;
 mod samples;
 mod scripts;

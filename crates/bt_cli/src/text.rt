@@ -1,7 +1,7 @@
 //! Values as the program prints them.
 
 ghost use Rattle.std.specs.Prelude.{◌≡◌, Some};
-ghost use Rattle.bt_cli.specs.Texts.{is_plain, name_byte, name_text, reason_number, reply_text, block_text};
+ghost use Rattle.bt_cli.specs.Texts.{is_plain, name_byte, name_text, reason_number, reply_text, block_text, said_text, tail_text};
 
 use bt_history::{Reason, Reply};
 use bt_meta::Block;
@@ -66,41 +66,86 @@ pub fn reason_number(reason: Reason) -> u8
     }
 }
 
-/// A reply of the picker.
+/// What stands behind the word of a reply.
 #[derive(Clone, Copy)]
-pub struct Said(pub Reply);
+pub enum Tail {
+    Nothing,
+    Block(Block),
+    Number(u8),
+}
 
-impl fmt::Display for Said {
-    ghost output = { λ said. Some (reply_text said.0) };
+impl fmt::Display for Tail {
+    ghost output = { λ tail. Some (tail_text tail) };
 
     fn fmt<W: fmt::Write>(&self, f: &mut fmt::Formatter<W>) -> fmt::Result {
-        match self.0 {
-            Reply::Joined => write!(f, "joined"),
-            Reply::Noted(true) => write!(f, "noted yes"),
-            Reply::Noted(false) => write!(f, "noted no"),
-            Reply::Quiet => write!(f, "quiet"),
-            Reply::Cancel(block) => {
+        match *self {
+            Tail::Nothing => Ok(()),
+            Tail::Block(block) => {
                 let place = Place(block);
-                write!(f, "cancel {place}")
+                write!(f, " {place}")
             }
-            Reply::Request(block) => {
-                let place = Place(block);
-                write!(f, "request {place}")
-            }
-            Reply::Choked => write!(f, "choked"),
-            Reply::PipeFull => write!(f, "pipefull"),
-            Reply::Idle => write!(f, "idle"),
-            Reply::NothingLeft => write!(f, "nothing"),
-            Reply::Stored => write!(f, "stored"),
-            Reply::Completed => write!(f, "completed"),
-            Reply::Dropped => write!(f, "dropped"),
-            Reply::Had => write!(f, "had"),
-            Reply::Failed => write!(f, "failed"),
-            Reply::Refused(reason) => {
-                let number = reason_number(reason);
-                write!(f, "refused {number}")
-            }
+            Tail::Number(number) => write!(f, " {number}"),
         }
+    }
+}
+
+/// A reply of the picker: a word, and what stands behind it.
+#[derive(Clone, Copy)]
+pub struct Said {
+    pub word: &'static str,
+    pub tail: Tail,
+}
+
+impl Said {
+    fn bare(word: &'static str) -> Said
+        ensures word { result.word.now ≡ word.now }
+        ensures tail { result.tail ≡ Tail.Nothing }
+    {
+        Said {
+            word,
+            tail: Tail::Nothing,
+        }
+    }
+
+    pub fn new(reply: Reply) -> Said
+        ensures { said_text result ≡ reply_text reply }
+    {
+        match reply {
+            Reply::Joined => Said::bare("joined"),
+            Reply::Noted(true) => Said::bare("noted yes"),
+            Reply::Noted(false) => Said::bare("noted no"),
+            Reply::Quiet => Said::bare("quiet"),
+            Reply::Cancel(block) => Said {
+                word: "cancel",
+                tail: Tail::Block(block),
+            },
+            Reply::Request(block) => Said {
+                word: "request",
+                tail: Tail::Block(block),
+            },
+            Reply::Choked => Said::bare("choked"),
+            Reply::PipeFull => Said::bare("pipefull"),
+            Reply::Idle => Said::bare("idle"),
+            Reply::NothingLeft => Said::bare("nothing"),
+            Reply::Stored => Said::bare("stored"),
+            Reply::Completed => Said::bare("completed"),
+            Reply::Dropped => Said::bare("dropped"),
+            Reply::Had => Said::bare("had"),
+            Reply::Failed => Said::bare("failed"),
+            Reply::Refused(reason) => Said {
+                word: "refused",
+                tail: Tail::Number(reason_number(reason)),
+            },
+        }
+    }
+}
+
+impl fmt::Display for Said {
+    ghost output = { λ said. Some (said_text said) };
+
+    fn fmt<W: fmt::Write>(&self, f: &mut fmt::Formatter<W>) -> fmt::Result {
+        let Said { word, tail } = *self;
+        write!(f, "{word}{tail}")
     }
 }
 

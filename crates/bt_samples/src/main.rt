@@ -12,6 +12,7 @@ use bt_wire::{Inbound, frame_limit};
 use counts::Counts;
 use sha1::Sha1;
 use std::alloc::Global;
+use std::io::{BufWriter, Write};
 use std::rt::Runtime;
 use std::{env, fs, io};
 
@@ -61,20 +62,15 @@ fn play<R: Runtime + AllocGlobal>(rt: &R, meta: &[u8], names: &[String]) -> Resu
     if streams.is_empty() || streams.len() > MOST_STREAMS {
         bail!("a run takes 1 to {MOST_STREAMS} streams");
     }
-    let out = &mut io::writer(rt);
-    let (status, desk) = run_serial(
-        rt.alloc(),
-        meta,
-        &mut streams,
-        &OPTIONS,
-        out,
-        &mut io::sink(),
-    );
+    let mut out = ToWrite::new(BufWriter::new(rt.alloc(), io::writer(rt))?);
+    let run = match run_serial(rt.alloc(), meta, &mut streams, &OPTIONS, &mut out) {
+        Ok(run) => run,
+        Err(fault) => bail!("{fault}"),
+    };
+    out.into_inner().flush()?;
+    let status = run.status();
     println!(rt; "status {status}")?;
-    if let Some(desk) = desk {
-        tell_content(rt, &desk)?;
-    }
-    Ok(())
+    tell_content(rt, &run.desk)
 }
 
 fn tell_content<R: Runtime + AllocGlobal>(rt: &R, desk: &Desk) -> Result<()> {

@@ -1,6 +1,7 @@
 //! Bytes that are no script, with the line at fault and the replies to the lines before.
 
 use crate::*;
+use bt_meta::MetaFault;
 use std::test::*;
 
 /// Three pieces for two workers: `abc`, `abc` and `a`.
@@ -109,16 +110,14 @@ fn lines_behind_the_first(rt: HostRuntime) -> Result<(), Fail> {
         let mut script = Vec::from_slice(rt.alloc(), TORRENT)?;
         script.extend_from_slice(behind)?;
         let mut out = Vec::new(rt.alloc());
-        let mut err = Vec::new(rt.alloc());
-        let status = script_to(rt.alloc(), &script, &mut out, &mut err);
-        assert_eq!(rt; status, if number == 0 { 0 } else { 2 }, "{behind:?}");
-        assert_eq!(rt; out.as_slice(), printed, "{behind:?}");
-        let told = if number == 0 {
-            String::new(rt.alloc())
+        let done = script_to(rt.alloc(), &script, &mut out);
+        let wanted = if number == 0 {
+            Ok(())
         } else {
-            format!(in rt.alloc(); "line {number}\n")?
+            Err(Fault::Line(number))
         };
-        assert_eq!(rt; err.as_slice(), told.as_bytes(), "{behind:?}");
+        assert_eq!(rt; done, wanted, "{behind:?}");
+        assert_eq!(rt; out.as_slice(), printed, "{behind:?}");
     }
     Ok(())
 }
@@ -127,15 +126,30 @@ fn lines_behind_the_first(rt: HostRuntime) -> Result<(), Fail> {
 fn first_lines(rt: HostRuntime) -> Result<(), Fail> {
     for (script, number) in FIRST_LINES {
         let mut out = Vec::new(rt.alloc());
-        let mut err = Vec::new(rt.alloc());
-        assert_eq!(rt;
-            script_to(rt.alloc(), script, &mut out, &mut err),
-            2,
-            "{script:?}"
-        );
+        let done = script_to(rt.alloc(), script, &mut out);
+        assert_eq!(rt; done, Err(Fault::Line(number)), "{script:?}");
         assert_eq!(rt; out.as_slice(), b"".as_slice(), "{script:?}");
-        let told = format!(in rt.alloc(); "line {number}\n")?;
-        assert_eq!(rt; err.as_slice(), told.as_bytes(), "{script:?}");
+        assert_eq!(rt; run_script(rt.alloc(), script, &mut out), 2, "{script:?}");
+    }
+    Ok(())
+}
+
+/// What is told of a fault, and its exit status.
+#[test]
+fn texts_and_statuses(rt: HostRuntime) -> Result<(), Fail> {
+    let rows = [
+        (Fault::Line(12), 2, "line 12"),
+        (
+            Fault::Metainfo(MetaFault::PiecesLength),
+            3,
+            "metainfo fault 6",
+        ),
+        (Fault::File, 4, "file fault"),
+        (Fault::Memory, 5, "memory"),
+    ];
+    for (fault, status, text) in rows {
+        assert_eq!(rt; fault.status(), status);
+        assert_eq!(rt; fault.to_string(rt.alloc())?.as_str(), text);
     }
     Ok(())
 }

@@ -45,10 +45,8 @@ fn worked_files(rt: HostRuntime) -> Result<(), Fail> {
     for (before, printed) in WORKED {
         let file = file_of(rt.alloc(), before, DIGESTS)?;
         let mut out = Vec::new(rt.alloc());
-        let mut err = Vec::new(rt.alloc());
-        assert_eq!(rt; run_info(rt.alloc(), &file, &mut out, &mut err), 0);
+        assert_eq!(rt; run_info(rt.alloc(), &file, &mut out), Ok(()));
         assert_eq!(rt; out.as_slice(), printed);
-        assert_eq!(rt; err.as_slice(), b"".as_slice());
     }
     Ok(())
 }
@@ -68,8 +66,7 @@ fn samples(rt: HostRuntime) -> Result<(), Fail> {
     ];
     for (file, printed) in rows {
         let mut out = Vec::new(rt.alloc());
-        let mut err = Vec::new(rt.alloc());
-        assert_eq!(rt; run_info(rt.alloc(), file, &mut out, &mut err), 0);
+        assert_eq!(rt; run_info(rt.alloc(), file, &mut out), Ok(()));
         assert_eq!(rt; out.as_slice(), printed);
     }
     Ok(())
@@ -81,8 +78,7 @@ fn a_name_of_any_bytes(rt: HostRuntime) -> Result<(), Fail> {
     let before = b"d4:infod6:lengthi7e4:name8:a%~ \x00!\x7f\xff12:piece lengthi3e".as_slice();
     let file = file_of(rt.alloc(), before, DIGESTS)?;
     let mut out = Vec::new(rt.alloc());
-    let mut err = Vec::new(rt.alloc());
-    assert_eq!(rt; run_info(rt.alloc(), &file, &mut out, &mut err), 0);
+    assert_eq!(rt; run_info(rt.alloc(), &file, &mut out), Ok(()));
     let line = out.split(|byte| *byte == b'\n').next().unwrap_or(b"");
     assert_eq!(rt; line, b"name a%25~%20%00!%7f%ff".as_slice());
     Ok(())
@@ -90,46 +86,48 @@ fn a_name_of_any_bytes(rt: HostRuntime) -> Result<(), Fail> {
 
 #[test]
 fn faults(rt: HostRuntime) -> Result<(), Fail> {
-    let rows: [(&[u8], &[u8], &[u8]); 7] = [
-        (b"l", DIGESTS, b"metainfo fault 1\n"),
+    let rows: [(&[u8], &[u8], &str); 7] = [
+        (b"l", DIGESTS, "metainfo fault 1"),
         (
             b"d4:infod6:lengthi0e4:name1:s12:piece lengthi3e",
             DIGESTS,
-            b"metainfo fault 8\n",
+            "metainfo fault 8",
         ),
         (
             b"d4:infod6:lengthi7e4:name1:s12:piece lengthi0e",
             DIGESTS,
-            b"metainfo fault 5\n",
+            "metainfo fault 5",
         ),
         (
             b"d4:infod6:lengthi7e4:name1:s12:piece lengthi3e",
             b"a",
-            b"metainfo fault 6\n",
+            "metainfo fault 6",
         ),
         (
             b"d4:infod6:lengthi7e4:name1:s12:piece lengthi3e",
             b"aaaaaaaaaaaaaaaaaaaa",
-            b"metainfo fault 9\n",
+            "metainfo fault 9",
         ),
         (
             b"d4:infod4:name1:s12:piece lengthi3e",
             DIGESTS,
-            b"metainfo fault 8\n",
+            "metainfo fault 8",
         ),
         (
             b"d4:infod6:lengthi7e12:piece lengthi3e",
             DIGESTS,
-            b"metainfo fault 3\n",
+            "metainfo fault 3",
         ),
     ];
     for (before, digests, told) in rows {
         let file = file_of(rt.alloc(), before, digests)?;
         let mut out = Vec::new(rt.alloc());
-        let mut err = Vec::new(rt.alloc());
-        assert_eq!(rt; run_info(rt.alloc(), &file, &mut out, &mut err), 3);
+        let text = match run_info(rt.alloc(), &file, &mut out) {
+            Ok(()) => String::new(rt.alloc()),
+            Err(fault) => fault.to_string(rt.alloc())?,
+        };
+        assert_eq!(rt; text.as_str(), told);
         assert_eq!(rt; out.as_slice(), b"".as_slice());
-        assert_eq!(rt; err.as_slice(), told);
     }
     Ok(())
 }
@@ -138,8 +136,9 @@ fn faults(rt: HostRuntime) -> Result<(), Fail> {
 fn a_full_output(rt: HostRuntime) -> Result<(), Fail> {
     let mut room = [0; 3];
     let mut out = Cursor::new(room.as_mut_slice());
-    let mut err = Vec::new(rt.alloc());
-    assert_eq!(rt; run_info(rt.alloc(), SINGLE_FILE, &mut out, &mut err), 4);
-    assert_eq!(rt; err.as_slice(), b"file fault\n".as_slice());
+    assert_eq!(rt;
+        run_info(rt.alloc(), SINGLE_FILE, &mut out),
+        Err(Fault::File)
+    );
     Ok(())
 }

@@ -1,8 +1,7 @@
-//! Journal lines and parts of a report.
+//! Journal lines.
 
-use crate::journal::journal_line;
-use crate::report::Missing;
-use bt_meta::{Bitfield, Block};
+use crate::journal::print_entry;
+use bt_meta::{Bitfield, Block, ToWrite};
 use bt_picker::{Call, Entry, Reason, Reply};
 use bytes::Bytes;
 use std::test::*;
@@ -20,6 +19,11 @@ fn journal_lines(rt: HostRuntime) -> Result<(), Fail> {
             Call::Bits(Bitfield::from_wire(rt.alloc(), b"\xe0", 3)?),
             Reply::Noted(true),
             "7 bits e0 = noted yes",
+        ),
+        (
+            Call::Bits(Bitfield::from_wire(rt.alloc(), b"\x0f\xa5\x80", 17)?),
+            Reply::Refused(Reason::WrongCount),
+            "7 bits 0fa580 = refused 4",
         ),
         (Call::Have(2), Reply::Noted(false), "7 have 2 = noted no"),
         (
@@ -55,22 +59,10 @@ fn journal_lines(rt: HostRuntime) -> Result<(), Fail> {
             call,
             reply,
         };
-        assert_eq!(rt; journal_line(rt.alloc(), &entry)?.as_str(), line);
-    }
-    Ok(())
-}
-
-#[test]
-fn missing_pieces(rt: HostRuntime) -> Result<(), Fail> {
-    let rows: [(&[bool], &str); 4] = [
-        (&[true, true], "missing -"),
-        (&[false], "missing 0"),
-        (&[true, false, true, false], "missing 1 3"),
-        (&[false, false, true], "missing 0 1"),
-    ];
-    for (had, line) in rows {
-        let missing = Missing(had);
-        assert_eq!(rt; format!(in rt.alloc(); "missing{missing}")?.as_str(), line);
+        let mut out = ToWrite::new(Vec::new(rt.alloc()));
+        print_entry(&mut out, &entry)?;
+        let line = format!(in rt.alloc(); "{line}\n")?;
+        assert_eq!(rt; out.into_inner().as_slice(), line.as_bytes());
     }
     Ok(())
 }

@@ -1,6 +1,7 @@
 //! Scripts by their replies.
 
 use super::examples::EXAMPLES;
+use super::picks::PICKS;
 use crate::*;
 use std::alloc::{AllocError, Global};
 use std::io::Cursor;
@@ -22,7 +23,7 @@ fn parts(alloc: Global, torrent: &str, lines: &str) -> Result<(String, String), 
 
 #[test]
 fn worked_examples(rt: HostRuntime) -> Result<(), Fail> {
-    for example in EXAMPLES {
+    for example in EXAMPLES.iter().chain(&PICKS) {
         let name = example.name;
         let (script, replies) = parts(rt.alloc(), example.torrent, example.lines)?;
         let mut out = Vec::new(rt.alloc());
@@ -58,14 +59,10 @@ fn blocks_of_two(rt: HostRuntime) -> Result<(), Fail> {
 #[test]
 fn a_full_output(rt: HostRuntime) -> Result<(), Fail> {
     let script = "torrent 3 3 1 a9993e364706816aba3e25717850c26c9cd0d89d\n0 join\n";
-    let mut err = Vec::new(rt.alloc());
     let mut room = [0; 3];
     let mut out = Cursor::new(room.as_mut_slice());
-    assert_eq!(rt;
-        script_to(rt.alloc(), script.as_bytes(), &mut out, &mut err),
-        4
-    );
-    assert_eq!(rt; err.as_slice(), b"file fault\n".as_slice());
+    let done = script_to(rt.alloc(), script.as_bytes(), &mut out);
+    assert_eq!(rt; done, Err(Fault::File));
     assert_eq!(rt; room.as_slice(), b"joi".as_slice());
     Ok(())
 }

@@ -2,10 +2,10 @@
 
 use crate::*;
 use bt_meta::{FromRead, ToWrite};
-use bt_picker::{ContentFault, Desk};
+use bt_picker::ContentFault;
 use bt_session::Stream;
 use std::alloc::{AllocError, Global};
-use std::io::{BufWriter, Cursor};
+use std::io::Cursor;
 use std::test::*;
 
 /// A file of the three bytes `abc`, in one piece.
@@ -38,26 +38,21 @@ fn recorded(alloc: Global, sent: &[u8]) -> Recorded<'_> {
     }
 }
 
-/// How the command ended with one stream: its status, its output, its line of a fault and its desk.
+/// How the command ended with one stream, and its output.
 #[derive(Drop)]
 struct Ended {
-    status: u8,
+    run: Result<Run, Fault>,
     out: Vec<u8>,
-    err: Vec<u8>,
-    desk: Option<Desk>,
 }
 
 fn run(alloc: Global, meta: &[u8], sent: &[u8], journal: bool) -> Ended {
     let mut streams = [recorded(alloc, sent)];
-    let mut out = Vec::new(alloc);
-    let mut err = Vec::new(alloc);
+    let mut out = ToWrite::new(Vec::new(alloc));
     let options = Options { seed: 0, journal };
-    let (status, desk) = run_serial(alloc, meta, &mut streams, &options, &mut out, &mut err);
+    let run = run_serial(alloc, meta, &mut streams, &options, &mut out);
     Ended {
-        status,
-        out,
-        err,
-        desk,
+        run,
+        out: out.into_inner(),
     }
 }
 
@@ -65,15 +60,15 @@ fn run(alloc: Global, meta: &[u8], sent: &[u8], journal: bool) -> Ended {
 fn one_piece_of_one_peer(rt: HostRuntime) -> Result<(), Fail> {
     let sent = stream(rt.alloc(), INFOHASH, FRAMES)?;
     let ended = run(rt.alloc(), FILE, &sent, true);
-    assert_eq!(rt; ended.status, 0);
+    let run = ended.run?;
+    assert_eq!(rt; run.ended, Ok(true));
+    assert_eq!(rt; run.status(), 0);
     assert_eq!(rt;
         ended.out.as_slice(),
         b"0 join = joined\n0 bits 80 = noted yes\n0 next = choked\n0 unchoke = quiet\n0 next = request 0 0 3\n0 next = idle\n0 block 0 0 3 = completed\n0 settle 0 = had\n0 next = nothing\n0 leave = quiet\nstream 0 end\npieces 1\nhad 1\nmissing -\ncomplete yes\njournal ok\n".as_slice()
     );
-    assert_eq!(rt; ended.err.as_slice(), b"".as_slice());
-    let desk = ended.desk.expect(&rt, "there was a run");
     let mut file = ToWrite::new(Vec::new(rt.alloc()));
-    assert!(rt; desk.write_content(&mut file) == Ok(()));
+    assert!(rt; run.desk.write_content(&mut file) == Ok(()));
     assert_eq!(rt; file.into_inner().as_slice(), b"abc".as_slice());
     Ok(())
 }
@@ -82,15 +77,15 @@ fn one_piece_of_one_peer(rt: HostRuntime) -> Result<(), Fail> {
 fn a_stream_that_breaks_off(rt: HostRuntime) -> Result<(), Fail> {
     let sent = stream(rt.alloc(), INFOHASH, &FRAMES[..26])?;
     let ended = run(rt.alloc(), FILE, &sent, true);
-    assert_eq!(rt; ended.status, 1);
+    let run = ended.run?;
+    assert_eq!(rt; run.ended, Ok(false));
+    assert_eq!(rt; run.status(), 1);
     assert_eq!(rt;
         ended.out.as_slice(),
         b"0 join = joined\n0 bits 80 = noted yes\n0 next = choked\n0 unchoke = quiet\n0 next = request 0 0 3\n0 next = idle\n0 leave = quiet\nstream 0 fault 3\npieces 1\nhad 0\nmissing 0\ncomplete no\njournal ok\n".as_slice()
     );
-    assert_eq!(rt; ended.err.as_slice(), b"".as_slice());
-    let desk = ended.desk.expect(&rt, "there was a run");
     let mut file = ToWrite::new(Vec::new(rt.alloc()));
-    assert!(rt; desk.write_content(&mut file) == Err(ContentFault::Incomplete));
+    assert!(rt; run.desk.write_content(&mut file) == Err(ContentFault::Incomplete));
     assert!(rt; file.into_inner().is_empty());
     Ok(())
 }
@@ -99,7 +94,9 @@ fn a_stream_that_breaks_off(rt: HostRuntime) -> Result<(), Fail> {
 fn a_peer_of_another_torrent(rt: HostRuntime) -> Result<(), Fail> {
     let sent = stream(rt.alloc(), &[0; 20], FRAMES)?;
     let ended = run(rt.alloc(), FILE, &sent, true);
-    assert_eq!(rt; ended.status, 1);
+    let run = ended.run?;
+    assert_eq!(rt; run.ended, Ok(false));
+    assert_eq!(rt; run.status(), 1);
     assert_eq!(rt;
         ended.out.as_slice(),
         b"stream 0 fault 2\npieces 1\nhad 0\nmissing 0\ncomplete no\njournal ok\n".as_slice()
@@ -111,7 +108,9 @@ fn a_peer_of_another_torrent(rt: HostRuntime) -> Result<(), Fail> {
 fn a_report_without_its_journal(rt: HostRuntime) -> Result<(), Fail> {
     let sent = stream(rt.alloc(), INFOHASH, FRAMES)?;
     let ended = run(rt.alloc(), FILE, &sent, false);
-    assert_eq!(rt; ended.status, 0);
+    let run = ended.run?;
+    assert_eq!(rt; run.ended, Ok(true));
+    assert_eq!(rt; run.status(), 0);
     assert_eq!(rt;
         ended.out.as_slice(),
         b"stream 0 end\npieces 1\nhad 1\nmissing -\ncomplete yes\njournal ok\n".as_slice()
@@ -123,84 +122,27 @@ fn a_report_without_its_journal(rt: HostRuntime) -> Result<(), Fail> {
 fn a_file_that_is_none(rt: HostRuntime) -> Result<(), Fail> {
     let sent = stream(rt.alloc(), INFOHASH, FRAMES)?;
     let ended = run(rt.alloc(), b"de", &sent, true);
-    assert_eq!(rt; ended.status, 3);
     assert!(rt; ended.out.is_empty());
-    assert_eq!(rt; ended.err.as_slice(), b"metainfo fault 3\n".as_slice());
-    assert!(rt; ended.desk.is_none());
+    let fault = ended.run.err().map(|fault| fault.status());
+    assert_eq!(rt; fault, Some(3));
     Ok(())
 }
 
+/// An output that takes no more than so many bytes.
 #[test]
 fn a_full_output(rt: HostRuntime) -> Result<(), Fail> {
     let sent = stream(rt.alloc(), INFOHASH, FRAMES)?;
     let mut streams = [recorded(rt.alloc(), &sent)];
     let mut room = [0; 20];
-    let mut err = Vec::new(rt.alloc());
+    let mut out = ToWrite::new(room.as_mut_slice());
     let options = Options {
         seed: 0,
         journal: false,
     };
-    let (status, desk) = run_serial(
-        rt.alloc(),
-        FILE,
-        &mut streams,
-        &options,
-        &mut room.as_mut_slice(),
-        &mut err,
-    );
-    assert_eq!(rt; status, 4);
-    assert_eq!(rt; err.as_slice(), b"file fault\n".as_slice());
-    assert!(rt; desk.is_some());
+    let run = run_serial(rt.alloc(), FILE, &mut streams, &options, &mut out)?;
+    assert_eq!(rt; run.ended, Err(Fault::File));
+    assert_eq!(rt; run.status(), 4);
     assert_eq!(rt; room.as_slice(), b"stream 0 end\npieces ".as_slice());
-    Ok(())
-}
-
-/// What is kept back until the end reaches the output, or the command has failed.
-#[test]
-fn a_full_output_behind_a_buffer(rt: HostRuntime) -> Result<(), Fail> {
-    let sent = stream(rt.alloc(), INFOHASH, FRAMES)?;
-    let mut streams = [recorded(rt.alloc(), &sent)];
-    let mut room = [0; 20];
-    let mut out = BufWriter::new(rt.alloc(), room.as_mut_slice())?;
-    let mut err = Vec::new(rt.alloc());
-    let options = Options {
-        seed: 0,
-        journal: false,
-    };
-    let (status, _) = run_serial(rt.alloc(), FILE, &mut streams, &options, &mut out, &mut err);
-    assert_eq!(rt; status, 4);
-    Ok(())
-}
-
-#[test]
-fn content_in_a_file(rt: HostRuntime) -> Result<(), Fail> {
-    let sent = stream(rt.alloc(), INFOHASH, FRAMES)?;
-    let desk = run(rt.alloc(), FILE, &sent, false)
-        .desk
-        .expect(&rt, "there was a run");
-    let file = write_out(&desk, Vec::new(rt.alloc()))?;
-    assert_eq!(rt; file.as_slice(), b"abc".as_slice());
-    let mut room = [0; 2];
-    assert!(rt; write_out(&desk, room.as_mut_slice()).is_err());
-    Ok(())
-}
-
-/// The greater status stands, and its fault is told once.
-#[test]
-fn statuses_once_the_content_was_written(rt: HostRuntime) -> Result<(), Fail> {
-    let rows: [(u8, Result<(), Fault>, u8, &[u8]); 6] = [
-        (0, Ok(()), 0, b""),
-        (0, Err(Fault::File), 4, b"file fault\n"),
-        (0, Err(Fault::Memory), 5, b"memory\n"),
-        (4, Err(Fault::File), 4, b""),
-        (4, Err(Fault::Memory), 5, b"memory\n"),
-        (5, Err(Fault::File), 5, b""),
-    ];
-    for (status, written, wanted, told) in rows {
-        let mut err = Vec::new(rt.alloc());
-        assert_eq!(rt; after_run(status, written, &mut err), wanted);
-        assert_eq!(rt; err.as_slice(), told);
-    }
     Ok(())
 }
 
@@ -221,21 +163,14 @@ fn seeds(rt: HostRuntime) -> Result<(), Fail> {
     let mut first = Vec::new(rt.alloc());
     for seed in 0..8 {
         let mut streams = [recorded(rt.alloc(), &sent)];
-        let mut out = Vec::new(rt.alloc());
+        let mut out = ToWrite::new(Vec::new(rt.alloc()));
         let options = Options {
             seed,
             journal: true,
         };
-        let mut err = Vec::new(rt.alloc());
-        let (status, _) = run_serial(
-            rt.alloc(),
-            THREE_PIECES,
-            &mut streams,
-            &options,
-            &mut out,
-            &mut err,
-        );
-        assert_eq!(rt; status, 1);
+        let run = run_serial(rt.alloc(), THREE_PIECES, &mut streams, &options, &mut out)?;
+        assert_eq!(rt; run.ended, Ok(false));
+        let out = out.into_inner();
         if seed == 0 {
             first = out;
         } else if out.as_slice() != first.as_slice() {

@@ -1,0 +1,92 @@
+//! The command line.
+
+use crate::help;
+use bt_session::MOST_STREAMS;
+use clap::{Arg, ArgAction, Command, value_parser};
+use std::alloc::{AllocError, Global};
+
+const VERSION: &str = "0.1.0";
+
+const STATUSES: &str = "\
+Status: 0 done; 1 a run after which a piece is lacking; 2 wrong arguments, or a script's `line N`; 3 `metainfo fault N`;
+4 `file fault`; 5 `memory`. Each command's help has its own table.";
+
+/// The program's commands and their arguments.
+pub fn command<'a>(alloc: Global) -> Result<Command<'a>, AllocError> {
+    Command::new(alloc, "piecepick")
+        .version(VERSION)
+        .about("Decides which block of a torrent to request next from which peer")
+        .after_help(STATUSES)
+        .subcommand_required(true)
+        .arg_required_else_help(true)
+        .subcommand(script(alloc))?
+        .subcommand(info(alloc)?)?
+        .subcommand(serial(alloc)?)
+}
+
+fn script<'a>(alloc: Global) -> Command<'a> {
+    Command::new(alloc, "script")
+        .about(
+            "Plays a script of calls from standard input on a desk of its own, and prints the replies",
+        )
+        .after_help(help::SCRIPT)
+}
+
+fn info<'a>(alloc: Global) -> Result<Command<'a>, AllocError> {
+    Command::new(alloc, "info")
+        .about("Prints what a metainfo file says of its content")
+        .after_help(help::INFO)
+        .arg(meta(alloc))
+}
+
+/// The metainfo file.
+fn meta<'a>(alloc: Global) -> Arg<'a> {
+    Arg::new(alloc, "META")
+        .help("A metainfo file (.torrent)")
+        .required(true)
+        .action(ArgAction::Set)
+}
+
+fn serial<'a>(alloc: Global) -> Result<Command<'a>, AllocError> {
+    Command::new(alloc, "serial")
+        .about("Plays recorded streams of peers at one desk, and reports which pieces are had")
+        .after_help(help::SERIAL)
+        .arg(seed(alloc))?
+        .arg(journal(alloc))?
+        .arg(out(alloc))?
+        .arg(meta(alloc))?
+        .arg(streams(alloc))
+}
+
+fn seed<'a>(alloc: Global) -> Arg<'a> {
+    Arg::new(alloc, "seed")
+        .long("seed")
+        .value_name("N")
+        .help("Settles what the picker leaves to chance")
+        .value_parser(value_parser!(u64))
+        .default_value("0")
+}
+
+fn journal<'a>(alloc: Global) -> Arg<'a> {
+    Arg::new(alloc, "journal")
+        .long("journal")
+        .help("Prints all calls with their replies before the report")
+        .action(ArgAction::SetTrue)
+}
+
+fn out<'a>(alloc: Global) -> Arg<'a> {
+    Arg::new(alloc, "out")
+        .long("out")
+        .value_name("FILE")
+        .help("Writes the content to this file, if all pieces are had")
+        .action(ArgAction::Set)
+}
+
+/// The recorded streams, as many as a run takes.
+fn streams<'a>(alloc: Global) -> Arg<'a> {
+    Arg::new(alloc, "STREAM")
+        .help("What a peer sent, from its handshake on")
+        .required(true)
+        .num_args(1..=MOST_STREAMS)
+        .action(ArgAction::Append)
+}

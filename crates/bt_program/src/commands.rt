@@ -1,0 +1,186 @@
+//! The commands.
+
+ghost use Rattle.std.specs.Prelude.{◌≡◌, length, IfOk};
+
+use crate::arguments::command;
+use crate::device::Device;
+use crate::failure::{Failure, WRONG_ARGUMENTS, conclude, worse};
+use crate::file::OutFile;
+use bt_cli::{Fault, Options, Run, run_info, run_serial, save, script_to};
+use bt_meta::{FromRead, ToWrite};
+use bt_session::{MOST_STREAMS, Stream};
+use clap::ArgMatches;
+use clap::error::ErrorKind;
+use std::io::{BufReader, BufWriter, Read, Write};
+use std::rt::Runtime;
+use std::{fs, io};
+
+/// Does what the command line says, its first word being the program's name, prints to `out`, tells a failure on `err`, and answers the exit
+/// status.
+pub fn obey<R: Runtime + AllocGlobal, O: Write + Drop, E: Write>(
+    rt: &R,
+    words: &[String],
+    out: O,
+    err: &mut E,
+) -> u8 {
+    conclude(play(rt, words, out, err), err)
+}
+
+fn play<'w, R: Runtime + AllocGlobal, O: Write + Drop, E: Write>(
+    rt: &R,
+    words: &'w [String],
+    out: O,
+    err: &mut E,
+) -> Result<u8, Failure<'w>> {
+    let mut out = match BufWriter::new(rt.alloc(), out) {
+        Ok(out) => Device::new(out),
+        Err(error) => return Err(Failure::of_output(error)),
+    };
+    let matches = match command(rt.alloc())?.try_get_matches_from(words) {
+        Ok(matches) => matches,
+        Err(error) => return explain(&error, &mut out, err),
+    };
+    match matches.subcommand() {
+        Some(("info", arguments)) => info(rt, arguments, &mut out),
+        Some(("script", _)) => script(rt, &mut out),
+        Some(("serial", arguments)) => serial(rt, arguments, &mut out, err),
+        _ => Ok(WRONG_ARGUMENTS),
+    }
+}
+
+/// Prints the help or the version that was asked for, or tells what is wrong with the arguments.
+fn explain<'w, O: Write, E: Write>(
+    error: &clap::Error,
+    out: &mut Device<O>,
+    err: &mut E,
+) -> Result<u8, Failure<'w>> {
+    if error.kind() == ErrorKind::OutOfMemory {
+        return Err(Failure::Command(Fault::Memory));
+    }
+    if error.use_stderr() {
+        let _ = write!(err, "{error}");
+        return Ok(WRONG_ARGUMENTS);
+    }
+    let _ = write!(out, "{error}");
+    ended(Ok(0), out)
+}
+
+/// How a command ends that ended so, and whose output is written now.
+fn ended<'w, O: Write>(done: Result<u8, Fault>, out: &mut Device<O>) -> Result<u8, Failure<'w>> {
+    let printed = printed(out);
+    match done {
+        Ok(status) => worse(Ok(status), printed),
+        // It says no more than that the output has failed; the output says why.
+        Err(Fault::File) => Err(printed.err().unwrap_or(Failure::Command(Fault::File))),
+        Err(fault) => worse(Err(Failure::Command(fault)), printed),
+    }
+}
+
+fn printed<'w, O: Write>(out: &mut Device<O>) -> Result<(), Failure<'w>> {
+    match out.finish() {
+        Ok(()) => Ok(()),
+        Err(error) => Err(Failure::of_output(error)),
+    }
+}
+
+fn info<'w, R: Runtime + AllocGlobal, O: Write>(
+    rt: &R,
+    arguments: &ArgMatches<'w>,
+    out: &mut Device<O>,
+) -> Result<u8, Failure<'w>> {
+    let Some(path) = arguments.get_str("META") else {
+        return Ok(WRONG_ARGUMENTS);
+    };
+    let meta = read(rt, path)?;
+    ended(run_info(rt.alloc(), &meta, out).map(|_| 0), out)
+}
+
+fn script<'w, R: Runtime + AllocGlobal, O: Write>(
+    rt: &R,
+    out: &mut Device<O>,
+) -> Result<u8, Failure<'w>> {
+    let input = read_input(rt).map_err(|e| Failure::of_file("standard input", e))?;
+    ended(script_to(rt.alloc(), &input, out).map(|_| 0), out)
+}
+
+fn read_input<R: Runtime + AllocGlobal>(rt: &R) -> io::Result<Vec<u8>> {
+    let mut input = Vec::new(rt.alloc());
+    BufReader::new(rt.alloc(), rt.reader())?.read_to_end(&mut input)?;
+    Ok(input)
+}
+
+fn read<'w, R: Runtime + AllocGlobal>(rt: &R, path: &'w str) -> Result<Vec<u8>, Failure<'w>> {
+    fs::read(rt, path).map_err(|e| Failure::of_file(path, e))
+}
+
+fn serial<'w, R: Runtime + AllocGlobal, O: Write, E: Write>(
+    rt: &R,
+    arguments: &ArgMatches<'w>,
+    out: &mut Device<O>,
+    err: &mut E,
+) -> Result<u8, Failure<'w>> {
+    let Some(meta) = arguments.get_str("META") else {
+        return Ok(WRONG_ARGUMENTS);
+    };
+    let options = Options {
+        seed: arguments.get_one::<u64>("seed").unwrap_or(0),
+        journal: arguments.get_flag("journal"),
+    };
+    let names = arguments.get_strs("STREAM").unwrap_or(&[]);
+    // `clap` refuses other numbers of them, but nothing here proves that of what it found.
+    if names.is_empty() || names.len() > MOST_STREAMS {
+        let _ = writeln!(err, "error: a run takes 1 to {MOST_STREAMS} streams");
+        return Ok(WRONG_ARGUMENTS);
+    }
+    let meta = read(rt, meta)?;
+    let mut streams = recorded(rt, names)?;
+    let run = run_serial(rt.alloc(), &meta, &mut streams, &options, out)?;
+    finish(rt, &run, out, arguments.get_str("out"))
+}
+
+/// Saves the content of a run, where that is asked for and all pieces are had, and says how the program ends.
+fn finish<'w, R: Runtime + AllocGlobal, O: Write>(
+    rt: &R,
+    run: &Run,
+    out: &mut Device<O>,
+    path: Option<&'w str>,
+) -> Result<u8, Failure<'w>> {
+    let told = run.ended.map(|_| run.status());
+    let done = ended(told, out);
+    match path {
+        Some(path) => worse(done, save_to(rt, run, path)),
+        None => done,
+    }
+}
+
+fn save_to<'w, R: Runtime + AllocGlobal>(
+    rt: &R,
+    run: &Run,
+    path: &'w str,
+) -> Result<(), Failure<'w>> {
+    let mut file = OutFile::new(rt, path);
+    // What it says is what the file remembers.
+    let _ = save(&run.desk, &mut file);
+    match file.error() {
+        Some(error) => Err(Failure::of_file(path, error)),
+        None => Ok(()),
+    }
+}
+
+/// The streams that are named, each opened: one for each name, in their order. What is said to them is dropped.
+fn recorded<'w, R: Runtime + AllocGlobal>(
+    rt: &R,
+    names: &[&'w str],
+) -> Result<Vec<Stream<FromRead<R::File>, ToWrite<io::Sink>>>, Failure<'w>>
+    ensures { IfOk result (λ streams. length streams.items ≡ length names.now) }
+{
+    let mut streams = Vec::new(rt.alloc());
+    for name in names {
+        let file = fs::open(rt, *name).map_err(|e| Failure::of_file(name, e))?;
+        streams.push(Stream {
+            reader: FromRead::new(file),
+            writer: ToWrite::new(io::sink()),
+        })?;
+    }
+    Ok(streams)
+}

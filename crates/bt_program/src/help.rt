@@ -1,0 +1,71 @@
+//! What stands at the end of each command's help: its lines, its numbers and its statuses.
+
+pub const SCRIPT: &str = "\
+Lines:
+  torrent PIECE_LEN TOTAL WORKERS HASH..   the first line: lengths in bytes, and the SHA-1 of each piece
+  W join | W leave                         the peer of worker W has sent its handshake | is gone
+  W bits HEX | W have P                    it shows the pieces of this bitfield | piece P
+  W choke | W unchoke                      it chokes us | no longer
+  W next WORD                              what to say to it next; WORD settles what is left to chance
+  W block P BEGIN HEX                      a block of piece P came, which begins at byte BEGIN of it
+  W settle P                               checks piece P
+  Numbers are in base ten; workers count from 0, and there are 1 to 1024. An empty line says nothing.
+
+Replies, a line each:
+  joined | quiet                           the call is noted
+  noted yes | noted no                     noted; the peer shows a piece that is lacking, or none
+  cancel P BEGIN LEN                       tell the peer that this block is no longer wanted
+  request P BEGIN LEN                      ask the peer for this block
+  choked | pipefull                        the peer chokes us | is asked for five blocks
+  idle | nothing                           nothing to ask now | the peer shows nothing that is lacking
+  stored | completed | dropped             the block is kept | is the last of its piece | was there before
+  had | failed                             the piece has its hash | hasn't, and is to be fetched again
+  refused N                                the call isn't allowed, and changes nothing:
+    1 the peer hasn't joined               2 it has joined before
+    3 a bitfield comes after another call  4 the bitfield isn't of so many pieces
+    5 there is no such piece               6 no block begins there
+    7 the block has another length         8 the piece doesn't wait for a check
+    9 the piece has changed since it was hashed
+
+Status: 0 the whole script was played; 2 `line N`, the first line at fault, counted from 1 (another form, a number
+out of range, no such worker, a torrent or a bitfield that can't be); 4 `file fault`, standard input or output;
+5 `memory`, there isn't enough.";
+
+pub const INFO: &str = "\
+Prints, a line each:
+  name NAME         bytes but printable ASCII, and %, as % and two hexadecimal digits
+  infohash HEX      the SHA-1 of the info dictionary
+  piecelength N     in bytes
+  total N           the bytes of the content
+  pieces N
+  last N            the bytes of the last piece
+  blocks N          in all pieces, of 16384 bytes but for the last of a piece
+  files N
+
+Status: 0 done; 3 `metainfo fault N`, the file isn't a metainfo file; 4 `file fault`, META can't be read, or
+standard output fails; 5 `memory`, there isn't enough.
+  1 no bencode                              2 the file isn't a dictionary
+  3 a key is missing                        4 a key's value is of another kind
+  5 the piece length isn't 1 to 2^31        6 `pieces` isn't of digests of 20 bytes
+  7 both `length` and `files` are there     8 there is no content
+  9 another number of digests than pieces  10 the content or its number of pieces is too large";
+
+pub const SERIAL: &str = "\
+Stream I is worker I of the journal, from 0; one more worker checks the pieces that are left at the end.
+
+Prints, behind the journal:
+  stream I end      the stream was played to its end
+  stream I fault N  it was ended:
+    1 a message isn't one of the protocol   2 the handshake is of another torrent
+    3 the stream breaks off in a message    4 the picker refused a call (`piecepick script --help`)
+    5 the stream can't be read              6 what is said to the peer can't be written
+    7 there isn't enough memory             8 the bitfield isn't one of this torrent
+  pieces N          how many there are
+  had N             how many were checked, and had their hash
+  missing P.. | -   the pieces that aren't had
+  complete yes | no
+  journal ok        each entry of the journal is one that the rules allow
+  journal bad N     entry N isn't, counted from 0
+
+Status: 0 all pieces are had; 1 not all; 3 `metainfo fault N` (`piecepick info --help`); 4 `file fault`, META or a
+STREAM can't be read, or FILE or standard output can't be written; 5 `memory`, there wasn't enough.";
