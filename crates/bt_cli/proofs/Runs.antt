@@ -1,6 +1,6 @@
 -- What is told of a run.
-use Rattle.std.proofs.Common.{true, ◌≡◌, ◌<◌, ◌≤◌, ◌+◌, ℕ, zero, suc, Bool, false, List, [], ◌∷◌, ◌++◌, length, map, take, drop, slice_index_or, refl, sym, ap, ◌∙◌, subst, append_assoc, append-nil, arith, ◌⊎◌, ⊎_elim, Ok, Err, Result}
-use Rattle.std.specs.Prelude.{codes, reverse, ◌&&◌}
+use Rattle.std.proofs.Common.{true, ◌≡◌, ◌<◌, ◌≤◌, ◌+◌, ℕ, zero, suc, Bool, false, List, [], ◌∷◌, ◌++◌, length, map, take, drop, slice_index_or, refl, sym, ap, ◌∙◌, subst, append_assoc, append-nil, arith, inl, inr, ◌⊎◌, ⊎_elim, Ok, Err, Result}
+use Rattle.std.specs.Prelude.{codes, reverse, ◌&&◌, Some, IsOk, IfOk, IfErr}
 use Rattle.std.specs.List.{list_all}
 use Rattle.std.proofs.lemmas.List.{take_more, map-append, reverse-append, take-append-drop}
 use Rattle.std.proofs.Math.Seq.{take-length}
@@ -22,7 +22,7 @@ use Rattle.bt_meta.specs.declared.fault.MetaFault.{MetaFault}
 use Rattle.bt_cli.specs.declared.fault.Fault.{Fault}
 use Rattle.bt_cli.specs.declared.fault.Fault.TheVariants as faults
 use Rattle.bt_cli.specs.Statuses.{status_of}
-use Rattle.bt_cli.specs.Runs.{AreJournalLines}
+use Rattle.bt_cli.specs.Runs.{AreJournalLines, IsRunFault, IsSerialStatus, run_status}
 
 -- ---- the lines of a journal
 
@@ -79,3 +79,17 @@ legal_at s entries i d lt legal =
 pub not_wrong : (s : Setting) (entries : List Entry) (place : ℕ) → IsLegal s (history_of entries) → IsFirstWrong s entries place → ⊥
 not_wrong s [] place legal wrong = absurd (omega (arith, wrong.0))
 not_wrong s (e ∷ entries) place legal wrong = wrong.2 e (legal_at s (e ∷ entries) place e wrong.0 legal)
+
+-- the status of a run by how it ended
+pub serial_status : (read : Result Metainfo MetaFault) (ended : Result Bool Fault) (status : ℕ) (desk : DeskState) → IsOk read →
+    status ≡ run_status ended →
+    ((t : Metainfo) → read ≡ Ok t → IfOk ended (λ all. all ≡ complete desk.setting desk.history) × IfErr ended IsRunFault) →
+    IsSerialStatus read status (Some desk)
+serial_status (Err fault) ended status desk ok is facts = absurd (cc ok)
+serial_status (Ok t) (Ok true) status desk ok is facts = inl (is, sym (facts t refl).0)
+serial_status (Ok t) (Ok false) status desk ok is facts = inr (inl (is, sym (facts t refl).0))
+serial_status (Ok t) (Err fault) status desk ok is facts =
+    elim (facts t refl).1 [
+      | inl file ↦ inr (inr (inl (is ∙ ap status_of file)))
+      | inr memory ↦ inr (inr (inr (is ∙ ap status_of memory)))
+    ]

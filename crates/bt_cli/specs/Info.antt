@@ -46,3 +46,8 @@ PrintsInfo (Err fault) old new = ⊥
 abbrev pub IsInfoFault : Result Metainfo MetaFault → Fault → Type 0
 IsInfoFault (Ok t) given = (given ≡ faults.File) ⊎ (given ≡ faults.Memory)
 IsInfoFault (Err fault) given = (given ≡ of_metainfo fault) ⊎ (given ≡ faults.Memory)
+
+-- the exit status of `info`: 0 only where the bytes are a metainfo file
+abbrev pub IsInfoStatus : Result Metainfo MetaFault → ℕ → Type 0
+IsInfoStatus (Ok t) status = (status ≡ 0) ⊎ (status ≡ 4) ⊎ (status ≡ 5)
+IsInfoStatus (Err fault) status = (status ≡ 3) ⊎ (status ≡ 5)

@@ -1,5 +1,5 @@
 -- A run with recorded peers: what is printed of it, and how the command ends.
-use Rattle.std.specs.Prelude.{◌≡◌, ◌⊎◌, ◌↔◌, ℕ, Bool, true, false, List, [], ◌∷◌, ◌++◌, length, map, codes, ◌||◌, Option, Result, Ok, Err, IfOk, IfErr, IsErr}
+use Rattle.std.specs.Prelude.{◌≡◌, ◌⊎◌, ◌↔◌, ℕ, Bool, true, false, List, [], ◌∷◌, ◌++◌, length, map, codes, ◌||◌, Option, Some, None, Result, Ok, Err, IfOk, IfErr, IsErr}
 use Rattle.std.specs.List.{list_any}
 use Rattle.std.specs.Io.KnownBytes.{Appends}
 use Rattle.bt_meta.specs.Layout.{Metainfo, piece_count}
@@ -78,12 +78,12 @@ pub record Ended (short : Bool) (ends : List (Result End SessionFault)) (desk : 
 
 -- A run of these streams came to this desk: an end for each stream, each as its session's; the last worker made the last checks alone; and
 -- it ended as `Ended` says.
-pub record Ran {X : Type 0} (record_of : X → StreamRecord) (torrent : Metainfo) (streams : List X) (desk : DeskState) (streams' : List X)
+pub record Ran {X : Type 0} (record_of : X → StreamRecord) (torrent : Metainfo) (seed : ℕ) (streams : List X) (desk : DeskState) (streams' : List X)
     (ended : Result Bool Fault) (journal : Bool) (old new : Option (List ℕ)) (failed : Bool) : Type 0 where
   pub ends : List (Result End SessionFault)
   pub short : Bool
   pub count : length ends ≡ length streams
-  pub sessions : EachEnded record_of torrent streams desk streams' ends
+  pub sessions : EachEnded record_of torrent seed streams desk streams' ends
   pub finishes : Finishes (length streams) short desk
   pub none_waits : short ≡ false → (piece : ℕ) → waits desk.setting desk.history piece ≡ false
   pub told : Ended short ends desk ended journal old new failed
@@ -98,3 +98,14 @@ abbrev pub run_status : Result Bool Fault → ℕ
 run_status (Ok true) = 0
 run_status (Ok false) = 1
 run_status (Err fault) = status_of fault
+
+-- with which status the command ends, and whether it gives the desk: 0 where all pieces are had, 1 where one isn't; 3 where the bytes are
+-- no metainfo file; 4 where the output failed; 5 for want of memory, before the run or in it
+abbrev pub IsSerialStatus : Result Metainfo MetaFault → ℕ → Option DeskState → Type 0
+IsSerialStatus (Ok t) status None = status ≡ 5
+IsSerialStatus (Ok t) status (Some desk) =
+    ((status ≡ 0) × (complete desk.setting desk.history ≡ true))
+    ⊎ ((status ≡ 1) × (complete desk.setting desk.history ≡ false))
+    ⊎ (status ≡ 4) ⊎ (status ≡ 5)
+IsSerialStatus (Err fault) status None = (status ≡ 3) ⊎ (status ≡ 5)
+IsSerialStatus (Err fault) status (Some desk) = ⊥

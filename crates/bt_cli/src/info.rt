@@ -16,7 +16,7 @@ use std::io::Write;
 /// Prints what a metainfo file says of its content, a line each.
 ///
 /// Refuses bytes that are no metainfo file; else it fails where `out` does, and for want of memory.
-pub fn run_info<W: Write>(alloc: Global, meta: &[u8], out: &mut W) -> Result<(), Fault>
+pub fn describe<W: Write>(alloc: Global, meta: &[u8], out: &mut W) -> Result<(), Fault>
     ensures ok { OnOk result (PrintsInfo (torrent_of_file meta.now) (W.contents out.old) (W.contents out.new)) }
     ensures err { IfErr result (IsInfoFault (torrent_of_file meta.now)) }
 {

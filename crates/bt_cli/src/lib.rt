@@ -1,6 +1,7 @@
 //! What the commands of the program do with the bytes that they are given, and the statuses with which they end.
 #![tactic(auto)]
 
+mod commands;
 mod fault;
 mod info;
 mod journal;
@@ -11,11 +12,12 @@ mod script;
 mod serial;
 mod text;
 
+pub use commands::{conclude, run_info, run_script, run_serial, script_to};
 pub use fault::Fault;
-pub use info::run_info;
+pub use info::describe;
 pub use saving::{NewFile, save};
-pub use script::{run_script, script_to};
-pub use serial::{Options, Run, run_serial};
+pub use script::play_script;
+pub use serial::{Options, Run, play_streams};
 
 #[cfg(test)]
 mod tests;

@@ -4,7 +4,7 @@ ghost use Rattle.std.specs.Prelude.{◌≡◌, ◌<◌, ◌+◌, ◌^◌, [], le
 ghost use Rattle.std.specs.String.{string_bytes};
 ghost use Rattle.bt_cli.specs.Setups.{setup_in};
 ghost use Rattle.bt_cli.specs.Played.{AnswersLine, OpensDesk};
-ghost use Rattle.bt_cli.specs.Scripts.{Blames, Explains, IsPrintedBy, IsScript, IsScriptStatus, Prints, IsFirstLine, Opens, Passes, line_at, lines_of};
+ghost use Rattle.bt_cli.specs.Scripts.{Blames, Explains, IsPrintedBy, IsScript, Prints, IsFirstLine, Opens, Passes, line_at, lines_of};
 
 mod fault;
 mod fields;
@@ -24,7 +24,7 @@ use std::io::Write;
 /// Plays a script on a desk of its own, and then prints the replies, a line each, those to the lines before a fault too.
 ///
 /// Refuses bytes that are no script, with the number of the first line at fault; else it fails where `out` does, and for want of memory.
-pub fn script_to<W: Write>(alloc: Global, input: &[u8], out: &mut W) -> Result<(), Fault>
+pub fn play_script<W: Write>(alloc: Global, input: &[u8], out: &mut W) -> Result<(), Fault>
     ensures done { OnOk result (IsScript input.now) }
     ensures fault { IfErr result (Explains input.now) }
     ensures prints { Prints input.now result (W.contents out.old) (W.contents out.new) }
@@ -34,16 +34,6 @@ pub fn script_to<W: Write>(alloc: Global, input: &[u8], out: &mut W) -> Result<(
     out.write_all(text.as_bytes())?;
     out.flush()?;
     played
-}
-
-/// The same, with its exit status: 0 for a script; 2 for bytes that are none; 4 where `out` fails; 5 for want of memory.
-pub fn run_script<W: Write>(alloc: Global, input: &[u8], out: &mut W) -> u8
-    ensures { IsScriptStatus input.now result (W.contents out.old) (W.contents out.new) }
-{
-    match script_to(alloc, input, out) {
-        Ok(()) => 0,
-        Err(fault) => fault.status(),
-    }
 }
 
 /// Plays a script on a desk of its own, and gathers the replies, a line each.

@@ -57,7 +57,7 @@ impl Run {
 /// Plays the streams of 1 to 64 recorded peers at one desk, and prints how each ended and which pieces are had, with no memory.
 ///
 /// Refuses bytes that are no metainfo file, and for want of memory; then nothing is printed.
-pub fn run_serial<R: Source, W: Sink, O: Sink>(
+pub fn play_streams<R: Source, W: Sink, O: Sink>(
     alloc: Global,
     meta: &[u8],
     streams: &mut [Stream<R, W>],
@@ -69,7 +69,7 @@ pub fn run_serial<R: Source, W: Sink, O: Sink>(
     ensures setting { IfOk result (λ run. (t : Metainfo) → torrent_of_file meta.now ≡ Ok t →
         run.desk.setting ≡ usual t.layout (length streams.old + 1)) }
     ensures ran { IfOk result (λ run. (t : Metainfo) → torrent_of_file meta.now ≡ Ok t →
-        Ran (stream_record R.left R.ended R.failed R.asked W.written W.failed) t streams.old run.desk streams.new
+        Ran (stream_record R.left R.ended R.failed R.asked W.written W.failed) t options.now.seed streams.old run.desk streams.new
         run.ended options.now.journal (O.written out.old) (O.written out.new) (O.failed out.new)) }
     ensures err { IfErr result (IsStartFault (torrent_of_file meta.now)) }
     ensures unprinted { OnErr result (out.new ≡ out.old) }
@@ -103,7 +103,7 @@ fn play<R: Source, W: Sink>(
     ensures torrent { IfOk result (λ p. torrent_of_file meta.now ≡ Ok p.torrent.value) }
     ensures setting { IfOk result (λ p. p.run.desk.setting ≡ usual p.torrent.value.layout (length streams.old + 1)) }
     ensures sessions { IfOk result (λ p. EachEnded (stream_record R.left R.ended R.failed R.asked W.written W.failed)
-        p.torrent.value streams.old p.run.desk streams.new p.run.ends.items) }
+        p.torrent.value seed streams.old p.run.desk streams.new p.run.ends.items) }
     ensures count { IfOk result (λ p. length p.run.ends.items ≡ length streams.old) }
     ensures finishes { IfOk result (λ p. Finishes (length streams.old) p.run.short p.run.desk) }
     ensures none_waits { IfOk result (λ p. p.run.short ≡ false → (piece : ℕ) →

@@ -6,7 +6,7 @@ use crate::arguments::command;
 use crate::device::Device;
 use crate::failure::{Failure, WRONG_ARGUMENTS, conclude, worse};
 use crate::file::OutFile;
-use bt_cli::{Fault, Options, Run, run_info, run_serial, save, script_to};
+use bt_cli::{Fault, Options, Run, describe, play_streams, save, play_script};
 use bt_meta::{FromRead, ToWrite};
 use bt_session::{MOST_STREAMS, Stream};
 use clap::ArgMatches;
@@ -92,7 +92,7 @@ fn info<'w, R: Runtime + AllocGlobal, O: Write>(
         return Ok(WRONG_ARGUMENTS);
     };
     let meta = read(rt, path)?;
-    ended(run_info(rt.alloc(), &meta, out).map(|_| 0), out)
+    ended(describe(rt.alloc(), &meta, out).map(|_| 0), out)
 }
 
 fn script<'w, R: Runtime + AllocGlobal, O: Write>(
@@ -100,7 +100,7 @@ fn script<'w, R: Runtime + AllocGlobal, O: Write>(
     out: &mut Device<O>,
 ) -> Result<u8, Failure<'w>> {
     let input = read_input(rt).map_err(|e| Failure::of_file("standard input", e))?;
-    ended(script_to(rt.alloc(), &input, out).map(|_| 0), out)
+    ended(play_script(rt.alloc(), &input, out).map(|_| 0), out)
 }
 
 fn read_input<R: Runtime + AllocGlobal>(rt: &R) -> io::Result<Vec<u8>> {
@@ -134,7 +134,7 @@ fn serial<'w, R: Runtime + AllocGlobal, O: Write, E: Write>(
     }
     let meta = read(rt, meta)?;
     let mut streams = recorded(rt, names)?;
-    let run = run_serial(rt.alloc(), &meta, &mut streams, &options, out)?;
+    let run = play_streams(rt.alloc(), &meta, &mut streams, &options, out)?;
     finish(rt, &run, out, arguments.get_str("out"))
 }
 

@@ -1,6 +1,7 @@
 //! Writers that remember why they failed.
 
-ghost use Rattle.std.specs.Prelude.{◌≡◌, is_some, true};
+ghost use Rattle.std.specs.Prelude.{◌≡◌, false, is_some, true, OnErr, OnOk};
+ghost use Rattle.std.specs.Io.KnownBytes.{Keeps};
 
 use bt_meta::{DeviceFault, Sink};
 use std::io;
@@ -14,7 +15,10 @@ pub struct Device<W> {
 }
 
 impl<W: Write> Device<W> {
-    pub fn new(inner: W) -> Device<W> {
+    pub fn new(inner: W) -> Device<W>
+        ensures written { ⟦<Device<W> as Sink>⟧.written result ≡ W.contents inner }
+        ensures failed { ⟦<Device<W> as Sink>⟧.failed result ≡ false }
+    {
         Device { inner, error: None }
     }
 
@@ -35,7 +39,11 @@ impl<W: Write> Device<W> {
     }
 
     /// Writes what was held back, and says why the device failed first, if it has failed.
-    pub fn finish(&mut self) -> io::Result<()> {
+    pub fn finish(&mut self) -> io::Result<()>
+        ensures ok { OnOk result (⟦<Device<W> as Sink>⟧.failed self.new ≡ false) }
+        ensures err { OnErr result (⟦<Device<W> as Sink>⟧.failed self.new ≡ true) }
+        ensures kept { Keeps (⟦<Device<W> as Sink>⟧.written self.old) (⟦<Device<W> as Sink>⟧.written self.new) }
+    {
         if let Err(error) = self.inner.flush() {
             self.note(error);
         }

@@ -1,6 +1,8 @@
 //! How the program ends.
 
-ghost use Rattle.std.specs.Prelude.{◌≡◌, Some, IfErr, MatchResult, OnOk};
+ghost use Rattle.std.specs.Prelude.{◌≡◌, ◌≢◌, MatchResult, OnOk};
+ghost use Rattle.std.specs.IoError.{error_kind};
+ghost use Rattle.std.specs.declared.io.ErrorKind.TheVariants.{BrokenPipe, OutOfMemory};
 ghost use Rattle.bt_program.specs.Failures.{rank, status_of_failure, worse};
 
 use bt_cli::Fault;
@@ -24,14 +26,20 @@ pub enum Failure<'a> {
 
 impl<'a> Failure<'a> {
     /// Reading or writing a file takes memory too.
-    pub fn of_file(name: &'a str, error: io::Error) -> Failure<'a> {
+    pub fn of_file(name: &'a str, error: io::Error) -> Failure<'a>
+        ensures memory { error_kind error ≡ OutOfMemory → result ≡ Failure.Command Fault.Memory }
+        ensures file { error_kind error ≢ OutOfMemory → result ≡ Failure.File name.entry error }
+    {
         match error.kind() {
             ErrorKind::OutOfMemory => Failure::Command(Fault::Memory),
             _ => Failure::File { name, error },
         }
     }
 
-    pub fn of_output(error: io::Error) -> Failure<'a> {
+    pub fn of_output(error: io::Error) -> Failure<'a>
+        ensures closed { error_kind error ≡ BrokenPipe → result ≡ Failure.Closed }
+        ensures memory { error_kind error ≡ OutOfMemory → result ≡ Failure.Command Fault.Memory }
+    {
         match error.kind() {
             ErrorKind::BrokenPipe => Failure::Closed,
             _ => Failure::of_file("standard output", error),

@@ -1,6 +1,6 @@
 //! The file of `--out`.
 
-ghost use Rattle.std.specs.Prelude.{◌≡◌, None, is_some, true};
+ghost use Rattle.std.specs.Prelude.{◌≡◌, None, false, is_some, true};
 
 use bt_cli::NewFile;
 use bt_meta::{DeviceFault, Sink};
@@ -18,7 +18,9 @@ pub struct OutFile<'a, R: Files> {
 }
 
 impl<'a, R: Files> OutFile<'a, R> {
-    pub fn new(files: &'a R, path: &'a str) -> OutFile<'a, R> {
+    pub fn new(files: &'a R, path: &'a str) -> OutFile<'a, R>
+        ensures { ⟦<OutFile<'a, R> as Sink>⟧.failed result ≡ false }
+    {
         OutFile {
             files,
             path,

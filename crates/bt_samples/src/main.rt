@@ -4,7 +4,7 @@
 mod counts;
 
 use anyhow::{Context, Result, bail};
-use bt_cli::{Options, run_serial};
+use bt_cli::{Options, play_streams};
 use bt_meta::{FromRead, ToWrite, Torrent};
 use bt_picker::Desk;
 use bt_session::{MOST_STREAMS, Stream};
@@ -63,7 +63,7 @@ fn play<R: Runtime + AllocGlobal>(rt: &R, meta: &[u8], names: &[String]) -> Resu
         bail!("a run takes 1 to {MOST_STREAMS} streams");
     }
     let mut out = ToWrite::new(BufWriter::new(rt.alloc(), io::writer(rt))?);
-    let run = match run_serial(rt.alloc(), meta, &mut streams, &OPTIONS, &mut out) {
+    let run = match play_streams(rt.alloc(), meta, &mut streams, &OPTIONS, &mut out) {
         Ok(run) => run,
         Err(fault) => bail!("{fault}"),
     };

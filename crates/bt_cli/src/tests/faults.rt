@@ -110,7 +110,7 @@ fn lines_behind_the_first(rt: HostRuntime) -> Result<(), Fail> {
         let mut script = Vec::from_slice(rt.alloc(), TORRENT)?;
         script.extend_from_slice(behind)?;
         let mut out = Vec::new(rt.alloc());
-        let done = script_to(rt.alloc(), &script, &mut out);
+        let done = play_script(rt.alloc(), &script, &mut out);
         let wanted = if number == 0 {
             Ok(())
         } else {
@@ -126,7 +126,7 @@ fn lines_behind_the_first(rt: HostRuntime) -> Result<(), Fail> {
 fn first_lines(rt: HostRuntime) -> Result<(), Fail> {
     for (script, number) in FIRST_LINES {
         let mut out = Vec::new(rt.alloc());
-        let done = script_to(rt.alloc(), script, &mut out);
+        let done = play_script(rt.alloc(), script, &mut out);
         assert_eq!(rt; done, Err(Fault::Line(number)), "{script:?}");
         assert_eq!(rt; out.as_slice(), b"".as_slice(), "{script:?}");
         assert_eq!(rt; run_script(rt.alloc(), script, &mut out), 2, "{script:?}");

@@ -45,7 +45,7 @@ fn worked_files(rt: HostRuntime) -> Result<(), Fail> {
     for (before, printed) in WORKED {
         let file = file_of(rt.alloc(), before, DIGESTS)?;
         let mut out = Vec::new(rt.alloc());
-        assert_eq!(rt; run_info(rt.alloc(), &file, &mut out), Ok(()));
+        assert_eq!(rt; describe(rt.alloc(), &file, &mut out), Ok(()));
         assert_eq!(rt; out.as_slice(), printed);
     }
     Ok(())
@@ -66,7 +66,7 @@ fn samples(rt: HostRuntime) -> Result<(), Fail> {
     ];
     for (file, printed) in rows {
         let mut out = Vec::new(rt.alloc());
-        assert_eq!(rt; run_info(rt.alloc(), file, &mut out), Ok(()));
+        assert_eq!(rt; describe(rt.alloc(), file, &mut out), Ok(()));
         assert_eq!(rt; out.as_slice(), printed);
     }
     Ok(())
@@ -78,7 +78,7 @@ fn a_name_of_any_bytes(rt: HostRuntime) -> Result<(), Fail> {
     let before = b"d4:infod6:lengthi7e4:name8:a%~ \x00!\x7f\xff12:piece lengthi3e".as_slice();
     let file = file_of(rt.alloc(), before, DIGESTS)?;
     let mut out = Vec::new(rt.alloc());
-    assert_eq!(rt; run_info(rt.alloc(), &file, &mut out), Ok(()));
+    assert_eq!(rt; describe(rt.alloc(), &file, &mut out), Ok(()));
     let line = out.split(|byte| *byte == b'\n').next().unwrap_or(b"");
     assert_eq!(rt; line, b"name a%25~%20%00!%7f%ff".as_slice());
     Ok(())
@@ -122,7 +122,7 @@ fn faults(rt: HostRuntime) -> Result<(), Fail> {
     for (before, digests, told) in rows {
         let file = file_of(rt.alloc(), before, digests)?;
         let mut out = Vec::new(rt.alloc());
-        let text = match run_info(rt.alloc(), &file, &mut out) {
+        let text = match describe(rt.alloc(), &file, &mut out) {
             Ok(()) => String::new(rt.alloc()),
             Err(fault) => fault.to_string(rt.alloc())?,
         };
@@ -137,7 +137,7 @@ fn a_full_output(rt: HostRuntime) -> Result<(), Fail> {
     let mut room = [0; 3];
     let mut out = Cursor::new(room.as_mut_slice());
     assert_eq!(rt;
-        run_info(rt.alloc(), SINGLE_FILE, &mut out),
+        describe(rt.alloc(), SINGLE_FILE, &mut out),
         Err(Fault::File)
     );
     Ok(())

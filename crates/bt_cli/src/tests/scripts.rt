@@ -61,7 +61,7 @@ fn a_full_output(rt: HostRuntime) -> Result<(), Fail> {
     let script = "torrent 3 3 1 a9993e364706816aba3e25717850c26c9cd0d89d\n0 join\n";
     let mut room = [0; 3];
     let mut out = Cursor::new(room.as_mut_slice());
-    let done = script_to(rt.alloc(), script.as_bytes(), &mut out);
+    let done = play_script(rt.alloc(), script.as_bytes(), &mut out);
     assert_eq!(rt; done, Err(Fault::File));
     assert_eq!(rt; room.as_slice(), b"joi".as_slice());
     Ok(())

@@ -49,7 +49,7 @@ fn run(alloc: Global, meta: &[u8], sent: &[u8], journal: bool) -> Ended {
     let mut streams = [recorded(alloc, sent)];
     let mut out = ToWrite::new(Vec::new(alloc));
     let options = Options { seed: 0, journal };
-    let run = run_serial(alloc, meta, &mut streams, &options, &mut out);
+    let run = play_streams(alloc, meta, &mut streams, &options, &mut out);
     Ended {
         run,
         out: out.into_inner(),
@@ -139,7 +139,7 @@ fn a_full_output(rt: HostRuntime) -> Result<(), Fail> {
         seed: 0,
         journal: false,
     };
-    let run = run_serial(rt.alloc(), FILE, &mut streams, &options, &mut out)?;
+    let run = play_streams(rt.alloc(), FILE, &mut streams, &options, &mut out)?;
     assert_eq!(rt; run.ended, Err(Fault::File));
     assert_eq!(rt; run.status(), 4);
     assert_eq!(rt; room.as_slice(), b"stream 0 end\npieces ".as_slice());
@@ -168,7 +168,7 @@ fn seeds(rt: HostRuntime) -> Result<(), Fail> {
             seed,
             journal: true,
         };
-        let run = run_serial(rt.alloc(), THREE_PIECES, &mut streams, &options, &mut out)?;
+        let run = play_streams(rt.alloc(), THREE_PIECES, &mut streams, &options, &mut out)?;
         assert_eq!(rt; run.ended, Ok(false));
         let out = out.into_inner();
         if seed == 0 {

@@ -1,6 +1,6 @@
 use Rattle.std.proofs.Common.{◌∙◌}
 use Rattle.bt_cli.proofs.Written.{Appends-flushed}
-use Rattle.bt_cli.proofs.info.run_info.Goals as goal
+use Rattle.bt_cli.proofs.info.describe.Goals as goal
 
 pub returns-clause-ok : goal.returns-clause-ok
 returns-clause-ok g c =

@@ -1,0 +1,101 @@
+//! The commands whole: with their exit status, and the line of a fault on a writer of its own.
+
+ghost use Rattle.std.specs.Prelude.{◌≡◌, ◌≤◌, ◌+◌, ◌⊎◌, length, Ok, Result, Bool, IfSome, MatchResult, OnOk};
+ghost use Rattle.bt_meta.specs.Layout.{Metainfo};
+ghost use Rattle.bt_meta.specs.Reading.{torrent_of_file};
+ghost use Rattle.bt_history.specs.Setting.{usual};
+ghost use Rattle.bt_session.specs.Serial.{stream_record};
+ghost use Rattle.bt_cli.specs.declared.fault.Fault.{Fault};
+ghost use Rattle.bt_cli.specs.Info.{IsInfoStatus, PrintsInfo};
+ghost use Rattle.bt_cli.specs.Runs.{IsSerialStatus, Ran, run_status};
+ghost use Rattle.bt_cli.specs.Scripts.{IsScriptStatus};
+ghost use Rattle.bt_cli.specs.Statuses.{status_of};
+
+use crate::fault::Fault;
+use crate::info::describe;
+use crate::script::play_script;
+use crate::serial::{Options, Run, play_streams};
+use bt_meta::{Sink, Source};
+use bt_picker::Desk;
+use bt_session::{MOST_STREAMS, Stream};
+use std::alloc::Global;
+use std::io::Write;
+
+/// Plays a script on a desk of its own, and prints a reply for each call, a line each; a fault goes to `err`.
+///
+/// Answers the exit status: 0 for a script; 2 for bytes that are none, with the number of the first line at fault; 4 where `out` fails;
+/// 5 for want of memory. The replies to the lines before a fault are printed.
+pub fn script_to<W: Write, E: Write>(alloc: Global, input: &[u8], out: &mut W, err: &mut E) -> u8
+    ensures status { IsScriptStatus input.now result (W.contents out.old) (W.contents out.new) }
+    ensures quiet { result ≡ 0 → err.new ≡ err.old }
+{
+    conclude(play_script(alloc, input, out), err)
+}
+
+/// The same, and no fault is told.
+pub fn run_script<W: Write>(alloc: Global, input: &[u8], out: &mut W) -> u8
+    ensures { IsScriptStatus input.now result (W.contents out.old) (W.contents out.new) }
+{
+    script_to(alloc, input, out, &mut std::io::sink())
+}
+
+/// Prints what a metainfo file says of its content, a line each; a fault goes to `err`.
+///
+/// Answers the exit status: 0; 3 for bytes that are no metainfo file; 4 where `out` fails; 5 for want of memory.
+pub fn run_info<W: Write, E: Write>(alloc: Global, meta: &[u8], out: &mut W, err: &mut E) -> u8
+    ensures status { IsInfoStatus (torrent_of_file meta.now) result }
+    ensures printed { result ≡ 0 → PrintsInfo (torrent_of_file meta.now) (W.contents out.old) (W.contents out.new) }
+    ensures quiet { result ≡ 0 → err.new ≡ err.old }
+{
+    conclude(describe(alloc, meta, out), err)
+}
+
+/// Plays the streams of 1 to 64 recorded peers at one desk, and prints how each ended and which pieces are had; a fault goes to `err`.
+///
+/// Answers the exit status: 0 where all pieces are had, and 1 where one isn't; 3 for bytes that are no metainfo file; 4 where `out`
+/// fails; 5 for want of memory, also where a session met it. The desk is given where there was a run.
+pub fn run_serial<R: Source, W: Sink, O: Sink, E: Write>(
+    alloc: Global,
+    meta: &[u8],
+    streams: &mut [Stream<R, W>],
+    options: &Options,
+    out: &mut O,
+    err: &mut E,
+) -> (u8, Option<Desk>)
+    requires { (1 ≤ length streams.old) × (length streams.old ≤ MOST_STREAMS) }
+    ensures status { IsSerialStatus (torrent_of_file meta.now) result.0 result.1 }
+    ensures setting { IfSome result.1 (λ desk. (t : Metainfo) → torrent_of_file meta.now ≡ Ok t →
+        desk.setting ≡ usual t.layout (length streams.old + 1)) }
+    // Where there is a desk, it is the one of a run of these streams, and the status and what was printed are that run's.
+    ensures ran { IfSome result.1 (λ desk. (t : Metainfo) → torrent_of_file meta.now ≡ Ok t →
+        (ended : Result Bool Fault) × ((result.0 ≡ run_status ended)
+        × Ran (stream_record R.left R.ended R.failed R.asked W.written W.failed) t options.now.seed streams.old desk streams.new
+        ended options.now.journal (O.written out.old) (O.written out.new) (O.failed out.new))) }
+    ensures quiet { (result.0 ≡ 0) ⊎ (result.0 ≡ 1) → err.new ≡ err.old }
+{
+    match play_streams(alloc, meta, streams, options, out) {
+        Ok(run) => {
+            let status = run.status();
+            if let Err(fault) = run.ended {
+                conclude(Err(fault), err);
+            }
+            let Run { desk, ended: _ } = run;
+            (status, Some(desk))
+        }
+        Err(fault) => (conclude(Err(fault), err), None),
+    }
+}
+
+/// The exit status of a command. A fault is told on `err`; that this fails changes nothing.
+pub fn conclude<E: Write>(done: Result<(), Fault>, err: &mut E) -> u8
+    ensures status { MatchResult done (λ _. result ≡ 0) (λ fault. result ≡ status_of fault) }
+    ensures quiet { OnOk done (err.new ≡ err.old) }
+{
+    match done {
+        Ok(()) => 0,
+        Err(fault) => {
+            let _ = writeln!(err, "{fault}");
+            fault.status()
+        }
+    }
+}
