@@ -1,3 +1,4 @@
+mod commands;
 mod examples;
 mod faults;
 mod info;
