@@ -4,5 +4,6 @@ mod info;
 mod picks;
 mod reports;
 mod samples;
+mod saving;
 mod scripts;
 mod serial;
