@@ -5,5 +5,6 @@ mod info;
 mod picks;
 mod reports;
 mod samples;
+mod saving;
 mod scripts;
 mod serial;

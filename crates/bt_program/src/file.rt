@@ -46,6 +46,8 @@ impl<'a, R: Files> OutFile<'a, R> {
 }
 
 impl<R: Files> NewFile for OutFile<'_, R> {
+    ghost blank = { None };
+
     fn create(&mut self) -> Result<(), DeviceFault> {
         match fs::create(self.files, self.path) {
             Ok(file) => {

@@ -9,20 +9,20 @@ use std::io::Cursor;
 use std::test::*;
 
 /// A file of the three bytes `abc`, in one piece.
-const FILE: &[u8] =
+pub const FILE: &[u8] =
     b"d4:infod6:lengthi3e4:name1:s12:piece lengthi3e6:pieces20:\xa9\x99\x3e\x36\x47\x06\x81\x6a\xba\x3e\x25\x71\x78\x50\xc2\x6c\x9c\xd0\xd8\x9dee";
 
 /// The SHA-1 of its info value, by another program.
-const INFOHASH: &[u8; 20] =
+pub const INFOHASH: &[u8; 20] =
     b"\x1d\x78\x90\xe0\x79\x47\x27\x96\x67\x77\x2e\x39\x46\xc6\x96\x86\x93\x09\xfe\x2c";
 
 /// What a peer sends after its handshake: its bitfield, unchoke, and the piece.
-const FRAMES: &[u8; 27] = b"\0\0\0\x02\x05\x80\0\0\0\x01\x01\0\0\0\x0c\x07\0\0\0\0\0\0\0\0abc";
+pub const FRAMES: &[u8; 27] = b"\0\0\0\x02\x05\x80\0\0\0\x01\x01\0\0\0\x0c\x07\0\0\0\0\0\0\0\0abc";
 
 type Recorded<'a> = Stream<FromRead<Cursor<&'a [u8]>>, ToWrite<Vec<u8>>>;
 
 /// A peer's stream: its handshake for this infohash, then these bytes.
-fn stream(alloc: Global, infohash: &[u8; 20], frames: &[u8]) -> Result<Vec<u8>, AllocError> {
+pub fn stream(alloc: Global, infohash: &[u8; 20], frames: &[u8]) -> Result<Vec<u8>, AllocError> {
     let mut bytes = Vec::from_slice(alloc, b"\x13BitTorrent protocol")?;
     bytes.extend_from_slice(&[0; 8])?;
     bytes.extend_from_slice(infohash)?;
@@ -40,12 +40,12 @@ fn recorded(alloc: Global, sent: &[u8]) -> Recorded<'_> {
 
 /// How the command ended with one stream, and its output.
 #[derive(Drop)]
-struct Ended {
-    run: Result<Run, Fault>,
-    out: Vec<u8>,
+pub struct Ended {
+    pub run: Result<Run, Fault>,
+    pub out: Vec<u8>,
 }
 
-fn run(alloc: Global, meta: &[u8], sent: &[u8], journal: bool) -> Ended {
+pub fn run(alloc: Global, meta: &[u8], sent: &[u8], journal: bool) -> Ended {
     let mut streams = [recorded(alloc, sent)];
     let mut out = ToWrite::new(Vec::new(alloc));
     let options = Options { seed: 0, journal };
