@@ -6,7 +6,7 @@ use crate::arguments::command;
 use crate::device::Device;
 use crate::failure::{Failure, WRONG_ARGUMENTS, conclude, worse};
 use crate::file::OutFile;
-use bt_cli::{Fault, Options, Run, describe, play_streams, save, play_script};
+use bt_cli::{Fault, Options, Run, describe, play_script, play_streams, save};
 use bt_meta::{FromRead, ToWrite};
 use bt_session::{MOST_STREAMS, Stream};
 use clap::ArgMatches;
