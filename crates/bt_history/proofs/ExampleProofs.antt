@@ -5,12 +5,12 @@ use Rattle.bt_meta.specs.Layout.{Layout}
 use Rattle.bt_meta.specs.declared.block.Block.{Block}
 use Rattle.bt_history.specs.declared.call.Reply.TheVariants.{Request}
 use Rattle.sha1.specs.Sha1.{sha1, first_words, schedule, rounds, compress, hash_after, digest_bytes}
-use Rattle.bt_history.specs.Setting.{usual, is_block}
+use Rattle.bt_history.specs.Setting.{setting_of, usual_rules, is_block}
 use Rattle.bt_history.specs.Peers.{joined, late, shows, is_open, outstanding, asked, due}
 use Rattle.bt_history.specs.Pieces.{kept, had}
 use Rattle.bt_history.specs.Next.{next_answer, RequestOf}
 use Rattle.bt_history.specs.Legal.{IsLegal, IsAllowed, Permits, refusal, answer, arrived_answer, settled_answer}
-use Rattle.bt_history.specs.Examples.{block_of, torrent_short_last, torrent_one_piece, torrent_two_pieces, torrent_two_blocks, torrent_many_blocks, first_request, another_first_request, one_peer_to_the_end, rarest_first, full_pipe, choke_frees, cancel_in_endgame, no_double_before_endgame, double_outlasts_endgame, failed_check, failed_check_in_endgame, held_block_dropped, block_by_block, refusals, wrong_count, stale_verdict, random_first_piece, rare_first_piece_too, strict_priority, gone_peer_not_counted, rejoin_in_endgame, idle_though_a_block_is_usable, second_piece_started_while_a_begun_one_has_a_usable_block, availability_counts_a_peer_that_left, commoner_piece_started, second_peer_asked_while_a_block_is_unasked, second_peer_asked_before_endgame, had_with_another_hash, replaced_bytes_settled, replaced_bytes_failed, idle_though_a_cancel_is_due, sixth_request, pipe_full_after_four, pipe_full_though_the_choke_freed_it, noted_from_before_the_bits, block_stored_twice, late_bits_noted, request_of_a_wrong_length}
+use Rattle.bt_history.specs.Examples.{rules, block_of, torrent_short_last, torrent_one_piece, torrent_two_pieces, torrent_two_blocks, torrent_many_blocks, torrent_four_pieces, first_request, another_first_request, one_peer_to_the_end, rarest_first, full_pipe, choke_frees, cancel_in_endgame, no_double_before_endgame, double_outlasts_endgame, failed_check, failed_check_in_endgame, held_block_dropped, block_by_block, refusals, wrong_count, stale_verdict, random_first_piece, rare_first_piece_too, strict_priority, gone_peer_not_counted, rejoin_in_endgame, depth_two, deep_pipe, rarest_from_the_start, second_piece_at_random, rarest_after_two_pieces, idle_though_a_block_is_usable, second_piece_started_while_a_begun_one_has_a_usable_block, availability_counts_a_peer_that_left, commoner_piece_started, second_peer_asked_while_a_block_is_unasked, second_peer_asked_before_endgame, had_with_another_hash, replaced_bytes_settled, replaced_bytes_failed, idle_though_a_cancel_is_due, sixth_request, pipe_full_after_four, pipe_full_though_the_choke_freed_it, noted_from_before_the_bits, block_stored_twice, late_bits_noted, request_of_a_wrong_length, third_request_at_depth_two, pipe_full_at_depth_two_after_one, pipe_full_at_five_though_deep, first_piece_at_random_though_none_is, third_piece_at_random}
 
 -- a block that fails the test may not be requested
 not_requested : (t : Layout) (test : Block → Bool) (b : Block) → test b ≡ false → Permits t (RequestOf test) (Request b) → ⊥
@@ -20,17 +20,17 @@ not_requested t test b fails h = let e : b ≡ h.0 = cc (h.1) in false≢true (s
 not_a_block : (t : Layout) (test : Block → Bool) (b : Block) → is_block t b ≡ false → Permits t (RequestOf test) (Request b) → ⊥
 not_a_block t test b fails h = let e : b ≡ h.0 = cc (h.1) in false≢true (sym fails ∙ ap (is_block t) e ∙ h.2)
 
-pub first_request_legal : IsLegal (usual torrent_short_last 1) (reverse first_request)
+pub first_request_legal : IsLegal (setting_of torrent_short_last 1 usual_rules) (reverse first_request)
 unfolding IsAllowed refusal answer next_answer arrived_answer settled_answer joined late shows is_open outstanding asked due kept had sha1 first_words schedule rounds compress hash_after digest_bytes
 first_request_legal =
     ((((tt, (lit< tt, refl)), (lit< tt, refl)), (lit< tt, refl)), (lit< tt, (block_of 2 0 1, refl, refl, refl)))
 
-pub another_first_request_legal : IsLegal (usual torrent_short_last 1) (reverse another_first_request)
+pub another_first_request_legal : IsLegal (setting_of torrent_short_last 1 usual_rules) (reverse another_first_request)
 unfolding IsAllowed refusal answer next_answer arrived_answer settled_answer joined late shows is_open outstanding asked due kept had sha1 first_words schedule rounds compress hash_after digest_bytes
 another_first_request_legal =
     ((((tt, (lit< tt, refl)), (lit< tt, refl)), (lit< tt, refl)), (lit< tt, (block_of 0 0 3, refl, refl, refl)))
 
-pub one_peer_to_the_end_legal : IsLegal (usual torrent_short_last 1) (reverse one_peer_to_the_end)
+pub one_peer_to_the_end_legal : IsLegal (setting_of torrent_short_last 1 usual_rules) (reverse one_peer_to_the_end)
 unfolding IsAllowed refusal answer next_answer arrived_answer settled_answer joined late shows is_open outstanding asked due kept had sha1 first_words schedule rounds compress hash_after digest_bytes
 one_peer_to_the_end_legal = (
   (
@@ -78,7 +78,7 @@ one_peer_to_the_end_legal = (
   (lit< tt, refl),
 )
 
-pub rarest_first_legal : IsLegal (usual torrent_short_last 2) (reverse rarest_first)
+pub rarest_first_legal : IsLegal (setting_of torrent_short_last 2 usual_rules) (reverse rarest_first)
 unfolding IsAllowed refusal answer next_answer arrived_answer settled_answer joined late shows is_open outstanding asked due kept had sha1 first_words schedule rounds compress hash_after digest_bytes
 rarest_first_legal = (
   (
@@ -105,7 +105,7 @@ rarest_first_legal = (
   ),
 )
 
-pub full_pipe_legal : IsLegal (usual torrent_many_blocks 2) (reverse full_pipe)
+pub full_pipe_legal : IsLegal (setting_of torrent_many_blocks 2 usual_rules) (reverse full_pipe)
 unfolding IsAllowed refusal answer next_answer arrived_answer settled_answer joined late shows is_open outstanding asked due kept had sha1 first_words schedule rounds compress hash_after digest_bytes
 full_pipe_legal = (
   (
@@ -151,7 +151,7 @@ full_pipe_legal = (
   (lit< tt, refl),
 )
 
-pub choke_frees_legal : IsLegal (usual torrent_many_blocks 2) (reverse choke_frees)
+pub choke_frees_legal : IsLegal (setting_of torrent_many_blocks 2 usual_rules) (reverse choke_frees)
 unfolding IsAllowed refusal answer next_answer arrived_answer settled_answer joined late shows is_open outstanding asked due kept had sha1 first_words schedule rounds compress hash_after digest_bytes
 choke_frees_legal = (
   (
@@ -218,7 +218,7 @@ choke_frees_legal = (
   (lit< tt, refl),
 )
 
-pub cancel_in_endgame_legal : IsLegal (usual torrent_one_piece 2) (reverse cancel_in_endgame)
+pub cancel_in_endgame_legal : IsLegal (setting_of torrent_one_piece 2 usual_rules) (reverse cancel_in_endgame)
 unfolding IsAllowed refusal answer next_answer arrived_answer settled_answer joined late shows is_open outstanding asked due kept had sha1 first_words schedule rounds compress hash_after digest_bytes
 cancel_in_endgame_legal = (
   (
@@ -259,7 +259,7 @@ cancel_in_endgame_legal = (
   ),
 )
 
-pub no_double_before_endgame_legal : IsLegal (usual torrent_two_pieces 2) (reverse no_double_before_endgame)
+pub no_double_before_endgame_legal : IsLegal (setting_of torrent_two_pieces 2 usual_rules) (reverse no_double_before_endgame)
 unfolding IsAllowed refusal answer next_answer arrived_answer settled_answer joined late shows is_open outstanding asked due kept had sha1 first_words schedule rounds compress hash_after digest_bytes
 no_double_before_endgame_legal = (
   (
@@ -275,7 +275,7 @@ no_double_before_endgame_legal = (
   (lit< tt, refl),
 )
 
-pub double_outlasts_endgame_legal : IsLegal (usual torrent_two_pieces 4) (reverse double_outlasts_endgame)
+pub double_outlasts_endgame_legal : IsLegal (setting_of torrent_two_pieces 4 usual_rules) (reverse double_outlasts_endgame)
 unfolding IsAllowed refusal answer next_answer arrived_answer settled_answer joined late shows is_open outstanding asked due kept had sha1 first_words schedule rounds compress hash_after digest_bytes
 double_outlasts_endgame_legal = (
   (
@@ -341,7 +341,7 @@ double_outlasts_endgame_legal = (
   ),
 )
 
-pub failed_check_legal : IsLegal (usual torrent_short_last 1) (reverse failed_check)
+pub failed_check_legal : IsLegal (setting_of torrent_short_last 1 usual_rules) (reverse failed_check)
 unfolding IsAllowed refusal answer next_answer arrived_answer settled_answer joined late shows is_open outstanding asked due kept had sha1 first_words schedule rounds compress hash_after digest_bytes
 failed_check_legal = (
   (
@@ -357,7 +357,7 @@ failed_check_legal = (
   (lit< tt, refl),
 )
 
-pub failed_check_in_endgame_legal : IsLegal (usual torrent_one_piece 2) (reverse failed_check_in_endgame)
+pub failed_check_in_endgame_legal : IsLegal (setting_of torrent_one_piece 2 usual_rules) (reverse failed_check_in_endgame)
 unfolding IsAllowed refusal answer next_answer arrived_answer settled_answer joined late shows is_open outstanding asked due kept had sha1 first_words schedule rounds compress hash_after digest_bytes
 failed_check_in_endgame_legal = (
   (
@@ -396,17 +396,17 @@ failed_check_in_endgame_legal = (
   ),
 )
 
-pub held_block_dropped_legal : IsLegal (usual torrent_short_last 1) (reverse held_block_dropped)
+pub held_block_dropped_legal : IsLegal (setting_of torrent_short_last 1 usual_rules) (reverse held_block_dropped)
 unfolding IsAllowed refusal answer next_answer arrived_answer settled_answer joined late shows is_open outstanding asked due kept had sha1 first_words schedule rounds compress hash_after digest_bytes
 held_block_dropped_legal =
     (((tt, (lit< tt, refl)), (lit< tt, refl)), (lit< tt, refl))
 
-pub block_by_block_legal : IsLegal (usual torrent_two_blocks 1) (reverse block_by_block)
+pub block_by_block_legal : IsLegal (setting_of torrent_two_blocks 1 usual_rules) (reverse block_by_block)
 unfolding IsAllowed refusal answer next_answer arrived_answer settled_answer joined late shows is_open outstanding asked due kept had sha1 first_words schedule rounds compress hash_after digest_bytes
 block_by_block_legal =
     ((((tt, (lit< tt, refl)), (lit< tt, refl)), (lit< tt, refl)), (lit< tt, refl))
 
-pub refusals_legal : IsLegal (usual torrent_short_last 2) (reverse refusals)
+pub refusals_legal : IsLegal (setting_of torrent_short_last 2 usual_rules) (reverse refusals)
 unfolding IsAllowed refusal answer next_answer arrived_answer settled_answer joined late shows is_open outstanding asked due kept had sha1 first_words schedule rounds compress hash_after digest_bytes
 refusals_legal = (
   (
@@ -455,12 +455,12 @@ refusals_legal = (
   (lit< tt, refl),
 )
 
-pub wrong_count_legal : IsLegal (usual torrent_short_last 1) (reverse wrong_count)
+pub wrong_count_legal : IsLegal (setting_of torrent_short_last 1 usual_rules) (reverse wrong_count)
 unfolding IsAllowed refusal answer next_answer arrived_answer settled_answer joined late shows is_open outstanding asked due kept had sha1 first_words schedule rounds compress hash_after digest_bytes
 wrong_count_legal =
     (((tt, (lit< tt, refl)), (lit< tt, refl)), (lit< tt, refl))
 
-pub stale_verdict_legal : IsLegal (usual torrent_short_last 1) (reverse stale_verdict)
+pub stale_verdict_legal : IsLegal (setting_of torrent_short_last 1 usual_rules) (reverse stale_verdict)
 unfolding IsAllowed refusal answer next_answer arrived_answer settled_answer joined late shows is_open outstanding asked due kept had sha1 first_words schedule rounds compress hash_after digest_bytes
 stale_verdict_legal = (
   (
@@ -482,7 +482,7 @@ stale_verdict_legal = (
   (lit< tt, refl),
 )
 
-pub random_first_piece_legal : IsLegal (usual torrent_short_last 2) (reverse random_first_piece)
+pub random_first_piece_legal : IsLegal (setting_of torrent_short_last 2 usual_rules) (reverse random_first_piece)
 unfolding IsAllowed refusal answer next_answer arrived_answer settled_answer joined late shows is_open outstanding asked due kept had sha1 first_words schedule rounds compress hash_after digest_bytes
 random_first_piece_legal = (
   (((((tt, (lit< tt, refl)), (lit< tt, refl)), (lit< tt, refl)), (lit< tt, refl)), (lit< tt, refl)),
@@ -492,7 +492,7 @@ random_first_piece_legal = (
   ),
 )
 
-pub rare_first_piece_too_legal : IsLegal (usual torrent_short_last 2) (reverse rare_first_piece_too)
+pub rare_first_piece_too_legal : IsLegal (setting_of torrent_short_last 2 usual_rules) (reverse rare_first_piece_too)
 unfolding IsAllowed refusal answer next_answer arrived_answer settled_answer joined late shows is_open outstanding asked due kept had sha1 first_words schedule rounds compress hash_after digest_bytes
 rare_first_piece_too_legal = (
   (((((tt, (lit< tt, refl)), (lit< tt, refl)), (lit< tt, refl)), (lit< tt, refl)), (lit< tt, refl)),
@@ -502,7 +502,7 @@ rare_first_piece_too_legal = (
   ),
 )
 
-pub strict_priority_legal : IsLegal (usual torrent_two_blocks 1) (reverse strict_priority)
+pub strict_priority_legal : IsLegal (setting_of torrent_two_blocks 1 usual_rules) (reverse strict_priority)
 unfolding IsAllowed refusal answer next_answer arrived_answer settled_answer joined late shows is_open outstanding asked due kept had sha1 first_words schedule rounds compress hash_after digest_bytes
 strict_priority_legal = (
   (
@@ -512,7 +512,7 @@ strict_priority_legal = (
   (lit< tt, (block_of 1 0 16384, refl, refl, refl)),
 )
 
-pub gone_peer_not_counted_legal : IsLegal (usual torrent_short_last 3) (reverse gone_peer_not_counted)
+pub gone_peer_not_counted_legal : IsLegal (setting_of torrent_short_last 3 usual_rules) (reverse gone_peer_not_counted)
 unfolding IsAllowed refusal answer next_answer arrived_answer settled_answer joined late shows is_open outstanding asked due kept had sha1 first_words schedule rounds compress hash_after digest_bytes
 gone_peer_not_counted_legal = (
   (
@@ -544,7 +544,7 @@ gone_peer_not_counted_legal = (
   (lit< tt, (block_of 0 0 3, refl, refl, refl)),
 )
 
-pub rejoin_in_endgame_legal : IsLegal (usual torrent_one_piece 2) (reverse rejoin_in_endgame)
+pub rejoin_in_endgame_legal : IsLegal (setting_of torrent_one_piece 2 usual_rules) (reverse rejoin_in_endgame)
 unfolding IsAllowed refusal answer next_answer arrived_answer settled_answer joined late shows is_open outstanding asked due kept had sha1 first_words schedule rounds compress hash_after digest_bytes
 rejoin_in_endgame_legal = (
   (
@@ -588,87 +588,255 @@ rejoin_in_endgame_legal = (
   (lit< tt, (block_of 0 0 3, refl, refl, refl)),
 )
 
+pub depth_two_legal : IsLegal (setting_of torrent_many_blocks 1 (rules 2 1)) (reverse depth_two)
+unfolding IsAllowed refusal answer next_answer arrived_answer settled_answer joined late shows is_open outstanding asked due kept had sha1 first_words schedule rounds compress hash_after digest_bytes
+depth_two_legal = (
+  (
+    ((((tt, (lit< tt, refl)), (lit< tt, refl)), (lit< tt, refl)), (lit< tt, (block_of 0 0 16384, refl, refl, refl))),
+    (lit< tt, (block_of 0 16384 16384, refl, refl, refl)),
+  ),
+  (lit< tt, refl),
+)
+
+pub deep_pipe_legal : IsLegal (setting_of torrent_many_blocks 1 (rules 64 1)) (reverse deep_pipe)
+unfolding IsAllowed refusal answer next_answer arrived_answer settled_answer joined late shows is_open outstanding asked due kept had sha1 first_words schedule rounds compress hash_after digest_bytes
+deep_pipe_legal = (
+  (
+    (
+      (
+        (
+          (
+            (
+              (
+                (((tt, (lit< tt, refl)), (lit< tt, refl)), (lit< tt, refl)),
+                (
+                  lit< tt,
+                  (
+                    block_of 0 0 16384,
+                    refl,
+                    refl,
+                    refl,
+                  ),
+                ),
+              ),
+              (lit< tt, (block_of 0 16384 16384, refl, refl, refl)),
+            ),
+            (
+              lit< tt,
+              (
+                block_of 0 32768 16384,
+                refl,
+                refl,
+                refl,
+              ),
+            ),
+          ),
+          (lit< tt, (block_of 0 49152 16384, refl, refl, refl)),
+        ),
+        (
+          lit< tt,
+          (
+            block_of 0 65536 16384,
+            refl,
+            refl,
+            refl,
+          ),
+        ),
+      ),
+      (lit< tt, (block_of 0 81920 16384, refl, refl, refl)),
+    ),
+    (
+      lit< tt,
+      (
+        block_of 0 98304 16384,
+        refl,
+        refl,
+        refl,
+      ),
+    ),
+  ),
+  (lit< tt, (block_of 0 114688 16384, refl, refl, refl)),
+)
+
+pub rarest_from_the_start_legal : IsLegal (setting_of torrent_short_last 2 (rules 5 0)) (reverse rarest_from_the_start)
+unfolding IsAllowed refusal answer next_answer arrived_answer settled_answer joined late shows is_open outstanding asked due kept had sha1 first_words schedule rounds compress hash_after digest_bytes
+rarest_from_the_start_legal = (
+  (((((tt, (lit< tt, refl)), (lit< tt, refl)), (lit< tt, refl)), (lit< tt, refl)), (lit< tt, refl)),
+  (
+    lit< tt,
+    (block_of 2 0 1, refl, refl, refl),
+  ),
+)
+
+pub second_piece_at_random_legal : IsLegal (setting_of torrent_short_last 2 (rules 5 2)) (reverse second_piece_at_random)
+unfolding IsAllowed refusal answer next_answer arrived_answer settled_answer joined late shows is_open outstanding asked due kept had sha1 first_words schedule rounds compress hash_after digest_bytes
+second_piece_at_random_legal = (
+  (
+    (
+      (
+        (((((tt, (lit< tt, refl)), (lit< tt, refl)), (lit< tt, refl)), (lit< tt, refl)), (lit< tt, refl)),
+        (
+          lit< tt,
+          (block_of 2 0 1, refl, refl, refl),
+        ),
+      ),
+      (lit< tt, refl),
+    ),
+    (lit< tt, refl),
+  ),
+  (
+    lit< tt,
+    (
+      block_of 1 0 3,
+      refl,
+      refl,
+      refl,
+    ),
+  ),
+)
+
+pub rarest_after_two_pieces_legal : IsLegal (setting_of torrent_four_pieces 2 (rules 5 2)) (reverse rarest_after_two_pieces)
+unfolding IsAllowed refusal answer next_answer arrived_answer settled_answer joined late shows is_open outstanding asked due kept had sha1 first_words schedule rounds compress hash_after digest_bytes
+rarest_after_two_pieces_legal = (
+  (
+    (
+      (
+        (
+          (
+            (
+              (((((tt, (lit< tt, refl)), (lit< tt, refl)), (lit< tt, refl)), (lit< tt, refl)), (lit< tt, refl)),
+              (
+                lit< tt,
+                (block_of 0 0 3, refl, refl, refl),
+              ),
+            ),
+            (lit< tt, refl),
+          ),
+          (lit< tt, refl),
+        ),
+        (
+          lit< tt,
+          (
+            block_of 2 0 3,
+            refl,
+            refl,
+            refl,
+          ),
+        ),
+      ),
+      (lit< tt, refl),
+    ),
+    (lit< tt, refl),
+  ),
+  (lit< tt, (block_of 1 0 3, refl, refl, refl)),
+)
+
 pub idle_though_a_block_is_usable_wrong :
-    ¬ IsAllowed (usual torrent_short_last 1) (reverse (take 3 one_peer_to_the_end)) idle_though_a_block_is_usable
+    ¬ IsAllowed (setting_of torrent_short_last 1 usual_rules) (reverse (take 3 one_peer_to_the_end)) idle_though_a_block_is_usable
 unfolding IsAllowed refusal answer next_answer arrived_answer settled_answer joined late shows is_open outstanding asked due kept had sha1 first_words schedule rounds compress hash_after digest_bytes
 idle_though_a_block_is_usable_wrong h = absurd (cc (h.1.1))
 
 pub second_piece_started_while_a_begun_one_has_a_usable_block_wrong :
-    ¬ IsAllowed (usual torrent_two_blocks 1) (reverse (take 4 strict_priority)) second_piece_started_while_a_begun_one_has_a_usable_block
+    ¬ IsAllowed (setting_of torrent_two_blocks 1 usual_rules) (reverse (take 4 strict_priority)) second_piece_started_while_a_begun_one_has_a_usable_block
 unfolding IsAllowed refusal answer next_answer arrived_answer settled_answer joined late shows is_open outstanding asked due kept had sha1 first_words schedule rounds compress hash_after digest_bytes
 second_piece_started_while_a_begun_one_has_a_usable_block_wrong h = not_requested torrent_two_blocks _ _ refl h.1
 
 pub availability_counts_a_peer_that_left_wrong :
-    ¬ IsAllowed (usual torrent_short_last 3) (reverse (take 11 gone_peer_not_counted)) availability_counts_a_peer_that_left
+    ¬ IsAllowed (setting_of torrent_short_last 3 usual_rules) (reverse (take 11 gone_peer_not_counted)) availability_counts_a_peer_that_left
 unfolding IsAllowed refusal answer next_answer arrived_answer settled_answer joined late shows is_open outstanding asked due kept had sha1 first_words schedule rounds compress hash_after digest_bytes
 availability_counts_a_peer_that_left_wrong h = not_requested torrent_short_last _ _ refl h.1
 
 pub commoner_piece_started_wrong :
-    ¬ IsAllowed (usual torrent_short_last 2) (reverse (take 8 rarest_first)) commoner_piece_started
+    ¬ IsAllowed (setting_of torrent_short_last 2 usual_rules) (reverse (take 8 rarest_first)) commoner_piece_started
 unfolding IsAllowed refusal answer next_answer arrived_answer settled_answer joined late shows is_open outstanding asked due kept had sha1 first_words schedule rounds compress hash_after digest_bytes
 commoner_piece_started_wrong h = not_requested torrent_short_last _ _ refl h.1
 
 pub second_peer_asked_while_a_block_is_unasked_wrong :
-    ¬ IsAllowed (usual torrent_two_pieces 4) (reverse (take 16 double_outlasts_endgame)) second_peer_asked_while_a_block_is_unasked
+    ¬ IsAllowed (setting_of torrent_two_pieces 4 usual_rules) (reverse (take 16 double_outlasts_endgame)) second_peer_asked_while_a_block_is_unasked
 unfolding IsAllowed refusal answer next_answer arrived_answer settled_answer joined late shows is_open outstanding asked due kept had sha1 first_words schedule rounds compress hash_after digest_bytes
 second_peer_asked_while_a_block_is_unasked_wrong h = absurd (cc (h.1))
 
 pub second_peer_asked_before_endgame_wrong :
-    ¬ IsAllowed (usual torrent_two_pieces 2) (reverse (take 7 no_double_before_endgame)) second_peer_asked_before_endgame
+    ¬ IsAllowed (setting_of torrent_two_pieces 2 usual_rules) (reverse (take 7 no_double_before_endgame)) second_peer_asked_before_endgame
 unfolding IsAllowed refusal answer next_answer arrived_answer settled_answer joined late shows is_open outstanding asked due kept had sha1 first_words schedule rounds compress hash_after digest_bytes
 second_peer_asked_before_endgame_wrong h = absurd (cc (h.1))
 
 pub had_with_another_hash_wrong :
-    ¬ IsAllowed (usual torrent_one_piece 2) (reverse (take 9 failed_check_in_endgame)) had_with_another_hash
+    ¬ IsAllowed (setting_of torrent_one_piece 2 usual_rules) (reverse (take 9 failed_check_in_endgame)) had_with_another_hash
 unfolding IsAllowed refusal answer next_answer arrived_answer settled_answer joined late shows is_open outstanding asked due kept had sha1 first_words schedule rounds compress hash_after digest_bytes
 had_with_another_hash_wrong h = absurd (cc (h.1))
 
 pub replaced_bytes_settled_wrong :
-    ¬ IsAllowed (usual torrent_one_piece 2) (reverse (take 9 failed_check_in_endgame)) replaced_bytes_settled
+    ¬ IsAllowed (setting_of torrent_one_piece 2 usual_rules) (reverse (take 9 failed_check_in_endgame)) replaced_bytes_settled
 unfolding IsAllowed refusal answer next_answer arrived_answer settled_answer joined late shows is_open outstanding asked due kept had sha1 first_words schedule rounds compress hash_after digest_bytes
 replaced_bytes_settled_wrong h = absurd (cc (h.1))
 
 pub replaced_bytes_failed_wrong :
-    ¬ IsAllowed (usual torrent_short_last 1) (reverse (take 4 stale_verdict)) replaced_bytes_failed
+    ¬ IsAllowed (setting_of torrent_short_last 1 usual_rules) (reverse (take 4 stale_verdict)) replaced_bytes_failed
 unfolding IsAllowed refusal answer next_answer arrived_answer settled_answer joined late shows is_open outstanding asked due kept had sha1 first_words schedule rounds compress hash_after digest_bytes
 replaced_bytes_failed_wrong h = absurd (cc (h.1))
 
 pub idle_though_a_cancel_is_due_wrong :
-    ¬ IsAllowed (usual torrent_one_piece 2) (reverse (take 9 cancel_in_endgame)) idle_though_a_cancel_is_due
+    ¬ IsAllowed (setting_of torrent_one_piece 2 usual_rules) (reverse (take 9 cancel_in_endgame)) idle_though_a_cancel_is_due
 unfolding IsAllowed refusal answer next_answer arrived_answer settled_answer joined late shows is_open outstanding asked due kept had sha1 first_words schedule rounds compress hash_after digest_bytes
 idle_though_a_cancel_is_due_wrong h = absurd (cc (h.1.1))
 
 pub sixth_request_wrong :
-    ¬ IsAllowed (usual torrent_many_blocks 2) (reverse (take 8 full_pipe)) sixth_request
+    ¬ IsAllowed (setting_of torrent_many_blocks 2 usual_rules) (reverse (take 8 full_pipe)) sixth_request
 unfolding IsAllowed refusal answer next_answer arrived_answer settled_answer joined late shows is_open outstanding asked due kept had sha1 first_words schedule rounds compress hash_after digest_bytes
 sixth_request_wrong h = absurd (cc (h.1))
 
 pub pipe_full_after_four_wrong :
-    ¬ IsAllowed (usual torrent_many_blocks 2) (reverse (take 7 full_pipe)) pipe_full_after_four
+    ¬ IsAllowed (setting_of torrent_many_blocks 2 usual_rules) (reverse (take 7 full_pipe)) pipe_full_after_four
 unfolding IsAllowed refusal answer next_answer arrived_answer settled_answer joined late shows is_open outstanding asked due kept had sha1 first_words schedule rounds compress hash_after digest_bytes
 pipe_full_after_four_wrong h = absurd (cc (h.1.1))
 
 pub pipe_full_though_the_choke_freed_it_wrong :
-    ¬ IsAllowed (usual torrent_many_blocks 2) (reverse (take 13 choke_frees)) pipe_full_though_the_choke_freed_it
+    ¬ IsAllowed (setting_of torrent_many_blocks 2 usual_rules) (reverse (take 13 choke_frees)) pipe_full_though_the_choke_freed_it
 unfolding IsAllowed refusal answer next_answer arrived_answer settled_answer joined late shows is_open outstanding asked due kept had sha1 first_words schedule rounds compress hash_after digest_bytes
 pipe_full_though_the_choke_freed_it_wrong h = absurd (cc (h.1))
 
 pub noted_from_before_the_bits_wrong :
-    ¬ IsAllowed (usual torrent_short_last 1) (reverse (take 1 first_request)) noted_from_before_the_bits
+    ¬ IsAllowed (setting_of torrent_short_last 1 usual_rules) (reverse (take 1 first_request)) noted_from_before_the_bits
 unfolding IsAllowed refusal answer next_answer arrived_answer settled_answer joined late shows is_open outstanding asked due kept had sha1 first_words schedule rounds compress hash_after digest_bytes
 noted_from_before_the_bits_wrong h = absurd (cc (h.1))
 
 pub block_stored_twice_wrong :
-    ¬ IsAllowed (usual torrent_short_last 1) (reverse (take 2 held_block_dropped)) block_stored_twice
+    ¬ IsAllowed (setting_of torrent_short_last 1 usual_rules) (reverse (take 2 held_block_dropped)) block_stored_twice
 unfolding IsAllowed refusal answer next_answer arrived_answer settled_answer joined late shows is_open outstanding asked due kept had sha1 first_words schedule rounds compress hash_after digest_bytes
 block_stored_twice_wrong h = absurd (cc (h.1))
 
 pub late_bits_noted_wrong :
-    ¬ IsAllowed (usual torrent_short_last 1) (reverse (take 2 held_block_dropped)) late_bits_noted
+    ¬ IsAllowed (setting_of torrent_short_last 1 usual_rules) (reverse (take 2 held_block_dropped)) late_bits_noted
 unfolding IsAllowed refusal answer next_answer arrived_answer settled_answer joined late shows is_open outstanding asked due kept had sha1 first_words schedule rounds compress hash_after digest_bytes
 late_bits_noted_wrong h = absurd (cc (h.1))
 
 pub request_of_a_wrong_length_wrong :
-    ¬ IsAllowed (usual torrent_short_last 1) (reverse (take 3 first_request)) request_of_a_wrong_length
+    ¬ IsAllowed (setting_of torrent_short_last 1 usual_rules) (reverse (take 3 first_request)) request_of_a_wrong_length
 unfolding IsAllowed refusal answer next_answer arrived_answer settled_answer joined late shows is_open outstanding asked due kept had sha1 first_words schedule rounds compress hash_after digest_bytes
 request_of_a_wrong_length_wrong h = not_a_block torrent_short_last _ _ refl h.1
+
+pub third_request_at_depth_two_wrong :
+    ¬ IsAllowed (setting_of torrent_many_blocks 1 (rules 2 1)) (reverse (take 5 depth_two)) third_request_at_depth_two
+unfolding IsAllowed refusal answer next_answer arrived_answer settled_answer joined late shows is_open outstanding asked due kept had sha1 first_words schedule rounds compress hash_after digest_bytes
+third_request_at_depth_two_wrong h = absurd (cc (h.1))
+
+pub pipe_full_at_depth_two_after_one_wrong :
+    ¬ IsAllowed (setting_of torrent_many_blocks 1 (rules 2 1)) (reverse (take 4 depth_two)) pipe_full_at_depth_two_after_one
+unfolding IsAllowed refusal answer next_answer arrived_answer settled_answer joined late shows is_open outstanding asked due kept had sha1 first_words schedule rounds compress hash_after digest_bytes
+pipe_full_at_depth_two_after_one_wrong h = absurd (cc (h.1.1))
+
+pub pipe_full_at_five_though_deep_wrong :
+    ¬ IsAllowed (setting_of torrent_many_blocks 1 (rules 64 1)) (reverse (take 8 deep_pipe)) pipe_full_at_five_though_deep
+unfolding IsAllowed refusal answer next_answer arrived_answer settled_answer joined late shows is_open outstanding asked due kept had sha1 first_words schedule rounds compress hash_after digest_bytes
+pipe_full_at_five_though_deep_wrong h = absurd (cc (h.1.1))
+
+pub first_piece_at_random_though_none_is_wrong :
+    ¬ IsAllowed (setting_of torrent_short_last 2 (rules 5 0)) (reverse (take 5 rarest_from_the_start)) first_piece_at_random_though_none_is
+unfolding IsAllowed refusal answer next_answer arrived_answer settled_answer joined late shows is_open outstanding asked due kept had sha1 first_words schedule rounds compress hash_after digest_bytes
+first_piece_at_random_though_none_is_wrong h = not_requested torrent_short_last _ _ refl h.1
+
+pub third_piece_at_random_wrong :
+    ¬ IsAllowed (setting_of torrent_four_pieces 2 (rules 5 2)) (reverse (take 11 rarest_after_two_pieces)) third_piece_at_random
+unfolding IsAllowed refusal answer next_answer arrived_answer settled_answer joined late shows is_open outstanding asked due kept had sha1 first_words schedule rounds compress hash_after digest_bytes
+third_piece_at_random_wrong h = not_requested torrent_four_pieces _ _ refl h.1
