@@ -601,6 +601,105 @@ pub const RAREST_AFTER_TWO_PIECES: Example = Example {
     ],
 };
 
+pub const WANTS: Example = Example {
+    piece_length: 3,
+    total: 7,
+    hashes: &[ABC, ABC, A],
+    workers: 2,
+    rules: Rules { depth: 5, random: 1 },
+    steps: &[
+        Step(1, Want(&[0x40], 3), Is(Quiet)),
+        Step(0, Join, Is(Joined)),
+        Step(0, Bits(&[0xe0], 3), Is(Noted(true))),
+        Step(0, Unchoke, Is(Quiet)),
+        Step(0, Next(0), Request(1, 0, 3)),
+        Step(0, Next(0), Is(Idle)),
+        Step(0, Want(&[0xa0], 3), Is(Quiet)),
+        Step(0, Next(0), Request(0, 0, 3)),
+        Step(0, Want(&[0x00], 3), Is(Quiet)),
+        Step(0, Next(0), Is(NothingLeft)),
+        Step(0, Arrived(1, 0, &[0x61, 0x62, 0x63]), Is(Completed)),
+        Step(0, Settle(1, &[0x61, 0x62, 0x63]), Is(Had)),
+        Step(0, Want(&[0x40], 3), Is(Quiet)),
+        Step(0, Have(2), Is(Noted(false))),
+        Step(1, Want(&[0x00], 4), Is(Refused(WrongCount))),
+    ],
+    wrong: &[
+        (5, Step(0, Next(0), Request(0, 0, 3))),
+        (9, Step(0, Next(0), Request(2, 0, 1))),
+        (9, Step(0, Next(0), Is(Idle))),
+        (13, Step(0, Have(2), Is(Noted(true)))),
+        (0, Step(1, Want(&[0x40], 3), Is(Refused(NotJoined)))),
+        (14, Step(1, Want(&[0x00], 4), Is(Quiet))),
+    ],
+};
+
+pub const ENDGAME_OF_THE_WANTED: Example = Example {
+    piece_length: 3,
+    total: 6,
+    hashes: &[ABC, ABC],
+    workers: 2,
+    rules: Rules { depth: 5, random: 1 },
+    steps: &[
+        Step(0, Join, Is(Joined)),
+        Step(0, Bits(&[0xc0], 2), Is(Noted(true))),
+        Step(0, Unchoke, Is(Quiet)),
+        Step(1, Join, Is(Joined)),
+        Step(1, Bits(&[0xc0], 2), Is(Noted(true))),
+        Step(1, Unchoke, Is(Quiet)),
+        Step(0, Next(0), Request(0, 0, 3)),
+        Step(1, Want(&[0x80], 2), Is(Quiet)),
+        Step(1, Next(0), Request(0, 0, 3)),
+        Step(1, Want(&[0xc0], 2), Is(Quiet)),
+        Step(0, Next(0), Request(1, 0, 3)),
+    ],
+    wrong: &[
+        (8, Step(1, Next(0), Is(Idle))),
+    ],
+};
+
+pub const WANT_BEFORE_THE_BITS: Example = Example {
+    piece_length: 3,
+    total: 7,
+    hashes: &[ABC, ABC, A],
+    workers: 1,
+    rules: Rules { depth: 5, random: 1 },
+    steps: &[
+        Step(0, Join, Is(Joined)),
+        Step(0, Want(&[0x40], 3), Is(Quiet)),
+        Step(0, Bits(&[0xe0], 3), Is(Noted(true))),
+    ],
+    wrong: &[
+        (2, Step(0, Bits(&[0xe0], 3), Is(Refused(LateBits)))),
+    ],
+};
+
+pub const ASKED_STAYS_ASKED: Example = Example {
+    piece_length: 3,
+    total: 6,
+    hashes: &[ABC, ABC],
+    workers: 2,
+    rules: Rules { depth: 5, random: 1 },
+    steps: &[
+        Step(0, Join, Is(Joined)),
+        Step(0, Bits(&[0xc0], 2), Is(Noted(true))),
+        Step(0, Unchoke, Is(Quiet)),
+        Step(1, Join, Is(Joined)),
+        Step(1, Bits(&[0xc0], 2), Is(Noted(true))),
+        Step(1, Unchoke, Is(Quiet)),
+        Step(0, Next(0), Request(0, 0, 3)),
+        Step(0, Want(&[0x40], 2), Is(Quiet)),
+        Step(0, Next(0), Request(1, 0, 3)),
+        Step(0, Want(&[0xc0], 2), Is(Quiet)),
+        Step(1, Next(0), Request(0, 0, 3)),
+        Step(0, Arrived(0, 0, &[0x61, 0x62, 0x63]), Is(Completed)),
+        Step(1, Next(0), Cancel(0, 0, 3)),
+    ],
+    wrong: &[
+        (10, Step(0, Next(0), Request(0, 0, 3))),
+    ],
+};
+
 /// All of them.
 pub const EXAMPLES: &[Example] = &[
     FIRST_REQUEST,
@@ -629,4 +728,8 @@ pub const EXAMPLES: &[Example] = &[
     RAREST_FROM_THE_START,
     SECOND_PIECE_AT_RANDOM,
     RAREST_AFTER_TWO_PIECES,
+    WANTS,
+    ENDGAME_OF_THE_WANTED,
+    WANT_BEFORE_THE_BITS,
+    ASKED_STAYS_ASKED,
 ];
