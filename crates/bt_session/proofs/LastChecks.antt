@@ -111,14 +111,6 @@ pub finishes_from : (count worker : ℕ) (first mid last : DeskState) (short : B
 finishes_from count worker first mid last short above rest finishes =
     subst (λ (calls : Calls). Finishes worker calls short last) (rest.calls worker above) finishes
 
--- the empty desk is fresh
-pub fresh_empty : (count : ℕ) (desk : DeskState) → desk.history ≡ [] → IsFresh count desk
-unfolding had
-fresh_empty count desk empty = record {
-  uncalled = λ worker. λ within. ap (λ (h : History). calls_in h worker) empty;
-  none_had = λ piece. ap (λ (h : History). had h piece) empty;
-}
-
 -- a desk where a worker called nothing, and no piece is had, is to its session what an empty one is
 own_fresh : (desk : DeskState) (worker : ℕ) (told : List Bool) → calls_in desk.history worker ≡ [] →
     ((piece : ℕ) → had desk.history piece ≡ false) →

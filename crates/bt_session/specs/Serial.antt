@@ -1,6 +1,8 @@
 -- Several streams' sessions at one desk: what each of them sees there, and how it ended.
-use Rattle.std.specs.Prelude.{◌≡◌, ◌≤◌, ◌<◌, ℕ, Bool, true, false, List, [], ◌&&◌, nat_lt, length, replicate, slice_index_or, Option, Result, Ok, Err}
+use Rattle.std.specs.Prelude.{◌≡◌, ◌≤◌, ◌<◌, ℕ, Bool, true, false, List, [], ◌∷◌, ◌&&◌, nat_lt, length, replicate, slice_index_or, Option, Some, None, Result, Ok, Err}
 use Rattle.bt_meta.specs.Layout.{piece_count}
+use Rattle.bt_history.specs.declared.call.Reply.TheVariants as replies
+use Rattle.bt_history.specs.declared.mark.CallMark.TheVariants as marks
 use Rattle.bt_history.specs.Pieces.{had}
 use Rattle.bt_history.specs.Setting.{Setting}
 use Rattle.bt_picker.specs.Checks.{FinishedBelow, waits}
@@ -113,6 +115,11 @@ pub record Ended (outcome : Result End SessionFault) (terms : TermsState) (seed 
 abbrev pub EachEnded : {X : Type 0} → (X → StreamRecord) → TermsState → ℕ → List X → DeskState → List X → List (Result End SessionFault) → Type 0
 EachEnded {X} record_of terms seed streams desk streams' ends = (i : ℕ) (stream : X) (end : Result End SessionFault) → i < length streams →
     Ended (slice_index_or ends i end) terms seed i (record_of (slice_index_or streams i stream)) desk (record_of (slice_index_or streams' i stream))
+
+-- the calls that the last worker makes before the first round: which pieces are wanted, if that is told
+abbrev pub opening_of : Option (List Bool) → Calls
+opening_of None = []
+opening_of (Some flags) = (marks.Want, replies.Quiet) ∷ []
 
 -- A worker made these calls before all sessions had ended, then the last checks, and no other call: each piece that waited for a check was
 -- settled, the least first, or, where memory ran out, those below one that still waits.

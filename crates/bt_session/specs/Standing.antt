@@ -1,7 +1,8 @@
 -- How a session stands that takes its turns among others. Only contracts within the crate cite this module.
 use Rattle.std.specs.Prelude.{◌≡◌, ◌≢◌, ◌≤◌, ◌<◌, ℕ, Bool, true, false, List, [], All, length, replicate, slice_index_or, suc, Option, Some, None, Result, Ok, Err}
 use Rattle.bt_meta.specs.Layout.{piece_count}
-use Rattle.bt_history.specs.Pieces.{had}
+use Rattle.bt_history.specs.Peers.{flag}
+use Rattle.bt_history.specs.Pieces.{chosen, had}
 use Rattle.bt_picker.specs.Positions.{DeskState}
 use Rattle.bt_session.specs.declared.fault.End.{End}
 use Rattle.bt_session.specs.declared.fault.SessionFault.{SessionFault}
@@ -10,7 +11,7 @@ use Rattle.rand_core.specs.Stream.{Stream as Words}
 use Rattle.bt_session.specs.Conduct.{Calls, Conducts, DrawsWords, answers_of, generator_of}
 use Rattle.bt_session.specs.Desks.{calls_in}
 use Rattle.bt_session.specs.Hearing.{SourceState, most_reads}
-use Rattle.bt_session.specs.Serial.{StreamRecord, DevicesAfter, EndsAs, around, had_at, source_of}
+use Rattle.bt_session.specs.Serial.{StreamRecord, DevicesAfter, EndsAs, around, had_at, opening_of, source_of}
 use Rattle.bt_session.specs.Sessions.{SessionState, Running, begun, to_hear}
 use Rattle.bt_session.specs.Terms.{TermsState, pieces_of}
 use Rattle.bt_session.specs.Turning.{Surroundings}
@@ -95,6 +96,12 @@ HasEnded seat = seat.session.outcome ≢ None
 pub record IsFresh (count : ℕ) (desk : DeskState) : Type 0 where
   pub uncalled : (worker : ℕ) → worker < count → calls_in desk.history worker ≡ []
   pub none_had : (piece : ℕ) → had desk.history piece ≡ false
+
+-- a worker told these wanted pieces, and nothing else was called
+pub record HasOpened (worker : ℕ) (flags : List Bool) (desk : DeskState) : Type 0 where
+  pub fresh : IsFresh worker desk
+  pub opened : calls_in desk.history worker ≡ opening_of (Some flags)
+  pub chosen : (piece : ℕ) → chosen desk.history piece ≡ flag flags piece
 
 -- a worker's seat before its first turn
 pub record IsNew (terms : TermsState) (seed worker : ℕ) (seat : Seat) : Type 0 where

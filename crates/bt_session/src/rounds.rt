@@ -1,12 +1,15 @@
 //! Several recorded peers at one desk, in one thread.
 
-ghost use Rattle.std.specs.Prelude.{◌≡◌, ◌≤◌, ◌<◌, ◌+◌, [], ℕ, length, map, Some, true, false, sum_by, All, IfOk, OnErr, vec_capacity};
+ghost use Rattle.std.specs.Prelude.{◌≡◌, ◌≤◌, ◌<◌, ◌+◌, [], ℕ, length, map, Some, true, false, sum_by, All, IfOk, IfSome, OnErr, vec_capacity};
 ghost use Rattle.std.specs.List.{HoldsAt};
-ghost use Rattle.bt_history.specs.Setting.{usual};
+ghost use Rattle.bt_history.specs.Peers.{flag};
+ghost use Rattle.bt_history.specs.Pieces.{chosen};
+ghost use Rattle.bt_history.specs.Setting.{AreRules, setting_of};
+ghost use Rattle.bt_meta.specs.Layout.{piece_count};
 ghost use Rattle.bt_picker.specs.Checks.{waits};
 ghost use Rattle.bt_session.specs.Desks.{calls_in};
-ghost use Rattle.bt_session.specs.Serial.{EachEnded, Finishes, stream_record};
-ghost use Rattle.bt_session.specs.Standing.{AreNew, EachKeeps, Fit, HasEnded, IsFresh, IsNew, LeavesOthers, LeavesRest, left_of};
+ghost use Rattle.bt_session.specs.Serial.{EachEnded, Finishes, opening_of, stream_record};
+ghost use Rattle.bt_session.specs.Standing.{AreNew, EachKeeps, Fit, HasEnded, HasOpened, IsFresh, IsNew, LeavesOthers, LeavesRest, left_of};
 ghost use Rattle.bt_session.specs.Terms.{TermsState, terms_of};
 
 use crate::fault::{End, SessionFault};
@@ -14,6 +17,7 @@ use crate::seat::{Seat, take_turn};
 use crate::session::Session;
 use crate::stream::{MOST_STREAMS, SerialRun, Stream};
 use bt_meta::{Bitfield, Sink, Source, Torrent};
+use bt_history::{Call, Rules};
 use bt_picker::Desk;
 use rand_pcg::Lcg64Xsh32;
 use std::alloc::{AllocError, Global};
@@ -185,19 +189,48 @@ fn play_out<R: Source, W: Sink>(
     last_checks(alloc, desk, streams.len() as u32)
 }
 
-/// The desk of a run with so many streams, and one more worker.
-#[tactic(auto, using(crate::proofs::LastChecks::fresh_empty))]
-fn open_desk(alloc: Global, torrent: Arc<Torrent>, count: u32) -> Result<Desk, AllocError>
-    requires { (1 ≤ count) × (count ≤ MOST_STREAMS) }
-    ensures setting { IfOk result (λ desk. desk.setting ≡ usual torrent.value.layout (count + 1)) }
-    ensures fresh { IfOk result (IsFresh count) }
-    ensures opened { IfOk result (λ desk. calls_in desk.history count ≡ []) }
+/// Tells at a new desk, as its first call, which pieces are wanted.
+#[tactic(auto, using(crate::proofs::Opened::opened_by))]
+fn tell_wanted(desk: &mut Desk, worker: u32, flags: Bitfield) -> Result<(), AllocError>
+    requires worker { worker < desk.old.setting.workers }
+    requires empty { desk.old.history ≡ [] }
+    requires flags { length flags ≡ piece_count desk.old.setting.torrent }
+    ensures opened { OnOk result (HasOpened worker flags desk.new) }
+    ensures setting { desk.new.setting ≡ desk.old.setting }
 {
-    Desk::new(alloc, torrent, count + 1)
+    desk.call(worker, Call::Want(flags))?;
+    Ok(())
+}
+
+/// The desk of a run with so many streams, and one more worker, which tells the wanted pieces.
+#[tactic(auto, using(crate::proofs::Opened::fresh_empty))]
+fn open_desk(
+    alloc: Global,
+    torrent: Arc<Torrent>,
+    count: u32,
+    want: Option<Bitfield>,
+    rules: Rules,
+) -> Result<Desk, AllocError>
+    requires count { (1 ≤ count) × (count ≤ MOST_STREAMS) }
+    requires rules { AreRules torrent.value.layout rules }
+    requires want { IfSome want (λ flags. length flags ≡ piece_count torrent.value.layout) }
+    ensures setting { IfOk result (λ desk. desk.setting ≡ setting_of torrent.value.layout (count + 1) rules) }
+    ensures fresh { IfOk result (IsFresh count) }
+    ensures opened { IfOk result (λ desk. calls_in desk.history count ≡ opening_of want) }
+    ensures chosen { IfOk result (λ desk. IfSome want (λ flags. (piece : ℕ) → chosen desk.history piece ≡ flag flags piece)) }
+{
+    let mut desk = Desk::new(alloc, torrent, count + 1, rules)?;
+    if let Some(flags) = want {
+        tell_wanted(&mut desk, count, flags)?;
+    }
+    Ok(desk)
 }
 
 /// Sessions with recorded peers at one desk, in one thread. Worker `i` speaks for stream `i`, with the words of the generator `i` of the
 /// seed. In rounds each session that hasn't ended takes a turn, in the order of the streams; one more worker makes the last checks.
+///
+/// Before the first round that worker tells which pieces are wanted, if `want` is given; else each piece is. The rules are those of the
+/// desk, and each session asks for as many blocks at a time as their depth says.
 ///
 /// The memory that this takes itself is taken before the first turn: after want of it nothing was read or written.
 pub fn serial<R: Source, W: Sink>(
@@ -205,23 +238,27 @@ pub fn serial<R: Source, W: Sink>(
     torrent: Arc<Torrent>,
     streams: &mut [Stream<R, W>],
     seed: u64,
+    want: Option<Bitfield>,
+    rules: Rules,
 ) -> Result<SerialRun, AllocError>
-    requires { (1 ≤ length streams.old) × (length streams.old ≤ MOST_STREAMS) }
-    ensures setting { IfOk result (λ run. run.desk.setting ≡ usual torrent.value.layout (length streams.old + 1)) }
+    requires streams { (1 ≤ length streams.old) × (length streams.old ≤ MOST_STREAMS) }
+    requires rules { AreRules torrent.value.layout rules }
+    requires want { IfSome want (λ flags. length flags ≡ piece_count torrent.value.layout) }
+    ensures setting { IfOk result (λ run. run.desk.setting ≡ setting_of torrent.value.layout (length streams.old + 1) rules) }
     ensures ends { IfOk result (λ run. length run.ends.items ≡ length streams.old) }
     // Each session ended as its stream says; what it saw of the desk is what the desk's journal has of its worker, and the words of its
     // Next calls are those of the generator of the seed and its number.
     ensures sessions { IfOk result (λ run. EachEnded (stream_record R.left R.ended R.failed R.asked W.written W.failed)
-        (terms_of torrent.value 5) seed streams.old run.desk streams.new run.ends.items) }
-    // The last worker did nothing but the last checks.
-    ensures finishes { IfOk result (λ run. Finishes (length streams.old) [] run.short run.desk) }
+        (terms_of torrent.value rules.depth) seed streams.old run.desk streams.new run.ends.items) }
+    // The last worker told what is wanted, if that was given, before the first round, and did nothing else but the last checks.
+    ensures finishes { IfOk result (λ run. Finishes (length streams.old) (opening_of want) run.short run.desk) }
     ensures none_waits { IfOk result (λ run. run.short ≡ false → (piece : ℕ) →
         waits run.desk.setting run.desk.history piece ≡ false) }
     ensures err { OnErr result (streams.new ≡ streams.old) }
 {
     let count = streams.len() as u32;
-    let mut desk = open_desk(alloc, torrent.clone()?, count)?;
-    let mut seats = new_seats(alloc, &torrent, count, seed, 5)?;
+    let mut desk = open_desk(alloc, torrent.clone()?, count, want, rules)?;
+    let mut seats = new_seats(alloc, &torrent, count, seed, rules.depth)?;
     let mut ends = Vec::with_capacity(alloc, seats.len())?;
     let short = play_out(alloc, &mut desk, &mut seats, streams, &mut ends);
     Ok(SerialRun { ends, desk, short })
