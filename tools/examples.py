@@ -106,6 +106,16 @@ EXAMPLES = {  # name: torrent, workers, lines
     "rarest_after_two_pieces": ("four_pieces", 2, enters(0, "f0") + [
         "1 join = joined", "1 bits 30 = noted yes", "0 next 0 = request 0 0 3"] + checked(0, 0, "616263") + [
         "0 next 2 = request 2 0 3"] + checked(0, 2, "616263") + ["0 next 3 = request 1 0 3"]),
+    "wants": ("short_last", 2, ["1 want 40 = quiet"] + enters(0, "e0") + [
+        "0 next 0 = request 1 0 3", "0 next 0 = idle", "0 want a0 = quiet", "0 next 0 = request 0 0 3", "0 want 00 = quiet",
+        "0 next 0 = nothing"] + checked(0, 1, "616263") + ["0 want 40 = quiet", "0 have 2 = noted no",
+        "1 wants 0000 = refused WrongCount"]),
+    "endgame_of_the_wanted": ("two_pieces", 2, enters(0, "c0") + enters(1, "c0") + [
+        "0 next 0 = request 0 0 3", "1 want 80 = quiet", "1 next 0 = request 0 0 3", "1 want c0 = quiet", "0 next 0 = request 1 0 3"]),
+    "want_before_the_bits": ("short_last", 1, ["0 join = joined", "0 want 40 = quiet", "0 bits e0 = noted yes"]),
+    "asked_stays_asked": ("two_pieces", 2, enters(0, "c0") + enters(1, "c0") + [
+        "0 next 0 = request 0 0 3", "0 want 40 = quiet", "0 next 0 = request 1 0 3", "0 want c0 = quiet", "1 next 0 = request 0 0 3",
+        "0 block 0 0 616263 = completed", "1 next 0 = cancel 0 0 3"]),
 }
 
 WRONG = {  # name: example, how many entries of it came before, the wrong entry
@@ -131,6 +141,22 @@ WRONG = {  # name: example, how many entries of it came before, the wrong entry
     "pipe_full_at_five_though_deep": ("deep_pipe", 8, "0 next 0 = pipefull"),
     "first_piece_at_random_though_none_is": ("rarest_from_the_start", 5, "0 next 1 = request 1 0 3"),
     "third_piece_at_random": ("rarest_after_two_pieces", 11, "0 next 3 = request 3 0 3"),
+    "unwanted_block_asked": ("wants", 5, "0 next 0 = request 0 0 3"),
+    "older_want_still_counts": ("wants", 9, "0 next 0 = request 2 0 1"),
+    "idle_though_nothing_is_wanted": ("wants", 9, "0 next 0 = idle"),
+    "unwanted_piece_noted": ("wants", 13, "0 have 2 = noted yes"),
+    "want_of_a_stranger_refused": ("wants", 0, "1 want 40 = refused NotJoined"),
+    "want_of_a_wrong_count_taken": ("wants", 14, "1 wants 0000 = quiet"),
+    "unwanted_block_keeps_endgame_off": ("endgame_of_the_wanted", 8, "1 next 0 = idle"),
+    "bits_late_by_a_want": ("want_before_the_bits", 2, "0 bits e0 = refused LateBits"),
+    "unwanted_block_freed": ("asked_stays_asked", 10, "0 next 0 = request 0 0 3"),
+}
+
+WHERE_BLOCKS_MAY_BE_NAMED = {  # wrong entries in whose place the rules allow a request or a cancel; elsewhere they allow one reply alone
+    "idle_though_a_block_is_usable", "second_piece_started_while_a_begun_one_has_a_usable_block", "availability_counts_a_peer_that_left",
+    "commoner_piece_started", "idle_though_a_cancel_is_due", "pipe_full_after_four", "pipe_full_at_depth_two_after_one",
+    "pipe_full_at_five_though_deep", "first_piece_at_random_though_none_is", "third_piece_at_random",
+    "unwanted_block_keeps_endgame_off",
 }
 
 WRONG_IN_AUDITS = {  # example: how many entries of it came before, the wrong entry; for the examples that have none above
@@ -176,6 +202,8 @@ def action(words, pieces):
     match words:
         case ["bits", text]: return f"(Bits {flags(text, pieces)})"
         case ["flags", text]: return f"(Bits {flags(text, len(text))})"
+        case ["want", text]: return f"(Want {flags(text, pieces)})"
+        case ["wants", text]: return f"(Want {flags(text, len(text))})"
         case ["have", piece]: return f"(Have {piece})"
         case ["next", word]: return f"(Next {word})"
         case ["block", piece, begin, text]: return f"(Arrived {piece} {begin} {in_bytes(text)})"
@@ -248,14 +276,12 @@ def wrapped(term):
 
 
 def wrong(name, torrent, line):
-    if name in ("request_of_a_wrong_length",):
+    """Why a wrong entry is not allowed."""
+    if name == "request_of_a_wrong_length":
         return f"not_a_block torrent_{torrent} _ _ refl h.1"
-    if "request" in line and name not in ("sixth_request", "third_request_at_depth_two", "second_peer_asked_while_a_block_is_unasked", "second_peer_asked_before_endgame"):
-        return f"not_requested torrent_{torrent} _ _ refl h.1"
-    if name in ("idle_though_a_block_is_usable", "pipe_full_after_four", "pipe_full_at_depth_two_after_one", "pipe_full_at_five_though_deep",
-                "idle_though_a_cancel_is_due"):
-        return "absurd (cc (h.1.1))"
-    return "absurd (cc (h.1))"
+    if name not in WHERE_BLOCKS_MAY_BE_NAMED:
+        return "absurd (cc (h.1))"
+    return f"not_requested torrent_{torrent} _ _ refl h.1" if "request" in line else "absurd (cc (h.1.1))"
 
 
 def rust():
@@ -288,6 +314,8 @@ def rust_call(words, pieces):
     match words:
         case ["bits", text]: return f"Bits(&[0x{text}], {pieces})"
         case ["flags", text]: return f"Bits(&[0x00], {len(text)})"
+        case ["want", text]: return f"Want(&[0x{text}], {pieces})"
+        case ["wants", text]: return f"Want(&[0x00], {len(text)})"
         case ["have", piece]: return f"Have({piece})"
         case ["next", word]: return f"Next({word})"
         case ["block", piece, begin, text]: return f"Arrived({piece}, {begin}, {rust_bytes(text)})"

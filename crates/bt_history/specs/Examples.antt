@@ -6,7 +6,7 @@ use Rattle.bt_history.specs.declared.call.Reason.TheVariants.{NotJoined, Already
 use Rattle.bt_history.specs.declared.call.Reply.{Reply}
 use Rattle.bt_history.specs.declared.call.Reply.TheVariants.{Joined, Noted, Quiet, Cancel, Request, Choked, PipeFull, Idle, NothingLeft, Stored, Completed, Dropped, Had, Failed, Refused}
 use Rattle.bt_history.specs.declared.event.Action.{Action}
-use Rattle.bt_history.specs.declared.event.Action.TheVariants.{Join, Bits, Have, Choke, Unchoke, Next, Arrived, Settle, Leave}
+use Rattle.bt_history.specs.declared.event.Action.TheVariants.{Join, Bits, Have, Choke, Unchoke, Next, Arrived, Settle, Leave, Want}
 use Rattle.bt_history.specs.declared.event.Event.{Event}
 use Rattle.bt_history.specs.declared.rules.Rules.{Rules}
 
@@ -392,6 +392,64 @@ rarest_after_two_pieces =
     ∷ entry 0 (Next 3) (Request (block_of 1 0 3))
     ∷ []
 
+abbrev pub wants : List Event
+wants =
+    entry 1 (Want (false ∷ true ∷ false ∷ [])) Quiet
+    ∷ entry 0 Join Joined
+    ∷ entry 0 (Bits (true ∷ true ∷ true ∷ [])) (Noted true)
+    ∷ entry 0 Unchoke Quiet
+    ∷ entry 0 (Next 0) (Request (block_of 1 0 3))
+    ∷ entry 0 (Next 0) Idle
+    ∷ entry 0 (Want (true ∷ false ∷ true ∷ [])) Quiet
+    ∷ entry 0 (Next 0) (Request (block_of 0 0 3))
+    ∷ entry 0 (Want (false ∷ false ∷ false ∷ [])) Quiet
+    ∷ entry 0 (Next 0) NothingLeft
+    ∷ entry 0 (Arrived 1 0 (97 ∷ 98 ∷ 99 ∷ [])) Completed
+    ∷ entry 0 (Settle 1 (97 ∷ 98 ∷ 99 ∷ [])) Had
+    ∷ entry 0 (Want (false ∷ true ∷ false ∷ [])) Quiet
+    ∷ entry 0 (Have 2) (Noted false)
+    ∷ entry 1 (Want (false ∷ false ∷ false ∷ false ∷ [])) (Refused WrongCount)
+    ∷ []
+
+abbrev pub endgame_of_the_wanted : List Event
+endgame_of_the_wanted =
+    entry 0 Join Joined
+    ∷ entry 0 (Bits (true ∷ true ∷ [])) (Noted true)
+    ∷ entry 0 Unchoke Quiet
+    ∷ entry 1 Join Joined
+    ∷ entry 1 (Bits (true ∷ true ∷ [])) (Noted true)
+    ∷ entry 1 Unchoke Quiet
+    ∷ entry 0 (Next 0) (Request (block_of 0 0 3))
+    ∷ entry 1 (Want (true ∷ false ∷ [])) Quiet
+    ∷ entry 1 (Next 0) (Request (block_of 0 0 3))
+    ∷ entry 1 (Want (true ∷ true ∷ [])) Quiet
+    ∷ entry 0 (Next 0) (Request (block_of 1 0 3))
+    ∷ []
+
+abbrev pub want_before_the_bits : List Event
+want_before_the_bits =
+    entry 0 Join Joined
+    ∷ entry 0 (Want (false ∷ true ∷ false ∷ [])) Quiet
+    ∷ entry 0 (Bits (true ∷ true ∷ true ∷ [])) (Noted true)
+    ∷ []
+
+abbrev pub asked_stays_asked : List Event
+asked_stays_asked =
+    entry 0 Join Joined
+    ∷ entry 0 (Bits (true ∷ true ∷ [])) (Noted true)
+    ∷ entry 0 Unchoke Quiet
+    ∷ entry 1 Join Joined
+    ∷ entry 1 (Bits (true ∷ true ∷ [])) (Noted true)
+    ∷ entry 1 Unchoke Quiet
+    ∷ entry 0 (Next 0) (Request (block_of 0 0 3))
+    ∷ entry 0 (Want (false ∷ true ∷ [])) Quiet
+    ∷ entry 0 (Next 0) (Request (block_of 1 0 3))
+    ∷ entry 0 (Want (true ∷ true ∷ [])) Quiet
+    ∷ entry 1 (Next 0) (Request (block_of 0 0 3))
+    ∷ entry 0 (Arrived 0 0 (97 ∷ 98 ∷ 99 ∷ [])) Completed
+    ∷ entry 1 (Next 0) (Cancel (block_of 0 0 3))
+    ∷ []
+
 abbrev pub idle_though_a_block_is_usable : Event
 idle_though_a_block_is_usable = entry 0 (Next 5) Idle
 
@@ -457,3 +515,30 @@ first_piece_at_random_though_none_is = entry 0 (Next 1) (Request (block_of 1 0 3
 
 abbrev pub third_piece_at_random : Event
 third_piece_at_random = entry 0 (Next 3) (Request (block_of 3 0 3))
+
+abbrev pub unwanted_block_asked : Event
+unwanted_block_asked = entry 0 (Next 0) (Request (block_of 0 0 3))
+
+abbrev pub older_want_still_counts : Event
+older_want_still_counts = entry 0 (Next 0) (Request (block_of 2 0 1))
+
+abbrev pub idle_though_nothing_is_wanted : Event
+idle_though_nothing_is_wanted = entry 0 (Next 0) Idle
+
+abbrev pub unwanted_piece_noted : Event
+unwanted_piece_noted = entry 0 (Have 2) (Noted true)
+
+abbrev pub want_of_a_stranger_refused : Event
+want_of_a_stranger_refused = entry 1 (Want (false ∷ true ∷ false ∷ [])) (Refused NotJoined)
+
+abbrev pub want_of_a_wrong_count_taken : Event
+want_of_a_wrong_count_taken = entry 1 (Want (false ∷ false ∷ false ∷ false ∷ [])) Quiet
+
+abbrev pub unwanted_block_keeps_endgame_off : Event
+unwanted_block_keeps_endgame_off = entry 1 (Next 0) Idle
+
+abbrev pub bits_late_by_a_want : Event
+bits_late_by_a_want = entry 0 (Bits (true ∷ true ∷ true ∷ [])) (Refused LateBits)
+
+abbrev pub unwanted_block_freed : Event
+unwanted_block_freed = entry 0 (Next 0) (Request (block_of 0 0 3))

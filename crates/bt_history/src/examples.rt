@@ -2,7 +2,7 @@
 ghost use Rattle.std.specs.Prelude.{reverse, take};
 ghost use Rattle.bt_history.specs.Setting.{setting_of, usual_rules};
 ghost use Rattle.bt_history.specs.Legal.{IsLegal, IsAllowed};
-ghost use Rattle.bt_history.specs.Examples.{rules, torrent_short_last, torrent_one_piece, torrent_two_pieces, torrent_two_blocks, torrent_many_blocks, torrent_four_pieces, first_request, another_first_request, one_peer_to_the_end, rarest_first, full_pipe, choke_frees, cancel_in_endgame, no_double_before_endgame, double_outlasts_endgame, failed_check, failed_check_in_endgame, held_block_dropped, block_by_block, refusals, wrong_count, stale_verdict, random_first_piece, rare_first_piece_too, strict_priority, gone_peer_not_counted, rejoin_in_endgame, depth_two, deep_pipe, rarest_from_the_start, second_piece_at_random, rarest_after_two_pieces, idle_though_a_block_is_usable, second_piece_started_while_a_begun_one_has_a_usable_block, availability_counts_a_peer_that_left, commoner_piece_started, second_peer_asked_while_a_block_is_unasked, second_peer_asked_before_endgame, had_with_another_hash, replaced_bytes_settled, replaced_bytes_failed, idle_though_a_cancel_is_due, sixth_request, pipe_full_after_four, pipe_full_though_the_choke_freed_it, noted_from_before_the_bits, block_stored_twice, late_bits_noted, request_of_a_wrong_length, third_request_at_depth_two, pipe_full_at_depth_two_after_one, pipe_full_at_five_though_deep, first_piece_at_random_though_none_is, third_piece_at_random};
+ghost use Rattle.bt_history.specs.Examples.{rules, torrent_short_last, torrent_one_piece, torrent_two_pieces, torrent_two_blocks, torrent_many_blocks, torrent_four_pieces, first_request, another_first_request, one_peer_to_the_end, rarest_first, full_pipe, choke_frees, cancel_in_endgame, no_double_before_endgame, double_outlasts_endgame, failed_check, failed_check_in_endgame, held_block_dropped, block_by_block, refusals, wrong_count, stale_verdict, random_first_piece, rare_first_piece_too, strict_priority, gone_peer_not_counted, rejoin_in_endgame, depth_two, deep_pipe, rarest_from_the_start, second_piece_at_random, rarest_after_two_pieces, wants, endgame_of_the_wanted, want_before_the_bits, asked_stays_asked, idle_though_a_block_is_usable, second_piece_started_while_a_begun_one_has_a_usable_block, availability_counts_a_peer_that_left, commoner_piece_started, second_peer_asked_while_a_block_is_unasked, second_peer_asked_before_endgame, had_with_another_hash, replaced_bytes_settled, replaced_bytes_failed, idle_though_a_cancel_is_due, sixth_request, pipe_full_after_four, pipe_full_though_the_choke_freed_it, noted_from_before_the_bits, block_stored_twice, late_bits_noted, request_of_a_wrong_length, third_request_at_depth_two, pipe_full_at_depth_two_after_one, pipe_full_at_five_though_deep, first_piece_at_random_though_none_is, third_piece_at_random, unwanted_block_asked, older_want_still_counts, idle_though_nothing_is_wanted, unwanted_piece_noted, want_of_a_stranger_refused, want_of_a_wrong_count_taken, unwanted_block_keeps_endgame_off, bits_late_by_a_want, unwanted_block_freed};
 
 /// The worked examples are legal histories.
 pub fn worked_examples()
@@ -32,6 +32,10 @@ pub fn worked_examples()
     ensures rarest_from_the_start { IsLegal (setting_of torrent_short_last 2 (rules 5 0)) (reverse rarest_from_the_start) }
     ensures second_piece_at_random { IsLegal (setting_of torrent_short_last 2 (rules 5 2)) (reverse second_piece_at_random) }
     ensures rarest_after_two_pieces { IsLegal (setting_of torrent_four_pieces 2 (rules 5 2)) (reverse rarest_after_two_pieces) }
+    ensures wants { IsLegal (setting_of torrent_short_last 2 usual_rules) (reverse wants) }
+    ensures endgame_of_the_wanted { IsLegal (setting_of torrent_two_pieces 2 usual_rules) (reverse endgame_of_the_wanted) }
+    ensures want_before_the_bits { IsLegal (setting_of torrent_short_last 1 usual_rules) (reverse want_before_the_bits) }
+    ensures asked_stays_asked { IsLegal (setting_of torrent_two_pieces 2 usual_rules) (reverse asked_stays_asked) }
 {}
 
 /// One wrong reply to the next call of a worked example isn't allowed, for each way to go wrong.
@@ -80,4 +84,22 @@ pub fn wrong_replies()
         (reverse (take 5 rarest_from_the_start)) first_piece_at_random_though_none_is }
     ensures third_piece_at_random { ¬ IsAllowed (setting_of torrent_four_pieces 2 (rules 5 2))
         (reverse (take 11 rarest_after_two_pieces)) third_piece_at_random }
+    ensures unwanted_block_asked { ¬ IsAllowed (setting_of torrent_short_last 2 usual_rules)
+        (reverse (take 5 wants)) unwanted_block_asked }
+    ensures older_want_still_counts { ¬ IsAllowed (setting_of torrent_short_last 2 usual_rules)
+        (reverse (take 9 wants)) older_want_still_counts }
+    ensures idle_though_nothing_is_wanted { ¬ IsAllowed (setting_of torrent_short_last 2 usual_rules)
+        (reverse (take 9 wants)) idle_though_nothing_is_wanted }
+    ensures unwanted_piece_noted { ¬ IsAllowed (setting_of torrent_short_last 2 usual_rules)
+        (reverse (take 13 wants)) unwanted_piece_noted }
+    ensures want_of_a_stranger_refused { ¬ IsAllowed (setting_of torrent_short_last 2 usual_rules)
+        (reverse (take 0 wants)) want_of_a_stranger_refused }
+    ensures want_of_a_wrong_count_taken { ¬ IsAllowed (setting_of torrent_short_last 2 usual_rules)
+        (reverse (take 14 wants)) want_of_a_wrong_count_taken }
+    ensures unwanted_block_keeps_endgame_off { ¬ IsAllowed (setting_of torrent_two_pieces 2 usual_rules)
+        (reverse (take 8 endgame_of_the_wanted)) unwanted_block_keeps_endgame_off }
+    ensures bits_late_by_a_want { ¬ IsAllowed (setting_of torrent_short_last 1 usual_rules)
+        (reverse (take 2 want_before_the_bits)) bits_late_by_a_want }
+    ensures unwanted_block_freed { ¬ IsAllowed (setting_of torrent_two_pieces 2 usual_rules)
+        (reverse (take 10 asked_stays_asked)) unwanted_block_freed }
 {}
