@@ -18,9 +18,9 @@ use std::marker::Model;
 use std::sync::Arc;
 
 /// A row for each worker's peer, by the worker's number, a row for each piece, by the piece's, and the newest Want, as a flag for each
-/// piece: what the picker answers from, so that
-/// it never reads the journal but for the bytes of held blocks. Nothing is ordered by rarity or by what is begun: such questions go over
-/// the rows. Beside the journal that they tell of the tables make a `Position`, which answers by the definitions.
+/// piece: what the picker answers from, so that it never reads the journal but for the bytes of held blocks. Nothing is ordered by
+/// rarity or by what is begun: such questions go over the rows. Beside the journal that they tell of the tables make a `Position`, which
+/// answers by the definitions.
 #[derive(Drop)]
 pub struct Tables {
     torrent: Arc<Torrent>,
