@@ -8,7 +8,8 @@ use Rattle.bt_history.specs.declared.call.Reply.TheVariants.{Quiet}
 use Rattle.bt_history.specs.declared.event.Action.TheVariants.{Want}
 use Rattle.bt_history.specs.declared.event.Event.{Event as Entry}
 use Rattle.bt_history.specs.History.{History}
-use Rattle.bt_history.specs.Legal.{Exactly, IsAllowed, Permits, answer, answer_unless, first_cause, refusal}
+use Rattle.bt_history.specs.Legal.{IsAllowed, Permits, answer, answer_unless, first_cause, refusal}
+use Rattle.bt_history.specs.Next.{Exactly}
 use Rattle.bt_history.specs.Peers.{flag}
 use Rattle.bt_history.specs.Pieces.{chosen, had}
 use Rattle.bt_history.specs.Setting.{Setting}
