@@ -90,7 +90,7 @@ fn one_stream(rt: HostRuntime) -> Result<(), Fail> {
         &mut streams,
         0,
         None,
-        Rules::usual(),
+        RULES,
     )?;
     assert_eq!(rt; run.ends.len(), 1);
     assert!(rt; run.ends[0] == Ok(End { messages: 3 }));
@@ -126,7 +126,7 @@ fn faults_of_a_stream(rt: HostRuntime) -> Result<(), Fail> {
             &mut streams,
             0,
             None,
-            Rules::usual(),
+            RULES,
         )?;
         assert!(rt; run.ends[0] == Err(fault));
         assert_eq!(rt; journal(rt.alloc(), &run)?.as_str(), calls);
@@ -149,7 +149,7 @@ fn two_streams_take_turns(rt: HostRuntime) -> Result<(), Fail> {
         &mut streams,
         5,
         None,
-        Rules::usual(),
+        RULES,
     )?;
     assert!(rt; run.ends[0] == Ok(End { messages: 3 }));
     assert!(rt; run.ends[1] == Ok(End { messages: 3 }));
@@ -188,7 +188,7 @@ fn a_fault_ends_one_session_alone(rt: HostRuntime) -> Result<(), Fail> {
         &mut streams,
         0,
         None,
-        Rules::usual(),
+        RULES,
     )?;
     assert!(rt; run.ends[0] == Err(SessionFault::WrongInfohash));
     assert!(rt; run.ends[1] == Err(SessionFault::Truncated));
@@ -208,7 +208,7 @@ fn words_come_from_the_seed(rt: HostRuntime) -> Result<(), Fail> {
         &mut streams,
         5,
         None,
-        Rules::usual(),
+        RULES,
     )?;
     for worker in 0..2u32 {
         let mut rng = Lcg64Xsh32::new(5, u64::from(worker));
