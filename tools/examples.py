@@ -336,6 +336,15 @@ def rust_step(line, torrent):
     return f"Step({call[0]}, {rust_call(call[1:], len(TORRENTS[torrent][2]))}, {rust_reply(said)})"
 
 
+def groups():
+    """The examples in lists, each small enough for one test's proof."""
+    wants = [name for name, (_, _, lines) in EXAMPLES.items() if any(" want" in line for line in lines)]
+    settings = [name for name in RULES if name not in wants]
+    usual = [name for name in EXAMPLES if name not in wants and name not in settings]
+    return [("Those by the usual rules.", "BY_USUAL_RULES", usual), ("Those by other rules.", "BY_OTHER_RULES", settings),
+            ("Those in which not all pieces are wanted.", "OF_WANTS", wants)]
+
+
 def audits():
     text = open("tools/audits_head.rt.txt").read()
     for name, (torrent, workers, lines) in EXAMPLES.items():
@@ -356,7 +365,8 @@ pub const {name.upper()}: Example = Example {{
 {"".join(f"        ({before}, {rust_step(line, torrent)}),{chr(10)}" for before, line in wrongs)}    ],
 }};
 """
-    text += "\n/// All of them.\npub const EXAMPLES: &[Example] = &[\n" + "".join(f"    {name.upper()},\n" for name in EXAMPLES) + "];\n"
+    for doc, listed, names in groups():
+        text += f"\n/// {doc}\npub const {listed}: &[Example] = &[\n" + "".join(f"    {name.upper()},\n" for name in names) + "];\n"
     open("crates/bt_picker/src/tests/examples.rt", "w").write(text)
 
 
