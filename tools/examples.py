@@ -18,7 +18,10 @@ TORRENTS = {  # name: piece length, total, hashes
     "two_pieces": (3, 6, [ABC, ABC]),
     "two_blocks": (32768, 65536, [ABC, ABC]),
     "many_blocks": (1000000, 1000000, [MILLION]),
+    "four_pieces": (3, 12, [ABC, ABC, ABC, ABC]),
 }
+
+USUAL = (5, 1)  # depth, random
 
 
 def enters(worker, bits):
@@ -29,8 +32,24 @@ def checked(worker, piece, hexadecimal, reply="had"):
     return [f"{worker} block {piece} 0 {hexadecimal} = completed", f"{worker} settle {piece} {hexadecimal} = {reply}"]
 
 
-FULL_PIPE = enters(0, "80") + [f"0 next 0 = request 0 {16384 * k} 16384" for k in range(5)] + ["0 next 0 = pipefull"]
+def blocks_asked(count):
+    return enters(0, "80") + [f"0 next 0 = request 0 {16384 * k} 16384" for k in range(count)]
+
+
+FULL_PIPE = blocks_asked(5) + ["0 next 0 = pipefull"]
 ENDGAME = enters(0, "80") + enters(1, "80") + ["0 next 0 = request 0 0 3", "1 next 0 = request 0 0 3"]
+
+RARE_FIRST = enters(0, "e0") + ["1 join = joined", "1 bits c0 = noted yes", "0 next 1 = request 2 0 1"]
+RAREST_FIRST = ["0 join = joined", "0 bits e0 = noted yes", "1 join = joined", "1 bits 40 = noted yes", "0 unchoke = quiet",
+                "0 next 2 = request 2 0 1"] + checked(0, 2, "61")
+
+RULES = {  # of the examples that don't go by the usual ones: depth, random
+    "depth_two": (2, 1),
+    "deep_pipe": (64, 1),
+    "rarest_from_the_start": (5, 0),
+    "second_piece_at_random": (5, 2),
+    "rarest_after_two_pieces": (5, 2),
+}
 
 EXAMPLES = {  # name: torrent, workers, lines
     "first_request": ("short_last", 1, enters(0, "e0") + ["0 next 5 = request 2 0 1"]),
@@ -38,9 +57,7 @@ EXAMPLES = {  # name: torrent, workers, lines
     "one_peer_to_the_end": ("short_last", 1, enters(0, "e0") + [
         "0 next 5 = request 2 0 1", "0 next 0 = request 0 0 3", "0 next 0 = request 1 0 3", "0 next 0 = idle"]
         + checked(0, 2, "61") + checked(0, 0, "616263") + checked(0, 1, "616263") + ["0 next 0 = nothing"]),
-    "rarest_first": ("short_last", 2, [
-        "0 join = joined", "0 bits e0 = noted yes", "1 join = joined", "1 bits 40 = noted yes", "0 unchoke = quiet",
-        "0 next 2 = request 2 0 1"] + checked(0, 2, "61") + ["0 next 1 = request 0 0 3"]),
+    "rarest_first": ("short_last", 2, RAREST_FIRST + ["0 next 1 = request 0 0 3"]),
     "full_pipe": ("many_blocks", 2, FULL_PIPE),
     "choke_frees": ("many_blocks", 2, FULL_PIPE + ["0 choke = quiet"] + enters(1, "80") + [
         "1 next 0 = request 0 0 16384", "0 next 0 = choked"]),
@@ -72,7 +89,7 @@ EXAMPLES = {  # name: torrent, workers, lines
         "0 block 0 0 616263 = completed", "0 settle 0 616264 = refused Stale", "0 settle 0 616263 = had",
         "0 settle 0 616263 = refused NotWaiting", "0 settle 9 61 = refused NoSuchPiece", "0 choke = quiet", "0 leave = quiet"]),
     "random_first_piece": ("short_last", 2, enters(0, "e0") + ["1 join = joined", "1 bits c0 = noted yes", "0 next 1 = request 1 0 3"]),
-    "rare_first_piece_too": ("short_last", 2, enters(0, "e0") + ["1 join = joined", "1 bits c0 = noted yes", "0 next 1 = request 2 0 1"]),
+    "rare_first_piece_too": ("short_last", 2, RARE_FIRST),
     "strict_priority": ("two_blocks", 1, enters(0, "c0") + [
         "0 next 0 = request 0 0 16384", "0 next 1 = request 0 16384 16384", "0 next 1 = request 1 0 16384"]),
     "gone_peer_not_counted": ("short_last", 3, [
@@ -82,6 +99,23 @@ EXAMPLES = {  # name: torrent, workers, lines
     "rejoin_in_endgame": ("one_piece", 2, ENDGAME + [
         "0 leave = quiet", "0 join = joined", "0 next 0 = choked"] + checked(1, 0, "616264", "failed") + [
         "0 bits 80 = noted yes", "0 unchoke = quiet", "0 next 0 = request 0 0 3"]),
+    "depth_two": ("many_blocks", 1, blocks_asked(2) + ["0 next 0 = pipefull"]),
+    "deep_pipe": ("many_blocks", 1, blocks_asked(8)),
+    "rarest_from_the_start": ("short_last", 2, RARE_FIRST),
+    "second_piece_at_random": ("short_last", 2, RAREST_FIRST + ["0 next 1 = request 1 0 3"]),
+    "rarest_after_two_pieces": ("four_pieces", 2, enters(0, "f0") + [
+        "1 join = joined", "1 bits 30 = noted yes", "0 next 0 = request 0 0 3"] + checked(0, 0, "616263") + [
+        "0 next 2 = request 2 0 3"] + checked(0, 2, "616263") + ["0 next 3 = request 1 0 3"]),
+    "wants": ("short_last", 2, ["1 want 40 = quiet"] + enters(0, "e0") + [
+        "0 next 0 = request 1 0 3", "0 next 0 = idle", "0 want a0 = quiet", "0 next 0 = request 0 0 3", "0 want 00 = quiet",
+        "0 next 0 = nothing"] + checked(0, 1, "616263") + ["0 want 40 = quiet", "0 have 2 = noted no",
+        "1 wants 0000 = refused WrongCount"]),
+    "endgame_of_the_wanted": ("two_pieces", 2, enters(0, "c0") + enters(1, "c0") + [
+        "0 next 0 = request 0 0 3", "1 want 80 = quiet", "1 next 0 = request 0 0 3", "1 want c0 = quiet", "0 next 0 = request 1 0 3"]),
+    "want_before_the_bits": ("short_last", 1, ["0 join = joined", "0 want 40 = quiet", "0 bits e0 = noted yes"]),
+    "asked_stays_asked": ("two_pieces", 2, enters(0, "c0") + enters(1, "c0") + [
+        "0 next 0 = request 0 0 3", "0 want 40 = quiet", "0 next 0 = request 1 0 3", "0 want c0 = quiet", "1 next 0 = request 0 0 3",
+        "0 block 0 0 616263 = completed", "1 next 0 = cancel 0 0 3"]),
 }
 
 WRONG = {  # name: example, how many entries of it came before, the wrong entry
@@ -102,6 +136,27 @@ WRONG = {  # name: example, how many entries of it came before, the wrong entry
     "block_stored_twice": ("held_block_dropped", 2, "0 block 2 0 61 = completed"),
     "late_bits_noted": ("held_block_dropped", 2, "0 bits e0 = noted yes"),
     "request_of_a_wrong_length": ("first_request", 3, "0 next 5 = request 2 0 3"),
+    "third_request_at_depth_two": ("depth_two", 5, "0 next 0 = request 0 32768 16384"),
+    "pipe_full_at_depth_two_after_one": ("depth_two", 4, "0 next 0 = pipefull"),
+    "pipe_full_at_five_though_deep": ("deep_pipe", 8, "0 next 0 = pipefull"),
+    "first_piece_at_random_though_none_is": ("rarest_from_the_start", 5, "0 next 1 = request 1 0 3"),
+    "third_piece_at_random": ("rarest_after_two_pieces", 11, "0 next 3 = request 3 0 3"),
+    "unwanted_block_asked": ("wants", 5, "0 next 0 = request 0 0 3"),
+    "older_want_still_counts": ("wants", 9, "0 next 0 = request 2 0 1"),
+    "idle_though_nothing_is_wanted": ("wants", 9, "0 next 0 = idle"),
+    "unwanted_piece_noted": ("wants", 13, "0 have 2 = noted yes"),
+    "want_of_a_stranger_refused": ("wants", 0, "1 want 40 = refused NotJoined"),
+    "want_of_a_wrong_count_taken": ("wants", 14, "1 wants 0000 = quiet"),
+    "unwanted_block_keeps_endgame_off": ("endgame_of_the_wanted", 8, "1 next 0 = idle"),
+    "bits_late_by_a_want": ("want_before_the_bits", 2, "0 bits e0 = refused LateBits"),
+    "unwanted_block_freed": ("asked_stays_asked", 10, "0 next 0 = request 0 0 3"),
+}
+
+WHERE_BLOCKS_MAY_BE_NAMED = {  # wrong entries in whose place the rules allow a request or a cancel; elsewhere they allow one reply alone
+    "idle_though_a_block_is_usable", "second_piece_started_while_a_begun_one_has_a_usable_block", "availability_counts_a_peer_that_left",
+    "commoner_piece_started", "idle_though_a_cancel_is_due", "pipe_full_after_four", "pipe_full_at_depth_two_after_one",
+    "pipe_full_at_five_though_deep", "first_piece_at_random_though_none_is", "third_piece_at_random",
+    "unwanted_block_keeps_endgame_off",
 }
 
 WRONG_IN_AUDITS = {  # example: how many entries of it came before, the wrong entry; for the examples that have none above
@@ -113,7 +168,15 @@ WRONG_IN_AUDITS = {  # example: how many entries of it came before, the wrong en
     "random_first_piece": (5, "0 next 1 = idle"),
     "rare_first_piece_too": (5, "0 next 1 = pipefull"),
     "rejoin_in_endgame": (10, "0 next 0 = request 0 0 3"),
+    "second_piece_at_random": (8, "0 next 1 = idle"),
 }
+
+
+def setting(name):
+    """The setting of an example, by the definitions."""
+    torrent, workers, _ = EXAMPLES[name]
+    rules = "(rules {} {})".format(*RULES[name]) if name in RULES else "usual_rules"
+    return f"(setting_of torrent_{torrent} {workers} {rules})"
 
 
 def items(xs):
@@ -139,6 +202,8 @@ def action(words, pieces):
     match words:
         case ["bits", text]: return f"(Bits {flags(text, pieces)})"
         case ["flags", text]: return f"(Bits {flags(text, len(text))})"
+        case ["want", text]: return f"(Want {flags(text, pieces)})"
+        case ["wants", text]: return f"(Want {flags(text, len(text))})"
         case ["have", piece]: return f"(Have {piece})"
         case ["next", word]: return f"(Next {word})"
         case ["block", piece, begin, text]: return f"(Arrived {piece} {begin} {in_bytes(text)})"
@@ -180,7 +245,7 @@ def main():
     proofs = open("tools/example_proofs_head.antt.txt").read()
     for name, (torrent, workers, lines) in EXAMPLES.items():
         spec += f"abbrev pub {name} : List Event\n{name} =\n    " + "\n    ∷ ".join(entry(line, torrent) for line in lines) + "\n    ∷ []\n\n"
-        proofs += f"pub {name}_legal : IsLegal (usual torrent_{torrent} {workers}) (reverse {name})\nUNFOLDING\n"
+        proofs += f"pub {name}_legal : IsLegal {setting(name)} (reverse {name})\nUNFOLDING\n"
         term = "tt"
         for line in lines:
             said = line.split("=")[1].split()
@@ -188,12 +253,12 @@ def main():
             term = f"({term}, (lit< tt, " + (f"(block_of {said[1]} {said[2]} {said[3]}, refl, refl, refl)" if is_block else "refl") + "))"
         proofs += f"{name}_legal =\n" + "\n".join(wrapped(term)) + "\n\n"
     for name, (example, before, line) in WRONG.items():
-        torrent, workers, _ = EXAMPLES[example]
+        torrent = EXAMPLES[example][0]
         spec += f"abbrev pub {name} : Event\n{name} = {entry(line, torrent)}\n\n"
-        proofs += (f"pub {name}_wrong :\n    ¬ IsAllowed (usual torrent_{torrent} {workers}) (reverse (take {before} {example})) {name}\nUNFOLDING\n"
+        proofs += (f"pub {name}_wrong :\n    ¬ IsAllowed {setting(example)} (reverse (take {before} {example})) {name}\nUNFOLDING\n"
                    f"{name}_wrong h = {wrong(name, torrent, line)}\n\n")
     unfolding = open("tools/example_unfolding.txt").read().strip()
-    names = ["entry", "block_of", *(f"torrent_{name}" for name in TORRENTS), *EXAMPLES, *WRONG]
+    names = ["entry", "rules", "block_of", *(f"torrent_{name}" for name in TORRENTS), *EXAMPLES, *WRONG]
     open("crates/bt_history/specs/Examples.antt", "w").write(spec.rstrip() + "\n")
     proofs = proofs.replace("UNFOLDING", unfolding).replace("NAMES", ", ".join(names))
     open("crates/bt_history/proofs/ExampleProofs.antt", "w").write(proofs.rstrip() + "\n")
@@ -211,24 +276,22 @@ def wrapped(term):
 
 
 def wrong(name, torrent, line):
-    if name in ("request_of_a_wrong_length",):
+    """Why a wrong entry is not allowed."""
+    if name == "request_of_a_wrong_length":
         return f"not_a_block torrent_{torrent} _ _ refl h.1"
-    if "request" in line and name not in ("sixth_request", "second_peer_asked_while_a_block_is_unasked", "second_peer_asked_before_endgame"):
-        return f"not_requested torrent_{torrent} _ _ refl h.1"
-    if name in ("idle_though_a_block_is_usable", "pipe_full_after_four", "idle_though_a_cancel_is_due"):
-        return "absurd (cc (h.1.1))"
-    return "absurd (cc (h.1))"
+    if name not in WHERE_BLOCKS_MAY_BE_NAMED:
+        return "absurd (cc (h.1))"
+    return f"not_requested torrent_{torrent} _ _ refl h.1" if "request" in line else "absurd (cc (h.1.1))"
 
 
 def rust():
     text = open("tools/examples_head.rt.txt").read()
     text += "/// The worked examples are legal histories.\n#[tactic(auto)]\npub fn worked_examples()\n".replace("#[tactic(auto)]\n", "")
-    for name, (torrent, workers, _) in EXAMPLES.items():
-        text += f"    ensures {name} {{ IsLegal (usual torrent_{torrent} {workers}) (reverse {name}) }}\n"
+    for name in EXAMPLES:
+        text += f"    ensures {name} {{ IsLegal {setting(name)} (reverse {name}) }}\n"
     text += "{\n}\n\n/// One wrong reply to the next call of a worked example isn't allowed, for each way to go wrong.\npub fn wrong_replies()\n"
     for name, (example, before, _) in WRONG.items():
-        torrent, workers, _ = EXAMPLES[example]
-        text += (f"    ensures {name} {{ ¬ IsAllowed (usual torrent_{torrent} {workers})\n"
+        text += (f"    ensures {name} {{ ¬ IsAllowed {setting(example)}\n"
                  f"        (reverse (take {before} {example})) {name} }}\n")
     text += "{\n}\n"
     names = [*(f"torrent_{name}" for name in TORRENTS), *EXAMPLES, *WRONG]
@@ -251,6 +314,8 @@ def rust_call(words, pieces):
     match words:
         case ["bits", text]: return f"Bits(&[0x{text}], {pieces})"
         case ["flags", text]: return f"Bits(&[0x00], {len(text)})"
+        case ["want", text]: return f"Want(&[0x{text}], {pieces})"
+        case ["wants", text]: return f"Want(&[0x00], {len(text)})"
         case ["have", piece]: return f"Have({piece})"
         case ["next", word]: return f"Next({word})"
         case ["block", piece, begin, text]: return f"Arrived({piece}, {begin}, {rust_bytes(text)})"
@@ -271,6 +336,15 @@ def rust_step(line, torrent):
     return f"Step({call[0]}, {rust_call(call[1:], len(TORRENTS[torrent][2]))}, {rust_reply(said)})"
 
 
+def groups():
+    """The examples in lists, each small enough for one test's proof."""
+    wants = [name for name, (_, _, lines) in EXAMPLES.items() if any(" want" in line for line in lines)]
+    settings = [name for name in RULES if name not in wants]
+    usual = [name for name in EXAMPLES if name not in wants and name not in settings]
+    return [("Those by the usual rules.", "BY_USUAL_RULES", usual), ("Those by other rules.", "BY_OTHER_RULES", settings),
+            ("Those in which not all pieces are wanted.", "OF_WANTS", wants)]
+
+
 def audits():
     text = open("tools/audits_head.rt.txt").read()
     for name, (torrent, workers, lines) in EXAMPLES.items():
@@ -284,13 +358,15 @@ pub const {name.upper()}: Example = Example {{
     total: {total},
     hashes: &[{digests}],
     workers: {workers},
+    rules: Rules {{ depth: {RULES.get(name, USUAL)[0]}, random: {RULES.get(name, USUAL)[1]} }},
     steps: &[
 {"".join(f"        {rust_step(line, torrent)},{chr(10)}" for line in lines)}    ],
     wrong: &[
 {"".join(f"        ({before}, {rust_step(line, torrent)}),{chr(10)}" for before, line in wrongs)}    ],
 }};
 """
-    text += "\n/// All of them.\npub const EXAMPLES: &[Example] = &[\n" + "".join(f"    {name.upper()},\n" for name in EXAMPLES) + "];\n"
+    for doc, listed, names in groups():
+        text += f"\n/// {doc}\npub const {listed}: &[Example] = &[\n" + "".join(f"    {name.upper()},\n" for name in names) + "];\n"
     open("crates/bt_picker/src/tests/examples.rt", "w").write(text)
 
 

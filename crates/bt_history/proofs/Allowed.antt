@@ -10,7 +10,7 @@ use Rattle.bt_history.specs.declared.call.Reason.TheVariants.{NoSuchPiece, NotWa
 use Rattle.bt_history.specs.declared.call.Reply.{Reply}
 use Rattle.bt_history.specs.declared.call.Reply.TheVariants.{Joined, Noted, Quiet, Cancel, Request, Choked, PipeFull, Idle, NothingLeft, Stored, Completed, Dropped, Had, Failed, Refused}
 use Rattle.bt_history.specs.declared.event.Action.{Action}
-use Rattle.bt_history.specs.declared.event.Action.TheVariants.{Join, Bits, Have, Choke, Unchoke, Next, Arrived, Settle, Leave}
+use Rattle.bt_history.specs.declared.event.Action.TheVariants.{Join, Bits, Have, Choke, Unchoke, Next, Arrived, Settle, Leave, Want}
 use Rattle.bt_history.specs.declared.event.Event.{Event}
 use Rattle.bt_history.specs.Setting.{Setting, some_block, some_block_of, each_block_of, is_block}
 use Rattle.bt_history.specs.History.{History, settles, is_had, is_failed}
@@ -97,6 +97,7 @@ allowed_answers s h e allowed = by_call e.action allowed.1 where
     settled_fits true is = exactly s.torrent (refusal s h e.worker (Settle p bytes)) Had e.reply (Settle p bytes) refl is
     settled_fits false is = exactly s.torrent (refusal s h e.worker (Settle p bytes)) Failed e.reply (Settle p bytes) refl is
   by_call Leave is = exactly s.torrent (refusal s h e.worker Leave) Quiet e.reply Leave refl is
+  by_call (Want flags) is = exactly s.torrent (refusal s h e.worker (Want flags)) Quiet e.reply (Want flags) refl is
 
 -- ---- refusals
 
@@ -174,6 +175,7 @@ next_alone Unchoke b is = absurd (cc is)
 next_alone (Arrived p begin bytes) b is = absurd (cc is)
 next_alone (Settle p bytes) b is = absurd (cc is)
 next_alone Leave b is = absurd (cc is)
+next_alone (Want flags) b is = absurd (cc is)
 
 pub request_facts : (s : Setting) (h : History) (e : Event) (b : Block) → IsAllowed s h e → e.reply ≡ Request b → RequestFacts s h e.worker b
 unfolding answer
@@ -203,6 +205,7 @@ settled Unchoke p is = absurd (cc is)
 settled (Next word) p is = absurd (cc is)
 settled (Arrived r begin bytes) p is = absurd (cc is)
 settled Leave p is = absurd (cc is)
+settled (Want flags) p is = absurd (cc is)
 
 -- what a check of piece p that was made shows of the history before it
 pub record CheckFacts (s : Setting) (h : History) (p : ℕ) (bytes : List ℕ) : Type 0 where

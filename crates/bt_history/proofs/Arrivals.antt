@@ -9,7 +9,7 @@ use Rattle.bt_history.specs.declared.call.Reason.TheVariants.{NotJoined, NoSuchP
 use Rattle.bt_history.specs.declared.call.Reply.{Reply}
 use Rattle.bt_history.specs.declared.call.Reply.TheVariants.{Stored, Completed, Dropped, Refused}
 use Rattle.bt_history.specs.declared.event.Action.{Action}
-use Rattle.bt_history.specs.declared.event.Action.TheVariants.{Join, Bits, Have, Choke, Unchoke, Next, Arrived, Settle, Leave}
+use Rattle.bt_history.specs.declared.event.Action.TheVariants.{Join, Bits, Have, Choke, Unchoke, Next, Arrived, Settle, Leave, Want}
 use Rattle.bt_history.specs.declared.event.Event.{Event}
 use Rattle.bt_history.specs.Setting.{Setting, some_block_of, each_block_of}
 use Rattle.bt_history.specs.History.{History, stores, stored, bytes_for}
@@ -103,6 +103,11 @@ arrived_alone (Settle p bytes) r storing is = absurd (not_one r storing is) wher
   not_one r a b = cc a
 arrived_alone Leave r storing is = absurd (not_one r storing is) where
   not_one : (r : Reply) → stores r ≡ true → answers (call_mark Leave) r ≡ true → ⊥
+  not_one Stored a b = cc b
+  not_one Completed a b = cc b
+  not_one r a b = cc a
+arrived_alone (Want flags) r storing is = absurd (not_one r storing is) where
+  not_one : (r : Reply) → stores r ≡ true → answers (call_mark (Want flags)) r ≡ true → ⊥
   not_one Stored a b = cc b
   not_one Completed a b = cc b
   not_one r a b = cc a

@@ -4,7 +4,7 @@ use Rattle.std.specs.Prelude.{is_some, if◌then◌else◌, None}
 use Rattle.std.proofs.lemmas.Bool.{eqb-true, eq-eqb, and_parts, and_from}
 use Rattle.bt_meta.specs.declared.block.Block.{Block}
 use Rattle.bt_history.specs.declared.event.Action.{Action}
-use Rattle.bt_history.specs.declared.event.Action.TheVariants.{Join, Bits, Have, Choke, Unchoke, Next, Arrived, Settle, Leave}
+use Rattle.bt_history.specs.declared.event.Action.TheVariants.{Join, Bits, Have, Choke, Unchoke, Next, Arrived, Settle, Leave, Want}
 use Rattle.bt_history.specs.declared.event.Event.{Event}
 use Rattle.bt_history.specs.History.{History, same_place, stores, stored, bytes_for, failed}
 use Rattle.bt_history.specs.Pieces.{kept, held}
@@ -40,6 +40,7 @@ bytes_resized (Next word) b n = refl
 bytes_resized (Arrived p begin bytes) b n = refl
 bytes_resized (Settle p bytes) b n = refl
 bytes_resized Leave b n = refl
+bytes_resized (Want flags) b n = refl
 
 pub stored_resized : (e : Event) (b : Block) (n : ℕ) → stored e (resized b n) ≡ stored e b
 stored_resized e b n = ap (λ (o : Option (List ℕ)). if stores e.reply then o else None) (bytes_resized e.action b n)

@@ -6,7 +6,7 @@ use Rattle.bt_history.specs.declared.call.Call.TheVariants as calls
 use Rattle.bt_history.specs.declared.call.Entry.{Entry}
 use Rattle.bt_history.specs.declared.call.Reply.{Reply}
 use Rattle.bt_history.specs.declared.event.Action.{Action}
-use Rattle.bt_history.specs.declared.event.Action.TheVariants.{Join, Bits, Have, Choke, Unchoke, Next, Arrived, Settle, Leave}
+use Rattle.bt_history.specs.declared.event.Action.TheVariants.{Join, Bits, Have, Choke, Unchoke, Next, Arrived, Settle, Leave, Want}
 use Rattle.bt_history.specs.declared.event.Event.{Event}
 use Rattle.bt_history.specs.History.{History}
 
@@ -21,6 +21,7 @@ action_of (calls.Next word) = Next word
 action_of (calls.Arrived p begin bytes) = Arrived p begin bytes
 action_of (calls.Settle verdict) = Settle verdict.value.piece (joined verdict.value)
 action_of calls.Leave = Leave
+action_of (calls.Want flags) = Want flags
 
 -- the entry that this worker's call with this reply makes
 abbrev pub event : ℕ → Call → Reply → Event

@@ -6,11 +6,15 @@ use Rattle.bt_history.specs.declared.call.Reason.TheVariants.{NotJoined, Already
 use Rattle.bt_history.specs.declared.call.Reply.{Reply}
 use Rattle.bt_history.specs.declared.call.Reply.TheVariants.{Joined, Noted, Quiet, Cancel, Request, Choked, PipeFull, Idle, NothingLeft, Stored, Completed, Dropped, Had, Failed, Refused}
 use Rattle.bt_history.specs.declared.event.Action.{Action}
-use Rattle.bt_history.specs.declared.event.Action.TheVariants.{Join, Bits, Have, Choke, Unchoke, Next, Arrived, Settle, Leave}
+use Rattle.bt_history.specs.declared.event.Action.TheVariants.{Join, Bits, Have, Choke, Unchoke, Next, Arrived, Settle, Leave, Want}
 use Rattle.bt_history.specs.declared.event.Event.{Event}
+use Rattle.bt_history.specs.declared.rules.Rules.{Rules}
 
 abbrev pub entry : ℕ → Action → Reply → Event
 entry w call reply = record { worker = w; action = call; reply = reply }
+
+abbrev pub rules : ℕ → ℕ → Rules
+rules depth random = record { depth = depth; random = random }
 
 abbrev pub block_of : ℕ → ℕ → ℕ → Block
 block_of piece begin len = record { piece = piece; begin = begin; len = len }
@@ -34,6 +38,10 @@ torrent_two_blocks =
 abbrev pub torrent_many_blocks : Layout
 torrent_many_blocks =
     record { piece_length = 1000000; total = 1000000; hashes = (0x34 ∷ 0xaa ∷ 0x97 ∷ 0x3c ∷ 0xd4 ∷ 0xc4 ∷ 0xda ∷ 0xa4 ∷ 0xf6 ∷ 0x1e ∷ 0xeb ∷ 0x2b ∷ 0xdb ∷ 0xad ∷ 0x27 ∷ 0x31 ∷ 0x65 ∷ 0x34 ∷ 0x01 ∷ 0x6f ∷ []) ∷ [] }
+
+abbrev pub torrent_four_pieces : Layout
+torrent_four_pieces =
+    record { piece_length = 3; total = 12; hashes = (0xa9 ∷ 0x99 ∷ 0x3e ∷ 0x36 ∷ 0x47 ∷ 0x06 ∷ 0x81 ∷ 0x6a ∷ 0xba ∷ 0x3e ∷ 0x25 ∷ 0x71 ∷ 0x78 ∷ 0x50 ∷ 0xc2 ∷ 0x6c ∷ 0x9c ∷ 0xd0 ∷ 0xd8 ∷ 0x9d ∷ []) ∷ (0xa9 ∷ 0x99 ∷ 0x3e ∷ 0x36 ∷ 0x47 ∷ 0x06 ∷ 0x81 ∷ 0x6a ∷ 0xba ∷ 0x3e ∷ 0x25 ∷ 0x71 ∷ 0x78 ∷ 0x50 ∷ 0xc2 ∷ 0x6c ∷ 0x9c ∷ 0xd0 ∷ 0xd8 ∷ 0x9d ∷ []) ∷ (0xa9 ∷ 0x99 ∷ 0x3e ∷ 0x36 ∷ 0x47 ∷ 0x06 ∷ 0x81 ∷ 0x6a ∷ 0xba ∷ 0x3e ∷ 0x25 ∷ 0x71 ∷ 0x78 ∷ 0x50 ∷ 0xc2 ∷ 0x6c ∷ 0x9c ∷ 0xd0 ∷ 0xd8 ∷ 0x9d ∷ []) ∷ (0xa9 ∷ 0x99 ∷ 0x3e ∷ 0x36 ∷ 0x47 ∷ 0x06 ∷ 0x81 ∷ 0x6a ∷ 0xba ∷ 0x3e ∷ 0x25 ∷ 0x71 ∷ 0x78 ∷ 0x50 ∷ 0xc2 ∷ 0x6c ∷ 0x9c ∷ 0xd0 ∷ 0xd8 ∷ 0x9d ∷ []) ∷ [] }
 
 abbrev pub first_request : List Event
 first_request =
@@ -320,6 +328,128 @@ rejoin_in_endgame =
     ∷ entry 0 (Next 0) (Request (block_of 0 0 3))
     ∷ []
 
+abbrev pub depth_two : List Event
+depth_two =
+    entry 0 Join Joined
+    ∷ entry 0 (Bits (true ∷ [])) (Noted true)
+    ∷ entry 0 Unchoke Quiet
+    ∷ entry 0 (Next 0) (Request (block_of 0 0 16384))
+    ∷ entry 0 (Next 0) (Request (block_of 0 16384 16384))
+    ∷ entry 0 (Next 0) PipeFull
+    ∷ []
+
+abbrev pub deep_pipe : List Event
+deep_pipe =
+    entry 0 Join Joined
+    ∷ entry 0 (Bits (true ∷ [])) (Noted true)
+    ∷ entry 0 Unchoke Quiet
+    ∷ entry 0 (Next 0) (Request (block_of 0 0 16384))
+    ∷ entry 0 (Next 0) (Request (block_of 0 16384 16384))
+    ∷ entry 0 (Next 0) (Request (block_of 0 32768 16384))
+    ∷ entry 0 (Next 0) (Request (block_of 0 49152 16384))
+    ∷ entry 0 (Next 0) (Request (block_of 0 65536 16384))
+    ∷ entry 0 (Next 0) (Request (block_of 0 81920 16384))
+    ∷ entry 0 (Next 0) (Request (block_of 0 98304 16384))
+    ∷ entry 0 (Next 0) (Request (block_of 0 114688 16384))
+    ∷ []
+
+abbrev pub rarest_from_the_start : List Event
+rarest_from_the_start =
+    entry 0 Join Joined
+    ∷ entry 0 (Bits (true ∷ true ∷ true ∷ [])) (Noted true)
+    ∷ entry 0 Unchoke Quiet
+    ∷ entry 1 Join Joined
+    ∷ entry 1 (Bits (true ∷ true ∷ false ∷ [])) (Noted true)
+    ∷ entry 0 (Next 1) (Request (block_of 2 0 1))
+    ∷ []
+
+abbrev pub second_piece_at_random : List Event
+second_piece_at_random =
+    entry 0 Join Joined
+    ∷ entry 0 (Bits (true ∷ true ∷ true ∷ [])) (Noted true)
+    ∷ entry 1 Join Joined
+    ∷ entry 1 (Bits (false ∷ true ∷ false ∷ [])) (Noted true)
+    ∷ entry 0 Unchoke Quiet
+    ∷ entry 0 (Next 2) (Request (block_of 2 0 1))
+    ∷ entry 0 (Arrived 2 0 (97 ∷ [])) Completed
+    ∷ entry 0 (Settle 2 (97 ∷ [])) Had
+    ∷ entry 0 (Next 1) (Request (block_of 1 0 3))
+    ∷ []
+
+abbrev pub rarest_after_two_pieces : List Event
+rarest_after_two_pieces =
+    entry 0 Join Joined
+    ∷ entry 0 (Bits (true ∷ true ∷ true ∷ true ∷ [])) (Noted true)
+    ∷ entry 0 Unchoke Quiet
+    ∷ entry 1 Join Joined
+    ∷ entry 1 (Bits (false ∷ false ∷ true ∷ true ∷ [])) (Noted true)
+    ∷ entry 0 (Next 0) (Request (block_of 0 0 3))
+    ∷ entry 0 (Arrived 0 0 (97 ∷ 98 ∷ 99 ∷ [])) Completed
+    ∷ entry 0 (Settle 0 (97 ∷ 98 ∷ 99 ∷ [])) Had
+    ∷ entry 0 (Next 2) (Request (block_of 2 0 3))
+    ∷ entry 0 (Arrived 2 0 (97 ∷ 98 ∷ 99 ∷ [])) Completed
+    ∷ entry 0 (Settle 2 (97 ∷ 98 ∷ 99 ∷ [])) Had
+    ∷ entry 0 (Next 3) (Request (block_of 1 0 3))
+    ∷ []
+
+abbrev pub wants : List Event
+wants =
+    entry 1 (Want (false ∷ true ∷ false ∷ [])) Quiet
+    ∷ entry 0 Join Joined
+    ∷ entry 0 (Bits (true ∷ true ∷ true ∷ [])) (Noted true)
+    ∷ entry 0 Unchoke Quiet
+    ∷ entry 0 (Next 0) (Request (block_of 1 0 3))
+    ∷ entry 0 (Next 0) Idle
+    ∷ entry 0 (Want (true ∷ false ∷ true ∷ [])) Quiet
+    ∷ entry 0 (Next 0) (Request (block_of 0 0 3))
+    ∷ entry 0 (Want (false ∷ false ∷ false ∷ [])) Quiet
+    ∷ entry 0 (Next 0) NothingLeft
+    ∷ entry 0 (Arrived 1 0 (97 ∷ 98 ∷ 99 ∷ [])) Completed
+    ∷ entry 0 (Settle 1 (97 ∷ 98 ∷ 99 ∷ [])) Had
+    ∷ entry 0 (Want (false ∷ true ∷ false ∷ [])) Quiet
+    ∷ entry 0 (Have 2) (Noted false)
+    ∷ entry 1 (Want (false ∷ false ∷ false ∷ false ∷ [])) (Refused WrongCount)
+    ∷ []
+
+abbrev pub endgame_of_the_wanted : List Event
+endgame_of_the_wanted =
+    entry 0 Join Joined
+    ∷ entry 0 (Bits (true ∷ true ∷ [])) (Noted true)
+    ∷ entry 0 Unchoke Quiet
+    ∷ entry 1 Join Joined
+    ∷ entry 1 (Bits (true ∷ true ∷ [])) (Noted true)
+    ∷ entry 1 Unchoke Quiet
+    ∷ entry 0 (Next 0) (Request (block_of 0 0 3))
+    ∷ entry 1 (Want (true ∷ false ∷ [])) Quiet
+    ∷ entry 1 (Next 0) (Request (block_of 0 0 3))
+    ∷ entry 1 (Want (true ∷ true ∷ [])) Quiet
+    ∷ entry 0 (Next 0) (Request (block_of 1 0 3))
+    ∷ []
+
+abbrev pub want_before_the_bits : List Event
+want_before_the_bits =
+    entry 0 Join Joined
+    ∷ entry 0 (Want (false ∷ true ∷ false ∷ [])) Quiet
+    ∷ entry 0 (Bits (true ∷ true ∷ true ∷ [])) (Noted true)
+    ∷ []
+
+abbrev pub asked_stays_asked : List Event
+asked_stays_asked =
+    entry 0 Join Joined
+    ∷ entry 0 (Bits (true ∷ true ∷ [])) (Noted true)
+    ∷ entry 0 Unchoke Quiet
+    ∷ entry 1 Join Joined
+    ∷ entry 1 (Bits (true ∷ true ∷ [])) (Noted true)
+    ∷ entry 1 Unchoke Quiet
+    ∷ entry 0 (Next 0) (Request (block_of 0 0 3))
+    ∷ entry 0 (Want (false ∷ true ∷ [])) Quiet
+    ∷ entry 0 (Next 0) (Request (block_of 1 0 3))
+    ∷ entry 0 (Want (true ∷ true ∷ [])) Quiet
+    ∷ entry 1 (Next 0) (Request (block_of 0 0 3))
+    ∷ entry 0 (Arrived 0 0 (97 ∷ 98 ∷ 99 ∷ [])) Completed
+    ∷ entry 1 (Next 0) (Cancel (block_of 0 0 3))
+    ∷ []
+
 abbrev pub idle_though_a_block_is_usable : Event
 idle_though_a_block_is_usable = entry 0 (Next 5) Idle
 
@@ -370,3 +500,45 @@ late_bits_noted = entry 0 (Bits (true ∷ true ∷ true ∷ [])) (Noted true)
 
 abbrev pub request_of_a_wrong_length : Event
 request_of_a_wrong_length = entry 0 (Next 5) (Request (block_of 2 0 3))
+
+abbrev pub third_request_at_depth_two : Event
+third_request_at_depth_two = entry 0 (Next 0) (Request (block_of 0 32768 16384))
+
+abbrev pub pipe_full_at_depth_two_after_one : Event
+pipe_full_at_depth_two_after_one = entry 0 (Next 0) PipeFull
+
+abbrev pub pipe_full_at_five_though_deep : Event
+pipe_full_at_five_though_deep = entry 0 (Next 0) PipeFull
+
+abbrev pub first_piece_at_random_though_none_is : Event
+first_piece_at_random_though_none_is = entry 0 (Next 1) (Request (block_of 1 0 3))
+
+abbrev pub third_piece_at_random : Event
+third_piece_at_random = entry 0 (Next 3) (Request (block_of 3 0 3))
+
+abbrev pub unwanted_block_asked : Event
+unwanted_block_asked = entry 0 (Next 0) (Request (block_of 0 0 3))
+
+abbrev pub older_want_still_counts : Event
+older_want_still_counts = entry 0 (Next 0) (Request (block_of 2 0 1))
+
+abbrev pub idle_though_nothing_is_wanted : Event
+idle_though_nothing_is_wanted = entry 0 (Next 0) Idle
+
+abbrev pub unwanted_piece_noted : Event
+unwanted_piece_noted = entry 0 (Have 2) (Noted true)
+
+abbrev pub want_of_a_stranger_refused : Event
+want_of_a_stranger_refused = entry 1 (Want (false ∷ true ∷ false ∷ [])) (Refused NotJoined)
+
+abbrev pub want_of_a_wrong_count_taken : Event
+want_of_a_wrong_count_taken = entry 1 (Want (false ∷ false ∷ false ∷ false ∷ [])) Quiet
+
+abbrev pub unwanted_block_keeps_endgame_off : Event
+unwanted_block_keeps_endgame_off = entry 1 (Next 0) Idle
+
+abbrev pub bits_late_by_a_want : Event
+bits_late_by_a_want = entry 0 (Bits (true ∷ true ∷ true ∷ [])) (Refused LateBits)
+
+abbrev pub unwanted_block_freed : Event
+unwanted_block_freed = entry 0 (Next 0) (Request (block_of 0 0 3))

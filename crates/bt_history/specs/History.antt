@@ -16,6 +16,10 @@ abbrev pub counts : Reply → Bool
 counts (Refused reason) = false
 counts reply = true
 
+-- the call of the entry, if it counts
+abbrev pub counted_call : Event → Option Action
+counted_call e = if counts e.reply then Some e.action else None
+
 -- the call of the entry, if it counts and is of worker q
 abbrev pub own_call : ℕ → Event → Option Action
 own_call q e = if counts e.reply && (e.worker == q) then Some e.action else None

@@ -9,7 +9,7 @@ use Rattle.bt_history.specs.declared.call.Reason.TheVariants.{NotJoined, Already
 use Rattle.bt_history.specs.declared.call.Reply.{Reply}
 use Rattle.bt_history.specs.declared.call.Reply.TheVariants.{Joined, Noted, Quiet, Cancel, Request, Stored, Completed, Dropped, Had, Failed, Refused}
 use Rattle.bt_history.specs.declared.event.Action.{Action}
-use Rattle.bt_history.specs.declared.event.Action.TheVariants.{Join, Bits, Have, Choke, Unchoke, Next, Arrived, Settle, Leave}
+use Rattle.bt_history.specs.declared.event.Action.TheVariants.{Join, Bits, Have, Choke, Unchoke, Next, Arrived, Settle, Leave, Want}
 use Rattle.bt_history.specs.declared.event.Event.{Event}
 use Rattle.bt_history.specs.Setting.{Setting, some_block_of, each_block_of, is_block}
 use Rattle.bt_history.specs.History.{History}
@@ -31,6 +31,9 @@ first_cause (cause ∷ causes) = if cause.0 then Some cause.1 else first_cause c
 abbrev pub no_peer : History → ℕ → Bool × Reason
 no_peer h w = (not (joined h w), NotJoined)
 
+abbrev pub no_count : Setting → List Bool → Bool × Reason
+no_count s flags = (not (length flags == piece_count s.torrent), WrongCount)
+
 abbrev pub no_piece : Setting → ℕ → Bool × Reason
 no_piece s p = (nat_le (piece_count s.torrent) p, NoSuchPiece)
 
@@ -38,7 +41,7 @@ no_piece s p = (nat_le (piece_count s.torrent) p, NoSuchPiece)
 unfoldable pub refusal : Setting → History → ℕ → Action → Option Reason
 refusal s h w Join = first_cause ((joined h w, AlreadyJoined) ∷ [])
 refusal s h w (Bits flags) =
-    first_cause (no_peer h w ∷ (late h w, LateBits) ∷ (not (length flags == piece_count s.torrent), WrongCount) ∷ [])
+    first_cause (no_peer h w ∷ (late h w, LateBits) ∷ no_count s flags ∷ [])
 refusal s h w (Have p) = first_cause (no_peer h w ∷ no_piece s p ∷ [])
 refusal s h w Choke = first_cause (no_peer h w ∷ [])
 refusal s h w Unchoke = first_cause (no_peer h w ∷ [])
@@ -50,6 +53,7 @@ refusal s h w (Arrived p begin bytes) = first_cause (
 refusal s h w (Settle p bytes) = first_cause (
     no_piece s p ∷ (not (full s h p) || had h p, NotWaiting) ∷ (not (same_bytes bytes (content s h p)), Stale) ∷ [])
 refusal s h w Leave = first_cause (no_peer h w ∷ [])
+refusal s h w (Want flags) = first_cause (no_count s flags ∷ [])
 
 -- ---- answers
 
@@ -80,6 +84,7 @@ answer s h w (Next word) = next_answer s h w
 answer s h w (Arrived p begin bytes) = arrived_answer s h p begin
 answer s h w (Settle p bytes) = settled_answer s h p
 answer s h w Leave = Exactly Quiet
+answer s h w (Want flags) = Exactly Quiet
 
 abbrev pub answer_unless : Option Reason → Answer → Answer
 answer_unless (Some reason) a = Exactly (Refused reason)

@@ -1,11 +1,13 @@
 -- What a history says of blocks and pieces.
-use Rattle.std.specs.Prelude.{ℕ, zero, suc, Bool, false, not, ◌&&◌, ◌||◌, List, [], ◌∷◌, ◌++◌, Option, None, is_some, unwrap_or, nat_lt, if◌then◌else◌}
+use Rattle.std.specs.Prelude.{ℕ, zero, suc, Bool, true, false, not, ◌&&◌, ◌||◌, List, [], ◌∷◌, ◌++◌, Option, None, Some, is_some, unwrap_or, nat_lt, if◌then◌else◌}
 use Rattle.bt_meta.specs.declared.block.Block.{Block}
 use Rattle.bt_meta.specs.Layout.{piece_count, block_count, block}
+use Rattle.bt_history.specs.declared.event.Action.{Action}
+use Rattle.bt_history.specs.declared.event.Action.TheVariants.{Want}
 use Rattle.bt_history.specs.Counting.{any_below, count_below}
 use Rattle.bt_history.specs.Setting.{Setting, some_block_of, each_block_of, some_block, each_block}
-use Rattle.bt_history.specs.History.{History, stored, failed, passed}
-use Rattle.bt_history.specs.Peers.{joined, shows, asked}
+use Rattle.bt_history.specs.History.{History, counted_call, stored, failed, passed}
+use Rattle.bt_history.specs.Peers.{flag, joined, shows, asked}
 
 -- the bytes of block b, if it is held: stored, and its piece has not failed a check since
 unfoldable pub kept : History → Block → Option (List ℕ)
@@ -62,9 +64,18 @@ unbegun s h p = not (had h p) && not (some_block_of s.torrent p (held_or_asked s
 abbrev pub availability : Setting → History → ℕ → ℕ
 availability s h p = count_below s.workers (λ q. joined h q && shows h q p)
 
--- piece p is to be downloaded: each piece of the torrent is
+abbrev pub chosen_after : Option Action → ℕ → Bool → Bool
+chosen_after (Some (Want flags)) p before = flag flags p
+chosen_after call p before = before
+
+-- the newest Want, whoever made it, has piece p; until there is one, each piece is chosen
+unfoldable pub chosen : History → ℕ → Bool
+chosen [] p = true
+chosen (e ∷ h) p = chosen_after (counted_call e) p (chosen h p)
+
+-- piece p is to be downloaded: a chosen piece of the torrent
 abbrev pub wanted : Setting → History → ℕ → Bool
-wanted s h p = nat_lt p (piece_count s.torrent)
+wanted s h p = nat_lt p (piece_count s.torrent) && chosen h p
 
 -- endgame: every wanted block that is lacking is asked of somebody, and there is one that is lacking
 abbrev pub endgame : Setting → History → Bool

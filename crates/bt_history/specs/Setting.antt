@@ -1,7 +1,8 @@
 -- What a history is judged by, and tests over the blocks of its torrent.
-use Rattle.std.specs.Prelude.{ℕ, Bool, ◌&&◌, ◌==◌, nat_lt}
+use Rattle.std.specs.Prelude.{ℕ, ◌≤◌, Bool, ◌&&◌, ◌==◌, nat_lt}
 use Rattle.bt_meta.specs.declared.block.Block.{Block}
 use Rattle.bt_meta.specs.Layout.{Layout, piece_count, block_count, block}
+use Rattle.bt_history.specs.declared.rules.Rules.{Rules}
 use Rattle.bt_history.specs.Counting.{any_below, all_below, count_below, sum_below}
 
 -- the torrent, how many workers there are, how many blocks may be asked of one peer,
@@ -12,9 +13,22 @@ pub record Setting : Type 0 where
   pub depth : ℕ
   pub random : ℕ
 
+-- the torrent with so many workers, by these rules
+abbrev pub setting_of : Layout → ℕ → Rules → Setting
+setting_of t n rules = record { torrent = t; workers = n; depth = rules.depth; random = rules.random }
+
 -- the usual rules: five blocks in a peer's pipe, and the first piece at random
-abbrev pub usual : Layout → ℕ → Setting
-usual t n = record { torrent = t; workers = n; depth = 5; random = 1 }
+abbrev pub usual_rules : Rules
+usual_rules = record { depth = 5; random = 1 }
+
+-- a picker of this torrent may go by these rules
+pub record AreRules (t : Layout) (rules : Rules) : Type 0 where
+  -- one block or more may be asked of a peer
+  pub shallow : 1 ≤ rules.depth
+  -- and no more than a peer's row has room for
+  pub deep : rules.depth ≤ 64
+  -- so many pieces there are
+  pub random : rules.random ≤ piece_count t
 
 -- some block of piece p passes the test
 abbrev pub some_block_of : Layout → ℕ → (Block → Bool) → Bool

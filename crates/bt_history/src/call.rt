@@ -8,7 +8,8 @@ use bt_meta::{Bitfield, Block};
 use bytes::Bytes;
 use std::sync::Arc;
 
-/// What a peer's worker tells the picker of its peer, or asks of it. All but `Next` and `Settle` tell what came on the wire (BEP 3).
+/// What a peer's worker tells the picker of its peer, or asks of it. All but `Next`, `Settle` and `Want` tell
+/// what came on the wire (BEP 3).
 #[derive(Drop)]
 pub enum Call {
     /// The handshakes were exchanged.
@@ -33,6 +34,9 @@ pub enum Call {
     Settle(Arc<Verdict>),
     /// The connection is gone.
     Leave,
+    /// From now on just the pieces with their flag set are to be downloaded. Any worker may tell this, and the newest holds for all.
+    /// Until there is one, each piece is. What was asked before stays asked.
+    Want(Bitfield),
 }
 
 /// Why a call was refused.
@@ -42,7 +46,7 @@ pub enum Reason {
     AlreadyJoined,
     /// A bitfield after another one, or after a have, choke, unchoke or block, since the peer joined.
     LateBits,
-    /// A bitfield of another number of pieces than the torrent has.
+    /// A bitfield, or the flags of the wanted pieces, of another number of pieces than the torrent has.
     WrongCount,
     NoSuchPiece,
     /// No block begins there.
@@ -109,6 +113,7 @@ impl Call {
             },
             Call::Settle(verdict) => CallMark::Settle(verdict.piece()),
             Call::Leave => CallMark::Leave,
+            Call::Want(_) => CallMark::Want,
         }
     }
 }

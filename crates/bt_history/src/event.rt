@@ -21,6 +21,7 @@ pub enum Action {
         bytes: LinkedList<u8>,
     },
     Leave,
+    Want(LinkedList<bool>),
 }
 
 /// An entry by its plain values.

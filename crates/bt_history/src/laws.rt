@@ -3,47 +3,67 @@
 ghost use Rattle.std.specs.Prelude.{◌≡◌, ◌≢◌, ◌≤◌, ◌+◌, IsTrue, false};
 ghost use Rattle.sha1.specs.Sha1.{sha1};
 ghost use Rattle.bt_meta.specs.Layout.{hash_of};
-ghost use Rattle.bt_history.specs.Setting.{usual};
+ghost use Rattle.bt_history.specs.Setting.{setting_of};
 ghost use Rattle.bt_history.specs.Entries.{history_of};
 ghost use Rattle.bt_history.specs.Peers.{asked, asked_count, due_count, ListsAsked};
 ghost use Rattle.bt_history.specs.Pieces.{held, full, content, had, was_endgame};
 ghost use Rattle.bt_history.specs.Legal.{IsLegal};
 
 use crate::call::Entry;
+use crate::rules::Rules;
 use bt_meta::{Block, Torrent};
 
 /// Nobody is asked for a block that is held.
 pub fn held_is_asked_of_nobody(
     torrent: &Torrent,
     workers: u32,
+    rules: Rules,
     journal: &[Entry],
     block: Block,
     worker: u32,
 )
-    requires legal { IsLegal (usual torrent.now.layout workers) (history_of journal.now) }
+    requires legal { IsLegal (setting_of torrent.now.layout workers rules) (history_of journal.now) }
     requires held { IsTrue (held (history_of journal.now) block) }
     ensures { asked (history_of journal.now) worker block ≡ false }
 {}
 
-/// Asked blocks and due cancels of a peer, counted together, are never more than five.
-pub fn asked_and_due_are_few(torrent: &Torrent, workers: u32, journal: &[Entry], worker: u32)
-    requires { IsLegal (usual torrent.now.layout workers) (history_of journal.now) }
-    ensures { asked_count (usual torrent.now.layout workers) (history_of journal.now) worker
-        + due_count (usual torrent.now.layout workers) (history_of journal.now) worker ≤ 5 }
+/// Asked blocks and due cancels of a peer, counted together, are never more than the depth of the rules.
+pub fn asked_and_due_are_few(
+    torrent: &Torrent,
+    workers: u32,
+    rules: Rules,
+    journal: &[Entry],
+    worker: u32,
+)
+    requires { IsLegal (setting_of torrent.now.layout workers rules) (history_of journal.now) }
+    ensures { asked_count (setting_of torrent.now.layout workers rules) (history_of journal.now) worker
+        + due_count (setting_of torrent.now.layout workers rules) (history_of journal.now) worker ≤ rules.depth }
 {}
 
 /// The blocks outstanding at a peer are exactly those asked of it, each listed once.
-pub fn outstanding_are_the_asked(torrent: &Torrent, workers: u32, journal: &[Entry], worker: u32)
-    requires { IsLegal (usual torrent.now.layout workers) (history_of journal.now) }
-    ensures { ListsAsked (usual torrent.now.layout workers) (history_of journal.now) worker }
+pub fn outstanding_are_the_asked(
+    torrent: &Torrent,
+    workers: u32,
+    rules: Rules,
+    journal: &[Entry],
+    worker: u32,
+)
+    requires { IsLegal (setting_of torrent.now.layout workers rules) (history_of journal.now) }
+    ensures { ListsAsked (setting_of torrent.now.layout workers rules) (history_of journal.now) worker }
 {}
 
 /// A piece that is had is full, and its joined bytes have the hash that the metainfo gives.
-pub fn had_is_full_and_hashed(torrent: &Torrent, workers: u32, journal: &[Entry], piece: u32)
-    requires legal { IsLegal (usual torrent.now.layout workers) (history_of journal.now) }
+pub fn had_is_full_and_hashed(
+    torrent: &Torrent,
+    workers: u32,
+    rules: Rules,
+    journal: &[Entry],
+    piece: u32,
+)
+    requires legal { IsLegal (setting_of torrent.now.layout workers rules) (history_of journal.now) }
     requires had { IsTrue (had (history_of journal.now) piece) }
-    ensures full { IsTrue (full (usual torrent.now.layout workers) (history_of journal.now) piece) }
-    ensures hash { sha1 (content (usual torrent.now.layout workers) (history_of journal.now) piece)
+    ensures full { IsTrue (full (setting_of torrent.now.layout workers rules) (history_of journal.now) piece) }
+    ensures hash { sha1 (content (setting_of torrent.now.layout workers rules) (history_of journal.now) piece)
         ≡ hash_of torrent.now.layout piece }
 {}
 
@@ -51,14 +71,15 @@ pub fn had_is_full_and_hashed(torrent: &Torrent, workers: u32, journal: &[Entry]
 pub fn doubles_come_of_endgame(
     torrent: &Torrent,
     workers: u32,
+    rules: Rules,
     journal: &[Entry],
     block: Block,
     worker: u32,
     other: u32,
 )
-    requires legal { IsLegal (usual torrent.now.layout workers) (history_of journal.now) }
+    requires legal { IsLegal (setting_of torrent.now.layout workers rules) (history_of journal.now) }
     requires apart { worker ≢ other }
     requires asked { IsTrue (asked (history_of journal.now) worker block) }
     requires too { IsTrue (asked (history_of journal.now) other block) }
-    ensures { IsTrue (was_endgame (usual torrent.now.layout workers) (history_of journal.now)) }
+    ensures { IsTrue (was_endgame (setting_of torrent.now.layout workers rules) (history_of journal.now)) }
 {}

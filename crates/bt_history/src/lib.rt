@@ -6,8 +6,10 @@ mod event;
 mod examples;
 pub mod laws;
 mod mark;
+mod rules;
 
 pub use call::{Call, Entry, Reason, Reply};
 pub use event::{Action, Event};
 pub use examples::{worked_examples, wrong_replies};
 pub use mark::{CallMark, Mark};
+pub use rules::Rules;

@@ -12,6 +12,7 @@ pub enum CallMark {
     Arrived { piece: u32, begin: u32, len: usize },
     Settle(u32),
     Leave,
+    Want,
 }
 
 /// What a worker's log keeps of an entry: its place in the journal (the number of older entries), its call and its reply.

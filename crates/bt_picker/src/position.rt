@@ -58,6 +58,20 @@ impl<'a> Position<'a> {
         self.tables.workers()
     }
 
+    /// At most so many blocks are asked of one peer.
+    pub fn depth(&self) -> u32
+        ensures { result ≡ self.now.setting.depth }
+    {
+        self.tables.rules().depth
+    }
+
+    /// While fewer pieces are had than so many, any may be begun.
+    pub fn random(&self) -> u32
+        ensures { result ≡ self.now.setting.random }
+    {
+        self.tables.rules().random
+    }
+
     pub fn piece_count(&self) -> u32
         ensures { result ≡ piece_count self.now.setting.torrent }
     {
@@ -239,12 +253,12 @@ impl<'a> Position<'a> {
         !self.had(piece) && !self.is_touched(piece)
     }
 
-    /// Whether the piece is to be downloaded.
+    /// Whether the piece is to be downloaded: by the newest Want, whoever made it.
     pub fn is_wanted(&self, piece: u32) -> bool
         requires { piece < piece_count self.now.setting.torrent }
         ensures { result ≡ wanted self.now.setting self.now.history piece }
     {
-        piece < self.piece_count()
+        self.tables.is_chosen(piece)
     }
 
     /// Whether the worker's peer shows a wanted piece that isn't had.

@@ -1,59 +1,73 @@
-ghost use Rattle.std.specs.Prelude.{◌≡◌, ◌<◌, ◌≤◌, ◌+◌, ◌^◌, ◌*◌, ◌/◌, ◌==◌, ◌∷◌, [], ℕ, Bool, false, length, slice_index_or, not, IfOk, Some, IsTrue, EachIndex, unwrap_or};
+ghost use Rattle.std.specs.Prelude.{◌≡◌, ◌<◌, ◌≤◌, ◌+◌, ◌^◌, ◌*◌, ◌/◌, ◌==◌, ◌∷◌, [], ℕ, Bool, true, false, length, replicate, slice_index_or, not, IfOk, Some, IsTrue, EachIndex, unwrap_or};
 ghost use Rattle.bt_meta.specs.Layout.{block_count, piece_count, block_size};
 ghost use Rattle.std.specs.Option.{option_copied};
-ghost use Rattle.bt_history.specs.Setting.{usual};
+ghost use Rattle.bt_history.specs.Setting.{setting_of};
 ghost use Rattle.bt_history.specs.Entries.{event, history_of};
 ghost use Rattle.bt_history.specs.Legal.{IsAllowed};
 ghost use Rattle.bt_history.specs.History.{stores};
 ghost use Rattle.bt_meta.specs.declared.block.Block.{Block};
 ghost use Rattle.bt_history.specs.Counting.{table};
-ghost use Rattle.bt_picker.specs.Tables.{AreCounted, AreTables, HasBlock, HasRoomFor, bits_row, leave_row, PeerState, PieceState, TablesState, after_arrival, after_check, after_next, announced, cancel_row, late_row, empty_cell, entered_call, fresh_peer, fresh_piece, have_row, join_row, choke_row, unchoke_row, less_available, lowered, lowered_by, more_available, peer_row, piece_row, recounted, released, reshown, with_block, with_peer, without_block};
+ghost use Rattle.bt_picker.specs.Tables.{AreCounted, AreTables, HasBlock, HasRoomFor, bits_row, leave_row, PeerState, PieceState, TablesState, after_arrival, after_check, after_next, announced, cancel_row, late_row, empty_cell, entered_call, fresh_peer, fresh_piece, have_row, join_row, choke_row, unchoke_row, less_available, lowered, lowered_by, more_available, peer_row, piece_row, recounted, released, reshown, rewanted, with_block, with_peer, without_block};
 
-use crate::peer::Peer;
+use crate::peer::{Peer, copy_flags};
 use crate::piece::Piece;
-use bt_history::{Call, Entry, Reply};
+use bt_history::{Call, Entry, Reply, Rules};
 use bt_meta::{BLOCK_SIZE, Bitfield, Block, Torrent};
 use std::alloc::{AllocError, Global};
 use std::marker::Model;
 use std::sync::Arc;
 
-/// A row for each worker's peer, by the worker's number, and a row for each piece, by the piece's: what the picker answers from, so that
-/// it never reads the journal but for the bytes of held blocks. Nothing is ordered by rarity or by what is begun: such questions go over
-/// the rows. Beside the journal that they tell of the tables make a `Position`, which answers by the definitions.
+/// A row for each worker's peer, by the worker's number, a row for each piece, by the piece's, and the newest Want, as a flag for each
+/// piece: what the picker answers from, so that it never reads the journal but for the bytes of held blocks. Nothing is ordered by
+/// rarity or by what is begun: such questions go over the rows. Beside the journal that they tell of the tables make a `Position`, which
+/// answers by the definitions.
 #[derive(Drop)]
 pub struct Tables {
     torrent: Arc<Torrent>,
     workers: u32,
+    rules: Rules,
     peers: Vec<Peer>,
     pieces: Vec<Piece>,
+    wanted: Vec<bool>,
 }
 
 impl Model for Tables {
-    ghost use Rattle.bt_history.specs.Setting.{usual};
+    ghost use Rattle.bt_history.specs.Setting.{setting_of};
     ghost use Rattle.bt_picker.specs.Tables.{TablesState};
 
     ghost Value = { TablesState };
 
     ghost view = { λ t. record {
-      setting = usual t.torrent.value.layout t.workers;
+      setting = setting_of t.torrent.value.layout t.workers t.rules;
       peers = t.peers.items;
       pieces = t.pieces.items;
+      wanted = t.wanted.items;
     } };
 }
 
 impl Tables {
     /// The tables of an empty journal.
-    pub fn new(alloc: Global, torrent: Arc<Torrent>, workers: u32) -> Result<Tables, AllocError>
-        ensures setting { IfOk result (λ t. t.setting ≡ usual torrent.value.layout workers) }
+    pub fn new(
+        alloc: Global,
+        torrent: Arc<Torrent>,
+        workers: u32,
+        rules: Rules,
+    ) -> Result<Tables, AllocError>
+        requires { rules.depth ≤ 64 }
+        ensures setting { IfOk result (λ t. t.setting ≡ setting_of torrent.value.layout workers rules) }
         ensures are { IfOk result (λ t. AreTables t []) }
     {
-        let peers = new_peers(alloc, workers, torrent.piece_count())?;
+        let count = torrent.piece_count();
+        let peers = new_peers(alloc, workers, count)?;
         let pieces = new_pieces(alloc, &torrent)?;
+        let wanted = all_wanted(alloc, count)?;
         Ok(Tables {
             torrent,
             workers,
+            rules,
             peers,
             pieces,
+            wanted,
         })
     }
 
@@ -61,6 +75,13 @@ impl Tables {
         ensures { result ≡ self.now.setting.workers }
     {
         self.workers
+    }
+
+    pub fn rules(&self) -> Rules
+        ensures depth { result.depth ≡ self.now.setting.depth }
+        ensures random { result.random ≡ self.now.setting.random }
+    {
+        self.rules
     }
 
     pub fn torrent(&self) -> &Torrent
@@ -81,6 +102,14 @@ impl Tables {
         ensures { result.now ≡ piece_row self.now.pieces piece }
     {
         &self.pieces[piece as usize]
+    }
+
+    /// Whether the newest Want has the piece, or there is none.
+    pub fn is_chosen(&self, piece: u32) -> bool
+        requires { piece < length self.now.wanted }
+        ensures { result ≡ slice_index_or self.now.wanted piece false }
+    {
+        self.wanted[piece as usize]
     }
 
     /// Enters one more entry: `older` is the journal before it.
@@ -105,6 +134,7 @@ impl Tables {
             }
             Call::Settle(verdict) => self.put_check(verdict.piece(), reply),
             Call::Leave => self.leave(worker),
+            Call::Want(flags) => self.put_want(flags),
         }
     }
 
@@ -214,7 +244,7 @@ impl Tables {
         requires stored { HasBlock self.old piece index }
         requires begin { block_size * index < 2 ^ 32 }
         requires room { EachIndex self.old.peers
-            (λ q. length (peer_row self.old.peers q).asked + length (peer_row self.old.peers q).due ≤ 5) }
+            (λ q. length (peer_row self.old.peers q).asked + length (peer_row self.old.peers q).due ≤ 64) }
         ensures { self.new ≡ with_block self.old worker piece index older }
     {
         forget_all(&mut self.peers, worker, piece, BLOCK_SIZE * index);
@@ -226,7 +256,7 @@ impl Tables {
         requires worker { worker < length self.old.peers }
         requires stored { IsTrue (stores reply) → HasBlock self.old piece (begin / block_size) }
         requires room { EachIndex self.old.peers
-            (λ q. length (peer_row self.old.peers q).asked + length (peer_row self.old.peers q).due ≤ 5) }
+            (λ q. length (peer_row self.old.peers q).asked + length (peer_row self.old.peers q).due ≤ 64) }
         ensures { self.new ≡ after_arrival self.old worker piece begin older reply }
     {
         if reply.is_stored() {
@@ -250,6 +280,13 @@ impl Tables {
             Reply::Had => self.pieces[piece as usize].pass(),
             _ => self.pieces[piece as usize].fail(),
         }
+    }
+
+    fn put_want(&mut self, flags: &Bitfield)
+        requires { length flags.now ≡ length self.old.wanted }
+        ensures { self.new ≡ rewanted self.old flags.now }
+    {
+        copy_flags(&mut self.wanted, flags);
     }
 }
 
@@ -298,7 +335,7 @@ fn flag_at(flags: Option<&Bitfield>, index: usize) -> bool
 
 /// Tells each peer's row that the block at this place was stored, brought by the worker's own peer.
 fn forget_all(peers: &mut [Peer], worker: u32, piece: u32, begin: u32)
-    requires { EachIndex peers.old (λ q. length (peer_row peers.old q).asked + length (peer_row peers.old q).due ≤ 5) }
+    requires { EachIndex peers.old (λ q. length (peer_row peers.old q).asked + length (peer_row peers.old q).due ≤ 64) }
     ensures { peers.new ≡ table (length peers.old) (λ q. without_block piece begin (worker == q) (peer_row peers.old q)) }
 {
     for index in 0..peers.len() {
@@ -314,6 +351,12 @@ fn new_peers(alloc: Global, workers: u32, pieces: u32) -> Result<Vec<Peer>, Allo
         peers.push(Peer::new(alloc, pieces)?)?;
     }
     Ok(peers)
+}
+
+fn all_wanted(alloc: Global, pieces: u32) -> Result<Vec<bool>, AllocError>
+    ensures { IfOk result (λ flags. flags.items ≡ replicate pieces true) }
+{
+    vec![in alloc; true; pieces as usize]
 }
 
 fn new_pieces(alloc: Global, torrent: &Torrent) -> Result<Vec<Piece>, AllocError>

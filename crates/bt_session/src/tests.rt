@@ -1,10 +1,11 @@
 mod serial;
+mod settings;
 mod sips;
 
 use crate::whole::session;
 use crate::{DeskPlace, End, SessionFault};
 use bt_meta::{Bitfield, FromRead, Source, ToWrite, Torrent};
-use bt_picker::{Call, Desk, Entry};
+use bt_picker::{Call, Desk, Entry, Rules};
 use bt_wire::{Hello, WireFault};
 use rand_pcg::Lcg64Xsh32;
 use std::alloc::{AllocError, Global};
@@ -25,6 +26,12 @@ fn torrent(alloc: Global) -> Result<Arc<Torrent>, Fail> {
     hashes.push(ABC)?;
     Ok(Arc::new(alloc, Torrent::of_parts(3, 3, hashes, [1; 20])?)?)
 }
+
+/// Five blocks at a time, and no piece at random: these suit each torrent.
+const RULES: Rules = Rules {
+    depth: 5,
+    random: 0,
+};
 
 /// What a peer of one piece sends, after its handshake: its bitfield, unchoke, and the piece.
 const PEER: [u8; 27] = [
@@ -54,6 +61,7 @@ fn tell(entry: &Entry, said: &mut String) -> Result<(), AllocError> {
         Call::Arrived { piece, begin, .. } => write!(said, "block {piece} {begin}")?,
         Call::Settle(_) => said.push_str("settle")?,
         Call::Leave => said.push_str("leave")?,
+        Call::Want(_) => said.push_str("want")?,
     }
     let reply = entry.reply;
     write!(said, " = {reply:?}; ")
@@ -74,7 +82,7 @@ fn told_of<R: Source + Drop>(
 ) -> Result<(Result<End, SessionFault>, String, Vec<u8>), Fail> {
     let torrent = torrent(alloc)?;
     let mut told = Bitfield::empty(alloc, torrent.piece_count())?;
-    let mut desk = Desk::new(alloc, torrent.clone()?, 4)?;
+    let mut desk = Desk::new(alloc, torrent.clone()?, 4, RULES)?;
     let mut writer = ToWrite::new(Vec::new(alloc));
     let mut rng = Lcg64Xsh32::new(0, 3);
     let mut place = DeskPlace::new(&mut desk, 3, &mut told);
@@ -86,6 +94,7 @@ fn told_of<R: Source + Drop>(
         &mut writer,
         &mut place,
         &mut rng,
+        5,
     );
     let mut said = String::new(alloc);
     for entry in desk.journal() {

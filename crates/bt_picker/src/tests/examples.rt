@@ -8,6 +8,7 @@ use crate::Reply::{
     Choked, Completed, Dropped, Failed, Had, Idle, Joined, Noted, NothingLeft, PipeFull, Quiet,
     Refused, Stored,
 };
+use crate::Rules;
 
 /// The SHA-1 of a million `a` (FIPS 180-4, the third worked example).
 const MILLION: [u8; 20] = [
@@ -23,6 +24,10 @@ pub const FIRST_REQUEST: Example = Example {
     total: 7,
     hashes: &[ABC, ABC, A],
     workers: 1,
+    rules: Rules {
+        depth: 5,
+        random: 1,
+    },
     steps: &[
         Step(0, Join, Is(Joined)),
         Step(0, Bits(&[0xe0], 3), Is(Noted(true))),
@@ -40,6 +45,10 @@ pub const ANOTHER_FIRST_REQUEST: Example = Example {
     total: 7,
     hashes: &[ABC, ABC, A],
     workers: 1,
+    rules: Rules {
+        depth: 5,
+        random: 1,
+    },
     steps: &[
         Step(0, Join, Is(Joined)),
         Step(0, Bits(&[0xe0], 3), Is(Noted(true))),
@@ -54,6 +63,10 @@ pub const ONE_PEER_TO_THE_END: Example = Example {
     total: 7,
     hashes: &[ABC, ABC, A],
     workers: 1,
+    rules: Rules {
+        depth: 5,
+        random: 1,
+    },
     steps: &[
         Step(0, Join, Is(Joined)),
         Step(0, Bits(&[0xe0], 3), Is(Noted(true))),
@@ -78,6 +91,10 @@ pub const RAREST_FIRST: Example = Example {
     total: 7,
     hashes: &[ABC, ABC, A],
     workers: 2,
+    rules: Rules {
+        depth: 5,
+        random: 1,
+    },
     steps: &[
         Step(0, Join, Is(Joined)),
         Step(0, Bits(&[0xe0], 3), Is(Noted(true))),
@@ -97,6 +114,10 @@ pub const FULL_PIPE: Example = Example {
     total: 1000000,
     hashes: &[MILLION],
     workers: 2,
+    rules: Rules {
+        depth: 5,
+        random: 1,
+    },
     steps: &[
         Step(0, Join, Is(Joined)),
         Step(0, Bits(&[0x80], 1), Is(Noted(true))),
@@ -119,6 +140,10 @@ pub const CHOKE_FREES: Example = Example {
     total: 1000000,
     hashes: &[MILLION],
     workers: 2,
+    rules: Rules {
+        depth: 5,
+        random: 1,
+    },
     steps: &[
         Step(0, Join, Is(Joined)),
         Step(0, Bits(&[0x80], 1), Is(Noted(true))),
@@ -144,6 +169,10 @@ pub const CANCEL_IN_ENDGAME: Example = Example {
     total: 3,
     hashes: &[ABC],
     workers: 2,
+    rules: Rules {
+        depth: 5,
+        random: 1,
+    },
     steps: &[
         Step(0, Join, Is(Joined)),
         Step(0, Bits(&[0x80], 1), Is(Noted(true))),
@@ -168,6 +197,10 @@ pub const NO_DOUBLE_BEFORE_ENDGAME: Example = Example {
     total: 6,
     hashes: &[ABC, ABC],
     workers: 2,
+    rules: Rules {
+        depth: 5,
+        random: 1,
+    },
     steps: &[
         Step(0, Join, Is(Joined)),
         Step(0, Bits(&[0xc0], 2), Is(Noted(true))),
@@ -186,6 +219,10 @@ pub const DOUBLE_OUTLASTS_ENDGAME: Example = Example {
     total: 6,
     hashes: &[ABC, ABC],
     workers: 4,
+    rules: Rules {
+        depth: 5,
+        random: 1,
+    },
     steps: &[
         Step(0, Join, Is(Joined)),
         Step(0, Bits(&[0x80], 2), Is(Noted(true))),
@@ -215,6 +252,10 @@ pub const FAILED_CHECK: Example = Example {
     total: 7,
     hashes: &[ABC, ABC, A],
     workers: 1,
+    rules: Rules {
+        depth: 5,
+        random: 1,
+    },
     steps: &[
         Step(0, Join, Is(Joined)),
         Step(0, Bits(&[0xe0], 3), Is(Noted(true))),
@@ -236,6 +277,10 @@ pub const FAILED_CHECK_IN_ENDGAME: Example = Example {
     total: 3,
     hashes: &[ABC],
     workers: 2,
+    rules: Rules {
+        depth: 5,
+        random: 1,
+    },
     steps: &[
         Step(0, Join, Is(Joined)),
         Step(0, Bits(&[0x80], 1), Is(Noted(true))),
@@ -261,6 +306,10 @@ pub const HELD_BLOCK_DROPPED: Example = Example {
     total: 7,
     hashes: &[ABC, ABC, A],
     workers: 1,
+    rules: Rules {
+        depth: 5,
+        random: 1,
+    },
     steps: &[
         Step(0, Join, Is(Joined)),
         Step(0, Arrived(2, 0, &[0x61]), Is(Completed)),
@@ -277,6 +326,10 @@ pub const BLOCK_BY_BLOCK: Example = Example {
     total: 65536,
     hashes: &[ABC, ABC],
     workers: 1,
+    rules: Rules {
+        depth: 5,
+        random: 1,
+    },
     steps: &[
         Step(0, Join, Is(Joined)),
         Step(0, Arrived(0, 0, &SIXTEENS), Is(Stored)),
@@ -291,6 +344,10 @@ pub const REFUSALS: Example = Example {
     total: 7,
     hashes: &[ABC, ABC, A],
     workers: 2,
+    rules: Rules {
+        depth: 5,
+        random: 1,
+    },
     steps: &[
         Step(0, Leave, Is(Refused(NotJoined))),
         Step(1, Arrived(9, 9, &[0x61]), Is(Refused(NotJoined))),
@@ -323,6 +380,10 @@ pub const WRONG_COUNT: Example = Example {
     total: 7,
     hashes: &[ABC, ABC, A],
     workers: 1,
+    rules: Rules {
+        depth: 5,
+        random: 1,
+    },
     steps: &[
         Step(0, Join, Is(Joined)),
         Step(0, Bits(&[0x00], 4), Is(Refused(WrongCount))),
@@ -336,6 +397,10 @@ pub const STALE_VERDICT: Example = Example {
     total: 7,
     hashes: &[ABC, ABC, A],
     workers: 1,
+    rules: Rules {
+        depth: 5,
+        random: 1,
+    },
     steps: &[
         Step(0, Join, Is(Joined)),
         Step(0, Arrived(0, 0, &[0x61, 0x62, 0x64]), Is(Completed)),
@@ -356,6 +421,10 @@ pub const RANDOM_FIRST_PIECE: Example = Example {
     total: 7,
     hashes: &[ABC, ABC, A],
     workers: 2,
+    rules: Rules {
+        depth: 5,
+        random: 1,
+    },
     steps: &[
         Step(0, Join, Is(Joined)),
         Step(0, Bits(&[0xe0], 3), Is(Noted(true))),
@@ -372,6 +441,10 @@ pub const RARE_FIRST_PIECE_TOO: Example = Example {
     total: 7,
     hashes: &[ABC, ABC, A],
     workers: 2,
+    rules: Rules {
+        depth: 5,
+        random: 1,
+    },
     steps: &[
         Step(0, Join, Is(Joined)),
         Step(0, Bits(&[0xe0], 3), Is(Noted(true))),
@@ -388,6 +461,10 @@ pub const STRICT_PRIORITY: Example = Example {
     total: 65536,
     hashes: &[ABC, ABC],
     workers: 1,
+    rules: Rules {
+        depth: 5,
+        random: 1,
+    },
     steps: &[
         Step(0, Join, Is(Joined)),
         Step(0, Bits(&[0xc0], 2), Is(Noted(true))),
@@ -404,6 +481,10 @@ pub const GONE_PEER_NOT_COUNTED: Example = Example {
     total: 7,
     hashes: &[ABC, ABC, A],
     workers: 3,
+    rules: Rules {
+        depth: 5,
+        random: 1,
+    },
     steps: &[
         Step(0, Join, Is(Joined)),
         Step(0, Bits(&[0xe0], 3), Is(Noted(true))),
@@ -426,6 +507,10 @@ pub const REJOIN_IN_ENDGAME: Example = Example {
     total: 3,
     hashes: &[ABC],
     workers: 2,
+    rules: Rules {
+        depth: 5,
+        random: 1,
+    },
     steps: &[
         Step(0, Join, Is(Joined)),
         Step(0, Bits(&[0x80], 1), Is(Noted(true))),
@@ -447,8 +532,230 @@ pub const REJOIN_IN_ENDGAME: Example = Example {
     wrong: &[(10, Step(0, Next(0), Request(0, 0, 3)))],
 };
 
-/// All of them.
-pub const EXAMPLES: &[Example] = &[
+pub const DEPTH_TWO: Example = Example {
+    piece_length: 1000000,
+    total: 1000000,
+    hashes: &[MILLION],
+    workers: 1,
+    rules: Rules {
+        depth: 2,
+        random: 1,
+    },
+    steps: &[
+        Step(0, Join, Is(Joined)),
+        Step(0, Bits(&[0x80], 1), Is(Noted(true))),
+        Step(0, Unchoke, Is(Quiet)),
+        Step(0, Next(0), Request(0, 0, 16384)),
+        Step(0, Next(0), Request(0, 16384, 16384)),
+        Step(0, Next(0), Is(PipeFull)),
+    ],
+    wrong: &[
+        (5, Step(0, Next(0), Request(0, 32768, 16384))),
+        (4, Step(0, Next(0), Is(PipeFull))),
+    ],
+};
+
+pub const DEEP_PIPE: Example = Example {
+    piece_length: 1000000,
+    total: 1000000,
+    hashes: &[MILLION],
+    workers: 1,
+    rules: Rules {
+        depth: 64,
+        random: 1,
+    },
+    steps: &[
+        Step(0, Join, Is(Joined)),
+        Step(0, Bits(&[0x80], 1), Is(Noted(true))),
+        Step(0, Unchoke, Is(Quiet)),
+        Step(0, Next(0), Request(0, 0, 16384)),
+        Step(0, Next(0), Request(0, 16384, 16384)),
+        Step(0, Next(0), Request(0, 32768, 16384)),
+        Step(0, Next(0), Request(0, 49152, 16384)),
+        Step(0, Next(0), Request(0, 65536, 16384)),
+        Step(0, Next(0), Request(0, 81920, 16384)),
+        Step(0, Next(0), Request(0, 98304, 16384)),
+        Step(0, Next(0), Request(0, 114688, 16384)),
+    ],
+    wrong: &[(8, Step(0, Next(0), Is(PipeFull)))],
+};
+
+pub const RAREST_FROM_THE_START: Example = Example {
+    piece_length: 3,
+    total: 7,
+    hashes: &[ABC, ABC, A],
+    workers: 2,
+    rules: Rules {
+        depth: 5,
+        random: 0,
+    },
+    steps: &[
+        Step(0, Join, Is(Joined)),
+        Step(0, Bits(&[0xe0], 3), Is(Noted(true))),
+        Step(0, Unchoke, Is(Quiet)),
+        Step(1, Join, Is(Joined)),
+        Step(1, Bits(&[0xc0], 3), Is(Noted(true))),
+        Step(0, Next(1), Request(2, 0, 1)),
+    ],
+    wrong: &[(5, Step(0, Next(1), Request(1, 0, 3)))],
+};
+
+pub const SECOND_PIECE_AT_RANDOM: Example = Example {
+    piece_length: 3,
+    total: 7,
+    hashes: &[ABC, ABC, A],
+    workers: 2,
+    rules: Rules {
+        depth: 5,
+        random: 2,
+    },
+    steps: &[
+        Step(0, Join, Is(Joined)),
+        Step(0, Bits(&[0xe0], 3), Is(Noted(true))),
+        Step(1, Join, Is(Joined)),
+        Step(1, Bits(&[0x40], 3), Is(Noted(true))),
+        Step(0, Unchoke, Is(Quiet)),
+        Step(0, Next(2), Request(2, 0, 1)),
+        Step(0, Arrived(2, 0, &[0x61]), Is(Completed)),
+        Step(0, Settle(2, &[0x61]), Is(Had)),
+        Step(0, Next(1), Request(1, 0, 3)),
+    ],
+    wrong: &[(8, Step(0, Next(1), Is(Idle)))],
+};
+
+pub const RAREST_AFTER_TWO_PIECES: Example = Example {
+    piece_length: 3,
+    total: 12,
+    hashes: &[ABC, ABC, ABC, ABC],
+    workers: 2,
+    rules: Rules {
+        depth: 5,
+        random: 2,
+    },
+    steps: &[
+        Step(0, Join, Is(Joined)),
+        Step(0, Bits(&[0xf0], 4), Is(Noted(true))),
+        Step(0, Unchoke, Is(Quiet)),
+        Step(1, Join, Is(Joined)),
+        Step(1, Bits(&[0x30], 4), Is(Noted(true))),
+        Step(0, Next(0), Request(0, 0, 3)),
+        Step(0, Arrived(0, 0, &[0x61, 0x62, 0x63]), Is(Completed)),
+        Step(0, Settle(0, &[0x61, 0x62, 0x63]), Is(Had)),
+        Step(0, Next(2), Request(2, 0, 3)),
+        Step(0, Arrived(2, 0, &[0x61, 0x62, 0x63]), Is(Completed)),
+        Step(0, Settle(2, &[0x61, 0x62, 0x63]), Is(Had)),
+        Step(0, Next(3), Request(1, 0, 3)),
+    ],
+    wrong: &[(11, Step(0, Next(3), Request(3, 0, 3)))],
+};
+
+pub const WANTS: Example = Example {
+    piece_length: 3,
+    total: 7,
+    hashes: &[ABC, ABC, A],
+    workers: 2,
+    rules: Rules {
+        depth: 5,
+        random: 1,
+    },
+    steps: &[
+        Step(1, Want(&[0x40], 3), Is(Quiet)),
+        Step(0, Join, Is(Joined)),
+        Step(0, Bits(&[0xe0], 3), Is(Noted(true))),
+        Step(0, Unchoke, Is(Quiet)),
+        Step(0, Next(0), Request(1, 0, 3)),
+        Step(0, Next(0), Is(Idle)),
+        Step(0, Want(&[0xa0], 3), Is(Quiet)),
+        Step(0, Next(0), Request(0, 0, 3)),
+        Step(0, Want(&[0x00], 3), Is(Quiet)),
+        Step(0, Next(0), Is(NothingLeft)),
+        Step(0, Arrived(1, 0, &[0x61, 0x62, 0x63]), Is(Completed)),
+        Step(0, Settle(1, &[0x61, 0x62, 0x63]), Is(Had)),
+        Step(0, Want(&[0x40], 3), Is(Quiet)),
+        Step(0, Have(2), Is(Noted(false))),
+        Step(1, Want(&[0x00], 4), Is(Refused(WrongCount))),
+    ],
+    wrong: &[
+        (5, Step(0, Next(0), Request(0, 0, 3))),
+        (9, Step(0, Next(0), Request(2, 0, 1))),
+        (9, Step(0, Next(0), Is(Idle))),
+        (13, Step(0, Have(2), Is(Noted(true)))),
+        (0, Step(1, Want(&[0x40], 3), Is(Refused(NotJoined)))),
+        (14, Step(1, Want(&[0x00], 4), Is(Quiet))),
+    ],
+};
+
+pub const ENDGAME_OF_THE_WANTED: Example = Example {
+    piece_length: 3,
+    total: 6,
+    hashes: &[ABC, ABC],
+    workers: 2,
+    rules: Rules {
+        depth: 5,
+        random: 1,
+    },
+    steps: &[
+        Step(0, Join, Is(Joined)),
+        Step(0, Bits(&[0xc0], 2), Is(Noted(true))),
+        Step(0, Unchoke, Is(Quiet)),
+        Step(1, Join, Is(Joined)),
+        Step(1, Bits(&[0xc0], 2), Is(Noted(true))),
+        Step(1, Unchoke, Is(Quiet)),
+        Step(0, Next(0), Request(0, 0, 3)),
+        Step(1, Want(&[0x80], 2), Is(Quiet)),
+        Step(1, Next(0), Request(0, 0, 3)),
+        Step(1, Want(&[0xc0], 2), Is(Quiet)),
+        Step(0, Next(0), Request(1, 0, 3)),
+    ],
+    wrong: &[(8, Step(1, Next(0), Is(Idle)))],
+};
+
+pub const WANT_BEFORE_THE_BITS: Example = Example {
+    piece_length: 3,
+    total: 7,
+    hashes: &[ABC, ABC, A],
+    workers: 1,
+    rules: Rules {
+        depth: 5,
+        random: 1,
+    },
+    steps: &[
+        Step(0, Join, Is(Joined)),
+        Step(0, Want(&[0x40], 3), Is(Quiet)),
+        Step(0, Bits(&[0xe0], 3), Is(Noted(true))),
+    ],
+    wrong: &[(2, Step(0, Bits(&[0xe0], 3), Is(Refused(LateBits))))],
+};
+
+pub const ASKED_STAYS_ASKED: Example = Example {
+    piece_length: 3,
+    total: 6,
+    hashes: &[ABC, ABC],
+    workers: 2,
+    rules: Rules {
+        depth: 5,
+        random: 1,
+    },
+    steps: &[
+        Step(0, Join, Is(Joined)),
+        Step(0, Bits(&[0xc0], 2), Is(Noted(true))),
+        Step(0, Unchoke, Is(Quiet)),
+        Step(1, Join, Is(Joined)),
+        Step(1, Bits(&[0xc0], 2), Is(Noted(true))),
+        Step(1, Unchoke, Is(Quiet)),
+        Step(0, Next(0), Request(0, 0, 3)),
+        Step(0, Want(&[0x40], 2), Is(Quiet)),
+        Step(0, Next(0), Request(1, 0, 3)),
+        Step(0, Want(&[0xc0], 2), Is(Quiet)),
+        Step(1, Next(0), Request(0, 0, 3)),
+        Step(0, Arrived(0, 0, &[0x61, 0x62, 0x63]), Is(Completed)),
+        Step(1, Next(0), Cancel(0, 0, 3)),
+    ],
+    wrong: &[(10, Step(0, Next(0), Request(0, 0, 3)))],
+};
+
+/// Those by the usual rules.
+pub const BY_USUAL_RULES: &[Example] = &[
     FIRST_REQUEST,
     ANOTHER_FIRST_REQUEST,
     ONE_PEER_TO_THE_END,
@@ -470,4 +777,21 @@ pub const EXAMPLES: &[Example] = &[
     STRICT_PRIORITY,
     GONE_PEER_NOT_COUNTED,
     REJOIN_IN_ENDGAME,
+];
+
+/// Those by other rules.
+pub const BY_OTHER_RULES: &[Example] = &[
+    DEPTH_TWO,
+    DEEP_PIPE,
+    RAREST_FROM_THE_START,
+    SECOND_PIECE_AT_RANDOM,
+    RAREST_AFTER_TWO_PIECES,
+];
+
+/// Those in which not all pieces are wanted.
+pub const OF_WANTS: &[Example] = &[
+    WANTS,
+    ENDGAME_OF_THE_WANTED,
+    WANT_BEFORE_THE_BITS,
+    ASKED_STAYS_ASKED,
 ];

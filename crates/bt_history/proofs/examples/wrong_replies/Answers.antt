@@ -1,4 +1,4 @@
-use Rattle.bt_history.proofs.ExampleProofs.{idle_though_a_block_is_usable_wrong, second_piece_started_while_a_begun_one_has_a_usable_block_wrong, availability_counts_a_peer_that_left_wrong, commoner_piece_started_wrong, second_peer_asked_while_a_block_is_unasked_wrong, second_peer_asked_before_endgame_wrong, had_with_another_hash_wrong, replaced_bytes_settled_wrong, replaced_bytes_failed_wrong, idle_though_a_cancel_is_due_wrong, sixth_request_wrong, pipe_full_after_four_wrong, pipe_full_though_the_choke_freed_it_wrong, noted_from_before_the_bits_wrong, block_stored_twice_wrong, late_bits_noted_wrong, request_of_a_wrong_length_wrong}
+use Rattle.bt_history.proofs.ExampleProofs.{idle_though_a_block_is_usable_wrong, second_piece_started_while_a_begun_one_has_a_usable_block_wrong, availability_counts_a_peer_that_left_wrong, commoner_piece_started_wrong, second_peer_asked_while_a_block_is_unasked_wrong, second_peer_asked_before_endgame_wrong, had_with_another_hash_wrong, replaced_bytes_settled_wrong, replaced_bytes_failed_wrong, idle_though_a_cancel_is_due_wrong, sixth_request_wrong, pipe_full_after_four_wrong, pipe_full_though_the_choke_freed_it_wrong, noted_from_before_the_bits_wrong, block_stored_twice_wrong, late_bits_noted_wrong, request_of_a_wrong_length_wrong, third_request_at_depth_two_wrong, pipe_full_at_depth_two_after_one_wrong, pipe_full_at_five_though_deep_wrong, first_piece_at_random_though_none_is_wrong, third_piece_at_random_wrong, unwanted_block_asked_wrong, older_want_still_counts_wrong, idle_though_nothing_is_wanted_wrong, unwanted_piece_noted_wrong, want_of_a_stranger_refused_wrong, want_of_a_wrong_count_taken_wrong, unwanted_block_keeps_endgame_off_wrong, bits_late_by_a_want_wrong, unwanted_block_freed_wrong}
 use Rattle.bt_history.proofs.examples.wrong_replies.Goals as goal
 
 pub returns : goal.returns
@@ -20,4 +20,18 @@ returns c = record {
   block_stored_twice = block_stored_twice_wrong;
   late_bits_noted = late_bits_noted_wrong;
   request_of_a_wrong_length = request_of_a_wrong_length_wrong;
+  third_request_at_depth_two = third_request_at_depth_two_wrong;
+  pipe_full_at_depth_two_after_one = pipe_full_at_depth_two_after_one_wrong;
+  pipe_full_at_five_though_deep = pipe_full_at_five_though_deep_wrong;
+  first_piece_at_random_though_none_is = first_piece_at_random_though_none_is_wrong;
+  third_piece_at_random = third_piece_at_random_wrong;
+  unwanted_block_asked = unwanted_block_asked_wrong;
+  older_want_still_counts = older_want_still_counts_wrong;
+  idle_though_nothing_is_wanted = idle_though_nothing_is_wanted_wrong;
+  unwanted_piece_noted = unwanted_piece_noted_wrong;
+  want_of_a_stranger_refused = want_of_a_stranger_refused_wrong;
+  want_of_a_wrong_count_taken = want_of_a_wrong_count_taken_wrong;
+  unwanted_block_keeps_endgame_off = unwanted_block_keeps_endgame_off_wrong;
+  bits_late_by_a_want = bits_late_by_a_want_wrong;
+  unwanted_block_freed = unwanted_block_freed_wrong;
 }

@@ -1,11 +1,11 @@
-use Rattle.bt_history.specs.Setting.{usual}
+use Rattle.bt_history.specs.Setting.{setting_of}
 use Rattle.bt_history.specs.Entries.{history_of}
 use Rattle.bt_history.proofs.HeldLaws.{asked_below, doubles_after_endgame}
 use Rattle.bt_history.proofs.laws.doubles_come_of_endgame.Goals as goal
 
 pub returns : goal.returns
 returns c =
-    let s = usual c.args.torrent.now.layout c.args.workers in
+    let s = setting_of c.args.torrent.now.layout c.args.workers c.args.rules in
     let h = history_of c.args.journal.now in
     doubles_after_endgame s h c.args.worker c.args.other c.args.block c.requires.legal
     (asked_below s h c.args.worker c.args.block c.requires.legal c.requires.asked)
