@@ -1,13 +1,14 @@
 //! A desk that is played by lines of a script.
 
-ghost use Rattle.std.specs.Prelude.{◌≡◌, ◌<◌, ◌≤◌, [], IfOk, IfErr};
+ghost use Rattle.std.specs.Prelude.{◌≡◌, ◌<◌, ◌≤◌, [], length, IfOk, IfErr};
 ghost use Rattle.bt_meta.specs.Layout.{piece_count};
-ghost use Rattle.bt_cli.specs.Scripts.{CanBeDone, IsOfTorrent, Judges};
+ghost use Rattle.bt_meta.specs.WireBits.{IsSpelled};
+ghost use Rattle.bt_cli.specs.Scripts.{CanBeDone, IsOfTorrent, IsPayload, Judges};
 ghost use Rattle.bt_cli.specs.Lines.{seen_command};
 
 use super::{Command, Line, LineFault, Setup};
 use bt_meta::Bitfield;
-use bt_picker::{Call, Desk, Reply};
+use bt_picker::{Call, Desk, Reply, Rules};
 use bytes::Bytes;
 use std::alloc::{AllocError, Global};
 use std::sync::Arc;
@@ -24,23 +25,25 @@ pub struct Player {
 
 impl Player {
     ghost use Rattle.bt_history.specs.Entries.{event};
-    ghost use Rattle.bt_history.specs.Setting.{usual};
+    ghost use Rattle.bt_history.specs.Setting.{AreRules, setting_of};
     ghost use Rattle.bt_picker.specs.Positions.{Gains};
     ghost use Rattle.bt_picker.specs.Checks.{SettlesNow};
     ghost use Rattle.bt_cli.specs.Played.{PlaysOrder, PlaysLine};
 
-    pub fn new(alloc: Global, setup: Setup) -> Result<Player, AllocError>
-        requires { (1 ≤ setup.workers) × (setup.workers ≤ 1024) }
+    pub fn new(alloc: Global, setup: Setup, rules: Rules) -> Result<Player, AllocError>
+        requires workers { (1 ≤ setup.workers) × (setup.workers ≤ 1024) }
+        requires rules { AreRules setup.torrent.layout rules }
         ensures workers { IfOk result (λ player. player.workers ≡ setup.workers) }
         ensures pieces { IfOk result (λ player. player.pieces ≡ piece_count setup.torrent.layout) }
-        ensures setting { IfOk result (λ player. player.desk.setting ≡ usual setup.torrent.layout setup.workers) }
+        ensures setting { IfOk result (λ player.
+            player.desk.setting ≡ setting_of setup.torrent.layout setup.workers rules) }
         ensures history { IfOk result (λ player. player.desk.history ≡ []) }
     {
         let Setup { torrent, workers } = setup;
         let pieces = torrent.piece_count();
         let torrent = Arc::new(alloc, torrent)?;
         Ok(Player {
-            desk: Desk::new(alloc, torrent, workers)?,
+            desk: Desk::new(alloc, torrent, workers, rules)?,
             workers,
             pieces,
         })
@@ -71,7 +74,7 @@ impl Player {
         match command {
             Command::Join => self.make(worker, Call::Join),
             Command::Bits(bytes) => {
-                let flags = Bitfield::from_wire(alloc, &bytes, self.pieces)?;
+                let flags = self.flags(alloc, &bytes)?;
                 self.make(worker, Call::Bits(flags))
             }
             Command::Have(piece) => self.make(worker, Call::Have(piece)),
@@ -95,7 +98,19 @@ impl Player {
             }
             Command::Settle(piece) => self.settle(alloc, worker, piece),
             Command::Leave => self.make(worker, Call::Leave),
+            Command::Want(bytes) => {
+                let flags = self.flags(alloc, &bytes)?;
+                self.make(worker, Call::Want(flags))
+            }
         }
+    }
+
+    /// The set of pieces that these bytes spell.
+    fn flags(&self, alloc: Global, bytes: &[u8]) -> Result<Bitfield, LineFault>
+        ensures judged { Judges result (IsPayload self.now.pieces bytes.now) }
+        ensures spelled { IfOk result (λ flags. (length flags ≡ self.now.pieces) × IsSpelled flags bytes.now) }
+    {
+        Ok(Bitfield::from_wire(alloc, bytes, self.pieces)?)
     }
 
     fn make(&mut self, worker: u32, call: Call) -> Result<Reply, LineFault>
