@@ -8,7 +8,6 @@ ghost use Rattle.bt_history.specs.Pieces.{availability, endgame, had_count, held
 ghost use Rattle.bt_history.specs.Next.{continues, doubles, is_candidate, next_answer, starts, usable};
 ghost use Rattle.bt_picker.specs.Search.{Finds, FindsLeast, FindsOf, IsRuling, IsNoWorse, rank_of};
 
-use crate::peer::DEPTH;
 use crate::position::Position;
 use crate::ruling::Ruling;
 use bt_history::Reply;
@@ -131,20 +130,27 @@ impl<'a> Position<'a> {
         self.candidate_within(worker, rare, 0, first, late)
     }
 
-    /// Whether some piece is had.
-    #[tactic(auto, using(crate::proofs::Scans::had_found, crate::proofs::Scans::had_none))]
-    pub fn has_had(&self) -> bool
-        ensures { result ≡ nat_lt 0 (had_count self.now.setting self.now.history) }
+    /// How many pieces are had.
+    fn had_count(&self) -> u32
+        ensures { result ≡ had_count self.now.setting self.now.history }
     {
+        let mut count = 0;
         for piece in 0..self.piece_count() {
             if self.had(piece) {
-                return true;
+                count += 1;
             }
         }
-        false
+        count
     }
 
-    /// A block of an unbegun piece to ask of the peer: of a rarest one, once a piece is had.
+    /// Whether a piece may be begun without being a rarest one: while too few are had.
+    pub fn is_random(&self) -> bool
+        ensures { result ≡ nat_lt (had_count self.now.setting self.now.history) self.now.setting.random }
+    {
+        self.had_count() < self.random()
+    }
+
+    /// A block of an unbegun piece to ask of the peer: of a rarest one, once enough pieces are had.
     fn starting(&self, worker: u32, word: u64) -> Option<Block>
         requires worker { worker < self.now.setting.workers }
         requires none_begun { some_block self.now.setting.torrent (continues self.now.setting self.now.history worker) ≡ false }
@@ -154,7 +160,7 @@ impl<'a> Position<'a> {
     {
         // Read so that the proof has what holds of every position: its history is legal.
         let _legal = &self.tables;
-        let rare = self.has_had();
+        let rare = !self.is_random();
         match self.candidate(worker, rare, word) {
             Some(piece) => Some(self.block(piece, 0)),
             None => None,
@@ -330,9 +336,9 @@ impl<'a> Position<'a> {
         requires { worker < self.now.setting.workers }
         ensures { result ≡ nat_le self.now.setting.depth (asked_count self.now.setting self.now.history worker) }
     {
-        // Read so that the proof has what holds of every position: its history is legal, and its depth is `DEPTH`.
+        // Read so that the proof has what holds of every position: its history is legal.
         let _legal = &self.tables;
-        self.outstanding(worker).len() >= DEPTH
+        self.depth() as usize <= self.outstanding(worker).len()
     }
 
     /// Which rule answers Next. The word settles what the rules leave open.

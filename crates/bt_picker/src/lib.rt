@@ -19,6 +19,6 @@ mod unread;
 
 pub use auditing::{AuditFault, audit};
 pub use bt_check::{Job, Verdict};
-pub use bt_history::{Action, Call, CallMark, Entry, Event, Mark, Reason, Reply, laws};
+pub use bt_history::{Action, Call, CallMark, Entry, Event, Mark, Reason, Reply, Rules, laws};
 pub use content::ContentFault;
 pub use desk::Desk;

@@ -58,6 +58,20 @@ impl<'a> Position<'a> {
         self.tables.workers()
     }
 
+    /// At most so many blocks are asked of one peer.
+    pub fn depth(&self) -> u32
+        ensures { result ≡ self.now.setting.depth }
+    {
+        self.tables.rules().depth
+    }
+
+    /// While fewer pieces are had than so many, any may be begun.
+    pub fn random(&self) -> u32
+        ensures { result ≡ self.now.setting.random }
+    {
+        self.tables.rules().random
+    }
+
     pub fn piece_count(&self) -> u32
         ensures { result ≡ piece_count self.now.setting.torrent }
     {

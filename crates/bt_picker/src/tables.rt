@@ -1,7 +1,7 @@
 ghost use Rattle.std.specs.Prelude.{◌≡◌, ◌<◌, ◌≤◌, ◌+◌, ◌^◌, ◌*◌, ◌/◌, ◌==◌, ◌∷◌, [], ℕ, Bool, false, length, slice_index_or, not, IfOk, Some, IsTrue, EachIndex, unwrap_or};
 ghost use Rattle.bt_meta.specs.Layout.{block_count, piece_count, block_size};
 ghost use Rattle.std.specs.Option.{option_copied};
-ghost use Rattle.bt_history.specs.Setting.{usual};
+ghost use Rattle.bt_history.specs.Setting.{setting_of};
 ghost use Rattle.bt_history.specs.Entries.{event, history_of};
 ghost use Rattle.bt_history.specs.Legal.{IsAllowed};
 ghost use Rattle.bt_history.specs.History.{stores};
@@ -11,7 +11,7 @@ ghost use Rattle.bt_picker.specs.Tables.{AreCounted, AreTables, HasBlock, HasRoo
 
 use crate::peer::Peer;
 use crate::piece::Piece;
-use bt_history::{Call, Entry, Reply};
+use bt_history::{Call, Entry, Reply, Rules};
 use bt_meta::{BLOCK_SIZE, Bitfield, Block, Torrent};
 use std::alloc::{AllocError, Global};
 use std::marker::Model;
@@ -24,18 +24,19 @@ use std::sync::Arc;
 pub struct Tables {
     torrent: Arc<Torrent>,
     workers: u32,
+    rules: Rules,
     peers: Vec<Peer>,
     pieces: Vec<Piece>,
 }
 
 impl Model for Tables {
-    ghost use Rattle.bt_history.specs.Setting.{usual};
+    ghost use Rattle.bt_history.specs.Setting.{setting_of};
     ghost use Rattle.bt_picker.specs.Tables.{TablesState};
 
     ghost Value = { TablesState };
 
     ghost view = { λ t. record {
-      setting = usual t.torrent.value.layout t.workers;
+      setting = setting_of t.torrent.value.layout t.workers t.rules;
       peers = t.peers.items;
       pieces = t.pieces.items;
     } };
@@ -43,8 +44,14 @@ impl Model for Tables {
 
 impl Tables {
     /// The tables of an empty journal.
-    pub fn new(alloc: Global, torrent: Arc<Torrent>, workers: u32) -> Result<Tables, AllocError>
-        ensures setting { IfOk result (λ t. t.setting ≡ usual torrent.value.layout workers) }
+    pub fn new(
+        alloc: Global,
+        torrent: Arc<Torrent>,
+        workers: u32,
+        rules: Rules,
+    ) -> Result<Tables, AllocError>
+        requires { rules.depth ≤ 64 }
+        ensures setting { IfOk result (λ t. t.setting ≡ setting_of torrent.value.layout workers rules) }
         ensures are { IfOk result (λ t. AreTables t []) }
     {
         let peers = new_peers(alloc, workers, torrent.piece_count())?;
@@ -52,6 +59,7 @@ impl Tables {
         Ok(Tables {
             torrent,
             workers,
+            rules,
             peers,
             pieces,
         })
@@ -61,6 +69,13 @@ impl Tables {
         ensures { result ≡ self.now.setting.workers }
     {
         self.workers
+    }
+
+    pub fn rules(&self) -> Rules
+        ensures depth { result.depth ≡ self.now.setting.depth }
+        ensures random { result.random ≡ self.now.setting.random }
+    {
+        self.rules
     }
 
     pub fn torrent(&self) -> &Torrent
@@ -214,7 +229,7 @@ impl Tables {
         requires stored { HasBlock self.old piece index }
         requires begin { block_size * index < 2 ^ 32 }
         requires room { EachIndex self.old.peers
-            (λ q. length (peer_row self.old.peers q).asked + length (peer_row self.old.peers q).due ≤ 5) }
+            (λ q. length (peer_row self.old.peers q).asked + length (peer_row self.old.peers q).due ≤ 64) }
         ensures { self.new ≡ with_block self.old worker piece index older }
     {
         forget_all(&mut self.peers, worker, piece, BLOCK_SIZE * index);
@@ -226,7 +241,7 @@ impl Tables {
         requires worker { worker < length self.old.peers }
         requires stored { IsTrue (stores reply) → HasBlock self.old piece (begin / block_size) }
         requires room { EachIndex self.old.peers
-            (λ q. length (peer_row self.old.peers q).asked + length (peer_row self.old.peers q).due ≤ 5) }
+            (λ q. length (peer_row self.old.peers q).asked + length (peer_row self.old.peers q).due ≤ 64) }
         ensures { self.new ≡ after_arrival self.old worker piece begin older reply }
     {
         if reply.is_stored() {
@@ -298,7 +313,7 @@ fn flag_at(flags: Option<&Bitfield>, index: usize) -> bool
 
 /// Tells each peer's row that the block at this place was stored, brought by the worker's own peer.
 fn forget_all(peers: &mut [Peer], worker: u32, piece: u32, begin: u32)
-    requires { EachIndex peers.old (λ q. length (peer_row peers.old q).asked + length (peer_row peers.old q).due ≤ 5) }
+    requires { EachIndex peers.old (λ q. length (peer_row peers.old q).asked + length (peer_row peers.old q).due ≤ 64) }
     ensures { peers.new ≡ table (length peers.old) (λ q. without_block piece begin (worker == q) (peer_row peers.old q)) }
 {
     for index in 0..peers.len() {
