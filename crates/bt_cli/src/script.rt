@@ -48,7 +48,7 @@ fn play(alloc: Global, input: &[u8], text: &mut String) -> Result<(), Fault>
     ensures replies { IsPrintedBy input.now result (string_bytes text.new) }
 {
     let lines = lines(alloc, input)?;
-    let Start { mut player, next } = start(alloc, &lines)?;
+    let Opened { mut player, next } = start(alloc, &lines)?;
     for index in next..lines.len() {
         let reply = answer(alloc, &mut player, line_at(&lines, index), index)?;
         text.push_str(&reply)?;
@@ -84,13 +84,13 @@ fn line_at<'a>(lines: &[&'a [u8]], index: usize) -> &'a [u8]
 
 /// A desk that a script opened, and the place of its next line.
 #[derive(Drop)]
-struct Start {
+struct Opened {
     player: Player,
     next: usize,
 }
 
 /// The desk that the first lines open.
-fn start(alloc: Global, lines: &[&[u8]]) -> Result<Start, Fault>
+fn start(alloc: Global, lines: &[&[u8]]) -> Result<Opened, Fault>
     ensures starts { IfOk result (λ s.
         Starts (map (λ x. x.now) lines.now) s.next s.player.workers s.player.pieces) }
     ensures takes { IfOk result (λ s. TakesFront (map (λ x. x.now) lines.now) s.next s.player.desk) }
@@ -103,7 +103,7 @@ fn start(alloc: Global, lines: &[&[u8]]) -> Result<Start, Fault>
     let pieces = setup.torrent.piece_count();
     let RulesPart { rules, next } = rules_behind(alloc, lines, first + 1, pieces)?;
     let player = Player::new(alloc, setup, rules)?;
-    Ok(Start { player, next })
+    Ok(Opened { player, next })
 }
 
 /// What line `index` opens, counted from 0.

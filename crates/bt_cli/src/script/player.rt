@@ -1,9 +1,8 @@
 //! A desk that is played by lines of a script.
 
-ghost use Rattle.std.specs.Prelude.{◌≡◌, ◌<◌, ◌≤◌, [], length, IfOk, IfErr};
+ghost use Rattle.std.specs.Prelude.{◌≡◌, ◌<◌, ◌≤◌, [], IfOk, IfErr};
 ghost use Rattle.bt_meta.specs.Layout.{piece_count};
-ghost use Rattle.bt_meta.specs.WireBits.{IsSpelled};
-ghost use Rattle.bt_cli.specs.Scripts.{CanBeDone, IsOfTorrent, IsPayload, Judges};
+ghost use Rattle.bt_cli.specs.Scripts.{CanBeDone, IsOfTorrent, Judges};
 ghost use Rattle.bt_cli.specs.Lines.{seen_command};
 
 use super::{Command, Line, LineFault, Setup};
@@ -74,7 +73,7 @@ impl Player {
         match command {
             Command::Join => self.make(worker, Call::Join),
             Command::Bits(bytes) => {
-                let flags = self.flags(alloc, &bytes)?;
+                let flags = Bitfield::from_wire(alloc, &bytes, self.pieces)?;
                 self.make(worker, Call::Bits(flags))
             }
             Command::Have(piece) => self.make(worker, Call::Have(piece)),
@@ -99,18 +98,10 @@ impl Player {
             Command::Settle(piece) => self.settle(alloc, worker, piece),
             Command::Leave => self.make(worker, Call::Leave),
             Command::Want(bytes) => {
-                let flags = self.flags(alloc, &bytes)?;
+                let flags = Bitfield::from_wire(alloc, &bytes, self.pieces)?;
                 self.make(worker, Call::Want(flags))
             }
         }
-    }
-
-    /// The set of pieces that these bytes spell.
-    fn flags(&self, alloc: Global, bytes: &[u8]) -> Result<Bitfield, LineFault>
-        ensures judged { Judges result (IsPayload self.now.pieces bytes.now) }
-        ensures spelled { IfOk result (λ flags. (length flags ≡ self.now.pieces) × IsSpelled flags bytes.now) }
-    {
-        Ok(Bitfield::from_wire(alloc, bytes, self.pieces)?)
     }
 
     fn make(&mut self, worker: u32, call: Call) -> Result<Reply, LineFault>

@@ -1,10 +1,9 @@
 //! The commands whole: the exit status, and the line of a fault.
 
+use super::serial::{FILE, recorded, usual};
 use crate::*;
-use bt_meta::{FromRead, ToWrite};
-use bt_session::Stream;
+use bt_meta::ToWrite;
 use std::alloc::Global;
-use std::io::Cursor;
 use std::test::*;
 
 #[test]
@@ -51,22 +50,12 @@ fn metainfo_files(rt: HostRuntime) -> Result<(), Fail> {
     Ok(())
 }
 
-/// A file of the three bytes `abc`, in one piece.
-const FILE: &[u8] =
-    b"d4:infod6:lengthi3e4:name1:s12:piece lengthi3e6:pieces20:\xa9\x99\x3e\x36\x47\x06\x81\x6a\xba\x3e\x25\x71\x78\x50\xc2\x6c\x9c\xd0\xd8\x9dee";
-
 /// How a run with a peer that sends nothing ends, with its output and what was told, and whether there is a desk.
 fn silent(alloc: Global, meta: &[u8]) -> (u8, Vec<u8>, Vec<u8>, bool) {
-    let mut streams = [Stream {
-        reader: FromRead::new(Cursor::new(b"".as_slice())),
-        writer: ToWrite::new(Vec::new(alloc)),
-    }];
+    let mut streams = [recorded(alloc, b"")];
     let mut out = ToWrite::new(Vec::new(alloc));
     let mut err = Vec::new(alloc);
-    let options = Options {
-        seed: 0,
-        journal: true,
-    };
+    let options = usual(0, true);
     let (status, desk) = run_serial(alloc, meta, &mut streams, &options, &mut out, &mut err);
     (status, out.into_inner(), err, desk.is_some())
 }

@@ -1,4 +1,3 @@
-use Rattle.std.proofs.Common.{ℕ}
 use Rattle.std.specs.Io.KnownBytes.{Appends}
 use Rattle.bt_history.specs.Pieces.{joined_below}
 use Rattle.bt_cli.specs.Reports.{is_done, missing_piece}
