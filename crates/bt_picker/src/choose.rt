@@ -28,14 +28,14 @@ impl<'a> Position<'a> {
         None
     }
 
-    /// A block of this piece to ask of the peer, if the piece is begun.
+    /// A block of this piece to ask of the peer, if the piece is wanted and begun.
     #[tactic(auto, using(crate::proofs::Scans::piece_not_on, crate::proofs::Scans::found_continuing))]
     fn continuing_in(&self, worker: u32, piece: u32) -> Option<Block>
         requires worker { worker < self.now.setting.workers }
         requires piece { piece < piece_count self.now.setting.torrent }
         ensures { FindsOf self.now.setting.torrent piece (continues self.now.setting self.now.history worker) result }
     {
-        if self.shows(worker, piece) && self.is_begun(piece) {
+        if self.is_wanted_of(worker, piece) && self.is_begun(piece) {
             self.unasked_in(piece)
         } else {
             None

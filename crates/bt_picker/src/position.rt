@@ -253,12 +253,12 @@ impl<'a> Position<'a> {
         !self.had(piece) && !self.is_touched(piece)
     }
 
-    /// Whether the piece is to be downloaded.
+    /// Whether the piece is to be downloaded: by the newest Want, whoever made it.
     pub fn is_wanted(&self, piece: u32) -> bool
         requires { piece < piece_count self.now.setting.torrent }
         ensures { result ≡ wanted self.now.setting self.now.history piece }
     {
-        piece < self.piece_count()
+        self.tables.is_chosen(piece)
     }
 
     /// Whether the worker's peer shows a wanted piece that isn't had.

@@ -1,4 +1,4 @@
-ghost use Rattle.std.specs.Prelude.{◌≡◌, ◌<◌, ◌≤◌, ◌+◌, ◌^◌, ◌*◌, ◌/◌, ◌==◌, ◌∷◌, [], ℕ, Bool, false, length, slice_index_or, not, IfOk, Some, IsTrue, EachIndex, unwrap_or};
+ghost use Rattle.std.specs.Prelude.{◌≡◌, ◌<◌, ◌≤◌, ◌+◌, ◌^◌, ◌*◌, ◌/◌, ◌==◌, ◌∷◌, [], ℕ, Bool, true, false, length, replicate, slice_index_or, not, IfOk, Some, IsTrue, EachIndex, unwrap_or};
 ghost use Rattle.bt_meta.specs.Layout.{block_count, piece_count, block_size};
 ghost use Rattle.std.specs.Option.{option_copied};
 ghost use Rattle.bt_history.specs.Setting.{setting_of};
@@ -7,9 +7,9 @@ ghost use Rattle.bt_history.specs.Legal.{IsAllowed};
 ghost use Rattle.bt_history.specs.History.{stores};
 ghost use Rattle.bt_meta.specs.declared.block.Block.{Block};
 ghost use Rattle.bt_history.specs.Counting.{table};
-ghost use Rattle.bt_picker.specs.Tables.{AreCounted, AreTables, HasBlock, HasRoomFor, bits_row, leave_row, PeerState, PieceState, TablesState, after_arrival, after_check, after_next, announced, cancel_row, late_row, empty_cell, entered_call, fresh_peer, fresh_piece, have_row, join_row, choke_row, unchoke_row, less_available, lowered, lowered_by, more_available, peer_row, piece_row, recounted, released, reshown, with_block, with_peer, without_block};
+ghost use Rattle.bt_picker.specs.Tables.{AreCounted, AreTables, HasBlock, HasRoomFor, bits_row, leave_row, PeerState, PieceState, TablesState, after_arrival, after_check, after_next, announced, cancel_row, late_row, empty_cell, entered_call, fresh_peer, fresh_piece, have_row, join_row, choke_row, unchoke_row, less_available, lowered, lowered_by, more_available, peer_row, piece_row, recounted, released, reshown, rewanted, with_block, with_peer, without_block};
 
-use crate::peer::Peer;
+use crate::peer::{Peer, copy_flags};
 use crate::piece::Piece;
 use bt_history::{Call, Entry, Reply, Rules};
 use bt_meta::{BLOCK_SIZE, Bitfield, Block, Torrent};
@@ -17,9 +17,10 @@ use std::alloc::{AllocError, Global};
 use std::marker::Model;
 use std::sync::Arc;
 
-/// A row for each worker's peer, by the worker's number, and a row for each piece, by the piece's: what the picker answers from, so that
-/// it never reads the journal but for the bytes of held blocks. Nothing is ordered by rarity or by what is begun: such questions go over
-/// the rows. Beside the journal that they tell of the tables make a `Position`, which answers by the definitions.
+/// A row for each worker's peer, by the worker's number, a row for each piece, by the piece's, and the newest Want, as a flag for each
+/// piece: what the picker answers from, so that it never reads the journal but for the bytes of held blocks. Nothing is ordered by
+/// rarity or by what is begun: such questions go over the rows. Beside the journal that they tell of the tables make a `Position`, which
+/// answers by the definitions.
 #[derive(Drop)]
 pub struct Tables {
     torrent: Arc<Torrent>,
@@ -27,6 +28,7 @@ pub struct Tables {
     rules: Rules,
     peers: Vec<Peer>,
     pieces: Vec<Piece>,
+    wanted: Vec<bool>,
 }
 
 impl Model for Tables {
@@ -39,6 +41,7 @@ impl Model for Tables {
       setting = setting_of t.torrent.value.layout t.workers t.rules;
       peers = t.peers.items;
       pieces = t.pieces.items;
+      wanted = t.wanted.items;
     } };
 }
 
@@ -54,14 +57,17 @@ impl Tables {
         ensures setting { IfOk result (λ t. t.setting ≡ setting_of torrent.value.layout workers rules) }
         ensures are { IfOk result (λ t. AreTables t []) }
     {
-        let peers = new_peers(alloc, workers, torrent.piece_count())?;
+        let count = torrent.piece_count();
+        let peers = new_peers(alloc, workers, count)?;
         let pieces = new_pieces(alloc, &torrent)?;
+        let wanted = all_wanted(alloc, count)?;
         Ok(Tables {
             torrent,
             workers,
             rules,
             peers,
             pieces,
+            wanted,
         })
     }
 
@@ -98,6 +104,14 @@ impl Tables {
         &self.pieces[piece as usize]
     }
 
+    /// Whether the newest Want has the piece, or there is none.
+    pub fn is_chosen(&self, piece: u32) -> bool
+        requires { piece < length self.now.wanted }
+        ensures { result ≡ slice_index_or self.now.wanted piece false }
+    {
+        self.wanted[piece as usize]
+    }
+
     /// Enters one more entry: `older` is the journal before it.
     pub fn enter(&mut self, older: &[Entry], worker: u32, call: &Call, reply: Reply)
         requires are { AreTables self.old (history_of older.now) }
@@ -120,6 +134,7 @@ impl Tables {
             }
             Call::Settle(verdict) => self.put_check(verdict.piece(), reply),
             Call::Leave => self.leave(worker),
+            Call::Want(flags) => self.put_want(flags),
         }
     }
 
@@ -266,6 +281,13 @@ impl Tables {
             _ => self.pieces[piece as usize].fail(),
         }
     }
+
+    fn put_want(&mut self, flags: &Bitfield)
+        requires { length flags.now ≡ length self.old.wanted }
+        ensures { self.new ≡ rewanted self.old flags.now }
+    {
+        copy_flags(&mut self.wanted, flags);
+    }
 }
 
 /// Frees the blocks of the line: one peer less is asked for each.
@@ -329,6 +351,12 @@ fn new_peers(alloc: Global, workers: u32, pieces: u32) -> Result<Vec<Peer>, Allo
         peers.push(Peer::new(alloc, pieces)?)?;
     }
     Ok(peers)
+}
+
+fn all_wanted(alloc: Global, pieces: u32) -> Result<Vec<bool>, AllocError>
+    ensures { IfOk result (λ flags. flags.items ≡ replicate pieces true) }
+{
+    vec![in alloc; true; pieces as usize]
 }
 
 fn new_pieces(alloc: Global, torrent: &Torrent) -> Result<Vec<Piece>, AllocError>

@@ -1,13 +1,19 @@
 //! Written by tools/examples.py: the worked examples of the rules as data, each with replies that would be wrong in it.
 use super::setting::{A, ABC};
-use super::steps::{Example, Said::*, Step, Told::*};
+use super::steps::Said::*;
+use super::steps::Told::*;
+use super::steps::{Example, Step};
 use crate::Reason::*;
+use crate::Reply::{
+    Choked, Completed, Dropped, Failed, Had, Idle, Joined, Noted, NothingLeft, PipeFull, Quiet,
+    Refused, Stored,
+};
 use crate::Rules;
-use crate::Reply::{Choked, Completed, Dropped, Failed, Had, Idle, Joined, Noted, NothingLeft, PipeFull, Quiet, Refused, Stored};
 
 /// The SHA-1 of a million `a` (FIPS 180-4, the third worked example).
 const MILLION: [u8; 20] = [
-    0x34, 0xaa, 0x97, 0x3c, 0xd4, 0xc4, 0xda, 0xa4, 0xf6, 0x1e, 0xeb, 0x2b, 0xdb, 0xad, 0x27, 0x31, 0x65, 0x34, 0x01, 0x6f,
+    0x34, 0xaa, 0x97, 0x3c, 0xd4, 0xc4, 0xda, 0xa4, 0xf6, 0x1e, 0xeb, 0x2b, 0xdb, 0xad, 0x27, 0x31,
+    0x65, 0x34, 0x01, 0x6f,
 ];
 
 /// A whole block of `a`.
@@ -18,7 +24,10 @@ pub const FIRST_REQUEST: Example = Example {
     total: 7,
     hashes: &[ABC, ABC, A],
     workers: 1,
-    rules: Rules { depth: 5, random: 1 },
+    rules: Rules {
+        depth: 5,
+        random: 1,
+    },
     steps: &[
         Step(0, Join, Is(Joined)),
         Step(0, Bits(&[0xe0], 3), Is(Noted(true))),
@@ -36,16 +45,17 @@ pub const ANOTHER_FIRST_REQUEST: Example = Example {
     total: 7,
     hashes: &[ABC, ABC, A],
     workers: 1,
-    rules: Rules { depth: 5, random: 1 },
+    rules: Rules {
+        depth: 5,
+        random: 1,
+    },
     steps: &[
         Step(0, Join, Is(Joined)),
         Step(0, Bits(&[0xe0], 3), Is(Noted(true))),
         Step(0, Unchoke, Is(Quiet)),
         Step(0, Next(5), Request(0, 0, 3)),
     ],
-    wrong: &[
-        (3, Step(0, Next(5), Is(NothingLeft))),
-    ],
+    wrong: &[(3, Step(0, Next(5), Is(NothingLeft)))],
 };
 
 pub const ONE_PEER_TO_THE_END: Example = Example {
@@ -53,7 +63,10 @@ pub const ONE_PEER_TO_THE_END: Example = Example {
     total: 7,
     hashes: &[ABC, ABC, A],
     workers: 1,
-    rules: Rules { depth: 5, random: 1 },
+    rules: Rules {
+        depth: 5,
+        random: 1,
+    },
     steps: &[
         Step(0, Join, Is(Joined)),
         Step(0, Bits(&[0xe0], 3), Is(Noted(true))),
@@ -70,9 +83,7 @@ pub const ONE_PEER_TO_THE_END: Example = Example {
         Step(0, Settle(1, &[0x61, 0x62, 0x63]), Is(Had)),
         Step(0, Next(0), Is(NothingLeft)),
     ],
-    wrong: &[
-        (3, Step(0, Next(5), Is(Idle))),
-    ],
+    wrong: &[(3, Step(0, Next(5), Is(Idle)))],
 };
 
 pub const RAREST_FIRST: Example = Example {
@@ -80,7 +91,10 @@ pub const RAREST_FIRST: Example = Example {
     total: 7,
     hashes: &[ABC, ABC, A],
     workers: 2,
-    rules: Rules { depth: 5, random: 1 },
+    rules: Rules {
+        depth: 5,
+        random: 1,
+    },
     steps: &[
         Step(0, Join, Is(Joined)),
         Step(0, Bits(&[0xe0], 3), Is(Noted(true))),
@@ -92,9 +106,7 @@ pub const RAREST_FIRST: Example = Example {
         Step(0, Settle(2, &[0x61]), Is(Had)),
         Step(0, Next(1), Request(0, 0, 3)),
     ],
-    wrong: &[
-        (8, Step(0, Next(1), Request(1, 0, 3))),
-    ],
+    wrong: &[(8, Step(0, Next(1), Request(1, 0, 3)))],
 };
 
 pub const FULL_PIPE: Example = Example {
@@ -102,7 +114,10 @@ pub const FULL_PIPE: Example = Example {
     total: 1000000,
     hashes: &[MILLION],
     workers: 2,
-    rules: Rules { depth: 5, random: 1 },
+    rules: Rules {
+        depth: 5,
+        random: 1,
+    },
     steps: &[
         Step(0, Join, Is(Joined)),
         Step(0, Bits(&[0x80], 1), Is(Noted(true))),
@@ -125,7 +140,10 @@ pub const CHOKE_FREES: Example = Example {
     total: 1000000,
     hashes: &[MILLION],
     workers: 2,
-    rules: Rules { depth: 5, random: 1 },
+    rules: Rules {
+        depth: 5,
+        random: 1,
+    },
     steps: &[
         Step(0, Join, Is(Joined)),
         Step(0, Bits(&[0x80], 1), Is(Noted(true))),
@@ -143,9 +161,7 @@ pub const CHOKE_FREES: Example = Example {
         Step(1, Next(0), Request(0, 0, 16384)),
         Step(0, Next(0), Is(Choked)),
     ],
-    wrong: &[
-        (13, Step(0, Next(0), Is(PipeFull))),
-    ],
+    wrong: &[(13, Step(0, Next(0), Is(PipeFull)))],
 };
 
 pub const CANCEL_IN_ENDGAME: Example = Example {
@@ -153,7 +169,10 @@ pub const CANCEL_IN_ENDGAME: Example = Example {
     total: 3,
     hashes: &[ABC],
     workers: 2,
-    rules: Rules { depth: 5, random: 1 },
+    rules: Rules {
+        depth: 5,
+        random: 1,
+    },
     steps: &[
         Step(0, Join, Is(Joined)),
         Step(0, Bits(&[0x80], 1), Is(Noted(true))),
@@ -170,9 +189,7 @@ pub const CANCEL_IN_ENDGAME: Example = Example {
         Step(1, Next(0), Is(NothingLeft)),
         Step(1, Arrived(0, 0, &[0x61, 0x62, 0x63]), Is(Dropped)),
     ],
-    wrong: &[
-        (9, Step(1, Next(0), Is(Idle))),
-    ],
+    wrong: &[(9, Step(1, Next(0), Is(Idle)))],
 };
 
 pub const NO_DOUBLE_BEFORE_ENDGAME: Example = Example {
@@ -180,7 +197,10 @@ pub const NO_DOUBLE_BEFORE_ENDGAME: Example = Example {
     total: 6,
     hashes: &[ABC, ABC],
     workers: 2,
-    rules: Rules { depth: 5, random: 1 },
+    rules: Rules {
+        depth: 5,
+        random: 1,
+    },
     steps: &[
         Step(0, Join, Is(Joined)),
         Step(0, Bits(&[0xc0], 2), Is(Noted(true))),
@@ -191,9 +211,7 @@ pub const NO_DOUBLE_BEFORE_ENDGAME: Example = Example {
         Step(1, Unchoke, Is(Quiet)),
         Step(1, Next(0), Is(Idle)),
     ],
-    wrong: &[
-        (7, Step(1, Next(0), Request(0, 0, 3))),
-    ],
+    wrong: &[(7, Step(1, Next(0), Request(0, 0, 3)))],
 };
 
 pub const DOUBLE_OUTLASTS_ENDGAME: Example = Example {
@@ -201,7 +219,10 @@ pub const DOUBLE_OUTLASTS_ENDGAME: Example = Example {
     total: 6,
     hashes: &[ABC, ABC],
     workers: 4,
-    rules: Rules { depth: 5, random: 1 },
+    rules: Rules {
+        depth: 5,
+        random: 1,
+    },
     steps: &[
         Step(0, Join, Is(Joined)),
         Step(0, Bits(&[0x80], 2), Is(Noted(true))),
@@ -223,9 +244,7 @@ pub const DOUBLE_OUTLASTS_ENDGAME: Example = Example {
         Step(0, Arrived(0, 0, &[0x61, 0x62, 0x63]), Is(Completed)),
         Step(1, Next(0), Cancel(0, 0, 3)),
     ],
-    wrong: &[
-        (16, Step(3, Next(0), Request(0, 0, 3))),
-    ],
+    wrong: &[(16, Step(3, Next(0), Request(0, 0, 3)))],
 };
 
 pub const FAILED_CHECK: Example = Example {
@@ -233,7 +252,10 @@ pub const FAILED_CHECK: Example = Example {
     total: 7,
     hashes: &[ABC, ABC, A],
     workers: 1,
-    rules: Rules { depth: 5, random: 1 },
+    rules: Rules {
+        depth: 5,
+        random: 1,
+    },
     steps: &[
         Step(0, Join, Is(Joined)),
         Step(0, Bits(&[0xe0], 3), Is(Noted(true))),
@@ -244,9 +266,10 @@ pub const FAILED_CHECK: Example = Example {
         Step(0, Next(0), Request(0, 0, 3)),
         Step(0, Settle(0, &[0x61, 0x62, 0x64]), Is(Refused(NotWaiting))),
     ],
-    wrong: &[
-        (7, Step(0, Settle(0, &[0x61, 0x62, 0x64]), Is(Refused(Stale)))),
-    ],
+    wrong: &[(
+        7,
+        Step(0, Settle(0, &[0x61, 0x62, 0x64]), Is(Refused(Stale))),
+    )],
 };
 
 pub const FAILED_CHECK_IN_ENDGAME: Example = Example {
@@ -254,7 +277,10 @@ pub const FAILED_CHECK_IN_ENDGAME: Example = Example {
     total: 3,
     hashes: &[ABC],
     workers: 2,
-    rules: Rules { depth: 5, random: 1 },
+    rules: Rules {
+        depth: 5,
+        random: 1,
+    },
     steps: &[
         Step(0, Join, Is(Joined)),
         Step(0, Bits(&[0x80], 1), Is(Noted(true))),
@@ -280,7 +306,10 @@ pub const HELD_BLOCK_DROPPED: Example = Example {
     total: 7,
     hashes: &[ABC, ABC, A],
     workers: 1,
-    rules: Rules { depth: 5, random: 1 },
+    rules: Rules {
+        depth: 5,
+        random: 1,
+    },
     steps: &[
         Step(0, Join, Is(Joined)),
         Step(0, Arrived(2, 0, &[0x61]), Is(Completed)),
@@ -297,16 +326,17 @@ pub const BLOCK_BY_BLOCK: Example = Example {
     total: 65536,
     hashes: &[ABC, ABC],
     workers: 1,
-    rules: Rules { depth: 5, random: 1 },
+    rules: Rules {
+        depth: 5,
+        random: 1,
+    },
     steps: &[
         Step(0, Join, Is(Joined)),
         Step(0, Arrived(0, 0, &SIXTEENS), Is(Stored)),
         Step(0, Arrived(0, 0, &SIXTEENS), Is(Dropped)),
         Step(0, Arrived(0, 16384, &SIXTEENS), Is(Completed)),
     ],
-    wrong: &[
-        (3, Step(0, Arrived(0, 16384, &SIXTEENS), Is(Stored))),
-    ],
+    wrong: &[(3, Step(0, Arrived(0, 16384, &SIXTEENS), Is(Stored)))],
 };
 
 pub const REFUSALS: Example = Example {
@@ -314,7 +344,10 @@ pub const REFUSALS: Example = Example {
     total: 7,
     hashes: &[ABC, ABC, A],
     workers: 2,
-    rules: Rules { depth: 5, random: 1 },
+    rules: Rules {
+        depth: 5,
+        random: 1,
+    },
     steps: &[
         Step(0, Leave, Is(Refused(NotJoined))),
         Step(1, Arrived(9, 9, &[0x61]), Is(Refused(NotJoined))),
@@ -336,9 +369,10 @@ pub const REFUSALS: Example = Example {
         Step(1, Unchoke, Is(Quiet)),
         Step(1, Next(0), Is(NothingLeft)),
     ],
-    wrong: &[
-        (8, Step(0, Arrived(0, 1, &[0x62, 0x63]), Is(Refused(WrongLength)))),
-    ],
+    wrong: &[(
+        8,
+        Step(0, Arrived(0, 1, &[0x62, 0x63]), Is(Refused(WrongLength))),
+    )],
 };
 
 pub const WRONG_COUNT: Example = Example {
@@ -346,15 +380,16 @@ pub const WRONG_COUNT: Example = Example {
     total: 7,
     hashes: &[ABC, ABC, A],
     workers: 1,
-    rules: Rules { depth: 5, random: 1 },
+    rules: Rules {
+        depth: 5,
+        random: 1,
+    },
     steps: &[
         Step(0, Join, Is(Joined)),
         Step(0, Bits(&[0x00], 4), Is(Refused(WrongCount))),
         Step(0, Bits(&[0xe0], 3), Is(Noted(true))),
     ],
-    wrong: &[
-        (1, Step(0, Bits(&[0x00], 4), Is(Noted(false)))),
-    ],
+    wrong: &[(1, Step(0, Bits(&[0x00], 4), Is(Noted(false))))],
 };
 
 pub const STALE_VERDICT: Example = Example {
@@ -362,7 +397,10 @@ pub const STALE_VERDICT: Example = Example {
     total: 7,
     hashes: &[ABC, ABC, A],
     workers: 1,
-    rules: Rules { depth: 5, random: 1 },
+    rules: Rules {
+        depth: 5,
+        random: 1,
+    },
     steps: &[
         Step(0, Join, Is(Joined)),
         Step(0, Arrived(0, 0, &[0x61, 0x62, 0x64]), Is(Completed)),
@@ -375,9 +413,7 @@ pub const STALE_VERDICT: Example = Example {
         Step(0, Choke, Is(Quiet)),
         Step(0, Leave, Is(Quiet)),
     ],
-    wrong: &[
-        (4, Step(0, Settle(0, &[0x61, 0x62, 0x64]), Is(Failed))),
-    ],
+    wrong: &[(4, Step(0, Settle(0, &[0x61, 0x62, 0x64]), Is(Failed)))],
 };
 
 pub const RANDOM_FIRST_PIECE: Example = Example {
@@ -385,7 +421,10 @@ pub const RANDOM_FIRST_PIECE: Example = Example {
     total: 7,
     hashes: &[ABC, ABC, A],
     workers: 2,
-    rules: Rules { depth: 5, random: 1 },
+    rules: Rules {
+        depth: 5,
+        random: 1,
+    },
     steps: &[
         Step(0, Join, Is(Joined)),
         Step(0, Bits(&[0xe0], 3), Is(Noted(true))),
@@ -394,9 +433,7 @@ pub const RANDOM_FIRST_PIECE: Example = Example {
         Step(1, Bits(&[0xc0], 3), Is(Noted(true))),
         Step(0, Next(1), Request(1, 0, 3)),
     ],
-    wrong: &[
-        (5, Step(0, Next(1), Is(Idle))),
-    ],
+    wrong: &[(5, Step(0, Next(1), Is(Idle)))],
 };
 
 pub const RARE_FIRST_PIECE_TOO: Example = Example {
@@ -404,7 +441,10 @@ pub const RARE_FIRST_PIECE_TOO: Example = Example {
     total: 7,
     hashes: &[ABC, ABC, A],
     workers: 2,
-    rules: Rules { depth: 5, random: 1 },
+    rules: Rules {
+        depth: 5,
+        random: 1,
+    },
     steps: &[
         Step(0, Join, Is(Joined)),
         Step(0, Bits(&[0xe0], 3), Is(Noted(true))),
@@ -413,9 +453,7 @@ pub const RARE_FIRST_PIECE_TOO: Example = Example {
         Step(1, Bits(&[0xc0], 3), Is(Noted(true))),
         Step(0, Next(1), Request(2, 0, 1)),
     ],
-    wrong: &[
-        (5, Step(0, Next(1), Is(PipeFull))),
-    ],
+    wrong: &[(5, Step(0, Next(1), Is(PipeFull)))],
 };
 
 pub const STRICT_PRIORITY: Example = Example {
@@ -423,7 +461,10 @@ pub const STRICT_PRIORITY: Example = Example {
     total: 65536,
     hashes: &[ABC, ABC],
     workers: 1,
-    rules: Rules { depth: 5, random: 1 },
+    rules: Rules {
+        depth: 5,
+        random: 1,
+    },
     steps: &[
         Step(0, Join, Is(Joined)),
         Step(0, Bits(&[0xc0], 2), Is(Noted(true))),
@@ -432,9 +473,7 @@ pub const STRICT_PRIORITY: Example = Example {
         Step(0, Next(1), Request(0, 16384, 16384)),
         Step(0, Next(1), Request(1, 0, 16384)),
     ],
-    wrong: &[
-        (4, Step(0, Next(1), Request(1, 0, 16384))),
-    ],
+    wrong: &[(4, Step(0, Next(1), Request(1, 0, 16384)))],
 };
 
 pub const GONE_PEER_NOT_COUNTED: Example = Example {
@@ -442,7 +481,10 @@ pub const GONE_PEER_NOT_COUNTED: Example = Example {
     total: 7,
     hashes: &[ABC, ABC, A],
     workers: 3,
-    rules: Rules { depth: 5, random: 1 },
+    rules: Rules {
+        depth: 5,
+        random: 1,
+    },
     steps: &[
         Step(0, Join, Is(Joined)),
         Step(0, Bits(&[0xe0], 3), Is(Noted(true))),
@@ -457,9 +499,7 @@ pub const GONE_PEER_NOT_COUNTED: Example = Example {
         Step(0, Settle(2, &[0x61]), Is(Had)),
         Step(0, Next(1), Request(0, 0, 3)),
     ],
-    wrong: &[
-        (11, Step(0, Next(1), Request(1, 0, 3))),
-    ],
+    wrong: &[(11, Step(0, Next(1), Request(1, 0, 3)))],
 };
 
 pub const REJOIN_IN_ENDGAME: Example = Example {
@@ -467,7 +507,10 @@ pub const REJOIN_IN_ENDGAME: Example = Example {
     total: 3,
     hashes: &[ABC],
     workers: 2,
-    rules: Rules { depth: 5, random: 1 },
+    rules: Rules {
+        depth: 5,
+        random: 1,
+    },
     steps: &[
         Step(0, Join, Is(Joined)),
         Step(0, Bits(&[0x80], 1), Is(Noted(true))),
@@ -486,9 +529,7 @@ pub const REJOIN_IN_ENDGAME: Example = Example {
         Step(0, Unchoke, Is(Quiet)),
         Step(0, Next(0), Request(0, 0, 3)),
     ],
-    wrong: &[
-        (10, Step(0, Next(0), Request(0, 0, 3))),
-    ],
+    wrong: &[(10, Step(0, Next(0), Request(0, 0, 3)))],
 };
 
 pub const DEPTH_TWO: Example = Example {
@@ -496,7 +537,10 @@ pub const DEPTH_TWO: Example = Example {
     total: 1000000,
     hashes: &[MILLION],
     workers: 1,
-    rules: Rules { depth: 2, random: 1 },
+    rules: Rules {
+        depth: 2,
+        random: 1,
+    },
     steps: &[
         Step(0, Join, Is(Joined)),
         Step(0, Bits(&[0x80], 1), Is(Noted(true))),
@@ -516,7 +560,10 @@ pub const DEEP_PIPE: Example = Example {
     total: 1000000,
     hashes: &[MILLION],
     workers: 1,
-    rules: Rules { depth: 64, random: 1 },
+    rules: Rules {
+        depth: 64,
+        random: 1,
+    },
     steps: &[
         Step(0, Join, Is(Joined)),
         Step(0, Bits(&[0x80], 1), Is(Noted(true))),
@@ -530,9 +577,7 @@ pub const DEEP_PIPE: Example = Example {
         Step(0, Next(0), Request(0, 98304, 16384)),
         Step(0, Next(0), Request(0, 114688, 16384)),
     ],
-    wrong: &[
-        (8, Step(0, Next(0), Is(PipeFull))),
-    ],
+    wrong: &[(8, Step(0, Next(0), Is(PipeFull)))],
 };
 
 pub const RAREST_FROM_THE_START: Example = Example {
@@ -540,7 +585,10 @@ pub const RAREST_FROM_THE_START: Example = Example {
     total: 7,
     hashes: &[ABC, ABC, A],
     workers: 2,
-    rules: Rules { depth: 5, random: 0 },
+    rules: Rules {
+        depth: 5,
+        random: 0,
+    },
     steps: &[
         Step(0, Join, Is(Joined)),
         Step(0, Bits(&[0xe0], 3), Is(Noted(true))),
@@ -549,9 +597,7 @@ pub const RAREST_FROM_THE_START: Example = Example {
         Step(1, Bits(&[0xc0], 3), Is(Noted(true))),
         Step(0, Next(1), Request(2, 0, 1)),
     ],
-    wrong: &[
-        (5, Step(0, Next(1), Request(1, 0, 3))),
-    ],
+    wrong: &[(5, Step(0, Next(1), Request(1, 0, 3)))],
 };
 
 pub const SECOND_PIECE_AT_RANDOM: Example = Example {
@@ -559,7 +605,10 @@ pub const SECOND_PIECE_AT_RANDOM: Example = Example {
     total: 7,
     hashes: &[ABC, ABC, A],
     workers: 2,
-    rules: Rules { depth: 5, random: 2 },
+    rules: Rules {
+        depth: 5,
+        random: 2,
+    },
     steps: &[
         Step(0, Join, Is(Joined)),
         Step(0, Bits(&[0xe0], 3), Is(Noted(true))),
@@ -571,9 +620,7 @@ pub const SECOND_PIECE_AT_RANDOM: Example = Example {
         Step(0, Settle(2, &[0x61]), Is(Had)),
         Step(0, Next(1), Request(1, 0, 3)),
     ],
-    wrong: &[
-        (8, Step(0, Next(1), Is(Idle))),
-    ],
+    wrong: &[(8, Step(0, Next(1), Is(Idle)))],
 };
 
 pub const RAREST_AFTER_TWO_PIECES: Example = Example {
@@ -581,7 +628,10 @@ pub const RAREST_AFTER_TWO_PIECES: Example = Example {
     total: 12,
     hashes: &[ABC, ABC, ABC, ABC],
     workers: 2,
-    rules: Rules { depth: 5, random: 2 },
+    rules: Rules {
+        depth: 5,
+        random: 2,
+    },
     steps: &[
         Step(0, Join, Is(Joined)),
         Step(0, Bits(&[0xf0], 4), Is(Noted(true))),
@@ -596,9 +646,7 @@ pub const RAREST_AFTER_TWO_PIECES: Example = Example {
         Step(0, Settle(2, &[0x61, 0x62, 0x63]), Is(Had)),
         Step(0, Next(3), Request(1, 0, 3)),
     ],
-    wrong: &[
-        (11, Step(0, Next(3), Request(3, 0, 3))),
-    ],
+    wrong: &[(11, Step(0, Next(3), Request(3, 0, 3)))],
 };
 
 pub const WANTS: Example = Example {
@@ -606,7 +654,10 @@ pub const WANTS: Example = Example {
     total: 7,
     hashes: &[ABC, ABC, A],
     workers: 2,
-    rules: Rules { depth: 5, random: 1 },
+    rules: Rules {
+        depth: 5,
+        random: 1,
+    },
     steps: &[
         Step(1, Want(&[0x40], 3), Is(Quiet)),
         Step(0, Join, Is(Joined)),
@@ -639,7 +690,10 @@ pub const ENDGAME_OF_THE_WANTED: Example = Example {
     total: 6,
     hashes: &[ABC, ABC],
     workers: 2,
-    rules: Rules { depth: 5, random: 1 },
+    rules: Rules {
+        depth: 5,
+        random: 1,
+    },
     steps: &[
         Step(0, Join, Is(Joined)),
         Step(0, Bits(&[0xc0], 2), Is(Noted(true))),
@@ -653,9 +707,7 @@ pub const ENDGAME_OF_THE_WANTED: Example = Example {
         Step(1, Want(&[0xc0], 2), Is(Quiet)),
         Step(0, Next(0), Request(1, 0, 3)),
     ],
-    wrong: &[
-        (8, Step(1, Next(0), Is(Idle))),
-    ],
+    wrong: &[(8, Step(1, Next(0), Is(Idle)))],
 };
 
 pub const WANT_BEFORE_THE_BITS: Example = Example {
@@ -663,15 +715,16 @@ pub const WANT_BEFORE_THE_BITS: Example = Example {
     total: 7,
     hashes: &[ABC, ABC, A],
     workers: 1,
-    rules: Rules { depth: 5, random: 1 },
+    rules: Rules {
+        depth: 5,
+        random: 1,
+    },
     steps: &[
         Step(0, Join, Is(Joined)),
         Step(0, Want(&[0x40], 3), Is(Quiet)),
         Step(0, Bits(&[0xe0], 3), Is(Noted(true))),
     ],
-    wrong: &[
-        (2, Step(0, Bits(&[0xe0], 3), Is(Refused(LateBits)))),
-    ],
+    wrong: &[(2, Step(0, Bits(&[0xe0], 3), Is(Refused(LateBits))))],
 };
 
 pub const ASKED_STAYS_ASKED: Example = Example {
@@ -679,7 +732,10 @@ pub const ASKED_STAYS_ASKED: Example = Example {
     total: 6,
     hashes: &[ABC, ABC],
     workers: 2,
-    rules: Rules { depth: 5, random: 1 },
+    rules: Rules {
+        depth: 5,
+        random: 1,
+    },
     steps: &[
         Step(0, Join, Is(Joined)),
         Step(0, Bits(&[0xc0], 2), Is(Noted(true))),
@@ -695,13 +751,11 @@ pub const ASKED_STAYS_ASKED: Example = Example {
         Step(0, Arrived(0, 0, &[0x61, 0x62, 0x63]), Is(Completed)),
         Step(1, Next(0), Cancel(0, 0, 3)),
     ],
-    wrong: &[
-        (10, Step(0, Next(0), Request(0, 0, 3))),
-    ],
+    wrong: &[(10, Step(0, Next(0), Request(0, 0, 3)))],
 };
 
-/// All of them.
-pub const EXAMPLES: &[Example] = &[
+/// Those by the usual rules.
+pub const BY_USUAL_RULES: &[Example] = &[
     FIRST_REQUEST,
     ANOTHER_FIRST_REQUEST,
     ONE_PEER_TO_THE_END,
@@ -723,11 +777,19 @@ pub const EXAMPLES: &[Example] = &[
     STRICT_PRIORITY,
     GONE_PEER_NOT_COUNTED,
     REJOIN_IN_ENDGAME,
+];
+
+/// Those by other rules.
+pub const BY_OTHER_RULES: &[Example] = &[
     DEPTH_TWO,
     DEEP_PIPE,
     RAREST_FROM_THE_START,
     SECOND_PIECE_AT_RANDOM,
     RAREST_AFTER_TWO_PIECES,
+];
+
+/// Those in which not all pieces are wanted.
+pub const OF_WANTS: &[Example] = &[
     WANTS,
     ENDGAME_OF_THE_WANTED,
     WANT_BEFORE_THE_BITS,

@@ -17,6 +17,6 @@ returns c =
     let told : c.forget_all.new.peers ≡ rows old.peers.items = c.forget_all.ensures ∙ ap rows c.deref_mut.ensures.value in
     let whole = with_items_is old.peers c.forget_all.new.peers (ap length told ∙ length_table (length old.peers.items) _ ∙ sym old.peers.ok.0) ∙ told in
     let lt = rw (← c.self.view_is) at c.requires.stored.has_piece in
-    ap (λ (peers : List PeerState). with_pieces (setting_of old.torrent.value.layout old.workers old.rules) peers (set old.pieces.items p c.store.new.self)) whole
-    ∙ (changed_piece _ (rows old.peers.items) _ p (stored_row c.args.index c.args.older) _ _ lt c.index_mut.ensures.value c.store.ensures
+    ap (λ (peers : List PeerState). with_pieces (setting_of old.torrent.value.layout old.workers old.rules) old.wanted.items peers (set old.pieces.items p c.store.new.self)) whole
+    ∙ (changed_piece _ _ (rows old.peers.items) _ p (stored_row c.args.index c.args.older) _ _ lt c.index_mut.ensures.value c.store.ensures
     ∙ ap (λ (t : TablesState). with_block t c.args.worker p c.args.index c.args.older) c.self.view_is)

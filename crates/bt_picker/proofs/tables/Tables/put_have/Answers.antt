@@ -30,6 +30,6 @@ returns c =
     let is_new = not (slice_index_or (peer_row c.self.inside.peers.items w).shows p false) in
     let row : c.index.result.now ≡ peer_row c.self.inside.peers.items w = c.index.ensures ∙ get_or_default c.self.inside.peers.items w c.index.result.now (fresh_peer 0) lw in
     let told : not c.shows-is_new.result ≡ is_new = ap not (c.shows-is_new.ensures ∙ ap (λ (r : PeerState). slice_index_or r.shows p false) row) in
-    changed_both _ _ _ w p (have_row p) (λ row. more_available is_new (less_available false row)) _ _ _ _ lw c.index_mut-2.ensures.value c.put_have.ensures
+    changed_both _ _ _ _ w p (have_row p) (λ row. more_available is_new (less_available false row)) _ _ _ _ lw c.index_mut-2.ensures.value c.put_have.ensures
     lp c.index_mut.ensures.value (c.recount.ensures ∙ ap (λ (x : Bool). more_available x (less_available false c.index_mut.result.now)) told)
     ∙ ap (λ (t : TablesState). announced t w p) c.self.view_is
