@@ -27,7 +27,7 @@ use Rattle.bt_session.specs.Turns.{ChecksAtMost}
 use Rattle.bt_session.proofs.Stretches.{Gains-none}
 
 -- an entry's own worker made one call more
-calls_in-own : (h : History) (e : Entry) (worker : ℕ) → (e.worker == worker) ≡ true →
+pub calls_in-own : (h : History) (e : Entry) (worker : ℕ) → (e.worker == worker) ≡ true →
     calls_in (e ∷ h) worker ≡ calls_in h worker ++ (call_mark e.action, e.reply) ∷ []
 calls_in-own h e worker own =
     ap (λ (b : Bool). calls_of_marks (marks_of h worker ++ (if b then mark_of (length h) e ∷ [] else []))) own

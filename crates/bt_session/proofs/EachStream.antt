@@ -6,7 +6,6 @@ use Rattle.std.proofs.lemmas.Bool.Decides.{nat_tests}
 use Rattle.std.proofs.lemmas.Grind.{get_or-set_at}
 use Rattle.std.proofs.lemmas.List.{get_or-set_other, get_or_append_left, get_or_default, get_or_push, length-map}
 use Rattle.std.proofs.lemmas.List.Elements.{AllWithin-more}
-use Rattle.bt_meta.specs.Layout.{Metainfo}
 use Rattle.bt_picker.specs.Positions.{DeskState}
 use Rattle.bt_session.specs.declared.fault.End.{End}
 use Rattle.bt_session.specs.declared.fault.SessionFault.{SessionFault}
@@ -14,6 +13,7 @@ use Rattle.bt_session.specs.declared.seat.Seat.{Seat}
 use Rattle.bt_session.specs.Conduct.{answers_of}
 use Rattle.bt_session.specs.Serial.{StreamRecord}
 use Rattle.bt_session.specs.Standing.{Standing, Keeps, EachKeeps, LeavesOthers, LeavesRest, HasEnded, IsNew, AreNew, left_of, standing}
+use Rattle.bt_session.specs.Terms.{TermsState}
 use Rattle.bt_session.proofs.Standing.{Keeps-join, Keeps-refl, others_stand}
 
 Keeps-same : (worker : ℕ) (old old' new new' : Standing) → old' ≡ old → new' ≡ new → Keeps worker old new → Keeps worker old' new'
@@ -111,24 +111,24 @@ progress_on false turns turns' i first now new taken idle progress falls same en
           (subst (λ (seats : List Seat). AllWithin HasEnded seats 0 i) (sym (same refl)) (progress.ended (sym is ∙ off))) (ended refl);
     }
 
-new_at : (torrent : Metainfo) (seed : ℕ) (seats : List Seat) (seat : Seat) → AreNew torrent seed seats →
-    IsNew torrent seed (length seats) seat → (last : Bool) (i : ℕ) (any : Seat) → (i == length seats) ≡ last → i < length (seats ++ seat ∷ []) →
-    IsNew torrent seed i (get_or (seats ++ seat ∷ []) i any)
-new_at torrent seed seats seat each one true i any test within =
+new_at : (terms : TermsState) (seed : ℕ) (seats : List Seat) (seat : Seat) → AreNew terms seed seats →
+    IsNew terms seed (length seats) seat → (last : Bool) (i : ℕ) (any : Seat) → (i == length seats) ≡ last → i < length (seats ++ seat ∷ []) →
+    IsNew terms seed i (get_or (seats ++ seat ∷ []) i any)
+new_at terms seed seats seat each one true i any test within =
     let here : i ≡ length seats = grind (arith, nat_tests) in
     let is = get_or_push seats seat any i (sym here) in
-    subst (IsNew torrent seed i) (sym is) (subst (λ (k : ℕ). IsNew torrent seed k seat) (sym here) one)
-new_at torrent seed seats seat each one false i any test within =
+    subst (IsNew terms seed i) (sym is) (subst (λ (k : ℕ). IsNew terms seed k seat) (sym here) one)
+new_at terms seed seats seat each one false i any test within =
     let apart : i ≢ length seats = grind (arith, nat_tests) in
     let before : i < length seats = omega (arith, length-append seats (seat ∷ [])) in
-    subst (IsNew torrent seed i) (sym (get_or_append_left seats (seat ∷ []) any i before)) (each i any before)
+    subst (IsNew terms seed i) (sym (get_or_append_left seats (seat ∷ []) any i before)) (each i any before)
 
 -- one more seat
-pub AreNew-push : (torrent : Metainfo) (seed : ℕ) (seats new : List Seat) (seat : Seat) (worker : ℕ) → length seats ≡ worker →
-    new ≡ seats ++ seat ∷ [] → AreNew torrent seed seats → IsNew torrent seed worker seat → AreNew torrent seed new
-AreNew-push torrent seed seats new seat worker count is each one =
-    let last = subst (λ (k : ℕ). IsNew torrent seed k seat) (sym count) one in
-    subst (AreNew torrent seed) (sym is) (λ i. λ any. λ within. new_at torrent seed seats seat each last (i == length seats) i any refl within)
+pub AreNew-push : (terms : TermsState) (seed : ℕ) (seats new : List Seat) (seat : Seat) (worker : ℕ) → length seats ≡ worker →
+    new ≡ seats ++ seat ∷ [] → AreNew terms seed seats → IsNew terms seed worker seat → AreNew terms seed new
+AreNew-push terms seed seats new seat worker count is each one =
+    let last = subst (λ (k : ℕ). IsNew terms seed k seat) (sym count) one in
+    subst (AreNew terms seed) (sym is) (λ i. λ any. λ within. new_at terms seed seats seat each last (i == length seats) i any refl within)
 
 -- there is an end for each seat
 pub ends_count : (ends : List (Result End SessionFault)) (seats : List Seat) → map Some ends ≡ map (λ seat. seat.session.outcome) seats →

@@ -4,7 +4,6 @@ use Rattle.std.proofs.Common.{inr}
 use Rattle.std.specs.Prelude.{if◌then◌else◌}
 use Rattle.std.proofs.lemmas.List.{append-nil}
 use Rattle.std.specs.Io.KnownBytes.{Appends}
-use Rattle.bt_meta.specs.Layout.{piece_count}
 use Rattle.bt_wire.specs.declared.hello.Hello.{Hello}
 use Rattle.bt_wire.specs.declared.message.Message.{Message}
 use Rattle.bt_wire.specs.declared.message.Message.TheVariants as messages
@@ -87,7 +86,7 @@ pub join_refused : (reason : Reason) (greeting : List ℕ) (interested : Bool) (
     FirstFails (faults.Refused reason) greeting interested old source past written past' written'
 join_refused reason greeting interested hello stream old source past past' written written' wrote hears gains =
     let event : Event = Called marks.Join (replies.Refused reason) in
-    let begins : BeginsTurn (piece_count old.torrent.layout) (messages.Hello hello) (event ∷ []) =
+    let begins : BeginsTurn old.terms (messages.Hello hello) (event ∷ []) =
     ([], (refl, unchecked marks.Join (replies.Refused reason))) in
     let ends : EndsCalls (faults.Refused reason) (event ∷ []) =
     (marks.Join, record { before = []; accepted = refl; refused = refl; last = refl }) in (
@@ -160,7 +159,7 @@ leave_lacks_memory fault interested old source past past' written is lacks = (
 )
 
 stopped_turn : (fault : SessionFault) (m : Message) (stream : InboundState) (old : Start) (source : SourceState) (events : List Event) →
-    Hears old.stream old.left source.left m stream → StopsTurn fault (piece_count old.torrent.layout) m events → BreaksBy fault old source events
+    Hears old.stream old.left source.left m stream → StopsTurn fault old.terms m events → BreaksBy fault old source events
 stopped_turn (faults.Refused reason) m stream old source events hears stops =
     inl (record { message = m; stream = stream; hears = hears; begins = stops.0; ends = stops.1 })
 stopped_turn faults.WriteFault m stream old source events hears stops =
@@ -175,10 +174,10 @@ stopped_turn _ m stream old source events hears stops = absurd stops.1
 pub attending_fails : (fault : SessionFault) (m : Message) (stream : InboundState) (old : Start) (source : SourceState) (a d : Outlet)
     (past' : PlaceRecord) →
     IsLater m → Hears old.stream old.left source.left m stream →
-    (events : List Event) × (StopsTurn fault (piece_count old.torrent.layout) m events × PerformsUpTo fault a events d) → Leaves d.past past' →
+    (events : List Event) × (StopsTurn fault old.terms m events × PerformsUpTo fault a events d) → Leaves d.past past' →
     LaterFails fault a.interested old source a.past a.written past' d.written
 attending_fails fault m stream old source a d past' later hears h left =
-    let still = stays_in fault (piece_count old.torrent.layout) m h.0 later h.1.0 in (
+    let still = stays_in fault old.terms m h.0 later h.1.0 in (
       h.0,
       (
         left.leave,
@@ -194,8 +193,8 @@ attending_fails fault m stream old source a d past' later hears h left =
 -- the first turn of a session broke off
 pub session_fails_first : (fault : SessionFault) (old new : SessionState) (out out' : Surroundings) (source : SourceState) → old.joined ≡ false →
     new.outcome ≡ Some (Err fault) →
-    FirstFails fault (greeting old.torrent.infohash old.worker) old.interested
-    (start old.torrent false old.stream out.left) source out.past out.written out'.past out'.written →
+    FirstFails fault (greeting old.terms.infohash old.worker) old.interested
+    (start old.terms false old.stream out.left) source out.past out.written out'.past out'.written →
     FailsWith fault old out source new out'
 session_fails_first fault old new out out' source first is h =
     record {
@@ -204,7 +203,7 @@ session_fails_first fault old new out out' source first is h =
       gains = subst (λ (es : List Event). GainsUpTo out.past es out'.past) (sym (append-nil h.0)) h.1.0;
       departs = λ in_now. absurd (cc (h.1.1, subst (λ (b : Bool). is_in b h.0 ≡ true) first in_now));
       wrote = subst (λ (b : Bool). WroteFront fault out.written
-          ((if b then [] else greeting old.torrent.infohash old.worker) ++ says old.interested h.0) out'.written) (sym first) h.1.2;
-      cause = subst (λ (b : Bool). BreaksBy fault (start old.torrent b old.stream out.left) source h.0) (sym first) h.1.3;
+          ((if b then [] else greeting old.terms.infohash old.worker) ++ says old.interested h.0) out'.written) (sym first) h.1.2;
+      cause = subst (λ (b : Bool). BreaksBy fault (start old.terms b old.stream out.left) source h.0) (sym first) h.1.3;
       outcome = is;
     }

@@ -1,10 +1,10 @@
 -- What the last checks of a run leave, and how its sessions ended.
 use Rattle.std.proofs.Common.{◌≡◌, ◌≢◌, ◌<◌, ◌≤◌, ℕ, zero, suc, Bool, true, false, List, [], ◌∷◌, Option, Some, None, Result, Ok, Err, length, map}
 use Rattle.std.proofs.Common.{get_or, replicate, lit≤, refl, sym, ap, subst, ◌==◌, ◌∙◌, arith, inl}
-use Rattle.std.specs.Prelude.{nat_lt, is_err, OnOk, OnErr}
+use Rattle.std.specs.Prelude.{nat_lt, is_err, OnOk, OnErr, ◌&&◌, slice_index_or}
 use Rattle.std.proofs.lemmas.Bool.Decides.{nat_tests}
 use Rattle.std.proofs.lemmas.List.{get_or-map}
-use Rattle.bt_meta.specs.Layout.{Layout, Metainfo, piece_count}
+use Rattle.bt_meta.specs.Layout.{Layout, piece_count}
 use Rattle.bt_history.specs.declared.event.Event.{Event as Entry}
 use Rattle.bt_history.specs.History.{History}
 use Rattle.bt_history.specs.Pieces.{had}
@@ -21,7 +21,8 @@ use Rattle.bt_session.specs.Hearing.{most_reads}
 use Rattle.bt_session.specs.Places.{PlaceRecord, Gains}
 use Rattle.bt_session.specs.Sessions.{SessionState, Running}
 use Rattle.bt_session.specs.Serial.{StreamRecord, Ended, EachEnded, ChecksAfter, Finishes, around, before_all, own_record, source_of}
-use Rattle.bt_session.specs.Standing.{Standing, Stands, StandsBy, ConductBy, DevicesBy, EachKeeps, LeavesOthers, LeavesRest, IsNew, AreNew, standing}
+use Rattle.bt_session.specs.Terms.{TermsState}
+use Rattle.bt_session.specs.Standing.{Standing, Stands, StandsBy, ConductBy, DevicesBy, EachKeeps, LeavesOthers, LeavesRest, IsFresh, IsNew, AreNew, standing}
 use Rattle.bt_session.proofs.Conduct.{Conducts-none, Conducts-draws}
 use Rattle.bt_session.proofs.EachStream.{ends_count}
 use Rattle.bt_session.proofs.Desks.{calls_in-other, and-more, had-more}
@@ -67,23 +68,23 @@ finished_leaves first worker (suc count) new finished =
     LeavesOthers-join worker first finished.0 new (finished_leaves first worker count finished.0 finished.1)
     (one_leaves (waits first.setting first.history count) finished.0 worker count new finished.2)
 
-by_result : {E : Type 0} (result : Result Unit E) (worker : ℕ) (before desk : DeskState) → calls_in before.history worker ≡ [] →
+by_result : {E : Type 0} (result : Result Unit E) (worker : ℕ) (before desk : DeskState) →
     OnOk result (FinishedBelow before worker (piece_count before.setting.torrent) desk) →
-    OnErr result (GivesUp before worker desk) → Finishes worker (is_err result) desk
-by_result (Ok unit) worker before desk idle done given_up =
+    OnErr result (GivesUp before worker desk) → Finishes worker (calls_in before.history worker) (is_err result) desk
+by_result (Ok unit) worker before desk done given_up =
     let left = finished_leaves before worker (piece_count before.setting.torrent) desk done in
     record {
       before = before;
-      idle = idle;
+      opened = refl;
       count = piece_count before.setting.torrent;
       finished = done;
       all = λ off. sym (ap (λ (setting : Setting). piece_count setting.torrent) left.setting);
       still = λ on. absurd cc;
     }
-by_result (Err e) worker before desk idle done given_up =
+by_result (Err e) worker before desk done given_up =
     record {
       before = before;
-      idle = idle;
+      opened = refl;
       count = given_up.piece;
       finished = given_up.below;
       all = λ off. absurd cc;
@@ -92,10 +93,10 @@ by_result (Err e) worker before desk idle done given_up =
 
 -- the last checks, whether memory ran out or not
 pub checks_finish : {E : Type 0} (result : Result Unit E) (short : Bool) (worker : ℕ) (before desk : DeskState) → short ≡ is_err result →
-    calls_in before.history worker ≡ [] → OnOk result (FinishedBelow before worker (piece_count before.setting.torrent) desk) →
-    OnErr result (GivesUp before worker desk) → Finishes worker short desk
-checks_finish result short worker before desk is idle done given_up =
-    subst (λ (b : Bool). Finishes worker b desk) (sym is) (by_result result worker before desk idle done given_up)
+    OnOk result (FinishedBelow before worker (piece_count before.setting.torrent) desk) →
+    OnErr result (GivesUp before worker desk) → Finishes worker (calls_in before.history worker) short desk
+checks_finish result short worker before desk is done given_up =
+    subst (λ (b : Bool). Finishes worker (calls_in before.history worker) b desk) (sym is) (by_result result worker before desk done given_up)
 
 -- they leave the sessions alone
 pub checks_leave : {E : Type 0} (result : Result Unit E) (worker : ℕ) (before desk : DeskState) →
@@ -104,38 +105,56 @@ pub checks_leave : {E : Type 0} (result : Result Unit E) (worker : ℕ) (before 
 checks_leave (Ok unit) worker before desk done given_up = finished_leaves before worker (piece_count before.setting.torrent) desk done
 checks_leave (Err e) worker before desk done given_up = finished_leaves before worker given_up.piece desk given_up.below
 
--- a worker beyond those that had turns made no call
-pub still_idle : (count worker : ℕ) (first mid : DeskState) → count ≤ worker → first.history ≡ [] → LeavesRest count first mid →
-    calls_in mid.history worker ≡ []
-still_idle count worker first mid above empty rest = rest.calls worker above ∙ ap (λ (h : History). calls_in h worker) empty
+-- after turns of others a worker finishes from the calls that it had made before
+pub finishes_from : (count worker : ℕ) (first mid last : DeskState) (short : Bool) → count ≤ worker → LeavesRest count first mid →
+    Finishes worker (calls_in mid.history worker) short last → Finishes worker (calls_in first.history worker) short last
+finishes_from count worker first mid last short above rest finishes =
+    subst (λ (calls : Calls). Finishes worker calls short last) (rest.calls worker above) finishes
+
+-- a desk where a worker called nothing, and no piece is had, is to its session what an empty one is
+own_fresh : (desk : DeskState) (worker : ℕ) (told : List Bool) → calls_in desk.history worker ≡ [] →
+    ((piece : ℕ) → had desk.history piece ≡ false) →
+    own_record (record { setting = desk.setting; history = [] }) worker told false ≡ own_record desk worker told false
+unfolding had
+own_fresh desk worker told uncalled none_had =
+    λ i. record {
+      lent = [];
+      worker = worker;
+      setting = desk.setting;
+      calls = sym uncalled i;
+      others = λ other. [];
+      had = λ piece. nat_lt piece (piece_count desk.setting.torrent) && sym (none_had piece) i;
+      told = λ piece. slice_index_or told piece false;
+      short = false;
+    }
 
 -- what a stream's session began in
-begun_in : (torrent : Metainfo) (seed worker : ℕ) (setting : Setting) (desk : DeskState) (seat : Seat) (stream : StreamRecord) →
-    setting.torrent ≡ torrent.layout → desk.setting ≡ setting → desk.history ≡ [] → IsNew torrent seed worker seat →
-    Stands torrent worker (generator_of seed worker) (before_all setting worker stream) stream (standing desk seat stream)
-begun_in torrent seed worker setting desk seat stream layout same_setting empty new =
+begun_in : (terms : TermsState) (seed worker : ℕ) (setting : Setting) (desk : DeskState) (seat : Seat) (stream : StreamRecord) →
+    setting.torrent ≡ terms.layout → desk.setting ≡ setting → calls_in desk.history worker ≡ [] →
+    ((piece : ℕ) → had desk.history piece ≡ false) → IsNew terms seed worker seat →
+    Stands terms worker (generator_of seed worker) (before_all setting worker stream) stream (standing desk seat stream)
+begun_in terms seed worker setting desk seat stream layout same_setting uncalled none_had new =
     let first : DeskState = record { setting = setting; history = [] } in
-    let is_desk : first ≡ desk =
-    sym (ap (λ (s : Setting). let d : DeskState = record { setting = s; history = desk.history } in d) same_setting
-    ∙ ap (λ (h : History). let d : DeskState = record { setting = setting; history = h } in d) empty) in
+    let is_first : first ≡ record { setting = desk.setting; history = [] } =
+    ap (λ (s : Setting). let d : DeskState = record { setting = s; history = [] } in d) (sym same_setting) in
     let untold : replicate (piece_count setting.torrent) false ≡ seat.told =
     ap (λ (t : Layout). replicate (piece_count t) false) layout ∙ sym new.told in
     let before : PlaceRecord = own_record first worker (replicate (piece_count setting.torrent) false) false in
     let same : before ≡ own_record desk worker seat.told false =
-    ap (λ (d : DeskState). own_record d worker (replicate (piece_count setting.torrent) false) false) is_desk
+    ap (λ (d : DeskState). own_record d worker (replicate (piece_count setting.torrent) false) false) is_first
+    ∙ own_fresh desk worker (replicate (piece_count setting.torrent) false) uncalled none_had
     ∙ ap (λ (told : List Bool). own_record desk worker told false) untold in
     let runs : seat.session.outcome ≡ None = ap (λ (session : SessionState). session.outcome) new.session in
     let unasked : seat.session.asked ≡ 0 = ap (λ (session : SessionState). session.asked) new.session in
     let source = source_of stream seat.session.asked in
-    let uncalled : calls_in desk.history worker ≡ [] = ap (λ (h : History). calls_in h worker) empty in
     let conduct : Conducts true (generator_of seed worker) [] (calls_in desk.history worker) (answers_of seat.rng) =
     subst (Conducts true (generator_of seed worker) [] (calls_in desk.history worker)) (sym new.generator)
     (subst (λ (calls : Calls). Conducts true (generator_of seed worker) [] calls (generator_of seed worker)) (sym uncalled)
     (Conducts-none true (generator_of seed worker) [])) in
-    let running : Running torrent worker (before_all setting worker stream) seat.session (around desk worker seat.told false stream) =
+    let running : Running terms worker (before_all setting worker stream) seat.session (around desk worker seat.told false stream) =
     inl (record { state = new.session; left = refl; gains = subst (Gains before []) same (Gains-none before); written = refl }) in
     record {
-      stands = subst (λ (o : Option (Result End SessionFault)). StandsBy o torrent worker (before_all setting worker stream) seat.session source
+      stands = subst (λ (o : Option (Result End SessionFault)). StandsBy o terms worker (before_all setting worker stream) seat.session source
           (λ short. around desk worker seat.told short stream)) (sym runs) running;
       conduct = subst (λ (o : Option (Result End SessionFault)). ConductBy o (generator_of seed worker) [] (calls_in desk.history worker)
           (answers_of seat.rng)) (sym runs) conduct;
@@ -155,15 +174,15 @@ checks_after : (outcome : Result End SessionFault) (generator left : Words) (cal
 checks_after (Ok end) generator left calls conduct = ap all_checked conduct.calls ∙ conduct.checked refl
 checks_after (Err fault) generator left calls words = tt
 
-ended_so : (torrent : Metainfo) (seed worker : ℕ) (stream : StreamRecord) (now : Standing) (outcome : Result End SessionFault) →
+ended_so : (terms : TermsState) (seed worker : ℕ) (stream : StreamRecord) (now : Standing) (outcome : Result End SessionFault) →
     now.session.outcome ≡ Some outcome →
-    Stands torrent worker (generator_of seed worker) (before_all now.desk.setting worker stream) stream now →
-    Ended outcome torrent seed worker stream now.desk now.stream
-ended_so torrent seed worker stream now outcome is stands =
+    Stands terms worker (generator_of seed worker) (before_all now.desk.setting worker stream) stream now →
+    Ended outcome terms seed worker stream now.desk now.stream
+ended_so terms seed worker stream now outcome is stands =
     let source = source_of now.stream now.session.asked in
-    let ends : StandsBy (Some outcome) torrent worker (before_all now.desk.setting worker stream) now.session source
+    let ends : StandsBy (Some outcome) terms worker (before_all now.desk.setting worker stream) now.session source
     (λ short. around now.desk worker now.told short now.stream) =
-    subst (λ (o : Option (Result End SessionFault)). StandsBy o torrent worker (before_all now.desk.setting worker stream) now.session source
+    subst (λ (o : Option (Result End SessionFault)). StandsBy o terms worker (before_all now.desk.setting worker stream) now.session source
     (λ short. around now.desk worker now.told short now.stream)) is stands.stands in
     let conduct : ConductBy (Some outcome) (generator_of seed worker) [] (calls_in now.desk.history worker) now.generator =
     subst (λ (o : Option (Result End SessionFault)). ConductBy o (generator_of seed worker) [] (calls_in now.desk.history worker) now.generator)
@@ -195,14 +214,14 @@ end_at ends seats i end any told within =
     ∙ get_or-map Some ends i end (Some end) within'
 
 -- each stream's session ended so, once the last checks were made
-pub each_ended : {X : Type 0} (record_of : X → StreamRecord) (torrent : Metainfo) (seed : ℕ) (first mid last : DeskState) (seats seats' : List Seat)
+pub each_ended : {X : Type 0} (record_of : X → StreamRecord) (terms : TermsState) (seed : ℕ) (first mid last : DeskState) (seats seats' : List Seat)
     (streams streams' : List X) (ends : List (Result End SessionFault)) →
-    first.setting.torrent ≡ torrent.layout → first.history ≡ [] → AreNew torrent seed seats → length seats ≡ length streams →
+    first.setting.torrent ≡ terms.layout → IsFresh (length streams) first → AreNew terms seed seats → length seats ≡ length streams →
     length seats' ≡ length streams →
     EachKeeps record_of first seats streams mid seats' streams' → LeavesRest (length streams) first mid → (worker : ℕ) → length streams ≤ worker →
     LeavesOthers worker mid last →
-    map Some ends ≡ map (λ seat. seat.session.outcome) seats' → EachEnded record_of torrent seed streams last streams' ends
-each_ended record_of torrent seed first mid last seats seats' streams streams' ends layout empty new same same' keeps rest worker above left told =
+    map Some ends ≡ map (λ seat. seat.session.outcome) seats' → EachEnded record_of terms seed streams last streams' ends
+each_ended record_of terms seed first mid last seats seats' streams streams' ends layout fresh new same same' keeps rest worker above left told =
     λ i. λ stream. λ end. λ within.
     let within_seats : i < length seats = omega (arith, same) in
     let within_seats' : i < length seats' = omega (arith, same') in
@@ -214,7 +233,8 @@ each_ended record_of torrent seed first mid last seats seats' streams streams' e
     let kept = Keeps-join i (standing first (get_or seats i any) old) (standing mid seat now) (standing last seat now)
     (keeps i any stream within) (others_stand worker i mid last seat.session seat.told now (answers_of seat.rng) left apart) in
     let setting : first.setting ≡ last.setting = sym (left.setting ∙ rest.setting) in
-    let layout' : last.setting.torrent ≡ torrent.layout = sym (ap (λ (s : Setting). s.torrent) setting) ∙ layout in
-    let start = begun_in torrent seed i last.setting first (get_or seats i any) old layout' setting empty (new i any within_seats) in
-    ended_so torrent seed i old (standing last seat now) (get_or ends i end) (end_at ends seats' i end any told within_seats')
-    (kept.still torrent (generator_of seed i) (before_all last.setting i old) old start)
+    let layout' : last.setting.torrent ≡ terms.layout = sym (ap (λ (s : Setting). s.torrent) setting) ∙ layout in
+    let start = begun_in terms seed i last.setting first (get_or seats i any) old layout' setting (fresh.uncalled i within)
+    fresh.none_had (new i any within_seats) in
+    ended_so terms seed i old (standing last seat now) (get_or ends i end) (end_at ends seats' i end any told within_seats')
+    (kept.still terms (generator_of seed i) (before_all last.setting i old) old start)

@@ -3,7 +3,6 @@ use Rattle.std.proofs.Common.{◌≡◌, ℕ, Bool, false, List, [], ◌∷◌, 
 use Rattle.std.specs.Prelude.{◌==◌, if◌then◌else◌}
 use Rattle.std.proofs.lemmas.Bool.Decides.{nat_tests}
 use Rattle.std.specs.Borrow.{GName}
-use Rattle.bt_meta.specs.Layout.{Metainfo}
 use Rattle.bt_wire.specs.declared.message.Message.{Message}
 use Rattle.bt_wire.specs.declared.message.Message.TheVariants as messages
 use Rattle.bt_history.specs.declared.call.Reply.{Reply}
@@ -17,6 +16,7 @@ use Rattle.bt_session.specs.Hearing.{SourceState}
 use Rattle.bt_session.specs.Places.{PlaceRecord, Gains, GainsUpTo}
 use Rattle.bt_session.specs.Sessions.{SessionState, GoesOn, Ends, FailsWith}
 use Rattle.bt_session.specs.Standing.{LeavesOthers}
+use Rattle.bt_session.specs.Terms.{TermsState}
 use Rattle.bt_session.specs.Turning.{Reading, Surroundings, TakesTurn, TellsNews, AsksForNews}
 
 abbrev pub own : PlaceRecord → PlaceRecord
@@ -58,9 +58,9 @@ own_asks : (pieces : ℕ) (m : Message) (old : PlaceRecord) (events : List Event
 own_asks pieces (messages.Hello hello) old events new asks = tt
 own_asks pieces _ old events new asks = own_news pieces old events new asks
 
-own_turn : (torrent : Metainfo) (greeting : List ℕ) (old : Reading) (out : Surroundings) (new : Reading) (out' : Surroundings) →
-    TakesTurn torrent greeting old out new out' → TakesTurn torrent greeting old (own_around out) new (own_around out')
-own_turn torrent greeting old out new out' turn = record {
+own_turn : (terms : TermsState) (greeting : List ℕ) (old : Reading) (out : Surroundings) (new : Reading) (out' : Surroundings) →
+    TakesTurn terms greeting old out new out' → TakesTurn terms greeting old (own_around out) new (own_around out')
+own_turn terms greeting old out new out' turn = record {
   message = turn.message;
   events = turn.events;
   hears = turn.hears;

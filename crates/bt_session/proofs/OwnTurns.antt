@@ -2,7 +2,6 @@
 use Rattle.std.proofs.Common.{◌≡◌, ◌≤◌, ℕ, Bool, true, false, List, Option, Some, None, Result, Ok, Err, refl, sym, ap, subst, ◌∙◌}
 use Rattle.std.specs.Prelude.{IfOk, IfErr, IfSome, IfNone, OnOk, OnErr}
 use Rattle.std.specs.Borrow.{GName}
-use Rattle.bt_meta.specs.Layout.{Metainfo}
 use Rattle.bt_picker.specs.Positions.{DeskState}
 use Rattle.bt_session.specs.declared.fault.End.{End}
 use Rattle.bt_session.specs.declared.fault.SessionFault.{SessionFault}
@@ -16,6 +15,7 @@ use Rattle.bt_session.specs.Places.{PlaceRecord, GainsUpTo}
 use Rattle.bt_session.specs.Serial.{StreamRecord, DevicesAfter, around, own_record, source_of}
 use Rattle.bt_session.specs.Sessions.{SessionState, GoesOn, Ends, FailsWith, Running}
 use Rattle.bt_session.specs.Standing.{Standing, Stands, StandsBy, ConductBy, DevicesBy, Keeps, LeavesOthers}
+use Rattle.bt_session.specs.Terms.{TermsState}
 use Rattle.bt_session.specs.Turning.{Surroundings}
 use Rattle.bt_session.proofs.Conduct.{Conducts-join, DrawsWords-join}
 use Rattle.bt_session.proofs.Own.{others_left, own, own_goes_on, own_ends, own_fails}
@@ -56,37 +56,37 @@ turn_gains (Err fault) old new runs turned = (_, (turned.fails runs).gains)
 abbrev around_place : PlaceRecord → StreamRecord → Surroundings
 around_place place stream = record { past = place; left = stream.left; written = stream.written }
 
-went_on : (torrent : Metainfo) (worker : ℕ) (begun : Words) (out : Surroundings) (first : StreamRecord) (old new : Standing) (p q : PlaceRecord) →
+went_on : (terms : TermsState) (worker : ℕ) (begun : Words) (out : Surroundings) (first : StreamRecord) (old new : Standing) (p q : PlaceRecord) →
     p ≡ own_record old.desk worker old.told false → q ≡ own_record new.desk worker new.told q.short → old.session.outcome ≡ None →
-    Stands torrent worker begun out first old → GoesOn old.session (around_place p old.stream) new.session (around_place q new.stream) →
-    StandsBy new.session.outcome torrent worker out new.session (source_of new.stream new.session.asked)
+    Stands terms worker begun out first old → GoesOn old.session (around_place p old.stream) new.session (around_place q new.stream) →
+    StandsBy new.session.outcome terms worker out new.session (source_of new.stream new.session.asked)
     (λ short. around new.desk worker new.told short new.stream)
-went_on torrent worker begun out first old new p q is is' runs stands go =
+went_on terms worker begun out first old new p q is is' runs stands go =
     let short : q.short ≡ false = go.turn.gains.short ∙ ap (λ (r : PlaceRecord). r.short) is in
     let same : q ≡ own_record new.desk worker new.told false = is' ∙ ap (own_record new.desk worker new.told) short in
     let source = source_of old.stream old.session.asked in
-    let running : Running torrent worker out old.session (around old.desk worker old.told false old.stream) =
-    subst (λ (o : Option (Result End SessionFault)). StandsBy o torrent worker out old.session source
+    let running : Running terms worker out old.session (around old.desk worker old.told false old.stream) =
+    subst (λ (o : Option (Result End SessionFault)). StandsBy o terms worker out old.session source
     (λ short. around old.desk worker old.told short old.stream)) runs stands.stands in
     let from : GoesOn old.session (around old.desk worker old.told false old.stream) new.session (around_place q new.stream) =
     subst (λ (r : PlaceRecord). GoesOn old.session (around_place r old.stream) new.session (around_place q new.stream)) is go in
     let to : GoesOn old.session (around old.desk worker old.told false old.stream) new.session (around new.desk worker new.told false new.stream) =
     subst (λ (r : PlaceRecord). GoesOn old.session (around old.desk worker old.told false old.stream)
     new.session (around_place r new.stream)) same from in
-    subst (λ (o : Option (Result End SessionFault)). StandsBy o torrent worker out new.session (source_of new.stream new.session.asked)
+    subst (λ (o : Option (Result End SessionFault)). StandsBy o terms worker out new.session (source_of new.stream new.session.asked)
     (λ short. around new.desk worker new.told short new.stream))
-    (sym go.unended) (running_on torrent worker out old.session _ new.session _ running to)
+    (sym go.unended) (running_on terms worker out old.session _ new.session _ running to)
 
-came_to_end : (end : End) (torrent : Metainfo) (worker : ℕ) (begun : Words) (out : Surroundings) (first : StreamRecord) (old new : Standing) (p q : PlaceRecord)
+came_to_end : (end : End) (terms : TermsState) (worker : ℕ) (begun : Words) (out : Surroundings) (first : StreamRecord) (old new : Standing) (p q : PlaceRecord)
     (has_ended : Bool) →
     p ≡ own_record old.desk worker old.told false → q ≡ own_record new.desk worker new.told q.short → old.session.outcome ≡ None →
-    Stands torrent worker begun out first old → Ends end old.session (around_place p old.stream) has_ended new.session (around_place q new.stream) →
-    StandsBy new.session.outcome torrent worker out new.session (source_of new.stream new.session.asked)
+    Stands terms worker begun out first old → Ends end old.session (around_place p old.stream) has_ended new.session (around_place q new.stream) →
+    StandsBy new.session.outcome terms worker out new.session (source_of new.stream new.session.asked)
     (λ short. around new.desk worker new.told short new.stream)
-came_to_end end torrent worker begun out first old new p q has_ended is is' runs stands ends =
+came_to_end end terms worker begun out first old new p q has_ended is is' runs stands ends =
     let source = source_of old.stream old.session.asked in
-    let running : Running torrent worker out old.session (around old.desk worker old.told false old.stream) =
-    subst (λ (o : Option (Result End SessionFault)). StandsBy o torrent worker out old.session source
+    let running : Running terms worker out old.session (around old.desk worker old.told false old.stream) =
+    subst (λ (o : Option (Result End SessionFault)). StandsBy o terms worker out old.session source
     (λ short. around old.desk worker old.told short old.stream)) runs stands.stands in
     let from : Ends end old.session (around old.desk worker old.told false old.stream) has_ended new.session (around_place q new.stream) =
     subst (λ (r : PlaceRecord). Ends end old.session (around_place r old.stream) has_ended new.session (around_place q new.stream)) is ends in
@@ -94,22 +94,22 @@ came_to_end end torrent worker begun out first old new p q has_ended is is' runs
     (around new.desk worker new.told q.short new.stream) =
     subst (λ (r : PlaceRecord). Ends end old.session (around old.desk worker old.told false old.stream) has_ended new.session
     (around_place r new.stream)) is' from in
-    subst (λ (o : Option (Result End SessionFault)). StandsBy o torrent worker out new.session (source_of new.stream new.session.asked)
+    subst (λ (o : Option (Result End SessionFault)). StandsBy o terms worker out new.session (source_of new.stream new.session.asked)
     (λ short. around new.desk worker new.told short new.stream))
-    (sym ends.outcome) (q.short, running_ends end torrent worker out old.session _ has_ended new.session _ running (λ none. to))
+    (sym ends.outcome) (q.short, running_ends end terms worker out old.session _ has_ended new.session _ running (λ none. to))
 
-broke_off : (fault : SessionFault) (torrent : Metainfo) (worker : ℕ) (begun : Words) (out : Surroundings) (first : StreamRecord) (old new : Standing)
+broke_off : (fault : SessionFault) (terms : TermsState) (worker : ℕ) (begun : Words) (out : Surroundings) (first : StreamRecord) (old new : Standing)
     (p q : PlaceRecord) →
     p ≡ own_record old.desk worker old.told false → q ≡ own_record new.desk worker new.told q.short → old.session.outcome ≡ None →
-    Stands torrent worker begun out first old → FailsWith fault old.session (around_place p old.stream) (source_of new.stream new.session.asked) new.session
+    Stands terms worker begun out first old → FailsWith fault old.session (around_place p old.stream) (source_of new.stream new.session.asked) new.session
     (around_place q new.stream) →
-    StandsBy new.session.outcome torrent worker out new.session (source_of new.stream new.session.asked)
+    StandsBy new.session.outcome terms worker out new.session (source_of new.stream new.session.asked)
     (λ short. around new.desk worker new.told short new.stream)
-broke_off fault torrent worker begun out first old new p q is is' runs stands fails =
+broke_off fault terms worker begun out first old new p q is is' runs stands fails =
     let source = source_of old.stream old.session.asked in
     let source' = source_of new.stream new.session.asked in
-    let running : Running torrent worker out old.session (around old.desk worker old.told false old.stream) =
-    subst (λ (o : Option (Result End SessionFault)). StandsBy o torrent worker out old.session source
+    let running : Running terms worker out old.session (around old.desk worker old.told false old.stream) =
+    subst (λ (o : Option (Result End SessionFault)). StandsBy o terms worker out old.session source
     (λ short. around old.desk worker old.told short old.stream)) runs stands.stands in
     let from : FailsWith fault old.session (around old.desk worker old.told false old.stream) source' new.session (around_place q new.stream) =
     subst (λ (r : PlaceRecord). FailsWith fault old.session (around_place r old.stream) source' new.session (around_place q new.stream)) is fails in
@@ -117,12 +117,12 @@ broke_off fault torrent worker begun out first old new p q is is' runs stands fa
     (around new.desk worker new.told q.short new.stream) =
     subst (λ (r : PlaceRecord). FailsWith fault old.session (around old.desk worker old.told false old.stream) source' new.session
     (around_place r new.stream)) is' from in
-    subst (λ (o : Option (Result End SessionFault)). StandsBy o torrent worker out new.session source'
+    subst (λ (o : Option (Result End SessionFault)). StandsBy o terms worker out new.session source'
     (λ short. around new.desk worker new.told short new.stream))
-    (sym fails.outcome) (q.short, running_fails fault torrent worker out old.session _ source' new.session _ running (λ none. to))
+    (sym fails.outcome) (q.short, running_fails fault terms worker out old.session _ source' new.session _ running (λ none. to))
 
-sound_on : (first : StreamRecord) (old new : Standing) {torrent : Metainfo} {worker : ℕ} {begun : Words} {out : Surroundings} → old.session.outcome ≡ None →
-    Stands torrent worker begun out first old →
+sound_on : (first : StreamRecord) (old new : Standing) {terms : TermsState} {worker : ℕ} {begun : Words} {out : Surroundings} → old.session.outcome ≡ None →
+    Stands terms worker begun out first old →
     (new.stream.failed ≡ old.stream.failed) × (new.stream.writer_failed ≡ old.stream.writer_failed) →
     (new.stream.failed ≡ first.failed) × (new.stream.writer_failed ≡ first.writer_failed)
 sound_on first old new runs stands sound =
@@ -131,30 +131,30 @@ sound_on first old new runs stands sound =
     (sound.0 ∙ before.0, sound.1 ∙ before.1)
 
 -- the calls so far of a session that runs
-conduct_so_far : (torrent : Metainfo) (worker : ℕ) (begun : Words) (out : Surroundings) (first : StreamRecord) (old : Standing) (p : PlaceRecord) →
-    own p ≡ own_record old.desk worker old.told false → old.session.outcome ≡ None → Stands torrent worker begun out first old →
+conduct_so_far : (terms : TermsState) (worker : ℕ) (begun : Words) (out : Surroundings) (first : StreamRecord) (old : Standing) (p : PlaceRecord) →
+    own p ≡ own_record old.desk worker old.told false → old.session.outcome ≡ None → Stands terms worker begun out first old →
     Conducts true begun out.past.calls p.calls old.generator
-conduct_so_far torrent worker begun out first old p is runs stands =
+conduct_so_far terms worker begun out first old p is runs stands =
     subst (λ (calls : Calls). Conducts true begun out.past.calls calls old.generator) (sym (ap (λ (r : PlaceRecord). r.calls) is))
     (subst (λ (o : Option (Result End SessionFault)). ConductBy o begun out.past.calls (calls_in old.desk.history worker) old.generator)
     runs stands.conduct)
 
-conduct_on : (torrent : Metainfo) (worker : ℕ) (begun : Words) (out : Surroundings) (first : StreamRecord) (old new : Standing) (p q : PlaceRecord) →
+conduct_on : (terms : TermsState) (worker : ℕ) (begun : Words) (out : Surroundings) (first : StreamRecord) (old new : Standing) (p q : PlaceRecord) →
     own p ≡ own_record old.desk worker old.told false → own q ≡ own_record new.desk worker new.told q.short → old.session.outcome ≡ None →
-    Stands torrent worker begun out first old → Conducts true old.generator p.calls q.calls new.generator →
+    Stands terms worker begun out first old → Conducts true old.generator p.calls q.calls new.generator →
     Conducts true begun out.past.calls (calls_in new.desk.history worker) new.generator
-conduct_on torrent worker begun out first old new p q is is' runs stands turn =
+conduct_on terms worker begun out first old new p q is is' runs stands turn =
     subst (λ (calls : Calls). Conducts true begun out.past.calls calls new.generator) (ap (λ (r : PlaceRecord). r.calls) is')
     (Conducts-join true begun old.generator new.generator out.past.calls p.calls q.calls
-    (conduct_so_far torrent worker begun out first old p is runs stands) turn)
+    (conduct_so_far terms worker begun out first old p is runs stands) turn)
 
-words_on : (torrent : Metainfo) (worker : ℕ) (begun : Words) (out : Surroundings) (first : StreamRecord) (old new : Standing) (p q : PlaceRecord) →
+words_on : (terms : TermsState) (worker : ℕ) (begun : Words) (out : Surroundings) (first : StreamRecord) (old new : Standing) (p q : PlaceRecord) →
     own p ≡ own_record old.desk worker old.told false → own q ≡ own_record new.desk worker new.told q.short → old.session.outcome ≡ None →
-    Stands torrent worker begun out first old → DrawsWords old.generator p.calls q.calls →
+    Stands terms worker begun out first old → DrawsWords old.generator p.calls q.calls →
     DrawsWords begun out.past.calls (calls_in new.desk.history worker)
-words_on torrent worker begun out first old new p q is is' runs stands turn =
+words_on terms worker begun out first old new p q is is' runs stands turn =
     subst (DrawsWords begun out.past.calls) (ap (λ (r : PlaceRecord). r.calls) is')
-    (DrawsWords-join true begun old.generator out.past.calls p.calls q.calls (conduct_so_far torrent worker begun out first old p is runs stands) turn)
+    (DrawsWords-join true begun old.generator out.past.calls p.calls q.calls (conduct_so_far terms worker begun out first old p is runs stands) turn)
 
 devices_of : (fault : SessionFault) (old new : StreamRecord) → (fault ≡ faults.WriteFault → new.writer_failed ≡ true) →
     DevicesAfter (Err fault) old new
@@ -170,10 +170,10 @@ pub turn_stands : (result : Result (Option End) SessionFault) (worker : ℕ) (ol
 turn_stands (Ok None) worker old new p q is is' runs turned =
     let go = own_goes_on old.session (around_place p old.stream) new.session (around_place q new.stream) turned.goes_on in
     record {
-      still = λ torrent. λ begun. λ out. λ first. λ stands. record {
-        stands = went_on torrent worker begun out first old new (own p) (own q) is is' runs stands go;
+      still = λ terms. λ begun. λ out. λ first. λ stands. record {
+        stands = went_on terms worker begun out first old new (own p) (own q) is is' runs stands go;
         conduct = subst (λ (o : Option (Result End SessionFault)). ConductBy o begun out.past.calls (calls_in new.desk.history worker) new.generator)
-            (sym go.unended) (conduct_on torrent worker begun out first old new p q is is' runs stands turned.conduct);
+            (sym go.unended) (conduct_on terms worker begun out first old new p q is is' runs stands turned.conduct);
         devices = subst (λ (o : Option (Result End SessionFault)). DevicesBy o first new.stream) (sym go.unended)
             (sound_on first old new runs stands turned.sound);
         counted = λ none. turned.counted (stands.counted none);
@@ -183,10 +183,10 @@ turn_stands (Ok None) worker old new p q is is' runs turned =
 turn_stands (Ok (Some end)) worker old new p q is is' runs turned =
     let ends = own_ends end old.session (around_place p old.stream) new.stream.ended new.session (around_place q new.stream) (turned.ends runs) in
     record {
-      still = λ torrent. λ begun. λ out. λ first. λ stands. record {
-        stands = came_to_end end torrent worker begun out first old new (own p) (own q) new.stream.ended is is' runs stands ends;
+      still = λ terms. λ begun. λ out. λ first. λ stands. record {
+        stands = came_to_end end terms worker begun out first old new (own p) (own q) new.stream.ended is is' runs stands ends;
         conduct = subst (λ (o : Option (Result End SessionFault)). ConductBy o begun out.past.calls (calls_in new.desk.history worker) new.generator)
-            (sym ends.outcome) (conduct_on torrent worker begun out first old new p q is is' runs stands turned.conduct);
+            (sym ends.outcome) (conduct_on terms worker begun out first old new p q is is' runs stands turned.conduct);
         devices =
             let sound = sound_on first old new runs stands turned.sound in
             subst (λ (o : Option (Result End SessionFault)). DevicesBy o first new.stream) (sym ends.outcome)
@@ -199,10 +199,10 @@ turn_stands (Err fault) worker old new p q is is' runs turned =
     let fails = own_fails fault old.session (around_place p old.stream) (source_of new.stream new.session.asked) new.session
     (around_place q new.stream) (turned.fails runs) in
     record {
-      still = λ torrent. λ begun. λ out. λ first. λ stands. record {
-        stands = broke_off fault torrent worker begun out first old new (own p) (own q) is is' runs stands fails;
+      still = λ terms. λ begun. λ out. λ first. λ stands. record {
+        stands = broke_off fault terms worker begun out first old new (own p) (own q) is is' runs stands fails;
         conduct = subst (λ (o : Option (Result End SessionFault)). ConductBy o begun out.past.calls (calls_in new.desk.history worker) new.generator)
-            (sym fails.outcome) (words_on torrent worker begun out first old new p q is is' runs stands turned.words);
+            (sym fails.outcome) (words_on terms worker begun out first old new p q is is' runs stands turned.words);
         devices = subst (λ (o : Option (Result End SessionFault)). DevicesBy o first new.stream) (sym fails.outcome)
             (devices_of fault first new.stream (turned.failed runs));
         counted = λ none. turned.counted (stands.counted none);

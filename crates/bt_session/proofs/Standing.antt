@@ -2,7 +2,6 @@
 use Rattle.std.proofs.Common.{◌≡◌, ◌≢◌, ℕ, Bool, false, List, [], ◌++◌, Option, Some, None, Result, Ok, Err, refl, sym, subst, ◌∙◌, inl, inr}
 use Rattle.std.proofs.lemmas.List.{append-nil}
 use Rattle.std.specs.Io.KnownBytes.{Appends, Consumes, IsAtEnd}
-use Rattle.bt_meta.specs.Layout.{Metainfo}
 use Rattle.bt_picker.specs.Positions.{DeskState}
 use Rattle.bt_session.specs.declared.fault.End.{End}
 use Rattle.bt_session.specs.declared.fault.SessionFault.{SessionFault}
@@ -15,6 +14,7 @@ use Rattle.bt_session.specs.Outlets.{WroteFront}
 use Rattle.bt_session.specs.Serial.{StreamRecord, EndsAs, around, source_of}
 use Rattle.bt_session.specs.Sessions.{SessionState, FailsWith, IsWhole, IsUntouched, TookTurns, Running}
 use Rattle.bt_session.specs.Standing.{Standing, StandsBy, ConductBy, Keeps, LeavesOthers}
+use Rattle.bt_session.specs.Terms.{TermsState}
 use Rattle.bt_session.specs.Turning.{Surroundings, Departs}
 use Rattle.bt_session.proofs.Stretches.{GainsUpTo-join, Gains-join}
 
@@ -39,18 +39,18 @@ appends_later a b c bytes same wrote = subst (λ (written : Option (List ℕ)). 
 front_later : (fault : SessionFault) (a b c : Option (List ℕ)) (bytes : List ℕ) → c ≡ b → WroteFront fault a bytes b → WroteFront fault a bytes c
 front_later fault a b c bytes same wrote = subst (WroteFront fault a bytes) (sym same) wrote
 
-untouched_later : (torrent : Metainfo) (worker : ℕ) (out : Surroundings) (now : SessionState) (old new : Surroundings) → IsLater old new →
-    IsUntouched torrent worker out now old → IsUntouched torrent worker out now new
-untouched_later torrent worker out now old new later fresh = record {
+untouched_later : (terms : TermsState) (worker : ℕ) (out : Surroundings) (now : SessionState) (old new : Surroundings) → IsLater old new →
+    IsUntouched terms worker out now old → IsUntouched terms worker out now new
+untouched_later terms worker out now old new later fresh = record {
   state = fresh.state;
   left = later.left ∙ fresh.left;
   gains = gains_later out.past [] old.past new.past fresh.gains later.gains;
   written = later.written ∙ fresh.written;
 }
 
-took_later : (torrent : Metainfo) (worker : ℕ) (out : Surroundings) (now : SessionState) (old new : Surroundings) → IsLater old new →
-    TookTurns torrent worker out now old → TookTurns torrent worker out now new
-took_later torrent worker out now old new later took = record {
+took_later : (terms : TermsState) (worker : ℕ) (out : Surroundings) (now : SessionState) (old new : Surroundings) → IsLater old new →
+    TookTurns terms worker out now old → TookTurns terms worker out now new
+took_later terms worker out now old new later took = record {
   first = took.first;
   text = took.text;
   read = took.read;
@@ -65,24 +65,24 @@ took_later torrent worker out now old new later took = record {
   gains = gains_later out.past took.events old.past new.past took.gains later.gains;
   wrote = appends_later _ _ _ _ later.written took.wrote;
   interest = took.interest;
-  torrent_is = took.torrent_is;
+  terms_are = took.terms_are;
   limit = took.limit;
   greeted = took.greeted;
   joined = took.joined;
   unended = took.unended;
 }
 
-running_later : (torrent : Metainfo) (worker : ℕ) (out : Surroundings) (now : SessionState) (old new : Surroundings) → IsLater old new →
-    Running torrent worker out now old → Running torrent worker out now new
-running_later torrent worker out now old new later running =
+running_later : (terms : TermsState) (worker : ℕ) (out : Surroundings) (now : SessionState) (old new : Surroundings) → IsLater old new →
+    Running terms worker out now old → Running terms worker out now new
+running_later terms worker out now old new later running =
     elim running [
-      | inl fresh ↦ inl (untouched_later torrent worker out now old new later fresh)
-      | inr took ↦ inr (took_later torrent worker out now old new later took)
+      | inl fresh ↦ inl (untouched_later terms worker out now old new later fresh)
+      | inr took ↦ inr (took_later terms worker out now old new later took)
     ]
 
-whole_later : (end : End) (torrent : Metainfo) (worker : ℕ) (out old new : Surroundings) → IsLater old new →
-    IsWhole end torrent worker out old → IsWhole end torrent worker out new
-whole_later end torrent worker out old new later whole = record {
+whole_later : (end : End) (terms : TermsState) (worker : ℕ) (out old new : Surroundings) → IsLater old new →
+    IsWhole end terms worker out old → IsWhole end terms worker out new
+whole_later end terms worker out old new later whole = record {
   read = whole.read;
   messages = whole.messages;
   events = whole.events;
@@ -109,11 +109,11 @@ fails_later fault state out source last old new later fails = record {
   outcome = fails.outcome;
 }
 
-ends_later : (outcome : Result End SessionFault) (torrent : Metainfo) (worker : ℕ) (out : Surroundings) (source : SourceState)
+ends_later : (outcome : Result End SessionFault) (terms : TermsState) (worker : ℕ) (out : Surroundings) (source : SourceState)
     (old new : Surroundings) →
-    IsLater old new → EndsAs outcome torrent worker out source old → EndsAs outcome torrent worker out source new
-ends_later (Ok end) torrent worker out source old new later whole = whole_later end torrent worker out old new later whole
-ends_later (Err fault) torrent worker out source old new later cut = record {
+    IsLater old new → EndsAs outcome terms worker out source old → EndsAs outcome terms worker out source new
+ends_later (Ok end) terms worker out source old new later whole = whole_later end terms worker out old new later whole
+ends_later (Err fault) terms worker out source old new later cut = record {
   now = cut.now;
   mid = cut.mid;
   new = cut.new;
@@ -121,13 +121,13 @@ ends_later (Err fault) torrent worker out source old new later cut = record {
   fails = fails_later fault cut.now cut.mid source cut.new old new later cut.fails;
 }
 
-pub stands_later : (outcome : Option (Result End SessionFault)) (torrent : Metainfo) (worker : ℕ) (out : Surroundings) (now : SessionState)
+pub stands_later : (outcome : Option (Result End SessionFault)) (terms : TermsState) (worker : ℕ) (out : Surroundings) (now : SessionState)
     (source : SourceState) (old new : Bool → Surroundings) → ((short : Bool) → IsLater (old short) (new short)) →
-    StandsBy outcome torrent worker out now source old → StandsBy outcome torrent worker out now source new
-stands_later None torrent worker out now source old new later stands =
-    running_later torrent worker out now (old false) (new false) (later false) stands
-stands_later (Some outcome) torrent worker out now source old new later stands =
-    (stands.0, ends_later outcome torrent worker out source (old stands.0) (new stands.0) (later stands.0) stands.1)
+    StandsBy outcome terms worker out now source old → StandsBy outcome terms worker out now source new
+stands_later None terms worker out now source old new later stands =
+    running_later terms worker out now (old false) (new false) (later false) stands
+stands_later (Some outcome) terms worker out now source old new later stands =
+    (stands.0, ends_later outcome terms worker out source (old stands.0) (new stands.0) (later stands.0) stands.1)
 
 -- while another worker takes a turn
 pub others_stand : (worker other : ℕ) (old new : DeskState) (session : SessionState) (told : List Bool) (stream : StreamRecord)
@@ -155,8 +155,8 @@ others_stand worker other old new session told stream generator left apart =
       written = refl;
     } in
     record {
-      still = λ torrent. λ begun. λ out. λ first. λ stands. record {
-        stands = stands_later session.outcome torrent other out session (source_of stream session.asked) _ _ later stands.stands;
+      still = λ terms. λ begun. λ out. λ first. λ stands. record {
+        stands = stands_later session.outcome terms other out session (source_of stream session.asked) _ _ later stands.stands;
         conduct = subst (λ (calls : Calls). ConductBy session.outcome begun out.past.calls calls generator) (sym (left.calls other apart)) stands.conduct;
         devices = stands.devices;
         counted = stands.counted;
@@ -165,11 +165,11 @@ others_stand worker other old new session told stream generator left apart =
     }
 
 pub Keeps-refl : (worker : ℕ) (now : Standing) → Keeps worker now now
-Keeps-refl worker now = record { still = λ torrent. λ generator. λ out. λ first. λ stands. stands }
+Keeps-refl worker now = record { still = λ terms. λ generator. λ out. λ first. λ stands. stands }
 
 pub Keeps-join : (worker : ℕ) (a b c : Standing) → Keeps worker a b → Keeps worker b c → Keeps worker a c
 Keeps-join worker a b c first then =
     record {
-      still = λ torrent. λ generator. λ out. λ stream. λ stands.
-          then.still torrent generator out stream (first.still torrent generator out stream stands);
+      still = λ terms. λ generator. λ out. λ stream. λ stands.
+          then.still terms generator out stream (first.still terms generator out stream stands);
     }

@@ -10,7 +10,8 @@ use Rattle.bt_history.specs.declared.mark.CallMark.TheVariants as marks
 use Rattle.bt_session.specs.declared.fault.SessionFault.{SessionFault}
 use Rattle.bt_session.specs.declared.fault.SessionFault.TheVariants as faults
 use Rattle.bt_session.specs.Events.{Event, Called, News, is_in}
-use Rattle.bt_session.specs.Turns.{call_of, IsLater, Opens, ChecksAtMost, if_completed, arrived_piece, Asks, has_more, most_next, Attends, BeginsTurn}
+use Rattle.bt_session.specs.Terms.{TermsState, most_next}
+use Rattle.bt_session.specs.Turns.{call_of, IsLater, Opens, ChecksAtMost, if_completed, arrived_piece, Asks, has_more, Attends, BeginsTurn}
 use Rattle.bt_session.specs.Turning.{StopsTurn}
 
 abbrev is_leave : CallMark → Bool
@@ -88,20 +89,20 @@ asking_stays (suc most) (Called (marks.Next word) reply ∷ events) asks =
     more_stays most (has_more reply) events (asking_stays most events) asks
 asking_stays (suc most) _ asks = absurd asks
 
-turn_stays : (pieces : ℕ) (m : Message) (events : List Event) → Attends pieces m events → Stays events
-turn_stays pieces m events turn =
+turn_stays : (terms : TermsState) (m : Message) (events : List Event) → Attends terms m events → Stays events
+turn_stays terms m events turn =
     let front = turn.opening ++ map News turn.news in
     let opening = opening_stays (call_of m) turn.opening (own_call m) turn.opens in
     ap (list_any leaves) turn.parts
     ∙ Stays-append front turn.asking (Stays-append turn.opening (map News turn.news) opening (news_stay turn.news))
-    (asking_stays most_next turn.asking turn.asks)
+    (asking_stays (most_next terms) turn.asking turn.asks)
 
-begun_stays : (pieces : ℕ) (m : Message) (events : List Event) → IsLater m → BeginsTurn pieces m events → Stays events
-begun_stays pieces (messages.Hello hello) events later begins = absurd later
-begun_stays pieces m events later begins = Stays-front events begins.0 (turn_stays pieces m (events ++ begins.0) begins.1)
+begun_stays : (terms : TermsState) (m : Message) (events : List Event) → IsLater m → BeginsTurn terms m events → Stays events
+begun_stays terms (messages.Hello hello) events later begins = absurd later
+begun_stays terms m events later begins = Stays-front events begins.0 (turn_stays terms m (events ++ begins.0) begins.1)
 
 -- after any part of the turn of a message the peer is in
-pub stays_in : (fault : SessionFault) (pieces : ℕ) (m : Message) (events : List Event) → IsLater m → StopsTurn fault pieces m events →
+pub stays_in : (fault : SessionFault) (terms : TermsState) (m : Message) (events : List Event) → IsLater m → StopsTurn fault terms m events →
     is_in true events ≡ true
-stays_in faults.BadBits pieces m events later stops = ap (is_in true) stops.1
-stays_in _ pieces m events later stops = still_in events (begun_stays pieces m events later stops.0)
+stays_in faults.BadBits terms m events later stops = ap (is_in true) stops.1
+stays_in _ terms m events later stops = still_in events (begun_stays terms m events later stops.0)

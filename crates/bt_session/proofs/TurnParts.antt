@@ -14,7 +14,8 @@ use Rattle.bt_session.specs.declared.fault.SessionFault.{SessionFault}
 use Rattle.bt_session.specs.declared.fault.SessionFault.TheVariants as faults
 use Rattle.bt_session.specs.Events.{Event, Called, News, is_refused_call}
 use Rattle.bt_session.specs.Saying.{says, interest_after}
-use Rattle.bt_session.specs.Turns.{call_of, Opens, Asks, most_next, Attends, IsTurn, BeginsTurn, IsAcceptable, NoneRefused, IsLater}
+use Rattle.bt_session.specs.Terms.{TermsState, pieces_of, most_next}
+use Rattle.bt_session.specs.Turns.{call_of, Opens, Asks, Attends, IsTurn, BeginsTurn, IsAcceptable, NoneRefused, IsLater}
 use Rattle.bt_session.specs.Outlets.{Outlet, Performs, PerformsUpTo, EndsCalls, IsCut, WroteFront}
 use Rattle.bt_session.specs.Turning.{StopsOpening, StopsTurn, TellsNews}
 use Rattle.bt_session.specs.Places.{AllTold}
@@ -61,9 +62,9 @@ news_stop fault b c news stops =
       wrote = subst (λ (xs : List ℕ). WroteFront fault b.written xs c.written) (sym (news_say b.interested news)) stops.wrote;
     }
 
-later_turn : (pieces : ℕ) (m : Message) (es : List Event) → IsLater m → Attends pieces m es → IsTurn pieces m es
-later_turn pieces (messages.Hello hello) es later attends = absurd later
-later_turn pieces _ es later attends = attends
+later_turn : (terms : TermsState) (m : Message) (es : List Event) → IsLater m → Attends terms m es → IsTurn terms m es
+later_turn terms (messages.Hello hello) es later attends = absurd later
+later_turn terms _ es later attends = attends
 
 opens_some : (o : Option CallMark) → (rest : List Event) × Opens o rest
 opens_some None = ([], refl)
@@ -128,13 +129,13 @@ Told pieces b c = (news : List ℕ) ×
     × Performs (record b { interested = false }) (map News news) (record c { interested = false }))
 
 -- a whole turn
-pub turn_done : (pieces : ℕ) (m : Message) (a b c d : Outlet) → IsLater m → IsAcceptable pieces m → Opened (call_of m) a b → Told pieces b c →
-    c.interested ≡ b.interested → (asking : List Event) × (Asks most_next asking × NoneRefused asking × Performs c asking d) →
-    (events : List Event) × (IsTurn pieces m events × NoneRefused events × TellsNews pieces a.past events d.past × Performs a events d)
-turn_done pieces m a b c d later acceptable opened told same asked =
+pub turn_done : (terms : TermsState) (m : Message) (a b c d : Outlet) → IsLater m → IsAcceptable (pieces_of terms) m → Opened (call_of m) a b → Told (pieces_of terms) b c →
+    c.interested ≡ b.interested → (asking : List Event) × (Asks (most_next terms) asking × NoneRefused asking × Performs c asking d) →
+    (events : List Event) × (IsTurn terms m events × NoneRefused events × TellsNews (pieces_of terms) a.past events d.past × Performs a events d)
+turn_done terms m a b c d later acceptable opened told same asked =
     let front = opened.0 ++ map News told.0 in
     let does_front = Performs-join a b c opened.0 (map News told.0) opened.1.2 (news_do b c told.0 told.1.2 same) in
-    let attends : Attends pieces m (front ++ asked.0) = record {
+    let attends : Attends terms m (front ++ asked.0) = record {
       acceptable = acceptable;
       opening = opened.0;
       news = told.0;
@@ -146,7 +147,7 @@ turn_done pieces m a b c d later acceptable opened told same asked =
     } in (
       front ++ asked.0,
       (
-        later_turn pieces m (front ++ asked.0) later attends,
+        later_turn terms m (front ++ asked.0) later attends,
         none_refused-append front asked.0 (none_refused-append opened.0 (map News told.0) opened.1.1 (none_refused-news told.0)) asked.1.1,
         record {
           opening = opened.0;
@@ -163,22 +164,22 @@ turn_done pieces m a b c d later acceptable opened told same asked =
     )
 
 -- what a message's turn left where it stopped
-abbrev pub TurnStops : SessionFault → ℕ → Message → Outlet → Outlet → Type 0
-TurnStops fault pieces m a d = (events : List Event) × (StopsTurn fault pieces m events × PerformsUpTo fault a events d)
+abbrev pub TurnStops : SessionFault → TermsState → Message → Outlet → Outlet → Type 0
+TurnStops fault terms m a d = (events : List Event) × (StopsTurn fault terms m events × PerformsUpTo fault a events d)
 
-stops_turn : (fault : SessionFault) (pieces : ℕ) (m : Message) (es : List Event) → BeginsTurn pieces m es → EndsCalls fault es →
-    StopsTurn fault pieces m es
-stops_turn faults.BadBits pieces m es begins ends = absurd ends
-stops_turn _ pieces m es begins ends = (begins, ends)
+stops_turn : (fault : SessionFault) (terms : TermsState) (m : Message) (es : List Event) → BeginsTurn terms m es → EndsCalls fault es →
+    StopsTurn fault terms m es
+stops_turn faults.BadBits terms m es begins ends = absurd ends
+stops_turn _ terms m es begins ends = (begins, ends)
 
-opening_begins : (pieces : ℕ) (m : Message) (es rest : List Event) → IsLater m → IsAcceptable pieces m → Opens (call_of m) (es ++ rest) →
-    BeginsTurn pieces m es
-opening_begins pieces m es rest later acceptable opens =
-    let idle = asks_some most_next in
+opening_begins : (terms : TermsState) (m : Message) (es rest : List Event) → IsLater m → IsAcceptable (pieces_of terms) m → Opens (call_of m) (es ++ rest) →
+    BeginsTurn terms m es
+opening_begins terms m es rest later acceptable opens =
+    let idle = asks_some (most_next terms) in
     let all = es ++ rest in
     let same : es ++ (rest ++ idle.0) ≡ all ++ [] ++ idle.0 =
     sym (append_assoc es rest idle.0) ∙ ap (λ (xs : List Event). xs ++ idle.0) (sym (append-nil all)) in
-    let attends : Attends pieces m (es ++ (rest ++ idle.0)) = record {
+    let attends : Attends terms m (es ++ (rest ++ idle.0)) = record {
       acceptable = acceptable;
       opening = all;
       news = [];
@@ -188,28 +189,28 @@ opening_begins pieces m es rest later acceptable opens =
       asks = idle.1;
       parts = same;
     } in
-    (rest ++ idle.0, later_turn pieces m (es ++ (rest ++ idle.0)) later attends)
+    (rest ++ idle.0, later_turn terms m (es ++ (rest ++ idle.0)) later attends)
 
-opening_stopped : (fault : SessionFault) (pieces : ℕ) (m : Message) (es : List Event) → IsLater m → StopsOpening fault pieces m es →
-    StopsTurn fault pieces m es
-opening_stopped faults.BadBits pieces m es later stops = stops
-opening_stopped _ pieces m es later stops = (opening_begins pieces m es stops.1.0 later stops.0 stops.1.1.0, stops.1.1.1)
+opening_stopped : (fault : SessionFault) (terms : TermsState) (m : Message) (es : List Event) → IsLater m → StopsOpening fault (pieces_of terms) m es →
+    StopsTurn fault terms m es
+opening_stopped faults.BadBits terms m es later stops = stops
+opening_stopped _ terms m es later stops = (opening_begins terms m es stops.1.0 later stops.0 stops.1.1.0, stops.1.1.1)
 
 -- the opening stopped
-pub turn_stops_open : (fault : SessionFault) (pieces : ℕ) (m : Message) (a b : Outlet) → IsLater m → OpenedStops fault pieces m a b →
-    TurnStops fault pieces m a b
-turn_stops_open fault pieces m a b later h = (h.0, (opening_stopped fault pieces m h.0 later h.1.0, h.1.1))
+pub turn_stops_open : (fault : SessionFault) (terms : TermsState) (m : Message) (a b : Outlet) → IsLater m → OpenedStops fault (pieces_of terms) m a b →
+    TurnStops fault terms m a b
+turn_stops_open fault terms m a b later h = (h.0, (opening_stopped fault terms m h.0 later h.1.0, h.1.1))
 
 -- news were cut off
-pub turn_stops_news : (fault : SessionFault) (pieces : ℕ) (m : Message) (a b c : Outlet) → IsLater m → IsAcceptable pieces m →
+pub turn_stops_news : (fault : SessionFault) (terms : TermsState) (m : Message) (a b c : Outlet) → IsLater m → IsAcceptable (pieces_of terms) m →
     Opened (call_of m) a b →
-    (news : List ℕ) × ((length news ≤ pieces) × IsCut fault
+    (news : List ℕ) × ((length news ≤ pieces_of terms) × IsCut fault
     × PerformsUpTo fault (record b { interested = false }) (map News news) (record c { interested = false })) →
-    TurnStops fault pieces m a c
-turn_stops_news fault pieces m a b c later acceptable opened told =
-    let idle = asks_some most_next in
+    TurnStops fault terms m a c
+turn_stops_news fault terms m a b c later acceptable opened told =
+    let idle = asks_some (most_next terms) in
     let front = opened.0 ++ map News told.0 in
-    let attends : Attends pieces m (front ++ idle.0) = record {
+    let attends : Attends terms m (front ++ idle.0) = record {
       acceptable = acceptable;
       opening = opened.0;
       news = told.0;
@@ -222,23 +223,23 @@ turn_stops_news fault pieces m a b c later acceptable opened told =
     let none = none_refused-append opened.0 (map News told.0) opened.1.1 (none_refused-news told.0) in (
       front,
       (
-        stops_turn fault pieces m front (idle.0, later_turn pieces m (front ++ idle.0) later attends) (ends_cut fault front told.1.1 none),
+        stops_turn fault terms m front (idle.0, later_turn terms m (front ++ idle.0) later attends) (ends_cut fault front told.1.1 none),
         Performs-stops fault a b c opened.0 (map News told.0) opened.1.2 (news_stop fault b c told.0 told.1.2),
       ),
     )
 
 -- a Next call stopped
-pub turn_stops_ask : (fault : SessionFault) (pieces : ℕ) (m : Message) (a b c d : Outlet) → IsLater m → IsAcceptable pieces m →
-    Opened (call_of m) a b → Told pieces b c →
+pub turn_stops_ask : (fault : SessionFault) (terms : TermsState) (m : Message) (a b c d : Outlet) → IsLater m → IsAcceptable (pieces_of terms) m →
+    Opened (call_of m) a b → Told (pieces_of terms) b c →
     c.interested ≡ b.interested →
-    (asking : List Event) × ((rest : List Event) × (Asks most_next (asking ++ rest) × EndsCalls fault asking × PerformsUpTo fault c asking d)) →
-    TurnStops fault pieces m a d
-turn_stops_ask fault pieces m a b c d later acceptable opened told same asked =
+    (asking : List Event) × ((rest : List Event) × (Asks (most_next terms) (asking ++ rest) × EndsCalls fault asking × PerformsUpTo fault c asking d)) →
+    TurnStops fault terms m a d
+turn_stops_ask fault terms m a b c d later acceptable opened told same asked =
     let front = opened.0 ++ map News told.0 in
     let does_front = Performs-join a b c opened.0 (map News told.0) opened.1.2 (news_do b c told.0 told.1.2 same) in
     let none = none_refused-append opened.0 (map News told.0) opened.1.1 (none_refused-news told.0) in
     let events = front ++ asked.0 in
-    let attends : Attends pieces m (events ++ asked.1.0) = record {
+    let attends : Attends terms m (events ++ asked.1.0) = record {
       acceptable = acceptable;
       opening = opened.0;
       news = told.0;
@@ -250,7 +251,7 @@ turn_stops_ask fault pieces m a b c d later acceptable opened told same asked =
     } in (
       events,
       (
-        stops_turn fault pieces m events (asked.1.0, later_turn pieces m (events ++ asked.1.0) later attends)
+        stops_turn fault terms m events (asked.1.0, later_turn terms m (events ++ asked.1.0) later attends)
             (ends_after fault front asked.0 none asked.1.1.1),
         Performs-stops fault a c d front asked.0 does_front asked.1.1.2,
       ),

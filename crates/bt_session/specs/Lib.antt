@@ -8,5 +8,6 @@ pub mod Saying
 pub mod Serial
 pub mod Sessions
 pub mod Standing
+pub mod Terms
 pub mod Turning
 pub mod Turns

@@ -1,6 +1,8 @@
 -- Several streams' sessions at one desk: what each of them sees there, and how it ended.
-use Rattle.std.specs.Prelude.{◌≡◌, ◌≤◌, ◌<◌, ℕ, Bool, true, false, List, [], ◌&&◌, nat_lt, length, replicate, slice_index_or, Option, Result, Ok, Err}
-use Rattle.bt_meta.specs.Layout.{Metainfo, piece_count}
+use Rattle.std.specs.Prelude.{◌≡◌, ◌≤◌, ◌<◌, ℕ, Bool, true, false, List, [], ◌∷◌, ◌&&◌, nat_lt, length, replicate, slice_index_or, Option, Some, None, Result, Ok, Err}
+use Rattle.bt_meta.specs.Layout.{piece_count}
+use Rattle.bt_history.specs.declared.call.Reply.TheVariants as replies
+use Rattle.bt_history.specs.declared.mark.CallMark.TheVariants as marks
 use Rattle.bt_history.specs.Pieces.{had}
 use Rattle.bt_history.specs.Setting.{Setting}
 use Rattle.bt_picker.specs.Checks.{FinishedBelow, waits}
@@ -14,6 +16,7 @@ use Rattle.bt_session.specs.Desks.{calls_in}
 use Rattle.bt_session.specs.Hearing.{SourceState, most_reads}
 use Rattle.bt_session.specs.Places.{PlaceRecord}
 use Rattle.bt_session.specs.Sessions.{IsWhole, IsCutShort}
+use Rattle.bt_session.specs.Terms.{TermsState}
 use Rattle.bt_session.specs.Turning.{Surroundings}
 
 -- what a stream says of itself
@@ -75,9 +78,9 @@ source_of stream asked =
     record { left = stream.left; ended = stream.ended; failed = stream.failed; asked = asked }
 
 -- a session came to this end, or to this fault
-abbrev pub EndsAs : Result End SessionFault → Metainfo → ℕ → Surroundings → SourceState → Surroundings → Type 0
-EndsAs (Ok end) torrent worker out source out' = IsWhole end torrent worker out out'
-EndsAs (Err fault) torrent worker out source out' = IsCutShort fault torrent worker out source out'
+abbrev pub EndsAs : Result End SessionFault → TermsState → ℕ → Surroundings → SourceState → Surroundings → Type 0
+EndsAs (Ok end) terms worker out source out' = IsWhole end terms worker out out'
+EndsAs (Err fault) terms worker out source out' = IsCutShort fault terms worker out source out'
 
 -- what a stream's devices say after such an end: after an end the reader has ended, and neither has failed meanwhile; after the fault of a
 -- write the writer has failed
@@ -92,7 +95,7 @@ ChecksAfter (Ok end) calls = all_checked calls ≡ true
 ChecksAfter (Err fault) calls = Unit {0}
 
 -- A stream's session ended so: from the empty desk, and the stream as it was handed in, to this desk, and the stream as it was given back.
-pub record Ended (outcome : Result End SessionFault) (torrent : Metainfo) (seed worker : ℕ)
+pub record Ended (outcome : Result End SessionFault) (terms : TermsState) (seed worker : ℕ)
     (old : StreamRecord) (desk : DeskState) (new : StreamRecord) : Type 0 where
   -- the pieces that were told to the peer
   pub told : List Bool
@@ -100,7 +103,7 @@ pub record Ended (outcome : Result End SessionFault) (torrent : Metainfo) (seed 
   pub short : Bool
   -- the reads that the session counted
   pub asked : ℕ
-  pub ends : EndsAs outcome torrent worker (before_all desk.setting worker old) (source_of new asked) (around desk worker told short new)
+  pub ends : EndsAs outcome terms worker (before_all desk.setting worker old) (source_of new asked) (around desk worker told short new)
   -- the words of its Next calls are those of the generator of its number, made of the seed
   pub words : DrawsWords (generator_of seed worker) [] (calls_in desk.history worker)
   pub checks : ChecksAfter outcome (calls_in desk.history worker)
@@ -109,15 +112,20 @@ pub record Ended (outcome : Result End SessionFault) (torrent : Metainfo) (seed 
   pub most : asked ≤ most_reads
 
 -- the sessions of the streams, as they were handed in and as they were given back, ended so, in order
-abbrev pub EachEnded : {X : Type 0} → (X → StreamRecord) → Metainfo → ℕ → List X → DeskState → List X → List (Result End SessionFault) → Type 0
-EachEnded {X} record_of torrent seed streams desk streams' ends = (i : ℕ) (stream : X) (end : Result End SessionFault) → i < length streams →
-    Ended (slice_index_or ends i end) torrent seed i (record_of (slice_index_or streams i stream)) desk (record_of (slice_index_or streams' i stream))
+abbrev pub EachEnded : {X : Type 0} → (X → StreamRecord) → TermsState → ℕ → List X → DeskState → List X → List (Result End SessionFault) → Type 0
+EachEnded {X} record_of terms seed streams desk streams' ends = (i : ℕ) (stream : X) (end : Result End SessionFault) → i < length streams →
+    Ended (slice_index_or ends i end) terms seed i (record_of (slice_index_or streams i stream)) desk (record_of (slice_index_or streams' i stream))
 
--- A worker made the last checks and no other call: each piece that waited for one was settled, the least first, or, where memory ran out,
--- those below one that still waits.
-pub record Finishes (worker : ℕ) (short : Bool) (desk : DeskState) : Type 0 where
+-- the calls that the last worker makes before the first round: which pieces are wanted, if that is told
+abbrev pub opening_of : Option (List Bool) → Calls
+opening_of None = []
+opening_of (Some flags) = (marks.Want, replies.Quiet) ∷ []
+
+-- A worker made these calls before all sessions had ended, then the last checks, and no other call: each piece that waited for a check was
+-- settled, the least first, or, where memory ran out, those below one that still waits.
+pub record Finishes (worker : ℕ) (opening : Calls) (short : Bool) (desk : DeskState) : Type 0 where
   pub before : DeskState
-  pub idle : calls_in before.history worker ≡ []
+  pub opened : calls_in before.history worker ≡ opening
   pub count : ℕ
   pub finished : FinishedBelow before worker count desk
   pub all : short ≡ false → count ≡ piece_count desk.setting.torrent

@@ -1,6 +1,8 @@
 -- How a session stands that takes its turns among others. Only contracts within the crate cite this module.
-use Rattle.std.specs.Prelude.{◌≡◌, ◌≢◌, ◌≤◌, ◌<◌, ℕ, Bool, true, false, List, All, length, replicate, slice_index_or, suc, Option, Some, None, Result, Ok, Err}
-use Rattle.bt_meta.specs.Layout.{Metainfo, piece_count}
+use Rattle.std.specs.Prelude.{◌≡◌, ◌≢◌, ◌≤◌, ◌<◌, ℕ, Bool, true, false, List, [], All, length, replicate, slice_index_or, suc, Option, Some, None, Result, Ok, Err}
+use Rattle.bt_meta.specs.Layout.{piece_count}
+use Rattle.bt_history.specs.Peers.{flag}
+use Rattle.bt_history.specs.Pieces.{chosen, had}
 use Rattle.bt_picker.specs.Positions.{DeskState}
 use Rattle.bt_session.specs.declared.fault.End.{End}
 use Rattle.bt_session.specs.declared.fault.SessionFault.{SessionFault}
@@ -9,8 +11,9 @@ use Rattle.rand_core.specs.Stream.{Stream as Words}
 use Rattle.bt_session.specs.Conduct.{Calls, Conducts, DrawsWords, answers_of, generator_of}
 use Rattle.bt_session.specs.Desks.{calls_in}
 use Rattle.bt_session.specs.Hearing.{SourceState, most_reads}
-use Rattle.bt_session.specs.Serial.{StreamRecord, DevicesAfter, EndsAs, around, had_at, source_of}
+use Rattle.bt_session.specs.Serial.{StreamRecord, DevicesAfter, EndsAs, around, had_at, opening_of, source_of}
 use Rattle.bt_session.specs.Sessions.{SessionState, Running, begun, to_hear}
+use Rattle.bt_session.specs.Terms.{TermsState, pieces_of}
 use Rattle.bt_session.specs.Turning.{Surroundings}
 
 -- what a run knows of one of its streams
@@ -27,10 +30,10 @@ standing desk seat stream =
     record { desk = desk; session = seat.session; told = seat.told; stream = stream; generator = answers_of seat.rng }
 
 -- the session runs, or it ended so
-abbrev pub StandsBy : Option (Result End SessionFault) → Metainfo → ℕ → Surroundings → SessionState → SourceState → (Bool → Surroundings) → Type 0
-StandsBy None torrent worker out session source here = Running torrent worker out session (here false)
-StandsBy (Some outcome) torrent worker out session source here =
-    (short : Bool) × EndsAs outcome torrent worker out source (here short)
+abbrev pub StandsBy : Option (Result End SessionFault) → TermsState → ℕ → Surroundings → SessionState → SourceState → (Bool → Surroundings) → Type 0
+StandsBy None terms worker out session source here = Running terms worker out session (here false)
+StandsBy (Some outcome) terms worker out session source here =
+    (short : Bool) × EndsAs outcome terms worker out source (here short)
 
 -- what the devices say of a session that runs, or that ended so
 abbrev pub DevicesBy : Option (Result End SessionFault) → StreamRecord → StreamRecord → Type 0
@@ -44,8 +47,8 @@ ConductBy (Some (Ok end)) generator old new left = Conducts true generator old n
 ConductBy (Some (Err fault)) generator old new left = DrawsWords generator old new
 
 -- a session that began in these surroundings, with that generator and that stream, stands so
-pub record Stands (torrent : Metainfo) (worker : ℕ) (generator : Words) (out : Surroundings) (first : StreamRecord) (now : Standing) : Type 0 where
-  pub stands : StandsBy now.session.outcome torrent worker out now.session (source_of now.stream now.session.asked)
+pub record Stands (terms : TermsState) (worker : ℕ) (generator : Words) (out : Surroundings) (first : StreamRecord) (now : Standing) : Type 0 where
+  pub stands : StandsBy now.session.outcome terms worker out now.session (source_of now.stream now.session.asked)
       (λ short. around now.desk worker now.told short now.stream)
   pub conduct : ConductBy now.session.outcome generator out.past.calls (calls_in now.desk.history worker) now.generator
   pub devices : DevicesBy now.session.outcome first now.stream
@@ -54,8 +57,8 @@ pub record Stands (torrent : Metainfo) (worker : ℕ) (generator : Words) (out :
 
 -- a session that stood goes on standing
 pub record Keeps (worker : ℕ) (old new : Standing) : Type 0 where
-  pub still : (torrent : Metainfo) (generator : Words) (out : Surroundings) (first : StreamRecord) →
-      Stands torrent worker generator out first old → Stands torrent worker generator out first new
+  pub still : (terms : TermsState) (generator : Words) (out : Surroundings) (first : StreamRecord) →
+      Stands terms worker generator out first old → Stands terms worker generator out first new
 
 -- a worker's turn leaves alone what the others called, and what is had stays had
 pub record LeavesOthers (worker : ℕ) (old new : DeskState) : Type 0 where
@@ -89,12 +92,23 @@ Fit desk seats = All (λ seat. length seat.told ≡ piece_count desk.setting.tor
 abbrev pub HasEnded : Seat → Type 0
 HasEnded seat = seat.session.outcome ≢ None
 
+-- so many workers called nothing at the desk, and no piece is had
+pub record IsFresh (count : ℕ) (desk : DeskState) : Type 0 where
+  pub uncalled : (worker : ℕ) → worker < count → calls_in desk.history worker ≡ []
+  pub none_had : (piece : ℕ) → had desk.history piece ≡ false
+
+-- a worker told these wanted pieces, and nothing else was called
+pub record HasOpened (worker : ℕ) (flags : List Bool) (desk : DeskState) : Type 0 where
+  pub fresh : IsFresh worker desk
+  pub opened : calls_in desk.history worker ≡ opening_of (Some flags)
+  pub chosen : (piece : ℕ) → chosen desk.history piece ≡ flag flags piece
+
 -- a worker's seat before its first turn
-pub record IsNew (torrent : Metainfo) (seed worker : ℕ) (seat : Seat) : Type 0 where
-  pub session : seat.session ≡ begun torrent worker
-  pub told : seat.told ≡ replicate (piece_count torrent.layout) false
+pub record IsNew (terms : TermsState) (seed worker : ℕ) (seat : Seat) : Type 0 where
+  pub session : seat.session ≡ begun terms worker
+  pub told : seat.told ≡ replicate (pieces_of terms) false
   pub generator : answers_of seat.rng ≡ generator_of seed worker
 
 -- that of each worker
-abbrev pub AreNew : Metainfo → ℕ → List Seat → Type 0
-AreNew torrent seed seats = (i : ℕ) (any : Seat) → i < length seats → IsNew torrent seed i (slice_index_or seats i any)
+abbrev pub AreNew : TermsState → ℕ → List Seat → Type 0
+AreNew terms seed seats = (i : ℕ) (any : Seat) → i < length seats → IsNew terms seed i (slice_index_or seats i any)

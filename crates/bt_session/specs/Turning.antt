@@ -1,7 +1,6 @@
 -- What a turn of a session reads, calls and writes.
 use Rattle.std.specs.Prelude.{◌≡◌, ◌≢◌, ◌⊎◌, ℕ, Bool, true, false, List, [], ◌∷◌, ◌++◌, length, map, Option}
 use Rattle.std.specs.Io.KnownBytes.{Appends}
-use Rattle.bt_meta.specs.Layout.{Metainfo, piece_count}
 use Rattle.bt_wire.specs.declared.hello.Hello.{Hello}
 use Rattle.bt_wire.specs.declared.message.Message.{Message}
 use Rattle.bt_wire.specs.declared.message.Message.TheVariants as messages
@@ -11,6 +10,7 @@ use Rattle.bt_history.specs.declared.call.Reason.{Reason}
 use Rattle.bt_history.specs.declared.call.Reply.TheVariants as replies
 use Rattle.bt_session.specs.declared.fault.SessionFault.{SessionFault}
 use Rattle.bt_session.specs.declared.fault.SessionFault.TheVariants as faults
+use Rattle.bt_session.specs.Terms.{TermsState, pieces_of}
 use Rattle.bt_session.specs.Events.{Event, Called, News}
 use Rattle.bt_session.specs.Saying.{says, interest_after}
 use Rattle.bt_session.specs.Places.{PlaceRecord, Gains, GainsUpTo, AllTold}
@@ -60,16 +60,16 @@ AsksForNews pieces m old events new = TellsNews pieces old events new
 
 -- A turn that goes on: one message was taken off the bytes held and read; the place gained what a turn makes of it; and what its events
 -- say was written, after the greeting.
-pub record TakesTurn (torrent : Metainfo) (greeting : List ℕ) (old : Reading) (out : Surroundings)
+pub record TakesTurn (terms : TermsState) (greeting : List ℕ) (old : Reading) (out : Surroundings)
     (new : Reading) (out' : Surroundings) : Type 0 where
   pub message : Message
   pub events : List Event
   pub hears : Hears old.stream out.left out'.left message new.stream
-  pub same_torrent : IsOfTorrent torrent.infohash message
-  pub turn : IsTurn (piece_count torrent.layout) message events
+  pub same_torrent : IsOfTorrent terms.infohash message
+  pub turn : IsTurn terms message events
   pub accepted : NoneRefused events
   pub gains : Gains out.past events out'.past
-  pub news : AsksForNews (piece_count torrent.layout) message out.past events out'.past
+  pub news : AsksForNews (pieces_of terms) message out.past events out'.past
   pub wrote : Appends out.written out'.written (greeting ++ says old.interested events)
   pub interest : new.interested ≡ interest_after old.interested events
 
@@ -82,20 +82,20 @@ pub record TakesLeave (old : Reading) (out : Surroundings) (has_ended : Bool) (n
 
 -- what a turn begins with
 pub record Start : Type 0 where
-  pub torrent : Metainfo
+  pub terms : TermsState
   pub joined : Bool
   pub stream : InboundState
   pub left : Option (List ℕ)
 
-abbrev pub start : Metainfo → Bool → InboundState → Option (List ℕ) → Start
-start torrent joined stream left = record { torrent = torrent; joined = joined; stream = stream; left = left }
+abbrev pub start : TermsState → Bool → InboundState → Option (List ℕ) → Start
+start terms joined stream left = record { terms = terms; joined = joined; stream = stream; left = left }
 
 -- a message was there, and the events began a turn of it
 pub record BreaksTurn (old : Start) (source : SourceState) (fault : SessionFault) (events : List Event) : Type 0 where
   pub message : Message
   pub stream : InboundState
   pub hears : Hears old.stream old.left source.left message stream
-  pub begins : BeginsTurn (piece_count old.torrent.layout) message events
+  pub begins : BeginsTurn old.terms message events
   pub ends : EndsCalls fault events
 
 -- a bitfield was there that is none
@@ -103,7 +103,7 @@ pub record BreaksBits (old : Start) (source : SourceState) : Type 0 where
   pub message : Message
   pub stream : InboundState
   pub hears : Hears old.stream old.left source.left message stream
-  pub unacceptable : IsAcceptable (piece_count old.torrent.layout) message → ⊥
+  pub unacceptable : IsAcceptable (pieces_of old.terms) message → ⊥
 
 -- the input ended, without a handshake or with bytes held
 pub record BreaksEnd (old : Start) (source : SourceState) : Type 0 where
@@ -116,7 +116,7 @@ pub record BreaksHello (old : Start) (source : SourceState) : Type 0 where
   pub hello : Hello
   pub stream : InboundState
   pub hears : Hears old.stream old.left source.left (messages.Hello hello) stream
-  pub other : hello.infohash ≢ old.torrent.infohash
+  pub other : hello.infohash ≢ old.terms.infohash
 
 -- the input ended with no bytes held, and the last Leave was refused
 pub record BreaksLeave (old : Start) (source : SourceState) (reason : Reason) (events : List Event) : Type 0 where
@@ -159,6 +159,6 @@ StopsOpening faults.BadBits pieces m events = (IsAcceptable pieces m → ⊥) ×
 StopsOpening fault pieces m events = IsAcceptable pieces m × ((rest : List Event) × (Opens (call_of m) (events ++ rest) × EndsCalls fault events))
 
 -- a message's turn stopped after these events: its bitfield was none, or they began the turn
-abbrev pub StopsTurn : SessionFault → ℕ → Message → List Event → Type 0
-StopsTurn faults.BadBits pieces m events = (IsAcceptable pieces m → ⊥) × (events ≡ [])
-StopsTurn fault pieces m events = BeginsTurn pieces m events × EndsCalls fault events
+abbrev pub StopsTurn : SessionFault → TermsState → Message → List Event → Type 0
+StopsTurn faults.BadBits terms m events = (IsAcceptable (pieces_of terms) m → ⊥) × (events ≡ [])
+StopsTurn fault terms m events = BeginsTurn terms m events × EndsCalls fault events

@@ -10,6 +10,7 @@ use Rattle.bt_history.specs.declared.mark.CallMark.TheVariants as marks
 use Rattle.bt_history.specs.declared.call.Reply.{Reply}
 use Rattle.bt_history.specs.declared.call.Reply.TheVariants as replies
 use Rattle.bt_history.specs.Logs.{answers}
+use Rattle.bt_session.specs.Terms.{TermsState, pieces_of, most_next}
 use Rattle.bt_session.specs.Events.{Event, Called, News, is_refused_call}
 
 -- the call that a message makes
@@ -76,42 +77,38 @@ Asks zero events = events ≡ []
 Asks (suc most) (Called (marks.Next word) reply ∷ events) = MatchBool (has_more reply) (Asks most events) (events ≡ [])
 Asks (suc most) _ = ⊥
 
--- the most Next calls of one turn
-abbrev pub most_next : ℕ
-most_next = 11
-
 -- the events of a message after the handshake: its call, then news, then Next calls
-pub record Attends (pieces : ℕ) (m : Message) (events : List Event) : Type 0 where
-  pub acceptable : IsAcceptable pieces m
+pub record Attends (terms : TermsState) (m : Message) (events : List Event) : Type 0 where
+  pub acceptable : IsAcceptable (pieces_of terms) m
   pub opening : List Event
   pub news : List ℕ
   pub asking : List Event
   pub opens : Opens (call_of m) opening
-  pub few : length news ≤ pieces
-  pub asks : Asks most_next asking
+  pub few : length news ≤ pieces_of terms
+  pub asks : Asks (most_next terms) asking
   pub parts : events ≡ opening ++ map News news ++ asking
 
--- the events of one turn of a torrent of so many pieces
-abbrev pub IsTurn : ℕ → Message → List Event → Type 0
-IsTurn pieces (messages.Hello hello) events = Opens (Some marks.Join) events
-IsTurn pieces m events = Attends pieces m events
+-- the events of one turn
+abbrev pub IsTurn : TermsState → Message → List Event → Type 0
+IsTurn terms (messages.Hello hello) events = Opens (Some marks.Join) events
+IsTurn terms m events = Attends terms m events
 
 -- a turn may begin so
-abbrev pub BeginsTurn : ℕ → Message → List Event → Type 0
-BeginsTurn pieces m events = (rest : List Event) × IsTurn pieces m (events ++ rest)
+abbrev pub BeginsTurn : TermsState → Message → List Event → Type 0
+BeginsTurn terms m events = (rest : List Event) × IsTurn terms m (events ++ rest)
 
 -- no call but a check was refused
 abbrev pub NoneRefused : List Event → Type 0
 NoneRefused events = list_any is_refused_call events ≡ false
 
 -- a turn for each message, in order
-abbrev pub TurnsOf : ℕ → List Message → List Event → Type 0
-TurnsOf pieces [] events = events ≡ []
-TurnsOf pieces (m ∷ ms) events = (first : List Event) × ((others : List Event) ×
-    (IsTurn pieces m first × NoneRefused first × TurnsOf pieces ms others × (events ≡ first ++ others)))
+abbrev pub TurnsOf : TermsState → List Message → List Event → Type 0
+TurnsOf terms [] events = events ≡ []
+TurnsOf terms (m ∷ ms) events = (first : List Event) × ((others : List Event) ×
+    (IsTurn terms m first × NoneRefused first × TurnsOf terms ms others × (events ≡ first ++ others)))
 
 -- a turn for each message, in order, then Leave
-abbrev pub AreTurns : ℕ → List Message → List Event → Type 0
-AreTurns pieces [] events = events ≡ Called marks.Leave replies.Quiet ∷ []
-AreTurns pieces (m ∷ ms) events = (first : List Event) × ((others : List Event) ×
-    (IsTurn pieces m first × NoneRefused first × AreTurns pieces ms others × (events ≡ first ++ others)))
+abbrev pub AreTurns : TermsState → List Message → List Event → Type 0
+AreTurns terms [] events = events ≡ Called marks.Leave replies.Quiet ∷ []
+AreTurns terms (m ∷ ms) events = (first : List Event) × ((others : List Event) ×
+    (IsTurn terms m first × NoneRefused first × AreTurns terms ms others × (events ≡ first ++ others)))

@@ -1,11 +1,11 @@
 //! What a session does for a message after the handshake.
 
 ghost use Rattle.std.specs.Prelude.{◌≡◌, ◌⊎◌, None, Some, true, false, List, [], ◌++◌, IfErr, IfOk, OnOk, OnErr, MatchOption};
-ghost use Rattle.bt_meta.specs.Layout.{piece_count};
 ghost use Rattle.bt_session.specs.declared.fault.SessionFault.TheVariants.{WriteFault, NoMemory, BadBits};
 ghost use Rattle.rand_core.specs.Stream.{Stream};
 ghost use Rattle.bt_session.specs.Conduct.{Conducts, DrawsWords, word_of};
 ghost use Rattle.bt_session.specs.Events.{Event, is_check, mark_of_call};
+ghost use Rattle.bt_session.specs.Terms.{pieces_of};
 ghost use Rattle.bt_session.specs.Turns.{call_of, arrived_piece as piece_of_mark, if_completed, Opens, IsTurn, IsAcceptable, NoneRefused, IsLater};
 ghost use Rattle.bt_session.specs.Outlets.{outlet, Performs, PerformsUpTo, EndsCalls};
 ghost use Rattle.bt_session.specs.Turning.{StopsOpening, StopsTurn, TellsNews};
@@ -13,30 +13,27 @@ ghost use Rattle.bt_session.specs.Turning.{StopsOpening, StopsTurn, TellsNews};
 use crate::calling::{ask, make_call, tell_news};
 use crate::fault::SessionFault;
 use crate::place::Place;
+use crate::terms::Terms;
 use bt_history::{Call, Reply};
-use bt_meta::{BitFault, Bitfield, Sink, Torrent};
+use bt_meta::{BitFault, Bitfield, Sink};
 use bt_wire::Message;
 use rand_core::Rng;
 use std::alloc::Global;
 
 /// The call that a message makes.
-fn call_for(
-    alloc: Global,
-    torrent: &Torrent,
-    message: Message,
-) -> Result<Option<Call>, SessionFault>
+fn call_for(alloc: Global, terms: &Terms, message: Message) -> Result<Option<Call>, SessionFault>
     requires { IsLater message }
-    ensures ok { IfOk result (λ o. IsAcceptable (piece_count torrent.now.layout) message
+    ensures ok { IfOk result (λ o. IsAcceptable (pieces_of terms.now) message
         × MatchOption o (call_of message ≡ None) (λ call. call_of message ≡ Some (mark_of_call call))) }
     ensures err { IfErr result (λ fault.
-        ((fault ≡ NoMemory) × IsAcceptable (piece_count torrent.now.layout) message)
-        ⊎ ((fault ≡ BadBits) × ¬ IsAcceptable (piece_count torrent.now.layout) message)) }
+        ((fault ≡ NoMemory) × IsAcceptable (pieces_of terms.now) message)
+        ⊎ ((fault ≡ BadBits) × ¬ IsAcceptable (pieces_of terms.now) message)) }
 {
     Ok(match message {
         Message::Choke => Some(Call::Choke),
         Message::Unchoke => Some(Call::Unchoke),
         Message::Have(piece) => Some(Call::Have(piece)),
-        Message::Bits(bits) => match Bitfield::from_wire(alloc, &bits, torrent.piece_count()) {
+        Message::Bits(bits) => match Bitfield::from_wire(alloc, &bits, terms.piece_count()) {
             Ok(bitfield) => Some(Call::Bits(bitfield)),
             Err(BitFault::NoMemory) => return Err(SessionFault::NoMemory),
             Err(_) => return Err(SessionFault::BadBits),
@@ -109,28 +106,28 @@ fn call_and_check<P: Place, W: Sink>(
 /// Makes the call of a message, if it has one.
 fn open<P: Place, W: Sink>(
     alloc: Global,
-    torrent: &Torrent,
+    terms: &Terms,
     message: Message,
     place: &mut P,
     writer: &mut W,
     interested: &mut bool,
 ) -> Result<(), SessionFault>
     requires { IsLater message }
-    ensures acceptable { OnOk result (IsAcceptable (piece_count torrent.now.layout) message) }
+    ensures acceptable { OnOk result (IsAcceptable (pieces_of terms.now) message) }
     ensures ok { OnOk result ((events : List Event) × (Opens (call_of message) events × NoneRefused events
         × Performs (outlet P.past W.written place.old writer.old interested.old) events
         (outlet P.past W.written place.new writer.new interested.new))) }
     ensures conduct { OnOk result ((generator : Stream) →
         Conducts P.settles generator (P.past place.old).calls (P.past place.new).calls generator) }
     ensures ok_sound { OnOk result (W.failed writer.new ≡ W.failed writer.old) }
-    ensures err { IfErr result (λ fault. (events : List Event) × (StopsOpening fault (piece_count torrent.now.layout) message events
+    ensures err { IfErr result (λ fault. (events : List Event) × (StopsOpening fault (pieces_of terms.now) message events
         × PerformsUpTo fault (outlet P.past W.written place.old writer.old interested.old) events
         (outlet P.past W.written place.new writer.new interested.new))) }
     ensures words { OnErr result ((generator : Stream) →
         DrawsWords generator (P.past place.old).calls (P.past place.new).calls) }
     ensures err_failed { IfErr result (λ fault. fault ≡ WriteFault → W.failed writer.new ≡ true) }
 {
-    match call_for(alloc, torrent, message)? {
+    match call_for(alloc, terms, message)? {
         Some(call) => call_and_check(alloc, place, writer, interested, call),
         None => Ok(()),
     }
@@ -139,7 +136,7 @@ fn open<P: Place, W: Sink>(
 /// The turn of a message after the handshake: its call, then news, then Next calls.
 pub fn attend<P: Place, W: Sink, N: Rng>(
     alloc: Global,
-    torrent: &Torrent,
+    terms: &Terms,
     message: Message,
     place: &mut P,
     writer: &mut W,
@@ -147,21 +144,21 @@ pub fn attend<P: Place, W: Sink, N: Rng>(
     rng: &mut N,
 ) -> Result<(), SessionFault>
     requires { IsLater message }
-    ensures ok { OnOk result ((events : List Event) × (IsTurn (piece_count torrent.now.layout) message events × NoneRefused events
-        × TellsNews (piece_count torrent.now.layout) (P.past place.old) events (P.past place.new)
+    ensures ok { OnOk result ((events : List Event) × (IsTurn terms.now message events × NoneRefused events
+        × TellsNews (pieces_of terms.now) (P.past place.old) events (P.past place.new)
         × Performs (outlet P.past W.written place.old writer.old interested.old) events
         (outlet P.past W.written place.new writer.new interested.new))) }
     ensures conduct { OnOk result (Conducts P.settles
         (N.stream rng.old) (P.past place.old).calls (P.past place.new).calls (N.stream rng.new)) }
     ensures ok_sound { OnOk result (W.failed writer.new ≡ W.failed writer.old) }
-    ensures err { IfErr result (λ fault. (events : List Event) × (StopsTurn fault (piece_count torrent.now.layout) message events
+    ensures err { IfErr result (λ fault. (events : List Event) × (StopsTurn fault terms.now message events
         × PerformsUpTo fault (outlet P.past W.written place.old writer.old interested.old) events
         (outlet P.past W.written place.new writer.new interested.new))) }
     ensures words { OnErr result (DrawsWords (N.stream rng.old) (P.past place.old).calls (P.past place.new).calls) }
     ensures err_failed { IfErr result (λ fault. fault ≡ WriteFault → W.failed writer.new ≡ true) }
 {
-    open(alloc, torrent, message, place, writer, interested)?;
-    tell_news(alloc, place, writer, torrent.piece_count())?;
-    ask(alloc, place, writer, interested, rng)?;
+    open(alloc, terms, message, place, writer, interested)?;
+    tell_news(alloc, place, writer, terms.piece_count())?;
+    ask(alloc, place, writer, interested, rng, terms.most_next())?;
     Ok(())
 }

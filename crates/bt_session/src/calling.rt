@@ -4,7 +4,7 @@ ghost use Rattle.std.specs.Prelude.{◌≡◌, ◌≤◌, ◌⊎◌, ℕ, false,
 ghost use Rattle.bt_session.specs.declared.fault.SessionFault.TheVariants.{WriteFault};
 ghost use Rattle.bt_session.specs.Conduct.{Conducts, DrawsWords};
 ghost use Rattle.bt_session.specs.Events.{Event, Called, News, is_refusal, mark_of_call};
-ghost use Rattle.bt_session.specs.Turns.{Asks, arrived_piece, has_more as more_after, if_completed, most_next, NoneRefused};
+ghost use Rattle.bt_session.specs.Turns.{Asks, arrived_piece, has_more as more_after, if_completed, NoneRefused};
 ghost use Rattle.bt_session.specs.Places.{AllTold};
 ghost use Rattle.bt_session.specs.Outlets.{outlet, Performs, PerformsUpTo, StopsCall, EndsCalls, IsCut};
 
@@ -16,9 +16,6 @@ use bt_meta::Sink;
 use bt_wire::Message;
 use rand_core::Rng;
 use std::alloc::Global;
-
-/// The most Next calls of one turn.
-const MOST_NEXT: u32 = 11;
 
 /// Makes a call, and says what its reply calls for.
 pub fn make_call<P: Place, W: Sink>(
@@ -79,28 +76,29 @@ fn has_more(reply: &Reply) -> bool
     matches!(reply, Reply::Cancel(_) | Reply::Request(_))
 }
 
-/// Asks for blocks, until there is nothing more to ask for.
+/// Asks for blocks, until there is nothing more to ask for, by so many calls at most.
 pub fn ask<P: Place, W: Sink, N: Rng>(
     alloc: Global,
     place: &mut P,
     writer: &mut W,
     interested: &mut bool,
     rng: &mut N,
+    most: u32,
 ) -> Result<(), SessionFault>
-    ensures ok { OnOk result ((asking : List Event) × (Asks most_next asking × NoneRefused asking
+    ensures ok { OnOk result ((asking : List Event) × (Asks most asking × NoneRefused asking
         × Performs (outlet P.past W.written place.old writer.old interested.old) asking
         (outlet P.past W.written place.new writer.new interested.new))) }
     ensures conduct { OnOk result (Conducts P.settles
         (N.stream rng.old) (P.past place.old).calls (P.past place.new).calls (N.stream rng.new)) }
     ensures ok_sound { OnOk result (W.failed writer.new ≡ W.failed writer.old) }
-    ensures err { IfErr result (λ fault. (asking : List Event) × ((rest : List Event) × (Asks most_next (asking ++ rest)
+    ensures err { IfErr result (λ fault. (asking : List Event) × ((rest : List Event) × (Asks most (asking ++ rest)
         × EndsCalls fault asking
         × PerformsUpTo fault (outlet P.past W.written place.old writer.old interested.old) asking
         (outlet P.past W.written place.new writer.new interested.new)))) }
     ensures words { OnErr result (DrawsWords (N.stream rng.old) (P.past place.old).calls (P.past place.new).calls) }
     ensures err_failed { IfErr result (λ fault. fault ≡ WriteFault → W.failed writer.new ≡ true) }
 {
-    'next: for _ in 0..MOST_NEXT {
+    'next: for _ in 0..most {
         let reply = make_call(alloc, place, writer, interested, Call::Next(rng.next_u64()))?;
         if !has_more(&reply) {
             return Ok(());

@@ -12,6 +12,7 @@ mod rounds;
 mod seat;
 mod session;
 mod stream;
+mod terms;
 mod turning;
 pub mod whole;
 mod writing;

@@ -5,6 +5,7 @@ ghost use Rattle.std.specs.Prelude.{◌≡◌, ◌<◌, ◌≤◌, true, false, 
 use crate::fault::{End, SessionFault};
 use crate::greeting::greeting;
 use crate::place::Place;
+use crate::terms::Terms;
 use crate::turning::{Peer, greet, listen};
 use bt_meta::{Sink, Source, Torrent};
 use bt_wire::{Inbound, frame_limit};
@@ -16,7 +17,7 @@ use std::sync::Arc;
 /// A session of a worker with one peer, from the handshakes to the end of the peer's stream.
 #[derive(Drop)]
 pub struct Session {
-    torrent: Arc<Torrent>,
+    terms: Terms,
     worker: u32,
     peer: Peer,
     joined: bool,
@@ -32,7 +33,7 @@ impl Model for Session {
     ghost Value = { SessionState };
 
     ghost view = { λ a. record {
-      torrent = a.torrent.value;
+      terms = a.terms;
       worker = a.worker;
       stream = a.peer.inbound;
       joined = a.joined;
@@ -51,16 +52,19 @@ impl Session {
     ghost use Rattle.bt_session.specs.declared.fault.SessionFault.TheVariants.{WriteFault};
     ghost use Rattle.bt_session.specs.Conduct.{Conducts, DrawsWords, answers_of};
     ghost use Rattle.bt_session.specs.Hearing.{most_reads, source_state};
+    ghost use Rattle.bt_session.specs.Terms.{terms_of};
     ghost use Rattle.bt_session.specs.Turning.{surroundings};
     ghost use Rattle.bt_session.specs.Sessions.{SessionState, begun, to_hear, GoesOn, Ends, FailsWith, answer_again};
 
-    /// A session that has done nothing yet. Takes no memory.
-    pub fn new(alloc: Global, torrent: Arc<Torrent>, worker: u32) -> Session
-        ensures { result ≡ begun torrent.value worker }
+    /// A session that has done nothing yet, with a peer that is asked for so many blocks at a time: the depth of its desk's rules, 1 to
+    /// 64. Takes no memory.
+    pub fn new(alloc: Global, torrent: Arc<Torrent>, worker: u32, depth: u32) -> Session
+        requires { (1 ≤ depth) × (depth ≤ 64) }
+        ensures { result ≡ begun (terms_of torrent.value depth) worker }
     {
         let limit = frame_limit(torrent.piece_count());
         Session {
-            torrent,
+            terms: Terms::new(torrent, depth),
             worker,
             peer: Peer {
                 inbound: Inbound::new(alloc, limit),
@@ -109,10 +113,10 @@ impl Session {
             (R.failed reader.new ≡ R.failed reader.old) × (W.failed writer.new ≡ W.failed writer.old)) }
         ensures failed { IfErr result (λ fault. fault ≡ WriteFault → W.failed writer.new ≡ true) }
     {
-        let hello = greeting(self.torrent.infohash(), self.worker);
+        let hello = greeting(self.terms.infohash(), self.worker);
         let greeted = greet(
             alloc,
-            &self.torrent,
+            &self.terms,
             &hello,
             &mut self.peer,
             reader,
@@ -179,7 +183,7 @@ impl Session {
         }
         match listen(
             alloc,
-            &self.torrent,
+            &self.terms,
             &mut self.peer,
             reader,
             writer,

@@ -1,10 +1,11 @@
 mod serial;
+mod settings;
 mod sips;
 
 use crate::whole::session;
 use crate::{DeskPlace, End, SessionFault};
 use bt_meta::{Bitfield, FromRead, Source, ToWrite, Torrent};
-use bt_picker::{Call, Desk, Entry};
+use bt_picker::{Call, Desk, Entry, Rules};
 use bt_wire::{Hello, WireFault};
 use rand_pcg::Lcg64Xsh32;
 use std::alloc::{AllocError, Global};
@@ -54,6 +55,7 @@ fn tell(entry: &Entry, said: &mut String) -> Result<(), AllocError> {
         Call::Arrived { piece, begin, .. } => write!(said, "block {piece} {begin}")?,
         Call::Settle(_) => said.push_str("settle")?,
         Call::Leave => said.push_str("leave")?,
+        Call::Want(_) => said.push_str("want")?,
     }
     let reply = entry.reply;
     write!(said, " = {reply:?}; ")
@@ -74,7 +76,7 @@ fn told_of<R: Source + Drop>(
 ) -> Result<(Result<End, SessionFault>, String, Vec<u8>), Fail> {
     let torrent = torrent(alloc)?;
     let mut told = Bitfield::empty(alloc, torrent.piece_count())?;
-    let mut desk = Desk::new(alloc, torrent.clone()?, 4)?;
+    let mut desk = Desk::new(alloc, torrent.clone()?, 4, Rules::usual())?;
     let mut writer = ToWrite::new(Vec::new(alloc));
     let mut rng = Lcg64Xsh32::new(0, 3);
     let mut place = DeskPlace::new(&mut desk, 3, &mut told);
@@ -86,6 +88,7 @@ fn told_of<R: Source + Drop>(
         &mut writer,
         &mut place,
         &mut rng,
+        5,
     );
     let mut said = String::new(alloc);
     for entry in desk.journal() {

@@ -16,9 +16,10 @@ use crate::attending::attend;
 use crate::fault::SessionFault;
 use crate::hearing::hear;
 use crate::place::Place;
+use crate::terms::Terms;
 use crate::writing::write_all;
 use bt_history::{Call, Reply};
-use bt_meta::{Sink, Source, Torrent};
+use bt_meta::{Sink, Source};
 use bt_wire::{Inbound, Message};
 use rand_core::Rng;
 use std::alloc::Global;
@@ -34,7 +35,7 @@ pub struct Peer {
 /// The first turn: each side's handshake, then Join.
 pub fn greet<R: Source, W: Sink, P: Place>(
     alloc: Global,
-    torrent: &Torrent,
+    terms: &Terms,
     greeting: &[u8],
     peer: &mut Peer,
     reader: &mut R,
@@ -43,7 +44,7 @@ pub fn greet<R: Source, W: Sink, P: Place>(
 ) -> Result<(), SessionFault>
     requires greeted { peer.old.inbound.greeted ≡ false }
     requires asked { peer.old.asked ≤ most_reads }
-    ensures ok { OnOk result (TakesTurn torrent.now greeting.now
+    ensures ok { OnOk result (TakesTurn terms.now greeting.now
         (reading peer.old.inbound peer.old.interested) (surroundings P.past R.left W.written place.old reader.old writer.old)
         (reading peer.new.inbound peer.new.interested) (surroundings P.past R.left W.written place.new reader.new writer.new)) }
     // No word is drawn.
@@ -55,7 +56,7 @@ pub fn greet<R: Source, W: Sink, P: Place>(
     ensures err { IfErr result (λ fault. (events : List Event) × (GainsUpTo (P.past place.old) events (P.past place.new)
         × (is_in false events ≡ false)
         × WroteFront fault (W.written writer.old) (greeting.now ++ says peer.old.interested events) (W.written writer.new)
-        × BreaksBy fault (start torrent.now false peer.old.inbound (R.left reader.old))
+        × BreaksBy fault (start terms.now false peer.old.inbound (R.left reader.old))
         (source_state R.left R.ended R.failed reader.new peer.new.asked) events)) }
     ensures words { OnErr result ((generator : Stream) →
         DrawsWords generator (P.past place.old).calls (P.past place.new).calls) }
@@ -71,7 +72,7 @@ pub fn greet<R: Source, W: Sink, P: Place>(
         return Err(SessionFault::WrongInfohash);
     };
     let theirs = hello.infohash;
-    let ours = *torrent.infohash();
+    let ours = *terms.infohash();
     if theirs != ours {
         return Err(SessionFault::WrongInfohash);
     }
@@ -95,7 +96,7 @@ fn leave_by<P: Place>(alloc: Global, place: &mut P, fault: SessionFault) -> Sess
 /// A later turn: a message, or the end of the input. Answers whether the session goes on.
 pub fn listen<R: Source, W: Sink, P: Place, N: Rng>(
     alloc: Global,
-    torrent: &Torrent,
+    terms: &Terms,
     peer: &mut Peer,
     reader: &mut R,
     writer: &mut W,
@@ -104,7 +105,7 @@ pub fn listen<R: Source, W: Sink, P: Place, N: Rng>(
 ) -> Result<bool, SessionFault>
     requires greeted { peer.old.inbound.greeted ≡ true }
     requires asked { peer.old.asked ≤ most_reads }
-    ensures goes_on { IfOk result (λ goes_on. OnTrue goes_on (TakesTurn torrent.now []
+    ensures goes_on { IfOk result (λ goes_on. OnTrue goes_on (TakesTurn terms.now []
         (reading peer.old.inbound peer.old.interested) (surroundings P.past R.left W.written place.old reader.old writer.old)
         (reading peer.new.inbound peer.new.interested) (surroundings P.past R.left W.written place.new reader.new writer.new))) }
     ensures few { IfOk result (λ goes_on. OnTrue goes_on
@@ -119,7 +120,7 @@ pub fn listen<R: Source, W: Sink, P: Place, N: Rng>(
         (GainsUpTo (P.past place.old) (events ++ leave) (P.past place.new)
         × Departs (is_in true events) (P.past place.new).short leave
         × WroteFront fault (W.written writer.old) (says peer.old.interested events) (W.written writer.new)
-        × BreaksBy fault (start torrent.now true peer.old.inbound (R.left reader.old))
+        × BreaksBy fault (start terms.now true peer.old.inbound (R.left reader.old))
         (source_state R.left R.ended R.failed reader.new peer.new.asked) events))) }
     ensures words { OnErr result (DrawsWords (N.stream rng.old) (P.past place.old).calls (P.past place.new).calls) }
     ensures err_failed { IfErr result (λ fault. fault ≡ WriteFault → W.failed writer.new ≡ true) }
@@ -141,7 +142,7 @@ pub fn listen<R: Source, W: Sink, P: Place, N: Rng>(
     };
     if let Err(fault) = attend(
         alloc,
-        torrent,
+        terms,
         message,
         place,
         writer,

@@ -4,6 +4,7 @@ ghost use Rattle.std.specs.Prelude.{ℕ, ◌≡◌, ◌≤◌, true, IfOk, IfErr
 ghost use Rattle.bt_session.specs.declared.fault.SessionFault.TheVariants.{WriteFault};
 ghost use Rattle.bt_session.specs.Conduct.{Conducts, DrawsWords, answers_of};
 ghost use Rattle.bt_session.specs.Hearing.{most_reads, source_state};
+ghost use Rattle.bt_session.specs.Terms.{terms_of};
 ghost use Rattle.bt_session.specs.Turning.{surroundings};
 ghost use Rattle.bt_session.specs.Sessions.{IsWhole, IsCutShort};
 
@@ -15,7 +16,7 @@ use rand_pcg::Lcg64Xsh32;
 use std::alloc::Global;
 use std::sync::Arc;
 
-/// A session from its first turn to its end, or to a fault.
+/// A session from its first turn to its end, or to a fault. Its peer is asked for so many blocks at a time as the depth says, 1 to 64.
 pub fn session<R: Source, W: Sink, P: Place>(
     alloc: Global,
     torrent: Arc<Torrent>,
@@ -24,8 +25,10 @@ pub fn session<R: Source, W: Sink, P: Place>(
     writer: &mut W,
     place: &mut P,
     rng: &mut Lcg64Xsh32,
+    depth: u32,
 ) -> Result<End, SessionFault>
-    ensures whole { IfOk result (λ end. IsWhole end torrent.value worker
+    requires { (1 ≤ depth) × (depth ≤ 64) }
+    ensures whole { IfOk result (λ end. IsWhole end (terms_of torrent.value depth) worker
         (surroundings P.past R.left W.written place.old reader.old writer.old)
         (surroundings P.past R.left W.written place.new reader.new writer.new)) }
     // It comes to its end only where its source did.
@@ -36,14 +39,14 @@ pub fn session<R: Source, W: Sink, P: Place>(
     ensures words { OnErr result (DrawsWords (answers_of rng.old) (P.past place.old).calls (P.past place.new).calls) }
     // The reads that the session counted are those that its source was asked for, if none were before.
     ensures cut_short { IfErr result (λ fault. (asked : ℕ) × ((R.asked reader.old ≡ 0 → R.asked reader.new ≡ asked)
-        × IsCutShort fault torrent.value worker
+        × IsCutShort fault (terms_of torrent.value depth) worker
         (surroundings P.past R.left W.written place.old reader.old writer.old)
         (source_state R.left R.ended R.failed reader.new asked)
         (surroundings P.past R.left W.written place.new reader.new writer.new))) }
     ensures failed { IfErr result (λ fault. fault ≡ WriteFault → W.failed writer.new ≡ true) }
     ensures most { R.asked reader.old ≡ 0 → R.asked reader.new ≤ most_reads }
 {
-    let mut session = Session::new(alloc, torrent, worker);
+    let mut session = Session::new(alloc, torrent, worker, depth);
     'turns: loop {
         if let Some(end) = session.turn(alloc, reader, writer, place, rng)? {
             return Ok(end);

@@ -40,5 +40,5 @@ next-preserved g c =
 
 pub returns-clause-ok : goal.returns-clause-ok
 returns-clause-ok g c =
-    let all : c.next.counter ≡ 11 = omega arith in
-    Asking-full _ _ c.next.counter 11 c.next.invariant.asking all
+    let all : c.next.counter ≡ c.args.most = omega arith in
+    Asking-full _ _ c.next.counter c.args.most c.next.invariant.asking all

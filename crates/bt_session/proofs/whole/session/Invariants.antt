@@ -2,11 +2,12 @@ use Rattle.std.proofs.Common.{◌≡◌}
 use Rattle.bt_session.specs.Conduct.{Conducts, answers_of}
 use Rattle.bt_session.specs.Sessions.{to_hear, Running}
 use Rattle.bt_session.specs.Turning.{surroundings}
+use Rattle.bt_session.specs.Terms.{terms_of}
 use Rattle.bt_session.proofs.whole.session.Given as goal
 
 abbrev pub invariant-turns : goal.invariant-turns
 invariant-turns g l = record {
-  running : Running l.fn.torrent.value l.fn.worker
+  running : Running (terms_of l.fn.torrent.value l.fn.depth) l.fn.worker
       (surroundings g.P.Place.past g.R.Source.left g.W.Sink.written l.fn.place l.fn.reader l.fn.writer) l.session
       (surroundings g.P.Place.past g.R.Source.left g.W.Sink.written l.place l.reader l.writer);
   counted : g.R.Source.asked l.fn.reader ≡ 0 → g.R.Source.asked l.reader ≡ l.session.asked;

@@ -1,5 +1,4 @@
 use Rattle.std.proofs.Common.{◌≡◌, ◌∙◌, ap, List, ℕ, Some, Err, false, refl, subst}
-use Rattle.bt_meta.specs.Layout.{Metainfo}
 use Rattle.bt_session.specs.Hearing.{source_state}
 use Rattle.bt_session.specs.Saying.{greeting}
 use Rattle.bt_session.specs.Sessions.{SessionState, FailsWith}
@@ -12,7 +11,7 @@ returns-in-Err-clause-fails g c =
     let inside = c.self.inside in
     let fault = c.in-Err.fault in
     let state : SessionState = record {
-      torrent = inside.torrent.value;
+      terms = inside.terms;
       worker = inside.worker;
       stream = inside.peer.inbound;
       joined = inside.joined;
@@ -32,16 +31,12 @@ returns-in-Err-clause-fails g c =
     let out' = surroundings g.P.Place.past g.R.Source.left g.W.Sink.written c.greet-greeted.new.place c.greet-greeted.new.reader
     c.greet-greeted.new.writer in
     let source = source_state g.R.Source.left g.R.Source.ended g.R.Source.failed c.greet-greeted.new.reader c.greet-greeted.new.peer.asked in
-    let said : c.greeting-hello.result ≡ greeting state.torrent.infohash state.worker =
-    c.greeting-hello.ensures ∙ ap (λ (hash : List ℕ). greeting hash state.worker)
-    (c.infohash.ensures ∙ ap (λ (t : Metainfo). t.infohash) c.deref.ensures) in
+    let said : c.greeting-hello.result ≡ greeting state.terms.infohash state.worker =
+    c.greeting-hello.ensures ∙ ap (λ (hash : List ℕ). greeting hash state.worker) c.infohash.ensures in
     let fails : FirstFails fault c.greeting-hello.result state.interested
-    (start state.torrent false state.stream out.left) source out.past out.written out'.past out'.written =
-    subst (λ (t : Metainfo). FirstFails fault c.greeting-hello.result state.interested
-    (start t false state.stream out.left) source out.past out.written out'.past out'.written)
-    c.deref-2.ensures c.in-Err.ensures.err in
+    (start state.terms false state.stream out.left) source out.past out.written out'.past out'.written = c.in-Err.ensures.err in
     let same = subst (λ (hello : List ℕ). FirstFails fault hello state.interested
-    (start state.torrent false state.stream out.left) source out.past out.written out'.past out'.written) said fails in
+    (start state.terms false state.stream out.left) source out.past out.written out'.past out'.written) said fails in
     let first : state.joined ≡ false = ap (λ (now : SessionState). now.joined) c.self.view_is ∙ c.requires.joined in
     subst (λ (old : SessionState). FailsWith fault old out source new out') c.self.view_is
     (session_fails_first fault state new out out' source first refl same)
