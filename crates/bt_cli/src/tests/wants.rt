@@ -26,7 +26,7 @@ fn wanting(alloc: Global, want: &[u8]) -> Result<Options, AllocError>
 #[test]
 fn no_piece_is_wanted(rt: HostRuntime) -> Result<(), Fail> {
     let sent = stream(rt.alloc(), INFOHASH, FRAMES)?;
-    let mut streams = [recorded(rt.alloc(), &sent)];
+    let mut streams = Vec::from_array(rt.alloc(), [recorded(rt.alloc(), &sent)])?;
     let mut out = ToWrite::new(Vec::new(rt.alloc()));
     let mut err = Vec::new(rt.alloc());
     let options = wanting(rt.alloc(), b"\x00")?;
@@ -38,7 +38,9 @@ fn no_piece_is_wanted(rt: HostRuntime) -> Result<(), Fail> {
         out.into_inner().as_slice(),
         b"1 want 00 = quiet\n0 join = joined\n0 bits 80 = noted no\n0 next = choked\n0 unchoke = quiet\n0 next = nothing\n0 block 0 0 3 = completed\n0 settle 0 = had\n0 next = nothing\n0 leave = quiet\nstream 0 end\npieces 1\nhad 1\nmissing -\ncomplete yes\njournal ok\n".as_slice()
     );
-    let [Stream { reader: _, writer }] = streams;
+    let Some(Stream { reader: _, writer }) = streams.pop() else {
+        return Err(Fail::from("no stream"));
+    };
     let mut said = Vec::from_slice(rt.alloc(), b"\x13BitTorrent protocol\0\0\0\0\0\0\0\0")?;
     said.extend_from_slice(INFOHASH)?;
     said.extend_from_slice(b"-PP0001-000000000000\0\0\0\x05\x04\0\0\0\0")?;
