@@ -1,6 +1,7 @@
 -- The desk of a run before its first round.
 use Rattle.std.proofs.Common.{◌≡◌, ◌<◌, ℕ, Bool, true, false, not, List, [], ◌∷◌, Some, length, refl, sym, ap, subst, ◌==◌, ◌∙◌, arith, eq-eqb}
 use Rattle.std.proofs.lemmas.Bool.Decides.{nat_tests}
+use Rattle.std.proofs.lemmas.List.{length-replicate}
 use Rattle.bt_meta.specs.Layout.{piece_count}
 use Rattle.bt_history.specs.declared.call.Reason.TheVariants.{WrongCount}
 use Rattle.bt_history.specs.declared.call.Reply.{Reply}
@@ -8,14 +9,17 @@ use Rattle.bt_history.specs.declared.call.Reply.TheVariants.{Quiet}
 use Rattle.bt_history.specs.declared.event.Action.TheVariants.{Want}
 use Rattle.bt_history.specs.declared.event.Event.{Event as Entry}
 use Rattle.bt_history.specs.History.{History}
-use Rattle.bt_history.specs.Legal.{Exactly, IsAllowed, Permits, answer, answer_unless, first_cause, refusal}
+use Rattle.bt_history.specs.Legal.{IsAllowed, Permits, answer, answer_unless, first_cause, refusal}
+use Rattle.bt_history.specs.Next.{Exactly}
 use Rattle.bt_history.specs.Peers.{flag}
 use Rattle.bt_history.specs.Pieces.{chosen, had}
 use Rattle.bt_history.specs.Setting.{Setting}
 use Rattle.bt_picker.specs.Positions.{DeskState, Gains as Enters}
 use Rattle.bt_session.specs.Desks.{calls_in}
 use Rattle.bt_session.specs.Serial.{opening_of}
-use Rattle.bt_session.specs.Standing.{IsFresh, HasOpened}
+use Rattle.bt_session.specs.declared.seat.Seat.{Seat}
+use Rattle.bt_session.specs.Standing.{AreNew, Fit, IsFresh, HasOpened}
+use Rattle.bt_session.specs.Terms.{TermsState, pieces_of}
 use Rattle.bt_session.proofs.Desks.{calls_in-own, calls_in-other}
 
 -- the empty desk is fresh
@@ -63,3 +67,9 @@ opened_by old new worker flags reply empty same enters =
     ∙ (ap (λ (h : History). let desk : DeskState = record { setting = old.setting; history = entry reply ∷ h } in desk) empty
     ∙ ap (λ (r : Reply). let desk : DeskState = record { setting = old.setting; history = entry r ∷ [] } in desk) quiet)) in
     subst (HasOpened worker flags) (sym is) (first_want old.setting worker flags)
+
+-- new seats note pieces of the torrent
+pub AreNew-fit : (terms : TermsState) (seed : ℕ) (desk : DeskState) (seats : List Seat) → desk.setting.torrent ≡ terms.layout →
+    AreNew terms seed seats → Fit desk seats
+AreNew-fit terms seed desk seats layout new = λ i. λ any. λ within.
+    ap length (new i any within).told ∙ (length-replicate {A = Bool} (pieces_of terms) false ∙ ap piece_count (sym layout))

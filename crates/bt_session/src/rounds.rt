@@ -1,6 +1,6 @@
 //! Several recorded peers at one desk, in one thread.
 
-ghost use Rattle.std.specs.Prelude.{◌≡◌, ◌≤◌, ◌<◌, ◌+◌, [], ℕ, length, map, Some, true, false, sum_by, All, IfOk, IfSome, OnErr, vec_capacity};
+ghost use Rattle.std.specs.Prelude.{◌≡◌, ◌≤◌, ◌<◌, ◌+◌, [], ℕ, length, map, Some, true, false, sum_by, All, IfOk, IfSome, OnErr, OnOk, vec_capacity};
 ghost use Rattle.std.specs.List.{HoldsAt};
 ghost use Rattle.bt_history.specs.Peers.{flag};
 ghost use Rattle.bt_history.specs.Pieces.{chosen};
@@ -16,8 +16,8 @@ use crate::fault::{End, SessionFault};
 use crate::seat::{Seat, take_turn};
 use crate::session::Session;
 use crate::stream::{MOST_STREAMS, SerialRun, Stream};
-use bt_meta::{Bitfield, Sink, Source, Torrent};
 use bt_history::{Call, Rules};
+use bt_meta::{Bitfield, Sink, Source, Torrent};
 use bt_picker::Desk;
 use rand_pcg::Lcg64Xsh32;
 use std::alloc::{AllocError, Global};
@@ -190,7 +190,6 @@ fn play_out<R: Source, W: Sink>(
 }
 
 /// Tells at a new desk, as its first call, which pieces are wanted.
-#[tactic(auto, using(crate::proofs::Opened::opened_by))]
 fn tell_wanted(desk: &mut Desk, worker: u32, flags: Bitfield) -> Result<(), AllocError>
     requires worker { worker < desk.old.setting.workers }
     requires empty { desk.old.history ≡ [] }
@@ -198,7 +197,7 @@ fn tell_wanted(desk: &mut Desk, worker: u32, flags: Bitfield) -> Result<(), Allo
     ensures opened { OnOk result (HasOpened worker flags desk.new) }
     ensures setting { desk.new.setting ≡ desk.old.setting }
 {
-    desk.call(worker, Call::Want(flags))?;
+    let _reply = desk.call(worker, Call::Want(flags))?;
     Ok(())
 }
 

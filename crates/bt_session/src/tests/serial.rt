@@ -84,7 +84,14 @@ fn said(alloc: Global, piece: u8, finished: &[u8]) -> Result<Vec<u8>, Fail> {
 fn one_stream(rt: HostRuntime) -> Result<(), Fail> {
     let sent = peer(rt.alloc(), 1, &PEER)?;
     let mut streams = Vec::from_array(rt.alloc(), [recorded(rt.alloc(), &sent)])?;
-    let run = serial(rt.alloc(), torrent(rt.alloc())?, &mut streams, 0, None, Rules::usual())?;
+    let run = serial(
+        rt.alloc(),
+        torrent(rt.alloc())?,
+        &mut streams,
+        0,
+        None,
+        Rules::usual(),
+    )?;
     assert_eq!(rt; run.ends.len(), 1);
     assert!(rt; run.ends[0] == Ok(End { messages: 3 }));
     assert!(rt; !run.short);
@@ -113,7 +120,14 @@ fn faults_of_a_stream(rt: HostRuntime) -> Result<(), Fail> {
     for (infohash, frames, fault, calls) in rows {
         let sent = peer(rt.alloc(), infohash, frames)?;
         let mut streams = [recorded(rt.alloc(), &sent)];
-        let run = serial(rt.alloc(), torrent(rt.alloc())?, &mut streams, 0, None, Rules::usual())?;
+        let run = serial(
+            rt.alloc(),
+            torrent(rt.alloc())?,
+            &mut streams,
+            0,
+            None,
+            Rules::usual(),
+        )?;
         assert!(rt; run.ends[0] == Err(fault));
         assert_eq!(rt; journal(rt.alloc(), &run)?.as_str(), calls);
         assert!(rt; !run.desk.had(0));
@@ -129,7 +143,14 @@ fn two_streams_take_turns(rt: HostRuntime) -> Result<(), Fail> {
         rt.alloc(),
         [recorded(rt.alloc(), &first), recorded(rt.alloc(), &second)],
     )?;
-    let run = serial(rt.alloc(), two_pieces(rt.alloc())?, &mut streams, 5, None, Rules::usual())?;
+    let run = serial(
+        rt.alloc(),
+        two_pieces(rt.alloc())?,
+        &mut streams,
+        5,
+        None,
+        Rules::usual(),
+    )?;
     assert!(rt; run.ends[0] == Ok(End { messages: 3 }));
     assert!(rt; run.ends[1] == Ok(End { messages: 3 }));
     assert_eq!(rt;
@@ -161,7 +182,14 @@ fn a_fault_ends_one_session_alone(rt: HostRuntime) -> Result<(), Fail> {
         recorded(rt.alloc(), &torn),
         recorded(rt.alloc(), &whole),
     ];
-    let run = serial(rt.alloc(), torrent(rt.alloc())?, &mut streams, 0, None, Rules::usual())?;
+    let run = serial(
+        rt.alloc(),
+        torrent(rt.alloc())?,
+        &mut streams,
+        0,
+        None,
+        Rules::usual(),
+    )?;
     assert!(rt; run.ends[0] == Err(SessionFault::WrongInfohash));
     assert!(rt; run.ends[1] == Err(SessionFault::Truncated));
     assert!(rt; run.ends[2] == Ok(End { messages: 3 }));
@@ -174,7 +202,14 @@ fn words_come_from_the_seed(rt: HostRuntime) -> Result<(), Fail> {
     let first = peer(rt.alloc(), 1, &FIRST)?;
     let second = peer(rt.alloc(), 1, &SECOND)?;
     let mut streams = [recorded(rt.alloc(), &first), recorded(rt.alloc(), &second)];
-    let run = serial(rt.alloc(), two_pieces(rt.alloc())?, &mut streams, 5, None, Rules::usual())?;
+    let run = serial(
+        rt.alloc(),
+        two_pieces(rt.alloc())?,
+        &mut streams,
+        5,
+        None,
+        Rules::usual(),
+    )?;
     for worker in 0..2u32 {
         let mut rng = Lcg64Xsh32::new(5, u64::from(worker));
         let mut asked = false;

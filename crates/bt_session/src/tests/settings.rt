@@ -11,6 +11,7 @@ use std::test::Fail;
 
 /// A peer of one or two pieces that has all of them, after its handshake: its bitfield, and unchoke.
 const ONE: [u8; 11] = [0, 0, 0, 2, 5, 128, 0, 0, 0, 1, 1];
+
 const BOTH: [u8; 11] = [0, 0, 0, 2, 5, 192, 0, 0, 0, 1, 1];
 
 /// A run with this peer alone.
