@@ -13,7 +13,13 @@ PassTo-more lines from w p i pass this k behind before =
 pub IsScript-passed : (input : List ℕ) (lines : List (List ℕ)) (from w p i : ℕ) → lines ≡ lines_of input → Starts lines from w p →
     PassTo lines from w p i → length lines ≤ i → IsScript input
 IsScript-passed input lines from w p i e starts pass end =
-    let whole : AreScript lines = record { from = from; workers = w; pieces = p; starts = starts; pass = λ k behind within. pass k behind (omega arith) } in
+    let whole : AreScript lines = record {
+      from = from;
+      workers = w;
+      pieces = p;
+      starts = starts;
+      pass = λ k behind within. pass k behind (omega arith);
+    } in
     subst AreScript e whole
 
 -- a line that doesn't pass, behind lines that do
@@ -40,7 +46,8 @@ Explains-later input lines from w p i faults.File e starts pass behind within bl
 Explains-later input lines from w p i faults.Memory e starts pass behind within blames = tt
 
 -- a script that wasn't opened
-pub Explains-unopened : (input : List ℕ) (lines : List (List ℕ)) (fault : Fault) → lines ≡ lines_of input → StopsOpening lines fault → Explains input fault
+pub Explains-unopened : (input : List ℕ) (lines : List (List ℕ)) (fault : Fault) → lines ≡ lines_of input → StopsOpening lines fault →
+    Explains input fault
 Explains-unopened input lines (faults.Line n) e (inl lacks) = inl (subst (λ (ls : List (List ℕ)). LacksLines ls n) e lacks)
 Explains-unopened input lines (faults.Line n) e (inr fails) = inr (inl (subst (λ (ls : List (List ℕ)). FailsToStart ls n) e fails))
 Explains-unopened input lines (faults.Metainfo fault) e stops = stops

@@ -43,8 +43,8 @@ pub struct Options {
 #[derive(Drop)]
 pub struct Run {
     pub desk: Desk,
-    /// Whether all wanted pieces are had, or why the run can't be vouched for: `Fault::Memory` where something was given up for want of memory,
-    /// though it was told as far as `out` took it; else `Fault::File` where `out` failed.
+    /// Whether all wanted pieces are had, or why the run can't be vouched for: `Fault::Memory` where something was given up for want of
+    /// memory, though it was told as far as `out` took it; else `Fault::File` where `out` failed.
     pub ended: Result<bool, Fault>,
 }
 

@@ -8,7 +8,7 @@ use std::test::*;
 
 #[test]
 fn scripts(rt: HostRuntime) -> Result<(), Fail> {
-    let rows: [(&[u8], u8, &[u8], &[u8]); 3] = [
+    let rows: [(&[u8], u8, &[u8], &[u8]); 6] = [
         (
             b"torrent 3 3 1 a9993e364706816aba3e25717850c26c9cd0d89d\n0 join\n",
             0,
@@ -22,6 +22,24 @@ fn scripts(rt: HostRuntime) -> Result<(), Fail> {
             b"line 3\n",
         ),
         (b"", 2, b"", b"line 1\n"),
+        (
+            b"torrent 3 3 1 a9993e364706816aba3e25717850c26c9cd0d89d\nrules 0 1\n",
+            2,
+            b"",
+            b"line 2\n",
+        ),
+        (
+            b"torrent 3 3 1 a9993e364706816aba3e25717850c26c9cd0d89d\nrules 65 1\n",
+            2,
+            b"",
+            b"line 2\n",
+        ),
+        (
+            b"torrent 3 3 1 a9993e364706816aba3e25717850c26c9cd0d89d\nrules 5 2\n",
+            2,
+            b"",
+            b"line 2\n",
+        ),
     ];
     for (input, wanted, text, told) in rows {
         let mut out = Vec::new(rt.alloc());

@@ -62,7 +62,8 @@ returns-in_err-reply-clause-fault c =
     let behind : c.in_ok-player.field-0.next ≤ c.loop-index.index = omega arith in
     let within : c.loop-index.index < length texts = simp length-map (omega (arith, c.in_ok-lines.lines.ok.0)) in
     let blames = rw text at c.in_err-reply.ensures.err in
-    let why = Explains-later c.args.input.now texts c.in_ok-player.field-0.next c.loop-index.player.workers c.loop-index.player.pieces c.loop-index.index
+    let player = c.loop-index.player in
+    let why = Explains-later c.args.input.now texts c.in_ok-player.field-0.next player.workers player.pieces c.loop-index.index
     c.in_err-reply.field-0.0 c.in_ok-lines.ensures c.loop-index.invariant.starts c.loop-index.invariant.pass behind within blames in
     IfErr-passed (Explains c.args.input.now) _ c.in_err-reply.field-0.0 c.from_residual-in_err-reply.ensures.1 why
 
