@@ -27,6 +27,12 @@ fn torrent(alloc: Global) -> Result<Arc<Torrent>, Fail> {
     Ok(Arc::new(alloc, Torrent::of_parts(3, 3, hashes, [1; 20])?)?)
 }
 
+/// Five blocks at a time, and no piece at random: these suit each torrent.
+const RULES: Rules = Rules {
+    depth: 5,
+    random: 0,
+};
+
 /// What a peer of one piece sends, after its handshake: its bitfield, unchoke, and the piece.
 const PEER: [u8; 27] = [
     0, 0, 0, 2, 5, 128, 0, 0, 0, 1, 1, 0, 0, 0, 12, 7, 0, 0, 0, 0, 0, 0, 0, 0, 97, 98, 99,
@@ -76,7 +82,7 @@ fn told_of<R: Source + Drop>(
 ) -> Result<(Result<End, SessionFault>, String, Vec<u8>), Fail> {
     let torrent = torrent(alloc)?;
     let mut told = Bitfield::empty(alloc, torrent.piece_count())?;
-    let mut desk = Desk::new(alloc, torrent.clone()?, 4, Rules::usual())?;
+    let mut desk = Desk::new(alloc, torrent.clone()?, 4, RULES)?;
     let mut writer = ToWrite::new(Vec::new(alloc));
     let mut rng = Lcg64Xsh32::new(0, 3);
     let mut place = DeskPlace::new(&mut desk, 3, &mut told);

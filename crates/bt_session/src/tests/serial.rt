@@ -1,7 +1,7 @@
-use super::{ABC, PEER, peer, tell, torrent};
+use super::{ABC, PEER, RULES, peer, tell, torrent};
 use crate::{End, SerialRun, SessionFault, Stream, serial};
 use bt_meta::{FromRead, ToWrite, Torrent};
-use bt_picker::{Call, Rules};
+use bt_picker::Call;
 use rand_core::Rng;
 use rand_pcg::Lcg64Xsh32;
 use std::alloc::{AllocError, Global};
@@ -44,7 +44,7 @@ fn written(alloc: Global, streams: Vec<Recorded<'_>>) -> Result<Vec<Vec<u8>>, Fa
 }
 
 /// The journal: the worker, the call and the reply of each entry.
-fn journal(alloc: Global, run: &SerialRun) -> Result<String, AllocError> {
+pub fn journal(alloc: Global, run: &SerialRun) -> Result<String, AllocError> {
     let mut said = String::new(alloc);
     for entry in run.desk.journal() {
         let worker = entry.worker;

@@ -6,6 +6,7 @@ use crate::{SerialRun, serial};
 use bt_meta::{Bitfield, Torrent};
 use bt_picker::Rules;
 use std::alloc::Global;
+use std::process::Abort;
 use std::sync::Arc;
 use std::test::Fail;
 
@@ -14,14 +15,20 @@ const ONE: [u8; 11] = [0, 0, 0, 2, 5, 128, 0, 0, 0, 1, 1];
 
 const BOTH: [u8; 11] = [0, 0, 0, 2, 5, 192, 0, 0, 0, 1, 1];
 
-/// A run with this peer alone.
+/// A run with this peer alone, by rules that suit the torrent.
 fn run(
+    rt: &impl Abort,
     alloc: Global,
     torrent: Arc<Torrent>,
     frames: &[u8],
     want: Option<Bitfield>,
     rules: Rules,
 ) -> Result<SerialRun, Fail> {
+    let pieces = torrent.piece_count();
+    assert!(rt; 1 <= rules.depth && rules.depth <= 64 && rules.random <= pieces);
+    if let Some(flags) = &want {
+        assert!(rt; flags.count() == pieces);
+    }
     let sent = peer(alloc, 1, frames)?;
     let mut streams = [recorded(alloc, &sent)];
     Ok(serial(alloc, torrent, &mut streams, 0, want, rules)?)
@@ -31,19 +38,18 @@ fn run(
 fn the_wanted_piece_alone_is_asked(rt: HostRuntime) -> Result<(), Fail> {
     let want = Bitfield::from_wire(rt.alloc(), &[0x40], 2)?;
     let torrent = two_pieces(rt.alloc())?;
-    let run = run(rt.alloc(), torrent, &BOTH, Some(want), Rules::usual())?;
+    let run = run(&rt, rt.alloc(), torrent, &BOTH, Some(want), Rules::usual())?;
     assert_eq!(rt;
         journal(rt.alloc(), &run)?.as_str(),
         "1 want = Quiet; 0 join = Joined; 0 bits = Noted(true); 0 next = Choked; 0 unchoke = Quiet; \
         0 next = Request(Block { piece: 1, begin: 0, len: 3 }); 0 next = Idle; 0 leave = Quiet; "
     );
-    assert!(rt; run.desk.wanted(1) && !run.desk.wanted(0));
     Ok(())
 }
 
 /// One piece of so many blocks. No byte of it comes.
 fn blocks(alloc: Global, count: u32) -> Result<Arc<Torrent>, Fail> {
-    let length = 16384 * count;
+    let length = count.saturating_mul(16384);
     let mut hashes = Vec::new(alloc);
     hashes.push(ABC)?;
     let torrent = Torrent::of_parts(length, u64::from(length), hashes, [1; 20])?;
@@ -51,9 +57,9 @@ fn blocks(alloc: Global, count: u32) -> Result<Arc<Torrent>, Fail> {
 }
 
 /// The replies to Next of the unchoke's turn: so many requests, and then this one.
-fn asked(alloc: Global, depth: u32, count: u32) -> Result<(usize, String), Fail> {
+fn asked(rt: &impl Abort, alloc: Global, depth: u32, count: u32) -> Result<(usize, String), Fail> {
     let rules = Rules { depth, random: 1 };
-    let run = run(alloc, blocks(alloc, count)?, &ONE, None, rules)?;
+    let run = run(rt, alloc, blocks(alloc, count)?, &ONE, None, rules)?;
     let mut last = String::new(alloc);
     let said = journal(alloc, &run)?;
     let requests = said.as_str().matches("Request").count();
@@ -77,7 +83,7 @@ fn a_turn_fills_the_pipe(rt: HostRuntime) -> Result<(), Fail> {
         (64, 70, 64, "PipeFull"),
     ];
     for (depth, count, requests, last) in rows {
-        let asked = asked(rt.alloc(), depth, count)?;
+        let asked = asked(&rt, rt.alloc(), depth, count)?;
         assert_eq!(rt; asked.0, requests);
         assert_eq!(rt; asked.1.as_str(), last);
     }
