@@ -68,7 +68,7 @@ fn a_deep_pipe(rt: HostRuntime) -> Result<(), Fail> {
         "torrent 1000000 1000000 1 34aa973cd4c4daa4f61eeb2bdbad27316534016f\nrules 64 1\n0 join\n0 bits 80\n0 unchoke\n",
     )?;
     let mut replies = String::from_str(rt.alloc(), "joined\nnoted yes\nquiet\n")?;
-    for block in 0..61 {
+    for block in 0..61_u32 {
         let begin = 16_384 * block;
         script.push_str("0 next 0\n")?;
         replies.push_str(&format!(in rt.alloc(); "request 0 {begin} 16384\n")?)?;
