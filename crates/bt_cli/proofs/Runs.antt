@@ -1,14 +1,9 @@
 -- What is told of a run.
-use Rattle.std.proofs.Common.{true, ◌≡◌, ◌<◌, ◌≤◌, ◌+◌, ℕ, zero, suc, Bool, false, List, [], ◌∷◌, ◌++◌, length, map, take, drop, slice_index_or, refl, sym, ap, ◌∙◌, subst, append_assoc, append-nil, arith, inl, inr, ◌⊎◌, ⊎_elim, Ok, Err, Result}
-use Rattle.std.specs.Prelude.{codes, reverse, ◌&&◌, Some, IsOk, IfOk, IfErr}
-use Rattle.std.specs.List.{list_all}
+use Rattle.std.proofs.Common.{true, ◌≡◌, ◌<◌, ◌+◌, ℕ, Bool, false, List, [], ◌∷◌, ◌++◌, length, map, take, drop, slice_index_or, refl, sym, ap, ◌∙◌, subst, append_assoc, append-nil, arith, inl, inr, Ok, Err, Result}
+use Rattle.std.specs.Prelude.{codes, reverse, IsOk, IfOk, IfErr}
 use Rattle.std.proofs.lemmas.List.{take_more, map-append, reverse-append, take-append-drop}
-use Rattle.std.proofs.Math.Seq.{take-length}
-use Rattle.std.proofs.lemmas.List.Folds.{list_all_more}
-use Rattle.bt_history.specs.Counting.{all_below}
-use Rattle.bt_history.specs.Pieces.{had}
 use Rattle.bt_picker.specs.Audits.{IsFirstWrong}
-use Rattle.bt_picker.specs.Contents.{complete}
+use Rattle.bt_picker.specs.Contents.{has_wanted}
 use Rattle.bt_picker.specs.Positions.{DeskState}
 use Rattle.bt_history.specs.declared.call.Entry.{Entry}
 use Rattle.bt_history.specs.declared.event.Event.{Event}
@@ -20,9 +15,8 @@ use Rattle.bt_cli.specs.Journals.{IsJournalLine}
 use Rattle.bt_meta.specs.Layout.{Metainfo}
 use Rattle.bt_meta.specs.declared.fault.MetaFault.{MetaFault}
 use Rattle.bt_cli.specs.declared.fault.Fault.{Fault}
-use Rattle.bt_cli.specs.declared.fault.Fault.TheVariants as faults
 use Rattle.bt_cli.specs.Statuses.{status_of}
-use Rattle.bt_cli.specs.Runs.{AreJournalLines, IsRunFault, IsSerialStatus, run_status}
+use Rattle.bt_cli.specs.Runs.{AreJournalLines, IsEndStatus, IsRunFault, run_status}
 
 -- ---- the lines of a journal
 
@@ -81,14 +75,14 @@ not_wrong s [] place legal wrong = absurd (omega (arith, wrong.0))
 not_wrong s (e ∷ entries) place legal wrong = wrong.2 e (legal_at s (e ∷ entries) place e wrong.0 legal)
 
 -- the status of a run by how it ended
-pub serial_status : (read : Result Metainfo MetaFault) (ended : Result Bool Fault) (status : ℕ) (desk : DeskState) → IsOk read →
+pub end_status : (read : Result Metainfo MetaFault) (ended : Result Bool Fault) (status : ℕ) (desk : DeskState) → IsOk read →
     status ≡ run_status ended →
-    ((t : Metainfo) → read ≡ Ok t → IfOk ended (λ all. all ≡ complete desk.setting desk.history) × IfErr ended IsRunFault) →
-    IsSerialStatus read status (Some desk)
-serial_status (Err fault) ended status desk ok is facts = absurd (cc ok)
-serial_status (Ok t) (Ok true) status desk ok is facts = inl (is, sym (facts t refl).0)
-serial_status (Ok t) (Ok false) status desk ok is facts = inr (inl (is, sym (facts t refl).0))
-serial_status (Ok t) (Err fault) status desk ok is facts =
+    ((t : Metainfo) → read ≡ Ok t → IfOk ended (λ all. all ≡ has_wanted desk.setting desk.history) × IfErr ended IsRunFault) →
+    IsEndStatus read status desk
+end_status (Err fault) ended status desk ok is facts = absurd (cc ok)
+end_status (Ok t) (Ok true) status desk ok is facts = inl (is, sym (facts t refl).0)
+end_status (Ok t) (Ok false) status desk ok is facts = inr (inl (is, sym (facts t refl).0))
+end_status (Ok t) (Err fault) status desk ok is facts =
     elim (facts t refl).1 [
       | inl file ↦ inr (inr (inl (is ∙ ap status_of file)))
       | inr memory ↦ inr (inr (inr (is ∙ ap status_of memory)))

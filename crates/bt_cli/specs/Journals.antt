@@ -4,7 +4,7 @@ use Rattle.std.specs.Fmt.{decimal}
 use Rattle.hex.specs.Hex.{encode_lower}
 use Rattle.bt_meta.specs.WireBits.{IsSpelled}
 use Rattle.bt_history.specs.declared.event.Action.{Action}
-use Rattle.bt_history.specs.declared.event.Action.TheVariants.{Join, Bits, Have, Choke, Unchoke, Next, Arrived, Settle, Leave}
+use Rattle.bt_history.specs.declared.event.Action.TheVariants.{Join, Bits, Have, Choke, Unchoke, Next, Arrived, Settle, Leave, Want}
 use Rattle.bt_history.specs.declared.event.Event.{Event}
 use Rattle.bt_cli.specs.Texts.{reply_text}
 
@@ -23,6 +23,7 @@ IsCallText (Next word) text = text ≡ codes "next"
 IsCallText (Arrived p begin bytes) text = text ≡ arrived_text p begin (length bytes)
 IsCallText (Settle p bytes) text = text ≡ codes "settle " ++ decimal p
 IsCallText Leave text = text ≡ codes "leave"
+IsCallText (Want flags) text = (wire : List ℕ) × (IsSpelled flags wire × (text ≡ codes "want " ++ encode_lower wire))
 
 -- the line of an entry: the worker, the call and the reply
 pub record IsJournalLine (e : Event) (text : List ℕ) : Type 0 where

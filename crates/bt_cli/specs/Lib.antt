@@ -4,6 +4,7 @@ pub mod Info
 pub mod Fields
 pub mod Lines
 pub mod Setups
+pub mod RulesLines
 pub mod Scripts
 pub mod Played
 pub mod Journals

@@ -9,7 +9,7 @@ use Rattle.bt_cli.specs.Fields.{fields_of, number_in, small_number_in, bytes_in}
 -- what a worker does, by plain values
 pub data Order : Type 0 where
   join choke unchoke leave : Order
-  bits : List ℕ → Order
+  bits want : List ℕ → Order
   have settle : ℕ → Order
   next : ℕ → Order
   block : ℕ → ℕ → List ℕ → Order
@@ -29,6 +29,7 @@ seen_command (commands.Next word) = next word
 seen_command (commands.Block piece begin bytes) = block piece begin bytes.items
 seen_command (commands.Settle piece) = settle piece
 seen_command commands.Leave = leave
+seen_command (commands.Want bytes) = want bytes.items
 
 abbrev pub seen_line : Line → OrderLine
 seen_line line = record { worker = line.worker; order = seen_command line.command }
@@ -49,7 +50,8 @@ short_command word argument =
     else (if bytes_eq word (codes "have") then option_map have (small_number_in argument)
     else (if bytes_eq word (codes "next") then option_map next (number_in argument)
     else (if bytes_eq word (codes "settle") then option_map settle (small_number_in argument)
-    else None)))
+    else (if bytes_eq word (codes "want") then option_map want (bytes_in argument)
+    else None))))
 
 -- a block: its piece, where it begins in it, and its bytes
 abbrev pub block_of : Option ℕ → Option ℕ → Option (List ℕ) → Option Order

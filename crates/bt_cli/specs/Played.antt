@@ -1,17 +1,19 @@
 -- What a line of a script does to the desk.
-use Rattle.std.specs.Prelude.{◌≡◌, ◌⊎◌, ◌∷◌, ◌++◌, ℕ, Bool, List, [], codes, length, Option, Some, None}
+use Rattle.std.specs.Prelude.{◌≡◌, ◌⊎◌, ◌∷◌, ◌++◌, ℕ, Bool, List, [], codes, length, take, Some}
 use Rattle.bt_meta.specs.WireBits.{IsSpelled}
 use Rattle.bt_meta.specs.Layout.{piece_count}
 use Rattle.bt_history.specs.declared.call.Reply.{Reply}
 use Rattle.bt_history.specs.declared.event.Action.{Action}
 use Rattle.bt_history.specs.declared.event.Action.TheVariants as actions
-use Rattle.bt_history.specs.Setting.{usual}
+use Rattle.bt_history.specs.declared.rules.Rules.{Rules}
+use Rattle.bt_history.specs.Setting.{setting_of, usual_rules}
 use Rattle.bt_picker.specs.Positions.{DeskState, Gains}
 use Rattle.bt_picker.specs.Checks.{SettlesNow}
 use Rattle.bt_cli.specs.Texts.{reply_text}
 use Rattle.bt_cli.specs.declared.script.setup.Setup.{Setup}
 use Rattle.bt_cli.specs.Setups.{setup_in}
-use Rattle.bt_cli.specs.Lines.{Order, OrderLine, join, choke, unchoke, leave, bits, have, settle, next, block, line_in}
+use Rattle.bt_cli.specs.Lines.{Order, OrderLine, join, choke, unchoke, leave, bits, have, settle, next, block, want, line_in}
+use Rattle.bt_cli.specs.RulesLines.{rules_in}
 
 -- the order is this call of a torrent of so many pieces
 abbrev pub IsCall : ℕ → Order → Action → Type 0
@@ -23,6 +25,7 @@ IsCall pieces (have p) action = action ≡ actions.Have p
 IsCall pieces (next word) action = action ≡ actions.Next word
 IsCall pieces (block p begin bytes) action = action ≡ actions.Arrived p begin bytes
 IsCall pieces (bits bytes) action = (flags : List Bool) × (action ≡ actions.Bits flags) × (length flags ≡ pieces) × IsSpelled flags bytes
+IsCall pieces (want bytes) action = (flags : List Bool) × (action ≡ actions.Want flags) × (length flags ≡ pieces) × IsSpelled flags bytes
 IsCall pieces (settle p) action = ⊥
 
 -- the desk made the call and gained its entry
@@ -48,29 +51,54 @@ AnswersLine old new line text =
     ((line ≡ []) × (new ≡ old) × (text ≡ []))
     ⊎ ((reply : Reply) × (PlaysLine old new line reply × (text ≡ reply_text reply ++ codes "\n")))
 
--- a first line opens this desk: nothing was called there yet
+-- the desk of this setup by these rules, where nothing was called yet
+pub record IsDesk (setup : Setup) (rules : Rules) (desk : DeskState) : Type 0 where
+  pub setting : desk.setting ≡ setting_of setup.torrent.layout setup.workers rules
+  pub history : desk.history ≡ []
+
+-- a first line opens this desk, by the usual rules
 pub record OpensDesk (line : List ℕ) (desk : DeskState) : Type 0 where
   pub setup : Setup
   pub said : setup_in line ≡ Some setup
-  pub setting : desk.setting ≡ usual setup.torrent.layout setup.workers
-  pub history : desk.history ≡ []
+  pub is : IsDesk setup usual_rules desk
 
--- What a line does where there may be no desk yet, and the text that is printed of it: empty lines do nothing, the first other line opens
--- the desk, and each line behind it is answered there.
-abbrev pub TakesLine : Option DeskState → Option DeskState → List ℕ → List ℕ → Type 0
-TakesLine None None line text = (line ≡ []) × (text ≡ [])
-TakesLine None (Some new) line text = OpensDesk line new × (text ≡ [])
-TakesLine (Some old) None line text = ⊥
-TakesLine (Some old) (Some new) line text = AnswersLine old new line text
+-- a line sets the rules of this desk
+pub record SetsDesk (setup : Setup) (line : List ℕ) (desk : DeskState) : Type 0 where
+  pub rules : Rules
+  pub said : rules_in (piece_count setup.torrent.layout) line ≡ Some rules
+  pub is : IsDesk setup rules desk
+
+-- how far a script has come: nothing was said; its first line was, and the rules are to be set; it has a desk
+pub data Stage : Type 0 where
+  silent : Stage
+  opened : Setup → Stage
+  playing : DeskState → Stage
+
+-- What a line does by how far the script has come, and the text that is printed of it. Empty lines do nothing; the first other line opens
+-- the desk by the usual rules, unless the next one sets them; each line behind is answered there, and none of these sets rules.
+abbrev pub TakesLine : Stage → Stage → List ℕ → List ℕ → Type 0
+TakesLine silent silent line text = (line ≡ []) × (text ≡ [])
+TakesLine silent (opened setup) line text = (setup_in line ≡ Some setup) × (text ≡ [])
+TakesLine silent (playing new) line text = OpensDesk line new × (text ≡ [])
+TakesLine (opened setup) silent line text = ⊥
+TakesLine (opened setup) (opened same) line text = (same ≡ setup) × (line ≡ []) × (text ≡ [])
+TakesLine (opened setup) (playing new) line text = SetsDesk setup line new × (text ≡ [])
+TakesLine (playing old) silent line text = ⊥
+TakesLine (playing old) (opened setup) line text = ⊥
+TakesLine (playing old) (playing new) line text = AnswersLine old new line text
 
 -- what these lines do, one after the other, and the text that is printed of them
-abbrev pub TakesLines : Option DeskState → Option DeskState → List (List ℕ) → List ℕ → Type 0
+abbrev pub TakesLines : Stage → Stage → List (List ℕ) → List ℕ → Type 0
 TakesLines old new [] text = (new ≡ old) × (text ≡ [])
 TakesLines old new (line ∷ lines) text =
-    (next : Option DeskState) × (said : List ℕ) × (rest : List ℕ)
+    (next : Stage) × (said : List ℕ) × (rest : List ℕ)
     × (TakesLine old next line said × TakesLines next new lines rest × (text ≡ said ++ rest))
 
--- the text is what is printed of these lines, from no desk on
+-- the lines before line n open this desk, and nothing is printed of them
+abbrev pub TakesFront : List (List ℕ) → ℕ → DeskState → Type 0
+TakesFront lines n desk = TakesLines silent (playing desk) (take n lines) []
+
+-- the text is what is printed of these lines, from the first line of a script on
 pub record IsPrintedOf (lines : List (List ℕ)) (text : List ℕ) : Type 0 where
-  pub desk : Option DeskState
-  pub takes : TakesLines None desk lines text
+  pub stage : Stage
+  pub takes : TakesLines silent stage lines text

@@ -1,8 +1,10 @@
 -- The report of a run.
-use Rattle.std.specs.Prelude.{ℕ, ◌+◌, Bool, true, false, List, [], ◌∷◌, ◌++◌, codes, Result, Ok, Err, if◌then◌else◌}
+use Rattle.std.specs.Prelude.{ℕ, ◌+◌, Bool, true, false, not, ◌||◌, List, [], ◌∷◌, ◌++◌, codes, Result, Ok, Err, if◌then◌else◌}
 use Rattle.std.specs.Fmt.{decimal}
 use Rattle.bt_history.specs.Counting.{all_below, count_below}
-use Rattle.bt_history.specs.Pieces.{joined_below}
+use Rattle.bt_meta.specs.Layout.{piece_count}
+use Rattle.bt_history.specs.Pieces.{had, joined_below, wanted}
+use Rattle.bt_picker.specs.Positions.{DeskState}
 use Rattle.bt_cli.specs.declared.report.Judged.{Judged}
 use Rattle.bt_cli.specs.declared.report.Judged.TheVariants.{Sound, Wrong, Unjudged}
 use Rattle.bt_session.specs.declared.fault.End.{End}
@@ -20,7 +22,7 @@ session_fault_number WriteFault = 6
 session_fault_number NoMemory = 7
 session_fault_number BadBits = 8
 
--- a piece behind a space, unless it is had
+-- a piece behind a space, unless nothing of it is lacking
 abbrev pub missing_piece : ℕ → Bool → List ℕ
 missing_piece p true = []
 missing_piece p false = codes " " ++ decimal p
@@ -30,16 +32,16 @@ abbrev pub numbered : {A : Type 0} → (ℕ → A → List ℕ) → ℕ → List
 numbered text n [] = []
 numbered text n (x ∷ xs) = text n x ++ numbered text (n + 1) xs
 
--- of this many pieces those that aren't had, or a dash
+-- of this many pieces those that are lacking, or a dash
 abbrev pub missing_text : ℕ → (ℕ → Bool) → List ℕ
-missing_text pieces had = if all_below pieces had then codes " -" else joined_below pieces (λ p. missing_piece p (had p))
+missing_text pieces done = if all_below pieces done then codes " -" else joined_below pieces (λ p. missing_piece p (done p))
 
 -- how stream i ended
 abbrev pub end_text : ℕ → Result End SessionFault → List ℕ
 end_text i (Ok end) = codes "stream " ++ (decimal i ++ codes " end\n")
 end_text i (Err fault) = codes "stream " ++ (decimal i ++ (codes " fault " ++ (decimal (session_fault_number fault) ++ codes "\n")))
 
--- whether all are had
+-- whether none is lacking
 abbrev pub yes_or_no : Bool → List ℕ
 yes_or_no true = codes "yes"
 yes_or_no false = codes "no"
@@ -54,12 +56,18 @@ judged_text Unjudged = []
 abbrev pub counts_text : ℕ → ℕ → List ℕ
 counts_text pieces had = codes "pieces " ++ (decimal pieces ++ (codes "\nhad " ++ (decimal had ++ codes "\n")))
 
--- which pieces aren't had, and whether all are
+-- which pieces are lacking, and whether none is
 abbrev pub pieces_text : ℕ → (ℕ → Bool) → List ℕ
-pieces_text pieces had =
-    codes "missing" ++ (missing_text pieces had ++ (codes "\ncomplete " ++ (yes_or_no (all_below pieces had) ++ codes "\n")))
+pieces_text pieces done =
+    codes "missing" ++ (missing_text pieces done ++ (codes "\ncomplete " ++ (yes_or_no (all_below pieces done) ++ codes "\n")))
 
--- how the streams ended, which of so many pieces are had, and what the audit says
-abbrev pub report_text : List (Result End SessionFault) → ℕ → (ℕ → Bool) → Judged → List ℕ
-report_text ends pieces had judged =
-    numbered end_text 0 ends ++ (counts_text pieces (count_below pieces had) ++ (pieces_text pieces had ++ judged_text judged))
+-- a piece is had, or isn't wanted
+abbrev pub is_done : DeskState → ℕ → Bool
+is_done desk p = not (wanted desk.setting desk.history p) || had desk.history p
+
+-- how the streams ended, how many pieces are had, which of the wanted ones are lacking, and what the audit says
+abbrev pub report_text : List (Result End SessionFault) → DeskState → Judged → List ℕ
+report_text ends desk judged =
+    let pieces = piece_count desk.setting.torrent in
+    numbered end_text 0 ends
+    ++ (counts_text pieces (count_below pieces (had desk.history)) ++ (pieces_text pieces (is_done desk) ++ judged_text judged))

@@ -1,24 +1,27 @@
 -- A run with recorded peers: what is printed of it, and how the command ends.
-use Rattle.std.specs.Prelude.{◌≡◌, ◌⊎◌, ◌↔◌, ℕ, Bool, true, false, List, [], ◌∷◌, ◌++◌, length, map, codes, ◌||◌, Option, Some, None, Result, Ok, Err, IfOk, IfErr, IsErr}
+use Rattle.std.specs.Prelude.{◌≡◌, ◌≢◌, ◌⊎◌, ◌↔◌, ◌<◌, ℕ, Bool, true, false, List, [], ◌∷◌, ◌++◌, length, map, codes, ◌||◌, Option, Some, None, option_map, Result, Ok, Err, IfOk, IfErr, IsErr}
 use Rattle.std.specs.List.{list_any}
 use Rattle.std.specs.Io.KnownBytes.{Appends}
 use Rattle.bt_meta.specs.Layout.{Metainfo, piece_count}
+use Rattle.bt_meta.specs.WireBits.{HasSpareBit, IsSpelled, wire_len}
+use Rattle.bt_meta.specs.declared.fault.BitFault.TheVariants.{SpareBits, WrongCount}
 use Rattle.bt_meta.specs.declared.fault.MetaFault.{MetaFault}
 use Rattle.bt_history.specs.declared.call.Entry.{Entry}
 use Rattle.bt_history.specs.declared.event.Event.{Event}
 use Rattle.bt_history.specs.Entries.{event_of, history_of}
-use Rattle.bt_history.specs.Pieces.{had}
 use Rattle.bt_picker.specs.Checks.{waits}
-use Rattle.bt_picker.specs.Contents.{complete}
+use Rattle.bt_picker.specs.Contents.{has_wanted}
 use Rattle.bt_picker.specs.Positions.{DeskState}
 use Rattle.bt_session.specs.declared.fault.End.{End}
 use Rattle.bt_session.specs.declared.fault.SessionFault.{SessionFault}
 use Rattle.bt_session.specs.declared.fault.SessionFault.TheVariants as sessions
-use Rattle.bt_session.specs.Serial.{EachEnded, Finishes, StreamRecord}
+use Rattle.bt_session.specs.Serial.{EachEnded, Finishes, StreamRecord, opening_of}
+use Rattle.bt_session.specs.Terms.{terms_of}
 use Rattle.bt_cli.specs.declared.fault.Fault.{Fault}
 use Rattle.bt_cli.specs.declared.fault.Fault.TheVariants as faults
 use Rattle.bt_cli.specs.declared.report.Judged.{Judged}
 use Rattle.bt_cli.specs.declared.report.Judged.TheVariants.{Sound, Unjudged}
+use Rattle.bt_cli.specs.declared.serial.Options.{Options}
 use Rattle.bt_cli.specs.Journals.{IsJournalLine}
 use Rattle.bt_cli.specs.Reports.{report_text}
 use Rattle.bt_cli.specs.Statuses.{of_metainfo, status_of}
@@ -40,11 +43,11 @@ abbrev pub IsPrelude : Bool → DeskState → List ℕ → Type 0
 IsPrelude true desk text = IsJournalOf desk text
 IsPrelude false desk text = text ≡ []
 
--- a run was told: perhaps its journal, then how the streams ended, which pieces are had, and what the audit says
+-- a run was told: perhaps its journal, then how the streams ended, which pieces are lacking, and what the audit says
 pub record TellsRun (journal : Bool) (ends : List (Result End SessionFault)) (desk : DeskState) (judged : Judged) (old new : Option (List ℕ)) : Type 0 where
   pub prelude : List ℕ
   pub is_prelude : IsPrelude journal desk prelude
-  pub wrote : Appends old new (prelude ++ report_text ends (piece_count desk.setting.torrent) (had desk.history) judged)
+  pub wrote : Appends old new (prelude ++ report_text ends desk judged)
 
 -- a session ended for want of memory
 abbrev pub ended_short : Result End SessionFault → Bool
@@ -70,42 +73,81 @@ pub record Ended (short : Bool) (ends : List (Result End SessionFault)) (desk : 
     (journal : Bool) (old new : Option (List ℕ)) (failed : Bool) : Type 0 where
   pub judged : Judged
   pub is_judged : (judged ≡ Sound) ⊎ (judged ≡ Unjudged)
-  pub complete : IfOk ended (λ all. all ≡ complete desk.setting desk.history)
+  pub complete : IfOk ended (λ all. all ≡ has_wanted desk.setting desk.history)
   pub fault : IfErr ended IsRunFault
   pub memory : (ended ≡ Err faults.Memory) ↔ IsShort short ends judged
   pub file : ended ≡ Err faults.File → failed ≡ true
   pub told : TellsRun journal ends desk judged old new ⊎ ((failed ≡ true) × IsErr ended)
 
--- A run of these streams came to this desk: an end for each stream, each as its session's; the last worker made the last checks alone; and
--- it ended as `Ended` says.
-pub record Ran {X : Type 0} (record_of : X → StreamRecord) (torrent : Metainfo) (seed : ℕ) (streams : List X) (desk : DeskState) (streams' : List X)
-    (ended : Result Bool Fault) (journal : Bool) (old new : Option (List ℕ)) (failed : Bool) : Type 0 where
+-- the bytes that spell the wanted pieces, where some are asked for
+abbrev pub want_of : Options → Option (List ℕ)
+want_of options = option_map (λ bytes. bytes.items) options.want
+
+-- the flags of so many pieces that these bytes spell, where there are any
+abbrev pub IsWant : ℕ → Option (List ℕ) → Option (List Bool) → Type 0
+IsWant pieces None None = Unit {0}
+IsWant pieces None (Some flags) = ⊥
+IsWant pieces (Some bytes) None = ⊥
+IsWant pieces (Some bytes) (Some flags) = (length flags ≡ pieces) × IsSpelled flags bytes
+
+-- A run of these streams came to this desk: an end for each stream, each as its session's, which asked for blocks by the depth of the
+-- options; the last worker told the pieces that the options want, if any, and made the last checks, and nothing else; and it ended as
+-- `Ended` says.
+pub record Ran {X : Type 0} (record_of : X → StreamRecord) (torrent : Metainfo) (options : Options) (streams : List X) (desk : DeskState)
+    (streams' : List X) (ended : Result Bool Fault) (old new : Option (List ℕ)) (failed : Bool) : Type 0 where
   pub ends : List (Result End SessionFault)
   pub short : Bool
+  pub want : Option (List Bool)
+  pub is_want : IsWant (piece_count torrent.layout) (want_of options) want
   pub count : length ends ≡ length streams
-  pub sessions : EachEnded record_of torrent seed streams desk streams' ends
-  pub finishes : Finishes (length streams) short desk
+  pub sessions : EachEnded record_of (terms_of torrent options.rules.depth) options.seed streams desk streams' ends
+  pub finishes : Finishes (length streams) (opening_of want) short desk
   pub none_waits : short ≡ false → (piece : ℕ) → waits desk.setting desk.history piece ≡ false
-  pub told : Ended short ends desk ended journal old new failed
+  pub told : Ended short ends desk ended options.journal old new failed
 
--- a run has begun where the metainfo file is one, and else ended with its fault, or for want of memory
-abbrev pub IsStartFault : Result Metainfo MetaFault → Fault → Type 0
-IsStartFault (Ok t) fault = fault ≡ faults.Memory
-IsStartFault (Err e) fault = (fault ≡ of_metainfo e) ⊎ (fault ≡ faults.Memory)
+-- why these bytes spell no flags of so many pieces
+abbrev pub IsWantFault : ℕ → Option (List ℕ) → Fault → Type 0
+IsWantFault pieces want faults.Memory = Unit {0}
+IsWantFault pieces (Some bytes) (faults.Want WrongCount) = length bytes ≢ wire_len pieces
+IsWantFault pieces (Some bytes) (faults.Want SpareBits) = (length bytes ≡ wire_len pieces) × HasSpareBit bytes pieces
+IsWantFault pieces want fault = ⊥
 
--- the exit status of a run: 0 where all pieces are had, 1 where one isn't, and else the fault's
+-- the wanted pieces are pieces of the torrent, but more are to be picked at random than there are
+abbrev pub IsRandomFault : ℕ → Options → Type 0
+IsRandomFault pieces options =
+    (flags : Option (List Bool)) × IsWant pieces (want_of options) flags × (pieces < options.rules.random)
+
+-- why the options don't fit a torrent of so many pieces: what they want is judged first
+abbrev pub IsOptionFault : ℕ → Options → Fault → Type 0
+IsOptionFault pieces options faults.Random = IsRandomFault pieces options
+IsOptionFault pieces options fault = IsWantFault pieces (want_of options) fault
+
+-- why a run doesn't begin: there is no metainfo file, or the options don't fit its torrent; each time memory may run out
+abbrev pub IsStartFault : Result Metainfo MetaFault → Options → Fault → Type 0
+IsStartFault (Ok t) options fault = IsOptionFault (piece_count t.layout) options fault
+IsStartFault (Err e) options fault = (fault ≡ of_metainfo e) ⊎ (fault ≡ faults.Memory)
+
+-- the exit status of a run: 0 where all wanted pieces are had, 1 where one isn't, and else the fault's
 abbrev pub run_status : Result Bool Fault → ℕ
 run_status (Ok true) = 0
 run_status (Ok false) = 1
 run_status (Err fault) = status_of fault
 
--- with which status the command ends, and whether it gives the desk: 0 where all pieces are had, 1 where one isn't; 3 where the bytes are
--- no metainfo file; 4 where the output failed; 5 for want of memory, before the run or in it
-abbrev pub IsSerialStatus : Result Metainfo MetaFault → ℕ → Option DeskState → Type 0
-IsSerialStatus (Ok t) status None = status ≡ 5
-IsSerialStatus (Ok t) status (Some desk) =
-    ((status ≡ 0) × (complete desk.setting desk.history ≡ true))
-    ⊎ ((status ≡ 1) × (complete desk.setting desk.history ≡ false))
+-- the status where the run didn't begin is that of the fault: 2 where the options don't fit the torrent, 3 where the bytes are no metainfo
+-- file, 5 for want of memory
+abbrev pub IsStopStatus : Result Metainfo MetaFault → Options → ℕ → Type 0
+IsStopStatus read options status = (fault : Fault) × IsStartFault read options fault × (status ≡ status_of fault)
+
+-- the status of a run that came to this desk: 0 where all wanted pieces are had, 1 where one isn't; 4 where the output failed, 5 for want of
+-- memory
+abbrev pub IsEndStatus : Result Metainfo MetaFault → ℕ → DeskState → Type 0
+IsEndStatus (Ok t) status desk =
+    ((status ≡ 0) × (has_wanted desk.setting desk.history ≡ true))
+    ⊎ ((status ≡ 1) × (has_wanted desk.setting desk.history ≡ false))
     ⊎ (status ≡ 4) ⊎ (status ≡ 5)
-IsSerialStatus (Err fault) status None = (status ≡ 3) ⊎ (status ≡ 5)
-IsSerialStatus (Err fault) status (Some desk) = ⊥
+IsEndStatus (Err fault) status desk = ⊥
+
+-- with which status the command ends, and whether it gives the desk
+abbrev pub IsSerialStatus : Result Metainfo MetaFault → Options → ℕ → Option DeskState → Type 0
+IsSerialStatus read options status None = IsStopStatus read options status
+IsSerialStatus read options status (Some desk) = IsEndStatus read status desk

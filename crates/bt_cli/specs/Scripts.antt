@@ -1,7 +1,9 @@
 -- Which bytes are a script, and at which line one that isn't is at fault.
-use Rattle.std.specs.Prelude.{◌≡◌, ◌≢◌, ◌⊎◌, ◌<◌, ◌+◌, ◌==◌, ℕ, List, [], length, take, slice_index_or, Option, Some, None, Result, Ok, Err}
+use Rattle.std.specs.Prelude.{◌≡◌, ◌≢◌, ◌⊎◌, ◌<◌, ◌≤◌, ◌+◌, ◌==◌, ℕ, List, [], length, take, slice_index_or, Option, Some, None, Result, Ok, Err}
 use Rattle.std.specs.List.{slice_split}
 use Rattle.std.specs.Io.KnownBytes.{Appends}
+use Rattle.bt_history.specs.declared.rules.Rules.{Rules}
+use Rattle.bt_history.specs.Setting.{usual_rules}
 use Rattle.bt_meta.specs.declared.fault.BitFault.{BitFault}
 use Rattle.bt_meta.specs.declared.fault.BitFault.TheVariants as bitfault
 use Rattle.bt_meta.specs.Layout.{piece_count}
@@ -11,7 +13,8 @@ use Rattle.bt_cli.specs.declared.fault.Fault.TheVariants as faults
 use Rattle.bt_cli.specs.declared.script.fault.LineFault.{LineFault}
 use Rattle.bt_cli.specs.declared.script.fault.LineFault.TheVariants.{NotAllowed, NoMemory}
 use Rattle.bt_cli.specs.declared.script.setup.Setup.{Setup}
-use Rattle.bt_cli.specs.Lines.{Order, OrderLine, bits, line_in}
+use Rattle.bt_cli.specs.Lines.{Order, OrderLine, bits, want, line_in}
+use Rattle.bt_cli.specs.RulesLines.{rules_in}
 use Rattle.bt_cli.specs.Setups.{setup_in}
 use Rattle.bt_cli.specs.Played.{IsPrintedOf}
 
@@ -26,12 +29,17 @@ abbrev pub of_bits : BitFault → LineFault
 of_bits bitfault.NoMemory = NoMemory
 of_bits fault = NotAllowed
 
--- a bitfield is one of a torrent of so many pieces
+-- the bytes spell a set of so many pieces
+abbrev pub IsPayload : ℕ → List ℕ → Type 0
+IsPayload pieces bytes = (length bytes ≡ wire_len pieces) × ¬ (HasSpareBit bytes pieces)
+
+-- a set of pieces is one of a torrent of so many pieces
 abbrev pub IsOfTorrent : ℕ → Order → Type 0
-IsOfTorrent pieces (bits bytes) = (length bytes ≡ wire_len pieces) × ¬ (HasSpareBit bytes pieces)
+IsOfTorrent pieces (bits bytes) = IsPayload pieces bytes
+IsOfTorrent pieces (want bytes) = IsPayload pieces bytes
 IsOfTorrent pieces order = Unit {0}
 
--- the text is a line, its worker one of so many and its bitfield one of the torrent
+-- the text is a line, its worker one of so many and its set of pieces one of the torrent
 pub record CanBeDone (workers pieces : ℕ) (text : List ℕ) : Type 0 where
   pub line : OrderLine
   pub said : line_in text ≡ Some line
@@ -53,6 +61,8 @@ pub record Opens (text : List ℕ) (w p : ℕ) : Type 0 where
 abbrev pub Blames : Fault → ℕ → Type 0 → Type 0
 Blames (faults.Line n) number reason = (n ≡ number) × reason
 Blames (faults.Metainfo fault) number reason = ⊥
+Blames (faults.Want fault) number reason = ⊥
+Blames faults.Random number reason = ⊥
 Blames faults.File number reason = Unit {0}
 Blames faults.Memory number reason = Unit {0}
 
@@ -64,55 +74,86 @@ lines_of input = slice_split (λ byte. byte == 10) input
 abbrev pub line_at : List (List ℕ) → ℕ → List ℕ
 line_at lines k = slice_index_or lines k []
 
--- the place of the first line that isn't empty, where there is one
-abbrev pub IsFirstLine : List (List ℕ) → Option ℕ → Type 0
-IsFirstLine lines None = (k : ℕ) → k < length lines → line_at lines k ≡ []
-IsFirstLine lines (Some first) = (first < length lines) × ((k : ℕ) → k < first → line_at lines k ≡ []) × (line_at lines first ≢ [])
+-- the lines from `from` to `n`, without it, are empty
+abbrev pub AreBlank : List (List ℕ) → ℕ → ℕ → Type 0
+AreBlank lines from n = (k : ℕ) → from ≤ k → k < n → line_at lines k ≡ []
 
--- the line that opens the script: those before it are empty
-pub record Starts (lines : List (List ℕ)) (first workers pieces : ℕ) : Type 0 where
+-- the place of the first line from `from` on that isn't empty, where there is one
+abbrev pub IsFirstLine : List (List ℕ) → ℕ → Option ℕ → Type 0
+IsFirstLine lines from None = AreBlank lines from (length lines)
+IsFirstLine lines from (Some first) = (from ≤ first) × (first < length lines) × AreBlank lines from first × (line_at lines first ≢ [])
+
+-- the first line from `from` on that isn't empty sets these rules, and line n is the one behind it
+pub record SetsRules (lines : List (List ℕ)) (pieces from : ℕ) (rules : Rules) (n : ℕ) : Type 0 where
+  pub line : ℕ
+  pub behind : from ≤ line
+  pub within : line < length lines
+  pub blank : AreBlank lines from line
+  pub said : rules_in pieces (line_at lines line) ≡ Some rules
+  pub number : n ≡ line + 1
+
+-- such a line sets the rules, or there is none, and they are the usual ones
+abbrev pub MaySetRules : List (List ℕ) → ℕ → ℕ → Rules → ℕ → Type 0
+MaySetRules lines pieces from rules n =
+    SetsRules lines pieces from rules n
+    ⊎ ((rules ≡ usual_rules) × (n ≡ from) × ((other : Rules) (m : ℕ) → ¬ (SetsRules lines pieces from other m)))
+
+-- the lines before line n open the script: empty ones, the first line, and what may set the rules
+pub record Starts (lines : List (List ℕ)) (n workers pieces : ℕ) : Type 0 where
+  pub first : ℕ
   pub within : first < length lines
-  pub blank : (k : ℕ) → k < first → line_at lines k ≡ []
+  pub blank : AreBlank lines 0 first
   pub opens : Opens (line_at lines first) workers pieces
+  pub rules : Rules
+  pub may_set : MaySetRules lines pieces (first + 1) rules n
 
--- each line behind the first passes, up to line n
+-- each line from `from` on passes, up to line n
 abbrev pub PassTo : List (List ℕ) → ℕ → ℕ → ℕ → ℕ → Type 0
-PassTo lines first workers pieces n = (k : ℕ) → first < k → k < n → Passes workers pieces (line_at lines k)
+PassTo lines from workers pieces n = (k : ℕ) → from ≤ k → k < n → Passes workers pieces (line_at lines k)
 
 -- these are the lines of a script
 pub record AreScript (lines : List (List ℕ)) : Type 0 where
-  pub first : ℕ
+  pub from : ℕ
   pub workers : ℕ
   pub pieces : ℕ
-  pub starts : Starts lines first workers pieces
-  pub pass : PassTo lines first workers pieces (length lines)
+  pub starts : Starts lines from workers pieces
+  pub pass : PassTo lines from workers pieces (length lines)
 
 -- there is no line that isn't empty: that is a fault of line 1
 pub record LacksLines (lines : List (List ℕ)) (n : ℕ) : Type 0 where
-  pub blank : (k : ℕ) → k < length lines → line_at lines k ≡ []
+  pub blank : AreBlank lines 0 (length lines)
   pub number : n ≡ 1
 
 -- the first line that isn't empty opens no script
 pub record FailsToStart (lines : List (List ℕ)) (n : ℕ) : Type 0 where
   pub first : ℕ
   pub within : first < length lines
-  pub blank : (k : ℕ) → k < first → line_at lines k ≡ []
+  pub blank : AreBlank lines 0 first
   pub some : line_at lines first ≢ []
   pub bad : setup_in (line_at lines first) ≡ None
   pub number : n ≡ first + 1
 
--- a line behind it doesn't pass, the first one that doesn't
+-- a line behind those that open the script doesn't pass, the first one that doesn't
 pub record FailsLater (lines : List (List ℕ)) (n : ℕ) : Type 0 where
-  pub first : ℕ
+  pub from : ℕ
   pub workers : ℕ
   pub pieces : ℕ
-  pub starts : Starts lines first workers pieces
+  pub starts : Starts lines from workers pieces
   pub line : ℕ
-  pub behind : first < line
+  pub behind : from ≤ line
   pub within : line < length lines
-  pub pass : PassTo lines first workers pieces line
+  pub pass : PassTo lines from workers pieces line
   pub bad : ¬ (Passes workers pieces (line_at lines line))
   pub number : n ≡ line + 1
+
+-- why a script ended before it was opened
+abbrev pub StopsOpening : List (List ℕ) → Fault → Type 0
+StopsOpening lines (faults.Line number) = LacksLines lines number ⊎ FailsToStart lines number
+StopsOpening lines (faults.Metainfo fault) = ⊥
+StopsOpening lines (faults.Want fault) = ⊥
+StopsOpening lines faults.Random = ⊥
+StopsOpening lines faults.File = Unit {0}
+StopsOpening lines faults.Memory = Unit {0}
 
 abbrev pub FailsAt : List (List ℕ) → ℕ → Type 0
 FailsAt lines number = LacksLines lines number ⊎ FailsToStart lines number ⊎ FailsLater lines number
@@ -129,6 +170,8 @@ IsFaultAt input number = FailsAt (lines_of input) number
 abbrev pub Explains : List ℕ → Fault → Type 0
 Explains input (faults.Line number) = IsFaultAt input number
 Explains input (faults.Metainfo fault) = ⊥
+Explains input (faults.Want fault) = ⊥
+Explains input faults.Random = ⊥
 Explains input faults.File = Unit {0}
 Explains input faults.Memory = Unit {0}
 

@@ -3,7 +3,7 @@
 ghost use Rattle.std.specs.Prelude.{◌≡◌, ◌≤◌, ◌+◌, ◌⊎◌, length, Ok, Result, Bool, IfSome, MatchResult, OnOk};
 ghost use Rattle.bt_meta.specs.Layout.{Metainfo};
 ghost use Rattle.bt_meta.specs.Reading.{torrent_of_file};
-ghost use Rattle.bt_history.specs.Setting.{usual};
+ghost use Rattle.bt_history.specs.Setting.{setting_of};
 ghost use Rattle.bt_session.specs.Serial.{stream_record};
 ghost use Rattle.bt_cli.specs.declared.fault.Fault.{Fault};
 ghost use Rattle.bt_cli.specs.Info.{IsInfoStatus, PrintsInfo};
@@ -14,7 +14,7 @@ ghost use Rattle.bt_cli.specs.Statuses.{status_of};
 use crate::fault::Fault;
 use crate::info::describe;
 use crate::script::play_script;
-use crate::serial::{Options, Run, play_streams};
+use crate::serial::{MOST_DEPTH, Options, Run, play_streams};
 use bt_meta::{Sink, Source};
 use bt_picker::Desk;
 use bt_session::{MOST_STREAMS, Stream};
@@ -50,10 +50,11 @@ pub fn run_info<W: Write, E: Write>(alloc: Global, meta: &[u8], out: &mut W, err
     conclude(describe(alloc, meta, out), err)
 }
 
-/// Plays the streams of 1 to 64 recorded peers at one desk, and prints how each ended and which pieces are had; a fault goes to `err`.
+/// Plays the streams of 1 to 64 recorded peers at one desk, and prints how each ended and which pieces are lacking; a fault goes to `err`.
 ///
-/// Answers the exit status: 0 where all pieces are had, and 1 where one isn't; 3 for bytes that are no metainfo file; 4 where `out`
-/// fails; 5 for want of memory, also where a session met it. The desk is given where there was a run.
+/// Answers the exit status: 0 where all wanted pieces are had, and 1 where one isn't; 2 where what is wanted, or then the number of pieces
+/// at random, isn't the torrent's; 3 for bytes that are no metainfo file; 4 where `out` fails; 5 for want of memory, also where a session
+/// met it. The desk is given where there was a run.
 pub fn run_serial<R: Source, W: Sink, O: Sink, E: Write>(
     alloc: Global,
     meta: &[u8],
@@ -62,15 +63,16 @@ pub fn run_serial<R: Source, W: Sink, O: Sink, E: Write>(
     out: &mut O,
     err: &mut E,
 ) -> (u8, Option<Desk>)
-    requires { (1 ≤ length streams.old) × (length streams.old ≤ MOST_STREAMS) }
-    ensures status { IsSerialStatus (torrent_of_file meta.now) result.0 result.1 }
+    requires streams { (1 ≤ length streams.old) × (length streams.old ≤ MOST_STREAMS) }
+    requires depth { (1 ≤ options.now.rules.depth) × (options.now.rules.depth ≤ MOST_DEPTH) }
+    ensures status { IsSerialStatus (torrent_of_file meta.now) options.now result.0 result.1 }
     ensures setting { IfSome result.1 (λ desk. (t : Metainfo) → torrent_of_file meta.now ≡ Ok t →
-        desk.setting ≡ usual t.layout (length streams.old + 1)) }
-    // Where there is a desk, it is the one of a run of these streams, and the status and what was printed are that run's.
+        desk.setting ≡ setting_of t.layout (length streams.old + 1) options.now.rules) }
+    // Where there is a desk, it is the one of a run of these streams by these options, and the status and what was printed are that run's.
     ensures ran { IfSome result.1 (λ desk. (t : Metainfo) → torrent_of_file meta.now ≡ Ok t →
         (ended : Result Bool Fault) × ((result.0 ≡ run_status ended)
-        × Ran (stream_record R.left R.ended R.failed R.asked W.written W.failed) t options.now.seed streams.old desk streams.new
-        ended options.now.journal (O.written out.old) (O.written out.new) (O.failed out.new))) }
+        × Ran (stream_record R.left R.ended R.failed R.asked W.written W.failed) t options.now streams.old desk streams.new
+        ended (O.written out.old) (O.written out.new) (O.failed out.new))) }
     ensures quiet { (result.0 ≡ 0) ⊎ (result.0 ≡ 1) → err.new ≡ err.old }
 {
     match play_streams(alloc, meta, streams, options, out) {

@@ -1,10 +1,10 @@
 //! How a command ends.
 
 ghost use Rattle.std.specs.Prelude.{◌≡◌, Some};
-ghost use Rattle.bt_cli.specs.Statuses.{status_of, fault_text, of_metainfo};
+ghost use Rattle.bt_cli.specs.Statuses.{bit_fault_number, status_of, fault_text, of_metainfo, of_want};
 ghost use Rattle.bt_cli.specs.declared.fault.Fault.TheVariants.{Memory};
 
-use bt_meta::MetaFault;
+use bt_meta::{BitFault, MetaFault};
 use std::alloc::{AllocError, AllocFailed};
 use std::{fmt, io};
 
@@ -14,6 +14,10 @@ pub enum Fault {
     /// A line of a script, counted from 1.
     Line(u64),
     Metainfo(MetaFault),
+    /// What is to be downloaded is no set of the torrent's pieces.
+    Want(BitFault),
+    /// More pieces are to be picked at random than there are.
+    Random,
     /// Opening, reading or writing a file failed; standard input and output are files too.
     File,
     Memory,
@@ -25,11 +29,22 @@ impl Fault {
         ensures { result ≡ status_of self }
     {
         match self {
-            Fault::Line(_) => 2,
+            Fault::Line(_) | Fault::Want(_) | Fault::Random => 2,
             Fault::Metainfo(_) => 3,
             Fault::File => 4,
             Fault::Memory => 5,
         }
+    }
+}
+
+/// The number by which a fault of a bitfield is told.
+fn bit_fault_number(fault: BitFault) -> u8
+    ensures { result ≡ bit_fault_number fault }
+{
+    match fault {
+        BitFault::WrongCount => 1,
+        BitFault::SpareBits => 2,
+        BitFault::NoMemory => 3,
     }
 }
 
@@ -44,6 +59,11 @@ impl fmt::Display for Fault {
                 let number = fault.number();
                 write!(f, "metainfo fault {number}")
             }
+            Fault::Want(fault) => {
+                let number = bit_fault_number(fault);
+                write!(f, "want fault {number}")
+            }
+            Fault::Random => write!(f, "random fault"),
             Fault::File => write!(f, "file fault"),
             Fault::Memory => write!(f, "memory"),
         }
@@ -57,6 +77,18 @@ impl From<MetaFault> for Fault {
         match fault {
             MetaFault::NoMemory => Fault::Memory,
             fault => Fault::Metainfo(fault),
+        }
+    }
+}
+
+/// A fault of the bitfield that says what is to be downloaded.
+impl From<BitFault> for Fault {
+    ghost from_gives = { λ fault e. e ≡ of_want fault };
+
+    fn from(fault: BitFault) -> Fault {
+        match fault {
+            BitFault::NoMemory => Fault::Memory,
+            fault => Fault::Want(fault),
         }
     }
 }

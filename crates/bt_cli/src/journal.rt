@@ -69,6 +69,10 @@ fn print_call<O: Sink>(out: &mut O, call: &Call) -> Result<(), DeviceFault>
             print_number(out, u64::from(verdict.piece()))
         }
         Call::Leave => print(out, "leave"),
+        Call::Want(flags) => {
+            print(out, "want ")?;
+            print_bits(out, flags)
+        }
     }
 }
 

@@ -1,11 +1,11 @@
 //! The report of a run.
 
-ghost use Rattle.std.specs.Prelude.{◌≡◌, true, OnOk, OnErr};
+ghost use Rattle.std.specs.Prelude.{◌≡◌, ◌<◌, true, OnOk, OnErr};
 ghost use Rattle.std.specs.Io.KnownBytes.{Appends};
 ghost use Rattle.bt_meta.specs.Layout.{piece_count};
 ghost use Rattle.bt_history.specs.Counting.{count_below};
 ghost use Rattle.bt_history.specs.Pieces.{had, had_count};
-ghost use Rattle.bt_cli.specs.Reports.{counts_text, end_text, judged_text, missing_piece, missing_text, numbered, pieces_text, report_text, session_fault_number};
+ghost use Rattle.bt_cli.specs.Reports.{counts_text, end_text, is_done, judged_text, missing_piece, missing_text, numbered, pieces_text, report_text, session_fault_number};
 
 use crate::print::{print, print_number};
 use bt_meta::{DeviceFault, Sink};
@@ -38,7 +38,8 @@ pub enum Judged {
     Unjudged,
 }
 
-/// Prints what is told of a run: how each stream ended, which of so many pieces are had, and what the audit says.
+/// Prints what is told of a run: how each stream ended, how many of so many pieces are had, which of the wanted ones are lacking, and what
+/// the audit says.
 pub fn print_report<O: Sink>(
     out: &mut O,
     ends: &[Result<End, SessionFault>],
@@ -48,7 +49,7 @@ pub fn print_report<O: Sink>(
 ) -> Result<(), DeviceFault>
     requires { pieces ≡ piece_count desk.now.setting.torrent }
     ensures ok { OnOk result (Appends (O.written out.old) (O.written out.new)
-        (report_text ends.now pieces (had desk.now.history) judged)) }
+        (report_text ends.now desk.now judged)) }
     ensures err { OnErr result (O.failed out.new ≡ true) }
 {
     print_ends(out, ends)?;
@@ -113,14 +114,14 @@ fn print_counts<O: Sink>(out: &mut O, pieces: u32, had: u32) -> Result<(), Devic
     print(out, "\n")
 }
 
-/// Prints which pieces aren't had, and whether all are.
+/// Prints which of the wanted pieces are lacking, and whether none is.
 fn print_pieces<O: Sink>(out: &mut O, desk: &Desk, pieces: u32) -> Result<(), DeviceFault>
     requires { pieces ≡ piece_count desk.now.setting.torrent }
     ensures ok { OnOk result (Appends (O.written out.old) (O.written out.new)
-        (pieces_text pieces (had desk.now.history))) }
+        (pieces_text pieces (is_done desk.now))) }
     ensures err { OnErr result (O.failed out.new ≡ true) }
 {
-    let complete = if desk.is_complete() { "yes" } else { "no" };
+    let complete = if desk.has_wanted() { "yes" } else { "no" };
     print(out, "missing")?;
     print_missing(out, desk, pieces)?;
     print(out, "\ncomplete ")?;
@@ -128,28 +129,36 @@ fn print_pieces<O: Sink>(out: &mut O, desk: &Desk, pieces: u32) -> Result<(), De
     print(out, "\n")
 }
 
-/// Prints the pieces that aren't had, in rising order, each behind a space, or a dash.
+/// Prints the wanted pieces that aren't had, in rising order, each behind a space, or a dash.
 fn print_missing<O: Sink>(out: &mut O, desk: &Desk, pieces: u32) -> Result<(), DeviceFault>
     requires { pieces ≡ piece_count desk.now.setting.torrent }
     ensures ok { OnOk result (Appends (O.written out.old) (O.written out.new)
-        (missing_text pieces (had desk.now.history))) }
+        (missing_text pieces (is_done desk.now))) }
     ensures err { OnErr result (O.failed out.new ≡ true) }
 {
-    if desk.is_complete() {
+    if desk.has_wanted() {
         return print(out, " -");
     }
     for piece in 0..pieces {
-        print_missing_piece(out, piece, desk.had(piece))?;
+        print_missing_piece(out, piece, is_done(desk, piece))?;
     }
     Ok(())
 }
 
-/// Prints a piece, unless it is had.
-fn print_missing_piece<O: Sink>(out: &mut O, piece: u32, had: bool) -> Result<(), DeviceFault>
-    ensures ok { OnOk result (Appends (O.written out.old) (O.written out.new) (missing_piece piece had)) }
+/// Whether the piece is had, or isn't wanted.
+fn is_done(desk: &Desk, piece: u32) -> bool
+    requires { piece < piece_count desk.now.setting.torrent }
+    ensures { result ≡ is_done desk.now piece }
+{
+    !desk.wanted(piece) || desk.had(piece)
+}
+
+/// Prints a piece, unless nothing of it is lacking.
+fn print_missing_piece<O: Sink>(out: &mut O, piece: u32, done: bool) -> Result<(), DeviceFault>
+    ensures ok { OnOk result (Appends (O.written out.old) (O.written out.new) (missing_piece piece done)) }
     ensures err { OnErr result (O.failed out.new ≡ true) }
 {
-    if had {
+    if done {
         return Ok(());
     }
     print(out, " ")?;

@@ -1,22 +1,26 @@
 //! The command `script`.
 
-ghost use Rattle.std.specs.Prelude.{◌≡◌, ◌<◌, ◌+◌, ◌^◌, [], length, map, IfOk, IfErr, OnOk, None};
+ghost use Rattle.std.specs.Prelude.{◌≡◌, ◌<◌, ◌≤◌, ◌+◌, ◌^◌, [], length, map, IfOk, IfErr, OnOk, None, Some};
 ghost use Rattle.std.specs.String.{string_bytes};
 ghost use Rattle.bt_cli.specs.Setups.{setup_in};
-ghost use Rattle.bt_cli.specs.Played.{AnswersLine, OpensDesk};
-ghost use Rattle.bt_cli.specs.Scripts.{Blames, Explains, IsPrintedBy, IsScript, Prints, IsFirstLine, Opens, Passes, line_at, lines_of};
+ghost use Rattle.bt_cli.specs.Played.{AnswersLine, TakesFront};
+ghost use Rattle.bt_cli.specs.Scripts.{Blames, Explains, IsPrintedBy, IsScript, MaySetRules, Prints, IsFirstLine, Passes, Starts, StopsOpening, line_at, lines_of};
 
 mod fault;
 mod fields;
 mod line;
 mod player;
+mod rules;
 mod setup;
 
 use crate::fault::Fault;
 use crate::text::Said;
+use bt_picker::Rules;
 pub use fault::LineFault;
+pub use fields::read_hex;
 pub use line::{Command, Line};
 pub use player::Player;
+use rules::read_rules;
 pub use setup::Setup;
 use std::alloc::{AllocError, Global};
 use std::io::Write;
@@ -44,11 +48,8 @@ fn play(alloc: Global, input: &[u8], text: &mut String) -> Result<(), Fault>
     ensures replies { IsPrintedBy input.now result (string_bytes text.new) }
 {
     let lines = lines(alloc, input)?;
-    let Some(first) = first_line(&lines) else {
-        return Err(Fault::Line(1));
-    };
-    let mut player = open(alloc, line_at(&lines, first), first)?;
-    for index in first + 1..lines.len() {
+    let Opened { mut player, next } = start(alloc, &lines)?;
+    for index in next..lines.len() {
         let reply = answer(alloc, &mut player, line_at(&lines, index), index)?;
         text.push_str(&reply)?;
     }
@@ -62,11 +63,11 @@ fn lines(alloc: Global, input: &[u8]) -> Result<Vec<&[u8]>, AllocError>
     input.split(|byte| *byte == b'\n').collect(alloc)
 }
 
-/// The line that isn't empty, the first one.
-fn first_line(lines: &[&[u8]]) -> Option<usize>
-    ensures { IsFirstLine (map (λ x. x.now) lines.now) result }
+/// The line that isn't empty, the first one from `from` on.
+fn first_line(lines: &[&[u8]], from: usize) -> Option<usize>
+    ensures { IsFirstLine (map (λ x. x.now) lines.now) from result }
 {
-    for index in 0..lines.len() {
+    for index in from..lines.len() {
         if !line_at(lines, index).is_empty() {
             return Some(index);
         }
@@ -81,17 +82,79 @@ fn line_at<'a>(lines: &[&'a [u8]], index: usize) -> &'a [u8]
     lines[index]
 }
 
-/// The desk that line `index` opens, counted from 0.
-fn open(alloc: Global, text: &[u8], index: usize) -> Result<Player, Fault>
+/// A desk that a script opened, and the place of its next line.
+#[derive(Drop)]
+struct Opened {
+    player: Player,
+    next: usize,
+}
+
+/// The desk that the first lines open.
+fn start(alloc: Global, lines: &[&[u8]]) -> Result<Opened, Fault>
+    ensures starts { IfOk result (λ s.
+        Starts (map (λ x. x.now) lines.now) s.next s.player.workers s.player.pieces) }
+    ensures takes { IfOk result (λ s. TakesFront (map (λ x. x.now) lines.now) s.next s.player.desk) }
+    ensures err { IfErr result (StopsOpening (map (λ x. x.now) lines.now)) }
+{
+    let Some(first) = first_line(lines, 0) else {
+        return Err(Fault::Line(1));
+    };
+    let setup = open(alloc, line_at(lines, first), first)?;
+    let pieces = setup.torrent.piece_count();
+    let RulesPart { rules, next } = rules_behind(alloc, lines, first + 1, pieces)?;
+    let player = Player::new(alloc, setup, rules)?;
+    Ok(Opened { player, next })
+}
+
+/// What line `index` opens, counted from 0.
+fn open(alloc: Global, text: &[u8], index: usize) -> Result<Setup, Fault>
     requires { index + 1 < 2 ^ 64 }
-    ensures ok { IfOk result (λ player. Opens text.now player.workers player.pieces) }
-    ensures desk { IfOk result (λ player. OpensDesk text.now player.desk) }
+    ensures ok { IfOk result (λ setup. setup_in text.now ≡ Some setup) }
+    ensures workers { IfOk result (λ setup. (1 ≤ setup.workers) × (setup.workers ≤ 1024)) }
     ensures err { IfErr result (λ fault. Blames fault (index + 1) (setup_in text.now ≡ None)) }
 {
     match Setup::parse(alloc, text) {
-        Ok(setup) => Ok(Player::new(alloc, setup)?),
+        Ok(setup) => Ok(setup),
         Err(fault) => Err(fault.at(index)),
     }
+}
+
+/// The rules of a script, and the place of the line behind the one that sets them.
+struct RulesPart {
+    rules: Rules,
+    next: usize,
+}
+
+/// The rules that the first line from `from` on sets, empty ones aside; where it sets none, the usual ones.
+fn rules_behind(
+    alloc: Global,
+    lines: &[&[u8]],
+    from: usize,
+    pieces: u32,
+) -> Result<RulesPart, AllocError>
+    requires { 1 ≤ pieces }
+    ensures ok { IfOk result (λ part.
+        MaySetRules (map (λ x. x.now) lines.now) pieces from part.rules part.next) }
+    ensures shallow { IfOk result (λ part. 1 ≤ part.rules.depth) }
+    ensures deep { IfOk result (λ part. part.rules.depth ≤ 64) }
+    ensures random { IfOk result (λ part. part.rules.random ≤ pieces) }
+{
+    if let Some(line) = first_line(lines, from) {
+        match read_rules(alloc, line_at(lines, line), pieces) {
+            Ok(rules) => {
+                return Ok(RulesPart {
+                    rules,
+                    next: line + 1,
+                });
+            }
+            Err(LineFault::NoMemory) => return Err(AllocError),
+            Err(LineFault::NotAllowed) => {}
+        }
+    }
+    Ok(RulesPart {
+        rules: Rules::usual(),
+        next: from,
+    })
 }
 
 /// Makes the call that line `index` says, and tells the reply, a line; an empty line says nothing.

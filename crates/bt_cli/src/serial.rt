@@ -1,21 +1,22 @@
 //! The command `serial`.
 
-ghost use Rattle.std.specs.Prelude.{◌≡◌, ◌≤◌, ◌+◌, ◌⊎◌, ℕ, List, length, true, false, IfOk, IfErr, IsOk, OnOk, OnErr};
+ghost use Rattle.std.specs.Prelude.{◌≡◌, ◌≤◌, ◌+◌, ◌⊎◌, ℕ, Bool, List, Option, length, true, false, IfOk, IfErr, IsOk, OnOk, OnErr};
 ghost use Rattle.std.specs.List.{list_any};
 ghost use Rattle.std.specs.Io.KnownBytes.{Appends};
 ghost use Rattle.bt_meta.specs.Layout.{Metainfo, piece_count};
 ghost use Rattle.bt_meta.specs.Reading.{torrent_of_file};
-ghost use Rattle.bt_history.specs.Setting.{usual};
+ghost use Rattle.bt_history.specs.Setting.{AreRules, setting_of};
 ghost use Rattle.bt_picker.specs.Checks.{waits};
-ghost use Rattle.bt_session.specs.Serial.{EachEnded, Finishes, stream_record};
+ghost use Rattle.bt_session.specs.Serial.{EachEnded, Finishes, opening_of, stream_record};
+ghost use Rattle.bt_session.specs.Terms.{terms_of};
 ghost use Rattle.bt_cli.specs.declared.report.Judged.TheVariants.{Sound, Unjudged};
-ghost use Rattle.bt_cli.specs.Runs.{Ended, IsPrelude, IsStartFault, Ran, TellsRun, ended_short, gave_up, run_status};
+ghost use Rattle.bt_cli.specs.Runs.{Ended, IsOptionFault, IsPrelude, IsStartFault, IsWant, IsWantFault, Ran, TellsRun, ended_short, gave_up, run_status, want_of};
 
 use crate::fault::Fault;
 use crate::journal::print_journal;
 use crate::report::{Judged, print_report};
-use bt_meta::{DeviceFault, Sink, Source, Torrent};
-use bt_picker::{AuditFault, Desk, audit};
+use bt_meta::{Bitfield, DeviceFault, Sink, Source, Torrent};
+use bt_picker::{AuditFault, Desk, Rules, audit};
 use bt_session::{End, MOST_STREAMS, SerialRun, SessionFault, Stream, serial};
 use std::alloc::Global;
 use std::sync::Arc;
@@ -23,26 +24,32 @@ use std::sync::Arc;
 /// The status of a run that isn't complete.
 const INCOMPLETE: u8 = 1;
 
+/// The most blocks that may be asked of a peer.
+pub const MOST_DEPTH: u32 = 64;
+
 /// What a command that runs sessions is asked for.
-#[derive(Clone, Copy, Debug, PartialEq, Eq)]
+#[derive(Debug, Drop)]
 pub struct Options {
     /// Settles what the picker's rules leave to chance.
     pub seed: u64,
     /// Whether the journal is printed before the report.
     pub journal: bool,
+    /// The pieces that are to be downloaded, as the payload of a `bitfield` message spells them (BEP 3); each piece where it isn't given.
+    pub want: Option<Vec<u8>>,
+    pub rules: Rules,
 }
 
 /// A run that came to its end.
 #[derive(Drop)]
 pub struct Run {
     pub desk: Desk,
-    /// Whether all pieces are had, or why the run can't be vouched for: `Fault::Memory` where something was given up for want of memory,
-    /// though it was told as far as `out` took it; else `Fault::File` where `out` failed.
+    /// Whether all wanted pieces are had, or why the run can't be vouched for: `Fault::Memory` where something was given up for want of
+    /// memory, though it was told as far as `out` took it; else `Fault::File` where `out` failed.
     pub ended: Result<bool, Fault>,
 }
 
 impl Run {
-    /// The exit status: 0 where all pieces are had, and 1 where one isn't; else the fault's.
+    /// The exit status: 0 where all wanted pieces are had, and 1 where one isn't; else the fault's.
     pub fn status(&self) -> u8
         ensures { result ≡ run_status self.now.ended }
     {
@@ -54,9 +61,10 @@ impl Run {
     }
 }
 
-/// Plays the streams of 1 to 64 recorded peers at one desk, and prints how each ended and which pieces are had, with no memory.
+/// Plays the streams of 1 to 64 recorded peers at one desk, and prints how each ended and which pieces are lacking, with no memory.
 ///
-/// Refuses bytes that are no metainfo file, and for want of memory; then nothing is printed.
+/// Refuses bytes that are no metainfo file; then, in this order, wanted pieces and a number of pieces at random that aren't its torrent's;
+/// and for want of memory. Then nothing is printed.
 pub fn play_streams<R: Source, W: Sink, O: Sink>(
     alloc: Global,
     meta: &[u8],
@@ -64,19 +72,20 @@ pub fn play_streams<R: Source, W: Sink, O: Sink>(
     options: &Options,
     out: &mut O,
 ) -> Result<Run, Fault>
-    requires { (1 ≤ length streams.old) × (length streams.old ≤ MOST_STREAMS) }
+    requires streams { (1 ≤ length streams.old) × (length streams.old ≤ MOST_STREAMS) }
+    requires depth { (1 ≤ options.now.rules.depth) × (options.now.rules.depth ≤ MOST_DEPTH) }
     ensures meta { OnOk result (IsOk (torrent_of_file meta.now)) }
     ensures setting { IfOk result (λ run. (t : Metainfo) → torrent_of_file meta.now ≡ Ok t →
-        run.desk.setting ≡ usual t.layout (length streams.old + 1)) }
+        run.desk.setting ≡ setting_of t.layout (length streams.old + 1) options.now.rules) }
     ensures ran { IfOk result (λ run. (t : Metainfo) → torrent_of_file meta.now ≡ Ok t →
-        Ran (stream_record R.left R.ended R.failed R.asked W.written W.failed) t options.now.seed streams.old run.desk streams.new
-        run.ended options.now.journal (O.written out.old) (O.written out.new) (O.failed out.new)) }
-    ensures err { IfErr result (IsStartFault (torrent_of_file meta.now)) }
+        Ran (stream_record R.left R.ended R.failed R.asked W.written W.failed) t options.now streams.old run.desk streams.new
+        run.ended (O.written out.old) (O.written out.new) (O.failed out.new)) }
+    ensures err { IfErr result (IsStartFault (torrent_of_file meta.now) options.now) }
     ensures unprinted { OnErr result (out.new ≡ out.old) }
 {
     let workers = streams.len() as u32 + 1;
-    let played = play(alloc, meta, streams, options.seed)?;
-    let ended = tell(alloc, &played, workers, options.journal, out);
+    let played = play(alloc, meta, streams, options)?;
+    let ended = tell(alloc, &played, workers, options, out);
     let Played { torrent: _, run } = played;
     let SerialRun {
         ends: _,
@@ -97,56 +106,99 @@ fn play<R: Source, W: Sink>(
     alloc: Global,
     meta: &[u8],
     streams: &mut [Stream<R, W>],
-    seed: u64,
+    options: &Options,
 ) -> Result<Played, Fault>
-    requires { (1 ≤ length streams.old) × (length streams.old ≤ MOST_STREAMS) }
+    requires streams { (1 ≤ length streams.old) × (length streams.old ≤ MOST_STREAMS) }
+    requires depth { (1 ≤ options.now.rules.depth) × (options.now.rules.depth ≤ MOST_DEPTH) }
     ensures torrent { IfOk result (λ p. torrent_of_file meta.now ≡ Ok p.torrent.value) }
-    ensures setting { IfOk result (λ p. p.run.desk.setting ≡ usual p.torrent.value.layout (length streams.old + 1)) }
+    ensures rules { IfOk result (λ p. AreRules p.torrent.value.layout options.now.rules) }
+    ensures setting { IfOk result (λ p.
+        p.run.desk.setting ≡ setting_of p.torrent.value.layout (length streams.old + 1) options.now.rules) }
     ensures sessions { IfOk result (λ p. EachEnded (stream_record R.left R.ended R.failed R.asked W.written W.failed)
-        p.torrent.value seed streams.old p.run.desk streams.new p.run.ends.items) }
+        (terms_of p.torrent.value options.now.rules.depth) options.now.seed streams.old p.run.desk streams.new p.run.ends.items) }
     ensures count { IfOk result (λ p. length p.run.ends.items ≡ length streams.old) }
-    ensures finishes { IfOk result (λ p. Finishes (length streams.old) p.run.short p.run.desk) }
+    ensures finishes { IfOk result (λ p. (want : Option (List Bool))
+        × IsWant (piece_count p.torrent.value.layout) (want_of options.now) want
+        × Finishes (length streams.old) (opening_of want) p.run.short p.run.desk) }
     ensures none_waits { IfOk result (λ p. p.run.short ≡ false → (piece : ℕ) →
         waits p.run.desk.setting p.run.desk.history piece ≡ false) }
-    ensures err { IfErr result (IsStartFault (torrent_of_file meta.now)) }
+    ensures err { IfErr result (IsStartFault (torrent_of_file meta.now) options.now) }
 {
-    let torrent = Arc::new(alloc, Torrent::read(alloc, meta)?)?;
-    let run = serial(alloc, torrent.clone()?, streams, seed)?;
+    let torrent = Torrent::read(alloc, meta)?;
+    let want = fitting(alloc, options, torrent.piece_count())?;
+    let torrent = Arc::new(alloc, torrent)?;
+    let run = serial(
+        alloc,
+        torrent.clone()?,
+        streams,
+        options.seed,
+        want,
+        options.rules,
+    )?;
     Ok(Played { torrent, run })
 }
 
-/// Judges and prints a run, and answers whether all pieces are had.
+/// The wanted pieces, if some are asked for, where the options fit a torrent of so many pieces.
+fn fitting(alloc: Global, options: &Options, pieces: u32) -> Result<Option<Bitfield>, Fault>
+    ensures want { IfOk result (IsWant pieces (want_of options.now)) }
+    ensures random { OnOk result (options.now.rules.random ≤ pieces) }
+    ensures err { IfErr result (IsOptionFault pieces options.now) }
+{
+    let want = read_want(alloc, options, pieces)?;
+    if options.rules.random > pieces {
+        return Err(Fault::Random);
+    }
+    Ok(want)
+}
+
+fn read_want(alloc: Global, options: &Options, pieces: u32) -> Result<Option<Bitfield>, Fault>
+    ensures want { IfOk result (IsWant pieces (want_of options.now)) }
+    ensures err { IfErr result (IsWantFault pieces (want_of options.now)) }
+{
+    match &options.want {
+        Some(bytes) => Ok(Some(Bitfield::from_wire(alloc, bytes, pieces)?)),
+        None => Ok(None),
+    }
+}
+
+/// Judges and prints a run, and answers whether all wanted pieces are had.
 fn tell<O: Sink>(
     alloc: Global,
     played: &Played,
     workers: u32,
-    journal: bool,
+    options: &Options,
     out: &mut O,
 ) -> Result<bool, Fault>
-    requires setting { played.now.run.desk.setting ≡ usual played.now.torrent.value.layout workers }
-    requires workers { workers ≤ 1024 }
-    ensures { Ended played.now.run.short played.now.run.ends.items played.now.run.desk result journal
+    requires setting { played.now.run.desk.setting ≡ setting_of played.now.torrent.value.layout workers options.now.rules }
+    requires rules { AreRules played.now.torrent.value.layout options.now.rules }
+    ensures { Ended played.now.run.short played.now.run.ends.items played.now.run.desk result options.now.journal
         (O.written out.old) (O.written out.new) (O.failed out.new) }
 {
-    let judged = judge(alloc, &played.torrent, workers, &played.run.desk);
+    let judged = judge(
+        alloc,
+        &played.torrent,
+        workers,
+        options.rules,
+        &played.run.desk,
+    );
     let pieces = played.torrent.piece_count();
-    let printed = print_run(&played.run, pieces, judged, journal, out);
+    let printed = print_run(&played.run, pieces, judged, options.journal, out);
     if judged == Judged::Unjudged || lacks_memory(&played.run) {
         return Err(Fault::Memory);
     }
     match printed {
-        Ok(()) => Ok(played.run.desk.is_complete()),
+        Ok(()) => Ok(played.run.desk.has_wanted()),
         Err(DeviceFault) => Err(Fault::File),
     }
 }
 
 /// What an audit says of the desk's journal.
-fn judge(alloc: Global, torrent: &Torrent, workers: u32, desk: &Desk) -> Judged
-    requires setting { desk.now.setting ≡ usual torrent.now.layout workers }
-    requires workers { workers ≤ 1024 }
+fn judge(alloc: Global, torrent: &Torrent, workers: u32, rules: Rules, desk: &Desk) -> Judged
+    requires setting { desk.now.setting ≡ setting_of torrent.now.layout workers rules }
+    requires rules { AreRules torrent.now.layout rules }
     ensures { (result ≡ Sound) ⊎ (result ≡ Unjudged) }
 {
-    match audit(alloc, torrent, workers, desk.journal()) {
+    match audit(alloc, torrent, workers, rules, desk.journal()) {
         Ok(()) => Judged::Sound,
         Err(AuditFault::NotAllowed(place)) => Judged::Wrong(place),
         Err(AuditFault::NoMemory) => Judged::Unjudged,

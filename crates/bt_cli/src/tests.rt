@@ -8,3 +8,5 @@ mod samples;
 mod saving;
 mod scripts;
 mod serial;
+mod settings;
+mod wants;

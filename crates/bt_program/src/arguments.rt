@@ -1,6 +1,7 @@
 //! The command line.
 
 use crate::help;
+use bt_cli::MOST_DEPTH;
 use bt_session::MOST_STREAMS;
 use clap::{Arg, ArgAction, Command, value_parser};
 use std::alloc::{AllocError, Global};
@@ -8,8 +9,8 @@ use std::alloc::{AllocError, Global};
 const VERSION: &str = "0.1.0";
 
 const STATUSES: &str = "\
-Status: 0 done; 1 a run after which a piece is lacking; 2 wrong arguments, or a script's `line N`; 3 `metainfo fault N`;
-4 `file fault`; 5 `memory`. Each command's help has its own table.";
+Status: 0 done; 1 a run after which a wanted piece is lacking; 2 wrong arguments, a script's `line N`, or a run's
+`want fault N` or `random fault`; 3 `metainfo fault N`; 4 `file fault`; 5 `memory`. Each command's help has its own table.";
 
 /// The program's commands and their arguments.
 pub fn command<'a>(alloc: Global) -> Result<Command<'a>, AllocError> {
@@ -49,9 +50,12 @@ fn meta<'a>(alloc: Global) -> Arg<'a> {
 
 fn serial<'a>(alloc: Global) -> Result<Command<'a>, AllocError> {
     Command::new(alloc, "serial")
-        .about("Plays recorded streams of peers at one desk, and reports which pieces are had")
+        .about("Plays recorded streams of peers at one desk, and reports which pieces are lacking")
         .after_help(help::SERIAL)
         .arg(seed(alloc))?
+        .arg(want(alloc))?
+        .arg(depth(alloc))?
+        .arg(random(alloc))?
         .arg(journal(alloc))?
         .arg(out(alloc))?
         .arg(meta(alloc))?
@@ -65,6 +69,32 @@ fn seed<'a>(alloc: Global) -> Arg<'a> {
         .help("Settles what the picker leaves to chance")
         .value_parser(value_parser!(u64))
         .default_value("0")
+}
+
+fn want<'a>(alloc: Global) -> Arg<'a> {
+    Arg::new(alloc, "want")
+        .long("want")
+        .value_name("HEX")
+        .help("Downloads the pieces of this bitfield alone")
+        .action(ArgAction::Set)
+}
+
+fn depth<'a>(alloc: Global) -> Arg<'a> {
+    Arg::new(alloc, "depth")
+        .long("depth")
+        .value_name("N")
+        .help("Asks for so many blocks of a peer at a time, 1 to 64")
+        .value_parser(value_parser!(u32).range(1..=i64::from(MOST_DEPTH)))
+        .default_value("5")
+}
+
+fn random<'a>(alloc: Global) -> Arg<'a> {
+    Arg::new(alloc, "random")
+        .long("random")
+        .value_name("N")
+        .help("Picks pieces at random until so many are had, and then the rarest")
+        .value_parser(value_parser!(u32))
+        .default_value("1")
 }
 
 fn journal<'a>(alloc: Global) -> Arg<'a> {

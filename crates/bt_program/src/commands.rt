@@ -1,16 +1,20 @@
 //! The commands.
 
-ghost use Rattle.std.specs.Prelude.{◌≡◌, length, IfOk};
+ghost use Rattle.std.specs.Prelude.{◌≡◌, ◌≤◌, length, IfOk, IfSome};
 
 use crate::arguments::command;
 use crate::device::Device;
 use crate::failure::{Failure, WRONG_ARGUMENTS, conclude, worse};
 use crate::file::OutFile;
-use bt_cli::{Fault, Options, Run, describe, play_script, play_streams, save};
+use bt_cli::{
+    Fault, MOST_DEPTH, Options, Run, describe, play_script, play_streams, read_hex, save,
+};
 use bt_meta::{FromRead, ToWrite};
+use bt_picker::Rules;
 use bt_session::{MOST_STREAMS, Stream};
 use clap::ArgMatches;
 use clap::error::ErrorKind;
+use std::alloc::{AllocError, Global};
 use std::io::{BufReader, BufWriter, Read, Write};
 use std::rt::Runtime;
 use std::{fs, io};
@@ -122,9 +126,8 @@ fn serial<'w, R: Runtime + AllocGlobal, O: Write, E: Write>(
     let Some(meta) = arguments.get_str("META") else {
         return Ok(WRONG_ARGUMENTS);
     };
-    let options = Options {
-        seed: arguments.get_one::<u64>("seed").unwrap_or(0),
-        journal: arguments.get_flag("journal"),
+    let Some(options) = options(rt.alloc(), arguments, err)? else {
+        return Ok(WRONG_ARGUMENTS);
     };
     let names = arguments.get_strs("STREAM").unwrap_or(&[]);
     // `clap` refuses other numbers of them, but nothing here proves that of what it found.
@@ -136,6 +139,41 @@ fn serial<'w, R: Runtime + AllocGlobal, O: Write, E: Write>(
     let mut streams = recorded(rt, names)?;
     let run = play_streams(rt.alloc(), &meta, &mut streams, &options, out)?;
     finish(rt, &run, out, arguments.get_str("out"))
+}
+
+/// What a run is asked for; none where an argument is wrong, which is told.
+fn options<E: Write>(
+    alloc: Global,
+    arguments: &ArgMatches<'_>,
+    err: &mut E,
+) -> Result<Option<Options>, AllocError>
+    ensures { IfOk result (λ found. IfSome found (λ options.
+        (1 ≤ options.rules.depth) × (options.rules.depth ≤ MOST_DEPTH))) }
+{
+    let usual = Rules::usual();
+    let rules = Rules {
+        depth: arguments.get_one::<u32>("depth").unwrap_or(usual.depth),
+        random: arguments.get_one::<u32>("random").unwrap_or(usual.random),
+    };
+    // `clap` refuses other depths, but nothing here proves that of what it found.
+    if rules.depth < 1 || rules.depth > MOST_DEPTH {
+        let _ = writeln!(err, "error: a depth is 1 to {MOST_DEPTH}");
+        return Ok(None);
+    }
+    let mut want = None;
+    if let Some(text) = arguments.get_str("want") {
+        want = read_hex(alloc, text.as_bytes())?;
+        if want.is_none() {
+            let _ = writeln!(err, "error: the value of --want is not hexadecimal");
+            return Ok(None);
+        }
+    }
+    Ok(Some(Options {
+        seed: arguments.get_one::<u64>("seed").unwrap_or(0),
+        journal: arguments.get_flag("journal"),
+        want,
+        rules,
+    }))
 }
 
 /// Saves the content of a run, where that is asked for and all pieces are had, and says how the program ends.

@@ -3,21 +3,26 @@
 pub const SCRIPT: &str = "\
 Lines:
   torrent PIECE_LEN TOTAL WORKERS HASH..   the first line: lengths in bytes, and the SHA-1 of each piece
+  rules DEPTH RANDOM                       if it is there, the next one: 1 to 64 blocks are asked of a peer at a time, and
+                                           pieces are picked at random until RANDOM are had, no more than there are;
+                                           else it is `rules 5 1`
   W join | W leave                         the peer of worker W has sent its handshake | is gone
   W bits HEX | W have P                    it shows the pieces of this bitfield | piece P
   W choke | W unchoke                      it chokes us | no longer
   W next WORD                              what to say to it next; WORD settles what is left to chance
   W block P BEGIN HEX                      a block of piece P came, which begins at byte BEGIN of it
   W settle P                               checks piece P
+  W want HEX                               the pieces of this bitfield are to be downloaded, until another such line;
+                                           until the first one, all are
   Numbers are in base ten; workers count from 0, and there are 1 to 1024. An empty line says nothing.
 
 Replies, a line each:
   joined | quiet                           the call is noted
-  noted yes | noted no                     noted; the peer shows a piece that is lacking, or none
+  noted yes | noted no                     noted; the peer shows a wanted piece that is lacking, or none
   cancel P BEGIN LEN                       tell the peer that this block is no longer wanted
   request P BEGIN LEN                      ask the peer for this block
-  choked | pipefull                        the peer chokes us | is asked for five blocks
-  idle | nothing                           nothing to ask now | the peer shows nothing that is lacking
+  choked | pipefull                        the peer chokes us | is asked for DEPTH blocks
+  idle | nothing                           nothing to ask now | the peer shows nothing wanted that is lacking
   stored | completed | dropped             the block is kept | is the last of its piece | was there before
   had | failed                             the piece has its hash | hasn't, and is to be fetched again
   refused N                                the call isn't allowed, and changes nothing:
@@ -28,8 +33,8 @@ Replies, a line each:
     9 the piece has changed since it was hashed
 
 Status: 0 the whole script was played; 2 `line N`, the first line at fault, counted from 1 (another form, a number
-out of range, no such worker, a torrent or a bitfield that can't be); 4 `file fault`, standard input or output;
-5 `memory`, there isn't enough.";
+out of range, no such worker, a torrent or a bitfield that can't be, rules that stand elsewhere); 4 `file fault`,
+standard input or output; 5 `memory`, there isn't enough.";
 
 pub const INFO: &str = "\
 Prints, a line each:
@@ -51,7 +56,8 @@ standard output fails; 5 `memory`, there isn't enough.
   9 another number of digests than pieces  10 the content or its number of pieces is too large";
 
 pub const SERIAL: &str = "\
-Stream I is worker I of the journal, from 0; one more worker checks the pieces that are left at the end.
+Stream I is worker I of the journal, from 0; one more worker says first which pieces are wanted, if --want is given,
+and checks the pieces that are left at the end. The file of --out is made where all pieces are had, wanted or not.
 
 Prints, behind the journal:
   stream I end      the stream was played to its end
@@ -62,10 +68,14 @@ Prints, behind the journal:
     7 there isn't enough memory             8 the bitfield isn't one of this torrent
   pieces N          how many there are
   had N             how many were checked, and had their hash
-  missing P.. | -   the pieces that aren't had
+  missing P.. | -   the wanted pieces that aren't had
   complete yes | no
   journal ok        each entry of the journal is one that the rules allow
   journal bad N     entry N isn't, counted from 0
 
-Status: 0 all pieces are had; 1 not all; 3 `metainfo fault N` (`piecepick info --help`); 4 `file fault`, META or a
-STREAM can't be read, or FILE or standard output can't be written; 5 `memory`, there wasn't enough.";
+Status: 0 all wanted pieces are had; 1 not all; 2 wrong arguments, or one that isn't of META's torrent; 3 `metainfo
+fault N` (`piecepick info --help`); 4 `file fault`, META or a STREAM can't be read, or FILE or standard output can't be
+written; 5 `memory`, there wasn't enough. Not of META's torrent, the first of these:
+  want fault 1      HEX isn't a byte for each eight pieces
+  want fault 2      a bit behind those of the pieces is set
+  random fault      there are fewer pieces than --random says";

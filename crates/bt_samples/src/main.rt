@@ -6,7 +6,7 @@ mod counts;
 use anyhow::{Context, Result, bail};
 use bt_cli::{Options, play_streams};
 use bt_meta::{FromRead, ToWrite, Torrent};
-use bt_picker::Desk;
+use bt_picker::{Desk, Rules};
 use bt_session::{MOST_STREAMS, Stream};
 use bt_wire::{Inbound, frame_limit};
 use counts::Counts;
@@ -15,11 +15,6 @@ use std::alloc::Global;
 use std::io::{BufWriter, Write};
 use std::rt::Runtime;
 use std::{env, fs, io};
-
-const OPTIONS: Options = Options {
-    seed: 0,
-    journal: false,
-};
 
 fn main(rt: HostRuntime) -> Result<()> {
     let mut args = env::args(&rt)?.skip(1);
@@ -63,7 +58,13 @@ fn play<R: Runtime + AllocGlobal>(rt: &R, meta: &[u8], names: &[String]) -> Resu
         bail!("a run takes 1 to {MOST_STREAMS} streams");
     }
     let mut out = ToWrite::new(BufWriter::new(rt.alloc(), io::writer(rt))?);
-    let run = match play_streams(rt.alloc(), meta, &mut streams, &OPTIONS, &mut out) {
+    let options = Options {
+        seed: 0,
+        journal: false,
+        want: None,
+        rules: Rules::usual(),
+    };
+    let run = match play_streams(rt.alloc(), meta, &mut streams, &options, &mut out) {
         Ok(run) => run,
         Err(fault) => bail!("{fault}"),
     };

@@ -8,7 +8,7 @@ mod peer;
 
 use anyhow::Result;
 use bt_meta::{Bitfield, ToWrite, Torrent};
-use bt_picker::{Call, Desk, Reply};
+use bt_picker::{Call, Desk, Reply, Rules};
 use peer::Peer;
 use rand_core::Rng;
 use rand_pcg::Lcg64Xsh32;
@@ -36,7 +36,7 @@ fn main(rt: HostRuntime) -> Result<()> {
         hashes.push(Sha1::digest(piece))?;
     }
     let torrent = Torrent::of_parts(PIECE_LEN, 49_152, hashes, [0; 20])?;
-    let mut desk = Desk::new(alloc, Arc::new(alloc, torrent)?, 1)?;
+    let mut desk = Desk::new(alloc, Arc::new(alloc, torrent)?, 1, Rules::usual())?;
     download(alloc, &mut desk, 0, &mut peer)?;
 
     let asked = peer.asked();

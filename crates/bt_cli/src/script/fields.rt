@@ -1,6 +1,6 @@
 //! What stands in a line of a script: fields with one space between two, numbers and hexadecimal.
 
-ghost use Rattle.std.specs.Prelude.{◌≡◌, ◌↔◌, IfOk, IsTrue, map, slice_index};
+ghost use Rattle.std.specs.Prelude.{◌≡◌, ◌↔◌, IfOk, IsTrue, map, option_map, slice_index};
 ghost use Rattle.std.specs.Str.{bytes_eq};
 ghost use Rattle.bt_cli.specs.Fields.{number_in, small_number_in, fields_of, bytes_in, Reads, digest_in};
 
@@ -46,18 +46,25 @@ fn has_plus(text: &[u8]) -> bool
     !text.is_empty() && text[0] == b'+'
 }
 
-/// The bytes that hexadecimal digits of either case write, at least one.
+/// The bytes that hexadecimal digits of either case write, at least one; none where the text is something else.
+pub fn read_hex(alloc: Global, text: &[u8]) -> Result<Option<Vec<u8>>, AllocError>
+    ensures { IfOk result (λ bytes. option_map (λ v. v.items) bytes ≡ bytes_in text.now) }
+{
+    if text.is_empty() {
+        return Ok(None);
+    }
+    match hex::decode(alloc, text) {
+        Ok(bytes) => Ok(Some(bytes)),
+        Err(FromHexError::OutOfMemory) => Err(AllocError),
+        Err(_) => Ok(None),
+    }
+}
+
+/// The same in a line of a script.
 pub fn hex_bytes(alloc: Global, text: &[u8]) -> Result<Vec<u8>, LineFault>
     ensures { Reads (λ v. v.items) result (bytes_in text.now) }
 {
-    if text.is_empty() {
-        return Err(LineFault::NotAllowed);
-    }
-    match hex::decode(alloc, text) {
-        Ok(bytes) => Ok(bytes),
-        Err(FromHexError::OutOfMemory) => Err(LineFault::NoMemory),
-        Err(_) => Err(LineFault::NotAllowed),
-    }
+    read_hex(alloc, text)?.ok_or(LineFault::NotAllowed)
 }
 
 /// The 20 bytes that hexadecimal digits of either case write.

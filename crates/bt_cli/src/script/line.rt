@@ -25,6 +25,8 @@ pub enum Command {
     },
     Settle(u32),
     Leave,
+    /// The pieces that are to be downloaded, as the payload of a `bitfield` message spells them.
+    Want(Vec<u8>),
 }
 
 #[derive(Drop)]
@@ -90,6 +92,8 @@ fn short_command(alloc: Global, word: &[u8], argument: &[u8]) -> Result<Command,
         Ok(Command::Next(number(argument)?))
     } else if is(word, "settle") {
         Ok(Command::Settle(small_number(argument)?))
+    } else if is(word, "want") {
+        Ok(Command::Want(hex_bytes(alloc, argument)?))
     } else {
         Err(LineFault::NotAllowed)
     }

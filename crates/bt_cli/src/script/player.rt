@@ -7,7 +7,7 @@ ghost use Rattle.bt_cli.specs.Lines.{seen_command};
 
 use super::{Command, Line, LineFault, Setup};
 use bt_meta::Bitfield;
-use bt_picker::{Call, Desk, Reply};
+use bt_picker::{Call, Desk, Reply, Rules};
 use bytes::Bytes;
 use std::alloc::{AllocError, Global};
 use std::sync::Arc;
@@ -24,23 +24,25 @@ pub struct Player {
 
 impl Player {
     ghost use Rattle.bt_history.specs.Entries.{event};
-    ghost use Rattle.bt_history.specs.Setting.{usual};
+    ghost use Rattle.bt_history.specs.Setting.{AreRules, setting_of};
     ghost use Rattle.bt_picker.specs.Positions.{Gains};
     ghost use Rattle.bt_picker.specs.Checks.{SettlesNow};
     ghost use Rattle.bt_cli.specs.Played.{PlaysOrder, PlaysLine};
 
-    pub fn new(alloc: Global, setup: Setup) -> Result<Player, AllocError>
-        requires { (1 ≤ setup.workers) × (setup.workers ≤ 1024) }
+    pub fn new(alloc: Global, setup: Setup, rules: Rules) -> Result<Player, AllocError>
+        requires workers { (1 ≤ setup.workers) × (setup.workers ≤ 1024) }
+        requires rules { AreRules setup.torrent.layout rules }
         ensures workers { IfOk result (λ player. player.workers ≡ setup.workers) }
         ensures pieces { IfOk result (λ player. player.pieces ≡ piece_count setup.torrent.layout) }
-        ensures setting { IfOk result (λ player. player.desk.setting ≡ usual setup.torrent.layout setup.workers) }
+        ensures setting { IfOk result (λ player.
+            player.desk.setting ≡ setting_of setup.torrent.layout setup.workers rules) }
         ensures history { IfOk result (λ player. player.desk.history ≡ []) }
     {
         let Setup { torrent, workers } = setup;
         let pieces = torrent.piece_count();
         let torrent = Arc::new(alloc, torrent)?;
         Ok(Player {
-            desk: Desk::new(alloc, torrent, workers)?,
+            desk: Desk::new(alloc, torrent, workers, rules)?,
             workers,
             pieces,
         })
@@ -95,6 +97,10 @@ impl Player {
             }
             Command::Settle(piece) => self.settle(alloc, worker, piece),
             Command::Leave => self.make(worker, Call::Leave),
+            Command::Want(bytes) => {
+                let flags = Bitfield::from_wire(alloc, &bytes, self.pieces)?;
+                self.make(worker, Call::Want(flags))
+            }
         }
     }
 

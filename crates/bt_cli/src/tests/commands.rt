@@ -1,15 +1,14 @@
 //! The commands whole: the exit status, and the line of a fault.
 
+use super::serial::{FILE, recorded, usual};
 use crate::*;
-use bt_meta::{FromRead, ToWrite};
-use bt_session::Stream;
+use bt_meta::ToWrite;
 use std::alloc::Global;
-use std::io::Cursor;
 use std::test::*;
 
 #[test]
 fn scripts(rt: HostRuntime) -> Result<(), Fail> {
-    let rows: [(&[u8], u8, &[u8], &[u8]); 3] = [
+    let rows: [(&[u8], u8, &[u8], &[u8]); 6] = [
         (
             b"torrent 3 3 1 a9993e364706816aba3e25717850c26c9cd0d89d\n0 join\n",
             0,
@@ -23,6 +22,24 @@ fn scripts(rt: HostRuntime) -> Result<(), Fail> {
             b"line 3\n",
         ),
         (b"", 2, b"", b"line 1\n"),
+        (
+            b"torrent 3 3 1 a9993e364706816aba3e25717850c26c9cd0d89d\nrules 0 1\n",
+            2,
+            b"",
+            b"line 2\n",
+        ),
+        (
+            b"torrent 3 3 1 a9993e364706816aba3e25717850c26c9cd0d89d\nrules 65 1\n",
+            2,
+            b"",
+            b"line 2\n",
+        ),
+        (
+            b"torrent 3 3 1 a9993e364706816aba3e25717850c26c9cd0d89d\nrules 5 2\n",
+            2,
+            b"",
+            b"line 2\n",
+        ),
     ];
     for (input, wanted, text, told) in rows {
         let mut out = Vec::new(rt.alloc());
@@ -51,22 +68,12 @@ fn metainfo_files(rt: HostRuntime) -> Result<(), Fail> {
     Ok(())
 }
 
-/// A file of the three bytes `abc`, in one piece.
-const FILE: &[u8] =
-    b"d4:infod6:lengthi3e4:name1:s12:piece lengthi3e6:pieces20:\xa9\x99\x3e\x36\x47\x06\x81\x6a\xba\x3e\x25\x71\x78\x50\xc2\x6c\x9c\xd0\xd8\x9dee";
-
 /// How a run with a peer that sends nothing ends, with its output and what was told, and whether there is a desk.
 fn silent(alloc: Global, meta: &[u8]) -> (u8, Vec<u8>, Vec<u8>, bool) {
-    let mut streams = [Stream {
-        reader: FromRead::new(Cursor::new(b"".as_slice())),
-        writer: ToWrite::new(Vec::new(alloc)),
-    }];
+    let mut streams = [recorded(alloc, b"")];
     let mut out = ToWrite::new(Vec::new(alloc));
     let mut err = Vec::new(alloc);
-    let options = Options {
-        seed: 0,
-        journal: true,
-    };
+    let options = usual(0, true);
     let (status, desk) = run_serial(alloc, meta, &mut streams, &options, &mut out, &mut err);
     (status, out.into_inner(), err, desk.is_some())
 }

@@ -1,7 +1,7 @@
 //! Bytes that are no script, with the line at fault and the replies to the lines before.
 
 use crate::*;
-use bt_meta::MetaFault;
+use bt_meta::{BitFault, MetaFault};
 use std::test::*;
 
 /// Three pieces for two workers: `abc`, `abc` and `a`.
@@ -9,7 +9,7 @@ const TORRENT: &[u8] =
     b"torrent 3 7 2 a9993e364706816aba3e25717850c26c9cd0d89d a9993e364706816aba3e25717850c26c9cd0d89d 86f7e437faa5a7fce15d1ddcb9eaeaea377667b8\n";
 
 /// What stands behind the torrent line, the line at fault and what was printed; no line where there is no fault.
-const BEHIND: [(&[u8], u64, &[u8]); 48] = [
+const BEHIND: [(&[u8], u64, &[u8]); 79] = [
     (b"", 0, b""),
     (b"\n\n\n", 0, b""),
     (b"0 join", 0, b"joined\n"),
@@ -58,15 +58,51 @@ const BEHIND: [(&[u8], u64, &[u8]); 48] = [
     (b"0 settle x\n", 2, b""),
     (b"0 join\xff\n", 2, b""),
     (b"0 join\n\xff\xfe\n", 3, b"joined\n"),
+    (b"0 want e0\n", 0, b"quiet\n"),
+    (b"1 want 00\n2 want e0\n", 3, b"quiet\n"),
+    (b"0 want f0\n", 2, b""),
+    (b"0 want e000\n", 2, b""),
+    (b"0 want\n", 2, b""),
+    (b"0 want \n", 2, b""),
+    (b"0 want e\n", 2, b""),
+    (b"0 want e0 e0\n", 2, b""),
+    (b"rules 5 1", 0, b""),
+    (b"rules 5 1\n0 join\n", 0, b"joined\n"),
+    (b"\n\nrules 64 3\n\n0 join\n", 0, b"joined\n"),
+    (b"rules 1 0\n2 join\n", 3, b""),
+    (b"rules 0 1\n", 2, b""),
+    (b"rules 65 1\n", 2, b""),
+    (b"rules 5 4\n", 2, b""),
+    (b"\n\nrules 5 4\n0 join\n", 4, b""),
+    (b"rules 5 1\nrules 5 1\n", 3, b""),
+    (b"rules 5 1\n\nrules 5 1\n", 4, b""),
+    (b"0 join\nrules 5 1\n", 3, b"joined\n"),
+    (b"rules\n", 2, b""),
+    (b"rules 5\n", 2, b""),
+    (b"rules 5 1 1\n", 2, b""),
+    (b"rules 5 1 \n", 2, b""),
+    (b" rules 5 1\n", 2, b""),
+    (b"rules 5 1\r\n", 2, b""),
+    (b"Rules 5 1\n", 2, b""),
+    (b"rules +5 1\n", 2, b""),
+    (b"rules 5 -1\n", 2, b""),
+    (b"rules 4294967301 1\n", 2, b""),
+    (b"rules 5 4294967297\n", 2, b""),
+    (b"0 rules 5 1\n", 2, b""),
 ];
 
 /// Whole scripts whose first line that isn't empty is at fault.
-const FIRST_LINES: [(&[u8], u64); 19] = [
+const FIRST_LINES: [(&[u8], u64); 21] = [
     (b"", 1),
     (b"\n", 1),
     (b"\n\n\n", 1),
     (b"0 join\n", 1),
     (b"\n\n0 join\n", 3),
+    (b"rules 5 1\n", 1),
+    (
+        b"\nrules 5 1\ntorrent 3 3 1 a9993e364706816aba3e25717850c26c9cd0d89d\n",
+        2,
+    ),
     (
         b"torrent 3 7 1 a9993e364706816aba3e25717850c26c9cd0d89d\n",
         1,
@@ -144,6 +180,9 @@ fn texts_and_statuses(rt: HostRuntime) -> Result<(), Fail> {
             3,
             "metainfo fault 6",
         ),
+        (Fault::Want(BitFault::WrongCount), 2, "want fault 1"),
+        (Fault::Want(BitFault::SpareBits), 2, "want fault 2"),
+        (Fault::Random, 2, "random fault"),
         (Fault::File, 4, "file fault"),
         (Fault::Memory, 5, "memory"),
     ];

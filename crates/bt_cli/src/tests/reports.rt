@@ -45,6 +45,11 @@ fn journal_lines(rt: HostRuntime) -> Result<(), Fail> {
             Reply::Completed,
             "7 block 0 16384 3 = completed",
         ),
+        (
+            Call::Want(Bitfield::from_wire(rt.alloc(), b"\x40", 3)?),
+            Reply::Quiet,
+            "7 want 40 = quiet",
+        ),
         (Call::Choke, Reply::Quiet, "7 choke = quiet"),
         (Call::Unchoke, Reply::Quiet, "7 unchoke = quiet"),
         (

@@ -11,7 +11,7 @@ use std::test::*;
 
 /// A file in memory, with what it holds, once it is made; some can't be made.
 #[derive(Drop)]
-struct Kept {
+pub struct Kept {
     held: Vec<u8>,
     can_be_made: bool,
     made: bool,
@@ -19,13 +19,17 @@ struct Kept {
 }
 
 impl Kept {
-    fn new(alloc: Global, can_be_made: bool) -> Result<Kept, Fail> {
+    pub fn new(alloc: Global, can_be_made: bool) -> Result<Kept, Fail> {
         Ok(Kept {
             held: Vec::from_slice(alloc, b"older")?,
             can_be_made,
             made: false,
             failed: false,
         })
+    }
+
+    pub fn is_made(&self) -> bool {
+        self.made
     }
 }
 

@@ -2,28 +2,33 @@
 
 use super::examples::EXAMPLES;
 use super::picks::PICKS;
+use super::settings::SETTINGS;
 use crate::*;
 use std::alloc::{AllocError, Global};
 use std::io::Cursor;
 use std::test::*;
 
-/// The lines of an example without their replies, and the replies.
+/// The lines of an example without their replies, and the replies, where there are any.
 fn parts(alloc: Global, torrent: &str, lines: &str) -> Result<(String, String), AllocError> {
     let mut script = String::from_str(alloc, torrent)?;
     let mut replies = String::new(alloc);
     for line in lines.lines() {
-        let (call, reply) = line.split_once(" = ").unwrap_or((line, ""));
         script.push('\n')?;
-        script.push_str(call)?;
-        replies.push_str(reply)?;
-        replies.push('\n')?;
+        match line.split_once(" = ") {
+            Some((call, reply)) => {
+                script.push_str(call)?;
+                replies.push_str(reply)?;
+                replies.push('\n')?;
+            }
+            None => script.push_str(line)?,
+        }
     }
     Ok((script, replies))
 }
 
 #[test]
 fn worked_examples(rt: HostRuntime) -> Result<(), Fail> {
-    for example in EXAMPLES.iter().chain(&PICKS) {
+    for example in EXAMPLES.iter().chain(&PICKS).chain(&SETTINGS) {
         let name = example.name;
         let (script, replies) = parts(rt.alloc(), example.torrent, example.lines)?;
         let mut out = Vec::new(rt.alloc());
@@ -52,6 +57,27 @@ fn blocks_of_two(rt: HostRuntime) -> Result<(), Fail> {
         out.as_slice(),
         b"joined\nstored\ndropped\ncompleted\nfailed\n".as_slice()
     );
+    Ok(())
+}
+
+/// A pipe of 64 has room for all 62 blocks of a piece.
+#[test]
+fn a_deep_pipe(rt: HostRuntime) -> Result<(), Fail> {
+    let mut script = String::from_str(
+        rt.alloc(),
+        "torrent 1000000 1000000 1 34aa973cd4c4daa4f61eeb2bdbad27316534016f\nrules 64 1\n0 join\n0 bits 80\n0 unchoke\n",
+    )?;
+    let mut replies = String::from_str(rt.alloc(), "joined\nnoted yes\nquiet\n")?;
+    for block in 0..61_u32 {
+        let begin = 16_384 * block;
+        script.push_str("0 next 0\n")?;
+        replies.push_str(&format!(in rt.alloc(); "request 0 {begin} 16384\n")?)?;
+    }
+    script.push_str("0 next 0\n0 next 0\n")?;
+    replies.push_str("request 0 999424 576\nidle\n")?;
+    let mut out = Vec::new(rt.alloc());
+    assert_eq!(rt; run_script(rt.alloc(), script.as_bytes(), &mut out), 0);
+    assert_eq!(rt; out.as_slice(), replies.as_bytes());
     Ok(())
 }
 

@@ -1,8 +1,10 @@
 //! The command `serial`: what it prints, its statuses, and the desk that it gives.
 
+ghost use Rattle.std.specs.Prelude.{◌≤◌};
+
 use crate::*;
 use bt_meta::{FromRead, ToWrite};
-use bt_picker::ContentFault;
+use bt_picker::{ContentFault, Rules};
 use bt_session::Stream;
 use std::alloc::{AllocError, Global};
 use std::io::Cursor;
@@ -19,7 +21,7 @@ pub const INFOHASH: &[u8; 20] =
 /// What a peer sends after its handshake: its bitfield, unchoke, and the piece.
 pub const FRAMES: &[u8; 27] = b"\0\0\0\x02\x05\x80\0\0\0\x01\x01\0\0\0\x0c\x07\0\0\0\0\0\0\0\0abc";
 
-type Recorded<'a> = Stream<FromRead<Cursor<&'a [u8]>>, ToWrite<Vec<u8>>>;
+pub type Recorded<'a> = Stream<FromRead<Cursor<&'a [u8]>>, ToWrite<Vec<u8>>>;
 
 /// A peer's stream: its handshake for this infohash, then these bytes.
 pub fn stream(alloc: Global, infohash: &[u8; 20], frames: &[u8]) -> Result<Vec<u8>, AllocError> {
@@ -31,10 +33,22 @@ pub fn stream(alloc: Global, infohash: &[u8; 20], frames: &[u8]) -> Result<Vec<u
     Ok(bytes)
 }
 
-fn recorded(alloc: Global, sent: &[u8]) -> Recorded<'_> {
+pub fn recorded(alloc: Global, sent: &[u8]) -> Recorded<'_> {
     Stream {
         reader: FromRead::new(Cursor::new(sent)),
         writer: ToWrite::new(Vec::new(alloc)),
+    }
+}
+
+/// Options of all pieces by the usual rules.
+pub fn usual(seed: u64, journal: bool) -> Options
+    ensures { (1 ≤ result.rules.depth) × (result.rules.depth ≤ MOST_DEPTH) }
+{
+    Options {
+        seed,
+        journal,
+        want: None,
+        rules: Rules::usual(),
     }
 }
 
@@ -46,10 +60,15 @@ pub struct Ended {
 }
 
 pub fn run(alloc: Global, meta: &[u8], sent: &[u8], journal: bool) -> Ended {
+    run_with(alloc, meta, sent, &usual(0, journal))
+}
+
+pub fn run_with(alloc: Global, meta: &[u8], sent: &[u8], options: &Options) -> Ended
+    requires { (1 ≤ options.now.rules.depth) × (options.now.rules.depth ≤ MOST_DEPTH) }
+{
     let mut streams = [recorded(alloc, sent)];
     let mut out = ToWrite::new(Vec::new(alloc));
-    let options = Options { seed: 0, journal };
-    let run = play_streams(alloc, meta, &mut streams, &options, &mut out);
+    let run = play_streams(alloc, meta, &mut streams, options, &mut out);
     Ended {
         run,
         out: out.into_inner(),
@@ -135,10 +154,7 @@ fn a_full_output(rt: HostRuntime) -> Result<(), Fail> {
     let mut streams = [recorded(rt.alloc(), &sent)];
     let mut room = [0; 20];
     let mut out = ToWrite::new(room.as_mut_slice());
-    let options = Options {
-        seed: 0,
-        journal: false,
-    };
+    let options = usual(0, false);
     let run = play_streams(rt.alloc(), FILE, &mut streams, &options, &mut out)?;
     assert_eq!(rt; run.ended, Err(Fault::File));
     assert_eq!(rt; run.status(), 4);
@@ -147,11 +163,11 @@ fn a_full_output(rt: HostRuntime) -> Result<(), Fail> {
 }
 
 /// Pieces `abc`, `abc` and `a`.
-const THREE_PIECES: &[u8] =
+pub const THREE_PIECES: &[u8] =
     b"d4:infod6:lengthi7e4:name1:s12:piece lengthi3e6:pieces60:\xa9\x99\x3e\x36\x47\x06\x81\x6a\xba\x3e\x25\x71\x78\x50\xc2\x6c\x9c\xd0\xd8\x9d\xa9\x99\x3e\x36\x47\x06\x81\x6a\xba\x3e\x25\x71\x78\x50\xc2\x6c\x9c\xd0\xd8\x9d\x86\xf7\xe4\x37\xfa\xa5\xa7\xfc\xe1\x5d\x1d\xdc\xb9\xea\xea\xea\x37\x76\x67\xb8ee";
 
 /// The SHA-1 of its info value, by another program.
-const INFOHASH_OF_THREE: &[u8; 20] =
+pub const INFOHASH_OF_THREE: &[u8; 20] =
     b"\x8c\x98\x3b\xc3\xdc\x1b\xcd\xae\x5f\x59\xaa\x68\x33\xea\xa3\x0c\xfd\xc7\x25\xfa";
 
 /// The first piece is chosen by the seed.
@@ -164,10 +180,7 @@ fn seeds(rt: HostRuntime) -> Result<(), Fail> {
     for seed in 0..8 {
         let mut streams = [recorded(rt.alloc(), &sent)];
         let mut out = ToWrite::new(Vec::new(rt.alloc()));
-        let options = Options {
-            seed,
-            journal: true,
-        };
+        let options = usual(seed, true);
         let run = play_streams(rt.alloc(), THREE_PIECES, &mut streams, &options, &mut out)?;
         assert_eq!(rt; run.ended, Ok(false));
         let out = out.into_inner();

@@ -1,4 +1,4 @@
-use Rattle.std.proofs.Common.{◌≡◌, ◌++◌, ℕ, List, codes, rules, refl, ap}
+use Rattle.std.proofs.Common.{rules, refl}
 use Rattle.hex.specs.Hex.{encode_lower}
 use Rattle.bt_meta.specs.WireBits.{IsSpelled}
 use Rattle.bt_history.specs.Entries.{action_of}
@@ -21,3 +21,9 @@ pub returns-in_ok-print-in-Settle-clause-ok : goal.returns-in_ok-print-in-Settle
 returns-in_ok-print-in-Settle-clause-ok g c =
     more_that (IsCallText (action_of c.args.call.now)) c.print_number-in-Settle.result _ _ _ _ _ (search rules)
     c.in_ok-print-in-Settle.ensures.ok c.print_number-in-Settle.ensures.ok
+
+pub returns-in_ok-print-in-Want-clause-ok : goal.returns-in_ok-print-in-Want-clause-ok
+returns-in_ok-print-in-Want-clause-ok g c =
+    let flags = c.in-Want.flags in
+    more_known (IsCallText (action_of c.args.call.now)) (IsSpelled flags) encode_lower c.print_bits-in-Want.result _ _ _ _
+    (λ wire is. rw c.in-Want.is (wire, (is, refl))) c.in_ok-print-in-Want.ensures.ok c.print_bits-in-Want.ensures.ok

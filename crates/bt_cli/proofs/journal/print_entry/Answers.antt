@@ -1,5 +1,4 @@
-use Rattle.std.proofs.Common.{◌++◌, codes, rules}
-use Rattle.std.specs.Fmt.{decimal}
+use Rattle.std.proofs.Common.{rules}
 use Rattle.std.proofs.KnownBytes.{Appends-trans}
 use Rattle.bt_history.specs.Entries.{event_of}
 use Rattle.bt_cli.specs.Journals.{IsJournalLine}

@@ -1,4 +1,4 @@
-use Rattle.std.proofs.Common.{subst, arith, rules, Ok}
+use Rattle.std.proofs.Common.{subst, arith, Ok}
 use Rattle.std.specs.Io.KnownBytes.{Appends}
 use Rattle.std.proofs.KnownBytes.{Appends-trans}
 use Rattle.bt_cli.specs.Reports.{end_text}
