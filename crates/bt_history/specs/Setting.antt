@@ -25,9 +25,9 @@ usual_rules = record { depth = 5; random = 1 }
 pub record AreRules (t : Layout) (rules : Rules) : Type 0 where
   -- one block or more may be asked of a peer
   pub shallow : 1 ≤ rules.depth
-  -- and no more than a peer's row has room for
+  -- and no more than 64
   pub deep : rules.depth ≤ 64
-  -- so many pieces there are
+  -- there are as many pieces as are picked at random
   pub random : rules.random ≤ piece_count t
 
 -- some block of piece p passes the test
