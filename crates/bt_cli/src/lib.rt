@@ -15,9 +15,7 @@ mod text;
 pub use commands::{conclude, run_info, run_script, run_serial, script_to};
 pub use fault::Fault;
 pub use info::describe;
+pub use journal::print_entry;
 pub use saving::{NewFile, save};
 pub use script::{play_script, read_hex};
 pub use serial::{MOST_DEPTH, Options, Run, play_streams};
-
-#[cfg(test)]
-mod tests;

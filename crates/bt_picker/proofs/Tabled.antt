@@ -10,6 +10,9 @@ use Rattle.bt_picker.specs.Tables.{edit}
 pub length_table : {A : Type 0} (n : ℕ) (f : ℕ → A) → length (table n f) ≡ n
 length_table n f = length-map-range_with_len f 0 n
 
+pub length_is_table : {A : Type 0} (xs : List A) (n : ℕ) (f : ℕ → A) → xs ≡ table n f → length xs ≡ n
+length_is_table xs n f is = ap length is ∙ length_table n f
+
 pub get_or_table : {A : Type 0} (n : ℕ) (f : ℕ → A) (k : ℕ) (d : A) → k < n → get_or (table n f) k d ≡ f k
 get_or_table n f k d h = get_or-map-range_with_len f 0 n k k d h (omega arith)
 
@@ -133,3 +136,8 @@ rows_more ys n i g f x is lt at = (λ j. set (is j) i (at j)) ∙ upto_more n i 
 
 pub rows_done : {A : Type 0} (ys : List A) (n i : ℕ) (g f : ℕ → A) → ys ≡ table n (upto i g f) → n ≤ i → ys ≡ table n g
 rows_done ys n i g f is le = is ∙ same_table n (upto i g f) g (λ k lt. upto_below i g f k (omega arith))
+
+-- an element that was read, and written back changed
+pub edit_read : {A : Type 0} (xs : List A) (i : ℕ) (f : A → A) (x d : A) → i < length xs → x ≡ get_or xs i d → set xs i (f x) ≡ edit xs i f
+edit_read xs i f x d lt is =
+    ap (λ y. set xs i (f y)) is ∙ edit_set xs i f (get_or xs i d) lt (get_or_default xs i d (get_or xs i d) lt)

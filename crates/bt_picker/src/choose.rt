@@ -1,17 +1,23 @@
 //! What to say to a peer next: strict priority, rarest first, random first piece and endgame (Cohen 2003, "Piece selection"; BEP 3).
-ghost use Rattle.std.specs.Prelude.{◌≡◌, ◌<◌, ◌≤◌, ◌&&◌, ◌||◌, ◌⊎◌, ℕ, Bool, true, false, not, IfSome, IfNone, IsTrue, Some, None, nat_le, nat_lt, Option};
+ghost use Rattle.std.specs.Prelude.{◌≡◌, ◌<◌, ◌≤◌, ◌+◌, ◌&&◌, ◌||◌, ◌⊎◌, ℕ, Bool, true, false, not, length, IfSome, IfNone, IsTrue, Some, None, nat_le, nat_lt, Option};
 ghost use Rattle.bt_meta.specs.declared.block.Block.{Block};
 ghost use Rattle.bt_meta.specs.Layout.{piece_count, block_count, block};
 ghost use Rattle.bt_history.specs.Setting.{each_block, each_block_of, is_block, some_block, some_block_of};
 ghost use Rattle.bt_history.specs.Peers.{asked, asked_count, due, is_open, shows};
-ghost use Rattle.bt_history.specs.Pieces.{availability, endgame, had_count, held, held_or_asked, unasked, wanted};
+ghost use Rattle.bt_history.specs.Pieces.{availability, endgame, had_count, held, held_or_asked, interesting, unasked, wanted};
 ghost use Rattle.bt_history.specs.Next.{continues, doubles, is_candidate, next_answer, starts, usable};
-ghost use Rattle.bt_picker.specs.Search.{Finds, FindsLeast, FindsOf, IsRuling, IsNoWorse, rank_of};
+ghost use Rattle.bt_order.specs.Orders.{at, ListsGroup};
+ghost use Rattle.bt_picker.specs.Standings.{FindsAmong, FindsListed, FindsRarest, groups_of, IsRarer};
+ghost use Rattle.bt_picker.specs.Search.{Finds, FindsLeast, FindsOf, IsRuling, rank_of};
 
+use crate::piece::{ASKED_OUT, CROWD, OPEN, UNBEGUN};
 use crate::position::Position;
 use crate::ruling::Ruling;
 use bt_history::Reply;
 use bt_meta::Block;
+
+/// A walk goes over at most so many pieces for each piece of the group: a step costs far less than a listed piece.
+const WALK: usize = 1;
 
 impl<'a> Position<'a> {
     /// The first block of the piece that is lacking and that nobody is asked for.
@@ -43,17 +49,41 @@ impl<'a> Position<'a> {
     }
 
     /// A block of a begun piece to ask of the peer.
-    #[tactic(auto, using(crate::proofs::Scans::none_in_pieces, crate::proofs::Scans::finds_in_piece))]
     fn continuing(&self, worker: u32) -> Option<Block>
         requires { worker < self.now.setting.workers }
         ensures { Finds self.now.setting.torrent (continues self.now.setting self.now.history worker) result }
     {
-        for piece in 0..self.piece_count() {
-            if let Some(block) = self.continuing_in(worker, piece) {
-                return Some(block);
-            }
+        match self.least_shown(worker, self.group(OPEN)) {
+            Some(piece) => self.continuing_in(worker, piece),
+            None => None,
         }
-        None
+    }
+
+    /// The least of these pieces that the peer shows.
+    fn least_shown(&self, worker: u32, pieces: &[u32]) -> Option<u32>
+        requires worker { worker < self.now.setting.workers }
+        requires pieces { (i : ℕ) → i < length pieces.now → at pieces.now i < piece_count self.now.setting.torrent }
+        ensures { FindsListed (shows self.now.history worker) pieces.now (length pieces.now) result }
+    {
+        let mut least = None;
+        for piece in pieces {
+            least = self.lesser_shown(worker, least, *piece);
+        }
+        least
+    }
+
+    /// The piece, where the peer shows it and it is less than the one found before.
+    fn lesser_shown(&self, worker: u32, found: Option<u32>, piece: u32) -> Option<u32>
+        requires worker { worker < self.now.setting.workers }
+        requires piece { piece < piece_count self.now.setting.torrent }
+        ensures { ((result ≡ Some piece) × IsTrue (shows self.now.history worker piece))
+            ⊎ ((result ≡ found) × (found ≡ None → shows self.now.history worker piece ≡ false)) }
+    {
+        match found {
+            Some(least) if least <= piece => found,
+            _ if self.shows(worker, piece) => Some(piece),
+            _ => found,
+        }
     }
 
     /// Whether the piece may be begun at the peer.
@@ -65,53 +95,128 @@ impl<'a> Position<'a> {
         self.is_wanted(piece) && self.shows(worker, piece) && self.is_unbegun(piece)
     }
 
-    fn rank(&self, rare: bool, piece: u32) -> u32
-        requires { piece < piece_count self.now.setting.torrent }
-        ensures { result ≡ rank_of self.now.setting self.now.history rare piece }
-    {
-        if rare { self.availability(piece) } else { 0 }
-    }
-
-    /// The one of two pieces that comes first: the earlier found where they rank alike.
-    fn first_of(&self, rare: bool, best: Option<u32>, piece: u32) -> u32
-        requires best { (b : ℕ) → best ≡ Some b → b < piece_count self.now.setting.torrent }
-        requires piece { piece < piece_count self.now.setting.torrent }
-        ensures one { (result ≡ piece) ⊎ (best ≡ Some result) }
-        ensures least { rank_of self.now.setting self.now.history rare result
-            ≤ rank_of self.now.setting self.now.history rare piece }
-        ensures no_worse { IsNoWorse (rank_of self.now.setting self.now.history rare) best (Some result) }
-    {
-        match best {
-            Some(best) if self.rank(rare, best) <= self.rank(rare, piece) => best,
-            _ => piece,
-        }
-    }
-
-    /// The first of the candidates from `low` up to `high`, or the one found before where it is no worse.
-    fn candidate_within(
-        &self,
-        worker: u32,
-        rare: bool,
-        low: u32,
-        high: u32,
-        found: Option<u32>,
-    ) -> Option<u32>
+    /// The first of the candidates from `low` up to `high`.
+    fn first_candidate(&self, worker: u32, low: u32, high: u32) -> Option<u32>
         requires worker { worker < self.now.setting.workers }
         requires high { high ≤ piece_count self.now.setting.torrent }
-        requires found { (b : ℕ) → found ≡ Some b → (b < piece_count self.now.setting.torrent)
-            × IsTrue (is_candidate self.now.setting self.now.history worker b) }
-        ensures least { FindsLeast (is_candidate self.now.setting self.now.history worker)
-            (rank_of self.now.setting self.now.history rare) low high result }
-        ensures within { IfSome result (λ p. p < piece_count self.now.setting.torrent) }
-        ensures no_worse { IsNoWorse (rank_of self.now.setting self.now.history rare) found result }
+        ensures some { IfSome result (λ p. (p < piece_count self.now.setting.torrent)
+            × IsTrue (is_candidate self.now.setting self.now.history worker p)) }
+        ensures none { IfNone result ((p : ℕ) → low ≤ p → p < high → is_candidate self.now.setting self.now.history worker p ≡ false) }
     {
-        let mut best = found;
         for piece in low..high {
             if self.is_candidate(worker, piece) {
-                best = Some(self.first_of(rare, best, piece));
+                return Some(piece);
             }
         }
-        best
+        None
+    }
+
+    /// The candidate to begin where the rarest come first.
+    fn rarest(&self, worker: u32, first: u32) -> Option<u32>
+        requires worker { worker < self.now.setting.workers }
+        requires first { first ≤ piece_count self.now.setting.torrent }
+        ensures least { FindsLeast (is_candidate self.now.setting self.now.history worker)
+            (rank_of self.now.setting self.now.history true) 0 (piece_count self.now.setting.torrent) result }
+        ensures within { IfSome result (λ p. p < piece_count self.now.setting.torrent) }
+    {
+        // Read so that the proof has what holds of every position: its torrent has no empty piece.
+        let _layout = &self.tables;
+        let most = self.workers().min(CROWD - 1);
+        for shown_by in 0..most + 1 {
+            let pieces = self.group(UNBEGUN + shown_by);
+            if let Some(piece) = self.nearest_of(worker, UNBEGUN + shown_by, pieces, first) {
+                return Some(piece);
+            }
+        }
+        self.rarest_of(worker, self.group(UNBEGUN + CROWD))
+    }
+
+    /// Of these pieces that the peer shows one that the fewest peers show.
+    fn rarest_of(&self, worker: u32, pieces: &[u32]) -> Option<u32>
+        requires worker { worker < self.now.setting.workers }
+        requires pieces { (i : ℕ) → i < length pieces.now → at pieces.now i < piece_count self.now.setting.torrent }
+        ensures { FindsRarest (shows self.now.history worker) (availability self.now.setting self.now.history)
+            pieces.now (length pieces.now) result }
+    {
+        let mut rarest = None;
+        for piece in pieces {
+            rarest = self.rarer_shown(worker, rarest, *piece);
+        }
+        rarest
+    }
+
+    /// The piece, where the peer shows it and fewer peers show it than the one found before.
+    fn rarer_shown(&self, worker: u32, found: Option<u32>, piece: u32) -> Option<u32>
+        requires worker { worker < self.now.setting.workers }
+        requires piece { piece < piece_count self.now.setting.torrent }
+        requires found { IfSome found (λ p. p < piece_count self.now.setting.torrent) }
+        ensures rarer { IsRarer (shows self.now.history worker) (availability self.now.setting self.now.history) found piece result }
+        ensures within { IfSome result (λ p. p < piece_count self.now.setting.torrent) }
+    {
+        match found {
+            Some(rarest) if self.availability(rarest) <= self.availability(piece) => found,
+            _ if self.shows(worker, piece) => Some(piece),
+            _ => found,
+        }
+    }
+
+    /// Of the pieces of the group that the peer shows the first from this piece on, or else the first of all: in a large group it is
+    /// mostly near. `pieces` are those of the group.
+    fn nearest_of(&self, worker: u32, group: u32, pieces: &[u32], first: u32) -> Option<u32>
+        requires worker { worker < self.now.setting.workers }
+        requires lists { ListsGroup (groups_of self.now.setting self.now.history) group pieces.now }
+        requires first { first ≤ piece_count self.now.setting.torrent }
+        ensures { FindsListed (shows self.now.history worker) pieces.now (length pieces.now) result }
+    {
+        let most = pieces.len().saturating_mul(WALK) as u64;
+        let behind = self.piece_count() - first;
+        let steps = most.min(u64::from(behind)) as u32;
+        match self.walk(worker, group, first, first + steps) {
+            Some(piece) => Some(piece),
+            None => self.nearest_shown(worker, pieces, first),
+        }
+    }
+
+    /// The first piece of the group that the peer shows, from `low` up to `high`.
+    fn walk(&self, worker: u32, group: u32, low: u32, high: u32) -> Option<u32>
+        requires worker { worker < self.now.setting.workers }
+        requires high { high ≤ piece_count self.now.setting.torrent }
+        ensures { IfSome result (λ p. (p < piece_count self.now.setting.torrent)
+            × IsTrue (shows self.now.history worker p) × (at (groups_of self.now.setting self.now.history) p ≡ group)) }
+    {
+        for piece in low..high {
+            if self.group_of(piece) == group && self.shows(worker, piece) {
+                return Some(piece);
+            }
+        }
+        None
+    }
+
+    /// Of these pieces that the peer shows the first from this piece on, or else the first of all.
+    fn nearest_shown(&self, worker: u32, pieces: &[u32], first: u32) -> Option<u32>
+        requires worker { worker < self.now.setting.workers }
+        requires pieces { (i : ℕ) → i < length pieces.now → at pieces.now i < piece_count self.now.setting.torrent }
+        ensures { FindsListed (shows self.now.history worker) pieces.now (length pieces.now) result }
+    {
+        let mut nearest = None;
+        for piece in pieces {
+            nearest = self.nearer_shown(worker, nearest, *piece, first);
+        }
+        nearest
+    }
+
+    /// The piece, where the peer shows it and it comes before the one found before.
+    fn nearer_shown(&self, worker: u32, found: Option<u32>, piece: u32, first: u32) -> Option<u32>
+        requires worker { worker < self.now.setting.workers }
+        requires piece { piece < piece_count self.now.setting.torrent }
+        ensures { ((result ≡ Some piece) × IsTrue (shows self.now.history worker piece))
+            ⊎ ((result ≡ found) × (found ≡ None → shows self.now.history worker piece ≡ false)) }
+    {
+        match found {
+            Some(nearest) if !comes_before(piece, nearest, first) => found,
+            _ if self.shows(worker, piece) => Some(piece),
+            _ => found,
+        }
     }
 
     /// The candidate to begin, if there is one: among those that rank first the first from the piece on that the word picks.
@@ -126,21 +231,21 @@ impl<'a> Position<'a> {
             return None;
         }
         let first = (word % u64::from(count)) as u32;
-        let late = self.candidate_within(worker, rare, first, count, None);
-        self.candidate_within(worker, rare, 0, first, late)
+        if rare {
+            return self.rarest(worker, first);
+        }
+        if let Some(piece) = self.first_candidate(worker, first, count) {
+            return Some(piece);
+        }
+        self.first_candidate(worker, 0, first)
     }
 
     /// How many pieces are had.
+    #[tactic(auto, using(crate::proofs::Rows::had_rows))]
     fn had_count(&self) -> u32
         ensures { result ≡ had_count self.now.setting self.now.history }
     {
-        let mut count = 0;
-        for piece in 0..self.piece_count() {
-            if self.had(piece) {
-                count += 1;
-            }
-        }
-        count
+        self.tables.had_count()
     }
 
     /// Whether a piece may be begun without being a rarest one: while too few are had.
@@ -207,77 +312,54 @@ impl<'a> Position<'a> {
         None
     }
 
+    /// The block found in the piece, where the piece comes before the block found before, or else that one.
+    fn lesser_doubling(&self, worker: u32, found: Option<Block>, piece: u32) -> Option<Block>
+        requires worker { worker < self.now.setting.workers }
+        requires piece { piece < piece_count self.now.setting.torrent }
+        requires found { IfSome found (λ b. IsTrue (is_block self.now.setting.torrent b)
+            × IsTrue (doubles self.now.setting self.now.history worker b)) }
+        ensures some { IfSome result (λ b. IsTrue (is_block self.now.setting.torrent b)
+            × IsTrue (doubles self.now.setting self.now.history worker b)) }
+        ensures none { IfNone result ((found ≡ None)
+            × (some_block_of self.now.setting.torrent piece (doubles self.now.setting self.now.history worker) ≡ false)) }
+    {
+        match found {
+            Some(least) if least.piece <= piece => found,
+            _ => match self.doubling_in(worker, piece) {
+                Some(block) => Some(block),
+                None => found,
+            },
+        }
+    }
+
     /// A block to ask of the peer too, though another may have been asked for it.
-    #[tactic(auto, using(crate::proofs::Scans::none_in_pieces))]
     fn doubling(&self, worker: u32) -> Option<Block>
-        requires { worker < self.now.setting.workers }
+        requires worker { worker < self.now.setting.workers }
+        requires endgame { IsTrue (endgame self.now.setting self.now.history) }
         ensures { Finds self.now.setting.torrent (doubles self.now.setting self.now.history worker) result }
     {
-        for piece in 0..self.piece_count() {
-            if let Some(block) = self.doubling_in(worker, piece) {
-                return Some(block);
-            }
-        }
-        None
+        // Read so that the proof has what holds of every position: its history is legal.
+        let _legal = &self.tables;
+        self.least_doubling(worker, self.group(ASKED_OUT))
     }
 
-    /// Whether each block of the piece is held or asked, if the piece is wanted.
-    #[tactic(auto, using(crate::proofs::Scans::asked_out_found, crate::proofs::Scans::asked_out_fails))]
-    fn is_asked_out(&self, piece: u32) -> bool
-        requires { piece < piece_count self.now.setting.torrent }
-        ensures { result ≡ each_block_of self.now.setting.torrent piece (λ b.
-            not (wanted self.now.setting self.now.history b.piece) || held_or_asked self.now.setting self.now.history b) }
+    /// A block of these pieces to ask of the peer too: of the least such piece.
+    fn least_doubling(&self, worker: u32, pieces: &[u32]) -> Option<Block>
+        requires worker { worker < self.now.setting.workers }
+        requires pieces { (i : ℕ) → i < length pieces.now → at pieces.now i < piece_count self.now.setting.torrent }
+        ensures { FindsAmong self.now.setting.torrent (doubles self.now.setting self.now.history worker) pieces.now (length pieces.now) result }
     {
-        for index in 0..self.block_count(piece) {
-            if self.is_wanted(piece) && !self.is_held_or_asked(piece, index) {
-                return false;
-            }
+        let mut least = None;
+        for piece in pieces {
+            least = self.lesser_doubling(worker, least, *piece);
         }
-        true
-    }
-
-    /// Whether some block of the piece is lacking, and the piece is wanted.
-    #[tactic(auto, using(crate::proofs::Scans::lacking_piece))]
-    fn is_lacking(&self, piece: u32) -> bool
-        requires { piece < piece_count self.now.setting.torrent }
-        ensures { result ≡ some_block_of self.now.setting.torrent piece (λ b.
-            wanted self.now.setting self.now.history b.piece && not (held self.now.history b)) }
-    {
-        self.is_wanted(piece) && !self.is_full(piece)
-    }
-
-    /// Whether every wanted block that is lacking is asked of somebody.
-    #[tactic(auto, using(crate::proofs::Scans::all_asked_found, crate::proofs::Scans::all_asked_fails))]
-    fn is_all_asked(&self) -> bool
-        ensures { result ≡ each_block self.now.setting.torrent (λ b.
-            not (wanted self.now.setting self.now.history b.piece) || held_or_asked self.now.setting self.now.history b) }
-    {
-        for piece in 0..self.piece_count() {
-            if !self.is_asked_out(piece) {
-                return false;
-            }
-        }
-        true
-    }
-
-    /// Whether some block of a wanted piece is lacking.
-    #[tactic(auto, using(crate::proofs::Scans::some_lacking, crate::proofs::Scans::none_in_pieces))]
-    fn has_lacking(&self) -> bool
-        ensures { result ≡ some_block self.now.setting.torrent (λ b.
-            wanted self.now.setting self.now.history b.piece && not (held self.now.history b)) }
-    {
-        for piece in 0..self.piece_count() {
-            if self.is_lacking(piece) {
-                return true;
-            }
-        }
-        false
+        least
     }
 
     fn is_endgame(&self) -> bool
         ensures { result ≡ endgame self.now.setting self.now.history }
     {
-        self.is_all_asked() && self.has_lacking()
+        self.tables.unasked() == 0 && self.tables.unheld() > 0
     }
 
     /// In endgame, a block to ask of the peer too.
@@ -293,6 +375,31 @@ impl<'a> Position<'a> {
             self.doubling(worker)
         } else {
             None
+        }
+    }
+
+    /// One of these pieces that the peer shows.
+    fn some_shown(&self, worker: u32, pieces: &[u32]) -> Option<u32>
+        requires worker { worker < self.now.setting.workers }
+        requires pieces { (i : ℕ) → i < length pieces.now → at pieces.now i < piece_count self.now.setting.torrent }
+        ensures { IfSome result (λ p. FindsListed (shows self.now.history worker) pieces.now (length pieces.now) (Some p)) }
+    {
+        for piece in pieces {
+            if self.shows(worker, *piece) {
+                return Some(*piece);
+            }
+        }
+        None
+    }
+
+    /// Whether the peer shows a wanted piece that isn't had: where nothing is asked of it, it is mostly one whose blocks are all asked.
+    fn is_idle(&self, worker: u32) -> bool
+        requires { worker < self.now.setting.workers }
+        ensures { result ≡ interesting self.now.setting self.now.history worker }
+    {
+        match self.some_shown(worker, self.group(ASKED_OUT)) {
+            Some(_) => true,
+            None => self.is_interesting(worker),
         }
     }
 
@@ -314,7 +421,7 @@ impl<'a> Position<'a> {
         if let Some(block) = self.asking_again(worker) {
             return Ruling::Doubling(block);
         }
-        if self.is_interesting(worker) {
+        if self.is_idle(worker) {
             Ruling::Just(Reply::Idle)
         } else {
             Ruling::Just(Reply::NothingLeft)
@@ -357,5 +464,14 @@ impl<'a> Position<'a> {
             return Ruling::Just(Reply::PipeFull);
         }
         self.next_request(worker, word)
+    }
+}
+
+/// Whether a piece comes before another one, from this piece on and then from the first of all.
+fn comes_before(piece: u32, other: u32, first: u32) -> bool {
+    if (piece < first) == (other < first) {
+        piece < other
+    } else {
+        piece >= first
     }
 }

@@ -9,12 +9,12 @@ mod desk;
 mod jobs;
 mod peer;
 mod piece;
+mod pieces;
 mod position;
 mod refuse;
 mod ruling;
+mod shelf;
 mod tables;
-#[cfg(test)]
-mod tests;
 mod unread;
 
 pub use auditing::{AuditFault, audit};

@@ -1,5 +1,6 @@
-ghost use Rattle.std.specs.Prelude.{◌≡◌, ◌<◌, ◌≤◌, ◌+◌, ◌-◌, ◌^◌, length, slice_index_or, IfOk, Bool, true, false, replicate};
-ghost use Rattle.bt_picker.specs.Tables.{PieceState, edit, empty_cell, failed_row, fresh_piece, had_row, less_available, more_available, one_less, one_more, stored_row};
+ghost use Rattle.std.specs.Prelude.{◌≡◌, ◌<◌, ◌≤◌, ◌+◌, ◌-◌, ◌^◌, ◌==◌, nat_lt, length, slice_index_or, slice_set, IfOk, Bool, true, false, replicate};
+ghost use Rattle.bt_picker.specs.Tables.{HasRoomOf, PieceState, changed_row, edit, empty_cell, failed_row, fresh_piece, less_available, more_available, one_if, one_less, one_more, stored_row};
+ghost use Rattle.bt_picker.specs.Standings.{is_held, is_touched, held_count, touched_count, group_of_row, standing_of};
 
 use std::alloc::{AllocError, Global};
 use std::marker::Model;
@@ -12,25 +13,99 @@ pub struct Cell {
     pub askers: u32,
 }
 
-/// What is kept of a piece: whether it is had, how many joined peers show it, and a cell for each of its blocks, in order, so that a
-/// block is found by its place. Whether it is full or begun isn't kept: the cells say it. The rows stand by the piece's number.
+impl Cell {
+    pub fn is_held(self) -> bool
+        ensures { result ≡ is_held self }
+    {
+        self.stored_at.is_some()
+    }
+
+    /// Whether the block is held, or asked of somebody.
+    pub fn is_touched(self) -> bool
+        ensures { result ≡ is_touched self }
+    {
+        self.stored_at.is_some() || self.askers > 0
+    }
+}
+
+/// A change of what is kept of a piece. Blocks are counted from the front of the piece.
+#[derive(Clone, Copy, Debug, PartialEq, Eq)]
+pub enum Change {
+    /// One peer more is asked for the block.
+    Raise(u32),
+    /// One peer less is asked for the block, where the piece has so many.
+    Lower(u32),
+    /// The block was stored by the entry at this place of the journal, so it is asked of nobody.
+    Store(u32, usize),
+    /// A peer that showed the piece, or did not, shows it now, or does not.
+    Recount { shown: bool, shows: bool },
+    /// A check found the right hash.
+    Pass,
+    /// A check found another hash: no block is held.
+    Fail,
+    /// The piece is wanted from now on, or isn't.
+    Wanted(bool),
+}
+
+/// What a piece amounts to among the others: its group, how many of its blocks are unasked and how many aren't held, if it is wanted, and
+/// whether it is had.
+#[derive(Clone, Copy, Debug, PartialEq, Eq)]
+pub struct Standing {
+    pub group: u32,
+    pub unasked: u32,
+    pub unheld: u32,
+    pub had: bool,
+}
+
+impl Standing {
+    /// That of no piece.
+    pub const NONE: Standing = Standing {
+        group: 0,
+        unasked: 0,
+        unheld: 0,
+        had: false,
+    };
+}
+
+/// The group of the pieces of which nothing is to be asked: those that are had, full, or not wanted.
+pub const RESTING: u32 = 0;
+/// The group of the begun pieces whose lacking blocks are all asked.
+pub const ASKED_OUT: u32 = 1;
+/// The group of the begun pieces with an unasked block.
+pub const OPEN: u32 = 2;
+/// The group of the unbegun pieces that nobody shows; those that n peers show are n groups behind it.
+pub const UNBEGUN: u32 = 3;
+/// Unbegun pieces that so many peers show, or more, are one group: a desk has fewer workers, but a journal of more can be audited.
+pub const CROWD: u32 = 1025;
+/// So many groups there are.
+pub const GROUPS: u32 = UNBEGUN + CROWD + 1;
+
+/// What is kept of a piece: whether it is had and wanted, how many joined peers show it, and a cell for each of its blocks, in order, so
+/// that a block is found by its place. Of the blocks it counts those that are held, and those that are held or asked, so that whether the
+/// piece is full or begun is one look. The rows stand by the piece's number.
 #[derive(Drop)]
 pub struct Piece {
     had: bool,
+    wanted: bool,
     availability: u32,
+    held: u32,
+    touched: u32,
     blocks: Vec<Cell>,
 }
 
 impl Model for Piece {
     ghost use Rattle.bt_picker.specs.Tables.{PieceState};
+    ghost use Rattle.bt_picker.specs.Standings.{AreCounts};
 
     ghost Value = { PieceState };
 
-    ghost view = { λ p. record { had = p.had; availability = p.availability; blocks = p.blocks.items } };
+    ghost view = { λ p. record { had = p.had; wanted = p.wanted; availability = p.availability; blocks = p.blocks.items } };
+
+    ghost invariant = { λ p. AreCounts p.held p.touched p.blocks.items };
 }
 
 impl Piece {
-    /// A piece of so many blocks, none held or asked, that nobody shows.
+    /// A wanted piece of so many blocks, none held or asked, that nobody shows.
     pub fn new(alloc: Global, blocks: u32) -> Result<Piece, AllocError>
         ensures { IfOk result (λ piece. piece ≡ fresh_piece blocks) }
     {
@@ -40,15 +115,78 @@ impl Piece {
         };
         Ok(Piece {
             had: false,
+            wanted: true,
             availability: 0,
+            held: 0,
+            touched: 0,
             blocks: vec![in alloc; empty; blocks as usize]?,
         })
+    }
+
+    /// What the row amounts to.
+    pub fn standing(&self) -> Standing
+        ensures is { result ≡ standing_of self.now }
+        ensures few { result.group < 1029 }
+    {
+        let blocks = if self.wanted {
+            self.blocks.len() as u32
+        } else {
+            0
+        };
+        Standing {
+            group: self.group(),
+            unasked: blocks.saturating_sub(self.touched),
+            unheld: blocks.saturating_sub(self.held),
+            had: self.had,
+        }
+    }
+
+    fn group(&self) -> u32
+        ensures is { result ≡ group_of_row self.now }
+        ensures few { result < 1029 }
+    {
+        if self.had || !self.wanted || self.is_full() {
+            RESTING
+        } else if self.touched == 0 {
+            UNBEGUN + self.availability.min(CROWD)
+        } else if self.touched == self.blocks.len() as u32 {
+            ASKED_OUT
+        } else {
+            OPEN
+        }
+    }
+
+    /// Whether each block is held.
+    pub fn is_full(&self) -> bool
+        ensures { result ≡ (held_count self.now.blocks == length self.now.blocks) }
+    {
+        self.held == self.blocks.len() as u32
+    }
+
+    /// Whether each block but one is held.
+    pub fn lacks_one(&self) -> bool
+        ensures { result ≡ (held_count self.now.blocks + 1 == length self.now.blocks) }
+    {
+        self.blocks.len() as u32 - self.held == 1
+    }
+
+    /// Whether some block is held or asked.
+    pub fn is_touched(&self) -> bool
+        ensures { result ≡ nat_lt 0 (touched_count self.now.blocks) }
+    {
+        self.touched > 0
     }
 
     pub fn is_had(&self) -> bool
         ensures { result ≡ self.now.had }
     {
         self.had
+    }
+
+    pub fn is_wanted(&self) -> bool
+        ensures { result ≡ self.now.wanted }
+    {
+        self.wanted
     }
 
     pub fn availability(&self) -> u32
@@ -64,35 +202,54 @@ impl Piece {
         self.blocks[index as usize]
     }
 
-    /// A check found the right hash.
-    pub fn pass(&mut self)
-        ensures { self.new ≡ had_row self.old }
+    /// Changes the row.
+    pub fn apply(&mut self, change: Change)
+        requires { HasRoomOf change self.old }
+        ensures { self.new ≡ changed_row change self.old }
     {
-        self.had = true;
+        match change {
+            Change::Raise(index) => self.raise(index),
+            Change::Lower(index) => self.lower(index),
+            Change::Store(index, place) => self.store(index, place),
+            Change::Recount { shown, shows } => self.recount(shown, shows),
+            Change::Pass => self.had = true,
+            Change::Fail => self.fail(),
+            Change::Wanted(wanted) => self.wanted = wanted,
+        }
     }
 
     /// A check found another hash: no block is held.
-    pub fn fail(&mut self)
+    fn fail(&mut self)
         ensures { self.new ≡ failed_row self.old }
     {
-        for cell in self.blocks.iter_mut() {
-            cell.stored_at = None;
+        for index in 0..self.blocks.len() as u32 {
+            let cell = self.blocks[index as usize];
+            self.put(
+                index,
+                Cell {
+                    stored_at: None,
+                    askers: cell.askers,
+                },
+            );
         }
     }
 
     /// The block was stored by the entry at this place, so it is asked of nobody.
-    pub fn store(&mut self, index: u32, place: usize)
+    fn store(&mut self, index: u32, place: usize)
         requires { index < length self.old.blocks }
         ensures { self.new ≡ stored_row index place self.old }
     {
-        self.blocks[index as usize] = Cell {
-            stored_at: Some(place),
-            askers: 0,
-        };
+        self.put(
+            index,
+            Cell {
+                stored_at: Some(place),
+                askers: 0,
+            },
+        );
     }
 
     /// One peer more is asked for the block.
-    pub fn raise(&mut self, index: u32)
+    fn raise(&mut self, index: u32)
         requires index { index < length self.old.blocks }
         requires few { (slice_index_or self.old.blocks index empty_cell).askers + 1 < 2 ^ 32 }
         ensures { self.new ≡ record self.old {
@@ -100,33 +257,69 @@ impl Piece {
               (λ cell. record { stored_at = cell.stored_at; askers = cell.askers + 1 });
         } }
     {
-        let cell = &mut self.blocks[index as usize];
-        cell.askers += 1;
+        let cell = self.cell(index);
+        self.put(
+            index,
+            Cell {
+                stored_at: cell.stored_at,
+                askers: cell.askers + 1,
+            },
+        );
     }
 
     /// One peer less is asked for the block, where the piece has so many.
-    pub fn lower(&mut self, index: u32)
+    fn lower(&mut self, index: u32)
         ensures { self.new ≡ record self.old {
           blocks = edit self.old.blocks index
               (λ cell. record { stored_at = cell.stored_at; askers = cell.askers - 1 });
         } }
     {
         if (index as usize) < self.blocks.len() {
-            let cell = &mut self.blocks[index as usize];
-            cell.askers = cell.askers.saturating_sub(1);
+            let cell = self.cell(index);
+            self.put(
+                index,
+                Cell {
+                    stored_at: cell.stored_at,
+                    askers: cell.askers.saturating_sub(1),
+                },
+            );
         }
     }
 
-    /// A peer that showed the piece, or did not, shows it now, or does not.
-    pub fn recount(&mut self, before: bool, after: bool)
-        requires { (more_available after (less_available before self.old)).availability < 2 ^ 32 }
-        ensures { self.new ≡ more_available after (less_available before self.old) }
+    /// The block's cell is this now.
+    fn put(&mut self, index: u32, cell: Cell)
+        requires { index < length self.old.blocks }
+        ensures { self.new ≡ record self.old { blocks = slice_set self.old.blocks index cell } }
     {
-        if before {
+        let old = self.blocks[index as usize];
+        self.held = moved(self.held, old.is_held(), cell.is_held());
+        self.touched = moved(self.touched, old.is_touched(), cell.is_touched());
+        self.blocks[index as usize] = cell;
+    }
+
+    /// A peer that showed the piece, or did not, shows it now, or does not.
+    fn recount(&mut self, shown: bool, shows: bool)
+        requires { (more_available shows (less_available shown self.old)).availability < 2 ^ 32 }
+        ensures { self.new ≡ more_available shows (less_available shown self.old) }
+    {
+        if shown {
             self.availability = self.availability.saturating_sub(1);
         }
-        if after {
+        if shows {
             self.availability += 1;
         }
+    }
+}
+
+/// A count once what was counted, or wasn't, is counted, or isn't.
+fn moved(count: u32, before: bool, after: bool) -> u32
+    requires some { one_if before ≤ count }
+    requires room { count + one_if after < 2 ^ 32 + one_if before }
+    ensures { result + one_if before ≡ count + one_if after }
+{
+    match (before, after) {
+        (true, false) => count - 1,
+        (false, true) => count + 1,
+        _ => count,
     }
 }

@@ -7,6 +7,8 @@ ghost use Rattle.bt_history.specs.Setting.{is_block, some_block_of};
 ghost use Rattle.bt_history.specs.History.{same_place};
 ghost use Rattle.bt_history.specs.Peers.{joined, late, shows, is_open, outstanding, asked, due, dues, flag};
 ghost use Rattle.bt_history.specs.Pieces.{availability, asked_of_some, begun, full, had, held, held_or_asked, interesting, kept, lacks, unbegun, wanted};
+ghost use Rattle.bt_order.specs.Orders.{at, ListsGroup};
+ghost use Rattle.bt_picker.specs.Standings.{groups_of};
 ghost use Rattle.bt_picker.specs.Tables.{AreTables, cell_of, peer_of, piece_of, place};
 
 use crate::peer::Peer;
@@ -93,18 +95,34 @@ impl<'a> Position<'a> {
         self.torrent().block(piece, index)
     }
 
-    fn peer(&self, worker: u32) -> &Peer
+    pub(crate) fn peer(&self, worker: u32) -> &Peer
         requires { worker < self.now.setting.workers }
         ensures { result.now ≡ peer_of self.now.setting self.now.history worker }
     {
         self.tables.peer(worker)
     }
 
-    fn piece(&self, piece: u32) -> &Piece
+    pub(crate) fn piece(&self, piece: u32) -> &Piece
         requires { piece < piece_count self.now.setting.torrent }
         ensures { result.now ≡ piece_of self.now.setting self.now.history piece }
     {
         self.tables.piece(piece)
+    }
+
+    /// The pieces of the group.
+    pub(crate) fn group(&self, group: u32) -> &[u32]
+        requires { group < 1029 }
+        ensures { ListsGroup (groups_of self.now.setting self.now.history) group result.now }
+    {
+        self.tables.group(group)
+    }
+
+    /// The group of the piece.
+    pub(crate) fn group_of(&self, piece: u32) -> u32
+        requires { piece < piece_count self.now.setting.torrent }
+        ensures { result ≡ at (groups_of self.now.setting self.now.history) piece }
+    {
+        self.tables.group_of(piece)
     }
 
     fn cell(&self, piece: u32, index: u32) -> Cell
@@ -212,31 +230,19 @@ impl<'a> Position<'a> {
     }
 
     /// Whether each block of the piece is held.
-    #[tactic(auto, using(crate::proofs::Scans::full_fails, crate::proofs::Scans::full_found))]
     pub fn is_full(&self, piece: u32) -> bool
         requires { piece < piece_count self.now.setting.torrent }
         ensures { result ≡ full self.now.setting self.now.history piece }
     {
-        for index in 0..self.block_count(piece) {
-            if !self.holds(piece, index) {
-                return false;
-            }
-        }
-        true
+        self.piece(piece).is_full()
     }
 
     /// Whether some block of the piece is held or asked.
-    #[tactic(auto, using(crate::proofs::Scans::touched_found, crate::proofs::Scans::touched_none))]
     fn is_touched(&self, piece: u32) -> bool
         requires { piece < piece_count self.now.setting.torrent }
         ensures { result ≡ some_block_of self.now.setting.torrent piece (held_or_asked self.now.setting self.now.history) }
     {
-        for index in 0..self.block_count(piece) {
-            if self.is_held_or_asked(piece, index) {
-                return true;
-            }
-        }
-        false
+        self.piece(piece).is_touched()
     }
 
     pub fn is_begun(&self, piece: u32) -> bool
@@ -258,7 +264,7 @@ impl<'a> Position<'a> {
         requires { piece < piece_count self.now.setting.torrent }
         ensures { result ≡ wanted self.now.setting self.now.history piece }
     {
-        self.tables.is_chosen(piece)
+        self.piece(piece).is_wanted()
     }
 
     /// Whether the worker's peer shows a wanted piece that isn't had.

@@ -1,34 +1,36 @@
-ghost use Rattle.std.specs.Prelude.{◌≡◌, ◌<◌, ◌≤◌, ◌+◌, ◌^◌, ◌*◌, ◌/◌, ◌==◌, ◌∷◌, [], ℕ, Bool, true, false, length, replicate, slice_index_or, not, IfOk, Some, IsTrue, EachIndex, unwrap_or};
+ghost use Rattle.std.specs.Prelude.{◌≡◌, ◌<◌, ◌≤◌, ◌+◌, ◌^◌, ◌*◌, ◌/◌, ◌==◌, ◌∷◌, [], ℕ, Bool, false, length, map, slice_index_or, not, IfOk, Some, IsTrue, EachIndex, unwrap_or};
 ghost use Rattle.bt_meta.specs.Layout.{block_count, piece_count, block_size};
 ghost use Rattle.std.specs.Option.{option_copied};
+ghost use Rattle.std.specs.List.{count_by, sum_by};
+ghost use Rattle.bt_order.specs.Orders.{at, ListsGroup};
+ghost use Rattle.bt_picker.specs.Standings.{group_of_row, standing_of};
 ghost use Rattle.bt_history.specs.Setting.{setting_of};
 ghost use Rattle.bt_history.specs.Entries.{event, history_of};
 ghost use Rattle.bt_history.specs.Legal.{IsAllowed};
 ghost use Rattle.bt_history.specs.History.{stores};
 ghost use Rattle.bt_meta.specs.declared.block.Block.{Block};
-ghost use Rattle.bt_history.specs.Counting.{table};
-ghost use Rattle.bt_picker.specs.Tables.{AreCounted, AreTables, HasBlock, HasRoomFor, bits_row, leave_row, PeerState, PieceState, TablesState, after_arrival, after_check, after_next, announced, cancel_row, late_row, empty_cell, entered_call, fresh_peer, fresh_piece, have_row, join_row, choke_row, unchoke_row, less_available, lowered, lowered_by, more_available, peer_row, piece_row, recounted, released, reshown, rewanted, with_block, with_peer, without_block};
+ghost use Rattle.bt_history.specs.Counting.{count_below, table};
+ghost use Rattle.bt_picker.specs.Tables.{AreAskers, AreCounted, AreTables, asks_at, HasBlock, HasRoomFor, bits_row, leave_row, PeerState, PieceState, TablesState, after_arrival, after_check, after_next, announced, cancel_row, late_row, empty_cell, entered_call, fresh_peer, fresh_piece, have_row, join_row, choke_row, unchoke_row, less_available, lowered, lowered_by, more_available, peer_row, piece_row, recounted, released, reshown, rewanted, wanted_by, with_block, with_peer, without_block};
 
-use crate::peer::{Peer, copy_flags};
-use crate::piece::Piece;
+use crate::peer::Peer;
+use crate::piece::{Change, Piece};
+use crate::pieces::Pieces;
 use bt_history::{Call, Entry, Reply, Rules};
 use bt_meta::{BLOCK_SIZE, Bitfield, Block, Torrent};
 use std::alloc::{AllocError, Global};
 use std::marker::Model;
 use std::sync::Arc;
 
-/// A row for each worker's peer, by the worker's number, a row for each piece, by the piece's, and the newest Want, as a flag for each
-/// piece: what the picker answers from, so that it never reads the journal but for the bytes of held blocks. Nothing is ordered by
-/// rarity or by what is begun: such questions go over the rows. Beside the journal that they tell of the tables make a `Position`, which
-/// answers by the definitions.
+/// A row for each worker's peer, by the worker's number, and the rows of all pieces: what the picker answers from, so that it never reads
+/// the journal but for the bytes of held blocks. Beside the journal that they tell of the tables make a `Position`, which answers by the
+/// definitions.
 #[derive(Drop)]
 pub struct Tables {
     torrent: Arc<Torrent>,
     workers: u32,
     rules: Rules,
     peers: Vec<Peer>,
-    pieces: Vec<Piece>,
-    wanted: Vec<bool>,
+    pieces: Pieces,
 }
 
 impl Model for Tables {
@@ -40,8 +42,7 @@ impl Model for Tables {
     ghost view = { λ t. record {
       setting = setting_of t.torrent.value.layout t.workers t.rules;
       peers = t.peers.items;
-      pieces = t.pieces.items;
-      wanted = t.wanted.items;
+      pieces = t.pieces;
     } };
 }
 
@@ -57,17 +58,14 @@ impl Tables {
         ensures setting { IfOk result (λ t. t.setting ≡ setting_of torrent.value.layout workers rules) }
         ensures are { IfOk result (λ t. AreTables t []) }
     {
-        let count = torrent.piece_count();
-        let peers = new_peers(alloc, workers, count)?;
-        let pieces = new_pieces(alloc, &torrent)?;
-        let wanted = all_wanted(alloc, count)?;
+        let peers = new_peers(alloc, workers, torrent.piece_count())?;
+        let pieces = Pieces::new(alloc, &torrent)?;
         Ok(Tables {
             torrent,
             workers,
             rules,
             peers,
             pieces,
-            wanted,
         })
     }
 
@@ -101,15 +99,44 @@ impl Tables {
         requires { piece < length self.now.pieces }
         ensures { result.now ≡ piece_row self.now.pieces piece }
     {
-        &self.pieces[piece as usize]
+        self.pieces.row(piece)
     }
 
-    /// Whether the newest Want has the piece, or there is none.
-    pub fn is_chosen(&self, piece: u32) -> bool
-        requires { piece < length self.now.wanted }
-        ensures { result ≡ slice_index_or self.now.wanted piece false }
+    /// The pieces of the group.
+    pub fn group(&self, group: u32) -> &[u32]
+        requires { group < 1029 }
+        ensures { ListsGroup (map group_of_row self.now.pieces) group result.now }
     {
-        self.wanted[piece as usize]
+        self.pieces.group(group)
+    }
+
+    /// The group of the piece.
+    pub fn group_of(&self, piece: u32) -> u32
+        requires { piece < length self.now.pieces }
+        ensures { result ≡ at (map group_of_row self.now.pieces) piece }
+    {
+        self.pieces.group_of(piece)
+    }
+
+    /// How many blocks are unasked.
+    pub fn unasked(&self) -> u64
+        ensures { result ≡ sum_by (λ row. (standing_of row).unasked) self.now.pieces }
+    {
+        self.pieces.unasked()
+    }
+
+    /// How many blocks aren't held.
+    pub fn unheld(&self) -> u64
+        ensures { result ≡ sum_by (λ row. (standing_of row).unheld) self.now.pieces }
+    {
+        self.pieces.unheld()
+    }
+
+    /// How many pieces are had.
+    pub fn had_count(&self) -> u32
+        ensures { result ≡ count_by (λ row. row.had) self.now.pieces }
+    {
+        self.pieces.had()
     }
 
     /// Enters one more entry: `older` is the journal before it.
@@ -196,7 +223,11 @@ impl Tables {
         ensures { self.new ≡ announced self.old worker piece }
     {
         let is_new = !self.peers[worker as usize].shows(piece);
-        self.pieces[piece as usize].recount(false, is_new);
+        let change = Change::Recount {
+            shown: false,
+            shows: is_new,
+        };
+        self.pieces.apply(piece, change);
         self.peers[worker as usize].put_have(piece);
     }
 
@@ -228,7 +259,8 @@ impl Tables {
         ensures { self.new ≡ after_next self.old worker (Reply.Request block) }
     {
         self.peers[worker as usize].ask(block);
-        self.pieces[block.piece as usize].raise(block.begin / BLOCK_SIZE);
+        self.pieces
+            .apply(block.piece, Change::Raise(block.begin / BLOCK_SIZE));
     }
 
     fn cancel(&mut self, worker: u32, block: Block)
@@ -243,18 +275,21 @@ impl Tables {
         requires worker { worker < length self.old.peers }
         requires stored { HasBlock self.old piece index }
         requires begin { block_size * index < 2 ^ 32 }
+        requires askers { AreAskers self.old piece index }
         requires room { EachIndex self.old.peers
             (λ q. length (peer_row self.old.peers q).asked + length (peer_row self.old.peers q).due ≤ 64) }
         ensures { self.new ≡ with_block self.old worker piece index older }
     {
-        forget_all(&mut self.peers, worker, piece, BLOCK_SIZE * index);
-        self.pieces[piece as usize].store(index, older);
+        let askers = self.pieces.row(piece).cell(index).askers;
+        forget(&mut self.peers, worker, piece, BLOCK_SIZE * index, askers);
+        self.pieces.apply(piece, Change::Store(index, older));
     }
 
     /// Puts an arrival in, where so many entries are older than it.
     fn put_arrival(&mut self, worker: u32, piece: u32, begin: u32, older: usize, reply: Reply)
         requires worker { worker < length self.old.peers }
         requires stored { IsTrue (stores reply) → HasBlock self.old piece (begin / block_size) }
+        requires askers { IsTrue (stores reply) → AreAskers self.old piece (begin / block_size) }
         requires room { EachIndex self.old.peers
             (λ q. length (peer_row self.old.peers q).asked + length (peer_row self.old.peers q).due ≤ 64) }
         ensures { self.new ≡ after_arrival self.old worker piece begin older reply }
@@ -277,21 +312,20 @@ impl Tables {
         ensures { self.new ≡ after_check self.old piece reply }
     {
         match reply {
-            Reply::Had => self.pieces[piece as usize].pass(),
-            _ => self.pieces[piece as usize].fail(),
+            Reply::Had => self.pieces.apply(piece, Change::Pass),
+            _ => self.pieces.apply(piece, Change::Fail),
         }
     }
 
     fn put_want(&mut self, flags: &Bitfield)
-        requires { length flags.now ≡ length self.old.wanted }
         ensures { self.new ≡ rewanted self.old flags.now }
     {
-        copy_flags(&mut self.wanted, flags);
+        rewant(&mut self.pieces, flags);
     }
 }
 
 /// Frees the blocks of the line: one peer less is asked for each.
-fn lower_all(pieces: &mut [Piece], line: &[Block])
+fn lower_all(pieces: &mut Pieces, line: &[Block])
     ensures { pieces.new ≡ lowered_by line.now pieces.old }
 {
     for block in line {
@@ -300,21 +334,34 @@ fn lower_all(pieces: &mut [Piece], line: &[Block])
 }
 
 /// One peer less is asked for the block.
-fn lower(pieces: &mut [Piece], block: Block)
+fn lower(pieces: &mut Pieces, block: Block)
     ensures { pieces.new ≡ lowered block pieces.old }
 {
     if (block.piece as usize) < pieces.len() {
-        pieces[block.piece as usize].lower(block.begin / BLOCK_SIZE);
+        pieces.apply(block.piece, Change::Lower(block.begin / BLOCK_SIZE));
     }
 }
 
 /// A peer that showed the pieces of `before` shows those of `after` in their place, or none.
-fn recount(pieces: &mut [Piece], before: &[bool], after: Option<&Bitfield>)
+fn recount(pieces: &mut Pieces, before: &[bool], after: Option<&Bitfield>)
     requires { AreCounted (recounted pieces.old before.now (unwrap_or (option_copied after) [])) }
     ensures { pieces.new ≡ recounted pieces.old before.now (unwrap_or (option_copied after.entry) []) }
 {
-    for index in 0..pieces.len() {
-        pieces[index].recount(is_set(before, index), flag_at(after, index));
+    for piece in 0..pieces.len() as u32 {
+        let change = Change::Recount {
+            shown: is_set(before, piece as usize),
+            shows: flag_at(after, piece as usize),
+        };
+        pieces.apply(piece, change);
+    }
+}
+
+/// Just the pieces with their flag set are wanted.
+fn rewant(pieces: &mut Pieces, flags: &Bitfield)
+    ensures { pieces.new ≡ wanted_by flags.now pieces.old }
+{
+    for piece in 0..pieces.len() as u32 {
+        pieces.apply(piece, Change::Wanted(flag_at(Some(flags), piece as usize)));
     }
 }
 
@@ -330,6 +377,21 @@ fn flag_at(flags: Option<&Bitfield>, index: usize) -> bool
     match flags {
         Some(flags) => index < flags.count() as usize && flags.has(index as u32),
         None => false,
+    }
+}
+
+/// Tells the rows that the block at this place was stored, brought by the worker's own peer, where so many peers are asked for it:
+/// the own row alone, where no other peer is.
+fn forget(peers: &mut [Peer], worker: u32, piece: u32, begin: u32, askers: u32)
+    requires worker { worker < length peers.old }
+    requires askers { askers ≡ count_below (length peers.old) (λ q. asks_at piece begin (peer_row peers.old q)) }
+    requires room { EachIndex peers.old (λ q. length (peer_row peers.old q).asked + length (peer_row peers.old q).due ≤ 64) }
+    ensures { peers.new ≡ table (length peers.old) (λ q. without_block piece begin (worker == q) (peer_row peers.old q)) }
+{
+    if askers > u32::from(peers[worker as usize].asks(piece, begin)) {
+        forget_all(peers, worker, piece, begin);
+    } else {
+        peers[worker as usize].forget(piece, begin, true);
     }
 }
 
@@ -351,21 +413,4 @@ fn new_peers(alloc: Global, workers: u32, pieces: u32) -> Result<Vec<Peer>, Allo
         peers.push(Peer::new(alloc, pieces)?)?;
     }
     Ok(peers)
-}
-
-fn all_wanted(alloc: Global, pieces: u32) -> Result<Vec<bool>, AllocError>
-    ensures { IfOk result (λ flags. flags.items ≡ replicate pieces true) }
-{
-    vec![in alloc; true; pieces as usize]
-}
-
-fn new_pieces(alloc: Global, torrent: &Torrent) -> Result<Vec<Piece>, AllocError>
-    ensures { IfOk result (λ pieces. pieces.items
-        ≡ table (piece_count torrent.now.layout) (λ p. fresh_piece (block_count torrent.now.layout p))) }
-{
-    let mut pieces = Vec::new(alloc);
-    for piece in 0..torrent.piece_count() {
-        pieces.push(Piece::new(alloc, torrent.block_count(piece))?)?;
-    }
-    Ok(pieces)
 }

@@ -23,6 +23,3 @@ pub use place::Place;
 pub use rounds::serial;
 pub use session::Session;
 pub use stream::{MOST_STREAMS, SerialRun, Stream};
-
-#[cfg(test)]
-mod tests;

@@ -1,18 +1,24 @@
-use Rattle.std.proofs.Common.{◌≡◌, ◌<◌, ◌^◌, ◌∙◌, ℕ, arith, length, Bool, false, [], ap, sym, subst, get_or}
+use Rattle.std.proofs.Common.{◌≡◌, ◌<◌, ◌^◌, ◌∙◌, ℕ, Bool, false, [], ap, sym, subst, get_or, length, arith, refl}
 use Rattle.std.specs.Prelude.{slice_index_or, unwrap_or}
 use Rattle.std.specs.Option.{option_copied}
 use Rattle.bt_picker.specs.Tables.{PieceState, piece_row, fresh_piece, more_available, less_available}
-use Rattle.bt_picker.proofs.Tabled.{get_or_table, length_table, rows_init, rows_read, rows_more, rows_done}
+use Rattle.bt_picker.proofs.Tabled.{get_or_table, rows_init, rows_read, rows_more, rows_done, edit_read, length_table, length_is_table}
 use Rattle.bt_picker.proofs.tables.recount.Goals as goal
 
-pub loop-index-init : goal.loop-index-init
-loop-index-init c = rows_init c.args.pieces.now _ (fresh_piece 0)
+pub loop-piece-init : goal.loop-piece-init
+loop-piece-init c = (c.len-piece-end.ensures.is, rows_init c.args.pieces.now _ (fresh_piece 0))
 
-pub recount-requires : goal.recount-requires
-recount-requires c =
-    let i = c.loop-index.index in
-    let row = rows_read c.loop-index.pieces _ i _ (piece_row c.args.pieces.now) c.index-pieces-index.result c.loop-index.invariant c.loop-index-test.true in
-    let old = get_or c.loop-index.pieces i c.index-pieces-index.result in
+pub apply-requires-clause-piece : goal.apply-requires-clause-piece
+apply-requires-clause-piece c =
+    let long : length c.loop-piece.pieces ≡ length c.args.pieces.now = length_is_table _ _ _ c.loop-piece.invariant.1 in
+    omega (arith, long, c.loop-piece-test.true, c.loop-piece.invariant.0)
+
+pub apply-requires-clause-fits : goal.apply-requires-clause-fits
+apply-requires-clause-fits c =
+    let i = c.loop-piece.piece in
+    let lt : i < length c.args.pieces.now = omega (arith, c.loop-piece-test.true, c.loop-piece.invariant.0) in
+    let row = rows_read c.loop-piece.pieces _ i _ (piece_row c.args.pieces.now) (fresh_piece 0) c.loop-piece.invariant.1 lt in
+    let old = get_or c.loop-piece.pieces i (fresh_piece 0) in
     let after = unwrap_or (option_copied c.args.after) [] in
     let n = length c.args.pieces.now in
     let rows : ℕ → PieceState =
@@ -21,19 +27,25 @@ recount-requires c =
     ap (λ (x : Bool). more_available x (less_available c.is_set.result old)) c.flag_at.ensures
     ∙ (ap (λ (x : Bool). more_available (slice_index_or after i false) (less_available x old)) c.is_set.ensures
     ∙ ap (λ (r : PieceState). more_available (slice_index_or after i false) (less_available (slice_index_or c.args.before.now i false) r)) row) in
-    subst (λ (r : PieceState). r.availability < 2 ^ 32) (get_or_table n rows i (fresh_piece 0) c.loop-index-test.true ∙ sym same)
-    (c.requires i (omega (arith, c.loop-index-test.true, length_table n rows)))
+    subst (λ (r : PieceState). r.availability < 2 ^ 32) (get_or_table n rows i (fresh_piece 0) lt ∙ sym same)
+    (c.requires i (omega (arith, lt, length_table n rows)))
 
-pub loop-index-preserved : goal.loop-index-preserved
-loop-index-preserved c =
-    let i = c.loop-index.index in
-    let row = rows_read c.loop-index.pieces _ i _ (piece_row c.args.pieces.now) c.index-pieces-index.result c.loop-index.invariant c.loop-index-test.true in
-    let old = get_or c.loop-index.pieces i c.index-pieces-index.result in
-    rows_more c.loop-index.pieces _ i _ _ c.recount.new.self c.loop-index.invariant c.loop-index-test.true
-    (c.recount.ensures
-    ∙ ap (λ (x : Bool). more_available x (less_available c.is_set.result old)) c.flag_at.ensures
-    ∙ ap (λ (x : Bool). more_available (slice_index_or (unwrap_or (option_copied c.args.after) []) i false) (less_available x old)) c.is_set.ensures
-    ∙ ap (λ (r : PieceState). more_available (slice_index_or (unwrap_or (option_copied c.args.after) []) i false) (less_available (slice_index_or c.args.before.now i false) r)) row)
+pub loop-piece-preserved : goal.loop-piece-preserved
+loop-piece-preserved c =
+    let i = c.loop-piece.piece in
+    let lt : i < length c.args.pieces.now = omega (arith, c.loop-piece-test.true, c.loop-piece.invariant.0) in
+    let long : length c.loop-piece.pieces ≡ length c.args.pieces.now = length_is_table _ _ _ c.loop-piece.invariant.1 in
+    let here : i < length c.loop-piece.pieces = omega (arith, long, lt) in
+    let old = get_or c.loop-piece.pieces i (fresh_piece 0) in
+    let row : old ≡ piece_row c.args.pieces.now i = rows_read c.loop-piece.pieces _ i _ (piece_row c.args.pieces.now) (fresh_piece 0) c.loop-piece.invariant.1 lt in (
+      c.loop-piece.invariant.0,
+      c.apply.ensures
+          ∙ (sym (edit_read c.loop-piece.pieces i (λ row. more_available c.flag_at.result (less_available c.is_set.result row)) old (fresh_piece 0) here refl)
+          ∙ rows_more c.loop-piece.pieces _ i _ _ _ c.loop-piece.invariant.1 lt
+          (ap (λ (x : Bool). more_available x (less_available c.is_set.result old)) c.flag_at.ensures
+          ∙ ap (λ (x : Bool). more_available (slice_index_or (unwrap_or (option_copied c.args.after) []) i false) (less_available x old)) c.is_set.ensures
+          ∙ ap (λ (r : PieceState). more_available (slice_index_or (unwrap_or (option_copied c.args.after) []) i false) (less_available (slice_index_or c.args.before.now i false) r)) row)),
+    )
 
 pub returns : goal.returns
-returns c = rows_done c.loop-index.pieces _ c.loop-index.index _ _ c.loop-index.invariant c.loop-index-test.false
+returns c = rows_done c.loop-piece.pieces _ c.loop-piece.piece _ _ c.loop-piece.invariant.1 (omega (arith, c.loop-piece-test.false, c.loop-piece.invariant.0))

@@ -1,28 +1,18 @@
-use Rattle.std.proofs.Common.{◌≡◌, ◌<◌, ◌≤◌, ◌∙◌, List, map, length, get_or, ap, sym, arith, ◌++◌, drop}
-use Rattle.std.proofs.lemmas.List.{with_items_is, take_all, drop_all, append-nil, get_or_default}
+use Rattle.std.proofs.Common.{◌≡◌, ◌<◌, ◌∙◌, ap, arith, length, get_or, map, take, drop, ◌++◌}
 use Rattle.std.proofs.lemmas.List.Edits.{map_over_more}
-use Rattle.bt_picker.specs.declared.piece.Cell.{Cell}
-use Rattle.bt_picker.specs.Tables.{unheld, empty_cell}
+use Rattle.bt_picker.specs.Tables.{unheld, PieceState}
 use Rattle.bt_picker.proofs.piece.Piece.fail.Goals as goal
 
-pub loop-cell-preserved : goal.loop-cell-preserved
-loop-cell-preserved c =
-    let items = c.loop-cell.cell-items in
-    let i = c.loop-cell.cell-index in
-    let here : i < length items = omega (arith, c.loop-cell-test.true, c.loop-cell.auto.cell-items) in
-    map_over_more unheld c.deref_mut-cell-items.result.now items i (get_or items i empty_cell) c.loop-cell-test.true c.loop-cell.invariant
-    (get_or_default items i empty_cell (get_or items i empty_cell) here)
-
-pub returns : goal.returns
-returns c =
-    let old = c.self.inside in
-    let i = c.loop-cell.cell-index in
-    let xs = c.deref_mut-cell-items.result.now in
-    let past : length xs ≤ i = c.loop-cell-test.false in
-    let all : c.loop-cell.cell-items ≡ map unheld xs =
-    c.loop-cell.invariant ∙ (ap (λ (cells : List Cell). map unheld cells ++ drop i xs) (take_all i xs past)
-    ∙ (ap (λ (cells : List Cell). map unheld xs ++ cells) (drop_all i xs past) ∙ append-nil (map unheld xs))) in
-    rw (← c.self.view_is)
-    (ap (λ (cells : List Cell). record { had = old.had; availability = old.availability; blocks = cells })
-    (with_items_is old.blocks c.loop-cell.cell-items (c.loop-cell.auto.cell-items ∙ ap length c.deref_mut-cell-items.ensures.value ∙ sym old.blocks.ok.0)
-    ∙ (all ∙ ap (map unheld) c.deref_mut-cell-items.ensures.value)))
+pub loop-index-preserved : goal.loop-index-preserved
+loop-index-preserved c =
+    let start = c.args.self.now in
+    let row = c.loop-index.self in
+    let i = c.loop-index.index in
+    let lt : i < length start.blocks = omega (arith, c.loop-index-test.true, c.loop-index.invariant.0) in
+    let is : row.blocks ≡ map unheld (take i start.blocks) ++ drop i start.blocks = ap (λ (r : PieceState). r.blocks) c.loop-index.invariant.1 in
+    let items : c.self-in-loop-index.inside.blocks.items ≡ row.blocks = ap (λ (r : PieceState). r.blocks) c.self-in-loop-index.view_is in
+    let read : c.index-cell.result.now ≡ get_or row.blocks i c.index-cell.result.now = rw items at c.index-cell.ensures in
+    let more = map_over_more unheld start.blocks row.blocks i c.index-cell.result.now lt is read in (
+      c.loop-index.invariant.0,
+      c.put.ensures ∙ (λ j. record { had = (c.loop-index.invariant.1 j).had; wanted = (c.loop-index.invariant.1 j).wanted; availability = (c.loop-index.invariant.1 j).availability; blocks = more j }),
+    )

@@ -1,13 +1,9 @@
-use Rattle.std.proofs.Common.{◌∙◌, arith}
-use Rattle.bt_picker.proofs.Entered.{wanted_is, wanted_length}
+use Rattle.std.proofs.Common.{◌∙◌, ap, sym}
+use Rattle.bt_picker.specs.Tables.{PieceState}
+use Rattle.bt_picker.proofs.Rows.{wanted_chosen}
 use Rattle.bt_picker.proofs.position.Position.is_wanted.Goals as goal
-
-pub is_chosen-requires : goal.is_chosen-requires
-is_chosen-requires c =
-    let lt = rw (← c.self.view_is) at c.requires in
-    omega (arith, lt, wanted_length _ _ c.self.invariant)
 
 pub returns : goal.returns
 returns c =
-    let lt = rw (← c.self.view_is) at c.requires in
-    rw (← c.self.view_is) (c.is_chosen.ensures ∙ wanted_is _ _ c.self.invariant c.args.piece lt)
+    let d = c.args.self.now in
+    c.is_wanted.ensures ∙ (ap (λ (row : PieceState). row.wanted) c.piece.ensures ∙ sym (wanted_chosen d.setting d.history c.args.piece c.requires))

@@ -1,15 +1,21 @@
-use Rattle.std.proofs.Common.{◌/◌, ap, ◌∙◌}
-use Rattle.bt_meta.specs.Layout.{block_size}
-use Rattle.bt_picker.specs.Tables.{PieceState, TablesState, edit, one_more, request_row, after_next}
+use Rattle.std.proofs.Common.{ap, ◌∙◌, List, set}
+use Rattle.bt_history.specs.Setting.{setting_of}
 use Rattle.bt_history.specs.declared.call.Reply.TheVariants.{Request}
-use Rattle.bt_picker.proofs.Changes.{changed_both}
+use Rattle.bt_picker.specs.Tables.{PieceState, TablesState, request_row, after_next}
+use Rattle.bt_picker.proofs.Changes.{changed_peer, with_pieces}
 use Rattle.bt_picker.proofs.tables.Tables.ask.Goals as goal
+
+pub apply-requires-clause-fits : goal.apply-requires-clause-fits
+apply-requires-clause-fits c =
+    let room = rw (← c.self.view_is) at c.requires.room in
+    (room.cell.has_cell, room.few)
 
 pub returns : goal.returns
 returns c =
     let b = c.args.block in
+    let o = c.self.inside in
+    let s = setting_of o.torrent.value.layout o.workers o.rules in
     let lw = rw (← c.self.view_is) at c.requires.worker in
-    let lp = rw (← c.self.view_is) at c.requires.room.cell.has_piece in
-    let raises : PieceState → PieceState = λ row. record row { blocks = edit row.blocks (b.begin / block_size) one_more } in
-    changed_both _ _ _ _ c.args.worker b.piece (request_row b) raises _ _ _ _ lw c.index_mut.ensures.value c.ask.ensures lp c.index_mut-2.ensures.value c.raise.ensures
+    ap (λ (rows : List PieceState). with_pieces s (set o.peers.items c.args.worker c.ask.new.self) rows) c.apply.ensures
+    ∙ changed_peer s o.peers.items _ c.args.worker (request_row b) c.index_mut.result.now c.ask.new.self lw c.index_mut.ensures.value c.ask.ensures
     ∙ ap (λ (t : TablesState). after_next t c.args.worker (Request b)) c.self.view_is

@@ -1,0 +1,252 @@
+-- Endgame by what is counted of all rows, and the pieces whose lacking blocks are all asked.
+use Rattle.std.proofs.Common.{◌≡◌, ℕ, zero, suc, ◌+◌, ◌-◌, ◌*◌, ◌<◌, ◌≤◌, ◌==◌, Bool, true, false, not, ◌&&◌, ◌||◌, Option, None, Some, List, [], ◌∷◌, ◌++◌, length, refl, ap, sym, ◌∙◌, subst, arith, ⊎_elim}
+use Rattle.std.specs.Prelude.{IfSome, IfNone, min, nat_lt, if◌then◌else◌}
+use Rattle.std.specs.List.{sum_by}
+use Rattle.std.proofs.lemmas.Bool.{cases_eq, eq-eqb, ne_eqb, lt-ltb, false≢true, and_left, and_parts}
+use Rattle.std.proofs.lemmas.List.Sums.{sum_by_push, count_by-le-length}
+use Rattle.bt_meta.specs.declared.block.Block.{Block}
+use Rattle.bt_meta.specs.Layout.{piece_count, block_count, block, block_size}
+use Rattle.bt_history.specs.Counting.{any_below, all_below, count_below, table}
+use Rattle.bt_history.specs.Setting.{Setting, is_block, some_block, some_block_of, each_block, each_block_of}
+use Rattle.bt_history.specs.History.{History}
+use Rattle.bt_history.specs.Peers.{shows, asked}
+use Rattle.bt_history.specs.Pieces.{had, held, full, held_or_asked, availability, chosen, wanted, endgame, interesting}
+use Rattle.bt_history.specs.Legal.{IsLegal}
+use Rattle.bt_history.specs.Next.{doubles}
+use Rattle.bt_history.proofs.Below.{any_found, any_none, any_witness, all_found, all_fails, all_at, any_same, count_at}
+use Rattle.bt_history.proofs.HeldLaws.{had_full}
+use Rattle.bt_picker.specs.Tables.{one_if, AreTables, TablesState, PieceState, piece_of}
+use Rattle.bt_picker.specs.Standings.{shown_group, group_of_row, groups_of, is_held, is_touched, standing_of, held_count, touched_count, FindsAmong, FindsListed}
+use Rattle.bt_order.specs.Orders.{at, ListsGroup}
+use Rattle.bt_picker.specs.Search.{Finds, FindsOf}
+use Rattle.bt_picker.proofs.Scans.{finds_in_piece, lacks_found, none_in_pieces}
+use Rattle.bt_picker.proofs.Tabled.{length_table, get_or_table, table_more}
+use Rattle.bt_picker.proofs.Rows.{group_is, wanted_chosen, full_row, all_touched_row, cells_long, counted_all, held_counted}
+
+-- ---- in endgame a piece with a block to ask again has all its lacking blocks asked
+
+implied : (w x : Bool) → (not w || x) ≡ true → w ≡ true → x ≡ true
+implied true x is wt = is
+implied false x is wt = absurd (cc wt)
+
+double_parts : (w v a d : Bool) → (w && (v && (not a && not d))) ≡ true → (v ≡ true) × (a ≡ false) × (w ≡ true)
+double_parts false v a d is = absurd (cc is)
+double_parts true false a d is = absurd (cc is)
+double_parts true true true d is = absurd (cc is)
+double_parts true true false d is = (refl, refl, refl)
+
+pub doubles_group : (s : Setting) (h : History) (q p : ℕ) → IsLegal s h → p < piece_count s.torrent → endgame s h ≡ true → some_block_of s.torrent p (doubles s h q) ≡ true
+    → (shows h q p ≡ true) × (group_of_row (piece_of s h p) ≡ 1)
+doubles_group s h q p legal lp ending some =
+    let found = any_witness (block_count s.torrent p) (λ k. doubles s h q (block s.torrent p k)) some in
+    let k = found.0 in
+    let b = block s.torrent p k in
+    let parts = double_parts (wanted s h p) (shows h q p) (held h b) (asked h q b) found.2 in
+    let all = (and_parts (each_block s.torrent (λ c. not (wanted s h c.piece) || held_or_asked s h c)) (some_block s.torrent (λ c. wanted s h c.piece && not (held h c))) ending).0 in
+    let mine = all_at (piece_count s.torrent) (λ r. each_block_of s.torrent r (λ c. not (wanted s h c.piece) || held_or_asked s h c)) p all lp in
+    let each : (j : ℕ) → j < block_count s.torrent p → held_or_asked s h (block s.torrent p j) ≡ true = λ j lj.
+    implied (wanted s h p) (held_or_asked s h (block s.torrent p j))
+    (all_at (block_count s.torrent p) (λ i. not (wanted s h p) || held_or_asked s h (block s.torrent p i)) j mine lj) parts.2 in
+    let not_full : full s h p ≡ false = all_fails (block_count s.torrent p) (λ j. held h (block s.torrent p j)) k found.1 parts.1 in
+    let touched = any_found (block_count s.torrent p) (λ j. held_or_asked s h (block s.torrent p j)) k found.1 (each k found.1) in
+    let all_touched = all_found (block_count s.torrent p) (λ j. held_or_asked s h (block s.torrent p j)) each in
+    let not_had = never (had h p) refl (λ was. false≢true (sym parts.1 ∙ had_full s h p k legal was found.1)) in
+    let picked = sym (wanted_chosen s h p lp) ∙ parts.2 in
+    (parts.0, group_is s h p ∙ (λ i. if not_had i || (not (picked i) || not_full i) then 0 else if not (touched i) then shown_group (availability s h p) else if all_touched i then 1 else 2))
+  where
+    never : (x : Bool) → had h p ≡ x → (had h p ≡ true → ⊥) → had h p ≡ false
+    never false is fails = is
+    never true is fails = absurd (fails is)
+
+-- ---- the search among the pieces of that group
+
+pub among_step : (t : _) (test : Block → Bool) (pieces : List ℕ) (n : ℕ) (found next : Option Block) → FindsAmong t test pieces n found
+    → IfSome next (λ b. (is_block t b ≡ true) × (test b ≡ true))
+    → IfNone next ((found ≡ None) × (some_block_of t (at pieces n) test ≡ false))
+    → FindsAmong t test pieces (n + 1) next
+among_step t test pieces n found (Some b) so_far some none = some
+among_step t test pieces n found None so_far some none =
+    let before : FindsAmong t test pieces n None = subst (FindsAmong t test pieces n) none.0 so_far in
+    λ i li. ⊎_elim
+    (λ (same : i ≡ n). ap (λ (j : ℕ). some_block_of t (at pieces j) test) same ∙ none.1)
+    (λ (apart : i ≡ n → ⊥). before i (omega (arith, li, apart)))
+    (cases_eq i n)
+
+pub among_some : (t : _) (test : Block → Bool) (pieces : List ℕ) (n : ℕ) (found : Option Block) → FindsAmong t test pieces n found
+    → IfSome found (λ b. (is_block t b ≡ true) × (test b ≡ true))
+among_some t test pieces n None so_far = tt
+among_some t test pieces n (Some b) so_far = so_far
+
+pub group_within : (s : Setting) (h : History) (n : ℕ) (pieces : List ℕ) → ListsGroup (groups_of s h) n pieces → (i : ℕ) → i < length pieces → at pieces i < piece_count s.torrent
+group_within s h n pieces lists i li = omega (arith, lists.known i li, length_table (piece_count s.torrent) (λ p. group_of_row (piece_of s h p)))
+
+pub doubling_all : (s : Setting) (h : History) (q : ℕ) (pieces : List ℕ) (found : Option Block) → IsLegal s h → endgame s h ≡ true → ListsGroup (groups_of s h) 1 pieces
+    → FindsAmong s.torrent (doubles s h q) pieces (length pieces) found → Finds s.torrent (doubles s h q) found
+doubling_all s h q pieces (Some b) legal ending lists some = some
+doubling_all s h q pieces None legal ending lists none = none_in_pieces s.torrent (doubles s h q) (λ p lp. by_cases p lp (some_block_of s.torrent p (doubles s h q)) refl) where
+  by_cases : (p : ℕ) → p < piece_count s.torrent → (x : Bool) → some_block_of s.torrent p (doubles s h q) ≡ x → x ≡ false
+  by_cases p lp false is = refl
+  by_cases p lp true is =
+      let long = length_table (piece_count s.torrent) (λ r. group_of_row (piece_of s h r)) in
+      let one : at (groups_of s h) p ≡ 1 = get_or_table (piece_count s.torrent) (λ r. group_of_row (piece_of s h r)) p 0 lp ∙ (doubles_group s h q p legal lp ending is).1 in
+      let listed = lists.all p (omega (arith, long, lp)) one in
+      absurd (false≢true (sym (none listed.0 listed.1) ∙ (ap (λ (r : ℕ). some_block_of s.torrent r (doubles s h q)) listed.2 ∙ is)))
+
+-- ---- sums over a table
+
+zero_sum : (a b : ℕ) → (a + b == 0) ≡ ((a == 0) && (b == 0))
+zero_sum zero b = ap (λ (m : ℕ). m == 0) (omega arith)
+zero_sum (suc a) b = ne_eqb (suc a + b) 0 (λ same. omega (arith, same)) ∙ sym (and_left (suc a == 0) (b == 0) (ne_eqb (suc a) 0 (λ same. omega (arith, same))))
+
+-- a sum over a table is 0 where each term is
+pub zero_table : {A : Type 0} (n : ℕ) (f : ℕ → A) (g : A → ℕ) → (sum_by g (table n f) == 0) ≡ all_below n (λ k. g (f k) == 0)
+zero_table {A = A} zero f g = refl
+zero_table {A = A} (suc n) f g =
+    let next : suc n ≡ n + 1 = omega arith in
+    let more : table (suc n) f ≡ table n f ++ f n ∷ [] = ap (λ m. table m f) next ∙ table_more n f in
+    ap (λ (xs : List A). sum_by g xs == 0) more
+    ∙ (ap (λ (m : ℕ). m == 0) (sum_by_push g (table n f) (f n))
+    ∙ (zero_sum (sum_by g (table n f)) (g (f n)) ∙ ap (λ (x : Bool). x && (g (f n) == 0)) (zero_table n f g)))
+
+all_same : (n : ℕ) (f g : ℕ → Bool) → ((k : ℕ) → k < n → f k ≡ g k) → all_below n f ≡ all_below n g
+all_same zero f g h = refl
+all_same (suc n) f g h = λ i. all_same n f g (λ k lt. h k (omega arith)) i && h n (omega arith) i
+
+not_all : (n : ℕ) (test : ℕ → Bool) → not (all_below n test) ≡ any_below n (λ k. not (test k))
+not_all zero test = refl
+not_all (suc n) test = not_both (all_below n test) (test n) ∙ ap (λ (x : Bool). x || not (test n)) (not_all n test) where
+  not_both : (a b : Bool) → not (a && b) ≡ (not a || not b)
+  not_both true b = refl
+  not_both false b = refl
+
+-- what is left of the cells is nothing where as many are counted as there are
+left_none : (n m : ℕ) → m ≤ n → (n - m == 0) ≡ (m == n)
+left_none n m le = ⊎_elim
+    (λ (same : m ≡ n). eq-eqb (n - m) 0 (omega (arith, same)) ∙ sym (eq-eqb m n same))
+    (λ (apart : m ≡ n → ⊥). ne_eqb (n - m) 0 (λ none. apart (omega (arith, none, le))) ∙ sym (ne_eqb m n apart))
+    (cases_eq m n)
+
+touched_most : (s : Setting) (h : History) (p : ℕ) → touched_count (piece_of s h p).blocks ≤ length (piece_of s h p).blocks
+touched_most s h p = count_by-le-length is_touched (piece_of s h p).blocks
+
+held_most : (s : Setting) (h : History) (p : ℕ) → held_count (piece_of s h p).blocks ≤ length (piece_of s h p).blocks
+held_most s h p = count_by-le-length is_held (piece_of s h p).blocks
+
+-- the unasked blocks of a wanted piece are none where each block is held or asked
+unasked_none : (s : Setting) (h : History) (p : ℕ) → p < piece_count s.torrent
+    → ((standing_of (piece_of s h p)).unasked == 0) ≡ each_block_of s.torrent p (λ b. not (wanted s h b.piece) || held_or_asked s h b)
+unasked_none s h p lp = by_choice (chosen h p) refl where
+  row : PieceState
+  row = piece_of s h p
+
+  by_choice : (x : Bool) → chosen h p ≡ x
+      → ((standing_of (piece_of s h p)).unasked == 0) ≡ each_block_of s.torrent p (λ b. not (wanted s h b.piece) || held_or_asked s h b)
+  by_choice true is =
+      (λ i. (if is i then length row.blocks else 0) - touched_count row.blocks == 0)
+      ∙ (left_none (length row.blocks) (touched_count row.blocks) (touched_most s h p)
+      ∙ (all_touched_row s h p
+      ∙ all_same (block_count s.torrent p) (λ k. held_or_asked s h (block s.torrent p k)) (λ k. not (wanted s h p) || held_or_asked s h (block s.torrent p k)) (λ k lk.
+      ap (λ (x : Bool). not x || held_or_asked s h (block s.torrent p k)) (sym (wanted_chosen s h p lp ∙ is)))))
+  by_choice false is =
+      (λ i. (if is i then length row.blocks else 0) - touched_count row.blocks == 0)
+      ∙ (nothing (touched_count row.blocks)
+      ∙ sym (all_found (block_count s.torrent p) (λ k. not (wanted s h p) || held_or_asked s h (block s.torrent p k)) (λ k lk.
+      ap (λ (x : Bool). not x || held_or_asked s h (block s.torrent p k)) (wanted_chosen s h p lp ∙ is))))
+    where
+      nothing : (n : ℕ) → (0 - n == 0) ≡ true
+      nothing n = eq-eqb (0 - n) 0 (omega arith)
+
+-- of a wanted piece some block isn't held where one is lacking
+unheld_some : (s : Setting) (h : History) (p : ℕ) → p < piece_count s.torrent
+    → not ((standing_of (piece_of s h p)).unheld == 0) ≡ some_block_of s.torrent p (λ b. wanted s h b.piece && not (held h b))
+unheld_some s h p lp = by_choice (chosen h p) refl where
+  row : PieceState
+  row = piece_of s h p
+
+  by_choice : (x : Bool) → chosen h p ≡ x
+      → not ((standing_of (piece_of s h p)).unheld == 0) ≡ some_block_of s.torrent p (λ b. wanted s h b.piece && not (held h b))
+  by_choice true is =
+      (λ i. not ((if is i then length row.blocks else 0) - held_count row.blocks == 0))
+      ∙ (ap not (left_none (length row.blocks) (held_count row.blocks) (held_most s h p) ∙ full_row s h p)
+      ∙ (not_all (block_count s.torrent p) (λ k. held h (block s.torrent p k))
+      ∙ any_same (block_count s.torrent p) (λ k. not (held h (block s.torrent p k))) (λ k. wanted s h p && not (held h (block s.torrent p k))) (λ k lk.
+      ap (λ (x : Bool). x && not (held h (block s.torrent p k))) (sym (wanted_chosen s h p lp ∙ is)))))
+  by_choice false is =
+      (λ i. not ((if is i then length row.blocks else 0) - held_count row.blocks == 0))
+      ∙ (nothing (held_count row.blocks)
+      ∙ sym (any_none (block_count s.torrent p) (λ k. wanted s h p && not (held h (block s.torrent p k))) (λ k lk.
+      ap (λ (x : Bool). x && not (held h (block s.torrent p k))) (wanted_chosen s h p lp ∙ is))))
+    where
+      nothing : (n : ℕ) → not (0 - n == 0) ≡ false
+      nothing n = ap not (eq-eqb (0 - n) 0 (omega arith))
+
+pub all_asked_rows : (s : Setting) (h : History) → (sum_by (λ row. (standing_of row).unasked) (table (piece_count s.torrent) (piece_of s h)) == 0)
+    ≡ each_block s.torrent (λ b. not (wanted s h b.piece) || held_or_asked s h b)
+all_asked_rows s h =
+    zero_table (piece_count s.torrent) (piece_of s h) (λ row. (standing_of row).unasked)
+    ∙ all_same (piece_count s.torrent) (λ p. (standing_of (piece_of s h p)).unasked == 0) (λ p. each_block_of s.torrent p (λ b. not (wanted s h b.piece) || held_or_asked s h b)) (unasked_none s h)
+
+pub some_lacking_rows : (s : Setting) (h : History) → nat_lt 0 (sum_by (λ row. (standing_of row).unheld) (table (piece_count s.torrent) (piece_of s h)))
+    ≡ some_block s.torrent (λ b. wanted s h b.piece && not (held h b))
+some_lacking_rows s h =
+    above_zero (sum_by (λ row. (standing_of row).unheld) (table (piece_count s.torrent) (piece_of s h)))
+    ∙ (ap not (zero_table (piece_count s.torrent) (piece_of s h) (λ row. (standing_of row).unheld))
+    ∙ (not_all (piece_count s.torrent) (λ p. (standing_of (piece_of s h p)).unheld == 0)
+    ∙ any_same (piece_count s.torrent) (λ p. not ((standing_of (piece_of s h p)).unheld == 0)) (λ p. some_block_of s.torrent p (λ b. wanted s h b.piece && not (held h b))) (unheld_some s h)))
+  where
+    above_zero : (m : ℕ) → nat_lt 0 m ≡ not (m == 0)
+    above_zero zero = refl
+    above_zero (suc m) = lt-ltb 0 (suc m) (omega arith) ∙ ap not (sym (ne_eqb (suc m) 0 (λ same. omega (arith, same))))
+
+-- a block found in a piece of the torrent is one of the torrent
+pub found_doubling : (t : _) (test : Block → Bool) (p : ℕ) (b : Block) → p < piece_count t → FindsOf t p test (Some b) → (is_block t b ≡ true) × (test b ≡ true)
+found_doubling t test p b lp found = finds_in_piece t test p b found lp
+
+-- endgame by what is counted of the rows
+pub endgame_rows : (t : TablesState) (h : History) → AreTables t h
+    → ((sum_by (λ row. (standing_of row).unasked) t.pieces == 0) && nat_lt 0 (sum_by (λ row. (standing_of row).unheld) t.pieces)) ≡ endgame t.setting h
+endgame_rows t h are =
+    ap (λ (rows : List PieceState). (sum_by (λ row. (standing_of row).unasked) rows == 0) && nat_lt 0 (sum_by (λ row. (standing_of row).unheld) rows)) are.pieces_are
+    ∙ (λ i. all_asked_rows t.setting h i && some_lacking_rows t.setting h i)
+
+-- a shown piece of a group is found in the group's list
+pub listed_at : (s : Setting) (h : History) (q n : ℕ) (pieces : List ℕ) (p : ℕ) → ListsGroup (groups_of s h) n pieces → p < piece_count s.torrent → shows h q p ≡ true → at (groups_of s h) p ≡ n
+    → FindsListed (shows h q) pieces (length pieces) (Some p)
+listed_at s h q n pieces p lists lp shown is =
+    (shown, lists.all p (omega (arith, length_table (piece_count s.torrent) (λ r. group_of_row (piece_of s h r)), lp)) is)
+
+-- ---- interest: a piece of group 1 isn't had
+
+group_one : (a w f t u : Bool) (n : ℕ) → (if a || (not w || f) then 0 else if not t then 3 + n else if u then 1 else 2) ≡ 1 → (a ≡ false) × (w ≡ true)
+group_one true w f t u n is = absurd (omega (arith, is))
+group_one false false f t u n is = absurd (omega (arith, is))
+group_one false true f t u n is = (refl, refl)
+
+pub asked_out_interests : (s : Setting) (h : History) (q : ℕ) (pieces : List ℕ) (p : ℕ) → ListsGroup (groups_of s h) 1 pieces → FindsListed (shows h q) pieces (length pieces) (Some p)
+    → interesting s h q ≡ true
+asked_out_interests s h q pieces p lists found =
+    let i = found.1.0 in
+    let lp : p < piece_count s.torrent = subst (λ (m : ℕ). m < piece_count s.torrent) found.1.2 (group_within s h 1 pieces lists i found.1.1) in
+    let one : group_of_row (piece_of s h p) ≡ 1 =
+    sym (get_or_table (piece_count s.torrent) (λ r. group_of_row (piece_of s h r)) p 0 lp) ∙ (ap (at (groups_of s h)) (sym found.1.2) ∙ lists.each i found.1.1) in
+    let known =
+    group_one (had h p) (chosen h p) (full s h p) (some_block_of s.torrent p (held_or_asked s h)) (each_block_of s.torrent p (held_or_asked s h)) (min (availability s h p) 1025)
+    (sym (group_is s h p) ∙ one) in
+    lacks_found s h (shows h q) p (wanted_chosen s h p lp ∙ known.1) found.0 known.0 lp
+
+-- ---- a piece that lacks one block
+
+-- where block i isn't held, each other one is where one block isn't
+pub one_lacking : (s : Setting) (h : History) (p i : ℕ) → i < block_count s.torrent p → held h (block s.torrent p i) ≡ false
+    → (held_count (piece_of s h p).blocks + 1 == length (piece_of s h p).blocks) ≡ each_block_of s.torrent p (λ b. (b.begin == block_size * i) || held h b)
+one_lacking s h p i li lacking =
+    let n = block_count s.torrent p in
+    let f : ℕ → Bool = λ k. held h (block s.torrent p k) in
+    let g : ℕ → Bool = λ k. (block_size * k == block_size * i) || f k in
+    let more = count_at n g f i li (λ k lk apart. ap (λ (x : Bool). x || f k) (ne_eqb (block_size * k) (block_size * i) (λ same. apart (omega (arith, same))))) in
+    let here : one_if (g i) ≡ 1 = ap (λ (x : Bool). one_if (x || f i)) (eq-eqb (block_size * i) (block_size * i) refl) in
+    let gone : one_if (f i) ≡ 0 = ap one_if lacking in
+    let held_is = held_counted s h p in
+    let long = cells_long s h p in
+    let total : held_count (piece_of s h p).blocks + 1 ≡ count_below n g = omega (arith, more, here, gone, held_is) in
+    (λ j. total j == long j) ∙ counted_all n g

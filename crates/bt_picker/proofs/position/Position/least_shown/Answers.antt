@@ -1,0 +1,11 @@
+use Rattle.std.proofs.Common.{refl}
+use Rattle.bt_history.specs.Peers.{shows}
+use Rattle.bt_order.specs.Orders.{at}
+use Rattle.bt_picker.proofs.Rows.{listed_step}
+use Rattle.bt_picker.proofs.position.Position.least_shown.Goals as goal
+
+pub loop-piece-preserved : goal.loop-piece-preserved
+loop-piece-preserved c =
+    let i = c.loop-piece.piece-index in
+    listed_step (shows c.args.self.now.history c.args.worker) c.args.pieces.now i (at c.args.pieces.now i) c.loop-piece.least c.lesser_shown-least.result
+    refl c.loop-piece.invariant c.lesser_shown-least.ensures

@@ -1,0 +1,116 @@
+-- What a row of a piece amounts to among the others: its group, and what is counted of it. No public clause cites this module.
+use Rattle.std.specs.Prelude.{ℕ, ◌+◌, ◌-◌, ◌^◌, ◌≡◌, ◌<◌, ◌≤◌, ◌==◌, ◌||◌, ◌⊎◌, Bool, false, not, IsTrue, Option, None, Some, List, length, map, min, is_some, nat_lt, if◌then◌else◌}
+use Rattle.std.specs.List.{count_by, sum_by}
+use Rattle.bt_picker.specs.declared.piece.Cell.{Cell}
+use Rattle.bt_picker.specs.declared.piece.Standing.{Standing}
+use Rattle.bt_picker.specs.Tables.{PieceState, one_if, piece_of}
+use Rattle.bt_meta.specs.declared.block.Block.{Block}
+use Rattle.bt_meta.specs.Layout.{Layout, piece_count}
+use Rattle.bt_history.specs.Setting.{Setting, is_block, some_block_of}
+use Rattle.bt_history.specs.History.{History}
+use Rattle.bt_history.specs.Counting.{table}
+use Rattle.bt_order.specs.Orders.{at}
+
+abbrev pub is_held : Cell → Bool
+is_held cell = is_some cell.stored_at
+
+-- the block is held, or asked of somebody
+abbrev pub is_touched : Cell → Bool
+is_touched cell = is_some cell.stored_at || nat_lt 0 cell.askers
+
+abbrev pub held_count : List Cell → ℕ
+held_count cells = count_by is_held cells
+
+abbrev pub touched_count : List Cell → ℕ
+touched_count cells = count_by is_touched cells
+
+-- the counts of a piece are those of its cells
+pub record AreCounts (held touched : ℕ) (cells : List Cell) : Type 0 where
+  pub held_is : held ≡ held_count cells
+  pub touched_is : touched ≡ touched_count cells
+  pub short : length cells < 2 ^ 32
+
+-- the group of an unbegun piece that so many peers show
+abbrev pub shown_group : ℕ → ℕ
+shown_group n = 3 + min n 1025
+
+-- nothing is to be asked of the piece: it is had, full, or not wanted
+abbrev pub is_resting : PieceState → Bool
+is_resting row = row.had || (not row.wanted || (held_count row.blocks == length row.blocks))
+
+-- 0 for a resting piece, 1 for one whose lacking blocks are all asked, 2 for another begun one, and for an unbegun one by its availability
+abbrev pub group_of_row : PieceState → ℕ
+group_of_row row =
+    if is_resting row then 0
+    else if touched_count row.blocks == 0 then shown_group row.availability
+    else if touched_count row.blocks == length row.blocks then 1
+    else 2
+
+-- so many blocks are to be had of the piece
+abbrev pub wanted_length : PieceState → ℕ
+wanted_length row = if row.wanted then length row.blocks else 0
+
+abbrev pub standing_of : PieceState → Standing
+standing_of row = record {
+  group = group_of_row row;
+  unasked = wanted_length row - touched_count row.blocks;
+  unheld = wanted_length row - held_count row.blocks;
+  had = row.had;
+}
+
+-- what is kept of all rows
+pub record ShelfState : Type 0 where
+  pub groups : List ℕ
+  pub unasked : ℕ
+  pub unheld : ℕ
+  pub had : ℕ
+
+-- what the rows amount to together
+abbrev pub shelf_of : List PieceState → ShelfState
+shelf_of rows = record {
+  groups = map group_of_row rows;
+  unasked = sum_by (λ row. (standing_of row).unasked) rows;
+  unheld = sum_by (λ row. (standing_of row).unheld) rows;
+  had = count_by (λ row. row.had) rows;
+}
+
+-- a row's part is in the sums, and there is room for the new one
+pub record IsFiled (shelf : ShelfState) (before after : Standing) : Type 0 where
+  pub unasked : before.unasked ≤ shelf.unasked
+  pub unheld : before.unheld ≤ shelf.unheld
+  pub had : one_if before.had ≤ shelf.had
+  pub unasked_fits : shelf.unasked - before.unasked + after.unasked < 2 ^ 64
+  pub unheld_fits : shelf.unheld - before.unheld + after.unheld < 2 ^ 64
+  pub had_fits : shelf.had - one_if before.had + one_if after.had < 2 ^ 32
+
+-- what is kept is what the rows amount to, and the sums fit
+pub record AreShelved (shelf : ShelfState) (rows : List PieceState) : Type 0 where
+  pub is : shelf ≡ shelf_of rows
+  pub short : length rows < 2 ^ 32
+  pub fit : sum_by (λ row. length row.blocks) rows < 2 ^ 64
+
+-- the group of each piece, by the history
+abbrev pub groups_of : Setting → History → List ℕ
+groups_of s h = table (piece_count s.torrent) (λ p. group_of_row (piece_of s h p))
+
+-- what was found among the first n pieces of the list: one that passes the test, or none passes
+abbrev pub FindsListed : (ℕ → Bool) → List ℕ → ℕ → Option ℕ → Type 0
+FindsListed test pieces n None = (i : ℕ) → i < n → test (at pieces i) ≡ false
+FindsListed test pieces n (Some p) = IsTrue (test p) × ((i : ℕ) × (i < n) × (at pieces i ≡ p))
+
+-- what was found among the first n pieces of the list: one that passes the test, none of those that pass ranking below it, or none passes
+abbrev pub FindsRarest : (ℕ → Bool) → (ℕ → ℕ) → List ℕ → ℕ → Option ℕ → Type 0
+FindsRarest test rank pieces n None = (i : ℕ) → i < n → test (at pieces i) ≡ false
+FindsRarest test rank pieces n (Some p) =
+    IsTrue (test p) × ((i : ℕ) × (i < n) × (at pieces i ≡ p)) × ((i : ℕ) → i < n → IsTrue (test (at pieces i)) → rank p ≤ rank (at pieces i))
+
+-- of a piece found before, if there is one, and another piece the one that ranks first, if it passes the test
+abbrev pub IsRarer : (ℕ → Bool) → (ℕ → ℕ) → Option ℕ → ℕ → Option ℕ → Type 0
+IsRarer test rank found piece result =
+    ((result ≡ Some piece) × IsTrue (test piece) × ((b : ℕ) → found ≡ Some b → rank piece ≤ rank b))
+    ⊎ ((result ≡ found) × ((test piece ≡ false) ⊎ ((b : ℕ) × (found ≡ Some b) × (rank b ≤ rank piece))))
+
+-- what was found in the first n pieces of the list: a block of the torrent that passes the test, or none of theirs passes
+abbrev pub FindsAmong : Layout → (Block → Bool) → List ℕ → ℕ → Option Block → Type 0
+FindsAmong t test pieces n None = (i : ℕ) → i < n → some_block_of t (at pieces i) test ≡ false
+FindsAmong t test pieces n (Some b) = IsTrue (is_block t b) × IsTrue (test b)

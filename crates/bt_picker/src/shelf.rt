@@ -1,0 +1,99 @@
+ghost use Rattle.std.specs.Prelude.{◌≡◌, ◌<◌, ◌≤◌, ◌+◌, ◌-◌, ◌^◌, length, replicate, slice_set, slice_index_or, IfOk};
+ghost use Rattle.bt_order.specs.Orders.{at, ListsGroup};
+ghost use Rattle.bt_picker.specs.Standings.{IsFiled, ShelfState};
+ghost use Rattle.bt_picker.specs.Tables.{one_if};
+
+use crate::piece::{GROUPS, Standing};
+use bt_order::Order;
+use std::alloc::{AllocError, Global};
+use std::marker::Model;
+
+/// What the rows of the pieces amount to together: the pieces by group, the numbers of unasked blocks and of those that aren't held,
+/// and how many pieces are had.
+#[derive(Drop)]
+pub struct Shelf {
+    order: Order,
+    unasked: u64,
+    unheld: u64,
+    had: u32,
+}
+
+impl Model for Shelf {
+    ghost use Rattle.std.specs.Prelude.{◌≡◌};
+    ghost use Rattle.bt_picker.specs.Standings.{ShelfState};
+
+    ghost Value = { ShelfState };
+
+    ghost view = { λ s. record { groups = s.order.group_of; unasked = s.unasked; unheld = s.unheld; had = s.had } };
+
+    ghost invariant = { λ s. s.order.count ≡ 1029 };
+}
+
+impl Shelf {
+    /// So many pieces of group 0, of which nothing is unasked.
+    pub fn new(alloc: Global, pieces: u32) -> Result<Shelf, AllocError>
+        ensures { IfOk result (λ shelf. shelf ≡ record { groups = replicate pieces 0; unasked = 0; unheld = 0; had = 0 }) }
+    {
+        Ok(Shelf {
+            order: Order::new(alloc, pieces, GROUPS)?,
+            unasked: 0,
+            unheld: 0,
+            had: 0,
+        })
+    }
+
+    /// The pieces of the group.
+    pub fn group(&self, group: u32) -> &[u32]
+        requires { group < 1029 }
+        ensures { ListsGroup self.now.groups group result.now }
+    {
+        self.order.group(group)
+    }
+
+    /// The group of the piece.
+    pub fn group_of(&self, piece: u32) -> u32
+        requires { piece < length self.now.groups }
+        ensures { result ≡ at self.now.groups piece }
+    {
+        self.order.group_of(piece)
+    }
+
+    /// How many blocks are unasked.
+    pub fn unasked(&self) -> u64
+        ensures { result ≡ self.now.unasked }
+    {
+        self.unasked
+    }
+
+    /// How many blocks aren't held.
+    pub fn unheld(&self) -> u64
+        ensures { result ≡ self.now.unheld }
+    {
+        self.unheld
+    }
+
+    /// How many pieces are had.
+    pub fn had(&self) -> u32
+        ensures { result ≡ self.now.had }
+    {
+        self.had
+    }
+
+    /// A piece that stood like this stands like that now.
+    pub fn put(&mut self, piece: u32, before: Standing, after: Standing)
+        requires piece { piece < length self.old.groups }
+        requires group { after.group < 1029 }
+        requires fits { IsFiled self.old before after }
+        ensures { self.new ≡ record {
+          groups = slice_set self.old.groups piece after.group;
+          unasked = self.old.unasked - before.unasked + after.unasked;
+          unheld = self.old.unheld - before.unheld + after.unheld;
+          had = self.old.had - one_if before.had + one_if after.had;
+        } }
+    {
+        self.order.put(piece, after.group);
+        self.unasked = self.unasked - u64::from(before.unasked) + u64::from(after.unasked);
+        self.unheld = self.unheld - u64::from(before.unheld) + u64::from(after.unheld);
+        self.had = self.had - u32::from(before.had) + u32::from(after.had);
+    }
+}

@@ -1,0 +1,8 @@
+mod audits;
+mod calls;
+mod content;
+mod examples;
+mod groups;
+mod random;
+mod setting;
+mod steps;

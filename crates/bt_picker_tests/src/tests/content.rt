@@ -1,0 +1,128 @@
+use super::setting::*;
+use bt_meta::{DeviceFault, Sink, ToWrite};
+use bt_picker::*;
+use std::alloc::Global;
+use std::process::Abort;
+use std::test::*;
+
+/// How a sink with no room left answers.
+#[derive(Clone, Copy)]
+enum Full {
+    Fails,
+    TakesNone,
+}
+
+/// A sink over memory that takes few bytes at once, and has little room.
+#[derive(Drop)]
+struct Little {
+    kept: Vec<u8>,
+    at_once: usize,
+    room: usize,
+    full: Full,
+    failed: bool,
+}
+
+impl Little {
+    fn new(alloc: Global, at_once: usize, room: usize, full: Full) -> Little {
+        Little {
+            kept: Vec::new(alloc),
+            at_once,
+            room,
+            full,
+            failed: false,
+        }
+    }
+}
+
+impl Sink for Little {
+    ghost use Rattle.std.specs.Prelude.{None};
+
+    ghost written = { λ _. None };
+
+    ghost failed = { λ s. s.failed };
+
+    fn write(&mut self, bytes: &[u8]) -> Result<usize, DeviceFault> {
+        if bytes.is_empty() {
+            return Ok(0);
+        }
+        let count = bytes.len().min(self.at_once).min(self.room);
+        if count == 0 {
+            self.failed = true;
+            return match self.full {
+                Full::Fails => Err(DeviceFault),
+                Full::TakesNone => Ok(0),
+            };
+        }
+        if self.kept.extend_from_slice(&bytes[..count]).is_err() {
+            self.failed = true;
+            return Err(DeviceFault);
+        }
+        self.room -= count;
+        Ok(count)
+    }
+}
+
+/// A desk that has pieces `abc`, `abc` and `a`.
+fn complete(rt: &impl Abort, alloc: Global) -> Result<Desk, Fail> {
+    let mut desk = Desk::new(alloc, three_pieces(rt, alloc)?, 1, Rules::usual())?;
+    desk.call(0, Call::Join)?;
+    desk.call(0, block(0, b"abc"))?;
+    desk.call(0, block(1, b"abc"))?;
+    desk.call(0, block(2, b"a"))?;
+    desk.finish(alloc, 0)?;
+    Ok(desk)
+}
+
+#[test]
+fn pieces_in_order(rt: HostRuntime) -> Result<(), Fail> {
+    let desk = complete(&rt, rt.alloc())?;
+    let mut writer = ToWrite::new(Vec::new(rt.alloc()));
+    assert!(rt; desk.write_content(&mut writer) == Ok(()));
+    assert_eq!(rt; writer.into_inner().as_slice(), b"abcabca".as_slice());
+    Ok(())
+}
+
+#[test]
+fn a_write_of_four_bytes_and_no_more(rt: HostRuntime) -> Result<(), Fail> {
+    let desk = complete(&rt, rt.alloc())?;
+    let mut writer = Little::new(rt.alloc(), 100, 4, Full::Fails);
+    assert!(rt; desk.write_content(&mut writer) == Err(ContentFault::WriteFault));
+    assert_eq!(rt; writer.kept.as_slice(), b"abca".as_slice());
+    Ok(())
+}
+
+#[test]
+fn byte_by_byte_until_it_fails(rt: HostRuntime) -> Result<(), Fail> {
+    let desk = complete(&rt, rt.alloc())?;
+    for room in 0..7 {
+        for full in [Full::Fails, Full::TakesNone] {
+            let mut writer = Little::new(rt.alloc(), 1, room, full);
+            assert!(rt; desk.write_content(&mut writer) == Err(ContentFault::WriteFault));
+            assert_eq!(rt; writer.kept.as_slice(), &b"abcabca"[..room]);
+        }
+    }
+    let mut writer = Little::new(rt.alloc(), 1, 7, Full::Fails);
+    assert!(rt; desk.write_content(&mut writer) == Ok(()));
+    assert_eq!(rt; writer.kept.as_slice(), b"abcabca".as_slice());
+    Ok(())
+}
+
+#[test]
+fn nothing_where_a_piece_is_missing(rt: HostRuntime) -> Result<(), Fail> {
+    let mut desk = Desk::new(
+        rt.alloc(),
+        three_pieces(&rt, rt.alloc())?,
+        1,
+        Rules::usual(),
+    )?;
+    desk.call(0, Call::Join)?;
+    desk.call(0, block(0, b"abc"))?;
+    desk.call(0, block(1, b"abc"))?;
+    desk.finish(rt.alloc(), 0)?;
+    let mut writer = Little::new(rt.alloc(), 100, 100, Full::Fails);
+    assert!(rt; desk.write_content(&mut writer) == Err(ContentFault::Incomplete));
+    assert!(rt; writer.kept.is_empty() && !writer.failed);
+    assert_eq!(rt; ContentFault::Incomplete as u8, 1);
+    assert_eq!(rt; ContentFault::WriteFault as u8, 2);
+    Ok(())
+}

@@ -1,0 +1,228 @@
+//! Calls at random, and an audit of what came of them.
+ghost use Rattle.std.specs.Prelude.{◌≡◌, ◌<◌, ◌≤◌, IfOk};
+ghost use Rattle.bt_meta.specs.Layout.{piece_count};
+ghost use Rattle.bt_history.specs.Setting.{AreRules};
+
+use bt_meta::{Bitfield, Block, Torrent};
+use bt_picker::*;
+use bytes::Bytes;
+use rand_core::Rng;
+use rand_pcg::Lcg64Xsh32;
+use std::alloc::Global;
+use std::process::Abort;
+use std::sync::Arc;
+use std::test::*;
+
+const WORKERS: u32 = 4;
+
+/// The SHA-1 of 16,386 bytes `a`, by another program.
+const LONG: [u8; 20] = [
+    0xb8, 0xbd, 0x3e, 0x9a, 0x42, 0xf6, 0x3e, 0xfe, 0x19, 0xce, 0x02, 0x98, 0x61, 0x5b, 0x24, 0x52,
+    0xb6, 0x35, 0x28, 0xa6,
+];
+
+/// The SHA-1 of 16,384 bytes `a`, by another program.
+const SHORT: [u8; 20] = [
+    0x12, 0xff, 0x34, 0x7b, 0x4f, 0x27, 0xd6, 0x9e, 0x1f, 0x32, 0x8e, 0x6f, 0x4b, 0x55, 0x73, 0xe3,
+    0x66, 0x6e, 0x12, 0x2f,
+];
+
+const RIGHT: [u8; 16384] = [b'a'; 16384];
+
+const WRONG: [u8; 16384] = [b'b'; 16384];
+
+/// Three pieces of two blocks, 16,384 and 2 bytes, and one of a whole block.
+fn torrent(rt: &impl Abort, alloc: Global) -> Result<Arc<Torrent>, Fail>
+    ensures { IfOk result (λ torrent. piece_count torrent.value.layout ≡ 4) }
+{
+    let hashes = vec![in alloc; LONG, LONG, LONG, SHORT]?;
+    let torrent = Torrent::of_parts(16386, 3 * 16386 + 16384, hashes, [0; 20])?;
+    assert!(rt; torrent.piece_count() == 4);
+    Ok(Arc::new(alloc, torrent)?)
+}
+
+/// Of so many cases, one.
+fn one_of(rng: &mut Lcg64Xsh32, cases: u32) -> u32
+    requires { 0 < cases }
+    ensures { result < cases }
+{
+    rng.next_u32() % cases
+}
+
+/// Rules for that torrent: every other time such that a pipe fills soon.
+fn any_rules(rng: &mut Lcg64Xsh32) -> Rules
+    ensures shallow { 1 ≤ result.depth }
+    ensures deep { result.depth ≤ 64 }
+    ensures random { result.random ≤ 4 }
+{
+    let deepest = [4, 64][one_of(rng, 2) as usize];
+    Rules {
+        depth: 1 + one_of(rng, deepest),
+        random: one_of(rng, 5),
+    }
+}
+
+/// The block arrives, with wrong bytes one time in four.
+fn arrival(rng: &mut Lcg64Xsh32, block: Block) -> Call {
+    let bytes: &'static [u8] = if one_of(rng, 4) == 0 { &WRONG } else { &RIGHT };
+    let len = bytes.len().min(block.len as usize);
+    Call::Arrived {
+        piece: block.piece,
+        begin: block.begin,
+        bytes: Bytes::from_static(&bytes[..len]),
+    }
+}
+
+/// A block that may not be one: there may be no such piece, no block may begin there, or its length may be another.
+fn any_block(rng: &mut Lcg64Xsh32) -> Block {
+    Block {
+        piece: one_of(rng, 5),
+        begin: [0, 16384, 1][one_of(rng, 3) as usize],
+        len: [16384, 2][one_of(rng, 2) as usize],
+    }
+}
+
+/// What the peer sends next, given what is asked of it.
+fn from_wire(alloc: Global, rng: &mut Lcg64Xsh32, asked: &[Block]) -> Result<Call, Fail> {
+    Ok(match one_of(rng, 64) {
+        0..=4 => Call::Join,
+        5 => Call::Leave,
+        6..=10 => {
+            let flags = [[0xf0], [0xc0], [0x30], [0x00]][one_of(rng, 4) as usize];
+            Call::Bits(Bitfield::from_wire(alloc, &flags, 4)?)
+        }
+        11 => Call::Bits(Bitfield::empty(alloc, 3)?),
+        12..=14 => Call::Have(one_of(rng, 5)),
+        15 => Call::Choke,
+        16..=21 => Call::Unchoke,
+        22..=29 => {
+            let block = any_block(rng);
+            arrival(rng, block)
+        }
+        30..=35 => match asked.last() {
+            Some(block) => arrival(rng, *block),
+            None => Call::Unchoke,
+        },
+        _ => Call::Next(rng.next_u64()),
+    })
+}
+
+/// What is wanted from now on: all pieces, some or none; now and then flags of too few pieces.
+fn any_want(alloc: Global, rng: &mut Lcg64Xsh32) -> Result<Call, Fail> {
+    if one_of(rng, 6) == 0 {
+        return Ok(Call::Want(Bitfield::empty(alloc, 3)?));
+    }
+    let flags = [[0xf0], [0xc0], [0x30], [0x00]][one_of(rng, 4) as usize];
+    Ok(Call::Want(Bitfield::from_wire(alloc, &flags, 4)?))
+}
+
+/// A run of calls at one desk, and a verdict that a worker keeps for later.
+#[derive(Drop)]
+struct Run {
+    desk: Desk,
+    late: Option<Arc<Verdict>>,
+    ghost workers: { desk.setting.workers ≡ 4 },
+}
+
+impl Run {
+    /// A run whose peers have joined.
+    fn new(alloc: Global, torrent: Arc<Torrent>, rules: Rules) -> Result<Run, Fail>
+        requires { AreRules torrent.value.layout rules }
+    {
+        let mut run = Run {
+            desk: Desk::new(alloc, torrent, WORKERS, rules)?,
+            late: None,
+        };
+        for worker in 0..WORKERS {
+            run.join(worker)?;
+        }
+        Ok(run)
+    }
+
+    fn join(&mut self, worker: u32) -> Result<(), Fail>
+        requires { worker < 4 }
+    {
+        self.desk.call(worker, Call::Join)?;
+        Ok(())
+    }
+
+    /// One call: of a peer's worker, a check at once, one that was begun earlier, or what is wanted.
+    fn step(&mut self, alloc: Global, rng: &mut Lcg64Xsh32) -> Result<Reply, Fail> {
+        let worker = one_of(rng, WORKERS);
+        let piece = one_of(rng, 5);
+        if one_of(rng, 8) == 0 {
+            return Ok(self.desk.settle_now(alloc, worker, piece)?);
+        }
+        if self.late.is_none()
+            && let Some(job) = self.desk.job(alloc, piece)?
+        {
+            let verdict = Arc::new(alloc, job.hash())?;
+            self.late = Some(verdict.clone()?);
+            return Ok(self.desk.call(worker, Call::Settle(verdict))?);
+        }
+        if one_of(rng, 40) == 0
+            && let Some(verdict) = self.late.take()
+        {
+            return Ok(self.desk.call(worker, Call::Settle(verdict))?);
+        }
+        if one_of(rng, 40) == 0 {
+            return Ok(self.desk.call(worker, any_want(alloc, rng)?)?);
+        }
+        let call = from_wire(alloc, rng, self.desk.outstanding(worker))?;
+        Ok(self.desk.call(worker, call)?)
+    }
+}
+
+/// Each kind of reply has a place, each reason its own.
+fn kind(reply: Reply) -> usize
+    ensures { result < 24 }
+{
+    match reply {
+        Reply::Joined => 0,
+        Reply::Noted(true) => 1,
+        Reply::Noted(false) => 2,
+        Reply::Quiet => 3,
+        Reply::Cancel(_) => 4,
+        Reply::Request(_) => 5,
+        Reply::Choked => 6,
+        Reply::PipeFull => 7,
+        Reply::Idle => 8,
+        Reply::NothingLeft => 9,
+        Reply::Stored => 10,
+        Reply::Completed => 11,
+        Reply::Dropped => 12,
+        Reply::Had => 13,
+        Reply::Failed => 14,
+        Reply::Refused(reason) => 15 + reason as usize,
+    }
+}
+
+#[test]
+fn journals_of_random_calls(rt: HostRuntime) -> Result<(), Fail> {
+    let alloc = rt.alloc();
+    let mut counts = [0_u64; 24];
+    for seed in 0..40 {
+        let mut rng = Lcg64Xsh32::new(seed, 1);
+        let rules = any_rules(&mut rng);
+        let mut run = Run::new(alloc, torrent(&rt, alloc)?, rules)?;
+        for _ in 0..500 {
+            let reply = run.step(alloc, &mut rng)?;
+            let place = kind(reply);
+            counts[place] = counts[place].saturating_add(1);
+        }
+        run.desk.finish(alloc, 0)?;
+        assert!(rt; run.desk.has_wanted() || !run.desk.is_complete());
+        let judged = audit(
+            alloc,
+            &*torrent(&rt, alloc)?,
+            WORKERS,
+            rules,
+            run.desk.journal(),
+        );
+        assert!(rt; judged == Ok(()));
+    }
+    for count in counts {
+        assert!(rt; count > 0);
+    }
+    Ok(())
+}

@@ -1,0 +1,77 @@
+//! Sources that give little at each read.
+
+use super::{PEER, WHOLE, peer, told_of};
+use bt_meta::{DeviceFault, Source};
+use bt_session::End;
+use std::test::Fail;
+
+/// A source that gives at each read as many bytes as its list says next, then those of the list again.
+#[derive(Drop)]
+struct Sips<'a> {
+    rest: &'a [u8],
+    sizes: &'a [usize],
+    asked: u64,
+    ended: bool,
+}
+
+impl<'a> Sips<'a> {
+    fn new(rest: &'a [u8], sizes: &'a [usize]) -> Sips<'a> {
+        Sips {
+            rest,
+            sizes,
+            asked: 0,
+            ended: false,
+        }
+    }
+
+    /// How many bytes the next read gives, if there is room.
+    fn size(&self) -> usize {
+        let count = self.sizes.len() as u64;
+        if count == 0 {
+            return 0;
+        }
+        self.sizes[(self.asked % count) as usize]
+    }
+}
+
+impl Source for Sips<'_> {
+    ghost use Rattle.std.specs.Prelude.{None, false};
+
+    ghost left = { λ _. None };
+
+    ghost failed = { λ _. false };
+
+    ghost ended = { λ s. s.ended };
+
+    ghost asked = { λ s. s.asked };
+
+    fn read(&mut self, room: &mut [u8]) -> Result<usize, DeviceFault> {
+        let size = self.size().min(room.len()).min(self.rest.len());
+        self.asked = self.asked.saturating_add(1);
+        let (sip, rest) = self.rest.split_at(size);
+        for (to, from) in room.iter_mut().zip(sip) {
+            *to = *from;
+        }
+        self.rest = rest;
+        if size == 0 && !room.is_empty() {
+            self.ended = true;
+        }
+        Ok(size)
+    }
+}
+
+/// The handshake, and the messages of `PEER`, a read each.
+const MESSAGES: [usize; 4] = [68, 6, 5, 16];
+
+/// However little a read gives, the session goes on to the end of its source: between two messages nothing is held, and yet more comes.
+#[test]
+fn little_by_little(rt: HostRuntime) -> Result<(), Fail> {
+    let stream = peer(rt.alloc(), 1, &PEER)?;
+    let sizes: [&[usize]; 2] = [&[1], &MESSAGES];
+    for sizes in sizes {
+        let (end, calls, _) = told_of(rt.alloc(), Sips::new(&stream, sizes))?;
+        assert!(rt; end == Ok(End { messages: 3 }));
+        assert_eq!(rt; calls.as_str(), WHOLE);
+    }
+    Ok(())
+}
