@@ -1,5 +1,5 @@
 //! How a swarm stands: the unbegun pieces by availability, and the blocks that are yet to be asked.
-ghost use Rattle.std.specs.Prelude.{◌≡◌, ◌≤◌, IfOk};
+ghost use Rattle.std.specs.Prelude.{◌≡◌, ◌<◌, ◌≤◌, IfOk};
 
 use super::setting::*;
 use bt_picker::*;
@@ -7,18 +7,21 @@ use std::alloc::Global;
 use std::process::Abort;
 use std::test::*;
 
-/// A desk of pieces `abc`, `abc` and `a` for four workers, of whom the first ones' peers joined with these bitfields.
-fn joined(rt: &impl Abort, alloc: Global, shown: &[u8]) -> Result<Desk, Fail>
+/// A desk of pieces `abc`, `abc` and `a` for four workers.
+fn desk(rt: &impl Abort, alloc: Global) -> Result<Desk, Fail>
     ensures { IfOk result (λ desk. desk.setting.workers ≡ 4) }
 {
-    let mut desk = Desk::new(alloc, three_pieces(rt, alloc)?, 4, Rules::usual())?;
-    for worker in 0..4 {
-        if let Some(byte) = shown.get(worker as usize) {
-            desk.call(worker, Call::Join)?;
-            desk.call(worker, bits(alloc, *byte)?)?;
-        }
-    }
-    Ok(desk)
+    Ok(Desk::new(alloc, three_pieces(rt, alloc)?, 4, Rules::usual())?)
+}
+
+/// The worker's peer joins, and tells of the pieces whose flags the byte has.
+fn join(alloc: Global, desk: &mut Desk, worker: u32, byte: u8) -> Result<(), Fail>
+    requires { worker < desk.old.setting.workers }
+    ensures { desk.new.setting ≡ desk.old.setting }
+{
+    desk.call(worker, Call::Join)?;
+    desk.call(worker, bits(alloc, byte)?)?;
+    Ok(())
 }
 
 /// Whether just these unbegun pieces are shown by so many peers.
@@ -37,7 +40,9 @@ fn shows(desk: &Desk, shown_by: u32, pieces: &[u32]) -> bool
 #[test]
 fn as_pieces_begin(rt: HostRuntime) -> Result<(), Fail> {
     let alloc = rt.alloc();
-    let mut desk = joined(&rt, alloc, &[0xe0, 0x40])?;
+    let mut desk = desk(&rt, alloc)?;
+    join(alloc, &mut desk, 0, 0xe0)?;
+    join(alloc, &mut desk, 1, 0x40)?;
     assert!(rt; shows(&desk, 0, &[]));
     assert!(rt; shows(&desk, 1, &[0, 2]));
     assert!(rt; shows(&desk, 2, &[1]));
@@ -56,7 +61,11 @@ fn as_pieces_begin(rt: HostRuntime) -> Result<(), Fail> {
 
 #[test]
 fn as_a_peer_leaves(rt: HostRuntime) -> Result<(), Fail> {
-    let mut desk = joined(&rt, rt.alloc(), &[0xe0, 0x80, 0x40])?;
+    let alloc = rt.alloc();
+    let mut desk = desk(&rt, alloc)?;
+    join(alloc, &mut desk, 0, 0xe0)?;
+    join(alloc, &mut desk, 1, 0x80)?;
+    join(alloc, &mut desk, 2, 0x40)?;
     assert!(rt; shows(&desk, 1, &[2]));
     assert!(rt; shows(&desk, 2, &[0, 1]));
     desk.call(1, Call::Leave)?;
@@ -68,7 +77,8 @@ fn as_a_peer_leaves(rt: HostRuntime) -> Result<(), Fail> {
 #[test]
 fn as_pieces_are_wanted(rt: HostRuntime) -> Result<(), Fail> {
     let alloc = rt.alloc();
-    let mut desk = joined(&rt, alloc, &[0xe0])?;
+    let mut desk = desk(&rt, alloc)?;
+    join(alloc, &mut desk, 0, 0xe0)?;
     desk.call(3, want(alloc, 0x40)?)?;
     assert!(rt; shows(&desk, 1, &[1]));
     assert_eq!(rt; desk.unasked(), 1);
