@@ -1,4 +1,4 @@
-pub mod WireBytes
+pub mod Payloads
 pub mod Lengths
 pub mod Sizes
 pub mod Digests

@@ -1,6 +1,7 @@
 -- How a set of pieces is spelled as bytes in a `bitfield` message (BEP 3).
-use Rattle.std.specs.Prelude.{ℕ, ◌+◌, ◌-◌, ◌*◌, ◌/◌, ◌%◌, ◌<◌, ◌≤◌, ◌≡◌, ◌==◌, Bool, true, false, List, length, slice_index, slice_index_or}
+use Rattle.std.specs.Prelude.{ℕ, ◌+◌, ◌-◌, ◌*◌, ◌/◌, ◌%◌, ◌^◌, ◌<◌, ◌≤◌, ◌≡◌, ◌==◌, Bool, true, false, List, length, map, slice_index, slice_index_or}
 use Rattle.std.specs.Int.{bit_at}
+use Rattle.std.specs.List.{range_with_len}
 
 -- how many bytes hold a bit for each of so many pieces
 abbrev pub wire_len : ℕ → ℕ
@@ -21,3 +22,13 @@ pub record HasSpareBit (bytes : List ℕ) (pieces : ℕ) : Type 0 where
 pub record IsSpelled (flags : List Bool) (bytes : List ℕ) : Type 0 where
   pub len : length bytes ≡ wire_len (length flags)
   pub bits : (p : ℕ) → p < 8 * length bytes → wire_bit bytes p ≡ slice_index_or flags p false
+
+-- the first bits of the bytes, a flag for each of so many pieces
+abbrev pub flags_of : ℕ → List ℕ → List Bool
+flags_of pieces bytes = map (wire_bit bytes) (range_with_len 0 pieces)
+
+-- the bytes are a payload for so many pieces: a bit for each, and no spare bit is set
+pub record IsPayload (pieces : ℕ) (bytes : List ℕ) : Type 0 where
+  pub len : length bytes ≡ wire_len pieces
+  pub clear : (place : ℕ) → pieces ≤ place → place < 8 * length bytes → wire_bit bytes place ≡ false
+  pub few : pieces < 2 ^ 32

@@ -1,26 +1,28 @@
 ghost use Rattle.std.specs.Prelude.{◌≡◌, ◌≢◌, ◌↔◌, ◌<◌, ◌-◌, ◌==◌, IsTrue, ◌≤◌, ◌*◌, ◌+◌, ◌^◌, ℕ, Bool, true, false, length, replicate};
 ghost use Rattle.std.specs.Prelude.{slice_index_or, slice_set, count_by, IfOk, Err, List};
-ghost use Rattle.std.specs.Int.{bit_at};
 ghost use Rattle.bt_meta.specs.WireBits.{HasSpareBit, IsSpelled, wire_bit, wire_len};
 
 use crate::fault::BitFault;
 use std::alloc::{AllocError, Global};
 use std::marker::Model;
 
-/// A set of pieces: a flag for each piece of a torrent. Contracts see it as the list of its flags.
+/// A set of pieces: a flag for each piece of a torrent, a bit each, kept as the payload of the `bitfield` message that tells it (BEP 3).
+/// Contracts see it as the list of its flags.
 #[derive(Drop)]
 pub struct Bitfield {
-    flags: Vec<bool>,
+    count: u32,
+    bytes: Vec<u8>,
 }
 
 impl Model for Bitfield {
-    ghost use Rattle.std.specs.Prelude.{List, Bool, length, ◌<◌, ◌^◌};
+    ghost use Rattle.std.specs.Prelude.{List, Bool};
+    ghost use Rattle.bt_meta.specs.WireBits.{IsPayload, flags_of};
 
     ghost Value = { List Bool };
 
-    ghost view = { λ b. b.flags.items };
+    ghost view = { λ b. flags_of b.count b.bytes.items };
 
-    ghost invariant = { λ b. length b.flags.items < 2 ^ 32 };
+    ghost invariant = { λ b. IsPayload b.count b.bytes.items };
 }
 
 impl Bitfield {
@@ -29,7 +31,8 @@ impl Bitfield {
         ensures { IfOk result (λ b. b ≡ replicate count false) }
     {
         Ok(Bitfield {
-            flags: vec![in alloc; false; count as usize]?,
+            count,
+            bytes: vec![in alloc; 0; bytes_for(count)]?,
         })
     }
 
@@ -42,41 +45,44 @@ impl Bitfield {
         ensures spare_bits { (result ≡ Err BitFault.SpareBits)
             ↔ ((length bytes.now ≡ wire_len count) × HasSpareBit bytes.now count) }
     {
-        if bytes.len() as u64 != (u64::from(count) + 7) / 8 {
+        if bytes.len() != bytes_for(count) {
             return Err(BitFault::WrongCount);
         }
         if has_spare_bit(bytes, count) {
             return Err(BitFault::SpareBits);
         }
-        match flags_of(alloc, bytes, count) {
-            Ok(flags) => Ok(Bitfield { flags }),
+        match bytes.to_vec(alloc) {
+            Ok(bytes) => Ok(Bitfield { count, bytes }),
             Err(_) => Err(BitFault::NoMemory),
         }
     }
 
     /// The payload of a `bitfield` message that tells this set (BEP 3).
+    pub fn as_wire(&self) -> &[u8]
+        ensures { IsSpelled self.now result.now }
+    {
+        self.bytes.as_slice()
+    }
+
+    /// The same, in bytes of its own.
     pub fn to_wire(&self, alloc: Global) -> Result<Vec<u8>, AllocError>
         ensures { IfOk result (λ v. IsSpelled self.now v.items) }
     {
-        let mut bytes = Vec::new(alloc);
-        for first in 0..(self.flags.len() + 7) / 8 {
-            bytes.push(wire_byte(&self.flags, 8 * first))?;
-        }
-        Ok(bytes)
+        self.bytes.to_vec(alloc)
     }
 
     /// The number of pieces that the torrent has.
     pub fn count(&self) -> u32
         ensures { result ≡ length self.now }
     {
-        self.flags.len() as u32
+        self.count
     }
 
     pub fn has(&self, piece: u32) -> bool
         requires { piece < length self.now }
         ensures { result ≡ slice_index_or self.now piece false }
     {
-        self.flags[piece as usize]
+        bit(&self.bytes, piece as usize)
     }
 
     /// Adds a piece to the set.
@@ -84,15 +90,43 @@ impl Bitfield {
         requires { piece < length self.old }
         ensures { self.new ≡ slice_set self.old piece true }
     {
-        self.flags[piece as usize] = true;
+        self.bytes[piece as usize / 8] |= 1 << (7 - piece % 8);
+    }
+
+    /// Takes all pieces out of the set.
+    pub fn clear(&mut self)
+        ensures { self.new ≡ replicate (length self.old) false }
+    {
+        self.bytes.fill(0);
+    }
+
+    /// Makes the set the same as another one of the same torrent.
+    pub fn copy_from(&mut self, other: &Bitfield)
+        requires { length other.now ≡ length self.old }
+        ensures { self.new ≡ other.now }
+    {
+        self.bytes.copy_from_slice(&other.bytes);
     }
 
     /// The number of pieces in the set.
     pub fn count_ones(&self) -> u32
         ensures { result ≡ count_by (λ flag. flag) self.now }
     {
-        self.flags.iter().filter(|flag| **flag).count() as u32
+        let mut ones = 0;
+        for piece in 0..self.count {
+            if self.has(piece) {
+                ones += 1;
+            }
+        }
+        ones
     }
+}
+
+/// How many bytes hold a bit for each of so many pieces.
+fn bytes_for(count: u32) -> usize
+    ensures { result ≡ wire_len count }
+{
+    count.div_ceil(8) as usize
 }
 
 /// The bit of a piece in the payload of a `bitfield` message.
@@ -114,39 +148,4 @@ fn has_spare_bit(bytes: &[u8], count: u32) -> bool
         }
     }
     false
-}
-
-/// The flags that the bytes spell.
-fn flags_of(alloc: Global, bytes: &[u8], count: u32) -> Result<Vec<bool>, AllocError>
-    requires { count ≤ 8 * length bytes.now }
-    ensures { IfOk result (λ v. (length v.items ≡ count)
-        × ((p : ℕ) → p < count → slice_index_or v.items p false ≡ wire_bit bytes.now p)) }
-{
-    let mut flags = Vec::with_capacity(alloc, count as usize)?;
-    for piece in 0..count as usize {
-        flags.push(bit(bytes, piece))?;
-    }
-    Ok(flags)
-}
-
-/// Whether the flag is there and set.
-fn flag_at(flags: &[bool], place: usize) -> bool
-    ensures { result ≡ slice_index_or flags.now place false }
-{
-    flags.get(place).copied().unwrap_or(false)
-}
-
-/// The byte whose bits are the eight flags from `first` on, the first of them the high bit; flags that aren't there are clear.
-fn wire_byte(flags: &[bool], first: usize) -> u8
-    requires first { first < length flags.now }
-    requires len { length flags.now < 2 ^ 32 }
-    ensures { (k : ℕ) → k < 8 → (bit_at result (7 - k) == 1) ≡ slice_index_or flags.now (first + k) false }
-{
-    let mut byte = 0u8;
-    for place in 0..8u32 {
-        if flag_at(flags, first + place as usize) {
-            byte |= 1 << (7 - place);
-        }
-    }
-    byte
 }

@@ -343,14 +343,14 @@ fn lower(pieces: &mut Pieces, block: Block)
 }
 
 /// A peer that showed the pieces of `before` shows those of `after` in their place, or none.
-fn recount(pieces: &mut Pieces, before: &[bool], after: Option<&Bitfield>)
+fn recount(pieces: &mut Pieces, before: &Bitfield, after: Option<&Bitfield>)
     requires { AreCounted (recounted pieces.old before.now (unwrap_or (option_copied after) [])) }
     ensures { pieces.new ≡ recounted pieces.old before.now (unwrap_or (option_copied after.entry) []) }
 {
     for piece in 0..pieces.len() as u32 {
         let change = Change::Recount {
-            shown: is_set(before, piece as usize),
-            shows: flag_at(after, piece as usize),
+            shown: has(before, piece),
+            shows: after.is_some_and(|flags| has(flags, piece)),
         };
         pieces.apply(piece, change);
     }
