@@ -8,6 +8,7 @@ pub mod Entering
 pub mod EnteringBlocks
 pub mod Entered
 pub mod Cells
+pub mod Kept
 pub mod Shelves
 pub mod Scans
 pub mod Rows

@@ -1,9 +1,10 @@
 -- What a row of a piece amounts to among the others: its group, and what is counted of it. No public clause cites this module.
 use Rattle.std.specs.Prelude.{ℕ, ◌+◌, ◌-◌, ◌^◌, ◌≡◌, ◌<◌, ◌≤◌, ◌==◌, ◌||◌, ◌⊎◌, Bool, false, not, IsTrue, Option, None, Some, List, length, map, min, is_some, nat_lt, if◌then◌else◌}
 use Rattle.std.specs.List.{count_by, sum_by}
-use Rattle.bt_picker.specs.declared.piece.Cell.{Cell}
+use Rattle.bt_picker.specs.declared.cell.Cell.{Cell}
+use Rattle.bt_picker.specs.declared.cell.Cell.TheVariants.{Asked, Held}
 use Rattle.bt_picker.specs.declared.piece.Standing.{Standing}
-use Rattle.bt_picker.specs.Tables.{PieceState, one_if, piece_of}
+use Rattle.bt_picker.specs.Tables.{CellState, PieceState, one_if, piece_of}
 use Rattle.bt_meta.specs.declared.block.Block.{Block}
 use Rattle.bt_meta.specs.Layout.{Layout, piece_count}
 use Rattle.bt_history.specs.Setting.{Setting, is_block, some_block_of}
@@ -11,21 +12,26 @@ use Rattle.bt_history.specs.History.{History}
 use Rattle.bt_history.specs.Counting.{table}
 use Rattle.bt_order.specs.Orders.{at}
 
-abbrev pub is_held : Cell → Bool
+-- what a cell says: a block that is held is asked of nobody
+abbrev pub cell_kept : Cell → CellState
+cell_kept (Held place) = record { stored_at = Some place; askers = 0 }
+cell_kept (Asked askers) = record { stored_at = None; askers = askers }
+
+abbrev pub is_held : CellState → Bool
 is_held cell = is_some cell.stored_at
 
 -- the block is held, or asked of somebody
-abbrev pub is_touched : Cell → Bool
+abbrev pub is_touched : CellState → Bool
 is_touched cell = is_some cell.stored_at || nat_lt 0 cell.askers
 
-abbrev pub held_count : List Cell → ℕ
+abbrev pub held_count : List CellState → ℕ
 held_count cells = count_by is_held cells
 
-abbrev pub touched_count : List Cell → ℕ
+abbrev pub touched_count : List CellState → ℕ
 touched_count cells = count_by is_touched cells
 
 -- the counts of a piece are those of its cells
-pub record AreCounts (held touched : ℕ) (cells : List Cell) : Type 0 where
+pub record AreCounts (held touched : ℕ) (cells : List CellState) : Type 0 where
   pub held_is : held ≡ held_count cells
   pub touched_is : touched ≡ touched_count cells
   pub short : length cells < 2 ^ 32

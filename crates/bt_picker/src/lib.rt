@@ -3,6 +3,7 @@
 
 mod allow;
 mod auditing;
+mod cell;
 mod choose;
 mod content;
 mod desk;

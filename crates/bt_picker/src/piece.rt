@@ -1,32 +1,10 @@
-ghost use Rattle.std.specs.Prelude.{◌≡◌, ◌<◌, ◌≤◌, ◌+◌, ◌-◌, ◌^◌, ◌==◌, nat_lt, length, slice_index_or, slice_set, IfOk, Bool, true, false, replicate};
+ghost use Rattle.std.specs.Prelude.{◌≡◌, ◌<◌, ◌≤◌, ◌+◌, ◌-◌, ◌^◌, ◌==◌, nat_lt, None, length, slice_index_or, slice_set, IfOk, Bool, true, false, replicate};
 ghost use Rattle.bt_picker.specs.Tables.{HasRoomOf, PieceState, changed_row, edit, empty_cell, failed_row, fresh_piece, less_available, more_available, one_if, one_less, one_more, stored_row};
-ghost use Rattle.bt_picker.specs.Standings.{is_held, is_touched, held_count, touched_count, group_of_row, standing_of};
+ghost use Rattle.bt_picker.specs.Standings.{cell_kept, is_held, is_touched, held_count, touched_count, group_of_row, standing_of};
 
+use crate::cell::Cell;
 use std::alloc::{AllocError, Global};
 use std::marker::Model;
-
-/// What is kept of a block: the place in the journal of the entry that stored it, if it is held, and how many peers it is asked of, so
-/// that whether it is unasked is one look. Its bytes aren't here (they are in that entry), nor which peers are asked (their lines say it).
-#[derive(Clone, Copy, Debug, Default, PartialEq, Eq)]
-pub struct Cell {
-    pub stored_at: Option<usize>,
-    pub askers: u32,
-}
-
-impl Cell {
-    pub fn is_held(self) -> bool
-        ensures { result ≡ is_held self }
-    {
-        self.stored_at.is_some()
-    }
-
-    /// Whether the block is held, or asked of somebody.
-    pub fn is_touched(self) -> bool
-        ensures { result ≡ is_touched self }
-    {
-        self.stored_at.is_some() || self.askers > 0
-    }
-}
 
 /// A change of what is kept of a piece. Blocks are counted from the front of the piece.
 #[derive(Clone, Copy, Debug, PartialEq, Eq)]
@@ -36,7 +14,7 @@ pub enum Change {
     /// One peer less is asked for the block, where the piece has so many.
     Lower(u32),
     /// The block was stored by the entry at this place of the journal, so it is asked of nobody.
-    Store(u32, usize),
+    Store(u32, u32),
     /// A peer that showed the piece, or did not, shows it now, or does not.
     Recount { shown: bool, shows: bool },
     /// A check found the right hash.
@@ -95,13 +73,14 @@ pub struct Piece {
 
 impl Model for Piece {
     ghost use Rattle.bt_picker.specs.Tables.{PieceState};
-    ghost use Rattle.bt_picker.specs.Standings.{AreCounts};
+    ghost use Rattle.bt_picker.specs.Standings.{AreCounts, cell_kept};
+    ghost use Rattle.std.specs.Prelude.{map};
 
     ghost Value = { PieceState };
 
-    ghost view = { λ p. record { had = p.had; wanted = p.wanted; availability = p.availability; blocks = p.blocks.items } };
+    ghost view = { λ p. record { had = p.had; wanted = p.wanted; availability = p.availability; blocks = map cell_kept p.blocks.items } };
 
-    ghost invariant = { λ p. AreCounts p.held p.touched p.blocks.items };
+    ghost invariant = { λ p. AreCounts p.held p.touched (map cell_kept p.blocks.items) };
 }
 
 impl Piece {
@@ -109,17 +88,13 @@ impl Piece {
     pub fn new(alloc: Global, blocks: u32) -> Result<Piece, AllocError>
         ensures { IfOk result (λ piece. piece ≡ fresh_piece blocks) }
     {
-        let empty = Cell {
-            stored_at: None,
-            askers: 0,
-        };
         Ok(Piece {
             had: false,
             wanted: true,
             availability: 0,
             held: 0,
             touched: 0,
-            blocks: vec![in alloc; empty; blocks as usize]?,
+            blocks: vec![in alloc; Cell::EMPTY; blocks as usize]?,
         })
     }
 
@@ -197,7 +172,7 @@ impl Piece {
 
     pub fn cell(&self, index: u32) -> Cell
         requires { index < length self.now.blocks }
-        ensures { result ≡ slice_index_or self.now.blocks index empty_cell }
+        ensures { cell_kept result ≡ slice_index_or self.now.blocks index empty_cell }
     {
         self.blocks[index as usize]
     }
@@ -224,72 +199,43 @@ impl Piece {
     {
         for index in 0..self.blocks.len() as u32 {
             let cell = self.blocks[index as usize];
-            self.put(
-                index,
-                Cell {
-                    stored_at: None,
-                    askers: cell.askers,
-                },
-            );
+            self.put(index, cell.released());
         }
     }
 
     /// The block was stored by the entry at this place, so it is asked of nobody.
-    fn store(&mut self, index: u32, place: usize)
+    fn store(&mut self, index: u32, place: u32)
         requires { index < length self.old.blocks }
         ensures { self.new ≡ stored_row index place self.old }
     {
-        self.put(
-            index,
-            Cell {
-                stored_at: Some(place),
-                askers: 0,
-            },
-        );
+        self.put(index, Cell::Held(place));
     }
 
-    /// One peer more is asked for the block.
+    /// One peer more is asked for the block, which isn't held.
     fn raise(&mut self, index: u32)
         requires index { index < length self.old.blocks }
+        requires free { (slice_index_or self.old.blocks index empty_cell).stored_at ≡ None }
         requires few { (slice_index_or self.old.blocks index empty_cell).askers + 1 < 2 ^ 32 }
-        ensures { self.new ≡ record self.old {
-          blocks = edit self.old.blocks index
-              (λ cell. record { stored_at = cell.stored_at; askers = cell.askers + 1 });
-        } }
+        ensures { self.new ≡ record self.old { blocks = edit self.old.blocks index one_more } }
     {
         let cell = self.cell(index);
-        self.put(
-            index,
-            Cell {
-                stored_at: cell.stored_at,
-                askers: cell.askers + 1,
-            },
-        );
+        self.put(index, cell.raised());
     }
 
     /// One peer less is asked for the block, where the piece has so many.
     fn lower(&mut self, index: u32)
-        ensures { self.new ≡ record self.old {
-          blocks = edit self.old.blocks index
-              (λ cell. record { stored_at = cell.stored_at; askers = cell.askers - 1 });
-        } }
+        ensures { self.new ≡ record self.old { blocks = edit self.old.blocks index one_less } }
     {
         if (index as usize) < self.blocks.len() {
             let cell = self.cell(index);
-            self.put(
-                index,
-                Cell {
-                    stored_at: cell.stored_at,
-                    askers: cell.askers.saturating_sub(1),
-                },
-            );
+            self.put(index, cell.lowered());
         }
     }
 
     /// The block's cell is this now.
     fn put(&mut self, index: u32, cell: Cell)
         requires { index < length self.old.blocks }
-        ensures { self.new ≡ record self.old { blocks = slice_set self.old.blocks index cell } }
+        ensures { self.new ≡ record self.old { blocks = slice_set self.old.blocks index (cell_kept cell) } }
     {
         let old = self.blocks[index as usize];
         self.held = moved(self.held, old.is_held(), cell.is_held());

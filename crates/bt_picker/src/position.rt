@@ -8,11 +8,12 @@ ghost use Rattle.bt_history.specs.History.{same_place};
 ghost use Rattle.bt_history.specs.Peers.{joined, late, shows, is_open, outstanding, asked, due, dues, flag};
 ghost use Rattle.bt_history.specs.Pieces.{availability, asked_of_some, begun, full, had, held, held_or_asked, interesting, kept, lacks, unbegun, wanted};
 ghost use Rattle.bt_order.specs.Orders.{at, ListsGroup};
-ghost use Rattle.bt_picker.specs.Standings.{groups_of};
+ghost use Rattle.bt_picker.specs.Standings.{cell_kept, groups_of};
 ghost use Rattle.bt_picker.specs.Tables.{AreTables, cell_of, peer_of, piece_of, place};
 
 use crate::peer::Peer;
-use crate::piece::{Cell, Piece};
+use crate::cell::Cell;
+use crate::piece::Piece;
 use crate::tables::Tables;
 use bt_history::{Call, Entry};
 use bt_meta::{Bitfield, Block, Torrent};
@@ -128,7 +129,7 @@ impl<'a> Position<'a> {
     fn cell(&self, piece: u32, index: u32) -> Cell
         requires piece { piece < piece_count self.now.setting.torrent }
         requires index { index < block_count self.now.setting.torrent piece }
-        ensures { result ≡ cell_of self.now.setting self.now.history (block self.now.setting.torrent piece index) }
+        ensures { cell_kept result ≡ cell_of self.now.setting self.now.history (block self.now.setting.torrent piece index) }
     {
         self.piece(piece).cell(index)
     }
@@ -200,7 +201,7 @@ impl<'a> Position<'a> {
         requires index { index < block_count self.now.setting.torrent piece }
         ensures { result ≡ held self.now.history (block self.now.setting.torrent piece index) }
     {
-        self.cell(piece, index).stored_at.is_some()
+        self.cell(piece, index).is_held()
     }
 
     /// Whether the block is held, or asked of some peer.
@@ -209,8 +210,7 @@ impl<'a> Position<'a> {
         requires index { index < block_count self.now.setting.torrent piece }
         ensures { result ≡ held_or_asked self.now.setting self.now.history (block self.now.setting.torrent piece index) }
     {
-        let cell = self.cell(piece, index);
-        cell.stored_at.is_some() || cell.askers > 0
+        self.cell(piece, index).is_touched()
     }
 
     /// Whether the block is asked of the worker's peer.
@@ -287,7 +287,9 @@ impl<'a> Position<'a> {
         requires index { index < block_count self.now.setting.torrent piece }
         ensures { result ≡ place self.now.history (block self.now.setting.torrent piece index) }
     {
-        self.cell(piece, index).stored_at
+        self.cell(piece, index)
+            .stored_at()
+            .map(|place| place as usize)
     }
 }
 

@@ -141,6 +141,7 @@ impl Tables {
 
     /// Enters one more entry: `older` is the journal before it.
     pub fn enter(&mut self, older: &[Entry], worker: u32, call: &Call, reply: Reply)
+        requires short { length older.now < 2 ^ 32 }
         requires are { AreTables self.old (history_of older.now) }
         requires allowed { IsAllowed self.old.setting (history_of older.now) (event worker call.now reply) }
         ensures are { AreTables self.new (event worker call.now reply ∷ history_of older.now) }
@@ -157,7 +158,7 @@ impl Tables {
             Call::Unchoke => self.unchoke(worker),
             Call::Next(_) => self.put_next(worker, reply),
             Call::Arrived { piece, begin, .. } => {
-                self.put_arrival(worker, *piece, *begin, older.len(), reply);
+                self.put_arrival(worker, *piece, *begin, older.len() as u32, reply);
             }
             Call::Settle(verdict) => self.put_check(verdict.piece(), reply),
             Call::Leave => self.leave(worker),
@@ -271,7 +272,7 @@ impl Tables {
     }
 
     /// Block `index` of the piece is held now, stored by the entry that so many are older than.
-    fn put_block(&mut self, worker: u32, piece: u32, index: u32, older: usize)
+    fn put_block(&mut self, worker: u32, piece: u32, index: u32, older: u32)
         requires worker { worker < length self.old.peers }
         requires stored { HasBlock self.old piece index }
         requires begin { block_size * index < 2 ^ 32 }
@@ -280,13 +281,13 @@ impl Tables {
             (λ q. length (peer_row self.old.peers q).asked + length (peer_row self.old.peers q).due ≤ 64) }
         ensures { self.new ≡ with_block self.old worker piece index older }
     {
-        let askers = self.pieces.row(piece).cell(index).askers;
+        let askers = self.pieces.row(piece).cell(index).askers();
         forget(&mut self.peers, worker, piece, BLOCK_SIZE * index, askers);
         self.pieces.apply(piece, Change::Store(index, older));
     }
 
     /// Puts an arrival in, where so many entries are older than it.
-    fn put_arrival(&mut self, worker: u32, piece: u32, begin: u32, older: usize, reply: Reply)
+    fn put_arrival(&mut self, worker: u32, piece: u32, begin: u32, older: u32, reply: Reply)
         requires worker { worker < length self.old.peers }
         requires stored { IsTrue (stores reply) → HasBlock self.old piece (begin / block_size) }
         requires askers { IsTrue (stores reply) → AreAskers self.old piece (begin / block_size) }
@@ -350,7 +351,7 @@ fn recount(pieces: &mut Pieces, before: &Bitfield, after: Option<&Bitfield>)
     for piece in 0..pieces.len() as u32 {
         let change = Change::Recount {
             shown: has(before, piece),
-            shows: after.is_some_and(|flags| has(flags, piece)),
+            shows: flag_at(after, piece),
         };
         pieces.apply(piece, change);
     }
@@ -361,23 +362,24 @@ fn rewant(pieces: &mut Pieces, flags: &Bitfield)
     ensures { pieces.new ≡ wanted_by flags.now pieces.old }
 {
     for piece in 0..pieces.len() as u32 {
-        pieces.apply(piece, Change::Wanted(flag_at(Some(flags), piece as usize)));
+        pieces.apply(piece, Change::Wanted(has(flags, piece)));
     }
 }
 
-fn is_set(flags: &[bool], index: usize) -> bool
-    ensures { result ≡ slice_index_or flags.now index false }
-{
-    index < flags.len() && flags[index]
-}
-
-fn flag_at(flags: Option<&Bitfield>, index: usize) -> bool
-    ensures { result ≡ slice_index_or (unwrap_or (option_copied flags.entry) []) index false }
+fn flag_at(flags: Option<&Bitfield>, piece: u32) -> bool
+    ensures { result ≡ slice_index_or (unwrap_or (option_copied flags.entry) []) piece false }
 {
     match flags {
-        Some(flags) => index < flags.count() as usize && flags.has(index as u32),
+        Some(flags) => has(flags, piece),
         None => false,
     }
+}
+
+/// Whether there is such a piece and it is in the set.
+fn has(flags: &Bitfield, piece: u32) -> bool
+    ensures { result ≡ slice_index_or flags.now piece false }
+{
+    piece < flags.count() && flags.has(piece)
 }
 
 /// Tells the rows that the block at this place was stored, brought by the worker's own peer, where so many peers are asked for it:

@@ -23,9 +23,9 @@ apply-requires-clause-fits c =
     let n = length c.args.pieces.now in
     let rows : ℕ → PieceState =
     λ p. more_available (slice_index_or after p false) (less_available (slice_index_or c.args.before.now p false) (piece_row c.args.pieces.now p)) in
-    let same : more_available c.flag_at.result (less_available c.is_set.result old) ≡ rows i =
-    ap (λ (x : Bool). more_available x (less_available c.is_set.result old)) c.flag_at.ensures
-    ∙ (ap (λ (x : Bool). more_available (slice_index_or after i false) (less_available x old)) c.is_set.ensures
+    let same : more_available c.flag_at.result (less_available c.has.result old) ≡ rows i =
+    ap (λ (x : Bool). more_available x (less_available c.has.result old)) c.flag_at.ensures
+    ∙ (ap (λ (x : Bool). more_available (slice_index_or after i false) (less_available x old)) c.has.ensures
     ∙ ap (λ (r : PieceState). more_available (slice_index_or after i false) (less_available (slice_index_or c.args.before.now i false) r)) row) in
     subst (λ (r : PieceState). r.availability < 2 ^ 32) (get_or_table n rows i (fresh_piece 0) lt ∙ sym same)
     (c.requires i (omega (arith, lt, length_table n rows)))
@@ -40,10 +40,10 @@ loop-piece-preserved c =
     let row : old ≡ piece_row c.args.pieces.now i = rows_read c.loop-piece.pieces _ i _ (piece_row c.args.pieces.now) (fresh_piece 0) c.loop-piece.invariant.1 lt in (
       c.loop-piece.invariant.0,
       c.apply.ensures
-          ∙ (sym (edit_read c.loop-piece.pieces i (λ row. more_available c.flag_at.result (less_available c.is_set.result row)) old (fresh_piece 0) here refl)
+          ∙ (sym (edit_read c.loop-piece.pieces i (λ row. more_available c.flag_at.result (less_available c.has.result row)) old (fresh_piece 0) here refl)
           ∙ rows_more c.loop-piece.pieces _ i _ _ _ c.loop-piece.invariant.1 lt
-          (ap (λ (x : Bool). more_available x (less_available c.is_set.result old)) c.flag_at.ensures
-          ∙ ap (λ (x : Bool). more_available (slice_index_or (unwrap_or (option_copied c.args.after) []) i false) (less_available x old)) c.is_set.ensures
+          (ap (λ (x : Bool). more_available x (less_available c.has.result old)) c.flag_at.ensures
+          ∙ ap (λ (x : Bool). more_available (slice_index_or (unwrap_or (option_copied c.args.after) []) i false) (less_available x old)) c.has.ensures
           ∙ ap (λ (r : PieceState). more_available (slice_index_or (unwrap_or (option_copied c.args.after) []) i false) (less_available (slice_index_or c.args.before.now i false) r)) row)),
     )
 

@@ -22,9 +22,9 @@ loop-piece-preserved c =
     let row : old ≡ piece_row c.args.pieces.now i = rows_read c.loop-piece.pieces _ i _ (piece_row c.args.pieces.now) (fresh_piece 0) c.loop-piece.invariant.1 lt in (
       c.loop-piece.invariant.0,
       c.apply.ensures
-          ∙ (sym (edit_read c.loop-piece.pieces i (want_row c.flag_at.result) old (fresh_piece 0) here refl)
+          ∙ (sym (edit_read c.loop-piece.pieces i (want_row c.has.result) old (fresh_piece 0) here refl)
           ∙ rows_more c.loop-piece.pieces _ i _ _ _ c.loop-piece.invariant.1 lt
-          (ap (λ (x : Bool). want_row x old) c.flag_at.ensures ∙ ap (want_row (slice_index_or c.args.flags.now i false)) row)),
+          (ap (λ (x : Bool). want_row x old) c.has.ensures ∙ ap (want_row (slice_index_or c.args.flags.now i false)) row)),
     )
 
 pub returns : goal.returns

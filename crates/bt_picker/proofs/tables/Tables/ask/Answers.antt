@@ -8,7 +8,7 @@ use Rattle.bt_picker.proofs.tables.Tables.ask.Goals as goal
 pub apply-requires-clause-fits : goal.apply-requires-clause-fits
 apply-requires-clause-fits c =
     let room = rw (← c.self.view_is) at c.requires.room in
-    (room.cell.has_cell, room.few)
+    (room.cell.has_cell, room.free, room.few)
 
 pub returns : goal.returns
 returns c =
