@@ -47,12 +47,11 @@ doubles_group s h q p legal lp ending some =
     let each : (j : ℕ) → j < block_count s.torrent p → held_or_asked s h (block s.torrent p j) ≡ true = λ j lj.
     implied (wanted s h p) (held_or_asked s h (block s.torrent p j))
     (all_at (block_count s.torrent p) (λ i. not (wanted s h p) || held_or_asked s h (block s.torrent p i)) j mine lj) parts.2 in
-    let not_full : full s h p ≡ false = all_fails (block_count s.torrent p) (λ j. held h (block s.torrent p j)) k found.1 parts.1 in
     let touched = any_found (block_count s.torrent p) (λ j. held_or_asked s h (block s.torrent p j)) k found.1 (each k found.1) in
     let all_touched = all_found (block_count s.torrent p) (λ j. held_or_asked s h (block s.torrent p j)) each in
     let not_had = never (had h p) refl (λ was. false≢true (sym parts.1 ∙ had_full s h p k legal was found.1)) in
     let picked = sym (wanted_chosen s h p lp) ∙ parts.2 in
-    (parts.0, group_is s h p ∙ (λ i. if not_had i || (not (picked i) || not_full i) then 0 else if not (touched i) then shown_group (availability s h p) else if all_touched i then 1 else 2))
+    (parts.0, group_is s h p ∙ (λ i. if not_had i || not (picked i) then 0 else if not (touched i) then shown_group (availability s h p) else if all_touched i then 1 else 2))
   where
     never : (x : Bool) → had h p ≡ x → (had h p ≡ true → ⊥) → had h p ≡ false
     never false is fails = is
@@ -217,10 +216,10 @@ listed_at s h q n pieces p lists lp shown is =
 
 -- ---- interest: a piece of group 1 isn't had
 
-group_one : (a w f t u : Bool) (n : ℕ) → (if a || (not w || f) then 0 else if not t then 3 + n else if u then 1 else 2) ≡ 1 → (a ≡ false) × (w ≡ true)
-group_one true w f t u n is = absurd (omega (arith, is))
-group_one false false f t u n is = absurd (omega (arith, is))
-group_one false true f t u n is = (refl, refl)
+group_one : (a w t u : Bool) (n : ℕ) → (if a || not w then 0 else if not t then 3 + n else if u then 1 else 2) ≡ 1 → (a ≡ false) × (w ≡ true)
+group_one true w t u n is = absurd (omega (arith, is))
+group_one false false t u n is = absurd (omega (arith, is))
+group_one false true t u n is = (refl, refl)
 
 pub asked_out_interests : (s : Setting) (h : History) (q : ℕ) (pieces : List ℕ) (p : ℕ) → ListsGroup (groups_of s h) 1 pieces → FindsListed (shows h q) pieces (length pieces) (Some p)
     → interesting s h q ≡ true
@@ -230,7 +229,7 @@ asked_out_interests s h q pieces p lists found =
     let one : group_of_row (piece_of s h p) ≡ 1 =
     sym (get_or_table (piece_count s.torrent) (λ r. group_of_row (piece_of s h r)) p 0 lp) ∙ (ap (at (groups_of s h)) (sym found.1.2) ∙ lists.each i found.1.1) in
     let known =
-    group_one (had h p) (chosen h p) (full s h p) (some_block_of s.torrent p (held_or_asked s h)) (each_block_of s.torrent p (held_or_asked s h)) (min (availability s h p) 1025)
+    group_one (had h p) (chosen h p) (some_block_of s.torrent p (held_or_asked s h)) (each_block_of s.torrent p (held_or_asked s h)) (min (availability s h p) 1025)
     (sym (group_is s h p) ∙ one) in
     lacks_found s h (shows h q) p (wanted_chosen s h p lp ∙ known.1) found.0 known.0 lp
 

@@ -88,9 +88,9 @@ module _ (s : Setting) (h : History) (p : ℕ) where
 
   -- the group of a piece, by the definitions
   pub group_is : group_of_row (piece_of s h p)
-      ≡ (if had h p || (not (chosen h p) || full s h p) then 0 else if not (some_block_of s.torrent p (held_or_asked s h)) then shown_group (availability s h p)
+      ≡ (if had h p || not (chosen h p) then 0 else if not (some_block_of s.torrent p (held_or_asked s h)) then shown_group (availability s h p)
       else if each_block_of s.torrent p (held_or_asked s h) then 1 else 2)
-  group_is = λ i. if had h p || (not (chosen h p) || full_row i) then 0 else if untouched_row i then shown_group (availability s h p) else if all_touched_row i then 1 else 2
+  group_is = λ i. if had h p || not (chosen h p) then 0 else if untouched_row i then shown_group (availability s h p) else if all_touched_row i then 1 else 2
 
   -- a piece of the torrent is wanted where it is chosen
   pub wanted_chosen : p < piece_count s.torrent → wanted s h p ≡ chosen h p
@@ -102,21 +102,20 @@ had_rows s h = count_table (piece_count s.torrent) (piece_of s h) (λ row. row.h
 
 -- ---- group 2: the begun pieces with an unasked block
 
-group_two : (a w f t u : Bool) (n : ℕ) → (if a || (not w || f) then 0 else if not t then 3 + n else if u then 1 else 2) ≡ 2
+group_two : (a w t u : Bool) (n : ℕ) → (if a || not w then 0 else if not t then 3 + n else if u then 1 else 2) ≡ 2
     → (a ≡ false) × (w ≡ true) × (t ≡ true) × (u ≡ false)
-group_two true w f t u n is = absurd (omega (arith, is))
-group_two false false f t u n is = absurd (omega (arith, is))
-group_two false true true t u n is = absurd (omega (arith, is))
-group_two false true false false u n is = absurd (omega (arith, is))
-group_two false true false true true n is = absurd (omega (arith, is))
-group_two false true false true false n is = (refl, refl, refl, refl)
+group_two true w t u n is = absurd (omega (arith, is))
+group_two false false t u n is = absurd (omega (arith, is))
+group_two false true false u n is = absurd (omega (arith, is))
+group_two false true true true n is = absurd (omega (arith, is))
+group_two false true true false n is = (refl, refl, refl, refl)
 
 pub open_continues : (s : Setting) (h : History) (q p : ℕ) → p < piece_count s.torrent → shows h q p ≡ true → group_of_row (piece_of s h p) ≡ 2
     → some_block_of s.torrent p (continues s h q) ≡ true
 open_continues s h q p lp shown is = by_cases (some_block_of s.torrent p (continues s h q)) refl where
   parts : (had h p ≡ false) × (chosen h p ≡ true) × (some_block_of s.torrent p (held_or_asked s h) ≡ true) × (each_block_of s.torrent p (held_or_asked s h) ≡ false)
   parts =
-      group_two (had h p) (chosen h p) (full s h p) (some_block_of s.torrent p (held_or_asked s h)) (each_block_of s.torrent p (held_or_asked s h)) (min (availability s h p) 1025)
+      group_two (had h p) (chosen h p) (some_block_of s.torrent p (held_or_asked s h)) (each_block_of s.torrent p (held_or_asked s h)) (min (availability s h p) 1025)
       (sym (group_is s h p) ∙ is)
 
   asked_then : (a w v b : Bool) → w ≡ true → v ≡ true → b ≡ true → ((not a && (w && v)) && b) ≡ false → a ≡ true
@@ -141,10 +140,9 @@ continues_open s h q p some =
     let k = found.0 in
     let b = block s.torrent p k in
     let parts = split (held h b) (held_or_asked s h b) (wanted s h p) (shows h q p) (had h p) (some_block_of s.torrent p (held_or_asked s h)) found.2 (or_left_false (held h b) _) in
-    let unheld : full s h p ≡ false = all_fails (block_count s.torrent p) (λ j. held h (block s.torrent p j)) k found.1 parts.4 in
     let some_free : each_block_of s.torrent p (held_or_asked s h) ≡ false = all_fails (block_count s.torrent p) (λ j. held_or_asked s h (block s.torrent p j)) k found.1 parts.3 in
     let picked : chosen h p ≡ true = (and_parts (nat_lt p (piece_count s.torrent)) (chosen h p) parts.5).1 in
-    (parts.0, group_is s h p ∙ (λ i. if parts.1 i || (not (picked i) || unheld i) then 0 else if not (parts.2 i) then shown_group (availability s h p) else if some_free i then 1 else 2))
+    (parts.0, group_is s h p ∙ (λ i. if parts.1 i || not (picked i) then 0 else if not (parts.2 i) then shown_group (availability s h p) else if some_free i then 1 else 2))
   where
     or_left_false : (a b : Bool) → (a || b) ≡ false → a ≡ false
     or_left_false false b is = refl
@@ -208,14 +206,13 @@ module _ (s : Setting) (h : History) (q : ℕ) (pieces : List ℕ) (lists : List
 
 -- ---- groups 3 and on: the unbegun pieces
 
-group_from : (a w f t u : Bool) (v n : ℕ) → (if a || (not w || f) then 0 else if not t then 3 + v else if u then 1 else 2) ≡ 3 + n
+group_from : (a w t u : Bool) (v n : ℕ) → (if a || not w then 0 else if not t then 3 + v else if u then 1 else 2) ≡ 3 + n
     → (a ≡ false) × (w ≡ true) × (t ≡ false) × (v ≡ n)
-group_from true w f t u v n is = absurd (omega (arith, is))
-group_from false false f t u v n is = absurd (omega (arith, is))
-group_from false true true t u v n is = absurd (omega (arith, is))
-group_from false true false false u v n is = (refl, refl, refl, omega (arith, is))
-group_from false true false true true v n is = absurd (omega (arith, is))
-group_from false true false true false v n is = absurd (omega (arith, is))
+group_from true w t u v n is = absurd (omega (arith, is))
+group_from false false t u v n is = absurd (omega (arith, is))
+group_from false true false u v n is = (refl, refl, refl, omega (arith, is))
+group_from false true true true v n is = absurd (omega (arith, is))
+group_from false true true false v n is = absurd (omega (arith, is))
 
 -- below the crowd the group of an unbegun piece tells its availability
 pub uncrowded : (v n : ℕ) → n < 1025 → min v 1025 ≡ n → v ≡ n
@@ -227,20 +224,14 @@ uncrowded v n lt is = ⊎_elim
 pub group_unbegun : (s : Setting) (h : History) (p n : ℕ) → group_of_row (piece_of s h p) ≡ 3 + n
     → (had h p ≡ false) × (chosen h p ≡ true) × (some_block_of s.torrent p (held_or_asked s h) ≡ false) × (min (availability s h p) 1025 ≡ n)
 group_unbegun s h p n is =
-    group_from (had h p) (chosen h p) (full s h p) (some_block_of s.torrent p (held_or_asked s h)) (each_block_of s.torrent p (held_or_asked s h)) (min (availability s h p) 1025) n
+    group_from (had h p) (chosen h p) (some_block_of s.torrent p (held_or_asked s h)) (each_block_of s.torrent p (held_or_asked s h)) (min (availability s h p) 1025) n
     (sym (group_is s h p) ∙ is)
 
-pub unbegun_group : (s : Setting) (h : History) (p : ℕ) → 0 < block_count s.torrent p → chosen h p ≡ true → had h p ≡ false → some_block_of s.torrent p (held_or_asked s h) ≡ false
+pub unbegun_group : (s : Setting) (h : History) (p : ℕ) → chosen h p ≡ true → had h p ≡ false → some_block_of s.torrent p (held_or_asked s h) ≡ false
     → group_of_row (piece_of s h p) ≡ shown_group (availability s h p)
-unbegun_group s h p some picked not_had untouched =
-    let first = any_fails (block_count s.torrent p) (λ k. held_or_asked s h (block s.torrent p k)) 0 untouched some in
-    let unheld : full s h p ≡ false = all_fails (block_count s.torrent p) (λ k. held h (block s.torrent p k)) 0 some (left_false (held h (block s.torrent p 0)) _ first) in
+unbegun_group s h p picked not_had untouched =
     group_is s h p
-    ∙ (λ i. if not_had i || (not (picked i) || unheld i) then 0 else if not (untouched i) then shown_group (availability s h p) else if each_block_of s.torrent p (held_or_asked s h) then 1 else 2)
-  where
-    left_false : (a b : Bool) → (a || b) ≡ false → a ≡ false
-    left_false false b is = refl
-    left_false true b is = absurd (cc is)
+    ∙ (λ i. if not_had i || not (picked i) then 0 else if not (untouched i) then shown_group (availability s h p) else if each_block_of s.torrent p (held_or_asked s h) then 1 else 2)
 
 pub group_candidate : (s : Setting) (h : History) (q p n : ℕ) → p < piece_count s.torrent → shows h q p ≡ true → group_of_row (piece_of s h p) ≡ 3 + n
     → (is_candidate s h q p ≡ true) × (min (availability s h p) 1025 ≡ n)
@@ -255,12 +246,12 @@ candidate_parts true true true t is = absurd (cc is)
 candidate_parts true true false true is = absurd (cc is)
 candidate_parts true true false false is = (refl, refl, refl, refl)
 
-pub candidate_group : (s : Setting) (h : History) (q p : ℕ) → 0 < block_count s.torrent p → is_candidate s h q p ≡ true
+pub candidate_group : (s : Setting) (h : History) (q p : ℕ) → is_candidate s h q p ≡ true
     → (shows h q p ≡ true) × (group_of_row (piece_of s h p) ≡ shown_group (availability s h p))
-candidate_group s h q p some is =
+candidate_group s h q p is =
     let parts = candidate_parts (wanted s h p) (shows h q p) (had h p) (some_block_of s.torrent p (held_or_asked s h)) is in
     let picked : chosen h p ≡ true = (and_parts (nat_lt p (piece_count s.torrent)) (chosen h p) parts.3).1 in
-    (parts.0, unbegun_group s h p some picked parts.1 parts.2)
+    (parts.0, unbegun_group s h p picked parts.1 parts.2)
 
 -- no candidate is shown by fewer peers than n
 abbrev pub NoneRarer : Setting → History → ℕ → ℕ → Type 0
@@ -285,7 +276,7 @@ module _ (s : Setting) (h : History) (q n : ℕ) (pieces : List ℕ) (layout : I
   pub rarest_more : FindsListed (shows h q) pieces (length pieces) None → NoneRarer s h q (n + 1)
   rarest_more none p lp fits = ⊎_elim
       (λ (same : availability s h p ≡ n).
-      let known = candidate_group s h q p (first_block s.torrent p layout lp) fits in
+      let known = candidate_group s h q p fits in
       let exact : min (availability s h p) 1025 ≡ n = min-eq_left (omega (arith, same, under)) ∙ same in
       let group : at (groups_of s h) p ≡ 3 + n =
       get_or_table (piece_count s.torrent) (λ r. group_of_row (piece_of s h r)) p 0 lp ∙ (known.1 ∙ ap (λ (m : ℕ). 3 + m) exact) in
@@ -358,7 +349,7 @@ module _ (s : Setting) (h : History) (q n : ℕ) (pieces : List ℕ) (layout : I
       (λ (over : s.workers < n). absurd (omega (arith, most, low, over)))
       (λ (past : 1025 ≤ n). (omega (arith, low, past)))
       all in
-      let known = candidate_group s h q p (first_block s.torrent p layout lp) fits in
+      let known = candidate_group s h q p fits in
       let capped : min (availability s h p) 1025 ≡ 1025 = min-eq_right many in
       let group : at (groups_of s h) p ≡ 3 + 1025 =
       get_or_table (piece_count s.torrent) (λ r. group_of_row (piece_of s h r)) p 0 lp ∙ (known.1 ∙ ap (λ (m : ℕ). 3 + m) capped) in

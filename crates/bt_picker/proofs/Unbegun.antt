@@ -42,7 +42,7 @@ module _ (s : Setting) (h : History) (n : ℕ) (pieces : List ℕ) (layout : IsL
       let begins = and_parts (not (had h p)) (not (some_block_of s.torrent p (held_or_asked s h))) rest.0 in
       let shown = eqb-true (availability s h p) n rest.1 in
       let exact : min (availability s h p) 1025 ≡ n = min-eq_left (omega (arith, shown, under)) ∙ shown in
-      let group = unbegun_group s h p (first_block s.torrent p layout lp) picks.1 (not-true (had h p) begins.0) (not-true (some_block_of s.torrent p (held_or_asked s h)) begins.1) in
+      let group = unbegun_group s h p picks.1 (not-true (had h p) begins.0) (not-true (some_block_of s.torrent p (held_or_asked s h)) begins.1) in
       lists.all p (omega (arith, long, lp))
       (get_or_table (piece_count s.torrent) (λ r. group_of_row (piece_of s h r)) p 0 lp ∙ (group ∙ ap (λ (m : ℕ). 3 + m) exact))
 

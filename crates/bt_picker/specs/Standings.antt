@@ -40,11 +40,12 @@ pub record AreCounts (held touched : ℕ) (cells : List CellState) : Type 0 wher
 abbrev pub shown_group : ℕ → ℕ
 shown_group n = 3 + min n 1025
 
--- nothing is to be asked of the piece: it is had, full, or not wanted
+-- nothing is left to get of the piece: it is had, or not wanted
 abbrev pub is_resting : PieceState → Bool
-is_resting row = row.had || (not row.wanted || (held_count row.blocks == length row.blocks))
+is_resting row = row.had || not row.wanted
 
--- 0 for a resting piece, 1 for one whose lacking blocks are all asked, 2 for another begun one, and for an unbegun one by its availability
+-- 0 for a resting piece, 1 for one whose lacking blocks are all asked (a full one, too), 2 for another begun one, and for an unbegun one by
+-- its availability
 abbrev pub group_of_row : PieceState → ℕ
 group_of_row row =
     if is_resting row then 0

@@ -45,9 +45,9 @@ impl Standing {
     };
 }
 
-/// The group of the pieces of which nothing is to be asked: those that are had, full, or not wanted.
+/// The group of the pieces of which nothing is left to get: those that are had, or not wanted.
 pub const RESTING: u32 = 0;
-/// The group of the begun pieces whose lacking blocks are all asked.
+/// The group of the begun pieces whose lacking blocks are all asked: also of the full ones, until their check passes.
 pub const ASKED_OUT: u32 = 1;
 /// The group of the begun pieces with an unasked block.
 pub const OPEN: u32 = 2;
@@ -120,7 +120,7 @@ impl Piece {
         ensures is { result ≡ group_of_row self.now }
         ensures few { result < 1029 }
     {
-        if self.had || !self.wanted || self.is_full() {
+        if self.had || !self.wanted {
             RESTING
         } else if self.touched == 0 {
             UNBEGUN + self.availability.min(CROWD)
