@@ -1,6 +1,6 @@
 -- Endgame by what is counted of all rows, and the pieces whose lacking blocks are all asked.
 use Rattle.std.proofs.Common.{◌≡◌, ℕ, zero, suc, ◌+◌, ◌-◌, ◌*◌, ◌<◌, ◌≤◌, ◌==◌, Bool, true, false, not, ◌&&◌, ◌||◌, Option, None, Some, List, [], ◌∷◌, ◌++◌, length, refl, ap, sym, ◌∙◌, subst, arith, ⊎_elim}
-use Rattle.std.specs.Prelude.{IfSome, IfNone, min, nat_lt, if◌then◌else◌}
+use Rattle.std.specs.Prelude.{IfSome, IfNone, nat_lt, if◌then◌else◌}
 use Rattle.std.specs.List.{sum_by}
 use Rattle.std.proofs.lemmas.Bool.{cases_eq, eq-eqb, ne_eqb, lt-ltb, false≢true, and_left, and_parts}
 use Rattle.std.proofs.lemmas.List.Sums.{sum_by_push, count_by-le-length}
@@ -10,16 +10,16 @@ use Rattle.bt_history.specs.Counting.{any_below, all_below, count_below, table}
 use Rattle.bt_history.specs.Setting.{Setting, is_block, some_block, some_block_of, each_block, each_block_of}
 use Rattle.bt_history.specs.History.{History}
 use Rattle.bt_history.specs.Peers.{shows, asked}
-use Rattle.bt_history.specs.Pieces.{had, held, full, held_or_asked, availability, chosen, wanted, endgame, interesting}
+use Rattle.bt_history.specs.Pieces.{had, held, held_or_asked, availability, chosen, wanted, endgame}
 use Rattle.bt_history.specs.Legal.{IsLegal}
 use Rattle.bt_history.specs.Next.{doubles}
-use Rattle.bt_history.proofs.Below.{any_found, any_none, any_witness, all_found, all_fails, all_at, any_same, count_at}
+use Rattle.bt_history.proofs.Below.{any_found, any_none, any_witness, all_found, all_at, any_same, count_at}
 use Rattle.bt_history.proofs.HeldLaws.{had_full}
 use Rattle.bt_picker.specs.Tables.{one_if, AreTables, TablesState, PieceState, piece_of}
 use Rattle.bt_picker.specs.Standings.{shown_group, group_of_row, groups_of, is_held, is_touched, standing_of, held_count, touched_count, FindsAmong, FindsListed}
 use Rattle.bt_order.specs.Orders.{at, ListsGroup}
 use Rattle.bt_picker.specs.Search.{Finds, FindsOf}
-use Rattle.bt_picker.proofs.Scans.{finds_in_piece, lacks_found, none_in_pieces}
+use Rattle.bt_picker.proofs.Scans.{finds_in_piece, none_in_pieces}
 use Rattle.bt_picker.proofs.Tabled.{length_table, get_or_table, table_more}
 use Rattle.bt_picker.proofs.Rows.{group_is, wanted_chosen, full_row, all_touched_row, cells_long, counted_all, held_counted}
 
@@ -213,25 +213,6 @@ pub listed_at : (s : Setting) (h : History) (q n : ℕ) (pieces : List ℕ) (p :
     → FindsListed (shows h q) pieces (length pieces) (Some p)
 listed_at s h q n pieces p lists lp shown is =
     (shown, lists.all p (omega (arith, length_table (piece_count s.torrent) (λ r. group_of_row (piece_of s h r)), lp)) is)
-
--- ---- interest: a piece of group 1 isn't had
-
-group_one : (a w t u : Bool) (n : ℕ) → (if a || not w then 0 else if not t then 3 + n else if u then 1 else 2) ≡ 1 → (a ≡ false) × (w ≡ true)
-group_one true w t u n is = absurd (omega (arith, is))
-group_one false false t u n is = absurd (omega (arith, is))
-group_one false true t u n is = (refl, refl)
-
-pub asked_out_interests : (s : Setting) (h : History) (q : ℕ) (pieces : List ℕ) (p : ℕ) → ListsGroup (groups_of s h) 1 pieces → FindsListed (shows h q) pieces (length pieces) (Some p)
-    → interesting s h q ≡ true
-asked_out_interests s h q pieces p lists found =
-    let i = found.1.0 in
-    let lp : p < piece_count s.torrent = subst (λ (m : ℕ). m < piece_count s.torrent) found.1.2 (group_within s h 1 pieces lists i found.1.1) in
-    let one : group_of_row (piece_of s h p) ≡ 1 =
-    sym (get_or_table (piece_count s.torrent) (λ r. group_of_row (piece_of s h r)) p 0 lp) ∙ (ap (at (groups_of s h)) (sym found.1.2) ∙ lists.each i found.1.1) in
-    let known =
-    group_one (had h p) (chosen h p) (some_block_of s.torrent p (held_or_asked s h)) (each_block_of s.torrent p (held_or_asked s h)) (min (availability s h p) 1025)
-    (sym (group_is s h p) ∙ one) in
-    lacks_found s h (shows h q) p (wanted_chosen s h p lp ∙ known.1) found.0 known.0 lp
 
 -- ---- a piece that lacks one block
 

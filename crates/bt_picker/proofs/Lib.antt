@@ -10,10 +10,13 @@ pub mod Entered
 pub mod Cells
 pub mod Kept
 pub mod Shelves
+pub mod Floors
 pub mod Scans
 pub mod Rows
 pub mod Endings
 pub mod Unbegun
+pub mod Interest
+pub mod Learning
 pub mod Choices
 pub mod Reading
 pub mod Arriving

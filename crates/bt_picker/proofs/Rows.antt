@@ -15,9 +15,10 @@ use Rattle.bt_history.specs.Pieces.{had, held, full, held_or_asked, begun, avail
 use Rattle.bt_history.specs.Next.{continues, is_candidate}
 use Rattle.bt_history.proofs.Below.{any_fails, any_witness, all_found, all_fails, count_most, count_same}
 use Rattle.bt_picker.specs.Tables.{piece_of, cell_of}
+use Rattle.bt_picker.specs.Floors.{NoneRarer}
 use Rattle.bt_picker.specs.Standings.{is_held, is_touched, held_count, touched_count, shown_group, group_of_row, groups_of, FindsListed, FindsRarest, IsRarer}
 use Rattle.bt_picker.proofs.Tabled.{table_more, length_table, get_or_table}
-use Rattle.bt_picker.proofs.Scans.{finds_in_piece, none_in_pieces, first_block}
+use Rattle.bt_picker.proofs.Scans.{finds_in_piece, none_in_pieces}
 use Rattle.bt_order.specs.Orders.{at, ListsGroup}
 use Rattle.bt_picker.specs.Search.{Finds, FindsOf, FindsLeast, rank_of}
 use Rattle.bt_picker.proofs.Cells.{place_kept, any_counted, asked_counted}
@@ -80,7 +81,7 @@ module _ (s : Setting) (h : History) (p : ℕ) where
   pub touched_row : nat_lt 0 (touched_count (piece_of s h p).blocks) ≡ some_block_of s.torrent p (held_or_asked s h)
   touched_row = ap (nat_lt 0) touched_counted ∙ sym (any_counted (block_count s.torrent p) (λ k. held_or_asked s h (block s.torrent p k)))
 
-  untouched_row : (touched_count (piece_of s h p).blocks == 0) ≡ not (some_block_of s.torrent p (held_or_asked s h))
+  pub untouched_row : (touched_count (piece_of s h p).blocks == 0) ≡ not (some_block_of s.torrent p (held_or_asked s h))
   untouched_row = ap (λ (n : ℕ). n == 0) touched_counted ∙ counted_none (block_count s.torrent p) (λ k. held_or_asked s h (block s.torrent p k))
 
   pub all_touched_row : (touched_count (piece_of s h p).blocks == length (piece_of s h p).blocks) ≡ each_block_of s.torrent p (held_or_asked s h)
@@ -252,10 +253,6 @@ candidate_group s h q p is =
     let parts = candidate_parts (wanted s h p) (shows h q p) (had h p) (some_block_of s.torrent p (held_or_asked s h)) is in
     let picked : chosen h p ≡ true = (and_parts (nat_lt p (piece_count s.torrent)) (chosen h p) parts.3).1 in
     (parts.0, unbegun_group s h p picked parts.1 parts.2)
-
--- no candidate is shown by fewer peers than n
-abbrev pub NoneRarer : Setting → History → ℕ → ℕ → Type 0
-NoneRarer s h q n = (p : ℕ) → p < piece_count s.torrent → is_candidate s h q p ≡ true → n ≤ availability s h p
 
 module _ (s : Setting) (h : History) (q n : ℕ) (pieces : List ℕ) (layout : IsLayout s.torrent) (under : n < 1025) (lists : ListsGroup (groups_of s h) (3 + n) pieces) (so_far : NoneRarer s h q n) where
   long : length (groups_of s h) ≡ piece_count s.torrent

@@ -1,5 +1,6 @@
 pub mod Tables
 pub mod Standings
+pub mod Floors
 pub mod Search
 pub mod Positions
 pub mod Checks

@@ -122,7 +122,7 @@ impl<'a> Position<'a> {
         // Read so that the proof has what holds of every position: its torrent has no empty piece.
         let _layout = &self.tables;
         let most = self.workers().min(CROWD - 1);
-        for shown_by in 0..most + 1 {
+        for shown_by in self.floor(worker)..most + 1 {
             let pieces = self.group(UNBEGUN + shown_by);
             if let Some(piece) = self.nearest_of(worker, UNBEGUN + shown_by, pieces, first) {
                 return Some(piece);
@@ -382,7 +382,7 @@ impl<'a> Position<'a> {
     fn some_shown(&self, worker: u32, pieces: &[u32]) -> Option<u32>
         requires worker { worker < self.now.setting.workers }
         requires pieces { (i : ℕ) → i < length pieces.now → at pieces.now i < piece_count self.now.setting.torrent }
-        ensures { IfSome result (λ p. FindsListed (shows self.now.history worker) pieces.now (length pieces.now) (Some p)) }
+        ensures { FindsListed (shows self.now.history worker) pieces.now (length pieces.now) result }
     {
         for piece in pieces {
             if self.shows(worker, *piece) {
@@ -392,15 +392,19 @@ impl<'a> Position<'a> {
         None
     }
 
-    /// Whether the peer shows a wanted piece that isn't had: where nothing is asked of it, it is mostly one whose blocks are all asked.
-    fn is_idle(&self, worker: u32) -> bool
+    /// Whether the worker's peer shows a wanted piece that isn't had: one whose lacking blocks are all asked, another begun one, or an
+    /// unbegun one.
+    pub fn is_interesting(&self, worker: u32) -> bool
         requires { worker < self.now.setting.workers }
         ensures { result ≡ interesting self.now.setting self.now.history worker }
     {
-        match self.some_shown(worker, self.group(ASKED_OUT)) {
-            Some(_) => true,
-            None => self.is_interesting(worker),
+        if let Some(_) = self.some_shown(worker, self.group(ASKED_OUT)) {
+            return true;
         }
+        if let Some(_) = self.some_shown(worker, self.group(OPEN)) {
+            return true;
+        }
+        self.rarest(worker, 0).is_some()
     }
 
     /// Which rule answers Next, where the peer is open and its pipe has room.
@@ -421,7 +425,7 @@ impl<'a> Position<'a> {
         if let Some(block) = self.asking_again(worker) {
             return Ruling::Doubling(block);
         }
-        if self.is_idle(worker) {
+        if self.is_interesting(worker) {
             Ruling::Just(Reply::Idle)
         } else {
             Ruling::Just(Reply::NothingLeft)

@@ -8,11 +8,12 @@ ghost use Rattle.bt_history.specs.History.{same_place};
 ghost use Rattle.bt_history.specs.Peers.{joined, late, shows, is_open, outstanding, asked, due, dues, flag};
 ghost use Rattle.bt_history.specs.Pieces.{availability, asked_of_some, begun, full, had, held, held_or_asked, interesting, kept, lacks, unbegun, wanted};
 ghost use Rattle.bt_order.specs.Orders.{at, ListsGroup};
+ghost use Rattle.bt_picker.specs.Floors.{NoneRarer};
 ghost use Rattle.bt_picker.specs.Standings.{cell_kept, groups_of};
 ghost use Rattle.bt_picker.specs.Tables.{AreTables, cell_of, peer_of, piece_of, place};
 
-use crate::peer::Peer;
 use crate::cell::Cell;
+use crate::peer::Peer;
 use crate::piece::Piece;
 use crate::tables::Tables;
 use bt_history::{Call, Entry};
@@ -124,6 +125,14 @@ impl<'a> Position<'a> {
         ensures { result ≡ at (groups_of self.now.setting self.now.history) piece }
     {
         self.tables.group_of(piece)
+    }
+
+    /// No piece that may be begun at the worker's peer is shown by fewer peers than this.
+    pub(crate) fn floor(&self, worker: u32) -> u32
+        requires { worker < self.now.setting.workers }
+        ensures { NoneRarer self.now.setting self.now.history worker result }
+    {
+        self.tables.floor(worker)
     }
 
     fn cell(&self, piece: u32, index: u32) -> Cell
@@ -265,20 +274,6 @@ impl<'a> Position<'a> {
         ensures { result ≡ wanted self.now.setting self.now.history piece }
     {
         self.piece(piece).is_wanted()
-    }
-
-    /// Whether the worker's peer shows a wanted piece that isn't had.
-    #[tactic(auto, using(crate::proofs::Scans::lacks_found, crate::proofs::Scans::lacks_none))]
-    pub fn is_interesting(&self, worker: u32) -> bool
-        requires { worker < self.now.setting.workers }
-        ensures { result ≡ interesting self.now.setting self.now.history worker }
-    {
-        for piece in 0..self.piece_count() {
-            if self.is_wanted(piece) && self.shows(worker, piece) && !self.had(piece) {
-                return true;
-            }
-        }
-        false
     }
 
     /// The number of the block's entry in the journal, if the block is held.

@@ -1,4 +1,4 @@
-ghost use Rattle.std.specs.Prelude.{◌≡◌, ◌<◌, ◌≤◌, ◌+◌, ◌^◌, ◌*◌, ◌/◌, ◌==◌, ◌∷◌, [], ℕ, Bool, false, length, map, slice_index_or, not, IfOk, Some, IsTrue, EachIndex, unwrap_or};
+ghost use Rattle.std.specs.Prelude.{◌≡◌, ◌<◌, ◌≤◌, ◌+◌, ◌^◌, ◌*◌, ◌/◌, ◌==◌, ◌∷◌, [], ℕ, Bool, false, length, map, slice_index_or, not, true, IfOk, IfSome, Some, IsTrue, EachIndex, unwrap_or};
 ghost use Rattle.bt_meta.specs.Layout.{block_count, piece_count, block_size};
 ghost use Rattle.std.specs.Option.{option_copied};
 ghost use Rattle.std.specs.List.{count_by, sum_by};
@@ -10,10 +10,11 @@ ghost use Rattle.bt_history.specs.Legal.{IsAllowed};
 ghost use Rattle.bt_history.specs.History.{stores};
 ghost use Rattle.bt_meta.specs.declared.block.Block.{Block};
 ghost use Rattle.bt_history.specs.Counting.{count_below, table};
-ghost use Rattle.bt_picker.specs.Tables.{AreAskers, AreCounted, AreTables, asks_at, HasBlock, HasRoomFor, bits_row, leave_row, PeerState, PieceState, TablesState, after_arrival, after_check, after_next, announced, cancel_row, late_row, empty_cell, entered_call, fresh_peer, fresh_piece, have_row, join_row, choke_row, unchoke_row, less_available, lowered, lowered_by, more_available, peer_row, piece_row, recounted, released, reshown, rewanted, wanted_by, with_block, with_peer, without_block};
+ghost use Rattle.bt_picker.specs.Floors.{IsFloor, IsRarestStart, TellsFloor};
+ghost use Rattle.bt_picker.specs.Tables.{AreAskers, AreCounted, AreTables, asks_at, HasBlock, HasRoomFor, bits_row, leave_row, PeerState, PieceState, TablesState, after_arrival, after_check, after_next, announced, cancel_row, late_row, edit, empty_cell, failed_row, entered_call, fresh_peer, fresh_piece, have_row, join_row, choke_row, unchoke_row, less_available, lowered, lowered_by, more_available, peer_row, piece_row, recounted, released, reshown, rewanted, wanted_by, with_block, with_peer, without_block};
 
 use crate::peer::Peer;
-use crate::piece::{Change, Piece};
+use crate::piece::{Change, Piece, UNBEGUN};
 use crate::pieces::Pieces;
 use bt_history::{Call, Entry, Reply, Rules};
 use bt_meta::{BLOCK_SIZE, Bitfield, Block, Torrent};
@@ -31,9 +32,12 @@ pub struct Tables {
     rules: Rules,
     peers: Vec<Peer>,
     pieces: Pieces,
+    /// For each peer a number: it shows no unbegun wanted piece that fewer peers show.
+    floors: Vec<u32>,
 }
 
 impl Model for Tables {
+    ghost use Rattle.bt_picker.specs.Floors.{AreFloors};
     ghost use Rattle.bt_history.specs.Setting.{setting_of};
     ghost use Rattle.bt_picker.specs.Tables.{TablesState};
 
@@ -44,6 +48,8 @@ impl Model for Tables {
       peers = t.peers.items;
       pieces = t.pieces;
     } };
+
+    ghost invariant = { λ t. AreFloors t.floors.items t.peers.items t.pieces };
 }
 
 impl Tables {
@@ -66,6 +72,7 @@ impl Tables {
             rules,
             peers,
             pieces,
+            floors: vec![in alloc; 0; workers as usize]?,
         })
     }
 
@@ -139,6 +146,48 @@ impl Tables {
         self.pieces.had()
     }
 
+    /// The worker's peer shows no unbegun wanted piece that fewer peers than this show.
+    pub fn floor(&self, worker: u32) -> u32
+        requires { worker < length self.now.peers }
+        ensures { IsFloor self.now.pieces (peer_row self.now.peers worker) result }
+    {
+        self.floors[worker as usize]
+    }
+
+    /// The floor that a reply to Next tells: once enough pieces are had, a piece that begins is a rarest one; and where nothing is to be
+    /// asked, the peer shows no unbegun wanted piece.
+    fn floor_told(&self, reply: Reply) -> Option<u32>
+        ensures { IfSome result (λ n. TellsFloor self.now reply n) }
+    {
+        match reply {
+            Reply::Request(block) if self.begins(block.piece) => {
+                Some(self.pieces.row(block.piece).availability())
+            }
+            Reply::Idle | Reply::NothingLeft => Some(u32::MAX),
+            _ => None,
+        }
+    }
+
+    /// Notes the floor that the reply to Next tells.
+    fn learn(&mut self, worker: u32, reply: Reply)
+        requires worker { worker < length self.old.peers }
+        requires told { (n : ℕ) → TellsFloor self.old reply n → IsFloor self.old.pieces (peer_row self.old.peers worker) n }
+        ensures { self.new ≡ self.old }
+    {
+        if let Some(floor) = self.floor_told(reply) {
+            self.floors[worker as usize] = floor;
+        }
+    }
+
+    /// Whether the piece begins as a rarest one, if one of its blocks is asked for.
+    fn begins(&self, piece: u32) -> bool
+        ensures { result ≡ true → IsRarestStart self.now piece }
+    {
+        self.pieces.had() >= self.rules.random
+            && (piece as usize) < self.pieces.len()
+            && self.pieces.group_of(piece) >= UNBEGUN
+    }
+
     /// Enters one more entry: `older` is the journal before it.
     pub fn enter(&mut self, older: &[Entry], worker: u32, call: &Call, reply: Reply)
         requires short { length older.now < 2 ^ 32 }
@@ -156,7 +205,10 @@ impl Tables {
             Call::Have(piece) => self.put_have(worker, *piece),
             Call::Choke => self.choke(worker),
             Call::Unchoke => self.unchoke(worker),
-            Call::Next(_) => self.put_next(worker, reply),
+            Call::Next(_) => {
+                self.learn(worker, reply);
+                self.put_next(worker, reply);
+            }
             Call::Arrived { piece, begin, .. } => {
                 self.put_arrival(worker, *piece, *begin, older.len() as u32, reply);
             }
@@ -172,6 +224,7 @@ impl Tables {
         ensures { self.new ≡ released self.old worker }
     {
         lower_all(&mut self.pieces, self.peers[worker as usize].asked());
+        self.floors.fill(0);
     }
 
     /// The worker's peer shows these pieces in place of those that it showed, or none.
@@ -181,6 +234,7 @@ impl Tables {
         ensures { self.new ≡ reshown self.old worker (unwrap_or (option_copied flags.entry) []) }
     {
         recount(&mut self.pieces, self.peers[worker as usize].shown(), flags);
+        self.floors.fill(0);
     }
 
     fn join(&mut self, worker: u32)
@@ -213,6 +267,7 @@ impl Tables {
         ensures { self.new ≡ with_peer (reshown self.old worker flags.now) worker (bits_row flags.now) }
     {
         self.reshow(worker, Some(flags));
+        self.floors[worker as usize] = 0;
         self.peers[worker as usize].put_bits(flags);
     }
 
@@ -229,6 +284,9 @@ impl Tables {
             shows: is_new,
         };
         self.pieces.apply(piece, change);
+        let shown_by = self.pieces.row(piece).availability();
+        let floor = self.floors[worker as usize];
+        self.floors[worker as usize] = floor.min(shown_by);
         self.peers[worker as usize].put_have(piece);
     }
 
@@ -314,14 +372,24 @@ impl Tables {
     {
         match reply {
             Reply::Had => self.pieces.apply(piece, Change::Pass),
-            _ => self.pieces.apply(piece, Change::Fail),
+            _ => self.fail(piece),
         }
+    }
+
+    /// A check of the piece found another hash.
+    fn fail(&mut self, piece: u32)
+        requires { piece < length self.old.pieces }
+        ensures { self.new ≡ record self.old { pieces = edit self.old.pieces piece failed_row } }
+    {
+        self.pieces.apply(piece, Change::Fail);
+        self.floors.fill(0);
     }
 
     fn put_want(&mut self, flags: &Bitfield)
         ensures { self.new ≡ rewanted self.old flags.now }
     {
         rewant(&mut self.pieces, flags);
+        self.floors.fill(0);
     }
 }
 

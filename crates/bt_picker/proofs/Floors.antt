@@ -1,0 +1,152 @@
+-- The floors of all peers, as a row of a peer or of a piece changes.
+use Rattle.std.proofs.Common.{◌≡◌, ℕ, zero, suc, ◌+◌, ◌<◌, ◌≤◌, ◌&&◌, ◌||◌, Bool, true, false, not, List, length, get_or, set, replicate, refl, ap, sym, ◌∙◌, subst, arith, length-set, cond, Some, ◌-◌}
+use Rattle.std.specs.Prelude.{slice_index_or, is_some}
+use Rattle.std.proofs.lemmas.Bool.{false≢true, ne_eqb, lt-ltb, and_right, or_right}
+use Rattle.std.proofs.lemmas.List.Sums.{get_or-le-sum_by}
+use Rattle.std.proofs.lemmas.List.{get_or_default, get_or-set_same, get_or-set_other, get_or-replicate, length-replicate}
+use Rattle.bt_order.specs.Orders.{at}
+use Rattle.bt_picker.specs.Tables.{CellState, PeerState, PieceState, changed_row, edit, empty_cell, fresh_peer, fresh_piece, have_row, one_if, one_more, peer_row, piece_row, stored_row}
+use Rattle.bt_picker.specs.declared.piece.Change.TheVariants.{Raise}
+use Rattle.bt_picker.specs.Standings.{is_resting, is_touched, touched_count}
+use Rattle.bt_picker.proofs.Tabled.{edit_read}
+use Rattle.bt_picker.specs.Floors.{AreFloors, IsFloor, is_fresh}
+use mathlib.Core.Logic.{dite}
+use native.Mathlib.Decide.{ℕ_discrete}
+
+-- ---- no floor at all
+
+pub no_floor : (rows : List PieceState) (peer : PeerState) → IsFloor rows peer 0
+no_floor rows peer p lp shown fresh = omega arith
+
+pub no_floors : (n : ℕ) (peers : List PeerState) (rows : List PieceState) → length peers ≡ n → AreFloors (replicate n 0) peers rows
+no_floors n peers rows is = record {
+  len = length-replicate n 0 ∙ sym is;
+  each = λ q lq p lp shown fresh. (let none : at (replicate n 0) q ≡ 0 = get_or-replicate n q 0 0 (omega (arith, is, lq)) in omega (arith, none));
+}
+
+-- ---- a peer's row changes
+
+pub set_floor : (floors : List ℕ) (peers : List PeerState) (rows : List PieceState) (w n : ℕ) (row : PeerState) → AreFloors floors peers rows → w < length peers
+    → IsFloor rows row n → AreFloors (set floors w n) (set peers w row) rows
+set_floor floors peers rows w n row are lw here = record {
+  len = length-set floors w n ∙ (are.len ∙ sym (length-set peers w row));
+  each = λ q lq. (let within : q < length peers = omega (arith, lq, length-set peers w row) in dite (ℕ_discrete q w)
+      (λ same. subst (λ (m : ℕ). IsFloor rows (peer_row (set peers w row) m) (at (set floors w n) m)) (sym same)
+      (subst (λ (r : PeerState). IsFloor rows r (at (set floors w n) w)) (sym (get_or-set_same peers w row (fresh_peer 0) lw))
+      (subst (IsFloor rows row) (sym (get_or-set_same floors w n 0 (omega (arith, are.len, lw)))) here)))
+      (λ other. subst (λ (r : PeerState). IsFloor rows r (at (set floors w n) q)) (sym (get_or-set_other peers w q row (fresh_peer 0) other))
+      (subst (IsFloor rows (peer_row peers q)) (sym (get_or-set_other floors w q n 0 other)) (are.each q within))));
+}
+
+pub set_peer : (floors : List ℕ) (peers : List PeerState) (rows : List PieceState) (w : ℕ) (row : PeerState) → AreFloors floors peers rows → w < length peers
+    → (IsFloor rows (peer_row peers w) (at floors w) → IsFloor rows row (at floors w)) → AreFloors floors (set peers w row) rows
+set_peer floors peers rows w row are lw keeps = record {
+  len = are.len ∙ sym (length-set peers w row);
+  each = λ q lq. (let within : q < length peers = omega (arith, lq, length-set peers w row) in dite (ℕ_discrete q w)
+      (λ same. subst (λ (m : ℕ). IsFloor rows (peer_row (set peers w row) m) (at floors m)) (sym same)
+      (subst (λ (r : PeerState). IsFloor rows r (at floors w)) (sym (get_or-set_same peers w row (fresh_peer 0) lw)) (keeps (are.each w lw))))
+      (λ other. subst (λ (r : PeerState). IsFloor rows r (at floors q)) (sym (get_or-set_other peers w q row (fresh_peer 0) other)) (are.each q within)));
+}
+
+-- a peer that shows nothing has any floor
+pub shows_none : (rows : List PieceState) (row : PeerState) (k n : ℕ) → row.shows ≡ replicate k false → IsFloor rows row n
+shows_none rows row k n none p lp shown fresh = absurd (false≢true (sym (ap (λ (flags : List Bool). slice_index_or flags p false) none ∙ clear k p) ∙ shown)) where
+  clear : (m i : ℕ) → slice_index_or (replicate m false) i false ≡ false
+  clear zero i = refl
+  clear (suc m) zero = refl
+  clear (suc m) (suc i) = clear m i
+
+-- the floors are of what the peers show alone
+pub same_shows : (floors : List ℕ) (peers now : List PeerState) (rows : List PieceState) → AreFloors floors peers rows → length now ≡ length peers
+    → ((q : ℕ) → q < length peers → (peer_row now q).shows ≡ (peer_row peers q).shows) → AreFloors floors now rows
+same_shows floors peers now rows are len same = record {
+  len = are.len ∙ sym len;
+  each = λ q lq p lp shown fresh. (let within : q < length peers = omega (arith, lq, len) in
+      are.each q within p lp (ap (λ (flags : List Bool). slice_index_or flags p false) (sym (same q within)) ∙ shown) fresh);
+}
+
+-- ---- a piece's row changes
+
+pub set_piece : (floors : List ℕ) (peers : List PeerState) (rows : List PieceState) (p : ℕ) (row : PieceState) → AreFloors floors peers rows → p < length rows
+    → (is_fresh row ≡ true → (is_fresh (piece_row rows p) ≡ true) × ((piece_row rows p).availability ≤ row.availability)) → AreFloors floors peers (set rows p row)
+set_piece floors peers rows p row are lp grows = record {
+  len = are.len;
+  each = λ q lq r lr shown fresh. dite (ℕ_discrete r p)
+      (λ same.
+      let now : piece_row (set rows p row) r ≡ row = ap (piece_row (set rows p row)) same ∙ get_or-set_same rows p row (fresh_piece 0) lp in
+      let more = grows (ap is_fresh (sym now) ∙ fresh) in
+      let low = are.each q lq p lp (ap (λ (m : ℕ). slice_index_or (peer_row peers q).shows m false) (sym same) ∙ shown) more.0 in
+      let is : (piece_row (set rows p row) r).availability ≡ row.availability = ap (λ (s : PieceState). s.availability) now in
+      omega (arith, low, more.1, is))
+      (λ other.
+      let now : piece_row (set rows p row) r ≡ piece_row rows r = get_or-set_other rows p r row (fresh_piece 0) other in
+      let low = are.each q lq r (omega (arith, lr, length-set rows p row)) shown (ap is_fresh (sym now) ∙ fresh) in
+      let is : (piece_row (set rows p row) r).availability ≡ (piece_row rows r).availability = ap (λ (s : PieceState). s.availability) now in
+      omega (arith, low, is));
+}
+
+-- a piece that isn't fresh keeps all floors
+pub set_stale : (floors : List ℕ) (peers : List PeerState) (rows : List PieceState) (p : ℕ) (row : PieceState) → AreFloors floors peers rows → p < length rows
+    → is_fresh row ≡ false → AreFloors floors peers (set rows p row)
+set_stale floors peers rows p row are lp stale = set_piece floors peers rows p row are lp (λ fresh. absurd (false≢true (sym stale ∙ fresh)))
+
+pub edit_piece : (floors : List ℕ) (peers : List PeerState) (rows : List PieceState) (p : ℕ) (f : PieceState → PieceState) → AreFloors floors peers rows → p < length rows
+    → (is_fresh (f (piece_row rows p)) ≡ true → (is_fresh (piece_row rows p) ≡ true) × ((piece_row rows p).availability ≤ (f (piece_row rows p)).availability))
+    → AreFloors floors peers (edit rows p f)
+edit_piece floors peers rows p f are lp grows =
+    subst (AreFloors floors peers) (edit_read rows p f (piece_row rows p) (fresh_piece 0) lp refl) (set_piece floors peers rows p (f (piece_row rows p)) are lp grows)
+
+pub edit_stale : (floors : List ℕ) (peers : List PeerState) (rows : List PieceState) (p : ℕ) (f : PieceState → PieceState) → AreFloors floors peers rows → p < length rows
+    → is_fresh (f (piece_row rows p)) ≡ false → AreFloors floors peers (edit rows p f)
+edit_stale floors peers rows p f are lp stale = edit_piece floors peers rows p f are lp (λ fresh. absurd (false≢true (sym stale ∙ fresh)))
+
+-- a piece with a block that is held or asked isn't fresh
+touched_stale : (row : PieceState) (i : ℕ) → i < length row.blocks → is_touched (get_or row.blocks i empty_cell) ≡ true → is_fresh row ≡ false
+touched_stale row i li touched =
+    let counts : Bool → ℕ = λ x. cond x 1 0 in
+    let one : counts (is_touched (get_or row.blocks i empty_cell)) ≡ 1 = ap counts touched in
+    let part = get_or-le-sum_by (λ (c : CellState). cond (is_touched c) 1 0) row.blocks i empty_cell li in
+    ap (λ (x : Bool). not (is_resting row) && x) (ne_eqb (touched_count row.blocks) 0 (λ none. omega (arith, one, part, none)))
+    ∙ and_right (not (is_resting row)) false refl
+
+pub raised_stale : (row : PieceState) (i : ℕ) → i < length row.blocks → is_fresh (changed_row (Raise i) row) ≡ false
+raised_stale row i li =
+    let cell = get_or row.blocks i empty_cell in
+    let is : set row.blocks i (one_more cell) ≡ edit row.blocks i one_more = edit_read row.blocks i one_more cell empty_cell li refl in
+    let here : get_or (edit row.blocks i one_more) i empty_cell ≡ one_more cell =
+    ap (λ (cells : List CellState). get_or cells i empty_cell) (sym is) ∙ get_or-set_same row.blocks i (one_more cell) empty_cell li in
+    touched_stale (changed_row (Raise i) row) i (omega (arith, li, ap length is, length-set row.blocks i (one_more cell)))
+    (ap is_touched here ∙ (ap (λ (x : Bool). is_some cell.stored_at || x) (lt-ltb 0 (cell.askers + 1) (omega arith)) ∙ or_right (is_some cell.stored_at) true refl))
+
+pub stored_stale : (row : PieceState) (i entry : ℕ) → i < length row.blocks → is_fresh (stored_row i entry row) ≡ false
+stored_stale row i entry li =
+    let cell : CellState = record { stored_at = Some entry; askers = 0 } in
+    touched_stale (stored_row i entry row) i (omega (arith, li, length-set row.blocks i cell)) (ap is_touched (get_or-set_same row.blocks i cell empty_cell li))
+
+-- ---- a peer's row as the calls change it
+
+pub kept_peer : (floors : List ℕ) (peers : List PeerState) (rows : List PieceState) (w : ℕ) (old now : PeerState) → AreFloors floors peers rows → w < length peers
+    → old ≡ get_or peers w old → now.shows ≡ old.shows → AreFloors floors (set peers w now) rows
+kept_peer floors peers rows w old now are lw read same =
+    let row : old ≡ peer_row peers w = read ∙ get_or_default peers w old (fresh_peer 0) lw in
+    let flags : now.shows ≡ (peer_row peers w).shows = same ∙ ap (λ (r : PeerState). r.shows) row in
+    set_peer floors peers rows w now are lw
+    (λ floor p lp shown fresh. floor p lp (ap (λ (fs : List Bool). slice_index_or fs p false) (sym flags) ∙ shown) fresh)
+
+pub silent_peer : (floors : List ℕ) (peers : List PeerState) (rows : List PieceState) (w k : ℕ) (now : PeerState) → AreFloors floors peers rows → w < length peers
+    → now.shows ≡ replicate k false → AreFloors floors (set peers w now) rows
+silent_peer floors peers rows w k now are lw none = set_peer floors peers rows w now are lw (λ floor. shows_none rows now k (at floors w) none)
+
+-- a piece that is shown too may lower the floor
+pub have_floor : (rows : List PieceState) (row : PeerState) (p n : ℕ) → n ≤ (piece_row rows p).availability → IsFloor rows row n → IsFloor rows (have_row p row) n
+have_floor rows row p n low floor r lr shown fresh = dite (ℕ_discrete r p)
+    (λ same. subst (λ (m : ℕ). n ≤ (piece_row rows m).availability) (sym same) low)
+    (λ other. floor r lr (sym (get_or-set_other row.shows p r true false other) ∙ shown) fresh)
+
+pub less_floor : (rows : List PieceState) (row : PeerState) (n m : ℕ) → m ≤ n → IsFloor rows row n → IsFloor rows row m
+less_floor rows row n m le floor p lp shown fresh = (let low = floor p lp shown fresh in omega (arith, low, le))
+
+-- a count that may grow by one
+pub no_less : (n : ℕ) (x : Bool) → n ≤ n - one_if false + one_if x
+no_less n true = omega arith
+no_less n false = omega arith

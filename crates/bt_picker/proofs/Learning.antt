@@ -1,0 +1,203 @@
+-- Floors by the history: no candidate is shown by fewer peers; and what a reply tells of it.
+use Rattle.std.proofs.Common.{◌≡◌, ◌⊎◌, ℕ, ◌<◌, ◌≤◌, Bool, true, false, not, ◌&&◌, ◌||◌, refl, ap, sym, ◌∙◌, subst, inl, inr, ⊎_elim, arith}
+use Rattle.std.specs.Prelude.{nat_le, nat_lt, slice_index_or, if◌then◌else◌}
+use Rattle.std.proofs.lemmas.Bool.{and_from, and_parts, false≢true, leb-true, le-ltb}
+use Rattle.bt_meta.specs.declared.block.Block.{Block}
+use Rattle.bt_meta.specs.Layout.{Layout, IsLayout, piece_count, block}
+use Rattle.bt_history.specs.declared.call.Reply.{Reply}
+use Rattle.bt_history.specs.declared.call.Reply.TheVariants.{Request, Idle, NothingLeft}
+use Rattle.bt_history.specs.declared.event.Action.TheVariants.{Next}
+use Rattle.bt_history.specs.declared.event.Event.{Event}
+use Rattle.bt_history.specs.Setting.{Setting, each_block_of, some_block, some_block_of}
+use Rattle.bt_history.specs.History.{History}
+use Rattle.bt_history.specs.Peers.{shows}
+use Rattle.bt_history.specs.Pieces.{availability, begun, chosen, had, had_count, held_or_asked, unbegun, wanted}
+use Rattle.bt_history.specs.declared.call.Reply.TheVariants as said
+use Rattle.bt_history.specs.Legal.{IsAllowed, Permits, answer}
+use Rattle.bt_history.specs.Next.{continues, is_candidate, is_rarest, starts, usable}
+use Rattle.bt_history.proofs.Allowed.{answered, no_cause}
+use Rattle.bt_history.proofs.Below.{all_at}
+use Rattle.bt_history.proofs.LineLaws.{block_is_block, some_found}
+use Rattle.bt_history.proofs.NextCases.{next_cases, next_is}
+use Rattle.bt_picker.specs.Floors.{IsFloor, NoneRarer, TellsFloor, is_fresh}
+use Rattle.bt_picker.specs.Standings.{group_of_row, shown_group}
+use Rattle.std.specs.List.{count_by}
+use Rattle.bt_picker.specs.Tables.{AreTables, PieceState, TablesState, fresh_peer, fresh_piece, peer_of, peer_row, piece_of, piece_row}
+use Rattle.bt_picker.proofs.Rows.{group_is, had_rows, untouched_row, wanted_chosen}
+use Rattle.bt_picker.proofs.Scans.{candidate_usable, first_block}
+use Rattle.bt_picker.proofs.Tabled.{get_or_is_table, get_or_table}
+
+-- ---- a fresh piece that the peer shows is a candidate, and there are no others
+
+fresh_is : (s : Setting) (h : History) (p : ℕ) → is_fresh (piece_of s h p)
+    ≡ (not (had h p || not (chosen h p)) && not (some_block_of s.torrent p (held_or_asked s h)))
+fresh_is s h p = ap (λ (x : Bool). not (had h p || not (chosen h p)) && x) (untouched_row s h p)
+
+fresh_parts : (d c t : Bool) → (not (d || not c) && not t) ≡ true → (d ≡ false) × (c ≡ true) × (t ≡ false)
+fresh_parts true c t is = absurd (cc is)
+fresh_parts false false t is = absurd (cc is)
+fresh_parts false true true is = absurd (cc is)
+fresh_parts false true false is = (refl, refl, refl)
+
+fresh_candidate : (s : Setting) (h : History) (q p : ℕ) → p < piece_count s.torrent → shows h q p ≡ true → is_fresh (piece_of s h p) ≡ true → is_candidate s h q p ≡ true
+fresh_candidate s h q p lp shown fresh =
+    let parts = fresh_parts (had h p) (chosen h p) (some_block_of s.torrent p (held_or_asked s h)) (sym (fresh_is s h p) ∙ fresh) in
+    and_from (wanted s h p) _ (wanted_chosen s h p lp ∙ parts.1)
+    (and_from (shows h q p) _ shown (and_from (not (had h p)) _ (ap not parts.0) (ap not parts.2)))
+
+candidate_split : (w v d t : Bool) → (w && (v && (not d && not t))) ≡ true → (w ≡ true) × (v ≡ true) × (d ≡ false) × (t ≡ false)
+candidate_split false v d t is = absurd (cc is)
+candidate_split true false d t is = absurd (cc is)
+candidate_split true true true t is = absurd (cc is)
+candidate_split true true false true is = absurd (cc is)
+candidate_split true true false false is = (refl, refl, refl, refl)
+
+candidate_fresh : (s : Setting) (h : History) (q p : ℕ) → p < piece_count s.torrent → is_candidate s h q p ≡ true → (shows h q p ≡ true) × (is_fresh (piece_of s h p) ≡ true)
+candidate_fresh s h q p lp is =
+    let parts = candidate_split (wanted s h p) (shows h q p) (had h p) (some_block_of s.torrent p (held_or_asked s h)) is in
+    let picked : chosen h p ≡ true = sym (wanted_chosen s h p lp) ∙ parts.0 in
+    (parts.1, fresh_is s h p ∙ (λ i. not (parts.2 i || not (picked i)) && not (parts.3 i)))
+
+module _ (t : TablesState) (h : History) (w : ℕ) (are : AreTables t h) (lw : w < t.setting.workers) where
+  row_is : (p : ℕ) → p < piece_count t.setting.torrent → piece_row t.pieces p ≡ piece_of t.setting h p
+  row_is p lp = get_or_is_table t.pieces (piece_count t.setting.torrent) (piece_of t.setting h) p (fresh_piece 0) are.pieces_are lp
+
+  flag_is : (p : ℕ) → p < piece_count t.setting.torrent → slice_index_or (peer_row t.peers w).shows p false ≡ shows h w p
+  flag_is p lp =
+      ap (λ (r : _). slice_index_or r.shows p false) (get_or_is_table t.peers t.setting.workers (peer_of t.setting h) w (fresh_peer 0) are.peers_are lw)
+      ∙ get_or_table (piece_count t.setting.torrent) (shows h w) p false lp
+
+  pub floor_rarer : (n : ℕ) → IsFloor t.pieces (peer_row t.peers w) n → NoneRarer t.setting h w n
+  floor_rarer n floor p lp fits =
+      let known = candidate_fresh t.setting h w p lp fits in
+      let row = row_is p lp in
+      let low = floor p (subst (λ (m : ℕ). p < m) (sym are.pieces_len) lp) (flag_is p lp ∙ known.0) (ap is_fresh row ∙ known.1) in
+      subst (λ (r : _). n ≤ r.availability) row low
+
+  pub rarer_floor : (n : ℕ) → NoneRarer t.setting h w n → IsFloor t.pieces (peer_row t.peers w) n
+  rarer_floor n none p lp shown fresh =
+      let within : p < piece_count t.setting.torrent = subst (λ (m : ℕ). p < m) are.pieces_len lp in
+      let row = row_is p within in
+      let fits = fresh_candidate t.setting h w p within (sym (flag_is p within) ∙ shown) (ap is_fresh (sym row) ∙ fresh) in
+      subst (λ (r : _). n ≤ r.availability) (sym row) (none p within fits)
+
+-- ---- what a reply to Next tells
+
+-- without a usable block there is no candidate
+pub none_usable : (s : Setting) (h : History) (w n : ℕ) → IsLayout s.torrent → some_block s.torrent (usable s h w) ≡ false → NoneRarer s h w n
+none_usable s h w n layout none p lp fits =
+    let some = first_block s.torrent p layout lp in
+    absurd (false≢true (sym none ∙ some_found s.torrent (usable s h w) (block s.torrent p 0) (block_is_block s.torrent p 0 lp some) (candidate_usable s h w p lp some fits)))
+
+named : (test : Block → Bool) (b c : Block) → Request b ≡ Request c → test c ≡ true → test b ≡ true
+named test b c is passes = (let same : b ≡ c = cc is in ap test same ∙ passes)
+
+-- a request goes on, or begins, or nothing is usable
+request_cases : (t : Layout) (a b c d e f g : Bool) (cancels ons firsts seconds : Block → Bool) (x : Block)
+    → Permits t (next_cases a b c d e f g cancels ons firsts seconds) (Request x) → (ons x ≡ true) ⊎ ((firsts x ≡ true) ⊎ (e ≡ false))
+unfolding next_cases
+request_cases t true b c d e f g cancels ons firsts seconds x h = absurd (cc (h.1))
+request_cases t false false c d e f g cancels ons firsts seconds x h = absurd (cc h)
+request_cases t false true true d e f g cancels ons firsts seconds x h = absurd (cc h)
+request_cases t false true false true e f g cancels ons firsts seconds x h = inl (named ons x (h.0) (h.1) (h.3))
+request_cases t false true false false true f g cancels ons firsts seconds x h = inr (inl (named firsts x (h.0) (h.1) (h.3)))
+request_cases t false true false false false f g cancels ons firsts seconds x h = inr (inr refl)
+
+-- where nothing is to be asked nothing is usable
+idle_cases : (t : Layout) (a b c d e f g : Bool) (cancels ons firsts seconds : Block → Bool) (reply : Reply) → (reply ≡ Idle) ⊎ (reply ≡ NothingLeft)
+    → Permits t (next_cases a b c d e f g cancels ons firsts seconds) reply → e ≡ false
+unfolding next_cases
+idle_cases t true b c d e f g cancels ons firsts seconds reply (inl is) h = absurd (cc (is, h.1))
+idle_cases t true b c d e f g cancels ons firsts seconds reply (inr is) h = absurd (cc (is, h.1))
+idle_cases t false false c d e f g cancels ons firsts seconds reply (inl is) h = absurd (cc (is, h))
+idle_cases t false false c d e f g cancels ons firsts seconds reply (inr is) h = absurd (cc (is, h))
+idle_cases t false true true d e f g cancels ons firsts seconds reply (inl is) h = absurd (cc (is, h))
+idle_cases t false true true d e f g cancels ons firsts seconds reply (inr is) h = absurd (cc (is, h))
+idle_cases t false true false true e f g cancels ons firsts seconds reply (inl is) h = absurd (cc (is, h.1))
+idle_cases t false true false true e f g cancels ons firsts seconds reply (inr is) h = absurd (cc (is, h.1))
+idle_cases t false true false false true f g cancels ons firsts seconds reply (inl is) h = absurd (cc (is, h.1))
+idle_cases t false true false false true f g cancels ons firsts seconds reply (inr is) h = absurd (cc (is, h.1))
+idle_cases t false true false false false f g cancels ons firsts seconds reply why h = refl
+
+begins : (s : Setting) (h : History) (w p : ℕ) → (nat_lt (had_count s h) s.random || is_rarest s h w p) ≡ true → nat_lt (had_count s h) s.random ≡ false
+    → NoneRarer s h w (availability s h p)
+begins s h w p is settled r lr fits =
+    let least = all_at (piece_count s.torrent) (λ m. not (is_candidate s h w m) || nat_le (availability s h p) (availability s h m)) r
+    (subst (λ (x : Bool). (x || is_rarest s h w p) ≡ true) settled is) lr in
+    leb-true (availability s h p) (availability s h r) (subst (λ (x : Bool). (not x || nat_le (availability s h p) (availability s h r)) ≡ true) fits least)
+
+never_both : (d t : Bool) → (not d && t) ≡ true → (not d && not t) ≡ true → ⊥
+never_both true t is other = cc is
+never_both false true is other = cc other
+never_both false false is other = cc is
+
+module _ (s : Setting) (h : History) (w word : ℕ) (layout : IsLayout s.torrent) where
+  -- once enough pieces are had, a piece that begins is a rarest one
+  pub begun_rarer : (b : Block) → IsAllowed s h (record { worker = w; action = Next word; reply = Request b }) → nat_lt (had_count s h) s.random ≡ false
+      → unbegun s h b.piece ≡ true → NoneRarer s h w (availability s h b.piece)
+  unfolding answer
+  begun_rarer b allowed settled fresh =
+      let e : Event = record { worker = w; action = Next word; reply = Request b } in
+      let permitted = answered s h e (no_cause s h e (λ reason refused. absurd (cc refused)) allowed) allowed in
+      ⊎_elim
+      (λ (on : continues s h w b ≡ true). absurd (never_both (had h b.piece) (some_block_of s.torrent b.piece (held_or_asked s h)) (and_parts (usable s h w b) (begun s h b.piece) on).1 fresh))
+      (λ rest. ⊎_elim
+      (λ (first : starts s h w b ≡ true). begins s h w b.piece (and_parts (unbegun s h b.piece) _ (and_parts (usable s h w b) _ first).1).1 settled)
+      (λ (none : some_block s.torrent (usable s h w) ≡ false). none_usable s h w (availability s h b.piece) layout none)
+      rest)
+      (request_cases s.torrent _ _ _ _ _ _ _ _ _ _ _ b (subst (λ (a : _). Permits s.torrent a (Request b)) (next_is s h w) permitted))
+
+  -- where nothing is to be asked there is no candidate
+  pub idle_rarer : (n : ℕ) (reply : Reply) → (reply ≡ Idle) ⊎ (reply ≡ NothingLeft) → IsAllowed s h (record { worker = w; action = Next word; reply = reply }) → NoneRarer s h w n
+  unfolding answer
+  idle_rarer n reply why allowed =
+      let e : Event = record { worker = w; action = Next word; reply = reply } in
+      let permitted = answered s h e (no_cause s h e (λ reason refused. unrefused reply reason why refused) allowed) allowed in
+      none_usable s h w n layout (idle_cases s.torrent _ _ _ _ _ _ _ _ _ _ _ reply why (subst (λ (a : _). Permits s.torrent a reply) (next_is s h w) permitted))
+    where
+      unrefused : (r : Reply) (reason : _) → (r ≡ Idle) ⊎ (r ≡ NothingLeft) → r ≡ said.Refused reason → ⊥
+      unrefused r reason (inl is) refused = cc (is, refused)
+      unrefused r reason (inr is) refused = cc (is, refused)
+
+-- ---- the tables before an entry
+
+-- a piece of the groups from 3 on is unbegun
+group_fresh : (s : Setting) (h : History) (p : ℕ) → 3 ≤ group_of_row (piece_of s h p) → unbegun s h p ≡ true
+group_fresh s h p high =
+    by_test (had h p) (chosen h p) (some_block_of s.torrent p (held_or_asked s h)) (each_block_of s.torrent p (held_or_asked s h))
+    (shown_group (availability s h p)) (subst (λ (n : ℕ). 3 ≤ n) (group_is s h p) high)
+  where
+    by_test : (d c t u : Bool) (n : ℕ) → 3 ≤ (if d || not c then 0 else if not t then n else if u then 1 else 2) → (not d && not t) ≡ true
+    by_test true c t u n le = absurd (omega (arith, le))
+    by_test false false t u n le = absurd (omega (arith, le))
+    by_test false true false u n le = refl
+    by_test false true true true n le = absurd (omega (arith, le))
+    by_test false true true false n le = absurd (omega (arith, le))
+
+-- what a reply to Next tells is a floor
+pub told_floor : (t : TablesState) (h : History) (w word n : ℕ) (reply : Reply) → AreTables t h → IsAllowed t.setting h (record { worker = w; action = Next word; reply = reply })
+    → w < t.setting.workers → TellsFloor t reply n → IsFloor t.pieces (peer_row t.peers w) n
+told_floor t h w word n (Request b) are allowed lw told =
+    let s = t.setting in
+    let lp : b.piece < piece_count s.torrent = subst (λ (m : ℕ). b.piece < m) are.pieces_len told.0.within in
+    let row = row_is t h w are lw b.piece lp in
+    let fresh = group_fresh s h b.piece (subst (λ (r : PieceState). 3 ≤ group_of_row r) row told.0.unbegun) in
+    let had = ap (count_by (λ (r : PieceState). r.had)) are.pieces_are ∙ had_rows s h in
+    let settled = le-ltb (had_count s h) s.random (subst (λ (m : ℕ). s.random ≤ m) had told.0.settled) in
+    let rarer = begun_rarer s h w word are.layout b allowed settled fresh in
+    let is : n ≡ availability s h b.piece = told.1 ∙ ap (λ (r : PieceState). r.availability) row in
+    rarer_floor t h w are lw n (subst (NoneRarer s h w) (sym is) rarer)
+told_floor t h w word n Idle are allowed lw told = rarer_floor t h w are lw n (idle_rarer t.setting h w word are.layout n Idle (inl refl) allowed)
+told_floor t h w word n NothingLeft are allowed lw told = rarer_floor t h w are lw n (idle_rarer t.setting h w word are.layout n NothingLeft (inr refl) allowed)
+told_floor t h w word n said.Joined are allowed lw told = absurd told
+told_floor t h w word n (said.Noted x) are allowed lw told = absurd told
+told_floor t h w word n said.Quiet are allowed lw told = absurd told
+told_floor t h w word n (said.Cancel b) are allowed lw told = absurd told
+told_floor t h w word n said.Choked are allowed lw told = absurd told
+told_floor t h w word n said.PipeFull are allowed lw told = absurd told
+told_floor t h w word n said.Stored are allowed lw told = absurd told
+told_floor t h w word n said.Completed are allowed lw told = absurd told
+told_floor t h w word n said.Dropped are allowed lw told = absurd told
+told_floor t h w word n said.Had are allowed lw told = absurd told
+told_floor t h w word n said.Failed are allowed lw told = absurd told
+told_floor t h w word n (said.Refused reason) are allowed lw told = absurd told
