@@ -9,8 +9,8 @@ use std::rt::Runtime;
 use std::time::{CpuClock, Duration};
 use std::{fmt, fs};
 
-/// Of so many tries the quickest hash of a piece is taken.
-const HASHES: u32 = 50;
+/// Of so many tries the quickest hash of a piece is taken: enough for some to go undisturbed on a busy machine.
+const HASHES: u32 = 500;
 
 /// Where Linux tells what a process takes.
 const STATUS: &str = "/proc/self/status";

@@ -14,7 +14,7 @@ use calls::{Table, time_calls};
 use figures::{CountLine, TimeLine, hash_time, peak_memory, play};
 use std::process::ExitCode;
 use std::rt::Runtime;
-use std::time::CpuClock;
+use std::time::{CpuClock, Duration};
 use std::{env, fs};
 
 /// The status where the arguments are wrong.
@@ -71,19 +71,21 @@ fn time_download<R: Runtime + AllocGlobal + CpuClock>(
         }
     }
     let mut least = None;
+    let mut hash = Duration::MAX;
     for _ in 0..arguments.runs {
         let (download, times) = play(rt, rt.alloc(), workload, None)?;
         least = match least {
             Some((counts, least)) => Some((counts, times.least(least))),
             None => Some((download.counts(), times)),
         };
+        hash = hash.min(hash_time(rt)?);
     }
     if let Some((counts, times)) = least {
         let line = CountLine { workload, counts };
         let times = TimeLine {
             counts,
             times,
-            hash: hash_time(rt)?,
+            hash,
             peak: peak_memory(rt),
         };
         println!(rt; "{line} {times}")?;
