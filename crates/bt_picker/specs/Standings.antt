@@ -1,10 +1,10 @@
 -- What a row of a piece amounts to among the others: its group, and what is counted of it. No public clause cites this module.
-use Rattle.std.specs.Prelude.{ℕ, ◌+◌, ◌-◌, ◌^◌, ◌≡◌, ◌<◌, ◌≤◌, ◌==◌, ◌||◌, ◌⊎◌, Bool, false, not, IsTrue, Option, None, Some, List, length, map, min, is_some, nat_lt, if◌then◌else◌}
+use Rattle.std.specs.Prelude.{ℕ, ◌+◌, ◌-◌, ◌^◌, ◌≡◌, ◌<◌, ◌≤◌, ◌==◌, ◌||◌, ◌⊎◌, Bool, false, not, IsTrue, Option, None, Some, List, length, map, min, is_some, nat_lt, true, slice_index_or, if◌then◌else◌}
 use Rattle.std.specs.List.{count_by, sum_by}
 use Rattle.bt_picker.specs.declared.cell.Cell.{Cell}
 use Rattle.bt_picker.specs.declared.cell.Cell.TheVariants.{Asked, Held}
 use Rattle.bt_picker.specs.declared.piece.Standing.{Standing}
-use Rattle.bt_picker.specs.Tables.{CellState, PieceState, one_if, piece_of}
+use Rattle.bt_picker.specs.Tables.{CellState, PieceState, empty_cell, one_if, piece_of}
 use Rattle.bt_meta.specs.declared.block.Block.{Block}
 use Rattle.bt_meta.specs.Layout.{Layout, piece_count}
 use Rattle.bt_history.specs.Setting.{Setting, is_block, some_block_of}
@@ -35,6 +35,10 @@ pub record AreCounts (held touched : ℕ) (cells : List CellState) : Type 0 wher
   pub held_is : held ≡ held_count cells
   pub touched_is : touched ≡ touched_count cells
   pub short : length cells < 2 ^ 32
+
+-- each of the first n blocks is held or asked
+abbrev pub AreTouched : ℕ → List CellState → Type 0
+AreTouched n cells = (i : ℕ) → i < n → i < length cells → is_touched (slice_index_or cells i empty_cell) ≡ true
 
 -- the group of an unbegun piece that so many peers show
 abbrev pub shown_group : ℕ → ℕ

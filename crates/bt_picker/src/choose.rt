@@ -26,7 +26,7 @@ impl<'a> Position<'a> {
         requires { piece < piece_count self.now.setting.torrent }
         ensures { FindsOf self.now.setting.torrent piece (unasked self.now.setting self.now.history) result }
     {
-        for index in 0..self.block_count(piece) {
+        for index in self.piece(piece).first()..self.block_count(piece) {
             if !self.is_held_or_asked(piece, index) {
                 return Some(self.block(piece, index));
             }

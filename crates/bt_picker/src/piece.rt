@@ -1,6 +1,6 @@
-ghost use Rattle.std.specs.Prelude.{◌≡◌, ◌<◌, ◌≤◌, ◌+◌, ◌-◌, ◌^◌, ◌==◌, nat_lt, None, length, slice_index_or, slice_set, IfOk, Bool, true, false, replicate};
+ghost use Rattle.std.specs.Prelude.{◌≡◌, ◌<◌, ◌≤◌, ◌+◌, ◌-◌, ◌^◌, ◌==◌, nat_lt, min, if◌then◌else◌, None, length, slice_index_or, slice_set, IfOk, Bool, true, false, replicate};
 ghost use Rattle.bt_picker.specs.Tables.{HasRoomOf, PieceState, changed_row, edit, empty_cell, failed_row, fresh_piece, less_available, more_available, one_if, one_less, one_more, stored_row};
-ghost use Rattle.bt_picker.specs.Standings.{cell_kept, is_held, is_touched, held_count, touched_count, group_of_row, standing_of};
+ghost use Rattle.bt_picker.specs.Standings.{AreTouched, cell_kept, is_held, is_touched, held_count, touched_count, group_of_row, standing_of};
 
 use crate::cell::Cell;
 use std::alloc::{AllocError, Global};
@@ -60,7 +60,7 @@ pub const GROUPS: u32 = UNBEGUN + CROWD + 1;
 
 /// What is kept of a piece: whether it is had and wanted, how many joined peers show it, and a cell for each of its blocks, in order, so
 /// that a block is found by its place. Of the blocks it counts those that are held, and those that are held or asked, so that whether the
-/// piece is full or begun is one look. The rows stand by the piece's number.
+/// piece is full or begun is one look; and it knows up to which block each is held or asked, since the next one is looked for behind it. The rows stand by the piece's number.
 #[derive(Drop)]
 pub struct Piece {
     had: bool,
@@ -68,19 +68,21 @@ pub struct Piece {
     availability: u32,
     held: u32,
     touched: u32,
+    first: u32,
     blocks: Vec<Cell>,
 }
 
 impl Model for Piece {
     ghost use Rattle.bt_picker.specs.Tables.{PieceState};
-    ghost use Rattle.bt_picker.specs.Standings.{AreCounts, cell_kept};
+    ghost use Rattle.bt_picker.specs.Standings.{AreCounts, AreTouched, cell_kept};
     ghost use Rattle.std.specs.Prelude.{map};
 
     ghost Value = { PieceState };
 
     ghost view = { λ p. record { had = p.had; wanted = p.wanted; availability = p.availability; blocks = map cell_kept p.blocks.items } };
 
-    ghost invariant = { λ p. AreCounts p.held p.touched (map cell_kept p.blocks.items) };
+    ghost invariant = { λ p. AreCounts p.held p.touched (map cell_kept p.blocks.items)
+        × AreTouched p.first (map cell_kept p.blocks.items) };
 }
 
 impl Piece {
@@ -94,6 +96,7 @@ impl Piece {
             availability: 0,
             held: 0,
             touched: 0,
+            first: 0,
             blocks: vec![in alloc; Cell::EMPTY; blocks as usize]?,
         })
     }
@@ -177,6 +180,13 @@ impl Piece {
         self.blocks[index as usize]
     }
 
+    /// Each block before this one is held or asked.
+    pub fn first(&self) -> u32
+        ensures { AreTouched result self.now.blocks }
+    {
+        self.first
+    }
+
     /// Changes the row.
     pub fn apply(&mut self, change: Change)
         requires { HasRoomOf change self.old }
@@ -240,6 +250,7 @@ impl Piece {
         let old = self.blocks[index as usize];
         self.held = moved(self.held, old.is_held(), cell.is_held());
         self.touched = moved(self.touched, old.is_touched(), cell.is_touched());
+        self.first = passed(self.first, index, cell.is_touched());
         self.blocks[index as usize] = cell;
     }
 
@@ -267,5 +278,19 @@ fn moved(count: u32, before: bool, after: bool) -> u32
         (true, false) => count - 1,
         (false, true) => count + 1,
         _ => count,
+    }
+}
+
+/// Up to which block each is held or asked, once the one at this index is, or isn't.
+fn passed(first: u32, index: u32, touched: bool) -> u32
+    requires { index + 1 < 2 ^ 32 }
+    ensures { result ≡ (if touched then (if index == first then first + 1 else first) else min first index) }
+{
+    if !touched {
+        first.min(index)
+    } else if index == first {
+        first + 1
+    } else {
+        first
     }
 }

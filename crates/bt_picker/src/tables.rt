@@ -224,7 +224,7 @@ impl Tables {
         ensures { self.new ≡ released self.old worker }
     {
         lower_all(&mut self.pieces, self.peers[worker as usize].asked());
-        self.floors.fill(0);
+        self.floors.fill(0); // a freed piece may be unbegun again
     }
 
     /// The worker's peer shows these pieces in place of those that it showed, or none.
@@ -234,7 +234,7 @@ impl Tables {
         ensures { self.new ≡ reshown self.old worker (unwrap_or (option_copied flags.entry) []) }
     {
         recount(&mut self.pieces, self.peers[worker as usize].shown(), flags);
-        self.floors.fill(0);
+        self.floors.fill(0); // fewer peers may show a piece
     }
 
     fn join(&mut self, worker: u32)
@@ -382,14 +382,14 @@ impl Tables {
         ensures { self.new ≡ record self.old { pieces = edit self.old.pieces piece failed_row } }
     {
         self.pieces.apply(piece, Change::Fail);
-        self.floors.fill(0);
+        self.floors.fill(0); // the piece may be unbegun again
     }
 
     fn put_want(&mut self, flags: &Bitfield)
         ensures { self.new ≡ rewanted self.old flags.now }
     {
         rewant(&mut self.pieces, flags);
-        self.floors.fill(0);
+        self.floors.fill(0); // more may be wanted
     }
 }
 
