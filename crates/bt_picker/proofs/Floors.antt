@@ -3,7 +3,7 @@ use Rattle.std.proofs.Common.{◌≡◌, ℕ, zero, suc, ◌+◌, ◌<◌, ◌�
 use Rattle.std.specs.Prelude.{slice_index_or, is_some}
 use Rattle.std.proofs.lemmas.Bool.{false≢true, ne_eqb, lt-ltb, and_right, or_right}
 use Rattle.std.proofs.lemmas.List.Sums.{get_or-le-sum_by}
-use Rattle.std.proofs.lemmas.List.{get_or_default, get_or-set_same, get_or-set_other, get_or-replicate, length-replicate}
+use Rattle.std.proofs.lemmas.List.{get_or_default, set-get_or, get_or-set_same, get_or-set_other, get_or-replicate, length-replicate}
 use Rattle.bt_order.specs.Orders.{at}
 use Rattle.bt_picker.specs.Tables.{CellState, PeerState, PieceState, changed_row, edit, empty_cell, fresh_peer, fresh_piece, have_row, one_if, one_more, peer_row, piece_row, stored_row}
 use Rattle.bt_picker.specs.declared.piece.Change.TheVariants.{Raise}
@@ -47,6 +47,12 @@ set_peer floors peers rows w row are lw keeps = record {
       (subst (λ (r : PeerState). IsFloor rows r (at floors w)) (sym (get_or-set_same peers w row (fresh_peer 0) lw)) (keeps (are.each w lw))))
       (λ other. subst (λ (r : PeerState). IsFloor rows r (at floors q)) (sym (get_or-set_other peers w q row (fresh_peer 0) other)) (are.each q within)));
 }
+
+-- a floor alone is another
+pub raise_floor : (floors : List ℕ) (peers : List PeerState) (rows : List PieceState) (w n : ℕ) → AreFloors floors peers rows → w < length peers
+    → IsFloor rows (peer_row peers w) n → AreFloors (set floors w n) peers rows
+raise_floor floors peers rows w n are lw here =
+    subst (λ (l : List PeerState). AreFloors (set floors w n) l rows) (set-get_or peers w (fresh_peer 0)) (set_floor floors peers rows w n (peer_row peers w) are lw here)
 
 -- a peer that shows nothing has any floor
 pub shows_none : (rows : List PieceState) (row : PeerState) (k n : ℕ) → row.shows ≡ replicate k false → IsFloor rows row n
@@ -137,10 +143,11 @@ pub silent_peer : (floors : List ℕ) (peers : List PeerState) (rows : List Piec
     → now.shows ≡ replicate k false → AreFloors floors (set peers w now) rows
 silent_peer floors peers rows w k now are lw none = set_peer floors peers rows w now are lw (λ floor. shows_none rows now k (at floors w) none)
 
--- a piece that is shown too may lower the floor
-pub have_floor : (rows : List PieceState) (row : PeerState) (p n : ℕ) → n ≤ (piece_row rows p).availability → IsFloor rows row n → IsFloor rows (have_row p row) n
+-- a fresh piece that is shown too may lower the floor
+pub have_floor : (rows : List PieceState) (row : PeerState) (p n : ℕ) → (is_fresh (piece_row rows p) ≡ true → n ≤ (piece_row rows p).availability) → IsFloor rows row n
+    → IsFloor rows (have_row p row) n
 have_floor rows row p n low floor r lr shown fresh = dite (ℕ_discrete r p)
-    (λ same. subst (λ (m : ℕ). n ≤ (piece_row rows m).availability) (sym same) low)
+    (λ same. subst (λ (m : ℕ). n ≤ (piece_row rows m).availability) (sym same) (low (ap (λ (m : ℕ). is_fresh (piece_row rows m)) (sym same) ∙ fresh)))
     (λ other. floor r lr (sym (get_or-set_other row.shows p r true false other) ∙ shown) fresh)
 
 pub less_floor : (rows : List PieceState) (row : PeerState) (n m : ℕ) → m ≤ n → IsFloor rows row n → IsFloor rows row m

@@ -1,19 +1,22 @@
 -- Floors by the history: no candidate is shown by fewer peers; and what a reply tells of it.
-use Rattle.std.proofs.Common.{◌≡◌, ◌⊎◌, ℕ, ◌<◌, ◌≤◌, Bool, true, false, not, ◌&&◌, ◌||◌, refl, ap, sym, ◌∙◌, subst, inl, inr, ⊎_elim, arith}
+use Rattle.std.proofs.Common.{◌==◌, ◌≡◌, ◌⊎◌, ℕ, ◌<◌, ◌≤◌, Bool, true, false, not, ◌&&◌, ◌||◌, refl, ap, sym, ◌∙◌, subst, inl, inr, ⊎_elim, arith, List, length, set}
 use Rattle.std.specs.Prelude.{nat_le, nat_lt, slice_index_or, if◌then◌else◌}
-use Rattle.std.proofs.lemmas.Bool.{and_from, and_parts, false≢true, leb-true, le-ltb}
+use Rattle.std.proofs.lemmas.Bool.{and_from, and_parts, eq-eqb, false≢true, leb-true, le-ltb, or_left, or_right}
+use Rattle.std.proofs.lemmas.List.{get_or-set_other, get_or-set_same}
+use mathlib.Core.Logic.{dite}
+use native.Mathlib.Decide.{ℕ_discrete}
 use Rattle.bt_meta.specs.declared.block.Block.{Block}
 use Rattle.bt_meta.specs.Layout.{Layout, IsLayout, piece_count, block}
 use Rattle.bt_history.specs.declared.call.Reply.{Reply}
 use Rattle.bt_history.specs.declared.call.Reply.TheVariants.{Request, Idle, NothingLeft}
-use Rattle.bt_history.specs.declared.event.Action.TheVariants.{Next}
+use Rattle.bt_history.specs.declared.event.Action.TheVariants.{Have, Next}
 use Rattle.bt_history.specs.declared.event.Event.{Event}
 use Rattle.bt_history.specs.Setting.{Setting, each_block_of, some_block, some_block_of}
 use Rattle.bt_history.specs.History.{History}
 use Rattle.bt_history.specs.Peers.{shows}
 use Rattle.bt_history.specs.Pieces.{availability, begun, chosen, had, had_count, held_or_asked, unbegun, wanted}
 use Rattle.bt_history.specs.declared.call.Reply.TheVariants as said
-use Rattle.bt_history.specs.Legal.{IsAllowed, Permits, answer}
+use Rattle.bt_history.specs.Legal.{IsAllowed, Permits, answer, interesting_after}
 use Rattle.bt_history.specs.Next.{continues, is_candidate, is_rarest, starts, usable}
 use Rattle.bt_history.proofs.Allowed.{answered, no_cause}
 use Rattle.bt_history.proofs.Below.{all_at}
@@ -22,10 +25,10 @@ use Rattle.bt_history.proofs.NextCases.{next_cases, next_is}
 use Rattle.bt_picker.specs.Floors.{IsFloor, NoneRarer, TellsFloor, is_fresh}
 use Rattle.bt_picker.specs.Standings.{group_of_row, shown_group}
 use Rattle.std.specs.List.{count_by}
-use Rattle.bt_picker.specs.Tables.{AreTables, PieceState, TablesState, fresh_peer, fresh_piece, peer_of, peer_row, piece_of, piece_row}
+use Rattle.bt_picker.specs.Tables.{AreTables, PeerState, PieceState, TablesState, announced, edit, fresh_peer, fresh_piece, have_row, less_available, more_available, peer_of, peer_row, piece_of, piece_row}
 use Rattle.bt_picker.proofs.Rows.{group_is, had_rows, untouched_row, wanted_chosen}
-use Rattle.bt_picker.proofs.Scans.{candidate_usable, first_block}
-use Rattle.bt_picker.proofs.Tabled.{get_or_is_table, get_or_table}
+use Rattle.bt_picker.proofs.Scans.{candidate_usable, first_block, lacks_found}
+use Rattle.bt_picker.proofs.Tabled.{edit_read, get_or_is_table, get_or_table, length_edit}
 
 -- ---- a fresh piece that the peer shows is a candidate, and there are no others
 
@@ -201,3 +204,68 @@ told_floor t h w word n said.Dropped are allowed lw told = absurd told
 told_floor t h w word n said.Had are allowed lw told = absurd told
 told_floor t h w word n said.Failed are allowed lw told = absurd told
 told_floor t h w word n (said.Refused reason) are allowed lw told = absurd told
+
+-- ---- a peer that shows a had or unwanted piece more
+
+-- the rows' freshness is no matter of who shows them
+counted_fresh : (rows : List PieceState) (p r : ℕ) (x y : Bool) → p < length rows
+    → is_fresh (piece_row (edit rows p (λ row. more_available x (less_available y row))) r) ≡ is_fresh (piece_row rows r)
+counted_fresh rows p r x y lp =
+    let f : PieceState → PieceState = λ row. more_available x (less_available y row) in
+    let is : set rows p (f (piece_row rows p)) ≡ edit rows p f = edit_read rows p f (piece_row rows p) (fresh_piece 0) lp refl in
+    ap (λ (l : List PieceState). is_fresh (piece_row l r)) (sym is)
+    ∙ dite (ℕ_discrete r p)
+    (λ same. ap (λ (m : ℕ). is_fresh (piece_row (set rows p (f (piece_row rows p))) m)) same
+    ∙ (ap is_fresh (get_or-set_same rows p (f (piece_row rows p)) (fresh_piece 0) lp) ∙ ap (λ (m : ℕ). is_fresh (piece_row rows m)) (sym same)))
+    (λ other. ap is_fresh (get_or-set_other rows p r (f (piece_row rows p)) (fresh_piece 0) other))
+
+-- where the reply to Have is that nothing interests, nothing that the peer shows is fresh
+pub unnoted_floor : (t : TablesState) (h : History) (w p n : ℕ) → AreTables t h → IsAllowed t.setting h (record { worker = w; action = Have p; reply = said.Noted false })
+    → w < t.setting.workers → p < piece_count t.setting.torrent → IsFloor (announced t w p).pieces (peer_row (announced t w p).peers w) n
+unfolding answer
+unnoted_floor t h w p n are allowed lw lp r lr shown fresh = absurd (false≢true (uninterested ∙ interested)) where
+  s : Setting
+  s = t.setting
+
+  e : Event
+  e = record { worker = w; action = Have p; reply = said.Noted false }
+
+  noted : Reply → Bool
+  noted (said.Noted x) = x
+  noted reply = false
+
+  uninterested : false ≡ interesting_after s h w (Have p)
+  uninterested = ap noted (answered s h e (no_cause s h e (λ reason refused. absurd (cc refused)) allowed) allowed)
+
+  x : Bool
+  x = not (slice_index_or (peer_row t.peers w).shows p false)
+
+  in_rows : p < length t.pieces
+  in_rows = subst (λ (m : ℕ). p < m) (sym are.pieces_len) lp
+
+  within : r < piece_count s.torrent
+  within = omega (arith, lr, length_edit t.pieces p (λ row. more_available x (less_available false row)), are.pieces_len)
+
+  in_peers : w < length t.peers
+  in_peers = subst (λ (m : ℕ). w < m) (sym are.peers_len) lw
+
+  parts : (had h r ≡ false) × (chosen h r ≡ true) × (some_block_of s.torrent r (held_or_asked s h) ≡ false)
+  parts =
+      fresh_parts (had h r) (chosen h r) (some_block_of s.torrent r (held_or_asked s h))
+      (sym (fresh_is s h r) ∙ (ap is_fresh (sym (row_is t h w are lw r within)) ∙ (sym (counted_fresh t.pieces p r x false in_rows) ∙ fresh)))
+
+  own : peer_row (edit t.peers w (have_row p)) w ≡ have_row p (peer_row t.peers w)
+  own =
+      ap (λ (l : List PeerState). peer_row l w) (sym (edit_read t.peers w (have_row p) (peer_row t.peers w) (fresh_peer 0) in_peers refl))
+      ∙ get_or-set_same t.peers w (have_row p (peer_row t.peers w)) (fresh_peer 0) in_peers
+
+  flagged : slice_index_or (set (peer_row t.peers w).shows p true) r false ≡ true
+  flagged = ap (λ (row : PeerState). slice_index_or row.shows r false) (sym own) ∙ shown
+
+  shows_it : ((p == r) || shows h w r) ≡ true
+  shows_it = dite (ℕ_discrete r p)
+      (λ same. or_left (p == r) (shows h w r) (eq-eqb p r (sym same)))
+      (λ other. or_right (p == r) (shows h w r) (sym (flag_is t h w are lw r within) ∙ (sym (get_or-set_other (peer_row t.peers w).shows p r true false other) ∙ flagged)))
+
+  interested : interesting_after s h w (Have p) ≡ true
+  interested = lacks_found s h (λ m. (p == m) || shows h w m) r (wanted_chosen s h r within ∙ parts.1) shows_it parts.0 within

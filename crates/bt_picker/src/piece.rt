@@ -1,5 +1,6 @@
 ghost use Rattle.std.specs.Prelude.{◌≡◌, ◌<◌, ◌≤◌, ◌+◌, ◌-◌, ◌^◌, ◌==◌, nat_lt, min, if◌then◌else◌, None, length, slice_index_or, slice_set, IfOk, Bool, true, false, replicate};
 ghost use Rattle.bt_picker.specs.Tables.{HasRoomOf, PieceState, changed_row, edit, empty_cell, failed_row, fresh_piece, less_available, more_available, one_if, one_less, one_more, stored_row};
+ghost use Rattle.bt_picker.specs.Floors.{is_fresh};
 ghost use Rattle.bt_picker.specs.Standings.{AreTouched, cell_kept, is_held, is_touched, held_count, touched_count, group_of_row, standing_of};
 
 use crate::cell::Cell;
@@ -153,6 +154,13 @@ impl Piece {
         ensures { result ≡ nat_lt 0 (touched_count self.now.blocks) }
     {
         self.touched > 0
+    }
+
+    /// Whether the piece is wanted and unbegun.
+    pub fn is_fresh(&self) -> bool
+        ensures { result ≡ is_fresh self.now }
+    {
+        !(self.had || !self.wanted) && self.touched == 0
     }
 
     pub fn is_had(&self) -> bool

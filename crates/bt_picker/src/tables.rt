@@ -10,7 +10,7 @@ ghost use Rattle.bt_history.specs.Legal.{IsAllowed};
 ghost use Rattle.bt_history.specs.History.{stores};
 ghost use Rattle.bt_meta.specs.declared.block.Block.{Block};
 ghost use Rattle.bt_history.specs.Counting.{count_below, table};
-ghost use Rattle.bt_picker.specs.Floors.{IsFloor, IsRarestStart, TellsFloor};
+ghost use Rattle.bt_picker.specs.Floors.{IsFloor, IsRarestStart, TellsFloor, is_fresh};
 ghost use Rattle.bt_picker.specs.Tables.{AreAskers, AreCounted, AreTables, asks_at, HasBlock, HasRoomFor, bits_row, leave_row, PeerState, PieceState, TablesState, after_arrival, after_check, after_next, announced, cancel_row, late_row, edit, empty_cell, failed_row, entered_call, fresh_peer, fresh_piece, have_row, join_row, choke_row, unchoke_row, less_available, lowered, lowered_by, more_available, peer_row, piece_row, recounted, released, reshown, rewanted, wanted_by, with_block, with_peer, without_block};
 
 use crate::peer::Peer;
@@ -168,6 +168,17 @@ impl Tables {
         }
     }
 
+    /// Notes that the worker's peer shows no unbegun wanted piece, where the reply to Have is that nothing interests.
+    fn note_interest(&mut self, worker: u32, reply: Reply)
+        requires worker { worker < length self.old.peers }
+        requires none { reply ≡ Reply.Noted false → (n : ℕ) → IsFloor self.old.pieces (peer_row self.old.peers worker) n }
+        ensures { self.new ≡ self.old }
+    {
+        if let Reply::Noted(false) = reply {
+            self.floors[worker as usize] = u32::MAX;
+        }
+    }
+
     /// Notes the floor that the reply to Next tells.
     fn learn(&mut self, worker: u32, reply: Reply)
         requires worker { worker < length self.old.peers }
@@ -202,7 +213,10 @@ impl Tables {
         match call {
             Call::Join => self.join(worker),
             Call::Bits(flags) => self.put_bits(worker, flags),
-            Call::Have(piece) => self.put_have(worker, *piece),
+            Call::Have(piece) => {
+                self.put_have(worker, *piece);
+                self.note_interest(worker, reply);
+            }
             Call::Choke => self.choke(worker),
             Call::Unchoke => self.unchoke(worker),
             Call::Next(_) => {
@@ -284,9 +298,8 @@ impl Tables {
             shows: is_new,
         };
         self.pieces.apply(piece, change);
-        let shown_by = self.pieces.row(piece).availability();
         let floor = self.floors[worker as usize];
-        self.floors[worker as usize] = floor.min(shown_by);
+        self.floors[worker as usize] = floor_with(floor, self.pieces.row(piece));
         self.peers[worker as usize].put_have(piece);
     }
 
@@ -390,6 +403,18 @@ impl Tables {
     {
         rewant(&mut self.pieces, flags);
         self.floors.fill(0); // more may be wanted
+    }
+}
+
+/// The floor of a peer that shows the piece too.
+fn floor_with(floor: u32, row: &Piece) -> u32
+    ensures most { result ≤ floor }
+    ensures shown { is_fresh row.now ≡ true → result ≤ row.now.availability }
+{
+    if row.is_fresh() {
+        floor.min(row.availability())
+    } else {
+        floor
     }
 }
 

@@ -1,13 +1,12 @@
-use Rattle.std.proofs.Common.{arith, length, ◌≡◌, ◌<◌, ◌^◌, ◌∙◌, ap, subst, sym, List, set, Bool, false, not}
+use Rattle.std.proofs.Common.{arith, length, ◌≡◌, ◌<◌, ◌^◌, ◌∙◌, ap, subst, sym, List, set, Bool, true, false, not, ◌≤◌}
 use Rattle.std.specs.Prelude.{slice_index_or}
 use Rattle.std.proofs.lemmas.List.{get_or_default}
-use Rattle.std.proofs.Math.Nat.{min-le_left, min-le_right}
 use Rattle.bt_history.specs.Setting.{setting_of}
 use Rattle.bt_picker.specs.Tables.{TablesState, PeerState, PieceState, edit, announced, have_row, less_available, more_available, peer_row, piece_row, fresh_peer}
 use Rattle.bt_picker.proofs.Changes.{changed_peer, edited_counted, with_pieces}
 use Rattle.bt_picker.proofs.Floors.{edit_piece, have_floor, less_floor, no_less, set_floor}
 use Rattle.bt_picker.proofs.Tabled.{length_edit}
-use Rattle.bt_picker.specs.Floors.{IsFloor}
+use Rattle.bt_picker.specs.Floors.{IsFloor, is_fresh}
 use Rattle.bt_order.specs.Orders.{at}
 use Rattle.bt_picker.proofs.tables.Tables.put_have.Goals as goal
 
@@ -25,17 +24,15 @@ invariant_of-self c =
     let lw = rw (← c.self.view_is) at c.requires.worker in
     let lp = rw (← c.self.view_is) at c.requires.piece in
     let f : PieceState → PieceState = λ row. more_available (not c.shows-is_new.result) (less_available false row) in
-    let n = c.min.result in
+    let n = c.floor_with.result in
     let old = c.index_mut-2.result.now in
     let grown = edit_piece o.floors.items o.peers.items o.pieces p f c.self.invariant lp (λ fresh. (fresh, no_less (piece_row o.pieces p).availability (not c.shows-is_new.result))) in
     let row : c.row.result.now ≡ piece_row (edit o.pieces p f) p = c.row.ensures ∙ ap (λ (rows : List PieceState). piece_row rows p) c.apply.ensures in
-    let shown_by = c.availability-shown_by.ensures ∙ ap (λ (r : PieceState). r.availability) row in
     let is_old = c.index_mut-2.ensures.value ∙ get_or_default o.peers.items w old (fresh_peer 0) lw in
     let own = c.index-floor.ensures ∙ get_or_default o.floors.items w c.index-floor.result.now 0 (omega (arith, lw, c.self.invariant.len)) in
-    let floor_most = min-le_left c.index-floor.result.now c.availability-shown_by.result in
-    let shown_most = min-le_right c.index-floor.result.now c.availability-shown_by.result in
-    let floor = less_floor (edit o.pieces p f) (peer_row o.peers.items w) (at o.floors.items w) n (omega (arith, c.min.ensures, floor_most, own)) (grown.each w lw) in
-    let here = have_floor (edit o.pieces p f) old p n (omega (arith, c.min.ensures, shown_most, shown_by)) (subst (λ (r : PeerState). IsFloor (edit o.pieces p f) r n) (sym is_old) floor) in
+    let floor = less_floor (edit o.pieces p f) (peer_row o.peers.items w) (at o.floors.items w) n (omega (arith, c.floor_with.ensures.most, own)) (grown.each w lw) in
+    let low = subst (λ (r : PieceState). is_fresh r ≡ true → n ≤ r.availability) row c.floor_with.ensures.shown in
+    let here = have_floor (edit o.pieces p f) old p n low (subst (λ (r : PeerState). IsFloor (edit o.pieces p f) r n) (sym is_old) floor) in
     rw c.apply.ensures
     (set_floor o.floors.items o.peers.items (edit o.pieces p f) w n c.put_have.new.self grown lw
     (subst (λ (r : PeerState). IsFloor (edit o.pieces p f) r n) (sym c.put_have.ensures) here))
