@@ -1,0 +1,106 @@
+//! The command line.
+
+use crate::swarm::{MOST_DEPTH, Workload};
+use clap::{Arg, ArgAction, ArgMatches, Command, value_parser};
+use std::alloc::{AllocError, Global};
+
+/// What the program is asked for.
+#[derive(Clone, Copy)]
+pub struct Arguments<'a> {
+    pub workload: Workload,
+    /// How often it is timed.
+    pub runs: u32,
+    /// The file that the requests are written to.
+    pub trace: Option<&'a str>,
+    /// Each kind of call is timed alone.
+    pub calls: bool,
+}
+
+/// The command with its arguments.
+pub fn command<'a>(alloc: Global) -> Result<Command<'a>, AllocError> {
+    Command::new(alloc, "bench")
+        .about("Times the picker: a whole download from 51 peers, block by block")
+        .arg_required_else_help(true)
+        .arg(asks(alloc))?
+        .arg(density(alloc))?
+        .arg(depth(alloc))?
+        .arg(runs(alloc))?
+        .arg(trace(alloc))?
+        .arg(calls(alloc))?
+        .arg(pieces(alloc))
+}
+
+/// What was asked for.
+pub fn read<'a>(matches: &ArgMatches<'a>) -> Arguments<'a> {
+    Arguments {
+        workload: Workload {
+            pieces: matches.get_one::<u32>("pieces").unwrap_or(1),
+            density: matches.get_one::<u32>("density").unwrap_or(1),
+            depth: matches.get_one::<u32>("depth").unwrap_or(5),
+            asks: matches.get_one::<u64>("asks").unwrap_or(u64::MAX),
+        },
+        runs: matches.get_one::<u32>("runs").unwrap_or(3),
+        trace: matches.get_str("trace"),
+        calls: matches.get_flag("calls"),
+    }
+}
+
+fn pieces<'a>(alloc: Global) -> Arg<'a> {
+    Arg::new(alloc, "pieces")
+        .value_name("PIECES")
+        .help("Pieces of the torrent, each of 16 blocks")
+        .value_parser(value_parser!(u32).range(1..))
+        .required(true)
+}
+
+fn asks<'a>(alloc: Global) -> Arg<'a> {
+    Arg::new(alloc, "asks")
+        .long("asks")
+        .value_name("N")
+        .help("Ends the download once so many asks were made")
+        .value_parser(value_parser!(u64))
+}
+
+fn density<'a>(alloc: Global) -> Arg<'a> {
+    Arg::new(alloc, "density")
+        .long("density")
+        .value_name("D")
+        .help("Each peer but the seed shows a piece with the probability 1/2^D")
+        .value_parser(value_parser!(u32).range(0..=32))
+        .default_value("1")
+}
+
+fn depth<'a>(alloc: Global) -> Arg<'a> {
+    Arg::new(alloc, "depth")
+        .long("depth")
+        .value_name("D")
+        .help("Blocks outstanding at a peer; with 0 each block arrives as soon as it is asked for")
+        .value_parser(value_parser!(u32).range(0..=i64::from(MOST_DEPTH)))
+        .default_value("5")
+}
+
+fn runs<'a>(alloc: Global) -> Arg<'a> {
+    Arg::new(alloc, "runs")
+        .long("runs")
+        .value_name("N")
+        .help("Times so many runs and prints the least times; with 0 it plays once and prints none")
+        .value_parser(value_parser!(u32))
+        .default_value("3")
+}
+
+fn trace<'a>(alloc: Global) -> Arg<'a> {
+    Arg::new(alloc, "trace")
+        .long("trace")
+        .value_name("FILE")
+        .help(
+            "Writes worker, piece and block of each request to this file, in a run that isn't timed",
+        )
+        .action(ArgAction::Set)
+}
+
+fn calls<'a>(alloc: Global) -> Arg<'a> {
+    Arg::new(alloc, "calls")
+        .long("calls")
+        .help("Times each kind of call alone")
+        .action(ArgAction::SetTrue)
+}

@@ -1,0 +1,211 @@
+//! A whole download, block by block, in rounds of the peers' turns.
+
+ghost use Rattle.std.specs.Prelude.{◌≡◌, ◌<◌};
+
+use crate::mix::Mix;
+use crate::swarm::{MOST_DEPTH, PEERS, Workload, ZEROS, come, leave};
+use anyhow::{Result, bail};
+use bt_meta::{BLOCK_SIZE, Bitfield, Block};
+use bt_picker::{Call, Desk, Reply};
+use bytes::Bytes;
+use std::alloc::Global;
+use std::time::{CpuClock, Duration};
+
+/// Where the words of the asks begin.
+const SEED: u64 = 2;
+
+/// What was done so far.
+#[derive(Clone, Copy)]
+pub struct Counts {
+    /// Calls of Next.
+    pub asks: u64,
+    /// Those that gave a block.
+    pub requests: u64,
+    /// Pieces that were checked and had their hash.
+    pub had: u32,
+}
+
+#[derive(Clone, Copy)]
+struct Peer {
+    /// It may still have something for us.
+    active: bool,
+    /// Its last ask gave no block.
+    dry: bool,
+}
+
+/// The desk, and what the rounds go by.
+#[derive(Drop)]
+pub struct Download {
+    desk: Desk,
+    ghost workers: { desk.setting.workers ≡ 51 },
+    workload: Workload,
+    words: Mix,
+    peers: Vec<Peer>,
+    counts: Counts,
+    settling: Duration,
+    trace: Option<String>,
+}
+
+impl Download {
+    /// With no peer yet. Where there is a text, each request is written behind it.
+    pub fn new(alloc: Global, workload: Workload, trace: Option<String>) -> Result<Download> {
+        let fresh = Peer {
+            active: true,
+            dry: false,
+        };
+        Ok(Download {
+            desk: workload.desk(alloc, PEERS)?,
+            workload,
+            words: Mix::new(SEED),
+            peers: vec![in alloc; fresh; PEERS as usize]?,
+            counts: Counts {
+                asks: 0,
+                requests: 0,
+                had: 0,
+            },
+            settling: Duration::ZERO,
+            trace,
+        })
+    }
+
+    pub fn counts(&self) -> Counts {
+        self.counts
+    }
+
+    /// The processor time in which pieces were checked, which is hashing nearly all of it.
+    pub fn settling(&self) -> Duration {
+        self.settling
+    }
+
+    /// The requests so far, where they are written: a line of worker, piece and block for each.
+    pub fn trace(&self) -> Option<&str> {
+        self.trace.as_ref().map(|trace| trace.as_str())
+    }
+
+    /// All peers come.
+    pub fn join(&mut self, shown: Vec<Bitfield>) -> Result<()> {
+        come(&mut self.desk, shown)
+    }
+
+    /// All peers go.
+    pub fn leave(&mut self) -> Result<()> {
+        leave(&mut self.desk)
+    }
+
+    /// Rounds until all pieces are had, or the asks are made.
+    pub fn run<C: CpuClock>(&mut self, rt: &C, alloc: Global) -> Result<()> {
+        for _ in 0..u64::MAX {
+            if self.is_done() || self.counts.asks >= self.workload.asks {
+                return Ok(());
+            }
+            self.round(rt, alloc)?;
+        }
+        Ok(())
+    }
+
+    fn is_done(&self) -> bool {
+        self.counts.had >= self.workload.pieces
+    }
+
+    /// A turn of each peer that may still have something for us.
+    fn round<C: CpuClock>(&mut self, rt: &C, alloc: Global) -> Result<()> {
+        for worker in 0..PEERS {
+            let is_active = match self.peers.get(worker as usize) {
+                Some(peer) => peer.active,
+                None => false,
+            };
+            if is_active && !self.is_done() {
+                self.turn(rt, alloc, worker)?;
+            }
+        }
+        Ok(())
+    }
+
+    /// The peer sends a block if its pipe is full or its last ask gave none; then it is asked.
+    fn turn<C: CpuClock>(&mut self, rt: &C, alloc: Global, worker: u32) -> Result<()>
+        requires { worker < 51 }
+    {
+        if let Some(block) = self.due(worker) {
+            self.arrive(rt, alloc, worker, block)?;
+        }
+        let reply = self.ask(worker)?;
+        if let Some(peer) = self.peers.get_mut(worker as usize) {
+            peer.dry = !matches!(reply, Reply::Request(_));
+            peer.active = reply != Reply::NothingLeft;
+        }
+        if let Reply::Request(block) = reply {
+            self.note(worker, block)?;
+            if self.workload.depth == 0 {
+                self.arrive(rt, alloc, worker, block)?;
+            }
+        }
+        Ok(())
+    }
+
+    /// The oldest block that is asked of the peer, if it comes in this turn.
+    fn due(&self, worker: u32) -> Option<Block>
+        requires { worker < 51 }
+    {
+        let line = self.desk.outstanding(worker);
+        let is_dry = match self.peers.get(worker as usize) {
+            Some(peer) => peer.dry,
+            None => false,
+        };
+        if is_dry || line.len() as u64 >= u64::from(self.workload.depth) {
+            line.first().copied()
+        } else {
+            None
+        }
+    }
+
+    /// What the desk says next of the peer, all cancels left out.
+    fn ask(&mut self, worker: u32) -> Result<Reply>
+        requires { worker < 51 }
+    {
+        for _ in 0..=MOST_DEPTH {
+            self.counts.asks = self.counts.asks.saturating_add(1);
+            let reply = self.desk.call(worker, Call::Next(self.words.next_word()))?;
+            if !matches!(reply, Reply::Cancel(_)) {
+                return Ok(reply);
+            }
+        }
+        bail!("more cancels are due than blocks may be asked")
+    }
+
+    fn note(&mut self, worker: u32, block: Block) -> Result<()> {
+        self.counts.requests = self.counts.requests.saturating_add(1);
+        if let Some(trace) = &mut self.trace {
+            let Block { piece, begin, .. } = block;
+            let place = begin / BLOCK_SIZE;
+            writeln!(trace, "{worker} {piece} {place}")?;
+        }
+        Ok(())
+    }
+
+    /// The peer sends the block; a piece that it completes is checked.
+    fn arrive<C: CpuClock>(
+        &mut self,
+        rt: &C,
+        alloc: Global,
+        worker: u32,
+        block: Block,
+    ) -> Result<()>
+        requires { worker < 51 }
+    {
+        let call = Call::Arrived {
+            piece: block.piece,
+            begin: block.begin,
+            bytes: Bytes::from_static(&ZEROS),
+        };
+        if self.desk.call(worker, call)? == Reply::Completed {
+            let start = rt.thread_cpu_time()?;
+            let reply = self.desk.settle_now(alloc, worker, block.piece)?;
+            let took = rt.thread_cpu_time()?.saturating_sub(start);
+            self.settling = self.settling.saturating_add(took);
+            if reply == Reply::Had {
+                self.counts.had = self.counts.had.saturating_add(1);
+            }
+        }
+        Ok(())
+    }
+}

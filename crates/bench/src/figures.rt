@@ -1,0 +1,166 @@
+//! What a download costs.
+
+use crate::download::{Counts, Download};
+use crate::swarm::{PEERS, PIECE_HASH, PIECE_LEN, Workload, ZEROS};
+use anyhow::{Result, ensure};
+use sha1::Sha1;
+use std::alloc::Global;
+use std::rt::Runtime;
+use std::time::{CpuClock, Duration};
+use std::{fmt, fs};
+
+/// Of so many tries the quickest hash of a piece is taken: enough for some to go undisturbed on a busy machine.
+const HASHES: u32 = 500;
+
+/// Where Linux tells what a process takes.
+const STATUS: &str = "/proc/self/status";
+
+/// The processor times of a run, or the least ones of several.
+#[derive(Clone, Copy)]
+pub struct Times {
+    /// The rounds, without the checks.
+    asking: Duration,
+    /// The checks.
+    settling: Duration,
+    /// All peers in.
+    joins: Duration,
+    /// All peers out.
+    leaves: Duration,
+}
+
+impl Times {
+    /// Of each time the lesser one.
+    pub fn least(self, other: Times) -> Times {
+        Times {
+            asking: self.asking.min(other.asking),
+            settling: self.settling.min(other.settling),
+            joins: self.joins.min(other.joins),
+            leaves: self.leaves.min(other.leaves),
+        }
+    }
+}
+
+/// Plays a whole run.
+pub fn play<C: CpuClock>(
+    rt: &C,
+    alloc: Global,
+    workload: Workload,
+    trace: Option<String>,
+) -> Result<(Download, Times)> {
+    let shown = workload.bitfields(alloc)?;
+    let mut download = Download::new(alloc, workload, trace)?;
+    let start = rt.thread_cpu_time()?;
+    download.join(shown)?;
+    let joined = rt.thread_cpu_time()?;
+    download.run(rt, alloc)?;
+    let ran = rt.thread_cpu_time()?;
+    download.leave()?;
+    let left = rt.thread_cpu_time()?;
+    let settling = download.settling();
+    let times = Times {
+        asking: ran.saturating_sub(joined).saturating_sub(settling),
+        settling,
+        joins: joined.saturating_sub(start),
+        leaves: left.saturating_sub(ran),
+    };
+    Ok((download, times))
+}
+
+/// The nanoseconds of a time.
+pub fn nanos(time: Duration) -> u64 {
+    u64::try_from(time.as_nanos()).unwrap_or(u64::MAX)
+}
+
+/// The processor time to hash a block of 16 KiB: a sixteenth of a piece's.
+pub fn hash_time<C: CpuClock>(rt: &C) -> Result<Duration> {
+    let mut least = Duration::MAX;
+    for _ in 0..HASHES {
+        let start = rt.thread_cpu_time()?;
+        let digest = piece_hash();
+        let took = rt.thread_cpu_time()?.saturating_sub(start);
+        ensure!(digest == PIECE_HASH, "a piece has another hash");
+        least = least.min(took);
+    }
+    Ok(Duration::from_nanos(nanos(least) / 16))
+}
+
+/// Hashes a piece of zero bytes, block by block.
+fn piece_hash() -> [u8; 20] {
+    let mut hasher = Sha1::new();
+    for _ in 0..PIECE_LEN as usize / ZEROS.len() {
+        hasher.update(&ZEROS);
+    }
+    hasher.finalize()
+}
+
+/// The most memory that the process has held so far, in KiB, where the system tells it.
+pub fn peak_memory<R: Runtime + AllocGlobal>(rt: &R) -> Option<u64> {
+    let status = fs::read_to_string(rt, STATUS).ok()?;
+    for line in status.lines() {
+        if let Some(peak) = line.strip_prefix("VmHWM:") {
+            return peak.split_whitespace().next()?.parse::<u64>().ok();
+        }
+    }
+    None
+}
+
+/// The line of a workload's counts.
+#[derive(Clone, Copy)]
+pub struct CountLine {
+    pub workload: Workload,
+    pub counts: Counts,
+}
+
+impl fmt::Display for CountLine {
+    fn fmt<W: fmt::Write>(&self, f: &mut fmt::Formatter<W>) -> fmt::Result {
+        let Workload {
+            pieces,
+            density,
+            depth,
+            ..
+        } = self.workload;
+        let Counts {
+            asks,
+            requests,
+            had,
+        } = self.counts;
+        write!(
+            f,
+            "pieces {pieces} density 1/2^{density} depth {depth}: asks {asks} requests {requests} had {had}"
+        )
+    }
+}
+
+/// The line of a workload's times.
+#[derive(Clone, Copy)]
+pub struct TimeLine {
+    pub counts: Counts,
+    pub times: Times,
+    /// To hash a block.
+    pub hash: Duration,
+    /// In KiB, where it is known.
+    pub peak: Option<u64>,
+}
+
+impl fmt::Display for TimeLine {
+    fn fmt<W: fmt::Write>(&self, f: &mut fmt::Formatter<W>) -> fmt::Result {
+        let asks = self.counts.asks.max(1);
+        let asking = nanos(self.times.asking);
+        let hash = nanos(self.hash).max(1);
+        let ask = asking / asks;
+        let ratio = asking.saturating_mul(10_000) / asks.saturating_mul(hash).max(1);
+        let settling = nanos(self.times.settling);
+        let join = nanos(self.times.joins) / u64::from(PEERS);
+        let leave = nanos(self.times.leaves) / u64::from(PEERS);
+        let whole = ratio / 10_000;
+        let part = ratio % 10_000;
+        write!(
+            f,
+            "ask_ns {ask} hash_ns {hash} ratio {whole}.{part:04} settling_ns {settling} join_ns {join} leave_ns {leave}"
+        )?;
+        match self.peak {
+            Some(peak) => write!(f, " peak_kib {peak}"),
+            None => Ok(()),
+        }
+    }
+}

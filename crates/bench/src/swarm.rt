@@ -1,0 +1,139 @@
+//! What is downloaded, and from whom.
+
+ghost use Rattle.std.specs.Prelude.{◌≡◌, ◌≤◌, IfOk};
+
+use crate::mix::Mix;
+use anyhow::{Result, ensure};
+use bt_meta::{Bitfield, Torrent};
+use bt_picker::{Call, Desk, Rules};
+use std::alloc::Global;
+use std::sync::Arc;
+
+/// The peers of the swarm; the last one is a seed.
+pub const PEERS: u32 = 51;
+
+/// The bytes of a piece: sixteen blocks.
+pub const PIECE_LEN: u32 = 262_144;
+
+/// The bytes of each block.
+pub static ZEROS: [u8; 16384] = [0; 16384];
+
+/// The SHA-1 of a piece of zero bytes.
+pub const PIECE_HASH: [u8; 20] = [
+    0x2e, 0x00, 0x0f, 0xa7, 0xe8, 0x57, 0x59, 0xc7, 0xf4, 0xc2, 0x54, 0xd4, 0xd9, 0xc3, 0x3e, 0xf4,
+    0x81, 0xe4, 0x59, 0xa7,
+];
+
+/// The most that the rules allow to be asked of one peer.
+pub const MOST_DEPTH: u32 = 64;
+
+/// Where the words of the bitfields begin.
+const SEED: u64 = 1;
+
+/// What is played.
+#[derive(Clone, Copy)]
+pub struct Workload {
+    pub pieces: u32,
+    /// A peer that is no seed shows a piece with the probability 1/2^density.
+    pub density: u32,
+    /// Blocks outstanding at a peer; with none, each block arrives as soon as it was asked for.
+    pub depth: u32,
+    /// No round begins once so many asks were made.
+    pub asks: u64,
+}
+
+impl Workload {
+    /// The desk for so many workers, with no peer yet.
+    pub fn desk(&self, alloc: Global, workers: u32) -> Result<Desk>
+        requires { (1 ≤ workers) × (workers ≤ 1024) }
+        ensures { IfOk result (λ desk. desk.setting.workers ≡ workers) }
+    {
+        ensure!(self.depth <= MOST_DEPTH, "a depth is at most {MOST_DEPTH}");
+        let hashes = vec![in alloc; PIECE_HASH; self.pieces as usize]?;
+        let total = u64::from(PIECE_LEN) * u64::from(self.pieces);
+        let torrent = Torrent::of_parts(PIECE_LEN, total, hashes, [0; 20])?;
+        let rules = Rules {
+            depth: self.depth.max(1),
+            random: torrent.piece_count().min(1),
+        };
+        Ok(Desk::new(alloc, Arc::new(alloc, torrent)?, workers, rules)?)
+    }
+
+    /// What each peer shows, by their numbers.
+    pub fn bitfields(&self, alloc: Global) -> Result<Vec<Bitfield>> {
+        let mut words = Mix::new(SEED);
+        let mut shown = Vec::new(alloc);
+        for _ in 1..PEERS {
+            shown.push(self.bitfield(alloc, &mut words)?)?;
+        }
+        shown.push(full(alloc, self.pieces)?)?;
+        Ok(shown)
+    }
+
+    /// Pieces at random: 64 to a word, its low bit first.
+    fn bitfield(&self, alloc: Global, words: &mut Mix) -> Result<Bitfield> {
+        let mut flags = Bitfield::empty(alloc, self.pieces)?;
+        let mut word = 0;
+        for piece in 0..self.pieces {
+            if piece % 64 == 0 {
+                word = sparse(words, self.density);
+            }
+            if piece < flags.count() && (word >> (piece % 64)) & 1 == 1 {
+                flags.set(piece);
+            }
+        }
+        Ok(flags)
+    }
+}
+
+/// All peers come, with the last bitfield for the last peer.
+pub fn come(desk: &mut Desk, mut shown: Vec<Bitfield>) -> Result<()>
+    requires { 51 ≤ desk.old.setting.workers }
+    ensures { desk.new.setting ≡ desk.old.setting }
+{
+    'peers: for back in 0..PEERS {
+        let worker = PEERS - 1 - back;
+        desk.call(worker, Call::Join)?;
+        if let Some(flags) = shown.pop() {
+            desk.call(worker, Call::Bits(flags))?;
+        }
+        desk.call(worker, Call::Unchoke)?;
+    }
+    Ok(())
+}
+
+/// All peers go.
+pub fn leave(desk: &mut Desk) -> Result<()>
+    requires { 51 ≤ desk.old.setting.workers }
+    ensures { desk.new.setting ≡ desk.old.setting }
+{
+    'peers: for worker in 0..PEERS {
+        desk.call(worker, Call::Leave)?;
+    }
+    Ok(())
+}
+
+/// All pieces.
+pub fn full(alloc: Global, pieces: u32) -> Result<Bitfield> {
+    every(alloc, pieces, 1, 0)
+}
+
+/// The pieces whose number leaves this remainder.
+pub fn every(alloc: Global, pieces: u32, step: u32, remainder: u32) -> Result<Bitfield> {
+    let mut flags = Bitfield::empty(alloc, pieces)?;
+    for piece in 0..pieces {
+        if piece < flags.count() && piece % step.max(1) == remainder {
+            flags.set(piece);
+        }
+    }
+    Ok(flags)
+}
+
+/// A word each of whose bits is set with the probability 1/2^density.
+fn sparse(words: &mut Mix, density: u32) -> u64 {
+    let mut word = u64::MAX;
+    for _ in 0..density {
+        word &= words.next_word();
+    }
+    word
+}
