@@ -1,7 +1,6 @@
 //! A journal as text.
 
-ghost use Rattle.std.specs.Prelude.{◌≡◌, ◌<◌, ◌==◌, ◌+◌, ◌-◌, ◌++◌, ◌^◌, ◌∷◌, [], ℕ, List, codes, false, length, map, slice_index_or, true, OnOk, OnErr};
-ghost use Rattle.std.specs.Int.{bit_at};
+ghost use Rattle.std.specs.Prelude.{◌≡◌, ◌++◌, ◌∷◌, [], ℕ, List, codes, map, true, OnOk, OnErr};
 ghost use Rattle.std.specs.Io.KnownBytes.{Appends};
 ghost use Rattle.hex.specs.Hex.{encode_lower};
 ghost use Rattle.bt_meta.specs.WireBits.{IsSpelled};
@@ -99,9 +98,15 @@ fn print_bits<O: Sink>(out: &mut O, flags: &Bitfield) -> Result<(), DeviceFault>
         × Appends (O.written out.old) (O.written out.new) (encode_lower wire)) }
     ensures err { OnErr result (O.failed out.new ≡ true) }
 {
-    let count = flags.count() as usize;
-    for place in 0..(count + 7) / 8 {
-        print_byte(out, wire_byte(flags, 8 * place))?;
+    print_hexadecimal(out, flags.as_wire())
+}
+
+fn print_hexadecimal<O: Sink>(out: &mut O, bytes: &[u8]) -> Result<(), DeviceFault>
+    ensures ok { OnOk result (Appends (O.written out.old) (O.written out.new) (encode_lower bytes.now)) }
+    ensures err { OnErr result (O.failed out.new ≡ true) }
+{
+    for byte in bytes {
+        print_byte(out, *byte)?;
     }
     Ok(())
 }
@@ -114,26 +119,4 @@ fn print_byte<O: Sink>(out: &mut O, byte: u8) -> Result<(), DeviceFault>
     // It fails only where there is room for more or fewer digits.
     let _ = hex::encode_to_slice([byte], &mut digits);
     write_all(out, &digits)
-}
-
-/// Whether there is such a piece and it is in the set.
-fn has(flags: &Bitfield, piece: usize) -> bool
-    ensures { result ≡ slice_index_or flags.now piece false }
-{
-    piece < flags.count() as usize && flags.has(piece as u32)
-}
-
-/// The byte whose bits are the eight flags from `first` on, the first of them the high bit; flags that aren't there are clear.
-fn wire_byte(flags: &Bitfield, first: usize) -> u8
-    requires first { first < length flags.now }
-    requires len { length flags.now < 2 ^ 32 }
-    ensures { (k : ℕ) → k < 8 → (bit_at result (7 - k) == 1) ≡ slice_index_or flags.now (first + k) false }
-{
-    let mut byte = 0u8;
-    for place in 0..8u32 {
-        if has(flags, first + place as usize) {
-            byte |= 1 << (7 - place);
-        }
-    }
-    byte
 }

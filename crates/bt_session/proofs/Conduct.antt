@@ -17,7 +17,7 @@ use Rattle.bt_session.specs.Places.{PlaceRecord, Gains, GainsUpTo}
 use Rattle.bt_session.specs.Turning.{Leaves, Departs}
 use Rattle.bt_session.specs.Turns.{call_of, arrived_piece, if_completed, ChecksAtMost}
 use Rattle.bt_session.proofs.Asking.{stops_ways}
-use Rattle.bt_session.specs.Conduct.{Calls, Draws, word_of, words_of, completed_by, checks_piece, checks_first, all_checked, SettlesAtOnce, Conducts, DrawsWords}
+use Rattle.bt_session.specs.Conduct.{Calls, Draws, word_of, words_of, completed_by, checks_first, all_checked, SettlesAtOnce, Conducts, DrawsWords}
 
 pub words_of-append : (xs ys : Calls) → words_of (xs ++ ys) ≡ words_of xs ++ words_of ys
 words_of-append [] ys = refl

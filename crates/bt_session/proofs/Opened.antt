@@ -1,5 +1,5 @@
 -- The desk of a run before its first round.
-use Rattle.std.proofs.Common.{◌≡◌, ◌<◌, ℕ, Bool, true, false, not, List, [], ◌∷◌, Some, length, refl, sym, ap, subst, ◌==◌, ◌∙◌, arith, eq-eqb}
+use Rattle.std.proofs.Common.{◌≡◌, ℕ, Bool, false, not, List, [], ◌∷◌, length, refl, sym, ap, subst, ◌==◌, ◌∙◌, arith, eq-eqb}
 use Rattle.std.proofs.lemmas.Bool.Decides.{nat_tests}
 use Rattle.std.proofs.lemmas.List.{length-replicate}
 use Rattle.bt_meta.specs.Layout.{piece_count}
@@ -11,12 +11,10 @@ use Rattle.bt_history.specs.declared.event.Event.{Event as Entry}
 use Rattle.bt_history.specs.History.{History}
 use Rattle.bt_history.specs.Legal.{IsAllowed, Permits, answer, answer_unless, first_cause, refusal}
 use Rattle.bt_history.specs.Next.{Exactly}
-use Rattle.bt_history.specs.Peers.{flag}
 use Rattle.bt_history.specs.Pieces.{chosen, had}
 use Rattle.bt_history.specs.Setting.{Setting}
 use Rattle.bt_picker.specs.Positions.{DeskState, Gains as Enters}
 use Rattle.bt_session.specs.Desks.{calls_in}
-use Rattle.bt_session.specs.Serial.{opening_of}
 use Rattle.bt_session.specs.declared.seat.Seat.{Seat}
 use Rattle.bt_session.specs.Standing.{AreNew, Fit, IsFresh, HasOpened}
 use Rattle.bt_session.specs.Terms.{TermsState, pieces_of}

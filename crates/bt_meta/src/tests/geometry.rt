@@ -123,5 +123,11 @@ fn bitfields_onto_the_wire(rt: HostRuntime) -> Result<(), Fail> {
     had.set(2);
     assert_eq!(rt; had.count_ones(), 2);
     assert_eq!(rt; had.to_wire(rt.alloc())?.as_slice(), [0xa0].as_slice());
+    assert_eq!(rt; had.as_wire(), [0xa0].as_slice());
+    let mut shown = Bitfield::empty(rt.alloc(), 3)?;
+    shown.copy_from(&had);
+    had.clear();
+    assert_eq!(rt; shown.as_wire(), [0xa0].as_slice());
+    assert_eq!(rt; had.as_wire(), [0x00].as_slice());
     Ok(())
 }

@@ -3,7 +3,6 @@ use Rattle.std.proofs.lemmas.List.{nil_from_length}
 use Rattle.std.proofs.lemmas.Result.{err_from_is_err_and}
 use Rattle.bt_session.specs.Hearing.{source_state}
 use Rattle.bt_session.specs.Turning.{start}
-use Rattle.bt_picker.proofs.Contents.{on_err}
 use Rattle.bt_session.proofs.Conduct.{DrawsWords-none, left_draws}
 use Rattle.bt_session.proofs.Failing.{hearing_fails, ends_within, leave_refused, leave_lacks_memory, attending_fails}
 use Rattle.bt_session.proofs.Heard.{later}
