@@ -19,7 +19,9 @@ history_append older newer = ap reverse (map-append event_of older newer) ∙ re
 
 -- the first k entries and the next one
 pub take_step : {A : Type 0} (xs : List A) (k : ℕ) (x : A) → slice_get xs k ≡ Some x → take (k + 1) xs ≡ take k xs ++ x ∷ []
-take_step xs k x at = let here : get_or xs k x ≡ x = get_or_from_slice_get xs k x x at in rw (take_more xs k x (slice_get_within xs k x at), here) refl
+take_step xs k x at =
+    let here : get_or xs k x ≡ x = get_or_from_slice_get xs k x x at in
+    rw (take_more xs k x (slice_get_within xs k x at), here) refl
 
 module _ (journal : List Entry) (worker k : ℕ) (e : Entry) (at : slice_get journal k ≡ Some e) where
   -- how many entries stand before it

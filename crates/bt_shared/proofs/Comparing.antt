@@ -32,12 +32,15 @@ at_seam (z ∷ xs) x ys = at_seam xs x ys
 
 module _ (log : List Mark) (n : ℕ) (within : n ≤ length log) where
   -- the marks go on with one that the log hasn't there
-  pub differs : (m : Mark) (marks rest : List Mark) → marks ≡ (take n log ++ m ∷ []) ++ rest → slice_get log n ≢ Some m → IsFirstDifference log marks n
+  pub differs : (m : Mark) (marks rest : List Mark) → marks ≡ (take n log ++ m ∷ []) ++ rest → slice_get log n ≢ Some m
+      → IsFirstDifference log marks n
   differs m marks rest are other =
       let whole : marks ≡ take n log ++ m ∷ rest = are ∙ append_assoc (take n log) (m ∷ []) rest in
-      let len : length (take n log) ≡ n = length-take-le n log within in record {
+      let len : length (take n log) ≡ n = length-take-le n log within in
+      let there : slice_get marks n ≡ Some m =
+          ap (λ (ms : List Mark). slice_get ms n) whole ∙ ap (slice_get (take n log ++ m ∷ rest)) (sym len) ∙ at_seam (take n log) m rest in record {
         same = sym (ap (take n) whole ∙ take_at (take n log) (m ∷ rest) n len);
-        differ = λ alike. other (alike ∙ ap (λ (ms : List Mark). slice_get ms n) whole ∙ ap (slice_get (take n log ++ m ∷ rest)) (sym len) ∙ at_seam (take n log) m rest);
+        differ = λ alike. other (alike ∙ there);
       }
 
   -- the log goes on and the marks don't
@@ -46,7 +49,10 @@ module _ (log : List Mark) (n : ℕ) (within : n ≤ length log) where
       let len : length (take n log) ≡ n = length-take-le n log within in
       let none : slice_get marks n ≡ None = slice_get_past marks n (omega (arith, ap length are, len)) in record {
         same = sym (ap (take n) are ∙ take_all n (take n log) (omega (arith, len)));
-        differ = λ alike. ⊎_elim (λ found. none-some found.0 (sym none ∙ (sym alike ∙ found.2))) (λ past. omega (arith, past.0, more)) (slice_get_cases log n).1;
+        differ = λ alike. ⊎_elim
+            (λ found. none-some found.0 (sym none ∙ (sym alike ∙ found.2)))
+            (λ past. omega (arith, past.0, more))
+            (slice_get_cases log n).1;
       }
 
 -- a log that is the marks of the whole journal

@@ -10,7 +10,8 @@ use Rattle.bt_shared.specs.Passes.{PassState}
 
 module _ (passes : List PassState) (logs : List (Vec Mark)) (from : EachFrom passes logs) where
   -- what holds of the log at a worker's place holds of the log of its pass
-  of_pass : (P : List Mark → Type 0) (w : ℕ) → w < length logs → ((log : Vec Mark) → slice_get logs w ≡ Some log → P log.items) → P (log_of w passes)
+  of_pass : (P : List Mark → Type 0) (w : ℕ) → w < length logs
+      → ((log : Vec Mark) → slice_get logs w ≡ Some log → P log.items) → P (log_of w passes)
   of_pass P w within holds =
       ⊎_elim
       (λ found. let at = found.2 in subst P (from w found.0 at) (holds found.0 at))

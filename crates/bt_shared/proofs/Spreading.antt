@@ -25,7 +25,10 @@ get_set (z ∷ xs) zero zero x y at = inl (refl, cc)
 get_set (z ∷ xs) zero (suc k) x y at = inr ((λ same. omega arith), at)
 get_set (z ∷ xs) (suc i) zero x y at = inr ((λ same. omega arith), at)
 get_set (z ∷ xs) (suc i) (suc k) x y at =
-    ⊎_elim (λ here. inl (ap suc here.0, here.1)) (λ other. let apart = other.0 in inr ((λ same. apart (omega arith)), other.1)) (get_set xs i k x y at)
+    ⊎_elim
+    (λ here. inl (ap suc here.0, here.1))
+    (λ other. let apart = other.0 in inr ((λ same. apart (omega arith)), other.1))
+    (get_set xs i k x y at)
 
 -- a pass's log, put at its worker's place
 each_from_set : (ps : List PassState) (p : PassState) (logs : List (Vec Mark)) (log : Vec Mark) → log.items ≡ p.log

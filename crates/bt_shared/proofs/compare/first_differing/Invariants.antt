@@ -6,4 +6,5 @@ use Rattle.bt_history.specs.Logs.{Agrees}
 use Rattle.bt_shared.proofs.compare.first_differing.Given as goal
 
 abbrev pub invariant-loop-worker : goal.invariant-loop-worker
-invariant-loop-worker l = (w : ℕ) (log : Vec Mark) → w < l.worker → slice_get l.logs w ≡ Some log → Agrees (history_of l.journal) w log.items
+invariant-loop-worker l =
+    (w : ℕ) (log : Vec Mark) → w < l.worker → slice_get l.logs w ≡ Some log → Agrees (history_of l.journal) w log.items
