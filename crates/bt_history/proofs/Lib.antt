@@ -8,3 +8,6 @@ pub mod Arrivals
 pub mod LineLaws
 pub mod Listed
 pub mod HeldLaws
+pub mod Marks
+pub mod Journals
+pub mod HeldLengths

@@ -1,0 +1,5 @@
+mod gathering;
+mod locked;
+mod logs;
+mod setting;
+mod threads;
