@@ -38,7 +38,7 @@ module _ (log : List Mark) (n : ℕ) (within : n ≤ length log) where
       let whole : marks ≡ take n log ++ m ∷ rest = are ∙ append_assoc (take n log) (m ∷ []) rest in
       let len : length (take n log) ≡ n = length-take-le n log within in
       let there : slice_get marks n ≡ Some m =
-          ap (λ (ms : List Mark). slice_get ms n) whole ∙ ap (slice_get (take n log ++ m ∷ rest)) (sym len) ∙ at_seam (take n log) m rest in record {
+      ap (λ (ms : List Mark). slice_get ms n) whole ∙ ap (slice_get (take n log ++ m ∷ rest)) (sym len) ∙ at_seam (take n log) m rest in record {
         same = sym (ap (take n) whole ∙ take_at (take n log) (m ∷ rest) n len);
         differ = λ alike. other (alike ∙ there);
       }

@@ -46,7 +46,7 @@ loop-place-preserved c =
           let m = mark_of k (event_of e) in
           let within : n < length log = omega (arith, old.within, w.if-next-log.false) in
           let same : slice_get log n ≡ Some m =
-              same_at log n _ w.mark_at.result within (sym w.ne.ensures ∙ w.if-ne.false) ∙ ap Some w.mark_at.ensures in
+          same_at log n _ w.mark_at.result within (sym w.ne.ensures ∙ w.if-ne.false) ∙ ap Some w.mark_at.ensures in
           rw w.next-is record {
             within = omega (arith, within);
             same = take_step log n m same ∙ (ap (λ l. l ++ m ∷ []) old.same ∙ sym (mark_next j c.args.worker k e at w.if-entry-worker.true));
