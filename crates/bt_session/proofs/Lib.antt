@@ -6,6 +6,7 @@ pub mod Failing
 pub mod Heard
 pub mod LastChecks
 pub mod Leaving
+pub mod Noted
 pub mod Opened
 pub mod Opening
 pub mod Own

@@ -3,6 +3,7 @@ pub mod Desks
 pub mod Events
 pub mod Hearing
 pub mod Outlets
+pub mod Passes
 pub mod Places
 pub mod Saying
 pub mod Serial

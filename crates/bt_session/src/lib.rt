@@ -7,6 +7,7 @@ mod desk_place;
 mod fault;
 mod greeting;
 mod hearing;
+mod pass_place;
 mod place;
 mod rounds;
 mod seat;
@@ -19,6 +20,7 @@ mod writing;
 
 pub use desk_place::DeskPlace;
 pub use fault::{End, SessionFault};
+pub use pass_place::PassPlace;
 pub use place::Place;
 pub use rounds::serial;
 pub use session::Session;

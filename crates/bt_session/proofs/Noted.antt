@@ -1,0 +1,53 @@
+-- What a place at a shared desk gains by its pass's marks.
+use Rattle.std.proofs.Common.{◌≡◌, ℕ, Bool, List, [], ◌∷◌, ◌++◌, refl, sym, ap, subst, ◌∙◌, inl, inr, ⊎_elim}
+use Rattle.std.specs.Prelude.{IsTrue}
+use Rattle.std.proofs.lemmas.List.{map-append}
+use Rattle.bt_history.specs.declared.call.Reply.{Reply}
+use Rattle.bt_history.specs.declared.mark.CallMark.{CallMark}
+use Rattle.bt_history.specs.declared.mark.CallMark.TheVariants.{Settle}
+use Rattle.bt_history.specs.declared.mark.Mark.{Mark}
+use Rattle.bt_history.specs.Logs.{answers}
+use Rattle.bt_history.specs.Setting.{Setting}
+use Rattle.bt_shared.specs.Passes.{PassState, Notes, NotesCheck, mark}
+use Rattle.bt_session.specs.Desks.{calls_of_marks}
+use Rattle.bt_session.specs.Events.{Event, Called}
+use Rattle.bt_session.specs.Passes.{pass_record}
+use Rattle.bt_session.specs.Places.{Gains}
+use Rattle.bt_session.specs.Turns.{ChecksAtMost}
+use Rattle.bt_session.proofs.Stretches.{Gains-none}
+
+module _ (setting : Setting) (old new : PassState) (had told : ℕ → Bool) (short : Bool) where
+  -- a call was marked
+  pub noted : (call : CallMark) (reply : Reply) → Notes old call reply new
+      → Gains (pass_record setting old had told short) (Called call reply ∷ []) (pass_record setting new had told short)
+  noted call reply notes = record {
+    up_to = record {
+      lent = refl;
+      worker = notes.worker;
+      setting = refl;
+      calls = ap calls_of_marks notes.log ∙ map-append (λ (m : Mark). (m.call, m.reply)) old.log (mark notes.place call reply ∷ []);
+      others = λ worker. refl;
+      had = λ piece is. is;
+      told = λ piece. refl;
+      finished = tt;
+    };
+    short = refl;
+  }
+
+  -- a check was marked, or nothing
+  pub noted_check : (piece : ℕ) (reply : Reply) → IsTrue (answers (Settle piece) reply) → NotesCheck setting old piece reply new
+      → (events : List Event) × (ChecksAtMost piece events
+      × Gains (pass_record setting old had told short) events (pass_record setting new had told short))
+  noted_check piece reply fits notes =
+      elim notes [
+        | inl more ↦ (Called (Settle piece) reply ∷ [], (inr (reply, (fits, refl)), noted (Settle piece) reply more))
+        | inr none ↦ (
+          [],
+          (
+            inl refl,
+            subst
+                (λ (p : PassState). Gains (pass_record setting old had told short) [] (pass_record setting p had told short)) (sym none.0)
+                (Gains-none (pass_record setting old had told short)),
+          ),
+        )
+      ]
