@@ -1,8 +1,7 @@
 //! Written by tools/examples.py: the worked examples of the rules as data, each with replies that would be wrong in it.
-use super::setting::{A, ABC};
 use super::steps::Said::*;
 use super::steps::Told::*;
-use super::steps::{Example, Step};
+use super::steps::{A, ABC, Example, Step};
 use bt_picker::Reason::*;
 use bt_picker::Reply::{
     Choked, Completed, Dropped, Failed, Had, Idle, Joined, Noted, NothingLeft, PipeFull, Quiet,

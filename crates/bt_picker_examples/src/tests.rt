@@ -1,0 +1,3 @@
+mod audits;
+mod examples;
+mod steps;
