@@ -1,7 +1,7 @@
 -- Floors by the history: no candidate is shown by fewer peers; and what a reply tells of it.
 use Rattle.std.proofs.Common.{◌==◌, ◌≡◌, ◌⊎◌, ℕ, ◌<◌, ◌≤◌, Bool, true, false, not, ◌&&◌, ◌||◌, refl, ap, sym, ◌∙◌, subst, inl, inr, ⊎_elim, arith, List, length, set}
 use Rattle.std.specs.Prelude.{nat_le, nat_lt, slice_index_or, if◌then◌else◌}
-use Rattle.std.proofs.lemmas.Bool.{and_from, and_parts, eq-eqb, false≢true, leb-true, le-ltb, or_left, or_right}
+use Rattle.std.proofs.lemmas.Bool.{and_from, and_parts, eq-eqb, false_from_ne_true, false≢true, leb-true, le-ltb, or_left, or_right}
 use Rattle.std.proofs.lemmas.List.{get_or-set_other, get_or-set_same}
 use mathlib.Core.Logic.{dite}
 use native.Mathlib.Decide.{ℕ_discrete}
@@ -13,13 +13,13 @@ use Rattle.bt_history.specs.declared.event.Action.TheVariants.{Have, Next}
 use Rattle.bt_history.specs.declared.event.Event.{Event}
 use Rattle.bt_history.specs.Setting.{Setting, each_block_of, some_block, some_block_of}
 use Rattle.bt_history.specs.History.{History}
-use Rattle.bt_history.specs.Peers.{shows}
+use Rattle.bt_history.specs.Peers.{joined, shows}
 use Rattle.bt_history.specs.Pieces.{availability, begun, chosen, had, had_count, held_or_asked, unbegun, wanted}
 use Rattle.bt_history.specs.declared.call.Reply.TheVariants as said
 use Rattle.bt_history.specs.Legal.{IsAllowed, Permits, answer, interesting_after}
 use Rattle.bt_history.specs.Next.{continues, is_candidate, is_rarest, starts, usable}
 use Rattle.bt_history.proofs.Allowed.{answered, no_cause}
-use Rattle.bt_history.proofs.Below.{all_at}
+use Rattle.bt_history.proofs.Below.{all_at, count_most}
 use Rattle.bt_history.proofs.LineLaws.{block_is_block, some_found}
 use Rattle.bt_history.proofs.NextCases.{next_cases, next_is}
 use Rattle.bt_picker.specs.Floors.{IsFloor, NoneRarer, TellsFloor, is_fresh}
@@ -269,3 +269,8 @@ unnoted_floor t h w p n are allowed lw lp r lr shown fresh = absurd (false≢tru
 
   interested : interesting_after s h w (Have p) ≡ true
   interested = lacks_found s h (λ m. (p == m) || shows h w m) r (wanted_chosen s h r within ∙ parts.1) shows_it parts.0 within
+
+-- no piece is shown by more peers than there are
+pub above_all : (s : Setting) (h : History) (q n : ℕ) → NoneRarer s h q n → s.workers < n → (p : ℕ) → p < piece_count s.torrent → is_candidate s h q p ≡ false
+above_all s h q n none many p lp = false_from_ne_true (is_candidate s h q p)
+    (λ fits. (let low = none p lp fits in let most = count_most s.workers (λ r. joined h r && shows h r p) in omega (arith, low, most, many)))

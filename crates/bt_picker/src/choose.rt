@@ -219,6 +219,14 @@ impl<'a> Position<'a> {
         }
     }
 
+    /// Whether it is known that nothing may be begun at the peer: no piece is shown by as many peers as its floor says.
+    fn shows_no_candidate(&self, worker: u32) -> bool
+        requires { worker < self.now.setting.workers }
+        ensures { result ≡ true → (p : ℕ) → p < piece_count self.now.setting.torrent → is_candidate self.now.setting self.now.history worker p ≡ false }
+    {
+        self.floor(worker) > self.workers()
+    }
+
     /// The candidate to begin, if there is one: among those that rank first the first from the piece on that the word picks.
     fn candidate(&self, worker: u32, rare: bool, word: u64) -> Option<u32>
         requires { worker < self.now.setting.workers }
@@ -227,7 +235,7 @@ impl<'a> Position<'a> {
         ensures within { IfSome result (λ p. p < piece_count self.now.setting.torrent) }
     {
         let count = self.piece_count();
-        if count == 0 {
+        if count == 0 || self.shows_no_candidate(worker) {
             return None;
         }
         let first = (word % u64::from(count)) as u32;
