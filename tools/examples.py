@@ -367,7 +367,7 @@ pub const {name.upper()}: Example = Example {{
 """
     for doc, listed, names in groups():
         text += f"\n/// {doc}\npub const {listed}: &[Example] = &[\n" + "".join(f"    {name.upper()},\n" for name in names) + "];\n"
-    open("crates/bt_picker_examples/src/tests/examples.rt", "w").write(text)
+    open("crates/bt_picker_tests/src/tests/examples.rt", "w").write(text)
 
 
 main()

@@ -2,7 +2,5 @@
 #![tactic(auto)]
 
 mod job;
-#[cfg(test)]
-mod tests;
 
 pub use job::{Job, Verdict};

@@ -8,5 +8,6 @@ mod samples;
 mod saving;
 mod scripts;
 mod serial;
+mod session;
 mod settings;
 mod wants;

@@ -16,6 +16,3 @@ pub use fault::{BitFault, MetaFault};
 pub use intervals::{blocks_tile_a_piece, pieces_tile_the_content};
 pub use key::Key;
 pub use torrent::{BLOCK_SIZE, Torrent};
-
-#[cfg(test)]
-mod tests;

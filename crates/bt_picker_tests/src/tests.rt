@@ -1,5 +1,9 @@
+mod audits;
 mod calls;
 mod content;
+mod examples;
 mod groups;
+mod played;
 mod random;
-mod setting;
+mod shared;
+mod steps;

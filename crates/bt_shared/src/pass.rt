@@ -2,6 +2,7 @@ ghost use Rattle.std.specs.Prelude.{◌≡◌};
 
 use crate::desk_ledger::DeskLedger;
 use bt_picker::Mark;
+use std::alloc::AllocError;
 use std::marker::Model;
 use std::sync::ledger::Share;
 
@@ -31,6 +32,14 @@ impl<L: DeskLedger> Pass<L> {
         ensures { result ≡ self.now.worker }
     {
         self.worker
+    }
+
+    /// Makes room for one more mark.
+    pub(crate) fn make_room(&mut self) -> Result<(), AllocError>
+        ensures { self.new ≡ self.old }
+    {
+        self.log.reserve(1)?;
+        Ok(())
     }
 
     /// The marks of the entries that this pass's calls made, the oldest first.

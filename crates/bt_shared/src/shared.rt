@@ -54,6 +54,8 @@ impl<L: DeskLedger> SharedDesk<L> {
         ensures fits { IfOk result (λ reply. IsTrue (answers (call_mark (action_of call)) reply)) }
         ensures err { OnErr result (pass.new ≡ pass.old) }
     {
+        // While nobody waits for this worker.
+        pass.make_room()?;
         self.lock.lock(rt).call(pass, call)
     }
 

@@ -15,6 +15,3 @@ pub use inbound::Inbound;
 pub use limit::frame_limit;
 pub use message::{Message, WireFault};
 pub use writing::encode;
-
-#[cfg(test)]
-mod tests;

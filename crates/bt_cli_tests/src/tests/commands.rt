@@ -1,8 +1,7 @@
 //! The commands whole: the exit status, and the line of a fault.
 
-use super::serial::{FILE, recorded, usual};
+use super::serial::{FILE, Outcome, command, recorded, usual};
 use bt_cli::*;
-use bt_meta::ToWrite;
 use std::alloc::Global;
 use std::test::*;
 
@@ -68,30 +67,26 @@ fn metainfo_files(rt: HostRuntime) -> Result<(), Fail> {
     Ok(())
 }
 
-/// How a run with a peer that sends nothing ends, with its output and what was told, and whether there is a desk.
-fn silent(alloc: Global, meta: &[u8]) -> (u8, Vec<u8>, Vec<u8>, bool) {
+/// A run with a peer that sends nothing.
+fn silent(alloc: Global, meta: &[u8]) -> Outcome {
     let mut streams = [recorded(alloc, b"")];
-    let mut out = ToWrite::new(Vec::new(alloc));
-    let mut err = Vec::new(alloc);
-    let options = usual(0, true);
-    let (status, desk) = run_serial(alloc, meta, &mut streams, &options, &mut out, &mut err);
-    (status, out.into_inner(), err, desk.is_some())
+    command(alloc, meta, &mut streams, &usual(0, true))
 }
 
 #[test]
 fn runs(rt: HostRuntime) -> Result<(), Fail> {
-    let (status, out, err, has_desk) = silent(rt.alloc(), FILE);
-    assert_eq!(rt; status, 1);
+    let ran = silent(rt.alloc(), FILE);
+    assert_eq!(rt; ran.status, 1);
     assert_eq!(rt;
-        out.as_slice(),
+        ran.out.as_slice(),
         b"stream 0 fault 3\npieces 1\nhad 0\nmissing 0\ncomplete no\njournal ok\n".as_slice()
     );
-    assert!(rt; err.is_empty());
-    assert!(rt; has_desk);
-    let (status, out, err, has_desk) = silent(rt.alloc(), b"i0e");
-    assert_eq!(rt; status, 3);
-    assert!(rt; out.is_empty());
-    assert_eq!(rt; err.as_slice(), b"metainfo fault 2\n".as_slice());
-    assert!(rt; !has_desk);
+    assert!(rt; ran.err.is_empty());
+    assert!(rt; ran.has_desk);
+    let ran = silent(rt.alloc(), b"i0e");
+    assert_eq!(rt; ran.status, 3);
+    assert!(rt; ran.out.is_empty());
+    assert_eq!(rt; ran.err.as_slice(), b"metainfo fault 2\n".as_slice());
+    assert!(rt; !ran.has_desk);
     Ok(())
 }

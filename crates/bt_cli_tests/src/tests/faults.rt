@@ -1,7 +1,9 @@
 //! Bytes that are no script, with the line at fault and the replies to the lines before.
 
+use super::scripts::ran;
 use bt_cli::*;
 use bt_meta::{BitFault, MetaFault};
+use std::alloc::Global;
 use std::test::*;
 
 /// Three pieces for two workers: `abc`, `abc` and `a`.
@@ -140,13 +142,19 @@ const FIRST_LINES: [(&[u8], u64); 21] = [
     (b"Torrent 3 3 1 a9993e364706816aba3e25717850c26c9cd0d89d", 1),
 ];
 
+/// How a script is played, and what was printed.
+fn played(alloc: Global, script: &[u8]) -> (Result<(), Fault>, Vec<u8>) {
+    let mut out = Vec::new(alloc);
+    let done = play_script(alloc, script, &mut out);
+    (done, out)
+}
+
 #[test]
 fn lines_behind_the_first(rt: HostRuntime) -> Result<(), Fail> {
     for (behind, number, printed) in BEHIND {
         let mut script = Vec::from_slice(rt.alloc(), TORRENT)?;
         script.extend_from_slice(behind)?;
-        let mut out = Vec::new(rt.alloc());
-        let done = play_script(rt.alloc(), &script, &mut out);
+        let (done, out) = played(rt.alloc(), &script);
         let wanted = if number == 0 {
             Ok(())
         } else {
@@ -161,11 +169,10 @@ fn lines_behind_the_first(rt: HostRuntime) -> Result<(), Fail> {
 #[test]
 fn first_lines(rt: HostRuntime) -> Result<(), Fail> {
     for (script, number) in FIRST_LINES {
-        let mut out = Vec::new(rt.alloc());
-        let done = play_script(rt.alloc(), script, &mut out);
+        let (done, out) = played(rt.alloc(), script);
         assert_eq!(rt; done, Err(Fault::Line(number)), "{script:?}");
         assert_eq!(rt; out.as_slice(), b"".as_slice(), "{script:?}");
-        assert_eq!(rt; run_script(rt.alloc(), script, &mut out), 2, "{script:?}");
+        assert_eq!(rt; ran(rt.alloc(), script).0, 2, "{script:?}");
     }
     Ok(())
 }
@@ -197,8 +204,8 @@ fn texts_and_statuses(rt: HostRuntime) -> Result<(), Fail> {
 fn most_workers(rt: HostRuntime) -> Result<(), Fail> {
     let script =
         b"torrent 3 3 1024 a9993e364706816aba3e25717850c26c9cd0d89d\n1023 join\n".as_slice();
-    let mut out = Vec::new(rt.alloc());
-    assert_eq!(rt; run_script(rt.alloc(), script, &mut out), 0);
+    let (status, out) = ran(rt.alloc(), script);
+    assert_eq!(rt; status, 0);
     assert_eq!(rt; out.as_slice(), b"joined\n".as_slice());
     Ok(())
 }

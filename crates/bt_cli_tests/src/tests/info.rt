@@ -24,6 +24,13 @@ fn file_of(alloc: Global, before: &[u8], digests: &[u8]) -> Result<Vec<u8>, Allo
     Ok(file)
 }
 
+/// How a file is described, and what was printed.
+fn described(alloc: Global, file: &[u8]) -> (Result<(), Fault>, Vec<u8>) {
+    let mut out = Vec::new(alloc);
+    let done = describe(alloc, file, &mut out);
+    (done, out)
+}
+
 /// What stands before `pieces`, and what is printed. The infohashes are by another program.
 const WORKED: [(&[u8], &[u8]); 3] = [
     (
@@ -44,8 +51,8 @@ const WORKED: [(&[u8], &[u8]); 3] = [
 fn worked_files(rt: HostRuntime) -> Result<(), Fail> {
     for (before, printed) in WORKED {
         let file = file_of(rt.alloc(), before, DIGESTS)?;
-        let mut out = Vec::new(rt.alloc());
-        assert_eq!(rt; describe(rt.alloc(), &file, &mut out), Ok(()));
+        let (done, out) = described(rt.alloc(), &file);
+        assert_eq!(rt; done, Ok(()));
         assert_eq!(rt; out.as_slice(), printed);
     }
     Ok(())
@@ -65,8 +72,8 @@ fn samples(rt: HostRuntime) -> Result<(), Fail> {
         ),
     ];
     for (file, printed) in rows {
-        let mut out = Vec::new(rt.alloc());
-        assert_eq!(rt; describe(rt.alloc(), file, &mut out), Ok(()));
+        let (done, out) = described(rt.alloc(), file);
+        assert_eq!(rt; done, Ok(()));
         assert_eq!(rt; out.as_slice(), printed);
     }
     Ok(())
@@ -77,8 +84,8 @@ fn samples(rt: HostRuntime) -> Result<(), Fail> {
 fn a_name_of_any_bytes(rt: HostRuntime) -> Result<(), Fail> {
     let before = b"d4:infod6:lengthi7e4:name8:a%~ \x00!\x7f\xff12:piece lengthi3e".as_slice();
     let file = file_of(rt.alloc(), before, DIGESTS)?;
-    let mut out = Vec::new(rt.alloc());
-    assert_eq!(rt; describe(rt.alloc(), &file, &mut out), Ok(()));
+    let (done, out) = described(rt.alloc(), &file);
+    assert_eq!(rt; done, Ok(()));
     let line = out.split(|byte| *byte == b'\n').next().unwrap_or(b"");
     assert_eq!(rt; line, b"name a%25~%20%00!%7f%ff".as_slice());
     Ok(())
@@ -121,8 +128,8 @@ fn faults(rt: HostRuntime) -> Result<(), Fail> {
     ];
     for (before, digests, told) in rows {
         let file = file_of(rt.alloc(), before, digests)?;
-        let mut out = Vec::new(rt.alloc());
-        let text = match describe(rt.alloc(), &file, &mut out) {
+        let (done, out) = described(rt.alloc(), &file);
+        let text = match done {
             Ok(()) => String::new(rt.alloc()),
             Err(fault) => fault.to_string(rt.alloc())?,
         };

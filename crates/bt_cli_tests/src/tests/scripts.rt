@@ -26,13 +26,19 @@ fn parts(alloc: Global, torrent: &str, lines: &str) -> Result<(String, String), 
     Ok((script, replies))
 }
 
+/// The exit status of a script, and what was printed.
+pub fn ran(alloc: Global, script: &[u8]) -> (u8, Vec<u8>) {
+    let mut out = Vec::new(alloc);
+    let status = run_script(alloc, script, &mut out);
+    (status, out)
+}
+
 #[test]
 fn worked_examples(rt: HostRuntime) -> Result<(), Fail> {
     for example in EXAMPLES.iter().chain(&PICKS).chain(&SETTINGS) {
         let name = example.name;
         let (script, replies) = parts(rt.alloc(), example.torrent, example.lines)?;
-        let mut out = Vec::new(rt.alloc());
-        let status = run_script(rt.alloc(), script.as_bytes(), &mut out);
+        let (status, out) = ran(rt.alloc(), script.as_bytes());
         assert_eq!(rt; status, 0, "{name}");
         assert_eq!(rt; out.as_slice(), replies.as_bytes(), "{name}");
     }
@@ -51,8 +57,8 @@ fn blocks_of_two(rt: HostRuntime) -> Result<(), Fail> {
     let script = format!(in rt.alloc();
         "{torrent}\n0 join\n0 block 0 0 {block}\n0 block 0 0 {block}\n0 block 0 16384 {block}\n0 settle 0\n"
     )?;
-    let mut out = Vec::new(rt.alloc());
-    assert_eq!(rt; run_script(rt.alloc(), script.as_bytes(), &mut out), 0);
+    let (status, out) = ran(rt.alloc(), script.as_bytes());
+    assert_eq!(rt; status, 0);
     assert_eq!(rt;
         out.as_slice(),
         b"joined\nstored\ndropped\ncompleted\nfailed\n".as_slice()
@@ -75,8 +81,8 @@ fn a_deep_pipe(rt: HostRuntime) -> Result<(), Fail> {
     }
     script.push_str("0 next 0\n0 next 0\n")?;
     replies.push_str("request 0 999424 576\nidle\n")?;
-    let mut out = Vec::new(rt.alloc());
-    assert_eq!(rt; run_script(rt.alloc(), script.as_bytes(), &mut out), 0);
+    let (status, out) = ran(rt.alloc(), script.as_bytes());
+    assert_eq!(rt; status, 0);
     assert_eq!(rt; out.as_slice(), replies.as_bytes());
     Ok(())
 }

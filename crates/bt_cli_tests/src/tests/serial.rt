@@ -1,11 +1,11 @@
 //! The command `serial`: what it prints, its statuses, and the desk that it gives.
 
-ghost use Rattle.std.specs.Prelude.{◌≤◌};
+ghost use Rattle.std.specs.Prelude.{◌≤◌, length};
 
 use bt_cli::*;
 use bt_meta::{FromRead, ToWrite};
 use bt_picker::{ContentFault, Rules};
-use bt_session::Stream;
+use bt_session::{MOST_STREAMS, Stream};
 use std::alloc::{AllocError, Global};
 use std::io::Cursor;
 use std::test::*;
@@ -72,6 +72,35 @@ pub fn run_with(alloc: Global, meta: &[u8], sent: &[u8], options: &Options) -> E
     Ended {
         run,
         out: out.into_inner(),
+    }
+}
+
+/// What the command comes to: its exit status, its output, what was told, and whether there is a desk.
+#[derive(Drop)]
+pub struct Outcome {
+    pub status: u8,
+    pub out: Vec<u8>,
+    pub err: Vec<u8>,
+    pub has_desk: bool,
+}
+
+pub fn command(
+    alloc: Global,
+    meta: &[u8],
+    streams: &mut [Recorded<'_>],
+    options: &Options,
+) -> Outcome
+    requires streams { (1 ≤ length streams.old) × (length streams.old ≤ MOST_STREAMS) }
+    requires depth { (1 ≤ options.now.rules.depth) × (options.now.rules.depth ≤ MOST_DEPTH) }
+{
+    let mut out = ToWrite::new(Vec::new(alloc));
+    let mut err = Vec::new(alloc);
+    let (status, desk) = run_serial(alloc, meta, streams, options, &mut out, &mut err);
+    Outcome {
+        status,
+        out: out.into_inner(),
+        err,
+        has_desk: desk.is_some(),
     }
 }
 
@@ -178,12 +207,8 @@ fn seeds(rt: HostRuntime) -> Result<(), Fail> {
     let mut others = 0_u32;
     let mut first = Vec::new(rt.alloc());
     for seed in 0..8 {
-        let mut streams = [recorded(rt.alloc(), &sent)];
-        let mut out = ToWrite::new(Vec::new(rt.alloc()));
-        let options = usual(seed, true);
-        let run = play_streams(rt.alloc(), THREE_PIECES, &mut streams, &options, &mut out)?;
-        assert_eq!(rt; run.ended, Ok(false));
-        let out = out.into_inner();
+        let Ended { run, out } = run_with(rt.alloc(), THREE_PIECES, &sent, &usual(seed, true));
+        assert_eq!(rt; run?.ended, Ok(false));
         if seed == 0 {
             first = out;
         } else if out.as_slice() != first.as_slice() {

@@ -4,10 +4,10 @@ ghost use Rattle.std.specs.Prelude.{◌≤◌, IfOk};
 
 use super::saving::Kept;
 use super::serial::{
-    FILE, FRAMES, INFOHASH, INFOHASH_OF_THREE, THREE_PIECES, recorded, run_with, stream, usual,
+    FILE, FRAMES, INFOHASH, INFOHASH_OF_THREE, THREE_PIECES, command, recorded, run_with, stream,
+    usual,
 };
 use bt_cli::*;
-use bt_meta::ToWrite;
 use bt_picker::Rules;
 use bt_session::Stream;
 use std::alloc::{AllocError, Global};
@@ -27,15 +27,17 @@ fn wanting(alloc: Global, want: &[u8]) -> Result<Options, AllocError>
 fn no_piece_is_wanted(rt: HostRuntime) -> Result<(), Fail> {
     let sent = stream(rt.alloc(), INFOHASH, FRAMES)?;
     let mut streams = Vec::from_array(rt.alloc(), [recorded(rt.alloc(), &sent)])?;
-    let mut out = ToWrite::new(Vec::new(rt.alloc()));
-    let mut err = Vec::new(rt.alloc());
-    let options = wanting(rt.alloc(), b"\x00")?;
-    let (status, desk) = run_serial(rt.alloc(), FILE, &mut streams, &options, &mut out, &mut err);
-    assert_eq!(rt; status, 0);
-    assert!(rt; desk.is_some());
-    assert!(rt; err.is_empty());
+    let ran = command(
+        rt.alloc(),
+        FILE,
+        &mut streams,
+        &wanting(rt.alloc(), b"\x00")?,
+    );
+    assert_eq!(rt; ran.status, 0);
+    assert!(rt; ran.has_desk);
+    assert!(rt; ran.err.is_empty());
     assert_eq!(rt;
-        out.into_inner().as_slice(),
+        ran.out.as_slice(),
         b"1 want 00 = quiet\n0 join = joined\n0 bits 80 = noted no\n0 next = choked\n0 unchoke = quiet\n0 next = nothing\n0 block 0 0 3 = completed\n0 settle 0 = had\n0 next = nothing\n0 leave = quiet\nstream 0 end\npieces 1\nhad 1\nmissing -\ncomplete yes\njournal ok\n".as_slice()
     );
     let Some(Stream { reader: _, writer }) = streams.pop() else {
@@ -129,29 +131,16 @@ fn options_that_do_not_fit(rt: HostRuntime) -> Result<(), Fail> {
     ];
     for (meta, want, random, wanted, told) in rows {
         let mut streams = [recorded(rt.alloc(), b"")];
-        let mut out = ToWrite::new(Vec::new(rt.alloc()));
-        let mut err = Vec::new(rt.alloc());
         let mut options = usual(0, true);
         options.rules.random = random;
         if let Some(bytes) = want {
             options.want = Some(Vec::from_slice(rt.alloc(), bytes)?);
         }
-        let (status, desk) = run_serial(
-            rt.alloc(),
-            meta,
-            &mut streams,
-            &options,
-            &mut out,
-            &mut err,
-        );
-        assert_eq!(rt; status, wanted, "{want:?} {random}");
-        assert_eq!(rt; err.as_slice(), told, "{want:?} {random}");
-        assert_eq!(rt; desk.is_some(), wanted == 1, "{want:?} {random}");
-        assert_eq!(rt;
-            out.into_inner().is_empty(),
-            wanted != 1,
-            "{want:?} {random}"
-        );
+        let ran = command(rt.alloc(), meta, &mut streams, &options);
+        assert_eq!(rt; ran.status, wanted, "{want:?} {random}");
+        assert_eq!(rt; ran.err.as_slice(), told, "{want:?} {random}");
+        assert_eq!(rt; ran.has_desk, wanted == 1, "{want:?} {random}");
+        assert_eq!(rt; ran.out.is_empty(), wanted != 1, "{want:?} {random}");
     }
     Ok(())
 }

@@ -1,89 +1,79 @@
 //! How a swarm stands: the unbegun pieces by availability, and the blocks that are yet to be asked.
-ghost use Rattle.std.specs.Prelude.{◌≡◌, ◌<◌, ◌≤◌, IfOk};
-
-use super::setting::*;
-use bt_picker::*;
-use std::alloc::Global;
+use super::played::Played;
+use super::steps::Said::*;
+use super::steps::Step;
+use super::steps::Told::*;
+use bt_picker::Reply::{Completed, Joined, Noted, Quiet};
 use std::process::Abort;
 use std::test::*;
 
-/// A desk of pieces `abc`, `abc` and `a` for four workers.
-fn desk(rt: &impl Abort, alloc: Global) -> Result<Desk, Fail>
-    ensures { IfOk result (λ desk. desk.setting.workers ≡ 4) }
-{
-    Ok(Desk::new(alloc, three_pieces(rt, alloc)?, 4, Rules::usual())?)
-}
-
-/// The worker's peer joins, and tells of the pieces whose flags the byte has.
-fn join(alloc: Global, desk: &mut Desk, worker: u32, byte: u8) -> Result<(), Fail>
-    requires { worker < desk.old.setting.workers }
-    ensures { desk.new.setting ≡ desk.old.setting }
-{
-    desk.call(worker, Call::Join)?;
-    desk.call(worker, bits(alloc, byte)?)?;
-    Ok(())
-}
-
-/// Whether just these unbegun pieces are shown by so many peers.
-fn shows(desk: &Desk, shown_by: u32, pieces: &[u32]) -> bool
-    requires { shown_by ≤ desk.now.setting.workers }
-{
-    let group = desk.group(shown_by);
-    for piece in pieces {
-        if !group.contains(piece) {
-            return false;
+/// Checks which unbegun pieces no, one and two peers show, and how many blocks are yet to be asked.
+fn stands(rt: &impl Abort, played: &Played, groups: [&[u32]; 3], unasked: u64) -> Result<(), Fail> {
+    for shown_by in 0..3_u8 {
+        let pieces = groups[shown_by as usize];
+        let group = played.group(rt, shown_by.into());
+        assert_eq!(rt; group.len(), pieces.len());
+        for piece in pieces {
+            assert!(rt; group.contains(piece));
         }
     }
-    group.len() == pieces.len()
+    assert_eq!(rt; played.desk().unasked(), unasked);
+    Ok(())
 }
 
 #[test]
 fn as_pieces_begin(rt: HostRuntime) -> Result<(), Fail> {
     let alloc = rt.alloc();
-    let mut desk = desk(&rt, alloc)?;
-    join(alloc, &mut desk, 0, 0xe0)?;
-    join(alloc, &mut desk, 1, 0x40)?;
-    assert!(rt; shows(&desk, 0, &[]));
-    assert!(rt; shows(&desk, 1, &[0, 2]));
-    assert!(rt; shows(&desk, 2, &[1]));
-    assert_eq!(rt; desk.unasked(), 3);
-    desk.call(0, Call::Unchoke)?;
-    desk.call(0, Call::Next(2))?;
-    assert!(rt; shows(&desk, 1, &[0]));
-    assert_eq!(rt; desk.unasked(), 2);
-    desk.call(0, block(2, b"a"))?;
-    desk.settle_now(alloc, 0, 2)?;
-    desk.call(0, Call::Next(1))?;
-    assert!(rt; shows(&desk, 1, &[]));
-    assert_eq!(rt; desk.unasked(), 1);
-    Ok(())
+    let mut played = Played::new(&rt, alloc)?;
+    let steps = [
+        Step(0, Join, Is(Joined)),
+        Step(0, Bits(&[0xe0], 3), Is(Noted(true))),
+        Step(1, Join, Is(Joined)),
+        Step(1, Bits(&[0x40], 3), Is(Noted(true))),
+    ];
+    played.play(&rt, alloc, &steps)?;
+    stands(&rt, &played, [&[], &[0, 2], &[1]], 3)?;
+    let steps = [
+        Step(0, Unchoke, Is(Quiet)),
+        Step(0, Next(2), Request(2, 0, 1)),
+    ];
+    played.play(&rt, alloc, &steps)?;
+    stands(&rt, &played, [&[], &[0], &[1]], 2)?;
+    played.play(&rt, alloc, &[Step(0, Arrived(2, 0, b"a"), Is(Completed))])?;
+    played.settle(&rt, alloc, 0, 2)?;
+    played.play(&rt, alloc, &[Step(0, Next(1), Request(0, 0, 3))])?;
+    stands(&rt, &played, [&[], &[], &[1]], 1)
 }
 
 #[test]
 fn as_a_peer_leaves(rt: HostRuntime) -> Result<(), Fail> {
     let alloc = rt.alloc();
-    let mut desk = desk(&rt, alloc)?;
-    join(alloc, &mut desk, 0, 0xe0)?;
-    join(alloc, &mut desk, 1, 0x80)?;
-    join(alloc, &mut desk, 2, 0x40)?;
-    assert!(rt; shows(&desk, 1, &[2]));
-    assert!(rt; shows(&desk, 2, &[0, 1]));
-    desk.call(1, Call::Leave)?;
-    assert!(rt; shows(&desk, 1, &[0, 2]));
-    assert!(rt; shows(&desk, 2, &[1]));
-    Ok(())
+    let mut played = Played::new(&rt, alloc)?;
+    let steps = [
+        Step(0, Join, Is(Joined)),
+        Step(0, Bits(&[0xe0], 3), Is(Noted(true))),
+        Step(1, Join, Is(Joined)),
+        Step(1, Bits(&[0x80], 3), Is(Noted(true))),
+        Step(2, Join, Is(Joined)),
+        Step(2, Bits(&[0x40], 3), Is(Noted(true))),
+    ];
+    played.play(&rt, alloc, &steps)?;
+    stands(&rt, &played, [&[], &[2], &[0, 1]], 3)?;
+    played.play(&rt, alloc, &[Step(1, Leave, Is(Quiet))])?;
+    stands(&rt, &played, [&[], &[0, 2], &[1]], 3)
 }
 
 #[test]
 fn as_pieces_are_wanted(rt: HostRuntime) -> Result<(), Fail> {
     let alloc = rt.alloc();
-    let mut desk = desk(&rt, alloc)?;
-    join(alloc, &mut desk, 0, 0xe0)?;
-    desk.call(3, want(alloc, 0x40)?)?;
-    assert!(rt; shows(&desk, 1, &[1]));
-    assert_eq!(rt; desk.unasked(), 1);
-    desk.call(3, want(alloc, 0xa0)?)?;
-    assert!(rt; shows(&desk, 1, &[0, 2]));
-    assert_eq!(rt; desk.unasked(), 2);
-    Ok(())
+    let mut played = Played::new(&rt, alloc)?;
+    let steps = [
+        Step(0, Join, Is(Joined)),
+        Step(0, Bits(&[0xe0], 3), Is(Noted(true))),
+        Step(3, Want(&[0x40], 3), Is(Quiet)),
+    ];
+    played.play(&rt, alloc, &steps)?;
+    stands(&rt, &played, [&[], &[1], &[]], 1)?;
+    played.play(&rt, alloc, &[Step(3, Want(&[0xa0], 3), Is(Quiet))])?;
+    stands(&rt, &played, [&[], &[0, 2], &[]], 2)
 }

@@ -31,12 +31,20 @@ const RIGHT: [u8; 16384] = [b'a'; 16384];
 
 const WRONG: [u8; 16384] = [b'b'; 16384];
 
+/// A torrent of pieces of this length; its caller's proof doesn't compute with the numbers.
+fn torrent_of(piece_length: u32, total: u64, hashes: Vec<[u8; 20]>) -> Result<Torrent, Fail> {
+    Ok(Torrent::of_parts(piece_length, total, hashes, [0; 20])?)
+}
+
 /// Three pieces of two blocks, 16,384 and 2 bytes, and one of a whole block.
 fn torrent(rt: &impl Abort, alloc: Global) -> Result<Arc<Torrent>, Fail>
     ensures { IfOk result (λ torrent. piece_count torrent.value.layout ≡ 4) }
 {
-    let hashes = vec![in alloc; LONG, LONG, LONG, SHORT]?;
-    let torrent = Torrent::of_parts(16386, 3 * 16386 + 16384, hashes, [0; 20])?;
+    let torrent = torrent_of(
+        16386,
+        3 * 16386 + 16384,
+        vec![in alloc; LONG, LONG, LONG, SHORT]?,
+    )?;
     assert!(rt; torrent.piece_count() == 4);
     Ok(Arc::new(alloc, torrent)?)
 }

@@ -1,0 +1,170 @@
+mod serial;
+mod settings;
+mod sips;
+
+use bt_meta::{Bitfield, FromRead, Source, ToWrite, Torrent};
+use bt_picker::{Call, Desk, Entry, Rules};
+use bt_session::whole::session;
+use bt_session::{DeskPlace, End, SessionFault};
+use bt_wire::{Hello, WireFault};
+use rand_pcg::Lcg64Xsh32;
+use std::alloc::{AllocError, Global};
+use std::fmt::Write;
+use std::io::Cursor;
+use std::sync::Arc;
+use std::test::Fail;
+
+/// The SHA-1 of the three bytes `abc` (FIPS 180-4).
+const ABC: [u8; 20] = [
+    0xa9, 0x99, 0x3e, 0x36, 0x47, 0x06, 0x81, 0x6a, 0xba, 0x3e, 0x25, 0x71, 0x78, 0x50, 0xc2, 0x6c,
+    0x9c, 0xd0, 0xd8, 0x9d,
+];
+
+/// A torrent of so many pieces `abc`, or of other lengths with that digest.
+fn torrent_of(
+    alloc: Global,
+    piece_length: u32,
+    total: u64,
+    count: u32,
+) -> Result<Arc<Torrent>, Fail> {
+    let mut hashes = Vec::new(alloc);
+    for _ in 0..count {
+        hashes.push(ABC)?;
+    }
+    let torrent = Torrent::of_parts(piece_length, total, hashes, [1; 20])?;
+    Ok(Arc::new(alloc, torrent)?)
+}
+
+/// One piece of the three bytes `abc`.
+fn torrent(alloc: Global) -> Result<Arc<Torrent>, Fail> {
+    torrent_of(alloc, 3, 3, 1)
+}
+
+/// Five blocks at a time, and no piece at random: these suit each torrent.
+const RULES: Rules = Rules {
+    depth: 5,
+    random: 0,
+};
+
+/// What a peer of one piece sends, after its handshake: its bitfield, unchoke, and the piece.
+const PEER: [u8; 27] = [
+    0, 0, 0, 2, 5, 128, 0, 0, 0, 1, 1, 0, 0, 0, 12, 7, 0, 0, 0, 0, 0, 0, 0, 0, 97, 98, 99,
+];
+
+fn peer(alloc: Global, infohash: u8, frames: &[u8]) -> Result<Vec<u8>, Fail> {
+    let hello = Hello {
+        reserved: [0; 8],
+        infohash: [infohash; 20],
+        peer_id: [9; 20],
+    };
+    let mut stream = Vec::from_slice(alloc, &hello.write())?;
+    stream.extend_from_slice(frames)?;
+    Ok(stream)
+}
+
+/// An entry by its call and its reply, without words, bytes and bitfields.
+fn tell(entry: &Entry, said: &mut String) -> Result<(), AllocError> {
+    match &entry.call {
+        Call::Join => said.push_str("join")?,
+        Call::Bits(_) => said.push_str("bits")?,
+        Call::Have(piece) => write!(said, "have {piece}")?,
+        Call::Choke => said.push_str("choke")?,
+        Call::Unchoke => said.push_str("unchoke")?,
+        Call::Next(_) => said.push_str("next")?,
+        Call::Arrived { piece, begin, .. } => write!(said, "block {piece} {begin}")?,
+        Call::Settle(_) => said.push_str("settle")?,
+        Call::Leave => said.push_str("leave")?,
+        Call::Want(_) => said.push_str("want")?,
+    }
+    let reply = entry.reply;
+    write!(said, " = {reply:?}; ")
+}
+
+/// What came of it, the journal, and what was written.
+fn told(
+    alloc: Global,
+    stream: &[u8],
+) -> Result<(Result<End, SessionFault>, String, Vec<u8>), Fail> {
+    told_of(alloc, FromRead::new(Cursor::new(stream)))
+}
+
+/// The same of a source, which is read to its end.
+fn told_of<R: Source + Drop>(
+    alloc: Global,
+    mut reader: R,
+) -> Result<(Result<End, SessionFault>, String, Vec<u8>), Fail> {
+    let torrent = torrent(alloc)?;
+    let mut told = Bitfield::empty(alloc, torrent.piece_count())?;
+    let mut desk = Desk::new(alloc, torrent.clone()?, 4, RULES)?;
+    let mut writer = ToWrite::new(Vec::new(alloc));
+    let mut rng = Lcg64Xsh32::new(0, 3);
+    let mut place = DeskPlace::new(&mut desk, 3, &mut told);
+    let end = session(
+        alloc,
+        torrent,
+        3,
+        &mut reader,
+        &mut writer,
+        &mut place,
+        &mut rng,
+        5,
+    );
+    let mut said = String::new(alloc);
+    for entry in desk.journal() {
+        tell(entry, &mut said)?;
+    }
+    Ok((end, said, writer.into_inner()))
+}
+
+const WHOLE: &str = "join = Joined; bits = Noted(true); next = Choked; unchoke = Quiet; \
+    next = Request(Block { piece: 0, begin: 0, len: 3 }); next = Idle; \
+    block 0 0 = Completed; settle = Had; next = NothingLeft; leave = Quiet; ";
+
+#[test]
+fn a_whole_session(rt: HostRuntime) -> Result<(), Fail> {
+    let (end, calls, written) = told(rt.alloc(), &peer(rt.alloc(), 1, &PEER)?)?;
+    assert!(rt; end == Ok(End { messages: 3 }));
+    assert_eq!(rt; calls.as_str(), WHOLE);
+    let mut wanted = Vec::from_slice(rt.alloc(), b"\x13BitTorrent protocol")?;
+    wanted.extend_from_slice(&[0; 8])?;
+    wanted.extend_from_slice(&[1; 20])?;
+    wanted.extend_from_slice(b"-PP0001-000000000003")?;
+    // interested, request, have, not interested
+    wanted.extend_from_slice(&[
+        0, 0, 0, 1, 2, 0, 0, 0, 13, 6, 0, 0, 0, 0, 0, 0, 0, 0, 0, 0, 0, 3, 0, 0, 0, 5, 4, 0, 0, 0,
+        0, 0, 0, 0, 1, 3,
+    ])?;
+    assert_eq!(rt; written.as_slice(), wanted.as_slice());
+    Ok(())
+}
+
+#[test]
+fn faults(rt: HostRuntime) -> Result<(), Fail> {
+    let begun = "join = Joined; bits = Noted(true); next = Choked; unchoke = Quiet; \
+        next = Request(Block { piece: 0, begin: 0, len: 3 }); next = Idle; leave = Quiet; ";
+    let rows: [(u8, &[u8], SessionFault, &str); 4] = [
+        (1, &PEER[..26], SessionFault::Truncated, begun),
+        (2, &PEER, SessionFault::WrongInfohash, ""),
+        (
+            1,
+            &[0, 0, 0, 2, 5, 192],
+            SessionFault::BadBits,
+            "join = Joined; leave = Quiet; ",
+        ),
+        (
+            1,
+            &[0, 16, 0, 1],
+            SessionFault::Wire(WireFault::TooLong),
+            "join = Joined; leave = Quiet; ",
+        ),
+    ];
+    for (infohash, frames, fault, wanted) in rows {
+        let (end, calls, _) = told(rt.alloc(), &peer(rt.alloc(), infohash, frames)?)?;
+        assert!(rt; end == Err(fault));
+        assert_eq!(rt; calls.as_str(), wanted);
+    }
+    let (end, calls, _) = told(rt.alloc(), b"\x13BitTorrent")?;
+    assert!(rt; end == Err(SessionFault::Truncated));
+    assert_eq!(rt; calls.as_str(), "");
+    Ok(())
+}

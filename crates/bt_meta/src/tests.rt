@@ -1,4 +1,0 @@
-mod devices;
-mod geometry;
-mod metainfo;
-mod samples;

@@ -1,0 +1,8 @@
+mod bencode;
+mod check;
+mod devices;
+mod geometry;
+mod metainfo;
+mod order;
+mod samples;
+mod wire;

@@ -1,3 +1,0 @@
-mod audits;
-mod examples;
-mod steps;
