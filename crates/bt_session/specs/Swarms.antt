@@ -8,8 +8,12 @@ use Rattle.bt_history.specs.Setting.{Setting}
 use Rattle.bt_picker.specs.Checks.{waits}
 use Rattle.bt_picker.specs.Positions.{DeskState}
 use Rattle.bt_shared.specs.Passes.{PassState, newcomer}
+use Rattle.bt_shared.specs.declared.gather.GatherFault.{GatherFault}
+use Rattle.bt_shared.specs.declared.gather.GatherFault.TheVariants as gathers
 use Rattle.bt_session.specs.declared.fault.End.{End}
 use Rattle.bt_session.specs.declared.fault.SessionFault.{SessionFault}
+use Rattle.bt_session.specs.declared.swarm_run.SwarmFault.{SwarmFault}
+use Rattle.bt_session.specs.declared.swarm_run.SwarmFault.TheVariants.{NoMemory, Gather}
 use Rattle.bt_session.specs.Conduct.{DrawsWords, generator_of}
 use Rattle.bt_session.specs.Hearing.{most_reads}
 use Rattle.bt_session.specs.Passes.{no_piece, pass_record}
@@ -17,6 +21,11 @@ use Rattle.bt_session.specs.Places.{PlaceRecord}
 use Rattle.bt_session.specs.Serial.{StreamRecord, EndsAs, DevicesAfter, source_of, stream_record}
 use Rattle.bt_session.specs.Terms.{TermsState}
 use Rattle.bt_session.specs.Turning.{Surroundings}
+
+-- why a run comes to nothing whose desk isn't gathered
+abbrev pub swarm_fault : GatherFault → SwarmFault
+swarm_fault gathers.NoMemory = NoMemory
+swarm_fault fault = Gather fault
 
 -- ---- sessions
 

@@ -4,9 +4,9 @@ ghost use Rattle.std.specs.Prelude.{◌≡◌, ◌≤◌, ◌<◌, ◌+◌, [], 
 ghost use Rattle.bt_history.specs.Legal.{IsLegal};
 ghost use Rattle.bt_history.specs.Setting.{AreRules, setting_of};
 ghost use Rattle.bt_meta.specs.Layout.{piece_count};
-ghost use Rattle.bt_session.specs.declared.swarm_run.SwarmFault.TheVariants as faults;
+ghost use Rattle.bt_session.specs.declared.swarm_run.SwarmFault.TheVariants.{NoMemory};
 ghost use Rattle.bt_session.specs.Serial.{stream_record};
-ghost use Rattle.bt_session.specs.Swarms.{AreNewcomers, ChecksRise, EachSwarmed, MakesLastChecks, TellsWaiting};
+ghost use Rattle.bt_session.specs.Swarms.{AreNewcomers, ChecksRise, EachSwarmed, MakesLastChecks, TellsWaiting, swarm_fault};
 ghost use Rattle.bt_session.specs.Terms.{terms_of};
 ghost use Rattle.bt_shared.specs.Gathering.{EachAgrees};
 ghost use Rattle.bt_shared.specs.Passes.{newcomer};
@@ -45,7 +45,7 @@ pub struct SwarmRun<R, W> {
 pub enum SwarmFault {
     #[error("memory")]
     NoMemory,
-    #[error("the desk wasn't gathered: {0}")]
+    #[error("gather fault {}", gather_number(.0))]
     Gather(GatherFault),
     /// A thread couldn't be started. Those that were have gone to their sessions' ends.
     #[error("no thread")]
@@ -53,7 +53,7 @@ pub enum SwarmFault {
 }
 
 impl From<AllocError> for SwarmFault {
-    ghost from_gives = { λ _ fault. fault ≡ faults.NoMemory };
+    ghost from_gives = { λ _ fault. fault ≡ NoMemory };
 
     fn from(_e: AllocError) -> SwarmFault {
         SwarmFault::NoMemory
@@ -61,10 +61,23 @@ impl From<AllocError> for SwarmFault {
 }
 
 impl From<GatherFault> for SwarmFault {
-    ghost from_gives = { λ cause fault. fault ≡ faults.Gather cause };
+    ghost from_gives = { λ cause fault. fault ≡ swarm_fault cause };
 
     fn from(fault: GatherFault) -> SwarmFault {
-        SwarmFault::Gather(fault)
+        match fault {
+            GatherFault::NoMemory => SwarmFault::NoMemory,
+            _ => SwarmFault::Gather(fault),
+        }
+    }
+}
+
+/// The place of the fault in its enum, from 1.
+fn gather_number(fault: &GatherFault) -> u8 {
+    match fault {
+        GatherFault::PassMissing { .. } => 1,
+        GatherFault::LogsDiffer { .. } => 2,
+        GatherFault::BoardDiffers { .. } => 3,
+        GatherFault::NoMemory => 4,
     }
 }
 
