@@ -21,4 +21,5 @@ grown part hs hs' h x rest rest' all more left is old =
 
 -- what holds of each element holds of one more
 pub all_grown : {H : Type 0} (P : H → Type 0) (hs hs' : List H) (h : H) → hs' ≡ hs ++ h ∷ [] → P h → All P hs → All P hs'
-all_grown P hs hs' h more here old = subst (All P) (sym more) (All-append P hs (h ∷ []) old (All-cons P h [] here (λ i d below. absurd (omega arith))))
+all_grown P hs hs' h more here old =
+    subst (All P) (sym more) (All-append P hs (h ∷ []) old (All-cons P h [] here (λ i d below. absurd (omega arith))))

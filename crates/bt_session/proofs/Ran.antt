@@ -12,7 +12,8 @@ use Rattle.bt_session.specs.Sessions.{IsCutShort, IsWhole}
 use Rattle.bt_session.specs.Swarms.{RunsTo, around_place}
 use Rattle.bt_session.specs.Terms.{TermsState}
 
-module _ (terms : TermsState) (worker : ℕ) (generator : Words) (past : PlaceRecord) (old : StreamRecord) (past' : PlaceRecord) (new : StreamRecord) where
+module _ (terms : TermsState) (worker : ℕ) (generator : Words) (past : PlaceRecord) (old : StreamRecord)
+    (past' : PlaceRecord) (new : StreamRecord) where
   pub ran_whole : (outcome : Result End SessionFault) → RunsTo outcome terms worker generator past old past' new →
       IfOk outcome (λ end. IsWhole end terms worker (around_place past old) (around_place past' new))
   ran_whole (Ok end) runs = runs.ends

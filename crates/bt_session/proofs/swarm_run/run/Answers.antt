@@ -22,7 +22,8 @@ returns-clause-sessions g c =
     let played : length (map (λ p. p.pass) all) ≡ n = length-map all (λ p. p.pass) ∙ c.in_ok-all.ensures.count in
     let passes : c.push_reserved.new.self.items ≡ map (λ p. p.pass) all ++ last ∷ [] =
     c.push_reserved.ensures.items ∙ ap (λ (ps : List PassState). ps ++ last ∷ []) c.part.ensures.passes in
-    let from : EachFrom (map (λ p. p.pass) all ++ last ∷ []) logs = subst (λ (ps : List PassState). EachFrom ps logs) passes c.in_ok-book.ensures.logs in
+    let from : EachFrom (map (λ p. p.pass) all ++ last ∷ []) logs =
+    subst (λ (ps : List PassState). EachFrom ps logs) passes c.in_ok-book.ensures.logs in
     let room : length logs ≡ n + 1 = search rules in
     rw (c.part.ensures.ends, c.part.ensures.streams)
     (swarmed record_of terms g.L.DeskLedger.setting c.args.seed n seated (map (λ p. p.pass) all) last c.args.streams.items
@@ -41,7 +42,8 @@ returns-clause-finishes g c =
     let played : length (map (λ p. p.pass) all) ≡ n = length-map all (λ p. p.pass) ∙ c.in_ok-all.ensures.count in
     let passes : c.push_reserved.new.self.items ≡ map (λ p. p.pass) all ++ last ∷ [] =
     c.push_reserved.ensures.items ∙ ap (λ (ps : List PassState). ps ++ last ∷ []) c.part.ensures.passes in
-    let from : EachFrom (map (λ p. p.pass) all ++ last ∷ []) logs = subst (λ (ps : List PassState). EachFrom ps logs) passes c.in_ok-book.ensures.logs in
+    let from : EachFrom (map (λ p. p.pass) all ++ last ∷ []) logs =
+    subst (λ (ps : List PassState). EachFrom ps logs) passes c.in_ok-book.ensures.logs in
     let room : length logs ≡ n + 1 = search rules in
     let whose : last.worker ≡ n =
     c.last_checks.ensures.worker ∙ (ap (λ (p : PassState). p.worker) c.in_ok-desk.ensures.last ∙ omega (arith, c.len-count.ensures)) in

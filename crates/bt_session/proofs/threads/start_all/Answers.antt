@@ -16,8 +16,10 @@ loop-stream-preserved g c =
       terms = all_grown (λ h. terms_of h.promise.torrent.value.value h.promise.depth ≡ terms_of c.args.torrent.now.value c.args.depth) hs hs' h
           c.push_reserved.ensures.items (made.terms ∙ ap (λ (t : Metainfo). terms_of t c.args.depth) same) was.terms;
       seeds = all_grown (λ h. h.promise.seed ≡ c.args.seed) hs hs' h c.push_reserved.ensures.items made.seed was.seeds;
-      passes = grown (λ h. h.promise.pass.value) hs hs' h c.in-Some-next.pass _ _ _ c.push_reserved.ensures.items c.in-Some-next.ensures.items made.pass was.passes;
-      streams = grown (λ h. h.promise.stream.value) hs hs' h c.in-Some.stream _ _ _ c.push_reserved.ensures.items c.in-Some.ensures.steps.0 made.stream was.streams;
+      passes = grown (λ h. h.promise.pass.value) hs hs' h c.in-Some-next.pass _ _ _
+          c.push_reserved.ensures.items c.in-Some-next.ensures.items made.pass was.passes;
+      streams = grown (λ h. h.promise.stream.value) hs hs' h c.in-Some.stream _ _ _
+          c.push_reserved.ensures.items c.in-Some.ensures.steps.0 made.stream was.streams;
       room = omega (arith, was.room, c.in-Some.ensures.steps.1, c.push_reserved.ensures.len, c.push_reserved.ensures.capacity);
       same = omega (arith, was.same, c.in-Some.ensures.steps.1, c.in-Some-next.ensures.len);
     }

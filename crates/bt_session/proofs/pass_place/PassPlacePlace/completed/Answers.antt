@@ -7,4 +7,5 @@ returns-in-Ok-clause-ok g c =
     let place = c.self.inside in
     let noted = c.in-Ok.ensures in
     rw (← c.self.view_is)
-    (noted_check g.L.DeskLedger.setting place.pass c.settle_now.new.pass no_piece no_piece place.short c.args.piece c.in-Ok.field-0 noted.fits noted.ok)
+    (noted_check g.L.DeskLedger.setting place.pass c.settle_now.new.pass no_piece no_piece place.short c.args.piece c.in-Ok.field-0
+    noted.fits noted.ok)
