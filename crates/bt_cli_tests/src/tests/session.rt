@@ -1,6 +1,7 @@
 mod serial;
 mod settings;
 mod sips;
+mod swarm;
 
 use bt_meta::{Bitfield, FromRead, Source, ToWrite, Torrent};
 use bt_picker::{Call, Desk, Entry, Rules};

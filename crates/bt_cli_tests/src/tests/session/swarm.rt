@@ -1,0 +1,209 @@
+//! Sessions in threads of their own.
+ghost use Rattle.std.specs.Prelude.{◌≤◌, length};
+
+use super::serial::{Recorded, recorded, two_pieces};
+use super::{PEER, RULES, peer, torrent};
+use bt_meta::{FromRead, ToWrite, Torrent};
+use bt_picker::{CallMark, Mark};
+use bt_session::{End, Gate, OpenGate, SessionFault, SwarmFault, SwarmRun, swarm};
+use bt_shared::GatherFault;
+use bt_wire::Hello;
+use std::alloc::{AllocError, Global};
+use std::fmt::Write;
+use std::io::Cursor;
+use std::sync::atomic::{AtomicBool, Ordering};
+use std::sync::{Arc, Wait};
+use std::test::Fail;
+use std::thread;
+use std::thread::Threads;
+
+type Run<'a> = SwarmRun<FromRead<Cursor<&'a [u8]>>, ToWrite<Vec<u8>>>;
+
+/// A run of these streams, with the seed 0. The tests call `swarm` here alone, so that its contract is read once.
+fn run<'a, T: Threads + Wait + Sync, G: Gate + Sync>(
+    rt: &T,
+    alloc: Global,
+    torrent: Arc<Torrent>,
+    streams: Vec<Recorded<'a>>,
+    gate: &G,
+) -> Result<Run<'a>, Fail>
+    requires { (1 ≤ length streams.items) × (length streams.items ≤ 64) }
+{
+    Ok(swarm(rt, alloc, torrent, streams, 0, RULES, gate)?)
+}
+
+/// A mark by its call and its reply, without words.
+fn tell(mark: &Mark, said: &mut String) -> Result<(), AllocError> {
+    match &mark.call {
+        CallMark::Next(_) => said.push_str("Next")?,
+        call => write!(said, "{call:?}")?,
+    }
+    let reply = mark.reply;
+    write!(said, " = {reply:?}; ")
+}
+
+/// A log, with the place of each mark in the journal.
+fn told(alloc: Global, log: &[Mark]) -> Result<String, AllocError> {
+    let mut said = String::new(alloc);
+    for mark in log {
+        let place = mark.place;
+        write!(said, "{place} ")?;
+        tell(mark, &mut said)?;
+    }
+    Ok(said)
+}
+
+/// What the session of the worker with this digit writes to a peer that gives this piece of three bytes: its handshake, interested, the
+/// request, not interested.
+fn said(alloc: Global, worker: u8, piece: u8) -> Result<Vec<u8>, Fail> {
+    let mut peer_id = *b"-PP0001-000000000000";
+    peer_id[19] = worker;
+    let hello = Hello {
+        reserved: [0; 8],
+        infohash: [1; 20],
+        peer_id,
+    };
+    let mut bytes = Vec::from_slice(alloc, &hello.write())?;
+    bytes.extend_from_slice(&[
+        0, 0, 0, 1, 2, 0, 0, 0, 13, 6, 0, 0, 0, piece, 0, 0, 0, 0, 0, 0, 0, 3, 0, 0, 0, 1, 3,
+    ])?;
+    Ok(bytes)
+}
+
+#[test]
+fn one_session_in_a_thread(rt: HostRuntime) -> Result<(), Fail> {
+    let sent = peer(rt.alloc(), 1, &PEER)?;
+    let streams = Vec::from_array(rt.alloc(), [recorded(rt.alloc(), &sent)])?;
+    let run = run(&rt, rt.alloc(), torrent(rt.alloc())?, streams, &OpenGate)?;
+    assert_eq!(rt; run.ends.len(), 1);
+    assert!(rt; run.ends[0] == Ok(End { messages: 3 }));
+    assert!(rt; !run.short);
+    assert_eq!(rt; run.book.logs.len(), 2);
+    assert_eq!(rt;
+        told(rt.alloc(), &run.book.logs[0])?.as_str(),
+        "0 Join = Joined; 1 Bits = Noted(true); 2 Next = Choked; 3 Unchoke = Quiet; \
+        4 Next = Request(Block { piece: 0, begin: 0, len: 3 }); 5 Next = Idle; \
+        6 Arrived { piece: 0, begin: 0, len: 3 } = Completed; 7 Settle(0) = Had; 8 Next = NothingLeft; 9 Leave = Quiet; "
+    );
+    assert_eq!(rt; run.book.logs[1].len(), 0);
+    assert!(rt; run.book.desk.had(0));
+    Ok(())
+}
+
+const SECOND: [u8; 27] = [
+    0, 0, 0, 2, 5, 64, 0, 0, 0, 1, 1, 0, 0, 0, 12, 7, 0, 0, 0, 1, 0, 0, 0, 0, 97, 98, 99,
+];
+
+/// However the two threads run, each peer is asked for the piece that it has alone.
+#[test]
+fn streams_come_back_in_order(rt: HostRuntime) -> Result<(), Fail> {
+    let first = peer(rt.alloc(), 1, &PEER)?;
+    let second = peer(rt.alloc(), 1, &SECOND)?;
+    let third = peer(rt.alloc(), 2, &PEER)?;
+    let streams = Vec::from_array(
+        rt.alloc(),
+        [
+            recorded(rt.alloc(), &first),
+            recorded(rt.alloc(), &second),
+            recorded(rt.alloc(), &third),
+        ],
+    )?;
+    let run = run(&rt, rt.alloc(), two_pieces(rt.alloc())?, streams, &OpenGate)?;
+    assert_eq!(rt; run.ends.len(), 3);
+    assert!(rt; run.ends[0] == Ok(End { messages: 3 }));
+    assert!(rt; run.ends[1] == Ok(End { messages: 3 }));
+    assert!(rt; run.ends[2] == Err(SessionFault::WrongInfohash));
+    assert!(rt; run.book.desk.is_complete());
+    let mut written = Vec::new(rt.alloc());
+    for stream in run.streams {
+        written.push(stream.writer.into_inner())?;
+    }
+    assert_eq!(rt; written.len(), 3);
+    assert_eq!(rt;
+        written[0].as_slice(),
+        said(rt.alloc(), b'0', 0)?.as_slice()
+    );
+    assert_eq!(rt;
+        written[1].as_slice(),
+        said(rt.alloc(), b'1', 1)?.as_slice()
+    );
+    assert_eq!(rt; written[2].len(), 68);
+    Ok(())
+}
+
+/// It holds each worker's first turn until the other's first turn came.
+#[derive(Drop)]
+struct Meeting {
+    first: AtomicBool,
+    second: AtomicBool,
+    gave_up: AtomicBool,
+}
+
+impl Gate for Meeting {
+    fn enter(&self, worker: u32, turn: u64) {
+        if turn > 0 {
+            return;
+        }
+        let (mine, other) = if worker == 0 {
+            (&self.first, &self.second)
+        } else {
+            (&self.second, &self.first)
+        };
+        mine.store(true, Ordering::SeqCst);
+        for _ in 0..1_000_000 {
+            if other.load(Ordering::SeqCst) {
+                return;
+            }
+            thread::yield_now();
+        }
+        self.gave_up.store(true, Ordering::SeqCst);
+    }
+}
+
+#[test]
+fn two_sessions_run(rt: HostRuntime) -> Result<(), Fail> {
+    let hello = peer(rt.alloc(), 1, &[])?;
+    let streams = Vec::from_array(
+        rt.alloc(),
+        [recorded(rt.alloc(), &hello), recorded(rt.alloc(), &hello)],
+    )?;
+    let gate = Meeting {
+        first: AtomicBool::new(false),
+        second: AtomicBool::new(false),
+        gave_up: AtomicBool::new(false),
+    };
+    let run = run(&rt, rt.alloc(), two_pieces(rt.alloc())?, streams, &gate)?;
+    assert!(rt; !gate.gave_up.load(Ordering::SeqCst));
+    assert_eq!(rt; run.ends.len(), 2);
+    assert!(rt; run.ends[0] == Ok(End { messages: 0 }));
+    assert!(rt; run.ends[1] == Ok(End { messages: 0 }));
+    assert_eq!(rt; run.book.desk.journal().len(), 4);
+    Ok(())
+}
+
+#[test]
+fn faults_of_a_run(rt: HostRuntime) -> Result<(), Fail> {
+    let missing = GatherFault::PassMissing {
+        held: 0,
+        journal: 1,
+    };
+    let differ = GatherFault::LogsDiffer {
+        worker: 0,
+        place: 0,
+    };
+    let other = GatherFault::BoardDiffers { piece: 0 };
+    let rows = [
+        (SwarmFault::NoMemory, "memory"),
+        (SwarmFault::Gather(missing), "gather fault 1"),
+        (SwarmFault::Gather(differ), "gather fault 2"),
+        (SwarmFault::Gather(other), "gather fault 3"),
+        (SwarmFault::NoThread, "no thread"),
+        (SwarmFault::from(GatherFault::NoMemory), "memory"),
+    ];
+    for (fault, text) in rows {
+        let mut said = String::new(rt.alloc());
+        write!(said, "{fault}")?;
+        assert_eq!(rt; said.as_str(), text);
+    }
+    Ok(())
+}
