@@ -13,8 +13,10 @@ ghost use Rattle.bt_cli.specs.Statuses.{status_of};
 
 use crate::fault::Fault;
 use crate::info::describe;
+use crate::options::{MOST_DEPTH, Options};
 use crate::script::play_script;
-use crate::serial::{MOST_DEPTH, Options, Run, play_streams};
+use crate::serial::{Run, play_streams};
+use crate::telling::run_status;
 use bt_meta::{Sink, Source};
 use bt_picker::Desk;
 use bt_session::{MOST_STREAMS, Stream};
@@ -77,15 +79,22 @@ pub fn run_serial<R: Source, W: Sink, O: Sink, E: Write>(
 {
     match play_streams(alloc, meta, streams, options, out) {
         Ok(run) => {
-            let status = run.status();
-            if let Err(fault) = run.ended {
-                conclude(Err(fault), err);
-            }
-            let Run { desk, ended: _ } = run;
-            (status, Some(desk))
+            let Run { desk, ended } = run;
+            (conclude_run(ended, err), Some(desk))
         }
         Err(fault) => (conclude(Err(fault), err), None),
     }
+}
+
+/// The exit status of a run. What it can't be vouched for is told on `err`.
+fn conclude_run<E: Write>(ended: Result<bool, Fault>, err: &mut E) -> u8
+    ensures status { result ≡ run_status ended }
+    ensures quiet { OnOk ended (err.new ≡ err.old) }
+{
+    if let Err(fault) = ended {
+        return conclude(Err(fault), err);
+    }
+    run_status(ended)
 }
 
 /// The exit status of a command. A fault is told on `err`; that this fails changes nothing.
