@@ -3,7 +3,9 @@ pub mod Conduct
 pub mod Desks
 pub mod EachStream
 pub mod Failing
+pub mod Gathered
 pub mod Heard
+pub mod Kept
 pub mod LastChecks
 pub mod Leaving
 pub mod Noted
@@ -11,7 +13,10 @@ pub mod Opened
 pub mod Opening
 pub mod Own
 pub mod OwnTurns
+pub mod Ran
+pub mod Rising
 pub mod Runs
+pub mod Seating
 pub mod Standing
 pub mod Staying
 pub mod Stretches

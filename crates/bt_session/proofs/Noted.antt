@@ -1,5 +1,5 @@
 -- What a place at a shared desk gains by its pass's marks.
-use Rattle.std.proofs.Common.{◌≡◌, ℕ, Bool, List, [], ◌∷◌, ◌++◌, refl, sym, ap, subst, ◌∙◌, inl, inr, ⊎_elim}
+use Rattle.std.proofs.Common.{ℕ, Bool, List, [], ◌∷◌, refl, sym, ap, subst, ◌∙◌, inl, inr}
 use Rattle.std.specs.Prelude.{IsTrue}
 use Rattle.std.proofs.lemmas.List.{map-append}
 use Rattle.bt_history.specs.declared.call.Reply.{Reply}

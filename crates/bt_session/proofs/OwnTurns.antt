@@ -14,6 +14,7 @@ use Rattle.bt_session.specs.Hearing.{most_reads}
 use Rattle.bt_session.specs.Places.{PlaceRecord, GainsUpTo}
 use Rattle.bt_session.specs.Serial.{StreamRecord, DevicesAfter, around, own_record, source_of}
 use Rattle.bt_session.specs.Sessions.{SessionState, GoesOn, Ends, FailsWith, Running}
+use Rattle.bt_session.specs.Swarms.{around_place}
 use Rattle.bt_session.specs.Standing.{Standing, Stands, StandsBy, ConductBy, DevicesBy, Keeps, LeavesOthers}
 use Rattle.bt_session.specs.Terms.{TermsState}
 use Rattle.bt_session.specs.Turning.{Surroundings}
@@ -51,10 +52,6 @@ pub turn_gains : (result : Result (Option End) SessionFault) (old new : AfterTur
 turn_gains (Ok None) old new runs turned = (turned.goes_on.turn.events, turned.goes_on.turn.gains.up_to)
 turn_gains (Ok (Some end)) old new runs turned = (_, (turned.ends runs).leave.gains.up_to)
 turn_gains (Err fault) old new runs turned = (_, (turned.fails runs).gains)
-
--- what is round a session when its place says so much of itself
-abbrev around_place : PlaceRecord → StreamRecord → Surroundings
-around_place place stream = record { past = place; left = stream.left; written = stream.written }
 
 went_on : (terms : TermsState) (worker : ℕ) (begun : Words) (out : Surroundings) (first : StreamRecord) (old new : Standing) (p q : PlaceRecord) →
     p ≡ own_record old.desk worker old.told false → q ≡ own_record new.desk worker new.told q.short → old.session.outcome ≡ None →
@@ -156,7 +153,8 @@ words_on terms worker begun out first old new p q is is' runs stands turn =
     subst (DrawsWords begun out.past.calls) (ap (λ (r : PlaceRecord). r.calls) is')
     (DrawsWords-join true begun old.generator out.past.calls p.calls q.calls (conduct_so_far terms worker begun out first old p is runs stands) turn)
 
-devices_of : (fault : SessionFault) (old new : StreamRecord) → (fault ≡ faults.WriteFault → new.writer_failed ≡ true) →
+-- after a fault the writer has failed where a write did
+pub devices_of : (fault : SessionFault) (old new : StreamRecord) → (fault ≡ faults.WriteFault → new.writer_failed ≡ true) →
     DevicesAfter (Err fault) old new
 devices_of faults.WriteFault old new failed = failed refl
 devices_of _ old new failed = tt

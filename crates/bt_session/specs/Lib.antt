@@ -9,6 +9,7 @@ pub mod Saying
 pub mod Serial
 pub mod Sessions
 pub mod Standing
+pub mod Swarms
 pub mod Terms
 pub mod Turning
 pub mod Turns

@@ -22,3 +22,8 @@ pass_record setting pass had told short = record {
   told = told;
   short = short;
 }
+
+-- a place at a shared desk as its callers see it: its pass, and whether a call has found no memory
+pub record PassPlaceState : Type 0 where
+  pub pass : PassState
+  pub short : Bool

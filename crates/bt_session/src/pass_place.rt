@@ -7,6 +7,7 @@ use crate::place::Place;
 use bt_picker::{Call, Reply};
 use bt_shared::{DeskLedger, Pass, SharedDesk};
 use std::alloc::{AllocError, Global};
+use std::marker::Model;
 use std::sync::Wait;
 
 /// A worker's place at a desk that threads share, with a pass of its own. It knows of no finished piece, and so has no news.
@@ -16,6 +17,14 @@ pub struct PassPlace<'a, L: DeskLedger, T: Wait> {
     desk: &'a SharedDesk<L>,
     pass: Pass<L>,
     short: bool,
+}
+
+impl<'a, L: DeskLedger, T: Wait> Model for PassPlace<'a, L, T> {
+    ghost use Rattle.bt_session.specs.Passes.{PassPlaceState};
+
+    ghost Value = { PassPlaceState };
+
+    ghost view = { λ s. record { pass = s.pass; short = s.short } };
 }
 
 impl<'a, L: DeskLedger, T: Wait> PassPlace<'a, L, T> {

@@ -7,8 +7,10 @@ ghost use Rattle.bt_session.specs.Hearing.{most_reads, source_state};
 ghost use Rattle.bt_session.specs.Terms.{terms_of};
 ghost use Rattle.bt_session.specs.Turning.{surroundings};
 ghost use Rattle.bt_session.specs.Sessions.{IsWhole, IsCutShort};
+ghost use Rattle.bt_session.specs.Swarms.{RunsTo, devices_record};
 
 use crate::fault::{End, SessionFault};
+use crate::gate::{Gate, OpenGate};
 use crate::place::Place;
 use crate::session::Session;
 use bt_meta::{Sink, Source, Torrent};
@@ -46,10 +48,37 @@ pub fn session<R: Source, W: Sink, P: Place>(
     ensures failed { IfErr result (λ fault. fault ≡ WriteFault → W.failed writer.new ≡ true) }
     ensures most { R.asked reader.old ≡ 0 → R.asked reader.new ≤ most_reads }
 {
+    gated(
+        alloc, torrent, worker, reader, writer, place, rng, depth, &OpenGate,
+    )
+}
+
+/// The same, and before each turn its worker passes the gate.
+pub(crate) fn gated<R: Source, W: Sink, P: Place, G: Gate>(
+    alloc: Global,
+    torrent: Arc<Torrent>,
+    worker: u32,
+    reader: &mut R,
+    writer: &mut W,
+    place: &mut P,
+    rng: &mut Lcg64Xsh32,
+    depth: u32,
+    gate: &G,
+) -> Result<End, SessionFault>
+    requires { (1 ≤ depth) × (depth ≤ 64) }
+    ensures runs { RunsTo result (terms_of torrent.value depth) worker (answers_of rng.old)
+        (P.past place.old) (devices_record R.left R.ended R.failed R.asked W.written W.failed reader.old writer.old)
+        (P.past place.new) (devices_record R.left R.ended R.failed R.asked W.written W.failed reader.new writer.new) }
+    ensures conduct { OnOk result (Conducts P.settles
+        (answers_of rng.old) (P.past place.old).calls (P.past place.new).calls (answers_of rng.new)) }
+{
     let mut session = Session::new(alloc, torrent, worker, depth);
+    let mut turn = 0;
     'turns: loop {
+        gate.enter(worker, turn);
         if let Some(end) = session.turn(alloc, reader, writer, place, rng)? {
             return Ok(end);
         }
+        turn += 1;
     }
 }

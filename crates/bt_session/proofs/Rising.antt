@@ -1,0 +1,41 @@
+-- The log of checks that were made in the order of their pieces.
+use Rattle.std.proofs.Common.{◌≡◌, ℕ, ◌+◌, ◌≤◌, List, [], ◌∷◌, ◌++◌, Result, Ok, Err, refl, sym, ap, subst, arith, inl, inr}
+use Rattle.std.specs.Prelude.{IfOk, OnErr}
+use Rattle.bt_history.specs.declared.call.Reply.{Reply}
+use Rattle.bt_history.specs.declared.mark.CallMark.TheVariants as marks
+use Rattle.bt_history.specs.declared.mark.Mark.{Mark}
+use Rattle.bt_history.specs.Setting.{Setting}
+use Rattle.bt_shared.specs.Passes.{PassState, NotesCheck}
+use Rattle.bt_session.specs.Swarms.{ChecksRise}
+
+rise_up : (low : ℕ) (log : List Mark) (high more : ℕ) → high ≤ more → ChecksRise low log high → ChecksRise low log more
+rise_up low [] high more up rise = omega (arith, rise, up)
+rise_up low (mark ∷ log) high more up rise = (rise.0, (rise.1.0, rise.1.1, rise_up (rise.0 + 1) log high more up rise.1.2))
+
+rise_on : (low : ℕ) (log : List Mark) (piece : ℕ) (mark : Mark) → mark.call ≡ marks.Settle piece → ChecksRise low log piece →
+    ChecksRise low (log ++ mark ∷ []) (piece + 1)
+rise_on low [] piece mark is rise = (piece, (is, rise, omega arith))
+rise_on low (first ∷ log) piece mark is rise = (rise.0, (rise.1.0, rise.1.1, rise_on (rise.0 + 1) log piece mark is rise.1.2))
+
+-- what a pass has after the check of a piece was asked for, whatever the answer
+pub record Goes (old new : PassState) (piece : ℕ) : Type 0 where
+  pub worker : new.worker ≡ old.worker
+  pub rise : ChecksRise 0 old.log piece → ChecksRise 0 new.log (piece + 1)
+
+goes_same : (old new : PassState) (piece : ℕ) → new ≡ old → Goes old new piece
+goes_same old new piece same = record {
+  worker = ap (λ (p : PassState). p.worker) same;
+  rise = λ rise. subst (λ (p : PassState). ChecksRise 0 p.log (piece + 1)) (sym same) (rise_up 0 old.log piece (piece + 1) (omega arith) rise);
+}
+
+pub goes_on : {E : Type 0} (result : Result Reply E) (setting : Setting) (old new : PassState) (piece : ℕ) →
+    IfOk result (λ reply. NotesCheck setting old piece reply new) → OnErr result (new ≡ old) → Goes old new piece
+goes_on (Err fault) setting old new piece notes same = goes_same old new piece same
+goes_on (Ok reply) setting old new piece notes same =
+    elim notes [
+      | inl more ↦ record {
+        worker = more.worker;
+        rise = λ rise. subst (λ (log : List Mark). ChecksRise 0 log (piece + 1)) (sym more.log) (rise_on 0 old.log piece _ refl rise);
+      }
+      | inr none ↦ goes_same old new piece none.0
+    ]

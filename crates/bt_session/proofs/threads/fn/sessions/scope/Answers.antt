@@ -1,0 +1,36 @@
+use Rattle.std.proofs.Common.{◌≡◌, ◌<◌, rules, arith, length, vec_len, sym, ap, ◌∙◌}
+use Rattle.std.proofs.lemmas.List.{get_or-map, length-map}
+use Rattle.bt_session.specs.declared.play.Played.{Played}
+use Rattle.bt_session.specs.Terms.{terms_of}
+use Rattle.bt_session.proofs.Kept.{part_at}
+use Rattle.bt_session.proofs.threads.fn.sessions.scope.Goals as goal
+
+pub returns-in-Ok : goal.returns-in-Ok
+returns-in-Ok g c =
+    let hs = c.in_ok-handles.handles.items in
+    let all = c.in-Ok.all.items in
+    let parts = c.in_ok-handles.ensures in
+    let many : length hs ≡ length c.captures.streams.items = sym (length-map hs (λ h. h.promise.stream.value)) ∙ ap length parts.streams in
+    let same : length all ≡ length hs = search rules in
+    let whole : vec_len c.in_ok-handles.handles ≡ length hs = search rules in
+    record {
+      count = same ∙ many;
+      plays = λ i pass stream end below.
+          let d : Played g.row.L.Denot g.row.R.Denot g.row.W.Denot = record { end = end; pass = pass; stream = stream } in
+          let there : i < length hs = omega (arith, below, many) in
+          let back : i < length all = omega (arith, there, same) in
+          let k = (c.in-Ok.ensures.each i d (omega (arith, there, whole))).1 in
+          let p = k.handle.promise in
+          let terms : terms_of p.torrent.value.value p.depth ≡ terms_of c.captures.torrent.now.value c.captures.depth =
+          ap (λ h. terms_of h.promise.torrent.value.value h.promise.depth) k.handle_is ∙ parts.terms i k.handle there in
+          let seed : p.seed ≡ c.captures.seed = ap (λ h. h.promise.seed) k.handle_is ∙ parts.seeds i k.handle there in
+          rw (
+            sym terms,
+            sym seed,
+            part_at (λ h. h.promise.pass.value) hs _ parts.passes i k.handle pass there k.handle_is,
+            part_at (λ h. h.promise.stream.value) hs _ parts.streams i k.handle stream there k.handle_is,
+            get_or-map (λ p. p.end) all i d end back,
+            get_or-map (λ p. p.pass) all i d pass back,
+            get_or-map (λ p. p.stream) all i d stream back,
+          ) k.kept;
+    }

@@ -1,0 +1,23 @@
+use Rattle.std.proofs.Common.{◌≡◌, arith, rules, ap, ◌∙◌}
+use Rattle.bt_meta.specs.Layout.{Metainfo}
+use Rattle.bt_session.specs.Terms.{terms_of}
+use Rattle.bt_session.proofs.Kept.{grown, all_grown}
+use Rattle.bt_session.proofs.threads.start_all.Goals as goal
+
+pub loop-stream-preserved : goal.loop-stream-preserved
+loop-stream-preserved g c =
+    let was = c.loop-stream.invariant in
+    let made = c.in_ok-handle.ensures in
+    let hs = c.loop-stream.handles.items in
+    let hs' = c.push_reserved.new.self.items in
+    let h = c.in_ok-handle.handle in
+    let same : c.in_ok-clone.field-0.value ≡ c.args.torrent.now.value = search rules in
+    record {
+      terms = all_grown (λ h. terms_of h.promise.torrent.value.value h.promise.depth ≡ terms_of c.args.torrent.now.value c.args.depth) hs hs' h
+          c.push_reserved.ensures.items (made.terms ∙ ap (λ (t : Metainfo). terms_of t c.args.depth) same) was.terms;
+      seeds = all_grown (λ h. h.promise.seed ≡ c.args.seed) hs hs' h c.push_reserved.ensures.items made.seed was.seeds;
+      passes = grown (λ h. h.promise.pass.value) hs hs' h c.in-Some-next.pass _ _ _ c.push_reserved.ensures.items c.in-Some-next.ensures.items made.pass was.passes;
+      streams = grown (λ h. h.promise.stream.value) hs hs' h c.in-Some.stream _ _ _ c.push_reserved.ensures.items c.in-Some.ensures.steps.0 made.stream was.streams;
+      room = omega (arith, was.room, c.in-Some.ensures.steps.1, c.push_reserved.ensures.len, c.push_reserved.ensures.capacity);
+      same = omega (arith, was.same, c.in-Some.ensures.steps.1, c.in-Some-next.ensures.len);
+    }

@@ -1,0 +1,90 @@
+-- Several streams' sessions in threads of their own: what each of them sees at the shared desk, how it ended, and the last checks.
+use Rattle.std.specs.Prelude.{◌≡◌, ◌≤◌, ◌<◌, ◌+◌, ℕ, Bool, true, false, List, [], ◌∷◌, length, slice_get, slice_index_or, Option, Some, Result}
+use Rattle.std.specs.Global.{Vec}
+use Rattle.rand_core.specs.Stream.{Stream as Words}
+use Rattle.bt_history.specs.declared.mark.CallMark.TheVariants as marks
+use Rattle.bt_history.specs.declared.mark.Mark.{Mark}
+use Rattle.bt_history.specs.Setting.{Setting}
+use Rattle.bt_picker.specs.Checks.{waits}
+use Rattle.bt_picker.specs.Positions.{DeskState}
+use Rattle.bt_shared.specs.Passes.{PassState, newcomer}
+use Rattle.bt_session.specs.declared.fault.End.{End}
+use Rattle.bt_session.specs.declared.fault.SessionFault.{SessionFault}
+use Rattle.bt_session.specs.Conduct.{DrawsWords, generator_of}
+use Rattle.bt_session.specs.Hearing.{most_reads}
+use Rattle.bt_session.specs.Passes.{no_piece, pass_record}
+use Rattle.bt_session.specs.Places.{PlaceRecord}
+use Rattle.bt_session.specs.Serial.{StreamRecord, EndsAs, DevicesAfter, source_of, stream_record}
+use Rattle.bt_session.specs.Terms.{TermsState}
+use Rattle.bt_session.specs.Turning.{Surroundings}
+
+-- ---- sessions
+
+-- what a reader and a writer say of themselves
+abbrev pub devices_record : {R W : Type 0} → (R → Option (List ℕ)) → (R → Bool) → (R → Bool) → (R → ℕ) → (W → Option (List ℕ)) → (W → Bool) →
+    R → W → StreamRecord
+devices_record {R} {W} left ended failed asked written writer_failed reader writer =
+    stream_record left ended failed asked written writer_failed (record { reader = reader; writer = writer })
+
+-- what is round a session with this place and these devices
+abbrev pub around_place : PlaceRecord → StreamRecord → Surroundings
+around_place past devices = record { past = past; left = devices.left; written = devices.written }
+
+-- A session ran from its first turn to this end, or to this fault: from this place and these devices, and with the words of this generator,
+-- to those.
+pub record RunsTo (outcome : Result End SessionFault) (terms : TermsState) (worker : ℕ) (generator : Words)
+    (past : PlaceRecord) (old : StreamRecord) (past' : PlaceRecord) (new : StreamRecord) : Type 0 where
+  -- the reads that the session counted
+  pub asked : ℕ
+  pub ends : EndsAs outcome terms worker (around_place past old) (source_of new asked) (around_place past' new)
+  -- the words of its Next calls are the generator's, in order
+  pub words : DrawsWords generator past.calls past'.calls
+  pub devices : DevicesAfter outcome old new
+  pub counted : old.asked ≡ 0 → new.asked ≡ asked
+  pub most : asked ≤ most_reads
+
+-- the same at a pass, with the words of the generator of its worker's number, made of the seed
+pub record Plays (outcome : Result End SessionFault) (terms : TermsState) (setting : Setting) (seed : ℕ)
+    (pass : PassState) (old : StreamRecord) (pass' : PassState) (new : StreamRecord) : Type 0 where
+  -- a call found no memory
+  pub short : Bool
+  pub worker : pass'.worker ≡ pass.worker
+  pub runs : RunsTo outcome terms pass.worker (generator_of seed pass.worker)
+      (pass_record setting pass no_piece no_piece false) old (pass_record setting pass' no_piece no_piece short) new
+
+-- that of each stream, in order
+abbrev pub EachPlays : {X : Type 0} → (X → StreamRecord) → TermsState → Setting → ℕ →
+    List PassState → List X → List (Result End SessionFault) → List PassState → List X → Type 0
+EachPlays {X} record_of terms setting seed passes streams ends passes' streams' =
+    (i : ℕ) (pass : PassState) (stream : X) (end : Result End SessionFault) → i < length streams →
+    Plays (slice_index_or ends i end) terms setting seed (slice_index_or passes i pass) (record_of (slice_index_or streams i stream))
+    (slice_index_or passes' i pass) (record_of (slice_index_or streams' i stream))
+
+-- Each stream's session ended so: from the empty log and the stream as it was handed in, to its worker's log and the stream as it was given
+-- back, in order.
+abbrev pub EachSwarmed : {X : Type 0} → (X → StreamRecord) → TermsState → Setting → ℕ → List X →
+    List (Vec Mark) → List X → List (Result End SessionFault) → Type 0
+EachSwarmed {X} record_of terms setting seed streams logs streams' ends =
+    (i : ℕ) (stream : X) (log : Vec Mark) (end : Result End SessionFault) → i < length streams →
+    Plays (slice_index_or ends i end) terms setting seed (newcomer i) (record_of (slice_index_or streams i stream))
+    (record { worker = i; log = (slice_index_or logs i log).items }) (record_of (slice_index_or streams' i stream))
+
+-- the passes of workers that have made no call, in the order of their numbers
+abbrev pub AreNewcomers : List PassState → Type 0
+AreNewcomers passes = (i : ℕ) (any : PassState) → i < length passes → slice_index_or passes i any ≡ newcomer i
+
+-- ---- the last checks
+
+-- the marks are checks alone: of pieces from low on, each above those before it, and all below high
+abbrev pub ChecksRise : ℕ → List Mark → ℕ → Type 0
+ChecksRise low [] high = low ≤ high
+ChecksRise low (mark ∷ log) high = (piece : ℕ) × ((mark.call ≡ marks.Settle piece) × (low ≤ piece) × ChecksRise (piece + 1) log high)
+
+-- the log of this worker has checks alone, the least piece first, each piece once
+abbrev pub MakesLastChecks : ℕ → List (Vec Mark) → ℕ → Type 0
+MakesLastChecks worker logs pieces = (log : Vec Mark) → slice_get logs worker ≡ Some log → ChecksRise 0 log.items pieces
+
+-- it is told whether a piece still waits for a check
+pub record TellsWaiting (short : Bool) (desk : DeskState) : Type 0 where
+  pub none : short ≡ false → (piece : ℕ) → waits desk.setting desk.history piece ≡ false
+  pub still : short ≡ true → (piece : ℕ) × (waits desk.setting desk.history piece ≡ true)
