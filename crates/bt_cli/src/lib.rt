@@ -13,8 +13,9 @@ mod script;
 mod serial;
 mod telling;
 mod text;
+mod threads;
 
-pub use commands::{conclude, run_info, run_script, run_serial, script_to};
+pub use commands::{conclude, run_info, run_script, run_serial, run_threads, script_to};
 pub use fault::Fault;
 pub use info::describe;
 pub use journal::print_entry;
@@ -22,3 +23,4 @@ pub use options::{MOST_DEPTH, Options};
 pub use saving::{NewFile, save};
 pub use script::{play_script, read_hex};
 pub use serial::{Run, play_streams};
+pub use threads::{ThreadsRun, play_threads};
