@@ -44,6 +44,8 @@ Explains-later input lines from w p i (faults.Want fault) e starts pass behind w
 Explains-later input lines from w p i faults.Random e starts pass behind within blames = blames
 Explains-later input lines from w p i faults.File e starts pass behind within blames = tt
 Explains-later input lines from w p i faults.Memory e starts pass behind within blames = tt
+Explains-later input lines from w p i faults.NoThread e starts pass behind within blames = blames
+Explains-later input lines from w p i (faults.Gather fault) e starts pass behind within blames = blames
 
 -- a script that wasn't opened
 pub Explains-unopened : (input : List ℕ) (lines : List (List ℕ)) (fault : Fault) → lines ≡ lines_of input → StopsOpening lines fault →
@@ -55,3 +57,5 @@ Explains-unopened input lines (faults.Want fault) e stops = stops
 Explains-unopened input lines faults.Random e stops = stops
 Explains-unopened input lines faults.File e stops = tt
 Explains-unopened input lines faults.Memory e stops = tt
+Explains-unopened input lines faults.NoThread e stops = stops
+Explains-unopened input lines (faults.Gather fault) e stops = stops

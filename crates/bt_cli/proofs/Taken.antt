@@ -93,6 +93,8 @@ ends_before input (faults.Want fault) k reason blames = absurd blames
 ends_before input faults.Random k reason blames = absurd blames
 ends_before input faults.File k reason blames = tt
 ends_before input faults.Memory k reason blames = tt
+ends_before input faults.NoThread k reason blames = absurd blames
+ends_before input (faults.Gather fault) k reason blames = absurd blames
 
 -- a script that ended with a fault at line k, from 0, or with one of no line there
 pub printed_before : (input : List ℕ) (lines : List (List ℕ)) (r : Result (Unit {0}) Fault) (fault : Fault) (k : ℕ) (reason : Type 0)
@@ -122,6 +124,8 @@ unopened input lines (faults.Want fault) e stops = absurd stops
 unopened input lines faults.Random e stops = absurd stops
 unopened input lines faults.File e stops = nothing_printed input lines faults.File 0 e tt (omega arith) (λ k low lt. absurd (omega (arith, lt)))
 unopened input lines faults.Memory e stops = nothing_printed input lines faults.Memory 0 e tt (omega arith) (λ k low lt. absurd (omega (arith, lt)))
+unopened input lines faults.NoThread e stops = absurd stops
+unopened input lines (faults.Gather fault) e stops = absurd stops
 
 -- a script that wasn't opened
 pub printed_unopened : (input : List ℕ) (lines : List (List ℕ)) (r : Result (Unit {0}) Fault) (fault : Fault) (text : List ℕ)

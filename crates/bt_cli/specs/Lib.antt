@@ -10,4 +10,5 @@ pub mod Played
 pub mod Journals
 pub mod Reports
 pub mod Runs
+pub mod ThreadRuns
 pub mod Saves

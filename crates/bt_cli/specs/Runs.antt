@@ -21,7 +21,7 @@ use Rattle.bt_cli.specs.declared.fault.Fault.{Fault}
 use Rattle.bt_cli.specs.declared.fault.Fault.TheVariants as faults
 use Rattle.bt_cli.specs.declared.report.Judged.{Judged}
 use Rattle.bt_cli.specs.declared.report.Judged.TheVariants.{Sound, Unjudged}
-use Rattle.bt_cli.specs.declared.serial.Options.{Options}
+use Rattle.bt_cli.specs.declared.options.Options.{Options}
 use Rattle.bt_cli.specs.Journals.{IsJournalLine}
 use Rattle.bt_cli.specs.Reports.{report_text}
 use Rattle.bt_cli.specs.Statuses.{of_metainfo, status_of}

@@ -65,6 +65,8 @@ Blames (faults.Want fault) number reason = ⊥
 Blames faults.Random number reason = ⊥
 Blames faults.File number reason = Unit {0}
 Blames faults.Memory number reason = Unit {0}
+Blames faults.NoThread number reason = ⊥
+Blames (faults.Gather fault) number reason = ⊥
 
 -- the lines that end with a line feed, and what is behind the last one
 abbrev pub lines_of : List ℕ → List (List ℕ)
@@ -154,6 +156,8 @@ StopsOpening lines (faults.Want fault) = ⊥
 StopsOpening lines faults.Random = ⊥
 StopsOpening lines faults.File = Unit {0}
 StopsOpening lines faults.Memory = Unit {0}
+StopsOpening lines faults.NoThread = ⊥
+StopsOpening lines (faults.Gather fault) = ⊥
 
 abbrev pub FailsAt : List (List ℕ) → ℕ → Type 0
 FailsAt lines number = LacksLines lines number ⊎ FailsToStart lines number ⊎ FailsLater lines number
@@ -174,6 +178,8 @@ Explains input (faults.Want fault) = ⊥
 Explains input faults.Random = ⊥
 Explains input faults.File = Unit {0}
 Explains input faults.Memory = Unit {0}
+Explains input faults.NoThread = ⊥
+Explains input (faults.Gather fault) = ⊥
 
 -- so many lines were answered when the script came to this end
 abbrev pub EndsAfter : List ℕ → Result (Unit {0}) Fault → ℕ → Type 0

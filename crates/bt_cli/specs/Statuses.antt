@@ -6,11 +6,15 @@ use Rattle.bt_meta.specs.declared.fault.BitFault.TheVariants as bitfault
 use Rattle.bt_meta.specs.declared.fault.MetaFault.{MetaFault}
 use Rattle.bt_meta.specs.declared.fault.MetaFault.TheVariants.{NoMemory}
 use Rattle.bt_meta.specs.Faults.{fault_number}
+use Rattle.bt_session.specs.declared.swarm_run.SwarmFault.{SwarmFault}
+use Rattle.bt_session.specs.declared.swarm_run.SwarmFault.TheVariants as swarms
+use Rattle.bt_shared.specs.declared.gather.GatherFault.{GatherFault}
+use Rattle.bt_shared.specs.declared.gather.GatherFault.TheVariants as gathers
 use Rattle.bt_cli.specs.declared.script.fault.LineFault.{LineFault}
 use Rattle.bt_cli.specs.declared.script.fault.LineFault.TheVariants.{NotAllowed}
 use Rattle.bt_cli.specs.declared.script.fault.LineFault.TheVariants as lines
 use Rattle.bt_cli.specs.declared.fault.Fault.{Fault}
-use Rattle.bt_cli.specs.declared.fault.Fault.TheVariants.{Line, Metainfo, Want, Random, File, Memory}
+use Rattle.bt_cli.specs.declared.fault.Fault.TheVariants.{Line, Metainfo, Want, Random, File, Memory, NoThread, Gather}
 
 -- the exit status; that of a command that is done is 0
 abbrev pub status_of : Fault → ℕ
@@ -20,12 +24,21 @@ status_of (Want fault) = 2
 status_of Random = 2
 status_of File = 4
 status_of Memory = 5
+status_of NoThread = 5
+status_of (Gather fault) = 6
 
 -- the number of a fault of a bitfield
 abbrev pub bit_fault_number : BitFault → ℕ
 bit_fault_number bitfault.WrongCount = 1
 bit_fault_number bitfault.SpareBits = 2
 bit_fault_number bitfault.NoMemory = 3
+
+-- the number of a fault of gathering
+abbrev pub gather_fault_number : GatherFault → ℕ
+gather_fault_number (gathers.PassMissing held journal) = 1
+gather_fault_number (gathers.LogsDiffer worker place) = 2
+gather_fault_number (gathers.BoardDiffers piece) = 3
+gather_fault_number gathers.NoMemory = 4
 
 -- the line on standard error, without its end
 abbrev pub fault_text : Fault → List ℕ
@@ -35,6 +48,8 @@ fault_text (Want fault) = codes "want fault " ++ decimal (bit_fault_number fault
 fault_text Random = codes "random fault"
 fault_text File = codes "file fault"
 fault_text Memory = codes "memory"
+fault_text NoThread = codes "no thread"
+fault_text (Gather fault) = codes "gather fault " ++ decimal (gather_fault_number fault)
 
 -- a fault of a metainfo file as one of the command; want of memory is want of memory
 abbrev pub of_metainfo : MetaFault → Fault
@@ -45,6 +60,17 @@ of_metainfo fault = Metainfo fault
 abbrev pub of_want : BitFault → Fault
 of_want bitfault.NoMemory = Memory
 of_want fault = Want fault
+
+-- a fault of gathering as one of the command; want of memory is want of memory
+abbrev pub of_gather : GatherFault → Fault
+of_gather gathers.NoMemory = Memory
+of_gather fault = Gather fault
+
+-- why a run in threads came to nothing, as a fault of the command
+abbrev pub of_swarm : SwarmFault → Fault
+of_swarm swarms.NoMemory = Memory
+of_swarm (swarms.Gather fault) = of_gather fault
+of_swarm swarms.NoThread = NoThread
 
 -- a fault of line `index`, counted from 0, as one of the command
 abbrev pub of_line : LineFault → ℕ → Fault

@@ -1,10 +1,12 @@
 //! How a command ends.
 
 ghost use Rattle.std.specs.Prelude.{◌≡◌, Some};
-ghost use Rattle.bt_cli.specs.Statuses.{bit_fault_number, status_of, fault_text, of_metainfo, of_want};
+ghost use Rattle.bt_cli.specs.Statuses.{bit_fault_number, fault_text, gather_fault_number, of_gather, of_metainfo, of_swarm, of_want, status_of};
 ghost use Rattle.bt_cli.specs.declared.fault.Fault.TheVariants.{Memory};
 
 use bt_meta::{BitFault, MetaFault};
+use bt_session::SwarmFault;
+use bt_shared::GatherFault;
 use std::alloc::{AllocError, AllocFailed};
 use std::{fmt, io};
 
@@ -21,6 +23,10 @@ pub enum Fault {
     /// Opening, reading or writing a file failed; standard input and output are files too.
     File,
     Memory,
+    /// A thread couldn't be started.
+    NoThread,
+    /// The logs of a run in threads aren't what its journal has.
+    Gather(GatherFault),
 }
 
 impl Fault {
@@ -32,7 +38,8 @@ impl Fault {
             Fault::Line(_) | Fault::Want(_) | Fault::Random => 2,
             Fault::Metainfo(_) => 3,
             Fault::File => 4,
-            Fault::Memory => 5,
+            Fault::Memory | Fault::NoThread => 5,
+            Fault::Gather(_) => 6,
         }
     }
 }
@@ -45,6 +52,18 @@ fn bit_fault_number(fault: BitFault) -> u8
         BitFault::WrongCount => 1,
         BitFault::SpareBits => 2,
         BitFault::NoMemory => 3,
+    }
+}
+
+/// The number by which a fault of gathering is told.
+fn gather_fault_number(fault: GatherFault) -> u8
+    ensures { result ≡ gather_fault_number fault }
+{
+    match fault {
+        GatherFault::PassMissing { .. } => 1,
+        GatherFault::LogsDiffer { .. } => 2,
+        GatherFault::BoardDiffers { .. } => 3,
+        GatherFault::NoMemory => 4,
     }
 }
 
@@ -66,6 +85,11 @@ impl fmt::Display for Fault {
             Fault::Random => write!(f, "random fault"),
             Fault::File => write!(f, "file fault"),
             Fault::Memory => write!(f, "memory"),
+            Fault::NoThread => write!(f, "no thread"),
+            Fault::Gather(fault) => {
+                let number = gather_fault_number(fault);
+                write!(f, "gather fault {number}")
+            }
         }
     }
 }
@@ -89,6 +113,30 @@ impl From<BitFault> for Fault {
         match fault {
             BitFault::NoMemory => Fault::Memory,
             fault => Fault::Want(fault),
+        }
+    }
+}
+
+/// A fault of gathering what a run in threads came to.
+impl From<GatherFault> for Fault {
+    ghost from_gives = { λ fault e. e ≡ of_gather fault };
+
+    fn from(fault: GatherFault) -> Fault {
+        match fault {
+            GatherFault::NoMemory => Fault::Memory,
+            fault => Fault::Gather(fault),
+        }
+    }
+}
+
+impl From<SwarmFault> for Fault {
+    ghost from_gives = { λ fault e. e ≡ of_swarm fault };
+
+    fn from(fault: SwarmFault) -> Fault {
+        match fault {
+            SwarmFault::NoMemory => Fault::Memory,
+            SwarmFault::Gather(fault) => Fault::from(fault),
+            SwarmFault::NoThread => Fault::NoThread,
         }
     }
 }

@@ -10,7 +10,8 @@ const VERSION: &str = "0.1.0";
 
 const STATUSES: &str = "\
 Status: 0 done; 1 a run after which a wanted piece is lacking; 2 wrong arguments, a script's `line N`, or a run's
-`want fault N` or `random fault`; 3 `metainfo fault N`; 4 `file fault`; 5 `memory`. Each command's help has its own table.";
+`want fault N` or `random fault`; 3 `metainfo fault N`; 4 `file fault`; 5 `memory` or `no thread`; 6 `gather fault N`.
+Each command's help has its own table.";
 
 /// The program's commands and their arguments.
 pub fn command<'a>(alloc: Global) -> Result<Command<'a>, AllocError> {
@@ -22,7 +23,8 @@ pub fn command<'a>(alloc: Global) -> Result<Command<'a>, AllocError> {
         .arg_required_else_help(true)
         .subcommand(script(alloc))?
         .subcommand(info(alloc)?)?
-        .subcommand(serial(alloc)?)
+        .subcommand(serial(alloc)?)?
+        .subcommand(run(alloc)?)
 }
 
 fn script<'a>(alloc: Global) -> Command<'a> {
@@ -57,6 +59,20 @@ fn serial<'a>(alloc: Global) -> Result<Command<'a>, AllocError> {
         .arg(depth(alloc))?
         .arg(random(alloc))?
         .arg(journal(alloc))?
+        .arg(out(alloc))?
+        .arg(meta(alloc))?
+        .arg(streams(alloc))
+}
+
+fn run<'a>(alloc: Global) -> Result<Command<'a>, AllocError> {
+    Command::new(alloc, "run")
+        .about(
+            "Plays recorded streams of peers at one desk, each in a thread of its own, and reports as `serial` does",
+        )
+        .after_help(help::RUN)
+        .arg(seed(alloc))?
+        .arg(depth(alloc))?
+        .arg(random(alloc))?
         .arg(out(alloc))?
         .arg(meta(alloc))?
         .arg(streams(alloc))

@@ -1,41 +1,49 @@
 //! The commands.
 
-ghost use Rattle.std.specs.Prelude.{◌≡◌, ◌≤◌, length, IfOk, IfSome};
+ghost use Rattle.std.specs.Prelude.{◌≡◌, ◌≤◌, length, true, IfOk, IfSome};
 
 use crate::arguments::command;
 use crate::device::Device;
 use crate::failure::{Failure, WRONG_ARGUMENTS, conclude, worse};
 use crate::file::OutFile;
 use bt_cli::{
-    Fault, MOST_DEPTH, Options, Run, describe, play_script, play_streams, read_hex, save,
+    Fault, MOST_DEPTH, Options, describe, play_script, play_streams, play_threads, read_hex, save,
 };
 use bt_meta::{FromRead, ToWrite};
-use bt_picker::Rules;
+use bt_picker::{Desk, Rules};
 use bt_session::{MOST_STREAMS, Stream};
 use clap::ArgMatches;
 use clap::error::ErrorKind;
 use std::alloc::{AllocError, Global};
 use std::io::{BufReader, BufWriter, Read, Write};
 use std::rt::Runtime;
+use std::sync::Wait;
+use std::thread::Threads;
 use std::{fs, io};
 
 /// Does what the command line says, its first word being the program's name, prints to `out`, tells a failure on `err`, and answers the exit
 /// status.
-pub fn obey<R: Runtime + AllocGlobal, O: Write + Drop, E: Write>(
+pub fn obey<R: Runtime + AllocGlobal + Threads + Wait + Sync, O: Write + Drop, E: Write>(
     rt: &R,
     words: &[String],
     out: O,
     err: &mut E,
-) -> u8 {
+) -> u8
+where
+    R::File: Send,
+{
     conclude(play(rt, words, out, err), err)
 }
 
-fn play<'w, R: Runtime + AllocGlobal, O: Write + Drop, E: Write>(
+fn play<'w, R: Runtime + AllocGlobal + Threads + Wait + Sync, O: Write + Drop, E: Write>(
     rt: &R,
     words: &'w [String],
     out: O,
     err: &mut E,
-) -> Result<u8, Failure<'w>> {
+) -> Result<u8, Failure<'w>>
+where
+    R::File: Send,
+{
     let mut out = match BufWriter::new(rt.alloc(), out) {
         Ok(out) => Device::new(out),
         Err(error) => return Err(Failure::of_output(error)),
@@ -46,6 +54,7 @@ fn play<'w, R: Runtime + AllocGlobal, O: Write + Drop, E: Write>(
     };
     match matches.subcommand() {
         Some(("info", arguments)) => info(rt, arguments, &mut out),
+        Some(("run", arguments)) => run(rt, arguments, &mut out, err),
         Some(("script", _)) => script(rt, &mut out),
         Some(("serial", arguments)) => serial(rt, arguments, &mut out, err),
         _ => Ok(WRONG_ARGUMENTS),
@@ -130,15 +139,51 @@ fn serial<'w, R: Runtime + AllocGlobal, O: Write, E: Write>(
         return Ok(WRONG_ARGUMENTS);
     };
     let names = arguments.get_strs("STREAM").unwrap_or(&[]);
-    // `clap` refuses other numbers of them, but nothing here proves that of what it found.
-    if names.is_empty() || names.len() > MOST_STREAMS {
-        let _ = writeln!(err, "error: a run takes 1 to {MOST_STREAMS} streams");
+    if !is_taken(names.len(), err) {
         return Ok(WRONG_ARGUMENTS);
     }
     let meta = read(rt, meta)?;
     let mut streams = recorded(rt, names)?;
     let run = play_streams(rt.alloc(), &meta, &mut streams, &options, out)?;
-    finish(rt, &run, out, arguments.get_str("out"))
+    let told = run.ended.map(|_| run.status());
+    finish(rt, told, &run.desk, out, arguments.get_str("out"))
+}
+
+fn run<'w, R: Runtime + AllocGlobal + Threads + Wait + Sync, O: Write, E: Write>(
+    rt: &R,
+    arguments: &ArgMatches<'w>,
+    out: &mut Device<O>,
+    err: &mut E,
+) -> Result<u8, Failure<'w>>
+where
+    R::File: Send,
+{
+    let Some(meta) = arguments.get_str("META") else {
+        return Ok(WRONG_ARGUMENTS);
+    };
+    let Some(options) = options(rt.alloc(), arguments, err)? else {
+        return Ok(WRONG_ARGUMENTS);
+    };
+    let names = arguments.get_strs("STREAM").unwrap_or(&[]);
+    if !is_taken(names.len(), err) {
+        return Ok(WRONG_ARGUMENTS);
+    }
+    let meta = read(rt, meta)?;
+    let run = play_threads(rt, &meta, recorded(rt, names)?, &options, out)?;
+    let told = run.ended.map(|_| run.status());
+    finish(rt, told, &run.book.desk, out, arguments.get_str("out"))
+}
+
+/// Whether a run takes so many streams; where it doesn't that is told.
+fn is_taken<E: Write>(count: usize, err: &mut E) -> bool
+    ensures { result ≡ true → (1 ≤ count) × (count ≤ MOST_STREAMS) }
+{
+    // `clap` refuses other numbers of them, but nothing here proves that of what it found.
+    if count < 1 || count > MOST_STREAMS {
+        let _ = writeln!(err, "error: a run takes 1 to {MOST_STREAMS} streams");
+        return false;
+    }
+    true
 }
 
 /// What a run is asked for; none where an argument is wrong, which is told.
@@ -176,29 +221,29 @@ fn options<E: Write>(
     }))
 }
 
-/// Saves the content of a run, where that is asked for and all pieces are had, and says how the program ends.
+/// Saves the content of a run that ended so at this desk, where that is asked for and all pieces are had, and says how the program ends.
 fn finish<'w, R: Runtime + AllocGlobal, O: Write>(
     rt: &R,
-    run: &Run,
+    told: Result<u8, Fault>,
+    desk: &Desk,
     out: &mut Device<O>,
     path: Option<&'w str>,
 ) -> Result<u8, Failure<'w>> {
-    let told = run.ended.map(|_| run.status());
     let done = ended(told, out);
     match path {
-        Some(path) => worse(done, save_to(rt, run, path)),
+        Some(path) => worse(done, save_to(rt, desk, path)),
         None => done,
     }
 }
 
 fn save_to<'w, R: Runtime + AllocGlobal>(
     rt: &R,
-    run: &Run,
+    desk: &Desk,
     path: &'w str,
 ) -> Result<(), Failure<'w>> {
     let mut file = OutFile::new(rt, path);
     // What it says is what the file remembers.
-    let _ = save(&run.desk, &mut file);
+    let _ = save(desk, &mut file);
     match file.error() {
         Some(error) => Err(Failure::of_file(path, error)),
         None => Ok(()),

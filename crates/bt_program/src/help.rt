@@ -79,3 +79,26 @@ written; 5 `memory`, there wasn't enough. Not of META's torrent, the first of th
   want fault 1      HEX isn't a byte for each eight pieces
   want fault 2      a bit behind those of the pieces is set
   random fault      there are fewer pieces than --random says";
+
+pub const RUN: &str = "\
+Each STREAM is played in a thread of its own, by worker I of one desk, from 0; one more worker checks the pieces that
+are left at the end. All pieces are wanted. In which order the workers call isn't told beforehand, so that another run
+may ask for other blocks. The file of --out is made where all pieces are had.
+
+Prints:
+  stream I end      the stream was played to its end
+  stream I fault N  it was ended (`piecepick serial --help`)
+  pieces N          how many there are
+  had N             how many were checked, and had their hash
+  missing P.. | -   the pieces that aren't had
+  complete yes | no
+  journal ok        each entry of the desk's journal is one that the rules allow
+  journal bad N     entry N isn't, counted from 0
+
+Status: 0 all pieces are had; 1 not all; 2 wrong arguments, or `random fault`, there are fewer pieces than --random
+says; 3 `metainfo fault N` (`piecepick info --help`); 4 `file fault`, META or a STREAM can't be read, or FILE or standard
+output can't be written; 5 `memory`, there wasn't enough, or `no thread`, one couldn't be started; 6 `gather fault N`,
+what the workers noted isn't what the journal has, and nothing is printed. The first of these:
+  gather fault 1    they noted another number of calls
+  gather fault 2    a worker's calls aren't those that the journal has of it
+  gather fault 3    the pieces that were told as had aren't those of the journal";

@@ -5,6 +5,8 @@ use anyhow::{Context, Result};
 use bt_program::obey;
 use std::alloc::{AllocError, Global};
 use std::rt::Runtime;
+use std::sync::Wait;
+use std::thread::Threads;
 use std::{fs, io, str};
 
 /// The command lines, one a line: `show FILE` prints what a file holds, and `quietly ..` runs a command and prints its status alone.
@@ -47,7 +49,10 @@ fn show<R: Runtime + AllocGlobal>(rt: &R, names: &[String]) -> Result<()> {
 }
 
 /// Runs a command, and prints what it tells on standard error too, and its status.
-fn run<R: Runtime + AllocGlobal>(rt: &R, words: &[String]) -> Result<()> {
+fn run<R: Runtime + AllocGlobal + Threads + Wait + Sync>(rt: &R, words: &[String]) -> Result<()>
+where
+    R::File: Send,
+{
     let mut told = Vec::new(rt.alloc());
     let status = obey(rt, words, io::writer(rt), &mut told);
     for line in str::from_utf8(&told)?.lines() {
@@ -57,7 +62,13 @@ fn run<R: Runtime + AllocGlobal>(rt: &R, words: &[String]) -> Result<()> {
     Ok(())
 }
 
-fn run_quietly<R: Runtime + AllocGlobal>(rt: &R, words: &[String]) -> Result<()> {
+fn run_quietly<R: Runtime + AllocGlobal + Threads + Wait + Sync>(
+    rt: &R,
+    words: &[String],
+) -> Result<()>
+where
+    R::File: Send,
+{
     let status = obey(rt, words, io::sink(), &mut io::sink());
     println!(rt; "(status) {status}")?;
     Ok(())

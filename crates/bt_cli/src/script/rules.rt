@@ -6,7 +6,7 @@ ghost use Rattle.bt_cli.specs.RulesLines.{depth_in, random_in, rules_in, rules_o
 
 use super::LineFault;
 use super::fields::{fields, is, small_number};
-use crate::serial::MOST_DEPTH;
+use crate::options::MOST_DEPTH;
 use bt_picker::Rules;
 use std::alloc::Global;
 

@@ -3,7 +3,7 @@ use Rattle.bt_history.specs.Entries.{history_of}
 use Rattle.bt_history.specs.Legal.{IsLegal}
 use Rattle.bt_history.specs.Setting.{setting_of}
 use Rattle.bt_cli.proofs.Runs.{not_wrong}
-use Rattle.bt_cli.proofs.serial.judge.Goals as goal
+use Rattle.bt_cli.proofs.telling.judge.Goals as goal
 
 pub returns-in-Err-NotAllowed : goal.returns-in-Err-NotAllowed
 returns-in-Err-NotAllowed c =

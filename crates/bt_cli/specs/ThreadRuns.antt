@@ -1,0 +1,52 @@
+-- A run with recorded peers in threads: what came of it, and how the command ends.
+use Rattle.std.specs.Prelude.{◌≡◌, ◌⊎◌, ◌<◌, ◌≤◌, ◌+◌, ℕ, Bool, List, length, Option, Some, None, Result, Ok, Err}
+use Rattle.bt_meta.specs.Layout.{Metainfo, piece_count}
+use Rattle.bt_meta.specs.declared.fault.MetaFault.{MetaFault}
+use Rattle.bt_history.specs.Setting.{setting_of}
+use Rattle.bt_session.specs.declared.fault.End.{End}
+use Rattle.bt_session.specs.declared.fault.SessionFault.{SessionFault}
+use Rattle.bt_session.specs.declared.swarm_run.SwarmFault.{SwarmFault}
+use Rattle.bt_session.specs.Serial.{StreamRecord}
+use Rattle.bt_session.specs.Swarms.{EachSwarmed, MakesLastChecks, TellsWaiting}
+use Rattle.bt_session.specs.Terms.{terms_of}
+use Rattle.bt_shared.specs.declared.gather.Book.{Book}
+use Rattle.bt_cli.specs.declared.fault.Fault.{Fault}
+use Rattle.bt_cli.specs.declared.fault.Fault.TheVariants as faults
+use Rattle.bt_cli.specs.declared.options.Options.{Options}
+use Rattle.bt_cli.specs.Runs.{Ended, IsEndStatus}
+use Rattle.bt_cli.specs.Statuses.{of_metainfo, of_swarm, status_of}
+
+-- A run of these streams in threads came to this book: an end for each stream, each as its session's at its worker's log, which asked for
+-- blocks by the depth of the options; the last worker made the last checks alone; and it ended as `Ended` says.
+pub record RanThreads {X : Type 0} (record_of : X → StreamRecord) (torrent : Metainfo) (options : Options) (streams : List X) (book : Book)
+    (ended : Result Bool Fault) (old new : Option (List ℕ)) (failed : Bool) : Type 0 where
+  pub ends : List (Result End SessionFault)
+  pub short : Bool
+  -- the streams as the sessions left them
+  pub left : List X
+  pub count : length ends ≡ length streams
+  pub all_left : length left ≡ length streams
+  pub logs : length book.logs.items ≡ length streams + 1
+  pub sessions : EachSwarmed record_of (terms_of torrent options.rules.depth)
+      (setting_of torrent.layout (length streams + 1) options.rules) options.seed streams book.logs.items left ends
+  pub finishes : MakesLastChecks (length streams) book.logs.items (piece_count torrent.layout)
+  pub waiting : TellsWaiting short book.desk
+  pub told : Ended short ends book.desk ended options.journal old new failed
+
+-- why a run in threads comes to no book: there is no metainfo file, or more pieces are to be picked at random than there are; else want of
+-- memory, a thread that couldn't be started, or logs that aren't the journal's
+abbrev pub IsThreadsFault : Result Metainfo MetaFault → Options → Fault → Type 0
+IsThreadsFault (Err e) options fault = (fault ≡ of_metainfo e) ⊎ (fault ≡ faults.Memory)
+IsThreadsFault (Ok t) options faults.Random = piece_count t.layout < options.rules.random
+IsThreadsFault (Ok t) options faults.Memory = Unit {0}
+IsThreadsFault (Ok t) options fault = (options.rules.random ≤ piece_count t.layout) × ((cause : SwarmFault) × (fault ≡ of_swarm cause))
+
+-- the status where the run came to no book is that of the fault: 2 where too many pieces are to be picked at random, 3 where the bytes are
+-- no metainfo file, 5 for want of memory or of a thread, 6 where the logs aren't the journal's
+abbrev pub IsThreadsStop : Result Metainfo MetaFault → Options → ℕ → Type 0
+IsThreadsStop read options status = (fault : Fault) × IsThreadsFault read options fault × (status ≡ status_of fault)
+
+-- with which status the command ends, and whether it gives the book: with one it is that of a run in one thread which came to its desk
+abbrev pub IsThreadsStatus : Result Metainfo MetaFault → Options → ℕ → Option Book → Type 0
+IsThreadsStatus read options status None = IsThreadsStop read options status
+IsThreadsStatus read options status (Some book) = IsEndStatus read status book.desk

@@ -1,0 +1,57 @@
+//! What a command that runs sessions is asked for.
+
+ghost use Rattle.std.specs.Prelude.{◌≡◌, ◌≤◌, ◌<◌, IfOk, IfErr, OnOk};
+ghost use Rattle.bt_cli.specs.declared.fault.Fault.TheVariants.{Random};
+ghost use Rattle.bt_cli.specs.Runs.{IsOptionFault, IsWant, IsWantFault, want_of};
+
+use crate::fault::Fault;
+use bt_meta::Bitfield;
+use bt_picker::Rules;
+use std::alloc::Global;
+
+/// The most blocks that may be asked of a peer.
+pub const MOST_DEPTH: u32 = 64;
+
+/// What a command that runs sessions is asked for.
+#[derive(Debug, Drop)]
+pub struct Options {
+    /// Settles what the picker's rules leave to chance.
+    pub seed: u64,
+    /// Whether the journal is printed before the report.
+    pub journal: bool,
+    /// The pieces that are to be downloaded, as the payload of a `bitfield` message spells them (BEP 3); each piece where it isn't given.
+    pub want: Option<Vec<u8>>,
+    pub rules: Rules,
+}
+
+/// The wanted pieces, if some are asked for, where the options fit a torrent of so many pieces.
+pub fn fitting(alloc: Global, options: &Options, pieces: u32) -> Result<Option<Bitfield>, Fault>
+    ensures want { IfOk result (IsWant pieces (want_of options.now)) }
+    ensures random { OnOk result (options.now.rules.random ≤ pieces) }
+    ensures err { IfErr result (IsOptionFault pieces options.now) }
+{
+    let want = read_want(alloc, options, pieces)?;
+    fit_random(options.rules, pieces)?;
+    Ok(want)
+}
+
+/// Refuses rules that pick more pieces at random than there are.
+pub fn fit_random(rules: Rules, pieces: u32) -> Result<(), Fault>
+    ensures ok { OnOk result (rules.random ≤ pieces) }
+    ensures err { IfErr result (λ fault. (fault ≡ Random) × (pieces < rules.random)) }
+{
+    if rules.random > pieces {
+        return Err(Fault::Random);
+    }
+    Ok(())
+}
+
+fn read_want(alloc: Global, options: &Options, pieces: u32) -> Result<Option<Bitfield>, Fault>
+    ensures want { IfOk result (IsWant pieces (want_of options.now)) }
+    ensures err { IfErr result (IsWantFault pieces (want_of options.now)) }
+{
+    match &options.want {
+        Some(bytes) => Ok(Some(Bitfield::from_wire(alloc, bytes, pieces)?)),
+        None => Ok(None),
+    }
+}
