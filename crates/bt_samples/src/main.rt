@@ -1,10 +1,12 @@
 //! Real clients' streams: the messages of each by type, however it is cut, and what a run of all of a torrent's streams comes to.
 #![tactic(auto)]
 
+ghost use Rattle.std.specs.Prelude.{◌≤◌};
+
 mod counts;
 
 use anyhow::{Context, Result, bail};
-use bt_cli::{Options, play_streams};
+use bt_cli::{MOST_DEPTH, Options, play_streams, play_threads};
 use bt_meta::{FromRead, ToWrite, Torrent};
 use bt_picker::{Desk, Rules};
 use bt_session::{MOST_STREAMS, Stream};
@@ -14,6 +16,8 @@ use sha1::Sha1;
 use std::alloc::Global;
 use std::io::{BufWriter, Write};
 use std::rt::Runtime;
+use std::sync::Wait;
+use std::thread::Threads;
 use std::{env, fs, io};
 
 fn main(rt: HostRuntime) -> Result<()> {
@@ -31,6 +35,7 @@ fn main(rt: HostRuntime) -> Result<()> {
             decode(&rt, name.as_str(), lens.as_str(), limit)?;
         }
         play(&rt, &meta, streams)?;
+        play_in_threads(&rt, &meta, streams)?;
     }
     Ok(())
 }
@@ -45,26 +50,42 @@ fn decode<R: Runtime + AllocGlobal>(rt: &R, name: &str, lens: &str, limit: u32) 
     Ok(())
 }
 
-/// Prints the report of a run of these streams, its status, and the SHA-1 of the content.
-fn play<R: Runtime + AllocGlobal>(rt: &R, meta: &[u8], names: &[String]) -> Result<()> {
-    let mut streams = Vec::new(rt.alloc());
+/// The streams of these files. What is said to the peers is dropped.
+fn opened<R: Runtime>(
+    rt: &R,
+    alloc: Global,
+    names: &[String],
+) -> Result<Vec<Stream<FromRead<R::File>, ToWrite<io::Sink>>>> {
+    let mut streams = Vec::new(alloc);
     for name in names {
         streams.push(Stream {
             reader: FromRead::new(fs::open(rt, name.as_str())?),
             writer: ToWrite::new(io::sink()),
         })?;
     }
-    if streams.is_empty() || streams.len() > MOST_STREAMS {
-        bail!("a run takes 1 to {MOST_STREAMS} streams");
-    }
-    let mut out = ToWrite::new(BufWriter::new(rt.alloc(), io::writer(rt))?);
-    let options = Options {
+    Ok(streams)
+}
+
+/// Of the seed 0 and the usual rules, without the journal.
+fn options() -> Options
+    ensures { (1 ≤ result.rules.depth) × (result.rules.depth ≤ MOST_DEPTH) }
+{
+    Options {
         seed: 0,
         journal: false,
         want: None,
         rules: Rules::usual(),
-    };
-    let run = match play_streams(rt.alloc(), meta, &mut streams, &options, &mut out) {
+    }
+}
+
+/// Prints the report of a run of these streams, its status, and the SHA-1 of the content.
+fn play<R: Runtime + AllocGlobal>(rt: &R, meta: &[u8], names: &[String]) -> Result<()> {
+    let mut streams = opened(rt, rt.alloc(), names)?;
+    if streams.is_empty() || streams.len() > MOST_STREAMS {
+        bail!("a run takes 1 to {MOST_STREAMS} streams");
+    }
+    let mut out = ToWrite::new(BufWriter::new(rt.alloc(), io::writer(rt))?);
+    let run = match play_streams(rt.alloc(), meta, &mut streams, &options(), &mut out) {
         Ok(run) => run,
         Err(fault) => bail!("{fault}"),
     };
@@ -72,6 +93,31 @@ fn play<R: Runtime + AllocGlobal>(rt: &R, meta: &[u8], names: &[String]) -> Resu
     let status = run.status();
     println!(rt; "status {status}")?;
     tell_content(rt, &run.desk)
+}
+
+/// The same of a run in threads.
+fn play_in_threads<R: Runtime + AllocGlobal + Threads + Wait + Sync>(
+    rt: &R,
+    meta: &[u8],
+    names: &[String],
+) -> Result<()>
+where
+    R::File: Send,
+{
+    let streams = opened(rt, rt.alloc(), names)?;
+    if streams.is_empty() || streams.len() > MOST_STREAMS {
+        bail!("a run takes 1 to {MOST_STREAMS} streams");
+    }
+    println!(rt; "in threads:")?;
+    let mut out = ToWrite::new(BufWriter::new(rt.alloc(), io::writer(rt))?);
+    let run = match play_threads(rt, meta, streams, &options(), &mut out) {
+        Ok(run) => run,
+        Err(fault) => bail!("{fault}"),
+    };
+    out.into_inner().flush()?;
+    let status = run.status();
+    println!(rt; "status {status}")?;
+    tell_content(rt, &run.book.desk)
 }
 
 fn tell_content<R: Runtime + AllocGlobal>(rt: &R, desk: &Desk) -> Result<()> {
