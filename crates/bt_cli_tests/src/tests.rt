@@ -10,4 +10,5 @@ mod scripts;
 mod serial;
 mod session;
 mod settings;
+mod threads;
 mod wants;
