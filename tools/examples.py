@@ -306,68 +306,43 @@ def rust():
         open(f"{folder}/Answers.antt", "w").write(answers)
 
 
-def rust_bytes(text):
-    return "&SIXTEENS" if text == "X" else "&[" + ", ".join(f"0x{b:02x}" for b in bytes.fromhex(text)) + "]"
+def plain(text):
+    """The bytes as the tests spell them."""
+    return "whole" if text == "X" else bytes.fromhex(text).decode()
 
 
-def rust_call(words, pieces):
-    match words:
-        case ["bits", text]: return f"Bits(&[0x{text}], {pieces})"
-        case ["flags", text]: return f"Bits(&[0x00], {len(text)})"
-        case ["want", text]: return f"Want(&[0x{text}], {pieces})"
-        case ["wants", text]: return f"Want(&[0x00], {len(text)})"
-        case ["have", piece]: return f"Have({piece})"
-        case ["next", word]: return f"Next({word})"
-        case ["block", piece, begin, text]: return f"Arrived({piece}, {begin}, {rust_bytes(text)})"
-        case ["settle", piece, text]: return f"Settle({piece}, {rust_bytes(text)})"
-        case [word]: return f"{word.capitalize()}"
-
-
-def rust_reply(words):
-    match words:
-        case ["noted", answer]: return f"Is(Noted({'true' if answer == 'yes' else 'false'}))"
-        case ["refused", reason]: return f"Is(Refused({reason}))"
-        case ["request" | "cancel" as kind, piece, begin, length]: return f"{kind.capitalize()}({piece}, {begin}, {length})"
-        case [word]: return f"Is({PLAIN[word]})"
-
-
-def rust_step(line, torrent):
-    call, said = (side.split() for side in line.split("="))
-    return f"Step({call[0]}, {rust_call(call[1:], len(TORRENTS[torrent][2]))}, {rust_reply(said)})"
-
-
-def groups():
-    """The examples in lists, each small enough for one test's proof."""
-    wants = [name for name, (_, _, lines) in EXAMPLES.items() if any(" want" in line for line in lines)]
-    settings = [name for name in RULES if name not in wants]
-    usual = [name for name in EXAMPLES if name not in wants and name not in settings]
-    return [("Those by the usual rules.", "BY_USUAL_RULES", usual), ("Those by other rules.", "BY_OTHER_RULES", settings),
-            ("Those in which not all pieces are wanted.", "OF_WANTS", wants)]
+def plain_line(line):
+    """The line as the tests of `audit` spell it."""
+    call, reply = line.split(" = ")
+    match call.split():
+        case [worker, "flags", text]: call = f"{worker} no-bits-of {len(text)}"
+        case [worker, "wants", text]: call = f"{worker} want-none-of {len(text)}"
+        case [*words, "block", piece, begin, text]: call = " ".join([*words, "block", piece, begin, plain(text)])
+        case [*words, "settle", piece, text]: call = " ".join([*words, "settle", piece, plain(text)])
+    return f"{call} = {reply}"
 
 
 def audits():
     text = open("tools/audits_head.rt.txt").read()
+    text += f"\npub const EXAMPLES: [Example; {len(EXAMPLES)}] = [\n"
     for name, (torrent, workers, lines) in EXAMPLES.items():
         piece_length, total, hashes = TORRENTS[torrent]
         wrongs = [(before, line) for example, before, line in WRONG.values() if example == name]
         wrongs += [WRONG_IN_AUDITS[name]] if name in WRONG_IN_AUDITS else []
-        digests = ", ".join({ABC: "ABC", A: "A", MILLION: "MILLION"}[h] for h in hashes)
-        text += f"""
-pub const {name.upper()}: Example = Example {{
-    piece_length: {piece_length},
-    total: {total},
-    hashes: &[{digests}],
-    workers: {workers},
-    rules: Rules {{ depth: {RULES.get(name, USUAL)[0]}, random: {RULES.get(name, USUAL)[1]} }},
-    steps: &[
-{"".join(f"        {rust_step(line, torrent)},{chr(10)}" for line in lines)}    ],
-    wrong: &[
-{"".join(f"        ({before}, {rust_step(line, torrent)}),{chr(10)}" for before, line in wrongs)}    ],
-}};
+        contents = " ".join({ABC: "abc", A: "a", MILLION: "million"}[h] for h in hashes)
+        depth, random = RULES.get(name, USUAL)
+        joined = "\\n\\\n            ".join(plain_line(line) for line in lines)
+        text += f"""    // {name.replace("_", " ")}
+    Example {{
+        torrent: "{piece_length} {total} {contents}",
+        workers: {workers},
+        depth: {depth},
+        random: {random},
+        lines: "{joined}",
+        wrong: &[{", ".join(f'({before}, "{plain_line(line)}")' for before, line in wrongs)}],
+    }},
 """
-    for doc, listed, names in groups():
-        text += f"\n/// {doc}\npub const {listed}: &[Example] = &[\n" + "".join(f"    {name.upper()},\n" for name in names) + "];\n"
-    open("crates/bt_picker_tests/src/tests/examples.rt", "w").write(text)
+    open("crates/bt_picker_tests/src/tests/examples.rt", "w").write(text + "];\n")
 
 
 main()

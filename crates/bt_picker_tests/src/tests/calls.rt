@@ -1,14 +1,9 @@
 //! What a desk says and shows, call by call.
 use super::played::{Played, three_pieces};
-use super::steps::Said::*;
-use super::steps::Step;
-use super::steps::Told::*;
-use bt_meta::Bitfield;
-use bt_picker::Reply::{Completed, Failed, Had, Idle, Joined, Noted, NothingLeft, Quiet, Refused};
+use bt_picker::Reply::{Failed, Had, Refused};
 use bt_picker::*;
 use std::alloc::Global;
 use std::process::Abort;
-use std::sync::Arc;
 use std::test::*;
 
 #[test]
@@ -18,33 +13,29 @@ fn one_peer_to_the_last_piece(rt: HostRuntime) -> Result<(), Fail> {
     played.play(
         &rt,
         alloc,
-        &[
-            Step(0, Join, Is(Joined)),
-            Step(0, Bits(&[0xe0], 3), Is(Noted(true))),
-            Step(0, Unchoke, Is(Quiet)),
-            Step(0, Next(5), Request(2, 0, 1)),
-            Step(0, Next(0), Request(0, 0, 3)),
-            Step(0, Next(0), Request(1, 0, 3)),
-            Step(0, Next(0), Is(Idle)),
-        ],
+        "0 join = joined\n\
+        0 bits e0 = noted yes\n\
+        0 unchoke = quiet\n\
+        0 next 5 = request 2 0 1\n\
+        0 next 0 = request 0 0 3\n\
+        0 next 0 = request 1 0 3\n\
+        0 next 0 = idle",
     )?;
     assert_eq!(rt; played.outstanding(&rt, 0), 3);
-    played.play(&rt, alloc, &[Step(0, Arrived(2, 0, b"a"), Is(Completed))])?;
+    played.play(&rt, alloc, "0 block 2 0 a = completed")?;
     assert!(rt; !played.had(&rt, 2));
     assert_eq!(rt; played.settle(&rt, alloc, 0, 2)?, Had);
     assert!(rt; played.had(&rt, 2));
     played.play(
         &rt,
         alloc,
-        &[
-            Step(0, Arrived(0, 0, b"abc"), Is(Completed)),
-            Step(0, Arrived(1, 0, b"abc"), Is(Completed)),
-        ],
+        "0 block 0 0 abc = completed\n\
+        0 block 1 0 abc = completed",
     )?;
     assert_eq!(rt; played.settle(&rt, alloc, 0, 0)?, Had);
     assert_eq!(rt; played.settle(&rt, alloc, 0, 1)?, Had);
-    played.play(&rt, alloc, &[Step(0, Next(0), Is(NothingLeft))])?;
-    assert_eq!(rt; played.desk().journal().len(), 14);
+    played.play(&rt, alloc, "0 next 0 = nothing")?;
+    assert_eq!(rt; played.entries(), 14);
     Ok(())
 }
 
@@ -52,16 +43,14 @@ fn one_peer_to_the_last_piece(rt: HostRuntime) -> Result<(), Fail> {
 fn a_verdict_of_replaced_bytes(rt: HostRuntime) -> Result<(), Fail> {
     let alloc = rt.alloc();
     let mut played = Played::new(&rt, alloc)?;
-    let wrong = [
-        Step(0, Join, Is(Joined)),
-        Step(0, Arrived(0, 0, b"abd"), Is(Completed)),
-    ];
-    played.play(&rt, alloc, &wrong)?;
+    let wrong = "0 join = joined\n\
+        0 block 0 0 abd = completed";
+    played.play(&rt, alloc, wrong)?;
     let first = played.check(alloc, 0)?.expect(&rt, "piece 0 waits");
     let second = played.check(alloc, 0)?.expect(&rt, "piece 0 waits");
     assert_eq!(rt; played.call(&rt, 0, Call::Settle(first))?, Failed);
     assert!(rt; played.check(alloc, 0)?.is_none());
-    played.play(&rt, alloc, &[Step(0, Arrived(0, 0, b"abc"), Is(Completed))])?;
+    played.play(&rt, alloc, "0 block 0 0 abc = completed")?;
     assert_eq!(rt;
         played.call(&rt, 0, Call::Settle(second))?,
         Refused(Reason::Stale)
@@ -74,15 +63,13 @@ fn a_verdict_of_replaced_bytes(rt: HostRuntime) -> Result<(), Fail> {
 fn refusals(rt: HostRuntime) -> Result<(), Fail> {
     let alloc = rt.alloc();
     let mut played = Played::new(&rt, alloc)?;
-    let steps = [
-        Step(0, Join, Is(Joined)),
-        Step(0, Bits(&[0], 4), Is(Refused(Reason::WrongCount))),
-        Step(0, Settle(9, b"a"), Is(Refused(Reason::NoSuchPiece))),
-        Step(0, Arrived(2, 0, b"a"), Is(Completed)),
-        Step(0, Settle(2, b"a"), Is(Had)),
-        Step(0, Settle(2, b"a"), Is(Refused(Reason::NotWaiting))),
-    ];
-    played.play(&rt, alloc, &steps)?;
+    let steps = "0 join = joined\n\
+        0 no-bits-of 4 = refused WrongCount\n\
+        0 settle 9 a = refused NoSuchPiece\n\
+        0 block 2 0 a = completed\n\
+        0 settle 2 a = had\n\
+        0 settle 2 a = refused NotWaiting";
+    played.play(&rt, alloc, steps)?;
     // A check that can't be made leaves no entry.
     assert_eq!(rt;
         played.settle(&rt, alloc, 0, 3)?,
@@ -92,7 +79,7 @@ fn refusals(rt: HostRuntime) -> Result<(), Fail> {
         played.settle(&rt, alloc, 0, 0)?,
         Refused(Reason::NotWaiting)
     );
-    assert_eq!(rt; played.desk().journal().len(), steps.len());
+    assert_eq!(rt; played.entries(), 6);
     Ok(())
 }
 
@@ -100,15 +87,13 @@ fn refusals(rt: HostRuntime) -> Result<(), Fail> {
 fn a_peer_that_left(rt: HostRuntime) -> Result<(), Fail> {
     let alloc = rt.alloc();
     let mut played = Played::new(&rt, alloc)?;
-    let steps = [
-        Step(0, Join, Is(Joined)),
-        Step(0, Bits(&[0xe0], 3), Is(Noted(true))),
-        Step(1, Join, Is(Joined)),
-        Step(1, Bits(&[0x80], 3), Is(Noted(true))),
-    ];
-    played.play(&rt, alloc, &steps)?;
+    let steps = "0 join = joined\n\
+        0 bits e0 = noted yes\n\
+        1 join = joined\n\
+        1 bits 80 = noted yes";
+    played.play(&rt, alloc, steps)?;
     assert_eq!(rt; played.availability(&rt, 0), 2);
-    played.play(&rt, alloc, &[Step(1, Leave, Is(Quiet))])?;
+    played.play(&rt, alloc, "1 leave = quiet")?;
     assert_eq!(rt; played.availability(&rt, 0), 1);
     Ok(())
 }
@@ -119,27 +104,23 @@ fn one_wanted_piece_and_then_all(rt: HostRuntime) -> Result<(), Fail> {
     let mut played = Played::new(&rt, alloc)?;
     assert!(rt; played.wanted(&rt, 0) && played.wanted(&rt, 1) && played.wanted(&rt, 2));
     // Worker 1 has no peer, and may say so all the same.
-    played.play(&rt, alloc, &[Step(1, Want(&[0x40], 3), Is(Quiet))])?;
+    played.play(&rt, alloc, "1 want 40 = quiet")?;
     assert!(rt; !played.wanted(&rt, 0) && played.wanted(&rt, 1) && !played.wanted(&rt, 2));
-    let steps = [
-        Step(0, Join, Is(Joined)),
-        Step(0, Bits(&[0xe0], 3), Is(Noted(true))),
-        Step(0, Unchoke, Is(Quiet)),
-        Step(0, Next(0), Request(1, 0, 3)),
-        Step(0, Next(0), Is(Idle)),
-        Step(0, Arrived(1, 0, b"abc"), Is(Completed)),
-    ];
-    played.play(&rt, alloc, &steps)?;
-    assert!(rt; !played.desk().has_wanted());
+    let steps = "0 join = joined\n\
+        0 bits e0 = noted yes\n\
+        0 unchoke = quiet\n\
+        0 next 0 = request 1 0 3\n\
+        0 next 0 = idle\n\
+        0 block 1 0 abc = completed";
+    played.play(&rt, alloc, steps)?;
+    assert!(rt; !played.has_wanted());
     assert_eq!(rt; played.settle(&rt, alloc, 0, 1)?, Had);
-    assert!(rt; played.desk().has_wanted() && !played.desk().is_complete());
-    let steps = [
-        Step(0, Next(0), Is(NothingLeft)),
-        Step(0, Want(&[0xe0], 3), Is(Quiet)),
-        Step(0, Want(&[0], 2), Is(Refused(Reason::WrongCount))),
-    ];
-    played.play(&rt, alloc, &steps)?;
-    assert!(rt; !played.desk().has_wanted());
+    assert!(rt; played.has_wanted() && !played.is_complete());
+    let steps = "0 next 0 = nothing\n\
+        0 want e0 = quiet\n\
+        0 want-none-of 2 = refused WrongCount";
+    played.play(&rt, alloc, steps)?;
+    assert!(rt; !played.has_wanted());
     Ok(())
 }
 
@@ -147,15 +128,13 @@ fn one_wanted_piece_and_then_all(rt: HostRuntime) -> Result<(), Fail> {
 fn finish_settles_what_waits(rt: HostRuntime) -> Result<(), Fail> {
     let alloc = rt.alloc();
     let mut played = Played::new(&rt, alloc)?;
-    let steps = [
-        Step(0, Join, Is(Joined)),
-        Step(0, Arrived(2, 0, b"a"), Is(Completed)),
-        Step(0, Arrived(0, 0, b"abd"), Is(Completed)),
-    ];
-    played.play(&rt, alloc, &steps)?;
+    let steps = "0 join = joined\n\
+        0 block 2 0 a = completed\n\
+        0 block 0 0 abd = completed";
+    played.play(&rt, alloc, steps)?;
     played.finish(&rt, alloc, 0)?;
     assert!(rt; played.had(&rt, 2) && !played.had(&rt, 0));
-    assert_eq!(rt; played.desk().journal().len(), 5);
+    assert_eq!(rt; played.entries(), 5);
     Ok(())
 }
 
@@ -178,11 +157,15 @@ fn an_audit_of_no_call(rt: HostRuntime) -> Result<(), Fail> {
 fn all_show_a_piece(alloc: Global, workers: u32) -> Result<Vec<Entry>, Fail> {
     let mut entries = Vec::new(alloc);
     for worker in 0..workers {
-        for step in [
-            Step(worker, Join, Is(Joined)),
-            Step(worker, Have(0), Is(Noted(true))),
+        for (call, reply) in [
+            (Call::Join, Reply::Joined),
+            (Call::Have(0), Reply::Noted(true)),
         ] {
-            entries.push(step.entry(alloc)?)?;
+            entries.push(Entry {
+                worker,
+                call,
+                reply,
+            })?;
         }
     }
     Ok(entries)

@@ -1,10 +1,6 @@
 use super::played::Played;
-use super::steps::Said::*;
-use super::steps::Step;
-use super::steps::Told::*;
 use bt_meta::{DeviceFault, Sink, ToWrite};
 use bt_picker::ContentFault;
-use bt_picker::Reply::{Completed, Joined};
 use std::alloc::Global;
 use std::process::Abort;
 use std::test::*;
@@ -68,30 +64,23 @@ impl Sink for Little {
 
 /// A desk at which the blocks of pieces `abc`, `abc` and `a` came, but for the last ones, and each full piece is checked.
 fn with_blocks(rt: &impl Abort, alloc: Global, count: usize) -> Result<Played, Fail> {
-    let steps = [
-        Step(0, Arrived(0, 0, b"abc"), Is(Completed)),
-        Step(0, Arrived(1, 0, b"abc"), Is(Completed)),
-        Step(0, Arrived(2, 0, b"a"), Is(Completed)),
-    ];
+    let steps = "0 block 0 0 abc = completed\n\
+        0 block 1 0 abc = completed\n\
+        0 block 2 0 a = completed";
     let mut played = Played::new(rt, alloc)?;
-    played.play(rt, alloc, &[Step(0, Join, Is(Joined))])?;
-    for step in steps.iter().take(count) {
-        played.play(rt, alloc, &[*step])?;
+    played.play(rt, alloc, "0 join = joined")?;
+    for line in steps.lines().take(count) {
+        played.play(rt, alloc, line)?;
     }
     played.finish(rt, alloc, 0)?;
     Ok(played)
-}
-
-/// Writes the content.
-fn written<W: Sink>(played: &Played, writer: &mut W) -> Result<(), ContentFault> {
-    played.desk().write_content(writer)
 }
 
 #[test]
 fn pieces_in_order(rt: HostRuntime) -> Result<(), Fail> {
     let played = with_blocks(&rt, rt.alloc(), 3)?;
     let mut writer = ToWrite::new(Vec::new(rt.alloc()));
-    assert!(rt; written(&played, &mut writer) == Ok(()));
+    assert!(rt; played.write(&mut writer) == Ok(()));
     assert_eq!(rt; writer.into_inner().as_slice(), b"abcabca".as_slice());
     Ok(())
 }
@@ -100,7 +89,7 @@ fn pieces_in_order(rt: HostRuntime) -> Result<(), Fail> {
 fn a_write_of_four_bytes_and_no_more(rt: HostRuntime) -> Result<(), Fail> {
     let played = with_blocks(&rt, rt.alloc(), 3)?;
     let mut writer = Little::new(rt.alloc(), 100, 4, Full::Fails);
-    assert!(rt; written(&played, &mut writer) == Err(ContentFault::WriteFault));
+    assert!(rt; played.write(&mut writer) == Err(ContentFault::WriteFault));
     assert_eq!(rt; writer.kept.as_slice(), b"abca".as_slice());
     Ok(())
 }
@@ -111,12 +100,12 @@ fn byte_by_byte_until_it_fails(rt: HostRuntime) -> Result<(), Fail> {
     for room in 0..7 {
         for full in [Full::Fails, Full::TakesNone] {
             let mut writer = Little::new(rt.alloc(), 1, room, full);
-            assert!(rt; written(&played, &mut writer) == Err(ContentFault::WriteFault));
+            assert!(rt; played.write(&mut writer) == Err(ContentFault::WriteFault));
             assert_eq!(rt; writer.kept.as_slice(), &b"abcabca"[..room]);
         }
     }
     let mut writer = Little::new(rt.alloc(), 1, 7, Full::Fails);
-    assert!(rt; written(&played, &mut writer) == Ok(()));
+    assert!(rt; played.write(&mut writer) == Ok(()));
     assert_eq!(rt; writer.kept.as_slice(), b"abcabca".as_slice());
     Ok(())
 }
@@ -125,7 +114,7 @@ fn byte_by_byte_until_it_fails(rt: HostRuntime) -> Result<(), Fail> {
 fn nothing_where_a_piece_is_missing(rt: HostRuntime) -> Result<(), Fail> {
     let played = with_blocks(&rt, rt.alloc(), 2)?;
     let mut writer = Little::new(rt.alloc(), 100, 100, Full::Fails);
-    assert!(rt; written(&played, &mut writer) == Err(ContentFault::Incomplete));
+    assert!(rt; played.write(&mut writer) == Err(ContentFault::Incomplete));
     assert!(rt; writer.kept.is_empty() && !writer.failed);
     assert_eq!(rt; ContentFault::Incomplete as u8, 1);
     assert_eq!(rt; ContentFault::WriteFault as u8, 2);

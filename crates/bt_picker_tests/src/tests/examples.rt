@@ -1,796 +1,548 @@
-//! Written by tools/examples.py: the worked examples of the rules as data, each with replies that would be wrong in it.
-use super::steps::Said::*;
-use super::steps::Told::*;
-use super::steps::{A, ABC, Example, Step};
-use bt_picker::Reason::*;
-use bt_picker::Reply::{
-    Choked, Completed, Dropped, Failed, Had, Idle, Joined, Noted, NothingLeft, PipeFull, Quiet,
-    Refused, Stored,
-};
-use bt_picker::Rules;
+//! Written by tools/examples.py: the worked examples of the rules as texts, each with replies that would be wrong in it.
+use super::steps::Example;
 
-/// The SHA-1 of a million `a` (FIPS 180-4, the third worked example).
-const MILLION: [u8; 20] = [
-    0x34, 0xaa, 0x97, 0x3c, 0xd4, 0xc4, 0xda, 0xa4, 0xf6, 0x1e, 0xeb, 0x2b, 0xdb, 0xad, 0x27, 0x31,
-    0x65, 0x34, 0x01, 0x6f,
-];
-
-/// A whole block of `a`.
-const SIXTEENS: [u8; 16384] = [b'a'; 16384];
-
-pub const FIRST_REQUEST: Example = Example {
-    piece_length: 3,
-    total: 7,
-    hashes: &[ABC, ABC, A],
-    workers: 1,
-    rules: Rules {
+pub const EXAMPLES: [Example; 30] = [
+    // first request
+    Example {
+        torrent: "3 7 abc abc a",
+        workers: 1,
         depth: 5,
         random: 1,
+        lines: "0 join = joined\n\
+            0 bits e0 = noted yes\n\
+            0 unchoke = quiet\n\
+            0 next 5 = request 2 0 1",
+        wrong: &[(1, "0 bits e0 = noted no"), (3, "0 next 5 = request 2 0 3")],
     },
-    steps: &[
-        Step(0, Join, Is(Joined)),
-        Step(0, Bits(&[0xe0], 3), Is(Noted(true))),
-        Step(0, Unchoke, Is(Quiet)),
-        Step(0, Next(5), Request(2, 0, 1)),
-    ],
-    wrong: &[
-        (1, Step(0, Bits(&[0xe0], 3), Is(Noted(false)))),
-        (3, Step(0, Next(5), Request(2, 0, 3))),
-    ],
-};
-
-pub const ANOTHER_FIRST_REQUEST: Example = Example {
-    piece_length: 3,
-    total: 7,
-    hashes: &[ABC, ABC, A],
-    workers: 1,
-    rules: Rules {
+    // another first request
+    Example {
+        torrent: "3 7 abc abc a",
+        workers: 1,
         depth: 5,
         random: 1,
+        lines: "0 join = joined\n\
+            0 bits e0 = noted yes\n\
+            0 unchoke = quiet\n\
+            0 next 5 = request 0 0 3",
+        wrong: &[(3, "0 next 5 = nothing")],
     },
-    steps: &[
-        Step(0, Join, Is(Joined)),
-        Step(0, Bits(&[0xe0], 3), Is(Noted(true))),
-        Step(0, Unchoke, Is(Quiet)),
-        Step(0, Next(5), Request(0, 0, 3)),
-    ],
-    wrong: &[(3, Step(0, Next(5), Is(NothingLeft)))],
-};
-
-pub const ONE_PEER_TO_THE_END: Example = Example {
-    piece_length: 3,
-    total: 7,
-    hashes: &[ABC, ABC, A],
-    workers: 1,
-    rules: Rules {
+    // one peer to the end
+    Example {
+        torrent: "3 7 abc abc a",
+        workers: 1,
         depth: 5,
         random: 1,
+        lines: "0 join = joined\n\
+            0 bits e0 = noted yes\n\
+            0 unchoke = quiet\n\
+            0 next 5 = request 2 0 1\n\
+            0 next 0 = request 0 0 3\n\
+            0 next 0 = request 1 0 3\n\
+            0 next 0 = idle\n\
+            0 block 2 0 a = completed\n\
+            0 settle 2 a = had\n\
+            0 block 0 0 abc = completed\n\
+            0 settle 0 abc = had\n\
+            0 block 1 0 abc = completed\n\
+            0 settle 1 abc = had\n\
+            0 next 0 = nothing",
+        wrong: &[(3, "0 next 5 = idle")],
     },
-    steps: &[
-        Step(0, Join, Is(Joined)),
-        Step(0, Bits(&[0xe0], 3), Is(Noted(true))),
-        Step(0, Unchoke, Is(Quiet)),
-        Step(0, Next(5), Request(2, 0, 1)),
-        Step(0, Next(0), Request(0, 0, 3)),
-        Step(0, Next(0), Request(1, 0, 3)),
-        Step(0, Next(0), Is(Idle)),
-        Step(0, Arrived(2, 0, &[0x61]), Is(Completed)),
-        Step(0, Settle(2, &[0x61]), Is(Had)),
-        Step(0, Arrived(0, 0, &[0x61, 0x62, 0x63]), Is(Completed)),
-        Step(0, Settle(0, &[0x61, 0x62, 0x63]), Is(Had)),
-        Step(0, Arrived(1, 0, &[0x61, 0x62, 0x63]), Is(Completed)),
-        Step(0, Settle(1, &[0x61, 0x62, 0x63]), Is(Had)),
-        Step(0, Next(0), Is(NothingLeft)),
-    ],
-    wrong: &[(3, Step(0, Next(5), Is(Idle)))],
-};
-
-pub const RAREST_FIRST: Example = Example {
-    piece_length: 3,
-    total: 7,
-    hashes: &[ABC, ABC, A],
-    workers: 2,
-    rules: Rules {
+    // rarest first
+    Example {
+        torrent: "3 7 abc abc a",
+        workers: 2,
         depth: 5,
         random: 1,
+        lines: "0 join = joined\n\
+            0 bits e0 = noted yes\n\
+            1 join = joined\n\
+            1 bits 40 = noted yes\n\
+            0 unchoke = quiet\n\
+            0 next 2 = request 2 0 1\n\
+            0 block 2 0 a = completed\n\
+            0 settle 2 a = had\n\
+            0 next 1 = request 0 0 3",
+        wrong: &[(8, "0 next 1 = request 1 0 3")],
     },
-    steps: &[
-        Step(0, Join, Is(Joined)),
-        Step(0, Bits(&[0xe0], 3), Is(Noted(true))),
-        Step(1, Join, Is(Joined)),
-        Step(1, Bits(&[0x40], 3), Is(Noted(true))),
-        Step(0, Unchoke, Is(Quiet)),
-        Step(0, Next(2), Request(2, 0, 1)),
-        Step(0, Arrived(2, 0, &[0x61]), Is(Completed)),
-        Step(0, Settle(2, &[0x61]), Is(Had)),
-        Step(0, Next(1), Request(0, 0, 3)),
-    ],
-    wrong: &[(8, Step(0, Next(1), Request(1, 0, 3)))],
-};
-
-pub const FULL_PIPE: Example = Example {
-    piece_length: 1000000,
-    total: 1000000,
-    hashes: &[MILLION],
-    workers: 2,
-    rules: Rules {
+    // full pipe
+    Example {
+        torrent: "1000000 1000000 million",
+        workers: 2,
         depth: 5,
         random: 1,
+        lines: "0 join = joined\n\
+            0 bits 80 = noted yes\n\
+            0 unchoke = quiet\n\
+            0 next 0 = request 0 0 16384\n\
+            0 next 0 = request 0 16384 16384\n\
+            0 next 0 = request 0 32768 16384\n\
+            0 next 0 = request 0 49152 16384\n\
+            0 next 0 = request 0 65536 16384\n\
+            0 next 0 = pipefull",
+        wrong: &[
+            (8, "0 next 0 = request 0 81920 16384"),
+            (7, "0 next 0 = pipefull"),
+        ],
     },
-    steps: &[
-        Step(0, Join, Is(Joined)),
-        Step(0, Bits(&[0x80], 1), Is(Noted(true))),
-        Step(0, Unchoke, Is(Quiet)),
-        Step(0, Next(0), Request(0, 0, 16384)),
-        Step(0, Next(0), Request(0, 16384, 16384)),
-        Step(0, Next(0), Request(0, 32768, 16384)),
-        Step(0, Next(0), Request(0, 49152, 16384)),
-        Step(0, Next(0), Request(0, 65536, 16384)),
-        Step(0, Next(0), Is(PipeFull)),
-    ],
-    wrong: &[
-        (8, Step(0, Next(0), Request(0, 81920, 16384))),
-        (7, Step(0, Next(0), Is(PipeFull))),
-    ],
-};
-
-pub const CHOKE_FREES: Example = Example {
-    piece_length: 1000000,
-    total: 1000000,
-    hashes: &[MILLION],
-    workers: 2,
-    rules: Rules {
+    // choke frees
+    Example {
+        torrent: "1000000 1000000 million",
+        workers: 2,
         depth: 5,
         random: 1,
+        lines: "0 join = joined\n\
+            0 bits 80 = noted yes\n\
+            0 unchoke = quiet\n\
+            0 next 0 = request 0 0 16384\n\
+            0 next 0 = request 0 16384 16384\n\
+            0 next 0 = request 0 32768 16384\n\
+            0 next 0 = request 0 49152 16384\n\
+            0 next 0 = request 0 65536 16384\n\
+            0 next 0 = pipefull\n\
+            0 choke = quiet\n\
+            1 join = joined\n\
+            1 bits 80 = noted yes\n\
+            1 unchoke = quiet\n\
+            1 next 0 = request 0 0 16384\n\
+            0 next 0 = choked",
+        wrong: &[(13, "0 next 0 = pipefull")],
     },
-    steps: &[
-        Step(0, Join, Is(Joined)),
-        Step(0, Bits(&[0x80], 1), Is(Noted(true))),
-        Step(0, Unchoke, Is(Quiet)),
-        Step(0, Next(0), Request(0, 0, 16384)),
-        Step(0, Next(0), Request(0, 16384, 16384)),
-        Step(0, Next(0), Request(0, 32768, 16384)),
-        Step(0, Next(0), Request(0, 49152, 16384)),
-        Step(0, Next(0), Request(0, 65536, 16384)),
-        Step(0, Next(0), Is(PipeFull)),
-        Step(0, Choke, Is(Quiet)),
-        Step(1, Join, Is(Joined)),
-        Step(1, Bits(&[0x80], 1), Is(Noted(true))),
-        Step(1, Unchoke, Is(Quiet)),
-        Step(1, Next(0), Request(0, 0, 16384)),
-        Step(0, Next(0), Is(Choked)),
-    ],
-    wrong: &[(13, Step(0, Next(0), Is(PipeFull)))],
-};
-
-pub const CANCEL_IN_ENDGAME: Example = Example {
-    piece_length: 3,
-    total: 3,
-    hashes: &[ABC],
-    workers: 2,
-    rules: Rules {
+    // cancel in endgame
+    Example {
+        torrent: "3 3 abc",
+        workers: 2,
         depth: 5,
         random: 1,
+        lines: "0 join = joined\n\
+            0 bits 80 = noted yes\n\
+            0 unchoke = quiet\n\
+            1 join = joined\n\
+            1 bits 80 = noted yes\n\
+            1 unchoke = quiet\n\
+            0 next 0 = request 0 0 3\n\
+            1 next 0 = request 0 0 3\n\
+            0 block 0 0 abc = completed\n\
+            1 next 0 = cancel 0 0 3\n\
+            1 next 0 = idle\n\
+            0 settle 0 abc = had\n\
+            1 next 0 = nothing\n\
+            1 block 0 0 abc = dropped",
+        wrong: &[(9, "1 next 0 = idle")],
     },
-    steps: &[
-        Step(0, Join, Is(Joined)),
-        Step(0, Bits(&[0x80], 1), Is(Noted(true))),
-        Step(0, Unchoke, Is(Quiet)),
-        Step(1, Join, Is(Joined)),
-        Step(1, Bits(&[0x80], 1), Is(Noted(true))),
-        Step(1, Unchoke, Is(Quiet)),
-        Step(0, Next(0), Request(0, 0, 3)),
-        Step(1, Next(0), Request(0, 0, 3)),
-        Step(0, Arrived(0, 0, &[0x61, 0x62, 0x63]), Is(Completed)),
-        Step(1, Next(0), Cancel(0, 0, 3)),
-        Step(1, Next(0), Is(Idle)),
-        Step(0, Settle(0, &[0x61, 0x62, 0x63]), Is(Had)),
-        Step(1, Next(0), Is(NothingLeft)),
-        Step(1, Arrived(0, 0, &[0x61, 0x62, 0x63]), Is(Dropped)),
-    ],
-    wrong: &[(9, Step(1, Next(0), Is(Idle)))],
-};
-
-pub const NO_DOUBLE_BEFORE_ENDGAME: Example = Example {
-    piece_length: 3,
-    total: 6,
-    hashes: &[ABC, ABC],
-    workers: 2,
-    rules: Rules {
+    // no double before endgame
+    Example {
+        torrent: "3 6 abc abc",
+        workers: 2,
         depth: 5,
         random: 1,
+        lines: "0 join = joined\n\
+            0 bits c0 = noted yes\n\
+            0 unchoke = quiet\n\
+            0 next 0 = request 0 0 3\n\
+            1 join = joined\n\
+            1 bits 80 = noted yes\n\
+            1 unchoke = quiet\n\
+            1 next 0 = idle",
+        wrong: &[(7, "1 next 0 = request 0 0 3")],
     },
-    steps: &[
-        Step(0, Join, Is(Joined)),
-        Step(0, Bits(&[0xc0], 2), Is(Noted(true))),
-        Step(0, Unchoke, Is(Quiet)),
-        Step(0, Next(0), Request(0, 0, 3)),
-        Step(1, Join, Is(Joined)),
-        Step(1, Bits(&[0x80], 2), Is(Noted(true))),
-        Step(1, Unchoke, Is(Quiet)),
-        Step(1, Next(0), Is(Idle)),
-    ],
-    wrong: &[(7, Step(1, Next(0), Request(0, 0, 3)))],
-};
-
-pub const DOUBLE_OUTLASTS_ENDGAME: Example = Example {
-    piece_length: 3,
-    total: 6,
-    hashes: &[ABC, ABC],
-    workers: 4,
-    rules: Rules {
+    // double outlasts endgame
+    Example {
+        torrent: "3 6 abc abc",
+        workers: 4,
         depth: 5,
         random: 1,
+        lines: "0 join = joined\n\
+            0 bits 80 = noted yes\n\
+            0 unchoke = quiet\n\
+            2 join = joined\n\
+            2 bits 40 = noted yes\n\
+            2 unchoke = quiet\n\
+            1 join = joined\n\
+            1 bits 80 = noted yes\n\
+            1 unchoke = quiet\n\
+            0 next 0 = request 0 0 3\n\
+            2 next 0 = request 1 0 3\n\
+            1 next 0 = request 0 0 3\n\
+            2 choke = quiet\n\
+            3 join = joined\n\
+            3 bits 80 = noted yes\n\
+            3 unchoke = quiet\n\
+            3 next 0 = idle\n\
+            0 block 0 0 abc = completed\n\
+            1 next 0 = cancel 0 0 3",
+        wrong: &[(16, "3 next 0 = request 0 0 3")],
     },
-    steps: &[
-        Step(0, Join, Is(Joined)),
-        Step(0, Bits(&[0x80], 2), Is(Noted(true))),
-        Step(0, Unchoke, Is(Quiet)),
-        Step(2, Join, Is(Joined)),
-        Step(2, Bits(&[0x40], 2), Is(Noted(true))),
-        Step(2, Unchoke, Is(Quiet)),
-        Step(1, Join, Is(Joined)),
-        Step(1, Bits(&[0x80], 2), Is(Noted(true))),
-        Step(1, Unchoke, Is(Quiet)),
-        Step(0, Next(0), Request(0, 0, 3)),
-        Step(2, Next(0), Request(1, 0, 3)),
-        Step(1, Next(0), Request(0, 0, 3)),
-        Step(2, Choke, Is(Quiet)),
-        Step(3, Join, Is(Joined)),
-        Step(3, Bits(&[0x80], 2), Is(Noted(true))),
-        Step(3, Unchoke, Is(Quiet)),
-        Step(3, Next(0), Is(Idle)),
-        Step(0, Arrived(0, 0, &[0x61, 0x62, 0x63]), Is(Completed)),
-        Step(1, Next(0), Cancel(0, 0, 3)),
-    ],
-    wrong: &[(16, Step(3, Next(0), Request(0, 0, 3)))],
-};
-
-pub const FAILED_CHECK: Example = Example {
-    piece_length: 3,
-    total: 7,
-    hashes: &[ABC, ABC, A],
-    workers: 1,
-    rules: Rules {
+    // failed check
+    Example {
+        torrent: "3 7 abc abc a",
+        workers: 1,
         depth: 5,
         random: 1,
+        lines: "0 join = joined\n\
+            0 bits e0 = noted yes\n\
+            0 unchoke = quiet\n\
+            0 next 0 = request 0 0 3\n\
+            0 block 0 0 abd = completed\n\
+            0 settle 0 abd = failed\n\
+            0 next 0 = request 0 0 3\n\
+            0 settle 0 abd = refused NotWaiting",
+        wrong: &[(7, "0 settle 0 abd = refused Stale")],
     },
-    steps: &[
-        Step(0, Join, Is(Joined)),
-        Step(0, Bits(&[0xe0], 3), Is(Noted(true))),
-        Step(0, Unchoke, Is(Quiet)),
-        Step(0, Next(0), Request(0, 0, 3)),
-        Step(0, Arrived(0, 0, &[0x61, 0x62, 0x64]), Is(Completed)),
-        Step(0, Settle(0, &[0x61, 0x62, 0x64]), Is(Failed)),
-        Step(0, Next(0), Request(0, 0, 3)),
-        Step(0, Settle(0, &[0x61, 0x62, 0x64]), Is(Refused(NotWaiting))),
-    ],
-    wrong: &[(
-        7,
-        Step(0, Settle(0, &[0x61, 0x62, 0x64]), Is(Refused(Stale))),
-    )],
-};
-
-pub const FAILED_CHECK_IN_ENDGAME: Example = Example {
-    piece_length: 3,
-    total: 3,
-    hashes: &[ABC],
-    workers: 2,
-    rules: Rules {
+    // failed check in endgame
+    Example {
+        torrent: "3 3 abc",
+        workers: 2,
         depth: 5,
         random: 1,
+        lines: "0 join = joined\n\
+            0 bits 80 = noted yes\n\
+            0 unchoke = quiet\n\
+            1 join = joined\n\
+            1 bits 80 = noted yes\n\
+            1 unchoke = quiet\n\
+            0 next 0 = request 0 0 3\n\
+            1 next 0 = request 0 0 3\n\
+            0 block 0 0 abd = completed\n\
+            0 settle 0 abd = failed\n\
+            1 next 0 = cancel 0 0 3\n\
+            1 next 0 = request 0 0 3",
+        wrong: &[(9, "0 settle 0 abd = had"), (9, "0 settle 0 abc = had")],
     },
-    steps: &[
-        Step(0, Join, Is(Joined)),
-        Step(0, Bits(&[0x80], 1), Is(Noted(true))),
-        Step(0, Unchoke, Is(Quiet)),
-        Step(1, Join, Is(Joined)),
-        Step(1, Bits(&[0x80], 1), Is(Noted(true))),
-        Step(1, Unchoke, Is(Quiet)),
-        Step(0, Next(0), Request(0, 0, 3)),
-        Step(1, Next(0), Request(0, 0, 3)),
-        Step(0, Arrived(0, 0, &[0x61, 0x62, 0x64]), Is(Completed)),
-        Step(0, Settle(0, &[0x61, 0x62, 0x64]), Is(Failed)),
-        Step(1, Next(0), Cancel(0, 0, 3)),
-        Step(1, Next(0), Request(0, 0, 3)),
-    ],
-    wrong: &[
-        (9, Step(0, Settle(0, &[0x61, 0x62, 0x64]), Is(Had))),
-        (9, Step(0, Settle(0, &[0x61, 0x62, 0x63]), Is(Had))),
-    ],
-};
-
-pub const HELD_BLOCK_DROPPED: Example = Example {
-    piece_length: 3,
-    total: 7,
-    hashes: &[ABC, ABC, A],
-    workers: 1,
-    rules: Rules {
+    // held block dropped
+    Example {
+        torrent: "3 7 abc abc a",
+        workers: 1,
         depth: 5,
         random: 1,
+        lines: "0 join = joined\n\
+            0 block 2 0 a = completed\n\
+            0 block 2 0 a = dropped",
+        wrong: &[
+            (2, "0 block 2 0 a = completed"),
+            (2, "0 bits e0 = noted yes"),
+        ],
     },
-    steps: &[
-        Step(0, Join, Is(Joined)),
-        Step(0, Arrived(2, 0, &[0x61]), Is(Completed)),
-        Step(0, Arrived(2, 0, &[0x61]), Is(Dropped)),
-    ],
-    wrong: &[
-        (2, Step(0, Arrived(2, 0, &[0x61]), Is(Completed))),
-        (2, Step(0, Bits(&[0xe0], 3), Is(Noted(true)))),
-    ],
-};
-
-pub const BLOCK_BY_BLOCK: Example = Example {
-    piece_length: 32768,
-    total: 65536,
-    hashes: &[ABC, ABC],
-    workers: 1,
-    rules: Rules {
+    // block by block
+    Example {
+        torrent: "32768 65536 abc abc",
+        workers: 1,
         depth: 5,
         random: 1,
+        lines: "0 join = joined\n\
+            0 block 0 0 whole = stored\n\
+            0 block 0 0 whole = dropped\n\
+            0 block 0 16384 whole = completed",
+        wrong: &[(3, "0 block 0 16384 whole = stored")],
     },
-    steps: &[
-        Step(0, Join, Is(Joined)),
-        Step(0, Arrived(0, 0, &SIXTEENS), Is(Stored)),
-        Step(0, Arrived(0, 0, &SIXTEENS), Is(Dropped)),
-        Step(0, Arrived(0, 16384, &SIXTEENS), Is(Completed)),
-    ],
-    wrong: &[(3, Step(0, Arrived(0, 16384, &SIXTEENS), Is(Stored)))],
-};
-
-pub const REFUSALS: Example = Example {
-    piece_length: 3,
-    total: 7,
-    hashes: &[ABC, ABC, A],
-    workers: 2,
-    rules: Rules {
+    // refusals
+    Example {
+        torrent: "3 7 abc abc a",
+        workers: 2,
         depth: 5,
         random: 1,
+        lines: "0 leave = refused NotJoined\n\
+            1 block 9 9 a = refused NotJoined\n\
+            0 join = joined\n\
+            0 join = refused AlreadyJoined\n\
+            0 have 0 = noted yes\n\
+            0 bits e0 = refused LateBits\n\
+            0 have 3 = refused NoSuchPiece\n\
+            0 block 3 1 a = refused NoSuchPiece\n\
+            0 block 0 1 bc = refused NoSuchBlock\n\
+            0 block 0 0 ab = refused WrongLength\n\
+            0 settle 0 a = refused NotWaiting\n\
+            0 settle 3 a = refused NoSuchPiece\n\
+            0 leave = quiet\n\
+            0 join = joined\n\
+            0 bits e0 = noted yes\n\
+            1 join = joined\n\
+            1 bits 00 = noted no\n\
+            1 unchoke = quiet\n\
+            1 next 0 = nothing",
+        wrong: &[(8, "0 block 0 1 bc = refused WrongLength")],
     },
-    steps: &[
-        Step(0, Leave, Is(Refused(NotJoined))),
-        Step(1, Arrived(9, 9, &[0x61]), Is(Refused(NotJoined))),
-        Step(0, Join, Is(Joined)),
-        Step(0, Join, Is(Refused(AlreadyJoined))),
-        Step(0, Have(0), Is(Noted(true))),
-        Step(0, Bits(&[0xe0], 3), Is(Refused(LateBits))),
-        Step(0, Have(3), Is(Refused(NoSuchPiece))),
-        Step(0, Arrived(3, 1, &[0x61]), Is(Refused(NoSuchPiece))),
-        Step(0, Arrived(0, 1, &[0x62, 0x63]), Is(Refused(NoSuchBlock))),
-        Step(0, Arrived(0, 0, &[0x61, 0x62]), Is(Refused(WrongLength))),
-        Step(0, Settle(0, &[0x61]), Is(Refused(NotWaiting))),
-        Step(0, Settle(3, &[0x61]), Is(Refused(NoSuchPiece))),
-        Step(0, Leave, Is(Quiet)),
-        Step(0, Join, Is(Joined)),
-        Step(0, Bits(&[0xe0], 3), Is(Noted(true))),
-        Step(1, Join, Is(Joined)),
-        Step(1, Bits(&[0x00], 3), Is(Noted(false))),
-        Step(1, Unchoke, Is(Quiet)),
-        Step(1, Next(0), Is(NothingLeft)),
-    ],
-    wrong: &[(
-        8,
-        Step(0, Arrived(0, 1, &[0x62, 0x63]), Is(Refused(WrongLength))),
-    )],
-};
-
-pub const WRONG_COUNT: Example = Example {
-    piece_length: 3,
-    total: 7,
-    hashes: &[ABC, ABC, A],
-    workers: 1,
-    rules: Rules {
+    // wrong count
+    Example {
+        torrent: "3 7 abc abc a",
+        workers: 1,
         depth: 5,
         random: 1,
+        lines: "0 join = joined\n\
+            0 no-bits-of 4 = refused WrongCount\n\
+            0 bits e0 = noted yes",
+        wrong: &[(1, "0 no-bits-of 4 = noted no")],
     },
-    steps: &[
-        Step(0, Join, Is(Joined)),
-        Step(0, Bits(&[0x00], 4), Is(Refused(WrongCount))),
-        Step(0, Bits(&[0xe0], 3), Is(Noted(true))),
-    ],
-    wrong: &[(1, Step(0, Bits(&[0x00], 4), Is(Noted(false))))],
-};
-
-pub const STALE_VERDICT: Example = Example {
-    piece_length: 3,
-    total: 7,
-    hashes: &[ABC, ABC, A],
-    workers: 1,
-    rules: Rules {
+    // stale verdict
+    Example {
+        torrent: "3 7 abc abc a",
+        workers: 1,
         depth: 5,
         random: 1,
+        lines: "0 join = joined\n\
+            0 block 0 0 abd = completed\n\
+            0 settle 0 abd = failed\n\
+            0 block 0 0 abc = completed\n\
+            0 settle 0 abd = refused Stale\n\
+            0 settle 0 abc = had\n\
+            0 settle 0 abc = refused NotWaiting\n\
+            0 settle 9 a = refused NoSuchPiece\n\
+            0 choke = quiet\n\
+            0 leave = quiet",
+        wrong: &[(4, "0 settle 0 abd = failed")],
     },
-    steps: &[
-        Step(0, Join, Is(Joined)),
-        Step(0, Arrived(0, 0, &[0x61, 0x62, 0x64]), Is(Completed)),
-        Step(0, Settle(0, &[0x61, 0x62, 0x64]), Is(Failed)),
-        Step(0, Arrived(0, 0, &[0x61, 0x62, 0x63]), Is(Completed)),
-        Step(0, Settle(0, &[0x61, 0x62, 0x64]), Is(Refused(Stale))),
-        Step(0, Settle(0, &[0x61, 0x62, 0x63]), Is(Had)),
-        Step(0, Settle(0, &[0x61, 0x62, 0x63]), Is(Refused(NotWaiting))),
-        Step(0, Settle(9, &[0x61]), Is(Refused(NoSuchPiece))),
-        Step(0, Choke, Is(Quiet)),
-        Step(0, Leave, Is(Quiet)),
-    ],
-    wrong: &[(4, Step(0, Settle(0, &[0x61, 0x62, 0x64]), Is(Failed)))],
-};
-
-pub const RANDOM_FIRST_PIECE: Example = Example {
-    piece_length: 3,
-    total: 7,
-    hashes: &[ABC, ABC, A],
-    workers: 2,
-    rules: Rules {
+    // random first piece
+    Example {
+        torrent: "3 7 abc abc a",
+        workers: 2,
         depth: 5,
         random: 1,
+        lines: "0 join = joined\n\
+            0 bits e0 = noted yes\n\
+            0 unchoke = quiet\n\
+            1 join = joined\n\
+            1 bits c0 = noted yes\n\
+            0 next 1 = request 1 0 3",
+        wrong: &[(5, "0 next 1 = idle")],
     },
-    steps: &[
-        Step(0, Join, Is(Joined)),
-        Step(0, Bits(&[0xe0], 3), Is(Noted(true))),
-        Step(0, Unchoke, Is(Quiet)),
-        Step(1, Join, Is(Joined)),
-        Step(1, Bits(&[0xc0], 3), Is(Noted(true))),
-        Step(0, Next(1), Request(1, 0, 3)),
-    ],
-    wrong: &[(5, Step(0, Next(1), Is(Idle)))],
-};
-
-pub const RARE_FIRST_PIECE_TOO: Example = Example {
-    piece_length: 3,
-    total: 7,
-    hashes: &[ABC, ABC, A],
-    workers: 2,
-    rules: Rules {
+    // rare first piece too
+    Example {
+        torrent: "3 7 abc abc a",
+        workers: 2,
         depth: 5,
         random: 1,
+        lines: "0 join = joined\n\
+            0 bits e0 = noted yes\n\
+            0 unchoke = quiet\n\
+            1 join = joined\n\
+            1 bits c0 = noted yes\n\
+            0 next 1 = request 2 0 1",
+        wrong: &[(5, "0 next 1 = pipefull")],
     },
-    steps: &[
-        Step(0, Join, Is(Joined)),
-        Step(0, Bits(&[0xe0], 3), Is(Noted(true))),
-        Step(0, Unchoke, Is(Quiet)),
-        Step(1, Join, Is(Joined)),
-        Step(1, Bits(&[0xc0], 3), Is(Noted(true))),
-        Step(0, Next(1), Request(2, 0, 1)),
-    ],
-    wrong: &[(5, Step(0, Next(1), Is(PipeFull)))],
-};
-
-pub const STRICT_PRIORITY: Example = Example {
-    piece_length: 32768,
-    total: 65536,
-    hashes: &[ABC, ABC],
-    workers: 1,
-    rules: Rules {
+    // strict priority
+    Example {
+        torrent: "32768 65536 abc abc",
+        workers: 1,
         depth: 5,
         random: 1,
+        lines: "0 join = joined\n\
+            0 bits c0 = noted yes\n\
+            0 unchoke = quiet\n\
+            0 next 0 = request 0 0 16384\n\
+            0 next 1 = request 0 16384 16384\n\
+            0 next 1 = request 1 0 16384",
+        wrong: &[(4, "0 next 1 = request 1 0 16384")],
     },
-    steps: &[
-        Step(0, Join, Is(Joined)),
-        Step(0, Bits(&[0xc0], 2), Is(Noted(true))),
-        Step(0, Unchoke, Is(Quiet)),
-        Step(0, Next(0), Request(0, 0, 16384)),
-        Step(0, Next(1), Request(0, 16384, 16384)),
-        Step(0, Next(1), Request(1, 0, 16384)),
-    ],
-    wrong: &[(4, Step(0, Next(1), Request(1, 0, 16384)))],
-};
-
-pub const GONE_PEER_NOT_COUNTED: Example = Example {
-    piece_length: 3,
-    total: 7,
-    hashes: &[ABC, ABC, A],
-    workers: 3,
-    rules: Rules {
+    // gone peer not counted
+    Example {
+        torrent: "3 7 abc abc a",
+        workers: 3,
         depth: 5,
         random: 1,
+        lines: "0 join = joined\n\
+            0 bits e0 = noted yes\n\
+            1 join = joined\n\
+            1 bits 80 = noted yes\n\
+            2 join = joined\n\
+            2 bits 40 = noted yes\n\
+            1 leave = quiet\n\
+            0 unchoke = quiet\n\
+            0 next 2 = request 2 0 1\n\
+            0 block 2 0 a = completed\n\
+            0 settle 2 a = had\n\
+            0 next 1 = request 0 0 3",
+        wrong: &[(11, "0 next 1 = request 1 0 3")],
     },
-    steps: &[
-        Step(0, Join, Is(Joined)),
-        Step(0, Bits(&[0xe0], 3), Is(Noted(true))),
-        Step(1, Join, Is(Joined)),
-        Step(1, Bits(&[0x80], 3), Is(Noted(true))),
-        Step(2, Join, Is(Joined)),
-        Step(2, Bits(&[0x40], 3), Is(Noted(true))),
-        Step(1, Leave, Is(Quiet)),
-        Step(0, Unchoke, Is(Quiet)),
-        Step(0, Next(2), Request(2, 0, 1)),
-        Step(0, Arrived(2, 0, &[0x61]), Is(Completed)),
-        Step(0, Settle(2, &[0x61]), Is(Had)),
-        Step(0, Next(1), Request(0, 0, 3)),
-    ],
-    wrong: &[(11, Step(0, Next(1), Request(1, 0, 3)))],
-};
-
-pub const REJOIN_IN_ENDGAME: Example = Example {
-    piece_length: 3,
-    total: 3,
-    hashes: &[ABC],
-    workers: 2,
-    rules: Rules {
+    // rejoin in endgame
+    Example {
+        torrent: "3 3 abc",
+        workers: 2,
         depth: 5,
         random: 1,
+        lines: "0 join = joined\n\
+            0 bits 80 = noted yes\n\
+            0 unchoke = quiet\n\
+            1 join = joined\n\
+            1 bits 80 = noted yes\n\
+            1 unchoke = quiet\n\
+            0 next 0 = request 0 0 3\n\
+            1 next 0 = request 0 0 3\n\
+            0 leave = quiet\n\
+            0 join = joined\n\
+            0 next 0 = choked\n\
+            1 block 0 0 abd = completed\n\
+            1 settle 0 abd = failed\n\
+            0 bits 80 = noted yes\n\
+            0 unchoke = quiet\n\
+            0 next 0 = request 0 0 3",
+        wrong: &[(10, "0 next 0 = request 0 0 3")],
     },
-    steps: &[
-        Step(0, Join, Is(Joined)),
-        Step(0, Bits(&[0x80], 1), Is(Noted(true))),
-        Step(0, Unchoke, Is(Quiet)),
-        Step(1, Join, Is(Joined)),
-        Step(1, Bits(&[0x80], 1), Is(Noted(true))),
-        Step(1, Unchoke, Is(Quiet)),
-        Step(0, Next(0), Request(0, 0, 3)),
-        Step(1, Next(0), Request(0, 0, 3)),
-        Step(0, Leave, Is(Quiet)),
-        Step(0, Join, Is(Joined)),
-        Step(0, Next(0), Is(Choked)),
-        Step(1, Arrived(0, 0, &[0x61, 0x62, 0x64]), Is(Completed)),
-        Step(1, Settle(0, &[0x61, 0x62, 0x64]), Is(Failed)),
-        Step(0, Bits(&[0x80], 1), Is(Noted(true))),
-        Step(0, Unchoke, Is(Quiet)),
-        Step(0, Next(0), Request(0, 0, 3)),
-    ],
-    wrong: &[(10, Step(0, Next(0), Request(0, 0, 3)))],
-};
-
-pub const DEPTH_TWO: Example = Example {
-    piece_length: 1000000,
-    total: 1000000,
-    hashes: &[MILLION],
-    workers: 1,
-    rules: Rules {
+    // depth two
+    Example {
+        torrent: "1000000 1000000 million",
+        workers: 1,
         depth: 2,
         random: 1,
+        lines: "0 join = joined\n\
+            0 bits 80 = noted yes\n\
+            0 unchoke = quiet\n\
+            0 next 0 = request 0 0 16384\n\
+            0 next 0 = request 0 16384 16384\n\
+            0 next 0 = pipefull",
+        wrong: &[
+            (5, "0 next 0 = request 0 32768 16384"),
+            (4, "0 next 0 = pipefull"),
+        ],
     },
-    steps: &[
-        Step(0, Join, Is(Joined)),
-        Step(0, Bits(&[0x80], 1), Is(Noted(true))),
-        Step(0, Unchoke, Is(Quiet)),
-        Step(0, Next(0), Request(0, 0, 16384)),
-        Step(0, Next(0), Request(0, 16384, 16384)),
-        Step(0, Next(0), Is(PipeFull)),
-    ],
-    wrong: &[
-        (5, Step(0, Next(0), Request(0, 32768, 16384))),
-        (4, Step(0, Next(0), Is(PipeFull))),
-    ],
-};
-
-pub const DEEP_PIPE: Example = Example {
-    piece_length: 1000000,
-    total: 1000000,
-    hashes: &[MILLION],
-    workers: 1,
-    rules: Rules {
+    // deep pipe
+    Example {
+        torrent: "1000000 1000000 million",
+        workers: 1,
         depth: 64,
         random: 1,
+        lines: "0 join = joined\n\
+            0 bits 80 = noted yes\n\
+            0 unchoke = quiet\n\
+            0 next 0 = request 0 0 16384\n\
+            0 next 0 = request 0 16384 16384\n\
+            0 next 0 = request 0 32768 16384\n\
+            0 next 0 = request 0 49152 16384\n\
+            0 next 0 = request 0 65536 16384\n\
+            0 next 0 = request 0 81920 16384\n\
+            0 next 0 = request 0 98304 16384\n\
+            0 next 0 = request 0 114688 16384",
+        wrong: &[(8, "0 next 0 = pipefull")],
     },
-    steps: &[
-        Step(0, Join, Is(Joined)),
-        Step(0, Bits(&[0x80], 1), Is(Noted(true))),
-        Step(0, Unchoke, Is(Quiet)),
-        Step(0, Next(0), Request(0, 0, 16384)),
-        Step(0, Next(0), Request(0, 16384, 16384)),
-        Step(0, Next(0), Request(0, 32768, 16384)),
-        Step(0, Next(0), Request(0, 49152, 16384)),
-        Step(0, Next(0), Request(0, 65536, 16384)),
-        Step(0, Next(0), Request(0, 81920, 16384)),
-        Step(0, Next(0), Request(0, 98304, 16384)),
-        Step(0, Next(0), Request(0, 114688, 16384)),
-    ],
-    wrong: &[(8, Step(0, Next(0), Is(PipeFull)))],
-};
-
-pub const RAREST_FROM_THE_START: Example = Example {
-    piece_length: 3,
-    total: 7,
-    hashes: &[ABC, ABC, A],
-    workers: 2,
-    rules: Rules {
+    // rarest from the start
+    Example {
+        torrent: "3 7 abc abc a",
+        workers: 2,
         depth: 5,
         random: 0,
+        lines: "0 join = joined\n\
+            0 bits e0 = noted yes\n\
+            0 unchoke = quiet\n\
+            1 join = joined\n\
+            1 bits c0 = noted yes\n\
+            0 next 1 = request 2 0 1",
+        wrong: &[(5, "0 next 1 = request 1 0 3")],
     },
-    steps: &[
-        Step(0, Join, Is(Joined)),
-        Step(0, Bits(&[0xe0], 3), Is(Noted(true))),
-        Step(0, Unchoke, Is(Quiet)),
-        Step(1, Join, Is(Joined)),
-        Step(1, Bits(&[0xc0], 3), Is(Noted(true))),
-        Step(0, Next(1), Request(2, 0, 1)),
-    ],
-    wrong: &[(5, Step(0, Next(1), Request(1, 0, 3)))],
-};
-
-pub const SECOND_PIECE_AT_RANDOM: Example = Example {
-    piece_length: 3,
-    total: 7,
-    hashes: &[ABC, ABC, A],
-    workers: 2,
-    rules: Rules {
+    // second piece at random
+    Example {
+        torrent: "3 7 abc abc a",
+        workers: 2,
         depth: 5,
         random: 2,
+        lines: "0 join = joined\n\
+            0 bits e0 = noted yes\n\
+            1 join = joined\n\
+            1 bits 40 = noted yes\n\
+            0 unchoke = quiet\n\
+            0 next 2 = request 2 0 1\n\
+            0 block 2 0 a = completed\n\
+            0 settle 2 a = had\n\
+            0 next 1 = request 1 0 3",
+        wrong: &[(8, "0 next 1 = idle")],
     },
-    steps: &[
-        Step(0, Join, Is(Joined)),
-        Step(0, Bits(&[0xe0], 3), Is(Noted(true))),
-        Step(1, Join, Is(Joined)),
-        Step(1, Bits(&[0x40], 3), Is(Noted(true))),
-        Step(0, Unchoke, Is(Quiet)),
-        Step(0, Next(2), Request(2, 0, 1)),
-        Step(0, Arrived(2, 0, &[0x61]), Is(Completed)),
-        Step(0, Settle(2, &[0x61]), Is(Had)),
-        Step(0, Next(1), Request(1, 0, 3)),
-    ],
-    wrong: &[(8, Step(0, Next(1), Is(Idle)))],
-};
-
-pub const RAREST_AFTER_TWO_PIECES: Example = Example {
-    piece_length: 3,
-    total: 12,
-    hashes: &[ABC, ABC, ABC, ABC],
-    workers: 2,
-    rules: Rules {
+    // rarest after two pieces
+    Example {
+        torrent: "3 12 abc abc abc abc",
+        workers: 2,
         depth: 5,
         random: 2,
+        lines: "0 join = joined\n\
+            0 bits f0 = noted yes\n\
+            0 unchoke = quiet\n\
+            1 join = joined\n\
+            1 bits 30 = noted yes\n\
+            0 next 0 = request 0 0 3\n\
+            0 block 0 0 abc = completed\n\
+            0 settle 0 abc = had\n\
+            0 next 2 = request 2 0 3\n\
+            0 block 2 0 abc = completed\n\
+            0 settle 2 abc = had\n\
+            0 next 3 = request 1 0 3",
+        wrong: &[(11, "0 next 3 = request 3 0 3")],
     },
-    steps: &[
-        Step(0, Join, Is(Joined)),
-        Step(0, Bits(&[0xf0], 4), Is(Noted(true))),
-        Step(0, Unchoke, Is(Quiet)),
-        Step(1, Join, Is(Joined)),
-        Step(1, Bits(&[0x30], 4), Is(Noted(true))),
-        Step(0, Next(0), Request(0, 0, 3)),
-        Step(0, Arrived(0, 0, &[0x61, 0x62, 0x63]), Is(Completed)),
-        Step(0, Settle(0, &[0x61, 0x62, 0x63]), Is(Had)),
-        Step(0, Next(2), Request(2, 0, 3)),
-        Step(0, Arrived(2, 0, &[0x61, 0x62, 0x63]), Is(Completed)),
-        Step(0, Settle(2, &[0x61, 0x62, 0x63]), Is(Had)),
-        Step(0, Next(3), Request(1, 0, 3)),
-    ],
-    wrong: &[(11, Step(0, Next(3), Request(3, 0, 3)))],
-};
-
-pub const WANTS: Example = Example {
-    piece_length: 3,
-    total: 7,
-    hashes: &[ABC, ABC, A],
-    workers: 2,
-    rules: Rules {
+    // wants
+    Example {
+        torrent: "3 7 abc abc a",
+        workers: 2,
         depth: 5,
         random: 1,
+        lines: "1 want 40 = quiet\n\
+            0 join = joined\n\
+            0 bits e0 = noted yes\n\
+            0 unchoke = quiet\n\
+            0 next 0 = request 1 0 3\n\
+            0 next 0 = idle\n\
+            0 want a0 = quiet\n\
+            0 next 0 = request 0 0 3\n\
+            0 want 00 = quiet\n\
+            0 next 0 = nothing\n\
+            0 block 1 0 abc = completed\n\
+            0 settle 1 abc = had\n\
+            0 want 40 = quiet\n\
+            0 have 2 = noted no\n\
+            1 want-none-of 4 = refused WrongCount",
+        wrong: &[
+            (5, "0 next 0 = request 0 0 3"),
+            (9, "0 next 0 = request 2 0 1"),
+            (9, "0 next 0 = idle"),
+            (13, "0 have 2 = noted yes"),
+            (0, "1 want 40 = refused NotJoined"),
+            (14, "1 want-none-of 4 = quiet"),
+        ],
     },
-    steps: &[
-        Step(1, Want(&[0x40], 3), Is(Quiet)),
-        Step(0, Join, Is(Joined)),
-        Step(0, Bits(&[0xe0], 3), Is(Noted(true))),
-        Step(0, Unchoke, Is(Quiet)),
-        Step(0, Next(0), Request(1, 0, 3)),
-        Step(0, Next(0), Is(Idle)),
-        Step(0, Want(&[0xa0], 3), Is(Quiet)),
-        Step(0, Next(0), Request(0, 0, 3)),
-        Step(0, Want(&[0x00], 3), Is(Quiet)),
-        Step(0, Next(0), Is(NothingLeft)),
-        Step(0, Arrived(1, 0, &[0x61, 0x62, 0x63]), Is(Completed)),
-        Step(0, Settle(1, &[0x61, 0x62, 0x63]), Is(Had)),
-        Step(0, Want(&[0x40], 3), Is(Quiet)),
-        Step(0, Have(2), Is(Noted(false))),
-        Step(1, Want(&[0x00], 4), Is(Refused(WrongCount))),
-    ],
-    wrong: &[
-        (5, Step(0, Next(0), Request(0, 0, 3))),
-        (9, Step(0, Next(0), Request(2, 0, 1))),
-        (9, Step(0, Next(0), Is(Idle))),
-        (13, Step(0, Have(2), Is(Noted(true)))),
-        (0, Step(1, Want(&[0x40], 3), Is(Refused(NotJoined)))),
-        (14, Step(1, Want(&[0x00], 4), Is(Quiet))),
-    ],
-};
-
-pub const ENDGAME_OF_THE_WANTED: Example = Example {
-    piece_length: 3,
-    total: 6,
-    hashes: &[ABC, ABC],
-    workers: 2,
-    rules: Rules {
+    // endgame of the wanted
+    Example {
+        torrent: "3 6 abc abc",
+        workers: 2,
         depth: 5,
         random: 1,
+        lines: "0 join = joined\n\
+            0 bits c0 = noted yes\n\
+            0 unchoke = quiet\n\
+            1 join = joined\n\
+            1 bits c0 = noted yes\n\
+            1 unchoke = quiet\n\
+            0 next 0 = request 0 0 3\n\
+            1 want 80 = quiet\n\
+            1 next 0 = request 0 0 3\n\
+            1 want c0 = quiet\n\
+            0 next 0 = request 1 0 3",
+        wrong: &[(8, "1 next 0 = idle")],
     },
-    steps: &[
-        Step(0, Join, Is(Joined)),
-        Step(0, Bits(&[0xc0], 2), Is(Noted(true))),
-        Step(0, Unchoke, Is(Quiet)),
-        Step(1, Join, Is(Joined)),
-        Step(1, Bits(&[0xc0], 2), Is(Noted(true))),
-        Step(1, Unchoke, Is(Quiet)),
-        Step(0, Next(0), Request(0, 0, 3)),
-        Step(1, Want(&[0x80], 2), Is(Quiet)),
-        Step(1, Next(0), Request(0, 0, 3)),
-        Step(1, Want(&[0xc0], 2), Is(Quiet)),
-        Step(0, Next(0), Request(1, 0, 3)),
-    ],
-    wrong: &[(8, Step(1, Next(0), Is(Idle)))],
-};
-
-pub const WANT_BEFORE_THE_BITS: Example = Example {
-    piece_length: 3,
-    total: 7,
-    hashes: &[ABC, ABC, A],
-    workers: 1,
-    rules: Rules {
+    // want before the bits
+    Example {
+        torrent: "3 7 abc abc a",
+        workers: 1,
         depth: 5,
         random: 1,
+        lines: "0 join = joined\n\
+            0 want 40 = quiet\n\
+            0 bits e0 = noted yes",
+        wrong: &[(2, "0 bits e0 = refused LateBits")],
     },
-    steps: &[
-        Step(0, Join, Is(Joined)),
-        Step(0, Want(&[0x40], 3), Is(Quiet)),
-        Step(0, Bits(&[0xe0], 3), Is(Noted(true))),
-    ],
-    wrong: &[(2, Step(0, Bits(&[0xe0], 3), Is(Refused(LateBits))))],
-};
-
-pub const ASKED_STAYS_ASKED: Example = Example {
-    piece_length: 3,
-    total: 6,
-    hashes: &[ABC, ABC],
-    workers: 2,
-    rules: Rules {
+    // asked stays asked
+    Example {
+        torrent: "3 6 abc abc",
+        workers: 2,
         depth: 5,
         random: 1,
+        lines: "0 join = joined\n\
+            0 bits c0 = noted yes\n\
+            0 unchoke = quiet\n\
+            1 join = joined\n\
+            1 bits c0 = noted yes\n\
+            1 unchoke = quiet\n\
+            0 next 0 = request 0 0 3\n\
+            0 want 40 = quiet\n\
+            0 next 0 = request 1 0 3\n\
+            0 want c0 = quiet\n\
+            1 next 0 = request 0 0 3\n\
+            0 block 0 0 abc = completed\n\
+            1 next 0 = cancel 0 0 3",
+        wrong: &[(10, "0 next 0 = request 0 0 3")],
     },
-    steps: &[
-        Step(0, Join, Is(Joined)),
-        Step(0, Bits(&[0xc0], 2), Is(Noted(true))),
-        Step(0, Unchoke, Is(Quiet)),
-        Step(1, Join, Is(Joined)),
-        Step(1, Bits(&[0xc0], 2), Is(Noted(true))),
-        Step(1, Unchoke, Is(Quiet)),
-        Step(0, Next(0), Request(0, 0, 3)),
-        Step(0, Want(&[0x40], 2), Is(Quiet)),
-        Step(0, Next(0), Request(1, 0, 3)),
-        Step(0, Want(&[0xc0], 2), Is(Quiet)),
-        Step(1, Next(0), Request(0, 0, 3)),
-        Step(0, Arrived(0, 0, &[0x61, 0x62, 0x63]), Is(Completed)),
-        Step(1, Next(0), Cancel(0, 0, 3)),
-    ],
-    wrong: &[(10, Step(0, Next(0), Request(0, 0, 3)))],
-};
-
-/// Those by the usual rules.
-pub const BY_USUAL_RULES: &[Example] = &[
-    FIRST_REQUEST,
-    ANOTHER_FIRST_REQUEST,
-    ONE_PEER_TO_THE_END,
-    RAREST_FIRST,
-    FULL_PIPE,
-    CHOKE_FREES,
-    CANCEL_IN_ENDGAME,
-    NO_DOUBLE_BEFORE_ENDGAME,
-    DOUBLE_OUTLASTS_ENDGAME,
-    FAILED_CHECK,
-    FAILED_CHECK_IN_ENDGAME,
-    HELD_BLOCK_DROPPED,
-    BLOCK_BY_BLOCK,
-    REFUSALS,
-    WRONG_COUNT,
-    STALE_VERDICT,
-    RANDOM_FIRST_PIECE,
-    RARE_FIRST_PIECE_TOO,
-    STRICT_PRIORITY,
-    GONE_PEER_NOT_COUNTED,
-    REJOIN_IN_ENDGAME,
-];
-
-/// Those by other rules.
-pub const BY_OTHER_RULES: &[Example] = &[
-    DEPTH_TWO,
-    DEEP_PIPE,
-    RAREST_FROM_THE_START,
-    SECOND_PIECE_AT_RANDOM,
-    RAREST_AFTER_TWO_PIECES,
-];
-
-/// Those in which not all pieces are wanted.
-pub const OF_WANTS: &[Example] = &[
-    WANTS,
-    ENDGAME_OF_THE_WANTED,
-    WANT_BEFORE_THE_BITS,
-    ASKED_STAYS_ASKED,
 ];

@@ -1,9 +1,5 @@
 //! How a swarm stands: the unbegun pieces by availability, and the blocks that are yet to be asked.
 use super::played::Played;
-use super::steps::Said::*;
-use super::steps::Step;
-use super::steps::Told::*;
-use bt_picker::Reply::{Completed, Joined, Noted, Quiet};
 use std::process::Abort;
 use std::test::*;
 
@@ -17,7 +13,7 @@ fn stands(rt: &impl Abort, played: &Played, groups: [&[u32]; 3], unasked: u64) -
             assert!(rt; group.contains(piece));
         }
     }
-    assert_eq!(rt; played.desk().unasked(), unasked);
+    assert_eq!(rt; played.unasked(), unasked);
     Ok(())
 }
 
@@ -25,23 +21,19 @@ fn stands(rt: &impl Abort, played: &Played, groups: [&[u32]; 3], unasked: u64) -
 fn as_pieces_begin(rt: HostRuntime) -> Result<(), Fail> {
     let alloc = rt.alloc();
     let mut played = Played::new(&rt, alloc)?;
-    let steps = [
-        Step(0, Join, Is(Joined)),
-        Step(0, Bits(&[0xe0], 3), Is(Noted(true))),
-        Step(1, Join, Is(Joined)),
-        Step(1, Bits(&[0x40], 3), Is(Noted(true))),
-    ];
-    played.play(&rt, alloc, &steps)?;
+    let steps = "0 join = joined\n\
+        0 bits e0 = noted yes\n\
+        1 join = joined\n\
+        1 bits 40 = noted yes";
+    played.play(&rt, alloc, steps)?;
     stands(&rt, &played, [&[], &[0, 2], &[1]], 3)?;
-    let steps = [
-        Step(0, Unchoke, Is(Quiet)),
-        Step(0, Next(2), Request(2, 0, 1)),
-    ];
-    played.play(&rt, alloc, &steps)?;
+    let steps = "0 unchoke = quiet\n\
+        0 next 2 = request 2 0 1";
+    played.play(&rt, alloc, steps)?;
     stands(&rt, &played, [&[], &[0], &[1]], 2)?;
-    played.play(&rt, alloc, &[Step(0, Arrived(2, 0, b"a"), Is(Completed))])?;
+    played.play(&rt, alloc, "0 block 2 0 a = completed")?;
     played.settle(&rt, alloc, 0, 2)?;
-    played.play(&rt, alloc, &[Step(0, Next(1), Request(0, 0, 3))])?;
+    played.play(&rt, alloc, "0 next 1 = request 0 0 3")?;
     stands(&rt, &played, [&[], &[], &[1]], 1)
 }
 
@@ -49,17 +41,15 @@ fn as_pieces_begin(rt: HostRuntime) -> Result<(), Fail> {
 fn as_a_peer_leaves(rt: HostRuntime) -> Result<(), Fail> {
     let alloc = rt.alloc();
     let mut played = Played::new(&rt, alloc)?;
-    let steps = [
-        Step(0, Join, Is(Joined)),
-        Step(0, Bits(&[0xe0], 3), Is(Noted(true))),
-        Step(1, Join, Is(Joined)),
-        Step(1, Bits(&[0x80], 3), Is(Noted(true))),
-        Step(2, Join, Is(Joined)),
-        Step(2, Bits(&[0x40], 3), Is(Noted(true))),
-    ];
-    played.play(&rt, alloc, &steps)?;
+    let steps = "0 join = joined\n\
+        0 bits e0 = noted yes\n\
+        1 join = joined\n\
+        1 bits 80 = noted yes\n\
+        2 join = joined\n\
+        2 bits 40 = noted yes";
+    played.play(&rt, alloc, steps)?;
     stands(&rt, &played, [&[], &[2], &[0, 1]], 3)?;
-    played.play(&rt, alloc, &[Step(1, Leave, Is(Quiet))])?;
+    played.play(&rt, alloc, "1 leave = quiet")?;
     stands(&rt, &played, [&[], &[0, 2], &[1]], 3)
 }
 
@@ -67,13 +57,11 @@ fn as_a_peer_leaves(rt: HostRuntime) -> Result<(), Fail> {
 fn as_pieces_are_wanted(rt: HostRuntime) -> Result<(), Fail> {
     let alloc = rt.alloc();
     let mut played = Played::new(&rt, alloc)?;
-    let steps = [
-        Step(0, Join, Is(Joined)),
-        Step(0, Bits(&[0xe0], 3), Is(Noted(true))),
-        Step(3, Want(&[0x40], 3), Is(Quiet)),
-    ];
-    played.play(&rt, alloc, &steps)?;
+    let steps = "0 join = joined\n\
+        0 bits e0 = noted yes\n\
+        3 want 40 = quiet";
+    played.play(&rt, alloc, steps)?;
     stands(&rt, &played, [&[], &[1], &[]], 1)?;
-    played.play(&rt, alloc, &[Step(3, Want(&[0xa0], 3), Is(Quiet))])?;
+    played.play(&rt, alloc, "3 want a0 = quiet")?;
     stands(&rt, &played, [&[], &[0, 2], &[]], 2)
 }

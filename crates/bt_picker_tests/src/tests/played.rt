@@ -3,21 +3,24 @@
 ghost use Rattle.std.specs.Prelude.{◌≡◌, IfOk};
 ghost use Rattle.bt_meta.specs.Layout.{piece_count};
 
-use super::examples::FIRST_REQUEST;
-use super::steps::Step;
-use bt_meta::Torrent;
+use super::steps::{entry_of, torrent_of};
+use bt_meta::{Sink, Torrent};
 use bt_picker::*;
 use std::alloc::Global;
 use std::process::Abort;
 use std::sync::Arc;
 use std::test::*;
 
+const PIECES: u32 = 3;
+
+const WORKERS: u32 = 4;
+
 /// Pieces `abc`, `abc` and `a`.
 pub fn three_pieces(rt: &impl Abort, alloc: Global) -> Result<Torrent, Fail>
     ensures { IfOk result (λ torrent. piece_count torrent.layout ≡ 3) }
 {
-    let torrent = FIRST_REQUEST.torrent(alloc)?;
-    assert!(rt; torrent.piece_count() == 3);
+    let torrent = torrent_of(alloc, "3 7 abc abc a")?;
+    assert!(rt; torrent.piece_count() == PIECES);
     Ok(torrent)
 }
 
@@ -37,25 +40,30 @@ impl Played {
     pub fn new(rt: &impl Abort, alloc: Global) -> Result<Played, Fail> {
         let torrent = Arc::new(alloc, three_pieces(rt, alloc)?)?;
         Ok(Played {
-            desk: Desk::new(alloc, torrent, 4, Rules::usual())?,
+            desk: Desk::new(alloc, torrent, WORKERS, Rules::usual())?,
         })
     }
 
-    pub fn desk(&self) -> &Desk {
-        &self.desk
-    }
-
-    /// Plays the steps: each reply is as its step says.
-    pub fn play(&mut self, rt: &impl Abort, alloc: Global, steps: &[Step]) -> Result<(), Fail> {
-        for Step(worker, told, said) in steps {
-            let reply = self.call(rt, *worker, told.call(alloc)?)?;
-            assert_eq!(rt; reply, said.reply());
+    /// Plays the lines: each reply is as its line says.
+    pub fn play(
+        &mut self,
+        rt: &impl Abort,
+        alloc: Global,
+        lines: &'static str,
+    ) -> Result<(), Fail> {
+        for line in lines.lines() {
+            let Entry {
+                worker,
+                call,
+                reply,
+            } = entry_of(alloc, PIECES, line)?;
+            assert_eq!(rt; self.call(rt, worker, call)?, reply, "{line}");
         }
         Ok(())
     }
 
     pub fn call(&mut self, rt: &impl Abort, worker: u32, call: Call) -> Result<Reply, Fail> {
-        assert!(rt; worker < 4);
+        assert!(rt; worker < WORKERS);
         Ok(self.desk.call(worker, call)?)
     }
 
@@ -67,7 +75,7 @@ impl Played {
         worker: u32,
         piece: u32,
     ) -> Result<Reply, Fail> {
-        assert!(rt; worker < 4);
+        assert!(rt; worker < WORKERS);
         Ok(self.desk.settle_now(alloc, worker, piece)?)
     }
 
@@ -80,33 +88,53 @@ impl Played {
     }
 
     pub fn finish(&mut self, rt: &impl Abort, alloc: Global, worker: u32) -> Result<(), Fail> {
-        assert!(rt; worker < 4);
+        assert!(rt; worker < WORKERS);
         self.desk.finish(alloc, worker)?;
         Ok(())
     }
 
     pub fn had(&self, rt: &impl Abort, piece: u32) -> bool {
-        assert!(rt; piece < 3);
+        assert!(rt; piece < PIECES);
         self.desk.had(piece)
     }
 
     pub fn wanted(&self, rt: &impl Abort, piece: u32) -> bool {
-        assert!(rt; piece < 3);
+        assert!(rt; piece < PIECES);
         self.desk.wanted(piece)
     }
 
     pub fn availability(&self, rt: &impl Abort, piece: u32) -> u32 {
-        assert!(rt; piece < 3);
+        assert!(rt; piece < PIECES);
         self.desk.availability(piece)
     }
 
     pub fn outstanding(&self, rt: &impl Abort, worker: u32) -> usize {
-        assert!(rt; worker < 4);
+        assert!(rt; worker < WORKERS);
         self.desk.outstanding(worker).len()
     }
 
     pub fn group(&self, rt: &impl Abort, shown_by: u32) -> &[u32] {
-        assert!(rt; shown_by <= 4);
+        assert!(rt; shown_by <= WORKERS);
         self.desk.group(shown_by)
+    }
+
+    pub fn entries(&self) -> usize {
+        self.desk.journal().len()
+    }
+
+    pub fn unasked(&self) -> u64 {
+        self.desk.unasked()
+    }
+
+    pub fn has_wanted(&self) -> bool {
+        self.desk.has_wanted()
+    }
+
+    pub fn is_complete(&self) -> bool {
+        self.desk.is_complete()
+    }
+
+    pub fn write<W: Sink>(&self, writer: &mut W) -> Result<(), ContentFault> {
+        self.desk.write_content(writer)
     }
 }

@@ -1,122 +1,183 @@
-//! Histories as data.
+//! Histories as texts: a line for each call, `WORKER CALL = REPLY`, as in the program's scripts. Bytes are spelled as text; `whole` is a
+//! block of 16 KiB; `settle PIECE BYTES` is the verdict of these bytes; a reason is told by its name.
+
 use bt_meta::{Bitfield, Block, Torrent};
 use bt_picker::*;
 use bytes::Bytes;
 use std::alloc::Global;
+use std::str::Split;
 use std::sync::Arc;
 use std::test::Fail;
 
 /// The SHA-1 of `abc` (FIPS 180-4, the first worked example).
-pub const ABC: [u8; 20] = [
+const ABC: [u8; 20] = [
     0xa9, 0x99, 0x3e, 0x36, 0x47, 0x06, 0x81, 0x6a, 0xba, 0x3e, 0x25, 0x71, 0x78, 0x50, 0xc2, 0x6c,
     0x9c, 0xd0, 0xd8, 0x9d,
 ];
 
 /// The SHA-1 of `a`, by another program.
-pub const A: [u8; 20] = [
+const A: [u8; 20] = [
     0x86, 0xf7, 0xe4, 0x37, 0xfa, 0xa5, 0xa7, 0xfc, 0xe1, 0x5d, 0x1d, 0xdc, 0xb9, 0xea, 0xea, 0xea,
     0x37, 0x76, 0x67, 0xb8,
 ];
 
-/// A call, made of what stands in the program.
-#[derive(Clone, Copy)]
-pub enum Told {
-    Join,
-    /// The bitfield as on the wire, and of how many pieces it is.
-    Bits(&'static [u8], u32),
-    Have(u32),
-    Choke,
-    Unchoke,
-    Next(u64),
-    Arrived(u32, u32, &'static [u8]),
-    /// The piece and its bytes, in one block.
-    Settle(u32, &'static [u8]),
-    Leave,
-    /// The flags as on the wire, and of how many pieces they are.
-    Want(&'static [u8], u32),
+/// The SHA-1 of a million `a` (FIPS 180-4, the third worked example).
+const MILLION: [u8; 20] = [
+    0x34, 0xaa, 0x97, 0x3c, 0xd4, 0xc4, 0xda, 0xa4, 0xf6, 0x1e, 0xeb, 0x2b, 0xdb, 0xad, 0x27, 0x31,
+    0x65, 0x34, 0x01, 0x6f,
+];
+
+/// A whole block of `a`.
+const SIXTEENS: [u8; 16384] = [b'a'; 16384];
+
+/// A torrent's piece length, its length, and the content of each piece: `3 7 abc abc a`.
+pub fn torrent_of(alloc: Global, text: &'static str) -> Result<Torrent, Fail> {
+    let mut words = text.split(' ');
+    let piece_length = number(words.next())?;
+    let total = u64::from(number(words.next())?);
+    let mut hashes = Vec::new(alloc);
+    for word in words {
+        hashes.push(match word {
+            "abc" => ABC,
+            "a" => A,
+            _ => MILLION,
+        })?;
+    }
+    Ok(Torrent::of_parts(piece_length, total, hashes, [0; 20])?)
 }
 
-impl Told {
-    pub fn call(self, alloc: Global) -> Result<Call, Fail> {
-        Ok(match self {
-            Told::Join => Call::Join,
-            Told::Bits(wire, pieces) => Call::Bits(Bitfield::from_wire(alloc, wire, pieces)?),
-            Told::Have(piece) => Call::Have(piece),
-            Told::Choke => Call::Choke,
-            Told::Unchoke => Call::Unchoke,
-            Told::Next(word) => Call::Next(word),
-            Told::Arrived(piece, begin, bytes) => Call::Arrived {
-                piece,
-                begin,
-                bytes: Bytes::from_static(bytes),
-            },
-            Told::Settle(piece, bytes) => {
-                let blocks = vec![in alloc; Bytes::from_static(bytes)]?;
-                Call::Settle(Arc::new(alloc, Job { piece, blocks }.hash())?)
-            }
-            Told::Leave => Call::Leave,
-            Told::Want(wire, pieces) => Call::Want(Bitfield::from_wire(alloc, wire, pieces)?),
-        })
+/// The entry that a line tells, for a torrent of so many pieces.
+pub fn entry_of(alloc: Global, pieces: u32, line: &'static str) -> Result<Entry, Fail> {
+    let Some((call, reply)) = line.split_once(" = ") else {
+        return Err(Fail::from("a line without a reply"));
+    };
+    let mut words = call.split(' ');
+    let worker = number(words.next())?;
+    Ok(Entry {
+        worker,
+        call: call_of(alloc, pieces, &mut words)?,
+        reply: reply_of(reply)?,
+    })
+}
+
+fn number(word: Option<&str>) -> Result<u32, Fail> {
+    match word.unwrap_or("").parse::<u32>() {
+        Ok(number) => Ok(number),
+        Err(_) => Err(Fail::from("a number is missing")),
     }
 }
 
-/// A reply; a block by its piece, begin and length.
-#[derive(Clone, Copy)]
-pub enum Said {
-    Is(Reply),
-    Request(u32, u32, u32),
-    Cancel(u32, u32, u32),
-}
-
-impl Said {
-    pub fn reply(self) -> Reply {
-        match self {
-            Said::Is(reply) => reply,
-            Said::Request(piece, begin, len) => Reply::Request(Block { piece, begin, len }),
-            Said::Cancel(piece, begin, len) => Reply::Cancel(Block { piece, begin, len }),
-        }
+fn bytes_of(word: Option<&'static str>) -> Bytes {
+    match word {
+        Some("whole") => Bytes::from_static(&SIXTEENS),
+        Some(text) => Bytes::from_static(text.as_bytes()),
+        None => Bytes::new(),
     }
 }
 
-/// A worker, its call, and the reply.
-#[derive(Clone, Copy)]
-pub struct Step(pub u32, pub Told, pub Said);
-
-impl Step {
-    pub fn entry(self, alloc: Global) -> Result<Entry, Fail> {
-        let Step(worker, told, said) = self;
-        Ok(Entry {
-            worker,
-            call: told.call(alloc)?,
-            reply: said.reply(),
-        })
+/// A bitfield of up to eight pieces, spelled by its byte on the wire.
+fn flags_of(alloc: Global, pieces: u32, word: Option<&str>) -> Result<Bitfield, Fail> {
+    match u8::from_str_radix(word.unwrap_or(""), 16) {
+        Ok(byte) => Ok(Bitfield::from_wire(alloc, &[byte], pieces)?),
+        Err(_) => Err(Fail::from("a bitfield is missing")),
     }
 }
 
+fn call_of(alloc: Global, pieces: u32, words: &mut Split<'static, char>) -> Result<Call, Fail> {
+    Ok(match words.next().unwrap_or("") {
+        "join" => Call::Join,
+        "bits" => Call::Bits(flags_of(alloc, pieces, words.next())?),
+        "no-bits-of" => Call::Bits(Bitfield::empty(alloc, number(words.next())?)?),
+        "have" => Call::Have(number(words.next())?),
+        "choke" => Call::Choke,
+        "unchoke" => Call::Unchoke,
+        "next" => Call::Next(u64::from(number(words.next())?)),
+        "block" => Call::Arrived {
+            piece: number(words.next())?,
+            begin: number(words.next())?,
+            bytes: bytes_of(words.next()),
+        },
+        "settle" => Call::Settle(verdict_of(alloc, number(words.next())?, words.next())?),
+        "leave" => Call::Leave,
+        "want" => Call::Want(flags_of(alloc, pieces, words.next())?),
+        "want-none-of" => Call::Want(Bitfield::empty(alloc, number(words.next())?)?),
+        _ => return Err(Fail::from("no such call")),
+    })
+}
+
+fn verdict_of(alloc: Global, piece: u32, word: Option<&'static str>) -> Result<Arc<Verdict>, Fail> {
+    let blocks = vec![in alloc; bytes_of(word)]?;
+    Ok(Arc::new(alloc, Job { piece, blocks }.hash())?)
+}
+
+fn reply_of(text: &str) -> Result<Reply, Fail> {
+    let mut words = text.split(' ');
+    Ok(match words.next().unwrap_or("") {
+        "joined" => Reply::Joined,
+        "noted" => Reply::Noted(words.next() == Some("yes")),
+        "quiet" => Reply::Quiet,
+        "cancel" => Reply::Cancel(block_of(&mut words)?),
+        "request" => Reply::Request(block_of(&mut words)?),
+        "choked" => Reply::Choked,
+        "pipefull" => Reply::PipeFull,
+        "idle" => Reply::Idle,
+        "nothing" => Reply::NothingLeft,
+        "stored" => Reply::Stored,
+        "completed" => Reply::Completed,
+        "dropped" => Reply::Dropped,
+        "had" => Reply::Had,
+        "failed" => Reply::Failed,
+        "refused" => Reply::Refused(reason_of(words.next().unwrap_or(""))?),
+        _ => return Err(Fail::from("no such reply")),
+    })
+}
+
+fn block_of(words: &mut Split<'_, char>) -> Result<Block, Fail> {
+    Ok(Block {
+        piece: number(words.next())?,
+        begin: number(words.next())?,
+        len: number(words.next())?,
+    })
+}
+
+fn reason_of(name: &str) -> Result<Reason, Fail> {
+    Ok(match name {
+        "NotJoined" => Reason::NotJoined,
+        "AlreadyJoined" => Reason::AlreadyJoined,
+        "LateBits" => Reason::LateBits,
+        "WrongCount" => Reason::WrongCount,
+        "NoSuchPiece" => Reason::NoSuchPiece,
+        "NoSuchBlock" => Reason::NoSuchBlock,
+        "WrongLength" => Reason::WrongLength,
+        "NotWaiting" => Reason::NotWaiting,
+        "Stale" => Reason::Stale,
+        _ => return Err(Fail::from("no such reason")),
+    })
+}
+
+/// A worked example of the rules.
+#[derive(Clone, Copy)]
 pub struct Example {
-    pub piece_length: u32,
-    pub total: u64,
-    pub hashes: &'static [[u8; 20]],
+    /// As `torrent_of` reads it.
+    pub torrent: &'static str,
     pub workers: u32,
-    pub rules: Rules,
-    pub steps: &'static [Step],
-    /// How many of the steps come before, and what mustn't come then.
-    pub wrong: &'static [(usize, Step)],
+    pub depth: u32,
+    pub random: u32,
+    pub lines: &'static str,
+    /// How many of the lines come before, and what mustn't come then.
+    pub wrong: &'static [(usize, &'static str)],
 }
 
-impl Example {
-    pub fn torrent(&self, alloc: Global) -> Result<Torrent, Fail> {
-        let mut hashes = Vec::new(alloc);
-        hashes.extend_from_slice(self.hashes)?;
-        Ok(Torrent::of_parts(self.piece_length, self.total, hashes, [0; 20])?)
+/// The first so many lines as entries.
+pub fn entries_of(
+    alloc: Global,
+    pieces: u32,
+    lines: &'static str,
+    count: usize,
+) -> Result<Vec<Entry>, Fail> {
+    let mut entries = Vec::new(alloc);
+    for line in lines.lines().take(count) {
+        entries.push(entry_of(alloc, pieces, line)?)?;
     }
-
-    /// The first so many steps as entries.
-    pub fn entries(&self, alloc: Global, count: usize) -> Result<Vec<Entry>, Fail> {
-        let mut entries = Vec::new(alloc);
-        for step in self.steps.iter().take(count) {
-            entries.push(step.entry(alloc)?)?;
-        }
-        Ok(entries)
-    }
+    Ok(entries)
 }
