@@ -1,5 +1,5 @@
 #!/usr/bin/env python3
-"""Writes the worked examples of crates/bt_history and the audits of them in crates/bt_picker from script lines.
+"""Writes the worked examples of crates/bt_history and the texts of them in crates/bt_picker_tests from script lines.
 
 Each example is a torrent, a number of workers and lines `CALL = REPLY`, as a person writes them from the rules; nothing here runs the
 picker. The definitions in specs/ judge them: `worked_examples` proves each legal, `wrong_replies` proves each wrong reply not allowed.
