@@ -1,8 +1,9 @@
 #!/usr/bin/env python3
 """Writes the metainfo files and recorded streams of crates/bt_runs from parts that are put together by hand.
 
-A stream is a peer's handshake and its messages (BEP 3): bitfield, unchoke, and pieces of one block each. Run it from the top of the
-repository after an edit.
+A stream is a peer's handshake and its messages (BEP 3): bitfield, unchoke, and pieces of one block each. The metainfo files of `info`
+are spelled out, with the fault that each has. The infohashes of those that have none are printed, as hashlib has them. Run it from the
+top of the repository after an edit.
 """
 
 import hashlib
@@ -15,6 +16,40 @@ def metainfo(total, contents):
     pieces = b"".join(hashlib.sha1(content).digest() for content in contents)
     info = b"d6:lengthi%de4:name1:s12:piece lengthi3e6:pieces%d:%se" % (total, len(pieces), pieces)
     return b"d4:info" + info + b"e", hashlib.sha1(info).digest()
+
+
+PIECES = b"".join(hashlib.sha1(content).digest() for content in (b"abc", b"abc", b"a"))
+
+
+def spelled(before, pieces=PIECES):
+    """A metainfo file whose info dictionary begins so and ends with these hashes."""
+    return b"d%s6:pieces%d:%see" % (before, len(pieces), pieces)
+
+
+# Files of which `info` tells something.
+DESCRIBED = {
+    "announced.torrent": spelled(b"8:announce3:url4:infod6:lengthi7e4:name1:s12:piece lengthi3e"),
+    "two-files.torrent": spelled(
+        b"4:infod5:filesld6:lengthi3e4:pathl1:xeed6:lengthi4e4:pathl1:yeee4:name1:s12:piece lengthi3e"
+    ),
+    "any-bytes.torrent": spelled(b"4:infod6:lengthi7e4:name8:a%~ \x00!\x7f\xff12:piece lengthi3e"),
+    # Hybrid files have empty keys: one who drops them and writes the dictionary anew gets another infohash.
+    "empty-key.torrent": spelled(b"4:infod0:3:abc6:lengthi7e4:name1:s12:piece lengthi3e"),
+    "file-tree.torrent": spelled(b"4:infod9:file treed1:sd0:d6:lengthi7eeee6:lengthi7e4:name1:s12:piece lengthi3e"),
+}
+
+# Files that are none, by the number of the fault.
+FAULTY = {
+    "fault-2.torrent": b"i0e",
+    "fault-3.torrent": b"de",
+    "fault-4.torrent": spelled(b"4:infod6:length1:74:name1:s12:piece lengthi3e"),
+    "fault-5.torrent": spelled(b"4:infod6:lengthi7e4:name1:s12:piece lengthi0e"),
+    "fault-6.torrent": spelled(b"4:infod6:lengthi7e4:name1:s12:piece lengthi3e", PIECES[:59]),
+    "fault-7.torrent": spelled(b"4:infod5:filesle6:lengthi7e4:name1:s12:piece lengthi3e"),
+    "fault-8.torrent": spelled(b"4:infod6:lengthi0e4:name1:s12:piece lengthi3e"),
+    "fault-9.torrent": spelled(b"4:infod6:lengthi7e4:name1:s12:piece lengthi3e", PIECES[:20]),
+    "fault-10.torrent": spelled(b"4:infod6:lengthi12884901886e4:name1:s12:piece lengthi3e"),
+}
 
 
 def handshake(infohash):
@@ -46,6 +81,11 @@ def main():
         "three-pieces-0.stream": peer(three_hash, 0xC0, [(0, b"abc"), (1, b"abc")]),
         "three-pieces-1.stream": peer(three_hash, 0x60, [(1, b"abc"), (2, b"a")]),
     }
+    files.update(DESCRIBED)
+    files.update(FAULTY)
+    for name, content in DESCRIBED.items():
+        info = content[content.index(b"4:info") + 6 : -1]
+        print(name, hashlib.sha1(info).hexdigest())
     for name, content in files.items():
         with open(os.path.join(DATA, name), "wb") as file:
             file.write(content)

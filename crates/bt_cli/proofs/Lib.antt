@@ -1,10 +1,2 @@
 pub mod Numbered
-pub mod Counts
-pub mod Numbers
-pub mod Played
-pub mod Results
-pub mod Settled
-pub mod Written
-pub mod Hexadecimal
 pub mod Runs
-pub mod Taken

@@ -1,13 +1,3 @@
-pub mod Statuses
-pub mod Texts
-pub mod Info
-pub mod Fields
-pub mod Lines
-pub mod Setups
-pub mod RulesLines
-pub mod Scripts
-pub mod Played
-pub mod Journals
 pub mod Reports
 pub mod Runs
 pub mod ThreadRuns

@@ -7,7 +7,6 @@ use Rattle.bt_meta.specs.WireBits.{HasSpareBit, IsSpelled, wire_len}
 use Rattle.bt_meta.specs.declared.fault.BitFault.TheVariants.{SpareBits, WrongCount}
 use Rattle.bt_meta.specs.declared.fault.MetaFault.{MetaFault}
 use Rattle.bt_history.specs.declared.call.Entry.{Entry}
-use Rattle.bt_history.specs.declared.event.Event.{Event}
 use Rattle.bt_history.specs.Entries.{event_of, history_of}
 use Rattle.bt_picker.specs.Checks.{waits}
 use Rattle.bt_picker.specs.Contents.{has_wanted}
@@ -17,20 +16,14 @@ use Rattle.bt_session.specs.declared.fault.SessionFault.{SessionFault}
 use Rattle.bt_session.specs.declared.fault.SessionFault.TheVariants as sessions
 use Rattle.bt_session.specs.Serial.{EachEnded, Finishes, StreamRecord, opening_of}
 use Rattle.bt_session.specs.Terms.{terms_of}
-use Rattle.bt_cli.specs.declared.fault.Fault.{Fault}
-use Rattle.bt_cli.specs.declared.fault.Fault.TheVariants as faults
+use Rattle.bt_script.specs.declared.fault.Fault.{Fault}
+use Rattle.bt_script.specs.declared.fault.Fault.TheVariants as faults
 use Rattle.bt_cli.specs.declared.report.Judged.{Judged}
 use Rattle.bt_cli.specs.declared.report.Judged.TheVariants.{Sound, Unjudged}
 use Rattle.bt_cli.specs.declared.options.Options.{Options}
-use Rattle.bt_cli.specs.Journals.{IsJournalLine}
+use Rattle.bt_script.specs.Journals.{AreJournalLines}
 use Rattle.bt_cli.specs.Reports.{report_text}
-use Rattle.bt_cli.specs.Statuses.{of_metainfo, status_of}
-
--- a line for each of these events, in order
-abbrev pub AreJournalLines : List Event → List ℕ → Type 0
-AreJournalLines [] text = text ≡ []
-AreJournalLines (e ∷ events) text =
-    (line : List ℕ) × ((rest : List ℕ) × (IsJournalLine e line × AreJournalLines events rest × (text ≡ (line ++ codes "\n") ++ rest)))
+use Rattle.bt_script.specs.Statuses.{of_metainfo, status_of}
 
 -- the lines of the desk's journal
 pub record IsJournalOf (desk : DeskState) (text : List ℕ) : Type 0 where

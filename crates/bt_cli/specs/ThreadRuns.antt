@@ -6,15 +6,16 @@ use Rattle.bt_history.specs.Setting.{setting_of}
 use Rattle.bt_session.specs.declared.fault.End.{End}
 use Rattle.bt_session.specs.declared.fault.SessionFault.{SessionFault}
 use Rattle.bt_session.specs.declared.swarm_run.SwarmFault.{SwarmFault}
+use Rattle.bt_session.specs.declared.swarm_run.SwarmFault.TheVariants as swarms
 use Rattle.bt_session.specs.Serial.{StreamRecord}
 use Rattle.bt_session.specs.Swarms.{EachSwarmed, MakesLastChecks, TellsWaiting}
 use Rattle.bt_session.specs.Terms.{terms_of}
 use Rattle.bt_shared.specs.declared.gather.Book.{Book}
-use Rattle.bt_cli.specs.declared.fault.Fault.{Fault}
-use Rattle.bt_cli.specs.declared.fault.Fault.TheVariants as faults
+use Rattle.bt_script.specs.declared.fault.Fault.{Fault}
+use Rattle.bt_script.specs.declared.fault.Fault.TheVariants as faults
 use Rattle.bt_cli.specs.declared.options.Options.{Options}
 use Rattle.bt_cli.specs.Runs.{Ended, IsEndStatus}
-use Rattle.bt_cli.specs.Statuses.{of_metainfo, of_swarm, status_of}
+use Rattle.bt_script.specs.Statuses.{of_gather, of_metainfo, status_of}
 
 -- A run of these streams in threads came to this book: an end for each stream, each as its session's at its worker's log, which asked for
 -- blocks by the depth of the options; the last worker made the last checks alone; and it ended as `Ended` says.
@@ -32,6 +33,12 @@ pub record RanThreads {X : Type 0} (record_of : X → StreamRecord) (torrent : M
   pub finishes : MakesLastChecks (length streams) book.logs.items (piece_count torrent.layout)
   pub waiting : TellsWaiting short book.desk
   pub told : Ended short ends book.desk ended options.journal old new failed
+
+-- why a run in threads came to nothing, as a fault of the command
+abbrev pub of_swarm : SwarmFault → Fault
+of_swarm swarms.NoMemory = faults.Memory
+of_swarm (swarms.Gather fault) = of_gather fault
+of_swarm swarms.NoThread = faults.NoThread
 
 -- why a run in threads comes to no book: there is no metainfo file, or more pieces are to be picked at random than there are; else want of
 -- memory, a thread that couldn't be started, or logs that aren't the journal's

@@ -1,4 +1,4 @@
-//! The commands whole: with their exit status, and the line of a fault on a writer of its own.
+//! The commands that run sessions, whole: with their exit status, and the line of a fault on a writer of its own.
 
 ghost use Rattle.std.specs.Prelude.{◌≡◌, ◌≤◌, ◌+◌, ◌⊎◌, length, Ok, None, Result, Bool, IfSome, MatchResult, OnOk};
 ghost use Rattle.bt_meta.specs.Layout.{Metainfo};
@@ -7,57 +7,23 @@ ghost use Rattle.bt_history.specs.Legal.{IsLegal};
 ghost use Rattle.bt_history.specs.Setting.{setting_of};
 ghost use Rattle.bt_session.specs.Serial.{stream_record};
 ghost use Rattle.bt_shared.specs.Gathering.{EachAgrees};
-ghost use Rattle.bt_cli.specs.declared.fault.Fault.{Fault};
-ghost use Rattle.bt_cli.specs.Info.{IsInfoStatus, PrintsInfo};
+ghost use Rattle.bt_script.specs.declared.fault.Fault.{Fault};
 ghost use Rattle.bt_cli.specs.Runs.{IsSerialStatus, Ran, run_status};
-ghost use Rattle.bt_cli.specs.Scripts.{IsScriptStatus};
-ghost use Rattle.bt_cli.specs.Statuses.{status_of};
 ghost use Rattle.bt_cli.specs.ThreadRuns.{IsThreadsStatus, RanThreads};
 
-use crate::fault::Fault;
-use crate::info::describe;
-use crate::options::{MOST_DEPTH, Options};
-use crate::script::play_script;
+use crate::options::Options;
 use crate::serial::{Run, play_streams};
 use crate::telling::run_status;
 use crate::threads::{ThreadsRun, play_threads};
 use bt_meta::{Sink, Source};
 use bt_picker::Desk;
+use bt_script::{Fault, MOST_DEPTH, conclude};
 use bt_session::{MOST_STREAMS, Stream};
 use bt_shared::Book;
 use std::alloc::Global;
 use std::io::Write;
 use std::sync::Wait;
 use std::thread::Threads;
-
-/// Plays a script on a desk of its own, and prints a reply for each call, a line each; a fault goes to `err`.
-///
-/// Answers the exit status: 0 for a script; 2 for bytes that are none, with the number of the first line at fault; 4 where `out` fails;
-/// 5 for want of memory. The replies to the lines before a fault are printed.
-pub fn script_to<W: Write, E: Write>(alloc: Global, input: &[u8], out: &mut W, err: &mut E) -> u8
-    ensures status { IsScriptStatus input.now result (W.contents out.old) (W.contents out.new) }
-    ensures quiet { result ≡ 0 → err.new ≡ err.old }
-{
-    conclude(play_script(alloc, input, out), err)
-}
-
-/// The same, and no fault is told.
-pub fn run_script<W: Write>(alloc: Global, input: &[u8], out: &mut W) -> u8
-    ensures { IsScriptStatus input.now result (W.contents out.old) (W.contents out.new) }
-{
-    script_to(alloc, input, out, &mut std::io::sink())
-}
-
-/// Prints what a metainfo file says of its content, a line each; a fault goes to `err`.
-///
-/// Answers the exit status: 0; 3 for bytes that are no metainfo file; 4 where `out` fails; 5 for want of memory.
-pub fn run_info<W: Write, E: Write>(alloc: Global, meta: &[u8], out: &mut W, err: &mut E) -> u8
-    ensures status { IsInfoStatus (torrent_of_file meta.now) result }
-    ensures printed { result ≡ 0 → PrintsInfo (torrent_of_file meta.now) (W.contents out.old) (W.contents out.new) }
-    ensures quiet { result ≡ 0 → err.new ≡ err.old }
-{
-    conclude(describe(alloc, meta, out), err)
-}
 
 /// Plays the streams of 1 to 64 recorded peers at one desk, and prints how each ended and which pieces are lacking; a fault goes to `err`.
 ///
@@ -147,18 +113,4 @@ fn conclude_run<E: Write>(ended: Result<bool, Fault>, err: &mut E) -> u8
         return conclude(Err(fault), err);
     }
     run_status(ended)
-}
-
-/// The exit status of a command. A fault is told on `err`; that this fails changes nothing.
-pub fn conclude<E: Write>(done: Result<(), Fault>, err: &mut E) -> u8
-    ensures status { MatchResult done (λ _. result ≡ 0) (λ fault. result ≡ status_of fault) }
-    ensures quiet { OnOk done (err.new ≡ err.old) }
-{
-    match done {
-        Ok(()) => 0,
-        Err(fault) => {
-            let _ = writeln!(err, "{fault}");
-            fault.status()
-        }
-    }
 }

@@ -1,16 +1,13 @@
 //! What a command that runs sessions is asked for.
 
 ghost use Rattle.std.specs.Prelude.{◌≡◌, ◌≤◌, ◌<◌, IfOk, IfErr, OnOk};
-ghost use Rattle.bt_cli.specs.declared.fault.Fault.TheVariants.{Random};
+ghost use Rattle.bt_script.specs.declared.fault.Fault.TheVariants.{Random};
 ghost use Rattle.bt_cli.specs.Runs.{IsOptionFault, IsWant, IsWantFault, want_of};
 
-use crate::fault::Fault;
 use bt_meta::Bitfield;
 use bt_picker::Rules;
+use bt_script::Fault;
 use std::alloc::Global;
-
-/// The most blocks that may be asked of a peer.
-pub const MOST_DEPTH: u32 = 64;
 
 /// What a command that runs sessions is asked for.
 #[derive(Debug, Drop)]

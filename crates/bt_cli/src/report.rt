@@ -7,9 +7,9 @@ ghost use Rattle.bt_history.specs.Counting.{count_below};
 ghost use Rattle.bt_history.specs.Pieces.{had, had_count};
 ghost use Rattle.bt_cli.specs.Reports.{counts_text, end_text, is_done, judged_text, missing_piece, missing_text, numbered, pieces_text, report_text, session_fault_number};
 
-use crate::print::{print, print_number};
 use bt_meta::{DeviceFault, Sink};
 use bt_picker::Desk;
+use bt_script::{print, print_number};
 use bt_session::{End, SessionFault};
 
 /// The number by which the end of a session is told.

@@ -9,11 +9,11 @@ ghost use Rattle.bt_session.specs.Serial.{EachEnded, Finishes, opening_of, strea
 ghost use Rattle.bt_session.specs.Terms.{terms_of};
 ghost use Rattle.bt_cli.specs.Runs.{IsStartFault, IsWant, Ran, run_status, want_of};
 
-use crate::fault::Fault;
-use crate::options::{MOST_DEPTH, Options, fitting};
+use crate::options::{Options, fitting};
 use crate::telling::{Outcome, run_status, tell};
 use bt_meta::{Sink, Source, Torrent};
 use bt_picker::Desk;
+use bt_script::{Fault, MOST_DEPTH};
 use bt_session::{MOST_STREAMS, SerialRun, Stream, serial};
 use std::alloc::Global;
 use std::sync::Arc;

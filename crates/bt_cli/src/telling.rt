@@ -8,12 +8,11 @@ ghost use Rattle.bt_history.specs.Setting.{AreRules, setting_of};
 ghost use Rattle.bt_cli.specs.declared.report.Judged.TheVariants.{Sound, Unjudged};
 ghost use Rattle.bt_cli.specs.Runs.{Ended, IsPrelude, TellsRun, ended_short, gave_up, run_status};
 
-use crate::fault::Fault;
-use crate::journal::print_journal;
 use crate::options::Options;
 use crate::report::{Judged, print_report};
 use bt_meta::{DeviceFault, Sink, Torrent};
 use bt_picker::{AuditFault, Desk, Rules, audit};
+use bt_script::{Fault, print_journal};
 use bt_session::{End, SessionFault};
 use std::alloc::Global;
 

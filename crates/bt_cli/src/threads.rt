@@ -10,13 +10,13 @@ ghost use Rattle.bt_session.specs.Swarms.{EachSwarmed, MakesLastChecks, TellsWai
 ghost use Rattle.bt_session.specs.Terms.{terms_of};
 ghost use Rattle.bt_shared.specs.Gathering.{EachAgrees};
 ghost use Rattle.bt_cli.specs.Runs.{run_status};
-ghost use Rattle.bt_cli.specs.ThreadRuns.{IsThreadsFault, RanThreads};
+ghost use Rattle.bt_cli.specs.ThreadRuns.{IsThreadsFault, RanThreads, of_swarm};
 
-use crate::fault::Fault;
-use crate::options::{MOST_DEPTH, Options, fit_random};
+use crate::options::{Options, fit_random};
 use crate::telling::{Outcome, run_status, tell};
 use bt_meta::{Sink, Source, Torrent};
-use bt_session::{MOST_STREAMS, OpenGate, Stream, SwarmRun, swarm};
+use bt_script::{Fault, MOST_DEPTH};
+use bt_session::{MOST_STREAMS, OpenGate, Stream, SwarmFault, SwarmRun, swarm};
 use bt_shared::Book;
 use std::sync::{Arc, Wait};
 use std::thread::Threads;
@@ -131,6 +131,20 @@ fn play<T: Threads + Wait + AllocGlobal + Sync, R: Source + Send + Drop, W: Sink
         options.seed,
         options.rules,
         &OpenGate,
-    )?;
-    Ok(Played { torrent, run })
+    );
+    match run {
+        Ok(run) => Ok(Played { torrent, run }),
+        Err(fault) => Err(of_swarm(fault)),
+    }
+}
+
+/// Why a run in threads came to nothing, as a fault of the command.
+fn of_swarm(fault: SwarmFault) -> Fault
+    ensures { result ≡ of_swarm fault }
+{
+    match fault {
+        SwarmFault::NoMemory => Fault::Memory,
+        SwarmFault::Gather(fault) => Fault::from(fault),
+        SwarmFault::NoThread => Fault::NoThread,
+    }
 }

@@ -1,14 +1,3 @@
-mod commands;
-mod examples;
-mod faults;
-mod info;
-mod picks;
-mod reports;
-mod samples;
 mod saving;
-mod scripts;
 mod serial;
-mod session;
-mod settings;
 mod threads;
-mod wants;

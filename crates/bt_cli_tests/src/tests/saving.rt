@@ -11,7 +11,7 @@ use std::test::*;
 
 /// A file in memory, with what it holds, once it is made; some can't be made.
 #[derive(Drop)]
-pub struct Kept {
+struct Kept {
     held: Vec<u8>,
     can_be_made: bool,
     made: bool,
@@ -19,17 +19,13 @@ pub struct Kept {
 }
 
 impl Kept {
-    pub fn new(alloc: Global, can_be_made: bool) -> Result<Kept, Fail> {
+    fn new(alloc: Global, can_be_made: bool) -> Result<Kept, Fail> {
         Ok(Kept {
             held: Vec::from_slice(alloc, b"older")?,
             can_be_made,
             made: false,
             failed: false,
         })
-    }
-
-    pub fn is_made(&self) -> bool {
-        self.made
     }
 }
 
@@ -69,22 +65,18 @@ impl NewFile for Kept {
 }
 
 #[test]
-fn all_pieces_are_had(rt: HostRuntime) -> Result<(), Fail> {
+fn files_of_a_run(rt: HostRuntime) -> Result<(), Fail> {
     let sent = stream(rt.alloc(), INFOHASH, FRAMES)?;
-    let desk = run(rt.alloc(), FILE, &sent, false).run?.desk;
+    let desk = run(rt.alloc(), FILE, &sent)?.desk;
     let mut file = Kept::new(rt.alloc(), true)?;
     assert!(rt; save(&desk, &mut file) == Ok(()));
     assert!(rt; file.made);
     assert_eq!(rt; file.held.as_slice(), b"abc".as_slice());
     let mut file = Kept::new(rt.alloc(), false)?;
     assert!(rt; save(&desk, &mut file) == Err(DeviceFault));
-    Ok(())
-}
-
-#[test]
-fn a_piece_is_lacking(rt: HostRuntime) -> Result<(), Fail> {
+    // A piece is lacking.
     let sent = stream(rt.alloc(), INFOHASH, &FRAMES[..26])?;
-    let desk = run(rt.alloc(), FILE, &sent, false).run?.desk;
+    let desk = run(rt.alloc(), FILE, &sent)?.desk;
     let mut file = Kept::new(rt.alloc(), false)?;
     assert!(rt; save(&desk, &mut file) == Ok(()));
     assert!(rt; !file.made);

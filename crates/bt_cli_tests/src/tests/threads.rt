@@ -1,4 +1,5 @@
-//! The command `run`: sessions in threads, with the report of a run in one thread.
+//! The command `run`: sessions in threads, with the report of a run in one thread. Its statuses are those of whole command lines, in
+//! `bt_runs`.
 
 ghost use Rattle.std.specs.Prelude.{◌≤◌, length};
 
@@ -7,7 +8,6 @@ use super::serial::{
 };
 use bt_cli::*;
 use bt_meta::ToWrite;
-use bt_picker::Rules;
 use std::sync::Wait;
 use std::test::*;
 use std::thread::Threads;
@@ -46,37 +46,8 @@ fn command<T: Threads + Wait + AllocGlobal + Sync>(
     })
 }
 
-/// More than any of these reports takes.
-const ROOM: usize = 1000;
-
-/// The command with one stream.
-fn with_one<T: Threads + Wait + AllocGlobal + Sync>(
-    rt: &T,
-    meta: &[u8],
-    sent: &[u8],
-    options: &Options,
-) -> Result<Done, Fail>
-    requires { (1 ≤ options.now.rules.depth) × (options.now.rules.depth ≤ MOST_DEPTH) }
-{
-    let streams = Vec::from_array(rt.alloc(), [recorded(rt.alloc(), sent)])?;
-    command(rt, meta, streams, options, ROOM)
-}
-
-#[test]
-fn one_piece_of_one_peer(rt: HostRuntime) -> Result<(), Fail> {
-    let sent = stream(rt.alloc(), INFOHASH, FRAMES)?;
-    let done = with_one(&rt, FILE, &sent, &usual(0, true))?;
-    assert_eq!(rt;
-        done.out.as_slice(),
-        b"0 join = joined\n0 bits 80 = noted yes\n0 next = choked\n0 unchoke = quiet\n0 next = request 0 0 3\n0 next = idle\n0 block 0 0 3 = completed\n0 settle 0 = had\n0 next = nothing\n0 leave = quiet\nstream 0 end\npieces 1\nhad 1\nmissing -\ncomplete yes\njournal ok\n".as_slice()
-    );
-    assert_eq!(rt; done.status, 0);
-    assert!(rt; done.err.is_empty());
-    assert_eq!(rt; done.logs, Some(2));
-    Ok(())
-}
-
-/// The first peer has and gives the first two pieces, the second the last.
+/// The first peer has and gives the first two pieces, the second the last. The wanted pieces are none of the torrent's, but nobody reads
+/// them.
 #[test]
 fn three_pieces_of_two_peers(rt: HostRuntime) -> Result<(), Fail> {
     let first = stream(
@@ -93,7 +64,9 @@ fn three_pieces_of_two_peers(rt: HostRuntime) -> Result<(), Fail> {
         rt.alloc(),
         [recorded(rt.alloc(), &first), recorded(rt.alloc(), &second)],
     )?;
-    let done = command(&rt, THREE_PIECES, streams, &usual(0, false), ROOM)?;
+    let mut options = usual();
+    options.want = Some(Vec::from_slice(rt.alloc(), b"\0\0")?);
+    let done = command(&rt, THREE_PIECES, streams, &options, 1000)?;
     assert_eq!(rt;
         done.out.as_slice(),
         b"stream 0 end\nstream 1 end\npieces 3\nhad 3\nmissing -\ncomplete yes\njournal ok\n".as_slice()
@@ -105,72 +78,10 @@ fn three_pieces_of_two_peers(rt: HostRuntime) -> Result<(), Fail> {
 }
 
 #[test]
-fn a_stream_that_breaks_off(rt: HostRuntime) -> Result<(), Fail> {
-    let sent = stream(rt.alloc(), INFOHASH, &FRAMES[..26])?;
-    let done = with_one(&rt, FILE, &sent, &usual(0, false))?;
-    assert_eq!(rt;
-        done.out.as_slice(),
-        b"stream 0 fault 3\npieces 1\nhad 0\nmissing 0\ncomplete no\njournal ok\n".as_slice()
-    );
-    assert_eq!(rt; done.status, 1);
-    assert!(rt; done.err.is_empty());
-    assert_eq!(rt; done.logs, Some(2));
-    Ok(())
-}
-
-#[test]
-fn a_file_that_is_none(rt: HostRuntime) -> Result<(), Fail> {
-    let sent = stream(rt.alloc(), INFOHASH, FRAMES)?;
-    let done = with_one(&rt, b"i0e", &sent, &usual(0, true))?;
-    assert_eq!(rt; done.status, 3);
-    assert!(rt; done.out.is_empty());
-    assert_eq!(rt; done.err.as_slice(), b"metainfo fault 2\n".as_slice());
-    assert_eq!(rt; done.logs, None);
-    Ok(())
-}
-
-/// The file has one piece.
-#[test]
-fn two_pieces_at_random(rt: HostRuntime) -> Result<(), Fail> {
-    let sent = stream(rt.alloc(), INFOHASH, FRAMES)?;
-    let options = Options {
-        seed: 0,
-        journal: false,
-        want: None,
-        rules: Rules {
-            depth: 5,
-            random: 2,
-        },
-    };
-    let done = with_one(&rt, FILE, &sent, &options)?;
-    assert_eq!(rt; done.status, 2);
-    assert!(rt; done.out.is_empty());
-    assert_eq!(rt; done.err.as_slice(), b"random fault\n".as_slice());
-    assert_eq!(rt; done.logs, None);
-    Ok(())
-}
-
-/// These wanted pieces are none of the torrent's, but nobody reads them.
-#[test]
-fn wanted_pieces_are_not_heard(rt: HostRuntime) -> Result<(), Fail> {
-    let sent = stream(rt.alloc(), INFOHASH, FRAMES)?;
-    let options = Options {
-        seed: 0,
-        journal: false,
-        want: Some(Vec::from_slice(rt.alloc(), b"\0\0")?),
-        rules: Rules::usual(),
-    };
-    let done = with_one(&rt, FILE, &sent, &options)?;
-    assert_eq!(rt; done.status, 0);
-    assert!(rt; done.err.is_empty());
-    Ok(())
-}
-
-#[test]
 fn a_full_output(rt: HostRuntime) -> Result<(), Fail> {
     let sent = stream(rt.alloc(), INFOHASH, FRAMES)?;
     let streams = Vec::from_array(rt.alloc(), [recorded(rt.alloc(), &sent)])?;
-    let done = command(&rt, FILE, streams, &usual(0, false), 20)?;
+    let done = command(&rt, FILE, streams, &usual(), 20)?;
     assert_eq!(rt; done.status, 4);
     assert_eq!(rt; done.out.as_slice(), b"stream 0 end\npieces ".as_slice());
     assert_eq!(rt; done.err.as_slice(), b"file fault\n".as_slice());

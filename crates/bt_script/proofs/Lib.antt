@@ -1,0 +1,9 @@
+pub mod Counts
+pub mod Numbers
+pub mod Played
+pub mod Results
+pub mod Settled
+pub mod Written
+pub mod Hexadecimal
+pub mod JournalLines
+pub mod Taken

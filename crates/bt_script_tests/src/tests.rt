@@ -1,0 +1,6 @@
+mod examples;
+mod faults;
+mod picks;
+mod reports;
+mod scripts;
+mod settings;

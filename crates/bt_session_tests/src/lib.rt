@@ -1,0 +1,5 @@
+//! The tests of `bt_session`, in a crate of their own, so that they are checked without proving it again.
+#![tactic(auto)]
+
+#[cfg(test)]
+mod tests;

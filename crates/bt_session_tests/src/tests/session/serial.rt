@@ -1,0 +1,217 @@
+use super::{PEER, RULES, peer, tell, torrent, torrent_of};
+use bt_meta::{Bitfield, FromRead, ToWrite, Torrent};
+use bt_picker::{Call, Rules};
+use bt_session::{End, MOST_STREAMS, SerialRun, SessionFault, Stream, serial};
+use rand_core::Rng;
+use rand_pcg::Lcg64Xsh32;
+use std::alloc::{AllocError, Global};
+use std::fmt::Write;
+use std::io::Cursor;
+use std::sync::Arc;
+use std::test::Fail;
+
+/// Two pieces of the three bytes `abc`.
+pub fn two_pieces(alloc: Global) -> Result<Arc<Torrent>, Fail> {
+    torrent_of(alloc, 3, 6, 2)
+}
+
+/// What a peer of two pieces sends that has one of them, after its handshake.
+const FIRST: [u8; 27] = PEER;
+
+const SECOND: [u8; 27] = [
+    0, 0, 0, 2, 5, 64, 0, 0, 0, 1, 1, 0, 0, 0, 12, 7, 0, 0, 0, 1, 0, 0, 0, 0, 97, 98, 99,
+];
+
+pub type Recorded<'a> = Stream<FromRead<Cursor<&'a [u8]>>, ToWrite<Vec<u8>>>;
+
+pub fn recorded(alloc: Global, sent: &[u8]) -> Recorded<'_> {
+    Stream {
+        reader: FromRead::new(Cursor::new(sent)),
+        writer: ToWrite::new(Vec::new(alloc)),
+    }
+}
+
+/// A run over these streams. It fails where there are none or too many, or where rules or wanted pieces don't suit the torrent.
+pub fn run_by(
+    alloc: Global,
+    torrent: Arc<Torrent>,
+    streams: &mut [Recorded<'_>],
+    seed: u64,
+    want: Option<Bitfield>,
+    rules: Rules,
+) -> Result<SerialRun, Fail> {
+    let pieces = torrent.piece_count();
+    if streams.is_empty() || streams.len() > MOST_STREAMS {
+        return Err(Fail::from("too few streams, or too many"));
+    }
+    if rules.depth < 1 || rules.depth > 64 || rules.random > pieces {
+        return Err(Fail::from("rules that don't suit the torrent"));
+    }
+    if want.as_ref().is_some_and(|flags| flags.count() != pieces) {
+        return Err(Fail::from("flags of other pieces"));
+    }
+    Ok(serial(alloc, torrent, streams, seed, want, rules)?)
+}
+
+/// The journal: the worker, the call and the reply of each entry.
+pub fn journal(alloc: Global, run: &SerialRun) -> Result<String, AllocError> {
+    let mut said = String::new(alloc);
+    for entry in run.desk.journal() {
+        let worker = entry.worker;
+        write!(said, "{worker} ")?;
+        tell(entry, &mut said)?;
+    }
+    Ok(said)
+}
+
+/// What came of a run.
+#[derive(Drop)]
+struct Outcome {
+    ends: Vec<Result<End, SessionFault>>,
+    journal: String,
+    /// What was written to each stream.
+    written: Vec<Vec<u8>>,
+    is_complete: bool,
+    short: bool,
+}
+
+/// A run by the usual rules of these tests over streams in which these bytes are sent. Without `want` all pieces are wanted.
+fn told(
+    alloc: Global,
+    torrent: Arc<Torrent>,
+    sent: &[Vec<u8>],
+    seed: u64,
+    want: Option<Bitfield>,
+) -> Result<Outcome, Fail> {
+    let mut streams = Vec::new(alloc);
+    for bytes in sent {
+        streams.push(recorded(alloc, bytes))?;
+    }
+    let run = run_by(alloc, torrent, &mut streams, seed, want, RULES)?;
+    let journal = journal(alloc, &run)?;
+    let SerialRun { ends, desk, short } = run;
+    Ok(Outcome {
+        ends,
+        journal,
+        written: written(alloc, streams)?,
+        is_complete: desk.is_complete(),
+        short,
+    })
+}
+
+fn written(alloc: Global, streams: Vec<Recorded<'_>>) -> Result<Vec<Vec<u8>>, Fail> {
+    let mut all = Vec::new(alloc);
+    for stream in streams {
+        all.push(stream.writer.into_inner())?;
+    }
+    Ok(all)
+}
+
+/// What the session of the worker with this digit writes: its handshake, then these messages.
+fn wanted(alloc: Global, worker: u8, messages: &[u8]) -> Result<Vec<u8>, Fail> {
+    let mut bytes = Vec::from_slice(alloc, b"\x13BitTorrent protocol")?;
+    bytes.extend_from_slice(&[0; 8])?;
+    bytes.extend_from_slice(&[1; 20])?;
+    bytes.extend_from_slice(b"-PP0001-00000000000")?;
+    bytes.push(worker)?;
+    bytes.extend_from_slice(messages)?;
+    Ok(bytes)
+}
+
+const INTERESTED: [u8; 5] = [0, 0, 0, 1, 2];
+
+const NOT_INTERESTED: [u8; 5] = [0, 0, 0, 1, 3];
+
+/// What a session says that asks for a piece, and learns of these.
+fn said(alloc: Global, piece: u8, finished: &[u8]) -> Result<Vec<u8>, Fail> {
+    let mut bytes = Vec::from_slice(alloc, &INTERESTED)?;
+    bytes.extend_from_slice(&[0, 0, 0, 13, 6, 0, 0, 0, piece, 0, 0, 0, 0, 0, 0, 0, 3])?;
+    for piece in finished {
+        bytes.extend_from_slice(&[0, 0, 0, 5, 4, 0, 0, 0, *piece])?;
+    }
+    bytes.extend_from_slice(&NOT_INTERESTED)?;
+    Ok(bytes)
+}
+
+/// A block that came though its piece isn't wanted is kept, and the piece checked; the peer is told of it, and never of interest.
+#[test]
+fn no_piece_is_wanted(rt: HostRuntime) -> Result<(), Fail> {
+    let sent = [peer(rt.alloc(), 1, &PEER)?];
+    let want = Bitfield::empty(rt.alloc(), 1)?;
+    let told = told(rt.alloc(), torrent(rt.alloc())?, &sent, 0, Some(want))?;
+    assert!(rt; told.ends.as_slice() == [Ok(End { messages: 3 })].as_slice());
+    assert!(rt; told.is_complete && !told.short);
+    assert_eq!(rt;
+        told.journal.as_str(),
+        "1 want = Quiet; 0 join = Joined; 0 bits = Noted(false); 0 next = Choked; 0 unchoke = Quiet; \
+        0 next = NothingLeft; 0 block 0 0 = Completed; 0 settle = Had; 0 next = NothingLeft; 0 leave = Quiet; "
+    );
+    let all = [wanted(rt.alloc(), b'0', &[0, 0, 0, 5, 4, 0, 0, 0, 0])?];
+    assert!(rt; told.written.as_slice() == all.as_slice());
+    Ok(())
+}
+
+#[test]
+fn two_streams_take_turns(rt: HostRuntime) -> Result<(), Fail> {
+    let sent = [peer(rt.alloc(), 1, &FIRST)?, peer(rt.alloc(), 1, &SECOND)?];
+    let told = told(rt.alloc(), two_pieces(rt.alloc())?, &sent, 5, None)?;
+    let ends = [Ok(End { messages: 3 }), Ok(End { messages: 3 })];
+    assert!(rt; told.ends.as_slice() == ends.as_slice());
+    assert_eq!(rt;
+        told.journal.as_str(),
+        "0 join = Joined; 1 join = Joined; \
+        0 bits = Noted(true); 0 next = Choked; 1 bits = Noted(true); 1 next = Choked; \
+        0 unchoke = Quiet; 0 next = Request(Block { piece: 0, begin: 0, len: 3 }); 0 next = Idle; \
+        1 unchoke = Quiet; 1 next = Request(Block { piece: 1, begin: 0, len: 3 }); 1 next = Idle; \
+        0 block 0 0 = Completed; 0 settle = Had; 0 next = NothingLeft; \
+        1 block 1 0 = Completed; 1 settle = Had; 1 next = NothingLeft; 0 leave = Quiet; 1 leave = Quiet; "
+    );
+    // The first session ends before it hears of the second piece.
+    let all = [
+        wanted(rt.alloc(), b'0', &said(rt.alloc(), 0, &[0])?)?,
+        wanted(rt.alloc(), b'1', &said(rt.alloc(), 1, &[0, 1])?)?,
+    ];
+    assert!(rt; told.written.as_slice() == all.as_slice());
+    Ok(())
+}
+
+#[test]
+fn a_fault_ends_one_session_alone(rt: HostRuntime) -> Result<(), Fail> {
+    let sent = [
+        peer(rt.alloc(), 2, &PEER)?,
+        peer(rt.alloc(), 1, &PEER[..7])?,
+        peer(rt.alloc(), 1, &PEER)?,
+    ];
+    let told = told(rt.alloc(), torrent(rt.alloc())?, &sent, 0, None)?;
+    let ends = [
+        Err(SessionFault::WrongInfohash),
+        Err(SessionFault::Truncated),
+        Ok(End { messages: 3 }),
+    ];
+    assert!(rt; told.ends.as_slice() == ends.as_slice());
+    assert!(rt; told.is_complete);
+    Ok(())
+}
+
+#[test]
+fn words_come_from_the_seed(rt: HostRuntime) -> Result<(), Fail> {
+    let first = peer(rt.alloc(), 1, &FIRST)?;
+    let second = peer(rt.alloc(), 1, &SECOND)?;
+    let mut streams = [recorded(rt.alloc(), &first), recorded(rt.alloc(), &second)];
+    let torrent = two_pieces(rt.alloc())?;
+    let run = run_by(rt.alloc(), torrent, &mut streams, 5, None, RULES)?;
+    for worker in 0..2u32 {
+        let mut rng = Lcg64Xsh32::new(5, u64::from(worker));
+        let mut asked = false;
+        for entry in run.desk.journal() {
+            if entry.worker == worker {
+                if let Call::Next(word) = &entry.call {
+                    assert_eq!(rt; *word, rng.next_u64());
+                    asked = true;
+                }
+            }
+        }
+        assert!(rt; asked);
+    }
+    Ok(())
+}
