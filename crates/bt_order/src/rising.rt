@@ -43,6 +43,7 @@ impl Rising {
     }
 
     /// From now on the number is in the set, or isn't.
+    #[inline(never)] // a caller that seldom comes here stays small
     pub fn put(&mut self, number: u32, member: bool)
         requires { number < self.old.bound }
         ensures bound { self.new.bound ≡ self.old.bound }

@@ -91,6 +91,7 @@ impl Shelf {
     }
 
     /// A piece that stood like this stands like that now.
+    #[inline(always)] // it is most of what a bitfield costs
     pub fn put(&mut self, piece: u32, before: Standing, after: Standing)
         requires piece { piece < length self.old.groups }
         requires group { after.group < 1029 }
@@ -108,6 +109,7 @@ impl Shelf {
         self.had = self.had - u32::from(before.had) + u32::from(after.had);
     }
 
+    #[inline(always)]
     fn put_in(&mut self, piece: u32, group: u32)
         requires piece { piece < length self.old.groups }
         requires group { group < 1029 }
