@@ -11,12 +11,16 @@ use Rattle.bt_order.specs.Risings.{IsRising, Rises, IsIn, Puts}
 -- from what holds of later places alone
 rises_from : (xs : List ℕ) (i j : ℕ) → (i < j → j < length xs → at xs i < at xs j) → Rises xs i j
 rises_from xs i j up = ⊎_elim
-    (λ (later : i < j). ⊎_elim (λ (within : j < length xs). inl (up later within)) (λ (past : length xs ≤ j). inr (inr past)) (cases_lt j (length xs)))
+    (λ (later : i < j). ⊎_elim (λ (within : j < length xs). inl (up later within))
+    (λ (past : length xs ≤ j). inr (inr past)) (cases_lt j (length xs)))
     (λ (back : j ≤ i). inr (inl back))
     (cases_lt i j)
 
 pub none_rise : (bound : ℕ) → IsRising bound []
-none_rise bound = record { below = λ i li. absurd (omega (arith, li)); rises = λ i j. rises_from [] i j (λ later within. absurd (omega (arith, within))) }
+none_rise bound = record {
+  below = λ i li. absurd (omega (arith, li));
+  rises = λ i j. rises_from [] i j (λ later within. absurd (omega (arith, within)));
+}
 
 module _ (bound : ℕ) (xs : List ℕ) (rising : IsRising bound xs) where
   pub up : (i j : ℕ) → i ≤ j → j < length xs → at xs i ≤ at xs j
@@ -33,14 +37,20 @@ module _ (bound : ℕ) (xs : List ℕ) (rising : IsRising bound xs) where
   -- so there are no more than the bound
   pub few : length xs ≤ bound
   few = ⊎_elim
-      (λ (some : 0 < length xs). (let last = length xs - 1 in omega (arith, some, rising.below last (omega (arith, some)), past_place last (omega (arith, some)))))
+      (λ (some : 0 < length xs). (let last = length xs - 1 in omega (
+        arith,
+        some,
+        rising.below last (omega (arith, some)),
+        past_place last (omega (arith, some)),
+      )))
       (λ (none : length xs ≤ 0). omega (arith, none))
       (cases_lt 0 (length xs))
 
 -- ---- number p comes in at place k
 
 module _ (bound : ℕ) (xs : List ℕ) (p k : ℕ) (lk : k ≤ length xs) where
-  came : (i : ℕ) → ((i < k) × (at (insert xs k p) i ≡ at xs i)) ⊎ (((i ≡ k) × (at (insert xs k p) i ≡ p)) ⊎ ((k < i) × (at (insert xs k p) i ≡ at xs (i - 1))))
+  came : (i : ℕ) → ((i < k) × (at (insert xs k p) i ≡ at xs i)) ⊎ (((i ≡ k) × (at (insert xs k p) i ≡ p))
+      ⊎ ((k < i) × (at (insert xs k p) i ≡ at xs (i - 1))))
   came i = ⊎_elim
       (λ (before : i < k). inl (before, get_or-insert_below xs k p 0 i before lk))
       (λ (from : k ≤ i). ⊎_elim
@@ -69,13 +79,15 @@ module _ (bound : ℕ) (xs : List ℕ) (p k : ℕ) (lk : k ≤ length xs) where
             (cases_lt has.0 k);
       }
 
-  module _ (rising : IsRising bound xs) (lp : p < bound) (low : (i : ℕ) → i < k → at xs i < p) (high : (i : ℕ) → k ≤ i → i < length xs → p < at xs i) where
+  module _ (rising : IsRising bound xs) (lp : p < bound) (low : (i : ℕ) → i < k → at xs i < p)
+      (high : (i : ℕ) → k ≤ i → i < length xs → p < at xs i) where
     before : (i : ℕ) → (at xs i < p) ⊎ (k ≤ i)
     before i = ⊎_elim (λ (lt : i < k). inl (low i lt)) (λ (le : k ≤ i). inr le) (cases_lt i k)
 
     behind : (i : ℕ) → (p < at xs i) ⊎ ((i < k) ⊎ (length xs ≤ i))
     behind i = ⊎_elim (λ (lt : i < k). inr (inl lt))
-        (λ (le : k ≤ i). ⊎_elim (λ (lx : i < length xs). inl (high i le lx)) (λ (past : length xs ≤ i). inr (inr past)) (cases_lt i (length xs)))
+        (λ (le : k ≤ i). ⊎_elim (λ (lx : i < length xs). inl (high i le lx))
+        (λ (past : length xs ≤ i). inr (inr past)) (cases_lt i (length xs)))
         (cases_lt i k)
 
     pub still_rises : IsRising bound (insert xs k p)
@@ -84,7 +96,8 @@ module _ (bound : ℕ) (xs : List ℕ) (p k : ℕ) (lk : k ≤ length xs) where
         record {
           below = λ i li. ⊎_elim
               (λ r. (let old = rising.below i (omega (arith, r.0, lk)) in omega (arith, r.1, old)))
-              (⊎_elim (λ r. omega (arith, r.1, lp)) (λ r. (let old = rising.below (i - 1) (omega (arith, r.0, li, long)) in omega (arith, r.1, old))))
+              (⊎_elim (λ r. omega (arith, r.1, lp))
+              (λ r. (let old = rising.below (i - 1) (omega (arith, r.0, li, long)) in omega (arith, r.1, old))))
               (came i);
           rises = λ i j. rises_from (insert xs k p) i j (λ later within.
               let at_i = came i in
@@ -129,8 +142,11 @@ module _ (bound : ℕ) (xs : List ℕ) (p k : ℕ) (rising : IsRising bound xs) 
             (λ (lt : has.0 < k). (has.0, omega (arith, lt, lk, short), get_or-remove_below xs k 0 has.0 lt lk ∙ has.2))
             (λ (le : k ≤ has.0).
             let past : has.0 ≢ k = λ same. apart (sym has.2 ∙ (ap (at xs) same ∙ is)) in
-            let back : has.0 - 1 + 1 ≡ has.0 = omega (arith, le, past) in
-            (has.0 - 1, omega (arith, le, past, has.1, short), get_or-remove_above xs k 0 (has.0 - 1) (omega (arith, le, past)) lk ∙ (ap (at xs) back ∙ has.2)))
+            let back : has.0 - 1 + 1 ≡ has.0 = omega (arith, le, past) in (
+              has.0 - 1,
+              omega (arith, le, past, has.1, short),
+              get_or-remove_above xs k 0 (has.0 - 1) (omega (arith, le, past)) lk ∙ (ap (at xs) back ∙ has.2),
+            ))
             (cases_lt has.0 k);
       }
 
@@ -156,7 +172,8 @@ module _ (bound : ℕ) (xs : List ℕ) (p k : ℕ) (rising : IsRising bound xs) 
 pub there : (xs : List ℕ) (p : ℕ) → IsIn xs p → Puts xs p true xs
 there xs p has = record { own_in = λ _. has; own_out = λ no _. true≢false no; each = λ q apart is. is; all = λ q apart is. is }
 
-pub not_there : (xs : List ℕ) (p k : ℕ) → ((i : ℕ) → i < k → at xs i < p) → ((i : ℕ) → k ≤ i → i < length xs → p < at xs i) → Puts xs p false xs
+pub not_there : (xs : List ℕ) (p k : ℕ) → ((i : ℕ) → i < k → at xs i < p) → ((i : ℕ) → k ≤ i → i < length xs → p < at xs i)
+    → Puts xs p false xs
 not_there xs p k low high = record {
   own_in = λ no. absurd (true≢false (sym no));
   own_out = λ _ has. ⊎_elim
@@ -171,8 +188,10 @@ not_there xs p k low high = record {
 
 pub gap : (bound : ℕ) (xs ys : List ℕ) (p k : ℕ) → IsRising bound xs → ys ≡ xs → IsBinarySearchResult (λ y. nat_cmp y p) ys (Err k)
     → (k ≤ length xs) × ((i : ℕ) → i < k → at xs i < p) × ((i : ℕ) → k ≤ i → i < length xs → p < at xs i)
-gap bound xs ys p k rising same says = searched xs p (Err k) (subst (λ (zs : List ℕ). IsBinarySearchResult (λ y. nat_cmp y p) zs (Err k)) same says) (up bound xs rising)
+gap bound xs ys p k rising same says = searched xs p (Err k)
+    (subst (λ (zs : List ℕ). IsBinarySearchResult (λ y. nat_cmp y p) zs (Err k)) same says) (up bound xs rising)
 
 pub spot : (bound : ℕ) (xs ys : List ℕ) (p k : ℕ) → IsRising bound xs → ys ≡ xs → IsBinarySearchResult (λ y. nat_cmp y p) ys (Ok k)
     → (k < length xs) × (at xs k ≡ p)
-spot bound xs ys p k rising same says = searched xs p (Ok k) (subst (λ (zs : List ℕ). IsBinarySearchResult (λ y. nat_cmp y p) zs (Ok k)) same says) (up bound xs rising)
+spot bound xs ys p k rising same says = searched xs p (Ok k)
+    (subst (λ (zs : List ℕ). IsBinarySearchResult (λ y. nat_cmp y p) zs (Ok k)) same says) (up bound xs rising)

@@ -43,13 +43,16 @@ module _ (groups numbers : List ℕ) (bound p g : ℕ) (are : AreOpen groups bou
             (omega (arith, old.0, long), get_or-set_other groups p q g 0 apart ∙ old.1))
             (cases_eq q p);
         all = λ q lq two. ⊎_elim
-            (λ (same : q ≡ p). subst (IsIn now) (sym same) (put.own_in (is ∙ eq-eqb g 2 (sym own ∙ (ap (at (set groups p g)) (sym same) ∙ two)))))
-            (λ (apart : q ≡ p → ⊥). put.all q apart (are.all q (omega (arith, lq, long)) (sym (get_or-set_other groups p q g 0 apart) ∙ two)))
+            (λ (same : q ≡ p). subst (IsIn now) (sym same)
+            (put.own_in (is ∙ eq-eqb g 2 (sym own ∙ (ap (at (set groups p g)) (sym same) ∙ two)))))
+            (λ (apart : q ≡ p → ⊥). put.all q apart (are.all q (omega (arith, lq, long))
+            (sym (get_or-set_other groups p q g 0 apart) ∙ two)))
             (cases_eq q p);
       }
     where
       opened : IsIn now p → g ≡ 2
-      opened has = ⊎_elim (λ (two : g ≡ 2). two) (λ (other : g ≡ 2 → ⊥). absurd (put.own_out (is ∙ ne_eqb g 2 other) has)) (cases_eq g 2)
+      opened has = ⊎_elim (λ (two : g ≡ 2). two)
+          (λ (other : g ≡ 2 → ⊥). absurd (put.own_out (is ∙ ne_eqb g 2 other) has)) (cases_eq g 2)
 
   -- the piece neither opens nor closes
   pub open_kept : (at groups p == 2) ≡ (g == 2) → AreOpen (set groups p g) bound numbers
@@ -63,7 +66,8 @@ module _ (groups numbers : List ℕ) (bound p g : ℕ) (are : AreOpen groups bou
 -- ---- a search that goes from the front
 
 -- in a rising list the first that passes is the least
-pub least_listed : (test : ℕ → Bool) (xs : List ℕ) (i p : ℕ) → ((a b : ℕ) → Rises xs a b) → FindsListed test xs i None → p ≡ at xs i
+pub least_listed : (test : ℕ → Bool) (xs : List ℕ) (i p : ℕ) → ((a b : ℕ) → Rises xs a b)
+    → FindsListed test xs i None → p ≡ at xs i
     → (j : ℕ) → j < length xs → IsTrue (test (at xs j)) → p ≤ at xs j
 least_listed test xs i p rise none here j lj passes = ⊎_elim
     (λ (before : j < i). absurd (true≢false (sym passes ∙ none j before)))

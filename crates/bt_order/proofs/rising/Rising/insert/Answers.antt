@@ -26,5 +26,6 @@ invariant_of-self c =
 pub returns-in-Err-clause-puts : goal.returns-in-Err-clause-puts
 returns-in-Err-clause-puts c =
     let r = c.self.inside in
-    let at_k = gap r.bound r.numbers.items c.deref.result.now c.args.number c.in-Err.place c.self.invariant.0 c.deref.ensures.value c.in-Err.ensures.position in
+    let at_k = gap r.bound r.numbers.items c.deref.result.now c.args.number c.in-Err.place c.self.invariant.0
+    c.deref.ensures.value c.in-Err.ensures.position in
     rw (← c.self.view_is, c.insert.ensures.items, c.unwrap.ensures) (comes r.bound r.numbers.items c.args.number c.in-Err.place at_k.0)
