@@ -10,6 +10,7 @@ pub mod Entered
 pub mod Cells
 pub mod Kept
 pub mod Shelves
+pub mod Opened
 pub mod Floors
 pub mod Scans
 pub mod Rows

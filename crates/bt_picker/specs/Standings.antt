@@ -11,6 +11,7 @@ use Rattle.bt_history.specs.Setting.{Setting, is_block, some_block_of}
 use Rattle.bt_history.specs.History.{History}
 use Rattle.bt_history.specs.Counting.{table}
 use Rattle.bt_order.specs.Orders.{at}
+use Rattle.bt_order.specs.Risings.{IsIn}
 
 -- what a cell says: a block that is held is asked of nobody
 abbrev pub cell_kept : Cell → CellState
@@ -84,6 +85,12 @@ shelf_of rows = record {
   unheld = sum_by (λ row. (standing_of row).unheld) rows;
   had = count_by (λ row. row.had) rows;
 }
+
+-- the numbers are those of the begun pieces with an unasked block
+pub record AreOpen (groups : List ℕ) (bound : ℕ) (numbers : List ℕ) : Type 0 where
+  pub bound_is : bound ≡ length groups
+  pub each : (p : ℕ) → IsIn numbers p → (p < length groups) × (at groups p ≡ 2)
+  pub all : (p : ℕ) → p < length groups → at groups p ≡ 2 → IsIn numbers p
 
 -- a row's part is in the sums, and there is room for the new one
 pub record IsFiled (shelf : ShelfState) (before after : Standing) : Type 0 where

@@ -7,6 +7,7 @@ ghost use Rattle.bt_history.specs.Peers.{asked, asked_count, due, is_open, shows
 ghost use Rattle.bt_history.specs.Pieces.{availability, endgame, had_count, held, held_or_asked, interesting, unasked, wanted};
 ghost use Rattle.bt_history.specs.Next.{continues, doubles, is_candidate, next_answer, starts, usable};
 ghost use Rattle.bt_order.specs.Orders.{at, ListsGroup};
+ghost use Rattle.bt_order.specs.Risings.{Rises};
 ghost use Rattle.bt_picker.specs.Standings.{FindsAmong, FindsListed, FindsRarest, groups_of, IsRarer};
 ghost use Rattle.bt_picker.specs.Search.{Finds, FindsLeast, FindsOf, IsRuling, rank_of};
 
@@ -53,37 +54,27 @@ impl<'a> Position<'a> {
         requires { worker < self.now.setting.workers }
         ensures { Finds self.now.setting.torrent (continues self.now.setting self.now.history worker) result }
     {
-        match self.least_shown(worker, self.group(OPEN)) {
+        match self.least_shown(worker, self.open_pieces()) {
             Some(piece) => self.continuing_in(worker, piece),
             None => None,
         }
     }
 
-    /// The least of these pieces that the peer shows.
+    /// The least of these pieces that the peer shows: they rise, so it is the first.
     fn least_shown(&self, worker: u32, pieces: &[u32]) -> Option<u32>
         requires worker { worker < self.now.setting.workers }
         requires pieces { (i : ℕ) → i < length pieces.now → at pieces.now i < piece_count self.now.setting.torrent }
-        ensures { FindsListed (shows self.now.history worker) pieces.now (length pieces.now) result }
+        requires rise { (i j : ℕ) → Rises pieces.now i j }
+        ensures listed { FindsListed (shows self.now.history worker) pieces.now (length pieces.now) result }
+        ensures least { IfSome result (λ p.
+            (i : ℕ) → i < length pieces.now → IsTrue (shows self.now.history worker (at pieces.now i)) → p ≤ at pieces.now i) }
     {
-        let mut least = None;
         for piece in pieces {
-            least = self.lesser_shown(worker, least, *piece);
+            if self.shows(worker, *piece) {
+                return Some(*piece); // the least
+            }
         }
-        least
-    }
-
-    /// The piece, where the peer shows it and it is less than the one found before.
-    fn lesser_shown(&self, worker: u32, found: Option<u32>, piece: u32) -> Option<u32>
-        requires worker { worker < self.now.setting.workers }
-        requires piece { piece < piece_count self.now.setting.torrent }
-        ensures { ((result ≡ Some piece) × IsTrue (shows self.now.history worker piece))
-            ⊎ ((result ≡ found) × (found ≡ None → shows self.now.history worker piece ≡ false)) }
-    {
-        match found {
-            Some(least) if least <= piece => found,
-            _ if self.shows(worker, piece) => Some(piece),
-            _ => found,
-        }
+        None
     }
 
     /// Whether the piece may be begun at the peer.

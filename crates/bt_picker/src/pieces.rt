@@ -2,6 +2,7 @@ ghost use Rattle.std.specs.Prelude.{◌≡◌, ◌<◌, ◌^◌, length, IfOk, m
 ghost use Rattle.std.specs.List.{count_by, sum_by};
 ghost use Rattle.bt_meta.specs.Layout.{block_count, piece_count};
 ghost use Rattle.bt_order.specs.Orders.{at, ListsGroup};
+ghost use Rattle.bt_order.specs.Risings.{IsRising};
 ghost use Rattle.bt_picker.specs.Standings.{group_of_row, shelf_of, standing_of};
 ghost use Rattle.bt_history.specs.Counting.{table};
 ghost use Rattle.bt_picker.specs.Tables.{HasRoomOf, changed_row, edit, fresh_piece, piece_row};
@@ -67,6 +68,14 @@ impl Pieces {
         ensures { ListsGroup (map group_of_row self.now) group result.now }
     {
         self.shelf.group(group)
+    }
+
+    /// The begun pieces with an unasked block, the least first.
+    pub fn open_pieces(&self) -> &[u32]
+        ensures lists { ListsGroup (map group_of_row self.now) 2 result.now }
+        ensures rise { IsRising (length self.now) result.now }
+    {
+        self.shelf.open_pieces()
     }
 
     /// The group of the piece.

@@ -8,6 +8,7 @@ ghost use Rattle.bt_history.specs.History.{same_place};
 ghost use Rattle.bt_history.specs.Peers.{joined, late, shows, is_open, outstanding, asked, due, dues, flag};
 ghost use Rattle.bt_history.specs.Pieces.{availability, asked_of_some, begun, full, had, held, held_or_asked, interesting, kept, lacks, unbegun, wanted};
 ghost use Rattle.bt_order.specs.Orders.{at, ListsGroup};
+ghost use Rattle.bt_order.specs.Risings.{Rises};
 ghost use Rattle.bt_picker.specs.Floors.{NoneRarer};
 ghost use Rattle.bt_picker.specs.Standings.{cell_kept, groups_of};
 ghost use Rattle.bt_picker.specs.Tables.{AreTables, cell_of, peer_of, piece_of, place};
@@ -117,6 +118,14 @@ impl<'a> Position<'a> {
         ensures { ListsGroup (groups_of self.now.setting self.now.history) group result.now }
     {
         self.tables.group(group)
+    }
+
+    /// The begun pieces with an unasked block, the least first.
+    pub(crate) fn open_pieces(&self) -> &[u32]
+        ensures lists { ListsGroup (groups_of self.now.setting self.now.history) 2 result.now }
+        ensures rise { (i j : ℕ) → Rises result.now i j }
+    {
+        self.tables.open_pieces()
     }
 
     /// The group of the piece.

@@ -1,18 +1,20 @@
 ghost use Rattle.std.specs.Prelude.{◌≡◌, ◌<◌, ◌≤◌, ◌+◌, ◌-◌, ◌^◌, length, replicate, slice_set, slice_index_or, IfOk};
 ghost use Rattle.bt_order.specs.Orders.{at, ListsGroup};
+ghost use Rattle.bt_order.specs.Risings.{IsRising};
 ghost use Rattle.bt_picker.specs.Standings.{IsFiled, ShelfState};
 ghost use Rattle.bt_picker.specs.Tables.{one_if};
 
-use crate::piece::{GROUPS, Standing};
-use bt_order::Order;
+use crate::piece::{GROUPS, OPEN, Standing};
+use bt_order::{Order, Rising};
 use std::alloc::{AllocError, Global};
 use std::marker::Model;
 
-/// What the rows of the pieces amount to together: the pieces by group, the numbers of unasked blocks and of those that aren't held,
-/// and how many pieces are had.
+/// What the rows of the pieces amount to together: the pieces by group, those of group OPEN in rising order too, since strict priority
+/// takes the least that a peer shows; the numbers of unasked blocks and of those that aren't held, and how many pieces are had.
 #[derive(Drop)]
 pub struct Shelf {
     order: Order,
+    open_pieces: Rising,
     unasked: u64,
     unheld: u64,
     had: u32,
@@ -20,13 +22,13 @@ pub struct Shelf {
 
 impl Model for Shelf {
     ghost use Rattle.std.specs.Prelude.{◌≡◌};
-    ghost use Rattle.bt_picker.specs.Standings.{ShelfState};
+    ghost use Rattle.bt_picker.specs.Standings.{AreOpen, ShelfState};
 
     ghost Value = { ShelfState };
 
     ghost view = { λ s. record { groups = s.order.group_of; unasked = s.unasked; unheld = s.unheld; had = s.had } };
 
-    ghost invariant = { λ s. s.order.count ≡ 1029 };
+    ghost invariant = { λ s. (s.order.count ≡ 1029) × AreOpen s.order.group_of s.open_pieces.bound s.open_pieces.numbers };
 }
 
 impl Shelf {
@@ -36,6 +38,7 @@ impl Shelf {
     {
         Ok(Shelf {
             order: Order::new(alloc, pieces, GROUPS)?,
+            open_pieces: Rising::new(alloc, pieces)?,
             unasked: 0,
             unheld: 0,
             had: 0,
@@ -48,6 +51,14 @@ impl Shelf {
         ensures { ListsGroup self.now.groups group result.now }
     {
         self.order.group(group)
+    }
+
+    /// The begun pieces with an unasked block, the least first.
+    pub fn open_pieces(&self) -> &[u32]
+        ensures lists { ListsGroup self.now.groups 2 result.now }
+        ensures rise { IsRising (length self.now.groups) result.now }
+    {
+        self.open_pieces.as_slice()
     }
 
     /// The group of the piece.
@@ -80,6 +91,7 @@ impl Shelf {
     }
 
     /// A piece that stood like this stands like that now.
+    #[inline(always)] // it is most of what a bitfield costs
     pub fn put(&mut self, piece: u32, before: Standing, after: Standing)
         requires piece { piece < length self.old.groups }
         requires group { after.group < 1029 }
@@ -91,9 +103,22 @@ impl Shelf {
           had = self.old.had - one_if before.had + one_if after.had;
         } }
     {
-        self.order.put(piece, after.group);
+        self.put_in(piece, after.group);
         self.unasked = self.unasked - u64::from(before.unasked) + u64::from(after.unasked);
         self.unheld = self.unheld - u64::from(before.unheld) + u64::from(after.unheld);
         self.had = self.had - u32::from(before.had) + u32::from(after.had);
+    }
+
+    #[inline(always)]
+    fn put_in(&mut self, piece: u32, group: u32)
+        requires piece { piece < length self.old.groups }
+        requires group { group < 1029 }
+        ensures { self.new ≡ record self.old { groups = slice_set self.old.groups piece group } }
+    {
+        let opens = group == OPEN;
+        if (self.group_of(piece) == OPEN) != opens {
+            self.open_pieces.put(piece, opens);
+        }
+        self.order.put(piece, group);
     }
 }

@@ -3,6 +3,7 @@ ghost use Rattle.bt_meta.specs.Layout.{block_count, piece_count, block_size};
 ghost use Rattle.std.specs.Option.{option_copied};
 ghost use Rattle.std.specs.List.{count_by, sum_by};
 ghost use Rattle.bt_order.specs.Orders.{at, ListsGroup};
+ghost use Rattle.bt_order.specs.Risings.{IsRising};
 ghost use Rattle.bt_picker.specs.Standings.{group_of_row, standing_of};
 ghost use Rattle.bt_history.specs.Setting.{setting_of};
 ghost use Rattle.bt_history.specs.Entries.{event, history_of};
@@ -115,6 +116,14 @@ impl Tables {
         ensures { ListsGroup (map group_of_row self.now.pieces) group result.now }
     {
         self.pieces.group(group)
+    }
+
+    /// The begun pieces with an unasked block, the least first.
+    pub fn open_pieces(&self) -> &[u32]
+        ensures lists { ListsGroup (map group_of_row self.now.pieces) 2 result.now }
+        ensures rise { IsRising (length self.now.pieces) result.now }
+    {
+        self.pieces.open_pieces()
     }
 
     /// The group of the piece.
