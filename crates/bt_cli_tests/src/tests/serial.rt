@@ -40,15 +40,17 @@ pub fn recorded(alloc: Global, sent: &[u8]) -> Recorded<'_> {
     }
 }
 
-/// Options of all pieces by the usual rules.
+/// Options of all pieces by the usual rules, with one checker.
 pub fn usual(seed: u64, journal: bool) -> Options
-    ensures { (1 ≤ result.rules.depth) × (result.rules.depth ≤ MOST_DEPTH) }
+    ensures depth { (1 ≤ result.rules.depth) × (result.rules.depth ≤ MOST_DEPTH) }
+    ensures checkers { result.checkers ≡ 1 }
 {
     Options {
         seed,
         journal,
         want: None,
         rules: Rules::usual(),
+        checkers: 1,
     }
 }
 

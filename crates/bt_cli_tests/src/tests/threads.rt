@@ -31,6 +31,7 @@ fn command<T: Threads + Wait + AllocGlobal + Sync>(
 ) -> Result<Done, Fail>
     requires streams { (1 ≤ length streams.items) × (length streams.items ≤ 64) }
     requires depth { (1 ≤ options.now.rules.depth) × (options.now.rules.depth ≤ MOST_DEPTH) }
+    requires checkers { (1 ≤ options.now.checkers) × (options.now.checkers ≤ 8) }
 {
     let mut taken = vec![in rt.alloc(); 0_u8; room]?;
     let mut out = ToWrite::new(taken.as_mut_slice());
@@ -56,7 +57,8 @@ fn with_one<T: Threads + Wait + AllocGlobal + Sync>(
     sent: &[u8],
     options: &Options,
 ) -> Result<Done, Fail>
-    requires { (1 ≤ options.now.rules.depth) × (options.now.rules.depth ≤ MOST_DEPTH) }
+    requires depth { (1 ≤ options.now.rules.depth) × (options.now.rules.depth ≤ MOST_DEPTH) }
+    requires checkers { (1 ≤ options.now.checkers) × (options.now.checkers ≤ 8) }
 {
     let streams = Vec::from_array(rt.alloc(), [recorded(rt.alloc(), sent)])?;
     command(rt, meta, streams, options, ROOM)
@@ -65,14 +67,40 @@ fn with_one<T: Threads + Wait + AllocGlobal + Sync>(
 #[test]
 fn one_piece_of_one_peer(rt: HostRuntime) -> Result<(), Fail> {
     let sent = stream(rt.alloc(), INFOHASH, FRAMES)?;
-    let done = with_one(&rt, FILE, &sent, &usual(0, true))?;
+    let done = with_one(&rt, FILE, &sent, &usual(0, false))?;
     assert_eq!(rt;
         done.out.as_slice(),
-        b"0 join = joined\n0 bits 80 = noted yes\n0 next = choked\n0 unchoke = quiet\n0 next = request 0 0 3\n0 next = idle\n0 block 0 0 3 = completed\n0 settle 0 = had\n0 next = nothing\n0 leave = quiet\nstream 0 end\npieces 1\nhad 1\nmissing -\ncomplete yes\njournal ok\n".as_slice()
+        b"stream 0 end\npieces 1\nhad 1\nmissing -\ncomplete yes\njournal ok\n".as_slice()
     );
     assert_eq!(rt; done.status, 0);
     assert!(rt; done.err.is_empty());
-    assert_eq!(rt; done.logs, Some(2));
+    assert_eq!(rt; done.logs, Some(3));
+    Ok(())
+}
+
+/// The first of three pieces has wrong bytes, so that its check fails after it was completed, and it is lacking.
+#[test]
+fn a_wrong_piece_and_two_checkers(rt: HostRuntime) -> Result<(), Fail> {
+    let sent = stream(
+        rt.alloc(),
+        INFOHASH_OF_THREE,
+        b"\0\0\0\x02\x05\xe0\0\0\0\x01\x01\0\0\0\x0c\x07\0\0\0\0\0\0\0\0abd\0\0\0\x0c\x07\0\0\0\x01\0\0\0\0abc\0\0\0\x0a\x07\0\0\0\x02\0\0\0\0a",
+    )?;
+    let options = Options {
+        seed: 0,
+        journal: false,
+        want: None,
+        rules: Rules::usual(),
+        checkers: 2,
+    };
+    let done = with_one(&rt, THREE_PIECES, &sent, &options)?;
+    assert_eq!(rt;
+        done.out.as_slice(),
+        b"stream 0 end\npieces 3\nhad 2\nmissing 0\ncomplete no\njournal ok\n".as_slice()
+    );
+    assert_eq!(rt; done.status, 1);
+    assert!(rt; done.err.is_empty());
+    assert_eq!(rt; done.logs, Some(4));
     Ok(())
 }
 
@@ -100,7 +128,7 @@ fn three_pieces_of_two_peers(rt: HostRuntime) -> Result<(), Fail> {
     );
     assert_eq!(rt; done.status, 0);
     assert!(rt; done.err.is_empty());
-    assert_eq!(rt; done.logs, Some(3));
+    assert_eq!(rt; done.logs, Some(4));
     Ok(())
 }
 
@@ -114,7 +142,7 @@ fn a_stream_that_breaks_off(rt: HostRuntime) -> Result<(), Fail> {
     );
     assert_eq!(rt; done.status, 1);
     assert!(rt; done.err.is_empty());
-    assert_eq!(rt; done.logs, Some(2));
+    assert_eq!(rt; done.logs, Some(3));
     Ok(())
 }
 
@@ -141,6 +169,7 @@ fn two_pieces_at_random(rt: HostRuntime) -> Result<(), Fail> {
             depth: 5,
             random: 2,
         },
+        checkers: 8,
     };
     let done = with_one(&rt, FILE, &sent, &options)?;
     assert_eq!(rt; done.status, 2);
@@ -159,6 +188,7 @@ fn wanted_pieces_are_not_heard(rt: HostRuntime) -> Result<(), Fail> {
         journal: false,
         want: Some(Vec::from_slice(rt.alloc(), b"\0\0")?),
         rules: Rules::usual(),
+        checkers: 8,
     };
     let done = with_one(&rt, FILE, &sent, &options)?;
     assert_eq!(rt; done.status, 0);
@@ -174,6 +204,6 @@ fn a_full_output(rt: HostRuntime) -> Result<(), Fail> {
     assert_eq!(rt; done.status, 4);
     assert_eq!(rt; done.out.as_slice(), b"stream 0 end\npieces ".as_slice());
     assert_eq!(rt; done.err.as_slice(), b"file fault\n".as_slice());
-    assert_eq!(rt; done.logs, Some(2));
+    assert_eq!(rt; done.logs, Some(3));
     Ok(())
 }

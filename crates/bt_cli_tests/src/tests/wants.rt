@@ -103,6 +103,7 @@ fn one_block_in_the_pipe(rt: HostRuntime) -> Result<(), Fail> {
             depth: 1,
             random: 0,
         },
+        checkers: 1,
     };
     let ended = run_with(rt.alloc(), THREE_PIECES, &sent, &options);
     assert_eq!(rt; ended.run?.status(), 1);
