@@ -80,6 +80,7 @@ def main():
         "three-pieces.torrent": three,
         "three-pieces-0.stream": peer(three_hash, 0xC0, [(0, b"abc"), (1, b"abc")]),
         "three-pieces-1.stream": peer(three_hash, 0x60, [(1, b"abc"), (2, b"a")]),
+        "three-pieces-wrong.stream": peer(three_hash, 0xE0, [(0, b"abd"), (1, b"abc"), (2, b"a")]),
     }
     files.update(DESCRIBED)
     files.update(FAULTY)

@@ -7,8 +7,9 @@ use Rattle.bt_session.specs.declared.fault.End.{End}
 use Rattle.bt_session.specs.declared.fault.SessionFault.{SessionFault}
 use Rattle.bt_session.specs.declared.swarm_run.SwarmFault.{SwarmFault}
 use Rattle.bt_session.specs.declared.swarm_run.SwarmFault.TheVariants as swarms
+use Rattle.bt_session.specs.Checking.{CheckersCheck}
 use Rattle.bt_session.specs.Serial.{StreamRecord}
-use Rattle.bt_session.specs.Swarms.{EachSwarmed, MakesLastChecks, TellsWaiting}
+use Rattle.bt_session.specs.Swarms.{EachSwarmed, LeavesNone, MakesLastChecks}
 use Rattle.bt_session.specs.Terms.{terms_of}
 use Rattle.bt_shared.specs.declared.gather.Book.{Book}
 use Rattle.bt_script.specs.declared.fault.Fault.{Fault}
@@ -18,7 +19,7 @@ use Rattle.bt_cli.specs.Runs.{Ended, IsEndStatus}
 use Rattle.bt_script.specs.Statuses.{of_gather, of_metainfo, status_of}
 
 -- A run of these streams in threads came to this book: an end for each stream, each as its session's at its worker's log, which asked for
--- blocks by the depth of the options; the last worker made the last checks alone; and it ended as `Ended` says.
+-- blocks by the depth of the options; the checkers made checks alone, and the last worker the last ones; and it ended as `Ended` says.
 pub record RanThreads {X : Type 0} (record_of : X → StreamRecord) (torrent : Metainfo) (options : Options) (streams : List X) (book : Book)
     (ended : Result Bool Fault) (old new : Option (List ℕ)) (failed : Bool) : Type 0 where
   pub ends : List (Result End SessionFault)
@@ -27,11 +28,12 @@ pub record RanThreads {X : Type 0} (record_of : X → StreamRecord) (torrent : M
   pub left : List X
   pub count : length ends ≡ length streams
   pub all_left : length left ≡ length streams
-  pub logs : length book.logs.items ≡ length streams + 1
+  pub logs : length book.logs.items ≡ length streams + options.checkers + 1
   pub sessions : EachSwarmed record_of (terms_of torrent options.rules.depth)
-      (setting_of torrent.layout (length streams + 1) options.rules) options.seed streams book.logs.items left ends
-  pub finishes : MakesLastChecks (length streams) book.logs.items (piece_count torrent.layout)
-  pub waiting : TellsWaiting short book.desk
+      (setting_of torrent.layout (length streams + options.checkers + 1) options.rules) options.seed streams book.logs.items left ends
+  pub checks : CheckersCheck (length streams) options.checkers book.logs.items
+  pub finishes : MakesLastChecks (length streams + options.checkers) book.logs.items (piece_count torrent.layout)
+  pub waiting : LeavesNone short book.desk
   pub told : Ended short ends book.desk ended options.journal old new failed
 
 -- why a run in threads came to nothing, as a fault of the command

@@ -18,7 +18,7 @@ use crate::threads::{ThreadsRun, play_threads};
 use bt_meta::{Sink, Source};
 use bt_picker::Desk;
 use bt_script::{Fault, MOST_DEPTH, conclude};
-use bt_session::{MOST_STREAMS, Stream};
+use bt_session::{MOST_CHECKERS, MOST_STREAMS, Stream};
 use bt_shared::Book;
 use std::alloc::Global;
 use std::io::Write;
@@ -59,8 +59,8 @@ pub fn run_serial<R: Source, W: Sink, O: Sink, E: Write>(
     }
 }
 
-/// Plays the streams of 1 to 64 recorded peers at one desk, each in a thread of its own, and prints how each ended and which pieces are
-/// lacking; a fault goes to `err`.
+/// Plays the streams of 1 to 64 recorded peers at one desk, each in a thread of its own beside the checkers' threads, 1 to 8, and prints how
+/// each ended and which pieces are lacking; a fault goes to `err`.
 ///
 /// Answers the exit status: 0 where all pieces are had, and 1 where one isn't; 2 where the number of pieces at random isn't the torrent's; 3
 /// for bytes that are no metainfo file; 4 where `out` fails; 5 for want of memory, also where a session met it, or of a thread; 6 where the
@@ -81,9 +81,10 @@ pub fn run_threads<
 ) -> (u8, Option<Book>)
     requires streams { (1 ≤ length streams.items) × (length streams.items ≤ MOST_STREAMS) }
     requires depth { (1 ≤ options.now.rules.depth) × (options.now.rules.depth ≤ MOST_DEPTH) }
+    requires checkers { (1 ≤ options.now.checkers) × (options.now.checkers ≤ MOST_CHECKERS) }
     ensures status { IsThreadsStatus (torrent_of_file meta.now) options.now result.0 result.1 }
     ensures setting { IfSome result.1 (λ book. (t : Metainfo) → torrent_of_file meta.now ≡ Ok t →
-        book.desk.setting ≡ setting_of t.layout (length streams.items + 1) options.now.rules) }
+        book.desk.setting ≡ setting_of t.layout (length streams.items + options.now.checkers + 1) options.now.rules) }
     ensures legal { IfSome result.1 (λ book. IsLegal book.desk.setting book.desk.history) }
     // The logs are exactly the calls of the journal: each worker's its own, each call at its place.
     ensures agrees { IfSome result.1 (λ book. EachAgrees book.desk.history book.logs.items) }

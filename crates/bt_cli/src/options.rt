@@ -19,6 +19,8 @@ pub struct Options {
     /// The pieces that are to be downloaded, as the payload of a `bitfield` message spells them (BEP 3); each piece where it isn't given.
     pub want: Option<Vec<u8>>,
     pub rules: Rules,
+    /// How many threads check pieces, where sessions run in threads; a run in one thread doesn't read it.
+    pub checkers: u32,
 }
 
 /// The wanted pieces, if some are asked for, where the options fit a torrent of so many pieces.

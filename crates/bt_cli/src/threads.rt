@@ -5,8 +5,9 @@ ghost use Rattle.bt_meta.specs.Layout.{Metainfo, piece_count};
 ghost use Rattle.bt_meta.specs.Reading.{torrent_of_file};
 ghost use Rattle.bt_history.specs.Legal.{IsLegal};
 ghost use Rattle.bt_history.specs.Setting.{AreRules, setting_of};
+ghost use Rattle.bt_session.specs.Checking.{CheckersCheck};
 ghost use Rattle.bt_session.specs.Serial.{stream_record};
-ghost use Rattle.bt_session.specs.Swarms.{EachSwarmed, MakesLastChecks, TellsWaiting};
+ghost use Rattle.bt_session.specs.Swarms.{EachSwarmed, LeavesNone, MakesLastChecks};
 ghost use Rattle.bt_session.specs.Terms.{terms_of};
 ghost use Rattle.bt_shared.specs.Gathering.{EachAgrees};
 ghost use Rattle.bt_cli.specs.Runs.{run_status};
@@ -16,7 +17,7 @@ use crate::options::{Options, fit_random};
 use crate::telling::{Outcome, run_status, tell};
 use bt_meta::{Sink, Source, Torrent};
 use bt_script::{Fault, MOST_DEPTH};
-use bt_session::{MOST_STREAMS, OpenGate, Stream, SwarmFault, SwarmRun, swarm};
+use bt_session::{MOST_CHECKERS, MOST_STREAMS, OpenGate, Stream, SwarmFault, SwarmRun, swarm};
 use bt_shared::Book;
 use std::sync::{Arc, Wait};
 use std::thread::Threads;
@@ -39,8 +40,8 @@ impl ThreadsRun {
     }
 }
 
-/// Plays the streams of 1 to 64 recorded peers at one desk, each in a thread of its own, and prints how each ended and which pieces are
-/// lacking, with no memory. Each piece is wanted, whatever the options say.
+/// Plays the streams of 1 to 64 recorded peers at one desk, each in a thread of its own beside the checkers' threads, 1 to 8, and prints how
+/// each ended and which pieces are lacking, with no memory. Each piece is wanted, whatever the options say.
 ///
 /// Refuses bytes that are no metainfo file; then a number of pieces at random that isn't its torrent's; for want of memory or of a thread;
 /// and where the workers' logs aren't what the journal has. Then nothing is printed.
@@ -58,9 +59,10 @@ pub fn play_threads<
 ) -> Result<ThreadsRun, Fault>
     requires streams { (1 ≤ length streams.items) × (length streams.items ≤ MOST_STREAMS) }
     requires depth { (1 ≤ options.now.rules.depth) × (options.now.rules.depth ≤ MOST_DEPTH) }
+    requires checkers { (1 ≤ options.now.checkers) × (options.now.checkers ≤ MOST_CHECKERS) }
     ensures meta { OnOk result (IsOk (torrent_of_file meta.now)) }
     ensures setting { IfOk result (λ run. (t : Metainfo) → torrent_of_file meta.now ≡ Ok t →
-        run.book.desk.setting ≡ setting_of t.layout (length streams.items + 1) options.now.rules) }
+        run.book.desk.setting ≡ setting_of t.layout (length streams.items + options.now.checkers + 1) options.now.rules) }
     ensures legal { IfOk result (λ run. IsLegal run.book.desk.setting run.book.desk.history) }
     ensures agrees { IfOk result (λ run. EachAgrees run.book.desk.history run.book.logs.items) }
     ensures ran { IfOk result (λ run. (t : Metainfo) → torrent_of_file meta.now ≡ Ok t →
@@ -69,7 +71,7 @@ pub fn play_threads<
     ensures err { IfErr result (IsThreadsFault (torrent_of_file meta.now) options.now) }
     ensures unprinted { OnErr result (out.new ≡ out.old) }
 {
-    let workers = streams.len() as u32 + 1;
+    let workers = streams.len() as u32 + options.checkers + 1;
     let played = play(rt, meta, streams, options)?;
     let outcome = Outcome {
         ends: &played.run.ends,
@@ -102,22 +104,24 @@ fn play<T: Threads + Wait + AllocGlobal + Sync, R: Source + Send + Drop, W: Sink
 ) -> Result<Played<R, W>, Fault>
     requires streams { (1 ≤ length streams.items) × (length streams.items ≤ MOST_STREAMS) }
     requires depth { (1 ≤ options.now.rules.depth) × (options.now.rules.depth ≤ MOST_DEPTH) }
+    requires checkers { (1 ≤ options.now.checkers) × (options.now.checkers ≤ MOST_CHECKERS) }
     ensures torrent { IfOk result (λ p. torrent_of_file meta.now ≡ Ok p.torrent.value) }
     ensures rules { IfOk result (λ p. AreRules p.torrent.value.layout options.now.rules) }
     ensures setting { IfOk result (λ p.
-        p.run.book.desk.setting ≡ setting_of p.torrent.value.layout (length streams.items + 1) options.now.rules) }
+        p.run.book.desk.setting ≡ setting_of p.torrent.value.layout (length streams.items + options.now.checkers + 1) options.now.rules) }
     ensures legal { IfOk result (λ p. IsLegal p.run.book.desk.setting p.run.book.desk.history) }
-    ensures logs { IfOk result (λ p. length p.run.book.logs.items ≡ length streams.items + 1) }
+    ensures logs { IfOk result (λ p. length p.run.book.logs.items ≡ length streams.items + options.now.checkers + 1) }
     ensures agrees { IfOk result (λ p. EachAgrees p.run.book.desk.history p.run.book.logs.items) }
     ensures count { IfOk result (λ p. length p.run.ends.items ≡ length streams.items) }
     ensures left { IfOk result (λ p. length p.run.streams.items ≡ length streams.items) }
     ensures sessions { IfOk result (λ p. EachSwarmed (stream_record R.left R.ended R.failed R.asked W.written W.failed)
         (terms_of p.torrent.value options.now.rules.depth)
-        (setting_of p.torrent.value.layout (length streams.items + 1) options.now.rules) options.now.seed
+        (setting_of p.torrent.value.layout (length streams.items + options.now.checkers + 1) options.now.rules) options.now.seed
         streams.items p.run.book.logs.items p.run.streams.items p.run.ends.items) }
+    ensures checks { IfOk result (λ p. CheckersCheck (length streams.items) options.now.checkers p.run.book.logs.items) }
     ensures finishes { IfOk result (λ p.
-        MakesLastChecks (length streams.items) p.run.book.logs.items (piece_count p.torrent.value.layout)) }
-    ensures waiting { IfOk result (λ p. TellsWaiting p.run.short p.run.book.desk) }
+        MakesLastChecks (length streams.items + options.now.checkers) p.run.book.logs.items (piece_count p.torrent.value.layout)) }
+    ensures waiting { IfOk result (λ p. LeavesNone p.run.short p.run.book.desk) }
     ensures err { IfErr result (IsThreadsFault (torrent_of_file meta.now) options.now) }
 {
     let torrent = Torrent::read(rt.alloc(), meta)?;
@@ -130,6 +134,7 @@ fn play<T: Threads + Wait + AllocGlobal + Sync, R: Source + Send + Drop, W: Sink
         streams,
         options.seed,
         options.rules,
+        options.checkers,
         &OpenGate,
     );
     match run {

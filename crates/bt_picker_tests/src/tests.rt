@@ -7,3 +7,4 @@ mod played;
 mod random;
 mod shared;
 mod steps;
+mod tickets;

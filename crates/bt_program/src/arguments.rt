@@ -2,7 +2,7 @@
 
 use crate::help;
 use bt_cli::MOST_DEPTH;
-use bt_session::MOST_STREAMS;
+use bt_session::{MOST_CHECKERS, MOST_STREAMS};
 use clap::{Arg, ArgAction, Command, value_parser};
 use std::alloc::{AllocError, Global};
 
@@ -73,6 +73,7 @@ fn run<'a>(alloc: Global) -> Result<Command<'a>, AllocError> {
         .arg(seed(alloc))?
         .arg(depth(alloc))?
         .arg(random(alloc))?
+        .arg(checkers(alloc))?
         .arg(out(alloc))?
         .arg(meta(alloc))?
         .arg(streams(alloc))
@@ -110,6 +111,15 @@ fn random<'a>(alloc: Global) -> Arg<'a> {
         .value_name("N")
         .help("Picks pieces at random until so many are had, and then the rarest")
         .value_parser(value_parser!(u32))
+        .default_value("1")
+}
+
+fn checkers<'a>(alloc: Global) -> Arg<'a> {
+    Arg::new(alloc, "checkers")
+        .long("checkers")
+        .value_name("K")
+        .help("Checks pieces in so many threads, 1 to 8")
+        .value_parser(value_parser!(u32).range(1..=i64::from(MOST_CHECKERS)))
         .default_value("1")
 }
 

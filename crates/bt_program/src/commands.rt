@@ -11,7 +11,7 @@ use bt_cli::{
 };
 use bt_meta::{FromRead, ToWrite};
 use bt_picker::{Desk, Rules};
-use bt_session::{MOST_STREAMS, Stream};
+use bt_session::{MOST_CHECKERS, MOST_STREAMS, Stream};
 use clap::ArgMatches;
 use clap::error::ErrorKind;
 use std::alloc::{AllocError, Global};
@@ -192,17 +192,24 @@ fn options<E: Write>(
     arguments: &ArgMatches<'_>,
     err: &mut E,
 ) -> Result<Option<Options>, AllocError>
-    ensures { IfOk result (λ found. IfSome found (λ options.
+    ensures depth { IfOk result (λ found. IfSome found (λ options.
         (1 ≤ options.rules.depth) × (options.rules.depth ≤ MOST_DEPTH))) }
+    ensures checkers { IfOk result (λ found. IfSome found (λ options.
+        (1 ≤ options.checkers) × (options.checkers ≤ MOST_CHECKERS))) }
 {
     let usual = Rules::usual();
     let rules = Rules {
         depth: arguments.get_one::<u32>("depth").unwrap_or(usual.depth),
         random: arguments.get_one::<u32>("random").unwrap_or(usual.random),
     };
-    // `clap` refuses other depths, but nothing here proves that of what it found.
+    let checkers = arguments.get_one::<u32>("checkers").unwrap_or(1);
+    // `clap` refuses other depths and numbers of checkers, but nothing here proves that of what it found.
     if rules.depth < 1 || rules.depth > MOST_DEPTH {
         let _ = writeln!(err, "error: a depth is 1 to {MOST_DEPTH}");
+        return Ok(None);
+    }
+    if checkers < 1 || checkers > MOST_CHECKERS {
+        let _ = writeln!(err, "error: a run takes 1 to {MOST_CHECKERS} checkers");
         return Ok(None);
     }
     let mut want = None;
@@ -218,6 +225,7 @@ fn options<E: Write>(
         journal: arguments.get_flag("journal"),
         want,
         rules,
+        checkers,
     }))
 }
 

@@ -81,9 +81,9 @@ written; 5 `memory`, there wasn't enough. Not of META's torrent, the first of th
   random fault      there are fewer pieces than --random says";
 
 pub const RUN: &str = "\
-Each STREAM is played in a thread of its own, by worker I of one desk, from 0; one more worker checks the pieces that
-are left at the end. All pieces are wanted. In which order the workers call isn't told beforehand, so that another run
-may ask for other blocks. The file of --out is made where all pieces are had.
+Each STREAM is played in a thread of its own, by worker I of one desk, from 0; --checkers threads check the pieces, and
+one more worker those that are left at the end. All pieces are wanted. In which order the workers call isn't told
+beforehand, so that another run may ask for other blocks. The file of --out is made where all pieces are had.
 
 Prints:
   stream I end      the stream was played to its end

@@ -9,7 +9,7 @@ use anyhow::{Context, Result, bail};
 use bt_cli::{MOST_DEPTH, Options, play_streams, play_threads};
 use bt_meta::{FromRead, ToWrite, Torrent};
 use bt_picker::{Desk, Rules};
-use bt_session::{MOST_STREAMS, Stream};
+use bt_session::{MOST_CHECKERS, MOST_STREAMS, Stream};
 use bt_wire::{Inbound, frame_limit};
 use counts::Counts;
 use sha1::Sha1;
@@ -66,15 +66,17 @@ fn opened<R: Runtime>(
     Ok(streams)
 }
 
-/// Of the seed 0 and the usual rules, without the journal.
+/// Of the seed 0, the usual rules and two checkers, without the journal.
 fn options() -> Options
-    ensures { (1 ≤ result.rules.depth) × (result.rules.depth ≤ MOST_DEPTH) }
+    ensures depth { (1 ≤ result.rules.depth) × (result.rules.depth ≤ MOST_DEPTH) }
+    ensures checkers { (1 ≤ result.checkers) × (result.checkers ≤ MOST_CHECKERS) }
 {
     Options {
         seed: 0,
         journal: false,
         want: None,
         rules: Rules::usual(),
+        checkers: 2,
     }
 }
 

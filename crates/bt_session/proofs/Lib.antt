@@ -1,4 +1,5 @@
 pub mod Asking
+pub mod Checking
 pub mod Conduct
 pub mod Desks
 pub mod EachStream

@@ -1,20 +1,15 @@
 -- What a place at a shared desk gains by its pass's marks.
-use Rattle.std.proofs.Common.{ℕ, Bool, List, [], ◌∷◌, refl, sym, ap, subst, ◌∙◌, inl, inr}
-use Rattle.std.specs.Prelude.{IsTrue}
+use Rattle.std.proofs.Common.{ℕ, Bool, [], ◌∷◌, refl, ap, ◌∙◌}
 use Rattle.std.proofs.lemmas.List.{map-append}
 use Rattle.bt_history.specs.declared.call.Reply.{Reply}
 use Rattle.bt_history.specs.declared.mark.CallMark.{CallMark}
-use Rattle.bt_history.specs.declared.mark.CallMark.TheVariants.{Settle}
 use Rattle.bt_history.specs.declared.mark.Mark.{Mark}
-use Rattle.bt_history.specs.Logs.{answers}
 use Rattle.bt_history.specs.Setting.{Setting}
-use Rattle.bt_shared.specs.Passes.{PassState, Notes, NotesCheck, mark}
+use Rattle.bt_shared.specs.Passes.{PassState, Notes, mark}
 use Rattle.bt_session.specs.Desks.{calls_of_marks}
-use Rattle.bt_session.specs.Events.{Event, Called}
+use Rattle.bt_session.specs.Events.{Called}
 use Rattle.bt_session.specs.Passes.{pass_record}
 use Rattle.bt_session.specs.Places.{Gains}
-use Rattle.bt_session.specs.Turns.{ChecksAtMost}
-use Rattle.bt_session.proofs.Stretches.{Gains-none}
 
 module _ (setting : Setting) (old new : PassState) (had told : ℕ → Bool) (short : Bool) where
   -- a call was marked
@@ -33,21 +28,3 @@ module _ (setting : Setting) (old new : PassState) (had told : ℕ → Bool) (sh
     };
     short = refl;
   }
-
-  -- a check was marked, or nothing
-  pub noted_check : (piece : ℕ) (reply : Reply) → IsTrue (answers (Settle piece) reply) → NotesCheck setting old piece reply new
-      → (events : List Event) × (ChecksAtMost piece events
-      × Gains (pass_record setting old had told short) events (pass_record setting new had told short))
-  noted_check piece reply fits notes =
-      elim notes [
-        | inl more ↦ (Called (Settle piece) reply ∷ [], (inr (reply, (fits, refl)), noted (Settle piece) reply more))
-        | inr none ↦ (
-          [],
-          (
-            inl refl,
-            subst
-                (λ (p : PassState). Gains (pass_record setting old had told short) [] (pass_record setting p had told short)) (sym none.0)
-                (Gains-none (pass_record setting old had told short)),
-          ),
-        )
-      ]

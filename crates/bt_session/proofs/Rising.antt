@@ -1,11 +1,9 @@
 -- The log of checks that were made in the order of their pieces.
-use Rattle.std.proofs.Common.{◌≡◌, ℕ, ◌+◌, ◌≤◌, List, [], ◌∷◌, ◌++◌, Result, Ok, Err, refl, sym, ap, subst, arith, inl, inr}
-use Rattle.std.specs.Prelude.{IfOk, OnErr}
-use Rattle.bt_history.specs.declared.call.Reply.{Reply}
+use Rattle.std.proofs.Common.{◌≡◌, ℕ, ◌+◌, ◌≤◌, List, [], ◌∷◌, ◌++◌, refl, sym, ap, subst, arith, inl, inr}
 use Rattle.bt_history.specs.declared.mark.CallMark.TheVariants as marks
 use Rattle.bt_history.specs.declared.mark.Mark.{Mark}
-use Rattle.bt_history.specs.Setting.{Setting}
-use Rattle.bt_shared.specs.Passes.{PassState, NotesCheck}
+use Rattle.bt_shared.specs.Passes.{PassState}
+use Rattle.bt_session.specs.Checking.{MayCheck}
 use Rattle.bt_session.specs.Swarms.{ChecksRise}
 
 rise_up : (low : ℕ) (log : List Mark) (high more : ℕ) → high ≤ more → ChecksRise low log high → ChecksRise low log more
@@ -28,14 +26,12 @@ goes_same old new piece same = record {
   rise = λ rise. subst (λ (p : PassState). ChecksRise 0 p.log (piece + 1)) (sym same) (rise_up 0 old.log piece (piece + 1) (omega arith) rise);
 }
 
-pub goes_on : {E : Type 0} (result : Result Reply E) (setting : Setting) (old new : PassState) (piece : ℕ) →
-    IfOk result (λ reply. NotesCheck setting old piece reply new) → OnErr result (new ≡ old) → Goes old new piece
-goes_on (Err fault) setting old new piece notes same = goes_same old new piece same
-goes_on (Ok reply) setting old new piece notes same =
-    elim notes [
-      | inl more ↦ record {
-        worker = more.worker;
-        rise = λ rise. subst (λ (log : List Mark). ChecksRise 0 log (piece + 1)) (sym more.log) (rise_on 0 old.log piece _ refl rise);
+pub goes_on : (old new : PassState) (piece : ℕ) → MayCheck old piece new → Goes old new piece
+goes_on old new piece may =
+    elim may [
+      | inl same ↦ goes_same old new piece same
+      | inr more ↦ record {
+        worker = more.1.worker;
+        rise = λ rise. subst (λ (log : List Mark). ChecksRise 0 log (piece + 1)) (sym more.1.log) (rise_on 0 old.log piece _ refl rise);
       }
-      | inr none ↦ goes_same old new piece none.0
     ]

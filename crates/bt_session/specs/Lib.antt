@@ -1,3 +1,4 @@
+pub mod Checking
 pub mod Conduct
 pub mod Desks
 pub mod Events

@@ -1,5 +1,7 @@
 -- A place at a desk that threads share: what its pass says.
-use Rattle.std.specs.Prelude.{ℕ, Bool, false, []}
+use Rattle.std.specs.Prelude.{◌≡◌, ◌⊎◌, ℕ, Bool, true, false, []}
+use Rattle.bt_check.specs.declared.ticket.Ticket.TheVariants.{Piece}
+use Rattle.bt_check.specs.Queues.{with_put, PassState as TicketState}
 use Rattle.bt_history.specs.Setting.{Setting}
 use Rattle.bt_shared.specs.Passes.{PassState}
 use Rattle.bt_session.specs.Desks.{calls_of_marks}
@@ -23,7 +25,16 @@ pass_record setting pass had told short = record {
   short = short;
 }
 
--- a place at a shared desk as its callers see it: its pass, and whether a call has found no memory
+-- a place at a shared desk as its callers see it: its pass, its pass for tickets, whether a call has found no memory, and whether a ticket
+-- came back
 pub record PassPlaceState : Type 0 where
   pub pass : PassState
+  pub tickets : TicketState
   pub short : Bool
+  pub given_up : Bool
+
+-- a ticket was put for the piece; or it came back, which is noted
+abbrev pub PutsTicket : PassPlaceState → ℕ → PassPlaceState → Type 0
+PutsTicket old piece new =
+    (new ≡ record { pass = old.pass; tickets = with_put old.tickets (Piece piece); short = old.short; given_up = old.given_up })
+    ⊎ (new ≡ record { pass = old.pass; tickets = old.tickets; short = old.short; given_up = true })

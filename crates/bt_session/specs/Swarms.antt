@@ -97,3 +97,7 @@ MakesLastChecks worker logs pieces = (log : Vec Mark) → slice_get logs worker 
 pub record TellsWaiting (short : Bool) (desk : DeskState) : Type 0 where
   pub none : short ≡ false → (piece : ℕ) → waits desk.setting desk.history piece ≡ false
   pub still : short ≡ true → (piece : ℕ) × (waits desk.setting desk.history piece ≡ true)
+
+-- a run that isn't short leaves no piece that waits for a check
+abbrev pub LeavesNone : Bool → DeskState → Type 0
+LeavesNone short desk = short ≡ false → (piece : ℕ) → waits desk.setting desk.history piece ≡ false

@@ -3,6 +3,9 @@
 
 mod attending;
 mod calling;
+mod check_threads;
+mod checker;
+mod crew;
 mod desk_place;
 mod fault;
 mod gate;
@@ -18,6 +21,7 @@ mod stream;
 mod swarm_run;
 mod terms;
 mod threads;
+mod ticket_end;
 mod turning;
 pub mod whole;
 mod writing;
@@ -30,4 +34,5 @@ pub use place::Place;
 pub use rounds::serial;
 pub use session::Session;
 pub use stream::{MOST_STREAMS, SerialRun, Stream};
-pub use swarm_run::{SwarmFault, SwarmRun, swarm};
+pub use swarm_run::{MOST_CHECKERS, SwarmFault, SwarmRun, swarm};
+pub use ticket_end::TicketEnd;

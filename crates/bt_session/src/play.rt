@@ -9,6 +9,7 @@ use crate::fault::{End, SessionFault};
 use crate::gate::Gate;
 use crate::pass_place::PassPlace;
 use crate::stream::Stream;
+use crate::ticket_end::TicketEnd;
 use crate::whole::gated;
 use bt_meta::{Sink, Source, Torrent};
 use bt_shared::{DeskLedger, Pass, SharedDesk};
@@ -22,6 +23,8 @@ pub struct Played<L: DeskLedger, R, W> {
     pub end: Result<End, SessionFault>,
     pub pass: Pass<L>,
     pub stream: Stream<R, W>,
+    /// A ticket came back, and its piece was left to the last checks.
+    pub short: bool,
 }
 
 /// A whole session at a shared desk, with the words of the generator of its worker's number.
@@ -31,6 +34,7 @@ pub fn play<L: DeskLedger, R: Source, W: Sink, T: Wait, G: Gate>(
     torrent: Arc<Torrent>,
     desk: &SharedDesk<L>,
     pass: Pass<L>,
+    tickets: TicketEnd<'_>,
     stream: Stream<R, W>,
     seed: u64,
     depth: u32,
@@ -43,7 +47,7 @@ pub fn play<L: DeskLedger, R: Source, W: Sink, T: Wait, G: Gate>(
 {
     let worker = pass.worker();
     let mut rng = Lcg64Xsh32::new(seed, u64::from(worker));
-    let mut place = PassPlace::new(rt, desk, pass);
+    let mut place = PassPlace::new(rt, desk, pass, tickets);
     let mut stream = stream;
     let end = gated(
         alloc,
@@ -56,9 +60,11 @@ pub fn play<L: DeskLedger, R: Source, W: Sink, T: Wait, G: Gate>(
         depth,
         gate,
     );
+    let short = place.gave_up();
     Played {
         end,
         pass: place.into_pass(),
         stream,
+        short,
     }
 }

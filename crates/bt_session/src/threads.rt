@@ -1,14 +1,16 @@
 //! Sessions in threads of their own.
 
-ghost use Rattle.std.specs.Prelude.{◌≡◌, ◌≤◌, All, map, length, IfOk};
+ghost use Rattle.std.specs.Prelude.{◌≡◌, ◌≤◌, [], All, map, length, vec_len, vec_capacity, IfOk, OnOk};
+ghost use Rattle.std.specs.PromisedHandle.{KeepsEach};
 ghost use Rattle.bt_session.specs.Serial.{stream_record};
-ghost use Rattle.bt_session.specs.Swarms.{EachPlays, Plays};
+ghost use Rattle.bt_session.specs.Swarms.{Plays};
 ghost use Rattle.bt_session.specs.Terms.{terms_of};
 
 use crate::gate::Gate;
 use crate::play::{Played, play};
 use crate::stream::Stream;
 use crate::swarm_run::SwarmFault;
+use crate::ticket_end::TicketEnd;
 use bt_meta::{Sink, Source, Torrent};
 use bt_shared::{DeskLedger, Pass, SharedDesk};
 use std::alloc::Global;
@@ -50,6 +52,7 @@ fn start<
     torrent: Arc<Torrent>,
     desk: &'e SharedDesk<L>,
     pass: Pass<L>,
+    tickets: TicketEnd<'e>,
     stream: Stream<R, W>,
     seed: u64,
     depth: u32,
@@ -73,15 +76,19 @@ fn start<
         ensures { Plays result.end (terms_of torrent.value depth) L.setting seed
             pass (stream_record R.left R.ended R.failed R.asked W.written W.failed stream)
             result.pass (stream_record R.left R.ended R.failed R.asked W.written W.failed result.stream) }
-    { play(rt, alloc, torrent, desk, pass, stream, seed, depth, gate) };
+    {
+        play(
+            rt, alloc, torrent, desk, pass, tickets, stream, seed, depth, gate,
+        )
+    };
     match scope.spawn_with(promise, job) {
         Ok(handle) => Ok(handle),
         Err(_) => Err(SwarmFault::NoThread),
     }
 }
 
-/// Starts a thread for each session. Where one can't be started, those that run are left to run.
-fn start_all<
+/// Starts a thread for each session. Where one can't be started, the handles are of those that run.
+pub fn start_sessions<
     's,
     'e,
     L: DeskLedger + Send + Sync + 'e,
@@ -96,23 +103,30 @@ fn start_all<
     torrent: &Arc<Torrent>,
     desk: &'e SharedDesk<L>,
     passes: Vec<Pass<L>>,
+    tickets: Vec<TicketEnd<'e>>,
     streams: Vec<Stream<R, W>>,
     seed: u64,
     depth: u32,
     gate: &'e G,
-) -> Result<Vec<PromisedHandle<Played<L, R, W>, PlayOf<L, R, W>>>, SwarmFault>
-    requires count { length passes.items ≡ length streams.items }
+    handles: &mut Vec<PromisedHandle<Played<L, R, W>, PlayOf<L, R, W>>>,
+) -> Result<(), SwarmFault>
+    requires count { (length passes.items ≡ length streams.items) × (length tickets.items ≡ length streams.items) }
     requires depth { (1 ≤ depth) × (depth ≤ 64) }
-    ensures terms { IfOk result (λ v. All
-        (λ h. terms_of h.promise.torrent.value.value h.promise.depth ≡ terms_of torrent.now.value depth) v.items) }
-    ensures seeds { IfOk result (λ v. All (λ h. h.promise.seed ≡ seed) v.items) }
-    ensures passes { IfOk result (λ v. map (λ h. h.promise.pass.value) v.items ≡ passes.items) }
-    ensures streams { IfOk result (λ v. map (λ h. h.promise.stream.value) v.items ≡ streams.items) }
+    requires room { (handles.old.items ≡ []) × (length streams.items ≤ vec_capacity handles.old) }
+    ensures few { length handles.new.items ≤ length streams.items }
+    ensures terms { OnOk result (All
+        (λ h. terms_of h.promise.torrent.value.value h.promise.depth ≡ terms_of torrent.now.value depth) handles.new.items) }
+    ensures seeds { OnOk result (All (λ h. h.promise.seed ≡ seed) handles.new.items) }
+    ensures passes { OnOk result (map (λ h. h.promise.pass.value) handles.new.items ≡ passes.items) }
+    ensures streams { OnOk result (map (λ h. h.promise.stream.value) handles.new.items ≡ streams.items) }
 {
-    let mut handles = Vec::with_capacity(alloc, streams.len())?;
     let mut passes = passes.into_iter();
+    let mut tickets = tickets.into_iter();
     for stream in streams {
         let Some(pass) = passes.next() else {
+            unreachable!()
+        };
+        let Some(end) = tickets.next() else {
             unreachable!()
         };
         let handle = start(
@@ -122,6 +136,7 @@ fn start_all<
             torrent.clone()?,
             desk,
             pass,
+            end,
             stream,
             seed,
             depth,
@@ -129,54 +144,21 @@ fn start_all<
         )?;
         handles.push_reserved(handle);
     }
-    Ok(handles)
+    Ok(())
 }
 
-/// A session for each stream, in a thread of its own, with what each gave back, in order. All threads have ended when this returns, also
-/// where it gives up.
-pub fn sessions<
-    'e,
-    L: DeskLedger + Send + Sync + 'e,
-    R: Source + Send + Drop + 'e,
-    W: Sink + Send + Drop + 'e,
-    T: Threads + Wait + Sync + 'e,
-    G: Gate + Sync + 'e,
->(
-    rt: &'e T,
-    alloc: Global,
-    torrent: &'e Arc<Torrent>,
-    desk: &'e SharedDesk<L>,
-    passes: Vec<Pass<L>>,
-    streams: Vec<Stream<R, W>>,
-    seed: u64,
-    depth: u32,
-    gate: &'e G,
-) -> Result<Vec<Played<L, R, W>>, SwarmFault>
-    requires count { length passes.items ≡ length streams.items }
-    requires depth { (1 ≤ depth) × (depth ≤ 64) }
-    ensures count { IfOk result (λ all. length all.items ≡ length streams.items) }
-    ensures plays { IfOk result (λ all. EachPlays (stream_record R.left R.ended R.failed R.asked W.written W.failed)
-        (terms_of torrent.now.value depth) L.setting seed passes.items streams.items
-        (map (λ p. p.end) all.items) (map (λ p. p.pass) all.items) (map (λ p. p.stream) all.items)) }
+/// Joins each thread, in order. Takes no memory, and so joins all.
+pub fn join_each<R: Threads, T: Drop, P: Promise<T>>(
+    rt: &R,
+    handles: Vec<PromisedHandle<T, P>>,
+    all: &mut Vec<T>,
+)
+    requires empty { all.old.items ≡ [] }
+    requires room { vec_len handles ≤ vec_capacity all.old }
+    ensures len { vec_len all.new ≡ vec_len handles }
+    ensures each { KeepsEach P.Promise (vec_len handles) handles.items all.new.items }
 {
-    thread::scope(
-        thread::scope_env(),
-        rt,
-        move |scope| -> Result<Vec<Played<L, R, W>>, SwarmFault>
-            requires count { length passes.items ≡ length streams.items }
-            requires depth { (1 ≤ depth) × (depth ≤ 64) }
-            ensures count { IfOk result (λ all. length all.items ≡ length streams.items) }
-            ensures plays { IfOk result (λ all. EachPlays (stream_record R.left R.ended R.failed R.asked W.written W.failed)
-                (terms_of torrent.entry.now.value depth) L.setting seed passes.items streams.items
-                (map (λ p. p.end) all.items) (map (λ p. p.pass) all.items) (map (λ p. p.stream) all.items)) }
-        {
-            let handles = start_all(
-                rt, alloc, scope, torrent, desk, passes, streams, seed, depth, gate,
-            )?;
-            match thread::join_promised(rt, handles) {
-                Ok(all) => Ok(all),
-                Err(_) => Err(SwarmFault::NoMemory),
-            }
-        },
-    )
+    for handle in handles {
+        all.push_reserved(handle.join(rt));
+    }
 }

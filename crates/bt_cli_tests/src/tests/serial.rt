@@ -41,15 +41,17 @@ pub fn recorded(alloc: Global, sent: &[u8]) -> Recorded<'_> {
     }
 }
 
-/// Options of all pieces by the usual rules, without the journal.
+/// Options of all pieces by the usual rules, without the journal, with one checker.
 pub fn usual() -> Options
-    ensures { (1 ≤ result.rules.depth) × (result.rules.depth ≤ MOST_DEPTH) }
+    ensures depth { (1 ≤ result.rules.depth) × (result.rules.depth ≤ MOST_DEPTH) }
+    ensures checkers { result.checkers ≡ 1 }
 {
     Options {
         seed: 0,
         journal: false,
         want: None,
         rules: Rules::usual(),
+        checkers: 1,
     }
 }
 

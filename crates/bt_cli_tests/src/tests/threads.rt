@@ -31,6 +31,7 @@ fn command<T: Threads + Wait + AllocGlobal + Sync>(
 ) -> Result<Done, Fail>
     requires streams { (1 ≤ length streams.items) × (length streams.items ≤ 64) }
     requires depth { (1 ≤ options.now.rules.depth) × (options.now.rules.depth ≤ MOST_DEPTH) }
+    requires checkers { (1 ≤ options.now.checkers) × (options.now.checkers ≤ 8) }
 {
     let mut taken = vec![in rt.alloc(); 0_u8; room]?;
     let mut out = ToWrite::new(taken.as_mut_slice());
@@ -73,7 +74,7 @@ fn three_pieces_of_two_peers(rt: HostRuntime) -> Result<(), Fail> {
     );
     assert_eq!(rt; done.status, 0);
     assert!(rt; done.err.is_empty());
-    assert_eq!(rt; done.logs, Some(3));
+    assert_eq!(rt; done.logs, Some(4));
     Ok(())
 }
 
@@ -85,6 +86,6 @@ fn a_full_output(rt: HostRuntime) -> Result<(), Fail> {
     assert_eq!(rt; done.status, 4);
     assert_eq!(rt; done.out.as_slice(), b"stream 0 end\npieces ".as_slice());
     assert_eq!(rt; done.err.as_slice(), b"file fault\n".as_slice());
-    assert_eq!(rt; done.logs, Some(2));
+    assert_eq!(rt; done.logs, Some(3));
     Ok(())
 }

@@ -1,5 +1,8 @@
 use bt_check::*;
+use bt_meta::Torrent;
 use bytes::Bytes;
+use std::alloc::Global;
+use std::sync::Arc;
 use std::test::Fail;
 
 /// The SHA-1 of `abc` (FIPS 180-4, the first worked example of SHA-1).
@@ -15,5 +18,37 @@ fn a_job_of_two_blocks(rt: HostRuntime) -> Result<(), Fail> {
     assert_eq!(rt; verdict.piece(), 7);
     assert_eq!(rt; *verdict.digest(), ABC);
     assert_eq!(rt; verdict.blocks().len(), 2);
+    Ok(())
+}
+
+/// The SHA-1 of `a`, by another program.
+const A: [u8; 20] = [
+    0x86, 0xf7, 0xe4, 0x37, 0xfa, 0xa5, 0xa7, 0xfc, 0xe1, 0x5d, 0x1d, 0xdc, 0xb9, 0xea, 0xea, 0xea,
+    0x37, 0x76, 0x67, 0xb8,
+];
+
+/// The verdict of a piece of one block.
+fn verdict(alloc: Global, piece: u32, block: &'static [u8]) -> Result<Arc<Verdict>, Fail> {
+    let blocks = vec![in alloc; Bytes::from_static(block)]?;
+    Ok(Arc::new(alloc, Job { piece, blocks }.hash())?)
+}
+
+#[test]
+fn what_fits_the_torrent_is_proven(rt: HostRuntime) -> Result<(), Fail> {
+    let hashes = vec![in rt.alloc(); ABC, ABC, A]?;
+    let torrent = Torrent::of_parts(3, 7, hashes, [0; 20])?;
+    for (piece, block) in [(0, b"abc".as_slice()), (1, b"abc"), (2, b"a")] {
+        let proven = Proven::of(verdict(rt.alloc(), piece, block)?, &torrent);
+        assert_eq!(rt; proven.map(|proven| proven.piece()).ok(), Some(piece));
+    }
+    for (piece, block) in [
+        (2, b"b".as_slice()),
+        (2, b"abc"),
+        (3, b"a"),
+        (u32::MAX, b"a"),
+    ] {
+        let refused = Proven::of(verdict(rt.alloc(), piece, block)?, &torrent);
+        assert_eq!(rt; refused.err().map(|back| back.piece()), Some(piece));
+    }
     Ok(())
 }

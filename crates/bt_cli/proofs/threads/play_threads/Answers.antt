@@ -14,6 +14,7 @@ returns-clause-ran g c = λ t. λ is.
       all_left = made.left;
       logs = made.logs;
       sessions = made.sessions;
+      checks = made.checks;
       finishes = made.finishes;
       waiting = made.waiting;
       told = rw c.deref.ensures.value at c.tell-ended.ensures;

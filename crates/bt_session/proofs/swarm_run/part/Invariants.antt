@@ -1,4 +1,4 @@
-use Rattle.std.proofs.Common.{◌≡◌, ◌++◌, ◌+◌, ◌≤◌, ◌<◌, map, vec_len, vec_capacity}
+use Rattle.std.proofs.Common.{◌≡◌, ◌++◌, ◌+◌, ◌≤◌, map, vec_len, vec_capacity}
 use Rattle.std.specs.Vec.Iter.{into_iter_items, into_iter_len}
 use Rattle.bt_session.proofs.swarm_run.part.Given as goal
 
@@ -8,6 +8,7 @@ invariant-loop-played g l = record {
   passes : l.passes.items ++ map (λ p. p.pass) (into_iter_items l.played-iterator) ≡ map (λ p. p.pass) l.fn.all.items;
   streams : l.streams.items ++ map (λ p. p.stream) (into_iter_items l.played-iterator) ≡ map (λ p. p.stream) l.fn.all.items;
   room_ends : vec_len l.ends + into_iter_len l.played-iterator ≤ vec_capacity l.ends;
-  room_passes : vec_len l.passes + into_iter_len l.played-iterator < vec_capacity l.passes;
+  room_passes : vec_len l.passes + into_iter_len l.played-iterator ≤ vec_capacity l.passes;
+  same : vec_capacity l.passes ≡ vec_capacity l.fn.passes;
   room_streams : vec_len l.streams + into_iter_len l.played-iterator ≤ vec_capacity l.streams;
 }

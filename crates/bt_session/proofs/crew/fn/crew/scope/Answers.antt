@@ -1,25 +1,32 @@
 use Rattle.std.proofs.Common.{◌≡◌, ◌<◌, rules, arith, length, vec_len, sym, ap, ◌∙◌}
 use Rattle.std.proofs.lemmas.List.{get_or-map, length-map}
+use Rattle.bt_session.specs.declared.checker.Checked.{Checked}
 use Rattle.bt_session.specs.declared.play.Played.{Played}
 use Rattle.bt_session.specs.Terms.{terms_of}
 use Rattle.bt_session.proofs.Kept.{part_at}
-use Rattle.bt_session.proofs.threads.fn.sessions.scope.Goals as goal
+use Rattle.bt_session.proofs.crew.fn.crew.scope.Goals as goal
 
 pub returns-in-Ok : goal.returns-in-Ok
 returns-in-Ok g c =
-    let hs = c.in_ok-handles.handles.items in
-    let all = c.in-Ok.all.items in
-    let parts = c.in_ok-handles.ensures in
+    let hs = c.start_all-started.new.playing.items in
+    let ks = c.start_all-started.new.checking.items in
+    let all = c.join_each.new.all.items in
+    let checked = c.join_each-2.new.all.items in
+    let parts = c.in-Ok.ensures in
     let many : length hs ≡ length c.captures.streams.items = sym (length-map hs (λ h. h.promise.stream.value)) ∙ ap length parts.streams in
+    let many_checkers : length ks ≡ length c.captures.checkers.items = sym (length-map ks (λ h. h.promise.pass.value)) ∙ ap length parts.checkers in
     let same : length all ≡ length hs = search rules in
-    let whole : vec_len c.in_ok-handles.handles ≡ length hs = search rules in
+    let same_checked : length checked ≡ length ks = search rules in
+    let whole : vec_len c.start_all-started.new.playing ≡ length hs = search rules in
+    let whole_checked : vec_len c.start_all-started.new.checking ≡ length ks = search rules in
     record {
       count = same ∙ many;
+      checkers = same_checked ∙ many_checkers;
       plays = λ i pass stream end below.
-          let d : Played g.row.L.Denot g.row.R.Denot g.row.W.Denot = record { end = end; pass = pass; stream = stream } in
+          let d : Played g.row.L.Denot g.row.R.Denot g.row.W.Denot = record { end = end; pass = pass; stream = stream; short = c.stop-told.result } in
           let there : i < length hs = omega (arith, below, many) in
           let back : i < length all = omega (arith, there, same) in
-          let k = (c.in-Ok.ensures.each i d (omega (arith, there, whole))).1 in
+          let k = (c.join_each.ensures.each i d (omega (arith, there, whole))).1 in
           let p = k.handle.promise in
           let terms : terms_of p.torrent.value.value p.depth ≡ terms_of c.captures.torrent.now.value c.captures.depth =
           ap (λ h. terms_of h.promise.torrent.value.value h.promise.depth) k.handle_is ∙ parts.terms i k.handle there in
@@ -32,5 +39,14 @@ returns-in-Ok g c =
             get_or-map (λ p. p.end) all i d end back,
             get_or-map (λ p. p.pass) all i d pass back,
             get_or-map (λ p. p.stream) all i d stream back,
+          ) k.kept;
+      checks = λ i pass below.
+          let d : Checked g.row.L.Denot = record { pass = pass; short = c.stop-told.result } in
+          let there : i < length ks = omega (arith, below, many_checkers) in
+          let back : i < length checked = omega (arith, there, same_checked) in
+          let k = (c.join_each-2.ensures.each i d (omega (arith, there, whole_checked))).1 in
+          rw (
+            part_at (λ h. h.promise.pass.value) ks _ parts.checkers i k.handle pass there k.handle_is,
+            get_or-map (λ p. p.pass) checked i d pass back,
           ) k.kept;
     }

@@ -2,7 +2,7 @@ use Rattle.std.proofs.Common.{◌≡◌, arith, rules, ap, ◌∙◌}
 use Rattle.bt_meta.specs.Layout.{Metainfo}
 use Rattle.bt_session.specs.Terms.{terms_of}
 use Rattle.bt_session.proofs.Kept.{grown, all_grown}
-use Rattle.bt_session.proofs.threads.start_all.Goals as goal
+use Rattle.bt_session.proofs.threads.start_sessions.Goals as goal
 
 pub loop-stream-preserved : goal.loop-stream-preserved
 loop-stream-preserved g c =
@@ -21,5 +21,7 @@ loop-stream-preserved g c =
       streams = grown (λ h. h.promise.stream.value) hs hs' h c.in-Some.stream _ _ _
           c.push_reserved.ensures.items c.in-Some.ensures.steps.0 made.stream was.streams;
       room = omega (arith, was.room, c.in-Some.ensures.steps.1, c.push_reserved.ensures.len, c.push_reserved.ensures.capacity);
-      same = omega (arith, was.same, c.in-Some.ensures.steps.1, c.in-Some-next.ensures.len);
+      few = omega (arith, was.few, c.in-Some.ensures.steps.1, c.push_reserved.ensures.len);
+      same = search rules;
+      ends = search rules;
     }

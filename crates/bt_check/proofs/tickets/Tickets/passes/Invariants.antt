@@ -1,0 +1,12 @@
+use Rattle.std.proofs.Common.{◌≡◌, ◌+◌, ◌≤◌, length}
+use Rattle.std.specs.List.{All}
+use Rattle.std.specs.Prelude.{vec_capacity}
+use Rattle.bt_check.specs.Queues.{newcomer}
+use Rattle.bt_check.proofs.tickets.Tickets.passes.Given as goal
+
+-- all passes so far, and the first, are new ones of this queue; there is room for the rest
+abbrev pub invariant-loop : goal.invariant-loop
+invariant-loop l =
+    (length l.all.items + 1 ≡ l.counter)
+    × (l.first ≡ newcomer l.self)
+    × All (λ pass. pass ≡ newcomer l.self) l.all.items

@@ -1,0 +1,5 @@
+use Rattle.bt_check.proofs.Balancing.{balanced_put}
+use Rattle.bt_check.proofs.tickets.Tickets.put.Goals as goal
+
+pub send_as-requires-clause-rule : goal.send_as-requires-clause-rule
+send_as-requires-clause-rule g c = (balanced_put _ _ _ _, λ _ _ _ _. tt)

@@ -1,0 +1,5 @@
+use Rattle.bt_check.proofs.Balancing.{balanced_taken}
+use Rattle.bt_check.proofs.tickets.Tickets.take.Goals as goal
+
+pub recv_as-requires-clause-rule : goal.recv_as-requires-clause-rule
+recv_as-requires-clause-rule g c = (balanced_taken _ _, λ _ _ _ _. tt)

@@ -1,0 +1,163 @@
+//! The threads of a run: its checkers, and its sessions.
+
+ghost use Rattle.std.specs.Prelude.{◌≡◌, ◌≤◌, [], All, map, length, vec_capacity, IfOk, OnOk};
+ghost use Rattle.bt_session.specs.Checking.{EachMakesChecks};
+ghost use Rattle.bt_session.specs.Serial.{stream_record};
+ghost use Rattle.bt_session.specs.Swarms.{EachPlays};
+ghost use Rattle.bt_session.specs.Terms.{terms_of};
+
+use crate::check_threads::{CheckOf, start_checkers, stop};
+use crate::checker::Checked;
+use crate::gate::Gate;
+use crate::play::Played;
+use crate::stream::Stream;
+use crate::swarm_run::SwarmFault;
+use crate::threads::{PlayOf, join_each, start_sessions};
+use crate::ticket_end::TicketEnd;
+use bt_meta::{Sink, Source, Torrent};
+use bt_shared::{DeskLedger, Pass, SharedDesk};
+use std::alloc::Global;
+use std::sync::{Arc, Wait};
+use std::thread;
+use std::thread::{PromisedHandle, Threads};
+
+/// What the threads of a run gave back, each in the order of its workers.
+#[derive(Drop)]
+pub struct Joined<L: DeskLedger, R, W> {
+    pub played: Vec<Played<L, R, W>>,
+    pub checked: Vec<Checked<L>>,
+    /// A checker couldn't be told to stop.
+    pub short: bool,
+}
+
+/// Starts the checkers, and then the sessions. Where a thread can't be started, the handles are of those that run.
+fn start_all<
+    's,
+    'e,
+    L: DeskLedger + Send + Sync + 'e,
+    R: Source + Send + Drop + 'e,
+    W: Sink + Send + Drop + 'e,
+    T: Threads + Wait + Sync + 'e,
+    G: Gate + Sync + 'e,
+>(
+    rt: &'e T,
+    alloc: Global,
+    scope: &thread::Scope<'s, &'e ()>,
+    torrent: &Arc<Torrent>,
+    desk: &'e SharedDesk<L>,
+    passes: Vec<Pass<L>>,
+    tickets: Vec<TicketEnd<'e>>,
+    streams: Vec<Stream<R, W>>,
+    checkers: Vec<Pass<L>>,
+    checkers_tickets: Vec<TicketEnd<'e>>,
+    seed: u64,
+    depth: u32,
+    gate: &'e G,
+    checking: &mut Vec<PromisedHandle<Checked<L>, CheckOf<L>>>,
+    playing: &mut Vec<PromisedHandle<Played<L, R, W>, PlayOf<L, R, W>>>,
+) -> Result<(), SwarmFault>
+    requires count { (length passes.items ≡ length streams.items) × (length tickets.items ≡ length streams.items) }
+    requires checkers { length checkers_tickets.items ≡ length checkers.items }
+    requires depth { (1 ≤ depth) × (depth ≤ 64) }
+    requires room { (playing.old.items ≡ []) × (length streams.items ≤ vec_capacity playing.old) }
+    requires checkers_room { (checking.old.items ≡ []) × (length checkers.items ≤ vec_capacity checking.old) }
+    ensures few { length playing.new.items ≤ length streams.items }
+    ensures few_checkers { length checking.new.items ≤ length checkers.items }
+    ensures checkers { OnOk result (map (λ h. h.promise.pass.value) checking.new.items ≡ checkers.items) }
+    ensures terms { OnOk result (All
+        (λ h. terms_of h.promise.torrent.value.value h.promise.depth ≡ terms_of torrent.now.value depth) playing.new.items) }
+    ensures seeds { OnOk result (All (λ h. h.promise.seed ≡ seed) playing.new.items) }
+    ensures passes { OnOk result (map (λ h. h.promise.pass.value) playing.new.items ≡ passes.items) }
+    ensures streams { OnOk result (map (λ h. h.promise.stream.value) playing.new.items ≡ streams.items) }
+{
+    start_checkers(rt, alloc, scope, desk, checkers, checkers_tickets, checking)?;
+    start_sessions(
+        rt, alloc, scope, torrent, desk, passes, tickets, streams, seed, depth, gate, playing,
+    )
+}
+
+/// A checker for each of these passes, and a session for each stream, in threads of their own, with what each gave back. All have ended
+/// when this returns, also where it gives up: it takes its own memory before the first thread is started, joins the sessions, tells the
+/// checkers that run to stop, and joins these.
+pub fn crew<
+    'e,
+    L: DeskLedger + Send + Sync + 'e,
+    R: Source + Send + Drop + 'e,
+    W: Sink + Send + Drop + 'e,
+    T: Threads + Wait + Sync + 'e,
+    G: Gate + Sync + 'e,
+>(
+    rt: &'e T,
+    alloc: Global,
+    torrent: &'e Arc<Torrent>,
+    desk: &'e SharedDesk<L>,
+    passes: Vec<Pass<L>>,
+    tickets: Vec<TicketEnd<'e>>,
+    streams: Vec<Stream<R, W>>,
+    checkers: Vec<Pass<L>>,
+    checkers_tickets: Vec<TicketEnd<'e>>,
+    own_tickets: TicketEnd<'e>,
+    seed: u64,
+    depth: u32,
+    gate: &'e G,
+) -> Result<Joined<L, R, W>, SwarmFault>
+    requires count { (length passes.items ≡ length streams.items) × (length tickets.items ≡ length streams.items) }
+    requires checkers { length checkers_tickets.items ≡ length checkers.items }
+    requires depth { (1 ≤ depth) × (depth ≤ 64) }
+    ensures count { IfOk result (λ r. length r.played.items ≡ length streams.items) }
+    ensures checkers { IfOk result (λ r. length r.checked.items ≡ length checkers.items) }
+    ensures plays { IfOk result (λ r. EachPlays (stream_record R.left R.ended R.failed R.asked W.written W.failed)
+        (terms_of torrent.now.value depth) L.setting seed passes.items streams.items
+        (map (λ p. p.end) r.played.items) (map (λ p. p.pass) r.played.items) (map (λ p. p.stream) r.played.items)) }
+    ensures checks { IfOk result (λ r. EachMakesChecks checkers.items (map (λ c. c.pass) r.checked.items)) }
+{
+    thread::scope(
+        thread::scope_env(),
+        rt,
+        move |scope| -> Result<Joined<L, R, W>, SwarmFault>
+            requires count { (length passes.items ≡ length streams.items) × (length tickets.items ≡ length streams.items) }
+            requires checkers { length checkers_tickets.items ≡ length checkers.items }
+            requires depth { (1 ≤ depth) × (depth ≤ 64) }
+            ensures count { IfOk result (λ r. length r.played.items ≡ length streams.items) }
+            ensures checkers { IfOk result (λ r. length r.checked.items ≡ length checkers.items) }
+            ensures plays { IfOk result (λ r. EachPlays (stream_record R.left R.ended R.failed R.asked W.written W.failed)
+                (terms_of torrent.entry.now.value depth) L.setting seed passes.items streams.items
+                (map (λ p. p.end) r.played.items) (map (λ p. p.pass) r.played.items) (map (λ p. p.stream) r.played.items)) }
+            ensures checks { IfOk result (λ r. EachMakesChecks checkers.items (map (λ c. c.pass) r.checked.items)) }
+        {
+            let mut own_tickets = own_tickets;
+            let mut checking = Vec::with_capacity(alloc, checkers.len())?;
+            let mut checked = Vec::with_capacity(alloc, checkers.len())?;
+            let mut playing = Vec::with_capacity(alloc, streams.len())?;
+            let mut played = Vec::with_capacity(alloc, streams.len())?;
+            let started = start_all(
+                rt,
+                alloc,
+                scope,
+                torrent,
+                desk,
+                passes,
+                tickets,
+                streams,
+                checkers,
+                checkers_tickets,
+                seed,
+                depth,
+                gate,
+                &mut checking,
+                &mut playing,
+            );
+            join_each(rt, playing, &mut played);
+            let told = stop(rt, &mut own_tickets, checking.len());
+            join_each(rt, checking, &mut checked);
+            match started {
+                Ok(()) => Ok(Joined {
+                    played,
+                    checked,
+                    short: !told,
+                }),
+                Err(fault) => Err(fault),
+            }
+        },
+    )
+}
