@@ -1,7 +1,7 @@
 //! The command `serial` with an output that is full, and what the tests of runs share. Its reports and statuses are those of whole command
 //! lines, in `bt_runs`.
 
-ghost use Rattle.std.specs.Prelude.{◌≤◌};
+ghost use Rattle.std.specs.Prelude.{◌≡◌, ◌≤◌};
 
 use bt_cli::*;
 use bt_meta::{FromRead, ToWrite};

@@ -4,7 +4,7 @@ ghost use Rattle.std.specs.Prelude.{◌≤◌, length};
 use super::serial::{Recorded, recorded, two_pieces};
 use super::{PEER, RULES, peer, torrent};
 use bt_meta::{FromRead, ToWrite, Torrent};
-use bt_picker::{CallMark, Mark};
+use bt_picker::{CallMark, Mark, Reply};
 use bt_session::{End, Gate, OpenGate, SessionFault, SwarmFault, SwarmRun, swarm};
 use bt_shared::GatherFault;
 use bt_wire::Hello;
@@ -200,11 +200,9 @@ const WRONG: [u8; 43] = [
     0, 12, 7, 0, 0, 0, 1, 0, 0, 0, 0, 97, 98, 99,
 ];
 
-/// How many checks a log has.
-fn checks(log: &[Mark]) -> usize {
-    log.iter()
-        .filter(|mark| matches!(mark.call, CallMark::Settle(_)))
-        .count()
+/// How many calls of a log were answered so.
+fn answered(log: &[Mark], reply: Reply) -> usize {
+    log.iter().filter(|mark| mark.reply == reply).count()
 }
 
 #[test]
@@ -217,12 +215,15 @@ fn checkers_check(rt: HostRuntime) -> Result<(), Fail> {
     assert!(rt; run.ends[0] == Ok(End { messages: 4 }));
     assert!(rt; !run.short);
     assert_eq!(rt; run.book.logs.len(), 4);
-    assert_eq!(rt; checks(&run.book.logs[0]), 0);
-    let checked = checks(&run.book.logs[1]).saturating_add(checks(&run.book.logs[2]));
-    assert_eq!(rt; checked, 2);
+    // The checkers, and nobody else, found one piece right and one wrong.
+    for (reply, wanted) in [(Reply::Had, 1), (Reply::Failed, 1)] {
+        assert_eq!(rt; answered(&run.book.logs[0], reply), 0);
+        let first = answered(&run.book.logs[1], reply);
+        let second = answered(&run.book.logs[2], reply);
+        assert_eq!(rt; first.saturating_add(second), wanted);
+    }
     assert_eq!(rt; run.book.logs[3].len(), 0);
     assert!(rt; !run.book.desk.had(0));
-    assert!(rt; run.book.desk.had(1));
     Ok(())
 }
 
