@@ -1,0 +1,4 @@
+pub mod Story
+pub mod Seats
+pub mod Steps
+pub mod Knowing
