@@ -7,9 +7,9 @@ use Rattle.bt_history.specs.Pieces.{had, joined_below, wanted}
 use Rattle.bt_picker.specs.Positions.{DeskState}
 use Rattle.bt_cli.specs.declared.report.Judged.{Judged}
 use Rattle.bt_cli.specs.declared.report.Judged.TheVariants.{Sound, Wrong, Unjudged}
-use Rattle.bt_session.specs.declared.fault.End.{End}
-use Rattle.bt_session.specs.declared.fault.SessionFault.{SessionFault}
-use Rattle.bt_session.specs.declared.fault.SessionFault.TheVariants.{Wire, WrongInfohash, Truncated, Refused, ReadFault, WriteFault, NoMemory, BadBits}
+use Rattle.bt_peer.specs.declared.fault.End.{End}
+use Rattle.bt_peer.specs.declared.fault.SessionFault.{SessionFault}
+use Rattle.bt_peer.specs.declared.fault.SessionFault.TheVariants.{Wire, WrongInfohash, Truncated, Refused, ReadFault, WriteFault, NoMemory, BadBits}
 
 -- the numbers by which the ends of sessions are told
 abbrev pub session_fault_number : SessionFault → ℕ

@@ -11,11 +11,11 @@ use Rattle.bt_history.specs.Entries.{event_of, history_of}
 use Rattle.bt_picker.specs.Checks.{waits}
 use Rattle.bt_picker.specs.Contents.{has_wanted}
 use Rattle.bt_picker.specs.Positions.{DeskState}
-use Rattle.bt_session.specs.declared.fault.End.{End}
-use Rattle.bt_session.specs.declared.fault.SessionFault.{SessionFault}
-use Rattle.bt_session.specs.declared.fault.SessionFault.TheVariants as sessions
-use Rattle.bt_session.specs.Serial.{EachEnded, Finishes, StreamRecord, opening_of}
-use Rattle.bt_session.specs.Terms.{terms_of}
+use Rattle.bt_peer.specs.declared.fault.End.{End}
+use Rattle.bt_peer.specs.declared.fault.SessionFault.{SessionFault}
+use Rattle.bt_peer.specs.declared.fault.SessionFault.TheVariants as sessions
+use Rattle.bt_peer.specs.Serial.{EachEnded, Finishes, StreamRecord, opening_of}
+use Rattle.bt_peer.specs.Terms.{terms_of}
 use Rattle.bt_script.specs.declared.fault.Fault.{Fault}
 use Rattle.bt_script.specs.declared.fault.Fault.TheVariants as faults
 use Rattle.bt_cli.specs.declared.report.Judged.{Judged}

@@ -3,14 +3,14 @@ use Rattle.std.specs.Prelude.{◌≡◌, ◌⊎◌, ◌<◌, ◌≤◌, ◌+◌,
 use Rattle.bt_meta.specs.Layout.{Metainfo, piece_count}
 use Rattle.bt_meta.specs.declared.fault.MetaFault.{MetaFault}
 use Rattle.bt_history.specs.Setting.{setting_of}
-use Rattle.bt_session.specs.declared.fault.End.{End}
-use Rattle.bt_session.specs.declared.fault.SessionFault.{SessionFault}
+use Rattle.bt_peer.specs.declared.fault.End.{End}
+use Rattle.bt_peer.specs.declared.fault.SessionFault.{SessionFault}
 use Rattle.bt_session.specs.declared.swarm_run.SwarmFault.{SwarmFault}
 use Rattle.bt_session.specs.declared.swarm_run.SwarmFault.TheVariants as swarms
 use Rattle.bt_session.specs.Checking.{CheckersCheck}
-use Rattle.bt_session.specs.Serial.{StreamRecord}
+use Rattle.bt_peer.specs.Serial.{StreamRecord}
 use Rattle.bt_session.specs.Swarms.{EachSwarmed, LeavesNone, MakesLastChecks}
-use Rattle.bt_session.specs.Terms.{terms_of}
+use Rattle.bt_peer.specs.Terms.{terms_of}
 use Rattle.bt_shared.specs.declared.gather.Book.{Book}
 use Rattle.bt_script.specs.declared.fault.Fault.{Fault}
 use Rattle.bt_script.specs.declared.fault.Fault.TheVariants as faults

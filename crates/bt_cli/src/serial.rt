@@ -5,8 +5,8 @@ ghost use Rattle.bt_meta.specs.Layout.{Metainfo, piece_count};
 ghost use Rattle.bt_meta.specs.Reading.{torrent_of_file};
 ghost use Rattle.bt_history.specs.Setting.{AreRules, setting_of};
 ghost use Rattle.bt_picker.specs.Checks.{waits};
-ghost use Rattle.bt_session.specs.Serial.{EachEnded, Finishes, opening_of, stream_record};
-ghost use Rattle.bt_session.specs.Terms.{terms_of};
+ghost use Rattle.bt_peer.specs.Serial.{EachEnded, Finishes, opening_of, stream_record};
+ghost use Rattle.bt_peer.specs.Terms.{terms_of};
 ghost use Rattle.bt_cli.specs.Runs.{IsStartFault, IsWant, Ran, run_status, want_of};
 
 use crate::options::{Options, fitting};

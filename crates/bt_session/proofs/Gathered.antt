@@ -6,13 +6,13 @@ use Rattle.std.proofs.lemmas.Option.{slice_get-get_or}
 use Rattle.std.specs.Global.{Vec}
 use Rattle.bt_history.specs.declared.mark.Mark.{Mark}
 use Rattle.bt_history.specs.Setting.{Setting}
-use Rattle.bt_session.specs.declared.fault.End.{End}
-use Rattle.bt_session.specs.declared.fault.SessionFault.{SessionFault}
-use Rattle.bt_session.specs.declared.fault.SessionFault.TheVariants.{NoMemory}
+use Rattle.bt_peer.specs.declared.fault.End.{End}
+use Rattle.bt_peer.specs.declared.fault.SessionFault.{SessionFault}
+use Rattle.bt_peer.specs.declared.fault.SessionFault.TheVariants.{NoMemory}
 use Rattle.bt_session.specs.Checking.{AreChecks, AreNewcomersFrom, CheckersCheck, EachMakesChecks}
-use Rattle.bt_session.specs.Serial.{StreamRecord}
+use Rattle.bt_peer.specs.Serial.{StreamRecord}
 use Rattle.bt_session.specs.Swarms.{AreNewcomers, ChecksRise, EachPlays, EachSwarmed, MakesLastChecks, Plays}
-use Rattle.bt_session.specs.Terms.{TermsState}
+use Rattle.bt_peer.specs.Terms.{TermsState}
 use Rattle.bt_shared.specs.Gathering.{EachFrom, log_of}
 use Rattle.bt_shared.specs.Passes.{PassState, newcomer}
 

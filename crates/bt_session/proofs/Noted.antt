@@ -6,10 +6,10 @@ use Rattle.bt_history.specs.declared.mark.CallMark.{CallMark}
 use Rattle.bt_history.specs.declared.mark.Mark.{Mark}
 use Rattle.bt_history.specs.Setting.{Setting}
 use Rattle.bt_shared.specs.Passes.{PassState, Notes, mark}
-use Rattle.bt_session.specs.Desks.{calls_of_marks}
-use Rattle.bt_session.specs.Events.{Called}
+use Rattle.bt_peer.specs.Desks.{calls_of_marks}
+use Rattle.bt_peer.specs.Events.{Called}
 use Rattle.bt_session.specs.Passes.{pass_record}
-use Rattle.bt_session.specs.Places.{Gains}
+use Rattle.bt_peer.specs.Places.{Gains}
 
 module _ (setting : Setting) (old new : PassState) (had told : ℕ → Bool) (short : Bool) where
   -- a call was marked

@@ -1,16 +1,3 @@
 pub mod Checking
-pub mod Conduct
-pub mod Desks
-pub mod Events
-pub mod Hearing
-pub mod Outlets
 pub mod Passes
-pub mod Places
-pub mod Saying
-pub mod Serial
-pub mod Sessions
-pub mod Standing
 pub mod Swarms
-pub mod Terms
-pub mod Turning
-pub mod Turns

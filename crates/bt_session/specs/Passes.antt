@@ -4,8 +4,8 @@ use Rattle.bt_check.specs.declared.ticket.Ticket.TheVariants.{Piece}
 use Rattle.bt_check.specs.Queues.{with_put, PassState as TicketState}
 use Rattle.bt_history.specs.Setting.{Setting}
 use Rattle.bt_shared.specs.Passes.{PassState}
-use Rattle.bt_session.specs.Desks.{calls_of_marks}
-use Rattle.bt_session.specs.Places.{PlaceRecord}
+use Rattle.bt_peer.specs.Desks.{calls_of_marks}
+use Rattle.bt_peer.specs.Places.{PlaceRecord}
 
 -- no piece at all
 abbrev pub no_piece : ℕ → Bool

@@ -1,7 +1,6 @@
 -- Several streams' sessions in threads of their own: what each of them sees at the shared desk, how it ended, and the last checks.
 use Rattle.std.specs.Prelude.{◌≡◌, ◌≤◌, ◌<◌, ◌+◌, ℕ, Bool, true, false, List, [], ◌∷◌, length, slice_get, slice_index_or, Option, Some, Result}
 use Rattle.std.specs.Global.{Vec}
-use Rattle.rand_core.specs.Stream.{Stream as Words}
 use Rattle.bt_history.specs.declared.mark.CallMark.TheVariants as marks
 use Rattle.bt_history.specs.declared.mark.Mark.{Mark}
 use Rattle.bt_history.specs.Setting.{Setting}
@@ -10,17 +9,15 @@ use Rattle.bt_picker.specs.Positions.{DeskState}
 use Rattle.bt_shared.specs.Passes.{PassState, newcomer}
 use Rattle.bt_shared.specs.declared.gather.GatherFault.{GatherFault}
 use Rattle.bt_shared.specs.declared.gather.GatherFault.TheVariants as gathers
-use Rattle.bt_session.specs.declared.fault.End.{End}
-use Rattle.bt_session.specs.declared.fault.SessionFault.{SessionFault}
+use Rattle.bt_peer.specs.declared.fault.End.{End}
+use Rattle.bt_peer.specs.declared.fault.SessionFault.{SessionFault}
 use Rattle.bt_session.specs.declared.swarm_run.SwarmFault.{SwarmFault}
 use Rattle.bt_session.specs.declared.swarm_run.SwarmFault.TheVariants.{NoMemory, Gather}
-use Rattle.bt_session.specs.Conduct.{DrawsWords, generator_of}
-use Rattle.bt_session.specs.Hearing.{most_reads}
+use Rattle.bt_peer.specs.Conduct.{generator_of}
+use Rattle.bt_peer.specs.Outcomes.{RunsTo}
 use Rattle.bt_session.specs.Passes.{no_piece, pass_record}
-use Rattle.bt_session.specs.Places.{PlaceRecord}
-use Rattle.bt_session.specs.Serial.{StreamRecord, EndsAs, DevicesAfter, source_of, stream_record}
-use Rattle.bt_session.specs.Terms.{TermsState}
-use Rattle.bt_session.specs.Turning.{Surroundings}
+use Rattle.bt_peer.specs.Serial.{StreamRecord}
+use Rattle.bt_peer.specs.Terms.{TermsState}
 
 -- why a run comes to nothing whose desk isn't gathered
 abbrev pub swarm_fault : GatherFault → SwarmFault
@@ -29,30 +26,7 @@ swarm_fault fault = Gather fault
 
 -- ---- sessions
 
--- what a reader and a writer say of themselves
-abbrev pub devices_record : {R W : Type 0} → (R → Option (List ℕ)) → (R → Bool) → (R → Bool) → (R → ℕ) → (W → Option (List ℕ)) → (W → Bool) →
-    R → W → StreamRecord
-devices_record {R} {W} left ended failed asked written writer_failed reader writer =
-    stream_record left ended failed asked written writer_failed (record { reader = reader; writer = writer })
-
--- what is round a session with this place and these devices
-abbrev pub around_place : PlaceRecord → StreamRecord → Surroundings
-around_place past devices = record { past = past; left = devices.left; written = devices.written }
-
--- A session ran from its first turn to this end, or to this fault: from this place and these devices, and with the words of this generator,
--- to those.
-pub record RunsTo (outcome : Result End SessionFault) (terms : TermsState) (worker : ℕ) (generator : Words)
-    (past : PlaceRecord) (old : StreamRecord) (past' : PlaceRecord) (new : StreamRecord) : Type 0 where
-  -- the reads that the session counted
-  pub asked : ℕ
-  pub ends : EndsAs outcome terms worker (around_place past old) (source_of new asked) (around_place past' new)
-  -- the words of its Next calls are the generator's, in order
-  pub words : DrawsWords generator past.calls past'.calls
-  pub devices : DevicesAfter outcome old new
-  pub counted : old.asked ≡ 0 → new.asked ≡ asked
-  pub most : asked ≤ most_reads
-
--- the same at a pass, with the words of the generator of its worker's number, made of the seed
+-- A session ran at a pass, with the words of the generator of its worker's number, made of the seed.
 pub record Plays (outcome : Result End SessionFault) (terms : TermsState) (setting : Setting) (seed : ℕ)
     (pass : PassState) (old : StreamRecord) (pass' : PassState) (new : StreamRecord) : Type 0 where
   -- a call found no memory

@@ -2,19 +2,18 @@
 
 ghost use Rattle.std.specs.Prelude.{◌≡◌, ◌≤◌, [], All, map, length, vec_capacity, IfOk, OnOk};
 ghost use Rattle.bt_session.specs.Checking.{EachMakesChecks};
-ghost use Rattle.bt_session.specs.Serial.{stream_record};
+ghost use Rattle.bt_peer.specs.Serial.{stream_record};
 ghost use Rattle.bt_session.specs.Swarms.{EachPlays};
-ghost use Rattle.bt_session.specs.Terms.{terms_of};
+ghost use Rattle.bt_peer.specs.Terms.{terms_of};
 
 use crate::check_threads::{CheckOf, start_checkers, stop};
 use crate::checker::Checked;
-use crate::gate::Gate;
 use crate::play::Played;
-use crate::stream::Stream;
 use crate::swarm_run::SwarmFault;
 use crate::threads::{PlayOf, join_each, start_sessions};
 use crate::ticket_end::TicketEnd;
 use bt_meta::{Sink, Source, Torrent};
+use bt_peer::{Gate, Stream};
 use bt_shared::{DeskLedger, Pass, SharedDesk};
 use std::alloc::Global;
 use std::sync::{Arc, Wait};

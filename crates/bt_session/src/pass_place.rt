@@ -1,15 +1,15 @@
 //! A worker's place at a desk that threads share.
 
 ghost use Rattle.std.specs.Prelude.{◌≡◌, List, true, false, OnOk, OnErr};
-ghost use Rattle.bt_session.specs.Conduct.{SettlesAtOnce};
-ghost use Rattle.bt_session.specs.Events.{Event};
+ghost use Rattle.bt_peer.specs.Conduct.{SettlesAtOnce};
+ghost use Rattle.bt_peer.specs.Events.{Event};
 ghost use Rattle.bt_session.specs.Passes.{PutsTicket, no_piece, pass_record};
-ghost use Rattle.bt_session.specs.Places.{Gains, LacksMemory};
-ghost use Rattle.bt_session.specs.Turns.{ChecksAtMost};
+ghost use Rattle.bt_peer.specs.Places.{Gains, LacksMemory};
+ghost use Rattle.bt_peer.specs.Turns.{ChecksAtMost};
 
-use crate::place::Place;
 use crate::ticket_end::TicketEnd;
 use bt_check::Ticket;
+use bt_peer::Place;
 use bt_picker::{Call, Reply};
 use bt_shared::{DeskLedger, Pass, SharedDesk};
 use std::alloc::{AllocError, Global};

@@ -1,17 +1,15 @@
 //! What the thread of a session does.
 
 ghost use Rattle.std.specs.Prelude.{◌≤◌};
-ghost use Rattle.bt_session.specs.Serial.{stream_record};
+ghost use Rattle.bt_peer.specs.Serial.{stream_record};
 ghost use Rattle.bt_session.specs.Swarms.{Plays};
-ghost use Rattle.bt_session.specs.Terms.{terms_of};
+ghost use Rattle.bt_peer.specs.Terms.{terms_of};
 
-use crate::fault::{End, SessionFault};
-use crate::gate::Gate;
 use crate::pass_place::PassPlace;
-use crate::stream::Stream;
 use crate::ticket_end::TicketEnd;
-use crate::whole::gated;
 use bt_meta::{Sink, Source, Torrent};
+use bt_peer::whole::gated;
+use bt_peer::{End, Gate, SessionFault, Stream};
 use bt_shared::{DeskLedger, Pass, SharedDesk};
 use rand_pcg::Lcg64Xsh32;
 use std::alloc::Global;

@@ -2,16 +2,15 @@
 
 ghost use Rattle.std.specs.Prelude.{◌≡◌, ◌≤◌, [], All, map, length, vec_len, vec_capacity, IfOk, OnOk};
 ghost use Rattle.std.specs.PromisedHandle.{KeepsEach};
-ghost use Rattle.bt_session.specs.Serial.{stream_record};
+ghost use Rattle.bt_peer.specs.Serial.{stream_record};
 ghost use Rattle.bt_session.specs.Swarms.{Plays};
-ghost use Rattle.bt_session.specs.Terms.{terms_of};
+ghost use Rattle.bt_peer.specs.Terms.{terms_of};
 
-use crate::gate::Gate;
 use crate::play::{Played, play};
-use crate::stream::Stream;
 use crate::swarm_run::SwarmFault;
 use crate::ticket_end::TicketEnd;
 use bt_meta::{Sink, Source, Torrent};
+use bt_peer::{Gate, Stream};
 use bt_shared::{DeskLedger, Pass, SharedDesk};
 use std::alloc::Global;
 use std::snapshot::Snapshot;

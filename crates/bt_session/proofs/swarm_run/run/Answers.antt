@@ -2,9 +2,9 @@ use Rattle.std.proofs.Common.{◌≡◌, ◌+◌, ℕ, List, ◌∷◌, [], ◌+
 use Rattle.std.proofs.lemmas.List.{length-map}
 use Rattle.bt_meta.specs.Layout.{piece_count}
 use Rattle.bt_session.specs.Checking.{AreNewcomersFrom}
-use Rattle.bt_session.specs.Serial.{stream_record}
+use Rattle.bt_peer.specs.Serial.{stream_record}
 use Rattle.bt_session.specs.Swarms.{ChecksRise}
-use Rattle.bt_session.specs.Terms.{terms_of}
+use Rattle.bt_peer.specs.Terms.{terms_of}
 use Rattle.bt_shared.specs.Gathering.{EachFrom}
 use Rattle.bt_shared.specs.Passes.{PassState}
 use Rattle.bt_session.proofs.Gathered.{swarmed, checkers_check, finished}

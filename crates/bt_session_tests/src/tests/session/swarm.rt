@@ -227,6 +227,43 @@ fn checkers_check(rt: HostRuntime) -> Result<(), Fail> {
     Ok(())
 }
 
+/// The SHA-1 of a block of 16,384 zeros.
+const ZEROS: [u8; 20] = [
+    0x89, 0x72, 0x56, 0xb6, 0x70, 0x9e, 0x1a, 0x4d, 0xa9, 0xda, 0xba, 0x92, 0xb6, 0xbd, 0xe3, 0x9c,
+    0xcf, 0xcc, 0xd8, 0xc1,
+];
+
+/// So many pieces of a block of zeros each, and what a peer sends that gives them one after the other.
+fn zeros(alloc: Global, count: u8) -> Result<(Arc<Torrent>, Vec<u8>), Fail> {
+    let mut hashes = Vec::new(alloc);
+    let mut sent = Vec::new(alloc);
+    for piece in 0..count {
+        hashes.push(ZEROS)?;
+        sent.extend_from_slice(&[0, 0, 0x40, 9, 7, 0, 0, 0, piece, 0, 0, 0, 0])?;
+        sent.extend_from_slice(&[0; 16_384])?;
+    }
+    let total = u64::from(count) * 16_384;
+    let torrent = Torrent::of_parts(16_384, total, hashes, [1; 20])?;
+    Ok((Arc::new(alloc, torrent)?, peer(alloc, 1, sent.as_slice())?))
+}
+
+/// Pieces come faster than one checker hashes them, and are four times as many as the queue holds: the session waits, and none is lost.
+#[test]
+fn a_full_queue_loses_nothing(rt: HostRuntime) -> Result<(), Fail> {
+    let (torrent, sent) = zeros(rt.alloc(), 64)?;
+    let streams = Vec::from_array(rt.alloc(), [recorded(rt.alloc(), &sent)])?;
+    let run = run(&rt, rt.alloc(), torrent, streams, 1, &OpenGate)?;
+    assert_eq!(rt; run.ends.len(), 1);
+    assert!(rt; run.ends[0] == Ok(End { messages: 64 }));
+    assert!(rt; !run.short);
+    assert_eq!(rt; run.book.logs.len(), 3);
+    assert_eq!(rt; answered(&run.book.logs[0], Reply::Completed), 64);
+    assert_eq!(rt; answered(&run.book.logs[1], Reply::Had), 64);
+    assert_eq!(rt; run.book.logs[2].len(), 0);
+    assert!(rt; run.book.desk.is_complete());
+    Ok(())
+}
+
 #[test]
 fn faults_of_a_run(rt: HostRuntime) -> Result<(), Fail> {
     let missing = GatherFault::PassMissing {

@@ -1,0 +1,230 @@
+-- Stretches of a worker's calls, one after another: their words, and the checks of the pieces that they complete.
+use Rattle.std.proofs.Common.{◌≡◌, ℕ, ◌==◌, Bool, true, false, ◌&&◌, List, [], ◌∷◌, ◌++◌, length, map, Option, Some, None, refl, sym, ap, subst, ◌∙◌, ◌⊎◌}
+use Rattle.std.proofs.Common.{append_assoc, eq-eqb, inl, inr, arith, length-append}
+use Rattle.std.proofs.lemmas.List.{append-nil}
+use Rattle.std.proofs.lemmas.Bool.{and_parts}
+use Rattle.rand_core.specs.Stream.{Stream, next_u64}
+use Rattle.bt_history.specs.declared.call.Reply.{Reply}
+use Rattle.bt_history.specs.declared.mark.CallMark.{CallMark}
+use Rattle.bt_history.specs.declared.mark.CallMark.TheVariants as marks
+use Rattle.bt_history.specs.declared.call.Reply.TheVariants as replies
+use Rattle.bt_wire.specs.declared.message.Message.{Message}
+use Rattle.bt_wire.specs.declared.message.Message.TheVariants as messages
+use Rattle.bt_peer.specs.declared.fault.SessionFault.{SessionFault}
+use Rattle.bt_peer.specs.Events.{Event, Called, News, calls_of}
+use Rattle.bt_peer.specs.Outlets.{StopsCall}
+use Rattle.bt_peer.specs.Places.{PlaceRecord, Gains, GainsUpTo}
+use Rattle.bt_peer.specs.Turning.{Leaves, Departs}
+use Rattle.bt_peer.specs.Turns.{call_of, arrived_piece, if_completed, ChecksAtMost}
+use Rattle.bt_peer.proofs.Asking.{stops_ways}
+use Rattle.bt_peer.specs.Conduct.{Calls, Draws, word_of, words_of, completed_by, checks_first, all_checked, SettlesAtOnce, Conducts, DrawsWords}
+
+pub words_of-append : (xs ys : Calls) → words_of (xs ++ ys) ≡ words_of xs ++ words_of ys
+words_of-append [] ys = refl
+words_of-append (made ∷ xs) ys =
+    ap (λ (words : List ℕ). word_of made.0 ++ words) (words_of-append xs ys) ∙ sym (append_assoc (word_of made.0) (words_of xs) (words_of ys))
+
+pub Draws-join : (a b c : Stream) (xs ys : List ℕ) → Draws a xs b → Draws b ys c → Draws a (xs ++ ys) c
+Draws-join a b c [] ys first second = subst (λ (s : Stream). Draws s ys c) first second
+Draws-join a b c (word ∷ xs) ys first second = (first.0, Draws-join (next_u64 a).1 b c xs ys first.1 second)
+
+both : (a b : Bool) → a ≡ true → b ≡ true → (a && b) ≡ true
+both true b first second = second
+both false b first second = absurd (cc first)
+
+checks_first-append : (piece : Option ℕ) (xs ys : Calls) → checks_first piece xs ≡ true → checks_first piece (xs ++ ys) ≡ true
+checks_first-append None xs ys is = refl
+checks_first-append (Some piece) [] ys is = absurd (cc is)
+checks_first-append (Some piece) (made ∷ xs) ys is = is
+
+pub all_checked-append : (xs ys : Calls) → all_checked xs ≡ true → all_checked ys ≡ true → all_checked (xs ++ ys) ≡ true
+all_checked-append [] ys first second = second
+all_checked-append (made ∷ xs) ys first second =
+    let parts = and_parts (checks_first (completed_by made) xs) (all_checked xs) first in
+    both (checks_first (completed_by made) (xs ++ ys)) (all_checked (xs ++ ys)) (checks_first-append (completed_by made) xs ys parts.0)
+    (all_checked-append xs ys parts.1 second)
+
+pub Conducts-none : (settles : Bool) (generator : Stream) (calls : Calls) → Conducts settles generator calls calls generator
+Conducts-none settles generator calls =
+    record { gained = []; calls = sym (append-nil calls); drawn = refl; checked = λ own. refl }
+
+pub Conducts-join : (settles : Bool) (s t u : Stream) (a b c : Calls) → Conducts settles s a b t → Conducts settles t b c u → Conducts settles s a c u
+Conducts-join settles s t u a b c first second = record {
+  gained = first.gained ++ second.gained;
+  calls = second.calls ∙ ap (λ (calls : Calls). calls ++ second.gained) first.calls ∙ append_assoc a first.gained second.gained;
+  drawn = subst (λ (words : List ℕ). Draws s words u) (sym (words_of-append first.gained second.gained))
+      (Draws-join s t u (words_of first.gained) (words_of second.gained) first.drawn second.drawn);
+  checked = λ own. all_checked-append first.gained second.gained (first.checked own) (second.checked own);
+}
+
+pub Conducts-draws : (settles : Bool) (s t : Stream) (a b : Calls) → Conducts settles s a b t → DrawsWords s a b
+Conducts-draws settles s t a b conducts =
+    record { gained = conducts.gained; calls = conducts.calls; left = t; drawn = conducts.drawn }
+
+pub DrawsWords-none : (s : Stream) (calls : Calls) → DrawsWords s calls calls
+DrawsWords-none s calls = record { gained = []; calls = sym (append-nil calls); left = s; drawn = refl }
+
+-- a stretch, then one that may have been cut off
+pub DrawsWords-join : (settles : Bool) (s t : Stream) (a b c : Calls) → Conducts settles s a b t → DrawsWords t b c → DrawsWords s a c
+DrawsWords-join settles s t a b c first second = record {
+  gained = first.gained ++ second.gained;
+  calls = second.calls ∙ ap (λ (calls : Calls). calls ++ second.gained) first.calls ∙ append_assoc a first.gained second.gained;
+  left = second.left;
+  drawn = subst (λ (words : List ℕ). Draws s words second.left) (sym (words_of-append first.gained second.gained))
+      (Draws-join s t second.left (words_of first.gained) (words_of second.gained) first.drawn second.drawn);
+}
+
+-- calls that draw no word leave the generator as it is
+pub DrawsWords-silent : (s : Stream) (a b c gained : Calls) → DrawsWords s a b → c ≡ b ++ gained → words_of gained ≡ [] → DrawsWords s a c
+DrawsWords-silent s a b c gained draws is silent = record {
+  gained = draws.gained ++ gained;
+  calls = is ∙ ap (λ (calls : Calls). calls ++ gained) draws.calls ∙ append_assoc a draws.gained gained;
+  left = draws.left;
+  drawn = subst (λ (words : List ℕ). Draws s words draws.left)
+      (sym (words_of-append draws.gained gained ∙ ap (λ (words : List ℕ). words_of draws.gained ++ words) silent
+      ∙ append-nil (words_of draws.gained))) draws.drawn;
+}
+
+pub silent_draws : (s : Stream) (old new gained : Calls) → new ≡ old ++ gained → words_of gained ≡ [] → DrawsWords s old new
+silent_draws s old new gained is silent = DrawsWords-silent s old old new gained (DrawsWords-none s old) is silent
+
+-- the calls of some events that draw no word
+abbrev pub AreSilent : List Event → Type 0
+AreSilent events = words_of (calls_of events) ≡ []
+
+pub news_calls : (news : List ℕ) → calls_of (map News news) ≡ []
+news_calls [] = refl
+news_calls (piece ∷ news) = news_calls news
+
+-- news are no calls
+pub told_conducts : (settles : Bool) (s : Stream) (old new : PlaceRecord) (news : List ℕ) → GainsUpTo old (map News news) new →
+    Conducts settles s old.calls new.calls s
+told_conducts settles s old new news gains =
+    subst (λ (calls : Calls). Conducts settles s old.calls calls s)
+    (sym (gains.calls ∙ ap (λ (calls : Calls). old.calls ++ calls) (news_calls news) ∙ append-nil old.calls))
+    (Conducts-none settles s old.calls)
+
+none_completed : (reply : Reply) → if_completed None reply ≡ None
+none_completed replies.Completed = refl
+none_completed _ = refl
+
+-- a call that completed no piece
+one_checked : (call : CallMark) (reply : Reply) → if_completed (arrived_piece call) reply ≡ None → all_checked ((call, reply) ∷ []) ≡ true
+one_checked call reply none = ap (λ (piece : Option ℕ). checks_first piece [] && true) none
+
+-- one Next, with the generator's next word
+pub asked_one : (settles : Bool) (a b : Stream) (word : ℕ) (reply : Reply) (old new : PlaceRecord) → (word, b) ≡ next_u64 a →
+    Gains old (Called (marks.Next word) reply ∷ []) new → Conducts settles a old.calls new.calls b
+asked_one settles a b word reply old new drawn gains = record {
+  gained = (marks.Next word, reply) ∷ [];
+  calls = gains.up_to.calls;
+  drawn = (ap (λ (next : ℕ × Stream). next.0) drawn, ap (λ (next : ℕ × Stream). next.1) drawn);
+  checked = λ own. one_checked (marks.Next word) reply (none_completed reply);
+}
+
+drew_one : (a b : Stream) (word : ℕ) (reply : Reply) (old new : Calls) → (word, b) ≡ next_u64 a → new ≡ old ++ (marks.Next word, reply) ∷ [] →
+    DrawsWords a old new
+drew_one a b word reply old new drawn is = record {
+  gained = (marks.Next word, reply) ∷ [];
+  calls = is;
+  left = b;
+  drawn = (ap (λ (next : ℕ × Stream). next.0) drawn, ap (λ (next : ℕ × Stream). next.1) drawn);
+}
+
+-- the calls that a stopped call left: none, or itself
+stopped_calls : (call : CallMark) (fault : SessionFault) (events : List Event) → StopsCall call fault events →
+    (calls_of events ≡ []) ⊎ ((reply : Reply) × (calls_of events ≡ (call, reply) ∷ []))
+stopped_calls call fault events stops =
+    elim (stops_ways call fault events stops) [
+      | inl refused ↦ inr (_, ap calls_of refused.1.1)
+      | inr cut ↦ elim cut.1 [ inl none ↦ inl (ap calls_of none) | inr some ↦ inr (some.0, ap calls_of some.1.1) ]
+    ]
+
+-- a Next that stopped
+pub asked_cut : (a b : Stream) (word : ℕ) (fault : SessionFault) (events : List Event) (old new : PlaceRecord) → (word, b) ≡ next_u64 a →
+    StopsCall (marks.Next word) fault events → GainsUpTo old events new → DrawsWords a old.calls new.calls
+asked_cut a b word fault events old new drawn stops gains =
+    elim (stopped_calls (marks.Next word) fault events stops) [
+      | inl none ↦ silent_draws a old.calls new.calls (calls_of events) gains.calls (ap words_of none)
+      | inr one ↦ drew_one a b word one.0 old.calls new.calls drawn (gains.calls ∙ ap (λ (calls : Calls). old.calls ++ calls) one.1)
+    ]
+
+-- another call that stopped
+pub other_cut : (s : Stream) (call : CallMark) (fault : SessionFault) (events : List Event) (old new : PlaceRecord) → word_of call ≡ [] →
+    StopsCall call fault events → GainsUpTo old events new → DrawsWords s old.calls new.calls
+other_cut s call fault events old new silent stops gains =
+    elim (stopped_calls call fault events stops) [
+      | inl none ↦ silent_draws s old.calls new.calls (calls_of events) gains.calls (ap words_of none)
+      | inr one ↦ silent_draws s old.calls new.calls (calls_of events) gains.calls
+          (ap words_of one.1 ∙ ap (λ (words : List ℕ). words ++ []) silent)
+    ]
+
+-- a call that isn't Next, which completed no piece
+pub other_one : (settles : Bool) (s : Stream) (call : CallMark) (reply : Reply) (old new : PlaceRecord) → word_of call ≡ [] →
+    if_completed (arrived_piece call) reply ≡ None → Gains old (Called call reply ∷ []) new → Conducts settles s old.calls new.calls s
+other_one settles s call reply old new silent none gains = record {
+  gained = (call, reply) ∷ [];
+  calls = gains.up_to.calls;
+  drawn = subst (λ (words : List ℕ). Draws s words s) (sym (ap (λ (words : List ℕ). words ++ []) silent)) refl;
+  checked = λ own. one_checked call reply none;
+}
+
+-- a call that completed a piece, and the check that may follow it
+two_checked : (call : CallMark) (reply checked : Reply) (piece : ℕ) → if_completed (arrived_piece call) reply ≡ Some piece →
+    all_checked ((call, reply) ∷ (marks.Settle piece, checked) ∷ []) ≡ true
+two_checked call reply checked piece is =
+    ap (λ (completed : Option ℕ). checks_first completed ((marks.Settle piece, checked) ∷ []) && all_checked ((marks.Settle piece, checked) ∷ [])) is
+    ∙ both (piece == piece) _ (eq-eqb piece piece refl) (one_checked (marks.Settle piece) checked (none_completed checked))
+
+-- the same list isn't one longer
+not_longer : (old mid new : Calls) (made : CallMark × Reply) → new ≡ old ++ [] → new ≡ old ++ made ∷ [] → ⊥
+not_longer old mid new made same more =
+    omega (arith, ap length same, ap length more, length-append old [], length-append old (made ∷ []))
+
+pub completed_conducts : (settles : Bool) (s : Stream) (call : CallMark) (reply : Reply) (piece : ℕ) (old mid new : PlaceRecord) →
+    word_of call ≡ [] → if_completed (arrived_piece call) reply ≡ Some piece → Gains old (Called call reply ∷ []) mid →
+    (events : List Event) × (ChecksAtMost piece events × Gains mid events new) →
+    (settles ≡ true → SettlesAtOnce piece mid.calls new.calls) → Conducts settles s old.calls new.calls s
+completed_conducts settles s call reply piece old mid new silent is made checks at_once =
+    elim checks.1.0 [
+      | inl none ↦
+          let same : new.calls ≡ mid.calls ++ [] =
+          checks.1.1.up_to.calls ∙ ap (λ (events : List Event). mid.calls ++ calls_of events) none in
+          record {
+            gained = (call, reply) ∷ [];
+            calls = same ∙ append-nil mid.calls ∙ made.up_to.calls;
+            drawn = subst (λ (words : List ℕ). Draws s words s) (sym (ap (λ (words : List ℕ). words ++ []) silent)) refl;
+            checked = λ own. absurd (not_longer mid.calls mid.calls new.calls _ same (at_once own).made);
+          }
+      | inr check ↦
+          record {
+            gained = (call, reply) ∷ (marks.Settle piece, check.0) ∷ [];
+            calls = checks.1.1.up_to.calls
+                ∙ ap (λ (events : List Event). mid.calls ++ calls_of events) check.1.1
+                ∙ ap (λ (calls : Calls). calls ++ (marks.Settle piece, check.0) ∷ []) made.up_to.calls
+                ∙ append_assoc old.calls ((call, reply) ∷ []) ((marks.Settle piece, check.0) ∷ []);
+            drawn = subst (λ (words : List ℕ). Draws s words s) (sym (ap (λ (words : List ℕ). words ++ []) silent)) refl;
+            checked = λ own. two_checked call reply check.0 piece is;
+          }
+    ]
+
+-- a call of a message is no Next
+pub own_word : (m : Message) (call : CallMark) → call_of m ≡ Some call → word_of call ≡ []
+own_word (messages.Hello h) call is = cc
+own_word messages.Choke call is = cc
+own_word messages.Unchoke call is = cc
+own_word (messages.Have piece) call is = cc
+own_word (messages.Bits bits) call is = cc
+own_word (messages.Piece piece begin bytes) call is = cc
+own_word _ call is = absurd cc
+
+departs_silently : (is_in short : Bool) (leave : List Event) → Departs is_in short leave → AreSilent leave
+departs_silently is_in short [] departs = refl
+departs_silently is_in short (Called marks.Leave reply ∷ []) departs = refl
+departs_silently is_in short _ departs = absurd departs
+
+-- the departure draws no word
+pub left_draws : (s : Stream) (a b c : PlaceRecord) → DrawsWords s a.calls b.calls → Leaves b c → DrawsWords s a.calls c.calls
+left_draws s a b c draws leaves =
+    DrawsWords-silent s a.calls b.calls c.calls (calls_of leaves.leave) draws leaves.gains.calls
+    (departs_silently true c.short leaves.leave leaves.departs)

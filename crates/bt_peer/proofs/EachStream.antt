@@ -1,0 +1,138 @@
+-- Rounds of several streams' sessions.
+use Rattle.std.proofs.Common.{◌≡◌, ◌≢◌, ◌<◌, ◌+◌, ◌∙◌, ℕ, Bool, true, false, List, [], ◌∷◌, ◌++◌, length-append, length, map, Some, Result, get_or}
+use Rattle.std.proofs.Common.{set, sum_by, refl, sym, ap, subst, ◌==◌, arith}
+use Rattle.std.specs.List.{AllWithin, HoldsAt}
+use Rattle.std.proofs.lemmas.Bool.Decides.{nat_tests}
+use Rattle.std.proofs.lemmas.Grind.{get_or-set_at}
+use Rattle.std.proofs.lemmas.List.{get_or-set_other, get_or_append_left, get_or_default, get_or_push, length-map}
+use Rattle.std.proofs.lemmas.List.Elements.{AllWithin-more}
+use Rattle.bt_picker.specs.Positions.{DeskState}
+use Rattle.bt_peer.specs.declared.fault.End.{End}
+use Rattle.bt_peer.specs.declared.fault.SessionFault.{SessionFault}
+use Rattle.bt_peer.specs.declared.seat.Seat.{Seat}
+use Rattle.bt_peer.specs.Conduct.{answers_of}
+use Rattle.bt_peer.specs.Serial.{StreamRecord}
+use Rattle.bt_peer.specs.Standing.{Standing, Keeps, EachKeeps, LeavesOthers, LeavesRest, HasEnded, IsNew, AreNew, left_of, standing}
+use Rattle.bt_peer.specs.Terms.{TermsState}
+use Rattle.bt_peer.proofs.Standing.{Keeps-join, Keeps-refl, others_stand}
+
+Keeps-same : (worker : ℕ) (old old' new new' : Standing) → old' ≡ old → new' ≡ new → Keeps worker old new → Keeps worker old' new'
+Keeps-same worker old old' new new' same same' keeps =
+    subst (λ (a : Standing). Keeps worker a new') (sym same) (subst (λ (b : Standing). Keeps worker old b) (sym same') keeps)
+
+standing-same : (desk : DeskState) (seat seat' : Seat) (stream stream' : StreamRecord) → seat ≡ seat' → stream ≡ stream' →
+    standing desk seat stream ≡ standing desk seat' stream'
+standing-same desk seat seat' stream stream' same same' =
+    subst (λ (s : Seat). standing desk seat stream ≡ standing desk s stream') same (ap (λ (s : StreamRecord). standing desk seat s) same')
+
+-- the stream whose turn it was, or another
+each_at : {X : Type 0} (record_of : X → StreamRecord) (desk new : DeskState) (seats : List Seat) (streams : List X) (i : ℕ) (seat seat' : Seat)
+    (stream stream' : X) →
+    i < length seats → i < length streams →
+    Keeps i (standing desk (get_or seats i seat) (record_of (get_or streams i stream))) (standing new seat' (record_of stream')) →
+    LeavesOthers i desk new →
+    (same : Bool) (j : ℕ) (s : Seat) (x : X) → (j == i) ≡ same →
+    Keeps j (standing desk (get_or seats j s) (record_of (get_or streams j x)))
+    (standing new (get_or (set seats i seat') j s) (record_of (get_or (set streams i stream') j x)))
+each_at record_of desk new seats streams i seat seat' stream stream' within within' keeps others true j s x test =
+    let here : j ≡ i = grind (arith, nat_tests) in
+    let was = get_or_default seats i s seat within in
+    let was' = get_or_default streams i x stream within' in
+    let now = get_or-set_at seats i i seat' s refl within in
+    let now' = get_or-set_at streams i i stream' x refl within' in
+    subst (λ (k : ℕ). Keeps k (standing desk (get_or seats k s) (record_of (get_or streams k x)))
+    (standing new (get_or (set seats i seat') k s) (record_of (get_or (set streams i stream') k x))))
+    (sym here)
+    (Keeps-same i _ _ _ _ (standing-same desk _ _ _ _ was (ap record_of was')) (standing-same new _ _ _ _ now (ap record_of now')) keeps)
+each_at record_of desk new seats streams i seat seat' stream stream' within within' keeps others false j s x test =
+    let apart : j ≢ i = grind (arith, nat_tests) in
+    let kept = get_or-set_other seats i j seat' s apart in
+    let kept' = get_or-set_other streams i j stream' x apart in
+    let old = get_or seats j s in
+    Keeps-same j _ _ _ _ refl (standing-same new _ _ _ _ kept (ap record_of kept'))
+    (others_stand i j desk new old.session old.told (record_of (get_or streams j x)) (answers_of old.rng) others apart)
+
+-- after one stream's turn
+pub each_turn : {X : Type 0} (record_of : X → StreamRecord) (desk new : DeskState) (seats : List Seat) (streams : List X) (i : ℕ) (seat seat' : Seat)
+    (stream stream' : X) →
+    i < length seats → i < length streams →
+    Keeps i (standing desk (get_or seats i seat) (record_of (get_or streams i stream))) (standing new seat' (record_of stream')) →
+    LeavesOthers i desk new →
+    EachKeeps record_of desk seats streams new (set seats i seat') (set streams i stream')
+each_turn record_of desk new seats streams i seat seat' stream stream' within within' keeps others =
+    λ j. λ s. λ x. λ few. each_at record_of desk new seats streams i seat seat' stream stream' within within' keeps others (j == i) j s x refl
+
+pub EachKeeps-refl : {X : Type 0} (record_of : X → StreamRecord) (desk : DeskState) (seats : List Seat) (streams : List X) →
+    EachKeeps record_of desk seats streams desk seats streams
+EachKeeps-refl record_of desk seats streams = λ j. λ s. λ x. λ few. Keeps-refl j _
+
+pub EachKeeps-join : {X : Type 0} (record_of : X → StreamRecord) (a b c : DeskState) (seats seats' seats'' : List Seat)
+    (streams streams' streams'' : List X) → length streams' ≡ length streams →
+    EachKeeps record_of a seats streams b seats' streams' → EachKeeps record_of b seats' streams' c seats'' streams'' →
+    EachKeeps record_of a seats streams c seats'' streams''
+EachKeeps-join record_of a b c seats seats' seats'' streams streams' streams'' same first then =
+    λ j. λ s. λ x. λ few. Keeps-join j _ _ _ (first j s x few) (then j s x (omega arith))
+
+pub LeavesRest-join : (count : ℕ) (a b c : DeskState) → LeavesRest count a b → LeavesRest count b c → LeavesRest count a c
+LeavesRest-join count a b c first then = record {
+  setting = then.setting ∙ first.setting;
+  calls = λ other. λ above. then.calls other above ∙ first.calls other above;
+}
+
+-- how far a round has come: a turn was taken, or all sessions so far had ended
+pub record Progress (turns : Bool) (i : ℕ) (first now : List Seat) : Type 0 where
+  pub falls : turns ≡ true → sum_by left_of now < sum_by left_of first
+  pub same : turns ≡ false → now ≡ first
+  pub ended : turns ≡ false → AllWithin HasEnded now 0 i
+
+not_more : (turns : Bool) {i : ℕ} (first now new : List Seat) → Progress turns i first now → sum_by left_of new < sum_by left_of now →
+    sum_by left_of new < sum_by left_of first
+not_more true first now new progress falls = let before = progress.falls refl in omega arith
+not_more false first now new progress falls = subst (λ (seats : List Seat). sum_by left_of new < sum_by left_of seats) (progress.same refl) falls
+
+-- one stream more
+pub progress_on : (took turns turns' : Bool) (i : ℕ) (first now new : List Seat) → (took ≡ true → turns' ≡ true) → (took ≡ false → turns' ≡ turns) →
+    Progress turns i first now → (took ≡ true → sum_by left_of new < sum_by left_of now) → (took ≡ false → new ≡ now) →
+    (took ≡ false → HoldsAt HasEnded new i) →
+    Progress turns' (i + 1) first new
+progress_on true turns turns' i first now new taken idle progress falls same ended =
+    let is = taken refl in
+    record {
+      falls = λ on. not_more turns first now new progress (falls refl);
+      same = λ off. absurd cc;
+      ended = λ off. absurd cc;
+    }
+progress_on false turns turns' i first now new taken idle progress falls same ended =
+    let is = idle refl in
+    record {
+      falls = λ on. subst (λ (seats : List Seat). sum_by left_of seats < sum_by left_of first) (sym (same refl)) (progress.falls (sym is ∙ on));
+      same = λ off. same refl ∙ progress.same (sym is ∙ off);
+      ended = λ off. AllWithin-more HasEnded new 0 i
+          (subst (λ (seats : List Seat). AllWithin HasEnded seats 0 i) (sym (same refl)) (progress.ended (sym is ∙ off))) (ended refl);
+    }
+
+new_at : (terms : TermsState) (seed : ℕ) (seats : List Seat) (seat : Seat) → AreNew terms seed seats →
+    IsNew terms seed (length seats) seat → (last : Bool) (i : ℕ) (any : Seat) → (i == length seats) ≡ last → i < length (seats ++ seat ∷ []) →
+    IsNew terms seed i (get_or (seats ++ seat ∷ []) i any)
+new_at terms seed seats seat each one true i any test within =
+    let here : i ≡ length seats = grind (arith, nat_tests) in
+    let is = get_or_push seats seat any i (sym here) in
+    subst (IsNew terms seed i) (sym is) (subst (λ (k : ℕ). IsNew terms seed k seat) (sym here) one)
+new_at terms seed seats seat each one false i any test within =
+    let apart : i ≢ length seats = grind (arith, nat_tests) in
+    let before : i < length seats = omega (arith, length-append seats (seat ∷ [])) in
+    subst (IsNew terms seed i) (sym (get_or_append_left seats (seat ∷ []) any i before)) (each i any before)
+
+-- one more seat
+pub AreNew-push : (terms : TermsState) (seed : ℕ) (seats new : List Seat) (seat : Seat) (worker : ℕ) → length seats ≡ worker →
+    new ≡ seats ++ seat ∷ [] → AreNew terms seed seats → IsNew terms seed worker seat → AreNew terms seed new
+AreNew-push terms seed seats new seat worker count is each one =
+    let last = subst (λ (k : ℕ). IsNew terms seed k seat) (sym count) one in
+    subst (AreNew terms seed) (sym is) (λ i. λ any. λ within. new_at terms seed seats seat each last (i == length seats) i any refl within)
+
+-- there is an end for each seat
+pub ends_count : (ends : List (Result End SessionFault)) (seats : List Seat) → map Some ends ≡ map (λ seat. seat.session.outcome) seats →
+    length ends ≡ length seats
+ends_count ends seats told =
+    let same : length (map Some ends) ≡ length (map (λ (seat : Seat). seat.session.outcome) seats) = ap length told in
+    sym (length-map ends Some) ∙ same ∙ length-map seats (λ (seat : Seat). seat.session.outcome)

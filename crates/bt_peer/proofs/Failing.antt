@@ -1,0 +1,209 @@
+-- What a turn left that broke off.
+use Rattle.std.proofs.Common.{◌≡◌, ◌≢◌, ◌<◌, length, arith, ℕ, List, [], ◌∷◌, ◌++◌, Bool, true, false, Option, Some, Err, refl, sym, ap, subst, inl}
+use Rattle.std.proofs.Common.{inr}
+use Rattle.std.specs.Prelude.{if◌then◌else◌}
+use Rattle.std.proofs.lemmas.List.{append-nil}
+use Rattle.std.specs.Io.KnownBytes.{Appends}
+use Rattle.bt_wire.specs.declared.hello.Hello.{Hello}
+use Rattle.bt_wire.specs.declared.message.Message.{Message}
+use Rattle.bt_wire.specs.declared.message.Message.TheVariants as messages
+use Rattle.bt_wire.specs.Stream.{InboundState}
+use Rattle.bt_history.specs.declared.call.Reason.{Reason}
+use Rattle.bt_history.specs.declared.call.Reply.TheVariants as replies
+use Rattle.bt_history.specs.declared.mark.CallMark.TheVariants as marks
+use Rattle.bt_peer.specs.declared.fault.SessionFault.{SessionFault}
+use Rattle.bt_peer.specs.declared.fault.SessionFault.TheVariants as faults
+use Rattle.bt_peer.specs.Events.{Event, Called, is_in}
+use Rattle.bt_peer.specs.Places.{PlaceRecord, Gains, GainsUpTo, LacksMemory}
+use Rattle.bt_peer.specs.Saying.{greeting, says}
+use Rattle.bt_peer.specs.Turns.{IsLater, BeginsTurn}
+use Rattle.bt_peer.specs.Outlets.{Outlet, PerformsUpTo, WroteFront, EndsCalls}
+use Rattle.bt_peer.specs.Hearing.{Hears, HearsEnd, HearsFault, SourceState}
+use Rattle.bt_peer.specs.Sessions.{SessionState, FailsWith}
+use Rattle.bt_peer.specs.Turning.{Start, start, Surroundings, BreaksBy, StopsTurn, Departs, Leaves}
+use Rattle.bt_peer.proofs.Opening.{unchecked}
+use Rattle.bt_peer.proofs.Staying.{stays_in}
+use Rattle.bt_peer.proofs.Stretches.{Gains-none, GainsUpTo-join, up_to}
+use Rattle.std.proofs.KnownBytes.{Appends-nil}
+
+-- what the first turn left that broke off
+abbrev pub FirstFails : SessionFault → List ℕ → Bool → Start → SourceState → PlaceRecord → Option (List ℕ) → PlaceRecord → Option (List ℕ) → Type 0
+FirstFails fault greeting interested old source past written past' written' =
+    (events : List Event) × (GainsUpTo past events past' × (is_in false events ≡ false)
+    × WroteFront fault written (greeting ++ says interested events) written' × BreaksBy fault old source events)
+
+-- what a later turn left that broke off
+abbrev pub LaterFails : SessionFault → Bool → Start → SourceState → PlaceRecord → Option (List ℕ) → PlaceRecord → Option (List ℕ) → Type 0
+LaterFails fault interested old source past written past' written' =
+    (events : List Event) × ((leave : List Event)
+    × (GainsUpTo past (events ++ leave) past' × Departs (is_in true events) past'.short leave
+    × WroteFront fault written (says interested events) written' × BreaksBy fault old source events))
+
+heard_fault : (fault : SessionFault) (old : Start) (source : SourceState) → HearsFault old.stream old.left source fault → BreaksBy fault old source []
+heard_fault (faults.Wire fault) old source h = (h, refl)
+heard_fault faults.ReadFault old source h = (h, refl)
+heard_fault faults.NoMemory old source h = inr refl
+heard_fault _ old source h = absurd h.cause
+
+nothing_gained : (past : PlaceRecord) → GainsUpTo past [] past
+nothing_gained past = up_to past past [] (Gains-none past)
+
+wrote_nothing : (fault : SessionFault) (written : Option (List ℕ)) → WroteFront fault written [] written
+wrote_nothing fault written = record { front = []; rest = []; parts = refl; wrote = Appends-nil written; all = inr refl }
+
+-- the greeting was cut off
+pub greeting_fails : (fault : SessionFault) (greeting : List ℕ) (interested : Bool) (old : Start) (source : SourceState) (past : PlaceRecord)
+    (written written' : Option (List ℕ)) →
+    old.joined ≡ false → fault ≡ faults.WriteFault → WroteFront fault written greeting written' →
+    FirstFails fault greeting interested old source past written past written'
+greeting_fails fault greeting interested old source past written written' first is wrote = (
+  [],
+  (
+    nothing_gained past,
+    refl,
+    subst (λ (xs : List ℕ). WroteFront fault written xs written') (sym (append-nil greeting)) wrote,
+    subst (λ (f : SessionFault). BreaksBy f old source []) (sym is) (inr (first, refl)),
+  ),
+)
+
+greeted_all : (fault : SessionFault) (greeting : List ℕ) (written written' : Option (List ℕ)) → Appends written written' greeting →
+    WroteFront fault written (greeting ++ []) written'
+greeted_all fault greeting written written' wrote = record { front = greeting; rest = []; parts = refl; wrote = wrote; all = inr refl }
+
+-- no handshake came
+pub handshake_fails : (fault : SessionFault) (greeting : List ℕ) (interested : Bool) (old : Start) (source : SourceState) (past : PlaceRecord)
+    (written written' : Option (List ℕ)) →
+    Appends written written' greeting → HearsFault old.stream old.left source fault →
+    FirstFails fault greeting interested old source past written past written'
+handshake_fails fault greeting interested old source past written written' wrote h =
+    ([], (nothing_gained past, refl, greeted_all fault greeting written written' wrote, heard_fault fault old source h))
+
+-- Join was refused
+pub join_refused : (reason : Reason) (greeting : List ℕ) (interested : Bool) (hello : Hello) (stream : InboundState) (old : Start)
+    (source : SourceState) (past past' : PlaceRecord) (written written' : Option (List ℕ)) →
+    Appends written written' greeting → Hears old.stream old.left source.left (messages.Hello hello) stream →
+    Gains past (Called marks.Join (replies.Refused reason) ∷ []) past' →
+    FirstFails (faults.Refused reason) greeting interested old source past written past' written'
+join_refused reason greeting interested hello stream old source past past' written written' wrote hears gains =
+    let event : Event = Called marks.Join (replies.Refused reason) in
+    let begins : BeginsTurn old.terms (messages.Hello hello) (event ∷ []) =
+    ([], (refl, unchecked marks.Join (replies.Refused reason))) in
+    let ends : EndsCalls (faults.Refused reason) (event ∷ []) =
+    (marks.Join, record { before = []; accepted = refl; refused = refl; last = refl }) in (
+      event ∷ [],
+      (
+        up_to past past' (event ∷ []) gains,
+        refl,
+        greeted_all (faults.Refused reason) greeting written written' wrote,
+        inl (record { message = messages.Hello hello; stream = stream; hears = hears; begins = begins; ends = ends }),
+      ),
+    )
+
+fails_at_once : (fault : SessionFault) (interested : Bool) (old : Start) (source : SourceState) (past past' : PlaceRecord)
+    (written : Option (List ℕ)) →
+    BreaksBy fault old source [] → Leaves past past' → LaterFails fault interested old source past written past' written
+fails_at_once fault interested old source past past' written by left =
+    ([], (left.leave, (left.gains, left.departs, wrote_nothing fault written, by)))
+
+-- no message came
+pub hearing_fails : (fault : SessionFault) (interested : Bool) (old : Start) (source : SourceState) (past past' : PlaceRecord)
+    (written : Option (List ℕ)) →
+    HearsFault old.stream old.left source fault → Leaves past past' → LaterFails fault interested old source past written past' written
+hearing_fails fault interested old source past past' written h left =
+    fails_at_once fault interested old source past past' written (heard_fault fault old source h) left
+
+-- the input ended within a message
+pub ends_within : (interested : Bool) (old : Start) (source : SourceState) (stream : InboundState) (past past' : PlaceRecord)
+    (written : Option (List ℕ)) →
+    HearsEnd old.stream old.left source.left source.ended stream → 0 < length stream.bytes → Leaves past past' →
+    LaterFails faults.Truncated interested old source past written past' written
+ends_within interested old source stream past past' written hears some left =
+    let within : old.joined ≡ true → stream.bytes ≢ [] = λ joined. λ none. absurd (omega (arith, some, ap length none)) in
+    fails_at_once faults.Truncated interested old source past past' written (record { stream = stream; hears = hears; within = within }, refl) left
+
+-- the last Leave was refused
+pub leave_refused : (reason : Reason) (interested : Bool) (old : Start) (source : SourceState) (stream : InboundState) (past past' : PlaceRecord)
+    (written : Option (List ℕ)) →
+    HearsEnd old.stream old.left source.left source.ended stream → stream.bytes ≡ [] → old.joined ≡ true →
+    Gains past (Called marks.Leave (replies.Refused reason) ∷ []) past' →
+    LaterFails (faults.Refused reason) interested old source past written past' written
+leave_refused reason interested old source stream past past' written hears empty joined gains =
+    let event : Event = Called marks.Leave (replies.Refused reason) in (
+      event ∷ [],
+      (
+        [],
+        (
+          up_to past past' (event ∷ []) gains,
+          (λ is_in. absurd cc),
+          wrote_nothing (faults.Refused reason) written,
+          inr (record { stream = stream; hears = hears; empty = empty; joined = joined; refused = refl }),
+        ),
+      ),
+    )
+
+-- there was no memory for it
+pub leave_lacks_memory : (fault : SessionFault) (interested : Bool) (old : Start) (source : SourceState) (past past' : PlaceRecord)
+    (written : Option (List ℕ)) →
+    fault ≡ faults.NoMemory → LacksMemory past past' → LaterFails fault interested old source past written past' written
+leave_lacks_memory fault interested old source past past' written is lacks = (
+  [],
+  (
+    [],
+    (
+      lacks.gains,
+      (λ is_in. lacks.short),
+      wrote_nothing fault written,
+      subst (λ (f : SessionFault). BreaksBy f old source []) (sym is) (inr refl),
+    ),
+  ),
+)
+
+stopped_turn : (fault : SessionFault) (m : Message) (stream : InboundState) (old : Start) (source : SourceState) (events : List Event) →
+    Hears old.stream old.left source.left m stream → StopsTurn fault old.terms m events → BreaksBy fault old source events
+stopped_turn (faults.Refused reason) m stream old source events hears stops =
+    inl (record { message = m; stream = stream; hears = hears; begins = stops.0; ends = stops.1 })
+stopped_turn faults.WriteFault m stream old source events hears stops =
+    inl (record { message = m; stream = stream; hears = hears; begins = stops.0; ends = stops.1 })
+stopped_turn faults.NoMemory m stream old source events hears stops =
+    inl (record { message = m; stream = stream; hears = hears; begins = stops.0; ends = stops.1 })
+stopped_turn faults.BadBits m stream old source events hears stops =
+    (record { message = m; stream = stream; hears = hears; unacceptable = stops.0 }, stops.1)
+stopped_turn _ m stream old source events hears stops = absurd stops.1
+
+-- a message's turn broke off
+pub attending_fails : (fault : SessionFault) (m : Message) (stream : InboundState) (old : Start) (source : SourceState) (a d : Outlet)
+    (past' : PlaceRecord) →
+    IsLater m → Hears old.stream old.left source.left m stream →
+    (events : List Event) × (StopsTurn fault old.terms m events × PerformsUpTo fault a events d) → Leaves d.past past' →
+    LaterFails fault a.interested old source a.past a.written past' d.written
+attending_fails fault m stream old source a d past' later hears h left =
+    let still = stays_in fault old.terms m h.0 later h.1.0 in (
+      h.0,
+      (
+        left.leave,
+        (
+          GainsUpTo-join a.past d.past past' h.0 left.leave h.1.1.gains left.gains,
+          subst (λ (is_in : Bool). Departs is_in past'.short left.leave) (sym still) left.departs,
+          h.1.1.wrote,
+          stopped_turn fault m stream old source h.0 hears h.1.0,
+        ),
+      ),
+    )
+
+-- the first turn of a session broke off
+pub session_fails_first : (fault : SessionFault) (old new : SessionState) (out out' : Surroundings) (source : SourceState) → old.joined ≡ false →
+    new.outcome ≡ Some (Err fault) →
+    FirstFails fault (greeting old.terms.infohash old.worker) old.interested
+    (start old.terms false old.stream out.left) source out.past out.written out'.past out'.written →
+    FailsWith fault old out source new out'
+session_fails_first fault old new out out' source first is h =
+    record {
+      events = h.0;
+      leave = [];
+      gains = subst (λ (es : List Event). GainsUpTo out.past es out'.past) (sym (append-nil h.0)) h.1.0;
+      departs = λ in_now. absurd (cc (h.1.1, subst (λ (b : Bool). is_in b h.0 ≡ true) first in_now));
+      wrote = subst (λ (b : Bool). WroteFront fault out.written
+          ((if b then [] else greeting old.terms.infohash old.worker) ++ says old.interested h.0) out'.written) (sym first) h.1.2;
+      cause = subst (λ (b : Bool). BreaksBy fault (start old.terms b old.stream out.left) source h.0) (sym first) h.1.3;
+      outcome = is;
+    }

@@ -1,0 +1,78 @@
+-- Reading piece by piece.
+use Rattle.bt_wire.specs.declared.message.Message.{Message}
+use Rattle.bt_wire.specs.declared.message.Message.TheVariants as messages
+use Rattle.std.proofs.Common.{Bool, true, false, ◌≤◌, length, length-append, ◌≡◌, ℕ, ◌+◌, List, [], ◌++◌, Option, Some, None, refl, sym, ap, subst}
+use Rattle.std.proofs.Common.{◌∙◌, append_assoc, arith}
+use Rattle.std.proofs.lemmas.List.{append-nil}
+use Rattle.std.specs.Io.KnownBytes.{Consumes, Keeps}
+use Rattle.bt_wire.specs.Stream.{InboundState, Gives, Spells}
+use Rattle.bt_peer.specs.Hearing.{fed, Hears}
+use Rattle.bt_peer.specs.Turns.{IsLater}
+
+pub Consumes-none : (a : Option (List ℕ)) → Consumes a a []
+Consumes-none None = tt
+Consumes-none (Some xs) = refl
+
+pub Consumes-kept : (a b : Option (List ℕ)) → Keeps a b → Consumes a b []
+Consumes-kept None b h = tt
+Consumes-kept (Some xs) None h = absurd h
+Consumes-kept (Some xs) (Some ys) h = sym h
+
+pub Consumes-join : (a b c : Option (List ℕ)) (xs ys : List ℕ) → Consumes a b xs → Consumes b c ys → Consumes a c (xs ++ ys)
+Consumes-join None b c xs ys p q = tt
+Consumes-join (Some us) None c xs ys p q = absurd p
+Consumes-join (Some us) (Some vs) None xs ys p q = absurd q
+Consumes-join (Some us) (Some vs) (Some ws) xs ys p q = p ∙ ap (λ (zs : List ℕ). xs ++ zs) q ∙ sym (append_assoc xs ys ws)
+
+-- bytes were read and fed
+pub record BytesRead (old new : Option (List ℕ)) (held held' : InboundState) : Type 0 where
+  pub read : List ℕ
+  pub consumed : Consumes old new read
+  pub now : held' ≡ fed held read
+
+pub fed-none : (held : InboundState) → fed held [] ≡ held
+fed-none held = ap (λ (xs : List ℕ). record held { bytes = xs }) (append-nil held.bytes)
+
+pub fed-more : (held : InboundState) (xs ys : List ℕ) → fed (fed held xs) ys ≡ fed held (xs ++ ys)
+fed-more held xs ys = ap (λ (zs : List ℕ). record held { bytes = zs }) (append_assoc held.bytes xs ys)
+
+pub BytesRead-start : (a : Option (List ℕ)) (held : InboundState) → BytesRead a a held held
+BytesRead-start a held = record { read = []; consumed = Consumes-none a; now = sym (fed-none held) }
+
+pub BytesRead-more : (a b c : Option (List ℕ)) (held now new : InboundState) (xs : List ℕ) → BytesRead a b held now → Consumes b c xs →
+    new ≡ fed now xs → BytesRead a c held new
+BytesRead-more a b c held now new xs r more is =
+    record {
+      read = r.read ++ xs;
+      consumed = Consumes-join a b c r.read xs r.consumed more;
+      now = is ∙ ap (λ (h : InboundState). fed h xs) r.now ∙ fed-more held r.read xs;
+    }
+
+-- a message was held already
+pub heard_at_once : (left : Option (List ℕ)) (old new : InboundState) (m : Message) → Gives old m new → Hears old left left m new
+heard_at_once left old new m gives =
+    record {
+      read = [];
+      consumed = Consumes-none left;
+      gives = subst (λ (stream : InboundState). Gives stream m new) (sym (fed-none old)) gives;
+    }
+
+-- a message has four bytes at least
+text_len : (greeted : Bool) (limit : ℕ) (m : Message) (text : List ℕ) → Spells greeted limit m text → 4 ≤ length text
+text_len false limit (messages.Hello h) text is = rw is.1 (simp length-append (omega arith))
+text_len false limit _ text is = absurd is
+text_len true limit m text is = rw is.1.2 (omega arith)
+
+pub shorter : (old new : InboundState) (m : Message) → Gives old m new → length new.bytes + 4 ≤ length old.bytes
+shorter old new m gives =
+    omega (arith, text_len old.greeted old.limit m gives.text gives.spells, ap length gives.bytes, length-append gives.text new.bytes)
+
+framed : (limit : ℕ) (m : Message) (text : List ℕ) → Spells true limit m text → IsLater m
+framed limit (messages.Hello h) text is = is.1.0
+framed limit _ text is = tt
+
+-- a message after the handshake is no handshake
+pub later : (old : InboundState) (left left' : Option (List ℕ)) (m : Message) (new : InboundState) → old.greeted ≡ true → Hears old left left' m new →
+    IsLater m
+later old left left' m new greeted hears =
+    framed old.limit m hears.gives.text (subst (λ (b : Bool). Spells b old.limit m hears.gives.text) greeted hears.gives.spells)

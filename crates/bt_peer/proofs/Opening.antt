@@ -1,0 +1,154 @@
+-- The call of a message, and the check that follows.
+use Rattle.std.proofs.Common.{◌≡◌, ℕ, List, [], ◌∷◌, ◌++◌, Bool, true, false, Option, Some, None, refl, sym, ap, subst, inl, inr}
+use Rattle.std.specs.Prelude.{IsTrue, MatchOption, ◌||◌}
+use Rattle.bt_history.specs.Logs.{answers}
+use Rattle.bt_history.specs.declared.mark.CallMark.{CallMark}
+use Rattle.bt_history.specs.declared.mark.CallMark.TheVariants as marks
+use Rattle.bt_history.specs.declared.call.Reply.{Reply}
+use Rattle.bt_history.specs.declared.call.Reply.TheVariants as replies
+use Rattle.bt_history.specs.declared.call.Reason.{Reason}
+use Rattle.bt_peer.specs.declared.fault.SessionFault.{SessionFault}
+use Rattle.bt_peer.specs.declared.fault.SessionFault.TheVariants as faults
+use Rattle.bt_peer.specs.Events.{Event, Called, is_refusal, is_check, is_refused_call}
+use Rattle.bt_peer.specs.Saying.{answer, interest_by}
+use Rattle.bt_peer.specs.Places.{PlaceRecord, Gains, LacksMemory}
+use Rattle.bt_peer.specs.Turns.{Opens, Checks, ChecksAtMost, if_completed, arrived_piece, NoneRefused}
+use Rattle.bt_peer.specs.Outlets.{Outlet, Performs, PerformsUpTo, StopsCall, EndsCalls, IsCut}
+use Rattle.std.specs.Io.KnownBytes.{Appends}
+use Rattle.std.proofs.KnownBytes.{Appends-nil}
+use Rattle.bt_peer.proofs.Stretches.{Performs-join, Performs-stops}
+use Rattle.bt_peer.proofs.Asking.{stops_ways, ends_cut}
+
+-- a call of a session's own is no check
+refused_call : (mark : CallMark) (reason : Reason) → is_check mark ≡ false → is_refused_call (Called mark (replies.Refused reason)) ≡ true
+refused_call (marks.Settle piece) reason own = absurd cc
+refused_call _ reason own = refl
+
+pub accepted_call : (mark : CallMark) (reply : Reply) → is_refusal reply ≡ false → is_refused_call (Called mark reply) ≡ false
+accepted_call (marks.Settle piece) reply h = refl
+accepted_call _ reply h = h
+
+pub accepted_one : (mark : CallMark) (reply : Reply) → is_refusal reply ≡ false → NoneRefused (Called mark reply ∷ [])
+accepted_one mark reply h = ap (λ b. b || false) (accepted_call mark reply h)
+
+none_follows : (o : Option ℕ) (events : List Event) → events ≡ [] → MatchOption o (events ≡ []) (λ piece. ChecksAtMost piece events)
+none_follows None events none = none
+none_follows (Some piece) events none = inl none
+
+-- nothing need follow a reply
+pub unchecked : (mark : CallMark) (reply : Reply) → Checks mark reply []
+unchecked mark reply = none_follows (if_completed (arrived_piece mark) reply) [] refl
+
+abbrev OpeningStops : SessionFault → CallMark → Outlet → Outlet → Type 0
+OpeningStops fault mark a c = (events : List Event)
+    × ((rest : List Event) × (Opens (Some mark) (events ++ rest) × EndsCalls fault events × PerformsUpTo fault a events c))
+
+stops_refused : (mark : CallMark) (reason : Reason) (a c : Outlet) → is_check mark ≡ false →
+    PerformsUpTo (faults.Refused reason) a (Called mark (replies.Refused reason) ∷ []) c → OpeningStops (faults.Refused reason) mark a c
+stops_refused mark reason a c own stops = (
+  Called mark (replies.Refused reason) ∷ [],
+  (
+    [],
+    (
+      (refl, unchecked mark (replies.Refused reason)),
+      (mark, record { before = []; accepted = refl; refused = refused_call mark reason own; last = refl }),
+      stops,
+    ),
+  ),
+)
+
+stops_none : (fault : SessionFault) (mark : CallMark) (a c : Outlet) → IsCut fault → PerformsUpTo fault a [] c → OpeningStops fault mark a c
+stops_none fault mark a c cut stops =
+    ([], (Called mark replies.Idle ∷ [], ((refl, unchecked mark replies.Idle), ends_cut fault [] cut refl, stops)))
+
+stops_one : (fault : SessionFault) (mark : CallMark) (reply : Reply) (a c : Outlet) → IsCut fault → is_refusal reply ≡ false →
+    PerformsUpTo fault a (Called mark reply ∷ []) c → OpeningStops fault mark a c
+stops_one fault mark reply a c cut accepted stops = (
+  Called mark reply ∷ [],
+  (
+    [],
+    (
+      (refl, unchecked mark reply),
+      ends_cut fault (Called mark reply ∷ []) cut (accepted_one mark reply accepted),
+      stops,
+    ),
+  ),
+)
+
+-- the call stopped
+pub opening_stops : (mark : CallMark) (fault : SessionFault) (a c : Outlet) → is_check mark ≡ false →
+    (events : List Event) × (StopsCall mark fault events × PerformsUpTo fault a events c) → OpeningStops fault mark a c
+opening_stops mark fault a c own stopped =
+    let at = λ (es : List Event) (is : stopped.0 ≡ es). subst (λ (events : List Event). PerformsUpTo fault a events c) is stopped.1.1 in
+    elim (stops_ways mark fault stopped.0 stopped.1.0) [
+      | inl refused ↦
+          let event : Event = Called mark (replies.Refused refused.0) in
+          subst (λ (f : SessionFault). OpeningStops f mark a c) (sym refused.1.0)
+          (stops_refused mark refused.0 a c own (subst (λ (f : SessionFault). PerformsUpTo f a (event ∷ []) c) refused.1.0
+          (at (event ∷ []) refused.1.1)))
+      | inr cut ↦ elim cut.1 [
+        | inl none ↦ stops_none fault mark a c cut.0 (at [] none)
+        | inr some ↦ stops_one fault mark some.0 a c cut.0 some.1.0 (at (Called mark some.0 ∷ []) some.1.1)
+      ]
+    ]
+
+-- there was no memory for the check
+pub opening_unchecked : (mark : CallMark) (reply : Reply) (fault : SessionFault) (a b : Outlet) (past : PlaceRecord) → IsCut fault →
+    is_refusal reply ≡ false → Performs a (Called mark reply ∷ []) b → LacksMemory b.past past → OpeningStops fault mark a (record b { past = past })
+opening_unchecked mark reply fault a b past cut accepted does lacks =
+    let stops : PerformsUpTo fault b [] (record b { past = past }) =
+    record { gains = lacks.gains; wrote = record { front = []; rest = []; parts = refl; wrote = Appends-nil b.written; all = inr refl } } in
+    stops_one fault mark reply a (record b { past = past }) cut accepted
+    (Performs-stops fault a b (record b { past = past }) (Called mark reply ∷ []) [] does stops)
+
+-- a check's reply calls for nothing
+check_says : (piece : ℕ) (i : Bool) (reply : Reply) → IsTrue (answers (marks.Settle piece) reply) → answer i reply ++ [] ≡ []
+check_says piece i replies.Had h = refl
+check_says piece i replies.Failed h = refl
+check_says piece i (replies.Refused reason) h = refl
+check_says piece i _ h = absurd cc
+
+check_interest : (piece : ℕ) (i : Bool) (reply : Reply) → IsTrue (answers (marks.Settle piece) reply) → i ≡ interest_by i reply
+check_interest piece i replies.Had h = refl
+check_interest piece i replies.Failed h = refl
+check_interest piece i (replies.Refused reason) h = refl
+check_interest piece i _ h = absurd cc
+
+abbrev OpeningDoes : CallMark → Outlet → Outlet → Type 0
+OpeningDoes mark a c = (events : List Event) × (Opens (Some mark) events × NoneRefused events × Performs a events c)
+
+checked_by : (o : Option ℕ) (piece : ℕ) (events : List Event) → o ≡ Some piece → ChecksAtMost piece events →
+    MatchOption o (events ≡ []) (λ p. ChecksAtMost p events)
+checked_by o piece events is checks = subst (λ (q : Option ℕ). MatchOption q (events ≡ []) (λ p. ChecksAtMost p events)) (sym is) checks
+
+-- the piece was completed, and seen to
+pub opening_checked : (mark : CallMark) (reply : Reply) (piece : ℕ) (a b : Outlet) (past : PlaceRecord) →
+    if_completed (arrived_piece mark) reply ≡ Some piece → is_refusal reply ≡ false → Performs a (Called mark reply ∷ []) b →
+    (events : List Event) × (ChecksAtMost piece events × Gains b.past events past) → OpeningDoes mark a (record b { past = past })
+opening_checked mark reply piece a b past is accepted does seen =
+    elim seen.1.0 [
+      | inl none ↦
+          let nothing : Performs b [] (record b { past = past }) =
+          record { gains = subst (λ (es : List Event). Gains b.past es past) none seen.1.1; wrote = Appends-nil b.written; interest = refl } in (
+            Called mark reply ∷ [],
+            (
+              (refl, unchecked mark reply),
+              accepted_one mark reply accepted,
+              Performs-join a b (record b { past = past }) (Called mark reply ∷ []) [] does nothing,
+            ),
+          )
+      | inr check ↦
+          let event : Event = Called (marks.Settle piece) check.0 in
+          let does_check : Performs b (event ∷ []) (record b { past = past }) = record {
+            gains = subst (λ (es : List Event). Gains b.past es past) check.1.1 seen.1.1;
+            wrote = subst (Appends b.written b.written) (sym (check_says piece b.interested check.0 check.1.0)) (Appends-nil b.written);
+            interest = check_interest piece b.interested check.0 check.1.0;
+          } in (
+            Called mark reply ∷ event ∷ [],
+            (
+              (refl, checked_by (if_completed (arrived_piece mark) reply) piece (event ∷ []) is (inr (check.0, (check.1.0, refl)))),
+              ap (λ v. v || false) (accepted_call mark reply accepted),
+              Performs-join a b (record b { past = past }) (Called mark reply ∷ []) (event ∷ []) does does_check,
+            ),
+          )
+    ]

@@ -1,0 +1,175 @@
+-- How a session goes on standing while others take their turns.
+use Rattle.std.proofs.Common.{◌≡◌, ◌≢◌, ℕ, Bool, false, List, [], ◌++◌, Option, Some, None, Result, Ok, Err, refl, sym, subst, ◌∙◌, inl, inr}
+use Rattle.std.proofs.lemmas.List.{append-nil}
+use Rattle.std.specs.Io.KnownBytes.{Appends, Consumes, IsAtEnd}
+use Rattle.bt_picker.specs.Positions.{DeskState}
+use Rattle.bt_peer.specs.declared.fault.End.{End}
+use Rattle.bt_peer.specs.declared.fault.SessionFault.{SessionFault}
+use Rattle.rand_core.specs.Stream.{Stream as Words}
+use Rattle.bt_peer.specs.Conduct.{Calls}
+use Rattle.bt_peer.specs.Events.{Event, is_in}
+use Rattle.bt_peer.specs.Hearing.{SourceState}
+use Rattle.bt_peer.specs.Places.{PlaceRecord, Gains, GainsUpTo}
+use Rattle.bt_peer.specs.Outlets.{WroteFront}
+use Rattle.bt_peer.specs.Serial.{StreamRecord, EndsAs, around, source_of}
+use Rattle.bt_peer.specs.Sessions.{SessionState, FailsWith, IsWhole, IsUntouched, TookTurns, Running}
+use Rattle.bt_peer.specs.Standing.{Standing, StandsBy, ConductBy, Keeps, LeavesOthers}
+use Rattle.bt_peer.specs.Terms.{TermsState}
+use Rattle.bt_peer.specs.Turning.{Surroundings, Departs}
+use Rattle.bt_peer.proofs.Stretches.{GainsUpTo-join, Gains-join}
+
+-- nothing of a session's own happened, though a piece may have been had meanwhile
+pub record IsLater (old new : Surroundings) : Type 0 where
+  pub left : new.left ≡ old.left
+  pub gains : Gains old.past [] new.past
+  pub written : new.written ≡ old.written
+
+gains_later : (first : PlaceRecord) (events : List Event) (old new : PlaceRecord) → Gains first events old → Gains old [] new → Gains first events new
+gains_later first events old new gains later =
+    subst (λ (es : List Event). Gains first es new) (append-nil events) (Gains-join first old new events [] gains later)
+
+up_to_later : (first : PlaceRecord) (events : List Event) (old new : PlaceRecord) → GainsUpTo first events old → Gains old [] new →
+    GainsUpTo first events new
+up_to_later first events old new gains later =
+    subst (λ (es : List Event). GainsUpTo first es new) (append-nil events) (GainsUpTo-join first old new events [] gains later.up_to)
+
+appends_later : (a b c : Option (List ℕ)) (bytes : List ℕ) → c ≡ b → Appends a b bytes → Appends a c bytes
+appends_later a b c bytes same wrote = subst (λ (written : Option (List ℕ)). Appends a written bytes) (sym same) wrote
+
+front_later : (fault : SessionFault) (a b c : Option (List ℕ)) (bytes : List ℕ) → c ≡ b → WroteFront fault a bytes b → WroteFront fault a bytes c
+front_later fault a b c bytes same wrote = subst (WroteFront fault a bytes) (sym same) wrote
+
+untouched_later : (terms : TermsState) (worker : ℕ) (out : Surroundings) (now : SessionState) (old new : Surroundings) → IsLater old new →
+    IsUntouched terms worker out now old → IsUntouched terms worker out now new
+untouched_later terms worker out now old new later fresh = record {
+  state = fresh.state;
+  left = later.left ∙ fresh.left;
+  gains = gains_later out.past [] old.past new.past fresh.gains later.gains;
+  written = later.written ∙ fresh.written;
+}
+
+took_later : (terms : TermsState) (worker : ℕ) (out : Surroundings) (now : SessionState) (old new : Surroundings) → IsLater old new →
+    TookTurns terms worker out now old → TookTurns terms worker out now new
+took_later terms worker out now old new later took = record {
+  first = took.first;
+  text = took.text;
+  read = took.read;
+  messages = took.messages;
+  events = took.events;
+  spells = took.spells;
+  same_torrent = took.same_torrent;
+  consumed = subst (λ (left : Option (List ℕ)). Consumes out.left left (took.text ++ took.read)) (sym later.left) took.consumed;
+  begins = took.begins;
+  counted = took.counted;
+  turned = took.turned;
+  gains = gains_later out.past took.events old.past new.past took.gains later.gains;
+  wrote = appends_later _ _ _ _ later.written took.wrote;
+  interest = took.interest;
+  terms_are = took.terms_are;
+  limit = took.limit;
+  greeted = took.greeted;
+  joined = took.joined;
+  unended = took.unended;
+}
+
+running_later : (terms : TermsState) (worker : ℕ) (out : Surroundings) (now : SessionState) (old new : Surroundings) → IsLater old new →
+    Running terms worker out now old → Running terms worker out now new
+running_later terms worker out now old new later running =
+    elim running [
+      | inl fresh ↦ inl (untouched_later terms worker out now old new later fresh)
+      | inr took ↦ inr (took_later terms worker out now old new later took)
+    ]
+
+whole_later : (end : End) (terms : TermsState) (worker : ℕ) (out old new : Surroundings) → IsLater old new →
+    IsWhole end terms worker out old → IsWhole end terms worker out new
+whole_later end terms worker out old new later whole = record {
+  read = whole.read;
+  messages = whole.messages;
+  events = whole.events;
+  consumed = subst (λ (left : Option (List ℕ)). Consumes out.left left whole.read) (sym later.left) whole.consumed;
+  at_end = subst IsAtEnd (sym later.left) whole.at_end;
+  stream = whole.stream;
+  same_torrent = whole.same_torrent;
+  counted = whole.counted;
+  turns = whole.turns;
+  gains = gains_later out.past whole.events old.past new.past whole.gains later.gains;
+  wrote = appends_later _ _ _ _ later.written whole.wrote;
+}
+
+fails_later : (fault : SessionFault) (state : SessionState) (out : Surroundings) (source : SourceState) (last : SessionState)
+    (old new : Surroundings) →
+    IsLater old new → FailsWith fault state out source last old → FailsWith fault state out source last new
+fails_later fault state out source last old new later fails = record {
+  events = fails.events;
+  leave = fails.leave;
+  gains = up_to_later out.past (fails.events ++ fails.leave) old.past new.past fails.gains later.gains;
+  departs = subst (λ (short : Bool). Departs (is_in state.joined fails.events) short fails.leave) (sym later.gains.short) fails.departs;
+  wrote = front_later fault _ _ _ _ later.written fails.wrote;
+  cause = fails.cause;
+  outcome = fails.outcome;
+}
+
+ends_later : (outcome : Result End SessionFault) (terms : TermsState) (worker : ℕ) (out : Surroundings) (source : SourceState)
+    (old new : Surroundings) →
+    IsLater old new → EndsAs outcome terms worker out source old → EndsAs outcome terms worker out source new
+ends_later (Ok end) terms worker out source old new later whole = whole_later end terms worker out old new later whole
+ends_later (Err fault) terms worker out source old new later cut = record {
+  now = cut.now;
+  mid = cut.mid;
+  new = cut.new;
+  turns = cut.turns;
+  fails = fails_later fault cut.now cut.mid source cut.new old new later cut.fails;
+}
+
+pub stands_later : (outcome : Option (Result End SessionFault)) (terms : TermsState) (worker : ℕ) (out : Surroundings) (now : SessionState)
+    (source : SourceState) (old new : Bool → Surroundings) → ((short : Bool) → IsLater (old short) (new short)) →
+    StandsBy outcome terms worker out now source old → StandsBy outcome terms worker out now source new
+stands_later None terms worker out now source old new later stands =
+    running_later terms worker out now (old false) (new false) (later false) stands
+stands_later (Some outcome) terms worker out now source old new later stands =
+    (stands.0, ends_later outcome terms worker out source (old stands.0) (new stands.0) (later stands.0) stands.1)
+
+-- while another worker takes a turn
+pub others_stand : (worker other : ℕ) (old new : DeskState) (session : SessionState) (told : List Bool) (stream : StreamRecord)
+    (generator : Words) →
+    LeavesOthers worker old new → other ≢ worker →
+    Keeps other (record { desk = old; session = session; told = told; stream = stream; generator = generator })
+    (record { desk = new; session = session; told = told; stream = stream; generator = generator })
+others_stand worker other old new session told stream generator left apart =
+    let later : (short : Bool) → IsLater (around old other told short stream) (around new other told short stream) =
+    λ short. record {
+      left = refl;
+      gains = record {
+        up_to = record {
+          lent = refl;
+          worker = refl;
+          setting = left.setting;
+          calls = left.calls other apart ∙ sym (append-nil _);
+          others = λ j. refl;
+          had = left.had;
+          told = λ piece. refl;
+          finished = tt;
+        };
+        short = refl;
+      };
+      written = refl;
+    } in
+    record {
+      still = λ terms. λ begun. λ out. λ first. λ stands. record {
+        stands = stands_later session.outcome terms other out session (source_of stream session.asked) _ _ later stands.stands;
+        conduct = subst (λ (calls : Calls). ConductBy session.outcome begun out.past.calls calls generator) (sym (left.calls other apart)) stands.conduct;
+        devices = stands.devices;
+        counted = stands.counted;
+        most = stands.most;
+      };
+    }
+
+pub Keeps-refl : (worker : ℕ) (now : Standing) → Keeps worker now now
+Keeps-refl worker now = record { still = λ terms. λ generator. λ out. λ first. λ stands. stands }
+
+pub Keeps-join : (worker : ℕ) (a b c : Standing) → Keeps worker a b → Keeps worker b c → Keeps worker a c
+Keeps-join worker a b c first then =
+    record {
+      still = λ terms. λ generator. λ out. λ stream. λ stands.
+          then.still terms generator out stream (first.still terms generator out stream stands);
+    }

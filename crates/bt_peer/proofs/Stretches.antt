@@ -1,0 +1,154 @@
+-- Stretches of a session, one after another.
+use Rattle.std.proofs.Common.{◌≡◌, ℕ, List, [], ◌∷◌, ◌++◌, Bool, true, false, Option, refl, sym, ap, subst, ◌∙◌, append_assoc, inl, inr}
+use Rattle.std.specs.Prelude.{◌==◌, if◌then◌else◌}
+use Rattle.std.proofs.lemmas.List.{append-nil}
+use Rattle.std.specs.Io.KnownBytes.{Appends}
+use Rattle.bt_wire.specs.Messages.{spelling}
+use Rattle.bt_wire.specs.declared.message.Message.TheVariants as messages
+use Rattle.bt_history.specs.declared.mark.CallMark.{CallMark}
+use Rattle.bt_history.specs.declared.call.Reply.{Reply}
+use Rattle.bt_peer.specs.declared.fault.SessionFault.{SessionFault}
+use Rattle.bt_peer.specs.Events.{Event, Called, News, calls_of, news_of, is_refusal}
+use Rattle.bt_peer.specs.Saying.{says, answer, interest_by, interest_after}
+use Rattle.bt_peer.specs.Places.{PlaceRecord, Gains, GainsUpTo, AllHad, Tells}
+use Rattle.bt_peer.specs.Outlets.{Outlet, Performs, PerformsUpTo, StopsCall, WroteFront, IsCut}
+use Rattle.std.proofs.KnownBytes.{Appends-nil, Appends-trans}
+
+calls_of-append : (es fs : List Event) → calls_of (es ++ fs) ≡ calls_of es ++ calls_of fs
+calls_of-append [] fs = refl
+calls_of-append (Called call reply ∷ es) fs = ap (λ (xs : List (CallMark × Reply)). (call, reply) ∷ xs) (calls_of-append es fs)
+calls_of-append (News piece ∷ es) fs = calls_of-append es fs
+
+news_of-append : (es fs : List Event) → news_of (es ++ fs) ≡ news_of es ++ news_of fs
+news_of-append [] fs = refl
+news_of-append (Called call reply ∷ es) fs = news_of-append es fs
+news_of-append (News piece ∷ es) fs = ap (λ (xs : List ℕ). piece ∷ xs) (news_of-append es fs)
+
+pub interest_after-append : (i : Bool) (es fs : List Event) → interest_after i (es ++ fs) ≡ interest_after (interest_after i es) fs
+interest_after-append i [] fs = refl
+interest_after-append i (Called call reply ∷ es) fs = interest_after-append (interest_by i reply) es fs
+interest_after-append i (News piece ∷ es) fs = interest_after-append i es fs
+
+pub says-append : (i : Bool) (es fs : List Event) → says i (es ++ fs) ≡ says i es ++ says (interest_after i es) fs
+says-append i [] fs = refl
+says-append i (Called call reply ∷ es) fs =
+    ap (λ (xs : List ℕ). answer i reply ++ xs) (says-append (interest_by i reply) es fs)
+    ∙ sym (append_assoc (answer i reply) (says (interest_by i reply) es) (says (interest_after (interest_by i reply) es) fs))
+says-append i (News piece ∷ es) fs =
+    ap (λ (xs : List ℕ). spelling (messages.Have piece) ++ xs) (says-append i es fs)
+    ∙ sym (append_assoc (spelling (messages.Have piece)) (says i es) (says (interest_after i es) fs))
+
+-- told pieces are those at each piece
+Tells-along : (a b : ℕ → Bool) (pieces : List ℕ) (c : ℕ → Bool) → ((p : ℕ) → b p ≡ a p) → Tells b pieces c → Tells a pieces c
+Tells-along a b [] c same tells = λ p. tells p ∙ same p
+Tells-along a b (first ∷ pieces) c same tells = (
+  sym (same first) ∙ tells.0,
+  Tells-along (λ p. if p == first then true else a p) (λ p. if p == first then true else b p) pieces c
+      (λ p. ap (λ v. if p == first then true else v) (same p)) tells.1,
+)
+
+Tells-join : (a b c : ℕ → Bool) (ps qs : List ℕ) → Tells a ps b → Tells b qs c → Tells a (ps ++ qs) c
+Tells-join a b c [] qs f g = Tells-along a b qs c f g
+Tells-join a b c (p ∷ ps) qs f g = (f.0, Tells-join (λ q. if q == p then true else a q) b c ps qs f.1 g)
+
+-- what is finished stays so
+AllHad-along : (old new : ℕ → Bool) (pieces : List ℕ) → ((piece : ℕ) → old piece ≡ true → new piece ≡ true) → AllHad old pieces → AllHad new pieces
+AllHad-along old new [] stays all = tt
+AllHad-along old new (piece ∷ pieces) stays all = (stays piece all.0, AllHad-along old new pieces stays all.1)
+
+AllHad-append : (had : ℕ → Bool) (ps qs : List ℕ) → AllHad had ps → AllHad had qs → AllHad had (ps ++ qs)
+AllHad-append had [] qs first second = second
+AllHad-append had (p ∷ ps) qs first second = (first.0, AllHad-append had ps qs first.1 second)
+
+-- one stretch after another
+pub GainsUpTo-join : (a b c : PlaceRecord) (es fs : List Event) → GainsUpTo a es b → GainsUpTo b fs c → GainsUpTo a (es ++ fs) c
+GainsUpTo-join a b c es fs g h =
+    record {
+      lent = h.lent ∙ g.lent;
+      worker = h.worker ∙ g.worker;
+      setting = h.setting ∙ g.setting;
+      calls = h.calls ∙ ap (λ (xs : List (CallMark × Reply)). xs ++ calls_of fs) g.calls ∙ append_assoc a.calls (calls_of es) (calls_of fs)
+          ∙ ap (λ (xs : List (CallMark × Reply)). a.calls ++ xs) (sym (calls_of-append es fs));
+      others = λ other. h.others other ∙ g.others other;
+      had = λ piece. λ before. h.had piece (g.had piece before);
+      told = subst (λ (ps : List ℕ). Tells a.told ps c.told) (sym (news_of-append es fs))
+          (Tells-join a.told b.told c.told (news_of es) (news_of fs) g.told h.told);
+      finished = subst (AllHad c.had) (sym (news_of-append es fs))
+          (AllHad-append c.had (news_of es) (news_of fs) (AllHad-along b.had c.had (news_of es) h.had g.finished) h.finished);
+    }
+
+pub Gains-none : (a : PlaceRecord) → Gains a [] a
+Gains-none a = record {
+  up_to = record {
+    lent = refl;
+    worker = refl;
+    setting = refl;
+    calls = sym (append-nil a.calls);
+    others = λ worker. refl;
+    had = λ piece. λ before. before;
+    told = λ piece. refl;
+    finished = tt;
+  };
+  short = refl;
+}
+
+pub up_to : (a b : PlaceRecord) (es : List Event) → Gains a es b → GainsUpTo a es b
+up_to a b es g = g.up_to
+
+pub Gains-join : (a b c : PlaceRecord) (es fs : List Event) → Gains a es b → Gains b fs c → Gains a (es ++ fs) c
+Gains-join a b c es fs g h = record { up_to = GainsUpTo-join a b c es fs g.up_to h.up_to; short = h.short ∙ g.short }
+
+pub Performs-none : (a : Outlet) → Performs a [] a
+Performs-none a = record { gains = Gains-none a.past; wrote = Appends-nil a.written; interest = refl }
+
+pub Performs-join : (a b c : Outlet) (es fs : List Event) → Performs a es b → Performs b fs c → Performs a (es ++ fs) c
+Performs-join a b c es fs p q =
+    record {
+      gains = Gains-join a.past b.past c.past es fs p.gains q.gains;
+      wrote = subst (Appends a.written c.written)
+          (sym (says-append a.interested es fs ∙ ap (λ i. says a.interested es ++ says i fs) (sym p.interest)))
+          (Appends-trans a.written b.written c.written (says a.interested es) (says b.interested fs) p.wrote q.wrote);
+      interest = q.interest ∙ ap (λ i. interest_after i fs) p.interest ∙ sym (interest_after-append a.interested es fs);
+    }
+
+pub WroteFront-join : (fault : SessionFault) (a b c : Option (List ℕ)) (xs ys : List ℕ) → Appends a b xs → WroteFront fault b ys c →
+    WroteFront fault a (xs ++ ys) c
+WroteFront-join fault a b c xs ys p q =
+    record {
+      front = xs ++ q.front;
+      rest = q.rest;
+      parts = ap (λ (zs : List ℕ). xs ++ zs) q.parts ∙ sym (append_assoc xs q.front q.rest);
+      wrote = Appends-trans a b c xs q.front p q.wrote;
+      all = q.all;
+    }
+
+pub Performs-stops : (fault : SessionFault) (a b c : Outlet) (es fs : List Event) → Performs a es b → PerformsUpTo fault b fs c →
+    PerformsUpTo fault a (es ++ fs) c
+Performs-stops fault a b c es fs p q =
+    record {
+      gains = GainsUpTo-join a.past b.past c.past es fs (up_to a.past b.past es p.gains) q.gains;
+      wrote = subst (λ (xs : List ℕ). WroteFront fault a.written xs c.written)
+          (sym (says-append a.interested es fs ∙ ap (λ i. says a.interested es ++ says i fs) (sym p.interest)))
+          (WroteFront-join fault a.written b.written c.written (says a.interested es) (says b.interested fs) p.wrote q.wrote);
+    }
+
+cut_call : (call : CallMark) (reply : Reply) (fault : SessionFault) → is_refusal reply ≡ false → IsCut fault →
+    StopsCall call fault (Called call reply ∷ [])
+cut_call call reply fault accepted cut =
+    elim cut [
+      | inl is ↦ subst (λ (f : SessionFault). StopsCall call f (Called call reply ∷ [])) (sym is) (inl refl, inr (reply, (accepted, refl)))
+      | inr is ↦ subst (λ (f : SessionFault). StopsCall call f (Called call reply ∷ [])) (sym is) (inr refl, inr (reply, (accepted, refl)))
+    ]
+
+-- a call whose answer was cut off
+pub call_cut : (a b : Outlet) (call : CallMark) (reply : Reply) (fault : SessionFault) → Gains a.past (Called call reply ∷ []) b.past →
+    is_refusal reply ≡ false → IsCut fault → WroteFront fault a.written (answer a.interested reply) b.written →
+    (events : List Event) × (StopsCall call fault events × PerformsUpTo fault a events b)
+call_cut a b call reply fault gains accepted cut wrote =
+    let stops : PerformsUpTo fault a (Called call reply ∷ []) b =
+    record {
+      gains = up_to a.past b.past (Called call reply ∷ []) gains;
+      wrote =
+          subst (λ (xs : List ℕ). WroteFront fault a.written xs b.written) (sym (append-nil (answer a.interested reply))) wrote;
+    } in
+    (Called call reply ∷ [], (cut_call call reply fault accepted cut, stops))

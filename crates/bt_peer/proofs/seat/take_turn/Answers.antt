@@ -1,0 +1,34 @@
+use Rattle.std.proofs.Common.{rules, [], ◌∷◌, sym, arith}
+use Rattle.std.proofs.lemmas.Grind.{common_steps}
+use Rattle.bt_peer.specs.Serial.{stream_record}
+use Rattle.bt_peer.specs.Standing.{standing}
+use Rattle.bt_peer.proofs.seat.take_turn.Goals as goal
+use Rattle.bt_peer.proofs.OwnTurns.{at_same_desk, turn_at_desk}
+use Rattle.bt_peer.proofs.Own.{first_name, others_left_at}
+
+pub returns : goal.returns
+returns g c =
+    let place = c.turn.new.place in
+    let stream = stream_record g.R.Source.left g.R.Source.ended g.R.Source.failed g.R.Source.asked g.W.Sink.written g.W.Sink.failed in
+    let old = standing c.args.desk.now c.args.seat.now (stream c.args.stream.now) in
+    let new = standing place.desk.now (record { session = c.turn.new.self; told = place.told.now; rng = c.turn.new.rng })
+    (stream (record { reader = c.turn.new.reader; writer = c.turn.new.writer })) in
+    let took = turn_at_desk c.turn.result _ (place.desk.ghost_name ∷ (place.told.ghost_name ∷ [])) c.args.worker place.worker place.short old new _
+    c.new-place.ensures c.requires.runs (record {
+      goes_on = c.turn.ensures.goes_on;
+      ends = c.turn.ensures.ends;
+      fails = c.turn.ensures.fails;
+      conduct = c.turn.ensures.conduct;
+      words = c.turn.ensures.words;
+      counted = c.turn.ensures.counted;
+      most = c.turn.ensures.most;
+      sound = c.turn.ensures.sound;
+      failed = c.turn.ensures.failed;
+    }) in
+    let name = first_name _ _ _ _ (sym took.same_lent) in
+    record {
+      keeps = at_same_desk c.args.worker old new _ (search rules) took.keeps;
+      others = others_left_at _ _ _ _ (search rules) took.others;
+      told = search rules;
+      shrinks = grind (arith, common_steps);
+    }

@@ -1,0 +1,77 @@
+-- What a worker's calls keep to beside their turns: where the words of Next come from, and that a completed piece is checked at once.
+use Rattle.std.specs.Prelude.{◌≡◌, ℕ, ◌==◌, Bool, true, false, ◌&&◌, List, [], ◌∷◌, ◌++◌, Option, Some, None}
+use Rattle.rand_core.specs.Steps.{stream_of, steps_u32}
+use Rattle.rand_core.specs.Stream.{Stream, next_u64}
+use Rattle.rand_pcg.specs.Lcg.{Lcg, started, increment_of}
+use Rattle.rand_pcg.specs.Pcg.{multiplier_64, pcg32}
+use Rattle.bt_history.specs.declared.call.Reply.{Reply}
+use Rattle.bt_history.specs.declared.mark.CallMark.{CallMark}
+use Rattle.bt_history.specs.declared.mark.CallMark.TheVariants as marks
+use Rattle.bt_peer.specs.Turns.{arrived_piece, if_completed}
+
+-- all that a generator in this state will answer
+abbrev pub answers_of : Lcg → Stream
+answers_of state = stream_of (steps_u32 pcg32) state
+
+-- all that the generator of this number will answer, made of this seed
+abbrev pub generator_of : ℕ → ℕ → Stream
+generator_of seed number = answers_of (started 64 multiplier_64 seed (increment_of 64 number))
+
+-- calls with their replies, the oldest first
+abbrev pub Calls : Type 0
+Calls = List (CallMark × Reply)
+
+-- these are the next words of a generator, and the last is what it answers after them
+abbrev pub Draws : Stream → List ℕ → Stream → Type 0
+Draws generator [] left = left ≡ generator
+Draws generator (word ∷ words) left = (word ≡ (next_u64 generator).0) × Draws (next_u64 generator).1 words left
+
+-- the word of the call, if it is Next
+abbrev pub word_of : CallMark → List ℕ
+word_of (marks.Next word) = word ∷ []
+word_of call = []
+
+-- the words of the Next calls, in order
+abbrev pub words_of : Calls → List ℕ
+words_of [] = []
+words_of (made ∷ calls) = word_of made.0 ++ words_of calls
+
+-- the piece that this call completed, if it did
+abbrev pub completed_by : CallMark × Reply → Option ℕ
+completed_by made = if_completed (arrived_piece made.0) made.1
+
+-- the call tells the check of that piece
+abbrev pub checks_piece : ℕ → CallMark → Bool
+checks_piece piece (marks.Settle checked) = checked == piece
+checks_piece piece call = false
+
+-- the first of the calls checks that piece, if there is one to check
+abbrev pub checks_first : Option ℕ → Calls → Bool
+checks_first None calls = true
+checks_first (Some piece) [] = false
+checks_first (Some piece) (made ∷ calls) = checks_piece piece made.0
+
+-- each call that completed a piece is followed by the check of that piece
+abbrev pub all_checked : Calls → Bool
+all_checked [] = true
+all_checked (made ∷ calls) = checks_first (completed_by made) calls && all_checked calls
+
+-- the check of this piece came behind the older calls, and nothing else
+pub record SettlesAtOnce (piece : ℕ) (old new : Calls) : Type 0 where
+  pub reply : Reply
+  pub made : new ≡ old ++ (marks.Settle piece, reply) ∷ []
+
+-- The calls of a stretch: the words of Next are the generator's next ones, in order, and, at a place that checks its pieces itself,
+-- each completed piece is checked at once.
+pub record Conducts (settles : Bool) (generator : Stream) (old new : Calls) (left : Stream) : Type 0 where
+  pub gained : Calls
+  pub calls : new ≡ old ++ gained
+  pub drawn : Draws generator (words_of gained) left
+  pub checked : settles ≡ true → all_checked gained ≡ true
+
+-- The calls of a stretch that a fault may have cut off: the words of Next are the generator's next ones, in order.
+pub record DrawsWords (generator : Stream) (old new : Calls) : Type 0 where
+  pub gained : Calls
+  pub calls : new ≡ old ++ gained
+  pub left : Stream
+  pub drawn : Draws generator (words_of gained) left

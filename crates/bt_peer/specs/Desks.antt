@@ -1,0 +1,33 @@
+-- A place at a desk of its own: what its history says of its worker.
+use Rattle.std.specs.Prelude.{ℕ, ◌==◌, if◌then◌else◌, Bool, false, List, [], map, slice_index_or, nat_lt, ◌&&◌}
+use Rattle.bt_history.specs.declared.call.Reply.{Reply}
+use Rattle.bt_history.specs.declared.mark.CallMark.{CallMark}
+use Rattle.bt_history.specs.declared.mark.Mark.{Mark}
+use Rattle.bt_history.specs.History.{History}
+use Rattle.bt_history.specs.Logs.{marks_of}
+use Rattle.bt_history.specs.Pieces.{had}
+use Rattle.std.specs.Borrow.{GName}
+use Rattle.bt_picker.specs.Positions.{DeskState}
+use Rattle.bt_meta.specs.Layout.{piece_count}
+use Rattle.bt_peer.specs.Places.{PlaceRecord}
+
+-- the calls of these marks, with their replies
+abbrev pub calls_of_marks : List Mark → List (CallMark × Reply)
+calls_of_marks marks = map (λ mark. (mark.call, mark.reply)) marks
+
+-- a worker's calls in a history, the oldest first
+abbrev pub calls_in : History → ℕ → List (CallMark × Reply)
+calls_in h worker = calls_of_marks (marks_of h worker)
+
+-- what a place at this desk says of itself, with these pieces told as news
+abbrev pub desk_record : List GName → DeskState → ℕ → List Bool → Bool → PlaceRecord
+desk_record lent desk worker told short = record {
+  lent = lent;
+  worker = worker;
+  setting = desk.setting;
+  calls = calls_in desk.history worker;
+  others = λ other. if other == worker then [] else calls_in desk.history other;
+  had = λ piece. nat_lt piece (piece_count desk.setting.torrent) && had desk.history piece;
+  told = λ piece. slice_index_or told piece false;
+  short = short;
+}

@@ -1,0 +1,14 @@
+pub mod Conduct
+pub mod Desks
+pub mod Events
+pub mod Hearing
+pub mod Outcomes
+pub mod Outlets
+pub mod Places
+pub mod Saying
+pub mod Serial
+pub mod Sessions
+pub mod Standing
+pub mod Terms
+pub mod Turning
+pub mod Turns

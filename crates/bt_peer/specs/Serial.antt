@@ -1,0 +1,132 @@
+-- Several streams' sessions at one desk: what each of them sees there, and how it ended.
+use Rattle.std.specs.Prelude.{◌≡◌, ◌≤◌, ◌<◌, ℕ, Bool, true, false, List, [], ◌∷◌, ◌&&◌, nat_lt, length, replicate, slice_index_or, Option, Some, None, Result, Ok, Err}
+use Rattle.bt_meta.specs.Layout.{piece_count}
+use Rattle.bt_history.specs.declared.call.Reply.TheVariants as replies
+use Rattle.bt_history.specs.declared.mark.CallMark.TheVariants as marks
+use Rattle.bt_history.specs.Pieces.{had}
+use Rattle.bt_history.specs.Setting.{Setting}
+use Rattle.bt_picker.specs.Checks.{FinishedBelow, waits}
+use Rattle.bt_picker.specs.Positions.{DeskState}
+use Rattle.bt_peer.specs.declared.fault.End.{End}
+use Rattle.bt_peer.specs.declared.fault.SessionFault.{SessionFault}
+use Rattle.bt_peer.specs.declared.fault.SessionFault.TheVariants as faults
+use Rattle.bt_peer.specs.declared.stream.Stream.{Stream}
+use Rattle.bt_peer.specs.Conduct.{Calls, DrawsWords, all_checked, generator_of}
+use Rattle.bt_peer.specs.Desks.{calls_in}
+use Rattle.bt_peer.specs.Hearing.{SourceState, most_reads}
+use Rattle.bt_peer.specs.Places.{PlaceRecord}
+use Rattle.bt_peer.specs.Sessions.{IsWhole, IsCutShort}
+use Rattle.bt_peer.specs.Terms.{TermsState}
+use Rattle.bt_peer.specs.Turning.{Surroundings}
+
+-- what a stream says of itself
+pub record StreamRecord : Type 0 where
+  -- the bytes that are left to read
+  pub left : Option (List ℕ)
+  -- the reader has ended
+  pub ended : Bool
+  -- the reader has failed
+  pub failed : Bool
+  -- how often the reader was asked
+  pub asked : ℕ
+  -- the bytes that were written
+  pub written : Option (List ℕ)
+  -- the writer has failed
+  pub writer_failed : Bool
+
+abbrev pub stream_record : {R W : Type 0} → (R → Option (List ℕ)) → (R → Bool) → (R → Bool) → (R → ℕ) → (W → Option (List ℕ)) → (W → Bool) →
+    Stream R W → StreamRecord
+stream_record left ended failed asked written writer_failed stream = record {
+  left = left stream.reader;
+  ended = ended stream.reader;
+  failed = failed stream.reader;
+  asked = asked stream.reader;
+  written = written stream.writer;
+  writer_failed = writer_failed stream.writer;
+}
+
+-- a piece of the torrent that is had
+abbrev pub had_at : DeskState → ℕ → Bool
+had_at desk piece = nat_lt piece (piece_count desk.setting.torrent) && had desk.history piece
+
+-- what a worker's session sees of a desk at which others have turns too: its own calls, and which pieces are had
+abbrev pub own_record : DeskState → ℕ → List Bool → Bool → PlaceRecord
+own_record desk worker told short = record {
+  lent = [];
+  worker = worker;
+  setting = desk.setting;
+  calls = calls_in desk.history worker;
+  others = λ other. [];
+  had = had_at desk;
+  told = λ piece. slice_index_or told piece false;
+  short = short;
+}
+
+-- what is round a worker's session: its own of the desk, and its stream
+abbrev pub around : DeskState → ℕ → List Bool → Bool → StreamRecord → Surroundings
+around desk worker told short stream =
+    record { past = own_record desk worker told short; left = stream.left; written = stream.written }
+
+-- that before a run: nothing was called, and no piece was told
+abbrev pub before_all : Setting → ℕ → StreamRecord → Surroundings
+before_all setting worker stream =
+    around (record { setting = setting; history = [] }) worker (replicate (piece_count setting.torrent) false) false stream
+
+-- what a stream's reader says, with the session's count of its reads
+abbrev pub source_of : StreamRecord → ℕ → SourceState
+source_of stream asked =
+    record { left = stream.left; ended = stream.ended; failed = stream.failed; asked = asked }
+
+-- a session came to this end, or to this fault
+abbrev pub EndsAs : Result End SessionFault → TermsState → ℕ → Surroundings → SourceState → Surroundings → Type 0
+EndsAs (Ok end) terms worker out source out' = IsWhole end terms worker out out'
+EndsAs (Err fault) terms worker out source out' = IsCutShort fault terms worker out source out'
+
+-- what a stream's devices say after such an end: after an end the reader has ended, and neither has failed meanwhile; after the fault of a
+-- write the writer has failed
+abbrev pub DevicesAfter : Result End SessionFault → StreamRecord → StreamRecord → Type 0
+DevicesAfter (Ok end) old new = (new.ended ≡ true) × (new.failed ≡ old.failed) × (new.writer_failed ≡ old.writer_failed)
+DevicesAfter (Err faults.WriteFault) old new = new.writer_failed ≡ true
+DevicesAfter (Err fault) old new = Unit {0}
+
+-- after an end each piece that the calls completed was checked at once
+abbrev pub ChecksAfter : Result End SessionFault → Calls → Type 0
+ChecksAfter (Ok end) calls = all_checked calls ≡ true
+ChecksAfter (Err fault) calls = Unit {0}
+
+-- A stream's session ended so: from the empty desk, and the stream as it was handed in, to this desk, and the stream as it was given back.
+pub record Ended (outcome : Result End SessionFault) (terms : TermsState) (seed worker : ℕ)
+    (old : StreamRecord) (desk : DeskState) (new : StreamRecord) : Type 0 where
+  -- the pieces that were told to the peer
+  pub told : List Bool
+  -- a call found no memory
+  pub short : Bool
+  -- the reads that the session counted
+  pub asked : ℕ
+  pub ends : EndsAs outcome terms worker (before_all desk.setting worker old) (source_of new asked) (around desk worker told short new)
+  -- the words of its Next calls are those of the generator of its number, made of the seed
+  pub words : DrawsWords (generator_of seed worker) [] (calls_in desk.history worker)
+  pub checks : ChecksAfter outcome (calls_in desk.history worker)
+  pub devices : DevicesAfter outcome old new
+  pub counted : old.asked ≡ 0 → new.asked ≡ asked
+  pub most : asked ≤ most_reads
+
+-- the sessions of the streams, as they were handed in and as they were given back, ended so, in order
+abbrev pub EachEnded : {X : Type 0} → (X → StreamRecord) → TermsState → ℕ → List X → DeskState → List X → List (Result End SessionFault) → Type 0
+EachEnded {X} record_of terms seed streams desk streams' ends = (i : ℕ) (stream : X) (end : Result End SessionFault) → i < length streams →
+    Ended (slice_index_or ends i end) terms seed i (record_of (slice_index_or streams i stream)) desk (record_of (slice_index_or streams' i stream))
+
+-- the calls that the last worker makes before the first round: which pieces are wanted, if that is told
+abbrev pub opening_of : Option (List Bool) → Calls
+opening_of None = []
+opening_of (Some flags) = (marks.Want, replies.Quiet) ∷ []
+
+-- A worker made these calls before all sessions had ended, then the last checks, and no other call: each piece that waited for a check was
+-- settled, the least first, or, where memory ran out, those below one that still waits.
+pub record Finishes (worker : ℕ) (opening : Calls) (short : Bool) (desk : DeskState) : Type 0 where
+  pub before : DeskState
+  pub opened : calls_in before.history worker ≡ opening
+  pub count : ℕ
+  pub finished : FinishedBelow before worker count desk
+  pub all : short ≡ false → count ≡ piece_count desk.setting.torrent
+  pub still : short ≡ true → waits desk.setting desk.history count ≡ true

@@ -1,0 +1,114 @@
+-- How a session stands that takes its turns among others. Only contracts within the crate cite this module.
+use Rattle.std.specs.Prelude.{◌≡◌, ◌≢◌, ◌≤◌, ◌<◌, ℕ, Bool, true, false, List, [], All, length, replicate, slice_index_or, suc, Option, Some, None, Result, Ok, Err}
+use Rattle.bt_meta.specs.Layout.{piece_count}
+use Rattle.bt_history.specs.Peers.{flag}
+use Rattle.bt_history.specs.Pieces.{chosen, had}
+use Rattle.bt_picker.specs.Positions.{DeskState}
+use Rattle.bt_peer.specs.declared.fault.End.{End}
+use Rattle.bt_peer.specs.declared.fault.SessionFault.{SessionFault}
+use Rattle.bt_peer.specs.declared.seat.Seat.{Seat}
+use Rattle.rand_core.specs.Stream.{Stream as Words}
+use Rattle.bt_peer.specs.Conduct.{Calls, Conducts, DrawsWords, answers_of, generator_of}
+use Rattle.bt_peer.specs.Desks.{calls_in}
+use Rattle.bt_peer.specs.Hearing.{SourceState, most_reads}
+use Rattle.bt_peer.specs.Serial.{StreamRecord, DevicesAfter, EndsAs, around, had_at, opening_of, source_of}
+use Rattle.bt_peer.specs.Sessions.{SessionState, Running, begun, to_hear}
+use Rattle.bt_peer.specs.Terms.{TermsState, pieces_of}
+use Rattle.bt_peer.specs.Turning.{Surroundings}
+
+-- what a run knows of one of its streams
+pub record Standing : Type 0 where
+  pub desk : DeskState
+  pub session : SessionState
+  pub told : List Bool
+  pub stream : StreamRecord
+  -- all that its generator will answer
+  pub generator : Words
+
+abbrev pub standing : DeskState → Seat → StreamRecord → Standing
+standing desk seat stream =
+    record { desk = desk; session = seat.session; told = seat.told; stream = stream; generator = answers_of seat.rng }
+
+-- the session runs, or it ended so
+abbrev pub StandsBy : Option (Result End SessionFault) → TermsState → ℕ → Surroundings → SessionState → SourceState → (Bool → Surroundings) → Type 0
+StandsBy None terms worker out session source here = Running terms worker out session (here false)
+StandsBy (Some outcome) terms worker out session source here =
+    (short : Bool) × EndsAs outcome terms worker out source (here short)
+
+-- what the devices say of a session that runs, or that ended so
+abbrev pub DevicesBy : Option (Result End SessionFault) → StreamRecord → StreamRecord → Type 0
+DevicesBy None old new = (new.failed ≡ old.failed) × (new.writer_failed ≡ old.writer_failed)
+DevicesBy (Some outcome) old new = DevicesAfter outcome old new
+
+-- the calls of a session that runs, or that ended so, from this generator on
+abbrev pub ConductBy : Option (Result End SessionFault) → Words → Calls → Calls → Words → Type 0
+ConductBy None generator old new left = Conducts true generator old new left
+ConductBy (Some (Ok end)) generator old new left = Conducts true generator old new left
+ConductBy (Some (Err fault)) generator old new left = DrawsWords generator old new
+
+-- a session that began in these surroundings, with that generator and that stream, stands so
+pub record Stands (terms : TermsState) (worker : ℕ) (generator : Words) (out : Surroundings) (first : StreamRecord) (now : Standing) : Type 0 where
+  pub stands : StandsBy now.session.outcome terms worker out now.session (source_of now.stream now.session.asked)
+      (λ short. around now.desk worker now.told short now.stream)
+  pub conduct : ConductBy now.session.outcome generator out.past.calls (calls_in now.desk.history worker) now.generator
+  pub devices : DevicesBy now.session.outcome first now.stream
+  pub counted : first.asked ≡ 0 → now.stream.asked ≡ now.session.asked
+  pub most : now.session.asked ≤ most_reads
+
+-- a session that stood goes on standing
+pub record Keeps (worker : ℕ) (old new : Standing) : Type 0 where
+  pub still : (terms : TermsState) (generator : Words) (out : Surroundings) (first : StreamRecord) →
+      Stands terms worker generator out first old → Stands terms worker generator out first new
+
+-- a worker's turn leaves alone what the others called, and what is had stays had
+pub record LeavesOthers (worker : ℕ) (old new : DeskState) : Type 0 where
+  pub setting : new.setting ≡ old.setting
+  pub calls : (other : ℕ) → other ≢ worker → calls_in new.history other ≡ calls_in old.history other
+  pub had : (piece : ℕ) → had_at old piece ≡ true → had_at new piece ≡ true
+
+-- what may be left of a session: nothing once it has ended
+abbrev pub left_after : Option (Result End SessionFault) → ℕ → ℕ
+left_after None left = suc left
+left_after (Some outcome) left = 0
+
+abbrev pub left_of : Seat → ℕ
+left_of seat = left_after seat.session.outcome (to_hear seat.session)
+
+-- each stream's session goes on standing
+abbrev pub EachKeeps : {X : Type 0} → (X → StreamRecord) → DeskState → List Seat → List X → DeskState → List Seat → List X → Type 0
+EachKeeps {X} record_of desk seats streams desk' seats' streams' = (i : ℕ) (seat : Seat) (stream : X) → i < length streams →
+    Keeps i (standing desk (slice_index_or seats i seat) (record_of (slice_index_or streams i stream)))
+    (standing desk' (slice_index_or seats' i seat) (record_of (slice_index_or streams' i stream)))
+
+-- turns of the first so many workers leave the others alone
+pub record LeavesRest (count : ℕ) (old new : DeskState) : Type 0 where
+  pub setting : new.setting ≡ old.setting
+  pub calls : (other : ℕ) → count ≤ other → calls_in new.history other ≡ calls_in old.history other
+
+-- each seat notes pieces of the desk's torrent
+abbrev pub Fit : DeskState → List Seat → Type 0
+Fit desk seats = All (λ seat. length seat.told ≡ piece_count desk.setting.torrent) seats
+
+abbrev pub HasEnded : Seat → Type 0
+HasEnded seat = seat.session.outcome ≢ None
+
+-- so many workers called nothing at the desk, and no piece is had
+pub record IsFresh (count : ℕ) (desk : DeskState) : Type 0 where
+  pub uncalled : (worker : ℕ) → worker < count → calls_in desk.history worker ≡ []
+  pub none_had : (piece : ℕ) → had desk.history piece ≡ false
+
+-- a worker told these wanted pieces, and nothing else was called
+pub record HasOpened (worker : ℕ) (flags : List Bool) (desk : DeskState) : Type 0 where
+  pub fresh : IsFresh worker desk
+  pub opened : calls_in desk.history worker ≡ opening_of (Some flags)
+  pub chosen : (piece : ℕ) → chosen desk.history piece ≡ flag flags piece
+
+-- a worker's seat before its first turn
+pub record IsNew (terms : TermsState) (seed worker : ℕ) (seat : Seat) : Type 0 where
+  pub session : seat.session ≡ begun terms worker
+  pub told : seat.told ≡ replicate (pieces_of terms) false
+  pub generator : answers_of seat.rng ≡ generator_of seed worker
+
+-- that of each worker
+abbrev pub AreNew : TermsState → ℕ → List Seat → Type 0
+AreNew terms seed seats = (i : ℕ) (any : Seat) → i < length seats → IsNew terms seed i (slice_index_or seats i any)

@@ -1,0 +1,114 @@
+-- The events of a turn: what a session calls for a message, and what it asks for then.
+use Rattle.std.specs.Prelude.{◌≡◌, ℕ, zero, suc, ◌≤◌, ◌⊎◌, Bool, true, false, IsTrue, MatchBool, MatchOption}
+use Rattle.std.specs.Prelude.{List, [], ◌∷◌, ◌++◌, length, map, Option, Some, None}
+use Rattle.std.specs.List.{list_any}
+use Rattle.bt_meta.specs.WireBits.{wire_len, HasSpareBit}
+use Rattle.bt_wire.specs.declared.message.Message.{Message}
+use Rattle.bt_wire.specs.declared.message.Message.TheVariants as messages
+use Rattle.bt_history.specs.declared.mark.CallMark.{CallMark}
+use Rattle.bt_history.specs.declared.mark.CallMark.TheVariants as marks
+use Rattle.bt_history.specs.declared.call.Reply.{Reply}
+use Rattle.bt_history.specs.declared.call.Reply.TheVariants as replies
+use Rattle.bt_history.specs.Logs.{answers}
+use Rattle.bt_peer.specs.Terms.{TermsState, pieces_of, most_next}
+use Rattle.bt_peer.specs.Events.{Event, Called, News, is_refused_call}
+
+-- the call that a message makes
+abbrev pub call_of : Message → Option CallMark
+call_of (messages.Hello hello) = Some marks.Join
+call_of messages.Choke = Some marks.Choke
+call_of messages.Unchoke = Some marks.Unchoke
+call_of (messages.Have piece) = Some (marks.Have piece)
+call_of (messages.Bits bits) = Some marks.Bits
+call_of (messages.Piece piece begin bytes) = Some (marks.Arrived piece begin (length bytes))
+call_of _ = None
+
+-- a message after the handshake
+abbrev pub IsLater : Message → Type 0
+IsLater (messages.Hello hello) = ⊥
+IsLater _ = Unit {0}
+
+-- these bytes are a bitfield of so many pieces
+pub record IsBitfield (pieces : ℕ) (bytes : List ℕ) : Type 0 where
+  pub count : length bytes ≡ wire_len pieces
+  pub no_spare_bit : HasSpareBit bytes pieces → ⊥
+
+-- a message that a peer of so many pieces may send: its bitfield, if it is one, is one of so many pieces
+abbrev pub IsAcceptable : ℕ → Message → Type 0
+IsAcceptable pieces (messages.Bits bits) = IsBitfield pieces bits
+IsAcceptable pieces _ = Unit {0}
+
+-- at most a check of that piece
+abbrev pub ChecksAtMost : ℕ → List Event → Type 0
+ChecksAtMost piece events =
+    (events ≡ []) ⊎ ((reply : Reply) × (IsTrue (answers (marks.Settle piece) reply) × (events ≡ Called (marks.Settle piece) reply ∷ [])))
+
+-- the piece of a block that arrived
+abbrev pub arrived_piece : CallMark → Option ℕ
+arrived_piece (marks.Arrived piece begin len) = Some piece
+arrived_piece _ = None
+
+-- that piece, where the reply completes it
+abbrev pub if_completed : Option ℕ → Reply → Option ℕ
+if_completed piece replies.Completed = piece
+if_completed piece _ = None
+
+-- what follows the reply to a message's call: after a piece was completed, at most its check
+abbrev pub Checks : CallMark → Reply → List Event → Type 0
+Checks call reply events =
+    MatchOption (if_completed (arrived_piece call) reply) (events ≡ []) (λ piece. ChecksAtMost piece events)
+
+-- the message's call with its reply, if it makes one, and a check that follows
+abbrev pub Opens : Option CallMark → List Event → Type 0
+Opens None events = events ≡ []
+Opens (Some call) [] = ⊥
+Opens (Some call) (Called mark reply ∷ events) = (mark ≡ call) × Checks call reply events
+Opens (Some call) (News piece ∷ events) = ⊥
+
+-- there is more to ask for
+abbrev pub has_more : Reply → Bool
+has_more (replies.Cancel block) = true
+has_more (replies.Request block) = true
+has_more _ = false
+
+-- Next calls of which only the last is replied that there is no more, or as many as there may be
+abbrev pub Asks : ℕ → List Event → Type 0
+Asks zero events = events ≡ []
+Asks (suc most) (Called (marks.Next word) reply ∷ events) = MatchBool (has_more reply) (Asks most events) (events ≡ [])
+Asks (suc most) _ = ⊥
+
+-- the events of a message after the handshake: its call, then news, then Next calls
+pub record Attends (terms : TermsState) (m : Message) (events : List Event) : Type 0 where
+  pub acceptable : IsAcceptable (pieces_of terms) m
+  pub opening : List Event
+  pub news : List ℕ
+  pub asking : List Event
+  pub opens : Opens (call_of m) opening
+  pub few : length news ≤ pieces_of terms
+  pub asks : Asks (most_next terms) asking
+  pub parts : events ≡ opening ++ map News news ++ asking
+
+-- the events of one turn
+abbrev pub IsTurn : TermsState → Message → List Event → Type 0
+IsTurn terms (messages.Hello hello) events = Opens (Some marks.Join) events
+IsTurn terms m events = Attends terms m events
+
+-- a turn may begin so
+abbrev pub BeginsTurn : TermsState → Message → List Event → Type 0
+BeginsTurn terms m events = (rest : List Event) × IsTurn terms m (events ++ rest)
+
+-- no call but a check was refused
+abbrev pub NoneRefused : List Event → Type 0
+NoneRefused events = list_any is_refused_call events ≡ false
+
+-- a turn for each message, in order
+abbrev pub TurnsOf : TermsState → List Message → List Event → Type 0
+TurnsOf terms [] events = events ≡ []
+TurnsOf terms (m ∷ ms) events = (first : List Event) × ((others : List Event) ×
+    (IsTurn terms m first × NoneRefused first × TurnsOf terms ms others × (events ≡ first ++ others)))
+
+-- a turn for each message, in order, then Leave
+abbrev pub AreTurns : TermsState → List Message → List Event → Type 0
+AreTurns terms [] events = events ≡ Called marks.Leave replies.Quiet ∷ []
+AreTurns terms (m ∷ ms) events = (first : List Event) × ((others : List Event) ×
+    (IsTurn terms m first × NoneRefused first × AreTurns terms ms others × (events ≡ first ++ others)))

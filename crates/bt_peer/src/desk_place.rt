@@ -1,0 +1,114 @@
+//! A worker's place at a desk of its own.
+
+ghost use Rattle.std.specs.Prelude.{◌≡◌, ◌<◌, ◌∷◌, ℕ, List, [], length, OnOk, OnErr, true, false, slice_index_or, IfSome, IfNone};
+ghost use Rattle.bt_meta.specs.Layout.{piece_count};
+ghost use Rattle.bt_history.specs.Pieces.{had};
+ghost use Rattle.bt_history.specs.declared.call.Reply.{Reply};
+ghost use Rattle.bt_picker.specs.Checks.{SettlesNow, waits};
+ghost use Rattle.bt_peer.specs.Conduct.{SettlesAtOnce};
+ghost use Rattle.bt_peer.specs.Desks.{desk_record};
+ghost use Rattle.bt_peer.specs.Events.{Event, News};
+ghost use Rattle.bt_peer.specs.Places.{AllTold, Gains, LacksMemory};
+ghost use Rattle.bt_peer.specs.Turns.{ChecksAtMost};
+
+use crate::place::Place;
+use bt_meta::Bitfield;
+use bt_picker::{Call, Desk, Reply};
+use std::alloc::{AllocError, Global};
+
+/// A worker's place at a desk that nobody else uses meanwhile.
+#[derive(Drop)]
+pub struct DeskPlace<'a> {
+    desk: &'a mut Desk,
+    worker: u32,
+    /// The pieces that were told as news.
+    told: &'a mut Bitfield,
+    short: bool,
+    ghost worker_is: { worker < desk.now.setting.workers },
+    ghost pieces: { length told.now ≡ piece_count desk.now.setting.torrent },
+}
+
+impl<'a> DeskPlace<'a> {
+    /// The worker is one of the desk's, and the bitfield is of the desk's pieces.
+    pub fn new(desk: &'a mut Desk, worker: u32, told: &'a mut Bitfield) -> DeskPlace<'a>
+        requires worker { worker < desk.old.setting.workers }
+        requires told { length told.old ≡ piece_count desk.old.setting.torrent }
+        ensures { ⟦<DeskPlace<'a> as Place>⟧.past result ≡ desk_record
+            (desk.entry.ghost_name ∷ told.entry.ghost_name ∷ []) desk.old worker told.old false }
+    {
+        DeskPlace {
+            desk,
+            worker,
+            told,
+            short: false,
+        }
+    }
+}
+
+impl<'a> Place for DeskPlace<'a> {
+    ghost past = { λ s. desk_record (s.desk.ghost_name ∷ s.told.ghost_name ∷ []) s.desk.now s.worker s.told.now s.short };
+
+    ghost settles = { true };
+
+    ghost awaits = { λ s piece. waits s.desk.now.setting s.desk.now.history piece };
+
+    fn call(&mut self, _alloc: Global, call: Call) -> Result<Reply, AllocError> {
+        match self.desk.call(self.worker, call) {
+            Ok(reply) => Ok(reply),
+            Err(e) => {
+                self.short = true;
+                Err(e)
+            }
+        }
+    }
+
+    /// The least piece that is had and wasn't told.
+    fn news(&mut self) -> Option<u32>
+        ensures some { IfSome result (λ piece. Gains (⟦<DeskPlace<'a> as Place>⟧.past self.old) (News piece ∷ [])
+            (⟦<DeskPlace<'a> as Place>⟧.past self.new)) }
+        ensures none { IfNone result (Gains (⟦<DeskPlace<'a> as Place>⟧.past self.old) [] (⟦<DeskPlace<'a> as Place>⟧.past self.new)
+            × AllTold (⟦<DeskPlace<'a> as Place>⟧.past self.new)) }
+        ensures least { IfSome result (λ piece. (other : ℕ) → other < piece → had self.old.desk.now.history other ≡ true →
+            slice_index_or self.old.told.now other false ≡ true) }
+    {
+        let piece = first_untold(self.desk, self.told)?;
+        self.told.set(piece);
+        Some(piece)
+    }
+
+    fn completed(&mut self, alloc: Global, piece: u32) -> Result<(), AllocError>
+        ensures ok { OnOk result ((events : List Event) × (ChecksAtMost piece events
+            × Gains (⟦<DeskPlace<'a> as Place>⟧.past self.old) events (⟦<DeskPlace<'a> as Place>⟧.past self.new))) }
+        ensures err { OnErr result (LacksMemory (⟦<DeskPlace<'a> as Place>⟧.past self.old) (⟦<DeskPlace<'a> as Place>⟧.past self.new)) }
+        ensures at_once { OnOk result (true ≡ true → waits self.old.desk.now.setting self.old.desk.now.history piece ≡ true →
+            SettlesAtOnce piece (⟦<DeskPlace<'a> as Place>⟧.past self.old).calls (⟦<DeskPlace<'a> as Place>⟧.past self.new).calls) }
+        // The check is made here and now.
+        ensures settles { OnOk result ((reply : Reply) × SettlesNow self.old.desk.now self.new.desk.now self.old.worker piece reply) }
+    {
+        match self.desk.settle_now(alloc, self.worker, piece) {
+            Ok(_) => Ok(()),
+            Err(e) => {
+                self.short = true;
+                Err(e)
+            }
+        }
+    }
+}
+
+/// The least piece that is had and wasn't told.
+fn first_untold(desk: &Desk, told: &Bitfield) -> Option<u32>
+    requires { length told.now ≡ piece_count desk.now.setting.torrent }
+    ensures some { IfSome result (λ piece. (piece < length told.now)
+        × (had desk.now.history piece ≡ true) × (slice_index_or told.now piece false ≡ false)) }
+    ensures least { IfSome result (λ piece. (other : ℕ) → other < piece →
+        had desk.now.history other ≡ true → slice_index_or told.now other false ≡ true) }
+    ensures none { IfNone result ((piece : ℕ) → piece < length told.now →
+        had desk.now.history piece ≡ true → slice_index_or told.now piece false ≡ true) }
+{
+    for piece in 0..told.count() {
+        if desk.had(piece) && !told.has(piece) {
+            return Some(piece);
+        }
+    }
+    None
+}

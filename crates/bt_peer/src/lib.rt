@@ -1,0 +1,27 @@
+//! A session with one peer: what comes from it is turned into calls of the picker, and the picker's replies into what is sent.
+#![tactic(auto)]
+
+mod attending;
+mod calling;
+mod desk_place;
+mod fault;
+mod gate;
+mod greeting;
+mod hearing;
+mod place;
+mod rounds;
+mod seat;
+mod session;
+mod stream;
+mod terms;
+mod turning;
+pub mod whole;
+mod writing;
+
+pub use desk_place::DeskPlace;
+pub use fault::{End, SessionFault};
+pub use gate::{Gate, OpenGate};
+pub use place::Place;
+pub use rounds::serial;
+pub use session::Session;
+pub use stream::{MOST_STREAMS, SerialRun, Stream};

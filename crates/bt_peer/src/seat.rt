@@ -1,0 +1,52 @@
+//! A stream's seat at the desk of a run.
+
+ghost use Rattle.std.specs.Prelude.{◌≡◌, ◌<◌, None, length};
+ghost use Rattle.bt_meta.specs.Layout.{piece_count};
+ghost use Rattle.bt_peer.specs.Serial.{stream_record};
+ghost use Rattle.bt_peer.specs.Standing.{Keeps, LeavesOthers, left_of, standing};
+
+use crate::desk_place::DeskPlace;
+use crate::session::Session;
+use crate::stream::Stream;
+use bt_meta::{Bitfield, Sink, Source};
+use bt_picker::Desk;
+use rand_pcg::Lcg64Xsh32;
+use std::alloc::Global;
+
+/// What a run keeps for one of its streams.
+#[derive(Drop)]
+pub struct Seat {
+    pub session: Session,
+    /// The pieces that were told to the peer.
+    pub told: Bitfield,
+    /// It gives the words of Next.
+    pub rng: Lcg64Xsh32,
+}
+
+/// A turn of a stream's session, at the desk of the run. The session itself keeps how it ended.
+pub fn take_turn<R: Source, W: Sink>(
+    alloc: Global,
+    desk: &mut Desk,
+    worker: u32,
+    seat: &mut Seat,
+    stream: &mut Stream<R, W>,
+)
+    requires worker { worker < desk.old.setting.workers }
+    requires told { length seat.old.told ≡ piece_count desk.old.setting.torrent }
+    requires runs { seat.old.session.outcome ≡ None }
+    ensures keeps { Keeps worker
+        (standing desk.old seat.old (stream_record R.left R.ended R.failed R.asked W.written W.failed stream.old))
+        (standing desk.new seat.new (stream_record R.left R.ended R.failed R.asked W.written W.failed stream.new)) }
+    ensures others { LeavesOthers worker desk.old desk.new }
+    ensures told { length seat.new.told ≡ length seat.old.told }
+    ensures shrinks { left_of seat.new < left_of seat.old }
+{
+    let mut place = DeskPlace::new(desk, worker, &mut seat.told);
+    let _ = seat.session.turn(
+        alloc,
+        &mut stream.reader,
+        &mut stream.writer,
+        &mut place,
+        &mut seat.rng,
+    );
+}

@@ -1,0 +1,210 @@
+//! A session, turn by turn.
+
+ghost use Rattle.std.specs.Prelude.{◌≡◌, ◌<◌, ◌≤◌, true, false, None, IfOk, IfSome, IfNone, IfErr, OnOk, OnErr};
+
+use crate::fault::{End, SessionFault};
+use crate::greeting::greeting;
+use crate::place::Place;
+use crate::terms::Terms;
+use crate::turning::{Peer, greet, listen};
+use bt_meta::{Sink, Source, Torrent};
+use bt_wire::{Inbound, frame_limit};
+use rand_pcg::Lcg64Xsh32;
+use std::alloc::Global;
+use std::marker::Model;
+use std::sync::Arc;
+
+/// A session of a worker with one peer, from the handshakes to the end of the peer's stream.
+#[derive(Drop)]
+pub struct Session {
+    terms: Terms,
+    worker: u32,
+    peer: Peer,
+    joined: bool,
+    messages: u64,
+    outcome: Option<Result<End, SessionFault>>,
+}
+
+impl Model for Session {
+    ghost use Rattle.std.specs.Prelude.{◌≡◌, ◌≤◌, ◌+◌, ◌*◌, None, length};
+    ghost use Rattle.bt_peer.specs.Hearing.{most_reads, room_len};
+    ghost use Rattle.bt_peer.specs.Sessions.{SessionState};
+
+    ghost Value = { SessionState };
+
+    ghost view = { λ a. record {
+      terms = a.terms;
+      worker = a.worker;
+      stream = a.peer.inbound;
+      joined = a.joined;
+      interested = a.peer.interested;
+      asked = a.peer.asked;
+      messages = a.messages;
+      outcome = a.outcome;
+    } };
+
+    ghost invariant = { λ a. (a.peer.asked ≤ most_reads) × (a.outcome ≡ None →
+        (a.peer.inbound.greeted ≡ a.joined) × (4 * a.messages + length a.peer.inbound.bytes ≤ room_len * a.peer.asked)) };
+}
+
+impl Session {
+    ghost use Rattle.rand_core.specs.Stream.{Stream};
+    ghost use Rattle.bt_peer.specs.declared.fault.SessionFault.TheVariants.{WriteFault};
+    ghost use Rattle.bt_peer.specs.Conduct.{Conducts, DrawsWords, answers_of};
+    ghost use Rattle.bt_peer.specs.Hearing.{most_reads, source_state};
+    ghost use Rattle.bt_peer.specs.Terms.{terms_of};
+    ghost use Rattle.bt_peer.specs.Turning.{surroundings};
+    ghost use Rattle.bt_peer.specs.Sessions.{SessionState, begun, to_hear, GoesOn, Ends, FailsWith, answer_again};
+
+    /// A session that has done nothing yet, with a peer that is asked for so many blocks at a time: the depth of its desk's rules, 1 to
+    /// 64. Takes no memory.
+    pub fn new(alloc: Global, torrent: Arc<Torrent>, worker: u32, depth: u32) -> Session
+        requires { (1 ≤ depth) × (depth ≤ 64) }
+        ensures { result ≡ begun (terms_of torrent.value depth) worker }
+    {
+        let limit = frame_limit(torrent.piece_count());
+        Session {
+            terms: Terms::new(torrent, depth),
+            worker,
+            peer: Peer {
+                inbound: Inbound::new(alloc, limit),
+                asked: 0,
+                interested: false,
+            },
+            joined: false,
+            messages: 0,
+            outcome: None,
+        }
+    }
+
+    /// How it ended, if it has.
+    pub(crate) fn outcome(&self) -> Option<Result<End, SessionFault>>
+        ensures { result ≡ self.now.outcome }
+    {
+        self.outcome
+    }
+
+    /// The first turn: our handshake, the peer's, and Join.
+    fn first_turn<R: Source, W: Sink, P: Place>(
+        &mut self,
+        alloc: Global,
+        reader: &mut R,
+        writer: &mut W,
+        place: &mut P,
+    ) -> Result<(), SessionFault>
+        requires fresh { self.old.outcome ≡ None }
+        requires joined { self.old.joined ≡ false }
+        ensures goes_on { OnOk result (GoesOn
+            self.old (surroundings P.past R.left W.written place.old reader.old writer.old)
+            self.new (surroundings P.past R.left W.written place.new reader.new writer.new)) }
+        ensures shrinks { OnOk result (to_hear self.new < to_hear self.old) }
+        ensures fails { IfErr result (λ fault. FailsWith fault
+            self.old (surroundings P.past R.left W.written place.old reader.old writer.old)
+            (source_state R.left R.ended R.failed reader.new self.new.asked)
+            self.new (surroundings P.past R.left W.written place.new reader.new writer.new)) }
+        // No word is drawn.
+        ensures conduct { OnOk result ((generator : Stream) →
+            Conducts P.settles generator (P.past place.old).calls (P.past place.new).calls generator) }
+        ensures words { OnErr result ((generator : Stream) →
+            DrawsWords generator (P.past place.old).calls (P.past place.new).calls) }
+        ensures counted { R.asked reader.old ≡ self.old.asked → R.asked reader.new ≡ self.new.asked }
+        ensures most { self.new.asked ≤ most_reads }
+        ensures sound { OnOk result (
+            (R.failed reader.new ≡ R.failed reader.old) × (W.failed writer.new ≡ W.failed writer.old)) }
+        ensures failed { IfErr result (λ fault. fault ≡ WriteFault → W.failed writer.new ≡ true) }
+    {
+        let hello = greeting(self.terms.infohash(), self.worker);
+        let greeted = greet(
+            alloc,
+            &self.terms,
+            &hello,
+            &mut self.peer,
+            reader,
+            writer,
+            place,
+        );
+        match greeted {
+            Ok(()) => {
+                self.joined = true;
+                Ok(())
+            }
+            Err(fault) => {
+                self.outcome = Some(Err(fault));
+                Err(fault)
+            }
+        }
+    }
+
+    /// The next turn: first the handshakes, then a message each, and at the end of the peer's stream the departure. Once the session has
+    /// ended, well or not, a turn gives that answer again and touches neither devices nor place.
+    pub fn turn<R: Source, W: Sink, P: Place>(
+        &mut self,
+        alloc: Global,
+        reader: &mut R,
+        writer: &mut W,
+        place: &mut P,
+        rng: &mut Lcg64Xsh32,
+    ) -> Result<Option<End>, SessionFault>
+        ensures goes_on { IfOk result (λ o. IfNone o (GoesOn
+            self.old (surroundings P.past R.left W.written place.old reader.old writer.old)
+            self.new (surroundings P.past R.left W.written place.new reader.new writer.new))) }
+        // Each turn that goes on uses up some of what there may be to hear.
+        ensures shrinks { IfOk result (λ o. IfNone o (to_hear self.new < to_hear self.old)) }
+        ensures ends { self.old.outcome ≡ None → IfOk result (λ o. IfSome o (λ end. Ends end
+            self.old (surroundings P.past R.left W.written place.old reader.old writer.old) (R.ended reader.new)
+            self.new (surroundings P.past R.left W.written place.new reader.new writer.new))) }
+        ensures fails { self.old.outcome ≡ None → IfErr result (λ fault. FailsWith fault
+            self.old (surroundings P.past R.left W.written place.old reader.old writer.old)
+            (source_state R.left R.ended R.failed reader.new self.new.asked)
+            self.new (surroundings P.past R.left W.written place.new reader.new writer.new)) }
+        // The words of Next are the generator's, and a piece is checked at once where the place checks it itself.
+        ensures conduct { OnOk result (Conducts P.settles
+            (answers_of rng.old) (P.past place.old).calls (P.past place.new).calls (answers_of rng.new)) }
+        ensures words { OnErr result (DrawsWords (answers_of rng.old) (P.past place.old).calls (P.past place.new).calls) }
+        // What the session counts is what the source was asked, where that was so before.
+        ensures counted { R.asked reader.old ≡ self.old.asked → R.asked reader.new ≡ self.new.asked }
+        ensures most { self.new.asked ≤ most_reads }
+        // A turn that goes on or ends leaves both devices sound, if they were.
+        ensures sound { IfOk result (λ o.
+            (R.failed reader.new ≡ R.failed reader.old) × (W.failed writer.new ≡ W.failed writer.old)) }
+        ensures failed { self.old.outcome ≡ None → IfErr result (λ fault. fault ≡ WriteFault → W.failed writer.new ≡ true) }
+        ensures again { IfSome self.old.outcome (λ outcome. (self.new ≡ self.old)
+            × (reader.new ≡ reader.old) × (writer.new ≡ writer.old) × (place.new ≡ place.old)) }
+        ensures answer { IfSome self.old.outcome (λ outcome. result ≡ answer_again outcome) }
+    {
+        match self.outcome {
+            Some(Ok(end)) => return Ok(Some(end)),
+            Some(Err(fault)) => return Err(fault),
+            None => {}
+        }
+        if !self.joined {
+            self.first_turn(alloc, reader, writer, place)?;
+            return Ok(None);
+        }
+        match listen(
+            alloc,
+            &self.terms,
+            &mut self.peer,
+            reader,
+            writer,
+            place,
+            rng,
+        ) {
+            Ok(true) => {
+                self.messages += 1;
+                Ok(None)
+            }
+            Ok(false) => {
+                let end = End {
+                    messages: self.messages,
+                };
+                self.outcome = Some(Ok(end));
+                Ok(Some(end))
+            }
+            Err(fault) => {
+                self.outcome = Some(Err(fault));
+                Err(fault)
+            }
+        }
+    }
+}
