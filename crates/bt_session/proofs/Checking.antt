@@ -3,7 +3,8 @@ use Rattle.std.proofs.Common.{◌≡◌, ℕ, List, [], ◌∷◌, ◌++◌, ref
 use Rattle.bt_history.specs.declared.mark.CallMark.TheVariants.{Settle}
 use Rattle.bt_history.specs.declared.mark.Mark.{Mark}
 use Rattle.bt_shared.specs.Passes.{PassState}
-use Rattle.bt_session.specs.Checking.{AreChecks, MakesChecks, MayCheck}
+use Rattle.bt_session.specs.Checking.{AreChecks, MakesChecks, MayCheck, TakesPiece}
+use Rattle.bt_session.specs.Workers.{WorkerState}
 
 -- one more check
 checks_more : (log : List Mark) (mark : Mark) (piece : ℕ) → mark.call ≡ Settle piece → AreChecks log → AreChecks (log ++ mark ∷ [])
@@ -24,3 +25,8 @@ checks_on first old new piece makes may =
         checks = λ none. subst AreChecks (sym more.1.log) (checks_more old.log _ piece refl (makes.checks none));
       }
     ]
+
+-- a ticket taken leaves the log as it is
+pub checks_same : (first : PassState) (old new : WorkerState) (piece : ℕ) → MakesChecks first old.pass → TakesPiece old piece new →
+    MakesChecks first new.pass
+checks_same first old new piece makes taken = subst (λ (w : WorkerState). MakesChecks first w.pass) (sym taken) makes

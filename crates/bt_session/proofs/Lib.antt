@@ -2,5 +2,9 @@ pub mod Checking
 pub mod Gathered
 pub mod Kept
 pub mod Noted
+pub mod Numbered
 pub mod Rising
-pub mod Seating
+pub mod Rows
+pub mod Seats
+pub mod Told
+pub mod Worked

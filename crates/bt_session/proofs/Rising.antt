@@ -1,10 +1,10 @@
 -- The log of checks that were made in the order of their pieces.
-use Rattle.std.proofs.Common.{◌≡◌, ℕ, ◌+◌, ◌≤◌, List, [], ◌∷◌, ◌++◌, refl, sym, ap, subst, arith, inl, inr}
+use Rattle.std.proofs.Common.{◌≡◌, ℕ, ◌+◌, ◌≤◌, List, [], ◌∷◌, ◌++◌, refl, sym, ap, ◌∙◌, subst, arith, inl, inr}
 use Rattle.bt_history.specs.declared.mark.CallMark.TheVariants as marks
 use Rattle.bt_history.specs.declared.mark.Mark.{Mark}
 use Rattle.bt_shared.specs.Passes.{PassState}
 use Rattle.bt_session.specs.Checking.{MayCheck}
-use Rattle.bt_session.specs.Swarms.{ChecksRise}
+use Rattle.bt_session.specs.Swarms.{ChecksLast, ChecksRise}
 
 rise_up : (low : ℕ) (log : List Mark) (high more : ℕ) → high ≤ more → ChecksRise low log high → ChecksRise low log more
 rise_up low [] high more up rise = omega (arith, rise, up)
@@ -15,23 +15,26 @@ rise_on : (low : ℕ) (log : List Mark) (piece : ℕ) (mark : Mark) → mark.cal
 rise_on low [] piece mark is rise = (piece, (is, rise, omega arith))
 rise_on low (first ∷ log) piece mark is rise = (rise.0, (rise.1.0, rise.1.1, rise_on (rise.0 + 1) log piece mark is rise.1.2))
 
--- what a pass has after the check of a piece was asked for, whatever the answer
-pub record Goes (old new : PassState) (piece : ℕ) : Type 0 where
-  pub worker : new.worker ≡ old.worker
-  pub rise : ChecksRise 0 old.log piece → ChecksRise 0 new.log (piece + 1)
-
-goes_same : (old new : PassState) (piece : ℕ) → new ≡ old → Goes old new piece
-goes_same old new piece same = record {
-  worker = ap (λ (p : PassState). p.worker) same;
-  rise = λ rise. subst (λ (p : PassState). ChecksRise 0 p.log (piece + 1)) (sym same) (rise_up 0 old.log piece (piece + 1) (omega arith) rise);
+-- before the first piece
+pub none_yet : (pass : PassState) → ChecksLast pass pass 0
+none_yet pass = record {
+  worker = refl;
+  rise = λ none. subst (λ (log : List Mark). ChecksRise 0 log 0) (sym none) (omega arith);
 }
 
-pub goes_on : (old new : PassState) (piece : ℕ) → MayCheck old piece new → Goes old new piece
-goes_on old new piece may =
+goes_same : (first old new : PassState) (piece : ℕ) → new ≡ old → ChecksLast first old piece → ChecksLast first new (piece + 1)
+goes_same first old new piece same was = record {
+  worker = ap (λ (p : PassState). p.worker) same ∙ was.worker;
+  rise = λ none. subst (λ (p : PassState). ChecksRise 0 p.log (piece + 1)) (sym same) (rise_up 0 old.log piece (piece + 1) (omega arith) (was.rise none));
+}
+
+-- the check of one more piece was asked for, whatever the answer
+pub goes_on : (first old new : PassState) (piece : ℕ) → ChecksLast first old piece → MayCheck old piece new → ChecksLast first new (piece + 1)
+goes_on first old new piece was may =
     elim may [
-      | inl same ↦ goes_same old new piece same
+      | inl same ↦ goes_same first old new piece same was
       | inr more ↦ record {
-        worker = more.1.worker;
-        rise = λ rise. subst (λ (log : List Mark). ChecksRise 0 log (piece + 1)) (sym more.1.log) (rise_on 0 old.log piece _ refl rise);
+        worker = more.1.worker ∙ was.worker;
+        rise = λ none. subst (λ (log : List Mark). ChecksRise 0 log (piece + 1)) (sym more.1.log) (rise_on 0 old.log piece _ refl (was.rise none));
       }
     ]

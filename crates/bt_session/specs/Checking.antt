@@ -3,26 +3,27 @@ use Rattle.std.specs.Prelude.{◌≡◌, ◌⊎◌, ◌<◌, ◌+◌, ℕ, Bool,
 use Rattle.std.specs.Global.{Vec}
 use Rattle.bt_check.specs.declared.ticket.Ticket.{Ticket}
 use Rattle.bt_check.specs.declared.ticket.Ticket.TheVariants.{Piece, Stop}
-use Rattle.bt_check.specs.Queues.{with_put, with_taken, PassState as TicketState}
+use Rattle.bt_check.specs.Queues.{with_put, with_taken}
 use Rattle.bt_history.specs.declared.call.Reply.{Reply}
 use Rattle.bt_history.specs.declared.mark.CallMark.TheVariants.{Settle}
 use Rattle.bt_history.specs.declared.mark.Mark.{Mark}
-use Rattle.bt_shared.specs.Passes.{PassState, Notes, newcomer}
+use Rattle.bt_session.specs.Workers.{WorkerState, with_tickets}
+use Rattle.bt_shared.specs.Passes.{PassState, Notes}
 
 -- ---- tickets
 
--- where it is told so the ticket was put, and else nothing was
-abbrev pub PutsIf : Bool → Ticket → TicketState → TicketState → Type 0
-PutsIf true ticket old new = new ≡ with_put old ticket
+-- where it is told so the worker put the ticket, and else nothing
+abbrev pub PutsIf : Bool → Ticket → WorkerState → WorkerState → Type 0
+PutsIf true ticket old new = new ≡ with_tickets old (with_put old.tickets ticket)
 PutsIf false ticket old new = new ≡ old
 
--- the ticket of this piece was taken
-abbrev pub TakesPiece : TicketState → ℕ → TicketState → Type 0
-TakesPiece old piece new = new ≡ with_taken old (Piece piece)
+-- the worker took the ticket of this piece
+abbrev pub TakesPiece : WorkerState → ℕ → WorkerState → Type 0
+TakesPiece old piece new = new ≡ with_tickets old (with_taken old.tickets (Piece piece))
 
--- Stop was taken, or no ticket was
-abbrev pub TakesNone : TicketState → TicketState → Type 0
-TakesNone old new = (new ≡ with_taken old Stop) ⊎ (new ≡ old)
+-- it took Stop, or no ticket
+abbrev pub TakesNone : WorkerState → WorkerState → Type 0
+TakesNone old new = (new ≡ with_tickets old (with_taken old.tickets Stop)) ⊎ (new ≡ old)
 
 -- ---- checks
 
@@ -41,14 +42,15 @@ pub record MakesChecks (old new : PassState) : Type 0 where
   pub checks : AreChecks old.log → AreChecks new.log
 
 -- each of these workers did
-abbrev pub EachMakesChecks : List PassState → List PassState → Type 0
-EachMakesChecks passes passes' =
-    (i : ℕ) (any : PassState) → i < length passes → MakesChecks (slice_index_or passes i any) (slice_index_or passes' i any)
+abbrev pub EachMakesChecks : List WorkerState → List WorkerState → Type 0
+EachMakesChecks workers workers' =
+    (i : ℕ) (any : WorkerState) → i < length workers → MakesChecks (slice_index_or workers i any).pass (slice_index_or workers' i any).pass
+
+-- so many of these workers did, from the one with the number `first` on
+abbrev pub CheckersWork : ℕ → ℕ → List WorkerState → List WorkerState → Type 0
+CheckersWork first count workers workers' =
+    (i : ℕ) (any : WorkerState) → i < count → MakesChecks (slice_index_or workers (first + i) any).pass (slice_index_or workers' (first + i) any).pass
 
 -- the logs of so many workers, from this one on, are checks alone
 abbrev pub CheckersCheck : ℕ → ℕ → List (Vec Mark) → Type 0
 CheckersCheck first count logs = (i : ℕ) (log : Vec Mark) → i < count → slice_get logs (first + i) ≡ Some log → AreChecks log.items
-
--- the passes of workers that have made no call, in the order of their numbers, from this one on
-abbrev pub AreNewcomersFrom : ℕ → List PassState → Type 0
-AreNewcomersFrom first passes = (i : ℕ) (any : PassState) → i < length passes → slice_index_or passes i any ≡ newcomer (first + i)

@@ -1,3 +1,4 @@
 pub mod Checking
 pub mod Passes
 pub mod Swarms
+pub mod Workers

@@ -1,11 +1,12 @@
--- A place at a desk that threads share: what its pass says.
+-- A place at a desk that threads share: what its worker's pass and seat say.
 use Rattle.std.specs.Prelude.{◌≡◌, ◌⊎◌, ℕ, Bool, true, false, []}
 use Rattle.bt_check.specs.declared.ticket.Ticket.TheVariants.{Piece}
-use Rattle.bt_check.specs.Queues.{with_put, PassState as TicketState}
+use Rattle.bt_check.specs.Queues.{with_put}
 use Rattle.bt_history.specs.Setting.{Setting}
-use Rattle.bt_shared.specs.Passes.{PassState}
 use Rattle.bt_peer.specs.Desks.{calls_of_marks}
 use Rattle.bt_peer.specs.Places.{PlaceRecord}
+use Rattle.bt_session.specs.Workers.{WorkerState, knows, tells, with_tickets}
+use Rattle.bt_shared.specs.Passes.{PassState}
 
 -- no piece at all
 abbrev pub no_piece : ℕ → Bool
@@ -25,16 +26,18 @@ pass_record setting pass had told short = record {
   short = short;
 }
 
--- a place at a shared desk as its callers see it: its pass, its pass for tickets, whether a call has found no memory, and whether a ticket
--- came back
+-- that of a worker: its seat has seen the finished pieces, and given those that were told
+abbrev pub worker_record : Setting → WorkerState → Bool → PlaceRecord
+worker_record setting worker short = pass_record setting worker.pass (knows setting worker.seat) (tells worker.seat) short
+
+-- a place at a shared desk as its callers see it: its worker, whether a call has found no memory, and whether a ticket came back
 pub record PassPlaceState : Type 0 where
-  pub pass : PassState
-  pub tickets : TicketState
+  pub worker : WorkerState
   pub short : Bool
   pub given_up : Bool
 
 -- a ticket was put for the piece; or it came back, which is noted
 abbrev pub PutsTicket : PassPlaceState → ℕ → PassPlaceState → Type 0
 PutsTicket old piece new =
-    (new ≡ record { pass = old.pass; tickets = with_put old.tickets (Piece piece); short = old.short; given_up = old.given_up })
-    ⊎ (new ≡ record { pass = old.pass; tickets = old.tickets; short = old.short; given_up = true })
+    (new ≡ record { worker = with_tickets old.worker (with_put old.worker.tickets (Piece piece)); short = old.short; given_up = old.given_up })
+    ⊎ (new ≡ record { worker = old.worker; short = old.short; given_up = true })

@@ -3,6 +3,8 @@ use Rattle.std.specs.Prelude.{◌≡◌, ◌≤◌, ◌<◌, ◌+◌, ℕ, Bool,
 use Rattle.std.specs.Global.{Vec}
 use Rattle.bt_history.specs.declared.mark.CallMark.TheVariants as marks
 use Rattle.bt_history.specs.declared.mark.Mark.{Mark}
+use Rattle.bt_history.specs.History.{History}
+use Rattle.bt_history.specs.Pieces.{had}
 use Rattle.bt_history.specs.Setting.{Setting}
 use Rattle.bt_picker.specs.Checks.{waits}
 use Rattle.bt_picker.specs.Positions.{DeskState}
@@ -15,7 +17,8 @@ use Rattle.bt_session.specs.declared.swarm_run.SwarmFault.{SwarmFault}
 use Rattle.bt_session.specs.declared.swarm_run.SwarmFault.TheVariants.{NoMemory, Gather}
 use Rattle.bt_peer.specs.Conduct.{generator_of}
 use Rattle.bt_peer.specs.Outcomes.{RunsTo}
-use Rattle.bt_session.specs.Passes.{no_piece, pass_record}
+use Rattle.bt_session.specs.Passes.{no_piece, pass_record, worker_record}
+use Rattle.bt_session.specs.Workers.{WorkerState}
 use Rattle.bt_peer.specs.Serial.{StreamRecord}
 use Rattle.bt_peer.specs.Terms.{TermsState}
 
@@ -26,35 +29,43 @@ swarm_fault fault = Gather fault
 
 -- ---- sessions
 
--- A session ran at a pass, with the words of the generator of its worker's number, made of the seed.
+-- A session ran at a worker's place, with the words of the generator of its number, made of the seed.
 pub record Plays (outcome : Result End SessionFault) (terms : TermsState) (setting : Setting) (seed : ℕ)
-    (pass : PassState) (old : StreamRecord) (pass' : PassState) (new : StreamRecord) : Type 0 where
+    (worker : WorkerState) (old : StreamRecord) (worker' : WorkerState) (new : StreamRecord) : Type 0 where
   -- a call found no memory
   pub short : Bool
-  pub worker : pass'.worker ≡ pass.worker
-  pub runs : RunsTo outcome terms pass.worker (generator_of seed pass.worker)
-      (pass_record setting pass no_piece no_piece false) old (pass_record setting pass' no_piece no_piece short) new
+  pub number : worker'.pass.worker ≡ worker.pass.worker
+  pub runs : RunsTo outcome terms worker.pass.worker (generator_of seed worker.pass.worker)
+      (worker_record setting worker false) old (worker_record setting worker' short) new
 
 -- that of each stream, in order
 abbrev pub EachPlays : {X : Type 0} → (X → StreamRecord) → TermsState → Setting → ℕ →
-    List PassState → List X → List (Result End SessionFault) → List PassState → List X → Type 0
-EachPlays {X} record_of terms setting seed passes streams ends passes' streams' =
-    (i : ℕ) (pass : PassState) (stream : X) (end : Result End SessionFault) → i < length streams →
-    Plays (slice_index_or ends i end) terms setting seed (slice_index_or passes i pass) (record_of (slice_index_or streams i stream))
-    (slice_index_or passes' i pass) (record_of (slice_index_or streams' i stream))
+    List WorkerState → List X → List (Result End SessionFault) → List WorkerState → List X → Type 0
+EachPlays {X} record_of terms setting seed workers streams ends workers' streams' =
+    (i : ℕ) (worker : WorkerState) (stream : X) (end : Result End SessionFault) → i < length streams →
+    Plays (slice_index_or ends i end) terms setting seed (slice_index_or workers i worker) (record_of (slice_index_or streams i stream))
+    (slice_index_or workers' i worker) (record_of (slice_index_or streams' i stream))
 
--- Each stream's session ended so: from the empty log and the stream as it was handed in, to its worker's log and the stream as it was given
--- back, in order.
+-- A session ran with the words of the generator of its number, made of the seed: from no call and nothing told to this log. Each piece that
+-- it knew at its end to be finished, those that it told among them, is had in the journal.
+pub record Swarmed (journal : History) (outcome : Result End SessionFault) (terms : TermsState) (setting : Setting) (seed number : ℕ)
+    (old : StreamRecord) (log : List Mark) (new : StreamRecord) : Type 0 where
+  pub known : ℕ → Bool
+  pub told : ℕ → Bool
+  -- a call found no memory
+  pub short : Bool
+  pub finished : (piece : ℕ) → known piece ≡ true → had journal piece ≡ true
+  pub runs : RunsTo outcome terms number (generator_of seed number)
+      (pass_record setting (newcomer number) no_piece no_piece false) old
+      (pass_record setting (record { worker = number; log = log }) known told short) new
+
+-- Each stream's session ran so: from the stream as it was handed in, to its worker's log and the stream as it was given back, in order.
 abbrev pub EachSwarmed : {X : Type 0} → (X → StreamRecord) → TermsState → Setting → ℕ → List X →
-    List (Vec Mark) → List X → List (Result End SessionFault) → Type 0
-EachSwarmed {X} record_of terms setting seed streams logs streams' ends =
+    History → List (Vec Mark) → List X → List (Result End SessionFault) → Type 0
+EachSwarmed {X} record_of terms setting seed streams journal logs streams' ends =
     (i : ℕ) (stream : X) (log : Vec Mark) (end : Result End SessionFault) → i < length streams →
-    Plays (slice_index_or ends i end) terms setting seed (newcomer i) (record_of (slice_index_or streams i stream))
-    (record { worker = i; log = (slice_index_or logs i log).items }) (record_of (slice_index_or streams' i stream))
-
--- the passes of workers that have made no call, in the order of their numbers
-abbrev pub AreNewcomers : List PassState → Type 0
-AreNewcomers passes = (i : ℕ) (any : PassState) → i < length passes → slice_index_or passes i any ≡ newcomer i
+    Swarmed journal (slice_index_or ends i end) terms setting seed i (record_of (slice_index_or streams i stream))
+    (slice_index_or logs i log).items (record_of (slice_index_or streams' i stream))
 
 -- ---- the last checks
 
@@ -66,6 +77,11 @@ ChecksRise low (mark ∷ log) high = (piece : ℕ) × ((mark.call ≡ marks.Sett
 -- the log of this worker has checks alone, the least piece first, each piece once
 abbrev pub MakesLastChecks : ℕ → List (Vec Mark) → ℕ → Type 0
 MakesLastChecks worker logs pieces = (log : Vec Mark) → slice_get logs worker ≡ Some log → ChecksRise 0 log.items pieces
+
+-- the worker saw to the last checks: it is the same, and where it had made no call its marks are checks of rising pieces
+pub record ChecksLast (old new : PassState) (pieces : ℕ) : Type 0 where
+  pub worker : new.worker ≡ old.worker
+  pub rise : old.log ≡ [] → ChecksRise 0 new.log pieces
 
 -- it is told whether a piece still waits for a check
 pub record TellsWaiting (short : Bool) (desk : DeskState) : Type 0 where

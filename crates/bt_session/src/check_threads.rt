@@ -4,43 +4,42 @@ ghost use Rattle.std.specs.Prelude.{◌≡◌, ◌≤◌, [], map, length, vec_l
 ghost use Rattle.bt_session.specs.Checking.{MakesChecks};
 
 use crate::checker::{Checked, check_pieces};
+use crate::commons::{Commons, Worker};
+use crate::run_ledger::RunLedger;
 use crate::swarm_run::SwarmFault;
-use crate::ticket_end::TicketEnd;
 use bt_check::Ticket;
-use bt_shared::{DeskLedger, Pass, SharedDesk};
 use std::alloc::Global;
 use std::snapshot::Snapshot;
 use std::sync::Wait;
 use std::thread;
 use std::thread::{Promise, PromisedHandle, Threads};
 
-/// What the thread of a checker promises of what it gives back: its pass gained checks alone.
+/// What the thread of a checker promises of what it gives back: its worker made checks alone.
 #[derive(Drop)]
-pub struct CheckOf<L: DeskLedger> {
-    pub pass: Snapshot<Pass<L>>,
+pub struct CheckOf<L: RunLedger> {
+    pub worker: Snapshot<Worker<L>>,
 }
 
-impl<L: DeskLedger> Promise<Checked<L>> for CheckOf<L> {
-    ghost kept_by = { λ p r. MakesChecks p.pass.value r.pass };
+impl<L: RunLedger> Promise<Checked<L>> for CheckOf<L> {
+    ghost kept_by = { λ p r. MakesChecks p.worker.value.pass r.worker.pass };
 }
 
 /// Starts the thread of a checker.
-fn start<'s, 'e, L: DeskLedger + Send + Sync + 'e, T: Threads + Wait + Sync + 'e>(
+fn start<'s, 'e, L: RunLedger + Send + Sync + 'e, T: Threads + Wait + Sync + 'e>(
     rt: &'e T,
     alloc: Global,
     scope: &thread::Scope<'s, &'e ()>,
-    desk: &'e SharedDesk<L>,
-    pass: Pass<L>,
-    tickets: TicketEnd<'e>,
+    commons: &'e Commons<L>,
+    worker: Worker<L>,
 ) -> Result<PromisedHandle<Checked<L>, CheckOf<L>>, SwarmFault>
-    ensures { IfOk result (λ h. h.promise.pass.value ≡ pass) }
+    ensures { IfOk result (λ h. h.promise.worker.value ≡ worker) }
 {
     let promise = CheckOf {
-        pass: Snapshot::of(&pass),
+        worker: Snapshot::of(&worker),
     };
     let job = move || -> Checked<L>
-        ensures { MakesChecks pass result.pass }
-    { check_pieces(rt, alloc, desk, pass, tickets) };
+        ensures { MakesChecks worker.pass result.worker.pass }
+    { check_pieces(rt, alloc, commons, worker) };
     match scope.spawn_with(promise, job) {
         Ok(handle) => Ok(handle),
         Err(_) => Err(SwarmFault::NoThread),
@@ -48,36 +47,37 @@ fn start<'s, 'e, L: DeskLedger + Send + Sync + 'e, T: Threads + Wait + Sync + 'e
 }
 
 /// Starts a thread for each checker. Where one can't be started, the handles are of those that run.
-pub fn start_checkers<'s, 'e, L: DeskLedger + Send + Sync + 'e, T: Threads + Wait + Sync + 'e>(
+pub fn start_checkers<'s, 'e, L: RunLedger + Send + Sync + 'e, T: Threads + Wait + Sync + 'e>(
     rt: &'e T,
     alloc: Global,
     scope: &thread::Scope<'s, &'e ()>,
-    desk: &'e SharedDesk<L>,
-    passes: Vec<Pass<L>>,
-    tickets: Vec<TicketEnd<'e>>,
+    commons: &'e Commons<L>,
+    workers: Vec<Worker<L>>,
     handles: &mut Vec<PromisedHandle<Checked<L>, CheckOf<L>>>,
 ) -> Result<(), SwarmFault>
-    requires count { length tickets.items ≡ length passes.items }
-    requires room { (handles.old.items ≡ []) × (length passes.items ≤ vec_capacity handles.old) }
-    ensures few { length handles.new.items ≤ length passes.items }
-    ensures passes { OnOk result (map (λ h. h.promise.pass.value) handles.new.items ≡ passes.items) }
+    requires room { (handles.old.items ≡ []) × (length workers.items ≤ vec_capacity handles.old) }
+    ensures few { length handles.new.items ≤ length workers.items }
+    ensures workers { OnOk result (map (λ h. h.promise.worker.value) handles.new.items ≡ workers.items) }
 {
-    let mut tickets = tickets.into_iter();
-    for pass in passes {
-        let Some(end) = tickets.next() else {
-            unreachable!()
-        };
-        let handle = start(rt, alloc, scope, desk, pass, end)?;
+    for worker in workers {
+        let handle = start(rt, alloc, scope, commons, worker)?;
         handles.push_reserved(handle);
     }
     Ok(())
 }
 
-/// Tells so many checkers to stop. Whether each was told.
-pub fn stop<T: Wait>(rt: &T, tickets: &mut TicketEnd<'_>, checkers: usize) -> bool {
+/// Tells so many checkers to stop, in the name of this worker. Whether each was told.
+pub fn stop<L: RunLedger, T: Wait>(
+    rt: &T,
+    commons: &Commons<L>,
+    worker: &mut Worker<L>,
+    checkers: usize,
+) -> bool
+    ensures { (worker.new.pass ≡ worker.old.pass) × (worker.new.seat ≡ worker.old.seat) }
+{
     let mut told = true;
     for _ in 0..checkers {
-        told &= tickets.puts(rt, Ticket::Stop);
+        told &= commons.puts(rt, worker, Ticket::Stop);
     }
     told
 }

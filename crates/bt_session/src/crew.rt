@@ -1,30 +1,32 @@
 //! The threads of a run: its checkers, and its sessions.
 
 ghost use Rattle.std.specs.Prelude.{◌≡◌, ◌≤◌, [], All, map, length, vec_capacity, IfOk, OnOk};
-ghost use Rattle.bt_session.specs.Checking.{EachMakesChecks};
 ghost use Rattle.bt_peer.specs.Serial.{stream_record};
-ghost use Rattle.bt_session.specs.Swarms.{EachPlays};
 ghost use Rattle.bt_peer.specs.Terms.{terms_of};
+ghost use Rattle.bt_session.specs.Checking.{EachMakesChecks};
+ghost use Rattle.bt_session.specs.Swarms.{EachPlays};
 
 use crate::check_threads::{CheckOf, start_checkers, stop};
 use crate::checker::Checked;
+use crate::commons::{Commons, Worker};
 use crate::play::Played;
+use crate::run_ledger::RunLedger;
 use crate::swarm_run::SwarmFault;
 use crate::threads::{PlayOf, join_each, start_sessions};
-use crate::ticket_end::TicketEnd;
-use bt_meta::{Sink, Source, Torrent};
+use bt_meta::{Sink, Source};
 use bt_peer::{Gate, Stream};
-use bt_shared::{DeskLedger, Pass, SharedDesk};
 use std::alloc::Global;
-use std::sync::{Arc, Wait};
+use std::sync::Wait;
 use std::thread;
 use std::thread::{PromisedHandle, Threads};
 
 /// What the threads of a run gave back, each in the order of its workers.
 #[derive(Drop)]
-pub struct Joined<L: DeskLedger, R, W> {
+pub struct Joined<L: RunLedger, R, W> {
     pub played: Vec<Played<L, R, W>>,
     pub checked: Vec<Checked<L>>,
+    /// The worker that told the checkers to stop.
+    pub last: Worker<L>,
     /// A checker couldn't be told to stop.
     pub short: bool,
 }
@@ -33,7 +35,7 @@ pub struct Joined<L: DeskLedger, R, W> {
 fn start_all<
     's,
     'e,
-    L: DeskLedger + Send + Sync + 'e,
+    L: RunLedger + Send + Sync + 'e,
     R: Source + Send + Drop + 'e,
     W: Sink + Send + Drop + 'e,
     T: Threads + Wait + Sync + 'e,
@@ -42,45 +44,41 @@ fn start_all<
     rt: &'e T,
     alloc: Global,
     scope: &thread::Scope<'s, &'e ()>,
-    torrent: &Arc<Torrent>,
-    desk: &'e SharedDesk<L>,
-    passes: Vec<Pass<L>>,
-    tickets: Vec<TicketEnd<'e>>,
+    commons: &'e Commons<L>,
+    sessions: Vec<Worker<L>>,
     streams: Vec<Stream<R, W>>,
-    checkers: Vec<Pass<L>>,
-    checkers_tickets: Vec<TicketEnd<'e>>,
+    checkers: Vec<Worker<L>>,
     seed: u64,
     depth: u32,
     gate: &'e G,
     checking: &mut Vec<PromisedHandle<Checked<L>, CheckOf<L>>>,
     playing: &mut Vec<PromisedHandle<Played<L, R, W>, PlayOf<L, R, W>>>,
 ) -> Result<(), SwarmFault>
-    requires count { (length passes.items ≡ length streams.items) × (length tickets.items ≡ length streams.items) }
-    requires checkers { length checkers_tickets.items ≡ length checkers.items }
+    requires count { length sessions.items ≡ length streams.items }
     requires depth { (1 ≤ depth) × (depth ≤ 64) }
     requires room { (playing.old.items ≡ []) × (length streams.items ≤ vec_capacity playing.old) }
     requires checkers_room { (checking.old.items ≡ []) × (length checkers.items ≤ vec_capacity checking.old) }
     ensures few { length playing.new.items ≤ length streams.items }
     ensures few_checkers { length checking.new.items ≤ length checkers.items }
-    ensures checkers { OnOk result (map (λ h. h.promise.pass.value) checking.new.items ≡ checkers.items) }
+    ensures checkers { OnOk result (map (λ h. h.promise.worker.value) checking.new.items ≡ checkers.items) }
     ensures terms { OnOk result (All
-        (λ h. terms_of h.promise.torrent.value.value h.promise.depth ≡ terms_of torrent.now.value depth) playing.new.items) }
+        (λ h. terms_of h.promise.torrent.value.value h.promise.depth ≡ terms_of commons.now depth) playing.new.items) }
     ensures seeds { OnOk result (All (λ h. h.promise.seed ≡ seed) playing.new.items) }
-    ensures passes { OnOk result (map (λ h. h.promise.pass.value) playing.new.items ≡ passes.items) }
+    ensures sessions { OnOk result (map (λ h. h.promise.worker.value) playing.new.items ≡ sessions.items) }
     ensures streams { OnOk result (map (λ h. h.promise.stream.value) playing.new.items ≡ streams.items) }
 {
-    start_checkers(rt, alloc, scope, desk, checkers, checkers_tickets, checking)?;
+    start_checkers(rt, alloc, scope, commons, checkers, checking)?;
     start_sessions(
-        rt, alloc, scope, torrent, desk, passes, tickets, streams, seed, depth, gate, playing,
+        rt, alloc, scope, commons, sessions, streams, seed, depth, gate, playing,
     )
 }
 
-/// A checker for each of these passes, and a session for each stream, in threads of their own, with what each gave back. All have ended
+/// A checker for each of these workers, and a session for each stream, in threads of their own, with what each gave back. All have ended
 /// when this returns, also where it gives up: it takes its own memory before the first thread is started, joins the sessions, tells the
 /// checkers that run to stop, and joins these.
 pub fn crew<
     'e,
-    L: DeskLedger + Send + Sync + 'e,
+    L: RunLedger + Send + Sync + 'e,
     R: Source + Send + Drop + 'e,
     W: Sink + Send + Drop + 'e,
     T: Threads + Wait + Sync + 'e,
@@ -88,43 +86,40 @@ pub fn crew<
 >(
     rt: &'e T,
     alloc: Global,
-    torrent: &'e Arc<Torrent>,
-    desk: &'e SharedDesk<L>,
-    passes: Vec<Pass<L>>,
-    tickets: Vec<TicketEnd<'e>>,
+    commons: &'e Commons<L>,
+    sessions: Vec<Worker<L>>,
     streams: Vec<Stream<R, W>>,
-    checkers: Vec<Pass<L>>,
-    checkers_tickets: Vec<TicketEnd<'e>>,
-    own_tickets: TicketEnd<'e>,
+    checkers: Vec<Worker<L>>,
+    last: Worker<L>,
     seed: u64,
     depth: u32,
     gate: &'e G,
 ) -> Result<Joined<L, R, W>, SwarmFault>
-    requires count { (length passes.items ≡ length streams.items) × (length tickets.items ≡ length streams.items) }
-    requires checkers { length checkers_tickets.items ≡ length checkers.items }
+    requires count { length sessions.items ≡ length streams.items }
     requires depth { (1 ≤ depth) × (depth ≤ 64) }
     ensures count { IfOk result (λ r. length r.played.items ≡ length streams.items) }
     ensures checkers { IfOk result (λ r. length r.checked.items ≡ length checkers.items) }
     ensures plays { IfOk result (λ r. EachPlays (stream_record R.left R.ended R.failed R.asked W.written W.failed)
-        (terms_of torrent.now.value depth) L.setting seed passes.items streams.items
-        (map (λ p. p.end) r.played.items) (map (λ p. p.pass) r.played.items) (map (λ p. p.stream) r.played.items)) }
-    ensures checks { IfOk result (λ r. EachMakesChecks checkers.items (map (λ c. c.pass) r.checked.items)) }
+        (terms_of commons.now depth) L.setting seed sessions.items streams.items
+        (map (λ p. p.end) r.played.items) (map (λ p. p.worker) r.played.items) (map (λ p. p.stream) r.played.items)) }
+    ensures checks { IfOk result (λ r. EachMakesChecks checkers.items (map (λ c. c.worker) r.checked.items)) }
+    ensures last { IfOk result (λ r. (r.last.pass ≡ last.pass) × (r.last.seat ≡ last.seat)) }
 {
     thread::scope(
         thread::scope_env(),
         rt,
         move |scope| -> Result<Joined<L, R, W>, SwarmFault>
-            requires count { (length passes.items ≡ length streams.items) × (length tickets.items ≡ length streams.items) }
-            requires checkers { length checkers_tickets.items ≡ length checkers.items }
+            requires count { length sessions.items ≡ length streams.items }
             requires depth { (1 ≤ depth) × (depth ≤ 64) }
             ensures count { IfOk result (λ r. length r.played.items ≡ length streams.items) }
             ensures checkers { IfOk result (λ r. length r.checked.items ≡ length checkers.items) }
             ensures plays { IfOk result (λ r. EachPlays (stream_record R.left R.ended R.failed R.asked W.written W.failed)
-                (terms_of torrent.entry.now.value depth) L.setting seed passes.items streams.items
-                (map (λ p. p.end) r.played.items) (map (λ p. p.pass) r.played.items) (map (λ p. p.stream) r.played.items)) }
-            ensures checks { IfOk result (λ r. EachMakesChecks checkers.items (map (λ c. c.pass) r.checked.items)) }
+                (terms_of commons.entry.now depth) L.setting seed sessions.items streams.items
+                (map (λ p. p.end) r.played.items) (map (λ p. p.worker) r.played.items) (map (λ p. p.stream) r.played.items)) }
+            ensures checks { IfOk result (λ r. EachMakesChecks checkers.items (map (λ c. c.worker) r.checked.items)) }
+            ensures last { IfOk result (λ r. (r.last.pass ≡ last.pass) × (r.last.seat ≡ last.seat)) }
         {
-            let mut own_tickets = own_tickets;
+            let mut last = last;
             let mut checking = Vec::with_capacity(alloc, checkers.len())?;
             let mut checked = Vec::with_capacity(alloc, checkers.len())?;
             let mut playing = Vec::with_capacity(alloc, streams.len())?;
@@ -133,13 +128,10 @@ pub fn crew<
                 rt,
                 alloc,
                 scope,
-                torrent,
-                desk,
-                passes,
-                tickets,
+                commons,
+                sessions,
                 streams,
                 checkers,
-                checkers_tickets,
                 seed,
                 depth,
                 gate,
@@ -147,12 +139,13 @@ pub fn crew<
                 &mut playing,
             );
             join_each(rt, playing, &mut played);
-            let told = stop(rt, &mut own_tickets, checking.len());
+            let told = stop(rt, commons, &mut last, checking.len());
             join_each(rt, checking, &mut checked);
             match started {
                 Ok(()) => Ok(Joined {
                     played,
                     checked,
+                    last,
                     short: !told,
                 }),
                 Err(fault) => Err(fault),

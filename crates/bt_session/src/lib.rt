@@ -3,17 +3,21 @@
 
 mod check_threads;
 mod checker;
+mod commons;
 mod crew;
+mod fittings;
 mod pass_place;
 mod play;
+mod run_ledger;
 mod swarm_run;
 mod threads;
-mod ticket_end;
+mod work;
 
 pub use bt_peer::{
     DeskPlace, End, Gate, MOST_STREAMS, OpenGate, Place, SerialRun, Session, SessionFault, Stream,
     serial, whole,
 };
+pub use commons::{Commons, Worker};
 pub use pass_place::PassPlace;
+pub use run_ledger::RunLedger;
 pub use swarm_run::{MOST_CHECKERS, SwarmFault, SwarmRun, swarm};
-pub use ticket_end::TicketEnd;

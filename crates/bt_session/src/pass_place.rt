@@ -3,55 +3,47 @@
 ghost use Rattle.std.specs.Prelude.{◌≡◌, List, true, false, OnOk, OnErr};
 ghost use Rattle.bt_peer.specs.Conduct.{SettlesAtOnce};
 ghost use Rattle.bt_peer.specs.Events.{Event};
-ghost use Rattle.bt_session.specs.Passes.{PutsTicket, no_piece, pass_record};
 ghost use Rattle.bt_peer.specs.Places.{Gains, LacksMemory};
 ghost use Rattle.bt_peer.specs.Turns.{ChecksAtMost};
+ghost use Rattle.bt_session.specs.Passes.{PutsTicket, worker_record};
 
-use crate::ticket_end::TicketEnd;
+use crate::commons::{Commons, Worker};
+use crate::run_ledger::RunLedger;
 use bt_check::Ticket;
 use bt_peer::Place;
 use bt_picker::{Call, Reply};
-use bt_shared::{DeskLedger, Pass, SharedDesk};
 use std::alloc::{AllocError, Global};
 use std::marker::Model;
 use std::sync::Wait;
 
-/// A worker's place at a desk that threads share, with a pass of its own. A completed piece is left to the checkers, by a ticket. It knows
-/// of no finished piece, and so has no news.
+/// A worker's place at a desk that threads share. Its news is that of the worker's seat at the board; a completed piece is left to the
+/// checkers, by a ticket.
 #[derive(Drop)]
-pub struct PassPlace<'a, L: DeskLedger, T: Wait> {
+pub struct PassPlace<'a, L: RunLedger, T: Wait> {
     rt: &'a T,
-    desk: &'a SharedDesk<L>,
-    pass: Pass<L>,
-    tickets: TicketEnd<'a>,
+    commons: &'a Commons<L>,
+    worker: Worker<L>,
     short: bool,
     given_up: bool,
 }
 
-impl<'a, L: DeskLedger, T: Wait> Model for PassPlace<'a, L, T> {
+impl<'a, L: RunLedger, T: Wait> Model for PassPlace<'a, L, T> {
     ghost use Rattle.bt_session.specs.Passes.{PassPlaceState};
 
     ghost Value = { PassPlaceState };
 
-    ghost view = { λ s. record { pass = s.pass; tickets = s.tickets; short = s.short; given_up = s.given_up } };
+    ghost view = { λ s. record { worker = s.worker; short = s.short; given_up = s.given_up } };
 }
 
-impl<'a, L: DeskLedger, T: Wait> PassPlace<'a, L, T> {
-    /// The pass is one of the desk's.
-    pub fn new(
-        rt: &'a T,
-        desk: &'a SharedDesk<L>,
-        pass: Pass<L>,
-        tickets: TicketEnd<'a>,
-    ) -> PassPlace<'a, L, T>
-        ensures past { ⟦<PassPlace<'a, L, T> as Place>⟧.past result ≡ pass_record L.setting pass no_piece no_piece false }
-        ensures tickets { (result.tickets ≡ tickets.entry) × (result.given_up ≡ false) }
+impl<'a, L: RunLedger, T: Wait> PassPlace<'a, L, T> {
+    pub fn new(rt: &'a T, commons: &'a Commons<L>, worker: Worker<L>) -> PassPlace<'a, L, T>
+        ensures past { ⟦<PassPlace<'a, L, T> as Place>⟧.past result ≡ worker_record L.setting worker false }
+        ensures worker { (result.worker ≡ worker) × (result.given_up ≡ false) }
     {
         PassPlace {
             rt,
-            desk,
-            pass,
-            tickets,
+            commons,
+            worker,
             short: false,
             given_up: false,
         }
@@ -64,24 +56,23 @@ impl<'a, L: DeskLedger, T: Wait> PassPlace<'a, L, T> {
         self.given_up
     }
 
-    /// The pass, with the marks of all calls made here.
-    pub fn into_pass(self) -> Pass<L>
-        ensures { result ≡ self.entry.pass }
+    /// The worker, with the marks of all calls made here and the news told.
+    pub fn into_worker(self) -> Worker<L>
+        ensures { result ≡ self.entry.worker }
     {
         let PassPlace {
             rt: _,
-            desk: _,
-            pass,
-            tickets: _,
+            commons: _,
+            worker,
             short: _,
             given_up: _,
         } = self;
-        pass
+        worker
     }
 }
 
-impl<'a, L: DeskLedger, T: Wait> Place for PassPlace<'a, L, T> {
-    ghost past = { λ s. pass_record L.setting s.pass no_piece no_piece s.short };
+impl<'a, L: RunLedger, T: Wait> Place for PassPlace<'a, L, T> {
+    ghost past = { λ s. worker_record L.setting s.worker s.short };
 
     // A checker sees to the pieces that are completed here.
     ghost settles = { false };
@@ -89,7 +80,7 @@ impl<'a, L: DeskLedger, T: Wait> Place for PassPlace<'a, L, T> {
     ghost awaits = { λ s piece. false };
 
     fn call(&mut self, _alloc: Global, call: Call) -> Result<Reply, AllocError> {
-        match self.desk.call(self.rt, &mut self.pass, call) {
+        match self.commons.call(self.rt, &mut self.worker, call) {
             Ok(reply) => Ok(reply),
             Err(e) => {
                 self.short = true;
@@ -99,7 +90,7 @@ impl<'a, L: DeskLedger, T: Wait> Place for PassPlace<'a, L, T> {
     }
 
     fn news(&mut self) -> Option<u32> {
-        None
+        self.commons.news(&mut self.worker)
     }
 
     fn completed(&mut self, _alloc: Global, piece: u32) -> Result<(), AllocError>
@@ -111,7 +102,10 @@ impl<'a, L: DeskLedger, T: Wait> Place for PassPlace<'a, L, T> {
         // A ticket of the piece is put, if none comes back.
         ensures puts { OnOk result (PutsTicket self.old piece self.new) }
     {
-        if !self.tickets.puts(self.rt, Ticket::Piece(piece)) {
+        if !self
+            .commons
+            .puts(self.rt, &mut self.worker, Ticket::Piece(piece))
+        {
             self.given_up = true;
         }
         Ok(())

@@ -1,27 +1,25 @@
 //! Several recorded peers at one desk, each session in a thread of its own, and threads that check the pieces.
 
-ghost use Rattle.std.specs.Prelude.{◌≡◌, ◌≤◌, ◌<◌, ◌+◌, ◌++◌, [], ℕ, map, length, vec_capacity, IfOk};
+ghost use Rattle.std.specs.Prelude.{◌≡◌, ◌≤◌, ◌+◌, Some, All, length, IfOk};
 ghost use Rattle.bt_history.specs.Legal.{IsLegal};
 ghost use Rattle.bt_history.specs.Setting.{AreRules, setting_of};
 ghost use Rattle.bt_meta.specs.Layout.{piece_count};
-ghost use Rattle.bt_session.specs.declared.swarm_run.SwarmFault.TheVariants.{NoMemory};
-ghost use Rattle.bt_session.specs.Checking.{AreNewcomersFrom, CheckersCheck};
 ghost use Rattle.bt_peer.specs.Serial.{stream_record};
-ghost use Rattle.bt_session.specs.Swarms.{AreNewcomers, ChecksRise, EachSwarmed, LeavesNone, MakesLastChecks, TellsWaiting, swarm_fault};
 ghost use Rattle.bt_peer.specs.Terms.{terms_of};
+ghost use Rattle.bt_session.specs.declared.swarm_run.SwarmFault.TheVariants.{NoMemory};
+ghost use Rattle.bt_session.specs.Checking.{CheckersCheck};
+ghost use Rattle.bt_session.specs.Swarms.{EachSwarmed, LeavesNone, MakesLastChecks, TellsWaiting, swarm_fault};
+ghost use Rattle.bt_session.specs.Workers.{AreNumbered, IsNewSeat};
 ghost use Rattle.bt_shared.specs.Gathering.{EachAgrees};
-ghost use Rattle.bt_shared.specs.Passes.{newcomer};
 
-use crate::checker::{Checked, check_piece};
-use crate::crew::{Joined, crew};
-use crate::play::Played;
-use crate::ticket_end::ticket_ends;
-use bt_check::Tickets;
+use crate::fittings::{Fittings, fit_out, open_desk};
+use crate::run_ledger::RunLedger;
+use crate::work::{Worked, work};
 use bt_history::Rules;
 use bt_meta::{Sink, Source, Torrent};
 use bt_peer::{End, Gate, MOST_STREAMS, SessionFault, Stream};
 use bt_picker::Desk;
-use bt_shared::{Book, DeskLedger, GatherFault, Pass, SharedDesk};
+use bt_shared::{Book, GatherFault};
 use std::alloc::{AllocError, Global};
 use std::marker::Brand;
 use std::sync::ledger::Blank;
@@ -87,114 +85,6 @@ fn gather_number(fault: &GatherFault) -> u8 {
     }
 }
 
-/// The passes of a run's workers.
-#[derive(Drop)]
-struct Seated<L: DeskLedger> {
-    sessions: Vec<Pass<L>>,
-    checkers: Vec<Pass<L>>,
-    last: Pass<L>,
-}
-
-/// A desk with a pass for each of so many sessions, in the order of their workers, for each checker, and for the worker of the last checks.
-fn open_desk<L: DeskLedger>(
-    alloc: Global,
-    blank: Blank,
-    torrent: Arc<Torrent>,
-    count: u32,
-    checkers: u32,
-    rules: Rules,
-) -> Result<(SharedDesk<L>, Seated<L>), AllocError>
-    requires count { count ≤ MOST_STREAMS }
-    requires checkers { checkers ≤ MOST_CHECKERS }
-    requires rules { AreRules torrent.value.layout rules }
-    requires name { blank.name ≡ L.name }
-    requires parts { (blank.parts ≡ L.parts) × (blank.parts ≡ count + checkers + 1) }
-    requires setting { L.setting ≡ setting_of torrent.value.layout (count + checkers + 1) rules }
-    ensures count { IfOk result (λ opened. length opened.1.sessions.items ≡ count) }
-    ensures sessions { IfOk result (λ opened. AreNewcomers opened.1.sessions.items) }
-    ensures checkers_count { IfOk result (λ opened. length opened.1.checkers.items ≡ checkers) }
-    ensures checkers { IfOk result (λ opened. AreNewcomersFrom count opened.1.checkers.items) }
-    ensures last { IfOk result (λ opened. opened.1.last ≡ newcomer (count + checkers)) }
-{
-    let workers = count + checkers + 1;
-    let (desk, mut sessions) = SharedDesk::<L>::open(alloc, blank, torrent, workers, rules)?;
-    let Some(last) = sessions.pop() else {
-        unreachable!()
-    };
-    let checkers = sessions.split_off(count as usize)?;
-    let seated = Seated {
-        sessions,
-        checkers,
-        last,
-    };
-    Ok((desk, seated))
-}
-
-/// Puts what the sessions gave back into three lists. Whether a ticket came back.
-fn part<L: DeskLedger, R: Drop, W: Drop>(
-    all: Vec<Played<L, R, W>>,
-    ends: &mut Vec<Result<End, SessionFault>>,
-    passes: &mut Vec<Pass<L>>,
-    streams: &mut Vec<Stream<R, W>>,
-) -> bool
-    requires empty { (ends.old.items ≡ []) × (passes.old.items ≡ []) × (streams.old.items ≡ []) }
-    requires room { (length all.items ≤ vec_capacity ends.old) × (length all.items ≤ vec_capacity passes.old)
-        × (length all.items ≤ vec_capacity streams.old) }
-    ensures ends { ends.new.items ≡ map (λ p. p.end) all.items }
-    ensures passes { passes.new.items ≡ map (λ p. p.pass) all.items }
-    ensures streams { streams.new.items ≡ map (λ p. p.stream) all.items }
-    ensures room { vec_capacity passes.new ≡ vec_capacity passes.old }
-{
-    let mut given_up = false;
-    for played in all {
-        let Played {
-            end,
-            pass,
-            stream,
-            short,
-        } = played;
-        given_up |= short;
-        ends.push_reserved(end);
-        passes.push_reserved(pass);
-        streams.push_reserved(stream);
-    }
-    given_up
-}
-
-/// Puts the checkers' passes behind those of the sessions. Whether a check was given up.
-fn part_checked<L: DeskLedger>(all: Vec<Checked<L>>, passes: &mut Vec<Pass<L>>) -> bool
-    requires room { length passes.old.items + length all.items ≤ vec_capacity passes.old }
-    ensures passes { passes.new.items ≡ passes.old.items ++ map (λ c. c.pass) all.items }
-    ensures room { vec_capacity passes.new ≡ vec_capacity passes.old }
-{
-    let mut given_up = false;
-    for checked in all {
-        let Checked { pass, short } = checked;
-        given_up |= short;
-        passes.push_reserved(pass);
-    }
-    given_up
-}
-
-/// The last checks: each piece that waits for one, in rising order, is hashed and settled. Whether one was given up for want of memory.
-fn last_checks<L: DeskLedger, T: Wait>(
-    rt: &T,
-    alloc: Global,
-    desk: &SharedDesk<L>,
-    pass: &mut Pass<L>,
-    pieces: u32,
-) -> bool
-    requires { pass.old.log ≡ [] }
-    ensures worker { pass.new.worker ≡ pass.old.worker }
-    ensures rise { ChecksRise 0 pass.new.log pieces }
-{
-    let mut given_up = false;
-    for piece in 0..pieces {
-        given_up |= check_piece(rt, alloc, desk, pass, piece).is_err();
-    }
-    given_up
-}
-
 /// Whether a piece still waits for a check.
 fn is_waiting(desk: &Desk, pieces: u32) -> bool
     requires { piece_count desk.now.setting.torrent ≡ pieces }
@@ -219,7 +109,7 @@ fn is_short(desk: &Desk, pieces: u32, given_up: bool) -> bool
 /// The run, at the desk that `L` names.
 fn run<
     'e,
-    L: DeskLedger + Send + Sync + 'e,
+    L: RunLedger + Send + Sync + 'e,
     R: Source + Send + Drop + 'e,
     W: Sink + Send + Drop + 'e,
     T: Threads + Wait + Sync + 'e,
@@ -227,7 +117,8 @@ fn run<
 >(
     rt: &'e T,
     alloc: Global,
-    torrent: &'e Arc<Torrent>,
+    torrent: Arc<Torrent>,
+    fittings: Fittings,
     streams: Vec<Stream<R, W>>,
     seed: u64,
     rules: Rules,
@@ -236,11 +127,18 @@ fn run<
     blank: Blank,
 ) -> Result<SwarmRun<R, W>, SwarmFault>
     requires streams { (1 ≤ length streams.items) × (length streams.items ≤ MOST_STREAMS) }
-    requires rules { AreRules torrent.now.value.layout rules }
+    requires rules { AreRules torrent.value.layout rules }
     requires checkers { (1 ≤ checkers) × (checkers ≤ MOST_CHECKERS) }
     requires name { blank.name ≡ L.name }
     requires parts { (blank.parts ≡ L.parts) × (blank.parts ≡ length streams.items + checkers + 1) }
-    requires setting { L.setting ≡ setting_of torrent.now.value.layout (length streams.items + checkers + 1) rules }
+    requires setting { L.setting ≡ setting_of torrent.value.layout (length streams.items + checkers + 1) rules }
+    requires board { (L.board ≡ Some fittings.board.table) × (fittings.board.torrent ≡ torrent.value.layout)
+        × (fittings.board.seats ≡ length streams.items + checkers + 1) }
+    requires queue { L.queue ≡ Some fittings.queue }
+    requires count { (length fittings.seats.items ≡ length streams.items + checkers + 1)
+        × (length fittings.tickets.items ≡ length streams.items + checkers + 1) }
+    requires seats { AreNumbered (IsNewSeat (Some fittings.board.table)) 0 fittings.seats.items }
+    requires tickets { All (λ pass. pass.queue ≡ fittings.queue) fittings.tickets.items }
     ensures setting { IfOk result (λ run. run.book.desk.setting ≡ L.setting) }
     ensures legal { IfOk result (λ run. IsLegal L.setting run.book.desk.history) }
     ensures logs { IfOk result (λ run. length run.book.logs.items ≡ length streams.items + checkers + 1) }
@@ -248,69 +146,40 @@ fn run<
     ensures ends { IfOk result (λ run. length run.ends.items ≡ length streams.items) }
     ensures streams { IfOk result (λ run. length run.streams.items ≡ length streams.items) }
     ensures sessions { IfOk result (λ run. EachSwarmed (stream_record R.left R.ended R.failed R.asked W.written W.failed)
-        (terms_of torrent.now.value rules.depth) L.setting seed streams.items run.book.logs.items run.streams.items run.ends.items) }
+        (terms_of torrent.value rules.depth) L.setting seed
+        streams.items run.book.desk.history run.book.logs.items run.streams.items run.ends.items) }
     ensures checks { IfOk result (λ run. CheckersCheck (length streams.items) checkers run.book.logs.items) }
     ensures finishes { IfOk result (λ run.
-        MakesLastChecks (length streams.items + checkers) run.book.logs.items (piece_count torrent.now.value.layout)) }
+        MakesLastChecks (length streams.items + checkers) run.book.logs.items (piece_count torrent.value.layout)) }
     ensures waits { IfOk result (λ run. LeavesNone run.short run.book.desk) }
 {
-    let count = streams.len();
-    let workers = count + checkers as usize + 1;
-    let (desk, seated) = open_desk::<L>(
-        alloc,
-        blank,
-        torrent.clone()?,
-        count as u32,
-        checkers,
-        rules,
-    )?;
-    let Seated {
-        sessions,
-        checkers: checking,
-        last,
-    } = seated;
-    let mut last = last;
-    let (queue, ticket_passes) = Tickets::open(alloc, workers)?;
-    let mut tickets = ticket_ends(alloc, &queue, ticket_passes)?;
-    let Some(own_tickets) = tickets.pop() else {
-        unreachable!()
-    };
-    let checking_tickets = tickets.split_off(count)?;
-    let mut ends = Vec::with_capacity(alloc, count)?;
-    let mut passes = Vec::with_capacity(alloc, workers)?;
-    let mut left = Vec::with_capacity(alloc, count)?;
-    let joined = crew(
+    let count = streams.len() as u32 + checkers + 1;
+    let pieces = torrent.piece_count();
+    let (commons, all) = open_desk::<L>(alloc, blank, torrent, fittings, count, rules)?;
+    let worked = work(
         rt,
         alloc,
-        torrent,
-        &desk,
-        sessions,
-        tickets,
+        &commons,
+        all,
         streams,
-        checking,
-        checking_tickets,
-        own_tickets,
+        checkers,
         seed,
         rules.depth,
         gate,
     )?;
-    let Joined {
-        played,
-        checked,
-        short,
-    } = joined;
-    let came_back = part(played, &mut ends, &mut passes, &mut left);
-    let given_up = part_checked(checked, &mut passes);
-    let unfinished = last_checks(rt, alloc, &desk, &mut last, torrent.piece_count());
-    passes.push_reserved(last);
-    let book = desk.gather(alloc, passes, None)?;
-    let given_up = short | came_back | given_up | unfinished;
-    let short = is_short(&book.desk, torrent.piece_count(), given_up);
+    let Worked {
+        ends,
+        workers,
+        streams,
+        given_up,
+    } = worked;
+    let book = commons.gather(alloc, workers)?;
+    let short = is_short(&book.desk, pieces, given_up);
     Ok(SwarmRun {
         ends,
         book,
         short,
-        streams: left,
+        streams,
     })
 }
 
@@ -353,7 +222,7 @@ pub fn swarm<
     // the words of the generator of the seed and its number.
     ensures sessions { IfOk result (λ run. EachSwarmed (stream_record R.left R.ended R.failed R.asked W.written W.failed)
         (terms_of torrent.value rules.depth) (setting_of torrent.value.layout (length streams.items + checkers + 1) rules) seed
-        streams.items run.book.logs.items run.streams.items run.ends.items) }
+        streams.items run.book.desk.history run.book.logs.items run.streams.items run.ends.items) }
     // The checkers made checks alone.
     ensures checks { IfOk result (λ run. CheckersCheck (length streams.items) checkers run.book.logs.items) }
     // The last worker made checks alone, the least piece first, and unless the run is short no piece still waits for one.
@@ -361,16 +230,18 @@ pub fn swarm<
         MakesLastChecks (length streams.items + checkers) run.book.logs.items (piece_count torrent.value.layout)) }
     ensures waits { IfOk result (λ run. LeavesNone run.short run.book.desk) }
 {
-    let parts = streams.len() as u64 + u64::from(checkers) + 1;
+    let count = streams.len() + checkers as usize + 1;
+    let fittings = fit_out(alloc, &torrent, count)?;
     run::<Brand, R, W, T, G>(
         rt,
         alloc,
-        &torrent,
+        torrent,
+        fittings,
         streams,
         seed,
         rules,
         checkers,
         gate,
-        Blank::new(parts),
+        Blank::new(count as u64),
     )
 }

@@ -6,40 +6,40 @@ ghost use Rattle.bt_peer.specs.Serial.{stream_record};
 ghost use Rattle.bt_session.specs.Swarms.{Plays};
 ghost use Rattle.bt_peer.specs.Terms.{terms_of};
 
+use crate::commons::{Commons, Worker};
 use crate::play::{Played, play};
+use crate::run_ledger::RunLedger;
 use crate::swarm_run::SwarmFault;
-use crate::ticket_end::TicketEnd;
 use bt_meta::{Sink, Source, Torrent};
 use bt_peer::{Gate, Stream};
-use bt_shared::{DeskLedger, Pass, SharedDesk};
 use std::alloc::Global;
 use std::snapshot::Snapshot;
 use std::sync::{Arc, Wait};
 use std::thread;
 use std::thread::{Promise, PromisedHandle, Threads};
 
-/// What the thread of a session promises of what it gives back: a session of this torrent, to this depth and with this seed, from the pass
+/// What the thread of a session promises of what it gives back: a session of this torrent, to this depth and with this seed, from the worker
 /// and the stream that were handed to it.
 #[derive(Drop)]
-pub struct PlayOf<L: DeskLedger, R, W> {
+pub struct PlayOf<L: RunLedger, R, W> {
     pub torrent: Snapshot<Arc<Torrent>>,
     pub depth: u32,
     pub seed: u64,
-    pub pass: Snapshot<Pass<L>>,
+    pub worker: Snapshot<Worker<L>>,
     pub stream: Snapshot<Stream<R, W>>,
 }
 
-impl<L: DeskLedger, R: Source, W: Sink> Promise<Played<L, R, W>> for PlayOf<L, R, W> {
+impl<L: RunLedger, R: Source, W: Sink> Promise<Played<L, R, W>> for PlayOf<L, R, W> {
     ghost kept_by = { λ p r. Plays r.end (terms_of p.torrent.value.value p.depth) L.setting p.seed
-        p.pass.value (stream_record R.left R.ended R.failed R.asked W.written W.failed p.stream.value)
-        r.pass (stream_record R.left R.ended R.failed R.asked W.written W.failed r.stream) };
+        p.worker.value (stream_record R.left R.ended R.failed R.asked W.written W.failed p.stream.value)
+        r.worker (stream_record R.left R.ended R.failed R.asked W.written W.failed r.stream) };
 }
 
 /// Starts the thread of a session.
 fn start<
     's,
     'e,
-    L: DeskLedger + Send + Sync + 'e,
+    L: RunLedger + Send + Sync + 'e,
     R: Source + Send + Drop + 'e,
     W: Sink + Send + Drop + 'e,
     T: Threads + Wait + Sync + 'e,
@@ -49,9 +49,8 @@ fn start<
     alloc: Global,
     scope: &thread::Scope<'s, &'e ()>,
     torrent: Arc<Torrent>,
-    desk: &'e SharedDesk<L>,
-    pass: Pass<L>,
-    tickets: TicketEnd<'e>,
+    commons: &'e Commons<L>,
+    worker: Worker<L>,
     stream: Stream<R, W>,
     seed: u64,
     depth: u32,
@@ -60,24 +59,24 @@ fn start<
     requires { (1 ≤ depth) × (depth ≤ 64) }
     ensures terms { IfOk result (λ h. terms_of h.promise.torrent.value.value h.promise.depth ≡ terms_of torrent.value depth) }
     ensures seed { IfOk result (λ h. h.promise.seed ≡ seed) }
-    ensures pass { IfOk result (λ h. h.promise.pass.value ≡ pass) }
+    ensures worker { IfOk result (λ h. h.promise.worker.value ≡ worker) }
     ensures stream { IfOk result (λ h. h.promise.stream.value ≡ stream) }
 {
     let promise = PlayOf {
         torrent: Snapshot::of(&torrent),
         depth,
         seed,
-        pass: Snapshot::of(&pass),
+        worker: Snapshot::of(&worker),
         stream: Snapshot::of(&stream),
     };
     let job = move || -> Played<L, R, W>
         requires { (1 ≤ depth) × (depth ≤ 64) }
         ensures { Plays result.end (terms_of torrent.value depth) L.setting seed
-            pass (stream_record R.left R.ended R.failed R.asked W.written W.failed stream)
-            result.pass (stream_record R.left R.ended R.failed R.asked W.written W.failed result.stream) }
+            worker (stream_record R.left R.ended R.failed R.asked W.written W.failed stream)
+            result.worker (stream_record R.left R.ended R.failed R.asked W.written W.failed result.stream) }
     {
         play(
-            rt, alloc, torrent, desk, pass, tickets, stream, seed, depth, gate,
+            rt, alloc, torrent, commons, worker, stream, seed, depth, gate,
         )
     };
     match scope.spawn_with(promise, job) {
@@ -90,7 +89,7 @@ fn start<
 pub fn start_sessions<
     's,
     'e,
-    L: DeskLedger + Send + Sync + 'e,
+    L: RunLedger + Send + Sync + 'e,
     R: Source + Send + Drop + 'e,
     W: Sink + Send + Drop + 'e,
     T: Threads + Wait + Sync + 'e,
@@ -99,43 +98,36 @@ pub fn start_sessions<
     rt: &'e T,
     alloc: Global,
     scope: &thread::Scope<'s, &'e ()>,
-    torrent: &Arc<Torrent>,
-    desk: &'e SharedDesk<L>,
-    passes: Vec<Pass<L>>,
-    tickets: Vec<TicketEnd<'e>>,
+    commons: &'e Commons<L>,
+    workers: Vec<Worker<L>>,
     streams: Vec<Stream<R, W>>,
     seed: u64,
     depth: u32,
     gate: &'e G,
     handles: &mut Vec<PromisedHandle<Played<L, R, W>, PlayOf<L, R, W>>>,
 ) -> Result<(), SwarmFault>
-    requires count { (length passes.items ≡ length streams.items) × (length tickets.items ≡ length streams.items) }
+    requires count { length workers.items ≡ length streams.items }
     requires depth { (1 ≤ depth) × (depth ≤ 64) }
     requires room { (handles.old.items ≡ []) × (length streams.items ≤ vec_capacity handles.old) }
     ensures few { length handles.new.items ≤ length streams.items }
     ensures terms { OnOk result (All
-        (λ h. terms_of h.promise.torrent.value.value h.promise.depth ≡ terms_of torrent.now.value depth) handles.new.items) }
+        (λ h. terms_of h.promise.torrent.value.value h.promise.depth ≡ terms_of commons.now depth) handles.new.items) }
     ensures seeds { OnOk result (All (λ h. h.promise.seed ≡ seed) handles.new.items) }
-    ensures passes { OnOk result (map (λ h. h.promise.pass.value) handles.new.items ≡ passes.items) }
+    ensures workers { OnOk result (map (λ h. h.promise.worker.value) handles.new.items ≡ workers.items) }
     ensures streams { OnOk result (map (λ h. h.promise.stream.value) handles.new.items ≡ streams.items) }
 {
-    let mut passes = passes.into_iter();
-    let mut tickets = tickets.into_iter();
+    let mut workers = workers.into_iter();
     for stream in streams {
-        let Some(pass) = passes.next() else {
-            unreachable!()
-        };
-        let Some(end) = tickets.next() else {
+        let Some(worker) = workers.next() else {
             unreachable!()
         };
         let handle = start(
             rt,
             alloc,
             scope,
-            torrent.clone()?,
-            desk,
-            pass,
-            end,
+            commons.torrent()?,
+            commons,
+            worker,
             stream,
             seed,
             depth,

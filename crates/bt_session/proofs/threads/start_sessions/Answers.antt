@@ -11,17 +11,15 @@ loop-stream-preserved g c =
     let hs = c.loop-stream.handles.items in
     let hs' = c.push_reserved.new.self.items in
     let h = c.in_ok-handle.handle in
-    let same : c.in_ok-clone.field-0.value ≡ c.args.torrent.now.value = search rules in
     record {
-      terms = all_grown (λ h. terms_of h.promise.torrent.value.value h.promise.depth ≡ terms_of c.args.torrent.now.value c.args.depth) hs hs' h
-          c.push_reserved.ensures.items (made.terms ∙ ap (λ (t : Metainfo). terms_of t c.args.depth) same) was.terms;
+      terms = all_grown (λ h. terms_of h.promise.torrent.value.value h.promise.depth ≡ terms_of c.args.commons.now c.args.depth) hs hs' h
+          c.push_reserved.ensures.items (made.terms ∙ ap (λ (t : Metainfo). terms_of t c.args.depth) c.in_ok-torrent.ensures) was.terms;
       seeds = all_grown (λ h. h.promise.seed ≡ c.args.seed) hs hs' h c.push_reserved.ensures.items made.seed was.seeds;
-      passes = grown (λ h. h.promise.pass.value) hs hs' h c.in-Some-next.pass _ _ _
-          c.push_reserved.ensures.items c.in-Some-next.ensures.items made.pass was.passes;
+      workers = grown (λ h. h.promise.worker.value) hs hs' h c.in-Some-next.worker _ _ _
+          c.push_reserved.ensures.items c.in-Some-next.ensures.items made.worker was.workers;
       streams = grown (λ h. h.promise.stream.value) hs hs' h c.in-Some.stream _ _ _
           c.push_reserved.ensures.items c.in-Some.ensures.steps.0 made.stream was.streams;
       room = omega (arith, was.room, c.in-Some.ensures.steps.1, c.push_reserved.ensures.len, c.push_reserved.ensures.capacity);
       few = omega (arith, was.few, c.in-Some.ensures.steps.1, c.push_reserved.ensures.len);
       same = search rules;
-      ends = search rules;
     }

@@ -1,0 +1,159 @@
+-- The seats of a new board, and the seat that all are joined to.
+use Rattle.std.proofs.Common.{◌≡◌, ◌<◌, ◌≤◌, ◌+◌, ℕ, Bool, true, false, List, [], ◌∷◌, ◌++◌, length, map, get_or, Option, Some, refl, sym, ap, subst, ◌∙◌, inl, inr, ⊎_elim, arith, append_assoc}
+use Rattle.std.proofs.lemmas.List.{append-nil, map-append}
+use Rattle.std.proofs.lemmas.List.Elements.{All-append, All-cons}
+use Rattle.std.proofs.lemmas.List.FromFn.{get_or-map-range_with_len, length-map-range_with_len}
+use Rattle.std.specs.List.{All, range_with_len}
+use Rattle.atomic_table.specs.Seated.{TableId}
+use Rattle.bt_board.proofs.BitRows.{none_set}
+use Rattle.bt_board.proofs.Knowing.{none_seen, not_given, seen_decides}
+use Rattle.bt_board.proofs.Lists.{has_back, has_front}
+use Rattle.bt_board.specs.Seats.{BoardState, SeatState, newcomer}
+use Rattle.bt_board.specs.Story.{Has, Seen, StandsFor, both, fresh}
+use Rattle.bt_board.specs.declared.view.Load.{Load}
+use Rattle.bt_board.specs.declared.view.Mark.{Mark}
+use Rattle.bt_board.specs.declared.view.View.{View}
+use Rattle.bt_check.specs.Queues.{Queue, PassState as TicketState}
+use Rattle.bt_history.specs.History.{History}
+use Rattle.bt_history.specs.Pieces.{had}
+use Rattle.bt_history.specs.Setting.{Setting}
+use Rattle.bt_meta.specs.Layout.{Layout, piece_count}
+use Rattle.bt_session.specs.Workers.{AreNumbered, Belongs, IsFresh, IsNewSeat, StandInOrder, Takes, WorkerState, knows}
+use Rattle.bt_shared.specs.Gathering.{AreHad}
+use Rattle.bt_shared.specs.Passes as passes
+use Rattle.bt_shared.specs.Passes.{PassState}
+
+-- ---- a new board's
+
+is_new : (board : BoardState) (number : ℕ) → IsNewSeat (Some board.table) number (newcomer board number)
+is_new board number = record {
+  board_is = refl;
+  own = refl;
+  seen = λ setting piece. none_seen (piece_count setting.torrent) (fresh number) (λ p seen. ⊎_elim (λ m. m) (λ l. l) seen) piece;
+  told = λ piece. not_given _ piece (none_set _ piece);
+}
+
+module _ (board : BoardState) (n : ℕ) (seats : List SeatState) (is : seats ≡ map (newcomer board) (range_with_len 0 n)) where
+  pub seats_count : length seats ≡ n
+  seats_count = ap length is ∙ length-map-range_with_len (newcomer board) 0 n
+
+  pub are_new : AreNumbered (IsNewSeat (Some board.table)) 0 seats
+  are_new i any below =
+      subst (IsNewSeat (Some board.table) (0 + i))
+      (sym (ap (λ (l : List SeatState). get_or l i any) is
+      ∙ get_or-map-range_with_len (newcomer board) 0 n i (0 + i) any (omega (arith, below, seats_count)) refl))
+      (is_new board (0 + i))
+
+-- a new worker of a new seat
+pub belongs : (board : Option TableId) (queue : Option Queue) (number : ℕ) (pass : PassState) (seat : SeatState) (tickets : TicketState) →
+    pass ≡ passes.newcomer number → IsNewSeat board number seat → queue ≡ Some tickets.queue →
+    Belongs board queue (record { pass = pass; seat = seat; tickets = tickets })
+belongs board queue number pass seat tickets is new queue_is = record {
+  seat = new.board_is;
+  own = new.own ∙ ap (λ (p : PassState). p.worker ∷ []) (sym is);
+  tickets = queue_is;
+}
+
+pub is_fresh : (setting : Setting) (board : Option TableId) (number : ℕ) (pass : PassState) (seat : SeatState) (tickets : TicketState) →
+    pass ≡ passes.newcomer number → IsNewSeat board number seat → IsFresh setting number (record { pass = pass; seat = seat; tickets = tickets })
+is_fresh setting board number pass seat tickets is new = record { pass = is; seen = new.seen setting; told = new.told }
+
+-- ---- joined seats
+
+-- what either has seen
+seen_left : (v w : View) (p : ℕ) → Seen v p → Seen (both v w) p
+seen_left v w p seen =
+    ⊎_elim (λ m. inl (has_front (λ (x : Mark). x.piece ≡ p) v.marks w.marks m)) (λ l. inr (has_front _ v.loads w.loads l)) seen
+
+seen_right : (v w : View) (p : ℕ) → Seen w p → Seen (both v w) p
+seen_right v w p seen =
+    ⊎_elim (λ m. inl (has_back (λ (x : Mark). x.piece ≡ p) v.marks w.marks m)) (λ l. inr (has_back _ v.loads w.loads l)) seen
+
+abbrev own : WorkerState → Type 0
+own worker = worker.seat.view.seats ≡ worker.pass.worker ∷ []
+
+takes_own : (worker : WorkerState) → own worker → Takes worker.seat.view worker
+takes_own worker is = record {
+  stands = subst (λ (seats : List ℕ). Has (λ s. s ≡ worker.pass.worker) seats) (sym is) (inl refl);
+  seen = λ piece seen. seen;
+}
+
+takes_left : (v w : View) (worker : WorkerState) → Takes v worker → Takes (both v w) worker
+takes_left v w worker takes = record {
+  stands = has_front (λ s. s ≡ worker.pass.worker) v.seats w.seats takes.stands;
+  seen = λ piece seen. seen_left v w piece (takes.seen piece seen);
+}
+
+takes_right : (v w : View) (worker : WorkerState) → Takes w worker → Takes (both v w) worker
+takes_right v w worker takes = record {
+  stands = has_back (λ s. s ≡ worker.pass.worker) v.seats w.seats takes.stands;
+  seen = λ piece seen. seen_right v w piece (takes.seen piece seen);
+}
+
+-- The first of the workers were parted into these passes and this seat
+pub record Joins (table : TableId) (workers rest : List WorkerState) (passes : List PassState) (all : SeatState) : Type 0 where
+  pub done : List WorkerState
+  pub split : done ++ rest ≡ workers
+  pub passes_are : passes ≡ map (λ w. w.pass) done
+  pub takes : All (Takes all.view) done
+  pub table_is : all.table ≡ table
+
+one : (P : WorkerState → Type 0) (w : WorkerState) → P w → All P (w ∷ [])
+one P w is = All-cons P w [] is (λ i d below. absurd (omega (arith, below)))
+
+pub joins_first : (table : TableId) (workers rest : List WorkerState) (w : WorkerState) (passes : List PassState) → workers ≡ w ∷ rest → own w →
+    passes ≡ w.pass ∷ [] → w.seat.table ≡ table → Joins table workers rest passes w.seat
+joins_first table workers rest w passes is mine passes_are table_is = record {
+  done = w ∷ [];
+  split = sym is;
+  passes_are = passes_are;
+  takes = one (Takes w.seat.view) w (takes_own w mine);
+  table_is = table_is;
+}
+
+pub joins_more : (table : TableId) (workers rest rest' : List WorkerState) (w : WorkerState) (passes passes' : List PassState) (all all' : SeatState) →
+    Joins table workers rest passes all → rest ≡ w ∷ rest' → own w → passes' ≡ passes ++ w.pass ∷ [] →
+    all'.view ≡ both all.view w.seat.view → all'.table ≡ table → Joins table workers rest' passes' all'
+joins_more table workers rest rest' w passes passes' all all' was is mine more view table_is = record {
+  done = was.done ++ w ∷ [];
+  split = append_assoc was.done (w ∷ []) rest' ∙ (ap (λ (l : List WorkerState). was.done ++ l) (sym is) ∙ was.split);
+  passes_are = more ∙ (ap (λ (l : List PassState). l ++ w.pass ∷ []) was.passes_are ∙ sym (map-append (λ w. w.pass) was.done (w ∷ [])));
+  takes = subst (λ (v : View). All (Takes v) (was.done ++ w ∷ [])) (sym view)
+      (All-append (Takes (both all.view w.seat.view)) was.done (w ∷ [])
+      (λ i d below. takes_left all.view w.seat.view (get_or was.done i d) (was.takes i d below))
+      (one (Takes (both all.view w.seat.view)) w (takes_right all.view w.seat.view w (takes_own w mine))));
+  table_is = table_is;
+}
+
+nothing_left : {X : Type 0} (xs : List X) → length xs ≡ 0 → xs ≡ []
+nothing_left [] none = refl
+nothing_left (x ∷ xs) none = absurd (omega (arith, none))
+
+pub all_taken : {table : TableId} {workers rest : List WorkerState} {passes : List PassState} {all : SeatState} → Joins table workers rest passes all →
+    length rest ≡ 0 → All (Takes all.view) workers
+all_taken {table} {workers} {rest} {passes} {all} was none =
+    let is : was.done ≡ workers = sym (append-nil was.done) ∙ (ap (λ (l : List WorkerState). was.done ++ l) (sym (nothing_left rest none)) ∙ was.split) in
+    subst (All (Takes all.view)) is was.takes
+
+-- ---- all seats in one
+
+some_of : {X : Type 0} (xs : List X) → 1 ≤ length xs → X
+some_of [] some = absurd (omega (arith, some))
+some_of (x ∷ xs) some = x
+
+module _ (workers : List WorkerState) (all : View) (takes : All (Takes all) workers) where
+  -- it stands for each seat
+  pub all_stand : (n : ℕ) → length workers ≡ n → 1 ≤ length workers → StandInOrder workers → (s : ℕ) → s < n → StandsFor all s
+  all_stand n count some order s below =
+      let any = some_of workers some in
+      let less : s < length workers = omega (arith, below, count) in
+      let at : (get_or workers s any).pass.worker ≡ s = order s any less ∙ omega arith in
+      subst (StandsFor all) at (takes s any less).stands
+
+  -- what a worker's seat has seen is had
+  pub all_had : (setting : Setting) (h : History) (bits : List Bool) → length bits ≡ piece_count setting.torrent →
+      ((p : ℕ) → Seen all p → get_or bits p false ≡ true) → AreHad bits h →
+      All (λ w. (piece : ℕ) → knows setting w.seat piece ≡ true → had h piece ≡ true) workers
+  all_had setting h bits wide seen are i d below piece known =
+      let knew = (seen_decides (piece_count setting.torrent) (get_or workers i d).seat.view piece).0 known in
+      sym (are piece (omega (arith, knew.0, wide))) ∙ seen piece ((takes i d below).seen piece knew.1)

@@ -1,0 +1,53 @@
+use Rattle.std.proofs.Common.{◌≡◌, ◌+◌, ℕ, List, [], ◌∷◌, ◌++◌, length, map, refl, sym, ap, subst, ◌∙◌, rules}
+use Rattle.std.proofs.lemmas.List.{length-map, take-append-drop}
+use Rattle.bt_meta.specs.Layout.{piece_count}
+use Rattle.bt_peer.specs.Serial.{stream_record}
+use Rattle.bt_peer.specs.Terms.{terms_of}
+use Rattle.bt_session.proofs.Worked.{Parted, all_check, all_play, last_check}
+use Rattle.bt_session.specs.Swarms.{ChecksLast}
+use Rattle.bt_session.specs.Workers.{WorkerState}
+use Rattle.bt_shared.specs.Passes.{PassState}
+use Rattle.bt_session.proofs.work.work.Goals as goal
+
+parted : (g : _) (c : goal.After-push_reserved g) → Parted (length c.args.streams.items) c.args.checkers c.args.workers.items c.push_reserved.new.self.items
+    c.split_off.new.self.items c.in_ok-checkers.checkers.items (map (λ p. p.worker) c.in_ok-joined.joined.played.items)
+    (map (λ p. p.worker) c.in_ok-joined.joined.checked.items) c.in-Some.last c.last_checks-unfinished.new.worker
+parted g c =
+    let before = c.pop.new.self.items in
+    let sessions = c.split_off.new.self.items in
+    let checkers = c.in_ok-checkers.checkers.items in
+    let played = map (λ p. p.worker) c.in_ok-joined.joined.played.items in
+    let checked = map (λ p. p.worker) c.in_ok-joined.joined.checked.items in
+    let last = c.last_checks-unfinished.new.worker in
+    let parts : before ≡ sessions ++ checkers = rw (c.in_ok-checkers.ensures.items, c.in_ok-checkers.ensures.tail) (sym (take-append-drop _ before)) in
+    let many : length sessions ≡ length c.args.streams.items = search rules in
+    let many_checkers : length checkers ≡ c.args.checkers = search rules in
+    record {
+      before = c.in-Some.ensures.items ∙ ap (λ (l : List WorkerState). l ++ c.in-Some.last ∷ []) parts;
+      after = c.push_reserved.ensures.items
+          ∙ ap (λ (ws : List WorkerState). ws ++ last ∷ [])
+          (c.part_checked-given_up.ensures.workers ∙ ap (λ (ws : List WorkerState). ws ++ checked) c.part-came_back.ensures.workers);
+      many = many;
+      many_checkers = many_checkers;
+      many_played = length-map c.in_ok-joined.joined.played.items (λ p. p.worker) ∙ c.in_ok-joined.ensures.count;
+      many_checked = length-map c.in_ok-joined.joined.checked.items (λ p. p.worker) ∙ (c.in_ok-joined.ensures.checkers ∙ many_checkers);
+    }
+
+pub returns-clause-plays : goal.returns-clause-plays
+returns-clause-plays g c =
+    rw (c.part-came_back.ensures.ends, c.part-came_back.ensures.streams)
+    (all_play (parted g c)
+    (stream_record g.R.Source.left g.R.Source.ended g.R.Source.failed g.R.Source.asked g.W.Sink.written g.W.Sink.failed)
+    (terms_of c.args.commons.now c.args.depth) g.L.DeskLedger.setting c.args.seed c.args.streams.items
+    (map (λ p. p.stream) c.in_ok-joined.joined.played.items) (map (λ p. p.end) c.in_ok-joined.joined.played.items) refl
+    c.in_ok-joined.ensures.plays)
+
+pub returns-clause-checks : goal.returns-clause-checks
+returns-clause-checks g c = all_check (parted g c) c.in_ok-joined.ensures.checks
+
+pub returns-clause-last : goal.returns-clause-last
+returns-clause-last g c =
+    let pieces = piece_count c.args.commons.now.layout in
+    last_check (parted g c) pieces
+    (subst (λ (p : PassState). ChecksLast p c.last_checks-unfinished.new.worker.pass pieces) c.in_ok-joined.ensures.last.0
+    c.last_checks-unfinished.ensures)
