@@ -1,3 +1,4 @@
+mod haves;
 mod serial;
 mod settings;
 mod sips;

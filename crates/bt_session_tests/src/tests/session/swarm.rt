@@ -64,9 +64,8 @@ fn calls(alloc: Global, log: &[Mark]) -> Result<String, AllocError> {
     Ok(said)
 }
 
-/// What the session of the worker with this digit writes to a peer that gives this piece of three bytes: its handshake, interested, the
-/// request. Not interested comes behind these, where the piece was checked before its next turn.
-fn said(alloc: Global, worker: u8, piece: u8) -> Result<Vec<u8>, Fail> {
+/// The handshake of the session of the worker with this digit.
+fn hello(worker: u8) -> [u8; 68] {
     let mut peer_id = *b"-PP0001-000000000000";
     peer_id[19] = worker;
     let hello = Hello {
@@ -74,11 +73,13 @@ fn said(alloc: Global, worker: u8, piece: u8) -> Result<Vec<u8>, Fail> {
         infohash: [1; 20],
         peer_id,
     };
-    let mut bytes = Vec::from_slice(alloc, &hello.write())?;
-    bytes.extend_from_slice(&[
-        0, 0, 0, 1, 2, 0, 0, 0, 13, 6, 0, 0, 0, piece, 0, 0, 0, 0, 0, 0, 0, 3,
-    ])?;
-    Ok(bytes)
+    hello.write()
+}
+
+/// Whether the bytes have the request of this piece of three bytes.
+fn asks_for(bytes: &[u8], piece: u8) -> bool {
+    let request = [0, 0, 0, 13, 6, 0, 0, 0, piece, 0, 0, 0, 0, 0, 0, 0, 3];
+    bytes.windows(17).any(|window| window == request.as_slice())
 }
 
 #[test]
@@ -137,8 +138,10 @@ fn streams_come_back_in_order(rt: HostRuntime) -> Result<(), Fail> {
         written.push(stream.writer.into_inner())?;
     }
     assert_eq!(rt; written.len(), 3);
-    assert!(rt; written[0].starts_with(said(rt.alloc(), b'0', 0)?.as_slice()));
-    assert!(rt; written[1].starts_with(said(rt.alloc(), b'1', 1)?.as_slice()));
+    for (written, (worker, piece)) in written.iter().zip([(b'0', 0), (b'1', 1)]) {
+        assert!(rt; written.starts_with(hello(worker).as_slice()));
+        assert!(rt; asks_for(written, piece));
+    }
     assert_eq!(rt; written[2].len(), 68);
     Ok(())
 }

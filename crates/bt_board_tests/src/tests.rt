@@ -1,0 +1,174 @@
+ghost use Rattle.std.specs.Prelude.{◌≡◌, IfOk, IfSome};
+ghost use Rattle.bt_check.specs.Checked.{Fits};
+
+use bt_board::{Board, BoardSeat};
+use bt_check::{Job, Proven};
+use bt_meta::Torrent;
+use bytes::Bytes;
+use std::alloc::{AllocError, Global};
+use std::process::Abort;
+use std::sync::atomic::{AtomicBool, Ordering};
+use std::sync::{Arc, Wait};
+use std::test::Fail;
+use std::thread;
+use std::thread::Threads;
+
+/// The SHA-1 of `abc` (FIPS 180-4, the first worked example of SHA-1).
+const ABC: [u8; 20] = [
+    0xa9, 0x99, 0x3e, 0x36, 0x47, 0x06, 0x81, 0x6a, 0xba, 0x3e, 0x25, 0x71, 0x78, 0x50, 0xc2, 0x6c,
+    0x9c, 0xd0, 0xd8, 0x9d,
+];
+
+/// The SHA-1 of `a`, by another program.
+const A: [u8; 20] = [
+    0x86, 0xf7, 0xe4, 0x37, 0xfa, 0xa5, 0xa7, 0xfc, 0xe1, 0x5d, 0x1d, 0xdc, 0xb9, 0xea, 0xea, 0xea,
+    0x37, 0x76, 0x67, 0xb8,
+];
+
+/// The proof that the piece is the byte `a`; none where it isn't.
+fn proven(alloc: Global, torrent: &Torrent, piece: u32) -> Result<Option<Proven>, AllocError>
+    ensures { IfOk result (λ proven. IfSome proven (λ proven. Fits torrent.now.layout proven)) }
+{
+    let blocks = vec![in alloc; Bytes::from_static(b"a")]?;
+    let verdict = Arc::new(alloc, Job { piece, blocks }.hash())?;
+    Ok(Proven::of(verdict, torrent).ok())
+}
+
+/// What is wrong with what a thread saw.
+#[derive(Clone, Copy, Debug, PartialEq, Eq)]
+enum Wrong {
+    Memory,
+    NotProven,
+    NoSuchPiece,
+    /// A piece was given twice, or before it was marked.
+    Given,
+    Missing,
+}
+
+impl From<AllocError> for Wrong {
+    fn from(_e: AllocError) -> Wrong {
+        Wrong::Memory
+    }
+}
+
+/// Three pieces, the last of which is marked by one seat and seen by the other.
+#[test]
+fn what_one_marks_the_other_sees(rt: HostRuntime) -> Result<(), Fail> {
+    let hashes = vec![in rt.alloc(); ABC, ABC, A]?;
+    let torrent = Arc::new(rt.alloc(), Torrent::of_parts(3, 7, hashes, [0; 20])?)?;
+    let (board, mut seats) = Board::open(rt.alloc(), torrent.clone()?, 2)?;
+    assert_eq!(rt; seats.len(), 2);
+    let mut second = seats.remove(1);
+    let mut first = seats.remove(0);
+    let Some(last) = proven(rt.alloc(), &torrent, 2)? else {
+        return Err(Fail::from("the last piece is an a"));
+    };
+    board.mark(&mut first, last);
+    assert!(rt; board.has(&mut second, 2));
+    assert!(rt; !board.has(&mut second, 0));
+    assert_eq!(rt; board.news(&mut second), Some(2));
+    assert_eq!(rt; board.news(&mut second), None);
+    let all = board.join(first, second);
+    let Ok(bits) = board.close(rt.alloc(), all) else {
+        return Err(Fail::from("there is memory"));
+    };
+    assert_eq!(rt; bits.to_wire(rt.alloc())?.as_slice(), [0x20].as_slice());
+    Ok(())
+}
+
+/// How many pieces the two threads share.
+const MANY: u32 = 10_000;
+
+/// Marks each piece, in an order that jumps to and fro, and notes it before.
+fn marks_many(
+    alloc: Global,
+    torrent: &Torrent,
+    board: &Board,
+    mut seat: BoardSeat,
+    noted: &[AtomicBool],
+) -> Result<(), Wrong>
+    requires board { seat.table ≡ board.now.table }
+    requires torrent { board.now.torrent ≡ torrent.now.layout }
+{
+    let mut piece = 0;
+    for _ in 0..MANY {
+        // A prime that doesn't divide their number, so that each piece comes once.
+        piece = (piece + 7_919) % MANY;
+        let Some(proven) = proven(alloc, torrent, piece)? else {
+            return Err(Wrong::NotProven);
+        };
+        let Some(flag) = noted.get(piece as usize) else {
+            return Err(Wrong::NoSuchPiece);
+        };
+        flag.store(true, Ordering::SeqCst);
+        board.mark(&mut seat, proven);
+    }
+    Ok(())
+}
+
+/// Takes the news until each piece was given. An error where one comes twice, or before it was noted, or where they don't all come.
+fn hears_many(
+    alloc: Global,
+    board: &Board,
+    mut seat: BoardSeat,
+    noted: &[AtomicBool],
+) -> Result<(), Wrong>
+    requires { seat.table ≡ board.now.table }
+{
+    let mut heard = Vec::from_elem(alloc, false, MANY as usize)?;
+    let mut count = 0;
+    for _ in 0..100_000_000 {
+        if count == MANY {
+            return Ok(());
+        }
+        let Some(piece) = board.news(&mut seat) else {
+            thread::yield_now();
+            continue;
+        };
+        let (Some(flag), Some(before)) = (noted.get(piece as usize), heard.get_mut(piece as usize))
+        else {
+            return Err(Wrong::NoSuchPiece);
+        };
+        if *before || !flag.load(Ordering::SeqCst) {
+            return Err(Wrong::Given);
+        }
+        *before = true;
+        count += 1;
+    }
+    Err(Wrong::Missing)
+}
+
+fn in_two_threads<R: Threads + Wait + Abort + Sync>(rt: &R, alloc: Global) -> Result<(), Fail> {
+    let hashes = Vec::from_elem(alloc, A, MANY as usize)?;
+    let torrent = Arc::new(
+        alloc,
+        Torrent::of_parts(1, u64::from(MANY), hashes, [0; 20])?,
+    )?;
+    let mut noted = Vec::with_capacity(alloc, MANY as usize)?;
+    for _ in 0..MANY {
+        noted.push(AtomicBool::new(false))?;
+    }
+    let (board, mut seats) = Board::open(alloc, torrent.clone()?, 2)?;
+    assert_eq!(rt; seats.len(), 2);
+    let second = seats.remove(1);
+    let first = seats.remove(0);
+    let (marked, heard) = thread::join(
+        rt,
+        || -> Result<(), Wrong>
+            requires board { first.table ≡ board.table }
+            requires torrent { board.torrent ≡ torrent.value.layout }
+        { marks_many(alloc, &torrent, &board, first, noted.as_slice()) },
+        || -> Result<(), Wrong>
+            requires { second.table ≡ board.table }
+        { hears_many(alloc, &board, second, noted.as_slice()) },
+    );
+    assert_eq!(rt; marked, Ok(()));
+    assert_eq!(rt; heard, Ok(()));
+    Ok(())
+}
+
+/// One marks ten thousand pieces while the other takes the news of them: each is given once, and none that wasn't marked.
+#[test]
+fn each_piece_is_given_once(rt: HostRuntime) -> Result<(), Fail> {
+    in_two_threads(&rt, rt.alloc())
+}
