@@ -90,10 +90,9 @@ fn marks_many(
     requires board { seat.table ≡ board.now.table }
     requires torrent { board.now.torrent ≡ torrent.now.layout }
 {
-    let mut piece = 0;
-    for _ in 0..MANY {
+    for step in 0..MANY {
         // A prime that doesn't divide their number, so that each piece comes once.
-        piece = (piece + 7_919) % MANY;
+        let piece = step * 7_919 % MANY;
         let Some(proven) = proven(alloc, torrent, piece)? else {
             return Err(Wrong::NotProven);
         };
@@ -106,6 +105,9 @@ fn marks_many(
     Ok(())
 }
 
+/// How often the news is taken before the other thread is given up.
+const TRIES: u64 = 1_000_000_000;
+
 /// Takes the news until each piece was given. An error where one comes twice, or before it was noted, or where they don't all come.
 fn hears_many(
     alloc: Global,
@@ -116,8 +118,8 @@ fn hears_many(
     requires { seat.table ≡ board.now.table }
 {
     let mut heard = Vec::from_elem(alloc, false, MANY as usize)?;
-    let mut count = 0;
-    for _ in 0..100_000_000 {
+    let mut count = 0u32;
+    for _ in 0..TRIES {
         if count == MANY {
             return Ok(());
         }
@@ -133,7 +135,7 @@ fn hears_many(
             return Err(Wrong::Given);
         }
         *before = true;
-        count += 1;
+        count = count.saturating_add(1);
     }
     Err(Wrong::Missing)
 }

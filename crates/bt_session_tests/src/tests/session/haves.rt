@@ -41,18 +41,16 @@ struct Patient<'a> {
     ended: bool,
 }
 
-impl Patient<'_> {
-    /// A keepalive, after others had time to run; or the end.
-    fn wait(&mut self) -> &'static [u8] {
-        if self.keepalives == 0 || self.told.load(Ordering::SeqCst) {
-            return &[];
-        }
-        self.keepalives -= 1;
-        for _ in 0..100 {
-            thread::yield_now();
-        }
-        &[0; 4]
+/// A keepalive, after others had time to run; or the end.
+fn keepalive(left: &mut u32, told: &AtomicBool) -> &'static [u8] {
+    if *left == 0 || told.load(Ordering::SeqCst) {
+        return &[];
     }
+    *left -= 1;
+    for _ in 0..100 {
+        thread::yield_now();
+    }
+    &[0; 4]
 }
 
 impl Source for Patient<'_> {
@@ -72,7 +70,7 @@ impl Source for Patient<'_> {
             return Ok(0);
         }
         if self.rest.is_empty() {
-            self.rest = self.wait();
+            self.rest = keepalive(&mut self.keepalives, self.told);
         }
         let size = self.rest.len().min(room.len());
         let (sip, rest) = self.rest.split_at(size);
