@@ -1,0 +1,201 @@
+#!/usr/bin/env python3
+"""Feeds the built program mutated recordings, metainfo files and random scripts.
+
+    tools/fuzz.py [INPUTS [SEED]]
+
+10,000 inputs and the seed 1 where they aren't said. Each run has to end by a status of its command's list (docs/NUMBERS.md), without a
+signal, and a run of recordings has to find its journal sound. An input that goes wrong is kept in the folder that is printed.
+"""
+
+import concurrent.futures
+import os
+import random
+import shutil
+import struct
+import subprocess
+import sys
+import tempfile
+import time
+
+ROOT = os.path.dirname(os.path.dirname(os.path.abspath(__file__)))
+PROGRAM = os.path.join(ROOT, "crates/piecepick/out/piecepick")
+RUNS = os.path.join(ROOT, "crates/bt_runs/data")
+SAMPLES = os.path.join(ROOT, "crates/bt_samples/data")
+RECORDINGS = [
+    (SAMPLES, "single-file.torrent", ["single-file-s0-transmission.bin", "single-file-s1-aria2.bin"]),
+    (SAMPLES, "multi-file.torrent", ["multi-file-s0-libtorrent-partial.bin", "multi-file-s1-libtorrent-partial.bin", "multi-file-s2-rtorrent.bin"]),
+    (RUNS, "one-piece.torrent", ["one-piece.stream"]),
+    (RUNS, "three-pieces.torrent", ["three-pieces-0.stream", "three-pieces-1.stream"]),
+]
+METAINFO = [(RUNS, "two-files.torrent"), (RUNS, "file-tree.torrent"), (SAMPLES, "single-file.torrent"), (SAMPLES, "multi-file.torrent")]
+EDGES = [0, 1, 2, 4, 5, 9, 13, 16383, 16384, 16385, 131072, 2**31 - 1, 2**31, 2**32 - 1]
+HELLO = 68
+
+
+def load(folder, name):
+    with open(os.path.join(folder, name), "rb") as file:
+        return file.read()
+
+
+def frames(stream):
+    """The handshake, then the messages with their lengths."""
+    parts, at = [stream[:HELLO]], HELLO
+    while at + 4 <= len(stream):
+        end = at + 4 + struct.unpack(">I", stream[at:at + 4])[0]
+        parts.append(stream[at:end])
+        at = end
+    return parts
+
+
+def made_frame(rng):
+    """A message by the protocol's form, with numbers that a hostile peer would choose."""
+    number = rng.choice([0, 1, 2, 3, 4, 5, 6, 7, 8, 9, 20, 255])
+    body = b"".join(struct.pack(">I", rng.choice(EDGES)) for _ in range(rng.randrange(4)))
+    body += rng.randbytes(rng.choice([0, 0, 1, 3, 40]))
+    length = rng.choice([1 + len(body)] * 4 + EDGES)
+    return struct.pack(">IB", length, number) + body
+
+
+def mutate_frames(rng, stream):
+    parts = frames(stream)
+    for _ in range(rng.randrange(1, 6)):
+        at = rng.randrange(len(parts))
+        what = rng.randrange(6)
+        if what == 0:
+            del parts[at]
+        elif what == 1:
+            parts.insert(at, rng.choice(parts) if parts else b"")
+        elif what == 2:
+            parts.insert(at, made_frame(rng))
+        elif what == 3:
+            other = rng.randrange(len(parts))
+            parts[at], parts[other] = parts[other], parts[at]
+        elif what == 4:
+            parts = parts[:at + 1]
+        else:
+            parts[at] = mutate_bytes(rng, parts[at])
+        if not parts:
+            parts = [b""]
+    return b"".join(parts)
+
+
+def mutate_bytes(rng, text):
+    text = bytearray(text)
+    for _ in range(rng.randrange(1, 5)):
+        at = rng.randrange(len(text) + 1)
+        what = rng.randrange(4)
+        if what == 0 and at < len(text):
+            text[at] = rng.randrange(256)
+        elif what == 1:
+            del text[at:at + rng.choice([1, 1, 2, 17])]
+        elif what == 2:
+            text[at:at] = rng.randbytes(rng.choice([1, 1, 2, 17]))
+        else:
+            text[at:at] = text[at:at + rng.choice([1, 5, 30])]
+    return bytes(text)
+
+
+def recording(rng, folder):
+    where, metainfo, names = rng.choice(RECORDINGS)
+    words = [rng.choice(["serial", "run"]), os.path.join(where, metainfo)]
+    for i, name in enumerate(names):
+        stream = load(where, name)
+        if rng.randrange(4):
+            stream = rng.choice([mutate_frames, mutate_frames, mutate_bytes])(rng, stream)
+        path = os.path.join(folder, f"stream-{i}")
+        with open(path, "wb") as file:
+            file.write(stream)
+        words.append(path)
+    words += ["--seed", str(rng.randrange(2**64)), "--depth", str(rng.randrange(1, 65))]
+    if words[0] == "run":
+        words += ["--checkers", str(rng.randrange(1, 9))]
+    return words, b""
+
+
+def metainfo(rng, folder):
+    where, name = rng.choice(METAINFO)
+    path = os.path.join(folder, "metainfo")
+    with open(path, "wb") as file:
+        file.write(mutate_bytes(rng, load(where, name)))
+    return ["info", path], b""
+
+
+def number(rng):
+    return str(rng.choice(EDGES + [rng.randrange(4)] * 20 + [-1, 2**64]))
+
+
+def line(rng):
+    worker = str(rng.choice([0, 0, 0, 1, 1, 2, 3]))
+    return worker + " " + rng.choice([
+        lambda: "join", lambda: "leave", lambda: "choke", lambda: "unchoke",
+        lambda: "bits " + rng.choice(["e0", "80", "00", "20", "c0", "ff", "e000", ""]),
+        lambda: "have " + number(rng), lambda: "next " + str(rng.randrange(2**64)), lambda: "next " + number(rng),
+        lambda: f"block {number(rng)} {number(rng)} " + rng.choice(["616263", "616263", "61", "616264", "", "6"]),
+        lambda: "settle " + number(rng), lambda: "want " + rng.choice(["e0", "40", "00", "c0", "e1"]),
+    ])()
+
+
+def script(rng, folder):
+    head = load(os.path.join(ROOT, "crates/piecepick"), "stdin").split(b"\n")[0]
+    lines = [head[:10] + str(rng.randrange(1, 4)).encode() + head[11:] if head.startswith(b"torrent 3 7 ") else head]
+    if rng.randrange(3) == 0:
+        lines.append(f"rules {rng.choice([1, 2, 5, 64, 65])} {rng.choice([0, 1, 3, 4])}".encode())
+    lines += [line(rng).encode() for _ in range(rng.randrange(60))]
+    text = b"\n".join(lines) + b"\n"
+    return ["script"], mutate_bytes(rng, text) if rng.randrange(4) == 0 else text
+
+
+def judge(words, done):
+    status, out, err = done.returncode, done.stdout, done.stderr
+    if status < 0:
+        return f"signal {-status}"
+    if words[0] in ("serial", "run"):
+        if status not in (0, 1):
+            return f"status {status}"
+        return None if b"journal ok\n" in out else "no sound journal"
+    if words[0] == "info":
+        if status == 3 and err.startswith(b"metainfo fault ") and out == b"":
+            return None
+        return None if status == 0 and err == b"" else f"status {status}"
+    if status == 2 and err.startswith(b"line "):
+        return None
+    return None if status == 0 and err == b"" else f"status {status}"
+
+
+def try_one(task):
+    index, seed = task
+    rng = random.Random(f"{seed} {index}")
+    folder = tempfile.mkdtemp(prefix="fuzz-")
+    words, stdin = rng.choice([recording, recording, metainfo, script])(rng, folder)
+    try:
+        done = subprocess.run([PROGRAM, *words], input=stdin, capture_output=True, timeout=60)
+        fault = judge(words, done)
+        status = done.returncode
+    except subprocess.TimeoutExpired:
+        fault, status = "no end within a minute", None
+    if fault:
+        with open(os.path.join(folder, "command"), "wb") as file:
+            file.write(" ".join(words).encode() + b"\n" + stdin)
+        return index, words[0], status, f"{fault}: {folder}"
+    shutil.rmtree(folder)
+    return index, words[0], status, None
+
+
+def main():
+    inputs = int(sys.argv[1]) if len(sys.argv) > 1 else 10_000
+    seed = int(sys.argv[2]) if len(sys.argv) > 2 else 1
+    begun, counts, wrong = time.time(), {}, 0
+    with concurrent.futures.ThreadPoolExecutor(os.cpu_count()) as pool:
+        for index, command, status, fault in pool.map(try_one, ((i, seed) for i in range(inputs))):
+            counts[command, status] = counts.get((command, status), 0) + 1
+            if fault:
+                wrong += 1
+                print(f"input {index}, {command}: {fault}")
+    for (command, status), count in sorted(counts.items(), key=str):
+        print(f"{command}, status {status}: {count}")
+    print(f"{inputs} inputs in {time.time() - begun:.0f} s, {wrong} of them wrong")
+    return 1 if wrong else 0
+
+
+if __name__ == "__main__":
+    sys.exit(main())
