@@ -17,9 +17,10 @@ use Rattle.bt_peer.specs.Events.{Event, Called}
 use Rattle.bt_peer.specs.Saying.{greeting, says, interest_after}
 use Rattle.bt_peer.specs.Terms.{TermsState, pieces_of}
 use Rattle.bt_peer.specs.Turns.{IsTurn, NoneRefused, TurnsOf, AreTurns}
-use Rattle.bt_peer.specs.Turning.{Surroundings, IsOfTorrent}
+use Rattle.bt_peer.specs.Turning.{Surroundings, AsksForNews, IsOfTorrent}
 use Rattle.bt_peer.specs.Sessions.{SessionState, begun, GoesOn, Ends, FailsWith, IsWhole, NamesTorrent, IsUntouched, TookTurns, Running, IsCutShort}
 use Rattle.std.proofs.KnownBytes.{Appends-trans}
+use Rattle.bt_peer.proofs.Asked.{asked_first, asked_last}
 use Rattle.bt_peer.proofs.Heard.{Consumes-join}
 use Rattle.bt_peer.proofs.Stretches.{says-append, interest_after-append, Gains-join}
 
@@ -107,6 +108,7 @@ so_far_first terms worker out now mid new out' fresh go =
       counted = sym go.messages;
       turned = (turn.events, ([], (turn.turn, turn.accepted, refl, sym (append-nil turn.events))));
       gains = Gains-join out.past mid.past out'.past [] turn.events fresh.gains turn.gains;
+      news = asked_first (pieces_of terms) turn.message out.past mid.past out'.past turn.events fresh.gains turn.gains turn.news;
       wrote = subst (λ (written : Option (List ℕ)). Appends written out'.written said) fresh.written turn.wrote;
       interest = turn.interest;
       terms_are = go.keeps.terms;
@@ -155,6 +157,9 @@ so_far_more terms worker out now mid new out' so_far go =
       turned = TurnsOf-last terms (so_far.first ∷ so_far.messages) so_far.events turn.message turn.events so_far.turned
           (subst (λ (t : TermsState). IsTurn t turn.message turn.events) so_far.terms_are turn.turn) turn.accepted;
       gains = Gains-join out.past mid.past out'.past so_far.events turn.events so_far.gains turn.gains;
+      news = asked_last (pieces_of terms) (so_far.first ∷ so_far.messages) turn.message out.past mid.past out'.past so_far.events turn.events
+          so_far.news turn.gains
+          (subst (λ (t : TermsState). AsksForNews (pieces_of t) turn.message mid.past turn.events out'.past) so_far.terms_are turn.news);
       wrote = subst (Appends out.written out'.written) same
           (Appends-trans out.written mid.written out'.written (hello ++ before) said so_far.wrote wrote);
       interest = turn.interest ∙ ap (λ i. interest_after i turn.events) so_far.interest ∙ sym (interest_after-append false so_far.events turn.events);
@@ -200,6 +205,7 @@ so_far_ends end terms worker out now mid has_ended new out' so_far ends =
       counted = omega (arith, so_far.counted, ends.messages);
       turns = TurnsOf-left terms (so_far.first ∷ so_far.messages) so_far.events so_far.turned;
       gains = Gains-join out.past mid.past out'.past so_far.events last so_far.gains ends.leave.gains;
+      news = record { turns = so_far.events; mid = mid.past; asked = so_far.news; leaves = ends.leave.gains; parts = refl };
       wrote = subst (Appends out.written out'.written) same
           (Appends-trans out.written mid.written out'.written (hello ++ before) [] so_far.wrote ends.leave.wrote);
     }

@@ -1,5 +1,5 @@
 -- How a session goes on standing while others take their turns.
-use Rattle.std.proofs.Common.{◌≡◌, ◌≢◌, ℕ, Bool, false, List, [], ◌++◌, Option, Some, None, Result, Ok, Err, refl, sym, subst, ◌∙◌, inl, inr}
+use Rattle.std.proofs.Common.{◌≡◌, ◌≢◌, ℕ, Bool, false, List, [], ◌∷◌, ◌++◌, Option, Some, None, Result, Ok, Err, refl, sym, subst, ◌∙◌, inl, inr}
 use Rattle.std.proofs.lemmas.List.{append-nil}
 use Rattle.std.specs.Io.KnownBytes.{Appends, Consumes, IsAtEnd}
 use Rattle.bt_picker.specs.Positions.{DeskState}
@@ -14,8 +14,9 @@ use Rattle.bt_peer.specs.Outlets.{WroteFront}
 use Rattle.bt_peer.specs.Serial.{StreamRecord, EndsAs, around, source_of}
 use Rattle.bt_peer.specs.Sessions.{SessionState, FailsWith, IsWhole, IsUntouched, TookTurns, Running}
 use Rattle.bt_peer.specs.Standing.{Standing, StandsBy, ConductBy, Keeps, LeavesOthers}
-use Rattle.bt_peer.specs.Terms.{TermsState}
+use Rattle.bt_peer.specs.Terms.{TermsState, pieces_of}
 use Rattle.bt_peer.specs.Turning.{Surroundings, Departs}
+use Rattle.bt_peer.proofs.Asked.{asked_later}
 use Rattle.bt_peer.proofs.Stretches.{GainsUpTo-join, Gains-join}
 
 -- nothing of a session's own happened, though a piece may have been had meanwhile
@@ -63,6 +64,7 @@ took_later terms worker out now old new later took = record {
   counted = took.counted;
   turned = took.turned;
   gains = gains_later out.past took.events old.past new.past took.gains later.gains;
+  news = asked_later (pieces_of terms) (took.first ∷ took.messages) out.past old.past new.past took.events took.news later.gains;
   wrote = appends_later _ _ _ _ later.written took.wrote;
   interest = took.interest;
   terms_are = took.terms_are;
@@ -93,6 +95,13 @@ whole_later end terms worker out old new later whole = record {
   counted = whole.counted;
   turns = whole.turns;
   gains = gains_later out.past whole.events old.past new.past whole.gains later.gains;
+  news = record {
+    turns = whole.news.turns;
+    mid = whole.news.mid;
+    asked = whole.news.asked;
+    leaves = gains_later whole.news.mid _ old.past new.past whole.news.leaves later.gains;
+    parts = whole.news.parts;
+  };
   wrote = appends_later _ _ _ _ later.written whole.wrote;
 }
 

@@ -15,7 +15,7 @@ use Rattle.bt_peer.specs.Turns.{TurnsOf, AreTurns}
 use Rattle.bt_peer.specs.Saying.{greeting, says, interest_after}
 use Rattle.bt_peer.specs.Outlets.{WroteFront}
 use Rattle.bt_peer.specs.Hearing.{SourceState, most_reads, room_len}
-use Rattle.bt_peer.specs.Turning.{Reading, reading, Surroundings, Start, TakesTurn, TakesLeave, BreaksBy, Departs}
+use Rattle.bt_peer.specs.Turning.{Reading, reading, Surroundings, Start, TakesTurn, TakesLeave, BreaksBy, Departs, EachAsksForNews, TellsAllNews}
 
 pub record SessionState : Type 0 where
   pub terms : TermsState
@@ -106,8 +106,8 @@ abbrev pub BeginsWith : List ℕ → List Message → Type 0
 BeginsWith infohash [] = ⊥
 BeginsWith infohash (m ∷ ms) = NamesTorrent infohash m
 
--- A session that came to its end: the source gave a whole stream, of this torrent, and nothing is left of it; each of its messages made a turn at the place, and then Leave; and the
--- greeting was written, then what the events say.
+-- A session that came to its end: the source gave a whole stream, of this torrent, and nothing is left of it; each of its messages made a turn at the place, in which news was
+-- asked for, and then Leave came; and the greeting was written, then what the events say.
 pub record IsWhole (end : End) (terms : TermsState) (worker : ℕ) (out out' : Surroundings) : Type 0 where
   pub read : List ℕ
   pub messages : List Message
@@ -119,6 +119,7 @@ pub record IsWhole (end : End) (terms : TermsState) (worker : ℕ) (out out' : S
   pub counted : length messages ≡ end.messages + 1
   pub turns : AreTurns terms messages events
   pub gains : Gains out.past events out'.past
+  pub news : TellsAllNews (pieces_of terms) messages out.past events out'.past
   pub wrote : Appends out.written out'.written (greeting terms.infohash worker ++ says false events)
 
 -- no turn was taken yet: nothing was read, called or written
@@ -143,6 +144,7 @@ pub record TookTurns (terms : TermsState) (worker : ℕ) (out : Surroundings) (n
   pub counted : length messages ≡ now.messages
   pub turned : TurnsOf terms (first ∷ messages) events
   pub gains : Gains out.past events out'.past
+  pub news : EachAsksForNews (pieces_of terms) (first ∷ messages) out.past events out'.past
   pub wrote : Appends out.written out'.written (greeting terms.infohash worker ++ says false events)
   pub interest : now.interested ≡ interest_after false events
   pub terms_are : now.terms ≡ terms

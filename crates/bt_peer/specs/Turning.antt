@@ -58,6 +58,22 @@ abbrev pub AsksForNews : ℕ → Message → PlaceRecord → List Event → Plac
 AsksForNews pieces (messages.Hello hello) old events new = Unit {0}
 AsksForNews pieces m old events new = TellsNews pieces old events new
 
+-- News was asked for in the turn of each of these messages, in order; between two turns more pieces may come to be finished.
+abbrev pub EachAsksForNews : ℕ → List Message → PlaceRecord → List Event → PlaceRecord → Type 0
+EachAsksForNews pieces [] old events new = (events ≡ []) × Gains old [] new
+EachAsksForNews pieces (m ∷ ms) old events new =
+    (first : List Event) × ((others : List Event) × ((from : PlaceRecord) × ((mid : PlaceRecord) ×
+    (Gains old [] from × Gains from first mid × AsksForNews pieces m from first mid × EachAsksForNews pieces ms mid others new
+    × (events ≡ first ++ others)))))
+
+-- The same of all turns of a session, behind which Leave came.
+pub record TellsAllNews (pieces : ℕ) (messages : List Message) (old : PlaceRecord) (events : List Event) (new : PlaceRecord) : Type 0 where
+  pub turns : List Event
+  pub mid : PlaceRecord
+  pub asked : EachAsksForNews pieces messages old turns mid
+  pub leaves : Gains mid (Called marks.Leave replies.Quiet ∷ []) new
+  pub parts : events ≡ turns ++ Called marks.Leave replies.Quiet ∷ []
+
 -- A turn that goes on: one message was taken off the bytes held and read; the place gained what a turn makes of it; and what its events
 -- say was written, after the greeting.
 pub record TakesTurn (terms : TermsState) (greeting : List ℕ) (old : Reading) (out : Surroundings)
