@@ -82,6 +82,14 @@ def main():
         "three-pieces-1.stream": peer(three_hash, 0x60, [(1, b"abc"), (2, b"a")]),
         "three-pieces-wrong.stream": peer(three_hash, 0xE0, [(0, b"abd"), (1, b"abc"), (2, b"a")]),
     }
+    # What a peer may send that it shouldn't, or that is late.
+    hello = handshake(one_hash)
+    files["late-bits.stream"] = hello + message(1) + message(5, b"\x80")
+    files["spare-bits.stream"] = hello + message(5, b"\xc0")
+    files["long-bits.stream"] = hello + message(5, b"\x80\x00")
+    files["too-long.stream"] = hello + (0x100001).to_bytes(4, "big")
+    files["first-wrong.stream"] = peer(three_hash, 0xE0, [(0, b"abd")])
+    files["all-three.stream"] = peer(three_hash, 0xE0, [(0, b"abc"), (1, b"abc"), (2, b"a")])
     files.update(DESCRIBED)
     files.update(FAULTY)
     for name, content in DESCRIBED.items():

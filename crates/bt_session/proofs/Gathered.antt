@@ -69,8 +69,8 @@ swarmed_one journal outcome terms setting seed number worker worker' old new log
       short = plays.short;
       finished = known;
       runs = subst (λ (p : PassState). RunsTo outcome terms number (generator_of seed number)
-              (pass_record setting (newcomer number) no_piece no_piece false) old
-              (pass_record setting p (knows setting worker'.seat) (tells worker'.seat) plays.short) new) is
+          (pass_record setting (newcomer number) no_piece no_piece false) old
+          (pass_record setting p (knows setting worker'.seat) (tells worker'.seat) plays.short) new) is
           (subst (λ (p : PlaceRecord). RunsTo outcome terms number (generator_of seed number) p old (worker_record setting worker' plays.short) new) begun
           (subst (λ (w : ℕ). RunsTo outcome terms w (generator_of seed w) (worker_record setting worker false) old (worker_record setting worker' plays.short) new)
           whose plays.runs));

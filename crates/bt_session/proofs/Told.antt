@@ -35,7 +35,7 @@ module _ (setting : Setting) (t : Layout) (same : t ≡ setting.torrent) (old ne
 
   pub news_one : (r : Option ℕ) → IfSome r (λ p. p < piece_count t)
       → IfSome r (λ p. (found : List ℕ) × (length found ≡ p / 64 + 1) × (new.view ≡ with_loads old.view found)
-          × IsSet found p × (¬ Given old p) × ((q : ℕ) → q < p → IsSet found q → Given old q))
+      × IsSet found p × (¬ Given old p) × ((q : ℕ) → q < p → IsSet found q → Given old q))
       → IfSome r (λ p. (q : ℕ) → Given new q ↔ (Given old q ⊎ (q ≡ p))) → IfSome r (λ p. TellsOne setting old p new)
   news_one (Some p) below facts given =
       let found : List ℕ = facts.0 in
@@ -52,7 +52,7 @@ module _ (setting : Setting) (t : Layout) (same : t ≡ setting.torrent) (old ne
 
   pub news_none : (r : Option ℕ)
       → IfNone r ((found : List ℕ) × (length found ≡ words_of (piece_count t))
-          × (new ≡ seat_with old (with_loads old.view found)) × ((q : ℕ) → IsSet found q → Given old q))
+      × (new ≡ seat_with old (with_loads old.view found)) × ((q : ℕ) → IsSet found q → Given old q))
       → IfNone r ((p : ℕ) → p < piece_count t → Seen new.view p → Given new p) → IfNone r (TellsNone setting old new)
   news_none (Some p) facts complete = tt
   news_none None facts complete = record {

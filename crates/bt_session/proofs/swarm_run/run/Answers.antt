@@ -18,8 +18,8 @@ gather-requires-clause-order g c =
     let worked = c.in_ok-worked.worked in
     let many : length all ≡ n + m + 1 = search rules in
     let ran : Ran (stream_record g.R.Source.left g.R.Source.ended g.R.Source.failed g.R.Source.asked g.W.Sink.written g.W.Sink.failed)
-        (terms_of layout c.args.rules.depth) g.L.DeskLedger.setting c.args.seed n m (piece_count layout.layout)
-        all worked.workers.items c.args.streams.items worked.streams.items worked.ends.items = record {
+    (terms_of layout c.args.rules.depth) g.L.DeskLedger.setting c.args.seed n m (piece_count layout.layout)
+    all worked.workers.items c.args.streams.items worked.streams.items worked.ends.items = record {
       some = c.requires.streams.0;
       fresh = made.fresh;
       many = many;
@@ -42,8 +42,8 @@ returns-clause-sessions g c =
     let worked = c.in_ok-worked.worked in
     let many : length all ≡ n + m + 1 = search rules in
     let ran : Ran (stream_record g.R.Source.left g.R.Source.ended g.R.Source.failed g.R.Source.asked g.W.Sink.written g.W.Sink.failed)
-        (terms_of layout c.args.rules.depth) g.L.DeskLedger.setting c.args.seed n m (piece_count layout.layout)
-        all worked.workers.items c.args.streams.items worked.streams.items worked.ends.items = record {
+    (terms_of layout c.args.rules.depth) g.L.DeskLedger.setting c.args.seed n m (piece_count layout.layout)
+    all worked.workers.items c.args.streams.items worked.streams.items worked.ends.items = record {
       some = c.requires.streams.0;
       fresh = made.fresh;
       many = many;
@@ -67,8 +67,8 @@ returns-clause-checks g c =
     let worked = c.in_ok-worked.worked in
     let many : length all ≡ n + m + 1 = search rules in
     let ran : Ran (stream_record g.R.Source.left g.R.Source.ended g.R.Source.failed g.R.Source.asked g.W.Sink.written g.W.Sink.failed)
-        (terms_of layout c.args.rules.depth) g.L.DeskLedger.setting c.args.seed n m (piece_count layout.layout)
-        all worked.workers.items c.args.streams.items worked.streams.items worked.ends.items = record {
+    (terms_of layout c.args.rules.depth) g.L.DeskLedger.setting c.args.seed n m (piece_count layout.layout)
+    all worked.workers.items c.args.streams.items worked.streams.items worked.ends.items = record {
       some = c.requires.streams.0;
       fresh = made.fresh;
       many = many;
@@ -92,8 +92,8 @@ returns-clause-finishes g c =
     let worked = c.in_ok-worked.worked in
     let many : length all ≡ n + m + 1 = search rules in
     let ran : Ran (stream_record g.R.Source.left g.R.Source.ended g.R.Source.failed g.R.Source.asked g.W.Sink.written g.W.Sink.failed)
-        (terms_of layout c.args.rules.depth) g.L.DeskLedger.setting c.args.seed n m (piece_count layout.layout)
-        all worked.workers.items c.args.streams.items worked.streams.items worked.ends.items = record {
+    (terms_of layout c.args.rules.depth) g.L.DeskLedger.setting c.args.seed n m (piece_count layout.layout)
+    all worked.workers.items c.args.streams.items worked.streams.items worked.ends.items = record {
       some = c.requires.streams.0;
       fresh = made.fresh;
       many = many;
