@@ -137,7 +137,9 @@ def line(rng):
 
 def script(rng, folder):
     head = load(os.path.join(ROOT, "crates/piecepick"), "stdin").split(b"\n")[0]
-    lines = [head[:10] + str(rng.randrange(1, 4)).encode() + head[11:] if head.startswith(b"torrent 3 7 ") else head]
+    words = head.split(b" ")
+    words[3] = str(rng.randrange(1, 4)).encode()
+    lines = [b" ".join(words)]
     if rng.randrange(3) == 0:
         lines.append(f"rules {rng.choice([1, 2, 5, 64, 65])} {rng.choice([0, 1, 3, 4])}".encode())
     lines += [line(rng).encode() for _ in range(rng.randrange(60))]

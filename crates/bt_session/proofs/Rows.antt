@@ -1,5 +1,5 @@
 -- A list of two parts and one element more, by number.
-use Rattle.std.proofs.Common.{◌≡◌, ◌<◌, ◌+◌, ℕ, List, [], ◌∷◌, ◌++◌, length, get_or, sym, ap, subst, ◌∙◌, arith, length-append}
+use Rattle.std.proofs.Common.{◌≡◌, ◌<◌, ◌+◌, ℕ, List, [], ◌∷◌, ◌++◌, length, get_or, sym, ap, ◌∙◌, arith, length-append}
 use Rattle.std.proofs.lemmas.List.{get_or-append-add, get_or_append_left, get_or_push}
 
 module _ {X : Type 0} (all a b : List X) (z : X) (n m : ℕ) (is : all ≡ (a ++ b) ++ z ∷ []) (many : length a ≡ n) (more : length b ≡ m) where

@@ -10,14 +10,13 @@ use Rattle.bt_board.proofs.Knowing.{none_seen, not_given, seen_decides}
 use Rattle.bt_board.proofs.Lists.{has_back, has_front}
 use Rattle.bt_board.specs.Seats.{BoardState, SeatState, newcomer}
 use Rattle.bt_board.specs.Story.{Has, Seen, StandsFor, both, fresh}
-use Rattle.bt_board.specs.declared.view.Load.{Load}
 use Rattle.bt_board.specs.declared.view.Mark.{Mark}
 use Rattle.bt_board.specs.declared.view.View.{View}
 use Rattle.bt_check.specs.Queues.{Queue, PassState as TicketState}
 use Rattle.bt_history.specs.History.{History}
 use Rattle.bt_history.specs.Pieces.{had}
 use Rattle.bt_history.specs.Setting.{Setting}
-use Rattle.bt_meta.specs.Layout.{Layout, piece_count}
+use Rattle.bt_meta.specs.Layout.{piece_count}
 use Rattle.bt_session.specs.Workers.{AreNumbered, Belongs, IsFresh, IsNewSeat, StandInOrder, Takes, WorkerState, knows}
 use Rattle.bt_shared.specs.Gathering.{AreHad}
 use Rattle.bt_shared.specs.Passes as passes

@@ -1,5 +1,5 @@
 -- Several streams' sessions in threads of their own: what each of them sees at the shared desk, how it ended, and the last checks.
-use Rattle.std.specs.Prelude.{◌≡◌, ◌≤◌, ◌<◌, ◌+◌, ℕ, Bool, true, false, List, [], ◌∷◌, length, slice_get, slice_index_or, Option, Some, Result}
+use Rattle.std.specs.Prelude.{◌≡◌, ◌≤◌, ◌<◌, ◌+◌, ℕ, Bool, true, false, List, [], ◌∷◌, length, slice_get, slice_index_or, Some, Result}
 use Rattle.std.specs.Global.{Vec}
 use Rattle.bt_history.specs.declared.mark.CallMark.TheVariants as marks
 use Rattle.bt_history.specs.declared.mark.Mark.{Mark}
@@ -9,6 +9,7 @@ use Rattle.bt_history.specs.Setting.{Setting}
 use Rattle.bt_picker.specs.Checks.{waits}
 use Rattle.bt_picker.specs.Positions.{DeskState}
 use Rattle.bt_shared.specs.Passes.{PassState, newcomer}
+use Rattle.bt_shared.specs.Gathering.{IsNotMissing}
 use Rattle.bt_shared.specs.declared.gather.GatherFault.{GatherFault}
 use Rattle.bt_shared.specs.declared.gather.GatherFault.TheVariants as gathers
 use Rattle.bt_peer.specs.declared.fault.End.{End}
@@ -26,6 +27,12 @@ use Rattle.bt_peer.specs.Terms.{TermsState}
 abbrev pub swarm_fault : GatherFault → SwarmFault
 swarm_fault gathers.NoMemory = NoMemory
 swarm_fault fault = Gather fault
+
+-- why a run may come to nothing: there was no memory, a thread couldn't be started, or its logs or its board aren't the journal's. No call is
+-- missing
+abbrev pub IsRunFault : SwarmFault → Type 0
+IsRunFault (Gather fault) = IsNotMissing fault
+IsRunFault _ = Unit {0}
 
 -- ---- sessions
 

@@ -1,7 +1,8 @@
 //! Checkers in threads of their own.
 
-ghost use Rattle.std.specs.Prelude.{◌≡◌, ◌≤◌, [], map, length, vec_len, vec_capacity, IfOk, OnOk};
+ghost use Rattle.std.specs.Prelude.{◌≡◌, ◌≤◌, [], map, length, vec_len, vec_capacity, IfOk, IfErr, OnOk};
 ghost use Rattle.bt_session.specs.Checking.{MakesChecks};
+ghost use Rattle.bt_session.specs.Swarms.{IsRunFault};
 
 use crate::checker::{Checked, check_pieces};
 use crate::commons::{Commons, Worker};
@@ -32,7 +33,8 @@ fn start<'s, 'e, L: RunLedger + Send + Sync + 'e, T: Threads + Wait + Sync + 'e>
     commons: &'e Commons<L>,
     worker: Worker<L>,
 ) -> Result<PromisedHandle<Checked<L>, CheckOf<L>>, SwarmFault>
-    ensures { IfOk result (λ h. h.promise.worker.value ≡ worker) }
+    ensures worker { IfOk result (λ h. h.promise.worker.value ≡ worker) }
+    ensures err { IfErr result IsRunFault }
 {
     let promise = CheckOf {
         worker: Snapshot::of(&worker),
@@ -58,6 +60,7 @@ pub fn start_checkers<'s, 'e, L: RunLedger + Send + Sync + 'e, T: Threads + Wait
     requires room { (handles.old.items ≡ []) × (length workers.items ≤ vec_capacity handles.old) }
     ensures few { length handles.new.items ≤ length workers.items }
     ensures workers { OnOk result (map (λ h. h.promise.worker.value) handles.new.items ≡ workers.items) }
+    ensures err { IfErr result IsRunFault }
 {
     for worker in workers {
         let handle = start(rt, alloc, scope, commons, worker)?;

@@ -1,6 +1,6 @@
 //! What the threads of a run share, and what each of them has of its own.
 
-ghost use Rattle.std.specs.Prelude.{◌≡◌, ◌≤◌, ℕ, [], Some, true, map, length, vec_capacity, vec_len, slice_index_or, IsTrue, IfOk, IfSome, IfNone, OnErr};
+ghost use Rattle.std.specs.Prelude.{◌≡◌, ◌≤◌, ℕ, [], Some, true, map, length, vec_capacity, vec_len, slice_index_or, IsTrue, IfOk, IfErr, IfSome, IfNone, OnErr};
 ghost use Rattle.std.specs.List.{All};
 ghost use Rattle.bt_board.specs.Story.{Seen};
 ghost use Rattle.bt_history.specs.Entries.{action_of};
@@ -9,6 +9,7 @@ ghost use Rattle.bt_history.specs.Logs.{answers, call_mark};
 ghost use Rattle.bt_history.specs.Pieces.{had};
 ghost use Rattle.bt_meta.specs.Layout.{piece_count};
 ghost use Rattle.bt_session.specs.Checking.{MayCheck, PutsIf, TakesNone, TakesPiece};
+ghost use Rattle.bt_session.specs.Swarms.{IsRunFault};
 ghost use Rattle.bt_session.specs.Workers.{Belongs, Shares, StandInOrder, Takes, TellsNone, TellsOne, WorkerState, knows};
 ghost use Rattle.bt_shared.specs.Gathering.{EachAgrees, EachFrom};
 ghost use Rattle.bt_shared.specs.Passes.{Notes};
@@ -191,6 +192,7 @@ impl<L: RunLedger> Commons<L> {
         ensures count { IfOk result (λ book. length book.logs.items ≡ length workers.items) }
         ensures logs { IfOk result (λ book. EachFrom (map (λ w. w.pass) workers.items) book.logs.items) }
         ensures agrees { IfOk result (λ book. EachAgrees book.desk.history book.logs.items) }
+        ensures err { IfErr result IsRunFault }
         ensures had { IfOk result (λ book. All (λ w. (piece : ℕ) → knows L.setting w.seat piece ≡ true → had book.desk.history piece ≡ true)
             workers.items) }
     {

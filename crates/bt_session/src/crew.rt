@@ -1,10 +1,10 @@
 //! The threads of a run: its checkers, and its sessions.
 
-ghost use Rattle.std.specs.Prelude.{◌≡◌, ◌≤◌, [], All, map, length, vec_capacity, IfOk, OnOk};
+ghost use Rattle.std.specs.Prelude.{◌≡◌, ◌≤◌, [], All, map, length, vec_capacity, IfOk, IfErr, OnOk};
 ghost use Rattle.bt_peer.specs.Serial.{stream_record};
 ghost use Rattle.bt_peer.specs.Terms.{terms_of};
 ghost use Rattle.bt_session.specs.Checking.{EachMakesChecks};
-ghost use Rattle.bt_session.specs.Swarms.{EachPlays};
+ghost use Rattle.bt_session.specs.Swarms.{EachPlays, IsRunFault};
 
 use crate::check_threads::{CheckOf, start_checkers, stop};
 use crate::checker::Checked;
@@ -66,6 +66,7 @@ fn start_all<
     ensures seeds { OnOk result (All (λ h. h.promise.seed ≡ seed) playing.new.items) }
     ensures sessions { OnOk result (map (λ h. h.promise.worker.value) playing.new.items ≡ sessions.items) }
     ensures streams { OnOk result (map (λ h. h.promise.stream.value) playing.new.items ≡ streams.items) }
+    ensures err { IfErr result IsRunFault }
 {
     start_checkers(rt, alloc, scope, commons, checkers, checking)?;
     start_sessions(
@@ -104,6 +105,7 @@ pub fn crew<
         (map (λ p. p.end) r.played.items) (map (λ p. p.worker) r.played.items) (map (λ p. p.stream) r.played.items)) }
     ensures checks { IfOk result (λ r. EachMakesChecks checkers.items (map (λ c. c.worker) r.checked.items)) }
     ensures last { IfOk result (λ r. (r.last.pass ≡ last.pass) × (r.last.seat ≡ last.seat)) }
+    ensures err { IfErr result IsRunFault }
 {
     thread::scope(
         thread::scope_env(),
@@ -118,6 +120,7 @@ pub fn crew<
                 (map (λ p. p.end) r.played.items) (map (λ p. p.worker) r.played.items) (map (λ p. p.stream) r.played.items)) }
             ensures checks { IfOk result (λ r. EachMakesChecks checkers.items (map (λ c. c.worker) r.checked.items)) }
             ensures last { IfOk result (λ r. (r.last.pass ≡ last.pass) × (r.last.seat ≡ last.seat)) }
+            ensures err { IfErr result IsRunFault }
         {
             let mut last = last;
             let mut checking = Vec::with_capacity(alloc, checkers.len())?;

@@ -1,6 +1,6 @@
 //! Several recorded peers at one desk, each session in a thread of its own, and threads that check the pieces.
 
-ghost use Rattle.std.specs.Prelude.{◌≡◌, ◌≤◌, ◌+◌, Some, All, length, IfOk};
+ghost use Rattle.std.specs.Prelude.{◌≡◌, ◌≤◌, ◌+◌, Some, All, length, IfOk, IfErr};
 ghost use Rattle.bt_history.specs.Legal.{IsLegal};
 ghost use Rattle.bt_history.specs.Setting.{AreRules, setting_of};
 ghost use Rattle.bt_meta.specs.Layout.{piece_count};
@@ -8,7 +8,7 @@ ghost use Rattle.bt_peer.specs.Serial.{stream_record};
 ghost use Rattle.bt_peer.specs.Terms.{terms_of};
 ghost use Rattle.bt_session.specs.declared.swarm_run.SwarmFault.TheVariants.{NoMemory};
 ghost use Rattle.bt_session.specs.Checking.{CheckersCheck};
-ghost use Rattle.bt_session.specs.Swarms.{EachSwarmed, LeavesNone, MakesLastChecks, TellsWaiting, swarm_fault};
+ghost use Rattle.bt_session.specs.Swarms.{EachSwarmed, IsRunFault, LeavesNone, MakesLastChecks, TellsWaiting, swarm_fault};
 ghost use Rattle.bt_session.specs.Workers.{AreNumbered, IsNewSeat};
 ghost use Rattle.bt_shared.specs.Gathering.{EachAgrees};
 
@@ -152,6 +152,7 @@ fn run<
     ensures finishes { IfOk result (λ run.
         MakesLastChecks (length streams.items + checkers) run.book.logs.items (piece_count torrent.value.layout)) }
     ensures waits { IfOk result (λ run. LeavesNone run.short run.book.desk) }
+    ensures err { IfErr result IsRunFault }
 {
     let count = streams.len() as u32 + checkers + 1;
     let pieces = torrent.piece_count();
@@ -229,6 +230,7 @@ pub fn swarm<
     ensures finishes { IfOk result (λ run.
         MakesLastChecks (length streams.items + checkers) run.book.logs.items (piece_count torrent.value.layout)) }
     ensures waits { IfOk result (λ run. LeavesNone run.short run.book.desk) }
+    ensures err { IfErr result IsRunFault }
 {
     let count = streams.len() + checkers as usize + 1;
     let fittings = fit_out(alloc, &torrent, count)?;

@@ -1,9 +1,9 @@
 //! Sessions in threads of their own.
 
-ghost use Rattle.std.specs.Prelude.{◌≡◌, ◌≤◌, [], All, map, length, vec_len, vec_capacity, IfOk, OnOk};
+ghost use Rattle.std.specs.Prelude.{◌≡◌, ◌≤◌, [], All, map, length, vec_len, vec_capacity, IfOk, IfErr, OnOk};
 ghost use Rattle.std.specs.PromisedHandle.{KeepsEach};
 ghost use Rattle.bt_peer.specs.Serial.{stream_record};
-ghost use Rattle.bt_session.specs.Swarms.{Plays};
+ghost use Rattle.bt_session.specs.Swarms.{IsRunFault, Plays};
 ghost use Rattle.bt_peer.specs.Terms.{terms_of};
 
 use crate::commons::{Commons, Worker};
@@ -61,6 +61,7 @@ fn start<
     ensures seed { IfOk result (λ h. h.promise.seed ≡ seed) }
     ensures worker { IfOk result (λ h. h.promise.worker.value ≡ worker) }
     ensures stream { IfOk result (λ h. h.promise.stream.value ≡ stream) }
+    ensures err { IfErr result IsRunFault }
 {
     let promise = PlayOf {
         torrent: Snapshot::of(&torrent),
@@ -115,6 +116,7 @@ pub fn start_sessions<
     ensures seeds { OnOk result (All (λ h. h.promise.seed ≡ seed) handles.new.items) }
     ensures workers { OnOk result (map (λ h. h.promise.worker.value) handles.new.items ≡ workers.items) }
     ensures streams { OnOk result (map (λ h. h.promise.stream.value) handles.new.items ≡ streams.items) }
+    ensures err { IfErr result IsRunFault }
 {
     let mut workers = workers.into_iter();
     for stream in streams {

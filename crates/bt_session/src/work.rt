@@ -1,11 +1,11 @@
 //! The work of a run's threads, and its last checks.
 
-ghost use Rattle.std.specs.Prelude.{◌≡◌, ◌≤◌, ◌+◌, ◌++◌, [], map, length, vec_capacity, slice_index_or, IfOk};
+ghost use Rattle.std.specs.Prelude.{◌≡◌, ◌≤◌, ◌+◌, ◌++◌, [], map, length, vec_capacity, slice_index_or, IfOk, IfErr};
 ghost use Rattle.bt_meta.specs.Layout.{piece_count};
 ghost use Rattle.bt_peer.specs.Serial.{stream_record};
 ghost use Rattle.bt_peer.specs.Terms.{terms_of};
 ghost use Rattle.bt_session.specs.Checking.{CheckersWork};
-ghost use Rattle.bt_session.specs.Swarms.{ChecksLast, EachPlays};
+ghost use Rattle.bt_session.specs.Swarms.{ChecksLast, EachPlays, IsRunFault};
 ghost use Rattle.bt_session.specs.Workers.{WorkerState};
 
 use crate::checker::Checked;
@@ -124,6 +124,7 @@ pub fn work<
     ensures last { IfOk result (λ r. (any : WorkerState) →
         ChecksLast (slice_index_or workers.items (length streams.items + checkers) any).pass
         (slice_index_or r.workers.items (length streams.items + checkers) any).pass (piece_count commons.now.layout)) }
+    ensures err { IfErr result IsRunFault }
 {
     let count = streams.len();
     let all = workers.len();

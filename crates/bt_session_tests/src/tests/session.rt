@@ -1,3 +1,4 @@
+mod devices;
 mod haves;
 mod serial;
 mod settings;

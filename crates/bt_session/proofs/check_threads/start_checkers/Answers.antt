@@ -9,7 +9,7 @@ loop-worker-preserved g c =
     let hs' = c.push_reserved.new.self.items in
     record {
       workers = grown (λ h. h.promise.worker.value) hs hs' c.in_ok-handle.handle c.in-Some.worker _ _ _
-          c.push_reserved.ensures.items c.in-Some.ensures.steps.0 c.in_ok-handle.ensures was.workers;
+          c.push_reserved.ensures.items c.in-Some.ensures.steps.0 c.in_ok-handle.ensures.worker was.workers;
       room = omega (arith, was.room, c.in-Some.ensures.steps.1, c.push_reserved.ensures.len, c.push_reserved.ensures.capacity);
       few = omega (arith, was.few, c.in-Some.ensures.steps.1, c.push_reserved.ensures.len);
     }

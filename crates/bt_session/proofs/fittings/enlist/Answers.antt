@@ -1,4 +1,4 @@
-use Rattle.std.proofs.Common.{◌≡◌, ◌+◌, ℕ, [], ◌∷◌, length, length-append, Some, refl, ap, ◌∙◌, arith, rules}
+use Rattle.std.proofs.Common.{◌≡◌, ◌+◌, [], ◌∷◌, length, length-append, Some, refl, ap, ◌∙◌, arith, rules}
 use Rattle.bt_session.proofs.Numbered.{first_is, from_gets, none_numbered, one_more, rest_are, same_list}
 use Rattle.bt_session.proofs.Seats.{belongs, is_fresh}
 use Rattle.bt_session.specs.Workers.{IsFresh, IsNewSeat}

@@ -1,10 +1,8 @@
-use Rattle.std.proofs.Common.{◌≡◌, ◌+◌, ℕ, List, length, map, refl, sym, ap, subst, ◌∙◌, arith, rules}
-use Rattle.bt_meta.specs.Layout.{Metainfo, piece_count}
+use Rattle.std.proofs.Common.{◌≡◌, ◌+◌, length, refl, ◌∙◌, rules}
+use Rattle.bt_meta.specs.Layout.{piece_count}
 use Rattle.bt_peer.specs.Serial.{stream_record}
 use Rattle.bt_peer.specs.Terms.{terms_of}
 use Rattle.bt_session.proofs.Gathered.{Ran, checkers_check, finished, in_order, swarmed}
-use Rattle.bt_session.specs.Swarms.{ChecksLast, EachPlays}
-use Rattle.bt_session.specs.Workers.{WorkerState}
 use Rattle.bt_session.proofs.swarm_run.run.Goals as goal
 
 pub gather-requires-clause-order : goal.gather-requires-clause-order

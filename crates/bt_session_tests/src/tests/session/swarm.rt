@@ -2,7 +2,7 @@
 ghost use Rattle.std.specs.Prelude.{◌≤◌, length};
 
 use super::serial::{Recorded, recorded, two_pieces};
-use super::{PEER, RULES, peer, torrent};
+use super::{ABC, PEER, RULES, peer, torrent};
 use bt_meta::{FromRead, ToWrite, Torrent};
 use bt_picker::{CallMark, Mark, Reply};
 use bt_session::{End, Gate, OpenGate, SessionFault, SwarmFault, SwarmRun, swarm};
@@ -264,6 +264,47 @@ fn a_full_queue_loses_nothing(rt: HostRuntime) -> Result<(), Fail> {
     assert_eq!(rt; answered(&run.book.logs[1], Reply::Had), 64);
     assert_eq!(rt; run.book.logs[2].len(), 0);
     assert!(rt; run.book.desk.is_complete());
+    Ok(())
+}
+
+/// The SHA-1 of `a`, by another program.
+const A: [u8; 20] = [
+    0x86, 0xf7, 0xe4, 0x37, 0xfa, 0xa5, 0xa7, 0xfc, 0xe1, 0x5d, 0x1d, 0xdc, 0xb9, 0xea, 0xea, 0xea,
+    0x37, 0x76, 0x67, 0xb8,
+];
+
+/// What a peer sends that has all of three pieces and gives the first with wrong bytes.
+const LIAR: [u8; 27] = [
+    0, 0, 0, 2, 5, 224, 0, 0, 0, 1, 1, 0, 0, 0, 12, 7, 0, 0, 0, 0, 0, 0, 0, 0, 97, 98, 100,
+];
+
+/// What one sends that gives all of them.
+const HONEST: [u8; 57] = [
+    0, 0, 0, 2, 5, 224, 0, 0, 0, 1, 1, 0, 0, 0, 12, 7, 0, 0, 0, 0, 0, 0, 0, 0, 97, 98, 99, 0, 0, 0,
+    12, 7, 0, 0, 0, 1, 0, 0, 0, 0, 97, 98, 99, 0, 0, 0, 10, 7, 0, 0, 0, 2, 0, 0, 0, 0, 97,
+];
+
+/// Both sessions end well; the first piece is had unless the honest block came while the wrong one was held.
+#[test]
+fn a_liar_beside_an_honest_peer(rt: HostRuntime) -> Result<(), Fail> {
+    let hashes = Vec::from_array(rt.alloc(), [ABC, ABC, A])?;
+    let torrent = Arc::new(rt.alloc(), Torrent::of_parts(3, 7, hashes, [1; 20])?)?;
+    let liar = peer(rt.alloc(), 1, &LIAR)?;
+    let honest = peer(rt.alloc(), 1, &HONEST)?;
+    let streams = Vec::from_array(
+        rt.alloc(),
+        [recorded(rt.alloc(), &liar), recorded(rt.alloc(), &honest)],
+    )?;
+    let run = run(&rt, rt.alloc(), torrent, streams, 1, &OpenGate)?;
+    assert_eq!(rt; run.ends.len(), 2);
+    assert!(rt; run.ends[0] == Ok(End { messages: 3 }));
+    assert!(rt; run.ends[1] == Ok(End { messages: 5 }));
+    assert!(rt; !run.short);
+    let is_complete = run.book.desk.is_complete();
+    assert!(rt; is_complete || !run.book.desk.had(0));
+    assert_eq!(rt; run.book.logs.len(), 4);
+    let had = answered(&run.book.logs[2], Reply::Had);
+    assert_eq!(rt; had, if is_complete { 3 } else { 2 });
     Ok(())
 }
 

@@ -1,5 +1,4 @@
-use Rattle.std.proofs.Common.{◌≡◌, ℕ, List, length, map, refl, sym, ap, subst, ◌∙◌, rules}
-use Rattle.bt_board.specs.Seats.{BoardState}
+use Rattle.std.proofs.Common.{◌≡◌, List, length, sym, ap, subst, ◌∙◌}
 use Rattle.bt_meta.specs.Layout.{Layout, piece_count}
 use Rattle.bt_session.proofs.Seats.{all_had, all_stand}
 use Rattle.bt_shared.specs.Gathering.{EachFrom}

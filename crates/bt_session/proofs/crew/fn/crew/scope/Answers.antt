@@ -50,4 +50,5 @@ returns-in-Ok g c =
             get_or-map (λ c. c.worker) checked i d worker back,
           ) k.kept;
       last = search rules;
+      err = tt;
     }

@@ -1,0 +1,198 @@
+//! Streams that end early, readers that fail, and writers that take little or fail.
+
+use super::{PEER, RULES, WHOLE, peer, tell, torrent};
+use bt_meta::{Bitfield, DeviceFault, FromRead, Sink, Source, ToWrite};
+use bt_picker::Desk;
+use bt_session::whole::session;
+use bt_session::{DeskPlace, End, SessionFault};
+use rand_pcg::Lcg64Xsh32;
+use std::alloc::Global;
+use std::io::Cursor;
+use std::test::Fail;
+
+/// How a session with these devices ended, and its calls.
+fn played<R: Source + Drop, W: Sink>(
+    alloc: Global,
+    mut reader: R,
+    writer: &mut W,
+) -> Result<(Result<End, SessionFault>, String), Fail> {
+    let torrent = torrent(alloc)?;
+    let mut told = Bitfield::empty(alloc, torrent.piece_count())?;
+    let mut desk = Desk::new(alloc, torrent.clone()?, 1, RULES)?;
+    let mut rng = Lcg64Xsh32::new(0, 0);
+    let mut place = DeskPlace::new(&mut desk, 0, &mut told);
+    let end = session(
+        alloc,
+        torrent,
+        0,
+        &mut reader,
+        writer,
+        &mut place,
+        &mut rng,
+        5,
+    );
+    let mut said = String::new(alloc);
+    for entry in desk.journal() {
+        tell(entry, &mut said)?;
+    }
+    Ok((end, said))
+}
+
+/// The bytes that a whole session writes.
+fn whole_written(alloc: Global, sent: &[u8]) -> Result<Vec<u8>, Fail> {
+    let mut writer = ToWrite::new(Vec::new(alloc));
+    let (end, _) = played(alloc, FromRead::new(Cursor::new(sent)), &mut writer)?;
+    match end {
+        Ok(_) => Ok(writer.into_inner()),
+        Err(_) => Err(Fail::from("a whole session has no fault")),
+    }
+}
+
+/// A stream that ends between two messages ends well; one that ends in the handshake makes no call, and one in a message is a fault.
+#[test]
+fn each_front_of_a_stream(rt: HostRuntime) -> Result<(), Fail> {
+    let sent = peer(rt.alloc(), 1, &PEER)?;
+    for len in 0..=sent.len() {
+        let mut writer = ToWrite::new(Vec::new(rt.alloc()));
+        let front = FromRead::new(Cursor::new(&sent[..len]));
+        let (end, calls) = played(rt.alloc(), front, &mut writer)?;
+        let messages = match len {
+            68 => Some(0),
+            74 => Some(1),
+            79 => Some(2),
+            95 => Some(3),
+            _ => None,
+        };
+        match messages {
+            Some(messages) => assert!(rt; end == Ok(End { messages })),
+            None => assert!(rt; end == Err(SessionFault::Truncated)),
+        }
+        assert!(rt; calls.is_empty() == (len < 68));
+        if len == 68 {
+            assert_eq!(rt; calls.as_str(), "join = Joined; leave = Quiet; ");
+        }
+    }
+    Ok(())
+}
+
+/// A source that gives a byte at a time, until a read fails.
+#[derive(Drop)]
+struct Breaking<'a> {
+    rest: &'a [u8],
+    left: usize,
+    asked: u64,
+    failed: bool,
+    ended: bool,
+}
+
+impl Source for Breaking<'_> {
+    ghost use Rattle.std.specs.Prelude.{None};
+
+    ghost left = { λ _. None };
+
+    ghost failed = { λ s. s.failed };
+
+    ghost ended = { λ s. s.ended };
+
+    ghost asked = { λ s. s.asked };
+
+    fn read(&mut self, room: &mut [u8]) -> Result<usize, DeviceFault> {
+        self.asked = self.asked.saturating_add(1);
+        if self.left == 0 {
+            self.failed = true;
+            return Err(DeviceFault);
+        }
+        self.left -= 1;
+        let (Some(to), Some((byte, rest))) = (room.first_mut(), self.rest.split_first()) else {
+            self.ended |= !room.is_empty();
+            return Ok(0);
+        };
+        *to = *byte;
+        self.rest = rest;
+        Ok(1)
+    }
+}
+
+/// Whichever read fails, what was written is a front of what a whole session writes.
+#[test]
+fn each_read_fails(rt: HostRuntime) -> Result<(), Fail> {
+    let sent = peer(rt.alloc(), 1, &PEER)?;
+    let whole = whole_written(rt.alloc(), &sent)?;
+    for left in 0..sent.len() {
+        let mut writer = ToWrite::new(Vec::new(rt.alloc()));
+        let reader = Breaking {
+            rest: &sent,
+            left,
+            asked: 0,
+            failed: false,
+            ended: false,
+        };
+        let (end, _) = played(rt.alloc(), reader, &mut writer)?;
+        assert!(rt; end == Err(SessionFault::ReadFault));
+        assert!(rt; whole.starts_with(writer.into_inner().as_slice()));
+    }
+    Ok(())
+}
+
+/// A sink that takes a byte at a time, and fails where it has no room.
+#[derive(Drop)]
+struct Narrow {
+    kept: Vec<u8>,
+    room: usize,
+    failed: bool,
+}
+
+impl Sink for Narrow {
+    ghost use Rattle.std.specs.Prelude.{None};
+
+    ghost written = { λ _. None };
+
+    ghost failed = { λ s. s.failed };
+
+    fn write(&mut self, bytes: &[u8]) -> Result<usize, DeviceFault> {
+        let Some(byte) = bytes.first() else {
+            return Ok(0);
+        };
+        if self.room == 0 || self.kept.push(*byte).is_err() {
+            self.failed = true;
+            return Err(DeviceFault);
+        }
+        self.room -= 1;
+        Ok(1)
+    }
+}
+
+/// Wherever the writer fails, it has taken a front, and the peer has left if it was in.
+#[test]
+fn each_write_fails(rt: HostRuntime) -> Result<(), Fail> {
+    let sent = peer(rt.alloc(), 1, &PEER)?;
+    let whole = whole_written(rt.alloc(), &sent)?;
+    for room in 0..=whole.len() {
+        let mut writer = Narrow {
+            kept: Vec::new(rt.alloc()),
+            room,
+            failed: false,
+        };
+        let reader = FromRead::new(Cursor::new(sent.as_slice()));
+        let (end, calls) = played(rt.alloc(), reader, &mut writer)?;
+        assert!(rt; writer.kept.as_slice() == &whole[..room]);
+        if room == whole.len() {
+            assert!(rt; end == Ok(End { messages: 3 }));
+            assert_eq!(rt; calls.as_str(), WHOLE);
+            continue;
+        }
+        assert!(rt; end == Err(SessionFault::WriteFault));
+        if room < 68 {
+            assert_eq!(rt; calls.as_str(), "");
+        } else {
+            assert!(rt; calls.ends_with("leave = Quiet; "));
+        }
+        if room == 68 {
+            assert_eq!(rt;
+                calls.as_str(),
+                "join = Joined; bits = Noted(true); leave = Quiet; "
+            );
+        }
+    }
+    Ok(())
+}
