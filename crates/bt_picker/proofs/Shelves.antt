@@ -6,7 +6,7 @@ use Rattle.std.proofs.lemmas.List.{map-set, length-map, append-nil, map-append}
 use Rattle.std.proofs.lemmas.List.Sums.{sum_by-set, count_by-le-length, get_or-le-sum_by, sum_by-le-sum_by, sum_by_push}
 use Rattle.bt_picker.specs.declared.piece.Standing.{Standing}
 use Rattle.bt_picker.specs.declared.piece.Change.{Change}
-use Rattle.bt_picker.specs.declared.piece.Change.TheVariants.{Raise, Lower, Store, Recount, Pass, Fail, Wanted}
+use Rattle.bt_picker.specs.declared.piece.Change.TheVariants.{Raise, Lower, Store, Pass, Fail, Wanted}
 use Rattle.bt_picker.specs.Tables.{PieceState, changed_row, one_if, one_less, one_more, unheld}
 use Rattle.bt_picker.specs.Standings.{held_count, touched_count, wanted_length, group_of_row, standing_of, ShelfState, shelf_of, IsFiled, AreShelved}
 use Rattle.bt_picker.proofs.Tabled.{length_edit}
@@ -16,7 +16,6 @@ pub same_length : (change : Change) (row : PieceState) → length (changed_row c
 same_length (Raise index) row = length_edit row.blocks index one_more
 same_length (Lower index) row = length_edit row.blocks index one_less
 same_length (Store index entry) row = length-set row.blocks index (record { stored_at = Some entry; askers = 0 })
-same_length (Recount shown shows) row = refl
 same_length Pass row = refl
 same_length Fail row = length-map row.blocks unheld
 same_length (Wanted wanted) row = refl
