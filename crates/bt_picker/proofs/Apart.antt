@@ -211,6 +211,12 @@ module _ (shelf : ShelfState) (rows : List PieceState) (shown : List ℕ) (p : �
       still_apart rows p new apart_are
       (ap (λ (r : PieceState). r.availability) is ∙ (same_count change row ∙ (ap (λ (r : PieceState). r.availability) here ∙ apart_are p)))
 
+  -- the group that the row tells is the one in which its piece stands
+  pub stands_in : (row : PieceState) (m : ℕ) → row ≡ get_or rows p row → m ≡ at shown p → group_of_row (shown_row m row) ≡ at shelf.groups p
+  stands_in row m read count =
+      let here : row ≡ piece_row rows p = read ∙ get_or_default rows p row (fresh_piece 0) kept.within in
+      (λ i. group_of_row (shown_row (count i) (here i))) ∙ sym group_is
+
   regrouped : (now : ShelfState) (n : ℕ) → now ≡ record shelf { groups = set shelf.groups p (group_of_row (shown_row n old)) }
       → AreShelved now (whole_rows rows (set shown p n))
   regrouped now n is =

@@ -126,6 +126,7 @@ impl Shelf {
     /// A piece that stood like this stands like that now.
     pub fn put(&mut self, piece: u32, before: Standing, after: Standing)
         requires piece { piece < length self.old.groups }
+        requires before { before.group ≡ at self.old.groups piece }
         requires group { after.group < 1029 }
         requires fits { IsFiled self.old before after }
         ensures { self.new ≡ record {
@@ -135,22 +136,27 @@ impl Shelf {
           had = self.old.had - one_if before.had + one_if after.had;
         } }
     {
-        self.put_in(piece, after.group);
+        self.put_in(piece, before.group, after.group);
         self.unasked = self.unasked - u64::from(before.unasked) + u64::from(after.unasked);
         self.unheld = self.unheld - u64::from(before.unheld) + u64::from(after.unheld);
         self.had = self.had - u32::from(before.had) + u32::from(after.had);
     }
 
+    /// Moves the piece from the one group to the other.
     #[inline(always)]
-    fn put_in(&mut self, piece: u32, group: u32)
+    fn put_in(&mut self, piece: u32, before: u32, after: u32)
         requires piece { piece < length self.old.groups }
-        requires group { group < 1029 }
-        ensures { self.new ≡ record self.old { groups = slice_set self.old.groups piece group } }
+        requires before { before ≡ at self.old.groups piece }
+        requires after { after < 1029 }
+        ensures { self.new ≡ record self.old { groups = slice_set self.old.groups piece after } }
     {
-        let opens = group == OPEN;
-        if (self.group_of(piece) == OPEN) != opens {
+        if before == after {
+            return;
+        }
+        let opens = after == OPEN;
+        if (before == OPEN) != opens {
             self.open_pieces.put(piece, opens);
         }
-        self.order.put(piece, group);
+        self.order.put(piece, after);
     }
 }

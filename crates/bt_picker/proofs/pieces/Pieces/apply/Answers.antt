@@ -1,8 +1,9 @@
 use Rattle.std.proofs.Common.{◌≡◌, ◌∙◌, ap, subst, sym, arith, length, length-set}
 use Rattle.std.proofs.lemmas.List.{get_or_default}
+use Rattle.bt_picker.specs.declared.piece.Standing.{Standing}
 use Rattle.bt_picker.specs.Tables.{HasRoomOf, PieceState, piece_row}
 use Rattle.bt_picker.specs.Standings.{AreShelved, shown_row, whole_rows}
-use Rattle.bt_picker.proofs.Apart.{changed_counts, edit_is, in_groups, in_whole, kept_piece, read_row, row_is, same_room, set_is}
+use Rattle.bt_picker.proofs.Apart.{changed_counts, edit_is, in_groups, in_whole, kept_piece, read_row, row_is, same_room, set_is, stands_in}
 use Rattle.bt_picker.proofs.Shelves.{can_file, files, same_length}
 use Rattle.bt_picker.proofs.pieces.Pieces.apply.Goals as goal
 
@@ -34,6 +35,16 @@ put-requires-clause-piece c =
     let o = c.self.inside in
     let kept = kept_piece o.shelf o.rows.items o.shown_by.items _ c.args.piece c.self.invariant.0 c.self.invariant.1 c.self.view_is c.requires.piece in
     in_groups o.shelf o.rows.items o.shown_by.items c.args.piece kept
+
+pub put-requires-clause-before : goal.put-requires-clause-before
+put-requires-clause-before c =
+    let o = c.self.inside in
+    let row = c.index_mut-row.result.now in
+    let kept = kept_piece o.shelf o.rows.items o.shown_by.items _ c.args.piece c.self.invariant.0 c.self.invariant.1 c.self.view_is c.requires.piece in
+    let m = c.index-shown_by.result.now in
+    let read = c.index-shown_by.ensures ∙ get_or_default o.shown_by.items c.args.piece m 0 (omega (arith, kept.len, kept.within)) in
+    ap (λ (s : Standing). s.group) c.standing-before.ensures.is
+    ∙ stands_in o.shelf o.rows.items o.shown_by.items c.args.piece kept row m c.index_mut-row.ensures.value read
 
 pub put-requires-clause-fits : goal.put-requires-clause-fits
 put-requires-clause-fits c =

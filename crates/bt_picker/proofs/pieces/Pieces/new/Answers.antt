@@ -7,7 +7,8 @@ use Rattle.bt_picker.specs.Tables.{PieceState, fresh_piece}
 use Rattle.bt_picker.specs.Standings.{group_of_row, standing_of, shown_row, whole_rows, AreShelved, ShelfState}
 use Rattle.bt_picker.specs.Tables.{empty_cell}
 use Rattle.bt_picker.proofs.Tabled.{table_more, length_is_table}
-use Rattle.bt_picker.proofs.Shelves.{filling, shelf_more, shelf_fits, shelf_whole}
+use Rattle.bt_picker.proofs.Shelves.{filling, none_filed, shelf_more, shelf_fits, shelf_whole}
+use Rattle.bt_order.specs.Orders.{at}
 use Rattle.bt_history.specs.Counting.{table}
 use Rattle.bt_picker.specs.Apart.{AreApart}
 use Rattle.bt_picker.proofs.Apart.{fresh_apart, whole_fresh}
@@ -26,6 +27,13 @@ put-requires-clause-piece c =
     let front = length-append (map group_of_row rows) (replicate (piece_count c.args.torrent.now.layout - c.loop-piece.piece) 0) in
     let back = length-replicate {A = ℕ} (piece_count c.args.torrent.now.layout - c.loop-piece.piece) 0 in
     omega (arith, groups, front, back, length-map rows group_of_row, long, c.loop-piece-test.true, c.piece_count-piece-end.ensures.count)
+
+pub put-requires-clause-before : goal.put-requires-clause-before
+put-requires-clause-before c =
+    let rows = c.loop-piece.rows.items in
+    let long : length rows ≡ c.loop-piece.piece = length_is_table _ _ _ c.loop-piece.invariant.0 in
+    let groups = ap (λ (s : ShelfState). at s.groups c.loop-piece.piece) c.loop-piece.invariant.1 in
+    sym (groups ∙ none_filed (map group_of_row rows) (piece_count c.args.torrent.now.layout - c.loop-piece.piece) c.loop-piece.piece (length-map rows group_of_row ∙ long))
 
 pub put-requires-clause-fits : goal.put-requires-clause-fits
 put-requires-clause-fits c =
