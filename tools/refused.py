@@ -63,8 +63,8 @@ def commands(folder):
         ("info, a real file", ["info", SINGLE_FILE[0]], None),
         ("serial, one piece", ["serial", *ONE_PIECE, "--journal", "--out", out], None),
         ("serial, three pieces", ["serial", *THREE_PIECES, "--journal"], None),
-        ("run, one piece", ["run", *ONE_PIECE, "--journal", "--out", out], None),
-        ("run, three pieces", ["run", *THREE_PIECES, "--journal", "--checkers", "2"], None),
+        ("run, one piece", ["run", *ONE_PIECE, "--out", out], None),
+        ("run, three pieces", ["run", *THREE_PIECES, "--checkers", "2"], None),
     ]
 
 
@@ -97,24 +97,32 @@ def is_front(text, whole):
     return whole.startswith(text) and (text == "" or text.endswith("\n"))
 
 
+def judge_memory(words, status, first, out, whole):
+    """The same where an allocation was refused."""
+    is_run = words[0] in ("serial", "run")
+    if status == 5 and first == "no thread" and words[0] == "run":
+        return None if out == "" else "printed without a thread"
+    if status == 5 and first == "memory":
+        if is_run:
+            # The last line is missing where there was no memory to judge the journal by.
+            return None if out == "" or is_report(out) or is_report(out + "journal ok\n") else "a report that isn't whole"
+        return None if is_front(out, whole) else "no front of the output"
+    return f"status {status}, {first}"
+
+
 def judge(kind, words, done, whole):
     """What is wrong with a run in which one call was refused, or None."""
     status, out, err = done.returncode, done.stdout.decode(), done.stderr.decode()
+    first = err.split("\n")[0]
     if status < 0:
         return f"signal {-status}"
-    first = err.split("\n")[0]
+    if kind == "alloc" and (status, err) == (whole.returncode, ""):
+        # It did without, as where less room than was asked for would do.
+        return None if out == whole.stdout.decode() else "another output"
     if kind == "alloc":
-        if status == 5 and first == "no thread" and words[0] == "run":
-            return None if out == "" else "printed without a thread"
-        if status == 5 and first == "memory":
-            if words[0] in ("serial", "run"):
-                return None if out == "" or is_report(out) else "a report that isn't whole"
-            return None if is_front(out, whole.stdout.decode()) else "no front of the output"
-        if status == whole.returncode and words[0] in ("serial", "run"):
-            return None if is_report(out) else "a report that isn't whole"
-        return f"status {status}, {first}"
+        return judge_memory(words, status, first, out, whole.stdout.decode())
     if status == 4 and first == "file fault" and len(err.split("\n")) == 3:
-        return None
+        return None if kind == "read" or whole.stdout.decode().startswith(out) else "no front of the output"
     if kind == "read" and status in (0, 1) and words[0] in ("serial", "run"):
         return None if is_report(out) else "a report that isn't whole"
     return f"status {status}, {first}"
