@@ -1,15 +1,22 @@
 #!/usr/bin/env python3
-"""Runs the built program with one allocation, read or write refused, each in turn until a run meets none.
+"""Runs the built program, or the built tests, with one allocation, read or write refused, each in turn until a run meets none.
 
     tools/refused.py [RUNS]
+    tools/refused.py tests [CRATE..]
 
 Each command line below is run as it stands, and then with the first, second, third .. allocation, read and write of the program refused
 (tools/refuse.c, which the system's `cc` builds). Each run has to end by a status of docs/NUMBERS.md, without a signal, and print what
 an undisturbed run prints, or whole lines of its front, or the report of a run whose journal was found sound. RUNS, 1 where it isn't said,
 is how often each command line of `run` is tried, since its threads come in another order each time.
+
+With `tests` each test of these crates (those of TESTED where none is said) is run with its first, second .. allocation refused, 300 at
+most. It has to pass, or to end because there was no memory: no assertion fails, so that no answer changes in place of the refusal, and
+a call that is made once more gives the answer that it would have had. `rt test` in a crate's folder leaves its tests built.
 """
 
+import itertools
 import os
+import re
 import struct
 import subprocess
 import sys
@@ -20,6 +27,18 @@ PROGRAM = os.path.join(ROOT, "crates/piecepick/out/piecepick")
 DATA = os.path.join(ROOT, "crates/bt_runs/data")
 SAMPLES = os.path.join(ROOT, "crates/bt_samples/data")
 KINDS = ("alloc", "read", "write")
+TESTED = ("bt_parts_tests", "bt_board_tests", "bt_picker_tests")
+MOST_OF_A_TEST = 300
+# What a test says that ends by an error of its own, and not by an assertion.
+NO_MEMORY = re.compile(r"error: .*(NoMemory|AllocError|AllocFailed|OutOfMemory).*\nthe test failed: its result gives status 1\n")
+LEFT_OUT = {
+    # Of two threads one waits for what the other would do, which has ended for want of memory.
+    "tests::tickets::a_full_queue_waits_and_loses_nothing",
+    # Their assertions take an answer of no memory for a wrong one.
+    "tests::shared::gathering::a_lost_pass",
+    "tests::shared::gathering::bitfields_of_had_pieces",
+    "tests::shared::threads::two_threads_at_one_desk",
+}
 
 
 def data(*names):
@@ -44,8 +63,8 @@ def commands(folder):
         ("info, a real file", ["info", SINGLE_FILE[0]], None),
         ("serial, one piece", ["serial", *ONE_PIECE, "--journal", "--out", out], None),
         ("serial, three pieces", ["serial", *THREE_PIECES, "--journal"], None),
-        ("run, one piece", ["run", *ONE_PIECE, "--journal", "--out", out], None),
-        ("run, three pieces", ["run", *THREE_PIECES, "--journal", "--checkers", "2"], None),
+        ("run, one piece", ["run", *ONE_PIECE, "--out", out], None),
+        ("run, three pieces", ["run", *THREE_PIECES, "--checkers", "2"], None),
     ]
 
 
@@ -56,13 +75,13 @@ class Trial:
         source = os.path.join(ROOT, "tools/refuse.c")
         subprocess.run(["cc", "-shared", "-fPIC", "-O2", "-o", self.shim, source, "-ldl"], check=True)
 
-    def run(self, words, stdin, refuse):
+    def run(self, words, stdin, refuse, program=PROGRAM):
         """What the program did, and how many calls of each kind it made."""
         with open(self.count, "wb") as file:
             file.write(bytes(24))
         env = {**os.environ, "LD_PRELOAD": self.shim, "REFUSE_COUNT": self.count, "REFUSE": refuse}
         with open(stdin or os.devnull, "rb") as file:
-            done = subprocess.run([PROGRAM, *words], stdin=file, capture_output=True, env=env, timeout=60)
+            done = subprocess.run([program, *words], stdin=file, capture_output=True, env=env, timeout=60)
         with open(self.count, "rb") as file:
             return done, dict(zip(KINDS, struct.unpack("<3Q", file.read())))
 
@@ -78,51 +97,105 @@ def is_front(text, whole):
     return whole.startswith(text) and (text == "" or text.endswith("\n"))
 
 
+def judge_memory(words, status, first, out, whole):
+    """The same where an allocation was refused."""
+    is_run = words[0] in ("serial", "run")
+    if status == 5 and first == "no thread" and words[0] == "run":
+        return None if out == "" else "printed without a thread"
+    if status == 5 and first == "memory":
+        if is_run:
+            # The last line is missing where there was no memory to judge the journal by.
+            return None if out == "" or is_report(out) or is_report(out + "journal ok\n") else "a report that isn't whole"
+        return None if is_front(out, whole) else "no front of the output"
+    return f"status {status}, {first}"
+
+
 def judge(kind, words, done, whole):
     """What is wrong with a run in which one call was refused, or None."""
     status, out, err = done.returncode, done.stdout.decode(), done.stderr.decode()
+    first = err.split("\n")[0]
     if status < 0:
         return f"signal {-status}"
-    first = err.split("\n")[0]
+    if kind == "alloc" and (status, err) == (whole.returncode, ""):
+        # It did without, as where less room than was asked for would do.
+        return None if out == whole.stdout.decode() else "another output"
     if kind == "alloc":
-        if status == 5 and first == "no thread" and words[0] == "run":
-            return None if out == "" else "printed without a thread"
-        if status == 5 and first == "memory":
-            if words[0] in ("serial", "run"):
-                return None if out == "" or is_report(out) else "a report that isn't whole"
-            return None if is_front(out, whole.stdout.decode()) else "no front of the output"
-        if status == whole.returncode and words[0] in ("serial", "run"):
-            return None if is_report(out) else "a report that isn't whole"
-        return f"status {status}, {first}"
+        return judge_memory(words, status, first, out, whole.stdout.decode())
     if status == 4 and first == "file fault" and len(err.split("\n")) == 3:
-        return None
+        return None if kind == "read" or whole.stdout.decode().startswith(out) else "no front of the output"
     if kind == "read" and status in (0, 1) and words[0] in ("serial", "run"):
         return None if is_report(out) else "a report that isn't whole"
     return f"status {status}, {first}"
 
 
-def main():
-    runs = int(sys.argv[1]) if len(sys.argv) > 1 else 1
+def refuse_each(trial, name, kind, words, stdin):
+    """Refuses each call of the kind in turn. How many were refused, and how many runs went wrong."""
     wrong = 0
+    whole, _ = trial.run(words, stdin, "")
+    for call in itertools.count(1):
+        done, made = trial.run(words, stdin, f"{kind}:{call}")
+        if made[kind] < call:
+            return call - 1, wrong
+        fault = judge(kind, words, done, whole)
+        if fault:
+            wrong += 1
+            print(f"{name}, {kind} {call}: {fault}")
+
+
+def try_commands(trial, folder, runs):
+    """How many runs of the program went wrong."""
+    wrong = 0
+    for name, words, stdin in commands(folder):
+        refused = dict.fromkeys(KINDS, 0)
+        for kind in KINDS:
+            for _ in range(runs if words[0] == "run" else 1):
+                count, faulty = refuse_each(trial, name, kind, words, stdin)
+                refused[kind] += count
+                wrong += faulty
+        print(f"{name}: " + ", ".join(f"{refused[kind]} {kind}s refused" for kind in KINDS))
+    return wrong
+
+
+def judge_test(done):
+    err = done.stderr.decode()
+    return None if done.returncode == 0 or NO_MEMORY.fullmatch(err) else f"status {done.returncode}, {err.strip()}"
+
+
+def refuse_in_test(trial, program, test):
+    """How many allocations were refused, and how many runs went wrong."""
+    wrong = 0
+    for call in range(1, MOST_OF_A_TEST + 1):
+        done, made = trial.run([test], None, f"alloc:{call}", program)
+        if made["alloc"] < call:
+            return call - 1, wrong
+        fault = judge_test(done)
+        if fault:
+            wrong += 1
+            print(f"{test}, alloc {call}: {fault}")
+    return MOST_OF_A_TEST, wrong
+
+
+def try_tests(trial, crates):
+    """How many runs of tests went wrong."""
+    wrong = 0
+    for crate in crates:
+        program = os.path.join(ROOT, f"crates/{crate}/out/{crate}_tests")
+        listed = subprocess.run([program, "--list"], capture_output=True, check=True).stdout.decode()
+        tests = [test for test in re.findall(r"tests::[\w:]+\w", listed) if test not in LEFT_OUT]
+        tried = [refuse_in_test(trial, program, test) for test in tests]
+        print(f"{crate}: {len(tests)} tests, {sum(refused for refused, _ in tried):,} allocations refused")
+        wrong += sum(faulty for _, faulty in tried)
+    return wrong
+
+
+def main():
+    words = sys.argv[1:]
     with tempfile.TemporaryDirectory() as folder:
         trial = Trial(folder)
-        for name, words, stdin in commands(folder):
-            whole, _ = trial.run(words, stdin, "")
-            refused = dict.fromkeys(KINDS, 0)
-            for kind in KINDS:
-                for _ in range(runs if words[0] == "run" else 1):
-                    call = 1
-                    while True:
-                        done, made = trial.run(words, stdin, f"{kind}:{call}")
-                        if made[kind] < call:
-                            break
-                        fault = judge(kind, words, done, whole)
-                        if fault:
-                            wrong += 1
-                            print(f"{name}, {kind} {call}: {fault}")
-                        refused[kind] += 1
-                        call += 1
-            print(f"{name}: " + ", ".join(f"{refused[kind]} {kind}s refused" for kind in KINDS))
+        if words[:1] == ["tests"]:
+            wrong = try_tests(trial, words[1:] or TESTED)
+        else:
+            wrong = try_commands(trial, folder, int(words[0]) if words else 1)
     print("all ends are clear" if wrong == 0 else f"{wrong} ends are not clear")
     return 1 if wrong else 0
 

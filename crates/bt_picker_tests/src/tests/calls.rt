@@ -1,4 +1,5 @@
 //! What a desk says and shows, call by call.
+use super::audits::first_wrong;
 use super::played::{Played, three_pieces};
 use bt_picker::Reply::{Failed, Had, Refused};
 use bt_picker::*;
@@ -141,15 +142,14 @@ fn finish_settles_what_waits(rt: HostRuntime) -> Result<(), Fail> {
 #[test]
 fn an_audit_of_no_call(rt: HostRuntime) -> Result<(), Fail> {
     let torrent = three_pieces(&rt, rt.alloc())?;
-    assert!(rt; audit(rt.alloc(), &torrent, 1, Rules::usual(), &[]) == Ok(()));
+    audit(rt.alloc(), &torrent, 1, Rules::usual(), &[])?;
     let other = [Entry {
         worker: 1,
         call: Call::Join,
         reply: Reply::Joined,
     }];
-    assert!(rt;
-        audit(rt.alloc(), &torrent, 1, Rules::usual(), &other) == Err(AuditFault::NotAllowed(0))
-    );
+    let judged = audit(rt.alloc(), &torrent, 1, Rules::usual(), &other);
+    assert_eq!(rt; first_wrong(judged)?, Some(0));
     Ok(())
 }
 
@@ -175,10 +175,8 @@ fn all_show_a_piece(alloc: Global, workers: u32) -> Result<Vec<Entry>, Fail> {
 fn an_audit_of_more_workers_than_a_desk_has(rt: HostRuntime) -> Result<(), Fail> {
     let torrent = three_pieces(&rt, rt.alloc())?;
     let entries = all_show_a_piece(rt.alloc(), 1030)?;
-    assert!(rt; audit(rt.alloc(), &torrent, 1030, Rules::usual(), &entries) == Ok(()));
-    assert!(rt;
-        audit(rt.alloc(), &torrent, 1029, Rules::usual(), &entries)
-            == Err(AuditFault::NotAllowed(2058))
-    );
+    audit(rt.alloc(), &torrent, 1030, Rules::usual(), &entries)?;
+    let judged = audit(rt.alloc(), &torrent, 1029, Rules::usual(), &entries);
+    assert_eq!(rt; first_wrong(judged)?, Some(2058));
     Ok(())
 }

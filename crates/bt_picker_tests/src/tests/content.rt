@@ -1,7 +1,7 @@
 use super::played::Played;
 use bt_meta::{DeviceFault, Sink, ToWrite};
 use bt_picker::ContentFault;
-use std::alloc::Global;
+use std::alloc::{AllocError, Global};
 use std::process::Abort;
 use std::test::*;
 
@@ -23,14 +23,14 @@ struct Little {
 }
 
 impl Little {
-    fn new(alloc: Global, at_once: usize, room: usize, full: Full) -> Little {
-        Little {
-            kept: Vec::new(alloc),
+    fn new(alloc: Global, at_once: usize, room: usize, full: Full) -> Result<Little, AllocError> {
+        Ok(Little {
+            kept: Vec::with_capacity(alloc, room)?,
             at_once,
             room,
             full,
             failed: false,
-        }
+        })
     }
 }
 
@@ -79,7 +79,7 @@ fn with_blocks(rt: &impl Abort, alloc: Global, count: usize) -> Result<Played, F
 #[test]
 fn pieces_in_order(rt: HostRuntime) -> Result<(), Fail> {
     let played = with_blocks(&rt, rt.alloc(), 3)?;
-    let mut writer = ToWrite::new(Vec::new(rt.alloc()));
+    let mut writer = ToWrite::new(Vec::with_capacity(rt.alloc(), 7)?);
     assert!(rt; played.write(&mut writer) == Ok(()));
     assert_eq!(rt; writer.into_inner().as_slice(), b"abcabca".as_slice());
     Ok(())
@@ -88,7 +88,7 @@ fn pieces_in_order(rt: HostRuntime) -> Result<(), Fail> {
 #[test]
 fn a_write_of_four_bytes_and_no_more(rt: HostRuntime) -> Result<(), Fail> {
     let played = with_blocks(&rt, rt.alloc(), 3)?;
-    let mut writer = Little::new(rt.alloc(), 100, 4, Full::Fails);
+    let mut writer = Little::new(rt.alloc(), 100, 4, Full::Fails)?;
     assert!(rt; played.write(&mut writer) == Err(ContentFault::WriteFault));
     assert_eq!(rt; writer.kept.as_slice(), b"abca".as_slice());
     Ok(())
@@ -99,12 +99,12 @@ fn byte_by_byte_until_it_fails(rt: HostRuntime) -> Result<(), Fail> {
     let played = with_blocks(&rt, rt.alloc(), 3)?;
     for room in 0..7 {
         for full in [Full::Fails, Full::TakesNone] {
-            let mut writer = Little::new(rt.alloc(), 1, room, full);
+            let mut writer = Little::new(rt.alloc(), 1, room, full)?;
             assert!(rt; played.write(&mut writer) == Err(ContentFault::WriteFault));
             assert_eq!(rt; writer.kept.as_slice(), &b"abcabca"[..room]);
         }
     }
-    let mut writer = Little::new(rt.alloc(), 1, 7, Full::Fails);
+    let mut writer = Little::new(rt.alloc(), 1, 7, Full::Fails)?;
     assert!(rt; played.write(&mut writer) == Ok(()));
     assert_eq!(rt; writer.kept.as_slice(), b"abcabca".as_slice());
     Ok(())
@@ -113,7 +113,7 @@ fn byte_by_byte_until_it_fails(rt: HostRuntime) -> Result<(), Fail> {
 #[test]
 fn nothing_where_a_piece_is_missing(rt: HostRuntime) -> Result<(), Fail> {
     let played = with_blocks(&rt, rt.alloc(), 2)?;
-    let mut writer = Little::new(rt.alloc(), 100, 100, Full::Fails);
+    let mut writer = Little::new(rt.alloc(), 100, 100, Full::Fails)?;
     assert!(rt; played.write(&mut writer) == Err(ContentFault::Incomplete));
     assert!(rt; writer.kept.is_empty() && !writer.failed);
     assert_eq!(rt; ContentFault::Incomplete as u8, 1);

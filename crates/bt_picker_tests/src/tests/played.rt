@@ -1,12 +1,13 @@
 //! A desk at which histories are played. What it is asked goes through functions without a contract, so that a test knows of its replies
-//! alone, and its proof is short.
+//! alone, and its proof is short. A call that found no memory is made once more, with the answer that it would have had: so each test can be
+//! run with any one allocation refused.
 ghost use Rattle.std.specs.Prelude.{◌≡◌, IfOk};
 ghost use Rattle.bt_meta.specs.Layout.{piece_count};
 
 use super::steps::{entry_of, torrent_of};
 use bt_meta::{Sink, Torrent};
 use bt_picker::*;
-use std::alloc::Global;
+use std::alloc::{AllocError, Global};
 use std::process::Abort;
 use std::sync::Arc;
 use std::test::*;
@@ -57,14 +58,30 @@ impl Played {
                 call,
                 reply,
             } = entry_of(alloc, PIECES, line)?;
-            assert_eq!(rt; self.call(rt, worker, call)?, reply, "{line}");
+            let said = match self.enter(rt, worker, call) {
+                Ok(said) => said,
+                Err(AllocError) => {
+                    let again = entry_of(alloc, PIECES, line)?;
+                    self.enter(rt, worker, again.call)?
+                }
+            };
+            assert_eq!(rt; said, reply, "{line}");
         }
         Ok(())
     }
 
     pub fn call(&mut self, rt: &impl Abort, worker: u32, call: Call) -> Result<Reply, Fail> {
+        Ok(self.enter(rt, worker, call)?)
+    }
+
+    /// Makes the call. It adds its entry, and nothing where it finds no memory.
+    fn enter(&mut self, rt: &impl Abort, worker: u32, call: Call) -> Result<Reply, AllocError> {
         assert!(rt; worker < WORKERS);
-        Ok(self.desk.call(worker, call)?)
+        let before = self.entries();
+        let said = self.desk.call(worker, call);
+        let added = if said.is_ok() { 1 } else { 0 };
+        assert_eq!(rt; self.entries().saturating_sub(before), added);
+        said
     }
 
     /// What a check of the piece comes to that ends before any other call.
@@ -76,7 +93,10 @@ impl Played {
         piece: u32,
     ) -> Result<Reply, Fail> {
         assert!(rt; worker < WORKERS);
-        Ok(self.desk.settle_now(alloc, worker, piece)?)
+        match self.desk.settle_now(alloc, worker, piece) {
+            Ok(said) => Ok(said),
+            Err(AllocError) => Ok(self.desk.settle_now(alloc, worker, piece)?),
+        }
     }
 
     /// A check of the piece as it is now, and none of one that doesn't wait for it.
@@ -89,7 +109,9 @@ impl Played {
 
     pub fn finish(&mut self, rt: &impl Abort, alloc: Global, worker: u32) -> Result<(), Fail> {
         assert!(rt; worker < WORKERS);
-        self.desk.finish(alloc, worker)?;
+        if self.desk.finish(alloc, worker).is_err() {
+            self.desk.finish(alloc, worker)?;
+        }
         Ok(())
     }
 
