@@ -1,0 +1,15 @@
+//! The desk that threads share: it lies in a slot beside a word that is its lock, each worker calls by a pass of its own that knows the
+//! history it has seen and logs its calls, and when all are done the logs are compared with the journal.
+#![tactic(auto)]
+
+mod compare;
+mod entering;
+mod gather;
+mod lock;
+mod pass;
+mod shared;
+mod view;
+
+pub use gather::{Book, GatherFault};
+pub use pass::Pass;
+pub use shared::SharedDesk;
