@@ -16,7 +16,7 @@ returns-clause-logs g c =
 
 pub returns-clause-had : goal.returns-clause-had
 returns-clause-had g c =
-    let wide : length c.in-Ok.bits ≡ piece_count g.L.DeskLedger.setting.torrent =
+    let wide : length c.in-Ok.bits ≡ piece_count g.L.RunName.setting.torrent =
     c.in-Ok.ensures.count ∙ ap (λ (t : Layout). piece_count t) c.self.invariant.board_torrent in
-    all_had c.args.workers.items c.in-Some.seat.view c.in-Some.ensures.takes g.L.DeskLedger.setting c.in_ok-gather.field-0.desk.history c.in-Ok.bits
+    all_had c.args.workers.items c.in-Some.seat.view c.in-Some.ensures.takes g.L.RunName.setting c.in_ok-gather.field-0.desk.history c.in-Ok.bits
     wide c.in-Ok.ensures.seen c.in_ok-gather.ensures.bits

@@ -1,5 +1,0 @@
-pub mod Seen
-pub mod Guard
-pub mod Passes
-pub mod Closing
-pub mod Gathering
