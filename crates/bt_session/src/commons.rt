@@ -89,12 +89,7 @@ impl<L: RunName> Model for Commons<L> {
 }
 
 impl<L: RunName> Commons<L> {
-    pub fn new(
-        torrent: Arc<Torrent>,
-        desk: SharedDesk,
-        board: Board,
-        queue: Tickets,
-    ) -> Commons<L>
+    pub fn new(torrent: Arc<Torrent>, desk: SharedDesk, board: Board, queue: Tickets) -> Commons<L>
         requires { Shares L.setting L.desk L.board L.queue torrent.value.layout desk board queue }
         ensures { result ≡ torrent.value }
     {
