@@ -5,6 +5,5 @@ mod examples;
 mod groups;
 mod played;
 mod random;
-mod shared;
 mod steps;
 mod tickets;

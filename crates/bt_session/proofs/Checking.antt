@@ -19,7 +19,7 @@ checks_none pass = record { worker = refl; checks = λ checks. checks }
 pub checks_on : (first old new : PassState) (piece : ℕ) → MakesChecks first old → MayCheck old piece new → MakesChecks first new
 checks_on first old new piece makes may =
     elim may [
-      | inl same ↦ subst (MakesChecks first) (sym same) makes
+      | inl quiet ↦ record { worker = quiet.worker ∙ makes.worker; checks = λ none. subst AreChecks (sym quiet.log) (makes.checks none) }
       | inr more ↦ record {
         worker = more.1.worker ∙ makes.worker;
         checks = λ none. subst AreChecks (sym more.1.log) (checks_more old.log _ piece refl (makes.checks none));

@@ -23,13 +23,10 @@ use Rattle.bt_session.specs.Passes.{no_piece, pass_record, worker_record}
 use Rattle.bt_session.specs.Swarms.{ChecksLast, ChecksRise, EachPlays, EachSwarmed, MakesLastChecks, Plays, Swarmed}
 use Rattle.bt_session.specs.Workers.{AreFresh, IsFresh, StandInOrder, WorkerState, knows, tells}
 use Rattle.bt_shared.specs.Gathering.{EachFrom, log_of}
-use Rattle.bt_shared.specs.Passes.{PassState, newcomer}
+use Rattle.bt_shared.specs.Passes.{PassState}
 
 abbrev pass_of : WorkerState → PassState
 pass_of worker = worker.pass
-
-abbrev passed : ℕ → List Mark → PassState
-passed worker log = record { worker = worker; log = log }
 
 -- the log of a worker among workers in order, the first of which has this number
 log_at : (ws : List WorkerState) (low : ℕ) → ((k : ℕ) (any : WorkerState) → k < length ws → (get_or ws k any).pass.worker ≡ low + k) →
@@ -57,22 +54,19 @@ swarmed_one : (journal : History) (outcome : Result End SessionFault) (terms : T
     ((piece : ℕ) → knows setting worker'.seat piece ≡ true → had journal piece ≡ true) →
     Swarmed journal outcome terms setting seed number old log new
 swarmed_one journal outcome terms setting seed number worker worker' old new log fresh plays logged known =
-    let begun : worker_record setting worker false ≡ pass_record setting (newcomer number) no_piece no_piece false =
-    (λ i. pass_record setting (fresh.pass i) (λ piece. fresh.seen piece i) (λ piece. fresh.told piece i) false) in
-    let whose : worker.pass.worker ≡ number = ap (λ (p : PassState). p.worker) fresh.pass in
-    let is : worker'.pass ≡ passed number log =
-    ap (λ (w : ℕ). passed w worker'.pass.log) (plays.number ∙ whose) ∙ ap (λ (l : List Mark). passed number l) logged in
+    let begun : worker_record setting worker false ≡ pass_record setting number [] no_piece no_piece false =
+    (λ i. pass_record setting (fresh.number_is i) (fresh.log i) (λ piece. fresh.seen piece i) (λ piece. fresh.told piece i) false) in
+    let ended : worker_record setting worker' plays.short ≡ pass_record setting number log (knows setting worker'.seat) (tells worker'.seat) plays.short =
+    (λ i. pass_record setting ((plays.number ∙ fresh.number_is) i) (logged i) (knows setting worker'.seat) (tells worker'.seat) plays.short) in
+    let Runs : ℕ → PlaceRecord → PlaceRecord → Type 0 = λ w first after. RunsTo outcome terms w (generator_of seed w) first old after new in
     record {
       known = knows setting worker'.seat;
       told = tells worker'.seat;
       short = plays.short;
       finished = known;
-      runs = subst (λ (p : PassState). RunsTo outcome terms number (generator_of seed number)
-          (pass_record setting (newcomer number) no_piece no_piece false) old
-          (pass_record setting p (knows setting worker'.seat) (tells worker'.seat) plays.short) new) is
-          (subst (λ (p : PlaceRecord). RunsTo outcome terms number (generator_of seed number) p old (worker_record setting worker' plays.short) new) begun
-          (subst (λ (w : ℕ). RunsTo outcome terms w (generator_of seed w) (worker_record setting worker false) old (worker_record setting worker' plays.short) new)
-          whose plays.runs));
+      runs = subst (Runs number (pass_record setting number [] no_piece no_piece false)) ended
+          (subst (λ (p : PlaceRecord). Runs number p (worker_record setting worker' plays.short)) begun
+          (subst (λ (w : ℕ). Runs w (worker_record setting worker false) (worker_record setting worker' plays.short)) fresh.number_is plays.runs));
     }
 
 -- The workers before and after the work of a run: they were fresh, those of the streams played, the checkers checked, and the last made the
@@ -96,7 +90,7 @@ module _ {X : Type 0} {record_of : X → StreamRecord} {terms : TermsState} {set
       subst (λ (k : ℕ). IsFresh setting k (get_or workers i any)) zeroth (ran.fresh i any (omega (arith, below, ran.many)))
 
   number : (i : ℕ) (any : WorkerState) → i < n + m + 1 → (get_or workers i any).pass.worker ≡ i
-  number i any below = ap (λ (p : PassState). p.worker) (fresh_at i any below).pass
+  number i any below = (fresh_at i any below).number_is
 
   -- which of the workers it is
   order_by : (i : ℕ) (any : WorkerState) → i < n + m + 1 → (i < n) ⊎ ((n ≤ i) × (i < n + m)) ⊎ (i ≡ n + m) → (get_or workers' i any).pass.worker ≡ i
@@ -145,11 +139,11 @@ module _ {X : Type 0} {record_of : X → StreamRecord} {terms : TermsState} {set
         let any = some_of workers (omega (arith, ran.many)) in
         let did = ran.checks i any below in
         let none : AreChecks (get_or workers (n + i) any).pass.log =
-        subst (λ (q : PassState). AreChecks q.log) (sym (fresh_at (n + i) any (omega (arith, below))).pass) tt in
+        subst AreChecks (sym (fresh_at (n + i) any (omega (arith, below))).log) tt in
         subst AreChecks (sym (log_is (n + i) log any (omega (arith, below)) at)) (did.checks none)
 
     pub finished : MakesLastChecks (n + m) logs pieces
     finished log at =
         let any = some_of workers (omega (arith, ran.many)) in
-        let none : (get_or workers (n + m) any).pass.log ≡ [] = ap (λ (q : PassState). q.log) (fresh_at (n + m) any (omega arith)).pass in
+        let none : (get_or workers (n + m) any).pass.log ≡ [] = (fresh_at (n + m) any (omega arith)).log in
         subst (λ (l : List Mark). ChecksRise 0 l pieces) (sym (log_is (n + m) log any (omega arith) at)) ((ran.last any).rise none)

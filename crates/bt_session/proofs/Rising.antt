@@ -1,9 +1,9 @@
 -- The log of checks that were made in the order of their pieces.
-use Rattle.std.proofs.Common.{◌≡◌, ℕ, ◌+◌, ◌≤◌, List, [], ◌∷◌, ◌++◌, refl, sym, ap, ◌∙◌, subst, arith, inl, inr}
+use Rattle.std.proofs.Common.{◌≡◌, ℕ, ◌+◌, ◌≤◌, List, [], ◌∷◌, ◌++◌, refl, sym, ◌∙◌, subst, arith, inl, inr}
 use Rattle.bt_history.specs.declared.mark.CallMark.TheVariants as marks
 use Rattle.bt_history.specs.declared.mark.Mark.{Mark}
 use Rattle.bt_shared.specs.Passes.{PassState}
-use Rattle.bt_session.specs.Checking.{MayCheck}
+use Rattle.bt_session.specs.Checking.{IsQuiet, MayCheck}
 use Rattle.bt_session.specs.Swarms.{ChecksLast, ChecksRise}
 
 rise_up : (low : ℕ) (log : List Mark) (high more : ℕ) → high ≤ more → ChecksRise low log high → ChecksRise low log more
@@ -22,10 +22,10 @@ none_yet pass = record {
   rise = λ none. subst (λ (log : List Mark). ChecksRise 0 log 0) (sym none) (omega arith);
 }
 
-goes_same : (first old new : PassState) (piece : ℕ) → new ≡ old → ChecksLast first old piece → ChecksLast first new (piece + 1)
-goes_same first old new piece same was = record {
-  worker = ap (λ (p : PassState). p.worker) same ∙ was.worker;
-  rise = λ none. subst (λ (p : PassState). ChecksRise 0 p.log (piece + 1)) (sym same) (rise_up 0 old.log piece (piece + 1) (omega arith) (was.rise none));
+goes_same : (first old new : PassState) (piece : ℕ) → IsQuiet old new → ChecksLast first old piece → ChecksLast first new (piece + 1)
+goes_same first old new piece quiet was = record {
+  worker = quiet.worker ∙ was.worker;
+  rise = λ none. subst (λ (log : List Mark). ChecksRise 0 log (piece + 1)) (sym quiet.log) (rise_up 0 old.log piece (piece + 1) (omega arith) (was.rise none));
 }
 
 -- the check of one more piece was asked for, whatever the answer

@@ -1,6 +1,7 @@
 -- The seats of a new board, and the seat that all are joined to.
-use Rattle.std.proofs.Common.{◌≡◌, ◌<◌, ◌≤◌, ◌+◌, ℕ, Bool, true, false, List, [], ◌∷◌, ◌++◌, length, map, get_or, Option, Some, refl, sym, ap, subst, ◌∙◌, inl, inr, ⊎_elim, arith, append_assoc}
+use Rattle.std.proofs.Common.{◌≡◌, ◌<◌, ◌≤◌, ◌+◌, ℕ, zero, suc, Bool, true, false, List, [], ◌∷◌, ◌++◌, length, map, get_or, slice_get, Option, Some, refl, sym, ap, subst, ◌∙◌, inl, inr, ⊎_elim, arith, append_assoc}
 use Rattle.std.proofs.lemmas.List.{append-nil, map-append}
+use Rattle.std.proofs.lemmas.Option.{same_Some}
 use Rattle.std.proofs.lemmas.List.Elements.{All-append, All-cons}
 use Rattle.std.proofs.lemmas.List.FromFn.{get_or-map-range_with_len, length-map-range_with_len}
 use Rattle.std.specs.List.{All, range_with_len}
@@ -17,10 +18,11 @@ use Rattle.bt_history.specs.History.{History}
 use Rattle.bt_history.specs.Pieces.{had}
 use Rattle.bt_history.specs.Setting.{Setting}
 use Rattle.bt_meta.specs.Layout.{piece_count}
-use Rattle.bt_session.specs.Workers.{AreNumbered, Belongs, IsFresh, IsNewSeat, StandInOrder, Takes, WorkerState, knows}
+use Rattle.bt_session.specs.Workers.{AreNumbered, Belongs, AreNamed, IsFresh, IsNamed, IsNewPass, IsNewSeat, StandInOrder, Takes, WorkerState, knows}
 use Rattle.bt_shared.specs.Gathering.{AreHad}
 use Rattle.bt_shared.specs.Passes as passes
-use Rattle.bt_shared.specs.Passes.{PassState}
+use Rattle.bt_shared.specs.Passes.{AreOf, IsSame, PassState, SharedState}
+use Rattle.bt_session.proofs.Numbered.{from_gets}
 
 -- ---- a new board's
 
@@ -43,19 +45,52 @@ module _ (board : BoardState) (n : ℕ) (seats : List SeatState) (is : seats ≡
       ∙ get_or-map-range_with_len (newcomer board) 0 n i (0 + i) any (omega (arith, below, seats_count)) refl))
       (is_new board (0 + i))
 
+-- a new desk's passes
+are_new_pass : (desk : SharedState) (number : ℕ) → IsNewPass (Some desk.table) desk.setting number (passes.newcomer desk number)
+are_new_pass desk number = record { named = record { desk_is = refl; setting_is = refl }; number_is = refl; log = refl }
+
+pub are_new_passes : (desk : SharedState) (setting : Setting) (ps : List PassState) → desk.setting ≡ setting →
+    ((w : ℕ) → w < length ps → slice_get ps w ≡ Some (passes.newcomer desk w)) → AreNumbered (IsNewPass (Some desk.table) setting) 0 ps
+are_new_passes desk setting ps same gets i any below =
+    subst (λ (s : Setting). IsNewPass (Some desk.table) s (0 + i) (get_or ps i any)) same
+    (subst (IsNewPass (Some desk.table) desk.setting (0 + i)) (sym (from_gets (passes.newcomer desk) ps gets i any below)) (are_new_pass desk (0 + i)))
+
+-- what has one name is one
+pub same_table : (name : Option TableId) (a b : TableId) → name ≡ Some a → name ≡ Some b → a ≡ b
+same_table name a b is_a is_b = same_Some a b (sym is_a ∙ is_b)
+
+-- a worker belongs to its run whatever its pass has seen
+pub belongs_on : (setting : Setting) (desk board : Option TableId) (queue : Option Queue) (old new : PassState) (seat : SeatState) (tickets : TicketState) →
+    IsSame old new → Belongs setting desk board queue (record { pass = old; seat = seat; tickets = tickets }) →
+    Belongs setting desk board queue (record { pass = new; seat = seat; tickets = tickets })
+belongs_on setting desk board queue old new seat tickets same was = record {
+  pass = record { desk_is = was.pass.desk_is ∙ ap (λ (t : TableId). Some t) (sym same.table); setting_is = same.setting ∙ was.pass.setting_is };
+  seat = was.seat;
+  own = was.own ∙ ap (λ (w : ℕ). w ∷ []) (sym same.worker);
+  tickets = was.tickets;
+}
+
+-- the passes of a run's desk
+pub are_of : (desk : SharedState) (name : Option TableId) (setting : Setting) (ps : List PassState) → name ≡ Some desk.table → desk.setting ≡ setting →
+    AreNamed name setting ps → AreOf desk ps
+are_of desk name setting ps desk_is same named k p at =
+    let is = named k p at in
+    record { table = same_table name p.table desk.table is.desk_is desk_is; setting = is.setting_is ∙ sym same }
+
 -- a new worker of a new seat
-pub belongs : (board : Option TableId) (queue : Option Queue) (number : ℕ) (pass : PassState) (seat : SeatState) (tickets : TicketState) →
-    pass ≡ passes.newcomer number → IsNewSeat board number seat → queue ≡ Some tickets.queue →
-    Belongs board queue (record { pass = pass; seat = seat; tickets = tickets })
-belongs board queue number pass seat tickets is new queue_is = record {
+pub belongs : (setting : Setting) (desk board : Option TableId) (queue : Option Queue) (number : ℕ) (pass : PassState) (seat : SeatState) (tickets : TicketState) →
+    IsNewPass desk setting number pass → IsNewSeat board number seat → queue ≡ Some tickets.queue →
+    Belongs setting desk board queue (record { pass = pass; seat = seat; tickets = tickets })
+belongs setting desk board queue number pass seat tickets is new queue_is = record {
+  pass = is.named;
   seat = new.board_is;
-  own = new.own ∙ ap (λ (p : PassState). p.worker ∷ []) (sym is);
+  own = new.own ∙ ap (λ (w : ℕ). w ∷ []) (sym is.number_is);
   tickets = queue_is;
 }
 
-pub is_fresh : (setting : Setting) (board : Option TableId) (number : ℕ) (pass : PassState) (seat : SeatState) (tickets : TicketState) →
-    pass ≡ passes.newcomer number → IsNewSeat board number seat → IsFresh setting number (record { pass = pass; seat = seat; tickets = tickets })
-is_fresh setting board number pass seat tickets is new = record { pass = is; seen = new.seen setting; told = new.told }
+pub is_fresh : (setting : Setting) (desk board : Option TableId) (number : ℕ) (pass : PassState) (seat : SeatState) (tickets : TicketState) →
+    IsNewPass desk setting number pass → IsNewSeat board number seat → IsFresh setting number (record { pass = pass; seat = seat; tickets = tickets })
+is_fresh setting desk board number pass seat tickets is new = record { number_is = is.number_is; log = is.log; seen = new.seen setting; told = new.told }
 
 -- ---- joined seats
 
@@ -90,33 +125,46 @@ takes_right v w worker takes = record {
 }
 
 -- The first of the workers were parted into these passes and this seat
-pub record Joins (table : TableId) (workers rest : List WorkerState) (passes : List PassState) (all : SeatState) : Type 0 where
+pub record Joins (setting : Setting) (desk : Option TableId) (table : TableId) (workers rest : List WorkerState) (passes : List PassState) (all : SeatState) : Type 0 where
   pub done : List WorkerState
   pub split : done ++ rest ≡ workers
   pub passes_are : passes ≡ map (λ w. w.pass) done
+  pub named : AreNamed desk setting passes
   pub takes : All (Takes all.view) done
   pub table_is : all.table ≡ table
 
 one : (P : WorkerState → Type 0) (w : WorkerState) → P w → All P (w ∷ [])
 one P w is = All-cons P w [] is (λ i d below. absurd (omega (arith, below)))
 
-pub joins_first : (table : TableId) (workers rest : List WorkerState) (w : WorkerState) (passes : List PassState) → workers ≡ w ∷ rest → own w →
-    passes ≡ w.pass ∷ [] → w.seat.table ≡ table → Joins table workers rest passes w.seat
-joins_first table workers rest w passes is mine passes_are table_is = record {
+named_more : (setting : Setting) (desk : Option TableId) (passes passes' : List PassState) (pass : PassState) → AreNamed desk setting passes → IsNamed desk setting pass →
+    passes' ≡ passes ++ pass ∷ [] → AreNamed desk setting passes'
+named_more setting desk passes passes' pass old new more = subst (AreNamed desk setting) (sym more) (go passes old)
+  where
+    go : (ps : List PassState) → AreNamed desk setting ps → AreNamed desk setting (ps ++ pass ∷ [])
+    go [] named zero p at = subst (IsNamed desk setting) (same_Some pass p at) new
+    go [] named (suc k) p at = absurd cc
+    go (q ∷ ps) named zero p at = named zero p at
+    go (q ∷ ps) named (suc k) p at = go ps (λ i. named (suc i)) k p at
+
+pub joins_first : (setting : Setting) (desk : Option TableId) (table : TableId) (workers rest : List WorkerState) (w : WorkerState) (passes : List PassState) → workers ≡ w ∷ rest → own w → IsNamed desk setting w.pass →
+    passes ≡ w.pass ∷ [] → w.seat.table ≡ table → Joins setting desk table workers rest passes w.seat
+joins_first setting desk table workers rest w passes is mine named passes_are table_is = record {
   done = w ∷ [];
   split = sym is;
   passes_are = passes_are;
+  named = named_more setting desk [] passes w.pass (λ k p none. absurd cc) named passes_are;
   takes = one (Takes w.seat.view) w (takes_own w mine);
   table_is = table_is;
 }
 
-pub joins_more : (table : TableId) (workers rest rest' : List WorkerState) (w : WorkerState) (passes passes' : List PassState) (all all' : SeatState) →
-    Joins table workers rest passes all → rest ≡ w ∷ rest' → own w → passes' ≡ passes ++ w.pass ∷ [] →
-    all'.view ≡ both all.view w.seat.view → all'.table ≡ table → Joins table workers rest' passes' all'
-joins_more table workers rest rest' w passes passes' all all' was is mine more view table_is = record {
+pub joins_more : (setting : Setting) (desk : Option TableId) (table : TableId) (workers rest rest' : List WorkerState) (w : WorkerState) (passes passes' : List PassState) (all all' : SeatState) →
+    Joins setting desk table workers rest passes all → rest ≡ w ∷ rest' → own w → IsNamed desk setting w.pass → passes' ≡ passes ++ w.pass ∷ [] →
+    all'.view ≡ both all.view w.seat.view → all'.table ≡ table → Joins setting desk table workers rest' passes' all'
+joins_more setting desk table workers rest rest' w passes passes' all all' was is mine named more view table_is = record {
   done = was.done ++ w ∷ [];
   split = append_assoc was.done (w ∷ []) rest' ∙ (ap (λ (l : List WorkerState). was.done ++ l) (sym is) ∙ was.split);
   passes_are = more ∙ (ap (λ (l : List PassState). l ++ w.pass ∷ []) was.passes_are ∙ sym (map-append (λ w. w.pass) was.done (w ∷ [])));
+  named = named_more setting desk passes passes' w.pass was.named named more;
   takes = subst (λ (v : View). All (Takes v) (was.done ++ w ∷ [])) (sym view)
       (All-append (Takes (both all.view w.seat.view)) was.done (w ∷ [])
       (λ i d below. takes_left all.view w.seat.view (get_or was.done i d) (was.takes i d below))
@@ -128,9 +176,9 @@ nothing_left : {X : Type 0} (xs : List X) → length xs ≡ 0 → xs ≡ []
 nothing_left [] none = refl
 nothing_left (x ∷ xs) none = absurd (omega (arith, none))
 
-pub all_taken : {table : TableId} {workers rest : List WorkerState} {passes : List PassState} {all : SeatState} → Joins table workers rest passes all →
+pub all_taken : {setting : Setting} {desk : Option TableId} {table : TableId} {workers rest : List WorkerState} {passes : List PassState} {all : SeatState} → Joins setting desk table workers rest passes all →
     length rest ≡ 0 → All (Takes all.view) workers
-all_taken {table} {workers} {rest} {passes} {all} was none =
+all_taken {setting} {desk} {table} {workers} {rest} {passes} {all} was none =
     let is : was.done ≡ workers = sym (append-nil was.done) ∙ (ap (λ (l : List WorkerState). was.done ++ l) (sym (nothing_left rest none)) ∙ was.split) in
     subst (All (Takes all.view)) is was.takes
 

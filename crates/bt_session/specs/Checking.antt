@@ -27,9 +27,14 @@ TakesNone old new = (new ≡ with_tickets old (with_taken old.tickets Stop)) ⊎
 
 -- ---- checks
 
+-- the pass is the same worker's, and its log as it was
+pub record IsQuiet (old new : PassState) : Type 0 where
+  pub worker : new.worker ≡ old.worker
+  pub log : new.log ≡ old.log
+
 -- a worker's pass after it saw to a piece: the mark of a check of this piece, or nothing
 abbrev pub MayCheck : PassState → ℕ → PassState → Type 0
-MayCheck old piece new = (new ≡ old) ⊎ ((reply : Reply) × Notes old (Settle piece) reply new)
+MayCheck old piece new = IsQuiet old new ⊎ ((reply : Reply) × Notes old (Settle piece) reply new)
 
 -- the marks are checks alone
 abbrev pub AreChecks : List Mark → Type 0

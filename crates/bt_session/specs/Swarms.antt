@@ -8,7 +8,7 @@ use Rattle.bt_history.specs.Pieces.{had}
 use Rattle.bt_history.specs.Setting.{Setting}
 use Rattle.bt_picker.specs.Checks.{waits}
 use Rattle.bt_picker.specs.Positions.{DeskState}
-use Rattle.bt_shared.specs.Passes.{PassState, newcomer}
+use Rattle.bt_shared.specs.Passes.{PassState}
 use Rattle.bt_shared.specs.Gathering.{IsNotMissing}
 use Rattle.bt_shared.specs.declared.gather.GatherFault.{GatherFault}
 use Rattle.bt_shared.specs.declared.gather.GatherFault.TheVariants as gathers
@@ -63,8 +63,8 @@ pub record Swarmed (journal : History) (outcome : Result End SessionFault) (term
   pub short : Bool
   pub finished : (piece : ℕ) → known piece ≡ true → had journal piece ≡ true
   pub runs : RunsTo outcome terms number (generator_of seed number)
-      (pass_record setting (newcomer number) no_piece no_piece false) old
-      (pass_record setting (record { worker = number; log = log }) known told short) new
+      (pass_record setting number [] no_piece no_piece false) old
+      (pass_record setting number log known told short) new
 
 -- Each stream's session ran so: from the stream as it was handed in, to its worker's log and the stream as it was given back, in order.
 abbrev pub EachSwarmed : {X : Type 0} → (X → StreamRecord) → TermsState → Setting → ℕ → List X →

@@ -1,5 +1,5 @@
 -- The workers of a run in threads: what each of them has, and what its seat knows.
-use Rattle.std.specs.Prelude.{◌≡◌, ◌==◌, ◌<◌, ◌+◌, if◌then◌else◌, ℕ, Bool, true, false, List, [], ◌∷◌, length, slice_index_or, Option, Some}
+use Rattle.std.specs.Prelude.{◌≡◌, ◌==◌, ◌<◌, ◌+◌, if◌then◌else◌, ℕ, Bool, true, false, List, [], ◌∷◌, length, slice_get, slice_index_or, Option, Some}
 use Rattle.atomic_table.specs.Seated.{TableId}
 use Rattle.bt_board.specs.Knowing.{has_seen, has_given}
 use Rattle.bt_board.specs.Seats.{BoardState, SeatState}
@@ -8,7 +8,8 @@ use Rattle.bt_board.specs.declared.view.View.{View}
 use Rattle.bt_check.specs.Queues.{Queue, PassState as TicketState}
 use Rattle.bt_history.specs.Setting.{Setting}
 use Rattle.bt_meta.specs.Layout.{Layout, piece_count}
-use Rattle.bt_shared.specs.Passes.{PassState, newcomer}
+use Rattle.bt_session.specs.declared.fittings.Fittings.{Fittings}
+use Rattle.bt_shared.specs.Passes.{PassState, SharedState}
 
 -- a worker: its pass of the desk, its seat at the board, and its pass of the queue of tickets
 pub record WorkerState : Type 0 where
@@ -20,18 +21,29 @@ pub record WorkerState : Type 0 where
 abbrev pub with_tickets : WorkerState → TicketState → WorkerState
 with_tickets worker tickets = record { pass = worker.pass; seat = worker.seat; tickets = tickets }
 
--- The worker belongs to the run of this board and this queue: its seat is the board's and its own, and it puts and takes at the queue
-pub record Belongs (board : Option TableId) (queue : Option Queue) (worker : WorkerState) : Type 0 where
+-- the pass is one of the desk of this name
+pub record IsNamed (desk : Option TableId) (setting : Setting) (pass : PassState) : Type 0 where
+  pub desk_is : desk ≡ Some pass.table
+  pub setting_is : pass.setting ≡ setting
+
+abbrev pub AreNamed : Option TableId → Setting → List PassState → Type 0
+AreNamed desk setting passes = (k : ℕ) (pass : PassState) → slice_get passes k ≡ Some pass → IsNamed desk setting pass
+
+-- The worker belongs to the run of this desk, this board and this queue: its pass is the desk's, its seat is the board's and its own, and it
+-- puts and takes at the queue
+pub record Belongs (setting : Setting) (desk board : Option TableId) (queue : Option Queue) (worker : WorkerState) : Type 0 where
+  pub pass : IsNamed desk setting worker.pass
   pub seat : board ≡ Some worker.seat.table
   pub own : worker.seat.view.seats ≡ worker.pass.worker ∷ []
   pub tickets : queue ≡ Some worker.tickets.queue
 
--- A run shares what its name says: a desk of so many parts, its torrent, a board of it with a seat for each worker, and a queue
-pub record Shares (setting : Setting) (parts : ℕ) (named : Option TableId) (named_queue : Option Queue)
-    (torrent : Layout) (board : BoardState) (queue : Queue) : Type 0 where
-  pub board_is : named ≡ Some board.table
+-- A run shares what its name says: a desk, its torrent, a board of it with a seat for each worker, and a queue
+pub record Shares (setting : Setting) (named named_board : Option TableId) (named_queue : Option Queue)
+    (torrent : Layout) (desk : SharedState) (board : BoardState) (queue : Queue) : Type 0 where
+  pub desk_is : named ≡ Some desk.table
+  pub desk_setting : desk.setting ≡ setting
+  pub board_is : named_board ≡ Some board.table
   pub queue_is : named_queue ≡ Some queue
-  pub parts_are : parts ≡ setting.workers
   pub torrent_is : torrent ≡ setting.torrent
   pub board_torrent : board.torrent ≡ setting.torrent
   pub seats : board.seats ≡ setting.workers
@@ -77,9 +89,29 @@ pub record IsNewSeat (board : Option TableId) (number : ℕ) (seat : SeatState) 
   pub seen : (setting : Setting) (piece : ℕ) → knows setting seat piece ≡ false
   pub told : (piece : ℕ) → tells seat piece ≡ false
 
+-- the pass of this number at the desk of this name, which has made no call
+pub record IsNewPass (desk : Option TableId) (setting : Setting) (number : ℕ) (pass : PassState) : Type 0 where
+  pub named : IsNamed desk setting pass
+  pub number_is : pass.worker ≡ number
+  pub log : pass.log ≡ []
+
+-- A desk of this setting, and a board and a queue for it: for each worker a pass that has made no call, a seat that has seen nothing, and a
+-- pass of the queue
+pub record AreFittings (setting : Setting) (f : Fittings) : Type 0 where
+  pub desk : f.desk.setting ≡ setting
+  pub board_torrent : f.board.torrent ≡ setting.torrent
+  pub board_seats : f.board.seats ≡ setting.workers
+  pub passes_count : length f.passes.items ≡ setting.workers
+  pub seats_count : length f.seats.items ≡ setting.workers
+  pub tickets_count : length f.tickets.items ≡ setting.workers
+  pub passes : AreNumbered (IsNewPass (Some f.desk.table) setting) 0 f.passes.items
+  pub seats : AreNumbered (IsNewSeat (Some f.board.table)) 0 f.seats.items
+  pub tickets : (i : ℕ) (any : TicketState) → i < length f.tickets.items → (slice_index_or f.tickets.items i any).queue ≡ f.queue
+
 -- the worker of this number has made no call, has seen no piece, and has told none
 pub record IsFresh (setting : Setting) (number : ℕ) (worker : WorkerState) : Type 0 where
-  pub pass : worker.pass ≡ newcomer number
+  pub number_is : worker.pass.worker ≡ number
+  pub log : worker.pass.log ≡ []
   pub seen : (piece : ℕ) → knows setting worker.seat piece ≡ false
   pub told : (piece : ℕ) → tells worker.seat piece ≡ false
 

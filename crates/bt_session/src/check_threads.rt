@@ -6,7 +6,7 @@ ghost use Rattle.bt_session.specs.Swarms.{IsRunFault};
 
 use crate::checker::{Checked, check_pieces};
 use crate::commons::{Commons, Worker};
-use crate::run_ledger::RunLedger;
+use crate::run_name::RunName;
 use crate::swarm_run::SwarmFault;
 use bt_check::Ticket;
 use std::alloc::Global;
@@ -17,16 +17,16 @@ use std::thread::{Promise, PromisedHandle, Threads};
 
 /// What the thread of a checker promises of what it gives back: its worker made checks alone.
 #[derive(Drop)]
-pub struct CheckOf<L: RunLedger> {
+pub struct CheckOf<L: RunName> {
     pub worker: Snapshot<Worker<L>>,
 }
 
-impl<L: RunLedger> Promise<Checked<L>> for CheckOf<L> {
+impl<L: RunName> Promise<Checked<L>> for CheckOf<L> {
     ghost kept_by = { λ p r. MakesChecks p.worker.value.pass r.worker.pass };
 }
 
 /// Starts the thread of a checker.
-fn start<'s, 'e, L: RunLedger + Send + Sync + 'e, T: Threads + Wait + Sync + 'e>(
+fn start<'s, 'e, L: RunName + Send + Sync + 'e, T: Threads + Wait + Sync + 'e>(
     rt: &'e T,
     alloc: Global,
     scope: &thread::Scope<'s, &'e ()>,
@@ -49,7 +49,7 @@ fn start<'s, 'e, L: RunLedger + Send + Sync + 'e, T: Threads + Wait + Sync + 'e>
 }
 
 /// Starts a thread for each checker. Where one can't be started, the handles are of those that run.
-pub fn start_checkers<'s, 'e, L: RunLedger + Send + Sync + 'e, T: Threads + Wait + Sync + 'e>(
+pub fn start_checkers<'s, 'e, L: RunName + Send + Sync + 'e, T: Threads + Wait + Sync + 'e>(
     rt: &'e T,
     alloc: Global,
     scope: &thread::Scope<'s, &'e ()>,
@@ -70,7 +70,7 @@ pub fn start_checkers<'s, 'e, L: RunLedger + Send + Sync + 'e, T: Threads + Wait
 }
 
 /// Tells so many checkers to stop, in the name of this worker. Whether each was told.
-pub fn stop<L: RunLedger, T: Wait>(
+pub fn stop<L: RunName, T: Wait>(
     rt: &T,
     commons: &Commons<L>,
     worker: &mut Worker<L>,

@@ -3,20 +3,20 @@
 ghost use Rattle.bt_session.specs.Checking.{MakesChecks};
 
 use crate::commons::{Commons, Worker};
-use crate::run_ledger::RunLedger;
+use crate::run_name::RunName;
 use std::alloc::Global;
 use std::sync::Wait;
 
 /// What the thread of a checker gives back.
 #[derive(Drop)]
-pub struct Checked<L: RunLedger> {
+pub struct Checked<L: RunName> {
     pub worker: Worker<L>,
     /// A check was given up for want of memory.
     pub short: bool,
 }
 
 /// Sees to the pieces of the tickets that it takes, until it is told to stop.
-pub fn check_pieces<L: RunLedger, T: Wait>(
+pub fn check_pieces<L: RunName, T: Wait>(
     rt: &T,
     alloc: Global,
     commons: &Commons<L>,

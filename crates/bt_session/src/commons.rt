@@ -3,18 +3,18 @@
 ghost use Rattle.std.specs.Prelude.{◌≡◌, ◌≤◌, ℕ, [], Some, true, map, length, vec_capacity, vec_len, slice_index_or, IsTrue, IfOk, IfErr, IfSome, IfNone, OnErr};
 ghost use Rattle.std.specs.List.{All};
 ghost use Rattle.bt_board.specs.Story.{Seen};
-ghost use Rattle.bt_history.specs.Entries.{action_of};
+ghost use Rattle.bt_history.specs.Entries.{action_of, event};
 ghost use Rattle.bt_history.specs.Legal.{IsLegal};
 ghost use Rattle.bt_history.specs.Logs.{answers, call_mark};
 ghost use Rattle.bt_history.specs.Pieces.{had};
 ghost use Rattle.bt_meta.specs.Layout.{piece_count};
-ghost use Rattle.bt_session.specs.Checking.{MayCheck, PutsIf, TakesNone, TakesPiece};
+ghost use Rattle.bt_session.specs.Checking.{IsQuiet, MayCheck, PutsIf, TakesNone, TakesPiece};
 ghost use Rattle.bt_session.specs.Swarms.{IsRunFault};
-ghost use Rattle.bt_session.specs.Workers.{Belongs, Shares, StandInOrder, Takes, TellsNone, TellsOne, WorkerState, knows};
+ghost use Rattle.bt_session.specs.Workers.{AreNamed, Belongs, Shares, StandInOrder, Takes, TellsNone, TellsOne, WorkerState, knows};
 ghost use Rattle.bt_shared.specs.Gathering.{EachAgrees, EachFrom};
-ghost use Rattle.bt_shared.specs.Passes.{Notes};
+ghost use Rattle.bt_shared.specs.Passes.{Enters, Notes};
 
-use crate::run_ledger::RunLedger;
+use crate::run_name::RunName;
 use crate::swarm_run::SwarmFault;
 use bt_board::{Board, BoardSeat};
 use bt_check::{Proven, Ticket, TicketPass, Tickets};
@@ -22,36 +22,38 @@ use bt_meta::Torrent;
 use bt_picker::{Call, Reply};
 use bt_shared::{Book, Pass, SharedDesk};
 use std::alloc::{AllocError, Global};
-use std::marker::Model;
+use std::marker::{Model, PhantomData};
 use std::sync::{Arc, Wait};
 
 /// What a worker of a run has of its own. Contracts see the three parts.
 #[derive(Drop)]
-pub struct Worker<L: RunLedger> {
-    pass: Pass<L>,
+pub struct Worker<L: RunName> {
+    pass: Pass,
     seat: BoardSeat,
     tickets: TicketPass,
+    run: PhantomData<L>,
 }
 
-impl<L: RunLedger> Model for Worker<L> {
-    ghost use Rattle.bt_session.specs.Workers.{Belongs, WorkerState};
+impl<L: RunName> Model for Worker<L> {
+    ghost use Rattle.bt_session.specs.Workers.{AreNamed, Belongs, WorkerState};
 
     ghost Value = { WorkerState };
 
     ghost view = { λ w. record { pass = w.pass; seat = w.seat; tickets = w.tickets } };
 
-    ghost invariant = { λ w. Belongs L.board L.queue (record { pass = w.pass; seat = w.seat; tickets = w.tickets }) };
+    ghost invariant = { λ w. Belongs L.setting L.desk L.board L.queue (record { pass = w.pass; seat = w.seat; tickets = w.tickets }) };
 }
 
-impl<L: RunLedger> Worker<L> {
-    pub fn new(pass: Pass<L>, seat: BoardSeat, tickets: TicketPass) -> Worker<L>
-        requires { Belongs L.board L.queue (record { pass = pass; seat = seat; tickets = tickets }) }
+impl<L: RunName> Worker<L> {
+    pub fn new(pass: Pass, seat: BoardSeat, tickets: TicketPass) -> Worker<L>
+        requires { Belongs L.setting L.desk L.board L.queue (record { pass = pass; seat = seat; tickets = tickets }) }
         ensures { result ≡ record { pass = pass; seat = seat; tickets = tickets } }
     {
         Worker {
             pass,
             seat,
             tickets,
+            run: PhantomData,
         }
     }
 
@@ -66,14 +68,15 @@ impl<L: RunLedger> Worker<L> {
 /// What the threads of a run share: the torrent, its desk, the board of its finished pieces, and the queue of tickets for pieces to be
 /// checked. Contracts see the torrent.
 #[derive(Drop)]
-pub struct Commons<L: RunLedger> {
+pub struct Commons<L: RunName> {
     torrent: Arc<Torrent>,
-    desk: SharedDesk<L>,
+    desk: SharedDesk,
     board: Board,
     queue: Tickets,
+    run: PhantomData<L>,
 }
 
-impl<L: RunLedger> Model for Commons<L> {
+impl<L: RunName> Model for Commons<L> {
     ghost use Rattle.std.specs.Arc.{arc_value};
     ghost use Rattle.bt_meta.specs.Layout.{Metainfo};
     ghost use Rattle.bt_session.specs.Workers.{Shares};
@@ -82,17 +85,12 @@ impl<L: RunLedger> Model for Commons<L> {
 
     ghost view = { λ c. arc_value c.torrent };
 
-    ghost invariant = { λ c. Shares L.setting L.parts L.board L.queue (arc_value c.torrent).layout c.board c.queue };
+    ghost invariant = { λ c. Shares L.setting L.desk L.board L.queue (arc_value c.torrent).layout c.desk c.board c.queue };
 }
 
-impl<L: RunLedger> Commons<L> {
-    pub fn new(
-        torrent: Arc<Torrent>,
-        desk: SharedDesk<L>,
-        board: Board,
-        queue: Tickets,
-    ) -> Commons<L>
-        requires { Shares L.setting L.parts L.board L.queue torrent.value.layout board queue }
+impl<L: RunName> Commons<L> {
+    pub fn new(torrent: Arc<Torrent>, desk: SharedDesk, board: Board, queue: Tickets) -> Commons<L>
+        requires { Shares L.setting L.desk L.board L.queue torrent.value.layout desk board queue }
         ensures { result ≡ torrent.value }
     {
         Commons {
@@ -100,6 +98,7 @@ impl<L: RunLedger> Commons<L> {
             desk,
             board,
             queue,
+            run: PhantomData,
         }
     }
 
@@ -116,17 +115,18 @@ impl<L: RunLedger> Commons<L> {
         self.torrent.clone()
     }
 
-    /// The worker's call at the desk. Waits for the lock. Without memory, nothing changes.
+    /// The worker's call at the desk. Waits for it. Without memory, no entry is made.
     pub fn call<T: Wait>(
         &self,
         rt: &T,
         worker: &mut Worker<L>,
         call: Call,
     ) -> Result<Reply, AllocError>
-        ensures ok { IfOk result (λ reply. Notes worker.old.pass (call_mark (action_of call)) reply worker.new.pass) }
+        ensures ok { IfOk result (λ reply. Enters (event worker.old.pass.worker call reply) worker.old.pass worker.new.pass) }
+        ensures notes { IfOk result (λ reply. Notes worker.old.pass (call_mark (action_of call)) reply worker.new.pass) }
         ensures fits { IfOk result (λ reply. IsTrue (answers (call_mark (action_of call)) reply)) }
         ensures rest { (worker.new.seat ≡ worker.old.seat) × (worker.new.tickets ≡ worker.old.tickets) }
-        ensures err { OnErr result (worker.new ≡ worker.old) }
+        ensures err { OnErr result (IsQuiet worker.old.pass worker.new.pass) }
     {
         self.desk.call(rt, &mut worker.pass, call)
     }
@@ -169,7 +169,7 @@ impl<L: RunLedger> Commons<L> {
     ) -> Result<(), AllocError>
         ensures { MayCheck worker.old.pass piece worker.new.pass }
     {
-        let Some(job) = self.desk.job(rt, alloc, piece)? else {
+        let Some(job) = self.desk.job(rt, alloc, &mut worker.pass, piece)? else {
             return Ok(());
         };
         let verdict = Arc::new(alloc, job.hash())?;
@@ -201,6 +201,7 @@ impl<L: RunLedger> Commons<L> {
             desk,
             board,
             queue: _,
+            run: _,
         } = self;
         let mut passes = Vec::with_capacity(alloc, workers.len())?;
         let Some(seat) = join_seats(&board, workers, &mut passes) else {
@@ -214,14 +215,15 @@ impl<L: RunLedger> Commons<L> {
 }
 
 /// Parts the workers into their passes, in order, and one seat for all of theirs.
-fn join_seats<L: RunLedger>(
+fn join_seats<L: RunName>(
     board: &Board,
     workers: Vec<Worker<L>>,
-    passes: &mut Vec<Pass<L>>,
+    passes: &mut Vec<Pass>,
 ) -> Option<BoardSeat>
     requires board { L.board ≡ Some board.now.table }
     requires room { (passes.old.items ≡ []) × (vec_len workers ≤ vec_capacity passes.old) }
     ensures passes { passes.new.items ≡ map (λ w. w.pass) workers.items }
+    ensures named { AreNamed L.desk L.setting passes.new.items }
     ensures none { IfNone result (length workers.items ≡ 0) }
     ensures board { IfSome result (λ seat. seat.table ≡ board.now.table) }
     ensures takes { IfSome result (λ seat. All (Takes seat.view) workers.items) }
@@ -231,6 +233,7 @@ fn join_seats<L: RunLedger>(
         pass,
         seat,
         tickets: _,
+        run: _,
     } = workers.next()?;
     passes.push_reserved(pass);
     let mut all = seat;
@@ -239,6 +242,7 @@ fn join_seats<L: RunLedger>(
             pass,
             seat,
             tickets: _,
+            run: _,
         } = worker;
         passes.push_reserved(pass);
         all = board.join(all, seat);

@@ -10,7 +10,7 @@ use crate::check_threads::{CheckOf, start_checkers, stop};
 use crate::checker::Checked;
 use crate::commons::{Commons, Worker};
 use crate::play::Played;
-use crate::run_ledger::RunLedger;
+use crate::run_name::RunName;
 use crate::swarm_run::SwarmFault;
 use crate::threads::{PlayOf, join_each, start_sessions};
 use bt_meta::{Sink, Source};
@@ -22,7 +22,7 @@ use std::thread::{PromisedHandle, Threads};
 
 /// What the threads of a run gave back, each in the order of its workers.
 #[derive(Drop)]
-pub struct Joined<L: RunLedger, R, W> {
+pub struct Joined<L: RunName, R, W> {
     pub played: Vec<Played<L, R, W>>,
     pub checked: Vec<Checked<L>>,
     /// The worker that told the checkers to stop.
@@ -35,7 +35,7 @@ pub struct Joined<L: RunLedger, R, W> {
 fn start_all<
     's,
     'e,
-    L: RunLedger + Send + Sync + 'e,
+    L: RunName + Send + Sync + 'e,
     R: Source + Send + Drop + 'e,
     W: Sink + Send + Drop + 'e,
     T: Threads + Wait + Sync + 'e,
@@ -79,7 +79,7 @@ fn start_all<
 /// checkers that run to stop, and joins these.
 pub fn crew<
     'e,
-    L: RunLedger + Send + Sync + 'e,
+    L: RunName + Send + Sync + 'e,
     R: Source + Send + Drop + 'e,
     W: Sink + Send + Drop + 'e,
     T: Threads + Wait + Sync + 'e,

@@ -1,12 +1,11 @@
-//! A run's board and queue, and its workers.
+//! A run's desk, board and queue, and its workers.
 
-ghost use Rattle.std.specs.Prelude.{◌≡◌, ◌≤◌, ◌<◌, ℕ, Some, All, length, slice_get, IfOk};
+ghost use Rattle.std.specs.Prelude.{◌≡◌, ◌≤◌, Some, All, length, IfOk};
 ghost use Rattle.bt_history.specs.Setting.{AreRules, setting_of};
-ghost use Rattle.bt_session.specs.Workers.{AreFresh, AreNumbered, IsNewSeat};
-ghost use Rattle.bt_shared.specs.Passes.{newcomer};
+ghost use Rattle.bt_session.specs.Workers.{AreFittings, AreFresh, AreNumbered, IsNewPass, IsNewSeat};
 
 use crate::commons::{Commons, Worker};
-use crate::run_ledger::RunLedger;
+use crate::run_name::RunName;
 use bt_board::{Board, BoardSeat};
 use bt_check::{TicketPass, Tickets};
 use bt_history::Rules;
@@ -14,32 +13,35 @@ use bt_meta::Torrent;
 use bt_shared::{Pass, SharedDesk};
 use std::alloc::{AllocError, Global};
 use std::sync::Arc;
-use std::sync::ledger::Blank;
 
-/// The board and the queue of a run, with a seat and a pass for each of its workers.
+/// The desk, the board and the queue of a run, with passes and a seat for each of its workers.
 #[derive(Drop)]
 pub struct Fittings {
+    pub desk: SharedDesk,
+    pub passes: Vec<Pass>,
     pub board: Board,
     pub seats: Vec<BoardSeat>,
     pub queue: Tickets,
     pub tickets: Vec<TicketPass>,
 }
 
-/// Opens board and queue for so many workers.
+/// Opens desk, board and queue for so many workers.
 pub fn fit_out(
     alloc: Global,
     torrent: &Arc<Torrent>,
-    workers: usize,
+    workers: u32,
+    rules: Rules,
 ) -> Result<Fittings, AllocError>
-    requires { 0 < workers }
-    ensures board { IfOk result (λ f. (f.board.torrent ≡ torrent.now.value.layout) × (f.board.seats ≡ workers)) }
-    ensures count { IfOk result (λ f. (length f.seats.items ≡ workers) × (length f.tickets.items ≡ workers)) }
-    ensures seats { IfOk result (λ f. AreNumbered (IsNewSeat (Some f.board.table)) 0 f.seats.items) }
-    ensures tickets { IfOk result (λ f. All (λ pass. pass.queue ≡ f.queue) f.tickets.items) }
+    requires workers { (1 ≤ workers) × (workers ≤ 1024) }
+    requires rules { AreRules torrent.now.value.layout rules }
+    ensures { IfOk result (AreFittings (setting_of torrent.now.value.layout workers rules)) }
 {
-    let (board, seats) = Board::open(alloc, torrent.clone()?, workers)?;
-    let (queue, tickets) = Tickets::open(alloc, workers)?;
+    let (desk, passes) = SharedDesk::open(alloc, torrent.clone()?, workers, rules)?;
+    let (board, seats) = Board::open(alloc, torrent.clone()?, workers as usize)?;
+    let (queue, tickets) = Tickets::open(alloc, workers as usize)?;
     Ok(Fittings {
+        desk,
+        passes,
         board,
         seats,
         queue,
@@ -48,14 +50,14 @@ pub fn fit_out(
 }
 
 /// A worker of each pass, seat and pass of the queue, in order.
-fn enlist<L: RunLedger>(
+fn enlist<L: RunName>(
     alloc: Global,
-    passes: Vec<Pass<L>>,
+    passes: Vec<Pass>,
     seats: Vec<BoardSeat>,
     tickets: Vec<TicketPass>,
 ) -> Result<Vec<Worker<L>>, AllocError>
     requires count { (length seats.items ≡ length passes.items) × (length tickets.items ≡ length passes.items) }
-    requires passes { (w : ℕ) → w < length passes.items → slice_get passes.items w ≡ Some (newcomer w) }
+    requires passes { AreNumbered (IsNewPass L.desk L.setting) 0 passes.items }
     requires seats { AreNumbered (IsNewSeat L.board) 0 seats.items }
     requires tickets { All (λ pass. L.queue ≡ Some pass.queue) tickets.items }
     ensures count { IfOk result (λ workers. length workers.items ≡ length passes.items) }
@@ -76,31 +78,24 @@ fn enlist<L: RunLedger>(
     Ok(workers)
 }
 
-/// The desk that `L` names, with what its threads share, and so many workers.
-pub fn open_desk<L: RunLedger>(
+/// What the threads of the run share that `L` names, and its workers.
+pub fn set_up<L: RunName>(
     alloc: Global,
-    blank: Blank,
     torrent: Arc<Torrent>,
     fittings: Fittings,
-    workers: u32,
-    rules: Rules,
 ) -> Result<(Commons<L>, Vec<Worker<L>>), AllocError>
-    requires workers { (1 ≤ workers) × (workers ≤ 1024) }
-    requires rules { AreRules torrent.value.layout rules }
-    requires name { blank.name ≡ L.name }
-    requires parts { (blank.parts ≡ L.parts) × (blank.parts ≡ workers) }
-    requires setting { L.setting ≡ setting_of torrent.value.layout workers rules }
-    requires board { (L.board ≡ Some fittings.board.table) × (fittings.board.torrent ≡ torrent.value.layout) × (fittings.board.seats ≡ workers) }
+    requires fittings { AreFittings L.setting fittings }
+    requires torrent { torrent.value.layout ≡ L.setting.torrent }
+    requires desk { L.desk ≡ Some fittings.desk.table }
+    requires board { L.board ≡ Some fittings.board.table }
     requires queue { L.queue ≡ Some fittings.queue }
-    requires count { (length fittings.seats.items ≡ workers) × (length fittings.tickets.items ≡ workers) }
-    requires seats { AreNumbered (IsNewSeat (Some fittings.board.table)) 0 fittings.seats.items }
-    requires tickets { All (λ pass. pass.queue ≡ fittings.queue) fittings.tickets.items }
     ensures torrent { IfOk result (λ opened. opened.0 ≡ torrent.value) }
-    ensures count { IfOk result (λ opened. length opened.1.items ≡ workers) }
+    ensures count { IfOk result (λ opened. length opened.1.items ≡ L.setting.workers) }
     ensures fresh { IfOk result (λ opened. AreFresh L.setting opened.1.items) }
 {
-    let (desk, passes) = SharedDesk::<L>::open(alloc, blank, torrent.clone()?, workers, rules)?;
     let Fittings {
+        desk,
+        passes,
         board,
         seats,
         queue,

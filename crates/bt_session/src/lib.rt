@@ -8,7 +8,7 @@ mod crew;
 mod fittings;
 mod pass_place;
 mod play;
-mod run_ledger;
+mod run_name;
 mod swarm_run;
 mod threads;
 mod work;
@@ -19,5 +19,5 @@ pub use bt_peer::{
 };
 pub use commons::{Commons, Worker};
 pub use pass_place::PassPlace;
-pub use run_ledger::RunLedger;
+pub use run_name::RunName;
 pub use swarm_run::{MOST_CHECKERS, SwarmFault, SwarmRun, swarm};

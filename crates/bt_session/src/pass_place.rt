@@ -8,7 +8,7 @@ ghost use Rattle.bt_peer.specs.Turns.{ChecksAtMost};
 ghost use Rattle.bt_session.specs.Passes.{PutsTicket, worker_record};
 
 use crate::commons::{Commons, Worker};
-use crate::run_ledger::RunLedger;
+use crate::run_name::RunName;
 use bt_check::Ticket;
 use bt_peer::Place;
 use bt_picker::{Call, Reply};
@@ -19,7 +19,7 @@ use std::sync::Wait;
 /// A worker's place at a desk that threads share. Its news is that of the worker's seat at the board; a completed piece is left to the
 /// checkers, by a ticket.
 #[derive(Drop)]
-pub struct PassPlace<'a, L: RunLedger, T: Wait> {
+pub struct PassPlace<'a, L: RunName, T: Wait> {
     rt: &'a T,
     commons: &'a Commons<L>,
     worker: Worker<L>,
@@ -27,7 +27,7 @@ pub struct PassPlace<'a, L: RunLedger, T: Wait> {
     given_up: bool,
 }
 
-impl<'a, L: RunLedger, T: Wait> Model for PassPlace<'a, L, T> {
+impl<'a, L: RunName, T: Wait> Model for PassPlace<'a, L, T> {
     ghost use Rattle.bt_session.specs.Passes.{PassPlaceState};
 
     ghost Value = { PassPlaceState };
@@ -35,7 +35,7 @@ impl<'a, L: RunLedger, T: Wait> Model for PassPlace<'a, L, T> {
     ghost view = { λ s. record { worker = s.worker; short = s.short; given_up = s.given_up } };
 }
 
-impl<'a, L: RunLedger, T: Wait> PassPlace<'a, L, T> {
+impl<'a, L: RunName, T: Wait> PassPlace<'a, L, T> {
     pub fn new(rt: &'a T, commons: &'a Commons<L>, worker: Worker<L>) -> PassPlace<'a, L, T>
         ensures past { ⟦<PassPlace<'a, L, T> as Place>⟧.past result ≡ worker_record L.setting worker false }
         ensures worker { (result.worker ≡ worker) × (result.given_up ≡ false) }
@@ -71,7 +71,7 @@ impl<'a, L: RunLedger, T: Wait> PassPlace<'a, L, T> {
     }
 }
 
-impl<'a, L: RunLedger, T: Wait> Place for PassPlace<'a, L, T> {
+impl<'a, L: RunName, T: Wait> Place for PassPlace<'a, L, T> {
     ghost past = { λ s. worker_record L.setting s.worker s.short };
 
     // A checker sees to the pieces that are completed here.

@@ -7,7 +7,7 @@ ghost use Rattle.bt_session.specs.Swarms.{Plays};
 
 use crate::commons::{Commons, Worker};
 use crate::pass_place::PassPlace;
-use crate::run_ledger::RunLedger;
+use crate::run_name::RunName;
 use bt_meta::{Sink, Source, Torrent};
 use bt_peer::whole::gated;
 use bt_peer::{End, Gate, SessionFault, Stream};
@@ -17,7 +17,7 @@ use std::sync::{Arc, Wait};
 
 /// What the thread of a session gives back.
 #[derive(Drop)]
-pub struct Played<L: RunLedger, R, W> {
+pub struct Played<L: RunName, R, W> {
     pub end: Result<End, SessionFault>,
     pub worker: Worker<L>,
     pub stream: Stream<R, W>,
@@ -26,7 +26,7 @@ pub struct Played<L: RunLedger, R, W> {
 }
 
 /// A whole session at a shared desk, with the words of the generator of its worker's number.
-pub fn play<L: RunLedger, R: Source, W: Sink, T: Wait, G: Gate>(
+pub fn play<L: RunName, R: Source, W: Sink, T: Wait, G: Gate>(
     rt: &T,
     alloc: Global,
     torrent: Arc<Torrent>,

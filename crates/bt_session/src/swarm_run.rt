@@ -1,6 +1,6 @@
 //! Several recorded peers at one desk, each session in a thread of its own, and threads that check the pieces.
 
-ghost use Rattle.std.specs.Prelude.{◌≡◌, ◌≤◌, ◌+◌, Some, All, length, IfOk, IfErr};
+ghost use Rattle.std.specs.Prelude.{◌≡◌, ◌≤◌, ◌+◌, Some, length, IfOk, IfErr};
 ghost use Rattle.bt_history.specs.Legal.{IsLegal};
 ghost use Rattle.bt_history.specs.Setting.{AreRules, setting_of};
 ghost use Rattle.bt_meta.specs.Layout.{piece_count};
@@ -9,11 +9,11 @@ ghost use Rattle.bt_peer.specs.Terms.{terms_of};
 ghost use Rattle.bt_session.specs.declared.swarm_run.SwarmFault.TheVariants.{NoMemory};
 ghost use Rattle.bt_session.specs.Checking.{CheckersCheck};
 ghost use Rattle.bt_session.specs.Swarms.{EachSwarmed, IsRunFault, LeavesNone, MakesLastChecks, TellsWaiting, swarm_fault};
-ghost use Rattle.bt_session.specs.Workers.{AreNumbered, IsNewSeat};
+ghost use Rattle.bt_session.specs.Workers.{AreFittings};
 ghost use Rattle.bt_shared.specs.Gathering.{EachAgrees};
 
-use crate::fittings::{Fittings, fit_out, open_desk};
-use crate::run_ledger::RunLedger;
+use crate::fittings::{Fittings, fit_out, set_up};
+use crate::run_name::RunName;
 use crate::work::{Worked, work};
 use bt_history::Rules;
 use bt_meta::{Sink, Source, Torrent};
@@ -22,7 +22,6 @@ use bt_picker::Desk;
 use bt_shared::{Book, GatherFault};
 use std::alloc::{AllocError, Global};
 use std::marker::Brand;
-use std::sync::ledger::Blank;
 use std::sync::{Arc, Wait};
 use std::thread::Threads;
 use thiserror::Error;
@@ -109,7 +108,7 @@ fn is_short(desk: &Desk, pieces: u32, given_up: bool) -> bool
 /// The run, at the desk that `L` names.
 fn run<
     'e,
-    L: RunLedger + Send + Sync + 'e,
+    L: RunName + Send + Sync + 'e,
     R: Source + Send + Drop + 'e,
     W: Sink + Send + Drop + 'e,
     T: Threads + Wait + Sync + 'e,
@@ -124,21 +123,15 @@ fn run<
     rules: Rules,
     checkers: u32,
     gate: &'e G,
-    blank: Blank,
 ) -> Result<SwarmRun<R, W>, SwarmFault>
     requires streams { (1 ≤ length streams.items) × (length streams.items ≤ MOST_STREAMS) }
     requires rules { AreRules torrent.value.layout rules }
     requires checkers { (1 ≤ checkers) × (checkers ≤ MOST_CHECKERS) }
-    requires name { blank.name ≡ L.name }
-    requires parts { (blank.parts ≡ L.parts) × (blank.parts ≡ length streams.items + checkers + 1) }
     requires setting { L.setting ≡ setting_of torrent.value.layout (length streams.items + checkers + 1) rules }
-    requires board { (L.board ≡ Some fittings.board.table) × (fittings.board.torrent ≡ torrent.value.layout)
-        × (fittings.board.seats ≡ length streams.items + checkers + 1) }
+    requires fittings { AreFittings L.setting fittings }
+    requires desk { L.desk ≡ Some fittings.desk.table }
+    requires board { L.board ≡ Some fittings.board.table }
     requires queue { L.queue ≡ Some fittings.queue }
-    requires count { (length fittings.seats.items ≡ length streams.items + checkers + 1)
-        × (length fittings.tickets.items ≡ length streams.items + checkers + 1) }
-    requires seats { AreNumbered (IsNewSeat (Some fittings.board.table)) 0 fittings.seats.items }
-    requires tickets { All (λ pass. pass.queue ≡ fittings.queue) fittings.tickets.items }
     ensures setting { IfOk result (λ run. run.book.desk.setting ≡ L.setting) }
     ensures legal { IfOk result (λ run. IsLegal L.setting run.book.desk.history) }
     ensures logs { IfOk result (λ run. length run.book.logs.items ≡ length streams.items + checkers + 1) }
@@ -154,9 +147,8 @@ fn run<
     ensures waits { IfOk result (λ run. LeavesNone run.short run.book.desk) }
     ensures err { IfErr result IsRunFault }
 {
-    let count = streams.len() as u32 + checkers + 1;
     let pieces = torrent.piece_count();
-    let (commons, all) = open_desk::<L>(alloc, blank, torrent, fittings, count, rules)?;
+    let (commons, all) = set_up::<L>(alloc, torrent, fittings)?;
     let worked = work(
         rt,
         alloc,
@@ -232,18 +224,9 @@ pub fn swarm<
     ensures waits { IfOk result (λ run. LeavesNone run.short run.book.desk) }
     ensures err { IfErr result IsRunFault }
 {
-    let count = streams.len() + checkers as usize + 1;
-    let fittings = fit_out(alloc, &torrent, count)?;
+    let workers = streams.len() as u32 + checkers + 1;
+    let fittings = fit_out(alloc, &torrent, workers, rules)?;
     run::<Brand, R, W, T, G>(
-        rt,
-        alloc,
-        torrent,
-        fittings,
-        streams,
-        seed,
-        rules,
-        checkers,
-        gate,
-        Blank::new(count as u64),
+        rt, alloc, torrent, fittings, streams, seed, rules, checkers, gate,
     )
 }

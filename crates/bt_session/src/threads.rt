@@ -8,7 +8,7 @@ ghost use Rattle.bt_peer.specs.Terms.{terms_of};
 
 use crate::commons::{Commons, Worker};
 use crate::play::{Played, play};
-use crate::run_ledger::RunLedger;
+use crate::run_name::RunName;
 use crate::swarm_run::SwarmFault;
 use bt_meta::{Sink, Source, Torrent};
 use bt_peer::{Gate, Stream};
@@ -21,7 +21,7 @@ use std::thread::{Promise, PromisedHandle, Threads};
 /// What the thread of a session promises of what it gives back: a session of this torrent, to this depth and with this seed, from the worker
 /// and the stream that were handed to it.
 #[derive(Drop)]
-pub struct PlayOf<L: RunLedger, R, W> {
+pub struct PlayOf<L: RunName, R, W> {
     pub torrent: Snapshot<Arc<Torrent>>,
     pub depth: u32,
     pub seed: u64,
@@ -29,7 +29,7 @@ pub struct PlayOf<L: RunLedger, R, W> {
     pub stream: Snapshot<Stream<R, W>>,
 }
 
-impl<L: RunLedger, R: Source, W: Sink> Promise<Played<L, R, W>> for PlayOf<L, R, W> {
+impl<L: RunName, R: Source, W: Sink> Promise<Played<L, R, W>> for PlayOf<L, R, W> {
     ghost kept_by = { λ p r. Plays r.end (terms_of p.torrent.value.value p.depth) L.setting p.seed
         p.worker.value (stream_record R.left R.ended R.failed R.asked W.written W.failed p.stream.value)
         r.worker (stream_record R.left R.ended R.failed R.asked W.written W.failed r.stream) };
@@ -39,7 +39,7 @@ impl<L: RunLedger, R: Source, W: Sink> Promise<Played<L, R, W>> for PlayOf<L, R,
 fn start<
     's,
     'e,
-    L: RunLedger + Send + Sync + 'e,
+    L: RunName + Send + Sync + 'e,
     R: Source + Send + Drop + 'e,
     W: Sink + Send + Drop + 'e,
     T: Threads + Wait + Sync + 'e,
@@ -90,7 +90,7 @@ fn start<
 pub fn start_sessions<
     's,
     'e,
-    L: RunLedger + Send + Sync + 'e,
+    L: RunName + Send + Sync + 'e,
     R: Source + Send + Drop + 'e,
     W: Sink + Send + Drop + 'e,
     T: Threads + Wait + Sync + 'e,

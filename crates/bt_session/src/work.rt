@@ -12,7 +12,7 @@ use crate::checker::Checked;
 use crate::commons::{Commons, Worker};
 use crate::crew::{Joined, crew};
 use crate::play::Played;
-use crate::run_ledger::RunLedger;
+use crate::run_name::RunName;
 use crate::swarm_run::SwarmFault;
 use bt_meta::{Sink, Source};
 use bt_peer::{End, Gate, SessionFault, Stream};
@@ -22,7 +22,7 @@ use std::thread::Threads;
 
 /// What came of a run's threads and its last checks.
 #[derive(Drop)]
-pub struct Worked<L: RunLedger, R, W> {
+pub struct Worked<L: RunName, R, W> {
     /// How each session ended, in the order of the streams.
     pub ends: Vec<Result<End, SessionFault>>,
     /// All workers of the run, in order.
@@ -33,7 +33,7 @@ pub struct Worked<L: RunLedger, R, W> {
 }
 
 /// Puts what the sessions gave back into three lists. Whether a ticket came back.
-fn part<L: RunLedger, R: Drop, W: Drop>(
+fn part<L: RunName, R: Drop, W: Drop>(
     all: Vec<Played<L, R, W>>,
     ends: &mut Vec<Result<End, SessionFault>>,
     workers: &mut Vec<Worker<L>>,
@@ -64,7 +64,7 @@ fn part<L: RunLedger, R: Drop, W: Drop>(
 }
 
 /// Puts the checkers behind the workers of the sessions. Whether a check was given up.
-fn part_checked<L: RunLedger>(all: Vec<Checked<L>>, workers: &mut Vec<Worker<L>>) -> bool
+fn part_checked<L: RunName>(all: Vec<Checked<L>>, workers: &mut Vec<Worker<L>>) -> bool
     requires room { length workers.old.items + length all.items ≤ vec_capacity workers.old }
     ensures workers { workers.new.items ≡ workers.old.items ++ map (λ c. c.worker) all.items }
     ensures room { vec_capacity workers.new ≡ vec_capacity workers.old }
@@ -79,7 +79,7 @@ fn part_checked<L: RunLedger>(all: Vec<Checked<L>>, workers: &mut Vec<Worker<L>>
 }
 
 /// The last checks: each piece that waits for one, in rising order, is hashed and settled. Whether one was given up for want of memory.
-fn last_checks<L: RunLedger, T: Wait>(
+fn last_checks<L: RunName, T: Wait>(
     rt: &T,
     alloc: Global,
     commons: &Commons<L>,
@@ -98,7 +98,7 @@ fn last_checks<L: RunLedger, T: Wait>(
 /// check pieces, and the last one makes the last checks.
 pub fn work<
     'e,
-    L: RunLedger + Send + Sync + 'e,
+    L: RunName + Send + Sync + 'e,
     R: Source + Send + Drop + 'e,
     W: Sink + Send + Drop + 'e,
     T: Threads + Wait + Sync + 'e,

@@ -1,5 +1,12 @@
+pub mod Histories
+pub mod Keeps
+pub mod Seats
+pub mod Places
 pub mod Jobs
-pub mod Checks
+pub mod Checked
+pub mod Marked
 pub mod Comparing
 pub mod Spreading
+pub mod Counting
+pub mod Closings
 pub mod Refusing

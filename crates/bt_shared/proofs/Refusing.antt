@@ -3,9 +3,10 @@ use Rattle.std.proofs.Common.{◌≡◌, ℕ, ◌<◌, List, length, Some, slice
 use Rattle.std.specs.Global.{Vec}
 use Rattle.std.proofs.lemmas.Option.{slice_get_cases}
 use Rattle.bt_history.specs.declared.mark.Mark.{Mark}
+use Rattle.bt_history.specs.History.{History}
 use Rattle.bt_history.specs.Logs.{Agrees, marks_of}
-use Rattle.bt_picker.specs.Positions.{DeskState}
-use Rattle.bt_shared.specs.Gathering.{EachAgrees, EachFrom, IsFirstDifference, IsFirstDiffering, IsFirstUnlike, log_of}
+use Rattle.bt_history.specs.Setting.{Setting}
+use Rattle.bt_shared.specs.Gathering.{AreAlike, EachAgrees, EachFrom, IsFirstDifference, IsFirstDiffering, IsFirstUnlike, log_of}
 use Rattle.bt_shared.specs.Passes.{PassState}
 
 module _ (passes : List PassState) (logs : List (Vec Mark)) (from : EachFrom passes logs) where
@@ -18,15 +19,15 @@ module _ (passes : List PassState) (logs : List (Vec Mark)) (from : EachFrom pas
       (λ past. absurd (omega (arith, past.0, within)))
       (slice_get_cases logs w).1
 
-  module _ (d : DeskState) (count : length logs ≡ d.setting.workers) where
+  module _ (s : Setting) (h : History) (count : length logs ≡ s.workers) where
     -- each pass's log is what the history has of its worker
-    pub all_alike : EachAgrees d.history logs → (w : ℕ) → w < d.setting.workers → Agrees d.history w (log_of w passes)
-    all_alike agree w within = of_pass (Agrees d.history w) w (omega (arith, count, within)) (agree w)
+    pub all_alike : EachAgrees h logs → AreAlike s h passes
+    all_alike agree w within = of_pass (Agrees h w) w (omega (arith, count, within)) (agree w)
 
     -- the first pass's log that isn't
-    pub unlike : (w index : ℕ) → IsFirstDiffering d.history logs w index → IsFirstUnlike d passes w index
+    pub unlike : (w index : ℕ) → IsFirstDiffering h logs w index → IsFirstUnlike s h passes w index
     unlike w index first = record {
       within = omega (arith, count, first.within);
-      below = λ v less. of_pass (Agrees d.history v) v (omega (arith, less, first.within)) (λ log at. first.below v log less at);
-      here = of_pass (λ log. IsFirstDifference log (marks_of d.history w) index) w first.within first.here;
+      below = λ v less. of_pass (Agrees h v) v (omega (arith, less, first.within)) (λ log at. first.below v log less at);
+      here = of_pass (λ log. IsFirstDifference log (marks_of h w) index) w first.within first.here;
     }

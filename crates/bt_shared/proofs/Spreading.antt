@@ -39,9 +39,8 @@ each_from_set ps p logs log is old w there at =
     (λ other. let b : (p.worker == w) ≡ false = ne_eqb p.worker w (λ same. other.0 (sym same)) in rw b (old w there other.1))
     (get_set logs p.worker w log there at)
 
--- the same, of the pass with this worker and this log
-pub each_from : (ps : List PassState) (p : PassState) (logs : List (Vec Mark)) (worker : ℕ) (log : Vec Mark)
-    → record { worker = worker; log = log.items } ≡ p → EachFrom ps logs → EachFrom (p ∷ ps) (set logs worker log)
-each_from ps p logs worker log is old =
-    subst (λ (q : PassState). EachFrom (q ∷ ps) (set logs worker log)) is
-    (each_from_set ps (record { worker = worker; log = log.items }) logs log refl old)
+-- the same, of the pass that is read so
+pub each_from : (ps : List PassState) (view p : PassState) (logs : List (Vec Mark)) (log : Vec Mark) → view ≡ p → log.items ≡ view.log
+    → EachFrom ps logs → EachFrom (p ∷ ps) (set logs view.worker log)
+each_from ps view p logs log is same old =
+    subst (λ (q : PassState). EachFrom (q ∷ ps) (set logs view.worker log)) is (each_from_set ps view logs log same old)

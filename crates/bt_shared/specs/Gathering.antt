@@ -1,5 +1,5 @@
 -- What the workers' logs and a bitfield say of a desk, and why a desk isn't gathered.
-use Rattle.std.specs.Prelude.{◌≡◌, ◌≢◌, ◌==◌, ◌<◌, ◌∷◌, [], ℕ, Bool, false, List, Option, Some, length, take, slice_get, slice_index_or, sum_by, IsSomeAnd, if◌then◌else◌}
+use Rattle.std.specs.Prelude.{◌≡◌, ◌≢◌, ◌==◌, ◌<◌, ◌-◌, ◌^◌, ◌∷◌, [], ℕ, Bool, false, List, Option, Some, length, min, take, slice_get, slice_index_or, sum_by, IsSomeAnd, if◌then◌else◌}
 use Rattle.std.specs.Global.{Vec}
 use Rattle.bt_history.specs.declared.mark.Mark.{Mark}
 use Rattle.bt_history.specs.History.{History}
@@ -7,7 +7,6 @@ use Rattle.bt_history.specs.Legal.{IsLegal}
 use Rattle.bt_history.specs.Logs.{Agrees, marks_of}
 use Rattle.bt_history.specs.Pieces.{had}
 use Rattle.bt_history.specs.Setting.{Setting}
-use Rattle.bt_picker.specs.Positions.{DeskState}
 use Rattle.bt_shared.specs.Passes.{PassState}
 use Rattle.bt_shared.specs.declared.gather.GatherFault.{GatherFault}
 use Rattle.bt_shared.specs.declared.gather.GatherFault.TheVariants.{PassMissing, LogsDiffer, BoardDiffers, NoMemory}
@@ -19,9 +18,9 @@ abbrev pub log_of : ℕ → List PassState → List Mark
 log_of w [] = []
 log_of w (p ∷ ps) = if p.worker == w then p.log else log_of w ps
 
--- how many calls the passes have together: each pass's share of the ledger is as large as its log is long
+-- how many marks the passes have together, as far as it can be counted
 abbrev pub held_by : List PassState → ℕ
-held_by passes = sum_by (λ (p : PassState). length p.log) passes
+held_by passes = min (sum_by (λ (p : PassState). length p.log) passes) (2 ^ 64 - 1)
 
 -- each log is empty
 abbrev pub EachEmpty : List (Vec Mark) → Type 0
@@ -61,27 +60,24 @@ pub record IsFirstOther (bits : List Bool) (h : History) (p : ℕ) : Type 0 wher
 -- ---- refusals
 
 -- the log of worker w among the passes is the first that differs from the history, and differs first at this index
-pub record IsFirstUnlike (d : DeskState) (passes : List PassState) (w index : ℕ) : Type 0 where
-  pub within : w < d.setting.workers
-  pub below : (v : ℕ) → v < w → Agrees d.history v (log_of v passes)
-  pub here : IsFirstDifference (log_of w passes) (marks_of d.history w) index
+pub record IsFirstUnlike (s : Setting) (h : History) (passes : List PassState) (w index : ℕ) : Type 0 where
+  pub within : w < s.workers
+  pub below : (v : ℕ) → v < w → Agrees h v (log_of v passes)
+  pub here : IsFirstDifference (log_of w passes) (marks_of h w) index
 
--- why the desk isn't gathered with these passes and this bitfield: the first cause that holds. The passes lack calls; then, their number
--- being right, a log differs; then, each log being right, the bitfield does
-abbrev pub IsCause : DeskState → List PassState → Option (List Bool) → GatherFault → Type 0
-IsCause d passes bits (PassMissing held journal) =
-    (held ≡ held_by passes) × (journal ≡ length d.history) × (held ≢ journal)
-IsCause d passes bits (LogsDiffer w index) =
-    (held_by passes ≡ length d.history) × IsFirstUnlike d passes w index
-IsCause d passes bits (BoardDiffers p) =
-    (held_by passes ≡ length d.history)
-    × ((w : ℕ) → w < d.setting.workers → Agrees d.history w (log_of w passes))
-    × IsSomeAnd bits (λ b. IsFirstOther b d.history p)
-IsCause d passes bits NoMemory = Unit {0}
+-- each worker's log among the passes is what the history has of it
+abbrev pub AreAlike : Setting → History → List PassState → Type 0
+AreAlike s h passes = (w : ℕ) → w < s.workers → Agrees h w (log_of w passes)
 
--- the same, of a desk that isn't given back: one with a legal history
-abbrev pub SomeCause : Setting → List PassState → Option (List Bool) → GatherFault → Type 0
-SomeCause s passes bits fault = (h : History) × IsLegal s h × IsCause (record { setting = s; history = h }) passes bits fault
+-- why a desk isn't gathered with these passes and this bitfield: the first cause that holds. The passes lack calls; then, their number
+-- being that of a legal history, a log differs from it; then, each log being right, the bitfield does
+abbrev pub IsCause : Setting → List PassState → Option (List Bool) → GatherFault → Type 0
+IsCause s passes bits (PassMissing held journal) = (held ≡ held_by passes) × (held ≢ journal)
+IsCause s passes bits (LogsDiffer w index) =
+    (h : History) × IsLegal s h × (held_by passes ≡ length h) × IsFirstUnlike s h passes w index
+IsCause s passes bits (BoardDiffers p) =
+    (h : History) × IsLegal s h × (held_by passes ≡ length h) × AreAlike s h passes × IsSomeAnd bits (λ b. IsFirstOther b h p)
+IsCause s passes bits NoMemory = Unit {0}
 
 -- no pass is missing
 abbrev pub IsNotMissing : GatherFault → Type 0

@@ -1,2 +1,5 @@
+pub mod Seen
+pub mod Guard
 pub mod Passes
+pub mod Closing
 pub mod Gathering

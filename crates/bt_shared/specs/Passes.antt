@@ -1,25 +1,87 @@
--- What a worker's pass knows of its own calls.
-use Rattle.std.specs.Prelude.{◌≡◌, ◌⊎◌, ◌<◌, ◌++◌, ◌∷◌, [], ℕ, Bool, true, false, List, length, slice_index_or}
+-- A pass and a shared desk as contracts see them.
+use Rattle.std.specs.Prelude.{◌≡◌, ◌⊎◌, ◌<◌, ℕ, Bool, true, false, List, [], ◌∷◌, ◌++◌, length, Some, slice_get, slice_index_or}
+use Rattle.atomic_table.specs.Seated.{TableId}
 use Rattle.bt_meta.specs.Layout.{Layout, block, block_count}
 use Rattle.bt_history.specs.declared.call.Reply.{Reply}
+use Rattle.bt_history.specs.declared.event.Event.{Event}
 use Rattle.bt_history.specs.declared.mark.CallMark.{CallMark}
 use Rattle.bt_history.specs.declared.mark.CallMark.TheVariants.{Settle}
 use Rattle.bt_history.specs.declared.mark.Mark.{Mark}
+use Rattle.bt_history.specs.History.{History}
+use Rattle.bt_history.specs.Logs.{mark_of}
 use Rattle.bt_history.specs.Setting.{Setting}
-use Rattle.bt_picker.specs.Checks.{unasked_check}
+use Rattle.bt_picker.specs.Checks.{settling, unasked_check, waits}
+use Rattle.bt_shared.specs.Guard.{Sat, IsIdle, part}
+use Rattle.bt_shared.specs.Seen.{Continues}
 
--- the setting of a name that no desk has
-abbrev pub no_setting : Setting
-no_setting = record { torrent = record { piece_length = 0; total = 0; hashes = [] }; workers = 0; depth = 0; random = 0 }
-
--- a worker's number, and the marks of its calls, the oldest first
+-- a worker's number at a desk, what it has seen, and the marks of its calls, the oldest first
 pub record PassState : Type 0 where
+  pub table : TableId
+  pub setting : Setting
   pub worker : ℕ
+  pub seen : History
   pub log : List Mark
 
+-- which desk it is, and by what its history is judged
+pub record SharedState : Type 0 where
+  pub table : TableId
+  pub setting : Setting
+
 -- the pass of a worker that has made no call
-abbrev pub newcomer : ℕ → PassState
-newcomer worker = record { worker = worker; log = [] }
+abbrev pub newcomer : SharedState → ℕ → PassState
+newcomer desk worker = record { table = desk.table; setting = desk.setting; worker = worker; seen = []; log = [] }
+
+-- an idle seat that speaks for this worker alone, and was joined with no other since it last had the word
+pub record IsSeatOf (worker : ℕ) (m : Sat) : Type 0 where
+  pub idle : IsIdle m
+  pub alone : m.0.part.workers ≡ worker ∷ []
+  pub whole : m.0.parts ≡ part (worker ∷ []) m.0.part.seen ∷ []
+
+-- a pass of the desk
+pub record IsOf (desk : SharedState) (p : PassState) : Type 0 where
+  pub table : p.table ≡ desk.table
+  pub setting : p.setting ≡ desk.setting
+
+abbrev pub AreOf : SharedState → List PassState → Type 0
+AreOf desk passes = (k : ℕ) (p : PassState) → slice_get passes k ≡ Some p → IsOf desk p
+
+-- the same worker's pass at the same desk
+pub record IsSame (old new : PassState) : Type 0 where
+  pub table : new.table ≡ old.table
+  pub setting : new.setting ≡ old.setting
+  pub worker : new.worker ≡ old.worker
+
+-- the pass made no entry: it has seen what it had seen, or more of others
+pub record Rests (old new : PassState) : Type 0 where
+  pub same : IsSame old new
+  pub seen : Continues old.worker old.seen new.seen
+  pub log : new.log ≡ old.log
+
+-- the pass entered e after the history found, which goes on from what it had seen
+pub record EntersAt (found : History) (e : Event) (old new : PassState) : Type 0 where
+  pub same : IsSame old new
+  pub seen : Continues old.worker old.seen found
+  pub entered : new.seen ≡ e ∷ found
+  pub log : new.log ≡ old.log ++ mark_of (length found) e ∷ []
+
+-- what the pass has seen ends with e, the only new entry of its worker
+abbrev pub Enters : Event → PassState → PassState → Type 0
+Enters e old new = (found : History) × EntersAt found e old new
+
+-- piece p waited for a check in the history found, and the pass entered what came of it
+pub record SeesChecked (p : ℕ) (reply : Reply) (old new : PassState) : Type 0 where
+  pub found : History
+  pub waiting : waits new.setting found p ≡ true
+  pub enters : EntersAt found (settling new.setting found old.worker p reply) old new
+
+-- piece p doesn't wait for a check in the history then seen, the reply says why, and no entry was made
+pub record SeesUnasked (p : ℕ) (answer : Reply) (old new : PassState) : Type 0 where
+  pub unasked : waits new.setting new.seen p ≡ false
+  pub told : answer ≡ unasked_check new.setting p
+  pub rests : Rests old new
+
+abbrev pub Settles : ℕ → Reply → PassState → PassState → Type 0
+Settles p reply old new = SeesChecked p reply old new ⊎ SeesUnasked p reply old new
 
 abbrev pub mark : ℕ → CallMark → Reply → Mark
 mark place call reply = record { place = place; call = call; reply = reply }
@@ -30,14 +92,10 @@ pub record Notes (old : PassState) (call : CallMark) (reply : Reply) (new : Pass
   pub worker : new.worker ≡ old.worker
   pub log : new.log ≡ old.log ++ mark place call reply ∷ []
 
--- the pass gained the mark of a check of piece p; or the piece didn't wait for one, which the reply says, and the pass is as it was
-abbrev pub NotesCheck : Setting → PassState → ℕ → Reply → PassState → Type 0
-NotesCheck s old p reply new = Notes old (Settle p) reply new ⊎ ((new ≡ old) × (reply ≡ unasked_check s p))
-
--- where piece p waits for a check, the pass gained its mark at this place, and else it is as it was
-abbrev pub NotesIf : Bool → ℕ → PassState → ℕ → Reply → PassState → Type 0
-NotesIf true place old p reply new = (new.worker ≡ old.worker) × (new.log ≡ old.log ++ mark place (Settle p) reply ∷ [])
-NotesIf false place old p reply new = new ≡ old
+-- where a piece waited for a check, the log gained its mark, and else it is as it was
+abbrev pub LogsIf : Bool → ℕ → List Mark → ℕ → Reply → List Mark → Type 0
+LogsIf true place old piece reply new = new ≡ old ++ mark place (Settle piece) reply ∷ []
+LogsIf false place old piece reply new = new ≡ old
 
 -- the blocks are as many and as long as those of piece p
 abbrev pub HasLengths : Layout → ℕ → List (List ℕ) → Type 0

@@ -1,17 +1,25 @@
-ghost use Rattle.std.specs.Prelude.{◌≡◌, ◌<◌, ◌^◌, length, option_copied, vec_len, IfErr, IfOk, IfSome};
+ghost use Rattle.std.specs.Prelude.{◌≡◌, ◌++◌, ◌≤◌, ℕ, [], length, option_copied, vec_len, IfErr, IfNone, IfOk, IfSome, IsSome, IsSomeAnd};
+ghost use Rattle.std.specs.Slots.{IsFull, slots_items, slots_len};
+ghost use mathlib.Core.Option.{some};
+ghost use lib.ListN.{get_elem?};
 ghost use Rattle.bt_meta.specs.Layout.{piece_count};
 ghost use Rattle.bt_history.specs.Legal.{IsLegal};
+ghost use Rattle.bt_shared.specs.Closing.{AreCounted, EachKnows, EachOwn, IsEntered, IsEveryone, IsJoined, slot_if_free};
 ghost use Rattle.bt_shared.specs.Gathering.{AreHad, EachAgrees, EachEmpty, EachFrom, IsCause, IsNotMissing, held_by};
+ghost use Rattle.bt_shared.specs.Guard.{IsDesk, IsIdle, Saw, Slot};
+ghost use Rattle.bt_shared.specs.Passes.{AreOf};
+ghost use Rattle.bt_shared.specs.Seen.{Each};
 ghost use Rattle.bt_shared.specs.declared.gather.GatherFault.TheVariants.{NoMemory};
 
 use crate::compare::{first_differing, first_other};
-use crate::desk_ledger::DeskLedger;
-use crate::locked::{Locked, entries_of};
+use crate::entering::entries_of;
+use crate::lock::{FREE, Guard, Meet, Place, Words};
 use crate::pass::Pass;
+use crate::view::{Terms, View};
+use atomic_table::{Closed, Table};
 use bt_meta::Bitfield;
 use bt_picker::{Desk, Mark};
 use std::alloc::{AllocError, AllocFailed, Global};
-use std::sync::ledger::{Book as Calls, Share};
 use thiserror::Error;
 
 /// What is left of a shared desk once all are done with it.
@@ -25,7 +33,8 @@ pub struct Book {
 /// Why a shared desk wasn't gathered. Want of memory is found first, then these in order.
 #[derive(Clone, Copy, Debug, PartialEq, Eq, Error)]
 pub enum GatherFault {
-    /// The passes have `held` marks together, and the journal has another number of entries.
+    /// The passes have `held` marks together, and the journal has another number of entries. Where a pass that isn't there was lost in the
+    /// middle of its call, the desk is lost with it, and `journal` is `held` and one.
     #[error("the passes have {held} calls, and the journal has {journal}")]
     PassMissing { held: usize, journal: usize },
     /// The least worker whose log isn't what the journal has of it, and the least index in its log where they differ.
@@ -46,50 +55,6 @@ impl From<AllocError> for GatherFault {
     }
 }
 
-impl<L: DeskLedger> Locked<L> {
-    /// The desk, with a log for each worker, if the passes have all calls of the journal, each at its place, and the bitfield, if there
-    /// is one, has exactly the pieces that are had.
-    pub fn gather(
-        self,
-        alloc: Global,
-        passes: Vec<Pass<L>>,
-        bits: Option<&Bitfield>,
-    ) -> Result<Book, GatherFault>
-        requires bits { IfSome bits (λ bits. length bits.now ≡ piece_count L.setting.torrent) }
-        ensures desk { IfOk result (λ book. book.desk ≡ self) }
-        ensures count { IfOk result (λ book. vec_len book.logs ≡ L.parts) }
-        ensures logs { IfOk result (λ book. EachFrom passes.items book.logs.items) }
-        ensures agrees { IfOk result (λ book. EachAgrees book.desk.history book.logs.items) }
-        ensures bits { IfOk result (λ book. IfSome bits.entry (λ bits. AreHad bits.now book.desk.history)) }
-        ensures err { IfErr result (IsCause self passes.items (option_copied bits.entry)) }
-        ensures all { vec_len passes ≡ L.parts → IfErr result IsNotMissing }
-        ensures setting { self.setting ≡ L.setting }
-        ensures legal { IsLegal L.setting self.history }
-    {
-        let Locked {
-            desk,
-            workers,
-            mut calls,
-            mut spare,
-        } = self;
-        let journal = entries_of(&desk);
-        let mut logs = empty_logs(alloc, workers)?;
-        let held = spread(passes, &mut calls, &mut spare, &mut logs);
-        if held != journal {
-            return Err(GatherFault::PassMissing { held, journal });
-        }
-        if let Some((worker, place)) = first_differing(desk.journal(), &logs) {
-            return Err(GatherFault::LogsDiffer { worker, place });
-        }
-        if let Some(bits) = bits {
-            if let Some(piece) = first_other(&desk, bits) {
-                return Err(GatherFault::BoardDiffers { piece });
-            }
-        }
-        Ok(Book { desk, logs })
-    }
-}
-
 /// So many empty logs.
 fn empty_logs(alloc: Global, count: u32) -> Result<Vec<Vec<Mark>>, AllocError>
     ensures count { IfOk result (λ logs. vec_len logs ≡ count) }
@@ -102,30 +67,145 @@ fn empty_logs(alloc: Global, count: u32) -> Result<Vec<Vec<Mark>>, AllocError>
     Ok(logs)
 }
 
-/// Puts each pass's log at its worker's place, and answers how many marks they have together.
-fn spread<L: DeskLedger>(
-    mut passes: Vec<Pass<L>>,
-    calls: &mut Calls<L>,
-    all: &mut Share<L>,
-    logs: &mut Vec<Vec<Mark>>,
-) -> usize
-    requires room { vec_len logs.old ≡ L.parts }
+/// The seat, into which the others were joined.
+fn joined(words: &Words, mut seat: Place, others: Option<Place>) -> Place
+    requires desk { IsDesk words.now.table_id.words words.now.table_id.slots }
+    requires seat { (seat.table_id ≡ words.now.table_id) × IsIdle seat.me }
+    requires others { IfSome others (λ others. (others.table_id ≡ words.now.table_id) × IsIdle others.me) }
+    ensures same { (result.table_id ≡ words.now.table_id) × IsIdle result.me }
+    ensures none { IfNone others (result ≡ seat) }
+    ensures workers { IfSome others (λ others. result.me.0.part.workers ≡ seat.me.0.part.workers ++ others.me.0.part.workers) }
+    ensures parts { IfSome others (λ others. result.me.0.parts ≡ seat.me.0.parts ++ others.me.0.parts) }
+{
+    if let Some(others) = others {
+        words.join_seat::<Meet>(&mut seat, others);
+    }
+    seat
+}
+
+/// Joins the passes' seats into one, puts each log at its worker's place, and counts the marks.
+fn spread(words: &Words, mut passes: Vec<Pass>, logs: &mut Vec<Vec<Mark>>) -> (usize, Option<Place>)
+    requires desk { IsDesk words.now.table_id.words words.now.table_id.slots }
+    requires passes { AreOf (record { table = words.now.table_id; setting = words.now.key }) passes.items }
+    requires room { vec_len logs.old ≡ words.now.key.workers }
     requires empty { EachEmpty logs.old.items }
-    requires none { (all.old.parts ≡ 0) × (all.old.amount ≡ 0) }
-    requires fits { calls.old.total < 2 ^ 64 }
-    ensures held { result ≡ held_by passes.items }
-    ensures all { vec_len passes ≡ L.parts → result ≡ calls.old.total }
+    ensures held { result.0 ≡ held_by passes.items }
+    ensures none { IfNone result.1 (passes.items ≡ []) }
+    ensures all { IfSome result.1 (λ seat. (seat.table_id ≡ words.now.table_id) × IsJoined passes.items seat.me) }
+    ensures own { EachOwn passes.items }
     ensures count { vec_len logs.new ≡ vec_len logs.old }
     ensures logs { EachFrom passes.items logs.new.items }
 {
-    let mut held = 0;
+    let mut held = 0usize;
+    let mut all = None;
     while let Some(pass) = passes.pop() {
-        let Pass { worker, share, log } = pass;
-        all.merge(share);
-        calls.audit(all);
-        held += log.len();
+        let Pass { worker, seat, log } = pass;
+        held = held.saturating_add(log.len());
         logs[worker as usize] = log;
+        all = Some(joined(words, seat, all));
     }
-    calls.audit(all);
-    held
+    (held, all)
+}
+
+/// The desk out of its slot, if the word is free.
+fn desk_in(mut closed: Closed<Option<Desk>, Global>) -> Option<Desk>
+    requires counts { (slots_len closed.words ≡ 1) × (slots_len closed.slots ≡ 1) }
+    requires full { IsFull closed.words × IsFull closed.slots }
+    ensures slot { (word : ℕ) (slot : Slot) → get_elem? (slots_items closed.words) 0 ≡ some word
+        → get_elem? (slots_items closed.slots) 0 ≡ some slot → result ≡ slot_if_free word slot }
+    ensures legal { IfSome result (λ desk. IsLegal desk.setting desk.history) }
+{
+    let word = closed.word(0);
+    let slot = closed.take(0);
+    closed.free();
+    if word != FREE {
+        return None;
+    }
+    if let Some(desk) = &slot {
+        let _journal = desk.journal();
+    }
+    slot
+}
+
+/// The desk, if the word is free. It is free where the seat speaks for all workers.
+fn close(table: Table<Option<Desk>, View, Terms, Guard, Global>, all: Option<Place>) -> Option<Desk>
+    requires desk { IsDesk table.shared.table_id.words table.shared.table_id.slots }
+    requires all { IfSome all (λ seat. (seat.table_id ≡ table.shared.table_id) × IsIdle seat.me) }
+    ensures setting { IfSome result (λ desk. desk.setting ≡ table.shared.key) }
+    ensures legal { IfSome result (λ desk. IsLegal desk.setting desk.history) }
+    ensures saw { IfSome all (λ seat. IfSome result (λ desk.
+        Each (Saw desk.history seat.me.0.part.workers) seat.me.0.parts)) }
+    ensures counted { IfSome all (λ seat. AreCounted table.shared.key seat.me.0.part.workers) }
+    ensures free { IfSome all (λ seat. IsEveryone table.shared.key seat.me.0.part.workers → IsSome result) }
+{
+    match all {
+        Some(seat) => desk_in(table.close_with(seat)),
+        None => desk_in(table.close()),
+    }
+}
+
+/// Puts each log at its worker's place, counts the marks, and takes the desk out of its slot, if the word is free.
+fn take_apart(
+    table: Table<Option<Desk>, View, Terms, Guard, Global>,
+    passes: Vec<Pass>,
+    logs: &mut Vec<Vec<Mark>>,
+) -> (usize, Option<Desk>)
+    requires desk { IsDesk table.shared.table_id.words table.shared.table_id.slots }
+    requires workers { 1 ≤ table.shared.key.workers }
+    requires passes { AreOf (record { table = table.shared.table_id; setting = table.shared.key }) passes.items }
+    requires room { vec_len logs.old ≡ table.shared.key.workers }
+    requires empty { EachEmpty logs.old.items }
+    ensures held { result.0 ≡ held_by passes.items }
+    ensures setting { IfSome result.1 (λ desk. desk.setting ≡ table.shared.key) }
+    ensures seen { IfSome result.1 (λ desk. EachKnows desk.history passes.items) }
+    ensures all { vec_len passes ≡ table.shared.key.workers → IsSomeAnd result.1 (λ desk. IsEntered desk passes.items) }
+    ensures count { vec_len logs.new ≡ vec_len logs.old }
+    ensures logs { EachFrom passes.items logs.new.items }
+{
+    let (held, all) = spread(&table.shared, passes, logs);
+    (held, close(table, all))
+}
+
+/// The desk of all calls, with a log for each worker, if the passes have all calls of the journal, each at its place, and the bitfield, if
+/// there is one, has exactly the pieces that are had.
+pub(crate) fn gather(
+    table: Table<Option<Desk>, View, Terms, Guard, Global>,
+    workers: u32,
+    alloc: Global,
+    passes: Vec<Pass>,
+    bits: Option<&Bitfield>,
+) -> Result<Book, GatherFault>
+    requires desk { IsDesk table.shared.table_id.words table.shared.table_id.slots }
+    requires workers { (workers ≡ table.shared.key.workers) × (1 ≤ workers) }
+    requires passes { AreOf (record { table = table.shared.table_id; setting = table.shared.key }) passes.items }
+    requires bits { IfSome bits (λ bits. length bits.now ≡ piece_count table.shared.key.torrent) }
+    ensures setting { IfOk result (λ book. book.desk.setting ≡ table.shared.key) }
+    ensures legal { IfOk result (λ book. IsLegal table.shared.key book.desk.history) }
+    ensures count { IfOk result (λ book. vec_len book.logs ≡ workers) }
+    ensures logs { IfOk result (λ book. EachFrom passes.items book.logs.items) }
+    ensures seen { IfOk result (λ book. EachKnows book.desk.history passes.items) }
+    ensures agrees { IfOk result (λ book. EachAgrees book.desk.history book.logs.items) }
+    ensures bits { IfOk result (λ book. IfSome bits.entry (λ bits. AreHad bits.now book.desk.history)) }
+    ensures err { IfErr result (IsCause table.shared.key passes.items (option_copied bits.entry)) }
+    ensures all { vec_len passes ≡ table.shared.key.workers → IfErr result IsNotMissing }
+{
+    let mut logs = empty_logs(alloc, workers)?;
+    let (held, desk) = take_apart(table, passes, &mut logs);
+    let Some(desk) = desk else {
+        let journal = held.wrapping_add(1);
+        return Err(GatherFault::PassMissing { held, journal });
+    };
+    let journal = entries_of(&desk);
+    if held != journal {
+        return Err(GatherFault::PassMissing { held, journal });
+    }
+    if let Some((worker, place)) = first_differing(desk.journal(), &logs) {
+        return Err(GatherFault::LogsDiffer { worker, place });
+    }
+    if let Some(bits) = bits {
+        if let Some(piece) = first_other(&desk, bits) {
+            return Err(GatherFault::BoardDiffers { piece });
+        }
+    }
+    Ok(Book { desk, logs })
 }

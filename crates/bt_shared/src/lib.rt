@@ -1,16 +1,15 @@
-//! The desk that threads share: it lies under a lock, each worker calls by a pass of its own that logs its calls, and when all are done
-//! the logs are compared with the journal.
+//! The desk that threads share: it lies in a slot beside a word that is its lock, each worker calls by a pass of its own that knows the
+//! history it has seen and logs its calls, and when all are done the logs are compared with the journal.
 #![tactic(auto)]
 
 mod compare;
-mod desk_ledger;
+mod entering;
 mod gather;
-mod locked;
+mod lock;
 mod pass;
 mod shared;
+mod view;
 
-pub use desk_ledger::DeskLedger;
 pub use gather::{Book, GatherFault};
-pub use locked::Locked;
 pub use pass::Pass;
 pub use shared::SharedDesk;

@@ -1,32 +1,37 @@
 ghost use Rattle.std.specs.Prelude.{◌≡◌};
+ghost use Rattle.bt_history.specs.Legal.{IsLegal};
+ghost use Rattle.bt_history.specs.Logs.{Agrees};
 
-use crate::desk_ledger::DeskLedger;
+use crate::lock::Place;
 use bt_picker::Mark;
 use std::alloc::AllocError;
 use std::marker::Model;
-use std::sync::ledger::Share;
 
-/// A worker's right to call a shared desk, and the log of its calls. Contracts see the worker's number and the log. Its type keeps that
-/// its share of the ledger is as large as its log is long.
+/// A worker's right to call a shared desk, and the log of its calls. Contracts see which desk it is, the worker's number, the log, and
+/// the history that the pass has seen. Its type keeps that this history is legal, and that the log has the marks of its worker's entries
+/// in it, and no others.
 #[derive(Drop)]
-pub struct Pass<L: DeskLedger> {
+pub struct Pass {
     pub(crate) worker: u32,
-    pub(crate) share: Share<L>,
+    pub(crate) seat: Place,
     pub(crate) log: Vec<Mark>,
 }
 
-impl<L: DeskLedger> Model for Pass<L> {
-    ghost use Rattle.std.specs.Prelude.{◌≡◌, ◌<◌, length};
-    ghost use Rattle.bt_shared.specs.Passes.{PassState};
+impl Model for Pass {
+    ghost use Rattle.std.specs.Prelude.{◌<◌};
+    ghost use Rattle.bt_history.specs.Legal.{IsLegal};
+    ghost use Rattle.bt_history.specs.Logs.{Agrees};
+    ghost use Rattle.bt_shared.specs.Passes.{PassState, IsSeatOf};
 
     ghost Value = { PassState };
 
-    ghost view = { λ p. record { worker = p.worker; log = p.log.items } };
+    ghost view = { λ p. record { table = p.seat.table_id; setting = p.seat.me.0.setting; worker = p.worker; seen = p.seat.me.0.part.seen; log = p.log.items } };
 
-    ghost invariant = { λ p. (p.worker < L.parts) × (p.share.parts ≡ 1) × (p.share.amount ≡ length p.log.items) };
+    ghost invariant = { λ p. IsSeatOf p.worker p.seat.me × (p.worker < p.seat.me.0.setting.workers) × IsLegal p.seat.me.0.setting p.seat.me.0.part.seen
+        × Agrees p.seat.me.0.part.seen p.worker p.log.items };
 }
 
-impl<L: DeskLedger> Pass<L> {
+impl Pass {
     /// The worker that calls by this pass.
     pub fn worker(&self) -> u32
         ensures { result ≡ self.now.worker }
@@ -36,7 +41,8 @@ impl<L: DeskLedger> Pass<L> {
 
     /// Makes room for one more mark.
     pub(crate) fn make_room(&mut self) -> Result<(), AllocError>
-        ensures { self.new ≡ self.old }
+        ensures same { self.new ≡ self.old }
+        ensures legal { IsLegal self.new.setting self.new.seen }
     {
         self.log.reserve(1)?;
         Ok(())
@@ -44,7 +50,8 @@ impl<L: DeskLedger> Pass<L> {
 
     /// The marks of the entries that this pass's calls made, the oldest first.
     pub fn log(&self) -> &[Mark]
-        ensures { result.now ≡ self.now.log }
+        ensures log { result.now ≡ self.now.log }
+        ensures agrees { Agrees self.now.seen self.now.worker result.now }
     {
         self.log.as_slice()
     }

@@ -1,107 +1,224 @@
-ghost use Rattle.std.specs.Prelude.{◌≡◌, ◌<◌, ◌≤◌, ℕ, Some, length, option_copied, slice_get, vec_len, IfErr, IfOk, IfSome, OnErr, IsTrue};
+ghost use Rattle.std.specs.Prelude.{◌≡◌, ◌<◌, ◌≤◌, [], ℕ, Some, false, length, option_copied, slice_get, vec_len, IfErr, IfOk, IfSome, IsOk, OnErr, IsTrue};
 ghost use Rattle.bt_meta.specs.Layout.{piece_count};
-ghost use Rattle.bt_history.specs.Entries.{action_of};
+ghost use Rattle.bt_history.specs.Entries.{action_of, event};
 ghost use Rattle.bt_history.specs.Legal.{IsLegal};
 ghost use Rattle.bt_history.specs.Logs.{answers, call_mark};
 ghost use Rattle.bt_history.specs.Setting.{AreRules, setting_of};
 ghost use Rattle.bt_history.specs.declared.mark.CallMark.TheVariants.{Settle};
-ghost use Rattle.bt_shared.specs.Gathering.{AreHad, EachAgrees, EachFrom, IsNotMissing, SomeCause};
-ghost use Rattle.bt_shared.specs.Passes.{HasLengths, Notes, NotesCheck, newcomer};
+ghost use Rattle.bt_picker.specs.Checks.{IsJobOf, waits};
+ghost use Rattle.bt_shared.specs.Closing.{EachKnows};
+ghost use Rattle.bt_shared.specs.Gathering.{AreHad, EachAgrees, EachFrom, IsCause, IsNotMissing};
+ghost use Rattle.bt_shared.specs.Guard.{IsDesk, maker};
+ghost use Rattle.bt_shared.specs.Passes.{AreOf, Enters, HasLengths, IsSame, Rests, Settles, newcomer};
+ghost use Rattle.bt_shared.specs.Seen.{Continues, StartsWith};
 
-use crate::desk_ledger::DeskLedger;
-use crate::gather::{Book, GatherFault};
-use crate::locked::Locked;
+use crate::entering::{enter, enter_check, job_of};
+use crate::gather::{Book, GatherFault, gather};
+use crate::lock::{FREE, Guard, Make, Meet, Place, Witness, lock, unlock};
 use crate::pass::Pass;
+use crate::view::{Terms, View};
+use atomic_table::Table;
 use bt_check::Job;
 use bt_meta::{Bitfield, Torrent};
-use bt_picker::{Call, Reply, Rules};
+use bt_picker::{Call, Desk, Reply, Rules};
 use std::alloc::{AllocError, Global};
-use std::sync::ledger::Blank;
-use std::sync::{Arc, Mutex, Wait};
+use std::marker::Model;
+use std::sync::{Arc, Wait};
 
-/// A desk that threads share. Each call waits until it has the desk alone; the passes tell how many calls were made, and at which places
-/// of the journal. A pass is handed to the desk with which it was opened, the caller's condition.
+/// A desk that threads share. Each call waits until it has the desk alone, and its pass then knows the history that it has found.
+/// Contracts see which desk it is, and the setting that its history is judged by. A pass is handed to the desk with which it was opened,
+/// the caller's condition.
 #[derive(Drop)]
-pub struct SharedDesk<L: DeskLedger> {
-    lock: Mutex<Locked<L>>,
+pub struct SharedDesk {
+    table: Table<Option<Desk>, View, Terms, Guard, Global>,
+    workers: u32,
 }
 
-impl<L: DeskLedger> SharedDesk<L> {
-    /// A desk with the empty journal, and a pass for each worker, in order. `Desk::new` says which workers and rules there may be.
+impl Model for SharedDesk {
+    ghost use Rattle.std.specs.Prelude.{◌≡◌, ◌≤◌};
+    ghost use Rattle.bt_shared.specs.Passes.{SharedState};
+    ghost use Rattle.bt_shared.specs.Guard.{IsDesk};
+
+    ghost Value = { SharedState };
+
+    ghost view = { λ s. record { table = s.table.shared.table_id; setting = s.table.shared.key } };
+
+    ghost invariant = { λ s. IsDesk s.table.shared.table_id.words s.table.shared.table_id.slots × (s.workers ≡ s.table.shared.key.workers)
+        × (1 ≤ s.workers) };
+}
+
+/// What the desk is made for.
+fn terms_of(torrent: &Arc<Torrent>, workers: u32, rules: Rules) -> Result<Terms, AllocError>
+    ensures { IfOk result (λ terms. terms ≡ setting_of torrent.now.value.layout workers rules) }
+{
+    Ok(Terms {
+        torrent: torrent.clone()?,
+        workers,
+        rules,
+    })
+}
+
+/// The word, free, with a desk in the slot that has an empty journal, and the first seat.
+fn lay(
+    alloc: Global,
+    torrent: Arc<Torrent>,
+    workers: u32,
+    rules: Rules,
+) -> Result<(Table<Option<Desk>, View, Terms, Guard, Global>, Place), AllocError>
+    requires workers { (1 ≤ workers) × (workers ≤ 1024) }
+    requires rules { AreRules torrent.value.layout rules }
+    ensures key { IfOk result (λ laid. laid.0.shared.key ≡ setting_of torrent.value.layout workers rules) }
+    ensures desk { IfOk result (λ laid. IsDesk laid.0.shared.table_id.words laid.0.shared.table_id.slots) }
+    ensures seat { IfOk result (λ laid. (laid.1.table_id ≡ laid.0.shared.table_id)
+        × (laid.1.me ≡ (maker (setting_of torrent.value.layout workers rules), []))) }
+{
+    let terms = terms_of(&torrent, workers, rules)?;
+    let desk = Desk::new(alloc, torrent, workers, rules)?;
+    let mut slots = Vec::new(alloc);
+    slots.push(Some(desk))?;
+    match Table::new(alloc, &[FREE], slots, &terms) {
+        Ok(laid) => Ok(laid),
+        Err(_) => Err(AllocError),
+    }
+}
+
+impl SharedDesk {
+    /// A desk with the empty journal, and a pass for each worker, in order, that has seen nothing. `Desk::new` says which workers and rules
+    /// there may be.
     pub fn open(
         alloc: Global,
-        blank: Blank,
         torrent: Arc<Torrent>,
         workers: u32,
         rules: Rules,
-    ) -> Result<(SharedDesk<L>, Vec<Pass<L>>), AllocError>
-        requires name { blank.name ≡ L.name }
-        requires parts { (blank.parts ≡ L.parts) × (blank.parts ≡ workers) }
-        requires setting { L.setting ≡ setting_of torrent.value.layout workers rules }
+    ) -> Result<(SharedDesk, Vec<Pass>), AllocError>
         requires workers { (1 ≤ workers) × (workers ≤ 1024) }
         requires rules { AreRules torrent.value.layout rules }
+        ensures desk { IfOk result (λ opened. opened.0.setting ≡ setting_of torrent.value.layout workers rules) }
         ensures count { IfOk result (λ opened. vec_len opened.1 ≡ workers) }
-        ensures passes { IfOk result (λ opened. (w : ℕ) → w < workers → slice_get opened.1.items w ≡ Some (newcomer w)) }
+        ensures passes { IfOk result (λ opened.
+            (w : ℕ) → w < workers → slice_get opened.1.items w ≡ Some (newcomer opened.0 w)) }
     {
-        let (locked, passes) = Locked::open(alloc, blank, torrent, workers, rules)?;
-        let lock = Mutex::new(locked);
-        Ok((SharedDesk { lock }, passes))
+        let (table, mut maker) = lay(alloc, torrent, workers, rules)?;
+        let mut passes = Vec::new(alloc);
+        for worker in 0..workers {
+            let seat = table.shared.split_seat::<Make>(&mut maker);
+            passes.push(Pass {
+                worker,
+                seat,
+                log: Vec::new(alloc),
+            })?;
+        }
+        Ok((SharedDesk { table, workers }, passes))
     }
 
-    /// The worker's call, under the lock. Without memory for its entry and its mark, nothing changes.
-    pub fn call<R: Wait>(&self, rt: &R, pass: &mut Pass<L>, call: Call) -> Result<Reply, AllocError>
-        ensures ok { IfOk result (λ reply. Notes pass.old (call_mark (action_of call)) reply pass.new) }
+    /// The worker's call, once the desk is had. What the pass has seen then ends with its entry. Without memory for entry and mark, no
+    /// entry is made.
+    pub fn call<R: Wait>(&self, rt: &R, pass: &mut Pass, call: Call) -> Result<Reply, AllocError>
+        requires { pass.old.table ≡ self.now.table }
+        ensures ok { IfOk result (λ reply. Enters (event pass.old.worker call reply) pass.old pass.new) }
+        ensures same { IsSame pass.old pass.new }
+        ensures legal { IsLegal pass.new.setting pass.new.seen }
         ensures fits { IfOk result (λ reply. IsTrue (answers (call_mark (action_of call)) reply)) }
-        ensures err { OnErr result (pass.new ≡ pass.old) }
+        ensures err { OnErr result (Rests pass.old pass.new) }
     {
         // While nobody waits for this worker.
         pass.make_room()?;
-        self.lock.lock(rt).call(pass, call)
+        let words = &self.table.shared;
+        let Pass { worker, seat, log } = pass;
+        let mut desk = lock(rt, words, seat);
+        let made = enter(&mut desk, *worker, log, call);
+        unlock(words, seat, desk);
+        made
     }
 
-    /// Hashes the bytes that are held of the piece and settles it, under the lock. A piece that doesn't wait for a check is refused with
-    /// no entry and no mark. Without memory, nothing changes.
+    /// Hashes the bytes that are held of the piece and settles it, while the desk is had. A piece that doesn't wait for a check is refused
+    /// with no entry and no mark, whatever memory there is. Without memory, no entry is made.
     pub fn settle_now<R: Wait>(
         &self,
         rt: &R,
         alloc: Global,
-        pass: &mut Pass<L>,
+        pass: &mut Pass,
         piece: u32,
     ) -> Result<Reply, AllocError>
-        ensures ok { IfOk result (λ reply. NotesCheck L.setting pass.old piece reply pass.new) }
+        requires { pass.old.table ≡ self.now.table }
+        ensures ok { IfOk result (λ reply. Settles piece reply pass.old pass.new) }
+        ensures same { IsSame pass.old pass.new }
+        ensures legal { IsLegal pass.new.setting pass.new.seen }
         ensures fits { IfOk result (λ reply. IsTrue (answers (Settle piece) reply)) }
-        ensures err { OnErr result (pass.new ≡ pass.old) }
+        ensures unasked { waits pass.new.setting pass.new.seen piece ≡ false → IsOk result }
+        ensures err { OnErr result (Rests pass.old pass.new) }
     {
-        self.lock.lock(rt).settle_now(alloc, pass, piece)
+        let words = &self.table.shared;
+        let Pass { worker, seat, log } = pass;
+        let mut desk = lock(rt, words, seat);
+        let made = enter_check(&mut desk, alloc, *worker, log, piece);
+        unlock(words, seat, desk);
+        made
     }
 
-    /// The job of checking the piece, if it waits for a check when the lock is had. To be hashed while others have the lock.
-    pub fn job<R: Wait>(&self, rt: &R, alloc: Global, piece: u32) -> Result<Option<Job>, AllocError>
-        ensures { IfOk result (λ job. IfSome job (λ job.
-            (job.piece ≡ piece) × HasLengths L.setting.torrent piece job.blocks.items)) }
+    /// The job of checking the piece, if it waits for a check in the history that the pass has then seen. To be hashed while others have
+    /// the desk.
+    pub fn job<R: Wait>(
+        &self,
+        rt: &R,
+        alloc: Global,
+        pass: &mut Pass,
+        piece: u32,
+    ) -> Result<Option<Job>, AllocError>
+        requires { pass.old.table ≡ self.now.table }
+        ensures rests { Rests pass.old pass.new }
+        ensures legal { IsLegal pass.new.setting pass.new.seen }
+        ensures job { IfOk result (λ job. IsJobOf pass.new.setting pass.new.seen piece job) }
+        ensures lengths { IfOk result (λ job. IfSome job (λ job.
+            (job.piece ≡ piece) × HasLengths pass.new.setting.torrent piece job.blocks.items)) }
+        ensures unasked { waits pass.new.setting pass.new.seen piece ≡ false → IsOk result }
     {
-        self.lock.lock(rt).job(alloc, piece)
+        let words = &self.table.shared;
+        let seat = &mut pass.seat;
+        let desk = lock(rt, words, seat);
+        let job = job_of(&desk, alloc, piece);
+        unlock(words, seat, desk);
+        job
+    }
+
+    /// The second pass has then seen all that the first has, and it knows so.
+    pub fn meet<R: Wait>(&self, rt: &R, first: &mut Pass, second: &mut Pass)
+        requires first { first.old.table ≡ self.now.table }
+        requires second { second.old.table ≡ self.now.table }
+        ensures first { first.new ≡ first.old }
+        ensures second { Rests second.old second.new }
+        ensures legal { IsLegal second.new.setting second.new.seen }
+        ensures told { StartsWith second.new.seen first.new.seen }
+    {
+        let words = &self.table.shared;
+        let copy = words.split_seat::<Witness>(&mut first.seat);
+        let seat = &mut second.seat;
+        words.join_seat::<Meet>(seat, copy);
+        let desk = lock(rt, words, seat);
+        unlock(words, seat, desk);
     }
 
     /// The desk of all calls, with a log for each worker, if the logs have all entries of the journal, each at its place, and the
-    /// bitfield, if there is one, has exactly the pieces that are had. `Locked::gather` says more of a refusal: it knows the journal.
-    /// Desk and passes are used up also where it refuses.
+    /// bitfield, if there is one, has exactly the pieces that are had. Desk and passes are used up also where it refuses.
     pub fn gather(
         self,
         alloc: Global,
-        passes: Vec<Pass<L>>,
+        passes: Vec<Pass>,
         bits: Option<&Bitfield>,
     ) -> Result<Book, GatherFault>
-        requires bits { IfSome bits (λ bits. length bits.now ≡ piece_count L.setting.torrent) }
-        ensures setting { IfOk result (λ book. book.desk.setting ≡ L.setting) }
-        ensures legal { IfOk result (λ book. IsLegal L.setting book.desk.history) }
-        ensures count { IfOk result (λ book. vec_len book.logs ≡ L.parts) }
+        requires passes { AreOf self passes.items }
+        requires bits { IfSome bits (λ bits. length bits.now ≡ piece_count self.setting.torrent) }
+        ensures setting { IfOk result (λ book. book.desk.setting ≡ self.setting) }
+        ensures legal { IfOk result (λ book. IsLegal self.setting book.desk.history) }
+        ensures count { IfOk result (λ book. vec_len book.logs ≡ self.setting.workers) }
         ensures logs { IfOk result (λ book. EachFrom passes.items book.logs.items) }
+        ensures seen { IfOk result (λ book. EachKnows book.desk.history passes.items) }
         ensures agrees { IfOk result (λ book. EachAgrees book.desk.history book.logs.items) }
         ensures bits { IfOk result (λ book. IfSome bits.entry (λ bits. AreHad bits.now book.desk.history)) }
-        ensures err { IfErr result (SomeCause L.setting passes.items (option_copied bits.entry)) }
-        ensures all { vec_len passes ≡ L.parts → IfErr result IsNotMissing }
+        ensures err { IfErr result (IsCause self.setting passes.items (option_copied bits.entry)) }
+        ensures all { vec_len passes ≡ self.setting.workers → IfErr result IsNotMissing }
     {
-        self.lock.into_inner().gather(alloc, passes, bits)
+        let SharedDesk { table, workers } = self;
+        gather(table, workers, alloc, passes, bits)
     }
 }

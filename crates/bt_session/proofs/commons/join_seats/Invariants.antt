@@ -5,6 +5,6 @@ use Rattle.bt_session.proofs.commons.join_seats.Given as goal
 
 abbrev pub invariant-loop-worker : goal.invariant-loop-worker
 invariant-loop-worker g l = record {
-  joins : Joins l.board.table l.fn.workers.items (into_iter_items l.worker-iterator) l.passes.items l.all;
+  joins : Joins g.L.RunName.setting g.L.RunName.desk l.board.table l.fn.workers.items (into_iter_items l.worker-iterator) l.passes.items l.all;
   room : vec_len l.passes + into_iter_len l.worker-iterator ≤ vec_capacity l.passes;
 }

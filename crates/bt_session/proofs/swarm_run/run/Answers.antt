@@ -16,7 +16,7 @@ gather-requires-clause-order g c =
     let worked = c.in_ok-worked.worked in
     let many : length all ≡ n + m + 1 = search rules in
     let ran : Ran (stream_record g.R.Source.left g.R.Source.ended g.R.Source.failed g.R.Source.asked g.W.Sink.written g.W.Sink.failed)
-    (terms_of layout c.args.rules.depth) g.L.DeskLedger.setting c.args.seed n m (piece_count layout.layout)
+    (terms_of layout c.args.rules.depth) g.L.RunName.setting c.args.seed n m (piece_count layout.layout)
     all worked.workers.items c.args.streams.items worked.streams.items worked.ends.items = record {
       some = c.requires.streams.0;
       fresh = made.fresh;
@@ -40,7 +40,7 @@ returns-clause-sessions g c =
     let worked = c.in_ok-worked.worked in
     let many : length all ≡ n + m + 1 = search rules in
     let ran : Ran (stream_record g.R.Source.left g.R.Source.ended g.R.Source.failed g.R.Source.asked g.W.Sink.written g.W.Sink.failed)
-    (terms_of layout c.args.rules.depth) g.L.DeskLedger.setting c.args.seed n m (piece_count layout.layout)
+    (terms_of layout c.args.rules.depth) g.L.RunName.setting c.args.seed n m (piece_count layout.layout)
     all worked.workers.items c.args.streams.items worked.streams.items worked.ends.items = record {
       some = c.requires.streams.0;
       fresh = made.fresh;
@@ -65,7 +65,7 @@ returns-clause-checks g c =
     let worked = c.in_ok-worked.worked in
     let many : length all ≡ n + m + 1 = search rules in
     let ran : Ran (stream_record g.R.Source.left g.R.Source.ended g.R.Source.failed g.R.Source.asked g.W.Sink.written g.W.Sink.failed)
-    (terms_of layout c.args.rules.depth) g.L.DeskLedger.setting c.args.seed n m (piece_count layout.layout)
+    (terms_of layout c.args.rules.depth) g.L.RunName.setting c.args.seed n m (piece_count layout.layout)
     all worked.workers.items c.args.streams.items worked.streams.items worked.ends.items = record {
       some = c.requires.streams.0;
       fresh = made.fresh;
@@ -90,7 +90,7 @@ returns-clause-finishes g c =
     let worked = c.in_ok-worked.worked in
     let many : length all ≡ n + m + 1 = search rules in
     let ran : Ran (stream_record g.R.Source.left g.R.Source.ended g.R.Source.failed g.R.Source.asked g.W.Sink.written g.W.Sink.failed)
-    (terms_of layout c.args.rules.depth) g.L.DeskLedger.setting c.args.seed n m (piece_count layout.layout)
+    (terms_of layout c.args.rules.depth) g.L.RunName.setting c.args.seed n m (piece_count layout.layout)
     all worked.workers.items c.args.streams.items worked.streams.items worked.ends.items = record {
       some = c.requires.streams.0;
       fresh = made.fresh;

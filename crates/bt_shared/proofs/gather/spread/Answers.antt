@@ -1,25 +1,31 @@
-use Rattle.std.proofs.Common.{◌≡◌, ◌++◌, ◌∷◌, [], length, drop, ap, ◌∙◌, arith}
+use Rattle.std.proofs.Common.{◌≡◌, ◌+◌, ◌++◌, ◌∷◌, [], length, drop, ap, arith, refl, subst}
 use Rattle.std.proofs.lemmas.List.Sums.{sum_by-cons}
 use Rattle.bt_shared.specs.Passes.{PassState}
+use Rattle.bt_history.specs.Logs.{Agrees}
+use Rattle.bt_shared.proofs.Closings.{joined_more}
 use Rattle.bt_shared.proofs.Spreading.{popped, each_from}
 use Rattle.bt_shared.proofs.gather.spread.Goals as goal
 
 pub loop-pass-preserved : goal.loop-pass-preserved
-loop-pass-preserved g c =
+loop-pass-preserved c =
     let old = c.loop-pass.invariant in
     let all = c.args.passes.items in
     let p = c.in-Some.pass in
     let rest = drop (length c.loop-pass.passes.items) all in
-    let last : c.loop-pass.passes.items ≡ c.pop.new.self.items ++ p ∷ [] = c.in-Some.ensures.items in
-    let step = popped all c.loop-pass.passes.items c.pop.new.self.items p old.left old.fewer last in
-    let more : length p.log ≡ c.len-held.result = omega (arith, ap (λ (m : PassState). length m.log) c.pass.view_is, c.len-held.ensures) in
+    let step = popped all c.loop-pass.passes.items c.pop.new.self.items p old.left old.fewer c.in-Some.ensures.items in
+    let more : length p.log ≡ c.len.result = omega (arith, ap (λ (m : PassState). length m.log) c.pass.view_is, c.len.ensures) in
     record {
       left = step.1;
       fewer = omega (arith, step.0, old.fewer);
-      parts = omega (arith, step.0, old.parts, c.merge.ensures.parts, c.audit.ensures.parts, c.pass.invariant.1);
-      amount = omega (arith, old.amount, c.merge.ensures.amount, c.audit.ensures.amount, c.pass.invariant.2, c.len-held.ensures);
-      total = c.audit.ensures.total ∙ old.total;
-      held = rw step.2 (omega (arith, old.held, more, sum_by-cons (λ (q : PassState). length q.log) p rest));
+      held = rw step.2 (omega (arith, old.held, more, c.saturating_add-held.ensures, sum_by-cons (λ (q : PassState). length q.log) p rest));
+      none = tt;
+      joined = rw step.2 (
+        c.joined.ensures.same.0,
+        joined_more c.loop-pass.all c.pass.inside.seat c.joined.result rest p c.pass.inside.worker c.pass.invariant.0
+            (ap (λ (m : PassState). m.worker) c.pass.view_is) (ap (λ (m : PassState). m.seen) c.pass.view_is) c.joined.ensures.same.1
+            c.joined.ensures.none c.joined.ensures.workers c.joined.ensures.parts old.none c.args.words.now.table_id old.joined,
+      );
+      own = rw step.2 (subst (λ (m : PassState). Agrees m.seen m.worker m.log) c.pass.view_is c.pass.invariant.3, old.own);
       room = old.room;
-      logs = rw step.2 (each_from rest p c.loop-pass.logs.items c.pass.inside.worker c.pass.inside.log c.pass.view_is old.logs);
+      logs = rw step.2 (each_from rest _ p c.loop-pass.logs.items c.pass.inside.log c.pass.view_is refl old.logs);
     }

@@ -1,6 +1,6 @@
 use Rattle.std.proofs.Common.{◌≡◌, List, length, sym, ap, subst, ◌∙◌}
 use Rattle.bt_meta.specs.Layout.{Layout, piece_count}
-use Rattle.bt_session.proofs.Seats.{all_had, all_stand}
+use Rattle.bt_session.proofs.Seats.{all_had, all_stand, are_of}
 use Rattle.bt_shared.specs.Gathering.{EachFrom}
 use Rattle.bt_shared.specs.Passes.{PassState}
 use Rattle.bt_session.proofs.commons.Commons.gather.Goals as goal
@@ -16,7 +16,12 @@ returns-clause-logs g c =
 
 pub returns-clause-had : goal.returns-clause-had
 returns-clause-had g c =
-    let wide : length c.in-Ok.bits ≡ piece_count g.L.DeskLedger.setting.torrent =
+    let wide : length c.in-Ok.bits ≡ piece_count g.L.RunName.setting.torrent =
     c.in-Ok.ensures.count ∙ ap (λ (t : Layout). piece_count t) c.self.invariant.board_torrent in
-    all_had c.args.workers.items c.in-Some.seat.view c.in-Some.ensures.takes g.L.DeskLedger.setting c.in_ok-gather.field-0.desk.history c.in-Ok.bits
+    all_had c.args.workers.items c.in-Some.seat.view c.in-Some.ensures.takes g.L.RunName.setting c.in_ok-gather.field-0.desk.history c.in-Ok.bits
     wide c.in-Ok.ensures.seen c.in_ok-gather.ensures.bits
+
+pub gather-requires-clause-passes : goal.gather-requires-clause-passes
+gather-requires-clause-passes g c =
+    are_of c.self.inside.desk g.L.RunName.desk g.L.RunName.setting c.join_seats.new.passes.items c.self.invariant.desk_is c.self.invariant.desk_setting
+    c.join_seats.ensures.named

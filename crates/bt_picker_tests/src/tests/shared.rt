@@ -1,5 +1,0 @@
-mod gathering;
-mod locked;
-mod logs;
-mod setting;
-mod threads;

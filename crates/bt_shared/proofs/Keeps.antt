@@ -1,0 +1,203 @@
+-- Each step of the word lock keeps its rule.
+use Rattle.std.proofs.Common.{◌≡◌, ◌≢◌, ℕ, ◌+◌, ◌<◌, ◌≤◌, ◌==◌, ◌⊎◌, Bool, true, false, Some, None, zero, suc, List, [], ◌∷◌, ◌++◌, length, get_or, set, refl, sym, ap, ◌∙◌, subst, inl, inr, ⊎_elim, arith, length-set, length-append, get_or-set_same, le_refl}
+use mathlib.Core.Logic.{dite}
+use mathlib.Core.Option.{none, some, some-injective, some-ne-none}
+use native.Mathlib.Decide.{ℕ_discrete}
+use lib.ListN.{get_elem?}
+use Rattle.std.proofs.lemmas.List.{set-get_or}
+use prog.Atomic.{either}
+use Rattle.atomic_table.specs.Table.{State, Me, step, Act, keeps, takes, gives, carried_after, Valid, rest, stepped, Allows, Splits, Joins, opening}
+use Rattle.atomic_table.proofs.Lists.{at_set, set_here, set_else, set_again, at_snoc, at_longer, exchanged}
+use Rattle.bt_history.specs.Setting.{Setting}
+use Rattle.bt_history.specs.declared.event.Event.{Event}
+use Rattle.bt_picker.specs.Positions.{DeskState}
+use Rattle.bt_shared.specs.declared.view.View.{View}
+use Rattle.bt_shared.specs.Seen.{Knows, IsAmong, Grows, own}
+use Rattle.bt_shared.specs.Guard.{Slot, Table, Sat, desk, Fits, Apart, IsFree, IsTaken, Guards, Saw, seeing, Takes, Frees, MayFree, MayTake}
+use Rattle.bt_shared.proofs.Histories.{each_map, own_other, knows_all, knows_more}
+
+-- a fact of each seat, where one has a new view
+pub each_set : (P : ℕ → View → Type 0) (vs : List View) (me : ℕ) (w : View) → P me w → ((i : ℕ) (u : View) → i ≢ me → get_elem? vs i ≡ some u → P i u)
+    → (i : ℕ) (u : View) → get_elem? (set vs me w) i ≡ some u → P i u
+each_set P vs me w mine others i u at =
+    ⊎_elim
+    (λ (t : (i ≡ me) × (w ≡ u)). subst (λ (x : ℕ × View). P x.0 x.1) (λ k. (sym t.0 k, t.1 k)) mine)
+    (λ (t : (i ≢ me) × (get_elem? vs i ≡ some u)). others i u t.0 t.1)
+    (at_set vs me i w u at)
+
+-- the seat's view before, which speaks for the same workers
+pub record Was (vs : List View) (i : ℕ) (u : View) : Type 0 where
+  pub old : View
+  pub at : get_elem? vs i ≡ some old
+  pub workers : old.part.workers ≡ u.part.workers
+  pub maker : old.maker ≡ u.maker
+  pub next : old.next ≤ u.next
+
+-- the seats stay apart where a view speaks for the same workers
+pub apart_same : (vs us : List View) → ((i : ℕ) (u : View) → get_elem? us i ≡ some u → Was vs i u) → Apart vs → Apart us
+apart_same vs us was a = record {
+  workers = λ i j v u w av au mv mu.
+      let x = was i v av in let y = was j u au in
+      a.workers i j x.old y.old w x.at y.at (subst (IsAmong w) (sym x.workers) mv) (subst (IsAmong w) (sym y.workers) mu);
+  makers = λ i j v u av au mv mu.
+      let x = was i v av in let y = was j u au in
+      a.makers i j x.old y.old x.at y.at (x.maker ∙ mv) (y.maker ∙ mu);
+  made = λ i j v u w av au mv mu.
+      let x = was i v av in let y = was j u au in
+      let below = a.made i j x.old y.old w x.at y.at (x.maker ∙ mv) (subst (IsAmong w) (sym y.workers) mu) in
+      omega (arith, below, x.next);
+}
+
+pub apart_set : (vs : List View) (me : ℕ) (v w : View) → get_elem? vs me ≡ some v → v.part.workers ≡ w.part.workers → v.maker ≡ w.maker → v.next ≤ w.next → Apart vs → Apart (set vs me w)
+apart_set vs me v w at same-workers same-maker same-next a =
+    apart_same vs (set vs me w)
+    (each_set (Was vs) vs me w
+    (record { old = v; at = at; workers = same-workers; maker = same-maker; next = same-next })
+    (λ i u _ here. record { old = u; at = here; workers = refl; maker = refl; next = le_refl u.next }))
+    a
+
+-- a seat that has seen the whole journal
+fits_all : (setting : Setting) (h h' : List Event) (taken : Bool) (v : View) → v.spent ≡ false → Fits setting h v → Fits setting h' (seeing taken v h')
+fits_all setting h h' taken v live f =
+    let knows = knows_all h' v.part.workers in
+    record { same = λ _. f.same live; part = knows; parts = (record { knows = knows; among = λ w x. x }, tt); below = f.below; once = f.once }
+
+first_of_all : List (ℕ × Slot) → Slot
+first_of_all [] = None
+first_of_all (x ∷ xs) = x.1
+
+carries_one : (d x : DeskState) → ◌≡◌ {A = List (ℕ × Slot)} ((0, Some d) ∷ []) ((0, Some x) ∷ []) → d ≡ x
+unfolding first_of_all
+carries_one d x is = let same : Some d ≡ Some x = ap first_of_all is in cc
+
+pub set_at : {A : Type 0} (l : List A) (i : ℕ) (a b : A) → get_elem? l i ≡ some a → get_elem? (set l i b) i ≡ some b
+set_at [] i a b e = absurd (some-ne-none a (sym e))
+set_at (x ∷ xs) zero a b e = refl
+set_at (x ∷ xs) (suc i) a b e = set_at xs i a b e
+
+not_true : (b : Bool) → (b ≡ true → ⊥) → b ≡ false
+not_true true h = absurd (h refl)
+not_true false h = refl
+
+-- workers that have no seat yet have made no call
+fresh_more : (h h' : List Event) (makers : List ℕ) (w : ℕ) → Grows makers h h' → (IsAmong w makers → ⊥) → own w h ≡ [] → own w h' ≡ []
+fresh_more h h' makers w (inl same) away zero-own = ap (own w) same ∙ zero-own
+fresh_more h h' makers w (inr more) away zero-own = let e = more.0 in ap (own w) more.2 ∙ (own_other w h e (λ is. away (subst (λ (x : ℕ). IsAmong x makers) is more.1)) ∙ zero-own)
+
+module _ (setting : Setting) (n me worker : ℕ) (v : View) (live : v.spent ≡ false) (speaks : IsAmong worker v.part.workers) where
+  -- the word was free: the seat takes it, with the desk
+  take_free : (s : Table) (r : Guards setting s) → get_elem? s.views me ≡ some v → get_or s.words 0 0 ≡ 0
+      → Guards setting (stepped s 0 1 me [] (seeing true v r.journal) (takes 0 (Some (desk setting r.journal))))
+  take_free s r at is-free =
+      let h = r.journal in
+      let w : View = seeing true v h in
+      let free = r.free is-free in
+      let wide = r.words in
+      let word : get_or (set s.words 0 1) 0 0 ≡ 1 = get_or-set_same s.words 0 1 0 (omega arith) in
+      record {
+        journal = h;
+        words = length-set s.words 0 1 ∙ r.words;
+        slots = length-set s.homes 0 none ∙ r.slots;
+        free = λ e. absurd (omega (arith, word, e));
+        taken = λ _. record {
+          away = set_here s.homes 0 none (omega (arith, r.slots));
+          seat = me;
+          view = w;
+          at = set_at s.views me v w at;
+          says = refl;
+          found = refl;
+          worker = worker;
+          speaks = speaks;
+          only = each_set (λ i u. u.taken ≡ true → i ≡ me) s.views me w (λ _. refl) (λ i u _ there is. let no = free.none_taken i u there in absurd cc);
+        };
+        fresh = each_set (λ i u. (x : ℕ) → u.maker ≡ true → u.next ≤ x → own x h ≡ []) s.views me w (r.fresh me v at) (λ i u _ there. r.fresh i u there);
+        each = each_set (λ _ u. Fits setting h u) s.views me w (fits_all setting h h true v live (r.each me v at)) (λ i u _ there. r.each i u there);
+        apart = apart_set s.views me v w at refl refl (le_refl v.next) r.apart;
+      }
+
+  -- a failed try
+  take_failed : (s : Table) → Guards setting s → get_elem? s.views me ≡ some v → Guards setting (stepped s 0 (get_or s.words 0 0) me [] v keeps)
+  take_failed s r at =
+      let P : List ℕ → List View → Type 0 = λ ws vs. Guards setting record { words = ws; homes = s.homes; views = vs } in
+      subst (λ ws. P ws (set s.views me v)) (sym (set-get_or s.words 0 0)) (subst (P s.words) (sym (set_again s.views me v at)) r)
+
+  pub may_take : v.taken ≡ false → Allows (Guards setting) n me (v, []) 0 (λ n. either (n == 0) 1 n) (Takes (step n 0 0 1 none) (v, []))
+  may_take idle s r slots at fits =
+      let n : ℕ = get_or s.words 0 0 in
+      let Goes : ℕ → Type 0 = λ x. (w : View) × (a : Act Slot) × Valid s.homes [] a × Guards setting (stepped s 0 x me [] w a) × Takes (step n 0 0 1 none) (v, []) n (w, carried_after [] a) in
+      exchanged n 0 1 Goes
+      (λ is-free.
+      let h = r.journal in (
+        seeing true v h,
+        takes 0 (Some (desk setting h)),
+        (r.free is-free).home,
+        take_free s r at is-free,
+        ((λ _. (desk setting h, (r.each me v at).same live, r.each me v at, refl)), λ taken. absurd (taken is-free)),
+      ))
+      (λ is-taken. (v, keeps, tt, take_failed s r at, ((λ e. absurd (is-taken e)), λ _. refl)))
+
+module _ (setting : Setting) (n me : ℕ) (v : View) (live : v.spent ≡ false) where
+  -- the word is taken, by this seat, which gives the desk back
+  free_taken : (d : DeskState) → MayFree v d → (s : Table) (r : Guards setting s) → get_elem? s.views me ≡ some v
+      → Guards setting (stepped s 0 0 me ((0, Some d) ∷ []) (seeing false v d.history) gives)
+  free_taken d m s r at =
+      let w : View = seeing false v d.history in
+      let not-free : get_or s.words 0 0 ≢ 0 = λ e. let no = (r.free e).none_taken me v at in let yes = m.taken in absurd cc in
+      let t = r.taken not-free in
+      let mine : me ≡ t.seat = t.only me v at m.taken in
+      let view-is : t.view ≡ v = some-injective t.view v (sym t.at ∙ (ap (get_elem? s.views) (sym mine) ∙ at)) in
+      let journal-is : v.part.seen ≡ r.journal = ap (λ (u : View). u.part.seen) (sym view-is) ∙ t.found in
+      let grows : Grows v.part.workers r.journal d.history = subst (λ h. Grows v.part.workers h d.history) journal-is m.grows in
+      let same : d.setting ≡ setting = m.same ∙ (r.each me v at).same live in
+      let word : get_or (set s.words 0 0) 0 0 ≡ 0 = get_or-set_same s.words 0 0 0 (omega (arith, r.words)) in
+      record {
+        journal = d.history;
+        words = length-set s.words 0 0 ∙ r.words;
+        slots = length-set s.homes 0 (some (Some d)) ∙ r.slots;
+        free = λ _. record {
+          home = set_here s.homes 0 (some (Some d)) (omega (arith, r.slots)) ∙ ap (λ a. some (some (Some (desk a d.history)))) same;
+          none_taken = each_set (λ i u. u.taken ≡ false) s.views me w refl (λ i u other there. not_true u.taken (λ is. other (t.only i u there is ∙ sym mine)));
+        };
+        taken = λ no. absurd (no word);
+        fresh = each_set (λ i u. (x : ℕ) → u.maker ≡ true → u.next ≤ x → own x d.history ≡ []) s.views me w
+            (λ x makes le. fresh_more r.journal d.history v.part.workers x grows (λ among. let below = r.apart.made me me v v x at at makes among in absurd (omega arith)) (r.fresh me v at x makes le))
+            (λ i u _ there x makes le. fresh_more r.journal d.history v.part.workers x grows (λ among. let below = r.apart.made i me u v x there at makes among in absurd (omega arith)) (r.fresh i u there x makes le));
+        each = each_set (λ _ u. Fits setting d.history u) s.views me w (fits_all setting r.journal d.history false v live (r.each me v at))
+            (λ i u other there.
+            let f = r.each i u there in
+            let away : (x : ℕ) → IsAmong x u.part.workers → IsAmong x v.part.workers → ⊥ = λ x a b. other (r.apart.workers i me u v x there at a b) in
+            record {
+              same = f.same;
+              part = knows_more r.journal d.history v.part.workers u.part.workers u.part.seen grows away f.part;
+              parts = each_map (Saw r.journal u.part.workers) (Saw d.history u.part.workers) u.parts
+                  (λ p saw. record { knows = knows_more r.journal d.history v.part.workers p.workers p.seen grows (λ x a. away x (saw.among x a)) saw.knows; among = saw.among })
+                  f.parts;
+              below = f.below;
+              once = f.once;
+            });
+        apart = apart_set s.views me v w at refl refl (le_refl v.next) r.apart;
+      }
+
+  pub may_free : (d : DeskState) → MayFree v d → Allows (Guards setting) n me (v, (0, Some d) ∷ []) 0 (λ _. 0) (λ _. Frees (step n 0 0 0 none) (v, (0, Some d) ∷ []) 0)
+  may_free d m s r slots at fits = (
+    seeing false v d.history,
+    gives,
+    tt,
+    free_taken d m s r at,
+    λ x is. let same = carries_one d x is in let F : DeskState → Sat = λ y. (seeing false v y.history, []) in ap F same,
+  )
+
+-- The same for a seat with its slots.
+pub seat_may_take : (setting : Setting) (n id : ℕ) (m : Sat) → MayTake m → Allows (Guards setting) n id m 0 (λ x. either (x == 0) 1 x) (Takes (step n 0 0 1 none) m)
+seat_may_take setting n id m may =
+    let P : List (ℕ × Slot) → Type 0 = λ cs. Allows (Guards setting) n id (m.0, cs) 0 (λ x. either (x == 0) 1 x) (Takes (step n 0 0 1 none) (m.0, cs)) in
+    subst P (sym may.idle.empty) (may_take setting n id may.worker m.0 may.idle.live may.speaks may.idle.idle)
+
+pub seat_may_free : (setting : Setting) (n id : ℕ) (m : Sat) (d : DeskState) → m.1 ≡ (0, Some d) ∷ [] → m.0.spent ≡ false → MayFree m.0 d → Allows (Guards setting) n id m 0 (λ _. 0) (λ _. Frees (step n 0 0 0 none) m 0)
+seat_may_free setting n id m d carries live free =
+    let P : List (ℕ × Slot) → Type 0 = λ cs. Allows (Guards setting) n id (m.0, cs) 0 (λ _. 0) (λ _. Frees (step n 0 0 0 none) (m.0, cs) 0) in
+    subst P (sym carries) (may_free setting n id m.0 live d free)
+
+-- a seat that has taken a slot may exchange its value
+pub has_slot : (m : Sat) (x : Slot) (cs : List (ℕ × Slot)) → m.1 ≡ (0, x) ∷ cs → (old : Slot) × (m.1 ≡ (0, old) ∷ rest m.1)
+has_slot m x cs e = (x, e ∙ ap (λ (l : List (ℕ × Slot)). (0, x) ∷ l) (sym (ap rest e)))

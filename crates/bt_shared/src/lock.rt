@@ -1,0 +1,112 @@
+ghost use Rattle.std.specs.Prelude.{◌≡◌, ◌∷◌, [], true, false, None};
+ghost use Rattle.bt_history.specs.Legal.{IsLegal};
+ghost use Rattle.bt_shared.specs.Guard.{Fits, IsDesk, MayFree, MayTake, seeing};
+
+use crate::view::{Terms, View};
+use atomic_table::{Join, Play, Seat, Shared, Split, TableRule};
+use bt_picker::Desk;
+use std::sync::Wait;
+use std::thread;
+
+pub(crate) const FREE: u64 = 0;
+
+const TAKEN: u64 = 1;
+
+/// The rule of the word and the slot.
+pub struct Guard;
+
+impl TableRule<Option<Desk>, View, Terms> for Guard {
+    ghost use Rattle.bt_shared.specs.Guard.{Guards, maker};
+
+    ghost holds = { Guards };
+
+    ghost first = { maker };
+}
+
+/// Takes the word, with the desk.
+pub(crate) struct Take;
+
+impl Play<Option<Desk>, View> for Take {
+    ghost use Rattle.bt_shared.specs.Guard.{Takes};
+
+    ghost then = { Takes };
+}
+
+/// Frees the word, and gives the desk back.
+pub(crate) struct Free;
+
+impl Play<Option<Desk>, View> for Free {
+    ghost use Rattle.bt_shared.specs.Guard.{Frees};
+
+    ghost then = { Frees };
+}
+
+/// The maker's seat gives the next worker's.
+pub(crate) struct Make;
+
+impl Split<View> for Make {
+    ghost use Rattle.bt_shared.specs.Guard.{making, newcomer_view};
+
+    ghost left = { making };
+
+    ghost right = { newcomer_view };
+}
+
+/// A seat that has seen as much, and speaks for no worker.
+pub(crate) struct Witness;
+
+impl Split<View> for Witness {
+    ghost use Rattle.bt_shared.specs.Guard.{witness};
+
+    ghost left = { λ v. v };
+
+    ghost right = { witness };
+}
+
+/// What two seats know, in one.
+pub(crate) struct Meet;
+
+impl Join<View> for Meet {
+    ghost use Rattle.bt_shared.specs.Guard.{meeting, spent_view};
+
+    ghost both = { meeting };
+
+    ghost spent = { spent_view };
+}
+
+pub(crate) type Place = Seat<Option<Desk>, View>;
+
+pub(crate) type Words = Shared<Option<Desk>, View, Terms, Guard>;
+
+/// Waits for the word, and takes the desk out of its slot.
+pub(crate) fn lock<R: Wait>(rt: &R, words: &Words, seat: &mut Place) -> Desk
+    requires desk { IsDesk words.now.table_id.words words.now.table_id.slots × (seat.old.table_id ≡ words.now.table_id) }
+    requires may { MayTake seat.old.me }
+    ensures same { (seat.new.table_id ≡ seat.old.table_id) × (seat.new.id ≡ seat.old.id) }
+    ensures found { Fits result.setting result.history seat.old.me.0 × (seat.old.me.0.setting ≡ result.setting) }
+    ensures taken { seat.new.me ≡ (seeing true seat.old.me.0 result.history, (0, None) ∷ []) }
+    ensures legal { IsLegal result.setting result.history }
+{
+    for _ in rt.forever() {
+        if words.compare_exchange::<Take>(seat, 0, FREE, TAKEN) == FREE {
+            let Some(desk) = words.exchange(seat, 0, None) else {
+                unreachable!()
+            };
+            let _journal = desk.journal();
+            return desk;
+        }
+        thread::yield_now();
+    }
+    unreachable!()
+}
+
+/// Puts the desk back into its slot, and frees the word.
+pub(crate) fn unlock(words: &Words, seat: &mut Place, desk: Desk)
+    requires desk { IsDesk words.now.table_id.words words.now.table_id.slots × (seat.old.table_id ≡ words.now.table_id) }
+    requires taken { (seat.old.me.1 ≡ (0, None) ∷ []) × (seat.old.me.0.spent ≡ false) × MayFree seat.old.me.0 desk }
+    ensures same { (seat.new.table_id ≡ seat.old.table_id) × (seat.new.id ≡ seat.old.id) }
+    ensures freed { seat.new.me ≡ (seeing false seat.old.me.0 desk.history, []) }
+{
+    words.exchange(seat, 0, Some(desk));
+    words.store::<Free>(seat, 0, FREE);
+}

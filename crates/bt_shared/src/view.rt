@@ -1,0 +1,44 @@
+use bt_history::Event;
+use bt_meta::Torrent;
+use bt_picker::Rules;
+use std::collections::LinkedList;
+use std::marker::Model;
+use std::sync::Arc;
+
+/// What a desk is made for. Contracts see it as the setting that its history is judged by.
+#[derive(Drop)]
+pub struct Terms {
+    pub(crate) torrent: Arc<Torrent>,
+    pub(crate) workers: u32,
+    pub(crate) rules: Rules,
+}
+
+impl Model for Terms {
+    ghost use Rattle.bt_history.specs.Setting.{Setting, setting_of};
+
+    ghost Value = { Setting };
+
+    ghost view = { λ t. setting_of t.torrent.value.layout t.workers t.rules };
+}
+
+/// A history that was seen, and the workers that have no entries but those in it. No value of it is made.
+pub struct Part {
+    pub workers: LinkedList<u32>,
+    pub seen: LinkedList<Event>,
+}
+
+/// What a seat knows. No value of it is made.
+pub struct View {
+    /// What the desk is made for, unless the seat is spent.
+    pub setting: Terms,
+    /// It was joined into another.
+    pub spent: bool,
+    /// It has taken the word.
+    pub taken: bool,
+    /// It makes the seats of workers, of which `next` is the next.
+    pub maker: bool,
+    pub next: u32,
+    pub part: Part,
+    /// What each of the seats knew that were joined into this one since it last had the word.
+    pub parts: LinkedList<Part>,
+}

@@ -1,0 +1,54 @@
+//! What `gather` answers, and why it refuses.
+use super::setting::*;
+use bt_picker::{Call, CallMark, Reply};
+use bt_shared::GatherFault;
+use std::test::*;
+
+/// Of two workers that joined, one pass is lost.
+#[test]
+fn a_lost_pass(rt: HostRuntime) -> Result<(), Fail> {
+    let mut seated = Seated::open(&rt, rt.alloc(), 2)?;
+    assert_eq!(rt; seated.call(&rt, 0, Call::Join)?, Reply::Joined);
+    assert_eq!(rt; seated.call(&rt, 1, Call::Join)?, Reply::Joined);
+    seated.lose(&rt, 1);
+    let missing = GatherFault::PassMissing {
+        held: 1,
+        journal: 2,
+    };
+    assert!(rt; seated.gather(rt.alloc()).err() == Some(missing));
+    Ok(())
+}
+
+/// Of three workers the last two join. Their passes come in another order, and the idle one's doesn't come, which isn't noticed.
+#[test]
+fn passes_in_another_order(rt: HostRuntime) -> Result<(), Fail> {
+    let mut seated = Seated::open(&rt, rt.alloc(), 3)?;
+    assert_eq!(rt; seated.call(&rt, 1, Call::Join)?, Reply::Joined);
+    assert_eq!(rt; seated.call(&rt, 2, Call::Join)?, Reply::Joined);
+    seated.lose(&rt, 0);
+    let book = seated.gather(rt.alloc())?;
+    assert_eq!(rt; book.logs.len(), 3);
+    assert!(rt; book.logs[0].is_empty());
+    assert!(rt; book.logs[1].as_slice() == [mark(0, CallMark::Join, Reply::Joined)].as_slice());
+    assert!(rt; book.logs[2].as_slice() == [mark(1, CallMark::Join, Reply::Joined)].as_slice());
+    Ok(())
+}
+
+/// The last piece is had, and a bitfield tells which pieces are.
+#[test]
+fn bitfields_of_had_pieces(rt: HostRuntime) -> Result<(), Fail> {
+    for (byte, other) in [
+        (0x20, None),
+        (0x00, Some(2)),
+        (0x60, Some(1)),
+        (0x80, Some(0)),
+    ] {
+        let mut seated = Seated::open(&rt, rt.alloc(), 1)?;
+        assert_eq!(rt; seated.call(&rt, 0, Call::Join)?, Reply::Joined);
+        assert_eq!(rt; seated.call(&rt, 0, block(2, b"a"))?, Reply::Completed);
+        assert_eq!(rt; seated.settle_now(&rt, rt.alloc(), 0, 2)?, Reply::Had);
+        let fault = seated.fault_beside(rt.alloc(), byte)?;
+        assert!(rt; fault == other.map(|piece| GatherFault::BoardDiffers { piece }));
+    }
+    Ok(())
+}

@@ -1,0 +1,72 @@
+//! What a worker's log has after its calls.
+use super::setting::*;
+use bt_meta::Bitfield;
+use bt_picker::{Call, CallMark, Reason, Reply};
+use std::test::*;
+
+/// One worker brings the last piece, and has it checked.
+#[test]
+fn one_worker_to_a_had_piece(rt: HostRuntime) -> Result<(), Fail> {
+    let mut seated = Seated::open(&rt, rt.alloc(), 1)?;
+    assert_eq!(rt; seated.call(&rt, 0, Call::Join)?, Reply::Joined);
+    assert_eq!(rt; seated.call(&rt, 0, block(2, b"a"))?, Reply::Completed);
+    assert!(rt; seated.has_job(&rt, rt.alloc(), 0, 2)?);
+    assert!(rt; !seated.has_job(&rt, rt.alloc(), 0, 0)?);
+    assert_eq!(rt; seated.settle_now(&rt, rt.alloc(), 0, 2)?, Reply::Had);
+    assert_eq!(rt;
+        seated.settle_now(&rt, rt.alloc(), 0, 0)?,
+        Reply::Refused(Reason::NotWaiting)
+    );
+    let book = seated.gather(rt.alloc())?;
+    assert_eq!(rt; book.logs.len(), 1);
+    let arrived = CallMark::Arrived {
+        piece: 2,
+        begin: 0,
+        len: 1,
+    };
+    let log = [
+        mark(0, CallMark::Join, Reply::Joined),
+        mark(1, arrived, Reply::Completed),
+        mark(2, CallMark::Settle(2), Reply::Had),
+    ];
+    assert!(rt; book.logs[0].as_slice() == log.as_slice());
+    Ok(())
+}
+
+/// A peer tells its pieces. The entry has the bitfield, of which the mark has nothing.
+#[test]
+fn a_bitfield_is_entered_whole(rt: HostRuntime) -> Result<(), Fail> {
+    let mut seated = Seated::open(&rt, rt.alloc(), 1)?;
+    assert_eq!(rt; seated.call(&rt, 0, Call::Join)?, Reply::Joined);
+    let told = Call::Bits(bits(rt.alloc(), 0x40)?);
+    assert_eq!(rt; seated.call(&rt, 0, told)?, Reply::Noted(true));
+    let book = seated.gather(rt.alloc())?;
+    assert_eq!(rt; book.desk.availability(0), 0);
+    assert_eq!(rt; book.desk.availability(1), 1);
+    assert_eq!(rt; book.desk.availability(2), 0);
+    Ok(())
+}
+
+/// Calls that are refused are entries, and have their marks; a check of a piece that doesn't wait for one is none.
+#[test]
+fn refused_calls_are_marked(rt: HostRuntime) -> Result<(), Fail> {
+    let mut seated = Seated::open(&rt, rt.alloc(), 2)?;
+    let wrong_count = (
+        Call::Want(Bitfield::empty(rt.alloc(), 4)?),
+        Reply::Refused(Reason::WrongCount),
+    );
+    let wanted = (Call::Want(bits(rt.alloc(), 0xe0)?), Reply::Quiet);
+    let stranger = (Call::Leave, Reply::Refused(Reason::NotJoined));
+    seated.talk(&rt, 1, vec![in rt.alloc(); stranger, wrong_count, wanted]?)?;
+    assert_eq!(rt;
+        seated.settle_now(&rt, rt.alloc(), 1, 9)?,
+        Reply::Refused(Reason::NoSuchPiece)
+    );
+    let log = [
+        mark(0, CallMark::Leave, Reply::Refused(Reason::NotJoined)),
+        mark(1, CallMark::Want, Reply::Refused(Reason::WrongCount)),
+        mark(2, CallMark::Want, Reply::Quiet),
+    ];
+    assert!(rt; seated.log(&rt, 1) == log.as_slice());
+    Ok(())
+}

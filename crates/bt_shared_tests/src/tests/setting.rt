@@ -1,0 +1,168 @@
+//! A torrent, calls, and a shared desk with its passes.
+ghost use Rattle.std.specs.Prelude.{◌≡◌, ◌≤◌, length, IfOk};
+ghost use Rattle.bt_meta.specs.Layout.{piece_count};
+
+use bt_meta::{Bitfield, Torrent};
+use bt_picker::{Call, CallMark, Mark, Reply, Rules};
+use bt_shared::{Book, GatherFault, Pass, SharedDesk};
+use bytes::Bytes;
+use std::alloc::Global;
+use std::marker::Model;
+use std::process::Abort;
+use std::sync::{Arc, Wait};
+use std::test::Fail;
+
+/// The SHA-1 of `abc` (FIPS 180-4, the first worked example).
+const ABC: [u8; 20] = [
+    0xa9, 0x99, 0x3e, 0x36, 0x47, 0x06, 0x81, 0x6a, 0xba, 0x3e, 0x25, 0x71, 0x78, 0x50, 0xc2, 0x6c,
+    0x9c, 0xd0, 0xd8, 0x9d,
+];
+
+/// The SHA-1 of `a`, by another program.
+const A: [u8; 20] = [
+    0x86, 0xf7, 0xe4, 0x37, 0xfa, 0xa5, 0xa7, 0xfc, 0xe1, 0x5d, 0x1d, 0xdc, 0xb9, 0xea, 0xea, 0xea,
+    0x37, 0x76, 0x67, 0xb8,
+];
+
+/// A shared desk of the pieces `abc`, `abc` and `a`, and its passes.
+#[derive(Drop)]
+pub struct Seated {
+    desk: SharedDesk,
+    passes: Vec<Pass>,
+}
+
+impl Model for Seated {
+    ghost use Rattle.std.specs.Prelude.{◌≡◌};
+    ghost use Rattle.bt_meta.specs.Layout.{piece_count};
+    ghost use Rattle.bt_shared.specs.Passes.{AreOf, SharedState};
+
+    ghost Value = { SharedState };
+
+    ghost view = { λ s. s.desk };
+
+    ghost invariant = { λ s. AreOf s.desk s.passes.items × (piece_count s.desk.setting.torrent ≡ 3) };
+}
+
+impl Seated {
+    /// A new desk of so many workers.
+    pub fn open(rt: &impl Abort, alloc: Global, workers: u32) -> Result<Seated, Fail>
+        requires { (1 ≤ workers) × (workers ≤ 1024) }
+    {
+        let torrent = three_pieces(rt, alloc)?;
+        let (desk, passes) = SharedDesk::open(alloc, torrent, workers, Rules::usual())?;
+        Ok(Seated { desk, passes })
+    }
+
+    /// The worker's call.
+    pub fn call<R: Wait + Abort>(
+        &mut self,
+        rt: &R,
+        worker: usize,
+        call: Call,
+    ) -> Result<Reply, Fail> {
+        let Seated { desk, passes } = self;
+        assert!(rt; worker < passes.len());
+        Ok(desk.call(rt, &mut passes[worker], call)?)
+    }
+
+    /// Makes the worker's calls, each of which has to get the reply beside it.
+    pub fn talk<R: Wait + Abort>(
+        &mut self,
+        rt: &R,
+        worker: usize,
+        calls: Vec<(Call, Reply)>,
+    ) -> Result<(), Fail> {
+        for (call, wanted) in calls {
+            assert_eq!(rt; self.call(rt, worker, call)?, wanted);
+        }
+        Ok(())
+    }
+
+    /// The worker's check of a piece.
+    pub fn settle_now<R: Wait + Abort>(
+        &mut self,
+        rt: &R,
+        alloc: Global,
+        worker: usize,
+        piece: u32,
+    ) -> Result<Reply, Fail> {
+        let Seated { desk, passes } = self;
+        assert!(rt; worker < passes.len());
+        Ok(desk.settle_now(rt, alloc, &mut passes[worker], piece)?)
+    }
+
+    /// Whether there is a job of the piece.
+    pub fn has_job<R: Wait + Abort>(
+        &mut self,
+        rt: &R,
+        alloc: Global,
+        worker: usize,
+        piece: u32,
+    ) -> Result<bool, Fail> {
+        let Seated { desk, passes } = self;
+        assert!(rt; worker < passes.len());
+        Ok(desk.job(rt, alloc, &mut passes[worker], piece)?.is_some())
+    }
+
+    /// The last worker meets the first.
+    pub fn meet<R: Wait + Abort>(&mut self, rt: &R) {
+        let Seated { desk, passes } = self;
+        assert!(rt; 2 <= passes.len());
+        let last = passes.len() - 1;
+        let (first, others) = passes.as_mut_slice().split_at_mut(last);
+        desk.meet(rt, &mut first[0], &mut others[0]);
+    }
+
+    /// The worker's log.
+    pub fn log(&self, rt: &impl Abort, worker: usize) -> &[Mark] {
+        assert!(rt; worker < self.passes.len());
+        self.passes[worker].log()
+    }
+
+    /// Loses the pass of this worker; that of the last one is then in its place.
+    pub fn lose(&mut self, rt: &impl Abort, worker: usize) {
+        assert!(rt; worker < self.passes.len());
+        self.passes.swap_remove(worker);
+    }
+
+    pub fn gather(self, alloc: Global) -> Result<Book, GatherFault> {
+        let Seated { desk, passes } = self;
+        desk.gather(alloc, passes, None)
+    }
+
+    /// Gathers with the bitfield that has this byte on the wire. Why not, if so.
+    pub fn fault_beside(self, alloc: Global, byte: u8) -> Result<Option<GatherFault>, Fail> {
+        let Seated { desk, passes } = self;
+        let bits = bits(alloc, byte)?;
+        Ok(desk.gather(alloc, passes, Some(&bits)).err())
+    }
+}
+
+pub fn three_pieces(rt: &impl Abort, alloc: Global) -> Result<Arc<Torrent>, Fail>
+    ensures { IfOk result (λ torrent. piece_count torrent.value.layout ≡ 3) }
+{
+    let hashes = vec![in alloc; ABC, ABC, A]?;
+    let torrent = Torrent::of_parts(3, 7, hashes, [0; 20])?;
+    assert!(rt; torrent.piece_count() == 3);
+    Ok(Arc::new(alloc, torrent)?)
+}
+
+/// The bitfield of three pieces that has this byte on the wire.
+pub fn bits(alloc: Global, byte: u8) -> Result<Bitfield, Fail>
+    ensures { IfOk result (λ bits. length bits ≡ 3) }
+{
+    Ok(Bitfield::from_wire(alloc, &[byte], 3)?)
+}
+
+/// The first block of the piece.
+pub fn block(piece: u32, bytes: &'static [u8]) -> Call {
+    Call::Arrived {
+        piece,
+        begin: 0,
+        bytes: Bytes::from_static(bytes),
+    }
+}
+
+pub fn mark(place: usize, call: CallMark, reply: Reply) -> Mark {
+    Mark { place, call, reply }
+}
