@@ -2,8 +2,8 @@ use Rattle.std.proofs.Common.{◌+◌, Some, length}
 use Rattle.bt_history.specs.Setting.{setting_of}
 use Rattle.bt_session.proofs.swarm_run.swarm.Given as goal
 
-abbrev pub ghosts-run-L-RunName : goal.ghosts-run-L-RunName
-ghosts-run-L-RunName g a = record {
+abbrev pub ghosts-run : goal.ghosts-run
+ghosts-run g a = record {
   setting = setting_of a.torrent.value.layout (length a.streams.items + a.checkers + 1) a.rules;
   desk = Some a.fittings.desk.table;
   board = Some a.fittings.board.table;
