@@ -27,17 +27,15 @@ PROGRAM = os.path.join(ROOT, "crates/piecepick/out/piecepick")
 DATA = os.path.join(ROOT, "crates/bt_runs/data")
 SAMPLES = os.path.join(ROOT, "crates/bt_samples/data")
 KINDS = ("alloc", "read", "write")
-TESTED = ("bt_parts_tests", "bt_board_tests", "bt_picker_tests")
+TESTED = ("bt_parts_tests", "bt_board_tests", "bt_picker_tests", "bt_shared_tests")
 MOST_OF_A_TEST = 300
 # What a test says that ends by an error of its own, and not by an assertion.
 NO_MEMORY = re.compile(r"error: .*(NoMemory|AllocError|AllocFailed|OutOfMemory).*\nthe test failed: its result gives status 1\n")
 LEFT_OUT = {
     # Of two threads one waits for what the other would do, which has ended for want of memory.
     "tests::tickets::a_full_queue_waits_and_loses_nothing",
-    # Their assertions take an answer of no memory for a wrong one.
-    "tests::shared::gathering::a_lost_pass",
-    "tests::shared::gathering::bitfields_of_had_pieces",
-    "tests::shared::threads::two_threads_at_one_desk",
+    # A thread tells that a reply was another than it should be, also where there was none.
+    "tests::threads::two_threads_at_one_desk",
 }
 
 
