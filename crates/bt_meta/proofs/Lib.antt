@@ -1,4 +1,5 @@
 pub mod Payloads
+pub mod Searched
 pub mod Lengths
 pub mod Sizes
 pub mod Digests

@@ -1,5 +1,5 @@
 -- How a set of pieces is spelled as bytes in a `bitfield` message (BEP 3).
-use Rattle.std.specs.Prelude.{ℕ, ◌+◌, ◌-◌, ◌*◌, ◌/◌, ◌%◌, ◌^◌, ◌<◌, ◌≤◌, ◌≡◌, ◌==◌, Bool, true, false, List, length, map, slice_index, slice_index_or}
+use Rattle.std.specs.Prelude.{ℕ, ◌+◌, ◌-◌, ◌*◌, ◌/◌, ◌%◌, ◌^◌, ◌<◌, ◌≤◌, ◌≡◌, ◌==◌, Bool, true, false, List, length, map, slice_index, slice_index_or, Option, None, Some}
 use Rattle.std.specs.Int.{bit_at}
 use Rattle.std.specs.List.{range_with_len}
 
@@ -32,3 +32,20 @@ pub record IsPayload (pieces : ℕ) (bytes : List ℕ) : Type 0 where
   pub len : length bytes ≡ wire_len pieces
   pub clear : (place : ℕ) → pieces ≤ place → place < 8 * length bytes → wire_bit bytes place ≡ false
   pub few : pieces < 2 ^ 32
+
+-- q is the first place from this one on that passes the test
+pub record IsFirst (test : ℕ → Bool) (from q : ℕ) : Type 0 where
+  pub not_before : from ≤ q
+  pub passes : test q ≡ true
+  pub none_between : (p : ℕ) → from ≤ p → p < q → test p ≡ false
+
+-- what was found from this place on: the first that passes the test, or none passes
+abbrev pub FindsFirst : (ℕ → Bool) → ℕ → Option ℕ → Type 0
+FindsFirst test from None = (p : ℕ) → from ≤ p → test p ≡ false
+FindsFirst test from (Some q) = IsFirst test from q
+
+-- so many bits of the byte stand in front of the first one that is set, from its high bit down
+pub record IsFirstBit (byte zeros : ℕ) : Type 0 where
+  pub few : zeros < 8
+  pub set : bit_at byte (7 - zeros) ≡ 1
+  pub clear : (k : ℕ) → k < zeros → bit_at byte (7 - k) ≡ 0

@@ -1,6 +1,6 @@
 ghost use Rattle.std.specs.Prelude.{◌≡◌, ◌≢◌, ◌↔◌, ◌<◌, ◌-◌, ◌==◌, IsTrue, ◌≤◌, ◌*◌, ◌+◌, ◌^◌, ℕ, Bool, true, false, length, replicate};
 ghost use Rattle.std.specs.Prelude.{slice_index_or, slice_set, count_by, IfOk, Err, List};
-ghost use Rattle.bt_meta.specs.WireBits.{HasSpareBit, IsSpelled, wire_bit, wire_len};
+ghost use Rattle.bt_meta.specs.WireBits.{FindsFirst, HasSpareBit, IsFirstBit, IsSpelled, wire_bit, wire_len};
 
 use crate::fault::BitFault;
 use std::alloc::{AllocError, Global};
@@ -120,6 +120,20 @@ impl Bitfield {
         }
         ones
     }
+
+    /// The first piece of the set that is this one or a later one.
+    #[inline]
+    pub fn first_from(&self, piece: u32) -> Option<u32>
+        ensures { FindsFirst (λ p. slice_index_or self.now p false) piece result }
+    {
+        if piece >= self.count {
+            return None;
+        }
+        match first_bit(&self.bytes, piece as usize) {
+            Some(place) => Some(place as u32),
+            None => None,
+        }
+    }
 }
 
 /// How many bytes hold a bit for each of so many pieces.
@@ -148,4 +162,42 @@ fn has_spare_bit(bytes: &[u8], count: u32) -> bool
         }
     }
     false
+}
+
+/// The place of the first bit that is set from this place on.
+#[inline]
+fn first_bit(bytes: &[u8], place: usize) -> Option<usize>
+    requires place { place < 8 * length bytes.now }
+    requires few { 8 * length bytes.now < 2 ^ 64 }
+    ensures { FindsFirst (wire_bit bytes.now) place result }
+{
+    let rest = bytes[place / 8] << (place % 8) as u32;
+    if rest != 0 {
+        return Some(place + leading_bit(rest) as usize);
+    }
+    first_bit_behind(bytes, place / 8)
+}
+
+/// The place of the first bit that is set in the bytes behind this one.
+fn first_bit_behind(bytes: &[u8], index: usize) -> Option<usize>
+    requires index { index < length bytes.now }
+    requires few { 8 * length bytes.now < 2 ^ 64 }
+    ensures { FindsFirst (wire_bit bytes.now) (8 * (index + 1)) result }
+{
+    for next in index + 1..bytes.len() {
+        let byte = bytes[next];
+        if byte != 0 {
+            return Some(8 * next + leading_bit(byte) as usize);
+        }
+    }
+    None
+}
+
+/// How many bits stand in front of the first one that is set, from the high bit down.
+#[inline]
+fn leading_bit(byte: u8) -> u32
+    requires { 0 < byte }
+    ensures { IsFirstBit byte result }
+{
+    byte.leading_zeros()
 }

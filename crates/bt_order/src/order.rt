@@ -81,6 +81,34 @@ impl Order {
         }
     }
 
+    /// Moves the number to the next group.
+    #[inline(always)]
+    pub fn raise(&mut self, number: u32)
+        requires number { number < length self.old.group_of }
+        requires next { at self.old.group_of number + 1 < self.old.count }
+        ensures { self.new ≡ record self.old { group_of = slice_set self.old.group_of number (at self.old.group_of number + 1) } }
+    {
+        let group = self.groups[number as usize];
+        let last = self.ends[group as usize] - 1;
+        exchange(&mut self.numbers, &mut self.places, number, last);
+        self.ends[group as usize] = last;
+        self.groups[number as usize] = group + 1;
+    }
+
+    /// Moves the number to the group before its own.
+    #[inline(always)]
+    pub fn lower(&mut self, number: u32)
+        requires number { number < length self.old.group_of }
+        requires before { 0 < at self.old.group_of number }
+        ensures { self.new ≡ record self.old { group_of = slice_set self.old.group_of number (at self.old.group_of number - 1) } }
+    {
+        let group = self.groups[number as usize] - 1;
+        let first = self.ends[group as usize];
+        exchange(&mut self.numbers, &mut self.places, number, first);
+        self.ends[group as usize] = first + 1;
+        self.groups[number as usize] = group;
+    }
+
     fn raise_to(&mut self, number: u32, group: u32)
         requires number { number < length self.old.group_of }
         requires group { group < self.old.count }
@@ -101,32 +129,6 @@ impl Order {
             self.lower(number);
         }
     }
-
-    /// Moves the number to the next group.
-    fn raise(&mut self, number: u32)
-        requires number { number < length self.old.group_of }
-        requires next { at self.old.group_of number + 1 < self.old.count }
-        ensures { self.new ≡ record self.old { group_of = slice_set self.old.group_of number (at self.old.group_of number + 1) } }
-    {
-        let group = self.groups[number as usize];
-        let last = self.ends[group as usize] - 1;
-        exchange(&mut self.numbers, &mut self.places, number, last);
-        self.ends[group as usize] = last;
-        self.groups[number as usize] = group + 1;
-    }
-
-    /// Moves the number to the group before its own.
-    fn lower(&mut self, number: u32)
-        requires number { number < length self.old.group_of }
-        requires before { 0 < at self.old.group_of number }
-        ensures { self.new ≡ record self.old { group_of = slice_set self.old.group_of number (at self.old.group_of number - 1) } }
-    {
-        let group = self.groups[number as usize] - 1;
-        let first = self.ends[group as usize];
-        exchange(&mut self.numbers, &mut self.places, number, first);
-        self.ends[group as usize] = first + 1;
-        self.groups[number as usize] = group;
-    }
 }
 
 /// Where the group begins: at the front, or where the one before it ends.
@@ -142,6 +144,7 @@ fn begin_of(ends: &[u32], group: u32) -> u32
 }
 
 /// The number and the one at this place take each other's places.
+#[inline(always)]
 fn exchange(numbers: &mut [u32], places: &mut [u32], number: u32, place: u32)
     requires inverse { AreInverse numbers.old places.old }
     requires number { number < length places.old }

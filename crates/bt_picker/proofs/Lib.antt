@@ -10,6 +10,8 @@ pub mod Entered
 pub mod Cells
 pub mod Kept
 pub mod Shelves
+pub mod Apart
+pub mod Sweeps
 pub mod Opened
 pub mod Floors
 pub mod Scans

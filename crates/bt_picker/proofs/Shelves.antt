@@ -4,9 +4,10 @@ use Rattle.std.specs.Prelude.{if◌then◌else◌}
 use Rattle.std.specs.List.{sum_by, count_by}
 use Rattle.std.proofs.lemmas.List.{map-set, length-map, append-nil, map-append}
 use Rattle.std.proofs.lemmas.List.Sums.{sum_by-set, count_by-le-length, get_or-le-sum_by, sum_by-le-sum_by, sum_by_push}
+use Rattle.bt_order.specs.Orders.{at}
 use Rattle.bt_picker.specs.declared.piece.Standing.{Standing}
 use Rattle.bt_picker.specs.declared.piece.Change.{Change}
-use Rattle.bt_picker.specs.declared.piece.Change.TheVariants.{Raise, Lower, Store, Recount, Pass, Fail, Wanted}
+use Rattle.bt_picker.specs.declared.piece.Change.TheVariants.{Raise, Lower, Store, Pass, Fail, Wanted}
 use Rattle.bt_picker.specs.Tables.{PieceState, changed_row, one_if, one_less, one_more, unheld}
 use Rattle.bt_picker.specs.Standings.{held_count, touched_count, wanted_length, group_of_row, standing_of, ShelfState, shelf_of, IsFiled, AreShelved}
 use Rattle.bt_picker.proofs.Tabled.{length_edit}
@@ -16,7 +17,6 @@ pub same_length : (change : Change) (row : PieceState) → length (changed_row c
 same_length (Raise index) row = length_edit row.blocks index one_more
 same_length (Lower index) row = length_edit row.blocks index one_less
 same_length (Store index entry) row = length-set row.blocks index (record { stored_at = Some entry; askers = 0 })
-same_length (Recount shown shows) row = refl
 same_length Pass row = refl
 same_length Fail row = length-map row.blocks unheld
 same_length (Wanted wanted) row = refl
@@ -130,6 +130,14 @@ fill_more [] (suc n) g some = ap (λ (m : ℕ). g ∷ replicate m 0) (less n) wh
   less : (m : ℕ) → m ≡ suc m - 1
   less m = omega arith
 fill_more (x ∷ xs) n g some = ap (λ (l : List ℕ). x ∷ l) (fill_more xs n g some)
+
+-- and before it no group was told of it
+pub none_filed : (xs : List ℕ) (n i : ℕ) → length xs ≡ i → at (xs ++ replicate n 0) i ≡ 0
+none_filed xs n i is = ap (at (xs ++ replicate n 0)) (sym is) ∙ behind xs n where
+  behind : (ys : List ℕ) (m : ℕ) → at (ys ++ replicate m 0) (length ys) ≡ 0
+  behind [] zero = refl
+  behind [] (suc m) = refl
+  behind (y ∷ ys) m = behind ys m
 
 -- the shelf of these rows, and of so many pieces more that have not come yet
 abbrev pub filling : List PieceState → ℕ → ShelfState

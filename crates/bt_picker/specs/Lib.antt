@@ -7,3 +7,4 @@ pub mod Checks
 pub mod Audits
 pub mod Contents
 pub mod Unbegun
+pub mod Apart

@@ -1,5 +1,5 @@
 -- What a row of a piece amounts to among the others: its group, and what is counted of it. No public clause cites this module.
-use Rattle.std.specs.Prelude.{ℕ, ◌+◌, ◌-◌, ◌^◌, ◌≡◌, ◌<◌, ◌≤◌, ◌==◌, ◌||◌, ◌⊎◌, Bool, false, not, IsTrue, Option, None, Some, List, length, map, min, is_some, nat_lt, true, slice_index_or, if◌then◌else◌}
+use Rattle.std.specs.Prelude.{ℕ, ◌+◌, ◌-◌, ◌^◌, ◌≡◌, ◌<◌, ◌≤◌, ◌==◌, ◌||◌, ◌⊎◌, Bool, false, not, IsTrue, Option, None, Some, List, [], ◌∷◌, length, map, min, is_some, nat_lt, true, slice_index_or, if◌then◌else◌}
 use Rattle.std.specs.List.{count_by, sum_by}
 use Rattle.bt_picker.specs.declared.cell.Cell.{Cell}
 use Rattle.bt_picker.specs.declared.cell.Cell.TheVariants.{Asked, Held}
@@ -41,6 +41,19 @@ pub record AreCounts (held touched : ℕ) (cells : List CellState) : Type 0 wher
 abbrev pub AreTouched : ℕ → List CellState → Type 0
 AreTouched n cells = (i : ℕ) → i < n → i < length cells → is_touched (slice_index_or cells i empty_cell) ≡ true
 
+-- the row without how many peers show the piece, which is kept apart, and the row with it
+abbrev pub apart : PieceState → PieceState
+apart row = record row { availability = 0 }
+
+abbrev pub shown_row : ℕ → PieceState → PieceState
+shown_row n row = record row { availability = n }
+
+-- the rows, each with how many peers show its piece
+abbrev pub whole_rows : List PieceState → List ℕ → List PieceState
+whole_rows [] shown = []
+whole_rows (row ∷ rows) [] = []
+whole_rows (row ∷ rows) (n ∷ shown) = shown_row n row ∷ whole_rows rows shown
+
 -- the group of an unbegun piece that so many peers show
 abbrev pub shown_group : ℕ → ℕ
 shown_group n = 3 + min n 1025
@@ -57,6 +70,13 @@ group_of_row row =
     else if touched_count row.blocks == 0 then shown_group row.availability
     else if touched_count row.blocks == length row.blocks then 1
     else 2
+
+-- the group of a piece of group g once one peer more shows it, n in all, and once one less of n does
+abbrev pub raised_group : ℕ → ℕ → ℕ
+raised_group n g = if nat_lt 1025 n then g else if nat_lt g 3 then g else g + 1
+
+abbrev pub lowered_group : ℕ → ℕ → ℕ
+lowered_group n g = if nat_lt 1025 n then g else if nat_lt 3 g then g - 1 else g
 
 -- so many blocks are to be had of the piece
 abbrev pub wanted_length : PieceState → ℕ

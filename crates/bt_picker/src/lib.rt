@@ -15,6 +15,7 @@ mod position;
 mod refuse;
 mod ruling;
 mod shelf;
+mod sweep;
 mod tables;
 mod unread;
 

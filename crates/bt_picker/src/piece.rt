@@ -1,7 +1,7 @@
 ghost use Rattle.std.specs.Prelude.{◌≡◌, ◌<◌, ◌≤◌, ◌+◌, ◌-◌, ◌^◌, ◌==◌, nat_lt, min, if◌then◌else◌, None, length, slice_index_or, slice_set, IfOk, Bool, true, false, replicate};
-ghost use Rattle.bt_picker.specs.Tables.{HasRoomOf, PieceState, changed_row, edit, empty_cell, failed_row, fresh_piece, less_available, more_available, one_if, one_less, one_more, stored_row};
+ghost use Rattle.bt_picker.specs.Tables.{HasRoomOf, PieceState, changed_row, edit, empty_cell, failed_row, fresh_piece, one_if, one_less, one_more, stored_row};
 ghost use Rattle.bt_picker.specs.Floors.{is_fresh};
-ghost use Rattle.bt_picker.specs.Standings.{AreTouched, cell_kept, is_held, is_touched, held_count, touched_count, group_of_row, standing_of};
+ghost use Rattle.bt_picker.specs.Standings.{AreTouched, cell_kept, is_held, is_touched, held_count, touched_count, group_of_row, shown_row, standing_of};
 
 use crate::cell::Cell;
 use std::alloc::{AllocError, Global};
@@ -16,8 +16,6 @@ pub enum Change {
     Lower(u32),
     /// The block was stored by the entry at this place of the journal, so it is asked of nobody.
     Store(u32, u32),
-    /// A peer that showed the piece, or did not, shows it now, or does not.
-    Recount { shown: bool, shows: bool },
     /// A check found the right hash.
     Pass,
     /// A check found another hash: no block is held.
@@ -59,14 +57,13 @@ pub const CROWD: u32 = 1025;
 /// So many groups there are.
 pub const GROUPS: u32 = UNBEGUN + CROWD + 1;
 
-/// What is kept of a piece: whether it is had and wanted, how many joined peers show it, and a cell for each of its blocks, in order, so
-/// that a block is found by its place. Of the blocks it counts those that are held, and those that are held or asked, so that whether the
+/// What is kept of a piece: whether it is had and wanted, and a cell for each of its blocks, in order, so that a block is found by its
+/// place. How many peers show it stands apart (`Pieces`): contracts see a row that nobody shows. Of the blocks it counts those that are held, and those that are held or asked, so that whether the
 /// piece is full or begun is one look; and it knows up to which block each is held or asked, since the next one is looked for behind it. The rows stand by the piece's number.
 #[derive(Drop)]
 pub struct Piece {
     had: bool,
     wanted: bool,
-    availability: u32,
     held: u32,
     touched: u32,
     first: u32,
@@ -80,7 +77,7 @@ impl Model for Piece {
 
     ghost Value = { PieceState };
 
-    ghost view = { λ p. record { had = p.had; wanted = p.wanted; availability = p.availability; blocks = map cell_kept p.blocks.items } };
+    ghost view = { λ p. record { had = p.had; wanted = p.wanted; availability = 0; blocks = map cell_kept p.blocks.items } };
 
     ghost invariant = { λ p. AreCounts p.held p.touched (map cell_kept p.blocks.items)
         × AreTouched p.first (map cell_kept p.blocks.items) };
@@ -94,7 +91,6 @@ impl Piece {
         Ok(Piece {
             had: false,
             wanted: true,
-            availability: 0,
             held: 0,
             touched: 0,
             first: 0,
@@ -102,9 +98,9 @@ impl Piece {
         })
     }
 
-    /// What the row amounts to.
-    pub fn standing(&self) -> Standing
-        ensures is { result ≡ standing_of self.now }
+    /// What the row amounts to, of a piece that so many peers show.
+    pub fn standing(&self, shown_by: u32) -> Standing
+        ensures is { result ≡ standing_of (shown_row shown_by self.now) }
         ensures few { result.group < 1029 }
     {
         let blocks = if self.wanted {
@@ -113,21 +109,21 @@ impl Piece {
             0
         };
         Standing {
-            group: self.group(),
+            group: self.group(shown_by),
             unasked: blocks.saturating_sub(self.touched),
             unheld: blocks.saturating_sub(self.held),
             had: self.had,
         }
     }
 
-    fn group(&self) -> u32
-        ensures is { result ≡ group_of_row self.now }
+    fn group(&self, shown_by: u32) -> u32
+        ensures is { result ≡ group_of_row (shown_row shown_by self.now) }
         ensures few { result < 1029 }
     {
         if self.had || !self.wanted {
             RESTING
         } else if self.touched == 0 {
-            UNBEGUN + self.availability.min(CROWD)
+            UNBEGUN + shown_by.min(CROWD)
         } else if self.touched == self.blocks.len() as u32 {
             ASKED_OUT
         } else {
@@ -175,12 +171,6 @@ impl Piece {
         self.wanted
     }
 
-    pub fn availability(&self) -> u32
-        ensures { result ≡ self.now.availability }
-    {
-        self.availability
-    }
-
     pub fn cell(&self, index: u32) -> Cell
         requires { index < length self.now.blocks }
         ensures { cell_kept result ≡ slice_index_or self.now.blocks index empty_cell }
@@ -204,7 +194,6 @@ impl Piece {
             Change::Raise(index) => self.raise(index),
             Change::Lower(index) => self.lower(index),
             Change::Store(index, place) => self.store(index, place),
-            Change::Recount { shown, shows } => self.recount(shown, shows),
             Change::Pass => self.had = true,
             Change::Fail => self.fail(),
             Change::Wanted(wanted) => self.wanted = wanted,
@@ -260,19 +249,6 @@ impl Piece {
         self.touched = moved(self.touched, old.is_touched(), cell.is_touched());
         self.first = passed(self.first, index, cell.is_touched());
         self.blocks[index as usize] = cell;
-    }
-
-    /// A peer that showed the piece, or did not, shows it now, or does not.
-    fn recount(&mut self, shown: bool, shows: bool)
-        requires { (more_available shows (less_available shown self.old)).availability < 2 ^ 32 }
-        ensures { self.new ≡ more_available shows (less_available shown self.old) }
-    {
-        if shown {
-            self.availability = self.availability.saturating_sub(1);
-        }
-        if shows {
-            self.availability += 1;
-        }
     }
 }
 

@@ -1,11 +1,11 @@
-ghost use Rattle.std.specs.Prelude.{◌≡◌, ◌<◌, ◌^◌, length, IfOk, map};
+ghost use Rattle.std.specs.Prelude.{◌≡◌, ◌<◌, ◌+◌, ◌^◌, true, false, length, IfOk, map};
 ghost use Rattle.std.specs.List.{count_by, sum_by};
 ghost use Rattle.bt_meta.specs.Layout.{block_count, piece_count};
 ghost use Rattle.bt_order.specs.Orders.{at, ListsGroup};
 ghost use Rattle.bt_order.specs.Risings.{IsRising};
-ghost use Rattle.bt_picker.specs.Standings.{group_of_row, shelf_of, standing_of};
+ghost use Rattle.bt_picker.specs.Standings.{apart, group_of_row, standing_of};
 ghost use Rattle.bt_history.specs.Counting.{table};
-ghost use Rattle.bt_picker.specs.Tables.{HasRoomOf, changed_row, edit, fresh_piece, piece_row};
+ghost use Rattle.bt_picker.specs.Tables.{HasRoomOf, changed_row, edit, fresh_piece, less_available, more_available, piece_row};
 
 use crate::piece::{Change, Piece, Standing};
 use crate::shelf::Shelf;
@@ -13,23 +13,28 @@ use bt_meta::Torrent;
 use std::alloc::{AllocError, Global};
 use std::marker::Model;
 
-/// The rows of all pieces, and what they amount to together. Contracts see the rows.
+/// The rows of all pieces, how many joined peers show each, and what they amount to together. Contracts see the rows with these counts in
+/// them. They stand apart since a bitfield that comes or goes changes a count of each piece in it, and nothing else of its row.
 #[derive(Drop)]
 pub struct Pieces {
     rows: Vec<Piece>,
+    shown_by: Vec<u32>,
     shelf: Shelf,
 }
 
 impl Model for Pieces {
-    ghost use Rattle.std.specs.Prelude.{List};
-    ghost use Rattle.bt_picker.specs.Standings.{AreShelved};
+    ghost use Rattle.std.specs.Prelude.{List, ◌≡◌, length};
+    ghost use Rattle.bt_picker.specs.Apart.{AreApart};
+    ghost use Rattle.bt_picker.specs.Standings.{AreShelved, whole_rows};
     ghost use Rattle.bt_picker.specs.Tables.{PieceState};
 
     ghost Value = { List PieceState };
 
-    ghost view = { λ p. p.rows.items };
+    ghost view = { λ p. whole_rows p.rows.items p.shown_by.items };
 
-    ghost invariant = { λ p. AreShelved p.shelf p.rows.items };
+    ghost invariant = { λ p. AreShelved p.shelf (whole_rows p.rows.items p.shown_by.items)
+        × (length p.shown_by.items ≡ length p.rows.items)
+        × AreApart p.rows.items };
 }
 
 impl Pieces {
@@ -42,10 +47,14 @@ impl Pieces {
         let mut shelf = Shelf::new(alloc, torrent.piece_count())?;
         for piece in 0..torrent.piece_count() {
             let row = Piece::new(alloc, torrent.block_count(piece))?;
-            shelf.put(piece, Standing::NONE, row.standing());
+            shelf.put(piece, Standing::NONE, row.standing(0));
             rows.push(row)?;
         }
-        Ok(Pieces { rows, shelf })
+        Ok(Pieces {
+            rows,
+            shown_by: vec![in alloc; 0; torrent.piece_count() as usize]?,
+            shelf,
+        })
     }
 
     pub fn len(&self) -> usize
@@ -57,9 +66,17 @@ impl Pieces {
 
     pub fn row(&self, piece: u32) -> &Piece
         requires { piece < length self.now }
-        ensures { result.now ≡ piece_row self.now piece }
+        ensures { result.now ≡ apart (piece_row self.now piece) }
     {
         &self.rows[piece as usize]
+    }
+
+    /// How many joined peers show the piece.
+    pub fn availability(&self, piece: u32) -> u32
+        requires { piece < length self.now }
+        ensures { result ≡ (piece_row self.now piece).availability }
+    {
+        self.shown_by[piece as usize]
     }
 
     /// The pieces of the group.
@@ -113,10 +130,45 @@ impl Pieces {
         requires fits { HasRoomOf change (piece_row self.old piece) }
         ensures { self.new ≡ edit self.old piece (changed_row change) }
     {
+        let shown_by = self.shown_by[piece as usize];
         let row = &mut self.rows[piece as usize];
-        let before = row.standing();
+        let before = row.standing(shown_by);
         row.apply(change);
-        let after = row.standing();
+        let after = row.standing(shown_by);
         self.shelf.put(piece, before, after);
+    }
+
+    /// One peer more shows the piece.
+    #[inline(always)]
+    pub fn show(&mut self, piece: u32)
+        requires piece { piece < length self.old }
+        requires few { (piece_row self.old piece).availability + 1 < 2 ^ 32 }
+        ensures { self.new ≡ edit self.old piece (more_available true) }
+    {
+        let shown_by = self.shown_by[piece as usize] + 1;
+        self.shown_by[piece as usize] = shown_by;
+        self.shelf.raise(piece, shown_by);
+    }
+
+    /// One peer less shows the piece, where so many do.
+    #[inline(always)]
+    pub fn hide(&mut self, piece: u32)
+        requires { piece < length self.old }
+        ensures { self.new ≡ edit self.old piece (less_available true) }
+    {
+        let shown_by = self.shown_by[piece as usize];
+        self.shown_by[piece as usize] = shown_by.saturating_sub(1);
+        self.shelf.lower(piece, shown_by);
+    }
+
+    /// A peer tells that it has the piece, which it did not show before, or did.
+    pub fn announce(&mut self, piece: u32, is_new: bool)
+        requires piece { piece < length self.old }
+        requires few { (more_available is_new (less_available false (piece_row self.old piece))).availability < 2 ^ 32 }
+        ensures { self.new ≡ edit self.old piece (λ row. more_available is_new (less_available false row)) }
+    {
+        if is_new {
+            self.show(piece);
+        }
     }
 }

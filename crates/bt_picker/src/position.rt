@@ -10,7 +10,7 @@ ghost use Rattle.bt_history.specs.Pieces.{availability, asked_of_some, begun, fu
 ghost use Rattle.bt_order.specs.Orders.{at, ListsGroup};
 ghost use Rattle.bt_order.specs.Risings.{Rises};
 ghost use Rattle.bt_picker.specs.Floors.{NoneRarer};
-ghost use Rattle.bt_picker.specs.Standings.{cell_kept, groups_of};
+ghost use Rattle.bt_picker.specs.Standings.{apart, cell_kept, groups_of};
 ghost use Rattle.bt_picker.specs.Tables.{AreTables, cell_of, peer_of, piece_of, place};
 
 use crate::cell::Cell;
@@ -107,7 +107,7 @@ impl<'a> Position<'a> {
 
     pub(crate) fn piece(&self, piece: u32) -> &Piece
         requires { piece < piece_count self.now.setting.torrent }
-        ensures { result.now ≡ piece_of self.now.setting self.now.history piece }
+        ensures { result.now ≡ apart (piece_of self.now.setting self.now.history piece) }
     {
         self.tables.piece(piece)
     }
@@ -209,7 +209,7 @@ impl<'a> Position<'a> {
         requires { piece < piece_count self.now.setting.torrent }
         ensures { result ≡ availability self.now.setting self.now.history piece }
     {
-        self.piece(piece).availability()
+        self.tables.availability(piece)
     }
 
     /// Whether the block is held.

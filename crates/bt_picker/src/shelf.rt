@@ -1,10 +1,10 @@
 ghost use Rattle.std.specs.Prelude.{◌≡◌, ◌<◌, ◌≤◌, ◌+◌, ◌-◌, ◌^◌, length, replicate, slice_set, slice_index_or, IfOk};
 ghost use Rattle.bt_order.specs.Orders.{at, ListsGroup};
 ghost use Rattle.bt_order.specs.Risings.{IsRising};
-ghost use Rattle.bt_picker.specs.Standings.{IsFiled, ShelfState};
+ghost use Rattle.bt_picker.specs.Standings.{IsFiled, ShelfState, lowered_group, raised_group};
 ghost use Rattle.bt_picker.specs.Tables.{one_if};
 
-use crate::piece::{GROUPS, OPEN, Standing};
+use crate::piece::{CROWD, GROUPS, OPEN, Standing, UNBEGUN};
 use bt_order::{Order, Rising};
 use std::alloc::{AllocError, Global};
 use std::marker::Model;
@@ -90,10 +90,43 @@ impl Shelf {
         self.had
     }
 
+    /// One peer more shows the piece, so many in all: an unbegun one moves to the next group.
+    #[inline(always)]
+    pub fn raise(&mut self, piece: u32, shown_by: u32)
+        requires piece { piece < length self.old.groups }
+        requires next { shown_by ≤ 1025 → at self.old.groups piece + 1 < 1029 }
+        ensures { self.new ≡ record self.old {
+          groups = slice_set self.old.groups piece (raised_group shown_by (at self.old.groups piece));
+        } }
+    {
+        if shown_by > CROWD {
+            return;
+        }
+        if self.group_of(piece) >= UNBEGUN {
+            self.order.raise(piece);
+        }
+    }
+
+    /// One peer less shows the piece, which so many did: an unbegun one moves to the group before its own.
+    #[inline(always)]
+    pub fn lower(&mut self, piece: u32, shown_by: u32)
+        requires { piece < length self.old.groups }
+        ensures { self.new ≡ record self.old {
+          groups = slice_set self.old.groups piece (lowered_group shown_by (at self.old.groups piece));
+        } }
+    {
+        if shown_by > CROWD {
+            return;
+        }
+        if self.group_of(piece) > UNBEGUN {
+            self.order.lower(piece);
+        }
+    }
+
     /// A piece that stood like this stands like that now.
-    #[inline(always)] // it is most of what a bitfield costs
     pub fn put(&mut self, piece: u32, before: Standing, after: Standing)
         requires piece { piece < length self.old.groups }
+        requires before { before.group ≡ at self.old.groups piece }
         requires group { after.group < 1029 }
         requires fits { IsFiled self.old before after }
         ensures { self.new ≡ record {
@@ -103,22 +136,27 @@ impl Shelf {
           had = self.old.had - one_if before.had + one_if after.had;
         } }
     {
-        self.put_in(piece, after.group);
+        self.put_in(piece, before.group, after.group);
         self.unasked = self.unasked - u64::from(before.unasked) + u64::from(after.unasked);
         self.unheld = self.unheld - u64::from(before.unheld) + u64::from(after.unheld);
         self.had = self.had - u32::from(before.had) + u32::from(after.had);
     }
 
+    /// Moves the piece from the one group to the other.
     #[inline(always)]
-    fn put_in(&mut self, piece: u32, group: u32)
+    fn put_in(&mut self, piece: u32, before: u32, after: u32)
         requires piece { piece < length self.old.groups }
-        requires group { group < 1029 }
-        ensures { self.new ≡ record self.old { groups = slice_set self.old.groups piece group } }
+        requires before { before ≡ at self.old.groups piece }
+        requires after { after < 1029 }
+        ensures { self.new ≡ record self.old { groups = slice_set self.old.groups piece after } }
     {
-        let opens = group == OPEN;
-        if (self.group_of(piece) == OPEN) != opens {
+        if before == after {
+            return;
+        }
+        let opens = after == OPEN;
+        if (before == OPEN) != opens {
             self.open_pieces.put(piece, opens);
         }
-        self.order.put(piece, group);
+        self.order.put(piece, after);
     }
 }

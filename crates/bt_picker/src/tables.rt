@@ -4,7 +4,7 @@ ghost use Rattle.std.specs.Option.{option_copied};
 ghost use Rattle.std.specs.List.{count_by, sum_by};
 ghost use Rattle.bt_order.specs.Orders.{at, ListsGroup};
 ghost use Rattle.bt_order.specs.Risings.{IsRising};
-ghost use Rattle.bt_picker.specs.Standings.{group_of_row, standing_of};
+ghost use Rattle.bt_picker.specs.Standings.{apart, group_of_row, standing_of};
 ghost use Rattle.bt_history.specs.Setting.{setting_of};
 ghost use Rattle.bt_history.specs.Entries.{event, history_of};
 ghost use Rattle.bt_history.specs.Legal.{IsAllowed};
@@ -17,6 +17,7 @@ ghost use Rattle.bt_picker.specs.Tables.{AreAskers, AreCounted, AreTables, asks_
 use crate::peer::Peer;
 use crate::piece::{Change, Piece, UNBEGUN};
 use crate::pieces::Pieces;
+use crate::sweep::{lower_all, recount, rewant};
 use bt_history::{Call, Entry, Reply, Rules};
 use bt_meta::{BLOCK_SIZE, Bitfield, Block, Torrent};
 use std::alloc::{AllocError, Global};
@@ -105,9 +106,17 @@ impl Tables {
 
     pub fn piece(&self, piece: u32) -> &Piece
         requires { piece < length self.now.pieces }
-        ensures { result.now ≡ piece_row self.now.pieces piece }
+        ensures { result.now ≡ apart (piece_row self.now.pieces piece) }
     {
         self.pieces.row(piece)
+    }
+
+    /// How many joined peers show the piece.
+    pub fn availability(&self, piece: u32) -> u32
+        requires { piece < length self.now.pieces }
+        ensures { result ≡ (piece_row self.now.pieces piece).availability }
+    {
+        self.pieces.availability(piece)
     }
 
     /// The pieces of the group.
@@ -170,7 +179,7 @@ impl Tables {
     {
         match reply {
             Reply::Request(block) if self.begins(block.piece) => {
-                Some(self.pieces.row(block.piece).availability())
+                Some(self.pieces.availability(block.piece))
             }
             Reply::Idle | Reply::NothingLeft => Some(u32::MAX),
             _ => None,
@@ -302,13 +311,10 @@ impl Tables {
         ensures { self.new ≡ announced self.old worker piece }
     {
         let is_new = !self.peers[worker as usize].shows(piece);
-        let change = Change::Recount {
-            shown: false,
-            shows: is_new,
-        };
-        self.pieces.apply(piece, change);
+        self.pieces.announce(piece, is_new);
+        let shown_by = self.pieces.availability(piece);
         let floor = self.floors[worker as usize];
-        self.floors[worker as usize] = floor_with(floor, self.pieces.row(piece));
+        self.floors[worker as usize] = floor_with(floor, self.pieces.row(piece), shown_by);
         self.peers[worker as usize].put_have(piece);
     }
 
@@ -415,73 +421,16 @@ impl Tables {
     }
 }
 
-/// The floor of a peer that shows the piece too.
-fn floor_with(floor: u32, row: &Piece) -> u32
+/// The floor of a peer that shows the piece too, which so many show.
+fn floor_with(floor: u32, row: &Piece, shown_by: u32) -> u32
     ensures most { result ≤ floor }
-    ensures shown { is_fresh row.now ≡ true → result ≤ row.now.availability }
+    ensures shown { is_fresh row.now ≡ true → result ≤ shown_by }
 {
     if row.is_fresh() {
-        floor.min(row.availability())
+        floor.min(shown_by)
     } else {
         floor
     }
-}
-
-/// Frees the blocks of the line: one peer less is asked for each.
-fn lower_all(pieces: &mut Pieces, line: &[Block])
-    ensures { pieces.new ≡ lowered_by line.now pieces.old }
-{
-    for block in line {
-        lower(pieces, *block);
-    }
-}
-
-/// One peer less is asked for the block.
-fn lower(pieces: &mut Pieces, block: Block)
-    ensures { pieces.new ≡ lowered block pieces.old }
-{
-    if (block.piece as usize) < pieces.len() {
-        pieces.apply(block.piece, Change::Lower(block.begin / BLOCK_SIZE));
-    }
-}
-
-/// A peer that showed the pieces of `before` shows those of `after` in their place, or none.
-fn recount(pieces: &mut Pieces, before: &Bitfield, after: Option<&Bitfield>)
-    requires { AreCounted (recounted pieces.old before.now (unwrap_or (option_copied after) [])) }
-    ensures { pieces.new ≡ recounted pieces.old before.now (unwrap_or (option_copied after.entry) []) }
-{
-    for piece in 0..pieces.len() as u32 {
-        let change = Change::Recount {
-            shown: has(before, piece),
-            shows: flag_at(after, piece),
-        };
-        pieces.apply(piece, change);
-    }
-}
-
-/// Just the pieces with their flag set are wanted.
-fn rewant(pieces: &mut Pieces, flags: &Bitfield)
-    ensures { pieces.new ≡ wanted_by flags.now pieces.old }
-{
-    for piece in 0..pieces.len() as u32 {
-        pieces.apply(piece, Change::Wanted(has(flags, piece)));
-    }
-}
-
-fn flag_at(flags: Option<&Bitfield>, piece: u32) -> bool
-    ensures { result ≡ slice_index_or (unwrap_or (option_copied flags.entry) []) piece false }
-{
-    match flags {
-        Some(flags) => has(flags, piece),
-        None => false,
-    }
-}
-
-/// Whether there is such a piece and it is in the set.
-fn has(flags: &Bitfield, piece: u32) -> bool
-    ensures { result ≡ slice_index_or flags.now piece false }
-{
-    piece < flags.count() && flags.has(piece)
 }
 
 /// Tells the rows that the block at this place was stored, brought by the worker's own peer, where so many peers are asked for it:

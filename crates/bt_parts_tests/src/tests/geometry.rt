@@ -123,6 +123,29 @@ fn bitfields_off_the_wire(rt: HostRuntime) -> Result<(), Fail> {
     Ok(())
 }
 
+/// With no contract: what no test needs would cost its proof minutes.
+fn first_from(set: &Bitfield, piece: u32) -> Option<u32> {
+    set.first_from(piece)
+}
+
+#[test]
+fn bitfields_are_looked_through(rt: HostRuntime) -> Result<(), Fail> {
+    let shown = Bitfield::from_wire(rt.alloc(), &[0x80, 0x00, 0x41], 24)?;
+    let rows = [
+        (0, Some(0)),
+        (1, Some(17)),
+        (17, Some(17)),
+        (18, Some(23)),
+        (23, Some(23)),
+        (24, None),
+        (u32::MAX, None),
+    ];
+    for (piece, found) in rows {
+        assert_eq!(rt; first_from(&shown, piece), found);
+    }
+    Ok(())
+}
+
 #[test]
 fn bitfields_onto_the_wire(rt: HostRuntime) -> Result<(), Fail> {
     let mut had = Bitfield::empty(rt.alloc(), 3)?;

@@ -32,6 +32,19 @@ fn numbers_move_between_groups(rt: HostRuntime) -> Result<(), Fail> {
 }
 
 #[test]
+fn numbers_move_by_one_group(rt: HostRuntime) -> Result<(), Fail> {
+    let mut order = Order::new(rt.alloc(), 3, 3)?;
+    order.raise(1);
+    order.raise(1);
+    order.raise(2);
+    order.lower(1);
+    assert!(rt; has(&order, 0, &[0]));
+    assert!(rt; has(&order, 1, &[1, 2]));
+    assert!(rt; has(&order, 2, &[]));
+    Ok(())
+}
+
+#[test]
 fn no_numbers(rt: HostRuntime) -> Result<(), Fail> {
     let order = Order::new(rt.alloc(), 0, 1)?;
     assert!(rt; order.group(0).is_empty());

@@ -7,13 +7,20 @@ use Rattle.bt_picker.proofs.Changes.{changed_peer, edited_counted, with_pieces}
 use Rattle.bt_picker.proofs.Floors.{edit_piece, have_floor, less_floor, no_less, set_floor}
 use Rattle.bt_picker.proofs.Tabled.{length_edit}
 use Rattle.bt_picker.specs.Floors.{IsFloor, is_fresh}
+use Rattle.bt_picker.specs.Standings.{apart}
 use Rattle.bt_order.specs.Orders.{at}
 use Rattle.bt_picker.proofs.tables.Tables.put_have.Goals as goal
+
+pub availability-shown_by-requires : goal.availability-shown_by-requires
+availability-shown_by-requires c =
+    let lp = rw (← c.self.view_is) at c.requires.piece in
+    let long = ap length c.announce.ensures ∙ length_edit c.self.inside.pieces c.args.piece _ in
+    omega (arith, lp, long)
 
 pub row-requires : goal.row-requires
 row-requires c =
     let lp = rw (← c.self.view_is) at c.requires.piece in
-    let long = ap length c.apply.ensures ∙ length_edit c.self.inside.pieces c.args.piece _ in
+    let long = ap length c.announce.ensures ∙ length_edit c.self.inside.pieces c.args.piece _ in
     omega (arith, lp, long)
 
 pub invariant_of-self : goal.invariant_of-self
@@ -27,18 +34,22 @@ invariant_of-self c =
     let n = c.floor_with.result in
     let old = c.index_mut-2.result.now in
     let grown = edit_piece o.floors.items o.peers.items o.pieces p f c.self.invariant lp (λ fresh. (fresh, no_less (piece_row o.pieces p).availability (not c.shows-is_new.result))) in
-    let row : c.row.result.now ≡ piece_row (edit o.pieces p f) p = c.row.ensures ∙ ap (λ (rows : List PieceState). piece_row rows p) c.apply.ensures in
+    let row : c.row.result.now ≡ apart (piece_row (edit o.pieces p f) p) =
+    c.row.ensures ∙ ap (λ (rows : List PieceState). apart (piece_row rows p)) c.announce.ensures in
+    let shown_by : c.availability-shown_by.result ≡ (piece_row (edit o.pieces p f) p).availability =
+    c.availability-shown_by.ensures ∙ ap (λ (rows : List PieceState). (piece_row rows p).availability) c.announce.ensures in
     let is_old = c.index_mut-2.ensures.value ∙ get_or_default o.peers.items w old (fresh_peer 0) lw in
     let own = c.index-floor.ensures ∙ get_or_default o.floors.items w c.index-floor.result.now 0 (omega (arith, lw, c.self.invariant.len)) in
     let floor = less_floor (edit o.pieces p f) (peer_row o.peers.items w) (at o.floors.items w) n (omega (arith, c.floor_with.ensures.most, own)) (grown.each w lw) in
-    let low = subst (λ (r : PieceState). is_fresh r ≡ true → n ≤ r.availability) row c.floor_with.ensures.shown in
+    let low : is_fresh (piece_row (edit o.pieces p f) p) ≡ true → n ≤ (piece_row (edit o.pieces p f) p).availability =
+    λ fresh. (let shown = c.floor_with.ensures.shown (ap is_fresh row ∙ fresh) in omega (arith, shown, shown_by)) in
     let here = have_floor (edit o.pieces p f) old p n low (subst (λ (r : PeerState). IsFloor (edit o.pieces p f) r n) (sym is_old) floor) in
-    rw c.apply.ensures
+    rw c.announce.ensures
     (set_floor o.floors.items o.peers.items (edit o.pieces p f) w n c.put_have.new.self grown lw
     (subst (λ (r : PeerState). IsFloor (edit o.pieces p f) r n) (sym c.put_have.ensures) here))
 
-pub apply-requires-clause-fits : goal.apply-requires-clause-fits
-apply-requires-clause-fits c =
+pub announce-requires-clause-few : goal.announce-requires-clause-few
+announce-requires-clause-few c =
     let w = c.args.worker in
     let p = c.args.piece in
     let o = c.self.inside in
@@ -61,7 +72,7 @@ returns c =
     let told : not c.shows-is_new.result ≡ is_new = ap not (c.shows-is_new.ensures ∙ ap (λ (r : PeerState). slice_index_or r.shows p false) row) in
     let o = c.self.inside in
     let s = setting_of o.torrent.value.layout o.workers o.rules in
-    let recounted = c.apply.ensures ∙ ap (λ (x : Bool). edit o.pieces p (λ row. more_available x (less_available false row))) told in
+    let recounted = c.announce.ensures ∙ ap (λ (x : Bool). edit o.pieces p (λ row. more_available x (less_available false row))) told in
     ap (λ (pieces : List PieceState). with_pieces s (set o.peers.items w c.put_have.new.self) pieces) recounted
     ∙ changed_peer s o.peers.items _ w (have_row p) c.index_mut-2.result.now c.put_have.new.self lw c.index_mut-2.ensures.value c.put_have.ensures
     ∙ ap (λ (t : TablesState). announced t w p) c.self.view_is

@@ -3,7 +3,7 @@ use Rattle.std.specs.Prelude.{slice_index_or}
 use Rattle.bt_history.specs.Counting.{table}
 use Rattle.bt_picker.specs.Tables.{piece_row, want_row}
 use Rattle.bt_picker.proofs.Tabled.{upto}
-use Rattle.bt_picker.proofs.tables.rewant.Given as goal
+use Rattle.bt_picker.proofs.sweep.rewant.Given as goal
 
 abbrev pub invariant-loop-piece : goal.invariant-loop-piece
 invariant-loop-piece l =

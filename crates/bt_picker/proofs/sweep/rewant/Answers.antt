@@ -2,7 +2,7 @@ use Rattle.std.proofs.Common.{◌≡◌, ◌<◌, ◌∙◌, Bool, false, ap, sy
 use Rattle.std.specs.Prelude.{slice_index_or}
 use Rattle.bt_picker.specs.Tables.{piece_row, fresh_piece, want_row}
 use Rattle.bt_picker.proofs.Tabled.{rows_init, rows_read, rows_more, rows_done, edit_read, length_is_table}
-use Rattle.bt_picker.proofs.tables.rewant.Goals as goal
+use Rattle.bt_picker.proofs.sweep.rewant.Goals as goal
 
 pub loop-piece-init : goal.loop-piece-init
 loop-piece-init c = (c.len-piece-end.ensures.is, rows_init c.args.pieces.now _ (fresh_piece 0))

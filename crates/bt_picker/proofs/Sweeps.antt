@@ -1,0 +1,106 @@
+-- The rows of all pieces, as those of a set change one after the other.
+use Rattle.std.proofs.Common.{◌≡◌, ℕ, zero, suc, ◌+◌, ◌-◌, ◌<◌, ◌≤◌, ◌^◌, Bool, true, false, List, [], ◌∷◌, length, ap, sym, ◌∙◌, arith, inl, inr, refl}
+use Rattle.std.specs.Prelude.{slice_index_or}
+use Rattle.std.proofs.lemmas.Bool.{cases_lt, false≢true}
+use Rattle.std.proofs.lemmas.List.{get_or_past}
+use Rattle.bt_history.specs.Counting.{table}
+use Rattle.bt_picker.specs.Tables.{AreCounted, PieceState, edit, fresh_piece, hidden_rows, less_available, more_available, one_if, piece_row, recounted, shown_rows}
+use Rattle.bt_picker.proofs.Tabled.{edit_past, edit_table, get_or_table, length_table, same_table, upto, upto_above, upto_below}
+
+module _ {A : Type 0} (n : ℕ) (g f : ℕ → A) where
+  -- where g and f agree from i up to j
+  skipped : (i j : ℕ) → i ≤ j → ((p : ℕ) → i ≤ p → p < j → g p ≡ f p) → table n (upto i g f) ≡ table n (upto j g f)
+  skipped i j le same = same_table n (upto i g f) (upto j g f) (λ k lk.
+      elim (cases_lt k i) [
+        | inl below ↦ upto_below i g f k below ∙ sym (upto_below j g f k (omega arith))
+        | inr above ↦ upto_above i g f k above ∙ elim (cases_lt k j) [
+          | inl inside ↦ sym (upto_below j g f k inside ∙ same k above inside)
+          | inr behind ↦ sym (upto_above j g f k behind)
+        ]
+      ])
+
+  changed_at : (j : ℕ) (change : A → A) → g j ≡ change (f j) → edit (table n (upto j g f)) j change ≡ table n (upto (j + 1) g f)
+  changed_at j change here =
+      elim (cases_lt j n) [
+        | inl within ↦ edit_table n (upto j g f) (upto (j + 1) g f) j change within
+            (upto_below (j + 1) g f j (omega arith) ∙ (here ∙ ap change (sym (upto_above j g f j (omega arith)))))
+            (λ k lk apart. elim (cases_lt k j) [
+              | inl below ↦ upto_below j g f k below ∙ sym (upto_below (j + 1) g f k (omega arith))
+              | inr above ↦ upto_above j g f k above ∙ sym (upto_above (j + 1) g f k (omega (arith, apart)))
+            ])
+        | inr past ↦ edit_past (table n (upto j g f)) j change (omega (arith, length_table n (upto j g f)))
+            ∙ same_table n (upto j g f) (upto (j + 1) g f) (λ k lk. upto_below j g f k (omega arith) ∙ sym (upto_below (j + 1) g f k (omega arith)))
+      ]
+
+  -- one more element changes, and those before it stay
+  pub sweep_more : (ys : List A) (i j : ℕ) (change : A → A) → ys ≡ table n (upto i g f) → i ≤ j → ((p : ℕ) → i ≤ p → p < j → g p ≡ f p)
+      → g j ≡ change (f j) → edit ys j change ≡ table n (upto (j + 1) g f)
+  sweep_more ys i j change is le same here = ap (λ (l : List A). edit l j change) (is ∙ skipped i j le same) ∙ changed_at j change here
+
+  -- no more changes
+  pub sweep_done : (ys : List A) (i : ℕ) → ys ≡ table n (upto i g f) → ((p : ℕ) → i ≤ p → g p ≡ f p) → ys ≡ table n g
+  sweep_done ys i is same = is ∙ same_table n (upto i g f) g (λ k lk.
+      elim (cases_lt k i) [
+        | inl below ↦ upto_below i g f k below
+        | inr above ↦ upto_above i g f k above ∙ sym (same k above)
+      ])
+
+-- a flag that is set is one of the list
+pub set_within : (flags : List Bool) (p : ℕ) → slice_index_or flags p false ≡ true → p < length flags
+set_within flags p is =
+    elim (cases_lt p (length flags)) [
+      | inl within ↦ within
+      | inr past ↦ absurd (false≢true (sym (get_or_past flags p false past) ∙ is))
+    ]
+
+-- ---- rows that are hidden and shown
+
+pub hides_none : (flag : Bool) (row : PieceState) → flag ≡ false → less_available flag row ≡ row
+hides_none flag row none =
+    let same : row.availability - one_if false ≡ row.availability = omega arith in
+    ap (λ (b : Bool). less_available b row) none ∙ (λ i. record { had = row.had; wanted = row.wanted; availability = same i; blocks = row.blocks })
+
+pub shows_none : (flag : Bool) (row : PieceState) → flag ≡ false → more_available flag row ≡ row
+shows_none flag row none =
+    let same : row.availability + one_if false ≡ row.availability = omega arith in
+    ap (λ (b : Bool). more_available b row) none ∙ (λ i. record { had = row.had; wanted = row.wanted; availability = same i; blocks = row.blocks })
+
+-- a peer that shows other pieces hides its own and shows these
+pub hidden_then_shown : (rows : List PieceState) (before after : List Bool) → shown_rows after (hidden_rows before rows) ≡ recounted rows before after
+hidden_then_shown rows before after =
+    let hidden : ℕ → PieceState = λ p. less_available (slice_index_or before p false) (piece_row rows p) in
+    let n = length rows in
+    ap (λ (m : ℕ). table m (λ p. more_available (slice_index_or after p false) (piece_row (table n hidden) p))) (length_table n hidden)
+    ∙ same_table n (λ p. more_available (slice_index_or after p false) (piece_row (table n hidden) p)) (λ p. more_available (slice_index_or after p false) (hidden p))
+    (λ k lk. ap (more_available (slice_index_or after k false)) (get_or_table n hidden k (fresh_piece 0) lk))
+
+pub hidden_alone : (rows : List PieceState) (before : List Bool) → hidden_rows before rows ≡ recounted rows before []
+hidden_alone rows before =
+    let hidden : ℕ → PieceState = λ p. less_available (slice_index_or before p false) (piece_row rows p) in
+    same_table (length rows) hidden (λ p. more_available false (hidden p)) (λ k lk. sym (shows_none false (hidden k) refl))
+
+-- there is room for one more that shows a piece of the set
+pub has_room : (rows now : List PieceState) (flags : List Bool) (i p : ℕ) → AreCounted (shown_rows flags rows)
+    → now ≡ table (length rows) (upto i (λ k. more_available (slice_index_or flags k false) (piece_row rows k)) (piece_row rows))
+    → i ≤ p → slice_index_or flags p false ≡ true → p < length now → (piece_row now p).availability + 1 < 2 ^ 32
+has_room rows now flags i p counted is from shown within =
+    let n = length rows in
+    let g : ℕ → PieceState = λ k. more_available (slice_index_or flags k false) (piece_row rows k) in
+    let long : length now ≡ n = ap length is ∙ length_table n (upto i g (piece_row rows)) in
+    let lt : p < n = omega arith in
+    let here : piece_row now p ≡ piece_row rows p =
+    ap (λ (l : List PieceState). piece_row l p) is ∙ (get_or_table n (upto i g (piece_row rows)) p (fresh_piece 0) lt ∙ upto_above i g (piece_row rows) p from) in
+    let fits = counted p (omega (arith, lt, length_table n g)) in
+    let one : (piece_row (shown_rows flags rows) p).availability ≡ (piece_row rows p).availability + 1 =
+    ap (λ (r : PieceState). r.availability) (get_or_table n g p (fresh_piece 0) lt) ∙ ap (λ (b : Bool). (piece_row rows p).availability + one_if b) shown in
+    omega (arith, fits, one, ap (λ (r : PieceState). r.availability) here)
+
+-- a piece that was shown before stays as it is
+edit_none : {A : Type 0} (xs : List A) (i : ℕ) (f : A → A) → ((x : A) → f x ≡ x) → edit xs i f ≡ xs
+edit_none [] i f same = refl
+edit_none (x ∷ xs) zero f same = ap (λ y. y ∷ xs) (same x)
+edit_none (x ∷ xs) (suc i) f same = ap (λ ys. x ∷ ys) (edit_none xs i f same)
+
+pub tells_nothing : (rows : List PieceState) (p : ℕ) (is_new : Bool) → is_new ≡ false → edit rows p (λ row. more_available is_new (less_available false row)) ≡ rows
+tells_nothing rows p is_new old = edit_none rows p (λ row. more_available is_new (less_available false row))
+    (λ row. shows_none is_new (less_available false row) old ∙ hides_none false row refl)
