@@ -1,10 +1,18 @@
 use bt_bencode::*;
-use std::alloc::{AllocError, Global};
+use std::alloc::{AllocError, AllocFailed, Global};
 use std::test::*;
+
+/// A tree of the bytes, or their fault. A call that found no memory is made once more.
+fn parse_again(alloc: Global, source: &[u8]) -> Result<Tree, BenFault> {
+    match parse(alloc, source) {
+        Err(BenFault::NoMemory) => parse(alloc, source),
+        parsed => parsed,
+    }
+}
 
 /// The number of the fault that the bytes give, or 0.
 fn fault_number(alloc: Global, source: &[u8]) -> u8 {
-    match parse(alloc, source) {
+    match parse_again(alloc, source) {
         Ok(_) => 0,
         Err(fault) => fault as u8,
     }
@@ -93,7 +101,7 @@ fn what_is_accepted_is_written_back(rt: HostRuntime) -> Result<(), Fail> {
         &deepest,
     ];
     for source in rows {
-        let tree = parse(rt.alloc(), source)?;
+        let tree = parse_again(rt.alloc(), source)?;
         assert_eq!(rt; write(rt.alloc(), &tree)?.as_slice(), source);
         assert_eq!(rt; tree.span().start, 0);
         assert_eq!(rt; tree.span().end, source.len());
@@ -167,5 +175,28 @@ fn lists_by_hand_stand_64_inside_one_another(rt: HostRuntime) -> Result<(), Fail
     let mut items = Vec::new(rt.alloc());
     items.push(tree)?;
     assert!(rt; matches!(Tree::list(items), Err(BenFault::TooDeep)));
+    Ok(())
+}
+
+/// Puts the tree behind the others. One that found no room comes back, and is put once more.
+fn put(trees: &mut Vec<Tree>, tree: Tree) -> Result<(), AllocError> {
+    match trees.push(tree) {
+        Ok(()) => Ok(()),
+        Err(AllocFailed { value }) => Ok(trees.push(value)?),
+    }
+}
+
+#[test]
+fn a_tree_that_found_no_room_is_put_once_more(rt: HostRuntime) -> Result<(), Fail> {
+    let mut trees = Vec::new(rt.alloc());
+    for source in [b"2:ab".as_slice(), b"i-3e", b"l1:xe", b"d1:ai1ee", b"le"] {
+        put(&mut trees, parse_again(rt.alloc(), source)?)?;
+    }
+    let list = Tree::list(trees)?;
+    let written = match write(rt.alloc(), &list) {
+        Ok(written) => written,
+        Err(AllocError) => write(rt.alloc(), &list)?,
+    };
+    assert_eq!(rt; written.as_slice(), b"l2:abi-3el1:xed1:ai1eelee".as_slice());
     Ok(())
 }

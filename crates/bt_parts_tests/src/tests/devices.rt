@@ -70,7 +70,7 @@ fn copy<R: Source, W: Sink>(from: &mut R, to: &mut W) -> Result<(), DeviceFault>
 #[test]
 fn readers_and_writers_are_devices(rt: HostRuntime) -> Result<(), Fail> {
     let mut from = FromRead::new(Cursor::new(b"abcde".as_slice()));
-    let mut to = ToWrite::new(Vec::new(rt.alloc()));
+    let mut to = ToWrite::new(Vec::with_capacity(rt.alloc(), 5)?);
     copy(&mut from, &mut to)?;
     assert_eq!(rt; to.into_inner().as_slice(), b"abcde".as_slice());
     Ok(())
@@ -79,7 +79,7 @@ fn readers_and_writers_are_devices(rt: HostRuntime) -> Result<(), Fail> {
 #[test]
 fn a_byte_at_a_time_and_the_end(rt: HostRuntime) -> Result<(), Fail> {
     let mut from = Drip::new(b"abc", false);
-    let mut to = ToWrite::new(Vec::new(rt.alloc()));
+    let mut to = ToWrite::new(Vec::with_capacity(rt.alloc(), 5)?);
     assert!(rt; copy(&mut from, &mut to) == Ok(()));
     assert_eq!(rt; to.into_inner().as_slice(), b"abc".as_slice());
     assert!(rt; from.ended && !from.failed && from.asked == 4);
@@ -89,7 +89,7 @@ fn a_byte_at_a_time_and_the_end(rt: HostRuntime) -> Result<(), Fail> {
 #[test]
 fn a_byte_at_a_time_and_a_failure(rt: HostRuntime) -> Result<(), Fail> {
     let mut from = Drip::new(b"abc", true);
-    let mut to = ToWrite::new(Vec::new(rt.alloc()));
+    let mut to = ToWrite::new(Vec::with_capacity(rt.alloc(), 5)?);
     assert!(rt; copy(&mut from, &mut to) == Err(DeviceFault));
     assert_eq!(rt; to.into_inner().as_slice(), b"abc".as_slice());
     assert!(rt; from.failed && !from.ended);

@@ -92,6 +92,14 @@ fn parts_that_make_no_torrent(rt: HostRuntime) -> Result<(), Fail> {
     Ok(())
 }
 
+/// Why the bytes are no bitfield of so many pieces, and none of one. A call that found no memory is made once more.
+fn bit_fault(alloc: Global, bytes: &[u8], pieces: u32) -> Option<BitFault> {
+    match Bitfield::from_wire(alloc, bytes, pieces).err() {
+        Some(BitFault::NoMemory) => Bitfield::from_wire(alloc, bytes, pieces).err(),
+        fault => fault,
+    }
+}
+
 #[test]
 fn bitfields_off_the_wire(rt: HostRuntime) -> Result<(), Fail> {
     let rows: [(&[u8], Option<BitFault>); 5] = [
@@ -102,7 +110,7 @@ fn bitfields_off_the_wire(rt: HostRuntime) -> Result<(), Fail> {
         (&[], Some(BitFault::WrongCount)),
     ];
     for (bytes, fault) in rows {
-        assert_eq!(rt; Bitfield::from_wire(rt.alloc(), bytes, 3).err(), fault);
+        assert_eq!(rt; bit_fault(rt.alloc(), bytes, 3), fault);
     }
     let shown = Bitfield::from_wire(rt.alloc(), &[0x80, 0x40], 10)?;
     assert_eq!(rt; shown.count(), 10);

@@ -1,6 +1,6 @@
 use bt_wire::*;
 use bytes::Bytes;
-use std::alloc::Global;
+use std::alloc::{AllocError, Global};
 use std::fmt::Write;
 use std::test::*;
 
@@ -12,11 +12,27 @@ const HELLO: Hello = Hello {
     peer_id: [9; 20],
 };
 
+/// Takes the piece. A call that found no memory has changed nothing, and is made once more.
+fn feed_again(inbound: &mut Inbound, piece: &[u8]) -> Result<(), WireFault> {
+    match inbound.feed(piece) {
+        Err(WireFault::NoMemory) => inbound.feed(piece),
+        fed => fed,
+    }
+}
+
+/// The message in front. A call that found no memory has changed nothing, and is made once more.
+fn next_again(inbound: &mut Inbound, alloc: Global) -> Result<Option<Message>, WireFault> {
+    match inbound.next(alloc) {
+        Err(WireFault::NoMemory) => inbound.next(alloc),
+        given => given,
+    }
+}
+
 /// A stream whose handshake was given.
 fn greeted(alloc: Global) -> Result<Inbound, Fail> {
     let mut inbound = Inbound::new(alloc, LIMIT);
-    inbound.feed(&HELLO.write())?;
-    match inbound.next(alloc)? {
+    feed_again(&mut inbound, &HELLO.write())?;
+    match next_again(&mut inbound, alloc)? {
         Some(Message::Hello(_)) => Ok(inbound),
         _ => Err("no handshake")?,
     }
@@ -25,7 +41,7 @@ fn greeted(alloc: Global) -> Result<Inbound, Fail> {
 /// Appends what stands in front: the messages, and then the fault if one follows.
 fn tell(alloc: Global, inbound: &mut Inbound, said: &mut String) -> Result<(), Fail> {
     for _ in 0..20 {
-        match inbound.next(alloc) {
+        match next_again(inbound, alloc) {
             Ok(Some(message)) => write!(said, "{message:?} ")?,
             Ok(None) => return Ok(()),
             Err(fault) => {
@@ -87,7 +103,7 @@ fn frames(rt: HostRuntime) -> Result<(), Fail> {
         let mut said = String::new(rt.alloc());
         assert!(rt; len > 0);
         for piece in bytes.chunks(len) {
-            if let Err(fault) = inbound.feed(piece) {
+            if let Err(fault) = feed_again(&mut inbound, piece) {
                 write!(said, "refused by {fault:?} ")?;
             }
             tell(rt.alloc(), &mut inbound, &mut said)?;
@@ -127,7 +143,7 @@ fn a_fault_behind_messages(rt: HostRuntime) -> Result<(), Fail> {
     let mut stream = Vec::from_slice(rt.alloc(), &HELLO.write())?;
     stream.extend_from_slice(&[0, 0, 0, 1, 0, 0, 16, 0, 1])?;
     let mut inbound = Inbound::new(rt.alloc(), LIMIT);
-    assert!(rt; inbound.feed(&stream) == Ok(()));
+    inbound.feed(&stream)?;
     assert!(rt; inbound.next(rt.alloc())? == Some(Message::Hello(HELLO)));
     assert!(rt; inbound.next(rt.alloc())? == Some(Message::Choke));
     assert!(rt; inbound.next(rt.alloc()) == Err(WireFault::TooLong));
@@ -237,5 +253,49 @@ fn many_messages_in_one_feed(rt: HostRuntime) -> Result<(), Fail> {
         assert!(rt; inbound.next(rt.alloc())? == Some(Message::Have(piece)));
     }
     assert_eq!(rt; inbound.rest(), 0);
+    Ok(())
+}
+
+/// What `EACH_KIND` says.
+const EACH_KIND_TOLD: &str =
+    "KeepAlive Choke Unchoke Interested NotInterested Have(2) Bits(b\"\\xe0\") \
+    Request { piece: 16909060, begin: 84281096, len: 16384 } Piece { piece: 0, begin: 0, bytes: b\"abc\" } \
+    Cancel { piece: 16909060, begin: 84281096, len: 16384 } Unknown(20) ";
+
+#[test]
+fn a_call_that_found_no_memory_is_made_once_more(rt: HostRuntime) -> Result<(), Fail> {
+    for len in [1, 7, 94] {
+        assert!(rt; len > 0);
+        let mut inbound = greeted(rt.alloc())?;
+        let mut said = String::new(rt.alloc());
+        for piece in EACH_KIND.chunks(len) {
+            feed_again(&mut inbound, piece)?;
+            tell(rt.alloc(), &mut inbound, &mut said)?;
+        }
+        assert_eq!(rt; said.as_str(), EACH_KIND_TOLD, "in pieces of {len}");
+        assert_eq!(rt; inbound.rest(), 0);
+    }
+    Ok(())
+}
+
+/// Puts the message behind the others. One that found no room has left no byte, and is put once more.
+fn put_have(piece: u32, out: &mut Vec<u8>) -> Result<(), AllocError> {
+    let message = Message::Have(piece);
+    match encode(&message, out) {
+        Ok(()) => Ok(()),
+        Err(AllocError) => encode(&message, out),
+    }
+}
+
+#[test]
+fn a_message_that_found_no_room_is_put_once_more(rt: HostRuntime) -> Result<(), Fail> {
+    let mut out = Vec::new(rt.alloc());
+    for piece in 0..100 {
+        put_have(piece, &mut out)?;
+    }
+    assert_eq!(rt; out.len(), 900);
+    for (piece, frame) in (0..100_u8).zip(out.chunks(9)) {
+        assert_eq!(rt; frame, [0, 0, 0, 5, 4, 0, 0, 0, piece].as_slice());
+    }
     Ok(())
 }
