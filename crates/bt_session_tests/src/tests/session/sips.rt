@@ -75,17 +75,3 @@ fn little_by_little(rt: HostRuntime) -> Result<(), Fail> {
     }
     Ok(())
 }
-
-/// As much at once as a read may give, with many messages in each, cut anywhere: every keepalive is followed by a Next.
-#[test]
-fn much_at_once(rt: HostRuntime) -> Result<(), Fail> {
-    let keepalives = vec![in rt.alloc(); 0; 200_000]?;
-    let stream = peer(rt.alloc(), 1, &keepalives)?;
-    let (end, calls, _) = told_of(rt.alloc(), Sips::new(&stream, &[65_535]))?;
-    assert!(rt; end == Ok(End { messages: 50_000 }));
-    assert!(rt; calls.starts_with("join = Joined; next = Choked; "));
-    assert!(rt; calls.ends_with("next = Choked; leave = Quiet; "));
-    // A Join, 50,000 Nexts and a Leave, each of fifteen letters.
-    assert_eq!(rt; calls.len(), 50_002 * 15);
-    Ok(())
-}
