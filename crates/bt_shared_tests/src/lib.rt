@@ -1,5 +1,5 @@
-//! The tests of `bt_shared`, in a crate of their own, so that they are checked without proving it again: logs and journals of calls, what
-//! `gather` answers, passes that meet, and threads that call one desk.
+//! The tests of `bt_shared`, in a crate of their own, so that they are checked without proving it again: logs of calls, and what
+//! `gather` answers.
 #![tactic(auto)]
 
 #[cfg(test)]

@@ -1,5 +1,3 @@
 mod gathering;
 mod logs;
-mod meeting;
 mod setting;
-mod threads;

@@ -104,15 +104,6 @@ impl Seated {
         Ok(desk.job(rt, alloc, &mut passes[worker], piece)?.is_some())
     }
 
-    /// The last worker meets the first.
-    pub fn meet<R: Wait + Abort>(&mut self, rt: &R) {
-        let Seated { desk, passes } = self;
-        assert!(rt; 2 <= passes.len());
-        let last = passes.len() - 1;
-        let (first, others) = passes.as_mut_slice().split_at_mut(last);
-        desk.meet(rt, &mut first[0], &mut others[0]);
-    }
-
     /// The worker's log.
     pub fn log(&self, rt: &impl Abort, worker: usize) -> &[Mark] {
         assert!(rt; worker < self.passes.len());
@@ -125,7 +116,9 @@ impl Seated {
         self.passes.swap_remove(worker);
     }
 
-    pub fn gather(self, alloc: Global) -> Result<Book, GatherFault> {
+    pub fn gather(self, alloc: Global) -> Result<Book, GatherFault>
+        ensures { IfOk result (λ book. piece_count book.desk.setting.torrent ≡ 3) }
+    {
         let Seated { desk, passes } = self;
         desk.gather(alloc, passes, None)
     }
@@ -134,7 +127,11 @@ impl Seated {
     pub fn fault_beside(self, alloc: Global, byte: u8) -> Result<Option<GatherFault>, Fail> {
         let Seated { desk, passes } = self;
         let bits = bits(alloc, byte)?;
-        Ok(desk.gather(alloc, passes, Some(&bits)).err())
+        match desk.gather(alloc, passes, Some(&bits)) {
+            Ok(_) => Ok(None),
+            Err(GatherFault::NoMemory) => Err(GatherFault::NoMemory)?,
+            Err(fault) => Ok(Some(fault)),
+        }
     }
 }
 
