@@ -1,4 +1,4 @@
-//! The tests of `bt_session`, in a crate of their own, so that they are checked without proving it again.
+//! The tests of `bt_session`'s runs in threads, in a crate of their own, so that they are checked without proving it again.
 #![tactic(auto)]
 
 #[cfg(test)]

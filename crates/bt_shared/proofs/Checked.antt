@@ -1,16 +1,14 @@
 -- What a call or a check that is entered, or isn't, makes of what a pass has seen.
-use Rattle.std.proofs.Common.{◌≡◌, ◌⊎◌, ℕ, Bool, true, false, List, [], ◌∷◌, ◌++◌, length, Result, Ok, Err, refl, sym, ap, ◌∙◌, subst, inl, inr}
+use Rattle.std.proofs.Common.{◌≡◌, ℕ, Bool, true, false, [], ◌∷◌, ◌++◌, length, Result, Ok, Err, refl, sym, ap, ◌∙◌, subst, inl, inr}
 use Rattle.std.specs.Prelude.{IfOk, OnErr}
 use Rattle.bt_history.specs.declared.call.Call.{Call}
 use Rattle.bt_history.specs.declared.call.Reply.{Reply}
-use Rattle.bt_history.specs.declared.event.Event.{Event}
 use Rattle.bt_history.specs.Entries.{event}
-use Rattle.bt_history.specs.History.{History}
 use Rattle.bt_history.specs.Logs.{mark_of}
 use Rattle.bt_history.specs.Setting.{Setting}
 use Rattle.bt_picker.specs.Checks.{SettlesIf, SettlesNow, settling, waits}
 use Rattle.bt_picker.specs.Positions.{DeskState, Gains}
-use Rattle.bt_shared.specs.Passes.{Enters, EntersAt, IsSame, LogsIf, PassState, Rests, SeesChecked, SeesUnasked, Settles}
+use Rattle.bt_shared.specs.Passes.{Enters, EntersAt, IsSame, LogsIf, PassState, Rests, Settles}
 use Rattle.bt_shared.specs.Seen.{Continues}
 
 -- of the pass before, as it was read and as it is seen, and after, where the history was found so

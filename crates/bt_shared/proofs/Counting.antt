@@ -1,5 +1,5 @@
 -- Workers of a desk, each once, and how many entries they have together.
-use Rattle.std.proofs.Common.{◌≡◌, ◌≢◌, ◌⊎◌, ℕ, zero, suc, ◌+◌, ◌<◌, ◌≤◌, ◌==◌, Bool, true, false, List, [], ◌∷◌, ◌++◌, cond, length, length-append, map, refl, sym, ap, ◌∙◌, subst, arith, eq-eqb, ne_eqb, inl, inr, ⊎_elim}
+use Rattle.std.proofs.Common.{◌≡◌, ◌⊎◌, ℕ, ◌+◌, ◌<◌, ◌==◌, Bool, true, false, List, [], ◌∷◌, cond, length, length-append, refl, sym, ap, ◌∙◌, subst, arith, eq-eqb, ne_eqb, inl, inr, ⊎_elim}
 use Rattle.std.specs.Prelude.{sum_by}
 use Rattle.std.specs.List.{AllByRecursion, IsDistinct, list_any}
 use native.Mathlib.Decide.{ℕ_discrete}
@@ -10,11 +10,11 @@ use Rattle.std.proofs.lemmas.Map.Steps.{length-le_from_distinct_below}
 use Rattle.bt_history.specs.declared.event.Event.{Event}
 use Rattle.bt_history.specs.History.{History}
 use Rattle.bt_history.specs.Legal.{IsAllowed, IsLegal}
-use Rattle.bt_history.specs.Logs.{Agrees, mark_of, marks_of}
+use Rattle.bt_history.specs.Logs.{mark_of, marks_of}
 use Rattle.bt_history.specs.Setting.{Setting}
 use Rattle.bt_shared.specs.Closing.{AreCounted, EachKnows, EachOwn, IsEveryone, workers_of}
 use Rattle.bt_shared.specs.Passes.{PassState}
-use Rattle.bt_shared.specs.Seen.{AreApart, IsAmong, Knows}
+use Rattle.bt_shared.specs.Seen.{AreApart, IsAmong}
 use Rattle.bt_shared.proofs.Marked.{marks_continue}
 
 -- ---- as many different workers as the desk has are all of them

@@ -1,19 +1,17 @@
 -- Each step of the word lock keeps its rule.
-use Rattle.std.proofs.Common.{◌≡◌, ◌≢◌, ℕ, ◌+◌, ◌<◌, ◌≤◌, ◌==◌, ◌⊎◌, Bool, true, false, Some, None, zero, suc, List, [], ◌∷◌, ◌++◌, length, get_or, set, refl, sym, ap, ◌∙◌, subst, inl, inr, ⊎_elim, arith, length-set, length-append, get_or-set_same, le_refl}
-use mathlib.Core.Logic.{dite}
+use Rattle.std.proofs.Common.{◌≡◌, ◌≢◌, ℕ, ◌≤◌, ◌==◌, Bool, true, false, Some, None, zero, suc, List, [], ◌∷◌, get_or, set, refl, sym, ap, ◌∙◌, subst, inl, inr, ⊎_elim, arith, length-set, get_or-set_same, le_refl}
 use mathlib.Core.Option.{none, some, some-injective, some-ne-none}
-use native.Mathlib.Decide.{ℕ_discrete}
 use lib.ListN.{get_elem?}
 use Rattle.std.proofs.lemmas.List.{set-get_or}
 use prog.Atomic.{either}
-use Rattle.atomic_table.specs.Table.{State, Me, step, Act, keeps, takes, gives, carried_after, Valid, rest, stepped, Allows, Splits, Joins, opening}
-use Rattle.atomic_table.proofs.Lists.{at_set, set_here, set_else, set_again, at_snoc, at_longer, exchanged}
+use Rattle.atomic_table.specs.Table.{step, Act, keeps, takes, gives, carried_after, Valid, rest, stepped, Allows}
+use Rattle.atomic_table.proofs.Lists.{at_set, set_here, set_again, exchanged}
 use Rattle.bt_history.specs.Setting.{Setting}
 use Rattle.bt_history.specs.declared.event.Event.{Event}
 use Rattle.bt_picker.specs.Positions.{DeskState}
 use Rattle.bt_shared.specs.declared.view.View.{View}
-use Rattle.bt_shared.specs.Seen.{Knows, IsAmong, Grows, own}
-use Rattle.bt_shared.specs.Guard.{Slot, Table, Sat, desk, Fits, Apart, IsFree, IsTaken, Guards, Saw, seeing, Takes, Frees, MayFree, MayTake}
+use Rattle.bt_shared.specs.Seen.{IsAmong, Grows, own}
+use Rattle.bt_shared.specs.Guard.{Slot, Table, Sat, desk, Fits, Apart, Guards, Saw, seeing, Takes, Frees, MayFree, MayTake}
 use Rattle.bt_shared.proofs.Histories.{each_map, own_other, knows_all, knows_more}
 
 -- a fact of each seat, where one has a new view

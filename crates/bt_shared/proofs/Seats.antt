@@ -1,20 +1,20 @@
 -- Seats that are made, copied and joined keep the rule of the word lock.
-use Rattle.std.proofs.Common.{◌≡◌, ◌≢◌, ℕ, ◌+◌, ◌<◌, ◌≤◌, ◌⊎◌, Bool, true, false, Some, None, zero, suc, List, [], ◌∷◌, ◌++◌, length, set, nat_lt, if◌then◌else◌, refl, sym, ap, ◌∙◌, subst, inl, inr, ⊎_elim, arith, le_refl, length-set}
+use Rattle.std.proofs.Common.{◌≡◌, ◌≢◌, ℕ, ◌<◌, ◌≤◌, ◌⊎◌, Bool, true, false, Some, zero, suc, List, [], ◌∷◌, ◌++◌, length, set, nat_lt, if◌then◌else◌, refl, sym, ap, ◌∙◌, subst, inl, inr, ⊎_elim, arith, le_refl}
 use mathlib.Core.Logic.{dite}
-use mathlib.Core.Option.{none, some, some-injective, some-ne-none}
+use mathlib.Core.Option.{some, some-injective, some-ne-none}
 use native.Mathlib.Decide.{ℕ_discrete}
 use lib.ListN.{get_elem?}
-use Rattle.atomic_table.specs.Table.{State, Splits, Joins, opening}
-use Rattle.atomic_table.proofs.Lists.{at_set, set_else, at_longer, at_last}
+use Rattle.atomic_table.specs.Table.{Splits, Joins, opening}
+use Rattle.atomic_table.proofs.Lists.{set_else, at_longer}
 use Rattle.std.proofs.lemmas.Bool.{ltb-true, ltb-false}
 use Rattle.bt_history.specs.Setting.{Setting}
 use Rattle.bt_history.specs.declared.event.Event.{Event}
 use Rattle.bt_shared.specs.declared.view.Part.{Part}
 use Rattle.bt_shared.specs.declared.view.View.{View}
 use Rattle.bt_shared.specs.Seen.{Knows, IsAmong, own}
-use Rattle.bt_shared.specs.Guard.{Slot, Table, desk, Fits, Apart, IsFree, IsTaken, Guards, Saw, maker, making, newcomer_view, witness, longer, meeting, spent_view}
+use Rattle.bt_shared.specs.Guard.{Table, desk, Fits, Apart, Guards, Saw, maker, making, newcomer_view, witness, longer, meeting, spent_view}
 use Rattle.bt_shared.proofs.Histories.{apart_append, each_append, each_map, knows_nothing, knows_longer, starts_empty, starts_shorter, among_append, among_left, among_right}
-use Rattle.bt_shared.proofs.Keeps.{Was, each_set, apart_same, apart_set, set_at}
+use Rattle.bt_shared.proofs.Keeps.{Was, each_set, apart_same, set_at}
 
 -- an entry of a longer list, with its place
 at_end : {A : Type 0} (l : List A) (a b : A) (j : ℕ) → get_elem? (l ++ a ∷ []) j ≡ some b → (get_elem? l j ≡ some b) ⊎ ((j ≡ length l) × (a ≡ b))

@@ -1,5 +1,5 @@
 -- The rule of the word lock. Word 0 is 0 while it is free and 1 while it is taken, and slot 0 is the desk's.
-use Rattle.std.specs.Prelude.{◌≡◌, ◌≢◌, ℕ, ◌+◌, ◌<◌, ◌≤◌, ◌==◌, ◌⊎◌, Bool, true, false, Option as StdOption, Some, None, List, [], ◌∷◌, ◌++◌, length, slice_index, nat_lt, if◌then◌else◌}
+use Rattle.std.specs.Prelude.{◌≡◌, ◌≢◌, ℕ, ◌+◌, ◌<◌, ◌≤◌, Bool, true, false, Option as StdOption, Some, List, [], ◌∷◌, ◌++◌, length, slice_index, nat_lt, if◌then◌else◌}
 use mathlib.Core.Option.{none, some}
 use lib.ListN.{get_elem?}
 use Rattle.atomic_table.specs.Table.{State, Me, Step}

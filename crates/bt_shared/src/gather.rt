@@ -127,6 +127,19 @@ fn desk_in(mut closed: Closed<Option<Desk>, Global>) -> Option<Desk>
     slot
 }
 
+/// The desk, if the word is free, out of a table that this seat closes. It is free where the seat speaks for all workers.
+fn close_with(table: Table<Option<Desk>, View, Terms, Guard, Global>, seat: Place) -> Option<Desk>
+    requires desk { IsDesk table.shared.table_id.words table.shared.table_id.slots }
+    requires seat { (seat.table_id ≡ table.shared.table_id) × IsIdle seat.me }
+    ensures setting { IfSome result (λ desk. desk.setting ≡ table.shared.key) }
+    ensures legal { IfSome result (λ desk. IsLegal desk.setting desk.history) }
+    ensures saw { IfSome result (λ desk. Each (Saw desk.history seat.me.0.part.workers) seat.me.0.parts) }
+    ensures counted { AreCounted table.shared.key seat.me.0.part.workers }
+    ensures free { IsEveryone table.shared.key seat.me.0.part.workers → IsSome result }
+{
+    desk_in(table.close_with(seat))
+}
+
 /// The desk, if the word is free. It is free where the seat speaks for all workers.
 fn close(table: Table<Option<Desk>, View, Terms, Guard, Global>, all: Option<Place>) -> Option<Desk>
     requires desk { IsDesk table.shared.table_id.words table.shared.table_id.slots }
@@ -139,7 +152,7 @@ fn close(table: Table<Option<Desk>, View, Terms, Guard, Global>, all: Option<Pla
     ensures free { IfSome all (λ seat. IsEveryone table.shared.key seat.me.0.part.workers → IsSome result) }
 {
     match all {
-        Some(seat) => desk_in(table.close_with(seat)),
+        Some(seat) => close_with(table, seat),
         None => desk_in(table.close()),
     }
 }

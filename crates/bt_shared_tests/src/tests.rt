@@ -1,3 +1,5 @@
 mod gathering;
 mod logs;
+mod meeting;
 mod setting;
+mod threads;

@@ -1,12 +1,13 @@
 //! A torrent, calls, and a shared desk with its passes.
 ghost use Rattle.std.specs.Prelude.{◌≡◌, ◌≤◌, length, IfOk};
 ghost use Rattle.bt_meta.specs.Layout.{piece_count};
+ghost use Rattle.bt_shared.specs.Passes.{IsOf};
 
 use bt_meta::{Bitfield, Torrent};
 use bt_picker::{Call, CallMark, Mark, Reply, Rules};
 use bt_shared::{Book, GatherFault, Pass, SharedDesk};
 use bytes::Bytes;
-use std::alloc::Global;
+use std::alloc::{AllocError, Global};
 use std::marker::Model;
 use std::process::Abort;
 use std::sync::{Arc, Wait};
@@ -116,6 +117,33 @@ impl Seated {
         self.passes.swap_remove(worker);
     }
 
+    /// Takes out the pass of the last worker whose pass is there.
+    pub fn take(&mut self, rt: &impl Abort) -> Pass
+        ensures same { self.new ≡ self.old }
+        ensures pass { IsOf self.old result }
+    {
+        let Some(pass) = self.passes.pop() else {
+            panic!(rt; "no pass is left")
+        };
+        pass
+    }
+
+    /// Puts a pass back.
+    pub fn give(&mut self, pass: Pass) -> Result<(), AllocError>
+        requires { IsOf self.old pass }
+        ensures { self.new ≡ self.old }
+    {
+        self.passes.push(pass)?;
+        Ok(())
+    }
+
+    /// The desk, for the passes that were taken out.
+    pub fn desk(&self) -> &SharedDesk
+        ensures { result.now ≡ self.now }
+    {
+        &self.desk
+    }
+
     pub fn gather(self, alloc: Global) -> Result<Book, GatherFault>
         ensures { IfOk result (λ book. piece_count book.desk.setting.torrent ≡ 3) }
     {
@@ -123,11 +151,16 @@ impl Seated {
         desk.gather(alloc, passes, None)
     }
 
-    /// Gathers with the bitfield that has this byte on the wire. Why not, if so.
-    pub fn fault_beside(self, alloc: Global, byte: u8) -> Result<Option<GatherFault>, Fail> {
+    /// Gathers beside the bitfield that has this byte on the wire.
+    pub fn gather_beside(self, alloc: Global, byte: u8) -> Result<Result<Book, GatherFault>, Fail> {
         let Seated { desk, passes } = self;
         let bits = bits(alloc, byte)?;
-        match desk.gather(alloc, passes, Some(&bits)) {
+        Ok(desk.gather(alloc, passes, Some(&bits)))
+    }
+
+    /// Gathers beside such a bitfield. Why not, if so.
+    pub fn fault_beside(self, alloc: Global, byte: u8) -> Result<Option<GatherFault>, Fail> {
+        match self.gather_beside(alloc, byte)? {
             Ok(_) => Ok(None),
             Err(GatherFault::NoMemory) => Err(GatherFault::NoMemory)?,
             Err(fault) => Ok(Some(fault)),

@@ -1,7 +1,5 @@
 use Rattle.std.proofs.Common.{◌≡◌, arith}
-use Rattle.atomic_table.specs.declared.shared.Seat.{Seat}
-use Rattle.bt_shared.specs.declared.view.View.{View}
-use Rattle.bt_shared.specs.Guard.{IsIdle, Slot}
+use Rattle.bt_shared.specs.Guard.{IsIdle}
 use Rattle.bt_shared.proofs.Seats.{meets}
 use Rattle.bt_shared.proofs.gather.joined.Goals as goal
 

@@ -1,4 +1,4 @@
-use Rattle.std.proofs.Common.{◌≡◌, ◌+◌, ◌++◌, ◌∷◌, [], length, drop, ap, arith, refl, subst}
+use Rattle.std.proofs.Common.{◌≡◌, length, drop, ap, arith, refl, subst}
 use Rattle.std.proofs.lemmas.List.Sums.{sum_by-cons}
 use Rattle.bt_shared.specs.Passes.{PassState}
 use Rattle.bt_history.specs.Logs.{Agrees}

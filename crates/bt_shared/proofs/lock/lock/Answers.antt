@@ -1,4 +1,4 @@
-use Rattle.std.proofs.Common.{◌≡◌, ◌∷◌, [], Some, None, arith, refl, sym, ap, subst, ◌∙◌}
+use Rattle.std.proofs.Common.{Some, arith, sym, ap, subst, ◌∙◌}
 use Rattle.bt_shared.specs.Guard.{MayTake, Sat}
 use Rattle.bt_shared.proofs.Keeps.{seat_may_take, has_slot}
 use Rattle.bt_shared.proofs.lock.lock.Goals as goal

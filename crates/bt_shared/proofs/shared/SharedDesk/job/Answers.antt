@@ -1,4 +1,4 @@
-use Rattle.std.proofs.Common.{◌≡◌, ap, rules}
+use Rattle.std.proofs.Common.{ap, rules}
 use Rattle.bt_shared.specs.Guard.{Sat}
 use Rattle.bt_shared.proofs.Marked.{agrees_continue, knows_continue, seat_may}
 use Rattle.bt_shared.proofs.shared.SharedDesk.job.Goals as goal

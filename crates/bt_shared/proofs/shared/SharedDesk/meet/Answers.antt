@@ -1,11 +1,9 @@
-use Rattle.std.proofs.Common.{◌≡◌, [], false, arith, inl, refl, sym, ap, subst, ◌∙◌, rules}
+use Rattle.std.proofs.Common.{◌≡◌, [], arith, inl, refl, sym, ap, subst, ◌∙◌, rules}
 use Rattle.bt_shared.specs.Guard.{Sat, witness}
 use Rattle.bt_shared.specs.Passes.{PassState, SharedState}
-use Rattle.bt_shared.specs.declared.view.View.{View}
-use Rattle.bt_shared.specs.declared.view.Part.{Part}
 use Rattle.bt_shared.specs.Seen.{IsAmong}
 use Rattle.bt_shared.proofs.Histories.{among_left}
-use Rattle.bt_shared.proofs.Marked.{agrees_continue, met_continues, met_starts}
+use Rattle.bt_shared.proofs.Marked.{agrees_continue, met_continues}
 use Rattle.bt_shared.proofs.Seats.{makes_witness, meets}
 use Rattle.bt_shared.proofs.shared.SharedDesk.meet.Goals as goal
 

@@ -1,4 +1,4 @@
-use Rattle.std.proofs.Common.{◌≡◌, ◌∷◌, [], ◌<◌, ◌+◌, length, Some, arith, ap, sym, ◌∙◌, rules, subst, ℕ}
+use Rattle.std.proofs.Common.{◌≡◌, length, arith, ap, ◌∙◌, rules}
 use Rattle.bt_history.specs.Setting.{Setting}
 use Rattle.bt_shared.specs.Guard.{Sat}
 use Rattle.bt_shared.specs.Passes.{PassState, SharedState, newcomer}

@@ -1,4 +1,4 @@
-use Rattle.std.proofs.Common.{◌≡◌, ℕ, ◌<◌, [], true, false, vec_len, Some, slice_get}
+use Rattle.std.proofs.Common.{◌≡◌, ℕ, ◌<◌, true, false, vec_len, Some, slice_get}
 use Rattle.bt_shared.specs.Passes.{newcomer}
 use Rattle.bt_shared.proofs.shared.SharedDesk.open.Given as goal
 

@@ -1,4 +1,4 @@
-use Rattle.std.proofs.Common.{◌≡◌, ◌∙◌, ap, refl, rules}
+use Rattle.std.proofs.Common.{◌∙◌, ap, refl, rules}
 use Rattle.bt_shared.specs.Guard.{Sat}
 use Rattle.bt_shared.proofs.Checked.{settles_ok}
 use Rattle.bt_shared.proofs.Marked.{agrees_check, knows_continue, seat_may}

@@ -1,19 +1,16 @@
-use super::{PEER, RULES, peer, tell, torrent, torrent_of};
-use bt_meta::{Bitfield, FromRead, ToWrite, Torrent};
+//! Several recorded peers at one desk, in one thread.
+
+use super::whole::tell;
+use crate::{PEER, RULES, Recorded, peer, recorded, torrent, two_pieces};
+use bt_meta::{Bitfield, Torrent};
+use bt_peer::{End, MOST_STREAMS, SerialRun, SessionFault, serial};
 use bt_picker::{Call, Rules};
-use bt_session::{End, MOST_STREAMS, SerialRun, SessionFault, Stream, serial};
 use rand_core::Rng;
 use rand_pcg::Lcg64Xsh32;
 use std::alloc::{AllocError, Global};
 use std::fmt::Write;
-use std::io::Cursor;
 use std::sync::Arc;
 use std::test::Fail;
-
-/// Two pieces of the three bytes `abc`.
-pub fn two_pieces(alloc: Global) -> Result<Arc<Torrent>, Fail> {
-    torrent_of(alloc, 3, 6, 2)
-}
 
 /// What a peer of two pieces sends that has one of them, after its handshake.
 const FIRST: [u8; 27] = PEER;
@@ -21,15 +18,6 @@ const FIRST: [u8; 27] = PEER;
 const SECOND: [u8; 27] = [
     0, 0, 0, 2, 5, 64, 0, 0, 0, 1, 1, 0, 0, 0, 12, 7, 0, 0, 0, 1, 0, 0, 0, 0, 97, 98, 99,
 ];
-
-pub type Recorded<'a> = Stream<FromRead<Cursor<&'a [u8]>>, ToWrite<Vec<u8>>>;
-
-pub fn recorded(alloc: Global, sent: &[u8]) -> Recorded<'_> {
-    Stream {
-        reader: FromRead::new(Cursor::new(sent)),
-        writer: ToWrite::new(Vec::new(alloc)),
-    }
-}
 
 /// A run over these streams. It fails where there are none or too many, or where rules or wanted pieces don't suit the torrent.
 pub fn run_by(

@@ -1,10 +1,10 @@
 //! What a run is told: which pieces are wanted, and by which rules.
 
-use super::serial::{journal, recorded, run_by, two_pieces};
-use super::{peer, torrent_of};
+use super::serial::{journal, run_by};
+use crate::{peer, recorded, torrent_of, two_pieces};
 use bt_meta::{Bitfield, Torrent};
+use bt_peer::SerialRun;
 use bt_picker::Rules;
-use bt_session::SerialRun;
 use std::alloc::Global;
 use std::sync::Arc;
 use std::test::Fail;

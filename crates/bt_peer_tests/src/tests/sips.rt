@@ -1,8 +1,9 @@
 //! Sources that give little at each read.
 
-use super::{PEER, WHOLE, peer, told_of};
+use super::whole::{WHOLE, told_of};
+use crate::{PEER, peer};
 use bt_meta::{DeviceFault, Source};
-use bt_session::End;
+use bt_peer::End;
 use std::test::Fail;
 
 /// A source that gives at each read as many bytes as its list says next, then those of the list again.
@@ -73,5 +74,19 @@ fn little_by_little(rt: HostRuntime) -> Result<(), Fail> {
         assert!(rt; end == Ok(End { messages: 3 }));
         assert_eq!(rt; calls.as_str(), WHOLE);
     }
+    Ok(())
+}
+
+/// The bytes of the keepalives that come at once, four each.
+const KEEPALIVES: usize = 200_000;
+
+/// However much a read gives, each message has a turn of its own.
+#[test]
+fn much_at_once(rt: HostRuntime) -> Result<(), Fail> {
+    let keepalives = vec![in rt.alloc(); 0; KEEPALIVES]?;
+    let stream = peer(rt.alloc(), 1, &keepalives)?;
+    let (end, calls, _) = told_of(rt.alloc(), Sips::new(&stream, &[65_535]))?;
+    assert!(rt; end == Ok(End { messages: 50_000 }));
+    assert!(rt; calls.as_str().ends_with("next = Choked; leave = Quiet; "));
     Ok(())
 }

@@ -1,10 +1,11 @@
 //! Streams that end early, readers that fail, and writers that take little or fail.
 
-use super::{PEER, RULES, WHOLE, peer, tell, torrent};
+use super::whole::{WHOLE, tell};
+use crate::{PEER, RULES, peer, torrent};
 use bt_meta::{Bitfield, DeviceFault, FromRead, Sink, Source, ToWrite};
+use bt_peer::whole::session;
+use bt_peer::{DeskPlace, End, SessionFault};
 use bt_picker::Desk;
-use bt_session::whole::session;
-use bt_session::{DeskPlace, End, SessionFault};
 use rand_pcg::Lcg64Xsh32;
 use std::alloc::Global;
 use std::io::Cursor;

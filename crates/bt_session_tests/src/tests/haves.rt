@@ -1,7 +1,7 @@
 //! A session in a thread that tells of a finished piece while it runs.
 
-use super::{PEER, RULES, peer, torrent};
 use bt_meta::{DeviceFault, Sink, Source};
+use bt_peer_tests::{PEER, RULES, peer, torrent};
 use bt_session::{OpenGate, Stream, swarm};
 use std::sync::atomic::{AtomicBool, Ordering};
 use std::test::Fail;

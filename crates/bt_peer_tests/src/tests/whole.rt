@@ -1,72 +1,19 @@
-mod devices;
-mod haves;
-mod serial;
-mod settings;
-mod sips;
-mod swarm;
+//! A session by itself.
 
-use bt_meta::{Bitfield, FromRead, Source, ToWrite, Torrent};
-use bt_picker::{Call, Desk, Entry, Rules};
-use bt_session::whole::session;
-use bt_session::{DeskPlace, End, SessionFault};
-use bt_wire::{Hello, WireFault};
+use crate::{PEER, RULES, peer, torrent};
+use bt_meta::{Bitfield, FromRead, Source, ToWrite};
+use bt_peer::whole::session;
+use bt_peer::{DeskPlace, End, SessionFault};
+use bt_picker::{Call, Desk, Entry};
+use bt_wire::WireFault;
 use rand_pcg::Lcg64Xsh32;
 use std::alloc::{AllocError, Global};
 use std::fmt::Write;
 use std::io::Cursor;
-use std::sync::Arc;
 use std::test::Fail;
 
-/// The SHA-1 of the three bytes `abc` (FIPS 180-4).
-const ABC: [u8; 20] = [
-    0xa9, 0x99, 0x3e, 0x36, 0x47, 0x06, 0x81, 0x6a, 0xba, 0x3e, 0x25, 0x71, 0x78, 0x50, 0xc2, 0x6c,
-    0x9c, 0xd0, 0xd8, 0x9d,
-];
-
-/// A torrent of so many pieces `abc`, or of other lengths with that digest.
-fn torrent_of(
-    alloc: Global,
-    piece_length: u32,
-    total: u64,
-    count: u32,
-) -> Result<Arc<Torrent>, Fail> {
-    let mut hashes = Vec::new(alloc);
-    for _ in 0..count {
-        hashes.push(ABC)?;
-    }
-    let torrent = Torrent::of_parts(piece_length, total, hashes, [1; 20])?;
-    Ok(Arc::new(alloc, torrent)?)
-}
-
-/// One piece of the three bytes `abc`.
-fn torrent(alloc: Global) -> Result<Arc<Torrent>, Fail> {
-    torrent_of(alloc, 3, 3, 1)
-}
-
-/// Five blocks at a time, and no piece at random: these suit each torrent.
-const RULES: Rules = Rules {
-    depth: 5,
-    random: 0,
-};
-
-/// What a peer of one piece sends, after its handshake: its bitfield, unchoke, and the piece.
-const PEER: [u8; 27] = [
-    0, 0, 0, 2, 5, 128, 0, 0, 0, 1, 1, 0, 0, 0, 12, 7, 0, 0, 0, 0, 0, 0, 0, 0, 97, 98, 99,
-];
-
-fn peer(alloc: Global, infohash: u8, frames: &[u8]) -> Result<Vec<u8>, Fail> {
-    let hello = Hello {
-        reserved: [0; 8],
-        infohash: [infohash; 20],
-        peer_id: [9; 20],
-    };
-    let mut stream = Vec::from_slice(alloc, &hello.write())?;
-    stream.extend_from_slice(frames)?;
-    Ok(stream)
-}
-
 /// An entry by its call and its reply, without words, bytes and bitfields.
-fn tell(entry: &Entry, said: &mut String) -> Result<(), AllocError> {
+pub fn tell(entry: &Entry, said: &mut String) -> Result<(), AllocError> {
     match &entry.call {
         Call::Join => said.push_str("join")?,
         Call::Bits(_) => said.push_str("bits")?,
@@ -92,7 +39,7 @@ fn told(
 }
 
 /// The same of a source, which is read to its end.
-fn told_of<R: Source + Drop>(
+pub fn told_of<R: Source + Drop>(
     alloc: Global,
     mut reader: R,
 ) -> Result<(Result<End, SessionFault>, String, Vec<u8>), Fail> {
@@ -119,7 +66,8 @@ fn told_of<R: Source + Drop>(
     Ok((end, said, writer.into_inner()))
 }
 
-const WHOLE: &str = "join = Joined; bits = Noted(true); next = Choked; unchoke = Quiet; \
+/// The calls of a whole session with that peer.
+pub const WHOLE: &str = "join = Joined; bits = Noted(true); next = Choked; unchoke = Quiet; \
     next = Request(Block { piece: 0, begin: 0, len: 3 }); next = Idle; \
     block 0 0 = Completed; settle = Had; next = NothingLeft; leave = Quiet; ";
 

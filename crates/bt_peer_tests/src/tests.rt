@@ -1,0 +1,5 @@
+mod devices;
+mod serial;
+mod settings;
+mod sips;
+mod whole;

@@ -1,0 +1,103 @@
+//! Two workers, of which one comes to know what the other has seen.
+ghost use Rattle.std.specs.Prelude.{◌≡◌};
+ghost use Rattle.bt_shared.specs.Passes.{IsSame};
+
+use super::setting::*;
+use bt_picker::{Call, CallMark, Reason, Reply};
+use bt_shared::{Pass, SharedDesk};
+use std::alloc::Global;
+use std::process::Abort;
+use std::sync::Wait;
+use std::test::*;
+
+/// The worker's call, which has to get this reply.
+fn says<R: Wait + Abort>(
+    rt: &R,
+    desk: &SharedDesk,
+    pass: &mut Pass,
+    call: Call,
+    wanted: Reply,
+) -> Result<(), Fail>
+    requires { pass.old.table ≡ desk.now.table }
+    ensures { IsSame pass.old pass.new }
+{
+    assert_eq!(rt; desk.call(rt, pass, call)?, wanted);
+    Ok(())
+}
+
+/// Both join; the first asks to join again, which the second then knows.
+fn join_and_meet<R: Wait + Abort>(
+    rt: &R,
+    desk: &SharedDesk,
+    first: &mut Pass,
+    second: &mut Pass,
+) -> Result<(), Fail>
+    requires first { first.old.table ≡ desk.now.table }
+    requires second { second.old.table ≡ desk.now.table }
+    ensures first { IsSame first.old first.new }
+    ensures second { IsSame second.old second.new }
+{
+    says(rt, desk, first, Call::Join, Reply::Joined)?;
+    says(rt, desk, second, Call::Join, Reply::Joined)?;
+    says(
+        rt,
+        desk,
+        first,
+        Call::Join,
+        Reply::Refused(Reason::AlreadyJoined),
+    )?;
+    desk.meet(rt, first, second);
+    Ok(())
+}
+
+/// The second brings the last piece, the first finds it to be checked, the second has it checked, and it comes once more.
+fn bring_a_piece<R: Wait + Abort>(
+    rt: &R,
+    alloc: Global,
+    desk: &SharedDesk,
+    first: &mut Pass,
+    second: &mut Pass,
+) -> Result<(), Fail>
+    requires first { first.old.table ≡ desk.now.table }
+    requires second { second.old.table ≡ desk.now.table }
+    ensures first { IsSame first.old first.new }
+    ensures second { IsSame second.old second.new }
+{
+    says(rt, desk, second, block(2, b"a"), Reply::Completed)?;
+    assert!(rt; desk.job(rt, alloc, first, 2)?.is_some());
+    assert_eq!(rt; desk.settle_now(rt, alloc, first, 2)?, Reply::Had);
+    says(rt, desk, second, block(2, b"a"), Reply::Dropped)
+}
+
+/// Six entries of two workers, in turn. Each log has its own worker's, at their places.
+#[test]
+fn two_passes_meet(rt: HostRuntime) -> Result<(), Fail> {
+    let mut seated = Seated::open(&rt, rt.alloc(), 2)?;
+    let mut second = seated.take(&rt);
+    let mut first = seated.take(&rt);
+    join_and_meet(&rt, seated.desk(), &mut first, &mut second)?;
+    bring_a_piece(&rt, rt.alloc(), seated.desk(), &mut first, &mut second)?;
+    seated.give(second)?;
+    seated.give(first)?;
+    let book = seated.gather_beside(rt.alloc(), 0x20)??;
+    let arrived = CallMark::Arrived {
+        piece: 2,
+        begin: 0,
+        len: 1,
+    };
+    let again = Reply::Refused(Reason::AlreadyJoined);
+    let firsts = [
+        mark(0, CallMark::Join, Reply::Joined),
+        mark(2, CallMark::Join, again),
+        mark(4, CallMark::Settle(2), Reply::Had),
+    ];
+    let seconds = [
+        mark(1, CallMark::Join, Reply::Joined),
+        mark(3, arrived, Reply::Completed),
+        mark(5, arrived, Reply::Dropped),
+    ];
+    assert_eq!(rt; book.logs.len(), 2);
+    assert!(rt; book.logs[0].as_slice() == firsts.as_slice());
+    assert!(rt; book.logs[1].as_slice() == seconds.as_slice());
+    Ok(())
+}

@@ -1,0 +1,111 @@
+//! Two threads that call one desk.
+ghost use Rattle.std.specs.Prelude.{◌≡◌};
+ghost use Rattle.bt_shared.specs.Passes.{IsOf, IsSame};
+
+use super::setting::*;
+use bt_picker::{Call, Reply, Rules, audit};
+use bt_shared::{Pass, SharedDesk};
+use std::sync::Wait;
+use std::sync::atomic::{AtomicBool, Ordering};
+use std::test::*;
+use std::thread;
+use std::thread::Threads;
+
+/// Where each of two workers waits for the other.
+#[derive(Drop)]
+struct Meeting {
+    first: AtomicBool,
+    second: AtomicBool,
+}
+
+impl Meeting {
+    /// Whether the other came, before this one had yielded a million times.
+    fn meets(&self, worker: u32) -> bool {
+        let (mine, other) = if worker == 0 {
+            (&self.first, &self.second)
+        } else {
+            (&self.second, &self.first)
+        };
+        mine.store(true, Ordering::SeqCst);
+        for _ in 0..1_000_000 {
+            if other.load(Ordering::SeqCst) {
+                return true;
+            }
+            thread::yield_now();
+        }
+        false
+    }
+}
+
+const CALLS: usize = 1000;
+
+/// Asks again and again of a peer that chokes, which each reply has to say.
+fn asks<R: Wait>(rt: &R, desk: &SharedDesk, pass: &mut Pass) -> bool
+    requires { pass.old.table ≡ desk.now.table }
+    ensures { IsSame pass.old pass.new }
+{
+    let mut is_right = true;
+    'calls: for _ in 0..CALLS {
+        is_right &= matches!(desk.call(rt, pass, Call::Next(0)), Ok(Reply::Choked));
+    }
+    is_right
+}
+
+/// Joins once the other worker is there, and asks. Gives the pass back, and whether the other came and all replies were right.
+fn calls<R: Wait>(rt: &R, desk: &SharedDesk, meeting: &Meeting, mut pass: Pass) -> (Pass, bool)
+    requires { IsOf desk.now pass }
+    ensures { IsOf desk.now result.0 }
+{
+    let mut is_right = meeting.meets(pass.worker());
+    is_right &= matches!(desk.call(rt, &mut pass, Call::Join), Ok(Reply::Joined));
+    is_right &= asks(rt, desk, &mut pass);
+    (pass, is_right)
+}
+
+/// The calls of both workers, each in a thread of its own.
+fn together<R: Wait + Threads + Sync>(
+    rt: &R,
+    desk: &SharedDesk,
+    meeting: &Meeting,
+    first: Pass,
+    second: Pass,
+) -> ((Pass, bool), (Pass, bool))
+    requires first { IsOf desk.now first }
+    requires second { IsOf desk.now second }
+    ensures first { IsOf desk.now result.0.0 }
+    ensures second { IsOf desk.now result.1.0 }
+{
+    thread::join(
+        rt,
+        move || -> (Pass, bool)
+            requires { IsOf desk.now first }
+            ensures { IsOf desk.entry.now result.0 }
+        { calls(rt, desk, meeting, first) },
+        move || -> (Pass, bool)
+            requires { IsOf desk.now second }
+            ensures { IsOf desk.entry.now result.0 }
+        { calls(rt, desk, meeting, second) },
+    )
+}
+
+#[test]
+fn two_threads_at_one_desk(rt: HostRuntime) -> Result<(), Fail> {
+    let mut seated = Seated::open(&rt, rt.alloc(), 2)?;
+    let second = seated.take(&rt);
+    let first = seated.take(&rt);
+    let meeting = Meeting {
+        first: AtomicBool::new(false),
+        second: AtomicBool::new(false),
+    };
+    let (first, second) = together(&rt, seated.desk(), &meeting, first, second);
+    assert!(rt; first.1 && second.1);
+    seated.give(first.0)?;
+    seated.give(second.0)?;
+    let book = seated.gather(rt.alloc())?;
+    assert_eq!(rt; book.desk.journal().len(), 2 * CALLS + 2);
+    assert_eq!(rt; book.logs.len(), 2);
+    assert!(rt; book.logs.iter().all(|log| log.len() == CALLS + 1));
+    let torrent = three_pieces(&rt, rt.alloc())?;
+    assert!(rt; audit(rt.alloc(), &torrent, 2, Rules::usual(), book.desk.journal()) == Ok(()));
+    Ok(())
+}
