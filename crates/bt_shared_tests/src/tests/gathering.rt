@@ -15,7 +15,7 @@ fn a_lost_pass(rt: HostRuntime) -> Result<(), Fail> {
         held: 1,
         journal: 2,
     };
-    assert!(rt; seated.gather(rt.alloc()).err() == Some(missing));
+    assert!(rt; cause(seated.gather(rt.alloc()))? == Some(missing));
     Ok(())
 }
 
@@ -47,7 +47,7 @@ fn bitfields_of_had_pieces(rt: HostRuntime) -> Result<(), Fail> {
         assert_eq!(rt; seated.call(&rt, 0, Call::Join)?, Reply::Joined);
         assert_eq!(rt; seated.call(&rt, 0, block(2, b"a"))?, Reply::Completed);
         assert_eq!(rt; seated.settle_now(&rt, rt.alloc(), 0, 2)?, Reply::Had);
-        let fault = seated.fault_beside(rt.alloc(), byte)?;
+        let fault = cause(seated.gather_beside(rt.alloc(), byte)?)?;
         assert!(rt; fault == other.map(|piece| GatherFault::BoardDiffers { piece }));
     }
     Ok(())

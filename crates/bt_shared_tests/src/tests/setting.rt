@@ -157,14 +157,14 @@ impl Seated {
         let bits = bits(alloc, byte)?;
         Ok(desk.gather(alloc, passes, Some(&bits)))
     }
+}
 
-    /// Gathers beside such a bitfield. Why not, if so.
-    pub fn fault_beside(self, alloc: Global, byte: u8) -> Result<Option<GatherFault>, Fail> {
-        match self.gather_beside(alloc, byte)? {
-            Ok(_) => Ok(None),
-            Err(GatherFault::NoMemory) => Err(GatherFault::NoMemory)?,
-            Err(fault) => Ok(Some(fault)),
-        }
+/// Why a desk wasn't gathered, if so; want of memory is no answer.
+pub fn cause(gathered: Result<Book, GatherFault>) -> Result<Option<GatherFault>, Fail> {
+    match gathered {
+        Ok(_) => Ok(None),
+        Err(GatherFault::NoMemory) => Err(GatherFault::NoMemory)?,
+        Err(fault) => Ok(Some(fault)),
     }
 }
 
