@@ -33,12 +33,12 @@ module _ {A : Type 0} (n : ℕ) (g f : ℕ → A) where
       ]
 
   -- one more element changes, and those before it stay
-  pub sweep_more : (ys : List A) (i j : ℕ) (change : A → A) → ys ≡ table n (upto i g f) → i ≤ j → ((p : ℕ) → i ≤ p → p < j → g p ≡ f p)
+  sweep_more : (ys : List A) (i j : ℕ) (change : A → A) → ys ≡ table n (upto i g f) → i ≤ j → ((p : ℕ) → i ≤ p → p < j → g p ≡ f p)
       → g j ≡ change (f j) → edit ys j change ≡ table n (upto (j + 1) g f)
   sweep_more ys i j change is le same here = ap (λ (l : List A). edit l j change) (is ∙ skipped i j le same) ∙ changed_at j change here
 
   -- no more changes
-  pub sweep_done : (ys : List A) (i : ℕ) → ys ≡ table n (upto i g f) → ((p : ℕ) → i ≤ p → g p ≡ f p) → ys ≡ table n g
+  sweep_done : (ys : List A) (i : ℕ) → ys ≡ table n (upto i g f) → ((p : ℕ) → i ≤ p → g p ≡ f p) → ys ≡ table n g
   sweep_done ys i is same = is ∙ same_table n (upto i g f) g (λ k lk.
       elim (cases_lt k i) [
         | inl below ↦ upto_below i g f k below
@@ -64,6 +64,32 @@ pub shows_none : (flag : Bool) (row : PieceState) → flag ≡ false → more_av
 shows_none flag row none =
     let same : row.availability + one_if false ≡ row.availability = omega arith in
     ap (λ (b : Bool). more_available b row) none ∙ (λ i. record { had = row.had; wanted = row.wanted; availability = same i; blocks = row.blocks })
+
+-- a step for each piece of a set, that does nothing where the flag isn't set
+module _ (step : Bool → PieceState → PieceState) (nothing : (flag : Bool) (row : PieceState) → flag ≡ false → step flag row ≡ row)
+    (rows : List PieceState) (flags : List Bool) where
+  abbrev pub swept : ℕ → PieceState
+  swept p = step (slice_index_or flags p false) (piece_row rows p)
+
+  -- the next piece of the set is one, and those before it aren't
+  pub swept_more : (now : List PieceState) (i j : ℕ) → now ≡ table (length rows) (upto i swept (piece_row rows)) → i ≤ j
+      → ((p : ℕ) → i ≤ p → p < j → slice_index_or flags p false ≡ false) → slice_index_or flags j false ≡ true
+      → edit now j (step true) ≡ table (length rows) (upto (j + 1) swept (piece_row rows))
+  swept_more now i j is le none here =
+      sweep_more (length rows) swept (piece_row rows) now i j (step true) is le
+      (λ p from below. nothing (slice_index_or flags p false) (piece_row rows p) (none p from below))
+      (ap (λ (b : Bool). step b (piece_row rows j)) here)
+
+  -- no piece from i on is one
+  pub swept_none : (now : List PieceState) (i : ℕ) → now ≡ table (length rows) (upto i swept (piece_row rows))
+      → ((p : ℕ) → i ≤ p → slice_index_or flags p false ≡ false) → now ≡ table (length rows) swept
+  swept_none now i is none =
+      sweep_done (length rows) swept (piece_row rows) now i is (λ p from. nothing (slice_index_or flags p false) (piece_row rows p) (none p from))
+
+  -- the set has no flags from i on
+  pub swept_all : (now : List PieceState) (i : ℕ) → now ≡ table (length rows) (upto i swept (piece_row rows)) → length flags ≤ i
+      → now ≡ table (length rows) swept
+  swept_all now i is past = swept_none now i is (λ p from. get_or_past flags p false (omega (arith, past, from)))
 
 -- a peer that shows other pieces hides its own and shows these
 pub hidden_then_shown : (rows : List PieceState) (before after : List Bool) → shown_rows after (hidden_rows before rows) ≡ recounted rows before after
