@@ -50,7 +50,7 @@ fn join_and_meet<R: Wait + Abort>(
     Ok(())
 }
 
-/// The second brings the last piece, the first finds it to be checked, the second has it checked, and it comes once more.
+/// The second brings the last piece, the first finds a job for it and has it checked, and it comes to the second once more.
 fn bring_a_piece<R: Wait + Abort>(
     rt: &R,
     alloc: Global,
