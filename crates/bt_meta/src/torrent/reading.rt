@@ -2,10 +2,11 @@ ghost use Rattle.std.specs.Prelude.{◌≡◌, ◌<◌, ◌≤◌, ◌/◌, ◌^
 ghost use Rattle.std.specs.Simd.{first_chunks};
 ghost use Rattle.sha1.specs.Sha1.{sha1};
 ghost use Rattle.bt_bencode.specs.Placed.{part};
+ghost use Rattle.bt_bencode.specs.Reading.{seen};
 ghost use Rattle.bt_meta.specs.declared.fault.MetaFault.TheVariants.{NoMemory};
 ghost use Rattle.bt_meta.specs.Layout.{Metainfo};
 ghost use Rattle.bt_meta.specs.Metainfo.{IsMeta, is_path};
-ghost use Rattle.bt_meta.specs.Reading.{Gives, seen, torrent_of_file, info_in};
+ghost use Rattle.bt_meta.specs.Reading.{Gives, torrent_of_file, info_in};
 ghost use Rattle.bt_meta.specs.Counting.{content_in, content_listed, torrent_counted};
 ghost use Rattle.bt_meta.specs.Reading.{file_length_in, path_in, pieces_in, piece_length_in, length_in, value_in, int_in, text_in, items_in};
 

@@ -1,4 +1,4 @@
-use Rattle.std.proofs.Common.{◌≡◌, sym, ◌∙◌}
+use Rattle.std.proofs.Common.{sym, ◌∙◌}
 use Rattle.bt_meta.proofs.Lengths.{several_in}
 use Rattle.bt_meta.proofs.torrent.reading.announced_content.Goals as goal
 

@@ -1,7 +1,7 @@
-use Rattle.std.proofs.Common.{◌≡◌, ◌+◌, length, sym, ap, ◌∙◌, arith, List}
+use Rattle.std.proofs.Common.{length, sym, ap, ◌∙◌, arith, List}
 use Rattle.std.proofs.lemmas.Result.{err_from_is_err_and}
 use Rattle.bt_bencode.specs.Term.{Term}
-use Rattle.bt_meta.proofs.Lengths.{counted, counted_none, counted_cons, counted_fault, counted_all, listed}
+use Rattle.bt_meta.proofs.Lengths.{counted_cons, counted_fault, counted_all, listed}
 use Rattle.bt_meta.proofs.torrent.reading.content_of_files.Goals as goal
 
 pub loop-file-preserved : goal.loop-file-preserved
