@@ -73,7 +73,7 @@ entries_turn value source (suc n) last at h enough digit = let e : suc n - 1 ≡
     rw (key_turn value source n last at h digit, e) refl
 
 -- the first key is above the last one
-abbrev IsAbove : Option (List ℕ) → Entries → Type 0
+abbrev pub IsAbove : Option (List ℕ) → Entries → Type 0
 IsAbove None es = Unit {0}
 IsAbove (Some last) es = comes_before last es ≡ true
 

@@ -2,10 +2,15 @@ pub mod Lists
 pub mod Depths
 pub mod Digits
 pub mod Loops
+pub mod Skips
 pub mod Values
 pub mod Laws
 pub mod Strings
 pub mod Results
 pub mod Takes
 pub mod ValuesTake
+pub mod ValuesSound
+pub mod TreeRead
+pub mod Standing
+pub mod Left
 pub mod Parts

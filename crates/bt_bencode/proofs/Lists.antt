@@ -48,7 +48,7 @@ last_push [] e = refl
 last_push (f ∷ []) e = refl
 last_push (f ∷ g ∷ es) e = last_push (g ∷ es) e
 
-is_above : (b : Bool) → not b ≡ false → b ≡ true
+pub is_above : (b : Bool) → not b ≡ false → b ≡ true
 is_above true h = refl
 is_above false h = cc
 

@@ -1,9 +1,10 @@
 -- Items and entries that are read one after the other, as a loop does.
 use Rattle.std.proofs.Common.{◌≡◌, ℕ, zero, suc, ◌+◌, ◌≤◌, ◌<◌, List, [], ◌∷◌, ◌++◌, length, Option, None, Some, Result, Ok, Err, refl, sym}
-use Rattle.std.proofs.Common.{ap, ◌∙◌, ◌≢◌, arith, get_or, Vec, true, false, cond, eqb}
+use Rattle.std.proofs.Common.{ap, ◌∙◌, ◌≢◌, arith, get_or, Vec, true, false, cond, eqb, Bool, inl, inr}
 use Rattle.std.specs.Char.{is_ascii_digit}
 use Rattle.std.proofs.lemmas.Bool.Decides.{nat_tests}
 use Rattle.bt_bencode.proofs.Lists.{last_push}
+use Rattle.bt_bencode.proofs.Results.{bind_ok, chosen, done, ok_is, never}
 use Rattle.std.proofs.lemmas.List.{drop_more, drop_all}
 use Rattle.std.proofs.lemmas.Bool.{ne_eqb}
 use Rattle.std.specs.Global.{Global}
@@ -12,7 +13,7 @@ use Rattle.bt_bencode.specs.declared.fault.BenFault.TheVariants.{Truncated, BadI
 use Rattle.bt_bencode.specs.declared.fault.BenFault.TheVariants.{Trailing, BadByte, NoMemory}
 use Rattle.bt_bencode.specs.Term.{Term, Terms, Entries, no_terms, more_terms, no_entries, more_entries}
 use Rattle.bt_bencode.specs.View.{terms_from, entries_from, last_key}
-use Rattle.bt_bencode.specs.Reading.{◌>>=◌, Fails, items_at, entries_at, string_at, is_late, no_key}
+use Rattle.bt_bencode.specs.Reading.{◌>>=◌, Fails, items_at, entries_at, string_at, is_late, no_key, key_at}
 
 -- terms, and others behind them
 abbrev pub onto : List Term → Terms → Terms
@@ -187,52 +188,72 @@ key_turn value source n last place h digit =
     let c : eqb (get_or source place 0) 101 ≡ false = ne_eqb (get_or source place 0) 101 (λ is. not_e (get_or source place 0) is digit) in
     rw (drop_more source place 0 h, c, digit) refl
 
-pub entries_no_key : (value : ℕ → Result (Term × ℕ) BenFault) (source : List ℕ) (front : List (Vec ℕ Global × Term)) (place : ℕ)
-    (whole : Result (Entries × ℕ) BenFault) → place < length source → get_or source place 0 ≢ 101 →
-    is_ascii_digit (get_or source place 0) ≡ false → entries_left value source front place whole →
-    whole ≡ Err (no_key (get_or source place 0))
-unfolding entries_at
-entries_no_key value source front place whole h c digit (zero, enough, left) = absurd (omega arith)
-entries_no_key value source front place whole h c digit (suc n, enough, left) =
-    let one : with_front_entries front (entries_at value source (suc n) (last_key front) place) ≡ Err (no_key (get_or source place 0)) =
-    rw (drop_more source place 0 h, ne_eqb (get_or source place 0) 101 c, digit) refl in
-    sym left ∙ one
+key_then : (digit : Bool) (late : List ℕ → Bool) (s : Result (List ℕ × ℕ) BenFault) (fault : BenFault)
+    (f : List ℕ × ℕ → Result (Entries × ℕ) BenFault) →
+    cond digit (s >>= λ k. cond (late k.0) (Err KeyOrder) (f k)) (Err fault)
+    ≡ (cond digit (s >>= λ k. cond (late k.0) (Err KeyOrder) (Ok k)) (Err fault) >>= f)
+key_then false late s fault f = refl
+key_then true late (Err e) fault f = refl
+key_then true late (Ok k) fault f = on_time (late k.0)
+  where
+    on_time : (b : Bool) → cond b (Err KeyOrder) (f k) ≡ (cond b (Err KeyOrder) (Ok k) >>= f)
+    on_time true = refl
+    on_time false = refl
+
+-- an entry, and those behind it
+pub entry_turn : (value : ℕ → Result (Term × ℕ) BenFault) (source : List ℕ) (n : ℕ) (last : Option (List ℕ)) (place : ℕ) →
+    place < length source → get_or source place 0 ≢ 101 →
+    entries_at value source (suc n) last place
+    ≡ (key_at source last place >>= λ k. value k.1 >>= λ t. entries_at value source n (Some k.0) t.1 >>= λ es.
+    Ok (more_entries k.0 t.0 es.0, es.1))
+unfolding entries_at key_at
+entry_turn value source n last place h c = rw (drop_more source place 0 h, ne_eqb (get_or source place 0) 101 c)
+    (key_then (is_ascii_digit (get_or source place 0)) (is_late last) (string_at source place) (no_key (get_or source place 0))
+    (λ k. value k.1 >>= λ t. entries_at value source n (Some k.0) t.1 >>= λ es. Ok (more_entries k.0 t.0 es.0, es.1)))
+
+-- a key that is read is a string, and above the last one
+pub key_is : (source : List ℕ) (last : Option (List ℕ)) (place : ℕ) (key : List ℕ) (end : ℕ) →
+    key_at source last place ≡ Ok (key, end) → (string_at source place ≡ Ok (key, end)) × (is_late last key ≡ false)
+unfolding key_at
+key_is source last place key end is =
+    elim (chosen (is_ascii_digit (get_or source place 0)) _ _ _ is) [
+      | inr bad ↦ absurd (never (no_key (get_or source place 0)) _ bad.1)
+      | inl digit ↦
+          let k = bind_ok (string_at source place) (λ k. cond (is_late last k.0) (Err KeyOrder) (Ok k)) (key, end) digit.1 in
+          elim (chosen (is_late last k.0.0) _ _ _ k.2) [
+            | inl late ↦ absurd (never KeyOrder _ late.1)
+            | inr good ↦
+                let e = ok_is k.0 (key, end) good.1 in
+                let name : k.0.0 ≡ key = ap (λ (x : List ℕ × ℕ). x.0) e in
+                (k.1 ∙ ap (λ (x : List ℕ × ℕ). done x) e, rw (← name) good.0)
+          ]
+    ]
 
 pub entries_bad_key : (e : BenFault) (value : ℕ → Result (Term × ℕ) BenFault) (source : List ℕ) (front : List (Vec ℕ Global × Term))
-    (place : ℕ) (whole : Result (Entries × ℕ) BenFault) → place < length source → is_ascii_digit (get_or source place 0) ≡ true →
-    Fails e (string_at source place) → entries_left value source front place whole → Fails e whole
-entries_bad_key e value source front place whole h digit failed (zero, enough, left) = absurd (omega arith)
-entries_bad_key e value source front place whole h digit failed (suc n, enough, left) =
-    fails_then e (string_at source place) whole (λ is. sym left ∙ rw (key_turn value source n (last_key front) place h digit, is) refl)
-    failed
-
-pub entries_late : (value : ℕ → Result (Term × ℕ) BenFault) (source : List ℕ) (front : List (Vec ℕ Global × Term)) (place : ℕ)
-    (whole : Result (Entries × ℕ) BenFault) (key : List ℕ) (end : ℕ) → place < length source →
-    is_ascii_digit (get_or source place 0) ≡ true → string_at source place ≡ Ok (key, end) → is_late (last_key front) key ≡ true →
-    entries_left value source front place whole → whole ≡ Err KeyOrder
-entries_late value source front place whole key end h digit is late (zero, enough, left) = absurd (omega arith)
-entries_late value source front place whole key end h digit is late (suc n, enough, left) =
-    sym left ∙ rw (key_turn value source n (last_key front) place h digit, is, late) refl
+    (place : ℕ) (whole : Result (Entries × ℕ) BenFault) → place < length source → get_or source place 0 ≢ 101 →
+    key_at source (last_key front) place ≡ Err e → entries_left value source front place whole → whole ≡ Err e
+entries_bad_key e value source front place whole h c is (zero, enough, left) = absurd (omega arith)
+entries_bad_key e value source front place whole h c is (suc n, enough, left) =
+    sym left ∙ rw (entry_turn value source n (last_key front) place h c, is) refl
 
 pub entries_fail : (e : BenFault) (value : ℕ → Result (Term × ℕ) BenFault) (source : List ℕ) (front : List (Vec ℕ Global × Term))
     (place : ℕ) (whole : Result (Entries × ℕ) BenFault) (key : List ℕ) (end : ℕ) → place < length source →
-    is_ascii_digit (get_or source place 0) ≡ true → string_at source place ≡ Ok (key, end) → is_late (last_key front) key ≡ false →
+    get_or source place 0 ≢ 101 → key_at source (last_key front) place ≡ Ok (key, end) →
     Fails e (value end) → entries_left value source front place whole → Fails e whole
-entries_fail e value source front place whole key end h digit is on_time failed (zero, enough, left) = absurd (omega arith)
-entries_fail e value source front place whole key end h digit is on_time failed (suc n, enough, left) =
-    fails_then e (value end) whole (λ bad. sym left ∙ rw (key_turn value source n (last_key front) place h digit, is, on_time, bad) refl)
-    failed
+entries_fail e value source front place whole key end h c is failed (zero, enough, left) = absurd (omega arith)
+entries_fail e value source front place whole key end h c is failed (suc n, enough, left) =
+    fails_then e (value end) whole (λ bad. sym left ∙ rw (entry_turn value source n (last_key front) place h c, is, bad) refl) failed
 
 pub entries_more : (value : ℕ → Result (Term × ℕ) BenFault) (source : List ℕ) (front : List (Vec ℕ Global × Term)) (place : ℕ)
     (whole : Result (Entries × ℕ) BenFault) (x : Vec ℕ Global × Term) (middle end : ℕ) → place < length source →
-    is_ascii_digit (get_or source place 0) ≡ true → string_at source place ≡ Ok (x.0.items, middle) →
-    is_late (last_key front) x.0.items ≡ false → value middle ≡ Ok (x.1, end) → place < end → entries_left value source front place whole →
+    get_or source place 0 ≢ 101 → key_at source (last_key front) place ≡ Ok (x.0.items, middle) →
+    value middle ≡ Ok (x.1, end) → place < end → entries_left value source front place whole →
     entries_left value source (front ++ x ∷ []) end whole
-entries_more value source front place whole x middle end h digit is on_time good further (zero, enough, left) = absurd (omega arith)
-entries_more value source front place whole x middle end h digit is on_time good further (suc n, enough, left) =
+entries_more value source front place whole x middle end h c is good further (zero, enough, left) = absurd (omega arith)
+entries_more value source front place whole x middle end h c is good further (suc n, enough, left) =
     let one : with_front_entries front (entries_at value source (suc n) (last_key front) place)
     ≡ with_front_entries front (entries_at value source n (Some x.0.items) end >>= λ es. Ok (more_entries x.0.items x.1 es.0, es.1)) =
-    rw (key_turn value source n (last_key front) place h digit, is, on_time, good) refl in (
+    rw (entry_turn value source n (last_key front) place h c, is, good) refl in (
       n,
       omega arith,
       rw (last_push front x)

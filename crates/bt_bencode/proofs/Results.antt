@@ -1,5 +1,5 @@
 -- Results and tests, by their cases.
-use Rattle.std.proofs.Common.{◌≡◌, Result, Ok, Err, refl, cond, true, false, Bool, inl, inr, ◌⊎◌}
+use Rattle.std.proofs.Common.{◌≡◌, Result, Ok, Err, refl, ap, cond, true, false, Bool, inl, inr, ◌⊎◌}
 use Rattle.bt_bencode.specs.Reading.{◌>>=◌}
 
 -- what went before a step that was taken
@@ -24,3 +24,9 @@ failed fault = Err fault
 
 pub never : {A E : Type 0} (fault : E) (x : A) → failed fault ≡ Ok x → ⊥
 never fault x h = absurd cc
+
+-- two pairs that are given alike
+pub same_pair : {A B E : Type 0} (x y : A) (m n : B) → done {A = A × B} {E = E} (x, m) ≡ done (y, n) → (x ≡ y) × (m ≡ n)
+same_pair {A = A} {B = B} {E = E} x y m n h =
+    let p = ok_is {A = A × B} {E = E} (x, m) (y, n) h in
+    (ap (λ (z : A × B). z.0) p, ap (λ (z : A × B). z.1) p)

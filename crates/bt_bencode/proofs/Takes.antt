@@ -175,7 +175,7 @@ integer_is false run n digits is =
       ]
     ]
 
-end_takes : (source : List ℕ) (e : ℕ) (negative : Bool) (run xs : List ℕ) (n : ℤ) (end : ℕ) → drop e source ≡ xs →
+pub end_takes : (source : List ℕ) (e : ℕ) (negative : Bool) (run xs : List ℕ) (n : ℤ) (end : ℕ) → drop e source ≡ xs →
     integer_behind e negative run xs ≡ Ok (n, end) → (integer_of negative run ≡ Ok n) × Takes source e (101 ∷ []) end
 end_takes source e negative run [] n end h is = absurd (never Truncated _ is)
 end_takes source e negative run (c ∷ cs) n end h is =

@@ -1,24 +1,14 @@
 -- What stands at a place, whatever the room.
-use Rattle.std.proofs.Common.{◌≡◌, ℕ, zero, suc, ◌+◌, ◌-◌, ◌≤◌, ◌<◌, List, ◌∷◌, length, get_or, drop, None, Result, Ok, Err}
+use Rattle.std.proofs.Common.{◌≡◌, ℕ, zero, suc, ◌+◌, ◌-◌, ◌≤◌, ◌<◌, List, ◌∷◌, length, get_or, drop, None, Ok, Err}
 use Rattle.std.proofs.Common.{refl, arith, eqb, true, false, ◌≢◌}
 use Rattle.std.specs.Char.{is_ascii_digit}
 use Rattle.std.proofs.lemmas.Bool.{ne_eqb}
 use Rattle.std.proofs.lemmas.Bool.Decides.{nat_tests}
 use Rattle.std.proofs.lemmas.List.{drop_more, drop_all}
-use Rattle.bt_bencode.specs.declared.fault.BenFault.{BenFault}
 use Rattle.bt_bencode.specs.declared.fault.BenFault.TheVariants.{Truncated, TooDeep, BadByte}
-use Rattle.bt_bencode.specs.Term.{Terms, Entries, text}
-use Rattle.bt_bencode.specs.Reading.{◌>>=◌, string_at, value_at, value_behind, items_at, entries_at}
+use Rattle.bt_bencode.specs.Term.{text}
+use Rattle.bt_bencode.specs.Reading.{◌>>=◌, string_at, value_at, value_behind, items_at, entries_at, items_in, entries_in}
 use Rattle.bt_bencode.specs.Placed.{span}
-
--- the items of a list, or the entries of a dictionary, in a value with this room
-unfoldable pub items_in : ℕ → List ℕ → ℕ → Result (Terms × ℕ) BenFault
-items_in zero source at = Err TooDeep
-items_in (suc room) source at = items_at (value_at room source) source (length source) at
-
-unfoldable pub entries_in : ℕ → List ℕ → ℕ → Result (Entries × ℕ) BenFault
-entries_in zero source at = Err TooDeep
-entries_in (suc room) source at = entries_at (value_at room source) source (length source) None at
 
 value_is : (room : ℕ) (source : List ℕ) (at : ℕ) →
     value_at room source at ≡ value_behind (items_in room source) (entries_in room source) source at (drop at source)

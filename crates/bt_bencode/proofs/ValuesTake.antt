@@ -53,14 +53,14 @@ item_takes source value more v m at (c ∷ cs) ts end h is =
           (rw (append_assoc (spelling a.0.0) (spelling_of_terms b.0.0) (101 ∷ [])) both, p)
     ]
 
-items_take : (source : List ℕ) (value : ℕ → Result (Term × ℕ) BenFault) → ValuesTake source value → (turns : ℕ) →
+pub items_take : (source : List ℕ) (value : ℕ → Result (Term × ℕ) BenFault) → ValuesTake source value → (turns : ℕ) →
     ItemsTake source (items_at value source turns)
 unfolding items_at
 items_take source value v zero at ts end is = absurd (never Truncated _ is)
 items_take source value v (suc n) at ts end is =
     item_takes source value (items_at value source n) v (items_take source value v n) at (drop at source) ts end refl is
 
-some_run : (c : ℕ) (cs : List ℕ) → is_ascii_digit c ≡ true → 0 < length (take_while is_ascii_digit (c ∷ cs))
+pub some_run : (c : ℕ) (cs : List ℕ) → is_ascii_digit c ≡ true → 0 < length (take_while is_ascii_digit (c ∷ cs))
 some_run c cs digit = rw (take_while-cons is_ascii_digit c cs, digit) (omega arith)
 
 entry_takes : (source : List ℕ) (value : ℕ → Result (Term × ℕ) BenFault) (more : List ℕ → ℕ → Result (Entries × ℕ) BenFault) →

@@ -6,3 +6,4 @@ pub mod Reading
 pub mod View
 pub mod Falls
 pub mod Code
+pub mod Standing

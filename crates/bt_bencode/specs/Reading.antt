@@ -30,6 +30,16 @@ abbrev pub Gives : {X Y : Type 0} → (X → Y) → Result X BenFault → Result
 Gives view (Ok x) reading = reading ≡ Ok (view x)
 Gives view (Err fault) reading = Fails fault reading
 
+-- a result with its value seen by view
+abbrev pub seen : {X Y E : Type 0} → (X → Y) → Result X E → Result Y E
+seen view (Ok x) = Ok (view x)
+seen view (Err fault) = Err fault
+
+-- the place behind what is read
+abbrev pub end_of : {A : Type 0} → Result (A × ℕ) BenFault → Result ℕ BenFault
+end_of (Ok x) = Ok x.1
+end_of (Err fault) = Err fault
+
 -- the longest run of digits at a place
 abbrev pub run_at : List ℕ → ℕ → List ℕ
 run_at source at = take_while is_ascii_digit (drop at source)
@@ -102,6 +112,12 @@ is_late (Some last) key = not (is_lt (slice_cmp nat_cmp last key))
 abbrev pub no_key : ℕ → BenFault
 no_key c = if c == letter_i || c == letter_l || c == letter_d then KeyKind else BadByte
 
+-- the key at a place, behind the last one
+unfoldable pub key_at : List ℕ → Option (List ℕ) → ℕ → Result (List ℕ × ℕ) BenFault
+key_at source last at =
+    if is_ascii_digit (slice_index source at) then (string_at source at >>= λ k. if is_late last k.0 then Err KeyOrder else Ok k)
+    else Err (no_key (slice_index source at))
+
 -- entries, by what reads one value and what reads the entries behind a key and its value
 abbrev pub entries_behind : (ℕ → Result (Term × ℕ) BenFault) → (List ℕ → ℕ → Result (Entries × ℕ) BenFault) → List ℕ → Option (List ℕ) → ℕ →
     List ℕ → Result (Entries × ℕ) BenFault
@@ -137,6 +153,15 @@ value_at (suc room) source at =
     let items = items_at (value_at room source) source (length source) in
     let entries = entries_at (value_at room source) source (length source) None in
     value_behind items entries source at (drop at source)
+
+-- the items of a list, or the entries of a dictionary, in a value with this room
+unfoldable pub items_in : ℕ → List ℕ → ℕ → Result (Terms × ℕ) BenFault
+items_in zero source at = Err TooDeep
+items_in (suc room) source at = items_at (value_at room source) source (length source) at
+
+unfoldable pub entries_in : ℕ → List ℕ → ℕ → Result (Entries × ℕ) BenFault
+entries_in zero source at = Err TooDeep
+entries_in (suc room) source at = entries_at (value_at room source) source (length source) None at
 
 -- the value that all of the bytes are
 unfoldable pub tree_of : List ℕ → Result Term BenFault

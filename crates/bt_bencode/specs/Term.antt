@@ -1,4 +1,4 @@
--- A bencoded value (BEP 3) as contracts see a `Tree`: one of BEP 3's four kinds, with the place of each part in the source.
+-- A bencoded value (BEP 3) as contracts see a `Tree` and a `Value`: one of BEP 3's four kinds, with the place of each part in the source.
 use Rattle.std.specs.Prelude.{ℕ, suc, max, ℤ, List, [], ◌∷◌, Option, Some, None, if◌then◌else◌}
 use Rattle.std.specs.Str.{bytes_eq}
 use Rattle.bt_bencode.specs.declared.span.Span.{Span}

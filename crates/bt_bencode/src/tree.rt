@@ -17,7 +17,7 @@ use std::marker::Model;
 pub use writing::write;
 
 /// How many lists and dictionaries may stand inside one another, the outermost counted.
-const MAX_DEPTH: u8 = 64;
+pub(crate) const MAX_DEPTH: u8 = 64;
 
 /// A bencoded value, with all that stands in it. However it was made, its keys are in sorted order, none twice, and it is
 /// no deeper than 64 levels of lists and dictionaries. Contracts see it as a `Term`.

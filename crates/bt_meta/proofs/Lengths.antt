@@ -1,15 +1,18 @@
 -- The lengths of files that are added one after the other, as a loop does.
-use Rattle.std.proofs.Common.{◌≡◌, ℕ, ◌+◌, ◌-◌, ◌^◌, ◌<◌, ◌≤◌, min, List, ◌∷◌, length, get_or, drop, Result, Ok, Err, refl}
+use Rattle.std.proofs.Common.{◌≡◌, ℕ, ◌+◌, ◌-◌, ◌^◌, ◌<◌, min, List, [], ◌∷◌, length, Result, Ok, Err, Some, None, refl, sym}
 use Rattle.std.proofs.Common.{ap, arith}
 use Rattle.std.specs.Prelude.{sum}
-use Rattle.std.proofs.lemmas.List.{drop_more, drop_all}
 use Rattle.std.proofs.lemmas.List.Sums.{sum_by-cons}
-use Rattle.bt_bencode.specs.Term.{Term}
+use Rattle.std.specs.Option.{ok_or}
+use Rattle.bt_bencode.specs.Term.{Term, get, items_of}
 use Rattle.bt_bencode.specs.Reading.{◌>>=◌}
 use Rattle.bt_meta.specs.declared.fault.MetaFault.{MetaFault}
+use Rattle.bt_meta.specs.declared.fault.MetaFault.TheVariants.{WrongKind}
+use Rattle.bt_meta.specs.declared.key.Key.TheVariants as key
+use Rattle.bt_meta.specs.Keys.{key_name}
 use Rattle.bt_meta.specs.declared.torrent.reading.Content.{Content}
-use Rattle.bt_meta.specs.Reading.{file_length_in, file_lengths_in}
-use Rattle.bt_meta.specs.Counting.{content_of, content_of_files}
+use Rattle.bt_meta.specs.Reading.{file_length_in, file_lengths_in, lengths_in}
+use Rattle.bt_meta.specs.Counting.{content_of, content_of_files, content_in, content_listed}
 
 abbrev counts : Content → Result Content MetaFault
 counts content = Ok content
@@ -51,26 +54,38 @@ with_one : (total files n : ℕ) (rest : Result (List ℕ) MetaFault) →
 with_one total files n (Ok lengths) = ap (λ (c : Content). counts c) (add_one total files n lengths)
 with_one total files n (Err fault) = refl
 
-counted_cons : (total files n : ℕ) (t : Term) (ts : List Term) → file_length_in t ≡ Ok n →
+pub counted_cons : (total files n : ℕ) (t : Term) (ts : List Term) → file_length_in t ≡ Ok n →
     counted total files (t ∷ ts) ≡ counted (min (total + n) (2 ^ 64 - 1)) (files + 1) ts
 unfolding file_lengths_in
 counted_cons total files n t ts is = rw is (with_one total files n (file_lengths_in ts))
 
-pub counted_more : (all : List Term) (i total n : ℕ) (t : Term) → i < length all → t ≡ get_or all i t → file_length_in t ≡ Ok n →
-    counted total i (drop i all) ≡ counted (min (total + n) (2 ^ 64 - 1)) (i + 1) (drop (i + 1) all)
-counted_more all i total n t h at is =
-    rw (drop_more all i t h, ← at) (counted_cons total i n t (drop (i + 1) all) is)
-
 -- a file that isn't one
-pub counted_fault : (all : List Term) (i total : ℕ) (t : Term) (fault : MetaFault) → i < length all → t ≡ get_or all i t →
-    file_length_in t ≡ Err fault → counted total i (drop i all) ≡ Err fault
+pub counted_fault : (total files : ℕ) (t : Term) (ts : List Term) (fault : MetaFault) → file_length_in t ≡ Err fault →
+    counted total files (t ∷ ts) ≡ Err fault
 unfolding file_lengths_in
-counted_fault all i total t fault h at is = rw (drop_more all i t h, ← at, is) refl
+counted_fault total files t ts fault is = rw is refl
 
-pub counted_all : (all : List Term) (i total : ℕ) → length all ≤ i → total < 2 ^ 64 →
-    counted total i (drop i all) ≡ Ok (record { total = total; files = i })
+pub counted_all : (total files : ℕ) → total < 2 ^ 64 → counted total files [] ≡ Ok (record { total = total; files = files })
 unfolding file_lengths_in
-counted_all all i total h small =
+counted_all total files small =
     let t : min (total + 0) (2 ^ 64 - 1) ≡ total = omega arith in
-    let f : i + 0 ≡ i = omega arith in
-    rw (drop_all i all h, t, f) refl
+    let f : files + 0 ≡ files = omega arith in
+    rw (t, f) refl
+
+-- ---- the files of a list
+
+pub listed : (files : Term) (items : List Term) → ok_or (items_of files) (WrongKind key.Files) ≡ Ok items →
+    content_listed files ≡ content_of_files items
+unfolding content_listed
+listed files items is = rw is refl
+
+in_turn : (items : Result (List Term) MetaFault) →
+    (items >>= λ files. content_of_files files) ≡ ((items >>= λ files. file_lengths_in files) >>= λ lengths. Ok (content_of lengths))
+in_turn (Ok files) = refl
+in_turn (Err fault) = refl
+
+-- an info dictionary with several files
+pub several_in : (info files : Term) → get info (key_name key.Length) ≡ None → get info (key_name key.Files) ≡ Some files →
+    content_in info ≡ content_listed files
+unfolding content_in lengths_in content_listed
+several_in info files no_length is = rw (no_length, is) (sym (in_turn (ok_or (items_of files) (WrongKind key.Files))))

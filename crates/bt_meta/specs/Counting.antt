@@ -1,8 +1,10 @@
 -- The content of a torrent as it is counted while its file is read: up to 2^64 - 1 bytes. No public clause cites this module.
 use Rattle.std.specs.Prelude.{ℕ, ◌-◌, ◌^◌, ◌/◌, min, sum, List, length, Result, Ok}
-use Rattle.bt_bencode.specs.Term.{Term}
+use Rattle.std.specs.Option.{ok_or}
+use Rattle.bt_bencode.specs.Term.{Term, items_of}
 use Rattle.bt_bencode.specs.Reading.{◌>>=◌}
 use Rattle.bt_meta.specs.declared.fault.MetaFault.{MetaFault}
+use Rattle.bt_meta.specs.declared.fault.MetaFault.TheVariants.{WrongKind}
 use Rattle.bt_meta.specs.declared.key.Key.TheVariants as key
 use Rattle.bt_meta.specs.declared.torrent.reading.Content.{Content}
 use Rattle.bt_meta.specs.Layout.{Metainfo, sizes_checked}
@@ -14,6 +16,10 @@ content_of lengths = record { total = min (sum lengths) (2 ^ 64 - 1); files = le
 
 abbrev pub content_of_files : List Term → Result Content MetaFault
 content_of_files files = file_lengths_in files >>= λ lengths. Ok (content_of lengths)
+
+-- the content of the files of a list
+unfoldable pub content_listed : Term → Result Content MetaFault
+content_listed files = ok_or (items_of files) (WrongKind key.Files) >>= λ items. content_of_files items
 
 unfoldable pub content_in : Term → Result Content MetaFault
 content_in info = lengths_in info >>= λ lengths. Ok (content_of lengths)

@@ -28,11 +28,6 @@ abbrev pub Gives : {X Y : Type 0} → (X → Y) → Result X MetaFault → Resul
 Gives view (Ok x) reading = reading ≡ Ok (view x)
 Gives view (Err fault) reading = Fails fault reading
 
--- a result with its value seen by view
-abbrev pub seen : {X Y E : Type 0} → (X → Y) → Result X E → Result Y E
-seen view (Ok x) = Ok (view x)
-seen view (Err fault) = Err fault
-
 -- the value at a key
 unfoldable pub value_in : Term → Key → Result Term MetaFault
 value_in t key = ok_or (get t (key_name key)) (Missing key)

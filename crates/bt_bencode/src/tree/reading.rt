@@ -1,15 +1,13 @@
-ghost use Rattle.std.specs.Prelude.{◌≡◌, ℕ, List, ◌+◌, ◌<◌, ◌≤◌, ◌^◌, length, Ok, Some, None, nat_lt, if◌then◌else◌, All, IsTrue, IfOk};
-ghost use Rattle.std.specs.Char.{is_ascii_digit};
-ghost use Rattle.std.specs.Str.Parse.{digits_value};
+ghost use Rattle.std.specs.Prelude.{◌≡◌, ℕ, List, ◌<◌, ◌≤◌, length, Ok, Some, None, IsTrue, IfOk, option_map};
 ghost use Rattle.bt_bencode.specs.Term.{Term, span_of, get, depth, depth_of_terms, depth_of_entries};
-ghost use Rattle.bt_bencode.specs.Grammar.{Spells, IsTree, IsSound, AreSound, EntriesAreSound, spelling, keys_rise};
+ghost use Rattle.bt_bencode.specs.Grammar.{Spells, IsSound, AreSound, EntriesAreSound, spelling, keys_rise};
 ghost use Rattle.bt_bencode.specs.Placed.{placed, StandsAt};
 ghost use Rattle.bt_bencode.specs.View.{terms_from, entries_from, last_key};
 ghost use Rattle.bt_bencode.specs.Reading.{Gives, tree_of, value_at, items_at, entries_at};
-ghost use Rattle.bt_bencode.specs.Reading.{is_late, no_key, run_at, is_padded, string_at, integer_at, signed_of};
 
 use super::{MAX_DEPTH, Node, Tree};
 use crate::fault::BenFault;
+use crate::scalar::{integer, key, string};
 use crate::span::Span;
 use std::alloc::Global;
 
@@ -35,8 +33,7 @@ pub fn parse(alloc: Global, source: &[u8]) -> Result<Tree, BenFault>
 /// The tree that is read from all of the bytes.
 #[tactic(auto, unfolding(crate::specs::Reading::tree_of))]
 fn whole(alloc: Global, source: &[u8]) -> Result<Tree, BenFault>
-    ensures read { Gives (λ t. t) result (tree_of source.now) }
-    ensures is_tree { IfOk result IsTree }
+    ensures { Gives (λ t. t) result (tree_of source.now) }
 {
     let (tree, end) = value(alloc, source, 0, MAX_DEPTH)?;
     if end < source.len() {
@@ -150,13 +147,7 @@ fn dict_entries(alloc: Global, source: &[u8], at: usize, room: u8) -> Result<Rea
                 end,
             });
         }
-        if !source[place].is_ascii_digit() {
-            return Err(no_key(source[place]));
-        }
-        let (key, end) = string(source, place)?;
-        if is_late(&entries, key) {
-            return Err(BenFault::KeyOrder);
-        }
+        let (key, end) = key(source, place, last_key(&entries))?;
         let (value, end) = value(alloc, source, end, room)?;
         levels = value.levels.max(levels);
         entries.push((Vec::from_slice(alloc, key)?, value))?;
@@ -165,133 +156,14 @@ fn dict_entries(alloc: Global, source: &[u8], at: usize, room: u8) -> Result<Rea
     Err(BenFault::Truncated)
 }
 
-/// Why no key begins with this byte.
-fn no_key(byte: u8) -> BenFault
-    ensures { result ≡ no_key byte }
-{
-    match byte {
-        b'i' | b'l' | b'd' => BenFault::KeyKind,
-        _ => BenFault::BadByte,
-    }
-}
-
-/// Whether a key should have come earlier: it is no greater than the last one.
-fn is_late(entries: &[(Vec<u8>, Tree)], key: &[u8]) -> bool
-    ensures { result ≡ is_late (last_key entries.now) key.now }
+/// The key of the last entry.
+fn last_key(entries: &[(Vec<u8>, Tree)]) -> Option<&[u8]>
+    ensures { option_map (λ x. x.now) result ≡ last_key entries.now }
 {
     let count = entries.len();
     if count == 0 {
-        return false;
-    }
-    let last = &entries[count - 1];
-    !last.0.as_slice().cmp(key).is_lt()
-}
-
-/// The integer behind an `i`, and the place behind it.
-#[tactic(auto, unfolding(crate::specs::Reading::integer_at))]
-fn integer(source: &[u8], at: usize) -> Result<(i64, usize), BenFault>
-    requires { at ≤ length source.now }
-    ensures read { Gives (λ x. x) result (integer_at source.now at) }
-    ensures end { IfOk result (λ x. (at < x.1) × (x.1 ≤ length source.now)) }
-{
-    let negative = at < source.len() && source[at] == b'-';
-    let start = if negative { at + 1 } else { at };
-    let run = digits(source, start);
-    let end = start + run.len();
-    if end == source.len() {
-        return Err(BenFault::Truncated);
-    }
-    if source[end] != b'e' {
-        return Err(BenFault::BadInteger);
-    }
-    if run.is_empty() || padded(run) || (negative && run[0] == b'0') {
-        return Err(BenFault::BadInteger);
-    }
-    let Some(number) = number(run) else {
-        return Err(BenFault::IntegerRange);
-    };
-    match signed(negative, number) {
-        Some(number) => Ok((number, end + 1)),
-        None => Err(BenFault::IntegerRange),
-    }
-}
-
-/// The number with its sign, where an i64 holds it.
-fn signed(negative: bool, number: u64) -> Option<i64>
-    ensures { result ≡ (if nat_lt number (if negative then 2 ^ 63 + 1 else 2 ^ 63) then Some (signed_of negative number) else None) }
-{
-    if negative {
-        if number == 1 << 63 {
-            return Some(i64::MIN);
-        }
-        if number > 1 << 63 {
-            return None;
-        }
-        return Some(-(number as i64));
-    }
-    if number >= 1 << 63 {
         return None;
     }
-    Some(number as i64)
-}
-
-/// The string at whose place a digit stands, and the place behind it.
-#[tactic(auto, unfolding(crate::specs::Reading::string_at))]
-fn string(source: &[u8], at: usize) -> Result<(&[u8], usize), BenFault>
-    requires { at ≤ length source.now }
-    ensures read { Gives (λ x. (x.0.now, x.1)) result (string_at source.now at) }
-    ensures end { IfOk result (λ x. (at < x.1) × (x.1 ≤ length source.now)) }
-{
-    let run = digits(source, at);
-    let end = at + run.len();
-    if end == source.len() {
-        return Err(BenFault::Truncated);
-    }
-    if source[end] != b':' || padded(run) {
-        return Err(BenFault::BadLength);
-    }
-    let start = end + 1;
-    match number(run) {
-        Some(len) if len <= (source.len() - start) as u64 => {
-            let len = len as usize;
-            Ok((&source[start..start + len], start + len))
-        }
-        _ => Err(BenFault::Truncated),
-    }
-}
-
-/// The longest run of digits at a place.
-fn digits(source: &[u8], at: usize) -> &[u8]
-    requires { at ≤ length source.now }
-    ensures run { result.now ≡ run_at source.now at }
-    ensures within { at + length result.now ≤ length source.now }
-{
-    let mut end = at;
-    while end < source.len() && source[end].is_ascii_digit() {
-        end += 1;
-    }
-    &source[at..end]
-}
-
-/// Whether a zero stands before another digit.
-fn padded(run: &[u8]) -> bool
-    ensures { result ≡ is_padded run.now }
-{
-    run.len() > 1 && run[0] == b'0'
-}
-
-/// The number that digits write, where 64 bits hold it.
-fn number(run: &[u8]) -> Option<u64>
-    requires { All (λ c. IsTrue (is_ascii_digit c)) run.now }
-    ensures { result ≡ (if nat_lt (digits_value 10 run.now) (2 ^ 64) then Some (digits_value 10 run.now) else None) }
-{
-    let mut number: u64 = 0;
-    for digit in run {
-        let value = (*digit - b'0') as u64;
-        if number > (u64::MAX - value) / 10 {
-            return None;
-        }
-        number = number * 10 + value;
-    }
-    Some(number)
+    let last = &entries[count - 1];
+    Some(last.0.as_slice())
 }

@@ -2,17 +2,18 @@ ghost use Rattle.std.specs.Prelude.{◌≡◌, ◌<◌, ◌≤◌, ◌/◌, ◌^
 ghost use Rattle.std.specs.Simd.{first_chunks};
 ghost use Rattle.sha1.specs.Sha1.{sha1};
 ghost use Rattle.bt_bencode.specs.Placed.{part};
+ghost use Rattle.bt_bencode.specs.Reading.{seen};
 ghost use Rattle.bt_meta.specs.declared.fault.MetaFault.TheVariants.{NoMemory};
 ghost use Rattle.bt_meta.specs.Layout.{Metainfo};
 ghost use Rattle.bt_meta.specs.Metainfo.{IsMeta, is_path};
-ghost use Rattle.bt_meta.specs.Reading.{Gives, seen, torrent_of_file, info_in};
-ghost use Rattle.bt_meta.specs.Counting.{content_in, content_of_files, torrent_counted};
+ghost use Rattle.bt_meta.specs.Reading.{Gives, torrent_of_file, info_in};
+ghost use Rattle.bt_meta.specs.Counting.{content_in, content_listed, torrent_counted};
 ghost use Rattle.bt_meta.specs.Reading.{file_length_in, path_in, pieces_in, piece_length_in, length_in, value_in, int_in, text_in, items_in};
 
 use super::{Torrent, check_sizes};
 use crate::fault::MetaFault;
 use crate::key::Key;
-use bt_bencode::{Span, Tree, parse};
+use bt_bencode::{Items, Span, Value};
 use sha1::Sha1;
 use std::alloc::{AllocError, Global};
 
@@ -50,9 +51,9 @@ fn torrent_of_file(alloc: Global, source: &[u8]) -> Result<Torrent, MetaFault>
     ensures read { Gives (λ t. t) result (torrent_of_file source.now) }
     ensures found { IfOk result (λ t. IsMeta source.now t) }
 {
-    let tree = parse(alloc, source)?;
-    let info = info(&tree)?;
-    described(alloc, info, digest_at(source, info.span()))
+    let file = Value::of(source)?;
+    let info = info(&file)?;
+    described(alloc, &info, digest_at(source, info.span()))
 }
 
 /// The SHA-1 of a part of the source.
@@ -66,14 +67,14 @@ fn digest_at(source: &[u8], span: Span) -> [u8; 20]
 
 /// The info dictionary of a file.
 #[tactic(auto, unfolding(crate::specs::Reading::info_in))]
-fn info(tree: &Tree) -> Result<&Tree, MetaFault>
-    ensures { seen (λ v. v.now) result ≡ info_in tree.now }
+fn info<'a>(file: &Value<'a>) -> Result<Value<'a>, MetaFault>
+    ensures { result ≡ info_in file.now }
 {
-    if tree.as_dict().is_none() {
+    if !file.is_dict() {
         return Err(MetaFault::NotDictionary);
     }
-    let info = value(tree, Key::Info)?;
-    if info.as_dict().is_none() {
+    let info = value(file, Key::Info)?;
+    if !info.is_dict() {
         return Err(MetaFault::WrongKind(Key::Info));
     }
     Ok(info)
@@ -81,7 +82,7 @@ fn info(tree: &Tree) -> Result<&Tree, MetaFault>
 
 /// The torrent that an info dictionary with this SHA-1 describes.
 #[tactic(auto, unfolding(crate::specs::Counting::torrent_counted))]
-fn described(alloc: Global, info: &Tree, infohash: [u8; 20]) -> Result<Torrent, MetaFault>
+fn described(alloc: Global, info: &Value, infohash: [u8; 20]) -> Result<Torrent, MetaFault>
     ensures { Gives (λ t. t) result (torrent_counted info.now infohash) }
 {
     let name = text(info, Key::Name)?;
@@ -101,7 +102,7 @@ fn described(alloc: Global, info: &Tree, infohash: [u8; 20]) -> Result<Torrent, 
 
 /// The `piece length`, in bytes.
 #[tactic(auto, unfolding(crate::specs::Reading::piece_length_in))]
-fn piece_length(info: &Tree) -> Result<u32, MetaFault>
+fn piece_length(info: &Value) -> Result<u32, MetaFault>
     ensures exact { result ≡ piece_length_in info.now }
     ensures bounds { IfOk result (λ n. (0 < n) × (n ≤ 2 ^ 31)) }
 {
@@ -114,7 +115,7 @@ fn piece_length(info: &Tree) -> Result<u32, MetaFault>
 
 /// The digests of the pieces, one behind the other.
 #[tactic(auto, unfolding(crate::specs::Reading::pieces_in))]
-fn pieces(info: &Tree) -> Result<&[u8], MetaFault>
+fn pieces<'a>(info: &Value<'a>) -> Result<&'a [u8], MetaFault>
     ensures { seen (λ v. v.now) result ≡ pieces_in info.now }
 {
     let pieces = text(info, Key::Pieces)?;
@@ -126,7 +127,7 @@ fn pieces(info: &Tree) -> Result<&[u8], MetaFault>
 
 /// The content, by `length` or by `files`.
 #[tactic(auto, unfolding(crate::specs::Counting::content_in, crate::specs::Reading::lengths_in))]
-fn announced_content(info: &Tree) -> Result<Content, MetaFault>
+fn announced_content(info: &Value) -> Result<Content, MetaFault>
     ensures { result ≡ content_in info.now }
 {
     let one = info.get(Key::Length.name().as_bytes());
@@ -138,33 +139,34 @@ fn announced_content(info: &Tree) -> Result<Content, MetaFault>
             total: length(info)?,
             files: 1,
         }),
-        (None, Some(files)) => {
-            let files = files.as_list().ok_or(MetaFault::WrongKind(Key::Files))?;
-            content_of_files(files)
-        }
+        (None, Some(files)) => content_of_files(&files),
     }
 }
 
-/// The content that is the concatenation of these files.
-fn content_of_files(files: &[Tree]) -> Result<Content, MetaFault>
-    ensures { result ≡ content_of_files files.now }
+/// The content that is the concatenation of the files of a list.
+#[tactic(auto, unfolding(crate::specs::Counting::content_listed))]
+fn content_of_files(files: &Value) -> Result<Content, MetaFault>
+    ensures { result ≡ content_listed files.now }
 {
+    let mut left = files.as_list().ok_or(MetaFault::WrongKind(Key::Files))?;
     let mut total: u64 = 0;
-    for file in files {
-        total = total.saturating_add(file_length(file)?);
+    let mut count: usize = 0;
+    while let Some(file) = left.next() {
+        total = total.saturating_add(file_length(&file)?);
+        count += 1;
     }
     Ok(Content {
         total,
-        files: files.len(),
+        files: count,
     })
 }
 
 /// The bytes of one file of several.
 #[tactic(auto, unfolding(crate::specs::Reading::file_length_in))]
-fn file_length(file: &Tree) -> Result<u64, MetaFault>
+fn file_length(file: &Value) -> Result<u64, MetaFault>
     ensures { result ≡ file_length_in file.now }
 {
-    if file.as_dict().is_none() {
+    if !file.is_dict() {
         return Err(MetaFault::WrongKind(Key::Files));
     }
     let length = length(file)?;
@@ -174,7 +176,7 @@ fn file_length(file: &Tree) -> Result<u64, MetaFault>
 
 /// Whether a file of several has a `path`: at least one string, in a list.
 #[tactic(auto, unfolding(crate::specs::Reading::path_in))]
-fn check_path(file: &Tree) -> Result<(), MetaFault>
+fn check_path(file: &Value) -> Result<(), MetaFault>
     ensures { result ≡ path_in file.now }
 {
     if !is_path(items(file, Key::Path)?) {
@@ -184,20 +186,23 @@ fn check_path(file: &Tree) -> Result<(), MetaFault>
 }
 
 /// Whether these are strings, at least one.
-fn is_path(parts: &[Tree]) -> bool
-    ensures { result ≡ is_path parts.now }
+fn is_path(parts: Items) -> bool
+    ensures { result ≡ is_path parts.entry }
 {
-    for part in parts {
+    let mut left = parts;
+    let mut some = false;
+    while let Some(part) = left.next() {
         if part.as_text().is_none() {
             return false;
         }
+        some = true;
     }
-    !parts.is_empty()
+    some
 }
 
 /// The `length` of a file, in bytes.
 #[tactic(auto, unfolding(crate::specs::Reading::length_in))]
-fn length(file: &Tree) -> Result<u64, MetaFault>
+fn length(file: &Value) -> Result<u64, MetaFault>
     ensures { result ≡ length_in file.now }
 {
     let length = int(file, Key::Length)?;
@@ -209,35 +214,35 @@ fn length(file: &Tree) -> Result<u64, MetaFault>
 
 /// The value at a key.
 #[tactic(auto, unfolding(crate::specs::Reading::value_in))]
-fn value(tree: &Tree, key: Key) -> Result<&Tree, MetaFault>
-    ensures { seen (λ v. v.now) result ≡ value_in tree.now key }
+fn value<'a>(dict: &Value<'a>, key: Key) -> Result<Value<'a>, MetaFault>
+    ensures { result ≡ value_in dict.now key }
 {
-    tree.get(key.name().as_bytes())
+    dict.get(key.name().as_bytes())
         .ok_or(MetaFault::Missing(key))
 }
 
 /// The integer at a key.
 #[tactic(auto, unfolding(crate::specs::Reading::int_in))]
-fn int(tree: &Tree, key: Key) -> Result<i64, MetaFault>
-    ensures { result ≡ int_in tree.now key }
+fn int(dict: &Value, key: Key) -> Result<i64, MetaFault>
+    ensures { result ≡ int_in dict.now key }
 {
-    value(tree, key)?.as_int().ok_or(MetaFault::WrongKind(key))
+    value(dict, key)?.as_int().ok_or(MetaFault::WrongKind(key))
 }
 
 /// The string at a key.
 #[tactic(auto, unfolding(crate::specs::Reading::text_in))]
-fn text(tree: &Tree, key: Key) -> Result<&[u8], MetaFault>
-    ensures { seen (λ v. v.now) result ≡ text_in tree.now key }
+fn text<'a>(dict: &Value<'a>, key: Key) -> Result<&'a [u8], MetaFault>
+    ensures { seen (λ v. v.now) result ≡ text_in dict.now key }
 {
-    value(tree, key)?.as_text().ok_or(MetaFault::WrongKind(key))
+    value(dict, key)?.as_text().ok_or(MetaFault::WrongKind(key))
 }
 
 /// The list at a key.
 #[tactic(auto, unfolding(crate::specs::Reading::items_in))]
-fn items(tree: &Tree, key: Key) -> Result<&[Tree], MetaFault>
-    ensures { seen (λ v. v.now) result ≡ items_in tree.now key }
+fn items<'a>(dict: &Value<'a>, key: Key) -> Result<Items<'a>, MetaFault>
+    ensures { result ≡ items_in dict.now key }
 {
-    value(tree, key)?.as_list().ok_or(MetaFault::WrongKind(key))
+    value(dict, key)?.as_list().ok_or(MetaFault::WrongKind(key))
 }
 
 /// The digests that stand one behind the other.

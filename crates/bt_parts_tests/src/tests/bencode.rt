@@ -18,6 +18,14 @@ fn fault_number(alloc: Global, source: &[u8]) -> u8 {
     }
 }
 
+/// The number of the fault that the bytes give where no tree is made, or 0.
+fn fault_in_place(source: &[u8]) -> u8 {
+    match Value::of(source) {
+        Ok(_) => 0,
+        Err(fault) => fault as u8,
+    }
+}
+
 /// As many lists inside one another, with nothing in the innermost.
 fn nested_lists(alloc: Global, levels: usize) -> Result<Vec<u8>, AllocError> {
     let mut source = vec![in alloc; b'l'; levels]?;
@@ -62,9 +70,11 @@ fn each_fault_has_its_number(rt: HostRuntime) -> Result<(), Fail> {
     ];
     for (source, fault) in rows {
         assert_eq!(rt; fault_number(rt.alloc(), source), fault, "{source:?}");
+        assert_eq!(rt; fault_in_place(source), fault, "{source:?}");
     }
     let too_deep = nested_lists(rt.alloc(), 65)?;
     assert_eq!(rt; fault_number(rt.alloc(), &too_deep), 7);
+    assert_eq!(rt; fault_in_place(&too_deep), 7);
     assert_eq!(rt; BenFault::from(AllocError) as u8, 10);
     Ok(())
 }
@@ -126,6 +136,32 @@ fn parts_know_where_they_stand(rt: HostRuntime) -> Result<(), Fail> {
         assert_eq!(rt; span.start, start);
         assert_eq!(rt; span.end, end);
     }
+    Ok(())
+}
+
+#[test]
+fn a_value_is_read_where_it_stands(rt: HostRuntime) -> Result<(), Fail> {
+    let value = Value::of(b"d4:listl1:xi-3ed1:ai1eee4:named0:0:e5:otheri7ee")?;
+    let list = value.get(b"list").ok_or("a list")?;
+    assert_eq!(rt; list.span(), Span { start: 7, end: 24 });
+    let mut items = list.as_list().ok_or("items")?;
+    let text = items.next().ok_or("a string")?;
+    assert_eq!(rt; text.as_text().ok_or("bytes")?, b"x".as_slice());
+    let number = items.next().ok_or("an integer")?;
+    assert_eq!(rt; number.as_int(), Some(-3));
+    let dict = items.next().ok_or("a dictionary")?;
+    assert!(rt; dict.is_dict());
+    assert_eq!(rt; dict.get(b"a").ok_or("its value")?.as_int(), Some(1));
+    assert!(rt; items.next().is_none());
+    let name = value.get(b"name").ok_or("a name")?;
+    let nothing = name.get(b"").ok_or("the empty key")?;
+    assert_eq!(rt; nothing.as_text().ok_or("no bytes")?, b"".as_slice());
+    assert_eq!(rt;
+        value.get(b"other").ok_or("the last")?.span(),
+        Span { start: 43, end: 46 }
+    );
+    assert!(rt; value.get(b"nam").is_none());
+    assert!(rt; !list.is_dict());
     Ok(())
 }
 

@@ -1,10 +1,10 @@
-use Rattle.std.proofs.Common.{◌≡◌, arith, refl, sym, ◌∙◌}
+use Rattle.std.proofs.Common.{◌≡◌, arith, refl, sym}
 use Rattle.std.proofs.lemmas.Result.{err_from_is_err_and}
 use Rattle.bt_bencode.specs.Term.{depth}
 use Rattle.bt_bencode.specs.Reading.{value_at}
 use Rattle.bt_bencode.proofs.Lists.{depth_push, sound_push, depth_entries_push, sound_entries_push, rise_push}
 use Rattle.bt_bencode.proofs.Loops.{fails_as, items_begin, items_end, items_out, items_fail, items_more, entries_begin, entries_end, entries_out}
-use Rattle.bt_bencode.proofs.Loops.{entries_no_key, entries_bad_key, entries_late, entries_fail, entries_more}
+use Rattle.bt_bencode.proofs.Loops.{entries_bad_key, entries_fail, entries_more, key_is}
 use Rattle.bt_bencode.proofs.tree.reading.+value.Goals as goal
 
 pub list_items-loop-place-init : goal.list_items-loop-place-init
@@ -69,43 +69,28 @@ pub dict_entries-returns-clause-read : goal.dict_entries-returns-clause-read
 dict_entries-returns-clause-read t c = entries_out (value_at c.args.room c.args.source.now) c.args.source.now c.loop-place.entries.items
     c.loop-place.place _ c.loop-place-test.false c.loop-place.invariant.left
 
-pub dict_entries-returns-then-not-is_ascii_digit-clause-read : goal.dict_entries-returns-then-not-is_ascii_digit-clause-read
-dict_entries-returns-then-not-is_ascii_digit-clause-read t c =
-    let digit = sym c.is_ascii_digit.ensures.value ∙ c.if-not-is_ascii_digit.true in
-    rw c.no_key.ensures
-    (fails_as _ _
-    (entries_no_key (value_at c.args.room c.args.source.now) c.args.source.now c.loop-place.entries.items c.loop-place.place _
-    c.loop-place-test.true c.if-source-place-eq101.false digit c.loop-place.invariant.left))
-
 pub dict_entries-returns-in_err-key-clause-read : goal.dict_entries-returns-in_err-key-clause-read
 dict_entries-returns-in_err-key-clause-read t c =
-    let digit = sym c.is_ascii_digit.ensures.value ∙ c.if-not-is_ascii_digit.false in
     let p = err_from_is_err_and c.from_residual.result c.from_residual.ensures.1 in
+    let key = sym (rw (c.last_key.ensures, c.deref.ensures.value) at c.in_err-key.ensures.read) in
     rw (p.1, p.2)
+    (fails_as _ _
     (entries_bad_key c.in_err-key.field-0.0 (value_at c.args.room c.args.source.now) c.args.source.now c.loop-place.entries.items
-    c.loop-place.place _ c.loop-place-test.true digit c.in_err-key.ensures.read c.loop-place.invariant.left)
-
-pub dict_entries-returns-then-is_late-clause-read : goal.dict_entries-returns-then-is_late-clause-read
-dict_entries-returns-then-is_late-clause-read t c =
-    let digit = sym c.is_ascii_digit.ensures.value ∙ c.if-not-is_ascii_digit.false in
-    let late = sym (rw c.deref.ensures.value at c.is_late.ensures) ∙ c.if-is_late.true in
-    entries_late (value_at c.args.room c.args.source.now) c.args.source.now c.loop-place.entries.items c.loop-place.place _
-    c.in_ok-key.key.now c.in_ok-key.end c.loop-place-test.true digit c.in_ok-key.ensures.read late c.loop-place.invariant.left
+    c.loop-place.place _ c.loop-place-test.true c.if-source-place-eq101.false key c.loop-place.invariant.left))
 
 pub dict_entries-returns-in_err-value-clause-read : goal.dict_entries-returns-in_err-value-clause-read
 dict_entries-returns-in_err-value-clause-read t c =
-    let digit = sym c.is_ascii_digit.ensures.value ∙ c.if-not-is_ascii_digit.false in
-    let on_time = sym (rw c.deref.ensures.value at c.is_late.ensures) ∙ c.if-is_late.false in
     let p = err_from_is_err_and c.from_residual-in_err-value.result c.from_residual-in_err-value.ensures.1 in
+    let key = sym (rw (c.last_key.ensures, c.deref.ensures.value) at c.in_ok-key.ensures.read) in
     rw (p.1, p.2)
     (entries_fail c.in_err-value.field-0.0 (value_at c.args.room c.args.source.now) c.args.source.now c.loop-place.entries.items
-    c.loop-place.place _ c.in_ok-key.key.now c.in_ok-key.end c.loop-place-test.true digit c.in_ok-key.ensures.read on_time
+    c.loop-place.place _ c.in_ok-key.key.now c.in_ok-key.end c.loop-place-test.true c.if-source-place-eq101.false key
     c.in_err-value.ensures.read c.loop-place.invariant.left)
 
 pub dict_entries-loop-place-preserved : goal.dict_entries-loop-place-preserved
 dict_entries-loop-place-preserved t c =
-    let digit = sym c.is_ascii_digit.ensures.value ∙ c.if-not-is_ascii_digit.false in
-    let on_time = sym (rw c.deref.ensures.value at c.is_late.ensures) ∙ c.if-is_late.false in
+    let is = sym (rw (c.last_key.ensures, c.deref.ensures.value) at c.in_ok-key.ensures.read) in
+    let on_time = (key_is _ _ _ _ _ is).1 in
     let e = c.in_ok-push.ensures.items in
     let key = c.in_ok-from_slice.ensures.items in
     let d : c.value-in-loop-place.inside.levels ≡ depth c.in_ok-value.value =
@@ -124,7 +109,7 @@ dict_entries-loop-place-preserved t c =
           (rw (← c.value-in-loop-place.view_is) c.value-in-loop-place.invariant.0.0));
       left = rw e
           (entries_more (value_at c.args.room c.args.source.now) c.args.source.now c.loop-place.entries.items c.loop-place.place _
-          (c.in_ok-from_slice.field-0, c.in_ok-value.value) c.in_ok-key.end c.in_ok-value.end c.loop-place-test.true digit
-          (rw key c.in_ok-key.ensures.read) (rw key on_time) c.in_ok-value.ensures.read
+          (c.in_ok-from_slice.field-0, c.in_ok-value.value) c.in_ok-key.end c.in_ok-value.end c.loop-place-test.true
+          c.if-source-place-eq101.false (rw key is) c.in_ok-value.ensures.read
           (omega (arith, c.in_ok-value.ensures.end, c.in_ok-key.ensures.end)) c.loop-place.invariant.left);
     }

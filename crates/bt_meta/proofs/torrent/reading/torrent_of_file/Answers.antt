@@ -21,19 +21,19 @@ result_is source tree info (Err fault) spelled spans in_tree is = tt
 
 pub digest_at-requires : goal.digest_at-requires
 digest_at-requires c =
-    let in_tree = info_is c.in_ok-tree.tree c.in_ok-info.info.now (sym c.in_ok-info.ensures) in
-    let stands = c.in_ok-tree.ensures.parts (key_name key.Info) c.in_ok-info.info.now in_tree in
+    let in_file = info_is c.in_ok-file.file c.in_ok-info.info (sym c.in_ok-info.ensures) in
+    let stands = c.in_ok-file.ensures.parts (key_name key.Info) c.in_ok-info.info in_file in
     rw c.span.ensures (record { order = stands.order; within = stands.within })
 
 pub returns-clause-found : goal.returns-clause-found
 returns-clause-found c =
-    let tree = c.in_ok-tree in
-    result_is c.args.source.now tree.tree c.in_ok-info.info.now c.described.result tree.ensures.found tree.ensures.spans
+    let file = c.in_ok-file in
+    result_is c.args.source.now file.file c.in_ok-info.info c.described.result file.ensures.found file.ensures.spans
     (sym c.in_ok-info.ensures)
     (rw (c.digest_at.ensures, c.span.ensures, torrent_counted_is) at c.described.ensures)
 
 pub returns-clause-read : goal.returns-clause-read
 unfolding torrent_of_file
 returns-clause-read c =
-    rw (c.in_ok-tree.ensures.exact, ← c.in_ok-info.ensures)
+    rw (← c.in_ok-file.ensures.exact, ← c.in_ok-info.ensures)
     (rw (c.digest_at.ensures, c.span.ensures, torrent_counted_is) at c.described.ensures)

@@ -1,6 +1,6 @@
 use Rattle.std.proofs.Common.{refl}
 use Rattle.bt_bencode.proofs.Digits.{passes, digit_below}
-use Rattle.bt_bencode.proofs.tree.reading.number.Goals as goal
+use Rattle.bt_bencode.proofs.scalar.number.Goals as goal
 
 pub returns-then-number-value : goal.returns-then-number-value
 returns-then-number-value c =

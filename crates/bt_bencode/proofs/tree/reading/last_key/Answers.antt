@@ -1,11 +1,9 @@
 use Rattle.std.proofs.Common.{refl, arith}
 use Rattle.bt_bencode.proofs.Lists.{last_is}
-use Rattle.bt_bencode.proofs.tree.reading.is_late.Goals as goal
+use Rattle.bt_bencode.proofs.tree.reading.last_key.Goals as goal
 
 pub returns : goal.returns
 returns c = rw (
-  c.is_lt.ensures,
-  c.cmp.ensures,
   c.as_slice.ensures.value,
   last_is c.args.entries.now c.index-entries-count.result (omega arith)
       c.index-entries-count.is,
