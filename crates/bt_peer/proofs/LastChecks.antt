@@ -22,7 +22,8 @@ use Rattle.bt_peer.specs.Places.{PlaceRecord, Gains}
 use Rattle.bt_peer.specs.Sessions.{SessionState, Running}
 use Rattle.bt_peer.specs.Serial.{StreamRecord, Ended, EachEnded, ChecksAfter, Finishes, around, before_all, own_record, source_of}
 use Rattle.bt_peer.specs.Terms.{TermsState}
-use Rattle.bt_peer.specs.Standing.{Standing, Stands, StandsBy, ConductBy, DevicesBy, EachKeeps, LeavesOthers, LeavesRest, IsFresh, IsNew, AreNew, standing}
+use Rattle.bt_peer.specs.Standing.{Standing, Stands, StandsBy, ConductBy, DevicesBy, EachKeeps, LeavesOthers, LeavesRest, IsFresh, IsNew, AreNew}
+use Rattle.bt_peer.specs.Standing.{standing}
 use Rattle.bt_peer.proofs.Conduct.{Conducts-none, Conducts-draws}
 use Rattle.bt_peer.proofs.EachStream.{ends_count}
 use Rattle.bt_peer.proofs.Desks.{calls_in-other, and-more, had-more}

@@ -74,7 +74,8 @@ went_on terms worker begun out first old new p q is is' runs stands go =
     (λ short. around new.desk worker new.told short new.stream))
     (sym go.unended) (running_on terms worker out old.session _ new.session _ running to)
 
-came_to_end : (end : End) (terms : TermsState) (worker : ℕ) (begun : Words) (out : Surroundings) (first : StreamRecord) (old new : Standing) (p q : PlaceRecord)
+came_to_end : (end : End) (terms : TermsState) (worker : ℕ) (begun : Words) (out : Surroundings) (first : StreamRecord) (old new : Standing)
+    (p q : PlaceRecord)
     (has_ended : Bool) →
     p ≡ own_record old.desk worker old.told false → q ≡ own_record new.desk worker new.told q.short → old.session.outcome ≡ None →
     Stands terms worker begun out first old → Ends end old.session (around_place p old.stream) has_ended new.session (around_place q new.stream) →
@@ -98,7 +99,8 @@ came_to_end end terms worker begun out first old new p q has_ended is is' runs s
 broke_off : (fault : SessionFault) (terms : TermsState) (worker : ℕ) (begun : Words) (out : Surroundings) (first : StreamRecord) (old new : Standing)
     (p q : PlaceRecord) →
     p ≡ own_record old.desk worker old.told false → q ≡ own_record new.desk worker new.told q.short → old.session.outcome ≡ None →
-    Stands terms worker begun out first old → FailsWith fault old.session (around_place p old.stream) (source_of new.stream new.session.asked) new.session
+    Stands terms worker begun out first old → FailsWith fault old.session (around_place p old.stream) (source_of new.stream new.session.asked)
+    new.session
     (around_place q new.stream) →
     StandsBy new.session.outcome terms worker out new.session (source_of new.stream new.session.asked)
     (λ short. around new.desk worker new.told short new.stream)
@@ -118,7 +120,8 @@ broke_off fault terms worker begun out first old new p q is is' runs stands fail
     (λ short. around new.desk worker new.told short new.stream))
     (sym fails.outcome) (q.short, running_fails fault terms worker out old.session _ source' new.session _ running (λ none. to))
 
-sound_on : (first : StreamRecord) (old new : Standing) {terms : TermsState} {worker : ℕ} {begun : Words} {out : Surroundings} → old.session.outcome ≡ None →
+sound_on : (first : StreamRecord) (old new : Standing) {terms : TermsState} {worker : ℕ} {begun : Words} {out : Surroundings} →
+    old.session.outcome ≡ None →
     Stands terms worker begun out first old →
     (new.stream.failed ≡ old.stream.failed) × (new.stream.writer_failed ≡ old.stream.writer_failed) →
     (new.stream.failed ≡ first.failed) × (new.stream.writer_failed ≡ first.writer_failed)
@@ -227,7 +230,8 @@ turn_at_desk result lent lent' worker worker' short old new place is runs turned
     let first : AfterTurn = record { session = old.session; place = before; stream = old.stream; generator = old.generator } in
     let second : AfterTurn = record { session = new.session; place = after; stream = new.stream; generator = new.generator } in
     let fresh : Turned result first second =
-    subst (λ (p : PlaceRecord). Turned result (record { session = old.session; place = p; stream = old.stream; generator = old.generator }) second) is turned in
+    subst (λ (p : PlaceRecord). Turned result (record { session = old.session; place = p; stream = old.stream; generator = old.generator }) second) is
+    turned in
     let gained : (events : List Event) × GainsUpTo before events after = turn_gains result first second runs fresh in
     let same : own_record new.desk worker' new.told short ≡ own_record new.desk worker new.told short =
     ap (λ (w : ℕ). own_record new.desk w new.told short) gained.1.worker in

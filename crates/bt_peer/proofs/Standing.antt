@@ -166,7 +166,8 @@ others_stand worker other old new session told stream generator left apart =
     record {
       still = λ terms. λ begun. λ out. λ first. λ stands. record {
         stands = stands_later session.outcome terms other out session (source_of stream session.asked) _ _ later stands.stands;
-        conduct = subst (λ (calls : Calls). ConductBy session.outcome begun out.past.calls calls generator) (sym (left.calls other apart)) stands.conduct;
+        conduct = subst (λ (calls : Calls). ConductBy session.outcome begun out.past.calls calls generator) (sym (left.calls other apart))
+            stands.conduct;
         devices = stands.devices;
         counted = stands.counted;
         most = stands.most;

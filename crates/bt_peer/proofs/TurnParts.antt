@@ -129,7 +129,8 @@ Told pieces b c = (news : List ℕ) ×
     × Performs (record b { interested = false }) (map News news) (record c { interested = false }))
 
 -- a whole turn
-pub turn_done : (terms : TermsState) (m : Message) (a b c d : Outlet) → IsLater m → IsAcceptable (pieces_of terms) m → Opened (call_of m) a b → Told (pieces_of terms) b c →
+pub turn_done : (terms : TermsState) (m : Message) (a b c d : Outlet) → IsLater m → IsAcceptable (pieces_of terms) m → Opened (call_of m) a b →
+    Told (pieces_of terms) b c →
     c.interested ≡ b.interested → (asking : List Event) × (Asks (most_next terms) asking × NoneRefused asking × Performs c asking d) →
     (events : List Event) × (IsTurn terms m events × NoneRefused events × TellsNews (pieces_of terms) a.past events d.past × Performs a events d)
 turn_done terms m a b c d later acceptable opened told same asked =
@@ -172,7 +173,8 @@ stops_turn : (fault : SessionFault) (terms : TermsState) (m : Message) (es : Lis
 stops_turn faults.BadBits terms m es begins ends = absurd ends
 stops_turn _ terms m es begins ends = (begins, ends)
 
-opening_begins : (terms : TermsState) (m : Message) (es rest : List Event) → IsLater m → IsAcceptable (pieces_of terms) m → Opens (call_of m) (es ++ rest) →
+opening_begins : (terms : TermsState) (m : Message) (es rest : List Event) → IsLater m → IsAcceptable (pieces_of terms) m →
+    Opens (call_of m) (es ++ rest) →
     BeginsTurn terms m es
 opening_begins terms m es rest later acceptable opens =
     let idle = asks_some (most_next terms) in
@@ -191,13 +193,15 @@ opening_begins terms m es rest later acceptable opens =
     } in
     (rest ++ idle.0, later_turn terms m (es ++ (rest ++ idle.0)) later attends)
 
-opening_stopped : (fault : SessionFault) (terms : TermsState) (m : Message) (es : List Event) → IsLater m → StopsOpening fault (pieces_of terms) m es →
+opening_stopped : (fault : SessionFault) (terms : TermsState) (m : Message) (es : List Event) → IsLater m →
+    StopsOpening fault (pieces_of terms) m es →
     StopsTurn fault terms m es
 opening_stopped faults.BadBits terms m es later stops = stops
 opening_stopped _ terms m es later stops = (opening_begins terms m es stops.1.0 later stops.0 stops.1.1.0, stops.1.1.1)
 
 -- the opening stopped
-pub turn_stops_open : (fault : SessionFault) (terms : TermsState) (m : Message) (a b : Outlet) → IsLater m → OpenedStops fault (pieces_of terms) m a b →
+pub turn_stops_open : (fault : SessionFault) (terms : TermsState) (m : Message) (a b : Outlet) → IsLater m →
+    OpenedStops fault (pieces_of terms) m a b →
     TurnStops fault terms m a b
 turn_stops_open fault terms m a b later h = (h.0, (opening_stopped fault terms m h.0 later h.1.0, h.1.1))
 
@@ -232,7 +236,8 @@ turn_stops_news fault terms m a b c later acceptable opened told =
 pub turn_stops_ask : (fault : SessionFault) (terms : TermsState) (m : Message) (a b c d : Outlet) → IsLater m → IsAcceptable (pieces_of terms) m →
     Opened (call_of m) a b → Told (pieces_of terms) b c →
     c.interested ≡ b.interested →
-    (asking : List Event) × ((rest : List Event) × (Asks (most_next terms) (asking ++ rest) × EndsCalls fault asking × PerformsUpTo fault c asking d)) →
+    (asking : List Event) × ((rest : List Event) × (Asks (most_next terms) (asking ++ rest) × EndsCalls fault asking ×
+    PerformsUpTo fault c asking d)) →
     TurnStops fault terms m a d
 turn_stops_ask fault terms m a b c d later acceptable opened told same asked =
     let front = opened.0 ++ map News told.0 in
