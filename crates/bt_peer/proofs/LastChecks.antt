@@ -17,7 +17,7 @@ use Rattle.bt_peer.specs.declared.seat.Seat.{Seat}
 use Rattle.rand_core.specs.Stream.{Stream as Words}
 use Rattle.bt_peer.specs.Conduct.{Calls, Conducts, DrawsWords, all_checked, answers_of, generator_of}
 use Rattle.bt_peer.specs.Desks.{calls_in}
-use Rattle.bt_peer.specs.Hearing.{most_reads}
+use Rattle.bt_peer.specs.Reader.{most_reads}
 use Rattle.bt_peer.specs.Places.{PlaceRecord, Gains}
 use Rattle.bt_peer.specs.Sessions.{SessionState, Running}
 use Rattle.bt_peer.specs.Serial.{StreamRecord, Ended, EachEnded, ChecksAfter, Finishes, around, before_all, own_record, source_of}

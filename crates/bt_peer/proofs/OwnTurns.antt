@@ -9,15 +9,15 @@ use Rattle.bt_peer.specs.declared.fault.SessionFault.TheVariants as faults
 use Rattle.rand_core.specs.Stream.{Stream as Words}
 use Rattle.bt_peer.specs.Conduct.{Calls, Conducts, DrawsWords}
 use Rattle.bt_peer.specs.Desks.{calls_in, desk_record}
-use Rattle.bt_peer.specs.Events.{Event}
-use Rattle.bt_peer.specs.Hearing.{most_reads}
+use Rattle.bt_peer.specs.Acts.{Act}
+use Rattle.bt_peer.specs.Reader.{most_reads}
 use Rattle.bt_peer.specs.Places.{PlaceRecord, GainsUpTo}
 use Rattle.bt_peer.specs.Serial.{StreamRecord, DevicesAfter, around, own_record, source_of}
 use Rattle.bt_peer.specs.Sessions.{SessionState, GoesOn, Ends, FailsWith, Running}
 use Rattle.bt_peer.specs.Outcomes.{around_place}
 use Rattle.bt_peer.specs.Standing.{Standing, Stands, StandsBy, ConductBy, DevicesBy, Keeps, LeavesOthers}
 use Rattle.bt_peer.specs.Terms.{TermsState}
-use Rattle.bt_peer.specs.Turning.{Surroundings}
+use Rattle.bt_peer.specs.Steps.{Surroundings}
 use Rattle.bt_peer.proofs.Conduct.{Conducts-join, DrawsWords-join}
 use Rattle.bt_peer.proofs.Own.{others_left, own, own_goes_on, own_ends, own_fails}
 use Rattle.bt_peer.proofs.Runs.{running_on, running_ends, running_fails}
@@ -48,8 +48,8 @@ pub record Turned (result : Result (Option End) SessionFault) (old new : AfterTu
 
 -- what a turn gained
 pub turn_gains : (result : Result (Option End) SessionFault) (old new : AfterTurn) → old.session.outcome ≡ None → Turned result old new →
-    (events : List Event) × GainsUpTo old.place events new.place
-turn_gains (Ok None) old new runs turned = (turned.goes_on.turn.events, turned.goes_on.turn.gains.up_to)
+    (acts : List Act) × GainsUpTo old.place acts new.place
+turn_gains (Ok None) old new runs turned = (turned.goes_on.turn.acts, turned.goes_on.turn.gains.up_to)
 turn_gains (Ok (Some end)) old new runs turned = (_, (turned.ends runs).leave.gains.up_to)
 turn_gains (Err fault) old new runs turned = (_, (turned.fails runs).gains)
 
@@ -232,7 +232,7 @@ turn_at_desk result lent lent' worker worker' short old new place is runs turned
     let fresh : Turned result first second =
     subst (λ (p : PlaceRecord). Turned result (record { session = old.session; place = p; stream = old.stream; generator = old.generator }) second) is
     turned in
-    let gained : (events : List Event) × GainsUpTo before events after = turn_gains result first second runs fresh in
+    let gained : (acts : List Act) × GainsUpTo before acts after = turn_gains result first second runs fresh in
     let same : own_record new.desk worker' new.told short ≡ own_record new.desk worker new.told short =
     ap (λ (w : ℕ). own_record new.desk w new.told short) gained.1.worker in
     record {

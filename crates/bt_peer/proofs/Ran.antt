@@ -5,7 +5,7 @@ use Rattle.rand_core.specs.Stream.{Stream as Words}
 use Rattle.bt_peer.specs.declared.fault.End.{End}
 use Rattle.bt_peer.specs.declared.fault.SessionFault.{SessionFault}
 use Rattle.bt_peer.specs.declared.fault.SessionFault.TheVariants as faults
-use Rattle.bt_peer.specs.Hearing.{most_reads}
+use Rattle.bt_peer.specs.Reader.{most_reads}
 use Rattle.bt_peer.specs.Places.{PlaceRecord}
 use Rattle.bt_peer.specs.Serial.{StreamRecord, DevicesAfter, source_of}
 use Rattle.bt_peer.specs.Sessions.{IsCutShort, IsWhole}

@@ -4,11 +4,11 @@ use Rattle.rand_core.specs.Stream.{Stream as Words}
 use Rattle.bt_peer.specs.declared.fault.End.{End}
 use Rattle.bt_peer.specs.declared.fault.SessionFault.{SessionFault}
 use Rattle.bt_peer.specs.Conduct.{DrawsWords}
-use Rattle.bt_peer.specs.Hearing.{most_reads}
+use Rattle.bt_peer.specs.Reader.{most_reads}
 use Rattle.bt_peer.specs.Places.{PlaceRecord}
 use Rattle.bt_peer.specs.Serial.{StreamRecord, EndsAs, DevicesAfter, source_of, stream_record}
 use Rattle.bt_peer.specs.Terms.{TermsState}
-use Rattle.bt_peer.specs.Turning.{Surroundings}
+use Rattle.bt_peer.specs.Steps.{Surroundings}
 
 -- what a reader and a writer say of themselves
 abbrev pub devices_record : {R W : Type 0} → (R → Option (List ℕ)) → (R → Bool) → (R → Bool) → (R → ℕ) → (W → Option (List ℕ)) → (W → Bool) →

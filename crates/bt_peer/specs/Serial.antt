@@ -14,11 +14,11 @@ use Rattle.bt_peer.specs.declared.fault.SessionFault.TheVariants as faults
 use Rattle.bt_peer.specs.declared.stream.Stream.{Stream}
 use Rattle.bt_peer.specs.Conduct.{Calls, DrawsWords, all_checked, generator_of}
 use Rattle.bt_peer.specs.Desks.{calls_in}
-use Rattle.bt_peer.specs.Hearing.{SourceState, most_reads}
+use Rattle.bt_peer.specs.Reader.{SourceState, most_reads}
 use Rattle.bt_peer.specs.Places.{PlaceRecord}
 use Rattle.bt_peer.specs.Sessions.{IsWhole, IsCutShort}
 use Rattle.bt_peer.specs.Terms.{TermsState}
-use Rattle.bt_peer.specs.Turning.{Surroundings}
+use Rattle.bt_peer.specs.Steps.{Surroundings}
 
 -- what a stream says of itself
 pub record StreamRecord : Type 0 where

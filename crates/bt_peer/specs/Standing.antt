@@ -11,11 +11,11 @@ use Rattle.bt_peer.specs.declared.seat.Seat.{Seat}
 use Rattle.rand_core.specs.Stream.{Stream as Words}
 use Rattle.bt_peer.specs.Conduct.{Calls, Conducts, DrawsWords, answers_of, generator_of}
 use Rattle.bt_peer.specs.Desks.{calls_in}
-use Rattle.bt_peer.specs.Hearing.{SourceState, most_reads}
+use Rattle.bt_peer.specs.Reader.{SourceState, most_reads}
 use Rattle.bt_peer.specs.Serial.{StreamRecord, DevicesAfter, EndsAs, around, had_at, opening_of, source_of}
 use Rattle.bt_peer.specs.Sessions.{SessionState, Running, begun, to_hear}
 use Rattle.bt_peer.specs.Terms.{TermsState, pieces_of}
-use Rattle.bt_peer.specs.Turning.{Surroundings}
+use Rattle.bt_peer.specs.Steps.{Surroundings}
 
 -- what a run knows of one of its streams
 pub record Standing : Type 0 where

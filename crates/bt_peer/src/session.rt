@@ -3,10 +3,10 @@
 ghost use Rattle.std.specs.Prelude.{◌≡◌, ◌<◌, ◌≤◌, true, false, None, IfOk, IfSome, IfNone, IfErr, OnOk, OnErr};
 
 use crate::fault::{End, SessionFault};
-use crate::greeting::greeting;
+use crate::handshake::greeting;
 use crate::place::Place;
 use crate::terms::Terms;
-use crate::turning::{Peer, greet, listen};
+use crate::turn::{Peer, greet, listen};
 use bt_meta::{Sink, Source, Torrent};
 use bt_wire::{Inbound, frame_limit};
 use rand_pcg::Lcg64Xsh32;
@@ -27,7 +27,7 @@ pub struct Session {
 
 impl Model for Session {
     ghost use Rattle.std.specs.Prelude.{◌≡◌, ◌≤◌, ◌+◌, ◌*◌, None, length};
-    ghost use Rattle.bt_peer.specs.Hearing.{most_reads, room_len};
+    ghost use Rattle.bt_peer.specs.Reader.{most_reads, room_len};
     ghost use Rattle.bt_peer.specs.Sessions.{SessionState};
 
     ghost Value = { SessionState };
@@ -51,9 +51,9 @@ impl Session {
     ghost use Rattle.rand_core.specs.Stream.{Stream};
     ghost use Rattle.bt_peer.specs.declared.fault.SessionFault.TheVariants.{WriteFault};
     ghost use Rattle.bt_peer.specs.Conduct.{Conducts, DrawsWords, answers_of};
-    ghost use Rattle.bt_peer.specs.Hearing.{most_reads, source_state};
+    ghost use Rattle.bt_peer.specs.Reader.{most_reads, source_state};
     ghost use Rattle.bt_peer.specs.Terms.{terms_of};
-    ghost use Rattle.bt_peer.specs.Turning.{surroundings};
+    ghost use Rattle.bt_peer.specs.Steps.{surroundings};
     ghost use Rattle.bt_peer.specs.Sessions.{SessionState, begun, to_hear, GoesOn, Ends, FailsWith, answer_again};
 
     /// A session that has done nothing yet, with a peer that is asked for so many blocks at a time: the depth of its desk's rules, 1 to

@@ -3,9 +3,9 @@
 ghost use Rattle.std.specs.Prelude.{ℕ, ◌≡◌, ◌≤◌, true, IfOk, IfErr, OnOk, OnErr};
 ghost use Rattle.bt_peer.specs.declared.fault.SessionFault.TheVariants.{WriteFault};
 ghost use Rattle.bt_peer.specs.Conduct.{Conducts, DrawsWords, answers_of};
-ghost use Rattle.bt_peer.specs.Hearing.{most_reads, source_state};
+ghost use Rattle.bt_peer.specs.Reader.{most_reads, source_state};
 ghost use Rattle.bt_peer.specs.Terms.{terms_of};
-ghost use Rattle.bt_peer.specs.Turning.{surroundings};
+ghost use Rattle.bt_peer.specs.Steps.{surroundings};
 ghost use Rattle.bt_peer.specs.Sessions.{IsWhole, IsCutShort};
 ghost use Rattle.bt_peer.specs.Outcomes.{RunsTo, devices_record};
 

@@ -11,7 +11,7 @@ use Rattle.bt_history.specs.declared.mark.Mark.{Mark}
 use Rattle.bt_history.specs.Setting.{Setting}
 use Rattle.bt_shared.specs.Passes.{Enters, Notes, PassState, Rests, mark}
 use Rattle.bt_peer.specs.Desks.{calls_of_marks}
-use Rattle.bt_peer.specs.Events.{Called}
+use Rattle.bt_peer.specs.Acts.{Called}
 use Rattle.bt_session.specs.Checking.{IsQuiet}
 use Rattle.bt_session.specs.Passes.{pass_record}
 use Rattle.bt_peer.specs.Places.{Gains}

@@ -11,7 +11,7 @@ use Rattle.bt_board.specs.declared.view.View.{View}
 use Rattle.bt_history.specs.Setting.{Setting}
 use Rattle.bt_meta.specs.Layout.{Layout, piece_count}
 use Rattle.bt_peer.specs.Desks.{calls_of_marks}
-use Rattle.bt_peer.specs.Events.{News}
+use Rattle.bt_peer.specs.Acts.{News}
 use Rattle.bt_peer.specs.Places.{AllTold, Gains}
 use Rattle.bt_check.specs.declared.ticket.Ticket.{Ticket}
 use Rattle.bt_session.specs.Checking.{PutsIf}

@@ -1,6 +1,6 @@
 use Rattle.std.proofs.Common.{◌<◌, ◌∙◌, arith}
 use Rattle.std.proofs.lemmas.Result.{err_from_is_err_and}
-use Rattle.bt_peer.specs.Hearing.{source_state}
+use Rattle.bt_peer.specs.Reader.{source_state}
 use Rattle.bt_peer.specs.Sessions.{to_hear}
 use Rattle.bt_peer.proofs.Conduct.{Conducts-draws, Conducts-join, DrawsWords-join}
 use Rattle.bt_peer.proofs.OwnTurns.{devices_of}

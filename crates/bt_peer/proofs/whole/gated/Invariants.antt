@@ -1,8 +1,8 @@
 use Rattle.std.proofs.Common.{◌≡◌, ◌+◌, ◌*◌, ◌≤◌}
 use Rattle.bt_peer.specs.Conduct.{Conducts, answers_of}
-use Rattle.bt_peer.specs.Hearing.{most_reads, room_len}
+use Rattle.bt_peer.specs.Reader.{most_reads, room_len}
 use Rattle.bt_peer.specs.Sessions.{to_hear, Running}
-use Rattle.bt_peer.specs.Turning.{surroundings}
+use Rattle.bt_peer.specs.Steps.{surroundings}
 use Rattle.bt_peer.specs.Terms.{terms_of}
 use Rattle.bt_peer.proofs.whole.gated.Given as goal
 

@@ -1,8 +1,8 @@
 use Rattle.std.proofs.Common.{◌≡◌, ◌∙◌, ap, List, ℕ, Some, Err, false, refl, subst}
-use Rattle.bt_peer.specs.Hearing.{source_state}
-use Rattle.bt_peer.specs.Saying.{greeting}
+use Rattle.bt_peer.specs.Reader.{source_state}
+use Rattle.bt_peer.specs.Writer.{greeting}
 use Rattle.bt_peer.specs.Sessions.{SessionState, FailsWith}
-use Rattle.bt_peer.specs.Turning.{start, surroundings}
+use Rattle.bt_peer.specs.Steps.{start, surroundings}
 use Rattle.bt_peer.proofs.Failing.{FirstFails, session_fails_first}
 use Rattle.bt_peer.proofs.session.Session.first_turn.Goals as goal
 
