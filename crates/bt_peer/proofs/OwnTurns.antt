@@ -38,11 +38,11 @@ pub record Turned (result : Result (Option End) SessionFault) (old new : AfterTu
   pub ends : old.session.outcome ≡ None → IfOk result
       (λ o. IfSome o (λ end. Ends end old.session (around_turn old) new.stream.ended new.session (around_turn new)))
   pub fails : old.session.outcome ≡ None →
-      IfErr result (λ fault. FailsWith fault old.session (around_turn old) (source_of new.stream new.session.asked) new.session (around_turn new))
+      IfErr result (λ fault. FailsWith fault old.session (around_turn old) (source_of new.stream new.session.reads) new.session (around_turn new))
   pub conduct : OnOk result (Conducts true old.generator old.place.calls new.place.calls new.generator)
   pub words : OnErr result (DrawsWords old.generator old.place.calls new.place.calls)
-  pub counted : old.stream.asked ≡ old.session.asked → new.stream.asked ≡ new.session.asked
-  pub most : new.session.asked ≤ most_reads
+  pub counted : old.stream.reads ≡ old.session.reads → new.stream.reads ≡ new.session.reads
+  pub most : new.session.reads ≤ most_reads
   pub sound : IfOk result (λ o. (new.stream.failed ≡ old.stream.failed) × (new.stream.writer_failed ≡ old.stream.writer_failed))
   pub failed : old.session.outcome ≡ None → IfErr result (λ fault. fault ≡ faults.WriteFault → new.stream.writer_failed ≡ true)
 
@@ -56,12 +56,12 @@ turn_gains (Err fault) old new runs turned = (_, (turned.fails runs).gains)
 went_on : (terms : TermsState) (worker : ℕ) (begun : Words) (out : Surroundings) (first : StreamRecord) (old new : Standing) (p q : PlaceRecord) →
     p ≡ own_record old.desk worker old.told false → q ≡ own_record new.desk worker new.told q.short → old.session.outcome ≡ None →
     Stands terms worker begun out first old → GoesOn old.session (around_place p old.stream) new.session (around_place q new.stream) →
-    StandsBy new.session.outcome terms worker out new.session (source_of new.stream new.session.asked)
+    StandsBy new.session.outcome terms worker out new.session (source_of new.stream new.session.reads)
     (λ short. around new.desk worker new.told short new.stream)
 went_on terms worker begun out first old new p q is is' runs stands go =
     let short : q.short ≡ false = go.turn.gains.short ∙ ap (λ (r : PlaceRecord). r.short) is in
     let same : q ≡ own_record new.desk worker new.told false = is' ∙ ap (own_record new.desk worker new.told) short in
-    let source = source_of old.stream old.session.asked in
+    let source = source_of old.stream old.session.reads in
     let running : Running terms worker out old.session (around old.desk worker old.told false old.stream) =
     subst (λ (o : Option (Result End SessionFault)). StandsBy o terms worker out old.session source
     (λ short. around old.desk worker old.told short old.stream)) runs stands.stands in
@@ -70,7 +70,7 @@ went_on terms worker begun out first old new p q is is' runs stands go =
     let to : GoesOn old.session (around old.desk worker old.told false old.stream) new.session (around new.desk worker new.told false new.stream) =
     subst (λ (r : PlaceRecord). GoesOn old.session (around old.desk worker old.told false old.stream)
     new.session (around_place r new.stream)) same from in
-    subst (λ (o : Option (Result End SessionFault)). StandsBy o terms worker out new.session (source_of new.stream new.session.asked)
+    subst (λ (o : Option (Result End SessionFault)). StandsBy o terms worker out new.session (source_of new.stream new.session.reads)
     (λ short. around new.desk worker new.told short new.stream))
     (sym go.unended) (running_on terms worker out old.session _ new.session _ running to)
 
@@ -79,10 +79,10 @@ came_to_end : (end : End) (terms : TermsState) (worker : ℕ) (begun : Words) (o
     (has_ended : Bool) →
     p ≡ own_record old.desk worker old.told false → q ≡ own_record new.desk worker new.told q.short → old.session.outcome ≡ None →
     Stands terms worker begun out first old → Ends end old.session (around_place p old.stream) has_ended new.session (around_place q new.stream) →
-    StandsBy new.session.outcome terms worker out new.session (source_of new.stream new.session.asked)
+    StandsBy new.session.outcome terms worker out new.session (source_of new.stream new.session.reads)
     (λ short. around new.desk worker new.told short new.stream)
 came_to_end end terms worker begun out first old new p q has_ended is is' runs stands ends =
-    let source = source_of old.stream old.session.asked in
+    let source = source_of old.stream old.session.reads in
     let running : Running terms worker out old.session (around old.desk worker old.told false old.stream) =
     subst (λ (o : Option (Result End SessionFault)). StandsBy o terms worker out old.session source
     (λ short. around old.desk worker old.told short old.stream)) runs stands.stands in
@@ -92,21 +92,21 @@ came_to_end end terms worker begun out first old new p q has_ended is is' runs s
     (around new.desk worker new.told q.short new.stream) =
     subst (λ (r : PlaceRecord). Ends end old.session (around old.desk worker old.told false old.stream) has_ended new.session
     (around_place r new.stream)) is' from in
-    subst (λ (o : Option (Result End SessionFault)). StandsBy o terms worker out new.session (source_of new.stream new.session.asked)
+    subst (λ (o : Option (Result End SessionFault)). StandsBy o terms worker out new.session (source_of new.stream new.session.reads)
     (λ short. around new.desk worker new.told short new.stream))
     (sym ends.outcome) (q.short, running_ends end terms worker out old.session _ has_ended new.session _ running (λ none. to))
 
 broke_off : (fault : SessionFault) (terms : TermsState) (worker : ℕ) (begun : Words) (out : Surroundings) (first : StreamRecord) (old new : Standing)
     (p q : PlaceRecord) →
     p ≡ own_record old.desk worker old.told false → q ≡ own_record new.desk worker new.told q.short → old.session.outcome ≡ None →
-    Stands terms worker begun out first old → FailsWith fault old.session (around_place p old.stream) (source_of new.stream new.session.asked)
+    Stands terms worker begun out first old → FailsWith fault old.session (around_place p old.stream) (source_of new.stream new.session.reads)
     new.session
     (around_place q new.stream) →
-    StandsBy new.session.outcome terms worker out new.session (source_of new.stream new.session.asked)
+    StandsBy new.session.outcome terms worker out new.session (source_of new.stream new.session.reads)
     (λ short. around new.desk worker new.told short new.stream)
 broke_off fault terms worker begun out first old new p q is is' runs stands fails =
-    let source = source_of old.stream old.session.asked in
-    let source' = source_of new.stream new.session.asked in
+    let source = source_of old.stream old.session.reads in
+    let source' = source_of new.stream new.session.reads in
     let running : Running terms worker out old.session (around old.desk worker old.told false old.stream) =
     subst (λ (o : Option (Result End SessionFault)). StandsBy o terms worker out old.session source
     (λ short. around old.desk worker old.told short old.stream)) runs stands.stands in
@@ -197,7 +197,7 @@ turn_stands (Ok (Some end)) worker old new p q is is' runs turned =
       };
     }
 turn_stands (Err fault) worker old new p q is is' runs turned =
-    let fails = own_fails fault old.session (around_place p old.stream) (source_of new.stream new.session.asked) new.session
+    let fails = own_fails fault old.session (around_place p old.stream) (source_of new.stream new.session.reads) new.session
     (around_place q new.stream) (turned.fails runs) in
     record {
       still = λ terms. λ begun. λ out. λ first. λ stands. record {

@@ -205,7 +205,7 @@ so_far_ends end terms worker out now mid has_ended new out' so_far ends =
       counted = omega (arith, so_far.counted, ends.messages);
       turns = TurnsOf-left terms (so_far.first ∷ so_far.messages) so_far.acts so_far.turned;
       gains = Gains-join out.past mid.past out'.past so_far.acts last so_far.gains ends.leave.gains;
-      news = record { turns = so_far.acts; mid = mid.past; asked = so_far.news; leaves = ends.leave.gains; parts = refl };
+      news = record { turns = so_far.acts; mid = mid.past; tells = so_far.news; leaves = ends.leave.gains; parts = refl };
       wrote = subst (Appends out.written out'.written) same
           (Appends-trans out.written mid.written out'.written (hello ++ before) [] so_far.wrote ends.leave.wrote);
     }

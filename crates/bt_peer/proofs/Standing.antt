@@ -98,7 +98,7 @@ whole_later end terms worker out old new later whole = record {
   news = record {
     turns = whole.news.turns;
     mid = whole.news.mid;
-    asked = whole.news.asked;
+    reads = whole.news.tells;
     leaves = gains_later whole.news.mid _ old.past new.past whole.news.leaves later.gains;
     parts = whole.news.parts;
   };
@@ -165,7 +165,7 @@ others_stand worker other old new session told stream generator left apart =
     } in
     record {
       still = λ terms. λ begun. λ out. λ first. λ stands. record {
-        stands = stands_later session.outcome terms other out session (source_of stream session.asked) _ _ later stands.stands;
+        stands = stands_later session.outcome terms other out session (source_of stream session.reads) _ _ later stands.stands;
         conduct = subst (λ (calls : Calls). ConductBy session.outcome begun out.past.calls calls generator) (sym (left.calls other apart))
             stands.conduct;
         devices = stands.devices;

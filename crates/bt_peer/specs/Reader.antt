@@ -49,16 +49,16 @@ pub record SourceState : Type 0 where
   pub left : Option (List ℕ)
   pub ended : Bool
   pub failed : Bool
-  pub asked : ℕ
+  pub reads : ℕ
 
 abbrev pub source_state : {R : Type 0} → (R → Option (List ℕ)) → (R → Bool) → (R → Bool) → R → ℕ → SourceState
-source_state left ended failed reader asked =
-    record { left = left reader; ended = ended reader; failed = failed reader; asked = asked }
+source_state left ended failed reader reads =
+    record { left = left reader; ended = ended reader; failed = failed reader; reads = reads }
 
 -- why no message came: a fault at the front of what is held, a source that failed or was asked too often, or want of memory
 abbrev pub StopsHearing : SessionFault → InboundState → SourceState → Type 0
 StopsHearing (faults.Wire fault) stream source = HasFault stream.greeted stream.limit stream.bytes fault
-StopsHearing faults.ReadFault stream source = IsStuck stream × ((source.failed ≡ true) ⊎ (most_reads ≤ source.asked))
+StopsHearing faults.ReadFault stream source = IsStuck stream × ((source.failed ≡ true) ⊎ (most_reads ≤ source.reads))
 StopsHearing faults.NoMemory stream source = Unit {0}
 StopsHearing _ stream source = ⊥
 

@@ -26,7 +26,7 @@ pub record SessionState : Type 0 where
   -- the interest that was told
   pub interested : Bool
   -- how often it asked its source
-  pub asked : ℕ
+  pub reads : ℕ
   -- the messages after the handshake
   pub messages : ℕ
   pub outcome : Option (Result End SessionFault)
@@ -39,7 +39,7 @@ begun terms worker = record {
   stream = opened (frame_limit (pieces_of terms));
   joined = false;
   interested = false;
-  asked = 0;
+  reads = 0;
   messages = 0;
   outcome = None;
 }
@@ -57,7 +57,7 @@ start_of state out = record { terms = state.terms; joined = state.joined; stream
 
 -- the most bytes that it may still hear: those held, and those of the reads that are left
 abbrev pub to_hear : SessionState → ℕ
-to_hear state = length state.stream.bytes + room_len * (most_reads - state.asked)
+to_hear state = length state.stream.bytes + room_len * (most_reads - state.reads)
 
 -- what all turns keep
 pub record KeepsTerms (old new : SessionState) : Type 0 where

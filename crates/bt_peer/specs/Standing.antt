@@ -49,12 +49,12 @@ ConductBy (Some (Err fault)) generator old new left = DrawsWords generator old n
 
 -- a session that began in these surroundings, with that generator and that stream, stands so
 pub record Stands (terms : TermsState) (worker : ℕ) (generator : Words) (out : Surroundings) (first : StreamRecord) (now : Standing) : Type 0 where
-  pub stands : StandsBy now.session.outcome terms worker out now.session (source_of now.stream now.session.asked)
+  pub stands : StandsBy now.session.outcome terms worker out now.session (source_of now.stream now.session.reads)
       (λ short. around now.desk worker now.told short now.stream)
   pub conduct : ConductBy now.session.outcome generator out.past.calls (calls_in now.desk.history worker) now.generator
   pub devices : DevicesBy now.session.outcome first now.stream
-  pub counted : first.asked ≡ 0 → now.stream.asked ≡ now.session.asked
-  pub most : now.session.asked ≤ most_reads
+  pub counted : first.reads ≡ 0 → now.stream.reads ≡ now.session.reads
+  pub most : now.session.reads ≤ most_reads
 
 -- a session that stood goes on standing
 pub record Keeps (worker : ℕ) (old new : Standing) : Type 0 where

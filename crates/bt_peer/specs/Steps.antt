@@ -70,7 +70,7 @@ EachAsksForNews pieces (m ∷ ms) old acts new =
 pub record TellsAllNews (pieces : ℕ) (messages : List Message) (old : PlaceRecord) (acts : List Act) (new : PlaceRecord) : Type 0 where
   pub turns : List Act
   pub mid : PlaceRecord
-  pub asked : EachAsksForNews pieces messages old turns mid
+  pub tells : EachAsksForNews pieces messages old turns mid
   pub leaves : Gains mid (Called marks.Leave replies.Quiet ∷ []) new
   pub parts : acts ≡ turns ++ Called marks.Leave replies.Quiet ∷ []
 

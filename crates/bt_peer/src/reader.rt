@@ -18,22 +18,22 @@ const ROOM: usize = 64 * 1024;
 pub fn hear<R: Source>(
     alloc: Global,
     inbound: &mut Inbound,
-    asked: &mut u64,
+    reads: &mut u64,
     reader: &mut R,
 ) -> Result<Option<Message>, SessionFault>
-    requires asked { asked.old ≤ most_reads }
+    requires reads { reads.old ≤ most_reads }
     ensures message { IfOk result (λ o. IfSome o (λ m. Hears inbound.old (R.left reader.old) (R.left reader.new) m inbound.new)) }
     ensures end { IfOk result (λ o. IfNone o (HearsEnd inbound.old (R.left reader.old) (R.left reader.new) (R.ended reader.new) inbound.new)) }
-    ensures fault { IfErr result (HearsFault inbound.old (R.left reader.old) (source_state R.left R.ended R.failed reader.new asked.new)) }
+    ensures fault { IfErr result (HearsFault inbound.old (R.left reader.old) (source_state R.left R.ended R.failed reader.new reads.new)) }
     ensures few { IfOk result (λ o. IfSome o (λ m.
-        length inbound.new.bytes + 4 + room_len * asked.old ≤ length inbound.old.bytes + room_len * asked.new)) }
+        length inbound.new.bytes + 4 + room_len * reads.old ≤ length inbound.old.bytes + room_len * reads.new)) }
     ensures sound { OnOk result (R.failed reader.new ≡ R.failed reader.old) }
-    ensures most { asked.new ≤ most_reads }
-    ensures counted { R.asked reader.old ≡ asked.old → R.asked reader.new ≡ asked.new }
+    ensures most { reads.new ≤ most_reads }
+    ensures counted { R.reads reader.old ≡ reads.old → R.reads reader.new ≡ reads.new }
 {
     match inbound.next(alloc)? {
         Some(message) => Ok(Some(message)),
-        None => hear_more(alloc, inbound, asked, reader),
+        None => hear_more(alloc, inbound, reads, reader),
     }
 }
 
@@ -41,50 +41,50 @@ pub fn hear<R: Source>(
 fn hear_more<R: Source>(
     alloc: Global,
     inbound: &mut Inbound,
-    asked: &mut u64,
+    reads: &mut u64,
     reader: &mut R,
 ) -> Result<Option<Message>, SessionFault>
-    requires asked { asked.old ≤ most_reads }
+    requires reads { reads.old ≤ most_reads }
     ensures message { IfOk result (λ o. IfSome o (λ m. Hears inbound.old (R.left reader.old) (R.left reader.new) m inbound.new)) }
     ensures end { IfOk result (λ o. IfNone o (HearsEnd inbound.old (R.left reader.old) (R.left reader.new) (R.ended reader.new) inbound.new)) }
-    ensures fault { IfErr result (HearsFault inbound.old (R.left reader.old) (source_state R.left R.ended R.failed reader.new asked.new)) }
+    ensures fault { IfErr result (HearsFault inbound.old (R.left reader.old) (source_state R.left R.ended R.failed reader.new reads.new)) }
     ensures few { IfOk result (λ o. IfSome o (λ m.
-        length inbound.new.bytes + 4 + room_len * asked.old ≤ length inbound.old.bytes + room_len * asked.new)) }
+        length inbound.new.bytes + 4 + room_len * reads.old ≤ length inbound.old.bytes + room_len * reads.new)) }
     ensures sound { OnOk result (R.failed reader.new ≡ R.failed reader.old) }
-    ensures most { asked.new ≤ most_reads }
-    ensures counted { R.asked reader.old ≡ asked.old → R.asked reader.new ≡ asked.new }
+    ensures most { reads.new ≤ most_reads }
+    ensures counted { R.reads reader.old ≡ reads.old → R.reads reader.new ≡ reads.new }
 {
     let mut room = [0; ROOM];
-    hear_into(alloc, inbound, asked, reader, &mut room)
+    hear_into(alloc, inbound, reads, reader, &mut room)
 }
 
 /// Reads to the room until a whole message is there.
 fn hear_into<R: Source>(
     alloc: Global,
     inbound: &mut Inbound,
-    asked: &mut u64,
+    reads: &mut u64,
     reader: &mut R,
     room: &mut [u8],
 ) -> Result<Option<Message>, SessionFault>
     requires room { (0 < length room.old) × (length room.old ≤ room_len) }
-    requires asked { asked.old ≤ most_reads }
+    requires reads { reads.old ≤ most_reads }
     ensures message { IfOk result (λ o. IfSome o (λ m. Hears inbound.old (R.left reader.old) (R.left reader.new) m inbound.new)) }
     ensures end { IfOk result (λ o. IfNone o (HearsEnd inbound.old (R.left reader.old) (R.left reader.new) (R.ended reader.new) inbound.new)) }
-    ensures fault { IfErr result (HearsFault inbound.old (R.left reader.old) (source_state R.left R.ended R.failed reader.new asked.new)) }
+    ensures fault { IfErr result (HearsFault inbound.old (R.left reader.old) (source_state R.left R.ended R.failed reader.new reads.new)) }
     ensures few { IfOk result (λ o. IfSome o (λ m.
-        length inbound.new.bytes + 4 + room_len * asked.old ≤ length inbound.old.bytes + room_len * asked.new)) }
+        length inbound.new.bytes + 4 + room_len * reads.old ≤ length inbound.old.bytes + room_len * reads.new)) }
     ensures sound { OnOk result (R.failed reader.new ≡ R.failed reader.old) }
-    ensures most { asked.new ≤ most_reads }
-    ensures counted { R.asked reader.old ≡ asked.old → R.asked reader.new ≡ asked.new }
+    ensures most { reads.new ≤ most_reads }
+    ensures counted { R.reads reader.old ≡ reads.old → R.reads reader.new ≡ reads.new }
 {
     'reads: loop {
         if let Some(message) = inbound.next(alloc)? {
             return Ok(Some(message));
         }
-        if *asked >= MOST {
+        if *reads >= MOST {
             return Err(SessionFault::ReadFault);
         }
-        *asked += 1;
+        *reads += 1;
         let count = reader.read(room)?;
         if count == 0 {
             return Ok(None);

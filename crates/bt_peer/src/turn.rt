@@ -12,10 +12,10 @@ ghost use Rattle.bt_peer.specs.Outlets.{WroteFront};
 ghost use Rattle.bt_peer.specs.Reader.{most_reads, room_len, source_state};
 ghost use Rattle.bt_peer.specs.Steps.{reading, surroundings, start, TakesTurn, TakesLeave, BreaksBy, Departs, Leaves};
 
-use crate::message::attend;
 use crate::fault::SessionFault;
-use crate::reader::hear;
+use crate::message::attend;
 use crate::place::Place;
+use crate::reader::hear;
 use crate::terms::Terms;
 use crate::writer::write_all;
 use bt_history::{Call, Reply};
@@ -28,7 +28,7 @@ use std::alloc::Global;
 #[derive(Drop)]
 pub struct Peer {
     pub inbound: Inbound,
-    pub asked: u64,
+    pub reads: u64,
     pub interested: bool,
 }
 
@@ -43,7 +43,7 @@ pub fn greet<R: Source, W: Sink, P: Place>(
     place: &mut P,
 ) -> Result<(), SessionFault>
     requires greeted { peer.old.inbound.greeted ≡ false }
-    requires asked { peer.old.asked ≤ most_reads }
+    requires reads { peer.old.reads ≤ most_reads }
     ensures ok { OnOk result (TakesTurn terms.now greeting.now
         (reading peer.old.inbound peer.old.interested) (surroundings P.past R.left W.written place.old reader.old writer.old)
         (reading peer.new.inbound peer.new.interested) (surroundings P.past R.left W.written place.new reader.new writer.new)) }
@@ -52,20 +52,20 @@ pub fn greet<R: Source, W: Sink, P: Place>(
         Conducts P.settles generator (P.past place.old).calls (P.past place.new).calls generator) }
     ensures ok_sound { OnOk result ((R.failed reader.new ≡ R.failed reader.old) × (W.failed writer.new ≡ W.failed writer.old)) }
     ensures few { OnOk result (
-        length peer.new.inbound.bytes + 4 + room_len * peer.old.asked ≤ length peer.old.inbound.bytes + room_len * peer.new.asked) }
+        length peer.new.inbound.bytes + 4 + room_len * peer.old.reads ≤ length peer.old.inbound.bytes + room_len * peer.new.reads) }
     ensures err { IfErr result (λ fault. (acts : List Act) × (GainsUpTo (P.past place.old) acts (P.past place.new)
         × (is_in false acts ≡ false)
         × WroteFront fault (W.written writer.old) (greeting.now ++ says peer.old.interested acts) (W.written writer.new)
         × BreaksBy fault (start terms.now false peer.old.inbound (R.left reader.old))
-        (source_state R.left R.ended R.failed reader.new peer.new.asked) acts)) }
+        (source_state R.left R.ended R.failed reader.new peer.new.reads) acts)) }
     ensures words { OnErr result ((generator : Stream) →
         DrawsWords generator (P.past place.old).calls (P.past place.new).calls) }
     ensures err_failed { IfErr result (λ fault. fault ≡ WriteFault → W.failed writer.new ≡ true) }
-    ensures most { peer.new.asked ≤ most_reads }
-    ensures counted { R.asked reader.old ≡ peer.old.asked → R.asked reader.new ≡ peer.new.asked }
+    ensures most { peer.new.reads ≤ most_reads }
+    ensures counted { R.reads reader.old ≡ peer.old.reads → R.reads reader.new ≡ peer.new.reads }
 {
     write_all(writer, greeting)?;
-    let Some(message) = hear(alloc, &mut peer.inbound, &mut peer.asked, reader)? else {
+    let Some(message) = hear(alloc, &mut peer.inbound, &mut peer.reads, reader)? else {
         return Err(SessionFault::Truncated);
     };
     let Message::Hello(hello) = message else {
@@ -104,12 +104,12 @@ pub fn listen<R: Source, W: Sink, P: Place, N: Rng>(
     rng: &mut N,
 ) -> Result<bool, SessionFault>
     requires greeted { peer.old.inbound.greeted ≡ true }
-    requires asked { peer.old.asked ≤ most_reads }
+    requires reads { peer.old.reads ≤ most_reads }
     ensures goes_on { IfOk result (λ goes_on. OnTrue goes_on (TakesTurn terms.now []
         (reading peer.old.inbound peer.old.interested) (surroundings P.past R.left W.written place.old reader.old writer.old)
         (reading peer.new.inbound peer.new.interested) (surroundings P.past R.left W.written place.new reader.new writer.new))) }
     ensures few { IfOk result (λ goes_on. OnTrue goes_on
-        (length peer.new.inbound.bytes + 4 + room_len * peer.old.asked ≤ length peer.old.inbound.bytes + room_len * peer.new.asked)) }
+        (length peer.new.inbound.bytes + 4 + room_len * peer.old.reads ≤ length peer.old.inbound.bytes + room_len * peer.new.reads)) }
     ensures leaves { IfOk result (λ goes_on. OnFalse goes_on (TakesLeave
         (reading peer.old.inbound peer.old.interested) (surroundings P.past R.left W.written place.old reader.old writer.old) (R.ended reader.new)
         (reading peer.new.inbound peer.new.interested) (surroundings P.past R.left W.written place.new reader.new writer.new))) }
@@ -121,13 +121,13 @@ pub fn listen<R: Source, W: Sink, P: Place, N: Rng>(
         × Departs (is_in true acts) (P.past place.new).short leave
         × WroteFront fault (W.written writer.old) (says peer.old.interested acts) (W.written writer.new)
         × BreaksBy fault (start terms.now true peer.old.inbound (R.left reader.old))
-        (source_state R.left R.ended R.failed reader.new peer.new.asked) acts))) }
+        (source_state R.left R.ended R.failed reader.new peer.new.reads) acts))) }
     ensures words { OnErr result (DrawsWords (N.stream rng.old) (P.past place.old).calls (P.past place.new).calls) }
     ensures err_failed { IfErr result (λ fault. fault ≡ WriteFault → W.failed writer.new ≡ true) }
-    ensures most { peer.new.asked ≤ most_reads }
-    ensures counted { R.asked reader.old ≡ peer.old.asked → R.asked reader.new ≡ peer.new.asked }
+    ensures most { peer.new.reads ≤ most_reads }
+    ensures counted { R.reads reader.old ≡ peer.old.reads → R.reads reader.new ≡ peer.new.reads }
 {
-    let message = match hear(alloc, &mut peer.inbound, &mut peer.asked, reader) {
+    let message = match hear(alloc, &mut peer.inbound, &mut peer.reads, reader) {
         Ok(Some(message)) => message,
         Ok(None) if peer.inbound.rest() > 0 => {
             return Err(leave_by(alloc, place, SessionFault::Truncated));

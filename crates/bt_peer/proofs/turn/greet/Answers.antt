@@ -22,7 +22,7 @@ returns-in_err-message-clause-err g c =
 pub returns-in-Refused-clause-err : goal.returns-in-Refused-clause-err
 returns-in-Refused-clause-err g c =
     let old = start c.args.terms.now false c.args.peer.now.inbound (g.R.Source.left c.args.reader.now) in
-    let source = source_state g.R.Source.left g.R.Source.ended g.R.Source.failed c.hear.new.reader c.hear.new.asked in
+    let source = source_state g.R.Source.left g.R.Source.ended g.R.Source.failed c.hear.new.reader c.hear.new.reads in
     join_refused c.in-Refused.reason c.args.greeting.now c.args.peer.now.interested c.in-Hello.hello c.hear.new.inbound old source _ _ _ _
     c.in_ok-write_all.ensures.ok
     (rw (c.in-Some.is, c.in-Hello.is) at c.in_ok-message.ensures.message) (rw c.in-Refused.is at c.in_ok-reason.ensures.ok)

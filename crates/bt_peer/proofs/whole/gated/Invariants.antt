@@ -11,7 +11,7 @@ invariant-turns g l = record {
   running : Running (terms_of l.fn.torrent.value l.fn.depth) l.fn.worker
       (surroundings g.P.Place.past g.R.Source.left g.W.Sink.written l.fn.place l.fn.reader l.fn.writer) l.session
       (surroundings g.P.Place.past g.R.Source.left g.W.Sink.written l.place l.reader l.writer);
-  counted : g.R.Source.asked l.fn.reader ≡ 0 → g.R.Source.asked l.reader ≡ l.session.asked;
+  counted : g.R.Source.reads l.fn.reader ≡ 0 → g.R.Source.reads l.reader ≡ l.session.reads;
   failed : g.R.Source.failed l.reader ≡ g.R.Source.failed l.fn.reader;
   writer_failed : g.W.Sink.failed l.writer ≡ g.W.Sink.failed l.fn.writer;
   conduct : Conducts g.P.Place.settles (answers_of l.fn.rng) (g.P.Place.past l.fn.place).calls (g.P.Place.past l.place).calls (answers_of l.rng);

@@ -39,7 +39,7 @@ pub returns-clause-plays : goal.returns-clause-plays
 returns-clause-plays g c =
     rw (c.part-came_back.ensures.ends, c.part-came_back.ensures.streams)
     (all_play (parted g c)
-    (stream_record g.R.Source.left g.R.Source.ended g.R.Source.failed g.R.Source.asked g.W.Sink.written g.W.Sink.failed)
+    (stream_record g.R.Source.left g.R.Source.ended g.R.Source.failed g.R.Source.reads g.W.Sink.written g.W.Sink.failed)
     (terms_of c.args.commons.now c.args.depth) g.L.RunName.setting c.args.seed c.args.streams.items
     (map (λ p. p.stream) c.in_ok-joined.joined.played.items) (map (λ p. p.end) c.in_ok-joined.joined.played.items) refl
     c.in_ok-joined.ensures.plays)
