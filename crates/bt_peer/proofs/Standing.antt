@@ -98,7 +98,7 @@ whole_later end terms worker out old new later whole = record {
   news = record {
     turns = whole.news.turns;
     mid = whole.news.mid;
-    reads = whole.news.tells;
+    tells = whole.news.tells;
     leaves = gains_later whole.news.mid _ old.past new.past whole.news.leaves later.gains;
     parts = whole.news.parts;
   };
