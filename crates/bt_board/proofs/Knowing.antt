@@ -1,5 +1,6 @@
 -- What a seat knows, as truth values.
-use Rattle.std.proofs.Common.{◌≡◌, ◌≢◌, ◌⊎◌, ◌↔◌, ℕ, zero, suc, ◌+◌, ◌/◌, ◌%◌, ◌<◌, Bool, true, false, List, [], ◌∷◌, length, refl, sym, ap, ◌∙◌, inl, inr, ⊎_elim, arith, ◌==◌}
+use Rattle.std.proofs.Common.{◌≡◌, ◌≢◌, ◌⊎◌, ◌↔◌, ℕ, zero, suc, ◌+◌, ◌/◌, ◌%◌, ◌<◌, Bool, true, false, List, [], ◌∷◌, length, refl, sym, ap, ◌∙◌}
+use Rattle.std.proofs.Common.{inl, inr, ⊎_elim, arith, ◌==◌}
 use Rattle.std.specs.Prelude.{◌||◌, nat_lt, slice_index, if◌then◌else◌}
 use Rattle.std.specs.Bool.{Decides}
 use Rattle.std.specs.Int.{bit_at}
@@ -25,7 +26,8 @@ marked_decides v p =
 loaded_decides : (v : View) (p : ℕ) → Decides (loads_have v.loads p) (Loaded v p)
 loaded_decides v p =
     has_decides (λ (l : Load). (l.word ≡ p / 64) × (bit_at l.found (p % 64) ≡ 1)) (λ l. found_by l p) (λ ls. loads_have ls p)
-    (λ l. Decides-and (l.word == p / 64) (bit_at l.found (p % 64) == 1) (Decides-eqb l.word (p / 64)) (Decides-eqb (bit_at l.found (p % 64)) 1)) refl (λ l ls. refl) v.loads
+    (λ l. Decides-and (l.word == p / 64) (bit_at l.found (p % 64) == 1) (Decides-eqb l.word (p / 64)) (Decides-eqb (bit_at l.found (p % 64)) 1)) refl
+    (λ l ls. refl) v.loads
 
 pub seen_decides : (pieces : ℕ) (v : View) (p : ℕ) → Decides (has_seen pieces v p) ((p < pieces) × Seen v p)
 seen_decides pieces v p =
@@ -40,7 +42,8 @@ pub seen_stays : (pieces : ℕ) (v w : View) → ((p : ℕ) → Seen v p → See
 seen_stays pieces v w more p is = let was = (seen_decides pieces v p).0 is in (seen_decides pieces w p).1 (was.0, more p was.1)
 
 pub seen_with_loads : (v : View) (found : List ℕ) (p : ℕ) → Seen v p → Seen (with_loads v found) p
-seen_with_loads v found p seen = ⊎_elim (λ m. inl m) (λ l. inr (has_front (λ (x : Load). (x.word ≡ p / 64) × (bit_at x.found (p % 64) ≡ 1)) v.loads (loads_from 0 found) l)) seen
+seen_with_loads v found p seen = ⊎_elim (λ m. inl m) (λ l. inr
+    (has_front (λ (x : Load). (x.word ≡ p / 64) × (bit_at x.found (p % 64) ≡ 1)) v.loads (loads_from 0 found) l)) seen
 
 found_in : (a : ℕ) (xs : List ℕ) (p k : ℕ) → k < length xs → a + k ≡ p / 64 → bit_at (slice_index xs k) (p % 64) ≡ 1
     → Has (λ (x : Load). (x.word ≡ p / 64) × (bit_at x.found (p % 64) ≡ 1)) (loads_from a xs)
@@ -51,7 +54,8 @@ found_in a (x ∷ xs) p (suc k) lt at is = inr (found_in (a + 1) xs p k (omega a
 -- what the loads of the first words found was seen
 pub seen_found : (v : View) (found : List ℕ) (p : ℕ) → p / 64 < length found → IsSet found p → Seen (with_loads v found) p
 seen_found v found p lt is =
-    inr (has_back (λ (x : Load). (x.word ≡ p / 64) × (bit_at x.found (p % 64) ≡ 1)) v.loads (loads_from 0 found) (found_in 0 found p (p / 64) lt (omega arith) is))
+    inr (has_back (λ (x : Load). (x.word ≡ p / 64) × (bit_at x.found (p % 64) ≡ 1)) v.loads (loads_from 0 found)
+    (found_in 0 found p (p / 64) lt (omega arith) is))
 
 pub seen_with_mark : (v : View) (m : Mark) (p : ℕ) → Seen v p → Seen (with_mark v m) p
 seen_with_mark v m p seen = ⊎_elim (λ x. inl (has_front (λ (x : Mark). x.piece ≡ p) v.marks (m ∷ []) x)) (λ l. inr l) seen
@@ -73,14 +77,16 @@ given_by_test false given given' p q is one =
     (λ on. (given_decides given' q).1 (one.1 (inl ((given_decides given q).0 on))))
     ∙ sym (ap (λ (b : Bool). if b then true else has_given given q) is)
 
-pub given_more : (given given' : List ℕ) (p : ℕ) → ((q : ℕ) → IsSet given' q ↔ (IsSet given q ⊎ (q ≡ p))) → (q : ℕ) → has_given given' q ≡ (if q == p then true else has_given given q)
+pub given_more : (given given' : List ℕ) (p : ℕ) → ((q : ℕ) → IsSet given' q ↔ (IsSet given q ⊎ (q ≡ p))) → (q : ℕ) →
+    has_given given' q ≡ (if q == p then true else has_given given q)
 given_more given given' p one q = given_by_test (q == p) given given' p q refl (one q)
 
 pub not_given : (given : List ℕ) (p : ℕ) → ¬ IsSet given p → has_given given p ≡ false
 not_given given p isnt = false_from_ne_true (has_given given p) (λ on. isnt ((given_decides given p).0 on))
 
 -- each piece that was seen was given
-pub all_given : (pieces : ℕ) (v : View) (given : List ℕ) → ((p : ℕ) → p < pieces → Seen v p → IsSet given p) → (p : ℕ) → has_seen pieces v p ≡ true → has_given given p ≡ true
+pub all_given : (pieces : ℕ) (v : View) (given : List ℕ) → ((p : ℕ) → p < pieces → Seen v p → IsSet given p) → (p : ℕ) → has_seen pieces v p ≡ true →
+    has_given given p ≡ true
 all_given pieces v given all p is = let was = (seen_decides pieces v p).0 is in (given_decides given p).1 (all p was.0 was.1)
 
 -- a seat with nothing seen, and one with nothing given

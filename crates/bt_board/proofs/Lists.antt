@@ -1,5 +1,6 @@
 -- Lists read by `get_elem?`, and `Has` and `Each` of a list and more.
-use Rattle.std.proofs.Common.{◌≡◌, ◌⊎◌, ℕ, zero, suc, ◌+◌, ◌<◌, ◌≤◌, List, [], ◌∷◌, ◌++◌, length, get_or, map, set, sym, refl, ap, ◌∙◌, length-append, zero-add, inl, inr, ⊎_elim, arith}
+use Rattle.std.proofs.Common.{◌≡◌, ◌⊎◌, ℕ, zero, suc, ◌+◌, ◌<◌, ◌≤◌, List, [], ◌∷◌, ◌++◌, length, get_or, map, set, sym, refl, ap, ◌∙◌}
+use Rattle.std.proofs.Common.{length-append, zero-add, inl, inr, ⊎_elim, arith}
 use Rattle.std.specs.List.{range_with_len}
 use Rattle.std.proofs.lemmas.List.FromFn.{map-range_with_len_more}
 use mathlib.Core.Option.{some, some-injective, some-ne-none}
@@ -41,7 +42,8 @@ module _ {A : Type 0} where
   each_at P [] Q p h = absurd h
   each_at P (x ∷ xs) Q p h = ⊎_elim (λ here. (x, p.0, here)) (λ there. each_at P xs Q p.1 there) h
 
-  pub at_appended : (xs : List A) (a b : A) (i : ℕ) → get_elem? (xs ++ a ∷ []) i ≡ some b → ((get_elem? xs i ≡ some b) × (i < length xs)) ⊎ ((i ≡ length xs) × (a ≡ b))
+  pub at_appended : (xs : List A) (a b : A) (i : ℕ) → get_elem? (xs ++ a ∷ []) i ≡ some b →
+      ((get_elem? xs i ≡ some b) × (i < length xs)) ⊎ ((i ≡ length xs) × (a ≡ b))
   at_appended [] a b zero e = inr (refl, some-injective a b e)
   at_appended [] a b (suc i) e = absurd (some-ne-none b (sym e))
   at_appended (x ∷ xs) a b zero e = inl (e, omega arith)
@@ -68,11 +70,14 @@ module _ {A : Type 0} where
 
 pub in_range : (a n s : ℕ) → Has (λ r. r ≡ s) (range_with_len a n) → (a ≤ s) × (s < a + n)
 in_range a zero s h = absurd h
-in_range a (suc n) s h = ⊎_elim (λ (here : a ≡ s). (omega arith, omega arith)) (λ there. let r = in_range (a + 1) n s there in let low = r.0 in let high = r.1 in (omega arith, omega arith)) h
+in_range a (suc n) s h = ⊎_elim (λ (here : a ≡ s). (omega arith, omega arith))
+    (λ there. let r = in_range (a + 1) n s there in let low = r.0 in let high = r.1 in (omega arith, omega arith)) h
 
 -- one more item of a list whose k-th is g k
-pub listed_more : {A : Type 0} (g : ℕ → A) (xs ys : List A) (x : A) → ys ≡ xs ++ x ∷ [] → x ≡ g (length xs) → xs ≡ map g (range_with_len 0 (length xs))
+pub listed_more : {A : Type 0} (g : ℕ → A) (xs ys : List A) (x : A) → ys ≡ xs ++ x ∷ [] → x ≡ g (length xs) →
+    xs ≡ map g (range_with_len 0 (length xs))
     → ys ≡ map g (range_with_len 0 (length ys))
 listed_more g xs ys x more is so_far =
     let n : length ys ≡ length xs + 1 = ap length more ∙ length-append xs (x ∷ []) in
-    more ∙ (λ i. so_far i ++ is i ∷ []) ∙ sym (map-range_with_len_more g 0 (length xs) (length xs) (zero-add (length xs))) ∙ ap (λ (k : ℕ). map g (range_with_len 0 k)) (sym n)
+    more ∙ (λ i. so_far i ++ is i ∷ []) ∙ sym (map-range_with_len_more g 0 (length xs) (length xs) (zero-add (length xs))) ∙
+    ap (λ (k : ℕ). map g (range_with_len 0 k)) (sym n)

@@ -1,5 +1,6 @@
 -- What the loop of `news` knows, and what it gives.
-use Rattle.std.proofs.Common.{◌≡◌, ◌⊎◌, ◌↔◌, ℕ, zero, suc, ◌+◌, ◌*◌, ◌/◌, ◌%◌, ◌^◌, ◌<◌, List, [], ◌∷◌, ◌++◌, length, set, sym, refl, ap, subst, ◌∙◌, inl, inr, ⊎_elim, bit_or, append_assoc, length-append, arith, div-add-mod', lt_of_not-le}
+use Rattle.std.proofs.Common.{◌≡◌, ◌⊎◌, ◌↔◌, ℕ, zero, suc, ◌+◌, ◌*◌, ◌/◌, ◌%◌, ◌^◌, ◌<◌, List, [], ◌∷◌, ◌++◌, length, set, sym, refl, ap, subst}
+use Rattle.std.proofs.Common.{◌∙◌, inl, inr, ⊎_elim, bit_or, append_assoc, length-append, arith, div-add-mod', lt_of_not-le}
 use Rattle.std.specs.Prelude.{slice_index}
 use Rattle.std.specs.Int.{bit_at}
 use Rattle.std.proofs.lemmas.List.{append-nil, get_or_append_left, get_or_past}
@@ -54,16 +55,19 @@ last_is (x ∷ xs) y zero e = absurd (omega arith)
 last_is (x ∷ xs) y (suc n) e = last_is xs y n (omega arith)
 
 seen_more : (v : View) (found : List ℕ) (q : ℕ) → Seen v q → Seen (with_loads v found) q
-seen_more v found q seen = ⊎_elim (λ m. inl m) (λ l. inr (has_front (λ (x : Load). (x.word ≡ q / 64) × (bit_at x.found (q % 64) ≡ 1)) v.loads (loads_from 0 found) l)) seen
+seen_more v found q seen = ⊎_elim (λ m. inl m) (λ l. inr (has_front (λ (x : Load). (x.word ≡ q / 64) × (bit_at x.found (q % 64) ≡ 1)) v.loads
+    (loads_from 0 found) l)) seen
 
-pub next : (v : View) (given : List ℕ) (n pieces : ℕ) (w w' : View) (value : ℕ) → Looked v given n w → Finds pieces w n value w' → Next v given n w' value
+pub next : (v : View) (given : List ℕ) (n pieces : ℕ) (w w' : View) (value : ℕ) → Looked v given n w → Finds pieces w n value w' →
+    Next v given n w' value
 next v given n pieces w w' value so_far load_found =
     let step = load_found.lists in
     let seen = load_found.known in
     let xs = so_far.found in
     let ys = xs ++ value ∷ [] in
     let Bit : ℕ → ℕ → Type 0 = λ q k. bit_at k (q % 64) ≡ 1 in
-    let before : (q : ℕ) → q / 64 < n → slice_index ys (q / 64) ≡ slice_index xs (q / 64) = λ q lt. get_or_append_left xs (value ∷ []) 0 (q / 64) (let c = so_far.count in omega arith) in
+    let before : (q : ℕ) → q / 64 < n → slice_index ys (q / 64) ≡ slice_index xs (q / 64) =
+    λ q lt. get_or_append_left xs (value ∷ []) 0 (q / 64) (let c = so_far.count in omega arith) in
     let at : (q : ℕ) → q / 64 ≡ n → slice_index ys (q / 64) ≡ value = λ q e. ap (slice_index ys) e ∙ last_is xs value n so_far.count in
     let long : length ys ≡ n + 1 = length-append xs (value ∷ []) ∙ ap (λ (k : ℕ). k + 1) so_far.count in
     let shown : (q : ℕ) → Seen v q → Seen w q = λ q s. subst (λ (u : View). Seen u q) (sym so_far.now) (seen_more v xs q s) in
@@ -71,7 +75,8 @@ next v given n pieces w w' value so_far load_found =
       found = ys;
       count = long;
       now = step ∙ ap (λ (u : View). with_load u (load n value)) so_far.now
-          ∙ ap (λ (l : List Load). view v.marks l v.seats) (append_assoc v.loads (loads_from 0 xs) (load n value ∷ []) ∙ ap (λ (l : List Load). v.loads ++ l) (sym (loads_more 0 xs value n (let c = so_far.count in omega arith))));
+          ∙ ap (λ (l : List Load). view v.marks l v.seats) (append_assoc v.loads (loads_from 0 xs) (load n value ∷ []) ∙
+          ap (λ (l : List Load). v.loads ++ l) (sym (loads_more 0 xs value n (let c = so_far.count in omega arith))));
       here = λ q e h. subst (Bit q) (sym (at q e)) h;
       old = λ q h. dite (ℕ_discrete (q / 64) n) (λ e. inr (e, subst (Bit q) (at q e) h))
           (λ ne. dite (dec_le n (q / 64)) (λ high. absurd (no_bit q (subst (Bit q) (get_or_past ys (q / 64) 0 (omega arith)) h)))
@@ -81,13 +86,15 @@ next v given n pieces w w' value so_far load_found =
     }
 
 -- where the word had no bit that is new
-pub goes_on : (v : View) (given given' : List ℕ) (n : ℕ) (w : View) (value : ℕ) → Next v given n w value → GivesNone n value given given' → Looked v given (n + 1) w
+pub goes_on : (v : View) (given given' : List ℕ) (n : ℕ) (w : View) (value : ℕ) → Next v given n w value → GivesNone n value given given' →
+    Looked v given (n + 1) w
 goes_on v given given' n w value more none_new = record {
   found = more.found;
   count = more.count;
   now = more.now;
   old = λ q h. ⊎_elim (λ before. before)
-      (λ (here : (q / 64 ≡ n) × (bit_at value (q % 64) ≡ 1)). subst (λ (k : ℕ). bit_at (slice_index given k) (q % 64) ≡ 1) (sym here.0) (none_new.all (q % 64) here.1)) (more.old q h);
+      (λ (here : (q / 64 ≡ n) × (bit_at value (q % 64) ≡ 1)). subst (λ (k : ℕ). bit_at (slice_index given k) (q % 64) ≡ 1) (sym here.0)
+      (none_new.all (q % 64) here.1)) (more.old q h);
   known = more.known;
 }
 
@@ -99,7 +106,8 @@ bit_in n b lt = mod-mul-add n 64 b lt
 
 -- where the piece p of the word is the least that is new
 pub gives : (v : View) (given given' : List ℕ) (n : ℕ) (w : View) (value p : ℕ) → Next v given n w value → Gives n value given given' p
-    → (found : List ℕ) × (length found ≡ p / 64 + 1) × (w ≡ with_loads v found) × IsSet found p × (¬ IsSet given p) × ((q : ℕ) → q < p → IsSet found q → IsSet given q)
+    → (found : List ℕ) × (length found ≡ p / 64 + 1) × (w ≡ with_loads v found) × IsSet found p × (¬ IsSet given p) ×
+    ((q : ℕ) → q < p → IsSet found q → IsSet given q)
 gives v given given' n w value p more one =
     let at = one.word_is in
     let count = more.count in (
@@ -115,18 +123,21 @@ gives v given given' n w value p more one =
     )
 
 -- the bit b of the word n was added to what was given
-pub gave : (given : List ℕ) (n b x : ℕ) → b < 64 → n < length given → x ≡ slice_index given n → (q : ℕ) → IsSet (set given n (bit_or x (1 * 2 ^ b % 2 ^ 64))) q ↔ (IsSet given q ⊎ (q ≡ n * 64 + b))
+pub gave : (given : List ℕ) (n b x : ℕ) → b < 64 → n < length given → x ≡ slice_index given n → (q : ℕ) →
+    IsSet (set given n (bit_or x (1 * 2 ^ b % 2 ^ 64))) q ↔ (IsSet given q ⊎ (q ≡ n * 64 + b))
 gave given n b x lt within is q =
     let p = n * 64 + b in
     let row = row_of n b lt in
     let col = bit_in n b lt in
     let same : set given n (bit_or x (1 * 2 ^ b % 2 ^ 64)) ≡ with_bit given p
-    = (λ i. set given (sym row i) (bit_or (is i) (1 * 2 ^ (sym col i) % 2 ^ 64))) ∙ ap (λ (k : ℕ). set given (p / 64) (bit_or (slice_index given k) (1 * 2 ^ (p % 64) % 2 ^ 64))) (sym row) in
+    = (λ i. set given (sym row i) (bit_or (is i) (1 * 2 ^ (sym col i) % 2 ^ 64))) ∙
+    ap (λ (k : ℕ). set given (p / 64) (bit_or (slice_index given k) (1 * 2 ^ (p % 64) % 2 ^ 64))) (sym row) in
     let inside : p / 64 < length given = rw row within in
     let P : List ℕ → Type 0 = λ l. IsSet l q ↔ (IsSet given q ⊎ (q ≡ p)) in
     subst P (sym same) (
       (λ h. ⊎_elim (λ old. inl old) (λ e. inr (sym e)) (newly_set given p q inside h)),
-      (λ h. ⊎_elim (λ old. still_set given p q inside old) (λ (e : q ≡ p). subst (λ (k : ℕ). IsSet (with_bit given p) k) (sym e) (set_here given p inside)) h),
+      (λ h. ⊎_elim (λ old. still_set given p q inside old) (λ (e : q ≡ p).
+          subst (λ (k : ℕ). IsSet (with_bit given p) k) (sym e) (set_here given p inside)) h),
     )
 
 -- where the bit b is the least of the word's that is new, and was added
@@ -138,12 +149,14 @@ gives_bit given given' n b value x lt is isnt least within was now =
     let col = bit_in n b lt in record {
       word_is = row;
       is_set = subst (λ (k : ℕ). bit_at value k ≡ 1) (sym col) is;
-      is_new = λ before. let same : bit_at (slice_index given n) b ≡ 1 = (λ i. bit_at (slice_index given (sym row i)) (sym col i)) ∙ before in omega arith;
+      is_new = λ before. let same : bit_at (slice_index given n) b ≡ 1 = (λ i. bit_at (slice_index given (sym row i)) (sym col i)) ∙ before in
+          omega arith;
       least = λ i below. least i (omega arith);
       adds = λ q. subst (λ (l : List ℕ). IsSet l q ↔ (IsSet given q ⊎ (q ≡ n * 64 + b))) (sym now) (gave given n b x lt within was q);
     }
 
-loaded_in : (a : ℕ) (xs : List ℕ) (q : ℕ) → Has (λ (x : Load). (x.word ≡ q / 64) × (bit_at x.found (q % 64) ≡ 1)) (loads_from a xs) → (k : ℕ) × (a + k ≡ q / 64) × (bit_at (slice_index xs k) (q % 64) ≡ 1)
+loaded_in : (a : ℕ) (xs : List ℕ) (q : ℕ) → Has (λ (x : Load). (x.word ≡ q / 64) × (bit_at x.found (q % 64) ≡ 1)) (loads_from a xs) →
+    (k : ℕ) × (a + k ≡ q / 64) × (bit_at (slice_index xs k) (q % 64) ≡ 1)
 loaded_in a [] q h = absurd h
 loaded_in a (x ∷ xs) q h = ⊎_elim (λ (here : (a ≡ q / 64) × (bit_at x (q % 64) ≡ 1)). (0, (let e = here.0 in omega arith), here.1))
     (λ there. let r = loaded_in (a + 1) xs q there in let e = r.1 in (suc r.0, omega arith, r.2)) h

@@ -1,5 +1,6 @@
 -- Each atomic step keeps the story.
-use Rattle.std.proofs.Common.{◌≡◌, ◌≢◌, ◌⊎◌, ◌↔◌, Bool, true, false, lt_of_not-le, ℕ, zero, suc, ◌+◌, ◌-◌, ◌/◌, ◌%◌, ◌<◌, ◌≤◌, List, [], ◌∷◌, ◌++◌, length, get_or, set, replicate, sym, refl, ap, subst, ◌∙◌, inl, inr, ⊎_elim, bit_or, arith, length-set}
+use Rattle.std.proofs.Common.{◌≡◌, ◌≢◌, ◌⊎◌, ◌↔◌, Bool, true, false, lt_of_not-le, ℕ, zero, suc, ◌+◌, ◌-◌, ◌/◌, ◌%◌, ◌<◌, ◌≤◌, List, [], ◌∷◌, ◌++◌}
+use Rattle.std.proofs.Common.{length, get_or, set, replicate, sym, refl, ap, subst, ◌∙◌, inl, inr, ⊎_elim, bit_or, arith, length-set}
 use Rattle.std.proofs.lemmas.List.{set-get_or, length-replicate, get_or-set_same, get_or-set_other}
 use Rattle.std.specs.Prelude.{slice_index}
 use Rattle.std.specs.Int.{bit_at}
@@ -14,9 +15,11 @@ use Rattle.bt_meta.specs.Layout.{Layout, piece_count}
 use Rattle.bt_board.specs.declared.view.Mark.{Mark}
 use Rattle.bt_board.specs.declared.view.Load.{Load}
 use Rattle.bt_board.specs.declared.view.View.{View}
-use Rattle.bt_board.specs.Story.{Has, Each, IsSet, words_of, view, load, fresh, without_first, first_of, with_mark, with_load, both, spent, Marked, Seen, StandsFor, IsProven, Story}
+use Rattle.bt_board.specs.Story.{Has, Each, IsSet, words_of, view, load, fresh, without_first, first_of, with_mark, with_load, both, spent, Marked}
+use Rattle.bt_board.specs.Story.{Seen, StandsFor, IsProven, Story}
 use Rattle.bt_board.specs.Steps.{Looks, Announces}
-use Rattle.bt_board.proofs.Lists.{same_item, set_at, has_front, has_back, has_parts, has_last, has_snoc, each_append, each_at, at_appended, in_range, append_nil_left}
+use Rattle.bt_board.proofs.Lists.{same_item, set_at, has_front, has_back, has_parts, has_last, has_snoc, each_append, each_at, at_appended}
+use Rattle.bt_board.proofs.Lists.{in_range, append_nil_left}
 use Rattle.bt_board.proofs.BitRows.{bit_of, with_bit, set_here as bit_set, still_set, newly_set, none_set, word_below}
 
 -- a view that changes and still stands for its seats, with words in which just the bits that it has marked are new
@@ -30,14 +33,26 @@ changed : (t : Layout) (n : ℕ) (words words' : List ℕ) (views : List View) (
     → Story t n words' (set views id w)
 changed t n words words' views id v w s at same_length same_seats stands more stays comes shown right =
     let Old : ℕ → View → Type 0 = λ j u. (get_elem? views j ≡ some u) ⊎ ((j ≡ id) × (w ≡ u)) in
-    let old : (j : ℕ) (u : View) → get_elem? (set views id w) j ≡ some u → Old j u = λ j u e. ⊎_elim (λ x. inr x) (λ x. inl x.1) (at_set views id j w u e) in
+    let old : (j : ℕ) (u : View) → get_elem? (set views id w) j ≡ some u → Old j u =
+    λ j u e. ⊎_elim (λ x. inr x) (λ x. inl x.1) (at_set views id j w u e) in
     let was : (j : ℕ) (u : View) → get_elem? (set views id w) j ≡ some u → (o : View) × (get_elem? views j ≡ some o) × (u.seats ≡ o.seats)
-    = λ j u e. ⊎_elim (λ o. (u, o, refl)) (λ x. (v, subst (λ (k : ℕ). get_elem? views k ≡ some v) (sym x.0) at, ap (λ (y : View). y.seats) (sym x.1) ∙ same_seats)) (old j u e) in
+    = λ j u e. ⊎_elim (λ o. (u, o, refl)) (λ x. (
+      v,
+      subst (λ (k : ℕ). get_elem? views k ≡ some v) (sym x.0) at,
+      ap (λ (y : View). y.seats) (sym x.1) ∙
+          same_seats,
+    )) (old j u e) in
     record {
       wide = same_length ∙ s.wide;
       marked = λ p is. ⊎_elim
           (λ before. let m = s.marked p before in dite (ℕ_discrete m.0 id)
-          (λ e. (id, w, set_at views id v w at, more p (subst (λ (u : View). Marked u p) (same_item views m.0 m.1 v m.2 (subst (λ (k : ℕ). get_elem? views k ≡ some v) (sym e) at)) m.3)))
+          (λ e. (
+            id,
+            w,
+            set_at views id v w at,
+            more p (subst (λ (u : View). Marked u p)
+                (same_item views m.0 m.1 v m.2 (subst (λ (k : ℕ). get_elem? views k ≡ some v) (sym e) at)) m.3),
+          ))
           (λ ne. (m.0, m.1, set_else views id m.0 w ne ∙ m.2, m.3)))
           (λ new. (id, w, set_at views id v w at, new)) (comes p is);
       seen = λ j u e p h. ⊎_elim (λ o. stays p (s.seen j u o p h)) (λ x. shown p (subst (λ (y : View). Seen y p) (sym x.1) h)) (old j u e);
@@ -71,7 +86,8 @@ looks t n slots id word v cs stands pieces are s h len at bound =
     let w = with_load v (load word found) in
     let same : set s.words word found ≡ s.words = set-get_or s.words word 0 in
     let shown : (p : ℕ) → Seen w p → IsSet s.words p = λ p seen. ⊎_elim (λ m. h.seen id v at p (inl m))
-    (λ l. ⊎_elim (λ old. h.seen id v at p (inr old)) (λ (new : (word ≡ p / 64) × (bit_at found (p % 64) ≡ 1)). subst (λ (k : ℕ). bit_at (slice_index s.words k) (p % 64) ≡ 1) new.0 new.1)
+    (λ l. ⊎_elim (λ old. h.seen id v at p (inr old)) (λ (new : (word ≡ p / 64) × (bit_at found (p % 64) ≡ 1)).
+    subst (λ (k : ℕ). bit_at (slice_index s.words k) (p % 64) ≡ 1) new.0 new.1)
     (has_snoc (λ (l : Load). (l.word ≡ p / 64) × (bit_at l.found (p % 64) ≡ 1)) v.loads (load word found) l)) seen in (
       w,
       keeps,
@@ -88,21 +104,26 @@ looks t n slots id word v cs stands pieces are s h len at bound =
     )
 
 pub announces : (t : Layout) (n slots id : ℕ) (m : Mark) (v : View) (cs : List (ℕ × Unit {0})) → v.seats ≢ [] → IsProven t m
-    → Allows (Holds t n) slots id (v, cs) (m.piece / 64) (λ k. bit_or k (bit_of m.piece)) (Announces m (step slots (m.piece / 64) (bit_of m.piece) 0 none) (v, cs))
+    → Allows (Holds t n) slots id (v, cs) (m.piece / 64) (λ k. bit_or k (bit_of m.piece))
+    (Announces m (step slots (m.piece / 64) (bit_of m.piece) 0 none) (v, cs))
 announces t n slots id m v cs stands proven s h len at bound =
     let w = with_mark v m in
     let words' = with_bit s.words m.piece in
     let lt : m.piece / 64 < length s.words = rw h.wide (word_below m.piece (piece_count t) proven.0) in
     let stays : (q : ℕ) → IsSet s.words q → IsSet words' q = λ q is. still_set s.words m.piece q lt is in
     let shown : (q : ℕ) → Seen w q → IsSet words' q = λ q seen. ⊎_elim
-    (λ marked. ⊎_elim (λ old. stays q (h.seen id v at q (inl old))) (λ (e : m.piece ≡ q). subst (λ (k : ℕ). IsSet words' k) e (bit_set s.words m.piece lt)) (has_snoc (λ (x : Mark). x.piece ≡ q) v.marks m marked))
+    (λ marked. ⊎_elim (λ old. stays q (h.seen id v at q (inl old)))
+    (λ (e : m.piece ≡ q). subst (λ (k : ℕ). IsSet words' k) e (bit_set s.words m.piece lt))
+    (has_snoc (λ (x : Mark). x.piece ≡ q) v.marks m marked))
     (λ loaded. stays q (h.seen id v at q (inr loaded))) seen in (
       w,
       keeps,
       tt,
-      changed t n s.words words' s.views id v w h at (length-set s.words (m.piece / 64) (bit_or (slice_index s.words (m.piece / 64)) (bit_of m.piece))) refl stands
+      changed t n s.words words' s.views id v w h at (length-set s.words (m.piece / 64)
+          (bit_or (slice_index s.words (m.piece / 64)) (bit_of m.piece))) refl stands
           (λ q marked. has_front (λ (x : Mark). x.piece ≡ q) v.marks (m ∷ []) marked) stays
-          (λ q is. ⊎_elim (λ old. inl old) (λ (e : m.piece ≡ q). inr (has_last (λ (x : Mark). x.piece ≡ q) v.marks m e)) (newly_set s.words m.piece q lt is))
+          (λ q is. ⊎_elim (λ old. inl old) (λ (e : m.piece ≡ q). inr (has_last (λ (x : Mark). x.piece ≡ q) v.marks m e))
+          (newly_set s.words m.piece q lt is))
           shown (each_append (IsProven t) v.marks (m ∷ []) (h.proven id v at) (proven, tt)),
       (refl, refl),
     )
@@ -111,7 +132,8 @@ announces t n slots id m v cs stands proven s h len at bound =
 pub announces_as : (t : Layout) (n slots id : ℕ) (m : Mark) (p : ℕ) (v : View) (cs : List (ℕ × Unit {0})) → v.seats ≢ [] → IsProven t m → m.piece ≡ p
     → Allows (Holds t n) slots id (v, cs) (p / 64) (λ k. bit_or k (bit_of p)) (Announces m (step slots (p / 64) (bit_of p) 0 none) (v, cs))
 announces_as t n slots id m p v cs stands proven e =
-    let P : ℕ → Type 0 = λ q. Allows (Holds t n) slots id (v, cs) (q / 64) (λ k. bit_or k (bit_of q)) (Announces m (step slots (q / 64) (bit_of q) 0 none) (v, cs)) in
+    let P : ℕ → Type 0 = λ q. Allows (Holds t n) slots id (v, cs) (q / 64) (λ k. bit_or k (bit_of q))
+    (Announces m (step slots (q / 64) (bit_of q) 0 none) (v, cs)) in
     subst P e (announces t n slots id m v cs stands proven)
 
 alone : (v u : View) (j : ℕ) → get_elem? (v ∷ []) j ≡ some u → (j ≡ 0) × (v ≡ u)
@@ -140,32 +162,46 @@ splits t n id first rest new s h at =
     let left = view [] [] rest in
     let right = view [] [] (first ∷ []) in
     let views = set s.views id left in
-    let Was : ℕ → View → Type 0 = λ j u. ((get_elem? s.views j ≡ some u) × (j ≢ id)) ⊎ (((j ≡ id) × (left ≡ u)) ⊎ ((j ≡ length views) × (right ≡ u))) in
+    let Was : ℕ → View → Type 0 = λ j u. ((get_elem? s.views j ≡ some u) × (j ≢ id)) ⊎ (((j ≡ id) × (left ≡ u)) ⊎ ((j ≡ length views) × (right ≡ u)))
+    in
     let was : (j : ℕ) (u : View) → get_elem? (views ++ right ∷ []) j ≡ some u → Was j u = λ j u e. ⊎_elim
     (λ x. ⊎_elim (λ y. inr (inl y)) (λ y. inl (y.1, y.0)) (at_set s.views id j left u x.0)) (λ x. inr (inr x)) (at_appended views right u j e) in
-    let bare : (j : ℕ) (u : View) (P : View → Type 0) → Was j u → ((get_elem? s.views j ≡ some u) → P u) → P left → P right → P u = λ j u P w old a b. ⊎_elim
+    let bare : (j : ℕ) (u : View) (P : View → Type 0) → Was j u → ((get_elem? s.views j ≡ some u) → P u) → P left → P right → P u =
+    λ j u P w old a b. ⊎_elim
     (λ x. old x.0) (λ y. ⊎_elim (λ (z : (j ≡ id) × (left ≡ u)). subst P z.1 a) (λ (z : (j ≡ length views) × (right ≡ u)). subst P z.1 b) y) w in
     record {
       wide = h.wide;
       marked = λ p is. let m = h.marked p is in dite (ℕ_discrete m.0 id)
-          (λ e. absurd (subst (λ (u : View). Marked u p) (same_item s.views m.0 m.1 v m.2 (subst (λ (k : ℕ). get_elem? s.views k ≡ some v) (sym e) at)) m.3))
+          (λ e. absurd (subst (λ (u : View). Marked u p) (same_item s.views m.0 m.1 v m.2
+          (subst (λ (k : ℕ). get_elem? s.views k ≡ some v) (sym e) at)) m.3))
           (λ ne. (m.0, m.1, at_longer views (right ∷ []) m.0 m.1 (set_else s.views id m.0 left ne ∙ m.2), m.3));
-      seen = λ j u e p seen. bare j u (λ y. Seen y p → IsSet s.words p) (was j u e) (λ o. h.seen j u o p) (λ x. absurd (⊎_elim (λ m. m) (λ l. l) x)) (λ x. absurd (⊎_elim (λ m. m) (λ l. l) x)) seen;
+      seen = λ j u e p seen. bare j u (λ y. Seen y p → IsSet s.words p) (was j u e) (λ o. h.seen j u o p) (λ x. absurd (⊎_elim (λ m. m) (λ l. l) x))
+          (λ x. absurd (⊎_elim (λ m. m) (λ l. l) x)) seen;
       proven = λ j u e. bare j u (λ y. Each (IsProven t) y.marks) (was j u e) (λ o. h.proven j u o) tt tt;
       apart = λ i j a b q ei ej ha hb. let Old : ℕ → View → Type 0 = λ k u. (get_elem? s.views k ≡ some u) × (k ≢ id) in
           let New : ℕ → Type 0 = λ k. ((k ≡ id) × Has (λ r. r ≡ q) rest) ⊎ ((k ≡ length views) × (first ≡ q)) in
-          let place : (k : ℕ) (u : View) → get_elem? (views ++ right ∷ []) k ≡ some u → StandsFor u q → Old k u ⊎ New k = λ k u e stands. ⊎_elim (λ o. inl o)
-          (λ (y : ((k ≡ id) × (left ≡ u)) ⊎ ((k ≡ length views) × (right ≡ u))). ⊎_elim (λ (z : (k ≡ id) × (left ≡ u)). inr (inl (z.0, subst (λ (y : View). StandsFor y q) (sym z.1) stands)))
-          (λ (z : (k ≡ length views) × (right ≡ u)). let only : StandsFor right q = subst (λ (y : View). StandsFor y q) (sym z.1) stands in inr (inr (z.0, ⊎_elim (λ here. here) (λ no. absurd no) only))) y) (was k u e) in
+          let place : (k : ℕ) (u : View) → get_elem? (views ++ right ∷ []) k ≡ some u → StandsFor u q → Old k u ⊎ New k =
+          λ k u e stands. ⊎_elim (λ o. inl o)
+          (λ (y : ((k ≡ id) × (left ≡ u)) ⊎ ((k ≡ length views) × (right ≡ u))).
+          ⊎_elim (λ (z : (k ≡ id) × (left ≡ u)). inr (inl (z.0, subst (λ (y : View). StandsFor y q) (sym z.1) stands)))
+          (λ (z : (k ≡ length views) × (right ≡ u)). let only : StandsFor right q = subst (λ (y : View). StandsFor y q) (sym z.1) stands in
+          inr (inr (z.0, ⊎_elim (λ here. here) (λ no. absurd no) only))) y) (was k u e) in
           let mine : (k : ℕ) → New k → StandsFor v q = λ k y. ⊎_elim (λ r. inr r.1) (λ f. inl f.1) y in
-          let clash : (k : ℕ) (u : View) (l : ℕ) → Old k u → StandsFor u q → New l → ⊥ = λ k u l o stands y. o.1 (h.apart k id u v q o.0 at stands (mine l y)) in
+          let clash : (k : ℕ) (u : View) (l : ℕ) → Old k u → StandsFor u q → New l → ⊥ =
+          λ k u l o stands y. o.1 (h.apart k id u v q o.0 at stands (mine l y)) in
           let fresh_twice : Has (λ r. r ≡ q) rest → first ≡ q → ⊥ = λ there here. new (subst (λ (k : ℕ). Has (λ r. r ≡ k) rest) (sym here) there) in
-          let both_new : New i → New j → i ≡ j = λ x y. ⊎_elim (λ (x' : (i ≡ id) × Has (λ r. r ≡ q) rest). ⊎_elim (λ (y' : (j ≡ id) × Has (λ r. r ≡ q) rest). x'.0 ∙ sym y'.0) (λ (y' : (j ≡ length views) × (first ≡ q)). absurd (fresh_twice x'.1 y'.1)) y)
-          (λ (x' : (i ≡ length views) × (first ≡ q)). ⊎_elim (λ (y' : (j ≡ id) × Has (λ r. r ≡ q) rest). absurd (fresh_twice y'.1 x'.1)) (λ (y' : (j ≡ length views) × (first ≡ q)). x'.0 ∙ sym y'.0) y) x in
-          ⊎_elim (λ (x : Old i a). ⊎_elim (λ (y : Old j b). h.apart i j a b q x.0 y.0 ha hb) (λ (y : New j). absurd (clash i a j x ha y)) (place j b ej hb))
+          let both_new : New i → New j → i ≡ j = λ x y. ⊎_elim
+          (λ (x' : (i ≡ id) × Has (λ r. r ≡ q) rest). ⊎_elim (λ (y' : (j ≡ id) × Has (λ r. r ≡ q) rest). x'.0 ∙ sym y'.0)
+          (λ (y' : (j ≡ length views) × (first ≡ q)). absurd (fresh_twice x'.1 y'.1)) y)
+          (λ (x' : (i ≡ length views) × (first ≡ q)). ⊎_elim (λ (y' : (j ≡ id) × Has (λ r. r ≡ q) rest). absurd (fresh_twice y'.1 x'.1))
+          (λ (y' : (j ≡ length views) × (first ≡ q)). x'.0 ∙ sym y'.0) y) x in
+          ⊎_elim (λ (x : Old i a). ⊎_elim (λ (y : Old j b). h.apart i j a b q x.0 y.0 ha hb) (λ (y : New j). absurd (clash i a j x ha y))
+          (place j b ej hb))
           (λ (x : New i). ⊎_elim (λ (y : Old j b). absurd (clash j b i y hb x)) (λ (y : New j). both_new x y) (place j b ej hb)) (place i a ei ha);
-      below = λ j u e q. bare j u (λ y. StandsFor y q → q < n) (was j u e) (λ o. h.below j u o q) (λ x. h.below id v at q (inr x)) (λ x. h.below id v at q (⊎_elim (λ (here : first ≡ q). inl here) (λ no. absurd no) x));
-      idle = λ j u e. bare j u (λ y. y.seats ≡ [] → y ≡ spent) (was j u e) (λ o. h.idle j u o) (λ no. ap (λ (l : List ℕ). view [] [] l) no) (λ no. ap (λ (l : List ℕ). view [] [] l) no);
+      below = λ j u e q. bare j u (λ y. StandsFor y q → q < n) (was j u e) (λ o. h.below j u o q) (λ x. h.below id v at q (inr x))
+          (λ x. h.below id v at q (⊎_elim (λ (here : first ≡ q). inl here) (λ no. absurd no) x));
+      idle = λ j u e. bare j u (λ y. y.seats ≡ [] → y ≡ spent) (was j u e) (λ o. h.idle j u o) (λ no. ap (λ (l : List ℕ). view [] [] l) no)
+          (λ no. ap (λ (l : List ℕ). view [] [] l) no);
     }
 
 -- the joined seat has what either had, and the other is spent
@@ -177,34 +213,46 @@ joins t n id other v w stands s h at ne at_other =
     let Old : ℕ → View → Type 0 = λ j u. (get_elem? s.views j ≡ some u) × (j ≢ id) × (j ≢ other) in
     let Was : ℕ → View → Type 0 = λ j u. Old j u ⊎ (((j ≡ id) × (u' ≡ u)) ⊎ (spent ≡ u)) in
     let was : (j : ℕ) (u : View) → get_elem? (set views other spent) j ≡ some u → Was j u = λ j u e. ⊎_elim (λ x. inr (inr x.1))
-    (λ (x : (j ≢ other) × (get_elem? views j ≡ some u)). ⊎_elim (λ y. inr (inl y)) (λ (y : (j ≢ id) × (get_elem? s.views j ≡ some u)). inl (y.1, y.0, x.0)) (at_set s.views id j u' u x.1)) (at_set views other j spent u e) in
+    (λ (x : (j ≢ other) × (get_elem? views j ≡ some u)). ⊎_elim (λ y. inr (inl y))
+    (λ (y : (j ≢ id) × (get_elem? s.views j ≡ some u)). inl (y.1, y.0, x.0)) (at_set s.views id j u' u x.1)) (at_set views other j spent u e) in
     let here : get_elem? (set views other spent) id ≡ some u' = set_else views other id spent (λ e. ne (sym e)) ∙ set_at s.views id v u' at in
-    let each : (j : ℕ) (u : View) (P : View → Type 0) → Was j u → ((get_elem? s.views j ≡ some u) → P u) → P u' → P spent → P u = λ j u P x old a b. ⊎_elim
+    let each : (j : ℕ) (u : View) (P : View → Type 0) → Was j u → ((get_elem? s.views j ≡ some u) → P u) → P u' → P spent → P u =
+    λ j u P x old a b. ⊎_elim
     (λ (o : Old j u). old o.0) (λ y. ⊎_elim (λ (z : (j ≡ id) × (u' ≡ u)). subst P z.1 a) (λ (z : spent ≡ u). subst P z b) y) x in
     record {
       wide = h.wide;
       marked = λ p is. let m = h.marked p is in
-          let same_view : (k : ℕ) (x : View) → get_elem? s.views k ≡ some x → m.0 ≡ k → Marked x p = λ k x there e. subst (λ (y : View). Marked y p) (same_item s.views m.0 m.1 x m.2 (subst (λ (l : ℕ). get_elem? s.views l ≡ some x) (sym e) there)) m.3 in
+          let same_view : (k : ℕ) (x : View) → get_elem? s.views k ≡ some x → m.0 ≡ k → Marked x p =
+          λ k x there e. subst (λ (y : View). Marked y p)
+          (same_item s.views m.0 m.1 x m.2 (subst (λ (l : ℕ). get_elem? s.views l ≡ some x) (sym e) there)) m.3 in
           dite (ℕ_discrete m.0 id) (λ e. (id, u', here, has_front (λ (x : Mark). x.piece ≡ p) v.marks w.marks (same_view id v at e)))
           (λ a. dite (ℕ_discrete m.0 other) (λ e. (id, u', here, has_back (λ (x : Mark). x.piece ≡ p) v.marks w.marks (same_view other w at_w e)))
           (λ b. (m.0, m.1, set_else views other m.0 spent b ∙ (set_else s.views id m.0 u' a ∙ m.2), m.3)));
       seen = λ j u e p. each j u (λ y. Seen y p → IsSet s.words p) (was j u e) (λ o. h.seen j u o p)
-          (λ x. ⊎_elim (λ m. ⊎_elim (λ a. h.seen id v at p (inl a)) (λ b. h.seen other w at_w p (inl b)) (has_parts (λ (y : Mark). y.piece ≡ p) v.marks w.marks m))
-          (λ l. ⊎_elim (λ a. h.seen id v at p (inr a)) (λ b. h.seen other w at_w p (inr b)) (has_parts (λ (y : Load). (y.word ≡ p / 64) × (bit_at y.found (p % 64) ≡ 1)) v.loads w.loads l)) x)
+          (λ x. ⊎_elim (λ m. ⊎_elim (λ a. h.seen id v at p (inl a)) (λ b. h.seen other w at_w p (inl b))
+          (has_parts (λ (y : Mark). y.piece ≡ p) v.marks w.marks m))
+          (λ l. ⊎_elim (λ a. h.seen id v at p (inr a)) (λ b. h.seen other w at_w p (inr b))
+          (has_parts (λ (y : Load). (y.word ≡ p / 64) × (bit_at y.found (p % 64) ≡ 1)) v.loads w.loads l)) x)
           (λ x. absurd (⊎_elim (λ m. m) (λ l. l) x));
-      proven = λ j u e. each j u (λ y. Each (IsProven t) y.marks) (was j u e) (λ o. h.proven j u o) (each_append (IsProven t) v.marks w.marks (h.proven id v at) (h.proven other w at_w)) tt;
+      proven = λ j u e. each j u (λ y. Each (IsProven t) y.marks) (was j u e) (λ o. h.proven j u o)
+          (each_append (IsProven t) v.marks w.marks (h.proven id v at) (h.proven other w at_w)) tt;
       apart = λ i j a b q ei ej ha hb.
           let New : ℕ → Type 0 = λ k. (k ≡ id) × StandsFor u' q in
-          let place : (k : ℕ) (u : View) → get_elem? (set views other spent) k ≡ some u → StandsFor u q → Old k u ⊎ New k = λ k u e owns. ⊎_elim (λ o. inl o)
-          (λ (y : ((k ≡ id) × (u' ≡ u)) ⊎ (spent ≡ u)). ⊎_elim (λ (z : (k ≡ id) × (u' ≡ u)). inr (z.0, subst (λ (y : View). StandsFor y q) (sym z.1) owns))
+          let place : (k : ℕ) (u : View) → get_elem? (set views other spent) k ≡ some u → StandsFor u q → Old k u ⊎ New k =
+          λ k u e owns. ⊎_elim (λ o. inl o)
+          (λ (y : ((k ≡ id) × (u' ≡ u)) ⊎ (spent ≡ u)). ⊎_elim
+          (λ (z : (k ≡ id) × (u' ≡ u)). inr (z.0, subst (λ (y : View). StandsFor y q) (sym z.1) owns))
           (λ (z : spent ≡ u). absurd (subst (λ (y : View). StandsFor y q) (sym z) owns)) y) (was k u e) in
           let clash : (k : ℕ) (u : View) (l : ℕ) → Old k u → StandsFor u q → New l → ⊥ = λ k u l o owns y.
-          ⊎_elim (λ c. o.1 (h.apart k id u v q o.0 at owns c)) (λ c. o.2 (h.apart k other u w q o.0 at_w owns c)) (has_parts (λ r. r ≡ q) v.seats w.seats y.1) in
-          ⊎_elim (λ (x : Old i a). ⊎_elim (λ (y : Old j b). h.apart i j a b q x.0 y.0 ha hb) (λ (y : New j). absurd (clash i a j x ha y)) (place j b ej hb))
+          ⊎_elim (λ c. o.1 (h.apart k id u v q o.0 at owns c)) (λ c. o.2 (h.apart k other u w q o.0 at_w owns c))
+          (has_parts (λ r. r ≡ q) v.seats w.seats y.1) in
+          ⊎_elim (λ (x : Old i a). ⊎_elim (λ (y : Old j b). h.apart i j a b q x.0 y.0 ha hb) (λ (y : New j). absurd (clash i a j x ha y))
+          (place j b ej hb))
           (λ (x : New i). ⊎_elim (λ (y : Old j b). absurd (clash j b i y hb x)) (λ (y : New j). x.0 ∙ sym y.0) (place j b ej hb)) (place i a ei ha);
       below = λ j u e q. each j u (λ y. StandsFor y q → q < n) (was j u e) (λ o. h.below j u o q)
           (λ x. ⊎_elim (λ a. h.below id v at q a) (λ b. h.below other w at_w q b) (has_parts (λ r. r ≡ q) v.seats w.seats x)) (λ no. absurd no);
-      idle = λ j u e. each j u (λ y. y.seats ≡ [] → y ≡ spent) (was j u e) (λ o. h.idle j u o) (λ no. absurd (stands (append_nil_left v.seats w.seats no))) (λ _. refl);
+      idle = λ j u e. each j u (λ y. y.seats ≡ [] → y ≡ spent) (was j u e) (λ o. h.idle j u o)
+          (λ no. absurd (stands (append_nil_left v.seats w.seats no))) (λ _. refl);
     }
 
 -- where one view stands for each seat, the set bits are the pieces that it has marked
@@ -212,22 +260,26 @@ pub ends : (t : Layout) (n : ℕ) (words : List ℕ) (views : List View) (id : �
     → ((q : ℕ) → q < n → StandsFor v q) → (p : ℕ) → IsSet words p → Marked v p
 ends t n words views id v h at all p is =
     let m = h.marked p is in
-    let own : m.0 ≡ id → Marked v p = λ e. subst (λ (y : View). Marked y p) (same_item views m.0 m.1 v m.2 (subst (λ (l : ℕ). get_elem? views l ≡ some v) (sym e) at)) m.3 in
+    let own : m.0 ≡ id → Marked v p = λ e. subst (λ (y : View). Marked y p)
+    (same_item views m.0 m.1 v m.2 (subst (λ (l : ℕ). get_elem? views l ≡ some v) (sym e) at)) m.3 in
     let no_seat : m.1.seats ≡ [] → Marked v p = λ none. absurd (subst (λ (y : View). Marked y p) (h.idle m.0 m.1 m.2 none) m.3) in
-    let a_seat : (q : ℕ) → StandsFor m.1 q → Marked v p = λ q stands. own (h.apart m.0 id m.1 v q m.2 at stands (all q (h.below m.0 m.1 m.2 q stands))) in
+    let a_seat : (q : ℕ) → StandsFor m.1 q → Marked v p = λ q stands.
+    own (h.apart m.0 id m.1 v q m.2 at stands (all q (h.below m.0 m.1 m.2 q stands))) in
     first_seat m.1.seats (Marked v p) no_seat a_seat
 
 range_step : (k n : ℕ) → k < n → range_with_len k (n - k) ≡ k ∷ range_with_len (k + 1) (n - (k + 1))
 range_step k n lt = let e : n - k ≡ suc (n - (k + 1)) = omega arith in ap (range_with_len k) e
 
 -- of the seats from k on, the first is split off
-pub deals : (t : Layout) (n id k m : ℕ) (v : View) → k < m → v ≡ view [] [] (range_with_len k (m - k)) → Splits (Holds t n) id v (without_first v) (first_of v)
+pub deals : (t : Layout) (n id k m : ℕ) (v : View) → k < m → v ≡ view [] [] (range_with_len k (m - k)) →
+    Splits (Holds t n) id v (without_first v) (first_of v)
 deals t n id k m v lt is =
     let P : View → Type 0 = λ u. Splits (Holds t n) id u (without_first u) (first_of u) in
     subst P (sym (is ∙ ap (view [] []) (range_step k m lt)))
     (splits t n id k (range_with_len (k + 1) (m - (k + 1))) (λ has. let low = (in_range (k + 1) (m - (k + 1)) k has).0 in omega arith))
 
-pub dealt_rest : (k m : ℕ) (v : View) → k < m → v ≡ view [] [] (range_with_len k (m - k)) → without_first v ≡ view [] [] (range_with_len (k + 1) (m - (k + 1)))
+pub dealt_rest : (k m : ℕ) (v : View) → k < m → v ≡ view [] [] (range_with_len k (m - k)) →
+    without_first v ≡ view [] [] (range_with_len (k + 1) (m - (k + 1)))
 dealt_rest k m v lt is = ap without_first (is ∙ ap (view [] []) (range_step k m lt))
 
 pub dealt_first : (k m : ℕ) (v : View) → k < m → v ≡ view [] [] (range_with_len k (m - k)) → first_of v ≡ fresh k
@@ -243,13 +295,15 @@ pub record Copied (words : List ℕ) (pieces n : ℕ) (bits : List Bool) : Type 
   pub done : (p : ℕ) → p < n → (get_or bits p false ≡ true) ↔ IsSet words p
   pub rest : (p : ℕ) → n ≤ p → get_or bits p false ≡ false
 
-pub closes : (t : Layout) (n : ℕ) (words : List ℕ) (views : List View) (id : ℕ) (v : View) (bits : List Bool) → Story t n words views → get_elem? views id ≡ some v
+pub closes : (t : Layout) (n : ℕ) (words : List ℕ) (views : List View) (id : ℕ) (v : View) (bits : List Bool) → Story t n words views →
+    get_elem? views id ≡ some v
     → ((q : ℕ) → q < n → StandsFor v q) → Copied words (piece_count t) (piece_count t) bits
     → ((p : ℕ) → (get_or bits p false ≡ true) ↔ Marked v p) × ((p : ℕ) → Seen v p → get_or bits p false ≡ true)
 closes t n words views id v bits h at all copied =
     let shown : (p : ℕ) → IsSet words p → get_or bits p false ≡ true = λ p is. (copied.done p (set_piece t n words views h p is)).1 is in (
       (λ p. (
-        (λ on. dite (dec_le (piece_count t) p) (λ high. absurd (let off = copied.rest p high in cc)) (λ low. ends t n words views id v h at all p ((copied.done p (lt_of_not-le low)).0 on))),
+        (λ on. dite (dec_le (piece_count t) p) (λ high. absurd (let off = copied.rest p high in cc))
+            (λ low. ends t n words views id v h at all p ((copied.done p (lt_of_not-le low)).0 on))),
         (λ marked. shown p (h.seen id v at p (inl marked))),
       )),
       (λ p seen. shown p (h.seen id v at p seen)),
@@ -267,16 +321,22 @@ copied_none words pieces = record {
   rest = λ p _. no_bit pieces p;
 }
 
-pub copied_set : (words : List ℕ) (pieces n : ℕ) (bits : List Bool) → Copied words pieces n bits → n < pieces → IsSet words n → Copied words pieces (n + 1) (set bits n true)
+pub copied_set : (words : List ℕ) (pieces n : ℕ) (bits : List Bool) → Copied words pieces n bits → n < pieces → IsSet words n →
+    Copied words pieces (n + 1) (set bits n true)
 copied_set words pieces n bits so_far lt is = record {
   long = length-set bits n true ∙ so_far.long;
   done = λ p below. dite (ℕ_discrete p n)
-      (λ e. ((λ _. subst (IsSet words) (sym e) is), (λ _. ap (λ (k : ℕ). get_or (set bits n true) k false) e ∙ get_or-set_same bits n true false (let long = so_far.long in omega arith))))
+      (λ e. (
+        (λ _. subst (IsSet words) (sym e) is),
+        (λ _. ap (λ (k : ℕ). get_or (set bits n true) k false) e ∙
+            get_or-set_same bits n true false (let long = so_far.long in omega arith)),
+      ))
       (λ ne. subst (λ (b : Bool). (b ≡ true) ↔ IsSet words p) (sym (get_or-set_other bits n p true false ne)) (so_far.done p (omega arith)));
   rest = λ p above. get_or-set_other bits n p true false (λ e. omega arith) ∙ so_far.rest p (omega arith);
 }
 
-pub copied_unset : (words : List ℕ) (pieces n : ℕ) (bits : List Bool) → Copied words pieces n bits → ¬ IsSet words n → Copied words pieces (n + 1) bits
+pub copied_unset : (words : List ℕ) (pieces n : ℕ) (bits : List Bool) → Copied words pieces n bits → ¬ IsSet words n →
+    Copied words pieces (n + 1) bits
 copied_unset words pieces n bits so_far not_set = record {
   long = so_far.long;
   done = λ p below. dite (ℕ_discrete p n)

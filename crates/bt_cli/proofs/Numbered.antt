@@ -6,7 +6,8 @@ use Rattle.bt_cli.specs.Reports.{numbered}
 plus_nothing : (n : ℕ) → n ≡ n + 0
 plus_nothing n = omega arith
 
-numbered-append : {A : Type 0} (text : ℕ → A → List ℕ) (n : ℕ) (xs : List A) (x : A) → numbered text n (xs ++ x ∷ []) ≡ numbered text n xs ++ text (n + length xs) x
+numbered-append : {A : Type 0} (text : ℕ → A → List ℕ) (n : ℕ) (xs : List A) (x : A) →
+    numbered text n (xs ++ x ∷ []) ≡ numbered text n xs ++ text (n + length xs) x
 numbered-append text n [] x = append-nil (text n x) ∙ ap (λ (m : ℕ). text m x) (plus_nothing n)
 numbered-append text n (y ∷ ys) x =
     let same : n + 1 + length ys ≡ n + length (y ∷ ys) = omega arith in

@@ -1,5 +1,6 @@
 -- What is told of a run.
-use Rattle.std.proofs.Common.{true, ◌≡◌, ◌<◌, ◌+◌, ℕ, Bool, false, List, [], ◌∷◌, ◌++◌, length, map, take, drop, slice_index_or, refl, sym, ap, ◌∙◌, subst, append_assoc, append-nil, arith, inl, inr, Ok, Err, Result}
+use Rattle.std.proofs.Common.{true, ◌≡◌, ◌<◌, ◌+◌, ℕ, Bool, false, List, [], ◌∷◌, ◌++◌, length, map, take, drop, slice_index_or, refl, sym, ap, ◌∙◌}
+use Rattle.std.proofs.Common.{subst, append_assoc, append-nil, arith, inl, inr, Ok, Err, Result}
 use Rattle.std.specs.Prelude.{codes, reverse, IsOk, IfOk, IfErr}
 use Rattle.std.proofs.lemmas.List.{take_more, map-append, reverse-append, take-append-drop}
 use Rattle.bt_picker.specs.Audits.{IsFirstWrong}

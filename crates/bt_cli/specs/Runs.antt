@@ -1,5 +1,6 @@
 -- A run with recorded peers: what is printed of it, and how the command ends.
-use Rattle.std.specs.Prelude.{◌≡◌, ◌≢◌, ◌⊎◌, ◌↔◌, ◌<◌, ℕ, Bool, true, false, List, [], ◌∷◌, ◌++◌, length, map, codes, ◌||◌, Option, Some, None, option_map, Result, Ok, Err, IfOk, IfErr, IsErr}
+use Rattle.std.specs.Prelude.{◌≡◌, ◌≢◌, ◌⊎◌, ◌↔◌, ◌<◌, ℕ, Bool, true, false, List, [], ◌∷◌, ◌++◌, length, map, codes, ◌||◌, Option, Some, None}
+use Rattle.std.specs.Prelude.{option_map, Result, Ok, Err, IfOk, IfErr, IsErr}
 use Rattle.std.specs.List.{list_any}
 use Rattle.std.specs.Io.KnownBytes.{Appends}
 use Rattle.bt_meta.specs.Layout.{Metainfo, piece_count}
@@ -37,10 +38,11 @@ IsPrelude true desk text = IsJournalOf desk text
 IsPrelude false desk text = text ≡ []
 
 -- a run was told: perhaps its journal, then how the streams ended, which pieces are lacking, and what the audit says
-pub record TellsRun (journal : Bool) (ends : List (Result End SessionFault)) (desk : DeskState) (judged : Judged) (old new : Option (List ℕ)) : Type 0 where
-  pub prelude : List ℕ
-  pub is_prelude : IsPrelude journal desk prelude
-  pub wrote : Appends old new (prelude ++ report_text ends desk judged)
+pub record TellsRun (journal : Bool) (ends : List (Result End SessionFault)) (desk : DeskState) (judged : Judged) (old new : Option (List ℕ)) : Type 0
+  where
+    pub prelude : List ℕ
+    pub is_prelude : IsPrelude journal desk prelude
+    pub wrote : Appends old new (prelude ++ report_text ends desk judged)
 
 -- a session ended for want of memory
 abbrev pub ended_short : Result End SessionFault → Bool

@@ -30,7 +30,8 @@ pub record RanThreads {X : Type 0} (record_of : X → StreamRecord) (torrent : M
   pub all_left : length left ≡ length streams
   pub logs : length book.logs.items ≡ length streams + options.checkers + 1
   pub sessions : EachSwarmed record_of (terms_of torrent options.rules.depth)
-      (setting_of torrent.layout (length streams + options.checkers + 1) options.rules) options.seed streams book.desk.history book.logs.items left ends
+      (setting_of torrent.layout (length streams + options.checkers + 1) options.rules) options.seed streams book.desk.history book.logs.items left
+      ends
   pub checks : CheckersCheck (length streams) options.checkers book.logs.items
   pub finishes : MakesLastChecks (length streams + options.checkers) book.logs.items (piece_count torrent.layout)
   pub waiting : LeavesNone short book.desk

@@ -46,7 +46,7 @@ pub fn run_serial<R: Source, W: Sink, O: Sink, E: Write>(
     // Where there is a desk, it is the one of a run of these streams by these options, and the status and what was printed are that run's.
     ensures ran { IfSome result.1 (λ desk. (t : Metainfo) → torrent_of_file meta.now ≡ Ok t →
         (ended : Result Bool Fault) × ((result.0 ≡ run_status ended)
-        × Ran (stream_record R.left R.ended R.failed R.asked W.written W.failed) t options.now streams.old desk streams.new
+        × Ran (stream_record R.left R.ended R.failed R.reads W.written W.failed) t options.now streams.old desk streams.new
         ended (O.written out.old) (O.written out.new) (O.failed out.new))) }
     ensures quiet { (result.0 ≡ 0) ⊎ (result.0 ≡ 1) → err.new ≡ err.old }
 {
@@ -91,7 +91,7 @@ pub fn run_threads<
     // Where there is a book, it is the one of a run of these streams by these options, and the status and what was printed are that run's.
     ensures ran { IfSome result.1 (λ book. (t : Metainfo) → torrent_of_file meta.now ≡ Ok t →
         (ended : Result Bool Fault) × ((result.0 ≡ run_status ended)
-        × RanThreads (stream_record R.left R.ended R.failed R.asked W.written W.failed) t options.now streams.items book
+        × RanThreads (stream_record R.left R.ended R.failed R.reads W.written W.failed) t options.now streams.items book
         ended (O.written out.old) (O.written out.new) (O.failed out.new))) }
     ensures unprinted { result.1 ≡ None → out.new ≡ out.old }
     ensures quiet { (result.0 ≡ 0) ⊎ (result.0 ≡ 1) → err.new ≡ err.old }

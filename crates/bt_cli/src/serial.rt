@@ -53,7 +53,7 @@ pub fn play_streams<R: Source, W: Sink, O: Sink>(
     ensures setting { IfOk result (λ run. (t : Metainfo) → torrent_of_file meta.now ≡ Ok t →
         run.desk.setting ≡ setting_of t.layout (length streams.old + 1) options.now.rules) }
     ensures ran { IfOk result (λ run. (t : Metainfo) → torrent_of_file meta.now ≡ Ok t →
-        Ran (stream_record R.left R.ended R.failed R.asked W.written W.failed) t options.now streams.old run.desk streams.new
+        Ran (stream_record R.left R.ended R.failed R.reads W.written W.failed) t options.now streams.old run.desk streams.new
         run.ended (O.written out.old) (O.written out.new) (O.failed out.new)) }
     ensures err { IfErr result (IsStartFault (torrent_of_file meta.now) options.now) }
     ensures unprinted { OnErr result (out.new ≡ out.old) }
@@ -94,7 +94,7 @@ fn play<R: Source, W: Sink>(
     ensures rules { IfOk result (λ p. AreRules p.torrent.value.layout options.now.rules) }
     ensures setting { IfOk result (λ p.
         p.run.desk.setting ≡ setting_of p.torrent.value.layout (length streams.old + 1) options.now.rules) }
-    ensures sessions { IfOk result (λ p. EachEnded (stream_record R.left R.ended R.failed R.asked W.written W.failed)
+    ensures sessions { IfOk result (λ p. EachEnded (stream_record R.left R.ended R.failed R.reads W.written W.failed)
         (terms_of p.torrent.value options.now.rules.depth) options.now.seed streams.old p.run.desk streams.new p.run.ends.items) }
     ensures count { IfOk result (λ p. length p.run.ends.items ≡ length streams.old) }
     ensures finishes { IfOk result (λ p. (want : Option (List Bool))

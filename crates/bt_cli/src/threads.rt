@@ -66,7 +66,7 @@ pub fn play_threads<
     ensures legal { IfOk result (λ run. IsLegal run.book.desk.setting run.book.desk.history) }
     ensures agrees { IfOk result (λ run. EachAgrees run.book.desk.history run.book.logs.items) }
     ensures ran { IfOk result (λ run. (t : Metainfo) → torrent_of_file meta.now ≡ Ok t →
-        RanThreads (stream_record R.left R.ended R.failed R.asked W.written W.failed) t options.now streams.items run.book
+        RanThreads (stream_record R.left R.ended R.failed R.reads W.written W.failed) t options.now streams.items run.book
         run.ended (O.written out.old) (O.written out.new) (O.failed out.new)) }
     ensures err { IfErr result (IsThreadsFault (torrent_of_file meta.now) options.now) }
     ensures unprinted { OnErr result (out.new ≡ out.old) }
@@ -114,7 +114,7 @@ fn play<T: Threads + Wait + AllocGlobal + Sync, R: Source + Send + Drop, W: Sink
     ensures agrees { IfOk result (λ p. EachAgrees p.run.book.desk.history p.run.book.logs.items) }
     ensures count { IfOk result (λ p. length p.run.ends.items ≡ length streams.items) }
     ensures left { IfOk result (λ p. length p.run.streams.items ≡ length streams.items) }
-    ensures sessions { IfOk result (λ p. EachSwarmed (stream_record R.left R.ended R.failed R.asked W.written W.failed)
+    ensures sessions { IfOk result (λ p. EachSwarmed (stream_record R.left R.ended R.failed R.reads W.written W.failed)
         (terms_of p.torrent.value options.now.rules.depth)
         (setting_of p.torrent.value.layout (length streams.items + options.now.checkers + 1) options.now.rules) options.now.seed
         streams.items p.run.book.desk.history p.run.book.logs.items p.run.streams.items p.run.ends.items) }

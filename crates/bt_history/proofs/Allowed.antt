@@ -1,5 +1,6 @@
 -- What an entry that is allowed shows of the history before it.
-use Rattle.std.proofs.Common.{◌≡◌, ◌≢◌, ◌⊎◌, ℕ, ◌==◌, ◌<◌, Bool, true, false, not, ◌&&◌, ◌||◌, List, [], ◌∷◌, Option, None, Some, refl, ap, sym, ◌∙◌, subst, inl, inr, ⊎_elim}
+use Rattle.std.proofs.Common.{◌≡◌, ◌≢◌, ◌⊎◌, ℕ, ◌==◌, ◌<◌, Bool, true, false, not, ◌&&◌, ◌||◌, List, [], ◌∷◌, Option, None, Some, refl, ap, sym}
+use Rattle.std.proofs.Common.{◌∙◌, subst, inl, inr, ⊎_elim}
 use Rattle.std.specs.Prelude.{if◌then◌else◌, nat_le}
 use Rattle.std.proofs.lemmas.Bool.{and_parts, not-true, not-false, or_parts, leb-false, eqb-true}
 use Rattle.bt_meta.specs.declared.block.Block.{Block}
@@ -8,7 +9,8 @@ use Rattle.sha1.specs.Sha1.{sha1}
 use Rattle.bt_history.specs.declared.call.Reason.{Reason}
 use Rattle.bt_history.specs.declared.call.Reason.TheVariants.{NoSuchPiece, NotWaiting, Stale}
 use Rattle.bt_history.specs.declared.call.Reply.{Reply}
-use Rattle.bt_history.specs.declared.call.Reply.TheVariants.{Joined, Noted, Quiet, Cancel, Request, Choked, PipeFull, Idle, NothingLeft, Stored, Completed, Dropped, Had, Failed, Refused}
+use Rattle.bt_history.specs.declared.call.Reply.TheVariants.{Joined, Noted, Quiet, Cancel, Request, Choked, PipeFull, Idle, NothingLeft, Stored}
+use Rattle.bt_history.specs.declared.call.Reply.TheVariants.{Completed, Dropped, Had, Failed, Refused}
 use Rattle.bt_history.specs.declared.event.Action.{Action}
 use Rattle.bt_history.specs.declared.event.Action.TheVariants.{Join, Bits, Have, Choke, Unchoke, Next, Arrived, Settle, Leave, Want}
 use Rattle.bt_history.specs.declared.event.Event.{Event}
@@ -23,13 +25,16 @@ use Rattle.bt_history.proofs.Below.{any_fails}
 use Rattle.bt_history.proofs.NextCases.{next_is, next_answers, next_request}
 
 -- the answer to an arrival is one reply
-pub arrived_exactly : (s : Setting) (h : History) (p begin : ℕ) → (reply : Reply) × (arrived_answer s h p begin ≡ Exactly reply) × (answers_arrived reply ≡ true)
+pub arrived_exactly : (s : Setting) (h : History) (p begin : ℕ) →
+    (reply : Reply) × (arrived_answer s h p begin ≡ Exactly reply) × (answers_arrived reply ≡ true)
 unfolding arrived_answer
-arrived_exactly s h p begin = by_cases (some_block_of s.torrent p (λ b. (b.begin == begin) && held h b)) (each_block_of s.torrent p (λ b. (b.begin == begin) || held h b)) where
-  by_cases : (x y : Bool) → (reply : Reply) × ((if x then Exactly Dropped else if y then Exactly Completed else Exactly Stored) ≡ Exactly reply) × (answers_arrived reply ≡ true)
-  by_cases true y = (Dropped, refl, refl)
-  by_cases false true = (Completed, refl, refl)
-  by_cases false false = (Stored, refl, refl)
+arrived_exactly s h p begin = by_cases (some_block_of s.torrent p (λ b. (b.begin == begin) && held h b))
+    (each_block_of s.torrent p (λ b. (b.begin == begin) || held h b)) where
+      by_cases : (x y : Bool) → (reply : Reply) × ((if x then Exactly Dropped else if y then Exactly Completed else Exactly Stored) ≡ Exactly reply) ×
+          (answers_arrived reply ≡ true)
+      by_cases true y = (Dropped, refl, refl)
+      by_cases false true = (Completed, refl, refl)
+      by_cases false false = (Stored, refl, refl)
 
 -- a call with one reply is refused, or has that one
 exactly : (t : Layout) (cause : Option Reason) (only reply : Reply) (call : Action) → answers (call_mark call) only ≡ true
@@ -41,30 +46,32 @@ exactly t (Some reason) only reply call fits h = ap (answers (call_mark call)) h
 
 next_fits : (t : Layout) (cause : Option Reason) (s : Setting) (h : History) (w word : ℕ) (reply : Reply)
     → Permits t (answer_unless cause (next_answer s h w)) reply → answers (call_mark (Next word)) reply ≡ true
-next_fits t None s h w word reply is = fits reply (next_answers t _ _ _ _ _ _ _ _ _ _ _ reply (subst (λ (a : Answer). Permits t a reply) (next_is s h w) is)) where
-  fits : (r : Reply) → answers_next r ≡ true → answers (call_mark (Next word)) r ≡ true
-  fits (Cancel b) h = refl
-  fits (Request b) h = refl
-  fits Choked h = refl
-  fits PipeFull h = refl
-  fits Idle h = refl
-  fits NothingLeft h = refl
-  fits (Refused reason) h = refl
-  fits Joined h = h
-  fits (Noted x) h = h
-  fits Quiet h = h
-  fits Stored h = h
-  fits Completed h = h
-  fits Dropped h = h
-  fits Had h = h
-  fits Failed h = h
+next_fits t None s h w word reply is = fits reply (next_answers t _ _ _ _ _ _ _ _ _ _ _ reply
+    (subst (λ (a : Answer). Permits t a reply) (next_is s h w) is)) where
+      fits : (r : Reply) → answers_next r ≡ true → answers (call_mark (Next word)) r ≡ true
+      fits (Cancel b) h = refl
+      fits (Request b) h = refl
+      fits Choked h = refl
+      fits PipeFull h = refl
+      fits Idle h = refl
+      fits NothingLeft h = refl
+      fits (Refused reason) h = refl
+      fits Joined h = h
+      fits (Noted x) h = h
+      fits Quiet h = h
+      fits Stored h = h
+      fits Completed h = h
+      fits Dropped h = h
+      fits Had h = h
+      fits Failed h = h
 next_fits t (Some reason) s h w word reply is = ap (answers (call_mark (Next word))) is
 
 -- a reply that is allowed is one that a call of its kind can have
 pub allowed_answers : (s : Setting) (h : History) (e : Event) → IsAllowed s h e → answers (call_mark e.action) e.reply ≡ true
 unfolding IsAllowed answer settled_answer
 allowed_answers s h e allowed = by_call e.action allowed.1 where
-  by_call : (call : Action) → Permits s.torrent (answer_unless (refusal s h e.worker call) (answer s h e.worker call)) e.reply → answers (call_mark call) e.reply ≡ true
+  by_call : (call : Action) → Permits s.torrent (answer_unless (refusal s h e.worker call) (answer s h e.worker call)) e.reply →
+      answers (call_mark call) e.reply ≡ true
   by_call Join is = exactly s.torrent (refusal s h e.worker Join) Joined e.reply Join refl is
   by_call (Bits flags) is = exactly s.torrent (refusal s h e.worker (Bits flags)) _ e.reply (Bits flags) refl is
   by_call (Have p) is = exactly s.torrent (refusal s h e.worker (Have p)) _ e.reply (Have p) refl is
@@ -92,7 +99,8 @@ allowed_answers s h e allowed = by_call e.action allowed.1 where
         arrived_fits Had h = h
         arrived_fits Failed h = h
   by_call (Settle p bytes) is = settled_fits (same_bytes (sha1 (content s h p)) (hash_of s.torrent p)) is where
-    settled_fits : (x : Bool) → Permits s.torrent (answer_unless (refusal s h e.worker (Settle p bytes)) (Exactly (if x then Had else Failed))) e.reply
+    settled_fits : (x : Bool) → Permits s.torrent (answer_unless (refusal s h e.worker (Settle p bytes)) (Exactly (if x then Had else Failed)))
+        e.reply
         → answers (call_mark (Settle p bytes)) e.reply ≡ true
     settled_fits true is = exactly s.torrent (refusal s h e.worker (Settle p bytes)) Had e.reply (Settle p bytes) refl is
     settled_fits false is = exactly s.torrent (refusal s h e.worker (Settle p bytes)) Failed e.reply (Settle p bytes) refl is
@@ -102,18 +110,22 @@ allowed_answers s h e allowed = by_call e.action allowed.1 where
 -- ---- refusals
 
 -- a reply that is no refusal shows that no cause of refusal holds
-pub no_cause : (s : Setting) (h : History) (e : Event) → ((reason : Reason) → e.reply ≢ Refused reason) → IsAllowed s h e → refusal s h e.worker e.action ≡ None
+pub no_cause : (s : Setting) (h : History) (e : Event) → ((reason : Reason) → e.reply ≢ Refused reason) → IsAllowed s h e →
+    refusal s h e.worker e.action ≡ None
 unfolding IsAllowed
 no_cause s h e unrefused allowed = either (refusal s h e.worker e.action) refl where
   either : (r : Option Reason) → refusal s h e.worker e.action ≡ r → r ≡ None
   either None is = refl
   either (Some reason) is =
-      absurd (unrefused reason (subst (λ (o : Option Reason). Permits s.torrent (answer_unless o (answer s h e.worker e.action)) e.reply) is allowed.1))
+      absurd (unrefused reason (subst (λ (o : Option Reason). Permits s.torrent (answer_unless o (answer s h e.worker e.action)) e.reply) is
+      allowed.1))
 
 -- where no cause of refusal holds the reply is one of the answer
-pub answered : (s : Setting) (h : History) (e : Event) → refusal s h e.worker e.action ≡ None → IsAllowed s h e → Permits s.torrent (answer s h e.worker e.action) e.reply
+pub answered : (s : Setting) (h : History) (e : Event) → refusal s h e.worker e.action ≡ None → IsAllowed s h e →
+    Permits s.torrent (answer s h e.worker e.action) e.reply
 unfolding IsAllowed
-answered s h e no_reason allowed = subst (λ (o : Option Reason). Permits s.torrent (answer_unless o (answer s h e.worker e.action)) e.reply) no_reason allowed.1
+answered s h e no_reason allowed = subst (λ (o : Option Reason). Permits s.torrent (answer_unless o (answer s h e.worker e.action)) e.reply) no_reason
+    allowed.1
 
 pub worker_below : (s : Setting) (h : History) (e : Event) → IsAllowed s h e → e.worker < s.workers
 unfolding IsAllowed
@@ -134,7 +146,8 @@ unasked_facts : (s : Setting) (h : History) (b : Block) → unasked s h b ≡ tr
 unasked_facts s h b is = or_parts (held h b) (asked_of_some s h b) (not-true _ is)
 
 request_kind : (s : Setting) (h : History) (w : ℕ) (b : Block) → w < s.workers
-    → (continues s h w b ≡ true) ⊎ ((starts s h w b ≡ true) ⊎ (((endgame s h && some_block s.torrent (doubles s h w)) ≡ true) × (doubles s h w b ≡ true)))
+    → (continues s h w b ≡ true) ⊎ ((starts s h w b ≡ true) ⊎
+    (((endgame s h && some_block s.torrent (doubles s h w)) ≡ true) × (doubles s h w b ≡ true)))
     → (asked h w b ≡ false) × (held h b ≡ false) × ((asked_of_some s h b ≡ false) ⊎ (endgame s h ≡ true))
 request_kind s h w b lt kind = ⊎_elim
     (λ (on : continues s h w b ≡ true). from_usable (and_parts (usable s h w b) (begun s h b.piece) on).0)
@@ -151,7 +164,8 @@ request_kind s h w b lt kind = ⊎_elim
           let free = unasked_facts s h b (and_parts (unasked s h b) _ is).0 in
           (any_fails s.workers (λ q. asked h q b) w free.1 lt, free.0, inl free.1)
 
-next_facts : (s : Setting) (h : History) (w : ℕ) (b : Block) → w < s.workers → Permits s.torrent (next_answer s h w) (Request b) → RequestFacts s h w b
+next_facts : (s : Setting) (h : History) (w : ℕ) (b : Block) → w < s.workers → Permits s.torrent (next_answer s h w) (Request b) →
+    RequestFacts s h w b
 next_facts s h w b lt is =
     let facts = next_request s.torrent _ _ _ _ _ _ _ _ _ _ _ b (subst (λ (a : Answer). Permits s.torrent a (Request b)) (next_is s h w) is) in
     let kind = request_kind s h w b lt facts.kind in
@@ -188,7 +202,8 @@ request_facts s h e b allowed is =
 
 -- ---- checks
 
-waiting_cases : (a b c d : Bool) → first_cause ((a, NoSuchPiece) ∷ (not b || c, NotWaiting) ∷ (d, Stale) ∷ []) ≡ None → (a ≡ false) × (b ≡ true) × (c ≡ false) × (d ≡ false)
+waiting_cases : (a b c d : Bool) → first_cause ((a, NoSuchPiece) ∷ (not b || c, NotWaiting) ∷ (d, Stale) ∷ []) ≡ None →
+    (a ≡ false) × (b ≡ true) × (c ≡ false) × (d ≡ false)
 waiting_cases true b c d is = absurd (cc is)
 waiting_cases false false c d is = absurd (cc is)
 waiting_cases false true true d is = absurd (cc is)
@@ -220,7 +235,8 @@ settle_facts s h w p bytes is =
     let parts = waiting_cases (nat_le (piece_count s.torrent) p) (full s h p) (had h p) (not (same_bytes bytes (content s h p))) is in
     record { piece = parts.0; is_full = parts.1; not_had = parts.2; current = not-false _ parts.3 }
 
-pub check_facts : (s : Setting) (h : History) (e : Event) (p : ℕ) → IsAllowed s h e → ((reason : Reason) → e.reply ≢ Refused reason) → settles e.action p ≡ true
+pub check_facts : (s : Setting) (h : History) (e : Event) (p : ℕ) → IsAllowed s h e → ((reason : Reason) → e.reply ≢ Refused reason) →
+    settles e.action p ≡ true
     → (full s h p ≡ true) × (had h p ≡ false)
 check_facts s h e p allowed unrefused settling =
     let call = settled e.action p settling in

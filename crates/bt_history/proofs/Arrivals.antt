@@ -1,5 +1,6 @@
 -- What an arrival that is allowed shows of the history before it.
-use Rattle.std.proofs.Common.{◌≡◌, ◌≢◌, ℕ, ◌==◌, ◌*◌, ◌<◌, Bool, true, false, not, ◌&&◌, ◌||◌, List, [], ◌∷◌, None, Some, length, refl, ap, sym, ◌∙◌, subst}
+use Rattle.std.proofs.Common.{◌≡◌, ◌≢◌, ℕ, ◌==◌, ◌*◌, ◌<◌, Bool, true, false, not, ◌&&◌, ◌||◌, List, [], ◌∷◌, None, Some, length, refl, ap, sym}
+use Rattle.std.proofs.Common.{◌∙◌, subst}
 use Rattle.std.specs.Prelude.{is_some, if◌then◌else◌, nat_le}
 use Rattle.std.proofs.lemmas.Bool.{and_parts, and_from, leb-false, eqb-true, eq-eqb, false≢true}
 use Rattle.bt_meta.specs.declared.block.Block.{Block}
@@ -39,12 +40,14 @@ pub record ArrivalFacts (s : Setting) (h : History) (w p begin : ℕ) (bytes : L
   pub begins : begin ≡ block_size * index
   pub len : (block s.torrent p index).len ≡ length bytes
 
-pub arrival_facts : (s : Setting) (h : History) (w p begin : ℕ) (bytes : List ℕ) → refusal s h w (Arrived p begin bytes) ≡ None → ArrivalFacts s h w p begin bytes
+pub arrival_facts : (s : Setting) (h : History) (w p begin : ℕ) (bytes : List ℕ) → refusal s h w (Arrived p begin bytes) ≡ None →
+    ArrivalFacts s h w p begin bytes
 unfolding refusal
 arrival_facts s h w p begin bytes is =
     let parts = arrived_cases (joined h w) (nat_le (piece_count s.torrent) p) (some_block_of s.torrent p (λ b. b.begin == begin))
     (some_block_of s.torrent p (λ b. (b.begin == begin) && (b.len == length bytes))) is in
-    let found = any_witness (block_count s.torrent p) (λ k. ((block s.torrent p k).begin == begin) && ((block s.torrent p k).len == length bytes)) parts.3 in
+    let found = any_witness (block_count s.torrent p) (λ k. ((block s.torrent p k).begin == begin) && ((block s.torrent p k).len == length bytes))
+    parts.3 in
     let both = and_parts ((block s.torrent p found.0).begin == begin) ((block s.torrent p found.0).len == length bytes) found.2 in
     record {
       peer = parts.0;
@@ -64,7 +67,8 @@ pub record StoreFacts (s : Setting) (h : History) (e : Event) : Type 0 where
   pub arrival : ArrivalFacts s h e.worker piece begin bytes
   pub not_held : held h (block s.torrent piece arrival.index) ≡ false
 
-arrived_alone : (call : Action) (r : Reply) → stores r ≡ true → answers (call_mark call) r ≡ true → (p : ℕ) × (begin : ℕ) × (bytes : List ℕ) × (call ≡ Arrived p begin bytes)
+arrived_alone : (call : Action) (r : Reply) → stores r ≡ true → answers (call_mark call) r ≡ true →
+    (p : ℕ) × (begin : ℕ) × (bytes : List ℕ) × (call ≡ Arrived p begin bytes)
 arrived_alone (Arrived p begin bytes) r storing is = (p, begin, bytes, refl)
 arrived_alone Join r storing is = absurd (not_one r storing is) where
   not_one : (r : Reply) → stores r ≡ true → answers (call_mark Join) r ≡ true → ⊥
@@ -116,7 +120,8 @@ not_dropped : (s : Setting) (h : History) (p begin : ℕ) (r : Reply) → stores
     → some_block_of s.torrent p (λ b. (b.begin == begin) && held h b) ≡ false
 unfolding arrived_answer
 not_dropped s h p begin r storing is = by_cases (some_block_of s.torrent p (λ b. (b.begin == begin) && held h b)) is where
-  by_cases : (x : Bool) → Permits s.torrent (if x then Exactly Dropped else if each_block_of s.torrent p (λ b. (b.begin == begin) || held h b) then Exactly Completed else Exactly Stored) r → x ≡ false
+  by_cases : (x : Bool) → Permits s.torrent (if x then Exactly Dropped else if each_block_of s.torrent p (λ b. (b.begin == begin) || held h b) then
+      Exactly Completed else Exactly Stored) r → x ≡ false
   by_cases false h = refl
   by_cases true h = absurd (false≢true (sym (ap stores h) ∙ storing))
 
@@ -130,7 +135,8 @@ store_facts s h e allowed storing =
     let no_reason = no_cause s h e (λ reason. not_refused e.reply reason storing) allowed in
     let arrival = arrival_facts s h e.worker call.0 call.1 call.2 (ap (refusal s h e.worker) (sym call.3) ∙ no_reason) in
     let permitted = subst (λ (c : Action). Permits s.torrent (answer s h e.worker c) e.reply) call.3 (answered s h e no_reason allowed) in
-    let none = any_fails (block_count s.torrent call.0) (λ k. ((block s.torrent call.0 k).begin == call.1) && held h (block s.torrent call.0 k)) arrival.index
+    let none = any_fails (block_count s.torrent call.0) (λ k. ((block s.torrent call.0 k).begin == call.1) && held h (block s.torrent call.0 k))
+    arrival.index
     (not_dropped s h call.0 call.1 e.reply storing permitted) arrival.within in
     record {
       piece = call.0;
@@ -161,5 +167,6 @@ stored_unheld s h e b allowed is = by_reply (stores e.reply) refl where
       let some = sym (ap (λ (x : Bool). is_some (if x then bytes_for b e.action else None)) storing) ∙ is in
       let at = at_place facts.piece facts.begin facts.bytes (sym (ap (λ (c : Action). is_some (bytes_for b c)) facts.call) ∙ some) in
       let c = block s.torrent facts.piece facts.arrival.index in
-      held_at h c b (and_from (c.piece == b.piece) (c.begin == b.begin) (eq-eqb c.piece b.piece at.0) (eq-eqb c.begin b.begin (sym facts.arrival.begins ∙ at.1)))
+      held_at h c b (and_from (c.piece == b.piece) (c.begin == b.begin) (eq-eqb c.piece b.piece at.0)
+      (eq-eqb c.begin b.begin (sym facts.arrival.begins ∙ at.1)))
       ∙ facts.not_held

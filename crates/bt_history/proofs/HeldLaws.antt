@@ -1,5 +1,6 @@
 -- Laws of what is held and had in a legal history, and of blocks asked twice.
-use Rattle.std.proofs.Common.{◌≡◌, ◌⊎◌, ℕ, zero, suc, ◌<◌, Bool, true, false, not, ◌&&◌, ◌||◌, List, [], ◌∷◌, ◌++◌, Option, None, Some, refl, ap, sym, ◌∙◌, arith, ⊎_elim, inl, inr, subst}
+use Rattle.std.proofs.Common.{◌≡◌, ◌⊎◌, ℕ, zero, suc, ◌<◌, Bool, true, false, not, ◌&&◌, ◌||◌, List, [], ◌∷◌, ◌++◌, Option, None, Some, refl, ap}
+use Rattle.std.proofs.Common.{sym, ◌∙◌, arith, ⊎_elim, inl, inr, subst}
 use Rattle.std.specs.Prelude.{is_some, is_none, if◌then◌else◌, unwrap_or}
 use Rattle.std.specs.List.{list_any}
 use Rattle.std.specs.Cmp.Lexicographic.{same_text}
@@ -34,7 +35,8 @@ stored_cases e b = either (stored e b) where
 -- an entry that stores is no request
 storing_asks_nothing : (q : ℕ) (e : Event) (b : Block) → is_some (stored e b) ≡ true → requested q e ≡ []
 storing_asks_nothing q e b is = ⊎_elim
-    (λ (asking : (c : Block) × Asks q e c). absurd (false≢true (sym (ap (λ (r : Reply). is_some (if stores r then bytes_for b e.action else None)) asking.1.reply) ∙ is)))
+    (λ (asking : (c : Block) × Asks q e c). absurd (false≢true
+    (sym (ap (λ (r : Reply). is_some (if stores r then bytes_for b e.action else None)) asking.1.reply) ∙ is)))
     (λ (none : requested q e ≡ []). none)
     (asks_or_none q e)
 
@@ -88,7 +90,8 @@ no_failure s h e p allowed before = false_from_ne_true (failed e p) (λ fails.
     false≢true (sym check.1 ∙ before))
 
 -- an allowed entry leaves the bytes of a held block whose piece does not fail
-kept_on : (s : Setting) (h : History) (e : Event) (b : Block) → IsAllowed s h e → failed e b.piece ≡ false → held h b ≡ true → kept (e ∷ h) b ≡ kept h b
+kept_on : (s : Setting) (h : History) (e : Event) (b : Block) → IsAllowed s h e → failed e b.piece ≡ false → held h b ≡ true →
+    kept (e ∷ h) b ≡ kept h b
 kept_on s h e b allowed lasting is = ⊎_elim
     (λ (none : stored e b ≡ None). kept_unstored h e b none ∙ ap (λ (x : Bool). if x then None else kept h b) lasting)
     (λ (some : is_some (stored e b) ≡ true). absurd (true≢false (sym is ∙ stored_unheld s h e b allowed some)))
@@ -108,7 +111,8 @@ joined_same (suc n) f g h =
 had_on : (s : Setting) (h : History) (e : Event) (p : ℕ) → IsAllowed s h e → failed e p ≡ false → HadFacts s h p → HadFacts s (e ∷ h) p
 had_on s h e p allowed lasting facts =
     let same : (k : ℕ) → k < block_count s.torrent p → kept (e ∷ h) (block s.torrent p k) ≡ kept h (block s.torrent p k) =
-    λ k lk. kept_on s h e (block s.torrent p k) allowed lasting (all_at (block_count s.torrent p) (λ j. held h (block s.torrent p j)) k facts.is_full lk) in
+    λ k lk. kept_on s h e (block s.torrent p k) allowed lasting
+    (all_at (block_count s.torrent p) (λ j. held h (block s.torrent p j)) k facts.is_full lk) in
     let content_same : content s (e ∷ h) p ≡ content s h p =
     joined_same (block_count s.torrent p) _ _ (λ k lk. ap (λ (o : Option (List ℕ)). unwrap_or o []) (same k lk)) in
     record {
@@ -130,7 +134,8 @@ had_facts s (e ∷ h) p legal is = ⊎_elim
     (λ (before : had h p ≡ true). had_on s h e p legal.1 (no_failure s h e p legal.1 before) (had_facts s h p legal.0 before))
     (or_cases (passed e p) (had h p) is)
 
-pub had_full : (s : Setting) (h : History) (p k : ℕ) → IsLegal s h → had h p ≡ true → k < block_count s.torrent p → held h (block s.torrent p k) ≡ true
+pub had_full : (s : Setting) (h : History) (p k : ℕ) → IsLegal s h → had h p ≡ true → k < block_count s.torrent p →
+    held h (block s.torrent p k) ≡ true
 had_full s h p k legal is lk = all_at (block_count s.torrent p) (λ j. held h (block s.torrent p j)) k (had_facts s h p legal is).is_full lk
 
 -- the joined bytes of a piece that is had have its hash
@@ -150,7 +155,11 @@ asked_cases h e q b is =
 -- what asked b of q is a request by q of a block at its place
 asking : (q : ℕ) (e : Event) (b : Block) → asks q e b ≡ true → (c : Block) × Asks q e c × (same_place c b ≡ true)
 asking q e b is = ⊎_elim
-    (λ (named : (c : Block) × Asks q e c). (named.0, named.1, only (same_place named.0 b) (sym (ap (list_any (λ a. same_place a b)) named.1.only) ∙ is)))
+    (λ (named : (c : Block) × Asks q e c). (
+      named.0,
+      named.1,
+      only (same_place named.0 b) (sym (ap (list_any (λ a. same_place a b)) named.1.only) ∙ is),
+    ))
     (λ (none : requested q e ≡ []). absurd (false≢true (sym (ap (list_any (λ a. same_place a b)) none) ∙ is)))
     (asks_or_none q e)
   where
@@ -194,7 +203,8 @@ doubles_after_endgame s [] q other b legal lq lo apart one two = absurd (cc one)
 doubles_after_endgame s (e ∷ h) q other b legal lq lo apart one two = ⊎_elim
     (λ (now : asks q e b ≡ true). or_left (endgame s h) (was_endgame s h) (asked_again s h e q other b legal.1 lo apart now two))
     (λ (before : asked h q b ≡ true). ⊎_elim
-    (λ (now : asks other e b ≡ true). or_left (endgame s h) (was_endgame s h) (asked_again s h e other q b legal.1 lq (λ same. apart (sym same)) now one))
+    (λ (now : asks other e b ≡ true). or_left (endgame s h) (was_endgame s h)
+    (asked_again s h e other q b legal.1 lq (λ same. apart (sym same)) now one))
     (λ (too : asked h other b ≡ true). or_right (endgame s h) (was_endgame s h) (doubles_after_endgame s h q other b legal.0 lq lo apart before too))
     (asked_cases h e other b two))
     (asked_cases h e q b one)

@@ -1,14 +1,17 @@
 -- The lines of a peer in a legal history: blocks of the torrent, none twice, and together no more than the depth.
-use Rattle.std.proofs.Common.{◌≡◌, ◌⊎◌, ℕ, ◌==◌, ◌+◌, ◌*◌, ◌<◌, ◌≤◌, Bool, true, false, not, ◌&&◌, ◌||◌, List, [], ◌∷◌, ◌++◌, Option, None, Some, length, refl, ap, sym, ◌∙◌, subst, arith, ⊎_elim, inl, inr, suc}
+use Rattle.std.proofs.Common.{◌≡◌, ◌⊎◌, ℕ, ◌==◌, ◌+◌, ◌*◌, ◌<◌, ◌≤◌, Bool, true, false, not, ◌&&◌, ◌||◌, List, [], ◌∷◌, ◌++◌, Option, None, Some}
+use Rattle.std.proofs.Common.{length, refl, ap, sym, ◌∙◌, subst, arith, ⊎_elim, inl, inr, suc}
 use Rattle.std.specs.Prelude.{is_some, is_none, if◌then◌else◌, nat_lt}
 use Rattle.std.specs.List.{filter}
-use Rattle.std.proofs.lemmas.Bool.{and_parts, and_from, and_left, and_right, or_parts, or_from, or_left, eq-eqb, eqb-true, ne_eqb, cases_eq, cases_Bool, ltb-true, lt-ltb, false≢true}
+use Rattle.std.proofs.lemmas.Bool.{and_parts, and_from, and_left, and_right, or_parts, or_from, or_left, eq-eqb, eqb-true, ne_eqb, cases_eq}
+use Rattle.std.proofs.lemmas.Bool.{cases_Bool, ltb-true, lt-ltb, false≢true}
 use Rattle.std.proofs.lemmas.List.{length-append}
 use Rattle.std.proofs.lemmas.List.Filters.{length-filter_both}
 use Rattle.bt_meta.specs.declared.block.Block.{Block}
 use Rattle.bt_meta.specs.Layout.{Layout, piece_count, block_count, block, block_size}
 use Rattle.bt_history.specs.declared.call.Reply.{Reply}
-use Rattle.bt_history.specs.declared.call.Reply.TheVariants.{Joined, Noted, Quiet, Cancel, Request, Choked, PipeFull, Idle, NothingLeft, Stored, Completed, Dropped, Had, Failed, Refused}
+use Rattle.bt_history.specs.declared.call.Reply.TheVariants.{Joined, Noted, Quiet, Cancel, Request, Choked, PipeFull, Idle, NothingLeft, Stored}
+use Rattle.bt_history.specs.declared.call.Reply.TheVariants.{Completed, Dropped, Had, Failed, Refused}
 use Rattle.bt_history.specs.declared.event.Event.{Event}
 use Rattle.bt_history.specs.Counting.{count_below}
 use Rattle.bt_history.specs.Setting.{Setting, some_block, some_block_of, is_block, count_blocks}
@@ -25,7 +28,8 @@ use Rattle.bt_history.proofs.Allowed.{request_facts}
 pub block_is_block : (t : Layout) (p k : ℕ) → p < piece_count t → k < block_count t p → is_block t (block t p k) ≡ true
 block_is_block t p k lt lk =
     let b = block t p k in
-    and_from _ _ (lt-ltb p (piece_count t) lt) (any_found (block_count t p) (λ j. ((block t p j).begin == b.begin) && ((block t p j).len == b.len)) k lk
+    and_from _ _ (lt-ltb p (piece_count t) lt) (any_found (block_count t p) (λ j. ((block t p j).begin == b.begin) && ((block t p j).len == b.len)) k
+    lk
     (and_from (b.begin == b.begin) (b.len == b.len) (eq-eqb b.begin b.begin refl) (eq-eqb b.len b.len refl)))
 
 -- which block of its piece a block of the torrent is
@@ -81,7 +85,8 @@ place_filter test b [] none = refl
 place_filter test b (c ∷ bs) none =
     let parts = or_parts (same_place c b) (has_place b bs) none in
     either (test c) parts.0 (place_filter test b bs parts.1) where
-      either : (x : Bool) → same_place c b ≡ false → has_place b (filter test bs) ≡ false → has_place b (if x then c ∷ filter test bs else filter test bs) ≡ false
+      either : (x : Bool) → same_place c b ≡ false → has_place b (filter test bs) ≡ false →
+          has_place b (if x then c ∷ filter test bs else filter test bs) ≡ false
       either true first rest = or_from (same_place c b) (has_place b (filter test bs)) first rest
       either false first rest = rest
 
@@ -94,7 +99,8 @@ apart_filter test (b ∷ bs) are = either (test b) (apart_filter test bs are.1) 
   either false rest = rest
 
 other_place : (a b : Block) → same_place a b ≡ false → same_place b a ≡ false
-other_place a b is = ⊎_elim (λ (same : same_place b a ≡ true). absurd (false≢true (sym is ∙ same_place_sym b a same))) (λ (apart : same_place b a ≡ false). apart) (cases_Bool (same_place b a))
+other_place a b is = ⊎_elim (λ (same : same_place b a ≡ true). absurd (false≢true (sym is ∙ same_place_sym b a same)))
+    (λ (apart : same_place b a ≡ false). apart) (cases_Bool (same_place b a))
 
 -- one more block at the end, whose place the list lacks
 apart_push : (bs : List Block) (b : Block) → AreApart bs → has_place b bs ≡ false → AreApart (bs ++ b ∷ [])
@@ -170,7 +176,8 @@ outstanding_blocks s (e ∷ h) q legal =
     (blocks_append s.torrent (filter (λ b. is_none (stored e b)) (outstanding h q)) (requested q e)
     (blocks_filter s.torrent (λ b. is_none (stored e b)) (outstanding h q) (outstanding_blocks s h q legal.0))
     (⊎_elim
-    (λ (asking : (b : Block) × Asks q e b). subst (AreBlocks s.torrent) (sym asking.1.only) ((request_facts s h e asking.0 legal.1 asking.1.reply).block, tt))
+    (λ (asking : (b : Block) × Asks q e b). subst (AreBlocks s.torrent) (sym asking.1.only)
+    ((request_facts s h e asking.0 legal.1 asking.1.reply).block, tt))
     (λ (none : requested q e ≡ []). subst (AreBlocks s.torrent) (sym none) tt)
     (asks_or_none q e)))
 
@@ -300,9 +307,11 @@ lines_room s (e ∷ h) q legal = by_reset (resets (own_call q e)) (asks_or_none 
       (λ (named : (b : Block) × Asks q e b).
       let facts = request_facts s h e named.0 legal.1 named.1.reply in
       let none : dues h q ≡ [] = dues_empty s h q legal.0 (ap (λ (w : ℕ). some_block s.torrent (due h w)) (sym named.1.worker) ∙ facts.none_due) in
-      let count : length (outstanding h q) < s.depth = subst (λ (n : ℕ). n < s.depth) (ap (asked_count s h) named.1.worker ∙ asked_count_is s h q legal.0) facts.room in
+      let count : length (outstanding h q) < s.depth = subst (λ (n : ℕ). n < s.depth)
+      (ap (asked_count s h) named.1.worker ∙ asked_count_is s h q legal.0) facts.room in
       let own : (e.worker == q) ≡ true = eq-eqb e.worker q named.1.worker in
-      let no_new : length (if◌then◌else◌ {A = List Block} (e.worker == q) [] new) ≡ 0 = ap (λ (x : Bool). length (if◌then◌else◌ {A = List Block} x [] new)) own in
+      let no_new : length (if◌then◌else◌ {A = List Block} (e.worker == q) [] new) ≡ 0 =
+      ap (λ (x : Bool). length (if◌then◌else◌ {A = List Block} x [] new)) own in
       let no_still : length still ≤ 0 = subst (λ (bs : List Block). length still ≤ length bs) none (fewer (λ b. not (cancelled q e b)) (dues h q)) in
       let one : length (requested q e) ≡ 1 = ap length named.1.only in
       let short = fewer (λ b. is_none (stored e b)) (outstanding h q) in
@@ -323,7 +332,8 @@ place_resized (c ∷ bs) a b same =
 -- a list of blocks of the torrent has at least as many blocks as have their place in it
 count_listed_most : (t : Layout) (bs : List Block) → AreBlocks t bs → count_blocks t (λ b. has_place b bs) ≤ length bs
 unfolding AreBlocks
-count_listed_most t [] are = let none : count_blocks t (λ b. false) ≡ 0 = sum_none (piece_count t) _ (λ p lp. count_none (block_count t p) (λ k. false) (λ k lk. refl)) in omega arith
+count_listed_most t [] are = let none : count_blocks t (λ b. false) ≡ 0 =
+    sum_none (piece_count t) _ (λ p lp. count_none (block_count t p) (λ k. false) (λ k lk. refl)) in omega arith
 count_listed_most t (x ∷ bs) are = ⊎_elim
     (λ (again : has_place x bs ≡ true).
     let same = count_blocks_same t (λ b. has_place b (x ∷ bs)) (λ b. has_place b bs) (λ b. one_of b (same_place x b) refl again) in

@@ -7,7 +7,8 @@ use Rattle.std.proofs.lemmas.Map.Views.{any-filter_same}
 use Rattle.std.proofs.Math.Bool.{or_assoc}
 use Rattle.bt_meta.specs.declared.block.Block.{Block}
 use Rattle.bt_history.specs.declared.call.Reply.{Reply}
-use Rattle.bt_history.specs.declared.call.Reply.TheVariants.{Joined, Noted, Quiet, Cancel, Request, Choked, PipeFull, Idle, NothingLeft, Stored, Completed, Dropped, Had, Failed, Refused}
+use Rattle.bt_history.specs.declared.call.Reply.TheVariants.{Joined, Noted, Quiet, Cancel, Request, Choked, PipeFull, Idle, NothingLeft, Stored}
+use Rattle.bt_history.specs.declared.call.Reply.TheVariants.{Completed, Dropped, Had, Failed, Refused}
 use Rattle.bt_history.specs.declared.event.Event.{Event}
 use Rattle.bt_history.specs.History.{History, own_call, same_place, stored, stores, requested, cancelled, cancelled_by, bytes_for}
 use Rattle.bt_history.specs.Peers.{asked, asks, outstanding, has_place, due, dues, resets}
@@ -17,7 +18,8 @@ pub any_append : {A : Type 0} (test : A → Bool) (xs ys : List A) → list_any 
 any_append test [] ys = refl
 any_append test (x ∷ xs) ys = ap (λ (b : Bool). test x || b) (any_append test xs ys) ∙ sym (or_assoc (test x) (list_any test xs) (list_any test ys))
 
-any_either : (resetting : Bool) (test : Block → Bool) (xs : List Block) → list_any test (if resetting then [] else xs) ≡ (not resetting && list_any test xs)
+any_either : (resetting : Bool) (test : Block → Bool) (xs : List Block) →
+    list_any test (if resetting then [] else xs) ≡ (not resetting && list_any test xs)
 any_either true test xs = refl
 any_either false test xs = refl
 
@@ -29,7 +31,8 @@ asked_outstanding (e ∷ h) q b =
     let lasting : Block → Bool = λ a. is_none (stored e a) in
     let older : (is_none (stored e b) && asked h q b) ≡ has_place b (filter lasting (outstanding h q)) =
     ap (λ (x : Bool). is_none (stored e b) && x) (asked_outstanding h q b)
-    ∙ sym (any-filter_same (λ (a : Block). same_place a b) lasting (is_none (stored e b)) (λ a same. ap is_none (sym (stored_at e a b same))) (outstanding h q)) in
+    ∙ sym (any-filter_same (λ (a : Block). same_place a b) lasting (is_none (stored e b)) (λ a same. ap is_none (sym (stored_at e a b same)))
+    (outstanding h q)) in
     sym (any_either (resets (own_call q e)) (λ (a : Block). same_place a b) (filter lasting (outstanding h q) ++ requested q e)
     ∙ ap (λ (x : Bool). not (resets (own_call q e)) && x)
     (any_append (λ (a : Block). same_place a b) (filter lasting (outstanding h q)) (requested q e) ∙ ap (λ (x : Bool). x || asks q e b) (sym older)))
@@ -53,23 +56,25 @@ cancel_stores_nothing Failed b is = refl
 cancel_stores_nothing (Refused reason) b is = refl
 
 cancelled_at : (q : ℕ) (e : Event) (a b : Block) → same_place a b ≡ true → cancelled q e a ≡ cancelled q e b
-cancelled_at q e a b same = ap (λ (x : Bool). (e.worker == q) && x) (sym (ap (cancelled_by e.reply) (same_but_len a b same) ∙ resized_reply e.reply a b.len)) where
-  resized_reply : (reply : Reply) (c : Block) (n : ℕ) → cancelled_by reply (record { piece = c.piece; begin = c.begin; len = n }) ≡ cancelled_by reply c
-  resized_reply (Cancel a) c n = refl
-  resized_reply Joined c n = refl
-  resized_reply (Noted x) c n = refl
-  resized_reply Quiet c n = refl
-  resized_reply (Request a) c n = refl
-  resized_reply Choked c n = refl
-  resized_reply PipeFull c n = refl
-  resized_reply Idle c n = refl
-  resized_reply NothingLeft c n = refl
-  resized_reply Stored c n = refl
-  resized_reply Completed c n = refl
-  resized_reply Dropped c n = refl
-  resized_reply Had c n = refl
-  resized_reply Failed c n = refl
-  resized_reply (Refused reason) c n = refl
+cancelled_at q e a b same = ap (λ (x : Bool). (e.worker == q) && x)
+    (sym (ap (cancelled_by e.reply) (same_but_len a b same) ∙ resized_reply e.reply a b.len)) where
+      resized_reply : (reply : Reply) (c : Block) (n : ℕ) → cancelled_by reply (record { piece = c.piece; begin = c.begin; len = n }) ≡ cancelled_by reply
+          c
+      resized_reply (Cancel a) c n = refl
+      resized_reply Joined c n = refl
+      resized_reply (Noted x) c n = refl
+      resized_reply Quiet c n = refl
+      resized_reply (Request a) c n = refl
+      resized_reply Choked c n = refl
+      resized_reply PipeFull c n = refl
+      resized_reply Idle c n = refl
+      resized_reply NothingLeft c n = refl
+      resized_reply Stored c n = refl
+      resized_reply Completed c n = refl
+      resized_reply Dropped c n = refl
+      resized_reply Had c n = refl
+      resized_reply Failed c n = refl
+      resized_reply (Refused reason) c n = refl
 
 -- the blocks whose cancel is due at a peer are those in its line of cancels
 pub due_dues : (h : History) (q : ℕ) (b : Block) → due h q b ≡ has_place b (dues h q)
@@ -82,10 +87,12 @@ due_dues (e ∷ h) q b =
     let older : (not (cancelled q e b) && due h q b) ≡ has_place b (filter keeps (dues h q)) =
     ap (λ (x : Bool). not (cancelled q e b) && x) (due_dues h q b)
     ∙ sym (any-filter_same here keeps (not (cancelled q e b)) (λ a same. ap not (cancelled_at q e a b same)) (dues h q)) in
-    let newer : (is_some (stored e b) && (not (e.worker == q) && asked h q b)) ≡ has_place b (if e.worker == q then [] else filter arrived (outstanding h q)) =
+    let newer : (is_some (stored e b) && (not (e.worker == q) && asked h q b)) ≡ has_place b
+    (if e.worker == q then [] else filter arrived (outstanding h q)) =
     shuffled (is_some (stored e b)) (e.worker == q) (asked h q b)
     ∙ (ap (λ (x : Bool). not (e.worker == q) && (is_some (stored e b) && x)) (asked_outstanding h q b)
-    ∙ (ap (λ (x : Bool). not (e.worker == q) && x) (sym (any-filter_same here arrived (is_some (stored e b)) (λ a same. ap is_some (sym (stored_at e a b same))) (outstanding h q)))
+    ∙ (ap (λ (x : Bool). not (e.worker == q) && x) (sym (any-filter_same here arrived (is_some (stored e b))
+    (λ a same. ap is_some (sym (stored_at e a b same))) (outstanding h q)))
     ∙ sym (any_either (e.worker == q) here (filter arrived (outstanding h q))))) in
     sym (any_either (resets (own_call q e)) here (filter keeps (dues h q) ++ (if e.worker == q then [] else filter arrived (outstanding h q)))
     ∙ ap (λ (x : Bool). not (resets (own_call q e)) && x)
@@ -105,4 +112,5 @@ due_dues (e ∷ h) q b =
       joined_tests false is_due stores others none = refl
 
       stores_none : (a : Block) → cancelled q e a ≡ true → is_some (stored e a) ≡ false
-      stores_none a is = ap (λ (x : Bool). is_some (if x then bytes_for a e.action else None)) (cancel_stores_nothing e.reply a (and_parts (e.worker == q) (cancelled_by e.reply a) is).1)
+      stores_none a is = ap (λ (x : Bool). is_some (if x then bytes_for a e.action else None))
+          (cancel_stores_nothing e.reply a (and_parts (e.worker == q) (cancelled_by e.reply a) is).1)

@@ -68,6 +68,12 @@ next_request t false true false true e f g cancels ons firsts seconds x h =
 next_request t false true false false true f g cancels ons firsts seconds x h =
     record { none_due = refl; room = refl; block = named (is_block t) x (h.0) (h.1) (h.2); kind = inr (inl (named firsts x (h.0) (h.1) (h.3))) }
 next_request t false true false false false true g cancels ons firsts seconds x h =
-    record { none_due = refl; room = refl; block = named (is_block t) x (h.0) (h.1) (h.2); kind = inr (inr (refl, named seconds x (h.0) (h.1) (h.3))) }
+    record {
+      none_due = refl;
+      room = refl;
+      block = named (is_block t) x (h.0) (h.1) (h.2);
+      kind =
+          inr (inr (refl, named seconds x (h.0) (h.1) (h.3)));
+    }
 next_request t false true false false false false true cancels ons firsts seconds x h = absurd (cc h)
 next_request t false true false false false false false cancels ons firsts seconds x h = absurd (cc h)

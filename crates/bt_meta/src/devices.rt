@@ -25,7 +25,7 @@ pub trait Source {
     ghost ended: { Self → Bool };
 
     /// How many reads were asked for, up to the largest `u64`.
-    ghost asked: { Self → ℕ };
+    ghost reads: { Self → ℕ };
 
     /// Reads some bytes to the front of the room, and says how many. None are given only at the end, or where there is no room.
     fn read(&mut self, room: &mut [u8]) -> Result<usize, DeviceFault>
@@ -33,7 +33,7 @@ pub trait Source {
         ensures bytes { ReadConsumes (left self.old) (left self.new) result room.new }
         ensures failed { failed self.new ≡ (failed self.old || is_err result) }
         ensures ended { ended self.new ≡ (ended self.old || is_end result room.new) }
-        ensures asked { asked self.new ≡ one_more (asked self.old) };
+        ensures reads { reads self.new ≡ one_more (reads self.old) };
 }
 
 /// Where bytes go.
@@ -72,7 +72,7 @@ pub fn write_all<W: Sink>(writer: &mut W, bytes: &[u8]) -> Result<(), DeviceFaul
 #[derive(Drop)]
 pub struct FromRead<R> {
     inner: R,
-    asked: u64,
+    reads: u64,
     failed: bool,
     ended: bool,
 }
@@ -83,11 +83,11 @@ impl<R: Read> FromRead<R> {
         ensures left { ⟦<FromRead<R> as Source>⟧.left result ≡ R.remaining inner }
         ensures failed { ⟦<FromRead<R> as Source>⟧.failed result ≡ false }
         ensures ended { ⟦<FromRead<R> as Source>⟧.ended result ≡ false }
-        ensures asked { ⟦<FromRead<R> as Source>⟧.asked result ≡ 0 }
+        ensures reads { ⟦<FromRead<R> as Source>⟧.reads result ≡ 0 }
     {
         FromRead {
             inner,
-            asked: 0,
+            reads: 0,
             failed: false,
             ended: false,
         }
@@ -101,10 +101,10 @@ impl<R: Read> Source for FromRead<R> {
 
     ghost ended = { λ s. s.ended };
 
-    ghost asked = { λ s. s.asked };
+    ghost reads = { λ s. s.reads };
 
     fn read(&mut self, room: &mut [u8]) -> Result<usize, DeviceFault> {
-        self.asked = self.asked.saturating_add(1);
+        self.reads = self.reads.saturating_add(1);
         match self.inner.read(room) {
             Ok(count) => {
                 if count == 0 && !room.is_empty() {

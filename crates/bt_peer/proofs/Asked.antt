@@ -2,23 +2,23 @@
 use Rattle.std.proofs.Common.{◌≡◌, ℕ, List, [], ◌∷◌, ◌++◌, refl, sym, ap, subst, ◌∙◌, append_assoc}
 use Rattle.std.proofs.lemmas.List.{append-nil}
 use Rattle.bt_wire.specs.declared.message.Message.{Message}
-use Rattle.bt_peer.specs.Events.{Event}
+use Rattle.bt_peer.specs.Acts.{Act}
 use Rattle.bt_peer.specs.Places.{PlaceRecord, Gains}
-use Rattle.bt_peer.specs.Turning.{AsksForNews, EachAsksForNews, TellsAllNews}
+use Rattle.bt_peer.specs.Steps.{AsksForNews, EachAsksForNews, TellsAllNews}
 use Rattle.bt_peer.proofs.Stretches.{Gains-join, Gains-none}
 
 module _ (pieces : ℕ) where
   -- the first turn
-  pub asked_first : (m : Message) (a b c : PlaceRecord) (events : List Event) → Gains a [] b → Gains b events c → AsksForNews pieces m b events c →
-      EachAsksForNews pieces (m ∷ []) a events c
-  asked_first m a b c events before gains news =
-      (events, ([], (b, (c, (before, gains, news, (refl, Gains-none c), sym (append-nil events))))))
+  pub asked_first : (m : Message) (a b c : PlaceRecord) (acts : List Act) → Gains a [] b → Gains b acts c → AsksForNews pieces m b acts c →
+      EachAsksForNews pieces (m ∷ []) a acts c
+  asked_first m a b c acts before gains news =
+      (acts, ([], (b, (c, (before, gains, news, (refl, Gains-none c), sym (append-nil acts))))))
 
   -- one turn more
-  pub asked_last : (ms : List Message) (m : Message) (a b c : PlaceRecord) (es fs : List Event) → EachAsksForNews pieces ms a es b → Gains b fs c →
+  pub asked_last : (ms : List Message) (m : Message) (a b c : PlaceRecord) (es fs : List Act) → EachAsksForNews pieces ms a es b → Gains b fs c →
       AsksForNews pieces m b fs c → EachAsksForNews pieces (ms ++ m ∷ []) a (es ++ fs) c
   asked_last [] m a b c es fs asked gains news =
-      (fs, ([], (b, (c, (asked.1, gains, news, (refl, Gains-none c), ap (λ (xs : List Event). xs ++ fs) asked.0 ∙ sym (append-nil fs))))))
+      (fs, ([], (b, (c, (asked.1, gains, news, (refl, Gains-none c), ap (λ (xs : List Act). xs ++ fs) asked.0 ∙ sym (append-nil fs))))))
   asked_last (n ∷ ms) m a b c es fs asked gains news =
       let rest = asked.1.1.1.1 in (
         asked.0,
@@ -33,7 +33,7 @@ module _ (pieces : ℕ) where
                 rest.1,
                 rest.2,
                 asked_last ms m asked.1.1.1.0 b c asked.1.0 fs rest.3 gains news,
-                ap (λ (xs : List Event). xs ++ fs) rest.4 ∙ append_assoc asked.0 asked.1.0 fs,
+                ap (λ (xs : List Act). xs ++ fs) rest.4 ∙ append_assoc asked.0 asked.1.0 fs,
               ),
             ),
           ),
@@ -41,7 +41,7 @@ module _ (pieces : ℕ) where
       )
 
   -- more pieces came to be finished meanwhile
-  pub asked_later : (ms : List Message) (a b c : PlaceRecord) (es : List Event) → EachAsksForNews pieces ms a es b → Gains b [] c →
+  pub asked_later : (ms : List Message) (a b c : PlaceRecord) (es : List Act) → EachAsksForNews pieces ms a es b → Gains b [] c →
       EachAsksForNews pieces ms a es c
   asked_later [] a b c es asked later = (asked.0, Gains-join a b c [] [] asked.1 later)
   asked_later (n ∷ ms) a b c es asked later =

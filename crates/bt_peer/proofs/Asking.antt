@@ -11,34 +11,34 @@ use Rattle.bt_history.specs.declared.call.Reply.TheVariants as replies
 use Rattle.bt_history.specs.declared.call.Reason.{Reason}
 use Rattle.bt_peer.specs.declared.fault.SessionFault.{SessionFault}
 use Rattle.bt_peer.specs.declared.fault.SessionFault.TheVariants as faults
-use Rattle.bt_peer.specs.Events.{Event, Called, is_refusal, is_refused_call}
+use Rattle.bt_peer.specs.Acts.{Act, Called, is_refusal, is_refused_call}
 use Rattle.bt_peer.specs.Turns.{Asks, has_more, NoneRefused}
 use Rattle.bt_peer.specs.Outlets.{Outlet, Performs, PerformsUpTo, StopsCall, EndsCalls, IsCut}
 use Rattle.bt_peer.proofs.Stretches.{Performs-none, Performs-join, Performs-stops}
 
 -- Next calls whose replies all have more
-abbrev pub HaveMore : List Event → Type 0
+abbrev pub HaveMore : List Act → Type 0
 HaveMore [] = Unit {0}
 HaveMore (Called (marks.Next word) reply ∷ es) = (has_more reply ≡ true) × HaveMore es
 HaveMore _ = ⊥
 
-HaveMore-more : (es : List Event) (word : ℕ) (reply : Reply) → HaveMore es → has_more reply ≡ true →
+HaveMore-more : (es : List Act) (word : ℕ) (reply : Reply) → HaveMore es → has_more reply ≡ true →
     HaveMore (es ++ Called (marks.Next word) reply ∷ [])
 HaveMore-more [] word reply h more = (more, tt)
 HaveMore-more (Called (marks.Next w) r ∷ es) word reply h more = (h.0, HaveMore-more es word reply h.1 more)
 HaveMore-more (_ ∷ es) word reply h more = absurd h
 
 -- any number of Next calls may be the first of some
-pub asks_some : (most : ℕ) → (rest : List Event) × Asks most rest
+pub asks_some : (most : ℕ) → (rest : List Act) × Asks most rest
 asks_some zero = ([], refl)
 asks_some (suc most) = (Called (marks.Next 0) replies.Idle ∷ [], refl)
 
-asks_after : (most : ℕ) (reply : Reply) (b : Bool) → (rest : List Event) × MatchBool b (Asks most rest) (rest ≡ [])
+asks_after : (most : ℕ) (reply : Reply) (b : Bool) → (rest : List Act) × MatchBool b (Asks most rest) (rest ≡ [])
 asks_after most reply true = asks_some most
 asks_after most reply false = ([], refl)
 
-asks_one : (most : ℕ) (es : List Event) (word : ℕ) (reply : Reply) → HaveMore es → length es < most →
-    (rest : List Event) × Asks most (es ++ Called (marks.Next word) reply ∷ rest)
+asks_one : (most : ℕ) (es : List Act) (word : ℕ) (reply : Reply) → HaveMore es → length es < most →
+    (rest : List Act) × Asks most (es ++ Called (marks.Next word) reply ∷ rest)
 asks_one zero es word reply h lt = absurd (omega arith)
 asks_one (suc most) [] word reply h lt = asks_after most reply (has_more reply)
 asks_one (suc most) (Called (marks.Next w) r ∷ es) word reply h lt =
@@ -49,7 +49,7 @@ asks_one (suc most) (Called (marks.Next w) r ∷ es) word reply h lt =
     )
 asks_one (suc most) (_ ∷ es) word reply h lt = absurd h
 
-asks_begun : (most : ℕ) (es : List Event) → HaveMore es → length es ≤ most → (rest : List Event) × Asks most (es ++ rest)
+asks_begun : (most : ℕ) (es : List Act) → HaveMore es → length es ≤ most → (rest : List Act) × Asks most (es ++ rest)
 asks_begun most [] h lt = asks_some most
 asks_begun zero (e ∷ es) h lt = absurd (omega arith)
 asks_begun (suc most) (Called (marks.Next w) r ∷ es) h lt =
@@ -57,17 +57,17 @@ asks_begun (suc most) (Called (marks.Next w) r ∷ es) h lt =
     (others.0, subst (λ b. MatchBool b (Asks most (es ++ others.0)) (es ++ others.0 ≡ [])) (sym h.0) others.1)
 asks_begun (suc most) (_ ∷ es) h lt = absurd h
 
-asks_last : (most : ℕ) (es : List Event) (word : ℕ) (reply : Reply) → HaveMore es → length es < most → has_more reply ≡ false →
+asks_last : (most : ℕ) (es : List Act) (word : ℕ) (reply : Reply) → HaveMore es → length es < most → has_more reply ≡ false →
     Asks most (es ++ Called (marks.Next word) reply ∷ [])
 asks_last zero es word reply h lt last = absurd (omega arith)
-asks_last (suc most) [] word reply h lt last = let none : List Event = [] in let same : none ≡ none = refl in
+asks_last (suc most) [] word reply h lt last = let none : List Act = [] in let same : none ≡ none = refl in
     subst (λ b. MatchBool b (Asks most none) (none ≡ none)) (sym last) same
 asks_last (suc most) (Called (marks.Next w) r ∷ es) word reply h lt last =
     subst (λ b. MatchBool b (Asks most (es ++ Called (marks.Next word) reply ∷ [])) (es ++ Called (marks.Next word) reply ∷ [] ≡ [])) (sym h.0)
     (asks_last most es word reply h.1 (omega arith) last)
 asks_last (suc most) (_ ∷ es) word reply h lt last = absurd h
 
-asks_full : (most : ℕ) (es : List Event) → HaveMore es → length es ≡ most → Asks most es
+asks_full : (most : ℕ) (es : List Act) → HaveMore es → length es ≡ most → Asks most es
 asks_full zero [] h len = refl
 asks_full zero (e ∷ es) h len = absurd (omega arith)
 asks_full (suc most) [] h len = absurd (omega arith)
@@ -80,7 +80,7 @@ more_accepted (replies.Cancel block) h = refl
 more_accepted (replies.Request block) h = refl
 more_accepted _ h = absurd cc
 
-none_refused_one : (es : List Event) (word : ℕ) (reply : Reply) → HaveMore es → is_refusal reply ≡ false →
+none_refused_one : (es : List Act) (word : ℕ) (reply : Reply) → HaveMore es → is_refusal reply ≡ false →
     NoneRefused (es ++ Called (marks.Next word) reply ∷ [])
 none_refused_one [] word reply h accepted = ap (λ b. b || false) accepted
 none_refused_one (Called (marks.Next w) r ∷ es) word reply h accepted =
@@ -88,14 +88,14 @@ none_refused_one (Called (marks.Next w) r ∷ es) word reply h accepted =
     ∙ none_refused_one es word reply h.1 accepted
 none_refused_one (_ ∷ es) word reply h accepted = absurd h
 
-none_refused : (es : List Event) → HaveMore es → NoneRefused es
+none_refused : (es : List Act) → HaveMore es → NoneRefused es
 none_refused [] h = refl
 none_refused (Called (marks.Next w) r ∷ es) h = ap (λ b. b || list_any is_refused_call es) (more_accepted r h.0) ∙ none_refused es h.1
 none_refused (_ ∷ es) h = absurd h
 
 -- so many Next calls were made, and there is more
 pub record Asking (a b : Outlet) (n : ℕ) : Type 0 where
-  pub asking : List Event
+  pub asking : List Act
   pub more : HaveMore asking
   pub count : length asking ≡ n
   pub does : Performs a asking b
@@ -116,7 +116,7 @@ Asking-more word reply a b c n s does more =
 -- the last call had nothing more
 pub Asking-last : (word : ℕ) (reply : Reply) (a b c : Outlet) (n most : ℕ) → Asking a b n → n < most →
     Performs b (Called (marks.Next word) reply ∷ []) c → is_refusal reply ≡ false → has_more reply ≡ false →
-    (asking : List Event) × (Asks most asking × NoneRefused asking × Performs a asking c)
+    (asking : List Act) × (Asks most asking × NoneRefused asking × Performs a asking c)
 Asking-last word reply a b c n most s lt does accepted last = (
   s.asking ++ Called (marks.Next word) reply ∷ [],
   (
@@ -128,10 +128,10 @@ Asking-last word reply a b c n most s lt does accepted last = (
 
 -- as many as there may be
 pub Asking-full : (a b : Outlet) (n most : ℕ) → Asking a b n → n ≡ most →
-    (asking : List Event) × (Asks most asking × NoneRefused asking × Performs a asking b)
+    (asking : List Act) × (Asks most asking × NoneRefused asking × Performs a asking b)
 Asking-full a b n most s is = (s.asking, (asks_full most s.asking s.more (s.count ∙ is), none_refused s.asking s.more, s.does))
 
-pub ends_cut : (fault : SessionFault) (es : List Event) → IsCut fault → NoneRefused es → EndsCalls fault es
+pub ends_cut : (fault : SessionFault) (es : List Act) → IsCut fault → NoneRefused es → EndsCalls fault es
 ends_cut fault es cut none =
     elim cut [
       | inl is ↦ subst (λ (f : SessionFault). EndsCalls f es) (sym is) none
@@ -139,20 +139,20 @@ ends_cut fault es cut none =
     ]
 
 -- the two ways in which a call stops
-pub stops_ways : (call : CallMark) (fault : SessionFault) (events : List Event) → StopsCall call fault events →
-    ((reason : Reason) × ((fault ≡ faults.Refused reason) × (events ≡ Called call (replies.Refused reason) ∷ [])))
-    ⊎ (IsCut fault × ((events ≡ []) ⊎ ((reply : Reply) × ((is_refusal reply ≡ false) × (events ≡ Called call reply ∷ [])))))
-stops_ways call (faults.Refused reason) events h = inl (reason, (refl, h))
-stops_ways call _ events h = inr h
+pub stops_ways : (call : CallMark) (fault : SessionFault) (acts : List Act) → StopsCall call fault acts →
+    ((reason : Reason) × ((fault ≡ faults.Refused reason) × (acts ≡ Called call (replies.Refused reason) ∷ [])))
+    ⊎ (IsCut fault × ((acts ≡ []) ⊎ ((reply : Reply) × ((is_refusal reply ≡ false) × (acts ≡ Called call reply ∷ [])))))
+stops_ways call (faults.Refused reason) acts h = inl (reason, (refl, h))
+stops_ways call _ acts h = inr h
 
 abbrev AskingStops : SessionFault → ℕ → Outlet → Outlet → Type 0
-AskingStops fault most a c = (asking : List Event)
-    × ((rest : List Event) × (Asks most (asking ++ rest) × EndsCalls fault asking × PerformsUpTo fault a asking c))
+AskingStops fault most a c = (asking : List Act)
+    × ((rest : List Act) × (Asks most (asking ++ rest) × EndsCalls fault asking × PerformsUpTo fault a asking c))
 
 stops_refused : (word : ℕ) (reason : Reason) (a b c : Outlet) (n most : ℕ) → Asking a b n → n < most →
     PerformsUpTo (faults.Refused reason) b (Called (marks.Next word) (replies.Refused reason) ∷ []) c → AskingStops (faults.Refused reason) most a c
 stops_refused word reason a b c n most s lt stops =
-    let last : Event = Called (marks.Next word) (replies.Refused reason) in
+    let last : Act = Called (marks.Next word) (replies.Refused reason) in
     let made = asks_last most s.asking word (replies.Refused reason) s.more (omega (arith, s.count)) refl in (
       s.asking ++ last ∷ [],
       (
@@ -175,7 +175,7 @@ stops_none fault a b c n most s lt cut stops =
         (
           begun.1,
           ends_cut fault s.asking cut (none_refused s.asking s.more),
-          subst (λ (es : List Event). PerformsUpTo fault a es c) (append-nil s.asking) (Performs-stops fault a b c s.asking [] s.does stops),
+          subst (λ (es : List Act). PerformsUpTo fault a es c) (append-nil s.asking) (Performs-stops fault a b c s.asking [] s.does stops),
         ),
       ),
     )
@@ -183,7 +183,7 @@ stops_none fault a b c n most s lt cut stops =
 stops_one : (word : ℕ) (reply : Reply) (fault : SessionFault) (a b c : Outlet) (n most : ℕ) → Asking a b n → n < most → IsCut fault →
     is_refusal reply ≡ false → PerformsUpTo fault b (Called (marks.Next word) reply ∷ []) c → AskingStops fault most a c
 stops_one word reply fault a b c n most s lt cut accepted stops =
-    let last : Event = Called (marks.Next word) reply in
+    let last : Act = Called (marks.Next word) reply in
     let begun = asks_one most s.asking word reply s.more (omega (arith, s.count)) in (
       s.asking ++ last ∷ [],
       (
@@ -198,16 +198,16 @@ stops_one word reply fault a b c n most s lt cut accepted stops =
 
 -- a call that stopped
 pub Asking-stops : (word : ℕ) (fault : SessionFault) (a b c : Outlet) (n most : ℕ) → Asking a b n → n < most →
-    (events : List Event) × (StopsCall (marks.Next word) fault events × PerformsUpTo fault b events c) → AskingStops fault most a c
+    (acts : List Act) × (StopsCall (marks.Next word) fault acts × PerformsUpTo fault b acts c) → AskingStops fault most a c
 Asking-stops word fault a b c n most s lt stopped =
     elim (stops_ways (marks.Next word) fault stopped.0 stopped.1.0) [
       | inl refused ↦ subst (λ (f : SessionFault). AskingStops f most a c) (sym refused.1.0)
           (stops_refused word refused.0 a b c n most s lt
           (subst (λ (f : SessionFault). PerformsUpTo f b (Called (marks.Next word) (replies.Refused refused.0) ∷ []) c) refused.1.0
-          (subst (λ (es : List Event). PerformsUpTo fault b es c) refused.1.1 stopped.1.1)))
+          (subst (λ (es : List Act). PerformsUpTo fault b es c) refused.1.1 stopped.1.1)))
       | inr cut ↦ elim cut.1 [
-        | inl none ↦ stops_none fault a b c n most s lt cut.0 (subst (λ (es : List Event). PerformsUpTo fault b es c) none stopped.1.1)
+        | inl none ↦ stops_none fault a b c n most s lt cut.0 (subst (λ (es : List Act). PerformsUpTo fault b es c) none stopped.1.1)
         | inr some ↦ stops_one word some.0 fault a b c n most s lt cut.0 some.1.0
-            (subst (λ (es : List Event). PerformsUpTo fault b es c) some.1.1 stopped.1.1)
+            (subst (λ (es : List Act). PerformsUpTo fault b es c) some.1.1 stopped.1.1)
       ]
     ]

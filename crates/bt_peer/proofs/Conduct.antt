@@ -1,5 +1,6 @@
 -- Stretches of a worker's calls, one after another: their words, and the checks of the pieces that they complete.
-use Rattle.std.proofs.Common.{◌≡◌, ℕ, ◌==◌, Bool, true, false, ◌&&◌, List, [], ◌∷◌, ◌++◌, length, map, Option, Some, None, refl, sym, ap, subst, ◌∙◌, ◌⊎◌}
+use Rattle.std.proofs.Common.{◌≡◌, ℕ, ◌==◌, Bool, true, false, ◌&&◌, List, [], ◌∷◌, ◌++◌, length, map, Option, Some, None, refl, sym, ap, subst}
+use Rattle.std.proofs.Common.{◌∙◌, ◌⊎◌}
 use Rattle.std.proofs.Common.{append_assoc, eq-eqb, inl, inr, arith, length-append}
 use Rattle.std.proofs.lemmas.List.{append-nil}
 use Rattle.std.proofs.lemmas.Bool.{and_parts}
@@ -11,10 +12,10 @@ use Rattle.bt_history.specs.declared.call.Reply.TheVariants as replies
 use Rattle.bt_wire.specs.declared.message.Message.{Message}
 use Rattle.bt_wire.specs.declared.message.Message.TheVariants as messages
 use Rattle.bt_peer.specs.declared.fault.SessionFault.{SessionFault}
-use Rattle.bt_peer.specs.Events.{Event, Called, News, calls_of}
+use Rattle.bt_peer.specs.Acts.{Act, Called, News, calls_of}
 use Rattle.bt_peer.specs.Outlets.{StopsCall}
 use Rattle.bt_peer.specs.Places.{PlaceRecord, Gains, GainsUpTo}
-use Rattle.bt_peer.specs.Turning.{Leaves, Departs}
+use Rattle.bt_peer.specs.Steps.{Leaves, Departs}
 use Rattle.bt_peer.specs.Turns.{call_of, arrived_piece, if_completed, ChecksAtMost}
 use Rattle.bt_peer.proofs.Asking.{stops_ways}
 use Rattle.bt_peer.specs.Conduct.{Calls, Draws, word_of, words_of, completed_by, checks_first, all_checked, SettlesAtOnce, Conducts, DrawsWords}
@@ -88,9 +89,9 @@ DrawsWords-silent s a b c gained draws is silent = record {
 pub silent_draws : (s : Stream) (old new gained : Calls) → new ≡ old ++ gained → words_of gained ≡ [] → DrawsWords s old new
 silent_draws s old new gained is silent = DrawsWords-silent s old old new gained (DrawsWords-none s old) is silent
 
--- the calls of some events that draw no word
-abbrev pub AreSilent : List Event → Type 0
-AreSilent events = words_of (calls_of events) ≡ []
+-- the calls of some acts that draw no word
+abbrev pub AreSilent : List Act → Type 0
+AreSilent acts = words_of (calls_of acts) ≡ []
 
 pub news_calls : (news : List ℕ) → calls_of (map News news) ≡ []
 news_calls [] = refl
@@ -132,30 +133,30 @@ drew_one a b word reply old new drawn is = record {
 }
 
 -- the calls that a stopped call left: none, or itself
-stopped_calls : (call : CallMark) (fault : SessionFault) (events : List Event) → StopsCall call fault events →
-    (calls_of events ≡ []) ⊎ ((reply : Reply) × (calls_of events ≡ (call, reply) ∷ []))
-stopped_calls call fault events stops =
-    elim (stops_ways call fault events stops) [
+stopped_calls : (call : CallMark) (fault : SessionFault) (acts : List Act) → StopsCall call fault acts →
+    (calls_of acts ≡ []) ⊎ ((reply : Reply) × (calls_of acts ≡ (call, reply) ∷ []))
+stopped_calls call fault acts stops =
+    elim (stops_ways call fault acts stops) [
       | inl refused ↦ inr (_, ap calls_of refused.1.1)
       | inr cut ↦ elim cut.1 [ inl none ↦ inl (ap calls_of none) | inr some ↦ inr (some.0, ap calls_of some.1.1) ]
     ]
 
 -- a Next that stopped
-pub asked_cut : (a b : Stream) (word : ℕ) (fault : SessionFault) (events : List Event) (old new : PlaceRecord) → (word, b) ≡ next_u64 a →
-    StopsCall (marks.Next word) fault events → GainsUpTo old events new → DrawsWords a old.calls new.calls
-asked_cut a b word fault events old new drawn stops gains =
-    elim (stopped_calls (marks.Next word) fault events stops) [
-      | inl none ↦ silent_draws a old.calls new.calls (calls_of events) gains.calls (ap words_of none)
+pub asked_cut : (a b : Stream) (word : ℕ) (fault : SessionFault) (acts : List Act) (old new : PlaceRecord) → (word, b) ≡ next_u64 a →
+    StopsCall (marks.Next word) fault acts → GainsUpTo old acts new → DrawsWords a old.calls new.calls
+asked_cut a b word fault acts old new drawn stops gains =
+    elim (stopped_calls (marks.Next word) fault acts stops) [
+      | inl none ↦ silent_draws a old.calls new.calls (calls_of acts) gains.calls (ap words_of none)
       | inr one ↦ drew_one a b word one.0 old.calls new.calls drawn (gains.calls ∙ ap (λ (calls : Calls). old.calls ++ calls) one.1)
     ]
 
 -- another call that stopped
-pub other_cut : (s : Stream) (call : CallMark) (fault : SessionFault) (events : List Event) (old new : PlaceRecord) → word_of call ≡ [] →
-    StopsCall call fault events → GainsUpTo old events new → DrawsWords s old.calls new.calls
-other_cut s call fault events old new silent stops gains =
-    elim (stopped_calls call fault events stops) [
-      | inl none ↦ silent_draws s old.calls new.calls (calls_of events) gains.calls (ap words_of none)
-      | inr one ↦ silent_draws s old.calls new.calls (calls_of events) gains.calls
+pub other_cut : (s : Stream) (call : CallMark) (fault : SessionFault) (acts : List Act) (old new : PlaceRecord) → word_of call ≡ [] →
+    StopsCall call fault acts → GainsUpTo old acts new → DrawsWords s old.calls new.calls
+other_cut s call fault acts old new silent stops gains =
+    elim (stopped_calls call fault acts stops) [
+      | inl none ↦ silent_draws s old.calls new.calls (calls_of acts) gains.calls (ap words_of none)
+      | inr one ↦ silent_draws s old.calls new.calls (calls_of acts) gains.calls
           (ap words_of one.1 ∙ ap (λ (words : List ℕ). words ++ []) silent)
     ]
 
@@ -183,13 +184,13 @@ not_longer old mid new made same more =
 
 pub completed_conducts : (settles : Bool) (s : Stream) (call : CallMark) (reply : Reply) (piece : ℕ) (old mid new : PlaceRecord) →
     word_of call ≡ [] → if_completed (arrived_piece call) reply ≡ Some piece → Gains old (Called call reply ∷ []) mid →
-    (events : List Event) × (ChecksAtMost piece events × Gains mid events new) →
+    (acts : List Act) × (ChecksAtMost piece acts × Gains mid acts new) →
     (settles ≡ true → SettlesAtOnce piece mid.calls new.calls) → Conducts settles s old.calls new.calls s
 completed_conducts settles s call reply piece old mid new silent is made checks at_once =
     elim checks.1.0 [
       | inl none ↦
           let same : new.calls ≡ mid.calls ++ [] =
-          checks.1.1.up_to.calls ∙ ap (λ (events : List Event). mid.calls ++ calls_of events) none in
+          checks.1.1.up_to.calls ∙ ap (λ (acts : List Act). mid.calls ++ calls_of acts) none in
           record {
             gained = (call, reply) ∷ [];
             calls = same ∙ append-nil mid.calls ∙ made.up_to.calls;
@@ -200,7 +201,7 @@ completed_conducts settles s call reply piece old mid new silent is made checks 
           record {
             gained = (call, reply) ∷ (marks.Settle piece, check.0) ∷ [];
             calls = checks.1.1.up_to.calls
-                ∙ ap (λ (events : List Event). mid.calls ++ calls_of events) check.1.1
+                ∙ ap (λ (acts : List Act). mid.calls ++ calls_of acts) check.1.1
                 ∙ ap (λ (calls : Calls). calls ++ (marks.Settle piece, check.0) ∷ []) made.up_to.calls
                 ∙ append_assoc old.calls ((call, reply) ∷ []) ((marks.Settle piece, check.0) ∷ []);
             drawn = subst (λ (words : List ℕ). Draws s words s) (sym (ap (λ (words : List ℕ). words ++ []) silent)) refl;
@@ -218,7 +219,7 @@ own_word (messages.Bits bits) call is = cc
 own_word (messages.Piece piece begin bytes) call is = cc
 own_word _ call is = absurd cc
 
-departs_silently : (is_in short : Bool) (leave : List Event) → Departs is_in short leave → AreSilent leave
+departs_silently : (is_in short : Bool) (leave : List Act) → Departs is_in short leave → AreSilent leave
 departs_silently is_in short [] departs = refl
 departs_silently is_in short (Called marks.Leave reply ∷ []) departs = refl
 departs_silently is_in short _ departs = absurd departs

@@ -16,7 +16,7 @@ use Rattle.bt_history.specs.declared.mark.Mark.{Mark}
 use Rattle.bt_history.specs.History.{History, passed}
 use Rattle.bt_history.specs.Logs.{answers, call_mark, mark_of, marks_of}
 use Rattle.bt_history.specs.Pieces.{had}
-use Rattle.bt_peer.specs.Events.{Event, Called, News}
+use Rattle.bt_peer.specs.Acts.{Act, Called, News}
 use Rattle.bt_peer.specs.Places.{Gains}
 use Rattle.bt_history.proofs.Allowed.{allowed_answers}
 use Rattle.bt_picker.specs.Checks.{waits, settling, SettlesIf, SettlesNow}
@@ -111,8 +111,8 @@ told_by false piece other told is within =
 -- what a check leaves, for a piece that waits for one or doesn't
 settled_if : (waits : Bool) (lent : List GName) (old new : DeskState) (worker piece : ℕ) (reply : Reply) (told : List Bool) (short : Bool) →
     SettlesIf waits old new worker piece reply →
-    (events : List Event) × (ChecksAtMost piece events
-    × Gains (desk_record lent old worker told short) events (desk_record lent new worker told short))
+    (acts : List Act) × (ChecksAtMost piece acts
+    × Gains (desk_record lent old worker told short) acts (desk_record lent new worker told short))
 settled_if true lent old new worker piece reply told short enters =
     let e = settling old.setting old.history worker piece reply in
     let fits : answers (marks.Settle piece) reply ≡ true = allowed_answers old.setting old.history e enters.allowed in
@@ -125,8 +125,8 @@ settled_if false lent old new worker piece reply told short unchanged =
 -- a piece was settled now, where it waited for that
 pub settled : (lent : List GName) (old new : DeskState) (worker piece : ℕ) (reply : Reply) (told : List Bool) (short : Bool) →
     SettlesNow old new worker piece reply →
-    (events : List Event) × (ChecksAtMost piece events
-    × Gains (desk_record lent old worker told short) events (desk_record lent new worker told short))
+    (acts : List Act) × (ChecksAtMost piece acts
+    × Gains (desk_record lent old worker told short) acts (desk_record lent new worker told short))
 settled lent old new worker piece reply told short settles =
     settled_if (waits old.setting old.history piece) lent old new worker piece reply told short settles
 

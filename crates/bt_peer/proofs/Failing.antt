@@ -13,14 +13,14 @@ use Rattle.bt_history.specs.declared.call.Reply.TheVariants as replies
 use Rattle.bt_history.specs.declared.mark.CallMark.TheVariants as marks
 use Rattle.bt_peer.specs.declared.fault.SessionFault.{SessionFault}
 use Rattle.bt_peer.specs.declared.fault.SessionFault.TheVariants as faults
-use Rattle.bt_peer.specs.Events.{Event, Called, is_in}
+use Rattle.bt_peer.specs.Acts.{Act, Called, is_in}
 use Rattle.bt_peer.specs.Places.{PlaceRecord, Gains, GainsUpTo, LacksMemory}
-use Rattle.bt_peer.specs.Saying.{greeting, says}
+use Rattle.bt_peer.specs.Writer.{greeting, says}
 use Rattle.bt_peer.specs.Turns.{IsLater, BeginsTurn}
 use Rattle.bt_peer.specs.Outlets.{Outlet, PerformsUpTo, WroteFront, EndsCalls}
-use Rattle.bt_peer.specs.Hearing.{Hears, HearsEnd, HearsFault, SourceState}
+use Rattle.bt_peer.specs.Reader.{Hears, HearsEnd, HearsFault, SourceState}
 use Rattle.bt_peer.specs.Sessions.{SessionState, FailsWith}
-use Rattle.bt_peer.specs.Turning.{Start, start, Surroundings, BreaksBy, StopsTurn, Departs, Leaves}
+use Rattle.bt_peer.specs.Steps.{Start, start, Surroundings, BreaksBy, StopsTurn, Departs, Leaves}
 use Rattle.bt_peer.proofs.Opening.{unchecked}
 use Rattle.bt_peer.proofs.Staying.{stays_in}
 use Rattle.bt_peer.proofs.Stretches.{Gains-none, GainsUpTo-join, up_to}
@@ -29,15 +29,15 @@ use Rattle.std.proofs.KnownBytes.{Appends-nil}
 -- what the first turn left that broke off
 abbrev pub FirstFails : SessionFault → List ℕ → Bool → Start → SourceState → PlaceRecord → Option (List ℕ) → PlaceRecord → Option (List ℕ) → Type 0
 FirstFails fault greeting interested old source past written past' written' =
-    (events : List Event) × (GainsUpTo past events past' × (is_in false events ≡ false)
-    × WroteFront fault written (greeting ++ says interested events) written' × BreaksBy fault old source events)
+    (acts : List Act) × (GainsUpTo past acts past' × (is_in false acts ≡ false)
+    × WroteFront fault written (greeting ++ says interested acts) written' × BreaksBy fault old source acts)
 
 -- what a later turn left that broke off
 abbrev pub LaterFails : SessionFault → Bool → Start → SourceState → PlaceRecord → Option (List ℕ) → PlaceRecord → Option (List ℕ) → Type 0
 LaterFails fault interested old source past written past' written' =
-    (events : List Event) × ((leave : List Event)
-    × (GainsUpTo past (events ++ leave) past' × Departs (is_in true events) past'.short leave
-    × WroteFront fault written (says interested events) written' × BreaksBy fault old source events))
+    (acts : List Act) × ((leave : List Act)
+    × (GainsUpTo past (acts ++ leave) past' × Departs (is_in true acts) past'.short leave
+    × WroteFront fault written (says interested acts) written' × BreaksBy fault old source acts))
 
 heard_fault : (fault : SessionFault) (old : Start) (source : SourceState) → HearsFault old.stream old.left source fault → BreaksBy fault old source []
 heard_fault (faults.Wire fault) old source h = (h, refl)
@@ -85,14 +85,14 @@ pub join_refused : (reason : Reason) (greeting : List ℕ) (interested : Bool) (
     Gains past (Called marks.Join (replies.Refused reason) ∷ []) past' →
     FirstFails (faults.Refused reason) greeting interested old source past written past' written'
 join_refused reason greeting interested hello stream old source past past' written written' wrote hears gains =
-    let event : Event = Called marks.Join (replies.Refused reason) in
-    let begins : BeginsTurn old.terms (messages.Hello hello) (event ∷ []) =
+    let act : Act = Called marks.Join (replies.Refused reason) in
+    let begins : BeginsTurn old.terms (messages.Hello hello) (act ∷ []) =
     ([], (refl, unchecked marks.Join (replies.Refused reason))) in
-    let ends : EndsCalls (faults.Refused reason) (event ∷ []) =
+    let ends : EndsCalls (faults.Refused reason) (act ∷ []) =
     (marks.Join, record { before = []; accepted = refl; refused = refl; last = refl }) in (
-      event ∷ [],
+      act ∷ [],
       (
-        up_to past past' (event ∷ []) gains,
+        up_to past past' (act ∷ []) gains,
         refl,
         greeted_all (faults.Refused reason) greeting written written' wrote,
         inl (record { message = messages.Hello hello; stream = stream; hears = hears; begins = begins; ends = ends }),
@@ -128,12 +128,12 @@ pub leave_refused : (reason : Reason) (interested : Bool) (old : Start) (source 
     Gains past (Called marks.Leave (replies.Refused reason) ∷ []) past' →
     LaterFails (faults.Refused reason) interested old source past written past' written
 leave_refused reason interested old source stream past past' written hears empty joined gains =
-    let event : Event = Called marks.Leave (replies.Refused reason) in (
-      event ∷ [],
+    let act : Act = Called marks.Leave (replies.Refused reason) in (
+      act ∷ [],
       (
         [],
         (
-          up_to past past' (event ∷ []) gains,
+          up_to past past' (act ∷ []) gains,
           (λ is_in. absurd cc),
           wrote_nothing (faults.Refused reason) written,
           inr (record { stream = stream; hears = hears; empty = empty; joined = joined; refused = refl }),
@@ -158,23 +158,23 @@ leave_lacks_memory fault interested old source past past' written is lacks = (
   ),
 )
 
-stopped_turn : (fault : SessionFault) (m : Message) (stream : InboundState) (old : Start) (source : SourceState) (events : List Event) →
-    Hears old.stream old.left source.left m stream → StopsTurn fault old.terms m events → BreaksBy fault old source events
-stopped_turn (faults.Refused reason) m stream old source events hears stops =
+stopped_turn : (fault : SessionFault) (m : Message) (stream : InboundState) (old : Start) (source : SourceState) (acts : List Act) →
+    Hears old.stream old.left source.left m stream → StopsTurn fault old.terms m acts → BreaksBy fault old source acts
+stopped_turn (faults.Refused reason) m stream old source acts hears stops =
     inl (record { message = m; stream = stream; hears = hears; begins = stops.0; ends = stops.1 })
-stopped_turn faults.WriteFault m stream old source events hears stops =
+stopped_turn faults.WriteFault m stream old source acts hears stops =
     inl (record { message = m; stream = stream; hears = hears; begins = stops.0; ends = stops.1 })
-stopped_turn faults.NoMemory m stream old source events hears stops =
+stopped_turn faults.NoMemory m stream old source acts hears stops =
     inl (record { message = m; stream = stream; hears = hears; begins = stops.0; ends = stops.1 })
-stopped_turn faults.BadBits m stream old source events hears stops =
+stopped_turn faults.BadBits m stream old source acts hears stops =
     (record { message = m; stream = stream; hears = hears; unacceptable = stops.0 }, stops.1)
-stopped_turn _ m stream old source events hears stops = absurd stops.1
+stopped_turn _ m stream old source acts hears stops = absurd stops.1
 
 -- a message's turn broke off
 pub attending_fails : (fault : SessionFault) (m : Message) (stream : InboundState) (old : Start) (source : SourceState) (a d : Outlet)
     (past' : PlaceRecord) →
     IsLater m → Hears old.stream old.left source.left m stream →
-    (events : List Event) × (StopsTurn fault old.terms m events × PerformsUpTo fault a events d) → Leaves d.past past' →
+    (acts : List Act) × (StopsTurn fault old.terms m acts × PerformsUpTo fault a acts d) → Leaves d.past past' →
     LaterFails fault a.interested old source a.past a.written past' d.written
 attending_fails fault m stream old source a d past' later hears h left =
     let still = stays_in fault old.terms m h.0 later h.1.0 in (
@@ -198,9 +198,9 @@ pub session_fails_first : (fault : SessionFault) (old new : SessionState) (out o
     FailsWith fault old out source new out'
 session_fails_first fault old new out out' source first is h =
     record {
-      events = h.0;
+      acts = h.0;
       leave = [];
-      gains = subst (λ (es : List Event). GainsUpTo out.past es out'.past) (sym (append-nil h.0)) h.1.0;
+      gains = subst (λ (es : List Act). GainsUpTo out.past es out'.past) (sym (append-nil h.0)) h.1.0;
       departs = λ in_now. absurd (cc (h.1.1, subst (λ (b : Bool). is_in b h.0 ≡ true) first in_now));
       wrote = subst (λ (b : Bool). WroteFront fault out.written
           ((if b then [] else greeting old.terms.infohash old.worker) ++ says old.interested h.0) out'.written) (sym first) h.1.2;

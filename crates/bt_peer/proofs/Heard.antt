@@ -6,7 +6,7 @@ use Rattle.std.proofs.Common.{◌∙◌, append_assoc, arith}
 use Rattle.std.proofs.lemmas.List.{append-nil}
 use Rattle.std.specs.Io.KnownBytes.{Consumes, Keeps}
 use Rattle.bt_wire.specs.Stream.{InboundState, Gives, Spells}
-use Rattle.bt_peer.specs.Hearing.{fed, Hears}
+use Rattle.bt_peer.specs.Reader.{fed, Hears}
 use Rattle.bt_peer.specs.Turns.{IsLater}
 
 pub Consumes-none : (a : Option (List ℕ)) → Consumes a a []

@@ -17,12 +17,13 @@ use Rattle.bt_peer.specs.declared.seat.Seat.{Seat}
 use Rattle.rand_core.specs.Stream.{Stream as Words}
 use Rattle.bt_peer.specs.Conduct.{Calls, Conducts, DrawsWords, all_checked, answers_of, generator_of}
 use Rattle.bt_peer.specs.Desks.{calls_in}
-use Rattle.bt_peer.specs.Hearing.{most_reads}
+use Rattle.bt_peer.specs.Reader.{most_reads}
 use Rattle.bt_peer.specs.Places.{PlaceRecord, Gains}
 use Rattle.bt_peer.specs.Sessions.{SessionState, Running}
 use Rattle.bt_peer.specs.Serial.{StreamRecord, Ended, EachEnded, ChecksAfter, Finishes, around, before_all, own_record, source_of}
 use Rattle.bt_peer.specs.Terms.{TermsState}
-use Rattle.bt_peer.specs.Standing.{Standing, Stands, StandsBy, ConductBy, DevicesBy, EachKeeps, LeavesOthers, LeavesRest, IsFresh, IsNew, AreNew, standing}
+use Rattle.bt_peer.specs.Standing.{Standing, Stands, StandsBy, ConductBy, DevicesBy, EachKeeps, LeavesOthers, LeavesRest, IsFresh, IsNew, AreNew}
+use Rattle.bt_peer.specs.Standing.{standing}
 use Rattle.bt_peer.proofs.Conduct.{Conducts-none, Conducts-draws}
 use Rattle.bt_peer.proofs.EachStream.{ends_count}
 use Rattle.bt_peer.proofs.Desks.{calls_in-other, and-more, had-more}
@@ -145,8 +146,8 @@ begun_in terms seed worker setting desk seat stream layout same_setting uncalled
     ∙ own_fresh desk worker (replicate (piece_count setting.torrent) false) uncalled none_had
     ∙ ap (λ (told : List Bool). own_record desk worker told false) untold in
     let runs : seat.session.outcome ≡ None = ap (λ (session : SessionState). session.outcome) new.session in
-    let unasked : seat.session.asked ≡ 0 = ap (λ (session : SessionState). session.asked) new.session in
-    let source = source_of stream seat.session.asked in
+    let unasked : seat.session.reads ≡ 0 = ap (λ (session : SessionState). session.reads) new.session in
+    let source = source_of stream seat.session.reads in
     let conduct : Conducts true (generator_of seed worker) [] (calls_in desk.history worker) (answers_of seat.rng) =
     subst (Conducts true (generator_of seed worker) [] (calls_in desk.history worker)) (sym new.generator)
     (subst (λ (calls : Calls). Conducts true (generator_of seed worker) [] calls (generator_of seed worker)) (sym uncalled)
@@ -179,7 +180,7 @@ ended_so : (terms : TermsState) (seed worker : ℕ) (stream : StreamRecord) (now
     Stands terms worker (generator_of seed worker) (before_all now.desk.setting worker stream) stream now →
     Ended outcome terms seed worker stream now.desk now.stream
 ended_so terms seed worker stream now outcome is stands =
-    let source = source_of now.stream now.session.asked in
+    let source = source_of now.stream now.session.reads in
     let ends : StandsBy (Some outcome) terms worker (before_all now.desk.setting worker stream) now.session source
     (λ short. around now.desk worker now.told short now.stream) =
     subst (λ (o : Option (Result End SessionFault)). StandsBy o terms worker (before_all now.desk.setting worker stream) now.session source
@@ -190,7 +191,7 @@ ended_so terms seed worker stream now outcome is stands =
     record {
       told = now.told;
       short = ends.0;
-      asked = now.session.asked;
+      reads = now.session.reads;
       ends = ends.1;
       words = words_after outcome (generator_of seed worker) now.generator (calls_in now.desk.history worker) conduct;
       checks = checks_after outcome (generator_of seed worker) now.generator (calls_in now.desk.history worker) conduct;

@@ -3,9 +3,9 @@ use Rattle.std.proofs.Common.{[], ◌∷◌, Result, Ok, Err, refl}
 use Rattle.std.specs.Prelude.{IfOk, OnErr}
 use Rattle.bt_history.specs.declared.call.Reply.{Reply}
 use Rattle.bt_history.specs.declared.mark.CallMark.TheVariants as marks
-use Rattle.bt_peer.specs.Events.{Called}
+use Rattle.bt_peer.specs.Acts.{Called}
 use Rattle.bt_peer.specs.Places.{PlaceRecord, Gains, LacksMemory}
-use Rattle.bt_peer.specs.Turning.{Leaves}
+use Rattle.bt_peer.specs.Steps.{Leaves}
 use Rattle.bt_peer.proofs.Stretches.{up_to}
 
 pub left : {E : Type 0} (old new : PlaceRecord) (result : Result Reply E) →

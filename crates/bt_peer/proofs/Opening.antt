@@ -9,8 +9,8 @@ use Rattle.bt_history.specs.declared.call.Reply.TheVariants as replies
 use Rattle.bt_history.specs.declared.call.Reason.{Reason}
 use Rattle.bt_peer.specs.declared.fault.SessionFault.{SessionFault}
 use Rattle.bt_peer.specs.declared.fault.SessionFault.TheVariants as faults
-use Rattle.bt_peer.specs.Events.{Event, Called, is_refusal, is_check, is_refused_call}
-use Rattle.bt_peer.specs.Saying.{answer, interest_by}
+use Rattle.bt_peer.specs.Acts.{Act, Called, is_refusal, is_check, is_refused_call}
+use Rattle.bt_peer.specs.Writer.{answer, interest_by}
 use Rattle.bt_peer.specs.Places.{PlaceRecord, Gains, LacksMemory}
 use Rattle.bt_peer.specs.Turns.{Opens, Checks, ChecksAtMost, if_completed, arrived_piece, NoneRefused}
 use Rattle.bt_peer.specs.Outlets.{Outlet, Performs, PerformsUpTo, StopsCall, EndsCalls, IsCut}
@@ -31,17 +31,17 @@ accepted_call _ reply h = h
 pub accepted_one : (mark : CallMark) (reply : Reply) → is_refusal reply ≡ false → NoneRefused (Called mark reply ∷ [])
 accepted_one mark reply h = ap (λ b. b || false) (accepted_call mark reply h)
 
-none_follows : (o : Option ℕ) (events : List Event) → events ≡ [] → MatchOption o (events ≡ []) (λ piece. ChecksAtMost piece events)
-none_follows None events none = none
-none_follows (Some piece) events none = inl none
+none_follows : (o : Option ℕ) (acts : List Act) → acts ≡ [] → MatchOption o (acts ≡ []) (λ piece. ChecksAtMost piece acts)
+none_follows None acts none = none
+none_follows (Some piece) acts none = inl none
 
 -- nothing need follow a reply
 pub unchecked : (mark : CallMark) (reply : Reply) → Checks mark reply []
 unchecked mark reply = none_follows (if_completed (arrived_piece mark) reply) [] refl
 
 abbrev OpeningStops : SessionFault → CallMark → Outlet → Outlet → Type 0
-OpeningStops fault mark a c = (events : List Event)
-    × ((rest : List Event) × (Opens (Some mark) (events ++ rest) × EndsCalls fault events × PerformsUpTo fault a events c))
+OpeningStops fault mark a c = (acts : List Act)
+    × ((rest : List Act) × (Opens (Some mark) (acts ++ rest) × EndsCalls fault acts × PerformsUpTo fault a acts c))
 
 stops_refused : (mark : CallMark) (reason : Reason) (a c : Outlet) → is_check mark ≡ false →
     PerformsUpTo (faults.Refused reason) a (Called mark (replies.Refused reason) ∷ []) c → OpeningStops (faults.Refused reason) mark a c
@@ -77,15 +77,15 @@ stops_one fault mark reply a c cut accepted stops = (
 
 -- the call stopped
 pub opening_stops : (mark : CallMark) (fault : SessionFault) (a c : Outlet) → is_check mark ≡ false →
-    (events : List Event) × (StopsCall mark fault events × PerformsUpTo fault a events c) → OpeningStops fault mark a c
+    (acts : List Act) × (StopsCall mark fault acts × PerformsUpTo fault a acts c) → OpeningStops fault mark a c
 opening_stops mark fault a c own stopped =
-    let at = λ (es : List Event) (is : stopped.0 ≡ es). subst (λ (events : List Event). PerformsUpTo fault a events c) is stopped.1.1 in
+    let at = λ (es : List Act) (is : stopped.0 ≡ es). subst (λ (acts : List Act). PerformsUpTo fault a acts c) is stopped.1.1 in
     elim (stops_ways mark fault stopped.0 stopped.1.0) [
       | inl refused ↦
-          let event : Event = Called mark (replies.Refused refused.0) in
+          let act : Act = Called mark (replies.Refused refused.0) in
           subst (λ (f : SessionFault). OpeningStops f mark a c) (sym refused.1.0)
-          (stops_refused mark refused.0 a c own (subst (λ (f : SessionFault). PerformsUpTo f a (event ∷ []) c) refused.1.0
-          (at (event ∷ []) refused.1.1)))
+          (stops_refused mark refused.0 a c own (subst (λ (f : SessionFault). PerformsUpTo f a (act ∷ []) c) refused.1.0
+          (at (act ∷ []) refused.1.1)))
       | inr cut ↦ elim cut.1 [
         | inl none ↦ stops_none fault mark a c cut.0 (at [] none)
         | inr some ↦ stops_one fault mark some.0 a c cut.0 some.1.0 (at (Called mark some.0 ∷ []) some.1.1)
@@ -115,21 +115,21 @@ check_interest piece i (replies.Refused reason) h = refl
 check_interest piece i _ h = absurd cc
 
 abbrev OpeningDoes : CallMark → Outlet → Outlet → Type 0
-OpeningDoes mark a c = (events : List Event) × (Opens (Some mark) events × NoneRefused events × Performs a events c)
+OpeningDoes mark a c = (acts : List Act) × (Opens (Some mark) acts × NoneRefused acts × Performs a acts c)
 
-checked_by : (o : Option ℕ) (piece : ℕ) (events : List Event) → o ≡ Some piece → ChecksAtMost piece events →
-    MatchOption o (events ≡ []) (λ p. ChecksAtMost p events)
-checked_by o piece events is checks = subst (λ (q : Option ℕ). MatchOption q (events ≡ []) (λ p. ChecksAtMost p events)) (sym is) checks
+checked_by : (o : Option ℕ) (piece : ℕ) (acts : List Act) → o ≡ Some piece → ChecksAtMost piece acts →
+    MatchOption o (acts ≡ []) (λ p. ChecksAtMost p acts)
+checked_by o piece acts is checks = subst (λ (q : Option ℕ). MatchOption q (acts ≡ []) (λ p. ChecksAtMost p acts)) (sym is) checks
 
 -- the piece was completed, and seen to
 pub opening_checked : (mark : CallMark) (reply : Reply) (piece : ℕ) (a b : Outlet) (past : PlaceRecord) →
     if_completed (arrived_piece mark) reply ≡ Some piece → is_refusal reply ≡ false → Performs a (Called mark reply ∷ []) b →
-    (events : List Event) × (ChecksAtMost piece events × Gains b.past events past) → OpeningDoes mark a (record b { past = past })
+    (acts : List Act) × (ChecksAtMost piece acts × Gains b.past acts past) → OpeningDoes mark a (record b { past = past })
 opening_checked mark reply piece a b past is accepted does seen =
     elim seen.1.0 [
       | inl none ↦
           let nothing : Performs b [] (record b { past = past }) =
-          record { gains = subst (λ (es : List Event). Gains b.past es past) none seen.1.1; wrote = Appends-nil b.written; interest = refl } in (
+          record { gains = subst (λ (es : List Act). Gains b.past es past) none seen.1.1; wrote = Appends-nil b.written; interest = refl } in (
             Called mark reply ∷ [],
             (
               (refl, unchecked mark reply),
@@ -138,17 +138,17 @@ opening_checked mark reply piece a b past is accepted does seen =
             ),
           )
       | inr check ↦
-          let event : Event = Called (marks.Settle piece) check.0 in
-          let does_check : Performs b (event ∷ []) (record b { past = past }) = record {
-            gains = subst (λ (es : List Event). Gains b.past es past) check.1.1 seen.1.1;
+          let act : Act = Called (marks.Settle piece) check.0 in
+          let does_check : Performs b (act ∷ []) (record b { past = past }) = record {
+            gains = subst (λ (es : List Act). Gains b.past es past) check.1.1 seen.1.1;
             wrote = subst (Appends b.written b.written) (sym (check_says piece b.interested check.0 check.1.0)) (Appends-nil b.written);
             interest = check_interest piece b.interested check.0 check.1.0;
           } in (
-            Called mark reply ∷ event ∷ [],
+            Called mark reply ∷ act ∷ [],
             (
-              (refl, checked_by (if_completed (arrived_piece mark) reply) piece (event ∷ []) is (inr (check.0, (check.1.0, refl)))),
+              (refl, checked_by (if_completed (arrived_piece mark) reply) piece (act ∷ []) is (inr (check.0, (check.1.0, refl)))),
               ap (λ v. v || false) (accepted_call mark reply accepted),
-              Performs-join a b (record b { past = past }) (Called mark reply ∷ []) (event ∷ []) does does_check,
+              Performs-join a b (record b { past = past }) (Called mark reply ∷ []) (act ∷ []) does does_check,
             ),
           )
     ]

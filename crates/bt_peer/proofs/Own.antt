@@ -11,13 +11,13 @@ use Rattle.bt_picker.specs.Positions.{DeskState}
 use Rattle.bt_peer.specs.declared.fault.End.{End}
 use Rattle.bt_peer.specs.declared.fault.SessionFault.{SessionFault}
 use Rattle.bt_peer.specs.Desks.{calls_in, desk_record}
-use Rattle.bt_peer.specs.Events.{Event}
-use Rattle.bt_peer.specs.Hearing.{SourceState}
+use Rattle.bt_peer.specs.Acts.{Act}
+use Rattle.bt_peer.specs.Reader.{SourceState}
 use Rattle.bt_peer.specs.Places.{PlaceRecord, Gains, GainsUpTo}
 use Rattle.bt_peer.specs.Sessions.{SessionState, GoesOn, Ends, FailsWith}
 use Rattle.bt_peer.specs.Standing.{LeavesOthers}
 use Rattle.bt_peer.specs.Terms.{TermsState}
-use Rattle.bt_peer.specs.Turning.{Reading, Surroundings, TakesTurn, TellsNews, AsksForNews}
+use Rattle.bt_peer.specs.Steps.{Reading, Surroundings, TakesTurn, TellsNews, AsksForNews}
 
 abbrev pub own : PlaceRecord → PlaceRecord
 own place = record place { lent = []; others = λ other. [] }
@@ -25,8 +25,8 @@ own place = record place { lent = []; others = λ other. [] }
 abbrev pub own_around : Surroundings → Surroundings
 own_around out = record out { past = own out.past }
 
-own_up_to : (a b : PlaceRecord) (events : List Event) → GainsUpTo a events b → GainsUpTo (own a) events (own b)
-own_up_to a b events gains = record {
+own_up_to : (a b : PlaceRecord) (acts : List Act) → GainsUpTo a acts b → GainsUpTo (own a) acts (own b)
+own_up_to a b acts gains = record {
   lent = refl;
   worker = gains.worker;
   setting = gains.setting;
@@ -37,12 +37,12 @@ own_up_to a b events gains = record {
   finished = gains.finished;
 }
 
-own_gains : (a b : PlaceRecord) (events : List Event) → Gains a events b → Gains (own a) events (own b)
-own_gains a b events gains = record { up_to = own_up_to a b events gains.up_to; short = gains.short }
+own_gains : (a b : PlaceRecord) (acts : List Act) → Gains a acts b → Gains (own a) acts (own b)
+own_gains a b acts gains = record { up_to = own_up_to a b acts gains.up_to; short = gains.short }
 
-own_news : (pieces : ℕ) (old : PlaceRecord) (events : List Event) (new : PlaceRecord) → TellsNews pieces old events new →
-    TellsNews pieces (own old) events (own new)
-own_news pieces old events new tells = record {
+own_news : (pieces : ℕ) (old : PlaceRecord) (acts : List Act) (new : PlaceRecord) → TellsNews pieces old acts new →
+    TellsNews pieces (own old) acts (own new)
+own_news pieces old acts new tells = record {
   opening = tells.opening;
   news = tells.news;
   asking = tells.asking;
@@ -53,22 +53,22 @@ own_news pieces old events new tells = record {
   told = tells.told;
 }
 
-own_asks : (pieces : ℕ) (m : Message) (old : PlaceRecord) (events : List Event) (new : PlaceRecord) →
-    AsksForNews pieces m old events new → AsksForNews pieces m (own old) events (own new)
-own_asks pieces (messages.Hello hello) old events new asks = tt
-own_asks pieces _ old events new asks = own_news pieces old events new asks
+own_asks : (pieces : ℕ) (m : Message) (old : PlaceRecord) (acts : List Act) (new : PlaceRecord) →
+    AsksForNews pieces m old acts new → AsksForNews pieces m (own old) acts (own new)
+own_asks pieces (messages.Hello hello) old acts new asks = tt
+own_asks pieces _ old acts new asks = own_news pieces old acts new asks
 
 own_turn : (terms : TermsState) (greeting : List ℕ) (old : Reading) (out : Surroundings) (new : Reading) (out' : Surroundings) →
     TakesTurn terms greeting old out new out' → TakesTurn terms greeting old (own_around out) new (own_around out')
 own_turn terms greeting old out new out' turn = record {
   message = turn.message;
-  events = turn.events;
+  acts = turn.acts;
   hears = turn.hears;
   same_torrent = turn.same_torrent;
   turn = turn.turn;
   accepted = turn.accepted;
-  gains = own_gains out.past out'.past turn.events turn.gains;
-  news = own_asks _ turn.message out.past turn.events out'.past turn.news;
+  gains = own_gains out.past out'.past turn.acts turn.gains;
+  news = own_asks _ turn.message out.past turn.acts out'.past turn.news;
   wrote = turn.wrote;
   interest = turn.interest;
 }
@@ -101,7 +101,7 @@ own_ends end old out has_ended new out' ends = record {
 pub own_fails : (fault : SessionFault) (old : SessionState) (out : Surroundings) (source : SourceState) (new : SessionState) (out' : Surroundings) →
     FailsWith fault old out source new out' → FailsWith fault old (own_around out) source new (own_around out')
 own_fails fault old out source new out' fails = record {
-  events = fails.events;
+  acts = fails.acts;
   leave = fails.leave;
   gains = own_up_to out.past out'.past _ fails.gains;
   departs = fails.departs;
@@ -112,9 +112,9 @@ own_fails fault old out source new out' fails = record {
 
 -- what a worker gained at a desk leaves the others alone
 pub others_left : (lent lent' : List GName) (old new : DeskState) (worker worker' : ℕ) (told told' : List Bool) (short short' : Bool)
-    (events : List Event) →
-    GainsUpTo (desk_record lent old worker told short) events (desk_record lent' new worker' told' short') → LeavesOthers worker old new
-others_left lent lent' old new worker worker' told told' short short' events gains = record {
+    (acts : List Act) →
+    GainsUpTo (desk_record lent old worker told short) acts (desk_record lent' new worker' told' short') → LeavesOthers worker old new
+others_left lent lent' old new worker worker' told told' short short' acts gains = record {
   setting = gains.setting;
   calls = λ other. λ apart.
       let same = gains.worker in

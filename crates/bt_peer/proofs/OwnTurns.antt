@@ -9,15 +9,15 @@ use Rattle.bt_peer.specs.declared.fault.SessionFault.TheVariants as faults
 use Rattle.rand_core.specs.Stream.{Stream as Words}
 use Rattle.bt_peer.specs.Conduct.{Calls, Conducts, DrawsWords}
 use Rattle.bt_peer.specs.Desks.{calls_in, desk_record}
-use Rattle.bt_peer.specs.Events.{Event}
-use Rattle.bt_peer.specs.Hearing.{most_reads}
+use Rattle.bt_peer.specs.Acts.{Act}
+use Rattle.bt_peer.specs.Reader.{most_reads}
 use Rattle.bt_peer.specs.Places.{PlaceRecord, GainsUpTo}
 use Rattle.bt_peer.specs.Serial.{StreamRecord, DevicesAfter, around, own_record, source_of}
 use Rattle.bt_peer.specs.Sessions.{SessionState, GoesOn, Ends, FailsWith, Running}
 use Rattle.bt_peer.specs.Outcomes.{around_place}
 use Rattle.bt_peer.specs.Standing.{Standing, Stands, StandsBy, ConductBy, DevicesBy, Keeps, LeavesOthers}
 use Rattle.bt_peer.specs.Terms.{TermsState}
-use Rattle.bt_peer.specs.Turning.{Surroundings}
+use Rattle.bt_peer.specs.Steps.{Surroundings}
 use Rattle.bt_peer.proofs.Conduct.{Conducts-join, DrawsWords-join}
 use Rattle.bt_peer.proofs.Own.{others_left, own, own_goes_on, own_ends, own_fails}
 use Rattle.bt_peer.proofs.Runs.{running_on, running_ends, running_fails}
@@ -38,30 +38,30 @@ pub record Turned (result : Result (Option End) SessionFault) (old new : AfterTu
   pub ends : old.session.outcome ≡ None → IfOk result
       (λ o. IfSome o (λ end. Ends end old.session (around_turn old) new.stream.ended new.session (around_turn new)))
   pub fails : old.session.outcome ≡ None →
-      IfErr result (λ fault. FailsWith fault old.session (around_turn old) (source_of new.stream new.session.asked) new.session (around_turn new))
+      IfErr result (λ fault. FailsWith fault old.session (around_turn old) (source_of new.stream new.session.reads) new.session (around_turn new))
   pub conduct : OnOk result (Conducts true old.generator old.place.calls new.place.calls new.generator)
   pub words : OnErr result (DrawsWords old.generator old.place.calls new.place.calls)
-  pub counted : old.stream.asked ≡ old.session.asked → new.stream.asked ≡ new.session.asked
-  pub most : new.session.asked ≤ most_reads
+  pub counted : old.stream.reads ≡ old.session.reads → new.stream.reads ≡ new.session.reads
+  pub most : new.session.reads ≤ most_reads
   pub sound : IfOk result (λ o. (new.stream.failed ≡ old.stream.failed) × (new.stream.writer_failed ≡ old.stream.writer_failed))
   pub failed : old.session.outcome ≡ None → IfErr result (λ fault. fault ≡ faults.WriteFault → new.stream.writer_failed ≡ true)
 
 -- what a turn gained
 pub turn_gains : (result : Result (Option End) SessionFault) (old new : AfterTurn) → old.session.outcome ≡ None → Turned result old new →
-    (events : List Event) × GainsUpTo old.place events new.place
-turn_gains (Ok None) old new runs turned = (turned.goes_on.turn.events, turned.goes_on.turn.gains.up_to)
+    (acts : List Act) × GainsUpTo old.place acts new.place
+turn_gains (Ok None) old new runs turned = (turned.goes_on.turn.acts, turned.goes_on.turn.gains.up_to)
 turn_gains (Ok (Some end)) old new runs turned = (_, (turned.ends runs).leave.gains.up_to)
 turn_gains (Err fault) old new runs turned = (_, (turned.fails runs).gains)
 
 went_on : (terms : TermsState) (worker : ℕ) (begun : Words) (out : Surroundings) (first : StreamRecord) (old new : Standing) (p q : PlaceRecord) →
     p ≡ own_record old.desk worker old.told false → q ≡ own_record new.desk worker new.told q.short → old.session.outcome ≡ None →
     Stands terms worker begun out first old → GoesOn old.session (around_place p old.stream) new.session (around_place q new.stream) →
-    StandsBy new.session.outcome terms worker out new.session (source_of new.stream new.session.asked)
+    StandsBy new.session.outcome terms worker out new.session (source_of new.stream new.session.reads)
     (λ short. around new.desk worker new.told short new.stream)
 went_on terms worker begun out first old new p q is is' runs stands go =
     let short : q.short ≡ false = go.turn.gains.short ∙ ap (λ (r : PlaceRecord). r.short) is in
     let same : q ≡ own_record new.desk worker new.told false = is' ∙ ap (own_record new.desk worker new.told) short in
-    let source = source_of old.stream old.session.asked in
+    let source = source_of old.stream old.session.reads in
     let running : Running terms worker out old.session (around old.desk worker old.told false old.stream) =
     subst (λ (o : Option (Result End SessionFault)). StandsBy o terms worker out old.session source
     (λ short. around old.desk worker old.told short old.stream)) runs stands.stands in
@@ -70,18 +70,19 @@ went_on terms worker begun out first old new p q is is' runs stands go =
     let to : GoesOn old.session (around old.desk worker old.told false old.stream) new.session (around new.desk worker new.told false new.stream) =
     subst (λ (r : PlaceRecord). GoesOn old.session (around old.desk worker old.told false old.stream)
     new.session (around_place r new.stream)) same from in
-    subst (λ (o : Option (Result End SessionFault)). StandsBy o terms worker out new.session (source_of new.stream new.session.asked)
+    subst (λ (o : Option (Result End SessionFault)). StandsBy o terms worker out new.session (source_of new.stream new.session.reads)
     (λ short. around new.desk worker new.told short new.stream))
     (sym go.unended) (running_on terms worker out old.session _ new.session _ running to)
 
-came_to_end : (end : End) (terms : TermsState) (worker : ℕ) (begun : Words) (out : Surroundings) (first : StreamRecord) (old new : Standing) (p q : PlaceRecord)
+came_to_end : (end : End) (terms : TermsState) (worker : ℕ) (begun : Words) (out : Surroundings) (first : StreamRecord) (old new : Standing)
+    (p q : PlaceRecord)
     (has_ended : Bool) →
     p ≡ own_record old.desk worker old.told false → q ≡ own_record new.desk worker new.told q.short → old.session.outcome ≡ None →
     Stands terms worker begun out first old → Ends end old.session (around_place p old.stream) has_ended new.session (around_place q new.stream) →
-    StandsBy new.session.outcome terms worker out new.session (source_of new.stream new.session.asked)
+    StandsBy new.session.outcome terms worker out new.session (source_of new.stream new.session.reads)
     (λ short. around new.desk worker new.told short new.stream)
 came_to_end end terms worker begun out first old new p q has_ended is is' runs stands ends =
-    let source = source_of old.stream old.session.asked in
+    let source = source_of old.stream old.session.reads in
     let running : Running terms worker out old.session (around old.desk worker old.told false old.stream) =
     subst (λ (o : Option (Result End SessionFault)). StandsBy o terms worker out old.session source
     (λ short. around old.desk worker old.told short old.stream)) runs stands.stands in
@@ -91,20 +92,21 @@ came_to_end end terms worker begun out first old new p q has_ended is is' runs s
     (around new.desk worker new.told q.short new.stream) =
     subst (λ (r : PlaceRecord). Ends end old.session (around old.desk worker old.told false old.stream) has_ended new.session
     (around_place r new.stream)) is' from in
-    subst (λ (o : Option (Result End SessionFault)). StandsBy o terms worker out new.session (source_of new.stream new.session.asked)
+    subst (λ (o : Option (Result End SessionFault)). StandsBy o terms worker out new.session (source_of new.stream new.session.reads)
     (λ short. around new.desk worker new.told short new.stream))
     (sym ends.outcome) (q.short, running_ends end terms worker out old.session _ has_ended new.session _ running (λ none. to))
 
 broke_off : (fault : SessionFault) (terms : TermsState) (worker : ℕ) (begun : Words) (out : Surroundings) (first : StreamRecord) (old new : Standing)
     (p q : PlaceRecord) →
     p ≡ own_record old.desk worker old.told false → q ≡ own_record new.desk worker new.told q.short → old.session.outcome ≡ None →
-    Stands terms worker begun out first old → FailsWith fault old.session (around_place p old.stream) (source_of new.stream new.session.asked) new.session
+    Stands terms worker begun out first old → FailsWith fault old.session (around_place p old.stream) (source_of new.stream new.session.reads)
+    new.session
     (around_place q new.stream) →
-    StandsBy new.session.outcome terms worker out new.session (source_of new.stream new.session.asked)
+    StandsBy new.session.outcome terms worker out new.session (source_of new.stream new.session.reads)
     (λ short. around new.desk worker new.told short new.stream)
 broke_off fault terms worker begun out first old new p q is is' runs stands fails =
-    let source = source_of old.stream old.session.asked in
-    let source' = source_of new.stream new.session.asked in
+    let source = source_of old.stream old.session.reads in
+    let source' = source_of new.stream new.session.reads in
     let running : Running terms worker out old.session (around old.desk worker old.told false old.stream) =
     subst (λ (o : Option (Result End SessionFault)). StandsBy o terms worker out old.session source
     (λ short. around old.desk worker old.told short old.stream)) runs stands.stands in
@@ -118,7 +120,8 @@ broke_off fault terms worker begun out first old new p q is is' runs stands fail
     (λ short. around new.desk worker new.told short new.stream))
     (sym fails.outcome) (q.short, running_fails fault terms worker out old.session _ source' new.session _ running (λ none. to))
 
-sound_on : (first : StreamRecord) (old new : Standing) {terms : TermsState} {worker : ℕ} {begun : Words} {out : Surroundings} → old.session.outcome ≡ None →
+sound_on : (first : StreamRecord) (old new : Standing) {terms : TermsState} {worker : ℕ} {begun : Words} {out : Surroundings} →
+    old.session.outcome ≡ None →
     Stands terms worker begun out first old →
     (new.stream.failed ≡ old.stream.failed) × (new.stream.writer_failed ≡ old.stream.writer_failed) →
     (new.stream.failed ≡ first.failed) × (new.stream.writer_failed ≡ first.writer_failed)
@@ -194,7 +197,7 @@ turn_stands (Ok (Some end)) worker old new p q is is' runs turned =
       };
     }
 turn_stands (Err fault) worker old new p q is is' runs turned =
-    let fails = own_fails fault old.session (around_place p old.stream) (source_of new.stream new.session.asked) new.session
+    let fails = own_fails fault old.session (around_place p old.stream) (source_of new.stream new.session.reads) new.session
     (around_place q new.stream) (turned.fails runs) in
     record {
       still = λ terms. λ begun. λ out. λ first. λ stands. record {
@@ -227,8 +230,9 @@ turn_at_desk result lent lent' worker worker' short old new place is runs turned
     let first : AfterTurn = record { session = old.session; place = before; stream = old.stream; generator = old.generator } in
     let second : AfterTurn = record { session = new.session; place = after; stream = new.stream; generator = new.generator } in
     let fresh : Turned result first second =
-    subst (λ (p : PlaceRecord). Turned result (record { session = old.session; place = p; stream = old.stream; generator = old.generator }) second) is turned in
-    let gained : (events : List Event) × GainsUpTo before events after = turn_gains result first second runs fresh in
+    subst (λ (p : PlaceRecord). Turned result (record { session = old.session; place = p; stream = old.stream; generator = old.generator }) second) is
+    turned in
+    let gained : (acts : List Act) × GainsUpTo before acts after = turn_gains result first second runs fresh in
     let same : own_record new.desk worker' new.told short ≡ own_record new.desk worker new.told short =
     ap (λ (w : ℕ). own_record new.desk w new.told short) gained.1.worker in
     record {

@@ -12,12 +12,12 @@ use Rattle.bt_history.specs.declared.mark.CallMark.TheVariants as marks
 use Rattle.bt_history.specs.declared.call.Reply.TheVariants as replies
 use Rattle.bt_peer.specs.declared.fault.End.{End}
 use Rattle.bt_peer.specs.declared.fault.SessionFault.{SessionFault}
-use Rattle.bt_peer.specs.Hearing.{SourceState}
-use Rattle.bt_peer.specs.Events.{Event, Called}
-use Rattle.bt_peer.specs.Saying.{greeting, says, interest_after}
+use Rattle.bt_peer.specs.Reader.{SourceState}
+use Rattle.bt_peer.specs.Acts.{Act, Called}
+use Rattle.bt_peer.specs.Writer.{greeting, says, interest_after}
 use Rattle.bt_peer.specs.Terms.{TermsState, pieces_of}
 use Rattle.bt_peer.specs.Turns.{IsTurn, NoneRefused, TurnsOf, AreTurns}
-use Rattle.bt_peer.specs.Turning.{Surroundings, AsksForNews, IsOfTorrent}
+use Rattle.bt_peer.specs.Steps.{Surroundings, AsksForNews, IsOfTorrent}
 use Rattle.bt_peer.specs.Sessions.{SessionState, begun, GoesOn, Ends, FailsWith, IsWhole, NamesTorrent, IsUntouched, TookTurns, Running, IsCutShort}
 use Rattle.std.proofs.KnownBytes.{Appends-trans}
 use Rattle.bt_peer.proofs.Asked.{asked_first, asked_last}
@@ -45,12 +45,12 @@ Begins-last limit bytes [] rest m text after begins spells is = (text, (after, (
 Begins-last limit bytes (n ∷ ms) rest m text after begins spells is =
     (begins.0, (begins.1.0, (begins.1.1.0, begins.1.1.1, Begins-last limit begins.1.0 ms rest m text after begins.1.1.2 spells is)))
 
-TurnsOf-last : (terms : TermsState) (ms : List Message) (events : List Event) (m : Message) (es : List Event) → TurnsOf terms ms events →
+TurnsOf-last : (terms : TermsState) (ms : List Message) (acts : List Act) (m : Message) (es : List Act) → TurnsOf terms ms acts →
     IsTurn terms m es → NoneRefused es →
-    TurnsOf terms (ms ++ m ∷ []) (events ++ es)
-TurnsOf-last terms [] events m es turned turn none =
-    (es, ([], (turn, none, refl, ap (λ (xs : List Event). xs ++ es) turned ∙ sym (append-nil es))))
-TurnsOf-last terms (n ∷ ms) events m es turned turn none = (
+    TurnsOf terms (ms ++ m ∷ []) (acts ++ es)
+TurnsOf-last terms [] acts m es turned turn none =
+    (es, ([], (turn, none, refl, ap (λ (xs : List Act). xs ++ es) turned ∙ sym (append-nil es))))
+TurnsOf-last terms (n ∷ ms) acts m es turned turn none = (
   turned.0,
   (
     turned.1.0 ++ es,
@@ -58,17 +58,17 @@ TurnsOf-last terms (n ∷ ms) events m es turned turn none = (
       turned.1.1.0,
       turned.1.1.1,
       TurnsOf-last terms ms turned.1.0 m es turned.1.1.2 turn none,
-      ap (λ (xs : List Event). xs ++ es) turned.1.1.3 ∙ append_assoc turned.0 turned.1.0 es,
+      ap (λ (xs : List Act). xs ++ es) turned.1.1.3 ∙ append_assoc turned.0 turned.1.0 es,
     ),
   ),
 )
 
-abbrev last : List Event
+abbrev last : List Act
 last = Called marks.Leave replies.Quiet ∷ []
 
-TurnsOf-left : (terms : TermsState) (ms : List Message) (events : List Event) → TurnsOf terms ms events → AreTurns terms ms (events ++ last)
-TurnsOf-left terms [] events turned = ap (λ (xs : List Event). xs ++ last) turned
-TurnsOf-left terms (m ∷ ms) events turned = (
+TurnsOf-left : (terms : TermsState) (ms : List Message) (acts : List Act) → TurnsOf terms ms acts → AreTurns terms ms (acts ++ last)
+TurnsOf-left terms [] acts turned = ap (λ (xs : List Act). xs ++ last) turned
+TurnsOf-left terms (m ∷ ms) acts turned = (
   turned.0,
   (
     turned.1.0 ++ last,
@@ -76,7 +76,7 @@ TurnsOf-left terms (m ∷ ms) events turned = (
       turned.1.1.0,
       turned.1.1.1,
       TurnsOf-left terms ms turned.1.0 turned.1.1.2,
-      ap (λ (xs : List Event). xs ++ last) turned.1.1.3 ∙ append_assoc turned.0 turned.1.0 last,
+      ap (λ (xs : List Act). xs ++ last) turned.1.1.3 ∙ append_assoc turned.0 turned.1.0 last,
     ),
   ),
 )
@@ -93,22 +93,22 @@ so_far_first : (terms : TermsState) (worker : ℕ) (out : Surroundings) (now : S
 so_far_first terms worker out now mid new out' fresh go =
     let turn = go.turn in
     let gives = turn.hears.gives in
-    let said = greeting terms.infohash worker ++ says false turn.events in
+    let said = greeting terms.infohash worker ++ says false turn.acts in
     record {
       first = turn.message;
       text = gives.text;
       read = new.stream.bytes;
       messages = [];
-      events = turn.events;
+      acts = turn.acts;
       spells = gives.spells;
       same_torrent = names_torrent terms.infohash (frame_limit (pieces_of terms)) turn.message gives.text gives.spells turn.same_torrent;
       consumed = subst (λ (left : Option (List ℕ)). Consumes left out'.left (gives.text ++ new.stream.bytes)) fresh.left
           (subst (Consumes mid.left out'.left) gives.bytes turn.hears.consumed);
       begins = refl;
       counted = sym go.messages;
-      turned = (turn.events, ([], (turn.turn, turn.accepted, refl, sym (append-nil turn.events))));
-      gains = Gains-join out.past mid.past out'.past [] turn.events fresh.gains turn.gains;
-      news = asked_first (pieces_of terms) turn.message out.past mid.past out'.past turn.events fresh.gains turn.gains turn.news;
+      turned = (turn.acts, ([], (turn.turn, turn.accepted, refl, sym (append-nil turn.acts))));
+      gains = Gains-join out.past mid.past out'.past [] turn.acts fresh.gains turn.gains;
+      news = asked_first (pieces_of terms) turn.message out.past mid.past out'.past turn.acts fresh.gains turn.gains turn.news;
       wrote = subst (λ (written : Option (List ℕ)). Appends written out'.written said) fresh.written turn.wrote;
       interest = turn.interest;
       terms_are = go.keeps.terms;
@@ -125,19 +125,19 @@ so_far_more terms worker out now mid new out' so_far go =
     let turn = go.turn in
     let gives = turn.hears.gives in
     let limit = frame_limit (pieces_of terms) in
-    let before = says false so_far.events in
-    let said = says (interest_after false so_far.events) turn.events in
+    let before = says false so_far.acts in
+    let said = says (interest_after false so_far.acts) turn.acts in
     let hello = greeting terms.infohash worker in
     let spells : Spells true limit turn.message gives.text =
     subst (λ (l : ℕ). Spells true l turn.message gives.text) so_far.limit
     (subst (λ (b : Bool). Spells b now.stream.limit turn.message gives.text) so_far.greeted gives.spells) in
-    let plain : Appends mid.written out'.written (says now.interested turn.events) =
+    let plain : Appends mid.written out'.written (says now.interested turn.acts) =
     subst (λ (b : Bool). Appends mid.written out'.written
-    ((if b then [] else greeting now.terms.infohash now.worker) ++ says now.interested turn.events)) so_far.joined turn.wrote in
+    ((if b then [] else greeting now.terms.infohash now.worker) ++ says now.interested turn.acts)) so_far.joined turn.wrote in
     let wrote : Appends mid.written out'.written said =
-    subst (Appends mid.written out'.written) (ap (λ i. says i turn.events) so_far.interest) plain in
-    let same : (hello ++ before) ++ said ≡ hello ++ says false (so_far.events ++ turn.events) =
-    append_assoc hello before said ∙ ap (λ (xs : List ℕ). hello ++ xs) (sym (says-append false so_far.events turn.events)) in
+    subst (Appends mid.written out'.written) (ap (λ i. says i turn.acts) so_far.interest) plain in
+    let same : (hello ++ before) ++ said ≡ hello ++ says false (so_far.acts ++ turn.acts) =
+    append_assoc hello before said ∙ ap (λ (xs : List ℕ). hello ++ xs) (sym (says-append false so_far.acts turn.acts)) in
     let more : new.messages ≡ now.messages + 1 =
     go.messages ∙ ap (λ (b : Bool). if b then now.messages + 1 else now.messages) so_far.joined in
     record {
@@ -145,7 +145,7 @@ so_far_more terms worker out now mid new out' so_far go =
       text = so_far.text;
       read = so_far.read ++ turn.hears.read;
       messages = so_far.messages ++ turn.message ∷ [];
-      events = so_far.events ++ turn.events;
+      acts = so_far.acts ++ turn.acts;
       spells = so_far.spells;
       same_torrent = so_far.same_torrent;
       consumed = subst (Consumes out.left out'.left) (append_assoc so_far.text so_far.read turn.hears.read)
@@ -154,15 +154,15 @@ so_far_more terms worker out now mid new out' so_far go =
           (now.stream.bytes ++ turn.hears.read) turn.message gives.text new.stream.bytes
           (Begins-more true limit so_far.read so_far.messages now.stream.bytes turn.hears.read so_far.begins) spells gives.bytes;
       counted = omega (arith, more, so_far.counted, length-append so_far.messages (turn.message ∷ []));
-      turned = TurnsOf-last terms (so_far.first ∷ so_far.messages) so_far.events turn.message turn.events so_far.turned
-          (subst (λ (t : TermsState). IsTurn t turn.message turn.events) so_far.terms_are turn.turn) turn.accepted;
-      gains = Gains-join out.past mid.past out'.past so_far.events turn.events so_far.gains turn.gains;
-      news = asked_last (pieces_of terms) (so_far.first ∷ so_far.messages) turn.message out.past mid.past out'.past so_far.events turn.events
+      turned = TurnsOf-last terms (so_far.first ∷ so_far.messages) so_far.acts turn.message turn.acts so_far.turned
+          (subst (λ (t : TermsState). IsTurn t turn.message turn.acts) so_far.terms_are turn.turn) turn.accepted;
+      gains = Gains-join out.past mid.past out'.past so_far.acts turn.acts so_far.gains turn.gains;
+      news = asked_last (pieces_of terms) (so_far.first ∷ so_far.messages) turn.message out.past mid.past out'.past so_far.acts turn.acts
           so_far.news turn.gains
-          (subst (λ (t : TermsState). AsksForNews (pieces_of t) turn.message mid.past turn.events out'.past) so_far.terms_are turn.news);
+          (subst (λ (t : TermsState). AsksForNews (pieces_of t) turn.message mid.past turn.acts out'.past) so_far.terms_are turn.news);
       wrote = subst (Appends out.written out'.written) same
           (Appends-trans out.written mid.written out'.written (hello ++ before) said so_far.wrote wrote);
-      interest = turn.interest ∙ ap (λ i. interest_after i turn.events) so_far.interest ∙ sym (interest_after-append false so_far.events turn.events);
+      interest = turn.interest ∙ ap (λ i. interest_after i turn.acts) so_far.interest ∙ sym (interest_after-append false so_far.acts turn.acts);
       terms_are = go.keeps.terms ∙ so_far.terms_are;
       limit = ap (λ (stream : InboundState). stream.limit) gives.after ∙ so_far.limit;
       greeted = ap (λ (stream : InboundState). stream.greeted) gives.after;
@@ -177,7 +177,7 @@ so_far_ends end terms worker out now mid has_ended new out' so_far ends =
     let hears = ends.leave.hears in
     let limit = frame_limit (pieces_of terms) in
     let hello = greeting terms.infohash worker in
-    let before = says false so_far.events in
+    let before = says false so_far.acts in
     let empty : now.stream.bytes ++ hears.read ≡ [] = sym (ap (λ (stream : InboundState). stream.bytes) hears.held) ∙ ends.leave.empty in
     let greeted : new.stream.greeted ≡ true = ap (λ (stream : InboundState). stream.greeted) hears.held ∙ so_far.greeted in
     let same_limit : new.stream.limit ≡ limit = ap (λ (stream : InboundState). stream.limit) hears.held ∙ so_far.limit in
@@ -188,12 +188,12 @@ so_far_ends end terms worker out now mid has_ended new out' so_far ends =
     let begins : Begins true limit (so_far.read ++ hears.read) so_far.messages [] =
     subst (Begins true limit (so_far.read ++ hears.read) so_far.messages) empty
     (Begins-more true limit so_far.read so_far.messages now.stream.bytes hears.read so_far.begins) in
-    let same : (hello ++ before) ++ [] ≡ hello ++ says false (so_far.events ++ last) =
-    append_assoc hello before [] ∙ ap (λ (xs : List ℕ). hello ++ xs) (sym (says-append false so_far.events last)) in
+    let same : (hello ++ before) ++ [] ≡ hello ++ says false (so_far.acts ++ last) =
+    append_assoc hello before [] ∙ ap (λ (xs : List ℕ). hello ++ xs) (sym (says-append false so_far.acts last)) in
     record {
       read = so_far.text ++ (so_far.read ++ hears.read);
       messages = so_far.first ∷ so_far.messages;
-      events = so_far.events ++ last;
+      acts = so_far.acts ++ last;
       consumed = subst (Consumes out.left out'.left) (append_assoc so_far.text so_far.read hears.read)
           (Consumes-join out.left mid.left out'.left (so_far.text ++ so_far.read) hears.read so_far.consumed hears.consumed);
       at_end = hears.at_end;
@@ -203,9 +203,9 @@ so_far_ends end terms worker out now mid has_ended new out' so_far ends =
         whole = none;
       };
       counted = omega (arith, so_far.counted, ends.messages);
-      turns = TurnsOf-left terms (so_far.first ∷ so_far.messages) so_far.events so_far.turned;
-      gains = Gains-join out.past mid.past out'.past so_far.events last so_far.gains ends.leave.gains;
-      news = record { turns = so_far.events; mid = mid.past; asked = so_far.news; leaves = ends.leave.gains; parts = refl };
+      turns = TurnsOf-left terms (so_far.first ∷ so_far.messages) so_far.acts so_far.turned;
+      gains = Gains-join out.past mid.past out'.past so_far.acts last so_far.gains ends.leave.gains;
+      news = record { turns = so_far.acts; mid = mid.past; tells = so_far.news; leaves = ends.leave.gains; parts = refl };
       wrote = subst (Appends out.written out'.written) same
           (Appends-trans out.written mid.written out'.written (hello ++ before) [] so_far.wrote ends.leave.wrote);
     }

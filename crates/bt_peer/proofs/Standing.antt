@@ -7,15 +7,15 @@ use Rattle.bt_peer.specs.declared.fault.End.{End}
 use Rattle.bt_peer.specs.declared.fault.SessionFault.{SessionFault}
 use Rattle.rand_core.specs.Stream.{Stream as Words}
 use Rattle.bt_peer.specs.Conduct.{Calls}
-use Rattle.bt_peer.specs.Events.{Event, is_in}
-use Rattle.bt_peer.specs.Hearing.{SourceState}
+use Rattle.bt_peer.specs.Acts.{Act, is_in}
+use Rattle.bt_peer.specs.Reader.{SourceState}
 use Rattle.bt_peer.specs.Places.{PlaceRecord, Gains, GainsUpTo}
 use Rattle.bt_peer.specs.Outlets.{WroteFront}
 use Rattle.bt_peer.specs.Serial.{StreamRecord, EndsAs, around, source_of}
 use Rattle.bt_peer.specs.Sessions.{SessionState, FailsWith, IsWhole, IsUntouched, TookTurns, Running}
 use Rattle.bt_peer.specs.Standing.{Standing, StandsBy, ConductBy, Keeps, LeavesOthers}
 use Rattle.bt_peer.specs.Terms.{TermsState, pieces_of}
-use Rattle.bt_peer.specs.Turning.{Surroundings, Departs}
+use Rattle.bt_peer.specs.Steps.{Surroundings, Departs}
 use Rattle.bt_peer.proofs.Asked.{asked_later}
 use Rattle.bt_peer.proofs.Stretches.{GainsUpTo-join, Gains-join}
 
@@ -25,14 +25,14 @@ pub record IsLater (old new : Surroundings) : Type 0 where
   pub gains : Gains old.past [] new.past
   pub written : new.written ≡ old.written
 
-gains_later : (first : PlaceRecord) (events : List Event) (old new : PlaceRecord) → Gains first events old → Gains old [] new → Gains first events new
-gains_later first events old new gains later =
-    subst (λ (es : List Event). Gains first es new) (append-nil events) (Gains-join first old new events [] gains later)
+gains_later : (first : PlaceRecord) (acts : List Act) (old new : PlaceRecord) → Gains first acts old → Gains old [] new → Gains first acts new
+gains_later first acts old new gains later =
+    subst (λ (es : List Act). Gains first es new) (append-nil acts) (Gains-join first old new acts [] gains later)
 
-up_to_later : (first : PlaceRecord) (events : List Event) (old new : PlaceRecord) → GainsUpTo first events old → Gains old [] new →
-    GainsUpTo first events new
-up_to_later first events old new gains later =
-    subst (λ (es : List Event). GainsUpTo first es new) (append-nil events) (GainsUpTo-join first old new events [] gains later.up_to)
+up_to_later : (first : PlaceRecord) (acts : List Act) (old new : PlaceRecord) → GainsUpTo first acts old → Gains old [] new →
+    GainsUpTo first acts new
+up_to_later first acts old new gains later =
+    subst (λ (es : List Act). GainsUpTo first es new) (append-nil acts) (GainsUpTo-join first old new acts [] gains later.up_to)
 
 appends_later : (a b c : Option (List ℕ)) (bytes : List ℕ) → c ≡ b → Appends a b bytes → Appends a c bytes
 appends_later a b c bytes same wrote = subst (λ (written : Option (List ℕ)). Appends a written bytes) (sym same) wrote
@@ -56,15 +56,15 @@ took_later terms worker out now old new later took = record {
   text = took.text;
   read = took.read;
   messages = took.messages;
-  events = took.events;
+  acts = took.acts;
   spells = took.spells;
   same_torrent = took.same_torrent;
   consumed = subst (λ (left : Option (List ℕ)). Consumes out.left left (took.text ++ took.read)) (sym later.left) took.consumed;
   begins = took.begins;
   counted = took.counted;
   turned = took.turned;
-  gains = gains_later out.past took.events old.past new.past took.gains later.gains;
-  news = asked_later (pieces_of terms) (took.first ∷ took.messages) out.past old.past new.past took.events took.news later.gains;
+  gains = gains_later out.past took.acts old.past new.past took.gains later.gains;
+  news = asked_later (pieces_of terms) (took.first ∷ took.messages) out.past old.past new.past took.acts took.news later.gains;
   wrote = appends_later _ _ _ _ later.written took.wrote;
   interest = took.interest;
   terms_are = took.terms_are;
@@ -87,18 +87,18 @@ whole_later : (end : End) (terms : TermsState) (worker : ℕ) (out old new : Sur
 whole_later end terms worker out old new later whole = record {
   read = whole.read;
   messages = whole.messages;
-  events = whole.events;
+  acts = whole.acts;
   consumed = subst (λ (left : Option (List ℕ)). Consumes out.left left whole.read) (sym later.left) whole.consumed;
   at_end = subst IsAtEnd (sym later.left) whole.at_end;
   stream = whole.stream;
   same_torrent = whole.same_torrent;
   counted = whole.counted;
   turns = whole.turns;
-  gains = gains_later out.past whole.events old.past new.past whole.gains later.gains;
+  gains = gains_later out.past whole.acts old.past new.past whole.gains later.gains;
   news = record {
     turns = whole.news.turns;
     mid = whole.news.mid;
-    asked = whole.news.asked;
+    tells = whole.news.tells;
     leaves = gains_later whole.news.mid _ old.past new.past whole.news.leaves later.gains;
     parts = whole.news.parts;
   };
@@ -109,10 +109,10 @@ fails_later : (fault : SessionFault) (state : SessionState) (out : Surroundings)
     (old new : Surroundings) →
     IsLater old new → FailsWith fault state out source last old → FailsWith fault state out source last new
 fails_later fault state out source last old new later fails = record {
-  events = fails.events;
+  acts = fails.acts;
   leave = fails.leave;
-  gains = up_to_later out.past (fails.events ++ fails.leave) old.past new.past fails.gains later.gains;
-  departs = subst (λ (short : Bool). Departs (is_in state.joined fails.events) short fails.leave) (sym later.gains.short) fails.departs;
+  gains = up_to_later out.past (fails.acts ++ fails.leave) old.past new.past fails.gains later.gains;
+  departs = subst (λ (short : Bool). Departs (is_in state.joined fails.acts) short fails.leave) (sym later.gains.short) fails.departs;
   wrote = front_later fault _ _ _ _ later.written fails.wrote;
   cause = fails.cause;
   outcome = fails.outcome;
@@ -165,8 +165,9 @@ others_stand worker other old new session told stream generator left apart =
     } in
     record {
       still = λ terms. λ begun. λ out. λ first. λ stands. record {
-        stands = stands_later session.outcome terms other out session (source_of stream session.asked) _ _ later stands.stands;
-        conduct = subst (λ (calls : Calls). ConductBy session.outcome begun out.past.calls calls generator) (sym (left.calls other apart)) stands.conduct;
+        stands = stands_later session.outcome terms other out session (source_of stream session.reads) _ _ later stands.stands;
+        conduct = subst (λ (calls : Calls). ConductBy session.outcome begun out.past.calls calls generator) (sym (left.calls other apart))
+            stands.conduct;
         devices = stands.devices;
         counted = stands.counted;
         most = stands.most;

@@ -8,28 +8,28 @@ use Rattle.bt_wire.specs.declared.message.Message.TheVariants as messages
 use Rattle.bt_history.specs.declared.mark.CallMark.{CallMark}
 use Rattle.bt_history.specs.declared.call.Reply.{Reply}
 use Rattle.bt_peer.specs.declared.fault.SessionFault.{SessionFault}
-use Rattle.bt_peer.specs.Events.{Event, Called, News, calls_of, news_of, is_refusal}
-use Rattle.bt_peer.specs.Saying.{says, answer, interest_by, interest_after}
+use Rattle.bt_peer.specs.Acts.{Act, Called, News, calls_of, news_of, is_refusal}
+use Rattle.bt_peer.specs.Writer.{says, answer, interest_by, interest_after}
 use Rattle.bt_peer.specs.Places.{PlaceRecord, Gains, GainsUpTo, AllHad, Tells}
 use Rattle.bt_peer.specs.Outlets.{Outlet, Performs, PerformsUpTo, StopsCall, WroteFront, IsCut}
 use Rattle.std.proofs.KnownBytes.{Appends-nil, Appends-trans}
 
-calls_of-append : (es fs : List Event) → calls_of (es ++ fs) ≡ calls_of es ++ calls_of fs
+calls_of-append : (es fs : List Act) → calls_of (es ++ fs) ≡ calls_of es ++ calls_of fs
 calls_of-append [] fs = refl
 calls_of-append (Called call reply ∷ es) fs = ap (λ (xs : List (CallMark × Reply)). (call, reply) ∷ xs) (calls_of-append es fs)
 calls_of-append (News piece ∷ es) fs = calls_of-append es fs
 
-news_of-append : (es fs : List Event) → news_of (es ++ fs) ≡ news_of es ++ news_of fs
+news_of-append : (es fs : List Act) → news_of (es ++ fs) ≡ news_of es ++ news_of fs
 news_of-append [] fs = refl
 news_of-append (Called call reply ∷ es) fs = news_of-append es fs
 news_of-append (News piece ∷ es) fs = ap (λ (xs : List ℕ). piece ∷ xs) (news_of-append es fs)
 
-pub interest_after-append : (i : Bool) (es fs : List Event) → interest_after i (es ++ fs) ≡ interest_after (interest_after i es) fs
+pub interest_after-append : (i : Bool) (es fs : List Act) → interest_after i (es ++ fs) ≡ interest_after (interest_after i es) fs
 interest_after-append i [] fs = refl
 interest_after-append i (Called call reply ∷ es) fs = interest_after-append (interest_by i reply) es fs
 interest_after-append i (News piece ∷ es) fs = interest_after-append i es fs
 
-pub says-append : (i : Bool) (es fs : List Event) → says i (es ++ fs) ≡ says i es ++ says (interest_after i es) fs
+pub says-append : (i : Bool) (es fs : List Act) → says i (es ++ fs) ≡ says i es ++ says (interest_after i es) fs
 says-append i [] fs = refl
 says-append i (Called call reply ∷ es) fs =
     ap (λ (xs : List ℕ). answer i reply ++ xs) (says-append (interest_by i reply) es fs)
@@ -61,7 +61,7 @@ AllHad-append had [] qs first second = second
 AllHad-append had (p ∷ ps) qs first second = (first.0, AllHad-append had ps qs first.1 second)
 
 -- one stretch after another
-pub GainsUpTo-join : (a b c : PlaceRecord) (es fs : List Event) → GainsUpTo a es b → GainsUpTo b fs c → GainsUpTo a (es ++ fs) c
+pub GainsUpTo-join : (a b c : PlaceRecord) (es fs : List Act) → GainsUpTo a es b → GainsUpTo b fs c → GainsUpTo a (es ++ fs) c
 GainsUpTo-join a b c es fs g h =
     record {
       lent = h.lent ∙ g.lent;
@@ -92,16 +92,16 @@ Gains-none a = record {
   short = refl;
 }
 
-pub up_to : (a b : PlaceRecord) (es : List Event) → Gains a es b → GainsUpTo a es b
+pub up_to : (a b : PlaceRecord) (es : List Act) → Gains a es b → GainsUpTo a es b
 up_to a b es g = g.up_to
 
-pub Gains-join : (a b c : PlaceRecord) (es fs : List Event) → Gains a es b → Gains b fs c → Gains a (es ++ fs) c
+pub Gains-join : (a b c : PlaceRecord) (es fs : List Act) → Gains a es b → Gains b fs c → Gains a (es ++ fs) c
 Gains-join a b c es fs g h = record { up_to = GainsUpTo-join a b c es fs g.up_to h.up_to; short = h.short ∙ g.short }
 
 pub Performs-none : (a : Outlet) → Performs a [] a
 Performs-none a = record { gains = Gains-none a.past; wrote = Appends-nil a.written; interest = refl }
 
-pub Performs-join : (a b c : Outlet) (es fs : List Event) → Performs a es b → Performs b fs c → Performs a (es ++ fs) c
+pub Performs-join : (a b c : Outlet) (es fs : List Act) → Performs a es b → Performs b fs c → Performs a (es ++ fs) c
 Performs-join a b c es fs p q =
     record {
       gains = Gains-join a.past b.past c.past es fs p.gains q.gains;
@@ -122,7 +122,7 @@ WroteFront-join fault a b c xs ys p q =
       all = q.all;
     }
 
-pub Performs-stops : (fault : SessionFault) (a b c : Outlet) (es fs : List Event) → Performs a es b → PerformsUpTo fault b fs c →
+pub Performs-stops : (fault : SessionFault) (a b c : Outlet) (es fs : List Act) → Performs a es b → PerformsUpTo fault b fs c →
     PerformsUpTo fault a (es ++ fs) c
 Performs-stops fault a b c es fs p q =
     record {
@@ -143,7 +143,7 @@ cut_call call reply fault accepted cut =
 -- a call whose answer was cut off
 pub call_cut : (a b : Outlet) (call : CallMark) (reply : Reply) (fault : SessionFault) → Gains a.past (Called call reply ∷ []) b.past →
     is_refusal reply ≡ false → IsCut fault → WroteFront fault a.written (answer a.interested reply) b.written →
-    (events : List Event) × (StopsCall call fault events × PerformsUpTo fault a events b)
+    (acts : List Act) × (StopsCall call fault acts × PerformsUpTo fault a acts b)
 call_cut a b call reply fault gains accepted cut wrote =
     let stops : PerformsUpTo fault a (Called call reply ∷ []) b =
     record {

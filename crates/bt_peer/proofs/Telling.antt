@@ -5,7 +5,7 @@ use Rattle.std.specs.Io.KnownBytes.{Appends}
 use Rattle.bt_wire.specs.Messages.{spelling}
 use Rattle.bt_wire.specs.declared.message.Message.TheVariants as messages
 use Rattle.bt_peer.specs.declared.fault.SessionFault.{SessionFault}
-use Rattle.bt_peer.specs.Events.{Event, News}
+use Rattle.bt_peer.specs.Acts.{Act, News}
 use Rattle.bt_peer.specs.Places.{Gains, AllTold}
 use Rattle.bt_peer.specs.Outlets.{Outlet, Performs, PerformsUpTo, WroteFront, IsCut}
 use Rattle.bt_peer.proofs.Stretches.{up_to, Performs-none, Performs-join, Performs-stops}
@@ -34,7 +34,7 @@ Telling-more piece a b c most t gains wrote same =
     record {
       news = t.news ++ piece ∷ [];
       count = omega (arith, t.count, length-append t.news (piece ∷ []));
-      does = subst (λ (es : List Event). Performs a es c) (sym (map-append News t.news (piece ∷ [])))
+      does = subst (λ (es : List Act). Performs a es c) (sym (map-append News t.news (piece ∷ [])))
           (Performs-join a b c (map News t.news) (News piece ∷ []) t.does (told_one piece b c gains wrote same));
     }
 
@@ -50,7 +50,7 @@ Telling-done a b c n most t le gains all wrote same =
       (
         omega (arith, t.count),
         inr all,
-        subst (λ (es : List Event). Performs a es c) (append-nil (map News t.news)) (Performs-join a b c (map News t.news) [] t.does nothing),
+        subst (λ (es : List Act). Performs a es c) (append-nil (map News t.news)) (Performs-join a b c (map News t.news) [] t.does nothing),
       ),
     )
 
@@ -73,7 +73,7 @@ Telling-cut fault piece a b c n most t le gains cut wrote =
       (
         omega (arith, t.count, length-append t.news (piece ∷ [])),
         cut,
-        subst (λ (es : List Event). PerformsUpTo fault a es c) (sym (map-append News t.news (piece ∷ [])))
+        subst (λ (es : List Act). PerformsUpTo fault a es c) (sym (map-append News t.news (piece ∷ [])))
             (Performs-stops fault a b c (map News t.news) (News piece ∷ []) t.does stops),
       ),
     )

@@ -12,12 +12,12 @@ use Rattle.bt_history.specs.declared.mark.CallMark.{CallMark}
 use Rattle.bt_history.specs.declared.call.Reply.TheVariants as replies
 use Rattle.bt_peer.specs.declared.fault.SessionFault.{SessionFault}
 use Rattle.bt_peer.specs.declared.fault.SessionFault.TheVariants as faults
-use Rattle.bt_peer.specs.Events.{Event, Called, News, is_refused_call}
-use Rattle.bt_peer.specs.Saying.{says, interest_after}
+use Rattle.bt_peer.specs.Acts.{Act, Called, News, is_refused_call}
+use Rattle.bt_peer.specs.Writer.{says, interest_after}
 use Rattle.bt_peer.specs.Terms.{TermsState, pieces_of, most_next}
 use Rattle.bt_peer.specs.Turns.{call_of, Opens, Asks, Attends, IsTurn, BeginsTurn, IsAcceptable, NoneRefused, IsLater}
 use Rattle.bt_peer.specs.Outlets.{Outlet, Performs, PerformsUpTo, EndsCalls, IsCut, WroteFront}
-use Rattle.bt_peer.specs.Turning.{StopsOpening, StopsTurn, TellsNews}
+use Rattle.bt_peer.specs.Steps.{StopsOpening, StopsTurn, TellsNews}
 use Rattle.bt_peer.specs.Places.{AllTold}
 use Rattle.std.proofs.KnownBytes.{Appends-nil}
 use Rattle.bt_peer.proofs.Stretches.{Performs-join, Performs-stops, Gains-none, up_to}
@@ -27,7 +27,7 @@ or_false : (a b c : Bool) → (a || b) ≡ false → (b ≡ false → c ≡ fals
 or_false true b c p f = p
 or_false false b c p f = f p
 
-none_refused-append : (es fs : List Event) → NoneRefused es → NoneRefused fs → NoneRefused (es ++ fs)
+none_refused-append : (es fs : List Act) → NoneRefused es → NoneRefused fs → NoneRefused (es ++ fs)
 none_refused-append [] fs p q = q
 none_refused-append (e ∷ es) fs p q = or_false (is_refused_call e) (list_any is_refused_call es) (list_any is_refused_call (es ++ fs)) p
     (λ r. none_refused-append es fs r q)
@@ -62,20 +62,20 @@ news_stop fault b c news stops =
       wrote = subst (λ (xs : List ℕ). WroteFront fault b.written xs c.written) (sym (news_say b.interested news)) stops.wrote;
     }
 
-later_turn : (terms : TermsState) (m : Message) (es : List Event) → IsLater m → Attends terms m es → IsTurn terms m es
+later_turn : (terms : TermsState) (m : Message) (es : List Act) → IsLater m → Attends terms m es → IsTurn terms m es
 later_turn terms (messages.Hello hello) es later attends = absurd later
 later_turn terms _ es later attends = attends
 
-opens_some : (o : Option CallMark) → (rest : List Event) × Opens o rest
+opens_some : (o : Option CallMark) → (rest : List Act) × Opens o rest
 opens_some None = ([], refl)
 opens_some (Some call) = (Called call replies.Idle ∷ [], (refl, refl))
 
 abbrev Opened : Option CallMark → Outlet → Outlet → Type 0
-Opened o a b = (events : List Event) × (Opens o events × NoneRefused events × Performs a events b)
+Opened o a b = (acts : List Act) × (Opens o acts × NoneRefused acts × Performs a acts b)
 
 -- what a message's opening left where it stopped
 abbrev pub OpenedStops : SessionFault → ℕ → Message → Outlet → Outlet → Type 0
-OpenedStops fault pieces m a b = (events : List Event) × (StopsOpening fault pieces m events × PerformsUpTo fault a events b)
+OpenedStops fault pieces m a b = (acts : List Act) × (StopsOpening fault pieces m acts × PerformsUpTo fault a acts b)
 
 stops_at_once : (fault : SessionFault) (a : Outlet) → PerformsUpTo fault a [] a
 stops_at_once fault a = record {
@@ -95,20 +95,20 @@ nothing_came pieces m fault a cause =
           ([], (subst (λ (f : SessionFault). StopsOpening f pieces m []) (sym bad.0) (bad.1, refl), stops_at_once fault a))
     ]
 
-stops_opening : (fault : SessionFault) (pieces : ℕ) (m : Message) (es rest : List Event) → IsAcceptable pieces m →
+stops_opening : (fault : SessionFault) (pieces : ℕ) (m : Message) (es rest : List Act) → IsAcceptable pieces m →
     Opens (call_of m) (es ++ rest) → EndsCalls fault es → StopsOpening fault pieces m es
 stops_opening faults.BadBits pieces m es rest acceptable opens ends = absurd ends
 stops_opening _ pieces m es rest acceptable opens ends = (acceptable, (rest, (opens, ends)))
 
 -- a call's stop is a stop of the opening
 pub opened_stops : (fault : SessionFault) (pieces : ℕ) (m : Message) (o : Option CallMark) (a b : Outlet) → call_of m ≡ o → IsAcceptable pieces m →
-    (events : List Event) × ((rest : List Event) × (Opens o (events ++ rest) × EndsCalls fault events × PerformsUpTo fault a events b)) →
+    (acts : List Act) × ((rest : List Act) × (Opens o (acts ++ rest) × EndsCalls fault acts × PerformsUpTo fault a acts b)) →
     OpenedStops fault pieces m a b
 opened_stops fault pieces m o a b is acceptable h =
     let opens = subst (λ (call : Option CallMark). Opens call (h.0 ++ h.1.0)) (sym is) h.1.1.0 in
     (h.0, (stops_opening fault pieces m h.0 h.1.0 acceptable opens h.1.1.1, h.1.1.2))
 
-pub ends_after : (fault : SessionFault) (es fs : List Event) → NoneRefused es → EndsCalls fault fs → EndsCalls fault (es ++ fs)
+pub ends_after : (fault : SessionFault) (es fs : List Act) → NoneRefused es → EndsCalls fault fs → EndsCalls fault (es ++ fs)
 ends_after (faults.Refused reason) es fs none h =
     let ends = h.1 in (
       h.0,
@@ -116,7 +116,7 @@ ends_after (faults.Refused reason) es fs none h =
         before = es ++ ends.before;
         accepted = none_refused-append es ends.before none ends.accepted;
         refused = ends.refused;
-        last = ap (λ (xs : List Event). es ++ xs) ends.last ∙ sym (append_assoc es ends.before (Called h.0 (replies.Refused reason) ∷ []));
+        last = ap (λ (xs : List Act). es ++ xs) ends.last ∙ sym (append_assoc es ends.before (Called h.0 (replies.Refused reason) ∷ []));
       },
     )
 ends_after faults.WriteFault es fs none h = none_refused-append es fs none h
@@ -129,9 +129,10 @@ Told pieces b c = (news : List ℕ) ×
     × Performs (record b { interested = false }) (map News news) (record c { interested = false }))
 
 -- a whole turn
-pub turn_done : (terms : TermsState) (m : Message) (a b c d : Outlet) → IsLater m → IsAcceptable (pieces_of terms) m → Opened (call_of m) a b → Told (pieces_of terms) b c →
-    c.interested ≡ b.interested → (asking : List Event) × (Asks (most_next terms) asking × NoneRefused asking × Performs c asking d) →
-    (events : List Event) × (IsTurn terms m events × NoneRefused events × TellsNews (pieces_of terms) a.past events d.past × Performs a events d)
+pub turn_done : (terms : TermsState) (m : Message) (a b c d : Outlet) → IsLater m → IsAcceptable (pieces_of terms) m → Opened (call_of m) a b →
+    Told (pieces_of terms) b c →
+    c.interested ≡ b.interested → (asking : List Act) × (Asks (most_next terms) asking × NoneRefused asking × Performs c asking d) →
+    (acts : List Act) × (IsTurn terms m acts × NoneRefused acts × TellsNews (pieces_of terms) a.past acts d.past × Performs a acts d)
 turn_done terms m a b c d later acceptable opened told same asked =
     let front = opened.0 ++ map News told.0 in
     let does_front = Performs-join a b c opened.0 (map News told.0) opened.1.2 (news_do b c told.0 told.1.2 same) in
@@ -165,20 +166,21 @@ turn_done terms m a b c d later acceptable opened told same asked =
 
 -- what a message's turn left where it stopped
 abbrev pub TurnStops : SessionFault → TermsState → Message → Outlet → Outlet → Type 0
-TurnStops fault terms m a d = (events : List Event) × (StopsTurn fault terms m events × PerformsUpTo fault a events d)
+TurnStops fault terms m a d = (acts : List Act) × (StopsTurn fault terms m acts × PerformsUpTo fault a acts d)
 
-stops_turn : (fault : SessionFault) (terms : TermsState) (m : Message) (es : List Event) → BeginsTurn terms m es → EndsCalls fault es →
+stops_turn : (fault : SessionFault) (terms : TermsState) (m : Message) (es : List Act) → BeginsTurn terms m es → EndsCalls fault es →
     StopsTurn fault terms m es
 stops_turn faults.BadBits terms m es begins ends = absurd ends
 stops_turn _ terms m es begins ends = (begins, ends)
 
-opening_begins : (terms : TermsState) (m : Message) (es rest : List Event) → IsLater m → IsAcceptable (pieces_of terms) m → Opens (call_of m) (es ++ rest) →
+opening_begins : (terms : TermsState) (m : Message) (es rest : List Act) → IsLater m → IsAcceptable (pieces_of terms) m →
+    Opens (call_of m) (es ++ rest) →
     BeginsTurn terms m es
 opening_begins terms m es rest later acceptable opens =
     let idle = asks_some (most_next terms) in
     let all = es ++ rest in
     let same : es ++ (rest ++ idle.0) ≡ all ++ [] ++ idle.0 =
-    sym (append_assoc es rest idle.0) ∙ ap (λ (xs : List Event). xs ++ idle.0) (sym (append-nil all)) in
+    sym (append_assoc es rest idle.0) ∙ ap (λ (xs : List Act). xs ++ idle.0) (sym (append-nil all)) in
     let attends : Attends terms m (es ++ (rest ++ idle.0)) = record {
       acceptable = acceptable;
       opening = all;
@@ -191,13 +193,15 @@ opening_begins terms m es rest later acceptable opens =
     } in
     (rest ++ idle.0, later_turn terms m (es ++ (rest ++ idle.0)) later attends)
 
-opening_stopped : (fault : SessionFault) (terms : TermsState) (m : Message) (es : List Event) → IsLater m → StopsOpening fault (pieces_of terms) m es →
+opening_stopped : (fault : SessionFault) (terms : TermsState) (m : Message) (es : List Act) → IsLater m →
+    StopsOpening fault (pieces_of terms) m es →
     StopsTurn fault terms m es
 opening_stopped faults.BadBits terms m es later stops = stops
 opening_stopped _ terms m es later stops = (opening_begins terms m es stops.1.0 later stops.0 stops.1.1.0, stops.1.1.1)
 
 -- the opening stopped
-pub turn_stops_open : (fault : SessionFault) (terms : TermsState) (m : Message) (a b : Outlet) → IsLater m → OpenedStops fault (pieces_of terms) m a b →
+pub turn_stops_open : (fault : SessionFault) (terms : TermsState) (m : Message) (a b : Outlet) → IsLater m →
+    OpenedStops fault (pieces_of terms) m a b →
     TurnStops fault terms m a b
 turn_stops_open fault terms m a b later h = (h.0, (opening_stopped fault terms m h.0 later h.1.0, h.1.1))
 
@@ -232,14 +236,15 @@ turn_stops_news fault terms m a b c later acceptable opened told =
 pub turn_stops_ask : (fault : SessionFault) (terms : TermsState) (m : Message) (a b c d : Outlet) → IsLater m → IsAcceptable (pieces_of terms) m →
     Opened (call_of m) a b → Told (pieces_of terms) b c →
     c.interested ≡ b.interested →
-    (asking : List Event) × ((rest : List Event) × (Asks (most_next terms) (asking ++ rest) × EndsCalls fault asking × PerformsUpTo fault c asking d)) →
+    (asking : List Act) × ((rest : List Act) × (Asks (most_next terms) (asking ++ rest) × EndsCalls fault asking ×
+    PerformsUpTo fault c asking d)) →
     TurnStops fault terms m a d
 turn_stops_ask fault terms m a b c d later acceptable opened told same asked =
     let front = opened.0 ++ map News told.0 in
     let does_front = Performs-join a b c opened.0 (map News told.0) opened.1.2 (news_do b c told.0 told.1.2 same) in
     let none = none_refused-append opened.0 (map News told.0) opened.1.1 (none_refused-news told.0) in
-    let events = front ++ asked.0 in
-    let attends : Attends terms m (events ++ asked.1.0) = record {
+    let acts = front ++ asked.0 in
+    let attends : Attends terms m (acts ++ asked.1.0) = record {
       acceptable = acceptable;
       opening = opened.0;
       news = told.0;
@@ -249,9 +254,9 @@ turn_stops_ask fault terms m a b c d later acceptable opened told same asked =
       asks = asked.1.1.0;
       parts = append_assoc front asked.0 asked.1.0;
     } in (
-      events,
+      acts,
       (
-        stops_turn fault terms m events (asked.1.0, later_turn terms m (events ++ asked.1.0) later attends)
+        stops_turn fault terms m acts (asked.1.0, later_turn terms m (acts ++ asked.1.0) later attends)
             (ends_after fault front asked.0 none asked.1.1.1),
         Performs-stops fault a c d front asked.0 does_front asked.1.1.2,
       ),

@@ -4,17 +4,17 @@ use Rattle.rand_core.specs.Stream.{Stream as Words}
 use Rattle.bt_peer.specs.declared.fault.End.{End}
 use Rattle.bt_peer.specs.declared.fault.SessionFault.{SessionFault}
 use Rattle.bt_peer.specs.Conduct.{DrawsWords}
-use Rattle.bt_peer.specs.Hearing.{most_reads}
+use Rattle.bt_peer.specs.Reader.{most_reads}
 use Rattle.bt_peer.specs.Places.{PlaceRecord}
 use Rattle.bt_peer.specs.Serial.{StreamRecord, EndsAs, DevicesAfter, source_of, stream_record}
 use Rattle.bt_peer.specs.Terms.{TermsState}
-use Rattle.bt_peer.specs.Turning.{Surroundings}
+use Rattle.bt_peer.specs.Steps.{Surroundings}
 
 -- what a reader and a writer say of themselves
 abbrev pub devices_record : {R W : Type 0} → (R → Option (List ℕ)) → (R → Bool) → (R → Bool) → (R → ℕ) → (W → Option (List ℕ)) → (W → Bool) →
     R → W → StreamRecord
-devices_record {R} {W} left ended failed asked written writer_failed reader writer =
-    stream_record left ended failed asked written writer_failed (record { reader = reader; writer = writer })
+devices_record {R} {W} left ended failed reads written writer_failed reader writer =
+    stream_record left ended failed reads written writer_failed (record { reader = reader; writer = writer })
 
 -- what is round a session with this place and these devices
 abbrev pub around_place : PlaceRecord → StreamRecord → Surroundings
@@ -25,10 +25,10 @@ around_place past devices = record { past = past; left = devices.left; written =
 pub record RunsTo (outcome : Result End SessionFault) (terms : TermsState) (worker : ℕ) (generator : Words)
     (past : PlaceRecord) (old : StreamRecord) (past' : PlaceRecord) (new : StreamRecord) : Type 0 where
   -- the reads that the session counted
-  pub asked : ℕ
-  pub ends : EndsAs outcome terms worker (around_place past old) (source_of new asked) (around_place past' new)
+  pub reads : ℕ
+  pub ends : EndsAs outcome terms worker (around_place past old) (source_of new reads) (around_place past' new)
   -- the words of its Next calls are the generator's, in order
   pub words : DrawsWords generator past.calls past'.calls
   pub devices : DevicesAfter outcome old new
-  pub counted : old.asked ≡ 0 → new.asked ≡ asked
-  pub most : asked ≤ most_reads
+  pub counted : old.reads ≡ 0 → new.reads ≡ reads
+  pub most : reads ≤ most_reads

@@ -6,9 +6,9 @@ use Rattle.bt_peer.specs.declared.fault.SessionFault.TheVariants as faults
 use Rattle.bt_history.specs.declared.mark.CallMark.{CallMark}
 use Rattle.bt_history.specs.declared.call.Reply.{Reply}
 use Rattle.bt_history.specs.declared.call.Reply.TheVariants as replies
-use Rattle.bt_peer.specs.Events.{Event, Called, is_refusal, is_refused_call}
+use Rattle.bt_peer.specs.Acts.{Act, Called, is_refusal, is_refused_call}
 use Rattle.bt_peer.specs.Turns.{NoneRefused}
-use Rattle.bt_peer.specs.Saying.{says, interest_after}
+use Rattle.bt_peer.specs.Writer.{says, interest_after}
 use Rattle.bt_peer.specs.Places.{PlaceRecord, Gains, GainsUpTo}
 
 -- what a session acts on: the place, what was written, and the interest that was told
@@ -21,11 +21,11 @@ abbrev pub outlet : {P W : Type 0} → (P → PlaceRecord) → (W → Option (Li
 outlet past written place writer interested =
     record { past = past place; written = written writer; interested = interested }
 
--- these events came, and what they say was written
-pub record Performs (old : Outlet) (events : List Event) (new : Outlet) : Type 0 where
-  pub gains : Gains old.past events new.past
-  pub wrote : Appends old.written new.written (says old.interested events)
-  pub interest : new.interested ≡ interest_after old.interested events
+-- these acts came, and what they say was written
+pub record Performs (old : Outlet) (acts : List Act) (new : Outlet) : Type 0 where
+  pub gains : Gains old.past acts new.past
+  pub wrote : Appends old.written new.written (says old.interested acts)
+  pub interest : new.interested ≡ interest_after old.interested acts
 
 -- a fault that may cut off what is written: a write that failed, or want of memory
 abbrev pub IsCut : SessionFault → Type 0
@@ -39,27 +39,27 @@ pub record WroteFront (fault : SessionFault) (old : Option (List ℕ)) (bytes : 
   pub wrote : Appends old new front
   pub all : IsCut fault ⊎ (rest ≡ [])
 
--- these events came up to a fault
-pub record PerformsUpTo (fault : SessionFault) (old : Outlet) (events : List Event) (new : Outlet) : Type 0 where
-  pub gains : GainsUpTo old.past events new.past
-  pub wrote : WroteFront fault old.written (says old.interested events) new.written
+-- these acts came up to a fault
+pub record PerformsUpTo (fault : SessionFault) (old : Outlet) (acts : List Act) (new : Outlet) : Type 0 where
+  pub gains : GainsUpTo old.past acts new.past
+  pub wrote : WroteFront fault old.written (says old.interested acts) new.written
 
--- these events end in that call refused, and no other was
-pub record EndsRefused (call : CallMark) (reply : Reply) (events : List Event) : Type 0 where
-  pub before : List Event
+-- these acts end in that call refused, and no other was
+pub record EndsRefused (call : CallMark) (reply : Reply) (acts : List Act) : Type 0 where
+  pub before : List Act
   pub accepted : NoneRefused before
   pub refused : is_refused_call (Called call reply) ≡ true
-  pub last : events ≡ before ++ Called call reply ∷ []
+  pub last : acts ≡ before ++ Called call reply ∷ []
 
--- the last events before a fault that calls end by: the refused call, or no refusal where a write failed or memory ran out
-abbrev pub EndsCalls : SessionFault → List Event → Type 0
-EndsCalls (faults.Refused reason) events = (call : CallMark) × EndsRefused call (replies.Refused reason) events
-EndsCalls faults.WriteFault events = NoneRefused events
-EndsCalls faults.NoMemory events = NoneRefused events
-EndsCalls _ events = ⊥
+-- the last acts before a fault that calls end by: the refused call, or no refusal where a write failed or memory ran out
+abbrev pub EndsCalls : SessionFault → List Act → Type 0
+EndsCalls (faults.Refused reason) acts = (call : CallMark) × EndsRefused call (replies.Refused reason) acts
+EndsCalls faults.WriteFault acts = NoneRefused acts
+EndsCalls faults.NoMemory acts = NoneRefused acts
+EndsCalls _ acts = ⊥
 
 -- a call that was made up to a fault: it was refused, or what its reply says was cut off, or there was no memory for it
-abbrev pub StopsCall : CallMark → SessionFault → List Event → Type 0
-StopsCall call (faults.Refused reason) events = events ≡ Called call (replies.Refused reason) ∷ []
-StopsCall call fault events =
-    IsCut fault × ((events ≡ []) ⊎ ((reply : Reply) × ((is_refusal reply ≡ false) × (events ≡ Called call reply ∷ []))))
+abbrev pub StopsCall : CallMark → SessionFault → List Act → Type 0
+StopsCall call (faults.Refused reason) acts = acts ≡ Called call (replies.Refused reason) ∷ []
+StopsCall call fault acts =
+    IsCut fault × ((acts ≡ []) ⊎ ((reply : Reply) × ((is_refusal reply ≡ false) × (acts ≡ Called call reply ∷ []))))

@@ -4,7 +4,7 @@ use Rattle.std.specs.Borrow.{GName}
 use Rattle.bt_history.specs.declared.call.Reply.{Reply}
 use Rattle.bt_history.specs.declared.mark.CallMark.{CallMark}
 use Rattle.bt_history.specs.Setting.{Setting}
-use Rattle.bt_peer.specs.Events.{Event, calls_of, news_of}
+use Rattle.bt_peer.specs.Acts.{Act, calls_of, news_of}
 
 -- these pieces were told, each once and none before, and no others
 abbrev pub Tells : (ℕ → Bool) → List ℕ → (ℕ → Bool) → Type 0
@@ -39,20 +39,20 @@ pub record PlaceRecord : Type 0 where
 abbrev pub AllTold : PlaceRecord → Type 0
 AllTold place = (piece : ℕ) → place.had piece ≡ true → place.told piece ≡ true
 
--- the place gained these events, perhaps with a call that found no memory
-pub record GainsUpTo (old : PlaceRecord) (events : List Event) (new : PlaceRecord) : Type 0 where
+-- the place gained these acts, perhaps with a call that found no memory
+pub record GainsUpTo (old : PlaceRecord) (acts : List Act) (new : PlaceRecord) : Type 0 where
   pub lent : new.lent ≡ old.lent
   pub worker : new.worker ≡ old.worker
   pub setting : new.setting ≡ old.setting
-  pub calls : new.calls ≡ old.calls ++ calls_of events
+  pub calls : new.calls ≡ old.calls ++ calls_of acts
   pub others : (worker : ℕ) → new.others worker ≡ old.others worker
   pub had : (piece : ℕ) → old.had piece ≡ true → new.had piece ≡ true
-  pub told : Tells old.told (news_of events) new.told
-  pub finished : AllHad new.had (news_of events)
+  pub told : Tells old.told (news_of acts) new.told
+  pub finished : AllHad new.had (news_of acts)
 
--- the place gained these events, and no call found no memory
-pub record Gains (old : PlaceRecord) (events : List Event) (new : PlaceRecord) : Type 0 where
-  pub up_to : GainsUpTo old events new
+-- the place gained these acts, and no call found no memory
+pub record Gains (old : PlaceRecord) (acts : List Act) (new : PlaceRecord) : Type 0 where
+  pub up_to : GainsUpTo old acts new
   pub short : new.short ≡ old.short
 
 -- a call found no memory, and gained nothing

@@ -1,5 +1,6 @@
 -- Several streams' sessions at one desk: what each of them sees there, and how it ended.
-use Rattle.std.specs.Prelude.{◌≡◌, ◌≤◌, ◌<◌, ℕ, Bool, true, false, List, [], ◌∷◌, ◌&&◌, nat_lt, length, replicate, slice_index_or, Option, Some, None, Result, Ok, Err}
+use Rattle.std.specs.Prelude.{◌≡◌, ◌≤◌, ◌<◌, ℕ, Bool, true, false, List, [], ◌∷◌, ◌&&◌, nat_lt, length, replicate, slice_index_or, Option, Some}
+use Rattle.std.specs.Prelude.{None, Result, Ok, Err}
 use Rattle.bt_meta.specs.Layout.{piece_count}
 use Rattle.bt_history.specs.declared.call.Reply.TheVariants as replies
 use Rattle.bt_history.specs.declared.mark.CallMark.TheVariants as marks
@@ -13,11 +14,11 @@ use Rattle.bt_peer.specs.declared.fault.SessionFault.TheVariants as faults
 use Rattle.bt_peer.specs.declared.stream.Stream.{Stream}
 use Rattle.bt_peer.specs.Conduct.{Calls, DrawsWords, all_checked, generator_of}
 use Rattle.bt_peer.specs.Desks.{calls_in}
-use Rattle.bt_peer.specs.Hearing.{SourceState, most_reads}
+use Rattle.bt_peer.specs.Reader.{SourceState, most_reads}
 use Rattle.bt_peer.specs.Places.{PlaceRecord}
 use Rattle.bt_peer.specs.Sessions.{IsWhole, IsCutShort}
 use Rattle.bt_peer.specs.Terms.{TermsState}
-use Rattle.bt_peer.specs.Turning.{Surroundings}
+use Rattle.bt_peer.specs.Steps.{Surroundings}
 
 -- what a stream says of itself
 pub record StreamRecord : Type 0 where
@@ -28,7 +29,7 @@ pub record StreamRecord : Type 0 where
   -- the reader has failed
   pub failed : Bool
   -- how often the reader was asked
-  pub asked : ℕ
+  pub reads : ℕ
   -- the bytes that were written
   pub written : Option (List ℕ)
   -- the writer has failed
@@ -36,11 +37,11 @@ pub record StreamRecord : Type 0 where
 
 abbrev pub stream_record : {R W : Type 0} → (R → Option (List ℕ)) → (R → Bool) → (R → Bool) → (R → ℕ) → (W → Option (List ℕ)) → (W → Bool) →
     Stream R W → StreamRecord
-stream_record left ended failed asked written writer_failed stream = record {
+stream_record left ended failed reads written writer_failed stream = record {
   left = left stream.reader;
   ended = ended stream.reader;
   failed = failed stream.reader;
-  asked = asked stream.reader;
+  reads = reads stream.reader;
   written = written stream.writer;
   writer_failed = writer_failed stream.writer;
 }
@@ -74,8 +75,8 @@ before_all setting worker stream =
 
 -- what a stream's reader says, with the session's count of its reads
 abbrev pub source_of : StreamRecord → ℕ → SourceState
-source_of stream asked =
-    record { left = stream.left; ended = stream.ended; failed = stream.failed; asked = asked }
+source_of stream reads =
+    record { left = stream.left; ended = stream.ended; failed = stream.failed; reads = reads }
 
 -- a session came to this end, or to this fault
 abbrev pub EndsAs : Result End SessionFault → TermsState → ℕ → Surroundings → SourceState → Surroundings → Type 0
@@ -102,14 +103,14 @@ pub record Ended (outcome : Result End SessionFault) (terms : TermsState) (seed 
   -- a call found no memory
   pub short : Bool
   -- the reads that the session counted
-  pub asked : ℕ
-  pub ends : EndsAs outcome terms worker (before_all desk.setting worker old) (source_of new asked) (around desk worker told short new)
+  pub reads : ℕ
+  pub ends : EndsAs outcome terms worker (before_all desk.setting worker old) (source_of new reads) (around desk worker told short new)
   -- the words of its Next calls are those of the generator of its number, made of the seed
   pub words : DrawsWords (generator_of seed worker) [] (calls_in desk.history worker)
   pub checks : ChecksAfter outcome (calls_in desk.history worker)
   pub devices : DevicesAfter outcome old new
-  pub counted : old.asked ≡ 0 → new.asked ≡ asked
-  pub most : asked ≤ most_reads
+  pub counted : old.reads ≡ 0 → new.reads ≡ reads
+  pub most : reads ≤ most_reads
 
 -- the sessions of the streams, as they were handed in and as they were given back, ended so, in order
 abbrev pub EachEnded : {X : Type 0} → (X → StreamRecord) → TermsState → ℕ → List X → DeskState → List X → List (Result End SessionFault) → Type 0

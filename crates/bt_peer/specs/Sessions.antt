@@ -8,14 +8,14 @@ use Rattle.bt_wire.specs.declared.message.Message.TheVariants as messages
 use Rattle.bt_wire.specs.Stream.{InboundState, Spells, Begins, IsStream, opened}
 use Rattle.bt_peer.specs.declared.fault.SessionFault.{SessionFault}
 use Rattle.bt_peer.specs.declared.fault.End.{End}
-use Rattle.bt_peer.specs.Events.{Event, is_in}
+use Rattle.bt_peer.specs.Acts.{Act, is_in}
 use Rattle.bt_peer.specs.Places.{Gains, GainsUpTo}
 use Rattle.bt_peer.specs.Terms.{TermsState, pieces_of}
 use Rattle.bt_peer.specs.Turns.{TurnsOf, AreTurns}
-use Rattle.bt_peer.specs.Saying.{greeting, says, interest_after}
+use Rattle.bt_peer.specs.Writer.{greeting, says, interest_after}
 use Rattle.bt_peer.specs.Outlets.{WroteFront}
-use Rattle.bt_peer.specs.Hearing.{SourceState, most_reads, room_len}
-use Rattle.bt_peer.specs.Turning.{Reading, reading, Surroundings, Start, TakesTurn, TakesLeave, BreaksBy, Departs, EachAsksForNews, TellsAllNews}
+use Rattle.bt_peer.specs.Reader.{SourceState, most_reads, room_len}
+use Rattle.bt_peer.specs.Steps.{Reading, reading, Surroundings, Start, TakesTurn, TakesLeave, BreaksBy, Departs, EachAsksForNews, TellsAllNews}
 
 pub record SessionState : Type 0 where
   pub terms : TermsState
@@ -26,7 +26,7 @@ pub record SessionState : Type 0 where
   -- the interest that was told
   pub interested : Bool
   -- how often it asked its source
-  pub asked : ℕ
+  pub reads : ℕ
   -- the messages after the handshake
   pub messages : ℕ
   pub outcome : Option (Result End SessionFault)
@@ -39,7 +39,7 @@ begun terms worker = record {
   stream = opened (frame_limit (pieces_of terms));
   joined = false;
   interested = false;
-  asked = 0;
+  reads = 0;
   messages = 0;
   outcome = None;
 }
@@ -57,7 +57,7 @@ start_of state out = record { terms = state.terms; joined = state.joined; stream
 
 -- the most bytes that it may still hear: those held, and those of the reads that are left
 abbrev pub to_hear : SessionState → ℕ
-to_hear state = length state.stream.bytes + room_len * (most_reads - state.asked)
+to_hear state = length state.stream.bytes + room_len * (most_reads - state.reads)
 
 -- what all turns keep
 pub record KeepsTerms (old new : SessionState) : Type 0 where
@@ -80,15 +80,15 @@ pub record Ends (end : End) (old : SessionState) (out : Surroundings) (has_ended
   pub messages : end.messages ≡ old.messages
   pub outcome : new.outcome ≡ Some (Ok end)
 
--- the last turn, broken off: after its events Leave, if the peer is in
+-- the last turn, broken off: after its acts Leave, if the peer is in
 pub record FailsWith (fault : SessionFault) (old : SessionState) (out : Surroundings) (source : SourceState)
     (new : SessionState) (out' : Surroundings) : Type 0 where
-  pub events : List Event
-  pub leave : List Event
-  pub gains : GainsUpTo out.past (events ++ leave) out'.past
-  pub departs : Departs (is_in old.joined events) out'.past.short leave
-  pub wrote : WroteFront fault out.written (greeting_of old ++ says old.interested events) out'.written
-  pub cause : BreaksBy fault (start_of old out) source events
+  pub acts : List Act
+  pub leave : List Act
+  pub gains : GainsUpTo out.past (acts ++ leave) out'.past
+  pub departs : Departs (is_in old.joined acts) out'.past.short leave
+  pub wrote : WroteFront fault out.written (greeting_of old ++ says old.interested acts) out'.written
+  pub cause : BreaksBy fault (start_of old out) source acts
   pub outcome : new.outcome ≡ Some (Err fault)
 
 -- the answer once more
@@ -107,20 +107,20 @@ BeginsWith infohash [] = ⊥
 BeginsWith infohash (m ∷ ms) = NamesTorrent infohash m
 
 -- A session that came to its end: the source gave a whole stream, of this torrent, and nothing is left of it; each of its messages made a turn at the place, in which news was
--- asked for, and then Leave came; and the greeting was written, then what the events say.
+-- asked for, and then Leave came; and the greeting was written, then what the acts say.
 pub record IsWhole (end : End) (terms : TermsState) (worker : ℕ) (out out' : Surroundings) : Type 0 where
   pub read : List ℕ
   pub messages : List Message
-  pub events : List Event
+  pub acts : List Act
   pub consumed : Consumes out.left out'.left read
   pub at_end : IsAtEnd out'.left
   pub stream : IsStream (frame_limit (pieces_of terms)) read messages []
   pub same_torrent : BeginsWith terms.infohash messages
   pub counted : length messages ≡ end.messages + 1
-  pub turns : AreTurns terms messages events
-  pub gains : Gains out.past events out'.past
-  pub news : TellsAllNews (pieces_of terms) messages out.past events out'.past
-  pub wrote : Appends out.written out'.written (greeting terms.infohash worker ++ says false events)
+  pub turns : AreTurns terms messages acts
+  pub gains : Gains out.past acts out'.past
+  pub news : TellsAllNews (pieces_of terms) messages out.past acts out'.past
+  pub wrote : Appends out.written out'.written (greeting terms.infohash worker ++ says false acts)
 
 -- no turn was taken yet: nothing was read, called or written
 pub record IsUntouched (terms : TermsState) (worker : ℕ) (out : Surroundings) (now : SessionState) (out' : Surroundings) : Type 0 where
@@ -130,23 +130,23 @@ pub record IsUntouched (terms : TermsState) (worker : ℕ) (out : Surroundings) 
   pub written : out'.written ≡ out.written
 
 -- The first turn and some more were taken: what was read is the handshake, the messages and what is held; the place gained a turn for each
--- of them; and the greeting was written, then what the events say.
+-- of them; and the greeting was written, then what the acts say.
 pub record TookTurns (terms : TermsState) (worker : ℕ) (out : Surroundings) (now : SessionState) (out' : Surroundings) : Type 0 where
   pub first : Message
   pub text : List ℕ
   pub read : List ℕ
   pub messages : List Message
-  pub events : List Event
+  pub acts : List Act
   pub spells : Spells false (frame_limit (pieces_of terms)) first text
   pub same_torrent : NamesTorrent terms.infohash first
   pub consumed : Consumes out.left out'.left (text ++ read)
   pub begins : Begins true (frame_limit (pieces_of terms)) read messages now.stream.bytes
   pub counted : length messages ≡ now.messages
-  pub turned : TurnsOf terms (first ∷ messages) events
-  pub gains : Gains out.past events out'.past
-  pub news : EachAsksForNews (pieces_of terms) (first ∷ messages) out.past events out'.past
-  pub wrote : Appends out.written out'.written (greeting terms.infohash worker ++ says false events)
-  pub interest : now.interested ≡ interest_after false events
+  pub turned : TurnsOf terms (first ∷ messages) acts
+  pub gains : Gains out.past acts out'.past
+  pub news : EachAsksForNews (pieces_of terms) (first ∷ messages) out.past acts out'.past
+  pub wrote : Appends out.written out'.written (greeting terms.infohash worker ++ says false acts)
+  pub interest : now.interested ≡ interest_after false acts
   pub terms_are : now.terms ≡ terms
   pub limit : now.stream.limit ≡ frame_limit (pieces_of terms)
   pub greeted : now.stream.greeted ≡ true

@@ -1,5 +1,6 @@
 -- How a session stands that takes its turns among others. Only contracts within the crate cite this module.
-use Rattle.std.specs.Prelude.{◌≡◌, ◌≢◌, ◌≤◌, ◌<◌, ℕ, Bool, true, false, List, [], All, length, replicate, slice_index_or, suc, Option, Some, None, Result, Ok, Err}
+use Rattle.std.specs.Prelude.{◌≡◌, ◌≢◌, ◌≤◌, ◌<◌, ℕ, Bool, true, false, List, [], All, length, replicate, slice_index_or, suc, Option, Some, None}
+use Rattle.std.specs.Prelude.{Result, Ok, Err}
 use Rattle.bt_meta.specs.Layout.{piece_count}
 use Rattle.bt_history.specs.Peers.{flag}
 use Rattle.bt_history.specs.Pieces.{chosen, had}
@@ -10,11 +11,11 @@ use Rattle.bt_peer.specs.declared.seat.Seat.{Seat}
 use Rattle.rand_core.specs.Stream.{Stream as Words}
 use Rattle.bt_peer.specs.Conduct.{Calls, Conducts, DrawsWords, answers_of, generator_of}
 use Rattle.bt_peer.specs.Desks.{calls_in}
-use Rattle.bt_peer.specs.Hearing.{SourceState, most_reads}
+use Rattle.bt_peer.specs.Reader.{SourceState, most_reads}
 use Rattle.bt_peer.specs.Serial.{StreamRecord, DevicesAfter, EndsAs, around, had_at, opening_of, source_of}
 use Rattle.bt_peer.specs.Sessions.{SessionState, Running, begun, to_hear}
 use Rattle.bt_peer.specs.Terms.{TermsState, pieces_of}
-use Rattle.bt_peer.specs.Turning.{Surroundings}
+use Rattle.bt_peer.specs.Steps.{Surroundings}
 
 -- what a run knows of one of its streams
 pub record Standing : Type 0 where
@@ -48,12 +49,12 @@ ConductBy (Some (Err fault)) generator old new left = DrawsWords generator old n
 
 -- a session that began in these surroundings, with that generator and that stream, stands so
 pub record Stands (terms : TermsState) (worker : ℕ) (generator : Words) (out : Surroundings) (first : StreamRecord) (now : Standing) : Type 0 where
-  pub stands : StandsBy now.session.outcome terms worker out now.session (source_of now.stream now.session.asked)
+  pub stands : StandsBy now.session.outcome terms worker out now.session (source_of now.stream now.session.reads)
       (λ short. around now.desk worker now.told short now.stream)
   pub conduct : ConductBy now.session.outcome generator out.past.calls (calls_in now.desk.history worker) now.generator
   pub devices : DevicesBy now.session.outcome first now.stream
-  pub counted : first.asked ≡ 0 → now.stream.asked ≡ now.session.asked
-  pub most : now.session.asked ≤ most_reads
+  pub counted : first.reads ≡ 0 → now.stream.reads ≡ now.session.reads
+  pub most : now.session.reads ≤ most_reads
 
 -- a session that stood goes on standing
 pub record Keeps (worker : ℕ) (old new : Standing) : Type 0 where

@@ -1,4 +1,4 @@
--- The events of a turn: what a session calls for a message, and what it asks for then.
+-- The acts of a turn: what a session calls for a message, and what it asks for then.
 use Rattle.std.specs.Prelude.{◌≡◌, ℕ, zero, suc, ◌≤◌, ◌⊎◌, Bool, true, false, IsTrue, MatchBool, MatchOption}
 use Rattle.std.specs.Prelude.{List, [], ◌∷◌, ◌++◌, length, map, Option, Some, None}
 use Rattle.std.specs.List.{list_any}
@@ -11,7 +11,7 @@ use Rattle.bt_history.specs.declared.call.Reply.{Reply}
 use Rattle.bt_history.specs.declared.call.Reply.TheVariants as replies
 use Rattle.bt_history.specs.Logs.{answers}
 use Rattle.bt_peer.specs.Terms.{TermsState, pieces_of, most_next}
-use Rattle.bt_peer.specs.Events.{Event, Called, News, is_refused_call}
+use Rattle.bt_peer.specs.Acts.{Act, Called, News, is_refused_call}
 
 -- the call that a message makes
 abbrev pub call_of : Message → Option CallMark
@@ -39,9 +39,9 @@ IsAcceptable pieces (messages.Bits bits) = IsBitfield pieces bits
 IsAcceptable pieces _ = Unit {0}
 
 -- at most a check of that piece
-abbrev pub ChecksAtMost : ℕ → List Event → Type 0
-ChecksAtMost piece events =
-    (events ≡ []) ⊎ ((reply : Reply) × (IsTrue (answers (marks.Settle piece) reply) × (events ≡ Called (marks.Settle piece) reply ∷ [])))
+abbrev pub ChecksAtMost : ℕ → List Act → Type 0
+ChecksAtMost piece acts =
+    (acts ≡ []) ⊎ ((reply : Reply) × (IsTrue (answers (marks.Settle piece) reply) × (acts ≡ Called (marks.Settle piece) reply ∷ [])))
 
 -- the piece of a block that arrived
 abbrev pub arrived_piece : CallMark → Option ℕ
@@ -54,16 +54,16 @@ if_completed piece replies.Completed = piece
 if_completed piece _ = None
 
 -- what follows the reply to a message's call: after a piece was completed, at most its check
-abbrev pub Checks : CallMark → Reply → List Event → Type 0
-Checks call reply events =
-    MatchOption (if_completed (arrived_piece call) reply) (events ≡ []) (λ piece. ChecksAtMost piece events)
+abbrev pub Checks : CallMark → Reply → List Act → Type 0
+Checks call reply acts =
+    MatchOption (if_completed (arrived_piece call) reply) (acts ≡ []) (λ piece. ChecksAtMost piece acts)
 
 -- the message's call with its reply, if it makes one, and a check that follows
-abbrev pub Opens : Option CallMark → List Event → Type 0
-Opens None events = events ≡ []
+abbrev pub Opens : Option CallMark → List Act → Type 0
+Opens None acts = acts ≡ []
 Opens (Some call) [] = ⊥
-Opens (Some call) (Called mark reply ∷ events) = (mark ≡ call) × Checks call reply events
-Opens (Some call) (News piece ∷ events) = ⊥
+Opens (Some call) (Called mark reply ∷ acts) = (mark ≡ call) × Checks call reply acts
+Opens (Some call) (News piece ∷ acts) = ⊥
 
 -- there is more to ask for
 abbrev pub has_more : Reply → Bool
@@ -72,43 +72,43 @@ has_more (replies.Request block) = true
 has_more _ = false
 
 -- Next calls of which only the last is replied that there is no more, or as many as there may be
-abbrev pub Asks : ℕ → List Event → Type 0
-Asks zero events = events ≡ []
-Asks (suc most) (Called (marks.Next word) reply ∷ events) = MatchBool (has_more reply) (Asks most events) (events ≡ [])
+abbrev pub Asks : ℕ → List Act → Type 0
+Asks zero acts = acts ≡ []
+Asks (suc most) (Called (marks.Next word) reply ∷ acts) = MatchBool (has_more reply) (Asks most acts) (acts ≡ [])
 Asks (suc most) _ = ⊥
 
--- the events of a message after the handshake: its call, then news, then Next calls
-pub record Attends (terms : TermsState) (m : Message) (events : List Event) : Type 0 where
+-- the acts of a message after the handshake: its call, then news, then Next calls
+pub record Attends (terms : TermsState) (m : Message) (acts : List Act) : Type 0 where
   pub acceptable : IsAcceptable (pieces_of terms) m
-  pub opening : List Event
+  pub opening : List Act
   pub news : List ℕ
-  pub asking : List Event
+  pub asking : List Act
   pub opens : Opens (call_of m) opening
   pub few : length news ≤ pieces_of terms
   pub asks : Asks (most_next terms) asking
-  pub parts : events ≡ opening ++ map News news ++ asking
+  pub parts : acts ≡ opening ++ map News news ++ asking
 
--- the events of one turn
-abbrev pub IsTurn : TermsState → Message → List Event → Type 0
-IsTurn terms (messages.Hello hello) events = Opens (Some marks.Join) events
-IsTurn terms m events = Attends terms m events
+-- the acts of one turn
+abbrev pub IsTurn : TermsState → Message → List Act → Type 0
+IsTurn terms (messages.Hello hello) acts = Opens (Some marks.Join) acts
+IsTurn terms m acts = Attends terms m acts
 
 -- a turn may begin so
-abbrev pub BeginsTurn : TermsState → Message → List Event → Type 0
-BeginsTurn terms m events = (rest : List Event) × IsTurn terms m (events ++ rest)
+abbrev pub BeginsTurn : TermsState → Message → List Act → Type 0
+BeginsTurn terms m acts = (rest : List Act) × IsTurn terms m (acts ++ rest)
 
 -- no call but a check was refused
-abbrev pub NoneRefused : List Event → Type 0
-NoneRefused events = list_any is_refused_call events ≡ false
+abbrev pub NoneRefused : List Act → Type 0
+NoneRefused acts = list_any is_refused_call acts ≡ false
 
 -- a turn for each message, in order
-abbrev pub TurnsOf : TermsState → List Message → List Event → Type 0
-TurnsOf terms [] events = events ≡ []
-TurnsOf terms (m ∷ ms) events = (first : List Event) × ((others : List Event) ×
-    (IsTurn terms m first × NoneRefused first × TurnsOf terms ms others × (events ≡ first ++ others)))
+abbrev pub TurnsOf : TermsState → List Message → List Act → Type 0
+TurnsOf terms [] acts = acts ≡ []
+TurnsOf terms (m ∷ ms) acts = (first : List Act) × ((others : List Act) ×
+    (IsTurn terms m first × NoneRefused first × TurnsOf terms ms others × (acts ≡ first ++ others)))
 
 -- a turn for each message, in order, then Leave
-abbrev pub AreTurns : TermsState → List Message → List Event → Type 0
-AreTurns terms [] events = events ≡ Called marks.Leave replies.Quiet ∷ []
-AreTurns terms (m ∷ ms) events = (first : List Event) × ((others : List Event) ×
-    (IsTurn terms m first × NoneRefused first × AreTurns terms ms others × (events ≡ first ++ others)))
+abbrev pub AreTurns : TermsState → List Message → List Act → Type 0
+AreTurns terms [] acts = acts ≡ Called marks.Leave replies.Quiet ∷ []
+AreTurns terms (m ∷ ms) acts = (first : List Act) × ((others : List Act) ×
+    (IsTurn terms m first × NoneRefused first × AreTurns terms ms others × (acts ≡ first ++ others)))

@@ -7,7 +7,7 @@ ghost use Rattle.bt_history.specs.declared.call.Reply.{Reply};
 ghost use Rattle.bt_picker.specs.Checks.{SettlesNow, waits};
 ghost use Rattle.bt_peer.specs.Conduct.{SettlesAtOnce};
 ghost use Rattle.bt_peer.specs.Desks.{desk_record};
-ghost use Rattle.bt_peer.specs.Events.{Event, News};
+ghost use Rattle.bt_peer.specs.Acts.{Act, News};
 ghost use Rattle.bt_peer.specs.Places.{AllTold, Gains, LacksMemory};
 ghost use Rattle.bt_peer.specs.Turns.{ChecksAtMost};
 
@@ -77,8 +77,8 @@ impl<'a> Place for DeskPlace<'a> {
     }
 
     fn completed(&mut self, alloc: Global, piece: u32) -> Result<(), AllocError>
-        ensures ok { OnOk result ((events : List Event) × (ChecksAtMost piece events
-            × Gains (⟦<DeskPlace<'a> as Place>⟧.past self.old) events (⟦<DeskPlace<'a> as Place>⟧.past self.new))) }
+        ensures ok { OnOk result ((acts : List Act) × (ChecksAtMost piece acts
+            × Gains (⟦<DeskPlace<'a> as Place>⟧.past self.old) acts (⟦<DeskPlace<'a> as Place>⟧.past self.new))) }
         ensures err { OnErr result (LacksMemory (⟦<DeskPlace<'a> as Place>⟧.past self.old) (⟦<DeskPlace<'a> as Place>⟧.past self.new)) }
         ensures at_once { OnOk result (true ≡ true → waits self.old.desk.now.setting self.old.desk.now.history piece ≡ true →
             SettlesAtOnce piece (⟦<DeskPlace<'a> as Place>⟧.past self.old).calls (⟦<DeskPlace<'a> as Place>⟧.past self.new).calls) }

@@ -2,7 +2,7 @@
 
 ghost use Rattle.std.specs.Prelude.{◌≡◌};
 ghost use Rattle.bt_peer.specs.declared.fault.SessionFault.TheVariants.{NoMemory, ReadFault};
-ghost use Rattle.bt_peer.specs.Hearing.{session_fault};
+ghost use Rattle.bt_peer.specs.Reader.{session_fault};
 
 use bt_history::Reason;
 use bt_meta::DeviceFault;

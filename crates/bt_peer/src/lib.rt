@@ -1,22 +1,22 @@
 //! A session with one peer: what comes from it is turned into calls of the picker, and the picker's replies into what is sent.
 #![tactic(auto)]
 
-mod attending;
-mod calling;
+mod calls;
 mod desk_place;
 mod fault;
 mod gate;
-mod greeting;
-mod hearing;
+mod handshake;
+mod message;
 mod place;
+mod reader;
 mod rounds;
 mod seat;
 mod session;
 mod stream;
 mod terms;
-mod turning;
+mod turn;
 pub mod whole;
-mod writing;
+mod writer;
 
 pub use desk_place::DeskPlace;
 pub use fault::{End, SessionFault};

@@ -3,7 +3,7 @@
 ghost use Rattle.std.specs.Prelude.{◌≡◌, ℕ, Bool, true, List, [], ◌∷◌, Some, IsTrue, IfOk, IfSome, IfNone, OnOk, OnErr};
 ghost use Rattle.bt_history.specs.Logs.{answers};
 ghost use Rattle.bt_peer.specs.Conduct.{SettlesAtOnce};
-ghost use Rattle.bt_peer.specs.Events.{Event, Called, News, mark_of_call};
+ghost use Rattle.bt_peer.specs.Acts.{Act, Called, News, mark_of_call};
 ghost use Rattle.bt_peer.specs.Places.{PlaceRecord, Gains, AllTold, LacksMemory};
 ghost use Rattle.bt_peer.specs.Turns.{ChecksAtMost, arrived_piece, if_completed};
 
@@ -37,8 +37,8 @@ pub trait Place {
 
     /// Sees to the check of a piece whose last block came: here and now, or by someone else later.
     fn completed(&mut self, alloc: Global, piece: u32) -> Result<(), AllocError>
-        ensures ok { OnOk result ((events : List Event) × (ChecksAtMost piece events
-            × Gains (past self.old) events (past self.new))) }
+        ensures ok { OnOk result ((acts : List Act) × (ChecksAtMost piece acts
+            × Gains (past self.old) acts (past self.new))) }
         ensures at_once { OnOk result (settles ≡ true → awaits self.old piece ≡ true →
             SettlesAtOnce piece (past self.old).calls (past self.new).calls) }
         ensures err { OnErr result (LacksMemory (past self.old) (past self.new)) };

@@ -74,7 +74,7 @@ fn turn_of<R: Source, W: Sink>(
     requires workers { length streams.old < desk.old.setting.workers }
     requires few { length streams.old ≤ MOST_STREAMS }
     requires fit { Fit desk.old seats.old }
-    ensures keeps { EachKeeps (stream_record R.left R.ended R.failed R.asked W.written W.failed)
+    ensures keeps { EachKeeps (stream_record R.left R.ended R.failed R.reads W.written W.failed)
         desk.old seats.old streams.old desk.new seats.new streams.new }
     ensures rest { LeavesRest (length streams.old) desk.old desk.new }
     ensures fit { Fit desk.new seats.new }
@@ -100,7 +100,7 @@ fn round<R: Source, W: Sink>(
     requires workers { length streams.old < desk.old.setting.workers }
     requires few { length streams.old ≤ MOST_STREAMS }
     requires fit { Fit desk.old seats.old }
-    ensures keeps { EachKeeps (stream_record R.left R.ended R.failed R.asked W.written W.failed)
+    ensures keeps { EachKeeps (stream_record R.left R.ended R.failed R.reads W.written W.failed)
         desk.old seats.old streams.old desk.new seats.new streams.new }
     ensures rest { LeavesRest (length streams.old) desk.old desk.new }
     ensures fit { Fit desk.new seats.new }
@@ -127,7 +127,7 @@ fn play<R: Source, W: Sink>(
     requires workers { length streams.old < desk.old.setting.workers }
     requires few { length streams.old ≤ MOST_STREAMS }
     requires fit { Fit desk.old seats.old }
-    ensures keeps { EachKeeps (stream_record R.left R.ended R.failed R.asked W.written W.failed)
+    ensures keeps { EachKeeps (stream_record R.left R.ended R.failed R.reads W.written W.failed)
         desk.old seats.old streams.old desk.new seats.new streams.new }
     ensures rest { LeavesRest (length streams.old) desk.old desk.new }
     ensures ended { All HasEnded seats.new }
@@ -179,7 +179,7 @@ fn play_out<R: Source, W: Sink>(
     ensures setting { desk.new.setting ≡ desk.old.setting }
     ensures count { length ends.new.items ≡ length streams.old }
     ensures sessions { (terms : TermsState) (seed : ℕ) → desk.old.setting.torrent ≡ terms.layout → AreNew terms seed seats.old →
-        EachEnded (stream_record R.left R.ended R.failed R.asked W.written W.failed)
+        EachEnded (stream_record R.left R.ended R.failed R.reads W.written W.failed)
         terms seed streams.old desk.new streams.new ends.new.items }
     ensures finishes { Finishes (length streams.old) (calls_in desk.old.history (length streams.old)) result desk.new }
     ensures none_waits { result ≡ false → (piece : ℕ) → waits desk.new.setting desk.new.history piece ≡ false }
@@ -247,7 +247,7 @@ pub fn serial<R: Source, W: Sink>(
     ensures ends { IfOk result (λ run. length run.ends.items ≡ length streams.old) }
     // Each session ended as its stream says; what it saw of the desk is what the desk's journal has of its worker, and the words of its
     // Next calls are those of the generator of the seed and its number.
-    ensures sessions { IfOk result (λ run. EachEnded (stream_record R.left R.ended R.failed R.asked W.written W.failed)
+    ensures sessions { IfOk result (λ run. EachEnded (stream_record R.left R.ended R.failed R.reads W.written W.failed)
         (terms_of torrent.value rules.depth) seed streams.old run.desk streams.new run.ends.items) }
     // The last worker told what is wanted, if that was given, before the first round, and did nothing else but the last checks.
     ensures finishes { IfOk result (λ run. Finishes (length streams.old) (opening_of want) run.short run.desk) }

@@ -35,8 +35,8 @@ pub fn take_turn<R: Source, W: Sink>(
     requires told { length seat.old.told ≡ piece_count desk.old.setting.torrent }
     requires runs { seat.old.session.outcome ≡ None }
     ensures keeps { Keeps worker
-        (standing desk.old seat.old (stream_record R.left R.ended R.failed R.asked W.written W.failed stream.old))
-        (standing desk.new seat.new (stream_record R.left R.ended R.failed R.asked W.written W.failed stream.new)) }
+        (standing desk.old seat.old (stream_record R.left R.ended R.failed R.reads W.written W.failed stream.old))
+        (standing desk.new seat.new (stream_record R.left R.ended R.failed R.reads W.written W.failed stream.new)) }
     ensures others { LeavesOthers worker desk.old desk.new }
     ensures told { length seat.new.told ≡ length seat.old.told }
     ensures shrinks { left_of seat.new < left_of seat.old }

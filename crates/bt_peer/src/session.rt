@@ -3,10 +3,10 @@
 ghost use Rattle.std.specs.Prelude.{◌≡◌, ◌<◌, ◌≤◌, true, false, None, IfOk, IfSome, IfNone, IfErr, OnOk, OnErr};
 
 use crate::fault::{End, SessionFault};
-use crate::greeting::greeting;
+use crate::handshake::greeting;
 use crate::place::Place;
 use crate::terms::Terms;
-use crate::turning::{Peer, greet, listen};
+use crate::turn::{Peer, greet, listen};
 use bt_meta::{Sink, Source, Torrent};
 use bt_wire::{Inbound, frame_limit};
 use rand_pcg::Lcg64Xsh32;
@@ -27,7 +27,7 @@ pub struct Session {
 
 impl Model for Session {
     ghost use Rattle.std.specs.Prelude.{◌≡◌, ◌≤◌, ◌+◌, ◌*◌, None, length};
-    ghost use Rattle.bt_peer.specs.Hearing.{most_reads, room_len};
+    ghost use Rattle.bt_peer.specs.Reader.{most_reads, room_len};
     ghost use Rattle.bt_peer.specs.Sessions.{SessionState};
 
     ghost Value = { SessionState };
@@ -38,22 +38,22 @@ impl Model for Session {
       stream = a.peer.inbound;
       joined = a.joined;
       interested = a.peer.interested;
-      asked = a.peer.asked;
+      reads = a.peer.reads;
       messages = a.messages;
       outcome = a.outcome;
     } };
 
-    ghost invariant = { λ a. (a.peer.asked ≤ most_reads) × (a.outcome ≡ None →
-        (a.peer.inbound.greeted ≡ a.joined) × (4 * a.messages + length a.peer.inbound.bytes ≤ room_len * a.peer.asked)) };
+    ghost invariant = { λ a. (a.peer.reads ≤ most_reads) × (a.outcome ≡ None →
+        (a.peer.inbound.greeted ≡ a.joined) × (4 * a.messages + length a.peer.inbound.bytes ≤ room_len * a.peer.reads)) };
 }
 
 impl Session {
     ghost use Rattle.rand_core.specs.Stream.{Stream};
     ghost use Rattle.bt_peer.specs.declared.fault.SessionFault.TheVariants.{WriteFault};
     ghost use Rattle.bt_peer.specs.Conduct.{Conducts, DrawsWords, answers_of};
-    ghost use Rattle.bt_peer.specs.Hearing.{most_reads, source_state};
+    ghost use Rattle.bt_peer.specs.Reader.{most_reads, source_state};
     ghost use Rattle.bt_peer.specs.Terms.{terms_of};
-    ghost use Rattle.bt_peer.specs.Turning.{surroundings};
+    ghost use Rattle.bt_peer.specs.Steps.{surroundings};
     ghost use Rattle.bt_peer.specs.Sessions.{SessionState, begun, to_hear, GoesOn, Ends, FailsWith, answer_again};
 
     /// A session that has done nothing yet, with a peer that is asked for so many blocks at a time: the depth of its desk's rules, 1 to
@@ -68,7 +68,7 @@ impl Session {
             worker,
             peer: Peer {
                 inbound: Inbound::new(alloc, limit),
-                asked: 0,
+                reads: 0,
                 interested: false,
             },
             joined: false,
@@ -100,15 +100,15 @@ impl Session {
         ensures shrinks { OnOk result (to_hear self.new < to_hear self.old) }
         ensures fails { IfErr result (λ fault. FailsWith fault
             self.old (surroundings P.past R.left W.written place.old reader.old writer.old)
-            (source_state R.left R.ended R.failed reader.new self.new.asked)
+            (source_state R.left R.ended R.failed reader.new self.new.reads)
             self.new (surroundings P.past R.left W.written place.new reader.new writer.new)) }
         // No word is drawn.
         ensures conduct { OnOk result ((generator : Stream) →
             Conducts P.settles generator (P.past place.old).calls (P.past place.new).calls generator) }
         ensures words { OnErr result ((generator : Stream) →
             DrawsWords generator (P.past place.old).calls (P.past place.new).calls) }
-        ensures counted { R.asked reader.old ≡ self.old.asked → R.asked reader.new ≡ self.new.asked }
-        ensures most { self.new.asked ≤ most_reads }
+        ensures counted { R.reads reader.old ≡ self.old.reads → R.reads reader.new ≡ self.new.reads }
+        ensures most { self.new.reads ≤ most_reads }
         ensures sound { OnOk result (
             (R.failed reader.new ≡ R.failed reader.old) × (W.failed writer.new ≡ W.failed writer.old)) }
         ensures failed { IfErr result (λ fault. fault ≡ WriteFault → W.failed writer.new ≡ true) }
@@ -155,15 +155,15 @@ impl Session {
             self.new (surroundings P.past R.left W.written place.new reader.new writer.new))) }
         ensures fails { self.old.outcome ≡ None → IfErr result (λ fault. FailsWith fault
             self.old (surroundings P.past R.left W.written place.old reader.old writer.old)
-            (source_state R.left R.ended R.failed reader.new self.new.asked)
+            (source_state R.left R.ended R.failed reader.new self.new.reads)
             self.new (surroundings P.past R.left W.written place.new reader.new writer.new)) }
         // The words of Next are the generator's, and a piece is checked at once where the place checks it itself.
         ensures conduct { OnOk result (Conducts P.settles
             (answers_of rng.old) (P.past place.old).calls (P.past place.new).calls (answers_of rng.new)) }
         ensures words { OnErr result (DrawsWords (answers_of rng.old) (P.past place.old).calls (P.past place.new).calls) }
         // What the session counts is what the source was asked, where that was so before.
-        ensures counted { R.asked reader.old ≡ self.old.asked → R.asked reader.new ≡ self.new.asked }
-        ensures most { self.new.asked ≤ most_reads }
+        ensures counted { R.reads reader.old ≡ self.old.reads → R.reads reader.new ≡ self.new.reads }
+        ensures most { self.new.reads ≤ most_reads }
         // A turn that goes on or ends leaves both devices sound, if they were.
         ensures sound { IfOk result (λ o.
             (R.failed reader.new ≡ R.failed reader.old) × (W.failed writer.new ≡ W.failed writer.old)) }

@@ -3,9 +3,9 @@
 ghost use Rattle.std.specs.Prelude.{ℕ, ◌≡◌, ◌≤◌, true, IfOk, IfErr, OnOk, OnErr};
 ghost use Rattle.bt_peer.specs.declared.fault.SessionFault.TheVariants.{WriteFault};
 ghost use Rattle.bt_peer.specs.Conduct.{Conducts, DrawsWords, answers_of};
-ghost use Rattle.bt_peer.specs.Hearing.{most_reads, source_state};
+ghost use Rattle.bt_peer.specs.Reader.{most_reads, source_state};
 ghost use Rattle.bt_peer.specs.Terms.{terms_of};
-ghost use Rattle.bt_peer.specs.Turning.{surroundings};
+ghost use Rattle.bt_peer.specs.Steps.{surroundings};
 ghost use Rattle.bt_peer.specs.Sessions.{IsWhole, IsCutShort};
 ghost use Rattle.bt_peer.specs.Outcomes.{RunsTo, devices_record};
 
@@ -40,13 +40,13 @@ pub fn session<R: Source, W: Sink, P: Place>(
         (answers_of rng.old) (P.past place.old).calls (P.past place.new).calls (answers_of rng.new)) }
     ensures words { OnErr result (DrawsWords (answers_of rng.old) (P.past place.old).calls (P.past place.new).calls) }
     // The reads that the session counted are those that its source was asked for, if none were before.
-    ensures cut_short { IfErr result (λ fault. (asked : ℕ) × ((R.asked reader.old ≡ 0 → R.asked reader.new ≡ asked)
+    ensures cut_short { IfErr result (λ fault. (reads : ℕ) × ((R.reads reader.old ≡ 0 → R.reads reader.new ≡ reads)
         × IsCutShort fault (terms_of torrent.value depth) worker
         (surroundings P.past R.left W.written place.old reader.old writer.old)
-        (source_state R.left R.ended R.failed reader.new asked)
+        (source_state R.left R.ended R.failed reader.new reads)
         (surroundings P.past R.left W.written place.new reader.new writer.new))) }
     ensures failed { IfErr result (λ fault. fault ≡ WriteFault → W.failed writer.new ≡ true) }
-    ensures most { R.asked reader.old ≡ 0 → R.asked reader.new ≤ most_reads }
+    ensures most { R.reads reader.old ≡ 0 → R.reads reader.new ≤ most_reads }
 {
     gated(
         alloc, torrent, worker, reader, writer, place, rng, depth, &OpenGate,
@@ -67,8 +67,8 @@ pub fn gated<R: Source, W: Sink, P: Place, G: Gate>(
 ) -> Result<End, SessionFault>
     requires { (1 ≤ depth) × (depth ≤ 64) }
     ensures runs { RunsTo result (terms_of torrent.value depth) worker (answers_of rng.old)
-        (P.past place.old) (devices_record R.left R.ended R.failed R.asked W.written W.failed reader.old writer.old)
-        (P.past place.new) (devices_record R.left R.ended R.failed R.asked W.written W.failed reader.new writer.new) }
+        (P.past place.old) (devices_record R.left R.ended R.failed R.reads W.written W.failed reader.old writer.old)
+        (P.past place.new) (devices_record R.left R.ended R.failed R.reads W.written W.failed reader.new writer.new) }
     ensures conduct { OnOk result (Conducts P.settles
         (answers_of rng.old) (P.past place.old).calls (P.past place.new).calls (answers_of rng.new)) }
 {

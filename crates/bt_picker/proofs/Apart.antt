@@ -1,14 +1,17 @@
 -- Rows beside how many peers show each piece: what is read of both, and what a change of one leaves of the rows with these counts in them.
-use Rattle.std.proofs.Common.{◌≡◌, ℕ, zero, suc, ◌+◌, ◌-◌, ◌<◌, ◌≤◌, Bool, true, false, List, [], ◌∷◌, length, get_or, set, replicate, min, refl, ap, sym, ◌∙◌, arith, inl, inr, subst, ◌==◌, ⊎_elim}
+use Rattle.std.proofs.Common.{◌≡◌, ℕ, zero, suc, ◌+◌, ◌-◌, ◌<◌, ◌≤◌, Bool, true, false, List, [], ◌∷◌, length, get_or, set, replicate, min, refl}
+use Rattle.std.proofs.Common.{ap, sym, ◌∙◌, arith, inl, inr, subst, ◌==◌, ⊎_elim}
 use Rattle.std.specs.Prelude.{nat_lt, if◌then◌else◌}
 use Rattle.std.proofs.lemmas.Bool.{cases_eq, cases_lt, lt-ltb, le-ltb}
-use Rattle.std.proofs.lemmas.List.{set-get_or, get_or-map, get_or-set_same, get_or-set_other, get_or_past, set_past, length-map, get_or_default, get_or-replicate, length-replicate}
+use Rattle.std.proofs.lemmas.List.{set-get_or, get_or-map, get_or-set_same, get_or-set_other, get_or_past, set_past, length-map, get_or_default}
+use Rattle.std.proofs.lemmas.List.{get_or-replicate, length-replicate}
 use Rattle.bt_history.specs.Counting.{table}
 use Rattle.bt_order.specs.Orders.{at}
 use Rattle.bt_picker.specs.declared.piece.Change.{Change}
 use Rattle.bt_picker.specs.declared.piece.Change.TheVariants.{Raise, Lower, Store, Pass, Fail, Wanted}
 use Rattle.bt_picker.specs.Tables.{HasRoomOf, PieceState, changed_row, edit, fresh_piece, less_available, more_available, one_if, piece_row}
-use Rattle.bt_picker.specs.Standings.{AreShelved, ShelfState, apart, group_of_row, is_resting, lowered_group, raised_group, shown_row, standing_of, touched_count, whole_rows}
+use Rattle.bt_picker.specs.Standings.{AreShelved, ShelfState, apart, group_of_row, is_resting, lowered_group, raised_group, shown_row, standing_of}
+use Rattle.bt_picker.specs.Standings.{touched_count, whole_rows}
 use Rattle.bt_picker.specs.Apart.{AreApart}
 use Rattle.bt_picker.proofs.Shelves.{can_file, files}
 use Rattle.bt_picker.proofs.Tabled.{edit_set, get_or_table, length_table, table_from}
@@ -43,7 +46,8 @@ whole_row rows shown p row len =
 pub whole_count : (rows : List PieceState) (shown : List ℕ) (p n : ℕ) → length shown ≡ length rows
     → whole_rows rows (set shown p n) ≡ set (whole_rows rows shown) p (shown_row n (piece_row rows p))
 whole_count rows shown p n len =
-    ap (λ (l : List PieceState). whole_rows l (set shown p n)) (sym (set-get_or rows p (fresh_piece 0))) ∙ whole_set rows shown p n (piece_row rows p) len
+    ap (λ (l : List PieceState). whole_rows l (set shown p n)) (sym (set-get_or rows p (fresh_piece 0))) ∙
+    whole_set rows shown p n (piece_row rows p) len
 
 -- no peer shows a piece of a torrent of which nothing is known
 pub whole_fresh : (n : ℕ) (blocks : ℕ → ℕ) (rows : List PieceState) → rows ≡ table n (λ p. fresh_piece (blocks p))
@@ -107,7 +111,8 @@ lowered_by false true asked n =
       ]
     ]
 
-next_room : (resting unbegun asked : Bool) (n : ℕ) → n + 1 ≤ 1025 → (if resting then 0 else if unbegun then 3 + min n 1025 else if asked then 1 else 2) + 1 < 1029
+next_room : (resting unbegun asked : Bool) (n : ℕ) → n + 1 ≤ 1025 →
+    (if resting then 0 else if unbegun then 3 + min n 1025 else if asked then 1 else 2) + 1 < 1029
 next_room true unbegun asked n few = omega arith
 next_room false true asked n few = omega arith
 next_room false false true n few = omega arith
@@ -121,7 +126,8 @@ pub read_row : (rows : List PieceState) (shown : List ℕ) (p : ℕ) (row : Piec
 read_row rows shown p row len are lp read =
     let is : row ≡ piece_row rows p = read ∙ get_or_default rows p row (fresh_piece 0) lp in
     let none : row.availability ≡ 0 = ap (λ (r : PieceState). r.availability) is ∙ are p in
-    let whole : apart (piece_row (whole_rows rows shown) p) ≡ apart row = ap apart (whole_at rows shown p (fresh_piece 0) row 0 len lp) ∙ ap apart (sym read) in
+    let whole : apart (piece_row (whole_rows rows shown) p) ≡ apart row =
+    ap apart (whole_at rows shown p (fresh_piece 0) row 0 len lp) ∙ ap apart (sym read) in
     (λ i. record { had = row.had; wanted = row.wanted; availability = none i; blocks = row.blocks }) ∙ sym whole
 
 pub still_apart : (rows : List PieceState) (p : ℕ) (row : PieceState) → AreApart rows → row.availability ≡ 0 → AreApart (set rows p row)
@@ -159,7 +165,8 @@ pub record IsKept (shelf : ShelfState) (rows : List PieceState) (shown : List �
   pub len : length shown ≡ length rows
   pub within : p < length rows
 
-pub kept_piece : (shelf : ShelfState) (rows : List PieceState) (shown : List ℕ) (now : List PieceState) (p : ℕ) → AreShelved shelf (whole_rows rows shown)
+pub kept_piece : (shelf : ShelfState) (rows : List PieceState) (shown : List ℕ) (now : List PieceState) (p : ℕ) →
+    AreShelved shelf (whole_rows rows shown)
     → length shown ≡ length rows → whole_rows rows shown ≡ now → p < length now → IsKept shelf rows shown p
 kept_piece shelf rows shown now p are len is lp = record {
   are = are;
@@ -203,9 +210,11 @@ module _ (shelf : ShelfState) (rows : List PieceState) (shown : List ℕ) (p : �
       → whole_rows (set rows p new) shown ≡ edit whole p (changed_row change)
   edit_is change row new m read count is =
       set_is new m count
-      ∙ (ap (set whole p) (ap (shown_row m) is ∙ changed_apart change m row) ∙ edit_set whole p (changed_row change) (shown_row m row) in_whole (row_is row m read count))
+      ∙ (ap (set whole p) (ap (shown_row m) is ∙ changed_apart change m row) ∙
+      edit_set whole p (changed_row change) (shown_row m row) in_whole (row_is row m read count))
 
-  pub changed_counts : AreApart rows → (change : Change) (row new : PieceState) → row ≡ get_or rows p row → new ≡ changed_row change row → AreApart (set rows p new)
+  pub changed_counts : AreApart rows → (change : Change) (row new : PieceState) → row ≡ get_or rows p row → new ≡ changed_row change row →
+      AreApart (set rows p new)
   changed_counts apart_are change row new read is =
       let here : row ≡ piece_row rows p = read ∙ get_or_default rows p row (fresh_piece 0) kept.within in
       still_apart rows p new apart_are
@@ -232,15 +241,18 @@ module _ (shelf : ShelfState) (rows : List PieceState) (shown : List ℕ) (p : �
   -- one peer more shows the piece
   pub has_next : (n : ℕ) → n ≡ at shown p + 1 → n ≤ 1025 → at shelf.groups p + 1 < 1029
   has_next n is few =
-      let room = next_room (is_resting old) (touched_count old.blocks == 0) (touched_count old.blocks == length old.blocks) (at shown p) (omega (arith, is, few)) in
+      let room = next_room (is_resting old) (touched_count old.blocks == 0) (touched_count old.blocks == length old.blocks) (at shown p)
+      (omega (arith, is, few)) in
       omega (arith, group_is, room)
 
-  pub shown_more : (now : ShelfState) (n : ℕ) → n ≡ at shown p + 1 → now ≡ record shelf { groups = set shelf.groups p (raised_group n (at shelf.groups p)) }
+  pub shown_more : (now : ShelfState) (n : ℕ) → n ≡ at shown p + 1 →
+      now ≡ record shelf { groups = set shelf.groups p (raised_group n (at shelf.groups p)) }
       → AreShelved now (whole_rows rows (set shown p n))
   shown_more now n more is =
       let by = raised_by (is_resting old) (touched_count old.blocks == 0) (touched_count old.blocks == length old.blocks) (at shown p) in
       let group : raised_group n (at shelf.groups p) ≡ group_of_row (shown_row n old) =
-      ap (raised_group n) group_is ∙ (ap (λ (m : ℕ). raised_group m (group_of_row old)) more ∙ (sym by ∙ ap (λ (m : ℕ). group_of_row (shown_row m old)) (sym more))) in
+      ap (raised_group n) group_is ∙ (ap (λ (m : ℕ). raised_group m (group_of_row old)) more ∙
+      (sym by ∙ ap (λ (m : ℕ). group_of_row (shown_row m old)) (sym more))) in
       regrouped now n (is ∙ ap (λ (g : ℕ). record shelf { groups = set shelf.groups p g }) group)
 
   pub counted_more : (n : ℕ) → n ≡ at shown p + 1 → whole_rows rows (set shown p n) ≡ edit whole p (more_available true)
@@ -249,13 +261,15 @@ module _ (shelf : ShelfState) (rows : List PieceState) (shown : List ℕ) (p : �
       ∙ (ap (λ (m : ℕ). set whole p (shown_row m old)) more ∙ edit_set whole p (more_available true) old in_whole old_is)
 
   -- one peer less shows it
-  pub shown_less : (now : ShelfState) (m n : ℕ) → m ≡ at shown p → n ≡ m - 1 → now ≡ record shelf { groups = set shelf.groups p (lowered_group m (at shelf.groups p)) }
+  pub shown_less : (now : ShelfState) (m n : ℕ) → m ≡ at shown p → n ≡ m - 1 →
+      now ≡ record shelf { groups = set shelf.groups p (lowered_group m (at shelf.groups p)) }
       → AreShelved now (whole_rows rows (set shown p n))
   shown_less now m n many less is =
       let by = lowered_by (is_resting old) (touched_count old.blocks == 0) (touched_count old.blocks == length old.blocks) (at shown p) in
       let fewer : n ≡ at shown p - 1 = omega arith in
       let group : lowered_group m (at shelf.groups p) ≡ group_of_row (shown_row n old) =
-      ap (lowered_group m) group_is ∙ (ap (λ (k : ℕ). lowered_group k (group_of_row old)) many ∙ (sym by ∙ ap (λ (k : ℕ). group_of_row (shown_row k old)) (sym fewer))) in
+      ap (lowered_group m) group_is ∙ (ap (λ (k : ℕ). lowered_group k (group_of_row old)) many ∙
+      (sym by ∙ ap (λ (k : ℕ). group_of_row (shown_row k old)) (sym fewer))) in
       regrouped now n (is ∙ ap (λ (g : ℕ). record shelf { groups = set shelf.groups p g }) group)
 
   pub counted_less : (n : ℕ) → n ≡ at shown p - 1 → whole_rows rows (set shown p n) ≡ edit whole p (less_available true)

@@ -1,5 +1,6 @@
 -- Endgame by what is counted of all rows, and the pieces whose lacking blocks are all asked.
-use Rattle.std.proofs.Common.{◌≡◌, ℕ, zero, suc, ◌+◌, ◌-◌, ◌*◌, ◌<◌, ◌≤◌, ◌==◌, Bool, true, false, not, ◌&&◌, ◌||◌, Option, None, Some, List, [], ◌∷◌, ◌++◌, length, refl, ap, sym, ◌∙◌, subst, arith, ⊎_elim}
+use Rattle.std.proofs.Common.{◌≡◌, ℕ, zero, suc, ◌+◌, ◌-◌, ◌*◌, ◌<◌, ◌≤◌, ◌==◌, Bool, true, false, not, ◌&&◌, ◌||◌, Option, None, Some, List, []}
+use Rattle.std.proofs.Common.{◌∷◌, ◌++◌, length, refl, ap, sym, ◌∙◌, subst, arith, ⊎_elim}
 use Rattle.std.specs.Prelude.{IfSome, IfNone, nat_lt, if◌then◌else◌}
 use Rattle.std.specs.List.{sum_by}
 use Rattle.std.proofs.lemmas.Bool.{cases_eq, eq-eqb, ne_eqb, lt-ltb, false≢true, and_left, and_parts}
@@ -16,7 +17,8 @@ use Rattle.bt_history.specs.Next.{doubles}
 use Rattle.bt_history.proofs.Below.{any_found, any_none, any_witness, all_found, all_at, any_same, count_at}
 use Rattle.bt_history.proofs.HeldLaws.{had_full}
 use Rattle.bt_picker.specs.Tables.{one_if, AreTables, TablesState, PieceState, piece_of}
-use Rattle.bt_picker.specs.Standings.{shown_group, group_of_row, groups_of, is_held, is_touched, standing_of, held_count, touched_count, FindsAmong, FindsListed}
+use Rattle.bt_picker.specs.Standings.{shown_group, group_of_row, groups_of, is_held, is_touched, standing_of, held_count, touched_count, FindsAmong}
+use Rattle.bt_picker.specs.Standings.{FindsListed}
 use Rattle.bt_order.specs.Orders.{at, ListsGroup}
 use Rattle.bt_picker.specs.Search.{Finds, FindsOf}
 use Rattle.bt_picker.proofs.Scans.{finds_in_piece, none_in_pieces}
@@ -35,14 +37,16 @@ double_parts true false a d is = absurd (cc is)
 double_parts true true true d is = absurd (cc is)
 double_parts true true false d is = (refl, refl, refl)
 
-pub doubles_group : (s : Setting) (h : History) (q p : ℕ) → IsLegal s h → p < piece_count s.torrent → endgame s h ≡ true → some_block_of s.torrent p (doubles s h q) ≡ true
+pub doubles_group : (s : Setting) (h : History) (q p : ℕ) → IsLegal s h → p < piece_count s.torrent → endgame s h ≡ true →
+    some_block_of s.torrent p (doubles s h q) ≡ true
     → (shows h q p ≡ true) × (group_of_row (piece_of s h p) ≡ 1)
 doubles_group s h q p legal lp ending some =
     let found = any_witness (block_count s.torrent p) (λ k. doubles s h q (block s.torrent p k)) some in
     let k = found.0 in
     let b = block s.torrent p k in
     let parts = double_parts (wanted s h p) (shows h q p) (held h b) (asked h q b) found.2 in
-    let all = (and_parts (each_block s.torrent (λ c. not (wanted s h c.piece) || held_or_asked s h c)) (some_block s.torrent (λ c. wanted s h c.piece && not (held h c))) ending).0 in
+    let all = (and_parts (each_block s.torrent (λ c. not (wanted s h c.piece) || held_or_asked s h c))
+    (some_block s.torrent (λ c. wanted s h c.piece && not (held h c))) ending).0 in
     let mine = all_at (piece_count s.torrent) (λ r. each_block_of s.torrent r (λ c. not (wanted s h c.piece) || held_or_asked s h c)) p all lp in
     let each : (j : ℕ) → j < block_count s.torrent p → held_or_asked s h (block s.torrent p j) ≡ true = λ j lj.
     implied (wanted s h p) (held_or_asked s h (block s.torrent p j))
@@ -50,8 +54,11 @@ doubles_group s h q p legal lp ending some =
     let touched = any_found (block_count s.torrent p) (λ j. held_or_asked s h (block s.torrent p j)) k found.1 (each k found.1) in
     let all_touched = all_found (block_count s.torrent p) (λ j. held_or_asked s h (block s.torrent p j)) each in
     let not_had = never (had h p) refl (λ was. false≢true (sym parts.1 ∙ had_full s h p k legal was found.1)) in
-    let picked = sym (wanted_chosen s h p lp) ∙ parts.2 in
-    (parts.0, group_is s h p ∙ (λ i. if not_had i || not (picked i) then 0 else if not (touched i) then shown_group (availability s h p) else if all_touched i then 1 else 2))
+    let picked = sym (wanted_chosen s h p lp) ∙ parts.2 in (
+      parts.0,
+      group_is s h p ∙ (λ i. if not_had i || not (picked i) then 0 else if not (touched i) then shown_group (availability s h p) else if
+          all_touched i then 1 else 2),
+    )
   where
     never : (x : Bool) → had h p ≡ x → (had h p ≡ true → ⊥) → had h p ≡ false
     never false is fails = is
@@ -76,26 +83,31 @@ pub among_some : (t : _) (test : Block → Bool) (pieces : List ℕ) (n : ℕ) (
 among_some t test pieces n None so_far = tt
 among_some t test pieces n (Some b) so_far = so_far
 
-pub group_within : (s : Setting) (h : History) (n : ℕ) (pieces : List ℕ) → ListsGroup (groups_of s h) n pieces → (i : ℕ) → i < length pieces → at pieces i < piece_count s.torrent
+pub group_within : (s : Setting) (h : History) (n : ℕ) (pieces : List ℕ) → ListsGroup (groups_of s h) n pieces → (i : ℕ) → i < length pieces →
+    at pieces i < piece_count s.torrent
 group_within s h n pieces lists i li = omega (arith, lists.known i li, length_table (piece_count s.torrent) (λ p. group_of_row (piece_of s h p)))
 
-pub doubling_all : (s : Setting) (h : History) (q : ℕ) (pieces : List ℕ) (found : Option Block) → IsLegal s h → endgame s h ≡ true → ListsGroup (groups_of s h) 1 pieces
+pub doubling_all : (s : Setting) (h : History) (q : ℕ) (pieces : List ℕ) (found : Option Block) → IsLegal s h → endgame s h ≡ true →
+    ListsGroup (groups_of s h) 1 pieces
     → FindsAmong s.torrent (doubles s h q) pieces (length pieces) found → Finds s.torrent (doubles s h q) found
 doubling_all s h q pieces (Some b) legal ending lists some = some
-doubling_all s h q pieces None legal ending lists none = none_in_pieces s.torrent (doubles s h q) (λ p lp. by_cases p lp (some_block_of s.torrent p (doubles s h q)) refl) where
-  by_cases : (p : ℕ) → p < piece_count s.torrent → (x : Bool) → some_block_of s.torrent p (doubles s h q) ≡ x → x ≡ false
-  by_cases p lp false is = refl
-  by_cases p lp true is =
-      let long = length_table (piece_count s.torrent) (λ r. group_of_row (piece_of s h r)) in
-      let one : at (groups_of s h) p ≡ 1 = get_or_table (piece_count s.torrent) (λ r. group_of_row (piece_of s h r)) p 0 lp ∙ (doubles_group s h q p legal lp ending is).1 in
-      let listed = lists.all p (omega (arith, long, lp)) one in
-      absurd (false≢true (sym (none listed.0 listed.1) ∙ (ap (λ (r : ℕ). some_block_of s.torrent r (doubles s h q)) listed.2 ∙ is)))
+doubling_all s h q pieces None legal ending lists none = none_in_pieces s.torrent (doubles s h q)
+    (λ p lp. by_cases p lp (some_block_of s.torrent p (doubles s h q)) refl) where
+      by_cases : (p : ℕ) → p < piece_count s.torrent → (x : Bool) → some_block_of s.torrent p (doubles s h q) ≡ x → x ≡ false
+      by_cases p lp false is = refl
+      by_cases p lp true is =
+          let long = length_table (piece_count s.torrent) (λ r. group_of_row (piece_of s h r)) in
+          let one : at (groups_of s h) p ≡ 1 = get_or_table (piece_count s.torrent) (λ r. group_of_row (piece_of s h r)) p 0 lp ∙
+          (doubles_group s h q p legal lp ending is).1 in
+          let listed = lists.all p (omega (arith, long, lp)) one in
+          absurd (false≢true (sym (none listed.0 listed.1) ∙ (ap (λ (r : ℕ). some_block_of s.torrent r (doubles s h q)) listed.2 ∙ is)))
 
 -- ---- sums over a table
 
 zero_sum : (a b : ℕ) → (a + b == 0) ≡ ((a == 0) && (b == 0))
 zero_sum zero b = ap (λ (m : ℕ). m == 0) (omega arith)
-zero_sum (suc a) b = ne_eqb (suc a + b) 0 (λ same. omega (arith, same)) ∙ sym (and_left (suc a == 0) (b == 0) (ne_eqb (suc a) 0 (λ same. omega (arith, same))))
+zero_sum (suc a) b = ne_eqb (suc a + b) 0 (λ same. omega (arith, same)) ∙
+    sym (and_left (suc a == 0) (b == 0) (ne_eqb (suc a) 0 (λ same. omega (arith, same))))
 
 -- a sum over a table is 0 where each term is
 pub zero_table : {A : Type 0} (n : ℕ) (f : ℕ → A) (g : A → ℕ) → (sum_by g (table n f) == 0) ≡ all_below n (λ k. g (f k) == 0)
@@ -144,7 +156,8 @@ unasked_none s h p lp = by_choice (chosen h p) refl where
       (λ i. (if is i then length row.blocks else 0) - touched_count row.blocks == 0)
       ∙ (left_none (length row.blocks) (touched_count row.blocks) (touched_most s h p)
       ∙ (all_touched_row s h p
-      ∙ all_same (block_count s.torrent p) (λ k. held_or_asked s h (block s.torrent p k)) (λ k. not (wanted s h p) || held_or_asked s h (block s.torrent p k)) (λ k lk.
+      ∙ all_same (block_count s.torrent p) (λ k. held_or_asked s h (block s.torrent p k))
+      (λ k. not (wanted s h p) || held_or_asked s h (block s.torrent p k)) (λ k lk.
       ap (λ (x : Bool). not x || held_or_asked s h (block s.torrent p k)) (sym (wanted_chosen s h p lp ∙ is)))))
   by_choice false is =
       (λ i. (if is i then length row.blocks else 0) - touched_count row.blocks == 0)
@@ -168,7 +181,8 @@ unheld_some s h p lp = by_choice (chosen h p) refl where
       (λ i. not ((if is i then length row.blocks else 0) - held_count row.blocks == 0))
       ∙ (ap not (left_none (length row.blocks) (held_count row.blocks) (held_most s h p) ∙ full_row s h p)
       ∙ (not_all (block_count s.torrent p) (λ k. held h (block s.torrent p k))
-      ∙ any_same (block_count s.torrent p) (λ k. not (held h (block s.torrent p k))) (λ k. wanted s h p && not (held h (block s.torrent p k))) (λ k lk.
+      ∙ any_same (block_count s.torrent p) (λ k. not (held h (block s.torrent p k))) (λ k. wanted s h p && not (held h (block s.torrent p k)))
+      (λ k lk.
       ap (λ (x : Bool). x && not (held h (block s.torrent p k))) (sym (wanted_chosen s h p lp ∙ is)))))
   by_choice false is =
       (λ i. not ((if is i then length row.blocks else 0) - held_count row.blocks == 0))
@@ -183,33 +197,40 @@ pub all_asked_rows : (s : Setting) (h : History) → (sum_by (λ row. (standing_
     ≡ each_block s.torrent (λ b. not (wanted s h b.piece) || held_or_asked s h b)
 all_asked_rows s h =
     zero_table (piece_count s.torrent) (piece_of s h) (λ row. (standing_of row).unasked)
-    ∙ all_same (piece_count s.torrent) (λ p. (standing_of (piece_of s h p)).unasked == 0) (λ p. each_block_of s.torrent p (λ b. not (wanted s h b.piece) || held_or_asked s h b)) (unasked_none s h)
+    ∙ all_same (piece_count s.torrent) (λ p. (standing_of (piece_of s h p)).unasked == 0)
+    (λ p. each_block_of s.torrent p (λ b. not (wanted s h b.piece) || held_or_asked s h b)) (unasked_none s h)
 
-pub some_lacking_rows : (s : Setting) (h : History) → nat_lt 0 (sum_by (λ row. (standing_of row).unheld) (table (piece_count s.torrent) (piece_of s h)))
+pub some_lacking_rows : (s : Setting) (h : History) → nat_lt 0
+    (sum_by (λ row. (standing_of row).unheld) (table (piece_count s.torrent) (piece_of s h)))
     ≡ some_block s.torrent (λ b. wanted s h b.piece && not (held h b))
 some_lacking_rows s h =
     above_zero (sum_by (λ row. (standing_of row).unheld) (table (piece_count s.torrent) (piece_of s h)))
     ∙ (ap not (zero_table (piece_count s.torrent) (piece_of s h) (λ row. (standing_of row).unheld))
     ∙ (not_all (piece_count s.torrent) (λ p. (standing_of (piece_of s h p)).unheld == 0)
-    ∙ any_same (piece_count s.torrent) (λ p. not ((standing_of (piece_of s h p)).unheld == 0)) (λ p. some_block_of s.torrent p (λ b. wanted s h b.piece && not (held h b))) (unheld_some s h)))
+    ∙ any_same (piece_count s.torrent) (λ p. not ((standing_of (piece_of s h p)).unheld == 0))
+    (λ p. some_block_of s.torrent p (λ b. wanted s h b.piece && not (held h b))) (unheld_some s h)))
   where
     above_zero : (m : ℕ) → nat_lt 0 m ≡ not (m == 0)
     above_zero zero = refl
     above_zero (suc m) = lt-ltb 0 (suc m) (omega arith) ∙ ap not (sym (ne_eqb (suc m) 0 (λ same. omega (arith, same))))
 
 -- a block found in a piece of the torrent is one of the torrent
-pub found_doubling : (t : _) (test : Block → Bool) (p : ℕ) (b : Block) → p < piece_count t → FindsOf t p test (Some b) → (is_block t b ≡ true) × (test b ≡ true)
+pub found_doubling : (t : _) (test : Block → Bool) (p : ℕ) (b : Block) → p < piece_count t → FindsOf t p test (Some b) →
+    (is_block t b ≡ true) × (test b ≡ true)
 found_doubling t test p b lp found = finds_in_piece t test p b found lp
 
 -- endgame by what is counted of the rows
 pub endgame_rows : (t : TablesState) (h : History) → AreTables t h
-    → ((sum_by (λ row. (standing_of row).unasked) t.pieces == 0) && nat_lt 0 (sum_by (λ row. (standing_of row).unheld) t.pieces)) ≡ endgame t.setting h
+    → ((sum_by (λ row. (standing_of row).unasked) t.pieces == 0) && nat_lt 0 (sum_by (λ row. (standing_of row).unheld) t.pieces)) ≡ endgame t.setting
+    h
 endgame_rows t h are =
-    ap (λ (rows : List PieceState). (sum_by (λ row. (standing_of row).unasked) rows == 0) && nat_lt 0 (sum_by (λ row. (standing_of row).unheld) rows)) are.pieces_are
+    ap (λ (rows : List PieceState). (sum_by (λ row. (standing_of row).unasked) rows == 0) && nat_lt 0 (sum_by (λ row. (standing_of row).unheld) rows))
+    are.pieces_are
     ∙ (λ i. all_asked_rows t.setting h i && some_lacking_rows t.setting h i)
 
 -- a shown piece of a group is found in the group's list
-pub listed_at : (s : Setting) (h : History) (q n : ℕ) (pieces : List ℕ) (p : ℕ) → ListsGroup (groups_of s h) n pieces → p < piece_count s.torrent → shows h q p ≡ true → at (groups_of s h) p ≡ n
+pub listed_at : (s : Setting) (h : History) (q n : ℕ) (pieces : List ℕ) (p : ℕ) → ListsGroup (groups_of s h) n pieces → p < piece_count s.torrent →
+    shows h q p ≡ true → at (groups_of s h) p ≡ n
     → FindsListed (shows h q) pieces (length pieces) (Some p)
 listed_at s h q n pieces p lists lp shown is =
     (shown, lists.all p (omega (arith, length_table (piece_count s.torrent) (λ r. group_of_row (piece_of s h r)), lp)) is)
@@ -218,12 +239,14 @@ listed_at s h q n pieces p lists lp shown is =
 
 -- where block i isn't held, each other one is where one block isn't
 pub one_lacking : (s : Setting) (h : History) (p i : ℕ) → i < block_count s.torrent p → held h (block s.torrent p i) ≡ false
-    → (held_count (piece_of s h p).blocks + 1 == length (piece_of s h p).blocks) ≡ each_block_of s.torrent p (λ b. (b.begin == block_size * i) || held h b)
+    → (held_count (piece_of s h p).blocks + 1 == length (piece_of s h p).blocks) ≡ each_block_of s.torrent p
+    (λ b. (b.begin == block_size * i) || held h b)
 one_lacking s h p i li lacking =
     let n = block_count s.torrent p in
     let f : ℕ → Bool = λ k. held h (block s.torrent p k) in
     let g : ℕ → Bool = λ k. (block_size * k == block_size * i) || f k in
-    let more = count_at n g f i li (λ k lk apart. ap (λ (x : Bool). x || f k) (ne_eqb (block_size * k) (block_size * i) (λ same. apart (omega (arith, same))))) in
+    let more = count_at n g f i li (λ k lk apart. ap (λ (x : Bool). x || f k)
+    (ne_eqb (block_size * k) (block_size * i) (λ same. apart (omega (arith, same))))) in
     let here : one_if (g i) ≡ 1 = ap (λ (x : Bool). one_if (x || f i)) (eq-eqb (block_size * i) (block_size * i) refl) in
     let gone : one_if (f i) ≡ 0 = ap one_if lacking in
     let held_is = held_counted s h p in

@@ -1,11 +1,13 @@
 -- The floors of all peers, as a row of a peer or of a piece changes.
-use Rattle.std.proofs.Common.{◌≡◌, ℕ, zero, suc, ◌+◌, ◌<◌, ◌≤◌, ◌&&◌, ◌||◌, Bool, true, false, not, List, length, get_or, set, replicate, refl, ap, sym, ◌∙◌, subst, arith, length-set, cond, Some, ◌-◌}
+use Rattle.std.proofs.Common.{◌≡◌, ℕ, zero, suc, ◌+◌, ◌<◌, ◌≤◌, ◌&&◌, ◌||◌, Bool, true, false, not, List, length, get_or, set, replicate, refl, ap}
+use Rattle.std.proofs.Common.{sym, ◌∙◌, subst, arith, length-set, cond, Some, ◌-◌}
 use Rattle.std.specs.Prelude.{slice_index_or, is_some}
 use Rattle.std.proofs.lemmas.Bool.{false≢true, ne_eqb, lt-ltb, and_right, or_right}
 use Rattle.std.proofs.lemmas.List.Sums.{get_or-le-sum_by}
 use Rattle.std.proofs.lemmas.List.{get_or_default, set-get_or, get_or-set_same, get_or-set_other, get_or-replicate, length-replicate}
 use Rattle.bt_order.specs.Orders.{at}
-use Rattle.bt_picker.specs.Tables.{CellState, PeerState, PieceState, changed_row, edit, empty_cell, fresh_peer, fresh_piece, have_row, one_if, one_more, peer_row, piece_row, stored_row}
+use Rattle.bt_picker.specs.Tables.{CellState, PeerState, PieceState, changed_row, edit, empty_cell, fresh_peer, fresh_piece, have_row, one_if}
+use Rattle.bt_picker.specs.Tables.{one_more, peer_row, piece_row, stored_row}
 use Rattle.bt_picker.specs.declared.piece.Change.TheVariants.{Raise}
 use Rattle.bt_picker.specs.Standings.{is_resting, is_touched, touched_count}
 use Rattle.bt_picker.proofs.Tabled.{edit_read}
@@ -26,7 +28,8 @@ no_floors n peers rows is = record {
 
 -- ---- a peer's row changes
 
-pub set_floor : (floors : List ℕ) (peers : List PeerState) (rows : List PieceState) (w n : ℕ) (row : PeerState) → AreFloors floors peers rows → w < length peers
+pub set_floor : (floors : List ℕ) (peers : List PeerState) (rows : List PieceState) (w n : ℕ) (row : PeerState) → AreFloors floors peers rows →
+    w < length peers
     → IsFloor rows row n → AreFloors (set floors w n) (set peers w row) rows
 set_floor floors peers rows w n row are lw here = record {
   len = length-set floors w n ∙ (are.len ∙ sym (length-set peers w row));
@@ -38,29 +41,33 @@ set_floor floors peers rows w n row are lw here = record {
       (subst (IsFloor rows (peer_row peers q)) (sym (get_or-set_other floors w q n 0 other)) (are.each q within))));
 }
 
-pub set_peer : (floors : List ℕ) (peers : List PeerState) (rows : List PieceState) (w : ℕ) (row : PeerState) → AreFloors floors peers rows → w < length peers
+pub set_peer : (floors : List ℕ) (peers : List PeerState) (rows : List PieceState) (w : ℕ) (row : PeerState) → AreFloors floors peers rows →
+    w < length peers
     → (IsFloor rows (peer_row peers w) (at floors w) → IsFloor rows row (at floors w)) → AreFloors floors (set peers w row) rows
 set_peer floors peers rows w row are lw keeps = record {
   len = are.len ∙ sym (length-set peers w row);
   each = λ q lq. (let within : q < length peers = omega (arith, lq, length-set peers w row) in dite (ℕ_discrete q w)
       (λ same. subst (λ (m : ℕ). IsFloor rows (peer_row (set peers w row) m) (at floors m)) (sym same)
       (subst (λ (r : PeerState). IsFloor rows r (at floors w)) (sym (get_or-set_same peers w row (fresh_peer 0) lw)) (keeps (are.each w lw))))
-      (λ other. subst (λ (r : PeerState). IsFloor rows r (at floors q)) (sym (get_or-set_other peers w q row (fresh_peer 0) other)) (are.each q within)));
+      (λ other. subst (λ (r : PeerState). IsFloor rows r (at floors q)) (sym (get_or-set_other peers w q row (fresh_peer 0) other))
+      (are.each q within)));
 }
 
 -- a floor alone is another
 pub raise_floor : (floors : List ℕ) (peers : List PeerState) (rows : List PieceState) (w n : ℕ) → AreFloors floors peers rows → w < length peers
     → IsFloor rows (peer_row peers w) n → AreFloors (set floors w n) peers rows
 raise_floor floors peers rows w n are lw here =
-    subst (λ (l : List PeerState). AreFloors (set floors w n) l rows) (set-get_or peers w (fresh_peer 0)) (set_floor floors peers rows w n (peer_row peers w) are lw here)
+    subst (λ (l : List PeerState). AreFloors (set floors w n) l rows) (set-get_or peers w (fresh_peer 0))
+    (set_floor floors peers rows w n (peer_row peers w) are lw here)
 
 -- a peer that shows nothing has any floor
 pub shows_none : (rows : List PieceState) (row : PeerState) (k n : ℕ) → row.shows ≡ replicate k false → IsFloor rows row n
-shows_none rows row k n none p lp shown fresh = absurd (false≢true (sym (ap (λ (flags : List Bool). slice_index_or flags p false) none ∙ clear k p) ∙ shown)) where
-  clear : (m i : ℕ) → slice_index_or (replicate m false) i false ≡ false
-  clear zero i = refl
-  clear (suc m) zero = refl
-  clear (suc m) (suc i) = clear m i
+shows_none rows row k n none p lp shown fresh = absurd (false≢true
+    (sym (ap (λ (flags : List Bool). slice_index_or flags p false) none ∙ clear k p) ∙ shown)) where
+      clear : (m i : ℕ) → slice_index_or (replicate m false) i false ≡ false
+      clear zero i = refl
+      clear (suc m) zero = refl
+      clear (suc m) (suc i) = clear m i
 
 -- the floors are of what the peers show alone
 pub same_shows : (floors : List ℕ) (peers now : List PeerState) (rows : List PieceState) → AreFloors floors peers rows → length now ≡ length peers
@@ -73,8 +80,10 @@ same_shows floors peers now rows are len same = record {
 
 -- ---- a piece's row changes
 
-pub set_piece : (floors : List ℕ) (peers : List PeerState) (rows : List PieceState) (p : ℕ) (row : PieceState) → AreFloors floors peers rows → p < length rows
-    → (is_fresh row ≡ true → (is_fresh (piece_row rows p) ≡ true) × ((piece_row rows p).availability ≤ row.availability)) → AreFloors floors peers (set rows p row)
+pub set_piece : (floors : List ℕ) (peers : List PeerState) (rows : List PieceState) (p : ℕ) (row : PieceState) → AreFloors floors peers rows →
+    p < length rows
+    → (is_fresh row ≡ true → (is_fresh (piece_row rows p) ≡ true) × ((piece_row rows p).availability ≤ row.availability)) →
+    AreFloors floors peers (set rows p row)
 set_piece floors peers rows p row are lp grows = record {
   len = are.len;
   each = λ q lq r lr shown fresh. dite (ℕ_discrete r p)
@@ -92,17 +101,22 @@ set_piece floors peers rows p row are lp grows = record {
 }
 
 -- a piece that isn't fresh keeps all floors
-pub set_stale : (floors : List ℕ) (peers : List PeerState) (rows : List PieceState) (p : ℕ) (row : PieceState) → AreFloors floors peers rows → p < length rows
+pub set_stale : (floors : List ℕ) (peers : List PeerState) (rows : List PieceState) (p : ℕ) (row : PieceState) → AreFloors floors peers rows →
+    p < length rows
     → is_fresh row ≡ false → AreFloors floors peers (set rows p row)
 set_stale floors peers rows p row are lp stale = set_piece floors peers rows p row are lp (λ fresh. absurd (false≢true (sym stale ∙ fresh)))
 
-pub edit_piece : (floors : List ℕ) (peers : List PeerState) (rows : List PieceState) (p : ℕ) (f : PieceState → PieceState) → AreFloors floors peers rows → p < length rows
-    → (is_fresh (f (piece_row rows p)) ≡ true → (is_fresh (piece_row rows p) ≡ true) × ((piece_row rows p).availability ≤ (f (piece_row rows p)).availability))
+pub edit_piece : (floors : List ℕ) (peers : List PeerState) (rows : List PieceState) (p : ℕ) (f : PieceState → PieceState) →
+    AreFloors floors peers rows → p < length rows
+    → (is_fresh (f (piece_row rows p)) ≡ true → (is_fresh (piece_row rows p) ≡ true) ×
+    ((piece_row rows p).availability ≤ (f (piece_row rows p)).availability))
     → AreFloors floors peers (edit rows p f)
 edit_piece floors peers rows p f are lp grows =
-    subst (AreFloors floors peers) (edit_read rows p f (piece_row rows p) (fresh_piece 0) lp refl) (set_piece floors peers rows p (f (piece_row rows p)) are lp grows)
+    subst (AreFloors floors peers) (edit_read rows p f (piece_row rows p) (fresh_piece 0) lp refl)
+    (set_piece floors peers rows p (f (piece_row rows p)) are lp grows)
 
-pub edit_stale : (floors : List ℕ) (peers : List PeerState) (rows : List PieceState) (p : ℕ) (f : PieceState → PieceState) → AreFloors floors peers rows → p < length rows
+pub edit_stale : (floors : List ℕ) (peers : List PeerState) (rows : List PieceState) (p : ℕ) (f : PieceState → PieceState) →
+    AreFloors floors peers rows → p < length rows
     → is_fresh (f (piece_row rows p)) ≡ false → AreFloors floors peers (edit rows p f)
 edit_stale floors peers rows p f are lp stale = edit_piece floors peers rows p f are lp (λ fresh. absurd (false≢true (sym stale ∙ fresh)))
 
@@ -122,16 +136,19 @@ raised_stale row i li =
     let here : get_or (edit row.blocks i one_more) i empty_cell ≡ one_more cell =
     ap (λ (cells : List CellState). get_or cells i empty_cell) (sym is) ∙ get_or-set_same row.blocks i (one_more cell) empty_cell li in
     touched_stale (changed_row (Raise i) row) i (omega (arith, li, ap length is, length-set row.blocks i (one_more cell)))
-    (ap is_touched here ∙ (ap (λ (x : Bool). is_some cell.stored_at || x) (lt-ltb 0 (cell.askers + 1) (omega arith)) ∙ or_right (is_some cell.stored_at) true refl))
+    (ap is_touched here ∙ (ap (λ (x : Bool). is_some cell.stored_at || x) (lt-ltb 0 (cell.askers + 1) (omega arith)) ∙
+    or_right (is_some cell.stored_at) true refl))
 
 pub stored_stale : (row : PieceState) (i entry : ℕ) → i < length row.blocks → is_fresh (stored_row i entry row) ≡ false
 stored_stale row i entry li =
     let cell : CellState = record { stored_at = Some entry; askers = 0 } in
-    touched_stale (stored_row i entry row) i (omega (arith, li, length-set row.blocks i cell)) (ap is_touched (get_or-set_same row.blocks i cell empty_cell li))
+    touched_stale (stored_row i entry row) i (omega (arith, li, length-set row.blocks i cell))
+    (ap is_touched (get_or-set_same row.blocks i cell empty_cell li))
 
 -- ---- a peer's row as the calls change it
 
-pub kept_peer : (floors : List ℕ) (peers : List PeerState) (rows : List PieceState) (w : ℕ) (old now : PeerState) → AreFloors floors peers rows → w < length peers
+pub kept_peer : (floors : List ℕ) (peers : List PeerState) (rows : List PieceState) (w : ℕ) (old now : PeerState) → AreFloors floors peers rows →
+    w < length peers
     → old ≡ get_or peers w old → now.shows ≡ old.shows → AreFloors floors (set peers w now) rows
 kept_peer floors peers rows w old now are lw read same =
     let row : old ≡ peer_row peers w = read ∙ get_or_default peers w old (fresh_peer 0) lw in
@@ -139,12 +156,14 @@ kept_peer floors peers rows w old now are lw read same =
     set_peer floors peers rows w now are lw
     (λ floor p lp shown fresh. floor p lp (ap (λ (fs : List Bool). slice_index_or fs p false) (sym flags) ∙ shown) fresh)
 
-pub silent_peer : (floors : List ℕ) (peers : List PeerState) (rows : List PieceState) (w k : ℕ) (now : PeerState) → AreFloors floors peers rows → w < length peers
+pub silent_peer : (floors : List ℕ) (peers : List PeerState) (rows : List PieceState) (w k : ℕ) (now : PeerState) → AreFloors floors peers rows →
+    w < length peers
     → now.shows ≡ replicate k false → AreFloors floors (set peers w now) rows
 silent_peer floors peers rows w k now are lw none = set_peer floors peers rows w now are lw (λ floor. shows_none rows now k (at floors w) none)
 
 -- a fresh piece that is shown too may lower the floor
-pub have_floor : (rows : List PieceState) (row : PeerState) (p n : ℕ) → (is_fresh (piece_row rows p) ≡ true → n ≤ (piece_row rows p).availability) → IsFloor rows row n
+pub have_floor : (rows : List PieceState) (row : PeerState) (p n : ℕ) → (is_fresh (piece_row rows p) ≡ true → n ≤ (piece_row rows p).availability) →
+    IsFloor rows row n
     → IsFloor rows (have_row p row) n
 have_floor rows row p n low floor r lr shown fresh = dite (ℕ_discrete r p)
     (λ same. subst (λ (m : ℕ). n ≤ (piece_row rows m).availability) (sym same) (low (ap (λ (m : ℕ). is_fresh (piece_row rows m)) (sym same) ∙ fresh)))

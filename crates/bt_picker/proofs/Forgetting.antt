@@ -1,5 +1,6 @@
 -- A stored block leaves the rows of the peers that it wasn't asked of as they are.
-use Rattle.std.proofs.Common.{◌≡◌, ◌≢◌, ℕ, zero, suc, ◌==◌, ◌+◌, ◌<◌, ◌≤◌, Bool, true, false, not, ◌&&◌, ◌||◌, List, [], ◌∷◌, ◌++◌, length, get_or, set, refl, ap, sym, ◌∙◌, arith, length-set, ⊎_elim}
+use Rattle.std.proofs.Common.{◌≡◌, ◌≢◌, ℕ, zero, suc, ◌==◌, ◌+◌, ◌<◌, ◌≤◌, Bool, true, false, not, ◌&&◌, ◌||◌, List, [], ◌∷◌, ◌++◌, length, get_or}
+use Rattle.std.proofs.Common.{set, refl, ap, sym, ◌∙◌, arith, length-set, ⊎_elim}
 use Rattle.std.specs.Prelude.{if◌then◌else◌}
 use Rattle.std.specs.List.{filter, list_any}
 use Rattle.std.proofs.lemmas.Bool.{cases_eq, eq-eqb, ne_eqb}
@@ -45,14 +46,16 @@ count_alone n f w k lw most lk apart = none_else (f k) (let two = count_two n f 
 filter_none : (test : Block → Bool) (bs : List Block) → list_any test bs ≡ false → filter test bs ≡ []
 filter_none test [] none = refl
 filter_none test (b ∷ bs) none = by_test (test b) none (filter_none test bs) where
-  by_test : (x : Bool) → (x || list_any test bs) ≡ false → (list_any test bs ≡ false → filter test bs ≡ []) → (if x then b ∷ filter test bs else filter test bs) ≡ []
+  by_test : (x : Bool) → (x || list_any test bs) ≡ false → (list_any test bs ≡ false → filter test bs ≡ []) →
+      (if x then b ∷ filter test bs else filter test bs) ≡ []
   by_test true is rest = absurd (cc is)
   by_test false is rest = rest is
 
 filter_all : (test : Block → Bool) (bs : List Block) → list_any test bs ≡ false → filter (λ b. not (test b)) bs ≡ bs
 filter_all test [] none = refl
 filter_all test (b ∷ bs) none = by_test (test b) none (filter_all test bs) where
-  by_test : (x : Bool) → (x || list_any test bs) ≡ false → (list_any test bs ≡ false → filter (λ a. not (test a)) bs ≡ bs) → (if not x then b ∷ filter (λ a. not (test a)) bs else filter (λ a. not (test a)) bs) ≡ b ∷ bs
+  by_test : (x : Bool) → (x || list_any test bs) ≡ false → (list_any test bs ≡ false → filter (λ a. not (test a)) bs ≡ bs) →
+      (if not x then b ∷ filter (λ a. not (test a)) bs else filter (λ a. not (test a)) bs) ≡ b ∷ bs
   by_test true is rest = absurd (cc is)
   by_test false is rest = ap (λ (l : List Block). b ∷ l) (rest is)
 
@@ -74,7 +77,8 @@ forgotten peers w piece begin askers row new lw read counted few is =
     let f : ℕ → PeerState = λ q. without_block piece begin (w == q) (peer_row peers q) in
     let own : row ≡ peer_row peers w = read ∙ get_or_default peers w row (fresh_peer 0) lw in
     let most : count_below (length peers) (λ q. asks_at piece begin (peer_row peers q)) ≤ one_if (asks_at piece begin (peer_row peers w)) =
-    (let same : one_if (asks_at piece begin row) ≡ one_if (asks_at piece begin (peer_row peers w)) = ap (λ (r : PeerState). one_if (asks_at piece begin r)) own in omega (arith, same, few, counted)) in
+    (let same : one_if (asks_at piece begin row) ≡ one_if (asks_at piece begin (peer_row peers w)) =
+    ap (λ (r : PeerState). one_if (asks_at piece begin r)) own in omega (arith, same, few, counted)) in
     table_from (length peers) f (set peers w new) (length-set peers w new) (λ k d lt. ⊎_elim
     (λ (here : k ≡ w).
     ap (λ (j : ℕ). get_or (set peers w new) j d) here ∙ (get_or-set_same peers w new d lw

@@ -1,5 +1,6 @@
 -- The cells of a piece as they are kept, and what they say.
-use Rattle.std.proofs.Common.{◌≡◌, ℕ, zero, suc, ◌*◌, ◌∷◌, replicate, cond, ◌+◌, ◌<◌, ◌≤◌, ◌==◌, ◌≢◌, ◌^◌, Bool, true, false, List, length, get_or, set, map, refl, ap, sym, ◌∙◌, arith, length-set}
+use Rattle.std.proofs.Common.{◌≡◌, ℕ, zero, suc, ◌*◌, ◌∷◌, replicate, cond, ◌+◌, ◌<◌, ◌≤◌, ◌==◌, ◌≢◌, ◌^◌, Bool, true, false, List, length, get_or}
+use Rattle.std.proofs.Common.{set, map, refl, ap, sym, ◌∙◌, arith, length-set}
 use Rattle.std.specs.List.{count_by}
 use Rattle.std.specs.Prelude.{if◌then◌else◌, min}
 use Rattle.std.proofs.Math.Nat.{min-le_left, min-le_right}
@@ -41,9 +42,11 @@ module _ (test : CellState → Bool) (cells : List Cell) (i : ℕ) (old cell : C
   pub said_part : one_if (test (cell_kept old)) ≤ count_by test (said cells)
   said_part = omega (arith, here, get_or-le-sum_by one (said cells) i (cell_kept old) long)
 
-  pub said_moved : count_by test (said (set cells i cell)) + one_if (test (cell_kept old)) ≡ count_by test (said cells) + one_if (test (cell_kept cell))
+  pub said_moved : count_by test (said (set cells i cell)) + one_if (test (cell_kept old)) ≡ count_by test (said cells) + one_if
+      (test (cell_kept cell))
   said_moved =
-      let whole : count_by test (said (set cells i cell)) ≡ count_by test (set (said cells) i (cell_kept cell)) = ap (count_by test) (said_set cells i cell) in
+      let whole : count_by test (said (set cells i cell)) ≡ count_by test (set (said cells) i (cell_kept cell)) =
+      ap (count_by test) (said_set cells i cell) in
       omega (arith, whole, here, sum_by-set one (said cells) i (cell_kept cell) (cell_kept old) long)
 
   pub said_most : count_by test (said cells) + one_if (test (cell_kept cell)) ≤ length cells + one_if (test (cell_kept old))

@@ -1,5 +1,6 @@
 -- Floors by the history: no candidate is shown by fewer peers; and what a reply tells of it.
-use Rattle.std.proofs.Common.{◌==◌, ◌≡◌, ◌⊎◌, ℕ, ◌<◌, ◌≤◌, Bool, true, false, not, ◌&&◌, ◌||◌, refl, ap, sym, ◌∙◌, subst, inl, inr, ⊎_elim, arith, List, length, set}
+use Rattle.std.proofs.Common.{◌==◌, ◌≡◌, ◌⊎◌, ℕ, ◌<◌, ◌≤◌, Bool, true, false, not, ◌&&◌, ◌||◌, refl, ap, sym, ◌∙◌, subst, inl, inr, ⊎_elim, arith}
+use Rattle.std.proofs.Common.{List, length, set}
 use Rattle.std.specs.Prelude.{nat_le, nat_lt, slice_index_or, if◌then◌else◌}
 use Rattle.std.proofs.lemmas.Bool.{and_from, and_parts, eq-eqb, false_from_ne_true, false≢true, leb-true, le-ltb, or_left, or_right}
 use Rattle.std.proofs.lemmas.List.{get_or-set_other, get_or-set_same}
@@ -25,7 +26,8 @@ use Rattle.bt_history.proofs.NextCases.{next_cases, next_is}
 use Rattle.bt_picker.specs.Floors.{IsFloor, NoneRarer, TellsFloor, is_fresh}
 use Rattle.bt_picker.specs.Standings.{group_of_row, shown_group}
 use Rattle.std.specs.List.{count_by}
-use Rattle.bt_picker.specs.Tables.{AreTables, PeerState, PieceState, TablesState, announced, edit, fresh_peer, fresh_piece, have_row, less_available, more_available, peer_of, peer_row, piece_of, piece_row}
+use Rattle.bt_picker.specs.Tables.{AreTables, PeerState, PieceState, TablesState, announced, edit, fresh_peer, fresh_piece, have_row}
+use Rattle.bt_picker.specs.Tables.{less_available, more_available, peer_of, peer_row, piece_of, piece_row}
 use Rattle.bt_picker.proofs.Rows.{group_is, had_rows, untouched_row, wanted_chosen}
 use Rattle.bt_picker.proofs.Scans.{candidate_usable, first_block, lacks_found}
 use Rattle.bt_picker.proofs.Tabled.{edit_read, get_or_is_table, get_or_table, length_edit}
@@ -42,7 +44,8 @@ fresh_parts false false t is = absurd (cc is)
 fresh_parts false true true is = absurd (cc is)
 fresh_parts false true false is = (refl, refl, refl)
 
-fresh_candidate : (s : Setting) (h : History) (q p : ℕ) → p < piece_count s.torrent → shows h q p ≡ true → is_fresh (piece_of s h p) ≡ true → is_candidate s h q p ≡ true
+fresh_candidate : (s : Setting) (h : History) (q p : ℕ) → p < piece_count s.torrent → shows h q p ≡ true → is_fresh (piece_of s h p) ≡ true →
+    is_candidate s h q p ≡ true
 fresh_candidate s h q p lp shown fresh =
     let parts = fresh_parts (had h p) (chosen h p) (some_block_of s.torrent p (held_or_asked s h)) (sym (fresh_is s h p) ∙ fresh) in
     and_from (wanted s h p) _ (wanted_chosen s h p lp ∙ parts.1)
@@ -55,7 +58,8 @@ candidate_split true true true t is = absurd (cc is)
 candidate_split true true false true is = absurd (cc is)
 candidate_split true true false false is = (refl, refl, refl, refl)
 
-candidate_fresh : (s : Setting) (h : History) (q p : ℕ) → p < piece_count s.torrent → is_candidate s h q p ≡ true → (shows h q p ≡ true) × (is_fresh (piece_of s h p) ≡ true)
+candidate_fresh : (s : Setting) (h : History) (q p : ℕ) → p < piece_count s.torrent → is_candidate s h q p ≡ true →
+    (shows h q p ≡ true) × (is_fresh (piece_of s h p) ≡ true)
 candidate_fresh s h q p lp is =
     let parts = candidate_split (wanted s h p) (shows h q p) (had h p) (some_block_of s.torrent p (held_or_asked s h)) is in
     let picked : chosen h p ≡ true = sym (wanted_chosen s h p lp) ∙ parts.0 in
@@ -67,7 +71,8 @@ module _ (t : TablesState) (h : History) (w : ℕ) (are : AreTables t h) (lw : w
 
   flag_is : (p : ℕ) → p < piece_count t.setting.torrent → slice_index_or (peer_row t.peers w).shows p false ≡ shows h w p
   flag_is p lp =
-      ap (λ (r : _). slice_index_or r.shows p false) (get_or_is_table t.peers t.setting.workers (peer_of t.setting h) w (fresh_peer 0) are.peers_are lw)
+      ap (λ (r : _). slice_index_or r.shows p false) (get_or_is_table t.peers t.setting.workers (peer_of t.setting h) w (fresh_peer 0) are.peers_are
+      lw)
       ∙ get_or_table (piece_count t.setting.torrent) (shows h w) p false lp
 
   pub floor_rarer : (n : ℕ) → IsFloor t.pieces (peer_row t.peers w) n → NoneRarer t.setting h w n
@@ -90,7 +95,8 @@ module _ (t : TablesState) (h : History) (w : ℕ) (are : AreTables t h) (lw : w
 pub none_usable : (s : Setting) (h : History) (w n : ℕ) → IsLayout s.torrent → some_block s.torrent (usable s h w) ≡ false → NoneRarer s h w n
 none_usable s h w n layout none p lp fits =
     let some = first_block s.torrent p layout lp in
-    absurd (false≢true (sym none ∙ some_found s.torrent (usable s h w) (block s.torrent p 0) (block_is_block s.torrent p 0 lp some) (candidate_usable s h w p lp some fits)))
+    absurd (false≢true (sym none ∙ some_found s.torrent (usable s h w) (block s.torrent p 0) (block_is_block s.torrent p 0 lp some)
+    (candidate_usable s h w p lp some fits)))
 
 named : (test : Block → Bool) (b c : Block) → Request b ≡ Request c → test c ≡ true → test b ≡ true
 named test b c is passes = (let same : b ≡ c = cc is in ap test same ∙ passes)
@@ -122,12 +128,14 @@ idle_cases t false true false false true f g cancels ons firsts seconds reply (i
 idle_cases t false true false false true f g cancels ons firsts seconds reply (inr is) h = absurd (cc (is, h.1))
 idle_cases t false true false false false f g cancels ons firsts seconds reply why h = refl
 
-begins : (s : Setting) (h : History) (w p : ℕ) → (nat_lt (had_count s h) s.random || is_rarest s h w p) ≡ true → nat_lt (had_count s h) s.random ≡ false
+begins : (s : Setting) (h : History) (w p : ℕ) → (nat_lt (had_count s h) s.random || is_rarest s h w p) ≡ true →
+    nat_lt (had_count s h) s.random ≡ false
     → NoneRarer s h w (availability s h p)
 begins s h w p is settled r lr fits =
     let least = all_at (piece_count s.torrent) (λ m. not (is_candidate s h w m) || nat_le (availability s h p) (availability s h m)) r
     (subst (λ (x : Bool). (x || is_rarest s h w p) ≡ true) settled is) lr in
-    leb-true (availability s h p) (availability s h r) (subst (λ (x : Bool). (not x || nat_le (availability s h p) (availability s h r)) ≡ true) fits least)
+    leb-true (availability s h p) (availability s h r) (subst (λ (x : Bool). (not x || nat_le (availability s h p) (availability s h r)) ≡ true) fits
+    least)
 
 never_both : (d t : Bool) → (not d && t) ≡ true → (not d && not t) ≡ true → ⊥
 never_both true t is other = cc is
@@ -136,14 +144,16 @@ never_both false false is other = cc is
 
 module _ (s : Setting) (h : History) (w word : ℕ) (layout : IsLayout s.torrent) where
   -- once enough pieces are had, a piece that begins is a rarest one
-  pub begun_rarer : (b : Block) → IsAllowed s h (record { worker = w; action = Next word; reply = Request b }) → nat_lt (had_count s h) s.random ≡ false
+  pub begun_rarer : (b : Block) → IsAllowed s h (record { worker = w; action = Next word; reply = Request b }) →
+      nat_lt (had_count s h) s.random ≡ false
       → unbegun s h b.piece ≡ true → NoneRarer s h w (availability s h b.piece)
   unfolding answer
   begun_rarer b allowed settled fresh =
       let e : Event = record { worker = w; action = Next word; reply = Request b } in
       let permitted = answered s h e (no_cause s h e (λ reason refused. absurd (cc refused)) allowed) allowed in
       ⊎_elim
-      (λ (on : continues s h w b ≡ true). absurd (never_both (had h b.piece) (some_block_of s.torrent b.piece (held_or_asked s h)) (and_parts (usable s h w b) (begun s h b.piece) on).1 fresh))
+      (λ (on : continues s h w b ≡ true). absurd (never_both (had h b.piece) (some_block_of s.torrent b.piece (held_or_asked s h))
+      (and_parts (usable s h w b) (begun s h b.piece) on).1 fresh))
       (λ rest. ⊎_elim
       (λ (first : starts s h w b ≡ true). begins s h w b.piece (and_parts (unbegun s h b.piece) _ (and_parts (usable s h w b) _ first).1).1 settled)
       (λ (none : some_block s.torrent (usable s h w) ≡ false). none_usable s h w (availability s h b.piece) layout none)
@@ -151,12 +161,14 @@ module _ (s : Setting) (h : History) (w word : ℕ) (layout : IsLayout s.torrent
       (request_cases s.torrent _ _ _ _ _ _ _ _ _ _ _ b (subst (λ (a : _). Permits s.torrent a (Request b)) (next_is s h w) permitted))
 
   -- where nothing is to be asked there is no candidate
-  pub idle_rarer : (n : ℕ) (reply : Reply) → (reply ≡ Idle) ⊎ (reply ≡ NothingLeft) → IsAllowed s h (record { worker = w; action = Next word; reply = reply }) → NoneRarer s h w n
+  pub idle_rarer : (n : ℕ) (reply : Reply) → (reply ≡ Idle) ⊎ (reply ≡ NothingLeft) →
+      IsAllowed s h (record { worker = w; action = Next word; reply = reply }) → NoneRarer s h w n
   unfolding answer
   idle_rarer n reply why allowed =
       let e : Event = record { worker = w; action = Next word; reply = reply } in
       let permitted = answered s h e (no_cause s h e (λ reason refused. unrefused reply reason why refused) allowed) allowed in
-      none_usable s h w n layout (idle_cases s.torrent _ _ _ _ _ _ _ _ _ _ _ reply why (subst (λ (a : _). Permits s.torrent a reply) (next_is s h w) permitted))
+      none_usable s h w n layout (idle_cases s.torrent _ _ _ _ _ _ _ _ _ _ _ reply why
+      (subst (λ (a : _). Permits s.torrent a reply) (next_is s h w) permitted))
     where
       unrefused : (r : Reply) (reason : _) → (r ≡ Idle) ⊎ (r ≡ NothingLeft) → r ≡ said.Refused reason → ⊥
       unrefused r reason (inl is) refused = cc (is, refused)
@@ -178,7 +190,8 @@ group_fresh s h p high =
     by_test false true true false n le = absurd (omega (arith, le))
 
 -- what a reply to Next tells is a floor
-pub told_floor : (t : TablesState) (h : History) (w word n : ℕ) (reply : Reply) → AreTables t h → IsAllowed t.setting h (record { worker = w; action = Next word; reply = reply })
+pub told_floor : (t : TablesState) (h : History) (w word n : ℕ) (reply : Reply) → AreTables t h →
+    IsAllowed t.setting h (record { worker = w; action = Next word; reply = reply })
     → w < t.setting.workers → TellsFloor t reply n → IsFloor t.pieces (peer_row t.peers w) n
 told_floor t h w word n (Request b) are allowed lw told =
     let s = t.setting in
@@ -191,7 +204,8 @@ told_floor t h w word n (Request b) are allowed lw told =
     let is : n ≡ availability s h b.piece = told.1 ∙ ap (λ (r : PieceState). r.availability) row in
     rarer_floor t h w are lw n (subst (NoneRarer s h w) (sym is) rarer)
 told_floor t h w word n Idle are allowed lw told = rarer_floor t h w are lw n (idle_rarer t.setting h w word are.layout n Idle (inl refl) allowed)
-told_floor t h w word n NothingLeft are allowed lw told = rarer_floor t h w are lw n (idle_rarer t.setting h w word are.layout n NothingLeft (inr refl) allowed)
+told_floor t h w word n NothingLeft are allowed lw told = rarer_floor t h w are lw n
+    (idle_rarer t.setting h w word are.layout n NothingLeft (inr refl) allowed)
 told_floor t h w word n said.Joined are allowed lw told = absurd told
 told_floor t h w word n (said.Noted x) are allowed lw told = absurd told
 told_floor t h w word n said.Quiet are allowed lw told = absurd told
@@ -220,7 +234,8 @@ counted_fresh rows p r x y lp =
     (λ other. ap is_fresh (get_or-set_other rows p r (f (piece_row rows p)) (fresh_piece 0) other))
 
 -- where the reply to Have is that nothing interests, nothing that the peer shows is fresh
-pub unnoted_floor : (t : TablesState) (h : History) (w p n : ℕ) → AreTables t h → IsAllowed t.setting h (record { worker = w; action = Have p; reply = said.Noted false })
+pub unnoted_floor : (t : TablesState) (h : History) (w p n : ℕ) → AreTables t h →
+    IsAllowed t.setting h (record { worker = w; action = Have p; reply = said.Noted false })
     → w < t.setting.workers → p < piece_count t.setting.torrent → IsFloor (announced t w p).pieces (peer_row (announced t w p).peers w) n
 unfolding answer
 unnoted_floor t h w p n are allowed lw lp r lr shown fresh = absurd (false≢true (uninterested ∙ interested)) where
@@ -265,12 +280,14 @@ unnoted_floor t h w p n are allowed lw lp r lr shown fresh = absurd (false≢tru
   shows_it : ((p == r) || shows h w r) ≡ true
   shows_it = dite (ℕ_discrete r p)
       (λ same. or_left (p == r) (shows h w r) (eq-eqb p r (sym same)))
-      (λ other. or_right (p == r) (shows h w r) (sym (flag_is t h w are lw r within) ∙ (sym (get_or-set_other (peer_row t.peers w).shows p r true false other) ∙ flagged)))
+      (λ other. or_right (p == r) (shows h w r) (sym (flag_is t h w are lw r within) ∙
+      (sym (get_or-set_other (peer_row t.peers w).shows p r true false other) ∙ flagged)))
 
   interested : interesting_after s h w (Have p) ≡ true
   interested = lacks_found s h (λ m. (p == m) || shows h w m) r (wanted_chosen s h r within ∙ parts.1) shows_it parts.0 within
 
 -- no piece is shown by more peers than there are
-pub above_all : (s : Setting) (h : History) (q n : ℕ) → NoneRarer s h q n → s.workers < n → (p : ℕ) → p < piece_count s.torrent → is_candidate s h q p ≡ false
+pub above_all : (s : Setting) (h : History) (q n : ℕ) → NoneRarer s h q n → s.workers < n → (p : ℕ) → p < piece_count s.torrent →
+    is_candidate s h q p ≡ false
 above_all s h q n none many p lp = false_from_ne_true (is_candidate s h q p)
     (λ fits. (let low = none p lp fits in let most = count_most s.workers (λ r. joined h r && shows h r p) in omega (arith, low, most, many)))

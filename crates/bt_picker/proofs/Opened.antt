@@ -1,6 +1,7 @@
 -- The list of the begun pieces with an unasked block, as one piece changes its group.
 use mathlib.Core.Bool.{beq}
-use Rattle.std.proofs.Common.{◌≡◌, ◌==◌, ◌<◌, ◌≤◌, ℕ, Bool, true, false, not, None, IsTrue, List, [], length, set, replicate, refl, ap, sym, ◌∙◌, subst, arith, length-set, ⊎_elim, true≢false, eqb-true, eq-eqb, ne_eqb}
+use Rattle.std.proofs.Common.{◌≡◌, ◌==◌, ◌<◌, ◌≤◌, ℕ, Bool, true, false, not, None, IsTrue, List, [], length, set, replicate, refl, ap, sym, ◌∙◌}
+use Rattle.std.proofs.Common.{subst, arith, length-set, ⊎_elim, true≢false, eqb-true, eq-eqb, ne_eqb}
 use Rattle.std.proofs.lemmas.Bool.{cases_eq, cases_lt}
 use Rattle.std.proofs.lemmas.List.{get_or-set_same, get_or-set_other, length-replicate, get_or-replicate}
 use Rattle.bt_order.specs.Orders.{at, ListsGroup}

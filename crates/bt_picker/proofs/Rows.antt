@@ -1,5 +1,6 @@
 -- What a piece's row tells by its counts: whether the piece is full, whether it is begun, and the group that it stands in.
-use Rattle.std.proofs.Common.{◌≡◌, ◌⊎◌, ℕ, zero, suc, ◌+◌, ◌<◌, ◌≤◌, ◌==◌, Bool, true, false, not, ◌&&◌, ◌||◌, Option, None, Some, List, [], ◌∷◌, ◌++◌, length, refl, ap, sym, ◌∙◌, subst, arith, ⊎_elim, inl, inr, cond}
+use Rattle.std.proofs.Common.{◌≡◌, ◌⊎◌, ℕ, zero, suc, ◌+◌, ◌<◌, ◌≤◌, ◌==◌, Bool, true, false, not, ◌&&◌, ◌||◌, Option, None, Some, List, [], ◌∷◌}
+use Rattle.std.proofs.Common.{◌++◌, length, refl, ap, sym, ◌∙◌, subst, arith, ⊎_elim, inl, inr, cond}
 use Rattle.std.specs.Prelude.{nat_lt, min, unwrap_or, IfSome, if◌then◌else◌}
 use Rattle.std.specs.List.{count_by}
 use Rattle.std.proofs.Math.Nat.{min-eq_left, min-eq_right}
@@ -16,7 +17,8 @@ use Rattle.bt_history.specs.Next.{continues, is_candidate}
 use Rattle.bt_history.proofs.Below.{any_fails, any_witness, all_found, all_fails, count_most, count_same}
 use Rattle.bt_picker.specs.Tables.{piece_of, cell_of}
 use Rattle.bt_picker.specs.Floors.{NoneRarer}
-use Rattle.bt_picker.specs.Standings.{is_held, is_touched, held_count, touched_count, shown_group, group_of_row, groups_of, FindsListed, FindsRarest, IsRarer}
+use Rattle.bt_picker.specs.Standings.{is_held, is_touched, held_count, touched_count, shown_group, group_of_row, groups_of, FindsListed}
+use Rattle.bt_picker.specs.Standings.{FindsRarest, IsRarer}
 use Rattle.bt_picker.proofs.Tabled.{table_more, length_table, get_or_table}
 use Rattle.bt_picker.proofs.Scans.{finds_in_piece, none_in_pieces}
 use Rattle.bt_order.specs.Orders.{at, ListsGroup}
@@ -43,15 +45,18 @@ counted_all (suc n) test = by_test (test n) (counted_all n test) where
       ∙ sym (and_right (all_below n test) false refl)
   by_test true before = one (all_below n test) refl where
     one : (y : Bool) → all_below n test ≡ y → (count_below n test + 1 == suc n) ≡ (y && true)
-    one true is = eq-eqb (count_below n test + 1) (suc n) (let e : count_below n test ≡ n = eqb-true (count_below n test) n (before ∙ is) in omega (arith, e))
-    one false is = ne_eqb (count_below n test + 1) (suc n) (λ same. false≢true (sym (before ∙ is) ∙ eq-eqb (count_below n test) n (omega (arith, same))))
+    one true is = eq-eqb (count_below n test + 1) (suc n) (let e : count_below n test ≡ n = eqb-true (count_below n test) n (before ∙ is) in
+        omega (arith, e))
+    one false is = ne_eqb (count_below n test + 1) (suc n) (λ same.
+        false≢true (sym (before ∙ is) ∙ eq-eqb (count_below n test) n (omega (arith, same))))
 
 -- none passes where none is counted
 pub counted_none : (n : ℕ) (test : ℕ → Bool) → (count_below n test == 0) ≡ not (any_below n test)
 counted_none n test = by_count (count_below n test) refl where
   by_count : (m : ℕ) → count_below n test ≡ m → (m == 0) ≡ not (any_below n test)
   by_count zero is = ap not (sym (any_counted n test ∙ ap (nat_lt 0) is))
-  by_count (suc m) is = ne_eqb (suc m) 0 (λ same. omega (arith, same)) ∙ ap not (sym (any_counted n test ∙ (ap (nat_lt 0) is ∙ lt-ltb 0 (suc m) (omega arith))))
+  by_count (suc m) is = ne_eqb (suc m) 0 (λ same. omega (arith, same)) ∙
+      ap not (sym (any_counted n test ∙ (ap (nat_lt 0) is ∙ lt-ltb 0 (suc m) (omega arith))))
 
 -- ---- the counts of a piece
 
@@ -91,7 +96,8 @@ module _ (s : Setting) (h : History) (p : ℕ) where
   pub group_is : group_of_row (piece_of s h p)
       ≡ (if had h p || not (chosen h p) then 0 else if not (some_block_of s.torrent p (held_or_asked s h)) then shown_group (availability s h p)
       else if each_block_of s.torrent p (held_or_asked s h) then 1 else 2)
-  group_is = λ i. if had h p || not (chosen h p) then 0 else if untouched_row i then shown_group (availability s h p) else if all_touched_row i then 1 else 2
+  group_is = λ i. if had h p || not (chosen h p) then 0 else if untouched_row i then shown_group (availability s h p) else if all_touched_row i then
+      1 else 2
 
   -- a piece of the torrent is wanted where it is chosen
   pub wanted_chosen : p < piece_count s.torrent → wanted s h p ≡ chosen h p
@@ -114,9 +120,11 @@ group_two false true true false n is = (refl, refl, refl, refl)
 pub open_continues : (s : Setting) (h : History) (q p : ℕ) → p < piece_count s.torrent → shows h q p ≡ true → group_of_row (piece_of s h p) ≡ 2
     → some_block_of s.torrent p (continues s h q) ≡ true
 open_continues s h q p lp shown is = by_cases (some_block_of s.torrent p (continues s h q)) refl where
-  parts : (had h p ≡ false) × (chosen h p ≡ true) × (some_block_of s.torrent p (held_or_asked s h) ≡ true) × (each_block_of s.torrent p (held_or_asked s h) ≡ false)
+  parts : (had h p ≡ false) × (chosen h p ≡ true) × (some_block_of s.torrent p (held_or_asked s h) ≡ true) ×
+      (each_block_of s.torrent p (held_or_asked s h) ≡ false)
   parts =
-      group_two (had h p) (chosen h p) (some_block_of s.torrent p (held_or_asked s h)) (each_block_of s.torrent p (held_or_asked s h)) (min (availability s h p) 1025)
+      group_two (had h p) (chosen h p) (some_block_of s.torrent p (held_or_asked s h)) (each_block_of s.torrent p (held_or_asked s h))
+      (min (availability s h p) 1025)
       (sym (group_is s h p) ∙ is)
 
   asked_then : (a w v b : Bool) → w ≡ true → v ≡ true → b ≡ true → ((not a && (w && v)) && b) ≡ false → a ≡ true
@@ -140,10 +148,15 @@ continues_open s h q p some =
     let found = any_witness (block_count s.torrent p) (λ k. continues s h q (block s.torrent p k)) some in
     let k = found.0 in
     let b = block s.torrent p k in
-    let parts = split (held h b) (held_or_asked s h b) (wanted s h p) (shows h q p) (had h p) (some_block_of s.torrent p (held_or_asked s h)) found.2 (or_left_false (held h b) _) in
-    let some_free : each_block_of s.torrent p (held_or_asked s h) ≡ false = all_fails (block_count s.torrent p) (λ j. held_or_asked s h (block s.torrent p j)) k found.1 parts.3 in
-    let picked : chosen h p ≡ true = (and_parts (nat_lt p (piece_count s.torrent)) (chosen h p) parts.5).1 in
-    (parts.0, group_is s h p ∙ (λ i. if parts.1 i || not (picked i) then 0 else if not (parts.2 i) then shown_group (availability s h p) else if some_free i then 1 else 2))
+    let parts = split (held h b) (held_or_asked s h b) (wanted s h p) (shows h q p) (had h p) (some_block_of s.torrent p (held_or_asked s h)) found.2
+    (or_left_false (held h b) _) in
+    let some_free : each_block_of s.torrent p (held_or_asked s h) ≡ false =
+    all_fails (block_count s.torrent p) (λ j. held_or_asked s h (block s.torrent p j)) k found.1 parts.3 in
+    let picked : chosen h p ≡ true = (and_parts (nat_lt p (piece_count s.torrent)) (chosen h p) parts.5).1 in (
+      parts.0,
+      group_is s h p ∙ (λ i. if parts.1 i || not (picked i) then 0 else if not (parts.2 i) then shown_group (availability s h p) else if
+          some_free i then 1 else 2),
+    )
   where
     or_left_false : (a b : Bool) → (a || b) ≡ false → a ≡ false
     or_left_false false b is = refl
@@ -184,16 +197,19 @@ module _ (s : Setting) (h : History) (q : ℕ) (pieces : List ℕ) (lists : List
   pub found_within : (p : ℕ) → FindsListed (shows h q) pieces (length pieces) (Some p) → p < piece_count s.torrent
   found_within p listed = subst (λ (m : ℕ). m < piece_count s.torrent) listed.1.2 (listed_within listed.1.0 listed.1.1)
 
-  pub continuing_found : (p : ℕ) (found : Option Block) → FindsListed (shows h q) pieces (length pieces) (Some p) → FindsOf s.torrent p (continues s h q) found
+  pub continuing_found : (p : ℕ) (found : Option Block) → FindsListed (shows h q) pieces (length pieces) (Some p) →
+      FindsOf s.torrent p (continues s h q) found
       → Finds s.torrent (continues s h q) found
   continuing_found p None listed none =
       let i = listed.1.0 in
       let lp : p < piece_count s.torrent = subst (λ (m : ℕ). m < piece_count s.torrent) listed.1.2 (listed_within i listed.1.1) in
       let two : group_of_row (piece_of s h p) ≡ 2 =
-      sym (get_or_table (piece_count s.torrent) (λ r. group_of_row (piece_of s h r)) p 0 lp) ∙ (ap (at (groups_of s h)) (sym listed.1.2) ∙ lists.each i listed.1.1) in
+      sym (get_or_table (piece_count s.torrent) (λ r. group_of_row (piece_of s h r)) p 0 lp) ∙
+      (ap (at (groups_of s h)) (sym listed.1.2) ∙ lists.each i listed.1.1) in
       absurd (false≢true (sym none ∙ open_continues s h q p lp listed.0 two))
   continuing_found p (Some b) listed found =
-      finds_in_piece s.torrent (continues s h q) p b found (subst (λ (m : ℕ). m < piece_count s.torrent) listed.1.2 (listed_within listed.1.0 listed.1.1))
+      finds_in_piece s.torrent (continues s h q) p b found (subst (λ (m : ℕ). m < piece_count s.torrent) listed.1.2
+      (listed_within listed.1.0 listed.1.1))
 
   pub continuing_none : FindsListed (shows h q) pieces (length pieces) None → some_block s.torrent (continues s h q) ≡ false
   continuing_none none = none_in_pieces s.torrent (continues s h q) (λ p lp. by_cases p lp (some_block_of s.torrent p (continues s h q)) refl) where
@@ -225,20 +241,25 @@ uncrowded v n lt is = ⊎_elim
 pub group_unbegun : (s : Setting) (h : History) (p n : ℕ) → group_of_row (piece_of s h p) ≡ 3 + n
     → (had h p ≡ false) × (chosen h p ≡ true) × (some_block_of s.torrent p (held_or_asked s h) ≡ false) × (min (availability s h p) 1025 ≡ n)
 group_unbegun s h p n is =
-    group_from (had h p) (chosen h p) (some_block_of s.torrent p (held_or_asked s h)) (each_block_of s.torrent p (held_or_asked s h)) (min (availability s h p) 1025) n
+    group_from (had h p) (chosen h p) (some_block_of s.torrent p (held_or_asked s h)) (each_block_of s.torrent p (held_or_asked s h))
+    (min (availability s h p) 1025) n
     (sym (group_is s h p) ∙ is)
 
 pub unbegun_group : (s : Setting) (h : History) (p : ℕ) → chosen h p ≡ true → had h p ≡ false → some_block_of s.torrent p (held_or_asked s h) ≡ false
     → group_of_row (piece_of s h p) ≡ shown_group (availability s h p)
 unbegun_group s h p picked not_had untouched =
     group_is s h p
-    ∙ (λ i. if not_had i || not (picked i) then 0 else if not (untouched i) then shown_group (availability s h p) else if each_block_of s.torrent p (held_or_asked s h) then 1 else 2)
+    ∙ (λ i. if not_had i || not (picked i) then 0 else if not (untouched i) then shown_group (availability s h p) else if each_block_of s.torrent p
+    (held_or_asked s h) then 1 else 2)
 
 pub group_candidate : (s : Setting) (h : History) (q p n : ℕ) → p < piece_count s.torrent → shows h q p ≡ true → group_of_row (piece_of s h p) ≡ 3 + n
     → (is_candidate s h q p ≡ true) × (min (availability s h p) 1025 ≡ n)
 group_candidate s h q p n lp shown is =
-    let parts = group_unbegun s h p n is in
-    (and_from (wanted s h p) _ (wanted_chosen s h p lp ∙ parts.1) (and_from (shows h q p) _ shown (and_from (not (had h p)) _ (ap not parts.0) (ap not parts.2))), parts.3)
+    let parts = group_unbegun s h p n is in (
+      and_from (wanted s h p) _ (wanted_chosen s h p lp ∙ parts.1)
+          (and_from (shows h q p) _ shown (and_from (not (had h p)) _ (ap not parts.0) (ap not parts.2))),
+      parts.3,
+    )
 
 candidate_parts : (w v d t : Bool) → (w && (v && (not d && not t))) ≡ true → (v ≡ true) × (d ≡ false) × (t ≡ false) × (w ≡ true)
 candidate_parts false v d t is = absurd (cc is)
@@ -254,7 +275,8 @@ candidate_group s h q p is =
     let picked : chosen h p ≡ true = (and_parts (nat_lt p (piece_count s.torrent)) (chosen h p) parts.3).1 in
     (parts.0, unbegun_group s h p picked parts.1 parts.2)
 
-module _ (s : Setting) (h : History) (q n : ℕ) (pieces : List ℕ) (layout : IsLayout s.torrent) (under : n < 1025) (lists : ListsGroup (groups_of s h) (3 + n) pieces) (so_far : NoneRarer s h q n) where
+module _ (s : Setting) (h : History) (q n : ℕ) (pieces : List ℕ) (layout : IsLayout s.torrent) (under : n < 1025)
+    (lists : ListsGroup (groups_of s h) (3 + n) pieces) (so_far : NoneRarer s h q n) where
   long : length (groups_of s h) ≡ piece_count s.torrent
   long = length_table (piece_count s.torrent) (λ p. group_of_row (piece_of s h p))
 
@@ -265,7 +287,8 @@ module _ (s : Setting) (h : History) (q n : ℕ) (pieces : List ℕ) (layout : I
       let within : at pieces i < piece_count s.torrent = omega (arith, lists.known i listed.1.1, long) in
       let lp : p < piece_count s.torrent = subst (λ (m : ℕ). m < piece_count s.torrent) listed.1.2 within in
       let group : group_of_row (piece_of s h p) ≡ 3 + n =
-      sym (get_or_table (piece_count s.torrent) (λ r. group_of_row (piece_of s h r)) p 0 lp) ∙ (ap (at (groups_of s h)) (sym listed.1.2) ∙ lists.each i listed.1.1) in
+      sym (get_or_table (piece_count s.torrent) (λ r. group_of_row (piece_of s h r)) p 0 lp) ∙
+      (ap (at (groups_of s h)) (sym listed.1.2) ∙ lists.each i listed.1.1) in
       let known = group_candidate s h q p n lp listed.0 group in
       let shown = uncrowded (availability s h p) n under known.1 in
       ((known.0, λ r low high fits. (let more = so_far r high fits in omega (arith, more, shown))), lp)
@@ -284,7 +307,8 @@ module _ (s : Setting) (h : History) (q n : ℕ) (pieces : List ℕ) (layout : I
 
 -- ---- the crowd: the unbegun pieces that 1,025 peers or more show
 
-pub rarer_step : (test : ℕ → Bool) (rank : ℕ → ℕ) (pieces : List ℕ) (n piece : ℕ) (found next : Option ℕ) → piece ≡ at pieces n → FindsRarest test rank pieces n found
+pub rarer_step : (test : ℕ → Bool) (rank : ℕ → ℕ) (pieces : List ℕ) (n piece : ℕ) (found next : Option ℕ) → piece ≡ at pieces n →
+    FindsRarest test rank pieces n found
     → IsRarer test rank found piece next → FindsRarest test rank pieces (n + 1) next
 rarer_step test rank pieces n piece found next here so_far step = ⊎_elim
     (λ (new : (next ≡ Some piece) × (test piece ≡ true) × ((b : ℕ) → found ≡ Some b → rank piece ≤ rank b)).
@@ -296,15 +320,18 @@ rarer_step test rank pieces n piece found next here so_far step = ⊎_elim
     changed : (f : Option ℕ) → FindsRarest test rank pieces n f → ((b : ℕ) → f ≡ Some b → rank piece ≤ rank b)
         → (i : ℕ) → i < n + 1 → test (at pieces i) ≡ true → rank piece ≤ rank (at pieces i)
     changed f before less i li passes = ⊎_elim
-        (λ (same : i ≡ n). (let equal : rank (at pieces i) ≡ rank piece = ap (λ (j : ℕ). rank (at pieces j)) same ∙ ap rank (sym here) in omega (arith, equal)))
+        (λ (same : i ≡ n). (let equal : rank (at pieces i) ≡ rank piece = ap (λ (j : ℕ). rank (at pieces j)) same ∙ ap rank (sym here) in
+        omega (arith, equal)))
         (λ (apart : i ≡ n → ⊥). among f before less (omega (arith, li, apart)))
         (cases_eq i n)
       where
-        among : (g : Option ℕ) → FindsRarest test rank pieces n g → ((b : ℕ) → g ≡ Some b → rank piece ≤ rank b) → i < n → rank piece ≤ rank (at pieces i)
+        among : (g : Option ℕ) → FindsRarest test rank pieces n g → ((b : ℕ) → g ≡ Some b → rank piece ≤ rank b) → i < n →
+            rank piece ≤ rank (at pieces i)
         among None none below lt = absurd (false≢true (sym (none i lt) ∙ passes))
         among (Some b) some below lt = (let first = below b refl in let rest = some.2 i lt passes in omega (arith, first, rest))
 
-    kept : (f : Option ℕ) → FindsRarest test rank pieces n f → (test piece ≡ false) ⊎ ((b : ℕ) × (f ≡ Some b) × (rank b ≤ rank piece)) → FindsRarest test rank pieces (n + 1) f
+    kept : (f : Option ℕ) → FindsRarest test rank pieces n f → (test piece ≡ false) ⊎ ((b : ℕ) × (f ≡ Some b) × (rank b ≤ rank piece)) →
+        FindsRarest test rank pieces (n + 1) f
     kept None none why = λ i li. ⊎_elim
         (λ (same : i ≡ n). ap (λ (j : ℕ). test (at pieces j)) same ∙ (ap test (sym here) ∙ fails why))
         (λ (apart : i ≡ n → ⊥). none i (omega (arith, li, apart)))
@@ -338,7 +365,8 @@ module _ (s : Setting) (h : History) (q n : ℕ) (pieces : List ℕ) (layout : I
   crowd_long = length_table (piece_count s.torrent) (λ p. group_of_row (piece_of s h p))
 
   -- a candidate that is left is in the crowd
-  crowded : (p : ℕ) → p < piece_count s.torrent → is_candidate s h q p ≡ true → (shows h q p ≡ true) × ((i : ℕ) × (i < length pieces) × (at pieces i ≡ p))
+  crowded : (p : ℕ) → p < piece_count s.torrent → is_candidate s h q p ≡ true →
+      (shows h q p ≡ true) × ((i : ℕ) × (i < length pieces) × (at pieces i ≡ p))
   crowded p lp fits =
       let low = so_far p lp fits in
       let most = count_most s.workers (λ r. joined h r && shows h r p) in
@@ -360,19 +388,22 @@ module _ (s : Setting) (h : History) (q n : ℕ) (pieces : List ℕ) (layout : I
   ) where
     by_cases : (p : ℕ) → p < piece_count s.torrent → (x : Bool) → is_candidate s h q p ≡ x → x ≡ false
     by_cases p lp false is = refl
-    by_cases p lp true is = (let listed = crowded p lp is in absurd (false≢true (sym (none listed.1.0 listed.1.1) ∙ (ap (shows h q) listed.1.2 ∙ listed.0))))
+    by_cases p lp true is = (let listed = crowded p lp is in
+        absurd (false≢true (sym (none listed.1.0 listed.1.1) ∙ (ap (shows h q) listed.1.2 ∙ listed.0))))
   crowd_found (Some p) some =
       let i = some.1.0 in
       let within : at pieces i < piece_count s.torrent = omega (arith, lists.known i some.1.1, crowd_long) in
       let lp : p < piece_count s.torrent = subst (λ (m : ℕ). m < piece_count s.torrent) some.1.2 within in
       let group : group_of_row (piece_of s h p) ≡ 3 + 1025 =
-      sym (get_or_table (piece_count s.torrent) (λ r. group_of_row (piece_of s h r)) p 0 lp) ∙ (ap (at (groups_of s h)) (sym some.1.2) ∙ lists.each i some.1.1) in
+      sym (get_or_table (piece_count s.torrent) (λ r. group_of_row (piece_of s h r)) p 0 lp) ∙
+      (ap (at (groups_of s h)) (sym some.1.2) ∙ lists.each i some.1.1) in
       let known = group_candidate s h q p 1025 lp some.0 group in (
         (
           known.0,
           λ r low high fits.
               let listed = crowded r high fits in
-              subst (λ (m : ℕ). availability s h p ≤ availability s h m) listed.1.2 (some.2 listed.1.0 listed.1.1 (ap (shows h q) listed.1.2 ∙ listed.0)),
+              subst (λ (m : ℕ). availability s h p ≤ availability s h m) listed.1.2
+              (some.2 listed.1.0 listed.1.1 (ap (shows h q) listed.1.2 ∙ listed.0)),
         ),
         lp,
       )

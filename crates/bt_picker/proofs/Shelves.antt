@@ -1,5 +1,6 @@
 -- What the rows of all pieces amount to, as one row changes.
-use Rattle.std.proofs.Common.{◌≡◌, ℕ, zero, suc, ◌+◌, ◌-◌, ◌<◌, ◌≤◌, ◌^◌, ◌++◌, Bool, true, false, Some, List, [], ◌∷◌, length, get_or, set, map, replicate, refl, ap, sym, ◌∙◌, arith, length-set}
+use Rattle.std.proofs.Common.{◌≡◌, ℕ, zero, suc, ◌+◌, ◌-◌, ◌<◌, ◌≤◌, ◌^◌, ◌++◌, Bool, true, false, Some, List, [], ◌∷◌, length, get_or, set, map}
+use Rattle.std.proofs.Common.{replicate, refl, ap, sym, ◌∙◌, arith, length-set}
 use Rattle.std.specs.Prelude.{if◌then◌else◌}
 use Rattle.std.specs.List.{sum_by, count_by}
 use Rattle.std.proofs.lemmas.List.{map-set, length-map, append-nil, map-append}
@@ -58,7 +59,8 @@ unasked_most row = (let most = wanted_most row in omega (arith, most))
 unheld_most : (row : PieceState) → unheld_of row ≤ blocks_of row
 unheld_most row = (let most = wanted_most row in omega (arith, most))
 
-module _ (rows : List PieceState) (p : ℕ) (old new : PieceState) (lp : p < length rows) (read : old ≡ get_or rows p old) (same : length new.blocks ≡ length old.blocks) where
+module _ (rows : List PieceState) (p : ℕ) (old new : PieceState) (lp : p < length rows) (read : old ≡ get_or rows p old)
+    (same : length new.blocks ≡ length old.blocks) where
   -- the lengths of the rows stay, and with them their sum
   pub still_fit : sum_by blocks_of (set rows p new) ≡ sum_by blocks_of rows
   still_fit =
@@ -102,14 +104,16 @@ module _ (rows : List PieceState) (p : ℕ) (old new : PieceState) (lp : p < len
   }
 
 -- a row's change can be put on the shelf
-pub can_file : (shelf : ShelfState) (rows : List PieceState) (p : ℕ) (old new : PieceState) (before after : Standing) → AreShelved shelf rows → p < length rows → old ≡ get_or rows p old
+pub can_file : (shelf : ShelfState) (rows : List PieceState) (p : ℕ) (old new : PieceState) (before after : Standing) → AreShelved shelf rows →
+    p < length rows → old ≡ get_or rows p old
     → before ≡ standing_of old → after ≡ standing_of new → length new.blocks ≡ length old.blocks → IsFiled shelf before after
 can_file shelf rows p old new before after are lp read before_is after_is same =
     let own : AreShelved (shelf_of rows) rows = rw (are.is) at are in
     rw (are.is, before_is, after_is) (filed rows p old new lp read same own)
 
 -- and then the shelf is that of the rows again
-pub files : (shelf now : ShelfState) (rows : List PieceState) (p : ℕ) (old new : PieceState) (before after : Standing) → AreShelved shelf rows → p < length rows → old ≡ get_or rows p old
+pub files : (shelf now : ShelfState) (rows : List PieceState) (p : ℕ) (old new : PieceState) (before after : Standing) → AreShelved shelf rows →
+    p < length rows → old ≡ get_or rows p old
     → before ≡ standing_of old → after ≡ standing_of new → length new.blocks ≡ length old.blocks
     → now ≡ record {
       groups = set shelf.groups p after.group;
@@ -160,13 +164,16 @@ shelf_more rows row n p len some =
     let at : p ≡ length (map group_of_row rows) = omega arith in
     let groups : set (map group_of_row rows ++ replicate n 0) p (group_of_row row) ≡ map group_of_row (rows ++ row ∷ []) ++ replicate (n - 1) 0 =
     ap (λ (i : ℕ). set (map group_of_row rows ++ replicate n 0) i (group_of_row row)) at
-    ∙ (fill_more (map group_of_row rows) n (group_of_row row) some ∙ ap (λ (l : List ℕ). l ++ replicate (n - 1) 0) (sym (map-append group_of_row rows (row ∷ [])))) in
-    let unasked : sum_by unasked_of rows - 0 + unasked_of row ≡ sum_by unasked_of (rows ++ row ∷ []) = omega (arith, sum_by_push unasked_of rows row) in
+    ∙ (fill_more (map group_of_row rows) n (group_of_row row) some ∙
+    ap (λ (l : List ℕ). l ++ replicate (n - 1) 0) (sym (map-append group_of_row rows (row ∷ [])))) in
+    let unasked : sum_by unasked_of rows - 0 + unasked_of row ≡ sum_by unasked_of (rows ++ row ∷ []) =
+    omega (arith, sum_by_push unasked_of rows row) in
     let unheld : sum_by unheld_of rows - 0 + unheld_of row ≡ sum_by unheld_of (rows ++ row ∷ []) = omega (arith, sum_by_push unheld_of rows row) in
     let had : sum_by had_of rows - 0 + had_of row ≡ sum_by had_of (rows ++ row ∷ []) = omega (arith, sum_by_push had_of rows row) in
     λ i. record { groups = groups i; unasked = unasked i; unheld = unheld i; had = had i }
 
-pub shelf_fits : (rows : List PieceState) (row : PieceState) (n : ℕ) → length rows + 1 < 2 ^ 32 → sum_by (λ r. length r.blocks) (rows ++ row ∷ []) < 2 ^ 64
+pub shelf_fits : (rows : List PieceState) (row : PieceState) (n : ℕ) → length rows + 1 < 2 ^ 32 →
+    sum_by (λ r. length r.blocks) (rows ++ row ∷ []) < 2 ^ 64
     → IsFiled (filling rows n) (record { group = 0; unasked = 0; unheld = 0; had = false }) (standing_of row)
 shelf_fits rows row n short fit =
     let few = count_by-le-length (λ (r : PieceState). r.had) rows in
@@ -175,7 +182,12 @@ shelf_fits rows row n short fit =
       unasked = omega arith;
       unheld = omega arith;
       had = omega arith;
-      unasked_fits = omega (arith, sum_by_push unasked_of rows row, sum_by-le-sum_by unasked_of blocks_of (rows ++ row ∷ []) (λ r. unasked_most r), fit);
+      unasked_fits = omega (
+        arith,
+        sum_by_push unasked_of rows row,
+        sum_by-le-sum_by unasked_of blocks_of (rows ++ row ∷ []) (λ r. unasked_most r),
+        fit,
+      );
       unheld_fits = omega (arith, sum_by_push unheld_of rows row, sum_by-le-sum_by unheld_of blocks_of (rows ++ row ∷ []) (λ r. unheld_most r), fit);
       had_fits = omega (arith, few, one, short);
     }

@@ -1,10 +1,12 @@
 -- The rows of all pieces, as those of a set change one after the other.
-use Rattle.std.proofs.Common.{◌≡◌, ℕ, zero, suc, ◌+◌, ◌-◌, ◌<◌, ◌≤◌, ◌^◌, Bool, true, false, List, [], ◌∷◌, length, ap, sym, ◌∙◌, arith, inl, inr, refl}
+use Rattle.std.proofs.Common.{◌≡◌, ℕ, zero, suc, ◌+◌, ◌-◌, ◌<◌, ◌≤◌, ◌^◌, Bool, true, false, List, [], ◌∷◌, length, ap, sym, ◌∙◌, arith, inl, inr}
+use Rattle.std.proofs.Common.{refl}
 use Rattle.std.specs.Prelude.{slice_index_or}
 use Rattle.std.proofs.lemmas.Bool.{cases_lt, false≢true}
 use Rattle.std.proofs.lemmas.List.{get_or_past}
 use Rattle.bt_history.specs.Counting.{table}
-use Rattle.bt_picker.specs.Tables.{AreCounted, PieceState, edit, fresh_piece, hidden_rows, less_available, more_available, one_if, piece_row, recounted, shown_rows}
+use Rattle.bt_picker.specs.Tables.{AreCounted, PieceState, edit, fresh_piece, hidden_rows, less_available, more_available, one_if, piece_row}
+use Rattle.bt_picker.specs.Tables.{recounted, shown_rows}
 use Rattle.bt_picker.proofs.Tabled.{edit_past, edit_table, get_or_table, length_table, same_table, upto, upto_above, upto_below}
 
 module _ {A : Type 0} (n : ℕ) (g f : ℕ → A) where
@@ -97,7 +99,8 @@ hidden_then_shown rows before after =
     let hidden : ℕ → PieceState = λ p. less_available (slice_index_or before p false) (piece_row rows p) in
     let n = length rows in
     ap (λ (m : ℕ). table m (λ p. more_available (slice_index_or after p false) (piece_row (table n hidden) p))) (length_table n hidden)
-    ∙ same_table n (λ p. more_available (slice_index_or after p false) (piece_row (table n hidden) p)) (λ p. more_available (slice_index_or after p false) (hidden p))
+    ∙ same_table n (λ p. more_available (slice_index_or after p false) (piece_row (table n hidden) p))
+    (λ p. more_available (slice_index_or after p false) (hidden p))
     (λ k lk. ap (more_available (slice_index_or after k false)) (get_or_table n hidden k (fresh_piece 0) lk))
 
 pub hidden_alone : (rows : List PieceState) (before : List Bool) → hidden_rows before rows ≡ recounted rows before []
@@ -115,10 +118,12 @@ has_room rows now flags i p counted is from shown within =
     let long : length now ≡ n = ap length is ∙ length_table n (upto i g (piece_row rows)) in
     let lt : p < n = omega arith in
     let here : piece_row now p ≡ piece_row rows p =
-    ap (λ (l : List PieceState). piece_row l p) is ∙ (get_or_table n (upto i g (piece_row rows)) p (fresh_piece 0) lt ∙ upto_above i g (piece_row rows) p from) in
+    ap (λ (l : List PieceState). piece_row l p) is ∙ (get_or_table n (upto i g (piece_row rows)) p (fresh_piece 0) lt ∙
+    upto_above i g (piece_row rows) p from) in
     let fits = counted p (omega (arith, lt, length_table n g)) in
     let one : (piece_row (shown_rows flags rows) p).availability ≡ (piece_row rows p).availability + 1 =
-    ap (λ (r : PieceState). r.availability) (get_or_table n g p (fresh_piece 0) lt) ∙ ap (λ (b : Bool). (piece_row rows p).availability + one_if b) shown in
+    ap (λ (r : PieceState). r.availability) (get_or_table n g p (fresh_piece 0) lt) ∙
+    ap (λ (b : Bool). (piece_row rows p).availability + one_if b) shown in
     omega (arith, fits, one, ap (λ (r : PieceState). r.availability) here)
 
 -- a piece that was shown before stays as it is
@@ -127,6 +132,7 @@ edit_none [] i f same = refl
 edit_none (x ∷ xs) zero f same = ap (λ y. y ∷ xs) (same x)
 edit_none (x ∷ xs) (suc i) f same = ap (λ ys. x ∷ ys) (edit_none xs i f same)
 
-pub tells_nothing : (rows : List PieceState) (p : ℕ) (is_new : Bool) → is_new ≡ false → edit rows p (λ row. more_available is_new (less_available false row)) ≡ rows
+pub tells_nothing : (rows : List PieceState) (p : ℕ) (is_new : Bool) → is_new ≡ false →
+    edit rows p (λ row. more_available is_new (less_available false row)) ≡ rows
 tells_nothing rows p is_new old = edit_none rows p (λ row. more_available is_new (less_available false row))
     (λ row. shows_none is_new (less_available false row) old ∙ hides_none false row refl)

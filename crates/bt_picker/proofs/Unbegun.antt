@@ -1,5 +1,6 @@
 -- The groups of unbegun pieces, and the blocks that are yet to be asked, by the history.
-use Rattle.std.proofs.Common.{◌≡◌, ℕ, zero, suc, ◌+◌, ◌-◌, ◌<◌, ◌==◌, Bool, true, false, not, ◌&&◌, List, [], ◌∷◌, ◌++◌, length, map, refl, ap, sym, ◌∙◌, subst, arith}
+use Rattle.std.proofs.Common.{◌≡◌, ℕ, zero, suc, ◌+◌, ◌-◌, ◌<◌, ◌==◌, Bool, true, false, not, ◌&&◌, List, [], ◌∷◌, ◌++◌, length, map, refl, ap, sym}
+use Rattle.std.proofs.Common.{◌∙◌, subst, arith}
 use Rattle.std.specs.Prelude.{min, nat_lt, if◌then◌else◌}
 use Rattle.std.specs.List.{sum_by}
 use Rattle.std.proofs.Math.Nat.{min-eq_left}
@@ -18,7 +19,8 @@ use Rattle.bt_picker.specs.Unbegun.{is_unbegun_at, ListsUnbegun, unasked_count}
 use Rattle.bt_picker.proofs.Rows.{cells_long, group_unbegun, touched_counted, unbegun_group, uncrowded, wanted_chosen}
 use Rattle.bt_picker.proofs.Tabled.{get_or_table, length_table, map_table, table_more}
 
-module _ (s : Setting) (h : History) (n : ℕ) (pieces : List ℕ) (layout : IsLayout s.torrent) (under : n < 1025) (lists : ListsGroup (groups_of s h) (3 + n) pieces) where
+module _ (s : Setting) (h : History) (n : ℕ) (pieces : List ℕ) (layout : IsLayout s.torrent) (under : n < 1025)
+    (lists : ListsGroup (groups_of s h) (3 + n) pieces) where
   long : length (groups_of s h) ≡ piece_count s.torrent
   long = length_table (piece_count s.torrent) (λ p. group_of_row (piece_of s h p))
 
@@ -26,7 +28,8 @@ module _ (s : Setting) (h : History) (n : ℕ) (pieces : List ℕ) (layout : IsL
   listed i li =
       let p = at pieces i in
       let lp : p < piece_count s.torrent = omega (arith, lists.known i li, long) in
-      let group : group_of_row (piece_of s h p) ≡ 3 + n = sym (get_or_table (piece_count s.torrent) (λ r. group_of_row (piece_of s h r)) p 0 lp) ∙ lists.each i li in
+      let group : group_of_row (piece_of s h p) ≡ 3 + n = sym (get_or_table (piece_count s.torrent) (λ r. group_of_row (piece_of s h r)) p 0 lp) ∙
+      lists.each i li in
       let parts = group_unbegun s h p n group in
       let shown = uncrowded (availability s h p) n under parts.3 in
       and_from (wanted s h p) _ (wanted_chosen s h p lp ∙ parts.1)
@@ -49,9 +52,11 @@ module _ (s : Setting) (h : History) (n : ℕ) (pieces : List ℕ) (layout : IsL
   lists_unbegun = record { each = listed; all = all_listed; once = lists.once }
 
 -- the pieces of a group of tables that are those of the history
-pub group_unbegun_of : (t : TablesState) (h : History) (n : ℕ) (pieces : List ℕ) → AreTables t h → n < 1025 → ListsGroup (map group_of_row t.pieces) (3 + n) pieces → ListsUnbegun t.setting h n pieces
+pub group_unbegun_of : (t : TablesState) (h : History) (n : ℕ) (pieces : List ℕ) → AreTables t h → n < 1025 →
+    ListsGroup (map group_of_row t.pieces) (3 + n) pieces → ListsUnbegun t.setting h n pieces
 group_unbegun_of t h n pieces are under lists =
-    let rows : map group_of_row t.pieces ≡ groups_of t.setting h = ap (map group_of_row) are.pieces_are ∙ map_table group_of_row (piece_count t.setting.torrent) (piece_of t.setting h) in
+    let rows : map group_of_row t.pieces ≡ groups_of t.setting h =
+    ap (map group_of_row) are.pieces_are ∙ map_table group_of_row (piece_count t.setting.torrent) (piece_of t.setting h) in
     lists_unbegun t.setting h n pieces are.layout under (subst (λ (groups : List ℕ). ListsGroup groups (3 + n) pieces) rows lists)
 
 -- ---- the sum of unasked blocks
@@ -84,12 +89,15 @@ unasked_row s h p lp = by_choice (chosen h p) refl where
   touched : ℕ → Bool
   touched k = held_or_asked s h (block s.torrent p k)
 
-  by_choice : (x : Bool) → chosen h p ≡ x → (standing_of (piece_of s h p)).unasked ≡ count_below m (λ k. wanted s h p && unasked s h (block s.torrent p k))
+  by_choice : (x : Bool) → chosen h p ≡ x → (standing_of (piece_of s h p)).unasked ≡ count_below m
+      (λ k. wanted s h p && unasked s h (block s.torrent p k))
   by_choice true is =
       let rest = count_rest m touched in
-      let left : length row.blocks - touched_count row.blocks ≡ count_below m (λ k. not (touched k)) = omega (arith, rest, touched_counted s h p, cells_long s h p) in
+      let left : length row.blocks - touched_count row.blocks ≡ count_below m (λ k. not (touched k)) =
+      omega (arith, rest, touched_counted s h p, cells_long s h p) in
       (λ i. (if is i then length row.blocks else 0) - touched_count row.blocks)
-      ∙ (left ∙ count_same m (λ k. not (touched k)) (λ k. wanted s h p && not (touched k)) (λ k lk. ap (λ (x : Bool). x && not (touched k)) (sym (wanted_chosen s h p lp ∙ is))))
+      ∙ (left ∙ count_same m (λ k. not (touched k)) (λ k. wanted s h p && not (touched k))
+      (λ k lk. ap (λ (x : Bool). x && not (touched k)) (sym (wanted_chosen s h p lp ∙ is))))
   by_choice false is =
       (λ i. (if is i then length row.blocks else 0) - touched_count row.blocks)
       ∙ (nothing (touched_count row.blocks)
@@ -103,4 +111,5 @@ unasked_rows t h are =
     let s = t.setting in
     ap (sum_by (λ (row : PieceState). (standing_of row).unasked)) are.pieces_are
     ∙ (sum_table (piece_count s.torrent) (piece_of s h) (λ row. (standing_of row).unasked)
-    ∙ sum_same (piece_count s.torrent) (λ p. (standing_of (piece_of s h p)).unasked) (λ p. count_below (block_count s.torrent p) (λ k. wanted s h p && unasked s h (block s.torrent p k))) (unasked_row s h))
+    ∙ sum_same (piece_count s.torrent) (λ p. (standing_of (piece_of s h p)).unasked)
+    (λ p. count_below (block_count s.torrent p) (λ k. wanted s h p && unasked s h (block s.torrent p k))) (unasked_row s h))

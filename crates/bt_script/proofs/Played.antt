@@ -2,7 +2,8 @@
 use Rattle.std.proofs.Common.{◌≡◌, ◌<◌, ◌≤◌, ◌+◌, ℕ, List, inl, inr, length, arith, subst, below_more}
 use Rattle.bt_script.specs.declared.fault.Fault.{Fault}
 use Rattle.bt_script.specs.declared.fault.Fault.TheVariants as faults
-use Rattle.bt_script.specs.Scripts.{Passes, PassTo, Starts, AreScript, FailsLater, FailsToStart, LacksLines, StopsOpening, Blames, Explains, IsScript, lines_of, line_at}
+use Rattle.bt_script.specs.Scripts.{Passes, PassTo, Starts, AreScript, FailsLater, FailsToStart, LacksLines, StopsOpening, Blames, Explains}
+use Rattle.bt_script.specs.Scripts.{IsScript, lines_of, line_at}
 
 -- one more line that passes
 pub PassTo-more : (lines : List (List ℕ)) (from w p i : ℕ) → PassTo lines from w p i → Passes w p (line_at lines i) → PassTo lines from w p (i + 1)

@@ -7,9 +7,11 @@ use Rattle.bt_script.specs.declared.text.Said.{Said}
 use Rattle.bt_script.specs.declared.text.Tail.{Tail}
 use Rattle.bt_script.specs.declared.text.Tail.TheVariants.{Nothing, Block, Number}
 use Rattle.bt_history.specs.declared.call.Reason.{Reason}
-use Rattle.bt_history.specs.declared.call.Reason.TheVariants.{NotJoined, AlreadyJoined, LateBits, WrongCount, NoSuchPiece, NoSuchBlock, WrongLength, NotWaiting, Stale}
+use Rattle.bt_history.specs.declared.call.Reason.TheVariants.{NotJoined, AlreadyJoined, LateBits, WrongCount, NoSuchPiece, NoSuchBlock, WrongLength}
+use Rattle.bt_history.specs.declared.call.Reason.TheVariants.{NotWaiting, Stale}
 use Rattle.bt_history.specs.declared.call.Reply.{Reply}
-use Rattle.bt_history.specs.declared.call.Reply.TheVariants.{Joined, Noted, Quiet, Cancel, Request, Choked, PipeFull, Idle, NothingLeft, Stored, Completed, Dropped, Had, Failed, Refused}
+use Rattle.bt_history.specs.declared.call.Reply.TheVariants.{Joined, Noted, Quiet, Cancel, Request, Choked, PipeFull, Idle, NothingLeft, Stored}
+use Rattle.bt_history.specs.declared.call.Reply.TheVariants.{Completed, Dropped, Had, Failed, Refused}
 
 -- a byte as two hexadecimal digits in lower case
 abbrev pub hex_byte : ℕ → List ℕ

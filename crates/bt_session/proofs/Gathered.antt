@@ -56,7 +56,8 @@ swarmed_one : (journal : History) (outcome : Result End SessionFault) (terms : T
 swarmed_one journal outcome terms setting seed number worker worker' old new log fresh plays logged known =
     let begun : worker_record setting worker false ≡ pass_record setting number [] no_piece no_piece false =
     (λ i. pass_record setting (fresh.number_is i) (fresh.log i) (λ piece. fresh.seen piece i) (λ piece. fresh.told piece i) false) in
-    let ended : worker_record setting worker' plays.short ≡ pass_record setting number log (knows setting worker'.seat) (tells worker'.seat) plays.short =
+    let ended : worker_record setting worker' plays.short ≡ pass_record setting number log (knows setting worker'.seat) (tells worker'.seat)
+    plays.short =
     (λ i. pass_record setting ((plays.number ∙ fresh.number_is) i) (logged i) (knows setting worker'.seat) (tells worker'.seat) plays.short) in
     let Runs : ℕ → PlaceRecord → PlaceRecord → Type 0 = λ w first after. RunsTo outcome terms w (generator_of seed w) first old after new in
     record {

@@ -11,7 +11,7 @@ use Rattle.bt_history.specs.declared.mark.Mark.{Mark}
 use Rattle.bt_history.specs.Setting.{Setting}
 use Rattle.bt_shared.specs.Passes.{Enters, Notes, PassState, Rests, mark}
 use Rattle.bt_peer.specs.Desks.{calls_of_marks}
-use Rattle.bt_peer.specs.Events.{Called}
+use Rattle.bt_peer.specs.Acts.{Called}
 use Rattle.bt_session.specs.Checking.{IsQuiet}
 use Rattle.bt_session.specs.Passes.{pass_record}
 use Rattle.bt_peer.specs.Places.{Gains}
@@ -35,7 +35,8 @@ module _ (setting : Setting) (old new : PassState) (had told : ℕ → Bool) (sh
   }
 
 -- an entry is noted by its mark
-pub notes_entered : {E : Type 0} (result : Result Reply E) (worker : ℕ) (call : Call) (old new : PassState) → IfOk result (λ reply. Enters (event worker call reply) old new)
+pub notes_entered : {E : Type 0} (result : Result Reply E) (worker : ℕ) (call : Call) (old new : PassState) →
+    IfOk result (λ reply. Enters (event worker call reply) old new)
     → IfOk result (λ reply. Notes old (call_mark (action_of call)) reply new)
 notes_entered (Ok reply) worker call old new enters = record { place = length enters.0; worker = enters.1.same.worker; log = enters.1.log }
 notes_entered (Err e) worker call old new enters = tt
@@ -48,7 +49,8 @@ quiet_err (Ok a) old new rests = tt
 quiet_err (Err e) old new rests = quiet_rests old new rests
 
 -- what was quiet before a call that was noted, or wasn't made
-pub quiet_notes : (old found new : PassState) (call : CallMark) (reply : Reply) → Rests old found → Notes found call reply new → Notes old call reply new
+pub quiet_notes : (old found new : PassState) (call : CallMark) (reply : Reply) → Rests old found → Notes found call reply new →
+    Notes old call reply new
 quiet_notes old found new call reply rests notes = record {
   place = notes.place;
   worker = notes.worker ∙ rests.same.worker;

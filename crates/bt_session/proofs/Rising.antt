@@ -25,7 +25,8 @@ none_yet pass = record {
 goes_same : (first old new : PassState) (piece : ℕ) → IsQuiet old new → ChecksLast first old piece → ChecksLast first new (piece + 1)
 goes_same first old new piece quiet was = record {
   worker = quiet.worker ∙ was.worker;
-  rise = λ none. subst (λ (log : List Mark). ChecksRise 0 log (piece + 1)) (sym quiet.log) (rise_up 0 old.log piece (piece + 1) (omega arith) (was.rise none));
+  rise = λ none. subst (λ (log : List Mark). ChecksRise 0 log (piece + 1)) (sym quiet.log)
+      (rise_up 0 old.log piece (piece + 1) (omega arith) (was.rise none));
 }
 
 -- the check of one more piece was asked for, whatever the answer

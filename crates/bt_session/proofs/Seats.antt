@@ -1,5 +1,6 @@
 -- The seats of a new board, and the seat that all are joined to.
-use Rattle.std.proofs.Common.{◌≡◌, ◌<◌, ◌≤◌, ◌+◌, ℕ, zero, suc, Bool, true, false, List, [], ◌∷◌, ◌++◌, length, map, get_or, slice_get, Option, Some, refl, sym, ap, subst, ◌∙◌, inl, inr, ⊎_elim, arith, append_assoc}
+use Rattle.std.proofs.Common.{◌≡◌, ◌<◌, ◌≤◌, ◌+◌, ℕ, zero, suc, Bool, true, false, List, [], ◌∷◌, ◌++◌, length, map, get_or, slice_get, Option}
+use Rattle.std.proofs.Common.{Some, refl, sym, ap, subst, ◌∙◌, inl, inr, ⊎_elim, arith, append_assoc}
 use Rattle.std.proofs.lemmas.List.{append-nil, map-append}
 use Rattle.std.proofs.lemmas.Option.{same_Some}
 use Rattle.std.proofs.lemmas.List.Elements.{All-append, All-cons}
@@ -53,14 +54,16 @@ pub are_new_passes : (desk : SharedState) (setting : Setting) (ps : List PassSta
     ((w : ℕ) → w < length ps → slice_get ps w ≡ Some (passes.newcomer desk w)) → AreNumbered (IsNewPass (Some desk.table) setting) 0 ps
 are_new_passes desk setting ps same gets i any below =
     subst (λ (s : Setting). IsNewPass (Some desk.table) s (0 + i) (get_or ps i any)) same
-    (subst (IsNewPass (Some desk.table) desk.setting (0 + i)) (sym (from_gets (passes.newcomer desk) ps gets i any below)) (are_new_pass desk (0 + i)))
+    (subst (IsNewPass (Some desk.table) desk.setting (0 + i)) (sym (from_gets (passes.newcomer desk) ps gets i any below))
+    (are_new_pass desk (0 + i)))
 
 -- what has one name is one
 pub same_table : (name : Option TableId) (a b : TableId) → name ≡ Some a → name ≡ Some b → a ≡ b
 same_table name a b is_a is_b = same_Some a b (sym is_a ∙ is_b)
 
 -- a worker belongs to its run whatever its pass has seen
-pub belongs_on : (setting : Setting) (desk board : Option TableId) (queue : Option Queue) (old new : PassState) (seat : SeatState) (tickets : TicketState) →
+pub belongs_on : (setting : Setting) (desk board : Option TableId) (queue : Option Queue) (old new : PassState) (seat : SeatState)
+    (tickets : TicketState) →
     IsSame old new → Belongs setting desk board queue (record { pass = old; seat = seat; tickets = tickets }) →
     Belongs setting desk board queue (record { pass = new; seat = seat; tickets = tickets })
 belongs_on setting desk board queue old new seat tickets same was = record {
@@ -71,14 +74,16 @@ belongs_on setting desk board queue old new seat tickets same was = record {
 }
 
 -- the passes of a run's desk
-pub are_of : (desk : SharedState) (name : Option TableId) (setting : Setting) (ps : List PassState) → name ≡ Some desk.table → desk.setting ≡ setting →
+pub are_of : (desk : SharedState) (name : Option TableId) (setting : Setting) (ps : List PassState) → name ≡ Some desk.table →
+    desk.setting ≡ setting →
     AreNamed name setting ps → AreOf desk ps
 are_of desk name setting ps desk_is same named k p at =
     let is = named k p at in
     record { table = same_table name p.table desk.table is.desk_is desk_is; setting = is.setting_is ∙ sym same }
 
 -- a new worker of a new seat
-pub belongs : (setting : Setting) (desk board : Option TableId) (queue : Option Queue) (number : ℕ) (pass : PassState) (seat : SeatState) (tickets : TicketState) →
+pub belongs : (setting : Setting) (desk board : Option TableId) (queue : Option Queue) (number : ℕ) (pass : PassState) (seat : SeatState)
+    (tickets : TicketState) →
     IsNewPass desk setting number pass → IsNewSeat board number seat → queue ≡ Some tickets.queue →
     Belongs setting desk board queue (record { pass = pass; seat = seat; tickets = tickets })
 belongs setting desk board queue number pass seat tickets is new queue_is = record {
@@ -90,7 +95,8 @@ belongs setting desk board queue number pass seat tickets is new queue_is = reco
 
 pub is_fresh : (setting : Setting) (desk board : Option TableId) (number : ℕ) (pass : PassState) (seat : SeatState) (tickets : TicketState) →
     IsNewPass desk setting number pass → IsNewSeat board number seat → IsFresh setting number (record { pass = pass; seat = seat; tickets = tickets })
-is_fresh setting desk board number pass seat tickets is new = record { number_is = is.number_is; log = is.log; seen = new.seen setting; told = new.told }
+is_fresh setting desk board number pass seat tickets is new =
+    record { number_is = is.number_is; log = is.log; seen = new.seen setting; told = new.told }
 
 -- ---- joined seats
 
@@ -125,7 +131,8 @@ takes_right v w worker takes = record {
 }
 
 -- The first of the workers were parted into these passes and this seat
-pub record Joins (setting : Setting) (desk : Option TableId) (table : TableId) (workers rest : List WorkerState) (passes : List PassState) (all : SeatState) : Type 0 where
+pub record Joins (setting : Setting) (desk : Option TableId) (table : TableId) (workers rest : List WorkerState) (passes : List PassState)
+    (all : SeatState) : Type 0 where
   pub done : List WorkerState
   pub split : done ++ rest ≡ workers
   pub passes_are : passes ≡ map (λ w. w.pass) done
@@ -136,7 +143,8 @@ pub record Joins (setting : Setting) (desk : Option TableId) (table : TableId) (
 one : (P : WorkerState → Type 0) (w : WorkerState) → P w → All P (w ∷ [])
 one P w is = All-cons P w [] is (λ i d below. absurd (omega (arith, below)))
 
-named_more : (setting : Setting) (desk : Option TableId) (passes passes' : List PassState) (pass : PassState) → AreNamed desk setting passes → IsNamed desk setting pass →
+named_more : (setting : Setting) (desk : Option TableId) (passes passes' : List PassState) (pass : PassState) → AreNamed desk setting passes →
+    IsNamed desk setting pass →
     passes' ≡ passes ++ pass ∷ [] → AreNamed desk setting passes'
 named_more setting desk passes passes' pass old new more = subst (AreNamed desk setting) (sym more) (go passes old)
   where
@@ -146,7 +154,8 @@ named_more setting desk passes passes' pass old new more = subst (AreNamed desk 
     go (q ∷ ps) named zero p at = named zero p at
     go (q ∷ ps) named (suc k) p at = go ps (λ i. named (suc i)) k p at
 
-pub joins_first : (setting : Setting) (desk : Option TableId) (table : TableId) (workers rest : List WorkerState) (w : WorkerState) (passes : List PassState) → workers ≡ w ∷ rest → own w → IsNamed desk setting w.pass →
+pub joins_first : (setting : Setting) (desk : Option TableId) (table : TableId) (workers rest : List WorkerState) (w : WorkerState)
+    (passes : List PassState) → workers ≡ w ∷ rest → own w → IsNamed desk setting w.pass →
     passes ≡ w.pass ∷ [] → w.seat.table ≡ table → Joins setting desk table workers rest passes w.seat
 joins_first setting desk table workers rest w passes is mine named passes_are table_is = record {
   done = w ∷ [];
@@ -157,7 +166,8 @@ joins_first setting desk table workers rest w passes is mine named passes_are ta
   table_is = table_is;
 }
 
-pub joins_more : (setting : Setting) (desk : Option TableId) (table : TableId) (workers rest rest' : List WorkerState) (w : WorkerState) (passes passes' : List PassState) (all all' : SeatState) →
+pub joins_more : (setting : Setting) (desk : Option TableId) (table : TableId) (workers rest rest' : List WorkerState) (w : WorkerState)
+    (passes passes' : List PassState) (all all' : SeatState) →
     Joins setting desk table workers rest passes all → rest ≡ w ∷ rest' → own w → IsNamed desk setting w.pass → passes' ≡ passes ++ w.pass ∷ [] →
     all'.view ≡ both all.view w.seat.view → all'.table ≡ table → Joins setting desk table workers rest' passes' all'
 joins_more setting desk table workers rest rest' w passes passes' all all' was is mine named more view table_is = record {
@@ -176,10 +186,12 @@ nothing_left : {X : Type 0} (xs : List X) → length xs ≡ 0 → xs ≡ []
 nothing_left [] none = refl
 nothing_left (x ∷ xs) none = absurd (omega (arith, none))
 
-pub all_taken : {setting : Setting} {desk : Option TableId} {table : TableId} {workers rest : List WorkerState} {passes : List PassState} {all : SeatState} → Joins setting desk table workers rest passes all →
+pub all_taken : {setting : Setting} {desk : Option TableId} {table : TableId} {workers rest : List WorkerState} {passes : List PassState}
+    {all : SeatState} → Joins setting desk table workers rest passes all →
     length rest ≡ 0 → All (Takes all.view) workers
 all_taken {setting} {desk} {table} {workers} {rest} {passes} {all} was none =
-    let is : was.done ≡ workers = sym (append-nil was.done) ∙ (ap (λ (l : List WorkerState). was.done ++ l) (sym (nothing_left rest none)) ∙ was.split) in
+    let is : was.done ≡ workers = sym (append-nil was.done) ∙
+    (ap (λ (l : List WorkerState). was.done ++ l) (sym (nothing_left rest none)) ∙ was.split) in
     subst (All (Takes all.view)) is was.takes
 
 -- ---- all seats in one

@@ -1,5 +1,6 @@
 -- What a seat's news tells, and what the place of its worker gains by it.
-use Rattle.std.proofs.Common.{◌≡◌, ◌⊎◌, ◌↔◌, ◌<◌, ◌+◌, ◌/◌, ℕ, Bool, true, false, List, [], ◌∷◌, length, Option, Some, None, refl, sym, ap, subst, ◌∙◌, arith}
+use Rattle.std.proofs.Common.{◌≡◌, ◌⊎◌, ◌↔◌, ◌<◌, ◌+◌, ◌/◌, ℕ, Bool, true, false, List, [], ◌∷◌, length, Option, Some, None, refl, sym, ap, subst}
+use Rattle.std.proofs.Common.{◌∙◌, arith}
 use Rattle.std.proofs.lemmas.List.{append-nil}
 use Rattle.std.specs.Prelude.{IfSome, IfNone}
 use Rattle.bt_board.proofs.Knowing.{all_given, given_more, not_given, seen_decides, seen_found, seen_stays, seen_with_loads}
@@ -10,7 +11,7 @@ use Rattle.bt_board.specs.declared.view.View.{View}
 use Rattle.bt_history.specs.Setting.{Setting}
 use Rattle.bt_meta.specs.Layout.{Layout, piece_count}
 use Rattle.bt_peer.specs.Desks.{calls_of_marks}
-use Rattle.bt_peer.specs.Events.{News}
+use Rattle.bt_peer.specs.Acts.{News}
 use Rattle.bt_peer.specs.Places.{AllTold, Gains}
 use Rattle.bt_check.specs.declared.ticket.Ticket.{Ticket}
 use Rattle.bt_session.specs.Checking.{PutsIf}
@@ -101,7 +102,8 @@ module _ (setting : Setting) (old new : WorkerState) (short : Bool) (same : new.
   )
 
 -- a ticket doesn't show at the place
-gains_none : (setting : Setting) (worker : WorkerState) (short : Bool) → Gains (worker_record setting worker short) [] (worker_record setting worker short)
+gains_none : (setting : Setting) (worker : WorkerState) (short : Bool) →
+    Gains (worker_record setting worker short) [] (worker_record setting worker short)
 gains_none setting worker short = record {
   up_to = record {
     lent = refl;

@@ -1,5 +1,6 @@
 -- The workers of a run in threads: what each of them has, and what its seat knows.
-use Rattle.std.specs.Prelude.{◌≡◌, ◌==◌, ◌<◌, ◌+◌, if◌then◌else◌, ℕ, Bool, true, false, List, [], ◌∷◌, length, slice_get, slice_index_or, Option, Some}
+use Rattle.std.specs.Prelude.{◌≡◌, ◌==◌, ◌<◌, ◌+◌, if◌then◌else◌, ℕ, Bool, true, false, List, [], ◌∷◌, length, slice_get, slice_index_or, Option}
+use Rattle.std.specs.Prelude.{Some}
 use Rattle.atomic_table.specs.Seated.{TableId}
 use Rattle.bt_board.specs.Knowing.{has_seen, has_given}
 use Rattle.bt_board.specs.Seats.{BoardState, SeatState}

@@ -100,7 +100,7 @@ pub fn crew<
     requires depth { (1 ≤ depth) × (depth ≤ 64) }
     ensures count { IfOk result (λ r. length r.played.items ≡ length streams.items) }
     ensures checkers { IfOk result (λ r. length r.checked.items ≡ length checkers.items) }
-    ensures plays { IfOk result (λ r. EachPlays (stream_record R.left R.ended R.failed R.asked W.written W.failed)
+    ensures plays { IfOk result (λ r. EachPlays (stream_record R.left R.ended R.failed R.reads W.written W.failed)
         (terms_of commons.now depth) L.setting seed sessions.items streams.items
         (map (λ p. p.end) r.played.items) (map (λ p. p.worker) r.played.items) (map (λ p. p.stream) r.played.items)) }
     ensures checks { IfOk result (λ r. EachMakesChecks checkers.items (map (λ c. c.worker) r.checked.items)) }
@@ -115,7 +115,7 @@ pub fn crew<
             requires depth { (1 ≤ depth) × (depth ≤ 64) }
             ensures count { IfOk result (λ r. length r.played.items ≡ length streams.items) }
             ensures checkers { IfOk result (λ r. length r.checked.items ≡ length checkers.items) }
-            ensures plays { IfOk result (λ r. EachPlays (stream_record R.left R.ended R.failed R.asked W.written W.failed)
+            ensures plays { IfOk result (λ r. EachPlays (stream_record R.left R.ended R.failed R.reads W.written W.failed)
                 (terms_of commons.entry.now depth) L.setting seed sessions.items streams.items
                 (map (λ p. p.end) r.played.items) (map (λ p. p.worker) r.played.items) (map (λ p. p.stream) r.played.items)) }
             ensures checks { IfOk result (λ r. EachMakesChecks checkers.items (map (λ c. c.worker) r.checked.items)) }

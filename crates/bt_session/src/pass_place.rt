@@ -2,7 +2,7 @@
 
 ghost use Rattle.std.specs.Prelude.{◌≡◌, List, true, false, OnOk, OnErr};
 ghost use Rattle.bt_peer.specs.Conduct.{SettlesAtOnce};
-ghost use Rattle.bt_peer.specs.Events.{Event};
+ghost use Rattle.bt_peer.specs.Acts.{Act};
 ghost use Rattle.bt_peer.specs.Places.{Gains, LacksMemory};
 ghost use Rattle.bt_peer.specs.Turns.{ChecksAtMost};
 ghost use Rattle.bt_session.specs.Passes.{PutsTicket, worker_record};
@@ -94,8 +94,8 @@ impl<'a, L: RunName, T: Wait> Place for PassPlace<'a, L, T> {
     }
 
     fn completed(&mut self, _alloc: Global, piece: u32) -> Result<(), AllocError>
-        ensures ok { OnOk result ((events : List Event) × (ChecksAtMost piece events
-            × Gains (⟦<PassPlace<'a, L, T> as Place>⟧.past self.old) events (⟦<PassPlace<'a, L, T> as Place>⟧.past self.new))) }
+        ensures ok { OnOk result ((acts : List Act) × (ChecksAtMost piece acts
+            × Gains (⟦<PassPlace<'a, L, T> as Place>⟧.past self.old) acts (⟦<PassPlace<'a, L, T> as Place>⟧.past self.new))) }
         ensures at_once { OnOk result (false ≡ true → false ≡ true →
             SettlesAtOnce piece (⟦<PassPlace<'a, L, T> as Place>⟧.past self.old).calls (⟦<PassPlace<'a, L, T> as Place>⟧.past self.new).calls) }
         ensures err { OnErr result (LacksMemory (⟦<PassPlace<'a, L, T> as Place>⟧.past self.old) (⟦<PassPlace<'a, L, T> as Place>⟧.past self.new)) }

@@ -39,8 +39,8 @@ pub fn play<L: RunName, R: Source, W: Sink, T: Wait, G: Gate>(
 ) -> Played<L, R, W>
     requires { (1 ≤ depth) × (depth ≤ 64) }
     ensures { Plays result.end (terms_of torrent.value depth) L.setting seed
-        worker (stream_record R.left R.ended R.failed R.asked W.written W.failed stream)
-        result.worker (stream_record R.left R.ended R.failed R.asked W.written W.failed result.stream) }
+        worker (stream_record R.left R.ended R.failed R.reads W.written W.failed stream)
+        result.worker (stream_record R.left R.ended R.failed R.reads W.written W.failed result.stream) }
 {
     let number = worker.number();
     let mut rng = Lcg64Xsh32::new(seed, u64::from(number));

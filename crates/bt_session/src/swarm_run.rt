@@ -138,7 +138,7 @@ fn run<
     ensures agrees { IfOk result (λ run. EachAgrees run.book.desk.history run.book.logs.items) }
     ensures ends { IfOk result (λ run. length run.ends.items ≡ length streams.items) }
     ensures streams { IfOk result (λ run. length run.streams.items ≡ length streams.items) }
-    ensures sessions { IfOk result (λ run. EachSwarmed (stream_record R.left R.ended R.failed R.asked W.written W.failed)
+    ensures sessions { IfOk result (λ run. EachSwarmed (stream_record R.left R.ended R.failed R.reads W.written W.failed)
         (terms_of torrent.value rules.depth) L.setting seed
         streams.items run.book.desk.history run.book.logs.items run.streams.items run.ends.items) }
     ensures checks { IfOk result (λ run. CheckersCheck (length streams.items) checkers run.book.logs.items) }
@@ -213,7 +213,7 @@ pub fn swarm<
     ensures streams { IfOk result (λ run. length run.streams.items ≡ length streams.items) }
     // Each session ran from the empty log and the stream as it was handed in to its worker's log and the stream as it was given back, with
     // the words of the generator of the seed and its number.
-    ensures sessions { IfOk result (λ run. EachSwarmed (stream_record R.left R.ended R.failed R.asked W.written W.failed)
+    ensures sessions { IfOk result (λ run. EachSwarmed (stream_record R.left R.ended R.failed R.reads W.written W.failed)
         (terms_of torrent.value rules.depth) (setting_of torrent.value.layout (length streams.items + checkers + 1) rules) seed
         streams.items run.book.desk.history run.book.logs.items run.streams.items run.ends.items) }
     // The checkers made checks alone.

@@ -31,8 +31,8 @@ pub struct PlayOf<L: RunName, R, W> {
 
 impl<L: RunName, R: Source, W: Sink> Promise<Played<L, R, W>> for PlayOf<L, R, W> {
     ghost kept_by = { λ p r. Plays r.end (terms_of p.torrent.value.value p.depth) L.setting p.seed
-        p.worker.value (stream_record R.left R.ended R.failed R.asked W.written W.failed p.stream.value)
-        r.worker (stream_record R.left R.ended R.failed R.asked W.written W.failed r.stream) };
+        p.worker.value (stream_record R.left R.ended R.failed R.reads W.written W.failed p.stream.value)
+        r.worker (stream_record R.left R.ended R.failed R.reads W.written W.failed r.stream) };
 }
 
 /// Starts the thread of a session.
@@ -73,8 +73,8 @@ fn start<
     let job = move || -> Played<L, R, W>
         requires { (1 ≤ depth) × (depth ≤ 64) }
         ensures { Plays result.end (terms_of torrent.value depth) L.setting seed
-            worker (stream_record R.left R.ended R.failed R.asked W.written W.failed stream)
-            result.worker (stream_record R.left R.ended R.failed R.asked W.written W.failed result.stream) }
+            worker (stream_record R.left R.ended R.failed R.reads W.written W.failed stream)
+            result.worker (stream_record R.left R.ended R.failed R.reads W.written W.failed result.stream) }
     {
         play(
             rt, alloc, torrent, commons, worker, stream, seed, depth, gate,

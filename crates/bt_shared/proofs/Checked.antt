@@ -12,7 +12,8 @@ use Rattle.bt_shared.specs.Passes.{Enters, EntersAt, IsSame, LogsIf, PassState, 
 use Rattle.bt_shared.specs.Seen.{Continues}
 
 -- of the pass before, as it was read and as it is seen, and after, where the history was found so
-module _ (view before after : PassState) (is : view ≡ before) (found : DeskState) (goes : Continues view.worker view.seen found.history) (same : IsSame view after) where
+module _ (view before after : PassState) (is : view ≡ before) (found : DeskState) (goes : Continues view.worker view.seen found.history)
+    (same : IsSame view after) where
   pub rests : after.seen ≡ found.history → after.log ≡ view.log → Rests before after
   rests seen log =
       let P : PassState → Type 0 = λ b. Rests b after in
@@ -34,7 +35,8 @@ module _ (view before after : PassState) (is : view ≡ before) (found : DeskSta
     settles : (b : Bool) (p : ℕ) (reply : Reply) → waits found.setting found.history p ≡ b → SettlesIf b found new view.worker p reply
         → LogsIf b (length found.history) view.log p reply after.log → after.setting ≡ found.setting → Settles p reply view after
     settles true p reply waiting made log setting =
-        let P : Setting → Type 0 = λ s. (waits s found.history p ≡ true) × EntersAt found.history (settling s found.history view.worker p reply) view after in
+        let P : Setting → Type 0 = λ s. (waits s found.history p ≡ true) ×
+        EntersAt found.history (settling s found.history view.worker p reply) view after in
         let all = subst P (sym setting) (waiting, record { same = same; seen = goes; entered = seen ∙ made.entered; log = log }) in
         inl record { found = found.history; waiting = all.0; enters = all.1 }
     settles false p reply waiting made log setting =
@@ -46,7 +48,8 @@ module _ (view before after : PassState) (is : view ≡ before) (found : DeskSta
         }
 
     pub settles_ok : {E : Type 0} (result : Result Reply E) (p : ℕ) → IfOk result (λ reply. SettlesNow found new view.worker p reply)
-        → IfOk result (λ reply. LogsIf (waits found.setting found.history p) (length found.history) view.log p reply after.log) → after.setting ≡ found.setting
+        → IfOk result (λ reply. LogsIf (waits found.setting found.history p) (length found.history) view.log p reply after.log) →
+        after.setting ≡ found.setting
         → IfOk result (λ reply. Settles p reply before after)
     settles_ok (Ok reply) p made log setting =
         let P : PassState → Type 0 = λ b. Settles p reply b after in

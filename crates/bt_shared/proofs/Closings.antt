@@ -1,5 +1,6 @@
 -- What a closed table tells of the desk in its slot, and of the seats that were joined before.
-use Rattle.std.proofs.Common.{◌≡◌, ◌≢◌, ◌⊎◌, ℕ, ◌≤◌, ◌==◌, true, false, List, [], ◌∷◌, ◌++◌, Option, None, Some, length, refl, sym, ap, ◌∙◌, subst, arith, ne_eqb, inl, inr, ⊎_elim}
+use Rattle.std.proofs.Common.{◌≡◌, ◌≢◌, ◌⊎◌, ℕ, ◌≤◌, ◌==◌, true, false, List, [], ◌∷◌, ◌++◌, Option, None, Some, length, refl, sym, ap, ◌∙◌, subst}
+use Rattle.std.proofs.Common.{arith, ne_eqb, inl, inr, ⊎_elim}
 use Rattle.std.proofs.lemmas.List.{length-map}
 use Rattle.std.specs.Prelude.{IfNone, IfSome, IsSome, IsSomeAnd, slice_index}
 use mathlib.Core.Logic.{dite}
@@ -58,7 +59,8 @@ module _ (setting : Setting) (ws : List ℕ) (xs : List Slot) (result : Slot)
     module _ (id : ℕ) (m : Sat) (at : get_elem? s.views id ≡ some m.0) (idle : m.0.taken ≡ false) where
       saw_found : IfSome result (λ (d : DeskState). Each (Saw d.history m.0.part.workers) m.0.parts)
       saw_found = ⊎_elim
-          (λ there. subst (λ (o : Slot). IfSome o (λ (d : DeskState). Each (Saw d.history m.0.part.workers) m.0.parts)) (sym there.1) (r.each id m.0 at).parts)
+          (λ there. subst (λ (o : Slot). IfSome o (λ (d : DeskState). Each (Saw d.history m.0.part.workers) m.0.parts)) (sym there.1)
+          (r.each id m.0 at).parts)
           (λ away. subst (λ (o : Slot). IfSome o (λ (d : DeskState). Each (Saw d.history m.0.part.workers) m.0.parts)) (sym away.1) tt)
           found
 
@@ -100,11 +102,13 @@ known h workers [] saw = tt
 known h workers (p ∷ ps) saw = (saw.0.knows, known h workers ps saw.1)
 
 -- one more pass's seat, into which the others were joined
-pub joined_more : (others : Option (Seat Slot View)) (seat result : Seat Slot View) (rest : List PassState) (p : PassState) (w : ℕ) → IsSeatOf w seat.me
+pub joined_more : (others : Option (Seat Slot View)) (seat result : Seat Slot View) (rest : List PassState) (p : PassState) (w : ℕ) →
+    IsSeatOf w seat.me
     → w ≡ p.worker → seat.me.0.part.seen ≡ p.seen → IsIdle result.me → IfNone others (result ≡ seat)
     → IfSome others (λ (s : Seat Slot View). result.me.0.part.workers ≡ seat.me.0.part.workers ++ s.me.0.part.workers)
     → IfSome others (λ (s : Seat Slot View). result.me.0.parts ≡ seat.me.0.parts ++ s.me.0.parts)
-    → IfNone others (rest ≡ []) → (T : TableId) → IfSome others (λ (s : Seat Slot View). (s.table_id ≡ T) × IsJoined rest s.me) → IsJoined (p ∷ rest) result.me
+    → IfNone others (rest ≡ []) → (T : TableId) → IfSome others (λ (s : Seat Slot View). (s.table_id ≡ T) × IsJoined rest s.me) →
+    IsJoined (p ∷ rest) result.me
 joined_more None seat result rest p w is worker seen idle none workers parts empty T joined = record {
   idle = idle;
   workers = ap (λ (s : Seat Slot View). s.me.0.part.workers) none ∙ (is.alone ∙ (λ k. worker k ∷ workers_of (sym empty k)));
@@ -117,13 +121,15 @@ joined_more (Some s) seat result rest p w is worker seen idle none workers parts
 }
 
 module _ (s : Setting) (passes : List PassState) (m : Sat) (joined : IsJoined passes m) where
-  pub joined_knows : (result : Slot) → IfSome result (λ (d : DeskState). Each (Saw d.history m.0.part.workers) m.0.parts) → IfSome result (λ (d : DeskState). EachKnows d.history passes)
+  pub joined_knows : (result : Slot) → IfSome result (λ (d : DeskState). Each (Saw d.history m.0.part.workers) m.0.parts) →
+      IfSome result (λ (d : DeskState). EachKnows d.history passes)
   joined_knows None saw = tt
   joined_knows (Some d) saw = known d.history m.0.part.workers passes (subst (Each (Saw d.history m.0.part.workers)) joined.parts saw)
 
   -- with a pass of each worker the desk is there, and no entry is missing
   pub joined_all : (result : Slot) → IfSome result (λ (d : DeskState). d.setting ≡ s) → IfSome result (λ (d : DeskState). IsLegal d.setting d.history)
-      → IfSome result (λ (d : DeskState). EachKnows d.history passes) → AreCounted s m.0.part.workers → (IsEveryone s m.0.part.workers → IsSome result)
+      → IfSome result (λ (d : DeskState). EachKnows d.history passes) → AreCounted s m.0.part.workers →
+      (IsEveryone s m.0.part.workers → IsSome result)
       → EachOwn passes → length passes ≡ s.workers → IsSomeAnd result (λ (d : DeskState). IsEntered d passes)
   joined_all result setting legal knows counted free own all =
       let workers = m.0.part.workers in
@@ -132,7 +138,8 @@ module _ (s : Setting) (passes : List PassState) (m : Sat) (joined : IsJoined pa
       go result setting legal knows (free each) each
     where
       go : (result : Slot) → IfSome result (λ (d : DeskState). d.setting ≡ s) → IfSome result (λ (d : DeskState). IsLegal d.setting d.history)
-          → IfSome result (λ (d : DeskState). EachKnows d.history passes) → IsSome result → IsEveryone s m.0.part.workers → IsSomeAnd result (λ (d : DeskState). IsEntered d passes)
+          → IfSome result (λ (d : DeskState). EachKnows d.history passes) → IsSome result → IsEveryone s m.0.part.workers →
+          IsSomeAnd result (λ (d : DeskState). IsEntered d passes)
       go None setting legal knows is each = absurd cc
       go (Some d) setting legal knows is each =
           all_marks s d.history passes (subst (λ (t : Setting). IsLegal t d.history) setting legal) knows own
@@ -140,7 +147,8 @@ module _ (s : Setting) (passes : List PassState) (m : Sat) (joined : IsJoined pa
 
 -- the same, where the seats of the passes were joined into one, if there are passes
 module _ (s : Setting) (passes : List PassState) (T : TableId) (result : Slot) where
-  pub closed_knows : (all : Option (Seat Slot View)) → IfNone all (passes ≡ []) → IfSome all (λ (seat : Seat Slot View). (seat.table_id ≡ T) × IsJoined passes seat.me)
+  pub closed_knows : (all : Option (Seat Slot View)) → IfNone all (passes ≡ []) →
+      IfSome all (λ (seat : Seat Slot View). (seat.table_id ≡ T) × IsJoined passes seat.me)
       → IfSome all (λ (seat : Seat Slot View). IfSome result (λ (d : DeskState). Each (Saw d.history seat.me.0.part.workers) seat.me.0.parts))
       → IfSome result (λ (d : DeskState). EachKnows d.history passes)
   closed_knows None empty joined saw = go result
@@ -150,10 +158,13 @@ module _ (s : Setting) (passes : List PassState) (T : TableId) (result : Slot) w
       go (Some d) = rw empty tt
   closed_knows (Some seat) empty joined saw = joined_knows s passes seat.me joined.1 result saw
 
-  pub closed_all : (all : Option (Seat Slot View)) → 1 ≤ s.workers → IfNone all (passes ≡ []) → IfSome all (λ (seat : Seat Slot View). (seat.table_id ≡ T) × IsJoined passes seat.me)
+  pub closed_all : (all : Option (Seat Slot View)) → 1 ≤ s.workers → IfNone all (passes ≡ []) →
+      IfSome all (λ (seat : Seat Slot View). (seat.table_id ≡ T) × IsJoined passes seat.me)
       → IfSome result (λ (d : DeskState). d.setting ≡ s) → IfSome result (λ (d : DeskState). IsLegal d.setting d.history)
       → IfSome result (λ (d : DeskState). EachKnows d.history passes) → IfSome all (λ (seat : Seat Slot View). AreCounted s seat.me.0.part.workers)
       → IfSome all (λ (seat : Seat Slot View). IsEveryone s seat.me.0.part.workers → IsSome result) → EachOwn passes
       → length passes ≡ s.workers → IsSomeAnd result (λ (d : DeskState). IsEntered d passes)
-  closed_all None one empty joined setting legal knows counted free own full = let none : length passes ≡ 0 = ap length empty in absurd (omega (arith, none, full, one))
-  closed_all (Some seat) one empty joined setting legal knows counted free own full = joined_all s passes seat.me joined.1 result setting legal knows counted free own full
+  closed_all None one empty joined setting legal knows counted free own full = let none : length passes ≡ 0 = ap length empty in
+      absurd (omega (arith, none, full, one))
+  closed_all (Some seat) one empty joined setting legal knows counted free own full =
+      joined_all s passes seat.me joined.1 result setting legal knows counted free own full

@@ -1,5 +1,6 @@
 -- Workers of a desk, each once, and how many entries they have together.
-use Rattle.std.proofs.Common.{◌≡◌, ◌⊎◌, ℕ, ◌+◌, ◌<◌, ◌==◌, Bool, true, false, List, [], ◌∷◌, cond, length, length-append, refl, sym, ap, ◌∙◌, subst, arith, eq-eqb, ne_eqb, inl, inr, ⊎_elim}
+use Rattle.std.proofs.Common.{◌≡◌, ◌⊎◌, ℕ, ◌+◌, ◌<◌, ◌==◌, Bool, true, false, List, [], ◌∷◌, cond, length, length-append, refl, sym, ap, ◌∙◌, subst}
+use Rattle.std.proofs.Common.{arith, eq-eqb, ne_eqb, inl, inr, ⊎_elim}
 use Rattle.std.specs.Prelude.{sum_by}
 use Rattle.std.specs.List.{AllByRecursion, IsDistinct, list_any}
 use native.Mathlib.Decide.{ℕ_discrete}
@@ -81,12 +82,21 @@ one_mark : (b : Bool) (e : Event) (n : ℕ) → length (cond b (mark_of n e ∷ 
 one_mark true e n = refl
 one_mark false e n = refl
 
-entries_more : (e : Event) (h : History) (xs : List ℕ) → sum_by (entries (e ∷ h)) xs ≡ sum_by (entries h) xs + sum_by (λ (x : ℕ). one_if (e.worker == x)) xs
+entries_more : (e : Event) (h : History) (xs : List ℕ) → sum_by (entries (e ∷ h)) xs ≡ sum_by (entries h) xs + sum_by
+    (λ (x : ℕ). one_if (e.worker == x)) xs
 entries_more e h [] = refl
 entries_more e h (x ∷ xs) =
     let more : entries (e ∷ h) x ≡ entries h x + one_if (e.worker == x)
-    = length-append (marks_of h x) (cond (e.worker == x) (mark_of (length h) e ∷ []) []) ∙ ap (λ (n : ℕ). entries h x + n) (one_mark (e.worker == x) e (length h)) in
-    omega (arith, more, entries_more e h xs, sum_by-cons (entries (e ∷ h)) x xs, sum_by-cons (entries h) x xs, sum_by-cons (λ (y : ℕ). one_if (e.worker == y)) x xs)
+    = length-append (marks_of h x) (cond (e.worker == x) (mark_of (length h) e ∷ []) []) ∙
+    ap (λ (n : ℕ). entries h x + n) (one_mark (e.worker == x) e (length h)) in
+    omega (
+      arith,
+      more,
+      entries_more e h xs,
+      sum_by-cons (entries (e ∷ h)) x xs,
+      sum_by-cons (entries h) x xs,
+      sum_by-cons (λ (y : ℕ). one_if (e.worker == y)) x xs,
+    )
 
 no_entries : (xs : List ℕ) → sum_by (entries []) xs ≡ 0
 no_entries [] = refl
@@ -104,14 +114,22 @@ all_entries s xs apart all (e ∷ h) legal =
 
 -- ---- the passes' marks
 
-own_entries : (h : History) (passes : List PassState) → EachKnows h passes → EachOwn passes → sum_by (λ (p : PassState). length p.log) passes ≡ sum_by (entries h) (workers_of passes)
+own_entries : (h : History) (passes : List PassState) → EachKnows h passes → EachOwn passes →
+    sum_by (λ (p : PassState). length p.log) passes ≡ sum_by (entries h) (workers_of passes)
 own_entries h [] knows own = refl
 own_entries h (p ∷ ps) knows own =
     let same = marks_continue p.worker p.seen h record { begins = knows.0.begins; same = knows.0.complete p.worker (inl refl) } in
     let mine : length p.log ≡ entries h p.worker = ap length (own.0.exact ∙ sym same) in
-    omega (arith, mine, own_entries h ps knows.1 own.1, sum_by-cons (λ (q : PassState). length q.log) p ps, sum_by-cons (entries h) p.worker (workers_of ps))
+    omega (
+      arith,
+      mine,
+      own_entries h ps knows.1 own.1,
+      sum_by-cons (λ (q : PassState). length q.log) p ps,
+      sum_by-cons (entries h) p.worker (workers_of ps),
+    )
 
 -- with a pass of each worker no entry is missing
-pub all_marks : (s : Setting) (h : History) (passes : List PassState) → IsLegal s h → EachKnows h passes → EachOwn passes → AreCounted s (workers_of passes)
+pub all_marks : (s : Setting) (h : History) (passes : List PassState) → IsLegal s h → EachKnows h passes → EachOwn passes →
+    AreCounted s (workers_of passes)
     → IsEveryone s (workers_of passes) → sum_by (λ (p : PassState). length p.log) passes ≡ length h
 all_marks s h passes legal knows own counted all = own_entries h passes knows own ∙ all_entries s (workers_of passes) counted.once all h legal

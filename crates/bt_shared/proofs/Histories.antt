@@ -1,5 +1,6 @@
 -- What is known of a history stays so while it grows.
-use Rattle.std.proofs.Common.{◌≡◌, ◌≢◌, ℕ, ◌==◌, ◌⊎◌, Bool, true, false, List, [], ◌∷◌, ◌++◌, cond, refl, sym, ap, ◌∙◌, subst, inl, inr, ⊎_elim, append-nil, ne_eqb, length, length-append, ◌+◌, ◌≤◌, arith}
+use Rattle.std.proofs.Common.{◌≡◌, ◌≢◌, ℕ, ◌==◌, ◌⊎◌, Bool, true, false, List, [], ◌∷◌, ◌++◌, cond, refl, sym, ap, ◌∙◌, subst, inl, inr, ⊎_elim}
+use Rattle.std.proofs.Common.{append-nil, ne_eqb, length, length-append, ◌+◌, ◌≤◌, arith}
 use Rattle.std.proofs.lemmas.List.{nil_from_length}
 use Rattle.bt_history.specs.declared.event.Event.{Event}
 use Rattle.bt_history.specs.History.{History}
@@ -33,7 +34,8 @@ pub knows_nothing : (h : History) → Knows h [] []
 knows_nothing h = record { begins = starts_empty h; complete = λ w none. absurd none }
 
 -- what is known stays so when workers that are not among these make calls
-pub knows_more : (h h' : History) (makers workers : List ℕ) (seen : History) → Grows makers h h' → ((w : ℕ) → IsAmong w workers → IsAmong w makers → ⊥) → Knows h workers seen → Knows h' workers seen
+pub knows_more : (h h' : History) (makers workers : List ℕ) (seen : History) → Grows makers h h' →
+    ((w : ℕ) → IsAmong w workers → IsAmong w makers → ⊥) → Knows h workers seen → Knows h' workers seen
 knows_more h h' makers workers seen (inl same) apart k = let P : History → Type 0 = λ l. Knows l workers seen in subst P (sym same) k
 knows_more h h' makers workers seen (inr more) apart k =
     let e = more.0 in
@@ -65,7 +67,8 @@ knows_longer h workers a b p q k = record {
   complete = λ w among.
       let whole : own w h ≡ own w p.newer ++ own w b = ap (own w) p.is ∙ own_append w p.newer b in
       let part : own w b ≡ own w q.newer ++ own w a = ap (own w) q.is ∙ own_append w q.newer a in
-      let l : length (own w a) ≡ length (own w p.newer) + length (own w b) = ap length (sym (k.complete w among) ∙ whole) ∙ length-append (own w p.newer) (own w b) in
+      let l : length (own w a) ≡ length (own w p.newer) + length (own w b) =
+      ap length (sym (k.complete w among) ∙ whole) ∙ length-append (own w p.newer) (own w b) in
       let m : length (own w b) ≡ length (own w q.newer) + length (own w a) = ap length part ∙ length-append (own w q.newer) (own w a) in
       let none : own w q.newer ≡ [] = nil_from_length (own w q.newer) (omega arith) in
       k.complete w among ∙ sym (part ∙ ap (λ l. l ++ own w a) none);

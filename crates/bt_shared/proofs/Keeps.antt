@@ -1,5 +1,6 @@
 -- Each step of the word lock keeps its rule.
-use Rattle.std.proofs.Common.{◌≡◌, ◌≢◌, ℕ, ◌≤◌, ◌==◌, Bool, true, false, Some, None, zero, suc, List, [], ◌∷◌, get_or, set, refl, sym, ap, ◌∙◌, subst, inl, inr, ⊎_elim, arith, length-set, get_or-set_same, le_refl}
+use Rattle.std.proofs.Common.{◌≡◌, ◌≢◌, ℕ, ◌≤◌, ◌==◌, Bool, true, false, Some, None, zero, suc, List, [], ◌∷◌, get_or, set, refl, sym, ap, ◌∙◌}
+use Rattle.std.proofs.Common.{subst, inl, inr, ⊎_elim, arith, length-set, get_or-set_same, le_refl}
 use mathlib.Core.Option.{none, some, some-injective, some-ne-none}
 use lib.ListN.{get_elem?}
 use Rattle.std.proofs.lemmas.List.{set-get_or}
@@ -46,7 +47,8 @@ apart_same vs us was a = record {
       omega (arith, below, x.next);
 }
 
-pub apart_set : (vs : List View) (me : ℕ) (v w : View) → get_elem? vs me ≡ some v → v.part.workers ≡ w.part.workers → v.maker ≡ w.maker → v.next ≤ w.next → Apart vs → Apart (set vs me w)
+pub apart_set : (vs : List View) (me : ℕ) (v w : View) → get_elem? vs me ≡ some v → v.part.workers ≡ w.part.workers → v.maker ≡ w.maker →
+    v.next ≤ w.next → Apart vs → Apart (set vs me w)
 apart_set vs me v w at same-workers same-maker same-next a =
     apart_same vs (set vs me w)
     (each_set (Was vs) vs me w
@@ -55,7 +57,8 @@ apart_set vs me v w at same-workers same-maker same-next a =
     a
 
 -- a seat that has seen the whole journal
-fits_all : (setting : Setting) (h h' : List Event) (taken : Bool) (v : View) → v.spent ≡ false → Fits setting h v → Fits setting h' (seeing taken v h')
+fits_all : (setting : Setting) (h h' : List Event) (taken : Bool) (v : View) → v.spent ≡ false → Fits setting h v →
+    Fits setting h' (seeing taken v h')
 fits_all setting h h' taken v live f =
     let knows = knows_all h' v.part.workers in
     record { same = λ _. f.same live; part = knows; parts = (record { knows = knows; among = λ w x. x }, tt); below = f.below; once = f.once }
@@ -80,7 +83,8 @@ not_true false h = refl
 -- workers that have no seat yet have made no call
 fresh_more : (h h' : List Event) (makers : List ℕ) (w : ℕ) → Grows makers h h' → (IsAmong w makers → ⊥) → own w h ≡ [] → own w h' ≡ []
 fresh_more h h' makers w (inl same) away zero-own = ap (own w) same ∙ zero-own
-fresh_more h h' makers w (inr more) away zero-own = let e = more.0 in ap (own w) more.2 ∙ (own_other w h e (λ is. away (subst (λ (x : ℕ). IsAmong x makers) is more.1)) ∙ zero-own)
+fresh_more h h' makers w (inr more) away zero-own = let e = more.0 in
+    ap (own w) more.2 ∙ (own_other w h e (λ is. away (subst (λ (x : ℕ). IsAmong x makers) is more.1)) ∙ zero-own)
 
 module _ (setting : Setting) (n me worker : ℕ) (v : View) (live : v.spent ≡ false) (speaks : IsAmong worker v.part.workers) where
   -- the word was free: the seat takes it, with the desk
@@ -106,9 +110,11 @@ module _ (setting : Setting) (n me worker : ℕ) (v : View) (live : v.spent ≡ 
           found = refl;
           worker = worker;
           speaks = speaks;
-          only = each_set (λ i u. u.taken ≡ true → i ≡ me) s.views me w (λ _. refl) (λ i u _ there is. let no = free.none_taken i u there in absurd cc);
+          only = each_set (λ i u. u.taken ≡ true → i ≡ me) s.views me w (λ _. refl)
+              (λ i u _ there is. let no = free.none_taken i u there in absurd cc);
         };
-        fresh = each_set (λ i u. (x : ℕ) → u.maker ≡ true → u.next ≤ x → own x h ≡ []) s.views me w (r.fresh me v at) (λ i u _ there. r.fresh i u there);
+        fresh = each_set (λ i u. (x : ℕ) → u.maker ≡ true → u.next ≤ x → own x h ≡ []) s.views me w (r.fresh me v at)
+            (λ i u _ there. r.fresh i u there);
         each = each_set (λ _ u. Fits setting h u) s.views me w (fits_all setting h h true v live (r.each me v at)) (λ i u _ there. r.each i u there);
         apart = apart_set s.views me v w at refl refl (le_refl v.next) r.apart;
       }
@@ -122,7 +128,8 @@ module _ (setting : Setting) (n me worker : ℕ) (v : View) (live : v.spent ≡ 
   pub may_take : v.taken ≡ false → Allows (Guards setting) n me (v, []) 0 (λ n. either (n == 0) 1 n) (Takes (step n 0 0 1 none) (v, []))
   may_take idle s r slots at fits =
       let n : ℕ = get_or s.words 0 0 in
-      let Goes : ℕ → Type 0 = λ x. (w : View) × (a : Act Slot) × Valid s.homes [] a × Guards setting (stepped s 0 x me [] w a) × Takes (step n 0 0 1 none) (v, []) n (w, carried_after [] a) in
+      let Goes : ℕ → Type 0 = λ x. (w : View) × (a : Act Slot) × Valid s.homes [] a × Guards setting (stepped s 0 x me [] w a) ×
+      Takes (step n 0 0 1 none) (v, []) n (w, carried_after [] a) in
       exchanged n 0 1 Goes
       (λ is-free.
       let h = r.journal in (
@@ -154,12 +161,15 @@ module _ (setting : Setting) (n me : ℕ) (v : View) (live : v.spent ≡ false) 
         slots = length-set s.homes 0 (some (Some d)) ∙ r.slots;
         free = λ _. record {
           home = set_here s.homes 0 (some (Some d)) (omega (arith, r.slots)) ∙ ap (λ a. some (some (Some (desk a d.history)))) same;
-          none_taken = each_set (λ i u. u.taken ≡ false) s.views me w refl (λ i u other there. not_true u.taken (λ is. other (t.only i u there is ∙ sym mine)));
+          none_taken = each_set (λ i u. u.taken ≡ false) s.views me w refl
+              (λ i u other there. not_true u.taken (λ is. other (t.only i u there is ∙ sym mine)));
         };
         taken = λ no. absurd (no word);
         fresh = each_set (λ i u. (x : ℕ) → u.maker ≡ true → u.next ≤ x → own x d.history ≡ []) s.views me w
-            (λ x makes le. fresh_more r.journal d.history v.part.workers x grows (λ among. let below = r.apart.made me me v v x at at makes among in absurd (omega arith)) (r.fresh me v at x makes le))
-            (λ i u _ there x makes le. fresh_more r.journal d.history v.part.workers x grows (λ among. let below = r.apart.made i me u v x there at makes among in absurd (omega arith)) (r.fresh i u there x makes le));
+            (λ x makes le. fresh_more r.journal d.history v.part.workers x grows
+            (λ among. let below = r.apart.made me me v v x at at makes among in absurd (omega arith)) (r.fresh me v at x makes le))
+            (λ i u _ there x makes le. fresh_more r.journal d.history v.part.workers x grows
+            (λ among. let below = r.apart.made i me u v x there at makes among in absurd (omega arith)) (r.fresh i u there x makes le));
         each = each_set (λ _ u. Fits setting d.history u) s.views me w (fits_all setting r.journal d.history false v live (r.each me v at))
             (λ i u other there.
             let f = r.each i u there in
@@ -168,7 +178,11 @@ module _ (setting : Setting) (n me : ℕ) (v : View) (live : v.spent ≡ false) 
               same = f.same;
               part = knows_more r.journal d.history v.part.workers u.part.workers u.part.seen grows away f.part;
               parts = each_map (Saw r.journal u.part.workers) (Saw d.history u.part.workers) u.parts
-                  (λ p saw. record { knows = knows_more r.journal d.history v.part.workers p.workers p.seen grows (λ x a. away x (saw.among x a)) saw.knows; among = saw.among })
+                  (λ p saw. record {
+                    knows = knows_more r.journal d.history v.part.workers p.workers p.seen grows (λ x a. away x (saw.among x a))
+                        saw.knows;
+                    among = saw.among;
+                  })
                   f.parts;
               below = f.below;
               once = f.once;
@@ -176,7 +190,8 @@ module _ (setting : Setting) (n me : ℕ) (v : View) (live : v.spent ≡ false) 
         apart = apart_set s.views me v w at refl refl (le_refl v.next) r.apart;
       }
 
-  pub may_free : (d : DeskState) → MayFree v d → Allows (Guards setting) n me (v, (0, Some d) ∷ []) 0 (λ _. 0) (λ _. Frees (step n 0 0 0 none) (v, (0, Some d) ∷ []) 0)
+  pub may_free : (d : DeskState) → MayFree v d → Allows (Guards setting) n me (v, (0, Some d) ∷ []) 0 (λ _. 0)
+      (λ _. Frees (step n 0 0 0 none) (v, (0, Some d) ∷ []) 0)
   may_free d m s r slots at fits = (
     seeing false v d.history,
     gives,
@@ -186,12 +201,15 @@ module _ (setting : Setting) (n me : ℕ) (v : View) (live : v.spent ≡ false) 
   )
 
 -- The same for a seat with its slots.
-pub seat_may_take : (setting : Setting) (n id : ℕ) (m : Sat) → MayTake m → Allows (Guards setting) n id m 0 (λ x. either (x == 0) 1 x) (Takes (step n 0 0 1 none) m)
+pub seat_may_take : (setting : Setting) (n id : ℕ) (m : Sat) → MayTake m →
+    Allows (Guards setting) n id m 0 (λ x. either (x == 0) 1 x) (Takes (step n 0 0 1 none) m)
 seat_may_take setting n id m may =
-    let P : List (ℕ × Slot) → Type 0 = λ cs. Allows (Guards setting) n id (m.0, cs) 0 (λ x. either (x == 0) 1 x) (Takes (step n 0 0 1 none) (m.0, cs)) in
+    let P : List (ℕ × Slot) → Type 0 = λ cs. Allows (Guards setting) n id (m.0, cs) 0 (λ x. either (x == 0) 1 x) (Takes (step n 0 0 1 none) (m.0, cs))
+    in
     subst P (sym may.idle.empty) (may_take setting n id may.worker m.0 may.idle.live may.speaks may.idle.idle)
 
-pub seat_may_free : (setting : Setting) (n id : ℕ) (m : Sat) (d : DeskState) → m.1 ≡ (0, Some d) ∷ [] → m.0.spent ≡ false → MayFree m.0 d → Allows (Guards setting) n id m 0 (λ _. 0) (λ _. Frees (step n 0 0 0 none) m 0)
+pub seat_may_free : (setting : Setting) (n id : ℕ) (m : Sat) (d : DeskState) → m.1 ≡ (0, Some d) ∷ [] → m.0.spent ≡ false → MayFree m.0 d →
+    Allows (Guards setting) n id m 0 (λ _. 0) (λ _. Frees (step n 0 0 0 none) m 0)
 seat_may_free setting n id m d carries live free =
     let P : List (ℕ × Slot) → Type 0 = λ cs. Allows (Guards setting) n id (m.0, cs) 0 (λ _. 0) (λ _. Frees (step n 0 0 0 none) (m.0, cs) 0) in
     subst P (sym carries) (may_free setting n id m.0 live d free)

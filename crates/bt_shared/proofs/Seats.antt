@@ -1,5 +1,6 @@
 -- Seats that are made, copied and joined keep the rule of the word lock.
-use Rattle.std.proofs.Common.{◌≡◌, ◌≢◌, ℕ, ◌<◌, ◌≤◌, ◌⊎◌, Bool, true, false, Some, zero, suc, List, [], ◌∷◌, ◌++◌, length, set, nat_lt, if◌then◌else◌, refl, sym, ap, ◌∙◌, subst, inl, inr, ⊎_elim, arith, le_refl}
+use Rattle.std.proofs.Common.{◌≡◌, ◌≢◌, ℕ, ◌<◌, ◌≤◌, ◌⊎◌, Bool, true, false, Some, zero, suc, List, [], ◌∷◌, ◌++◌, length, set, nat_lt}
+use Rattle.std.proofs.Common.{if◌then◌else◌, refl, sym, ap, ◌∙◌, subst, inl, inr, ⊎_elim, arith, le_refl}
 use mathlib.Core.Logic.{dite}
 use mathlib.Core.Option.{some, some-injective, some-ne-none}
 use native.Mathlib.Decide.{ℕ_discrete}
@@ -13,7 +14,8 @@ use Rattle.bt_shared.specs.declared.view.Part.{Part}
 use Rattle.bt_shared.specs.declared.view.View.{View}
 use Rattle.bt_shared.specs.Seen.{Knows, IsAmong, own}
 use Rattle.bt_shared.specs.Guard.{Table, desk, Fits, Apart, Guards, Saw, maker, making, newcomer_view, witness, longer, meeting, spent_view}
-use Rattle.bt_shared.proofs.Histories.{apart_append, each_append, each_map, knows_nothing, knows_longer, starts_empty, starts_shorter, among_append, among_left, among_right}
+use Rattle.bt_shared.proofs.Histories.{apart_append, each_append, each_map, knows_nothing, knows_longer, starts_empty, starts_shorter, among_append}
+use Rattle.bt_shared.proofs.Histories.{among_left, among_right}
 use Rattle.bt_shared.proofs.Keeps.{Was, each_set, apart_same, set_at}
 
 -- an entry of a longer list, with its place
@@ -32,7 +34,8 @@ record Stays (s : Table) (i : ℕ) (u : View) : Type 0 where
 -- the rule after a step that changes views alone
 reviewed : (setting : Setting) (s : Table) (r : Guards setting s) (us : List View)
     → ((i : ℕ) (u : View) → get_elem? us i ≡ some u → Stays s i u ⊎ (u.taken ≡ false))
-    → ((i : ℕ) (v : View) → get_elem? s.views i ≡ some v → v.taken ≡ true → (u : View) × (get_elem? us i ≡ some u) × (u.taken ≡ true) × (u.part ≡ v.part))
+    → ((i : ℕ) (v : View) → get_elem? s.views i ≡ some v → v.taken ≡ true →
+    (u : View) × (get_elem? us i ≡ some u) × (u.taken ≡ true) × (u.part ≡ v.part))
     → ((i : ℕ) (u : View) → get_elem? us i ≡ some u → (w : ℕ) → u.maker ≡ true → u.next ≤ w → own w r.journal ≡ [])
     → ((i : ℕ) (u : View) → get_elem? us i ≡ some u → Fits setting r.journal u)
     → Apart us
@@ -68,8 +71,10 @@ apart_more : (vs : List View) (x : View) → Apart vs → x.maker ≡ false
 apart_more vs x a plain others below = record {
   workers = λ i j v u w av au mv mu.
       ⊎_elim
-      (λ ov. ⊎_elim (λ ou. a.workers i j v u w ov ou mv mu) (λ nu. absurd (others w i v (subst (λ (y : View). IsAmong w y.part.workers) (sym nu.1) mu) ov mv)) (at_end vs x u j au))
-      (λ nv. ⊎_elim (λ ou. absurd (others w j u (subst (λ (y : View). IsAmong w y.part.workers) (sym nv.1) mv) ou mu)) (λ nu. nv.0 ∙ sym nu.0) (at_end vs x u j au))
+      (λ ov. ⊎_elim (λ ou. a.workers i j v u w ov ou mv mu) (λ nu.
+      absurd (others w i v (subst (λ (y : View). IsAmong w y.part.workers) (sym nu.1) mu) ov mv)) (at_end vs x u j au))
+      (λ nv. ⊎_elim (λ ou. absurd (others w j u (subst (λ (y : View). IsAmong w y.part.workers) (sym nv.1) mv) ou mu)) (λ nu. nv.0 ∙ sym nu.0)
+      (at_end vs x u j au))
       (at_end vs x v i av);
   makers = λ i j v u av au mv mu.
       ⊎_elim
@@ -78,7 +83,8 @@ apart_more vs x a plain others below = record {
       (at_end vs x v i av);
   made = λ i j v u w av au mv mu.
       ⊎_elim
-      (λ ov. ⊎_elim (λ ou. a.made i j v u w ov ou mv mu) (λ nu. below w i v (subst (λ (y : View). IsAmong w y.part.workers) (sym nu.1) mu) ov mv) (at_end vs x u j au))
+      (λ ov. ⊎_elim (λ ou. a.made i j v u w ov ou mv mu) (λ nu. below w i v (subst (λ (y : View). IsAmong w y.part.workers) (sym nu.1) mu) ov mv)
+      (at_end vs x u j au))
       (λ nv. let is = ap (λ (y : View). y.maker) nv.1 in absurd cc)
       (at_end vs x v i av);
 }
@@ -98,7 +104,14 @@ opens setting =
       free = λ _. record { home = refl; none_taken = λ i v at. subst (λ (u : View). u.taken ≡ false) (one_seat (maker setting) v i at).1 refl };
       taken = λ e. absurd (e refl);
       fresh = λ i v at w _ _. refl;
-      each = λ i v at. subst (Fits setting []) (one_seat (maker setting) v i at).1 record { same = λ _. refl; part = knows_nothing []; parts = (record { knows = knows_nothing []; among = λ w x. x }, tt); below = λ w. absurd; once = tt };
+      each = λ i v at. subst (Fits setting []) (one_seat (maker setting) v i at).1 record {
+        same = λ _. refl;
+        part = knows_nothing [];
+        parts =
+            (record { knows = knows_nothing []; among = λ w x. x }, tt);
+        below = λ w. absurd;
+        once = tt;
+      };
       apart = record {
         workers = λ i j v u w av au mv mu. (one_seat (maker setting) v i av).0 ∙ sym (one_seat (maker setting) u j au).0;
         makers = λ i j v u av au mv mu. (one_seat (maker setting) v i av).0 ∙ sym (one_seat (maker setting) u j au).0;
@@ -107,8 +120,10 @@ opens setting =
     }
 
 -- a seat with a new view beside a new seat
-module _ (setting : Setting) (me : ℕ) (v left x : View) (live : v.spent ≡ false) (s : Table) (r : Guards setting s) (at : get_elem? s.views me ≡ some v)
-    (same-taken : v.taken ≡ left.taken) (same-part : v.part ≡ left.part) (same-maker : v.maker ≡ left.maker) (more : v.next ≤ left.next) (fits-left : Fits setting r.journal left)
+module _ (setting : Setting) (me : ℕ) (v left x : View) (live : v.spent ≡ false) (s : Table) (r : Guards setting s)
+    (at : get_elem? s.views me ≡ some v)
+    (same-taken : v.taken ≡ left.taken) (same-part : v.part ≡ left.part) (same-maker : v.maker ≡ left.maker) (more : v.next ≤ left.next)
+    (fits-left : Fits setting r.journal left)
     (off : x.taken ≡ false) (plain : x.maker ≡ false) (fits-x : Fits setting r.journal x)
     (others : (w i : ℕ) (u : View) → IsAmong w x.part.workers → get_elem? s.views i ≡ some u → IsAmong w u.part.workers → ⊥)
     (below : (w : ℕ) → IsAmong w x.part.workers → v.maker ≡ true × (w < left.next)) where
@@ -123,9 +138,11 @@ module _ (setting : Setting) (me : ℕ) (v left x : View) (live : v.spent ≡ fa
 
   stays : (i : ℕ) (u : View) → get_elem? vs i ≡ some u → Stays s i u
   unfolding vs
-  stays = each_set (Stays s) s.views me left (record { old = v; at = at; taken = same-taken }) (λ i u _ there. record { old = u; at = there; taken = refl })
+  stays = each_set (Stays s) s.views me left (record { old = v; at = at; taken = same-taken })
+      (λ i u _ there. record { old = u; at = there; taken = refl })
 
-  there : (i : ℕ) (u : View) → get_elem? s.views i ≡ some u → u.taken ≡ true → (u' : View) × (get_elem? (vs ++ x ∷ []) i ≡ some u') × (u'.taken ≡ true) × (u'.part ≡ u.part)
+  there : (i : ℕ) (u : View) → get_elem? s.views i ≡ some u → u.taken ≡ true →
+      (u' : View) × (get_elem? (vs ++ x ∷ []) i ≡ some u') × (u'.taken ≡ true) × (u'.part ≡ u.part)
   unfolding vs
   there i u here on =
       dite (ℕ_discrete i me)
@@ -161,7 +178,8 @@ module _ (setting : Setting) (me : ℕ) (v left x : View) (live : v.spent ≡ fa
       let left-is : left ≡ u = some-injective left u (sym (set_at s.views me v left at) ∙ (ap (get_elem? vs) (sym me-is) ∙ here)) in
       subst (λ (y : View). w < y.next) left-is b.1))
 
-pub makes_newcomer : (setting : Setting) (me : ℕ) (v : View) → v.spent ≡ false → v.maker ≡ true → v.next < v.setting.workers → Splits (Guards setting) me v (making v) (newcomer_view v)
+pub makes_newcomer : (setting : Setting) (me : ℕ) (v : View) → v.spent ≡ false → v.maker ≡ true → v.next < v.setting.workers →
+    Splits (Guards setting) me v (making v) (newcomer_view v)
 makes_newcomer setting me v live makes below s r at =
     let f = r.each me v at in
     let new : Knows r.journal (v.next ∷ []) [] = record {
@@ -175,7 +193,8 @@ makes_newcomer setting me v live makes below s r at =
       same = λ _. f.same live;
       part = new;
       parts = (record { knows = new; among = λ w x. x }, tt);
-      below = λ w among. ⊎_elim (λ e. subst (λ (t : Setting). w < t.workers) (f.same live) (subst (λ (x : ℕ). x < v.setting.workers) e below)) absurd among;
+      below = λ w among. ⊎_elim (λ e. subst (λ (t : Setting). w < t.workers) (f.same live) (subst (λ (x : ℕ). x < v.setting.workers) e below)) absurd
+          among;
       once = (absurd, tt);
     })
     (λ w i u among here mine. ⊎_elim (λ e. let below = r.apart.made me i v u w at here makes mine in absurd (omega arith)) absurd among)
@@ -199,20 +218,30 @@ record Source (vs : List View) (id other w i : ℕ) : Type 0 where
   moved : k ≡ other → i ≡ id
   kept : k ≢ other → i ≡ k
 
-knows_meeting : (setting : Setting) (h : List Event) (v u : View) → Fits setting h v → Fits setting h u → Knows h (v.part.workers ++ u.part.workers) (longer v.part.seen u.part.seen)
+knows_meeting : (setting : Setting) (h : List Event) (v u : View) → Fits setting h v → Fits setting h u →
+    Knows h (v.part.workers ++ u.part.workers) (longer v.part.seen u.part.seen)
 knows_meeting setting h v u f g = go (nat_lt (length v.part.seen) (length u.part.seen)) refl
   where
     both : (seen : List Event) → Knows h v.part.workers seen → Knows h u.part.workers seen → Knows h (v.part.workers ++ u.part.workers) seen
-    both seen a b = record { begins = a.begins; complete = λ w among. ⊎_elim (a.complete w) (b.complete w) (among_append w v.part.workers u.part.workers among) }
+    both seen a b = record {
+      begins = a.begins;
+      complete = λ w among.
+          ⊎_elim (a.complete w) (b.complete w) (among_append w v.part.workers u.part.workers among);
+    }
 
-    go : (b : Bool) → nat_lt (length v.part.seen) (length u.part.seen) ≡ b → Knows h (v.part.workers ++ u.part.workers) (if b then u.part.seen else v.part.seen)
-    go true is = both u.part.seen (knows_longer h v.part.workers v.part.seen u.part.seen g.part.begins (starts_shorter h v.part.seen u.part.seen f.part.begins g.part.begins (omega (arith, ltb-true (length v.part.seen) (length u.part.seen) is))) f.part) g.part
-    go false is = both v.part.seen f.part (knows_longer h u.part.workers u.part.seen v.part.seen f.part.begins (starts_shorter h u.part.seen v.part.seen g.part.begins f.part.begins (ltb-false (length v.part.seen) (length u.part.seen) is)) g.part)
+    go : (b : Bool) → nat_lt (length v.part.seen) (length u.part.seen) ≡ b →
+        Knows h (v.part.workers ++ u.part.workers) (if b then u.part.seen else v.part.seen)
+    go true is = both u.part.seen (knows_longer h v.part.workers v.part.seen u.part.seen g.part.begins
+        (starts_shorter h v.part.seen u.part.seen f.part.begins g.part.begins (omega (arith, ltb-true (length v.part.seen) (length u.part.seen) is)))
+        f.part) g.part
+    go false is = both v.part.seen f.part (knows_longer h u.part.workers u.part.seen v.part.seen f.part.begins
+        (starts_shorter h u.part.seen v.part.seen g.part.begins f.part.begins (ltb-false (length v.part.seen) (length u.part.seen) is)) g.part)
 
 saw_more : (h : List Event) (few many : List ℕ) → ((w : ℕ) → IsAmong w few → IsAmong w many) → (p : Part) → Saw h few p → Saw h many p
 saw_more h few many more p saw = record { knows = saw.knows; among = λ w x. more w (saw.among w x) }
 
-fits_meeting : (setting : Setting) (h : List Event) (v u : View) → Fits setting h v → Fits setting h u → ((w : ℕ) → IsAmong w v.part.workers → IsAmong w u.part.workers → ⊥)
+fits_meeting : (setting : Setting) (h : List Event) (v u : View) → Fits setting h v → Fits setting h u →
+    ((w : ℕ) → IsAmong w v.part.workers → IsAmong w u.part.workers → ⊥)
     → Fits setting h (meeting v u)
 fits_meeting setting h v u f g apart =
     let both = v.part.workers ++ u.part.workers in
@@ -220,13 +249,16 @@ fits_meeting setting h v u f g apart =
       same = f.same;
       part = knows_meeting setting h v u f g;
       parts = each_append (Saw h both) v.parts u.parts
-          (each_map (Saw h v.part.workers) (Saw h both) v.parts (saw_more h v.part.workers both (λ w. among_left w v.part.workers u.part.workers)) f.parts)
-          (each_map (Saw h u.part.workers) (Saw h both) u.parts (saw_more h u.part.workers both (λ w. among_right w v.part.workers u.part.workers)) g.parts);
+          (each_map (Saw h v.part.workers) (Saw h both) v.parts (saw_more h v.part.workers both (λ w. among_left w v.part.workers u.part.workers))
+          f.parts)
+          (each_map (Saw h u.part.workers) (Saw h both) u.parts (saw_more h u.part.workers both (λ w. among_right w v.part.workers u.part.workers))
+          g.parts);
       below = λ w among. ⊎_elim (f.below w) (g.below w) (among_append w v.part.workers u.part.workers among);
       once = apart_append v.part.workers u.part.workers f.once g.once apart;
     }
 
-module _ (setting : Setting) (id other : ℕ) (v u : View) (live : v.spent ≡ false) (idle : v.taken ≡ false) (other-idle : u.taken ≡ false) (s : Table) (r : Guards setting s)
+module _ (setting : Setting) (id other : ℕ) (v u : View) (live : v.spent ≡ false) (idle : v.taken ≡ false) (other-idle : u.taken ≡ false) (s : Table)
+    (r : Guards setting s)
     (at : get_elem? s.views id ≡ some v) (apart : ¬ (other ≡ id)) (there' : get_elem? (set s.views id (meeting v u)) other ≡ some u) where
   joined : List View
   joined = set (set s.views id (meeting v u)) other spent_view
@@ -235,21 +267,27 @@ module _ (setting : Setting) (id other : ℕ) (v u : View) (live : v.spent ≡ f
   other-at = sym (set_else s.views id other (meeting v u) apart) ∙ there'
 
   -- a fact of each seat after the join
-  each_joined : (P : ℕ → View → Type 0) → P other spent_view → P id (meeting v u) → ((i : ℕ) (x : View) → i ≢ other → i ≢ id → get_elem? s.views i ≡ some x → P i x)
+  each_joined : (P : ℕ → View → Type 0) → P other spent_view → P id (meeting v u) →
+      ((i : ℕ) (x : View) → i ≢ other → i ≢ id → get_elem? s.views i ≡ some x → P i x)
       → (i : ℕ) (x : View) → get_elem? joined i ≡ some x → P i x
   unfolding joined
   each_joined P of-spent of-both of-others =
       each_set P (set s.views id (meeting v u)) other spent_view of-spent
-      (λ i x away here. each_set (λ j y. j ≢ other → P j y) s.views id (meeting v u) (λ _. of-both) (λ j y off here' away'. of-others j y away' off here') i x here away)
+      (λ i x away here. each_set (λ j y. j ≢ other → P j y) s.views id (meeting v u) (λ _. of-both)
+      (λ j y off here' away'. of-others j y away' off here') i x here away)
 
   stays-joined : (i : ℕ) (x : View) → get_elem? joined i ≡ some x → Stays s i x ⊎ (x.taken ≡ false)
-  stays-joined = each_joined (λ i x. Stays s i x ⊎ (x.taken ≡ false)) (inr refl) (inl record { old = v; at = at; taken = refl }) (λ i x _ _ here. inl record { old = x; at = here; taken = refl })
+  stays-joined = each_joined (λ i x. Stays s i x ⊎ (x.taken ≡ false)) (inr refl) (inl record { old = v; at = at; taken = refl })
+      (λ i x _ _ here. inl record { old = x; at = here; taken = refl })
 
-  taken-joined : (i : ℕ) (x : View) → get_elem? s.views i ≡ some x → x.taken ≡ true → (y : View) × (get_elem? joined i ≡ some y) × (y.taken ≡ true) × (y.part ≡ x.part)
+  taken-joined : (i : ℕ) (x : View) → get_elem? s.views i ≡ some x → x.taken ≡ true →
+      (y : View) × (get_elem? joined i ≡ some y) × (y.taken ≡ true) × (y.part ≡ x.part)
   unfolding joined
   taken-joined i x here on =
-      let not-other : i ≢ other = λ e. let same : u ≡ x = some-injective u x (sym other-at ∙ (ap (get_elem? s.views) (sym e) ∙ here)) in let off = sym other-idle ∙ (ap (λ (y : View). y.taken) same ∙ on) in absurd cc in
-      let not-id : i ≢ id = λ e. let same : v ≡ x = some-injective v x (sym at ∙ (ap (get_elem? s.views) (sym e) ∙ here)) in let off = sym idle ∙ (ap (λ (y : View). y.taken) same ∙ on) in absurd cc in
+      let not-other : i ≢ other = λ e. let same : u ≡ x = some-injective u x (sym other-at ∙ (ap (get_elem? s.views) (sym e) ∙ here)) in let off =
+      sym other-idle ∙ (ap (λ (y : View). y.taken) same ∙ on) in absurd cc in
+      let not-id : i ≢ id = λ e. let same : v ≡ x = some-injective v x (sym at ∙ (ap (get_elem? s.views) (sym e) ∙ here)) in let off =
+      sym idle ∙ (ap (λ (y : View). y.taken) same ∙ on) in absurd cc in
       (x, set_else (set s.views id (meeting v u)) other i spent_view not-other ∙ (set_else s.views id i (meeting v u) not-id ∙ here), on, refl)
 
   source : (i : ℕ) (x : View) → get_elem? joined i ≡ some x → (w : ℕ) → IsAmong w x.part.workers → Source s.views id other w i
@@ -262,7 +300,8 @@ module _ (setting : Setting) (id other : ℕ) (v u : View) (live : v.spent ≡ f
       (λ i x away off here w among. record { k = i; old = x; at = here; among = among; moved = λ e. absurd (away e); kept = λ _. refl })
 
   -- a maker was one before, at its place
-  maker-joined : (i : ℕ) (x : View) → get_elem? joined i ≡ some x → x.maker ≡ true → (y : View) × (get_elem? s.views i ≡ some y) × (y.maker ≡ true) × (y.next ≡ x.next)
+  maker-joined : (i : ℕ) (x : View) → get_elem? joined i ≡ some x → x.maker ≡ true →
+      (y : View) × (get_elem? s.views i ≡ some y) × (y.maker ≡ true) × (y.next ≡ x.next)
   maker-joined = each_joined (λ i x. x.maker ≡ true → (y : View) × (get_elem? s.views i ≡ some y) × (y.maker ≡ true) × (y.next ≡ x.next))
       (λ no-maker. absurd cc)
       (λ makes. (v, at, makes, refl))
@@ -288,12 +327,14 @@ module _ (setting : Setting) (id other : ℕ) (v u : View) (live : v.spent ≡ f
       let g = r.each other u other-at in
       let nothing = knows_nothing r.journal in
       reviewed setting s r joined stays-joined taken-joined
-      (each_joined (λ i x. (w : ℕ) → x.maker ≡ true → x.next ≤ w → own w r.journal ≡ []) (λ w no-maker. absurd cc) (r.fresh id v at) (λ i x _ _ here. r.fresh i x here))
+      (each_joined (λ i x. (w : ℕ) → x.maker ≡ true → x.next ≤ w → own w r.journal ≡ []) (λ w no-maker. absurd cc) (r.fresh id v at)
+      (λ i x _ _ here. r.fresh i x here))
       (each_joined (λ _ x. Fits setting r.journal x)
       (record { same = λ no-live. absurd cc; part = nothing; parts = tt; below = λ w. absurd; once = tt })
       (fits_meeting setting r.journal v u f g (λ w mine theirs. apart (sym (r.apart.workers id other v u w at other-at mine theirs))))
       (λ i x _ _ here. r.each i x here))
       apart-joined
 
-pub meets : (setting : Setting) (id other : ℕ) (v u : View) → v.spent ≡ false → v.taken ≡ false → u.taken ≡ false → Joins (Guards setting) id v other u (meeting v u) spent_view
+pub meets : (setting : Setting) (id other : ℕ) (v u : View) → v.spent ≡ false → v.taken ≡ false → u.taken ≡ false →
+    Joins (Guards setting) id v other u (meeting v u) spent_view
 meets setting id other v u live idle other-idle s r at apart there' = meets-here setting id other v u live idle other-idle s r at apart there'

@@ -1,5 +1,6 @@
 -- What the workers' logs and a bitfield say of a desk, and why a desk isn't gathered.
-use Rattle.std.specs.Prelude.{◌≡◌, ◌≢◌, ◌==◌, ◌<◌, ◌-◌, ◌^◌, ◌∷◌, [], ℕ, Bool, false, List, Option, Some, length, min, take, slice_get, slice_index_or, sum_by, IsSomeAnd, if◌then◌else◌}
+use Rattle.std.specs.Prelude.{◌≡◌, ◌≢◌, ◌==◌, ◌<◌, ◌-◌, ◌^◌, ◌∷◌, [], ℕ, Bool, false, List, Option, Some, length, min, take, slice_get}
+use Rattle.std.specs.Prelude.{slice_index_or, sum_by, IsSomeAnd, if◌then◌else◌}
 use Rattle.std.specs.Global.{Vec}
 use Rattle.bt_history.specs.declared.mark.Mark.{Mark}
 use Rattle.bt_history.specs.History.{History}

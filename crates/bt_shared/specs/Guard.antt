@@ -1,5 +1,6 @@
 -- The rule of the word lock. Word 0 is 0 while it is free and 1 while it is taken, and slot 0 is the desk's.
-use Rattle.std.specs.Prelude.{◌≡◌, ◌≢◌, ℕ, ◌+◌, ◌<◌, ◌≤◌, Bool, true, false, Option as StdOption, Some, List, [], ◌∷◌, ◌++◌, length, slice_index, nat_lt, if◌then◌else◌}
+use Rattle.std.specs.Prelude.{◌≡◌, ◌≢◌, ℕ, ◌+◌, ◌<◌, ◌≤◌, Bool, true, false, Option as StdOption, Some, List, [], ◌∷◌, ◌++◌, length, slice_index}
+use Rattle.std.specs.Prelude.{nat_lt, if◌then◌else◌}
 use mathlib.Core.Option.{none, some}
 use lib.ListN.{get_elem?}
 use Rattle.atomic_table.specs.Table.{State, Me, Step}
@@ -39,9 +40,11 @@ pub record Fits (setting : Setting) (h : List Event) (v : View) : Type 0 where
 
 -- each worker has one seat, and one seat makes them
 pub record Apart (views : List View) : Type 0 where
-  pub workers : (i j : ℕ) (v u : View) (w : ℕ) → get_elem? views i ≡ some v → get_elem? views j ≡ some u → IsAmong w v.part.workers → IsAmong w u.part.workers → i ≡ j
+  pub workers : (i j : ℕ) (v u : View) (w : ℕ) → get_elem? views i ≡ some v → get_elem? views j ≡ some u → IsAmong w v.part.workers →
+      IsAmong w u.part.workers → i ≡ j
   pub makers : (i j : ℕ) (v u : View) → get_elem? views i ≡ some v → get_elem? views j ≡ some u → v.maker ≡ true → u.maker ≡ true → i ≡ j
-  pub made : (i j : ℕ) (v u : View) (w : ℕ) → get_elem? views i ≡ some v → get_elem? views j ≡ some u → v.maker ≡ true → IsAmong w u.part.workers → w < v.next
+  pub made : (i j : ℕ) (v u : View) (w : ℕ) → get_elem? views i ≡ some v → get_elem? views j ≡ some u → v.maker ≡ true → IsAmong w u.part.workers →
+      w < v.next
 
 -- the desk is in its slot, with this journal, and no seat has taken the word
 pub record IsFree (setting : Setting) (h : List Event) (s : Table) : Type 0 where

@@ -6,7 +6,8 @@ use Rattle.bt_wire.specs.Laws.{OneReading, Step, Fed, Gave, Failed, Leads, fed, 
 use Rattle.bt_wire.proofs.Fronts.{same_text}
 
 -- a further message in front
-ahead : (greeted : Bool) (limit : ℕ) (bytes rest : List ℕ) (m : Message) (ms : List Message) → Begins greeted limit bytes (m ∷ ms) rest → HasMessage greeted limit bytes
+ahead : (greeted : Bool) (limit : ℕ) (bytes rest : List ℕ) (m : Message) (ms : List Message) → Begins greeted limit bytes (m ∷ ms) rest →
+    HasMessage greeted limit bytes
 ahead greeted limit bytes rest m ms is = (m, (is.0, (is.1.0, (is.1.1.0, is.1.1.1))))
 
 after_hello : (ms : List Message) → greeted_after true ms ≡ true
@@ -16,7 +17,8 @@ after_hello (m ∷ ms) = refl
 still_whole : (limit : ℕ) (ms : List Message) (rest : List ℕ) → (HasMessage true limit rest → ⊥) → HasMessage (greeted_after true ms) limit rest → ⊥
 still_whole limit ms rest whole has = whole (subst (λ (greeted : Bool). HasMessage greeted limit rest) (after_hello ms) has)
 
-same_messages : (limit : ℕ) → limit < 2 ^ 32 → (greeted : Bool) (bytes again : List ℕ) (ms others : List Message) (rest other_rest : List ℕ) → bytes ≡ again →
+same_messages : (limit : ℕ) → limit < 2 ^ 32 → (greeted : Bool) (bytes again : List ℕ) (ms others : List Message) (rest other_rest : List ℕ) →
+    bytes ≡ again →
     Begins greeted limit bytes ms rest → (HasMessage (greeted_after greeted ms) limit rest → ⊥) →
     Begins greeted limit again others other_rest → (HasMessage (greeted_after greeted others) limit other_rest → ⊥) →
     (ms ≡ others) × (rest ≡ other_rest)
@@ -39,8 +41,17 @@ one_reading limit small greeted bytes ms others rest other_rest is also =
 longer : (greeted : Bool) (limit : ℕ) (bytes rest more : List ℕ) (ms : List Message) → Begins greeted limit bytes ms rest →
     Begins greeted limit (bytes ++ more) ms (rest ++ more)
 longer greeted limit bytes rest more [] is = ap (λ (xs : List ℕ). xs ++ more) is
-longer greeted limit bytes rest more (m ∷ ms) is =
-    (is.0, (is.1.0 ++ more, (is.1.1.0, ap (λ (xs : List ℕ). xs ++ more) is.1.1.1 ∙ append_assoc is.0 is.1.0 more, longer true limit is.1.0 rest more ms is.1.1.2)))
+longer greeted limit bytes rest more (m ∷ ms) is = (
+  is.0,
+  (
+    is.1.0 ++ more,
+    (
+      is.1.1.0,
+      ap (λ (xs : List ℕ). xs ++ more) is.1.1.1 ∙ append_assoc is.0 is.1.0 more,
+      longer true limit is.1.0 rest more ms is.1.1.2,
+    ),
+  ),
+)
 
 -- What is held when the steps begin and the bytes fed in them are the messages given in them, then what is held when they end.
 run : (steps : List Step) (old new : InboundState) → Leads old steps new →

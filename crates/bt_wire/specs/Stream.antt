@@ -1,5 +1,6 @@
 -- What stands at the front of a stream (a message, a fault, or neither yet), and which messages a stream is.
-use Rattle.std.specs.Prelude.{◌≡◌, ◌≢◌, ℕ, ◌<◌, ◌≤◌, ◌^◌, ◌+◌, ◌==◌, nat_le, if◌then◌else◌, Bool, true, false, List, [], ◌∷◌, ◌++◌, length, take, Option, None}
+use Rattle.std.specs.Prelude.{◌≡◌, ◌≢◌, ℕ, ◌<◌, ◌≤◌, ◌^◌, ◌+◌, ◌==◌, nat_le, if◌then◌else◌, Bool, true, false, List, [], ◌∷◌, ◌++◌, length, take}
+use Rattle.std.specs.Prelude.{Option, None}
 use Rattle.std.specs.Int.{w32, from_be_bytes}
 use Rattle.bt_wire.specs.declared.hello.Hello.{Hello}
 use Rattle.bt_wire.specs.declared.message.Message.{Message}

@@ -9,7 +9,7 @@ struct Drip {
     fails: bool,
     failed: bool,
     ended: bool,
-    asked: u64,
+    reads: u64,
 }
 
 impl Drip {
@@ -19,7 +19,7 @@ impl Drip {
             fails,
             failed: false,
             ended: false,
-            asked: 0,
+            reads: 0,
         }
     }
 }
@@ -33,10 +33,10 @@ impl Source for Drip {
 
     ghost ended = { λ s. s.ended };
 
-    ghost asked = { λ s. s.asked };
+    ghost reads = { λ s. s.reads };
 
     fn read(&mut self, room: &mut [u8]) -> Result<usize, DeviceFault> {
-        self.asked = self.asked.saturating_add(1);
+        self.reads = self.reads.saturating_add(1);
         if room.is_empty() {
             return Ok(0);
         }
@@ -82,7 +82,7 @@ fn a_byte_at_a_time_and_the_end(rt: HostRuntime) -> Result<(), Fail> {
     let mut to = ToWrite::new(Vec::with_capacity(rt.alloc(), 5)?);
     assert!(rt; copy(&mut from, &mut to) == Ok(()));
     assert_eq!(rt; to.into_inner().as_slice(), b"abc".as_slice());
-    assert!(rt; from.ended && !from.failed && from.asked == 4);
+    assert!(rt; from.ended && !from.failed && from.reads == 4);
     Ok(())
 }
 

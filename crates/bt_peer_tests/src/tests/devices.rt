@@ -81,7 +81,7 @@ fn each_front_of_a_stream(rt: HostRuntime) -> Result<(), Fail> {
 struct Breaking<'a> {
     rest: &'a [u8],
     left: usize,
-    asked: u64,
+    reads: u64,
     failed: bool,
     ended: bool,
 }
@@ -95,10 +95,10 @@ impl Source for Breaking<'_> {
 
     ghost ended = { λ s. s.ended };
 
-    ghost asked = { λ s. s.asked };
+    ghost reads = { λ s. s.reads };
 
     fn read(&mut self, room: &mut [u8]) -> Result<usize, DeviceFault> {
-        self.asked = self.asked.saturating_add(1);
+        self.reads = self.reads.saturating_add(1);
         if self.left == 0 {
             self.failed = true;
             return Err(DeviceFault);
@@ -124,7 +124,7 @@ fn each_read_fails(rt: HostRuntime) -> Result<(), Fail> {
         let reader = Breaking {
             rest: &sent,
             left,
-            asked: 0,
+            reads: 0,
             failed: false,
             ended: false,
         };

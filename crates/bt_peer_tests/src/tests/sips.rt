@@ -11,7 +11,7 @@ use std::test::Fail;
 struct Sips<'a> {
     rest: &'a [u8],
     sizes: &'a [usize],
-    asked: u64,
+    reads: u64,
     ended: bool,
 }
 
@@ -20,7 +20,7 @@ impl<'a> Sips<'a> {
         Sips {
             rest,
             sizes,
-            asked: 0,
+            reads: 0,
             ended: false,
         }
     }
@@ -31,7 +31,7 @@ impl<'a> Sips<'a> {
         if count == 0 {
             return 0;
         }
-        self.sizes[(self.asked % count) as usize]
+        self.sizes[(self.reads % count) as usize]
     }
 }
 
@@ -44,11 +44,11 @@ impl Source for Sips<'_> {
 
     ghost ended = { λ s. s.ended };
 
-    ghost asked = { λ s. s.asked };
+    ghost reads = { λ s. s.reads };
 
     fn read(&mut self, room: &mut [u8]) -> Result<usize, DeviceFault> {
         let size = self.size().min(room.len()).min(self.rest.len());
-        self.asked = self.asked.saturating_add(1);
+        self.reads = self.reads.saturating_add(1);
         let (sip, rest) = self.rest.split_at(size);
         for (to, from) in room.iter_mut().zip(sip) {
             *to = *from;

@@ -37,7 +37,7 @@ struct Patient<'a> {
     rest: &'a [u8],
     told: &'a AtomicBool,
     keepalives: u32,
-    asked: u64,
+    reads: u64,
     ended: bool,
 }
 
@@ -62,10 +62,10 @@ impl Source for Patient<'_> {
 
     ghost ended = { λ s. s.ended };
 
-    ghost asked = { λ s. s.asked };
+    ghost reads = { λ s. s.reads };
 
     fn read(&mut self, room: &mut [u8]) -> Result<usize, DeviceFault> {
-        self.asked = self.asked.saturating_add(1);
+        self.reads = self.reads.saturating_add(1);
         if room.is_empty() {
             return Ok(0);
         }
@@ -92,7 +92,7 @@ fn have_while_running(rt: HostRuntime) -> Result<(), Fail> {
         rest: &sent,
         told: &told,
         keepalives: 10_000,
-        asked: 0,
+        reads: 0,
         ended: false,
     };
     let writer = Listening { told: &told };

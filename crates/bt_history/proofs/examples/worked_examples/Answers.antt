@@ -1,4 +1,11 @@
-use Rattle.bt_history.proofs.ExampleProofs.{first_request_legal, another_first_request_legal, one_peer_to_the_end_legal, rarest_first_legal, full_pipe_legal, choke_frees_legal, cancel_in_endgame_legal, no_double_before_endgame_legal, double_outlasts_endgame_legal, failed_check_legal, failed_check_in_endgame_legal, held_block_dropped_legal, block_by_block_legal, refusals_legal, wrong_count_legal, stale_verdict_legal, random_first_piece_legal, rare_first_piece_too_legal, strict_priority_legal, gone_peer_not_counted_legal, rejoin_in_endgame_legal, depth_two_legal, deep_pipe_legal, rarest_from_the_start_legal, second_piece_at_random_legal, rarest_after_two_pieces_legal, wants_legal, endgame_of_the_wanted_legal, want_before_the_bits_legal, asked_stays_asked_legal}
+use Rattle.bt_history.proofs.ExampleProofs.{first_request_legal, another_first_request_legal, one_peer_to_the_end_legal, rarest_first_legal}
+use Rattle.bt_history.proofs.ExampleProofs.{full_pipe_legal, choke_frees_legal, cancel_in_endgame_legal, no_double_before_endgame_legal}
+use Rattle.bt_history.proofs.ExampleProofs.{double_outlasts_endgame_legal, failed_check_legal, failed_check_in_endgame_legal}
+use Rattle.bt_history.proofs.ExampleProofs.{held_block_dropped_legal, block_by_block_legal, refusals_legal, wrong_count_legal, stale_verdict_legal}
+use Rattle.bt_history.proofs.ExampleProofs.{random_first_piece_legal, rare_first_piece_too_legal, strict_priority_legal}
+use Rattle.bt_history.proofs.ExampleProofs.{gone_peer_not_counted_legal, rejoin_in_endgame_legal, depth_two_legal, deep_pipe_legal}
+use Rattle.bt_history.proofs.ExampleProofs.{rarest_from_the_start_legal, second_piece_at_random_legal, rarest_after_two_pieces_legal, wants_legal}
+use Rattle.bt_history.proofs.ExampleProofs.{endgame_of_the_wanted_legal, want_before_the_bits_legal, asked_stays_asked_legal}
 use Rattle.bt_history.proofs.examples.worked_examples.Goals as goal
 
 pub returns : goal.returns

@@ -3,4 +3,5 @@ use Rattle.bt_history.proofs.HeldLaws.{held_unasked}
 use Rattle.bt_history.proofs.laws.held_is_asked_of_nobody.Goals as goal
 
 pub returns : goal.returns
-returns c = held_unasked (setting_of c.args.torrent.now.layout c.args.workers c.args.rules) _ c.args.worker c.args.block c.requires.legal c.requires.held
+returns c = held_unasked (setting_of c.args.torrent.now.layout c.args.workers c.args.rules) _ c.args.worker c.args.block c.requires.legal
+    c.requires.held

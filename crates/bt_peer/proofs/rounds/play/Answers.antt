@@ -6,7 +6,7 @@ use Rattle.bt_peer.proofs.rounds.play.Goals as goal
 
 pub rounds-preserved : goal.rounds-preserved
 rounds-preserved g c =
-    let record_of = stream_record g.R.Source.left g.R.Source.ended g.R.Source.failed g.R.Source.asked g.W.Sink.written g.W.Sink.failed in
+    let record_of = stream_record g.R.Source.left g.R.Source.ended g.R.Source.failed g.R.Source.reads g.W.Sink.written g.W.Sink.failed in
     let before = c.rounds.invariant in
     let round = c.round.ensures in
     record {
@@ -19,7 +19,7 @@ rounds-preserved g c =
 
 pub returns-clause-keeps : goal.returns-clause-keeps
 returns-clause-keeps g c =
-    let record_of = stream_record g.R.Source.left g.R.Source.ended g.R.Source.failed g.R.Source.asked g.W.Sink.written g.W.Sink.failed in
+    let record_of = stream_record g.R.Source.left g.R.Source.ended g.R.Source.failed g.R.Source.reads g.W.Sink.written g.W.Sink.failed in
     EachKeeps-join record_of c.args.desk.now c.rounds.desk c.round.new.desk c.args.seats.now c.rounds.seats c.round.new.seats c.args.streams.now
     c.rounds.streams c.round.new.streams
     c.rounds.auto.streams c.rounds.invariant.keeps c.round.ensures.keeps

@@ -5,7 +5,7 @@ use Rattle.bt_peer.proofs.rounds.play.Given as goal
 
 abbrev pub invariant-rounds : goal.invariant-rounds
 invariant-rounds g l = record {
-  keeps : EachKeeps (stream_record g.R.Source.left g.R.Source.ended g.R.Source.failed g.R.Source.asked g.W.Sink.written g.W.Sink.failed)
+  keeps : EachKeeps (stream_record g.R.Source.left g.R.Source.ended g.R.Source.failed g.R.Source.reads g.W.Sink.written g.W.Sink.failed)
       l.fn.desk l.fn.seats l.fn.streams l.desk l.seats l.streams;
   rest : LeavesRest (length l.fn.streams) l.fn.desk l.desk;
   fit : Fit l.desk l.seats;

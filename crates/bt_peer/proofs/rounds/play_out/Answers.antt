@@ -13,7 +13,7 @@ returns-clause-count g c =
 
 pub returns-clause-sessions : goal.returns-clause-sessions
 returns-clause-sessions g c =
-    let record_of = stream_record g.R.Source.left g.R.Source.ended g.R.Source.failed g.R.Source.asked g.W.Sink.written g.W.Sink.failed in
+    let record_of = stream_record g.R.Source.left g.R.Source.ended g.R.Source.failed g.R.Source.reads g.W.Sink.written g.W.Sink.failed in
     let seats : length c.play.new.seats ≡ length c.args.streams.now = omega arith in
     λ terms. λ seed. λ layout. λ new.
     each_ended record_of terms seed c.args.desk.now c.play.new.desk c.last_checks.new.desk c.args.seats.now c.play.new.seats c.args.streams.now

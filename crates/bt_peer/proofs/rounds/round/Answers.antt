@@ -7,7 +7,7 @@ use Rattle.bt_peer.proofs.rounds.round.Goals.{then-turn_of, else-turn_of}
 
 pub loop-i-preserved : goal.loop-i-preserved
 loop-i-preserved g c =
-    let record_of = stream_record g.R.Source.left g.R.Source.ended g.R.Source.failed g.R.Source.asked g.W.Sink.written g.W.Sink.failed in
+    let record_of = stream_record g.R.Source.left g.R.Source.ended g.R.Source.failed g.R.Source.reads g.W.Sink.written g.W.Sink.failed in
     let before = c.loop-i.invariant in
     let turn = c.turn_of.ensures in
     let progress : Progress c.loop-i.turns c.loop-i.i c.args.seats.now c.loop-i.seats =

@@ -9,7 +9,8 @@ pub play_out-short-requires-clause-fit : goal.play_out-short-requires-clause-fit
 play_out-short-requires-clause-fit g c =
     let same : c.in_ok-clone.field-0.value ≡ c.args.torrent.value = c.in_ok-clone.ensures.cases in
     let layout = ap (λ (s : Setting). s.torrent) c.in_ok-desk.ensures.setting ∙ ap (λ (t : Metainfo). t.layout) same in
-    rw c.deref_mut.ensures.value (AreNew-fit (terms_of c.args.torrent.value c.args.rules.depth) c.args.seed c.in_ok-desk.desk c.in_ok-seats.seats.items
+    rw c.deref_mut.ensures.value (AreNew-fit (terms_of c.args.torrent.value c.args.rules.depth) c.args.seed c.in_ok-desk.desk
+    c.in_ok-seats.seats.items
     layout c.in_ok-seats.ensures.new)
 
 pub returns-clause-sessions : goal.returns-clause-sessions

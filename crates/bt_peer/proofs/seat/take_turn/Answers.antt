@@ -9,7 +9,7 @@ use Rattle.bt_peer.proofs.Own.{first_name, others_left_at}
 pub returns : goal.returns
 returns g c =
     let place = c.turn.new.place in
-    let stream = stream_record g.R.Source.left g.R.Source.ended g.R.Source.failed g.R.Source.asked g.W.Sink.written g.W.Sink.failed in
+    let stream = stream_record g.R.Source.left g.R.Source.ended g.R.Source.failed g.R.Source.reads g.W.Sink.written g.W.Sink.failed in
     let old = standing c.args.desk.now c.args.seat.now (stream c.args.stream.now) in
     let new = standing place.desk.now (record { session = c.turn.new.self; told = place.told.now; rng = c.turn.new.rng })
     (stream (record { reader = c.turn.new.reader; writer = c.turn.new.writer })) in

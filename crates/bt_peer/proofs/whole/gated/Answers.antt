@@ -1,6 +1,6 @@
 use Rattle.std.proofs.Common.{◌<◌, ◌∙◌, arith}
 use Rattle.std.proofs.lemmas.Result.{err_from_is_err_and}
-use Rattle.bt_peer.specs.Hearing.{source_state}
+use Rattle.bt_peer.specs.Reader.{source_state}
 use Rattle.bt_peer.specs.Sessions.{to_hear}
 use Rattle.bt_peer.proofs.Conduct.{Conducts-draws, Conducts-join, DrawsWords-join}
 use Rattle.bt_peer.proofs.OwnTurns.{devices_of}
@@ -27,7 +27,7 @@ returns-in-Some-clause-runs g c =
     let did = c.in_ok-end.ensures in
     let last = rw c.in-Some.is at (did.ends (unended _ _ _ _ _ was.running)) in
     record {
-      asked = c.turn.new.self.asked;
+      reads = c.turn.new.self.reads;
       ends = running_ends c.in-Some.end _ _ _ _ _ _ _ _ was.running (λ fresh. rw c.in-Some.is at (did.ends fresh));
       words = Conducts-draws g.P.Place.settles _ _ _ _ (Conducts-join g.P.Place.settles _ _ _ _ _ _ was.conduct did.conduct);
       devices = (last.leave.hears.ended, did.sound.0 ∙ was.failed, did.sound.1 ∙ was.writer_failed);
@@ -43,9 +43,9 @@ returns-in_err-end-clause-runs g c =
     let p = err_from_is_err_and c.from_residual.result c.from_residual.ensures.1 in
     let was = c.turns.invariant in
     let did = c.in_err-end.ensures in
-    let source = source_state g.R.Source.left g.R.Source.ended g.R.Source.failed c.turn.new.reader c.turn.new.self.asked in
+    let source = source_state g.R.Source.left g.R.Source.ended g.R.Source.failed c.turn.new.reader c.turn.new.self.reads in
     rw (p.1, p.2) (record {
-      asked = c.turn.new.self.asked;
+      reads = c.turn.new.self.reads;
       ends = running_fails _ _ _ _ _ _ source _ _ was.running (λ fresh. did.fails fresh);
       words = DrawsWords-join g.P.Place.settles _ _ _ _ _ was.conduct did.words;
       devices = devices_of _ _ _ (did.failed (unended _ _ _ _ _ was.running));

@@ -7,7 +7,8 @@ use Rattle.bt_picker.specs.Tables.{AreTables}
 use Rattle.bt_picker.proofs.auditing.audit.Goals as goal
 
 -- the history that one entry more tells
-history_more : (xs : List Entry) (i : ℕ) (e : Entry) → i < length xs → e ≡ get_or xs i e → history_of (take (i + 1) xs) ≡ event_of e ∷ history_of (take i xs)
+history_more : (xs : List Entry) (i : ℕ) (e : Entry) → i < length xs → e ≡ get_or xs i e →
+    history_of (take (i + 1) xs) ≡ event_of e ∷ history_of (take i xs)
 history_more xs i e lt is =
     let more : take (i + 1) xs ≡ take i xs ++ e ∷ [] = take_more xs i e lt ∙ ap (λ (x : Entry). take i xs ++ x ∷ []) (sym is) in
     ap history_of more ∙ grind (arith, common_steps, map-append)

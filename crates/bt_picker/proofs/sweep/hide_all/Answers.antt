@@ -18,7 +18,8 @@ loop-from-preserved c =
     )
 
 pub returns-in-None : goal.returns-in-None
-returns-in-None c = swept_none less_available hides_none c.args.pieces.now c.args.flags.now c.loop-from.pieces c.loop-from.from c.loop-from.invariant.1 c.in-None.ensures
+returns-in-None c = swept_none less_available hides_none c.args.pieces.now c.args.flags.now c.loop-from.pieces c.loop-from.from
+    c.loop-from.invariant.1 c.in-None.ensures
 
 pub returns : goal.returns
 returns c =

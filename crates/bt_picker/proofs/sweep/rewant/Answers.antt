@@ -19,7 +19,8 @@ loop-piece-preserved c =
     let long : length c.loop-piece.pieces ≡ length c.args.pieces.now = length_is_table _ _ _ c.loop-piece.invariant.1 in
     let here : i < length c.loop-piece.pieces = omega (arith, long, lt) in
     let old = get_or c.loop-piece.pieces i (fresh_piece 0) in
-    let row : old ≡ piece_row c.args.pieces.now i = rows_read c.loop-piece.pieces _ i _ (piece_row c.args.pieces.now) (fresh_piece 0) c.loop-piece.invariant.1 lt in (
+    let row : old ≡ piece_row c.args.pieces.now i = rows_read c.loop-piece.pieces _ i _ (piece_row c.args.pieces.now) (fresh_piece 0)
+    c.loop-piece.invariant.1 lt in (
       c.loop-piece.invariant.0,
       c.apply.ensures
           ∙ (sym (edit_read c.loop-piece.pieces i (want_row c.has.result) old (fresh_piece 0) here refl)
@@ -28,4 +29,5 @@ loop-piece-preserved c =
     )
 
 pub returns : goal.returns
-returns c = rows_done c.loop-piece.pieces _ c.loop-piece.piece _ _ c.loop-piece.invariant.1 (omega (arith, c.loop-piece-test.false, c.loop-piece.invariant.0))
+returns c = rows_done c.loop-piece.pieces _ c.loop-piece.piece _ _ c.loop-piece.invariant.1
+    (omega (arith, c.loop-piece-test.false, c.loop-piece.invariant.0))

@@ -17,6 +17,8 @@ returns-else-askers-from c =
     get_or_default c.args.peers.now w c.index-peers-worker.result read c.requires.worker ∙ sym c.index-peers-worker-else-askers-from.is in
     let asked : c.asks.result ≡ asks_at c.args.piece c.args.begin read = c.asks.ensures ∙ ap (asks_at c.args.piece c.args.begin) first in
     let few : c.args.askers ≤ one_if (asks_at c.args.piece c.args.begin read) =
-    (let is : c.from.result ≡ one_if (asks_at c.args.piece c.args.begin read) = c.from.ensures ∙ (byte c.asks.result ∙ ap one_if asked) in omega (arith, is, c.if-askers-from.false)) in
-    forgotten c.args.peers.now w c.args.piece c.args.begin c.args.askers read c.forget.new.self c.requires.worker c.index-peers-worker-else-askers-from.is c.requires.askers few
+    (let is : c.from.result ≡ one_if (asks_at c.args.piece c.args.begin read) = c.from.ensures ∙ (byte c.asks.result ∙ ap one_if asked) in
+    omega (arith, is, c.if-askers-from.false)) in
+    forgotten c.args.peers.now w c.args.piece c.args.begin c.args.askers read c.forget.new.self c.requires.worker
+    c.index-peers-worker-else-askers-from.is c.requires.askers few
     (c.forget.ensures ∙ ap (without_block c.args.piece c.args.begin true) (sym c.index-peers-worker-else-askers-from.is))

@@ -9,7 +9,8 @@ returns-clause-starts c =
     let first = c.in-Some.first in
     let is = c.in-Some.ensures in
     let part = c.in_ok-rules.field-0 in
-    let pieces : c.piece_count-pieces.result ≡ c.in_ok-player.player.pieces = c.piece_count-pieces.ensures.count ∙ sym c.in_ok-player.ensures.pieces in
+    let pieces : c.piece_count-pieces.result ≡ c.in_ok-player.player.pieces =
+    c.piece_count-pieces.ensures.count ∙ sym c.in_ok-player.ensures.pieces in
     record {
       first = first;
       within = is.1;

@@ -11,7 +11,8 @@ loop-worker-init g c =
     let passes : c.push_reserved.new.self.items ≡ c.pass.inside.pass ∷ [] = search rules in
     let table : c.pass.inside.seat.table ≡ c.args.board.now.table = search rules in
     record {
-      joins = joins_first g.L.RunName.setting g.L.RunName.desk c.args.board.now.table c.args.workers.items _ first c.push_reserved.new.self.items is c.pass.invariant.own c.pass.invariant.pass passes table;
+      joins = joins_first g.L.RunName.setting g.L.RunName.desk c.args.board.now.table c.args.workers.items _ first c.push_reserved.new.self.items is
+          c.pass.invariant.own c.pass.invariant.pass passes table;
       room = search rules;
     }
 
@@ -24,8 +25,15 @@ loop-worker-preserved g c =
     record {
       joins = joins_more g.L.RunName.setting g.L.RunName.desk c.args.board.now.table c.args.workers.items _ _ next c.loop-worker.passes.items
           c.push_reserved-in-loop-worker.new.self.items c.loop-worker.all c.join-all.result
-          was.joins is c.worker.invariant.own c.worker.invariant.pass c.push_reserved-in-loop-worker.ensures.items c.join-all.ensures.view c.join-all.ensures.seat;
-      room = omega (arith, was.room, c.in-Some.ensures.steps.1, c.push_reserved-in-loop-worker.ensures.len, c.push_reserved-in-loop-worker.ensures.capacity);
+          was.joins is c.worker.invariant.own c.worker.invariant.pass c.push_reserved-in-loop-worker.ensures.items c.join-all.ensures.view
+          c.join-all.ensures.seat;
+      room = omega (
+        arith,
+        was.room,
+        c.in-Some.ensures.steps.1,
+        c.push_reserved-in-loop-worker.ensures.len,
+        c.push_reserved-in-loop-worker.ensures.capacity,
+      );
     }
 
 pub returns-clause-takes : goal.returns-clause-takes

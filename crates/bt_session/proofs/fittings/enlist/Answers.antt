@@ -9,7 +9,8 @@ loop-pass-init g c =
     let none : length c.in_ok-workers.workers.items ≡ 0 = ap length c.in_ok-workers.ensures.items in
     record {
       fresh = none_numbered (IsFresh g.L.RunName.setting) 0 c.in_ok-workers.workers.items c.in_ok-workers.ensures.items;
-      passes = same_list (IsNewPass g.L.RunName.desk g.L.RunName.setting) 0 _ c.args.passes.items _ none c.into_iter-pass-iterator.ensures.into_iter_gives.0 c.requires.passes;
+      passes = same_list (IsNewPass g.L.RunName.desk g.L.RunName.setting) 0 _ c.args.passes.items _ none
+          c.into_iter-pass-iterator.ensures.into_iter_gives.0 c.requires.passes;
       seats = same_list (IsNewSeat g.L.RunName.board) 0 _ c.args.seats.items _ none c.into_iter-seats.ensures.rest c.requires.seats;
       tickets = same_list (λ number pass. g.L.RunName.queue ≡ Some pass.queue) 0 0 c.args.tickets.items _ refl c.into_iter-tickets.ensures.rest
           c.requires.tickets;
@@ -39,7 +40,8 @@ loop-pass-preserved g c =
     record {
       fresh = one_more (IsFresh g.L.RunName.setting) c.loop-pass.workers.items c.push_reserved.new.self.items c.new.result
           c.push_reserved.ensures.items was.fresh
-          (rw c.new.ensures (is_fresh g.L.RunName.setting g.L.RunName.desk g.L.RunName.board k c.in-Some.pass c.in-Some-next.seat c.in-Some-next-2.ticket_pass
+          (rw c.new.ensures (is_fresh g.L.RunName.setting g.L.RunName.desk g.L.RunName.board k c.in-Some.pass c.in-Some-next.seat
+          c.in-Some-next-2.ticket_pass
           pass_is new_seat));
       passes = same_list (IsNewPass g.L.RunName.desk g.L.RunName.setting) (k + 1) _ _ _ more refl
           (rest_are (IsNewPass g.L.RunName.desk g.L.RunName.setting) k _ _ c.in-Some.pass c.in-Some.ensures.steps.0 was.passes);

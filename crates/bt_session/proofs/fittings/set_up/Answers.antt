@@ -6,7 +6,8 @@ use Rattle.bt_session.proofs.fittings.set_up.Goals as goal
 
 pub enlist-requires-clause-passes : goal.enlist-requires-clause-passes
 enlist-requires-clause-passes g c =
-    subst (λ (desk : Option TableId). AreNumbered (IsNewPass desk g.L.RunName.setting) 0 c.args.fittings.passes.items) (sym c.requires.desk) c.requires.fittings.passes
+    subst (λ (desk : Option TableId). AreNumbered (IsNewPass desk g.L.RunName.setting) 0 c.args.fittings.passes.items) (sym c.requires.desk)
+    c.requires.fittings.passes
 
 pub enlist-requires-clause-seats : goal.enlist-requires-clause-seats
 enlist-requires-clause-seats g c =

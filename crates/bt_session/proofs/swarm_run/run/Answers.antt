@@ -15,7 +15,7 @@ gather-requires-clause-order g c =
     let all = c.in_ok-commons.all.items in
     let worked = c.in_ok-worked.worked in
     let many : length all ≡ n + m + 1 = search rules in
-    let ran : Ran (stream_record g.R.Source.left g.R.Source.ended g.R.Source.failed g.R.Source.asked g.W.Sink.written g.W.Sink.failed)
+    let ran : Ran (stream_record g.R.Source.left g.R.Source.ended g.R.Source.failed g.R.Source.reads g.W.Sink.written g.W.Sink.failed)
     (terms_of layout c.args.rules.depth) g.L.RunName.setting c.args.seed n m (piece_count layout.layout)
     all worked.workers.items c.args.streams.items worked.streams.items worked.ends.items = record {
       some = c.requires.streams.0;
@@ -39,7 +39,7 @@ returns-clause-sessions g c =
     let all = c.in_ok-commons.all.items in
     let worked = c.in_ok-worked.worked in
     let many : length all ≡ n + m + 1 = search rules in
-    let ran : Ran (stream_record g.R.Source.left g.R.Source.ended g.R.Source.failed g.R.Source.asked g.W.Sink.written g.W.Sink.failed)
+    let ran : Ran (stream_record g.R.Source.left g.R.Source.ended g.R.Source.failed g.R.Source.reads g.W.Sink.written g.W.Sink.failed)
     (terms_of layout c.args.rules.depth) g.L.RunName.setting c.args.seed n m (piece_count layout.layout)
     all worked.workers.items c.args.streams.items worked.streams.items worked.ends.items = record {
       some = c.requires.streams.0;
@@ -64,7 +64,7 @@ returns-clause-checks g c =
     let all = c.in_ok-commons.all.items in
     let worked = c.in_ok-worked.worked in
     let many : length all ≡ n + m + 1 = search rules in
-    let ran : Ran (stream_record g.R.Source.left g.R.Source.ended g.R.Source.failed g.R.Source.asked g.W.Sink.written g.W.Sink.failed)
+    let ran : Ran (stream_record g.R.Source.left g.R.Source.ended g.R.Source.failed g.R.Source.reads g.W.Sink.written g.W.Sink.failed)
     (terms_of layout c.args.rules.depth) g.L.RunName.setting c.args.seed n m (piece_count layout.layout)
     all worked.workers.items c.args.streams.items worked.streams.items worked.ends.items = record {
       some = c.requires.streams.0;
@@ -89,7 +89,7 @@ returns-clause-finishes g c =
     let all = c.in_ok-commons.all.items in
     let worked = c.in_ok-worked.worked in
     let many : length all ≡ n + m + 1 = search rules in
-    let ran : Ran (stream_record g.R.Source.left g.R.Source.ended g.R.Source.failed g.R.Source.asked g.W.Sink.written g.W.Sink.failed)
+    let ran : Ran (stream_record g.R.Source.left g.R.Source.ended g.R.Source.failed g.R.Source.reads g.W.Sink.written g.W.Sink.failed)
     (terms_of layout c.args.rules.depth) g.L.RunName.setting c.args.seed n m (piece_count layout.layout)
     all worked.workers.items c.args.streams.items worked.streams.items worked.ends.items = record {
       some = c.requires.streams.0;

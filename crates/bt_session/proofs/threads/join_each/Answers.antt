@@ -8,7 +8,8 @@ use Rattle.bt_session.proofs.threads.join_each.Goals as goal
 -- The handle that is joined stood first among the rest, so it is the one at the next place.
 pub loop-handle-preserved : goal.loop-handle-preserved
 loop-handle-preserved g c =
-    let was = c.loop-handle.invariant in let step = c.in-Some.ensures.steps in let old = c.loop-handle.all.items in let done = vec_len c.loop-handle.all in
+    let was = c.loop-handle.invariant in let step = c.in-Some.ensures.steps in let old = c.loop-handle.all.items in let done =
+    vec_len c.loop-handle.all in
     let new = c.push_reserved.new.self.items in
     let handle = c.in-Some.handle in let r = c.join.result in
     let handles = into_iter_items c.into_iter-handle-iterator.result in let Kept = KeepsAt g.P.Promise handles in
@@ -20,7 +21,9 @@ loop-handle-preserved g c =
       omega (arith, was.0, step.1, grown),
       (λ k d below. let h = was.1 (k + 1) d in grind rules),
       (λ k x below. below_more (λ i. Kept i (get_or new i x)) done
-          (λ i low. subst (Kept i) (sym (ap (λ l. get_or l i x) items ∙ get_or_append_left old (r ∷ []) x i (omega (arith, low, many)))) (was.2 i x low))
-          (subst (Kept done) (sym (ap (λ l. get_or l done x) items ∙ (ap (λ n. get_or (old ++ r ∷ []) n x) many ∙ get_or-append_seam old r [] x))) here) k (omega (arith, below, grown))),
+          (λ i low. subst (Kept i) (sym (ap (λ l. get_or l i x) items ∙ get_or_append_left old (r ∷ []) x i (omega (arith, low, many))))
+          (was.2 i x low))
+          (subst (Kept done) (sym (ap (λ l. get_or l done x) items ∙ (ap (λ n. get_or (old ++ r ∷ []) n x) many ∙ get_or-append_seam old r [] x)))
+          here) k (omega (arith, below, grown))),
       omega (arith, was.3, step.1, grown, c.push_reserved.ensures.capacity),
     )

@@ -9,7 +9,8 @@ use Rattle.bt_session.specs.Workers.{WorkerState}
 use Rattle.bt_shared.specs.Passes.{PassState}
 use Rattle.bt_session.proofs.work.work.Goals as goal
 
-parted : (g : _) (c : goal.After-push_reserved g) → Parted (length c.args.streams.items) c.args.checkers c.args.workers.items c.push_reserved.new.self.items
+parted : (g : _) (c : goal.After-push_reserved g) → Parted (length c.args.streams.items) c.args.checkers c.args.workers.items
+    c.push_reserved.new.self.items
     c.split_off.new.self.items c.in_ok-checkers.checkers.items (map (λ p. p.worker) c.in_ok-joined.joined.played.items)
     (map (λ p. p.worker) c.in_ok-joined.joined.checked.items) c.in-Some.last c.last_checks-unfinished.new.worker
 parted g c =
@@ -19,7 +20,8 @@ parted g c =
     let played = map (λ p. p.worker) c.in_ok-joined.joined.played.items in
     let checked = map (λ p. p.worker) c.in_ok-joined.joined.checked.items in
     let last = c.last_checks-unfinished.new.worker in
-    let parts : before ≡ sessions ++ checkers = rw (c.in_ok-checkers.ensures.items, c.in_ok-checkers.ensures.tail) (sym (take-append-drop _ before)) in
+    let parts : before ≡ sessions ++ checkers = rw (c.in_ok-checkers.ensures.items, c.in_ok-checkers.ensures.tail) (sym (take-append-drop _ before))
+    in
     let many : length sessions ≡ length c.args.streams.items = search rules in
     let many_checkers : length checkers ≡ c.args.checkers = search rules in
     record {
@@ -37,7 +39,7 @@ pub returns-clause-plays : goal.returns-clause-plays
 returns-clause-plays g c =
     rw (c.part-came_back.ensures.ends, c.part-came_back.ensures.streams)
     (all_play (parted g c)
-    (stream_record g.R.Source.left g.R.Source.ended g.R.Source.failed g.R.Source.asked g.W.Sink.written g.W.Sink.failed)
+    (stream_record g.R.Source.left g.R.Source.ended g.R.Source.failed g.R.Source.reads g.W.Sink.written g.W.Sink.failed)
     (terms_of c.args.commons.now c.args.depth) g.L.RunName.setting c.args.seed c.args.streams.items
     (map (λ p. p.stream) c.in_ok-joined.joined.played.items) (map (λ p. p.end) c.in_ok-joined.joined.played.items) refl
     c.in_ok-joined.ensures.plays)

@@ -6,7 +6,8 @@ use Rattle.bt_history.specs.Logs.{marks_of, mark_of}
 use Rattle.bt_history.proofs.Journals.{mark_next, mark_skip, marks_take, take_step}
 use Rattle.bt_shared.proofs.Comparing.{apart_at, differs, goes_on, same_at}
 use Rattle.bt_shared.proofs.compare.first_difference.Goals as goal
-use Rattle.bt_shared.proofs.compare.first_difference.Goals.{then-entry-worker+else-next-log+else-ne, else-entry-worker, then-next-log-via-then-next-log, then-next-log-via-else-next-log+then-ne}
+use Rattle.bt_shared.proofs.compare.first_difference.Goals.{then-entry-worker+else-next-log+else-ne, else-entry-worker}
+use Rattle.bt_shared.proofs.compare.first_difference.Goals.{then-next-log-via-then-next-log, then-next-log-via-else-next-log+then-ne}
 
 pub returns-then-next-log-clause-some : goal.returns-then-next-log-clause-some
 returns-then-next-log-clause-some c =

@@ -8,5 +8,6 @@ returns-clause-fits c =
     let old = c.args.desk.now in
     let reply = c.in_ok-reply.reply in
     let waiting : waits old.setting old.history c.args.piece ≡ true = search rules in
-    let gains = subst (λ (b : Bool). SettlesIf b old c.settle_now-made-2.new.self c.args.worker c.args.piece reply) waiting c.in_ok-reply.ensures.ok in
+    let gains = subst (λ (b : Bool). SettlesIf b old c.settle_now-made-2.new.self c.args.worker c.args.piece reply) waiting c.in_ok-reply.ensures.ok
+    in
     allowed_answers old.setting old.history (settling old.setting old.history c.args.worker c.args.piece reply) gains.allowed

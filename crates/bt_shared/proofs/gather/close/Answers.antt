@@ -5,4 +5,5 @@ use Rattle.bt_shared.proofs.gather.close.Goals as goal
 pub returns-in-None-clause-setting : goal.returns-in-None-clause-setting
 returns-in-None-clause-setting c =
     let shared = c.args.table.shared in
-    found_setting shared.key (slots_items c.close.result.words) (slots_items c.close.result.slots) c.desk_in.result c.desk_in.ensures.slot c.close.ensures.values.2
+    found_setting shared.key (slots_items c.close.result.words) (slots_items c.close.result.slots) c.desk_in.result c.desk_in.ensures.slot
+    c.close.ensures.values.2

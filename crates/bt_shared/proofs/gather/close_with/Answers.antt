@@ -5,19 +5,23 @@ use Rattle.bt_shared.proofs.gather.close_with.Goals as goal
 pub returns-clause-setting : goal.returns-clause-setting
 returns-clause-setting c =
     let closed = c.close_with.result in
-    seat_setting c.args.table.shared.key (slots_items closed.words) (slots_items closed.slots) c.desk_in.result c.desk_in.ensures.slot c.args.seat.id c.args.seat.me c.requires.seat.1.idle c.close_with.ensures.values.2
+    seat_setting c.args.table.shared.key (slots_items closed.words) (slots_items closed.slots) c.desk_in.result c.desk_in.ensures.slot c.args.seat.id
+    c.args.seat.me c.requires.seat.1.idle c.close_with.ensures.values.2
 
 pub returns-clause-saw : goal.returns-clause-saw
 returns-clause-saw c =
     let closed = c.close_with.result in
-    seat_saw c.args.table.shared.key (slots_items closed.words) (slots_items closed.slots) c.desk_in.result c.desk_in.ensures.slot c.args.seat.id c.args.seat.me c.requires.seat.1.idle c.close_with.ensures.values.2
+    seat_saw c.args.table.shared.key (slots_items closed.words) (slots_items closed.slots) c.desk_in.result c.desk_in.ensures.slot c.args.seat.id
+    c.args.seat.me c.requires.seat.1.idle c.close_with.ensures.values.2
 
 pub returns-clause-counted : goal.returns-clause-counted
 returns-clause-counted c =
     let closed = c.close_with.result in
-    seat_counted c.args.table.shared.key (slots_items closed.words) (slots_items closed.slots) c.desk_in.result c.desk_in.ensures.slot c.args.seat.id c.args.seat.me c.requires.seat.1.idle c.close_with.ensures.values.2
+    seat_counted c.args.table.shared.key (slots_items closed.words) (slots_items closed.slots) c.desk_in.result c.desk_in.ensures.slot c.args.seat.id
+    c.args.seat.me c.requires.seat.1.idle c.close_with.ensures.values.2
 
 pub returns-clause-free : goal.returns-clause-free
 returns-clause-free c =
     let closed = c.close_with.result in
-    seat_free c.args.table.shared.key (slots_items closed.words) (slots_items closed.slots) c.desk_in.result c.desk_in.ensures.slot c.args.seat.id c.args.seat.me c.requires.seat.1.idle c.close_with.ensures.values.2
+    seat_free c.args.table.shared.key (slots_items closed.words) (slots_items closed.slots) c.desk_in.result c.desk_in.ensures.slot c.args.seat.id
+    c.args.seat.me c.requires.seat.1.idle c.close_with.ensures.values.2

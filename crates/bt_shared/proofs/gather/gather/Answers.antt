@@ -16,8 +16,13 @@ returns-in-Some-first_differing-clause-err c =
     let legal : IsLegal s h = search rules in
     let held : held_by c.args.passes.items ≡ length h = search rules in
     let count : length logs ≡ s.workers = search rules in
-    let first : IsFirstDiffering h logs c.in-Some-first_differing.worker c.in-Some-first_differing.place = search rules in
-    (h, legal, held, unlike c.args.passes.items logs c.take_apart-held.ensures.logs s h count c.in-Some-first_differing.worker c.in-Some-first_differing.place first)
+    let first : IsFirstDiffering h logs c.in-Some-first_differing.worker c.in-Some-first_differing.place = search rules in (
+      h,
+      legal,
+      held,
+      unlike c.args.passes.items logs c.take_apart-held.ensures.logs s h count c.in-Some-first_differing.worker
+          c.in-Some-first_differing.place first,
+    )
 
 pub returns-in-Some-first_other-clause-err : goal.returns-in-Some-first_other-clause-err
 returns-in-Some-first_other-clause-err c =
@@ -28,7 +33,8 @@ returns-in-Some-first_other-clause-err c =
     let held : held_by c.args.passes.items ≡ length h = search rules in
     let count : length logs ≡ s.workers = search rules in
     let history = history_of c.journal.result.now in
-    let journal : EachAgrees history logs = subst (λ (all : List (Vec Mark)). EachAgrees history all) c.deref.ensures.value c.in_default-first_differing.ensures.none in
+    let journal : EachAgrees history logs = subst (λ (all : List (Vec Mark)). EachAgrees history all) c.deref.ensures.value
+    c.in_default-first_differing.ensures.none in
     let same : history ≡ h = search rules in
     let agree : EachAgrees h logs = subst (λ (x : History). EachAgrees x logs) same journal in
     (h, legal, held, all_alike c.args.passes.items logs c.take_apart-held.ensures.logs s h count agree, search rules)
@@ -38,6 +44,7 @@ returns-clause-agrees c =
     let h = c.in-Some.desk.history in
     let logs = c.take_apart-held.new.logs.items in
     let history = history_of c.journal.result.now in
-    let journal : EachAgrees history logs = subst (λ (all : List (Vec Mark)). EachAgrees history all) c.deref.ensures.value c.in_default-first_differing.ensures.none in
+    let journal : EachAgrees history logs = subst (λ (all : List (Vec Mark)). EachAgrees history all) c.deref.ensures.value
+    c.in_default-first_differing.ensures.none in
     let same : history ≡ h = search rules in
     subst (λ (x : History). EachAgrees x logs) same journal

@@ -7,7 +7,8 @@ pub compare_exchange-requires : goal.compare_exchange-requires
 compare_exchange-requires g c = (
   c.loop.invariant.table ∙ c.requires.desk.1,
   omega (arith, c.requires.desk.0.one_word),
-  seat_may_take c.args.words.now.key c.args.words.now.table_id.slots c.loop.seat.id c.loop.seat.me (subst MayTake (sym c.loop.invariant.me) c.requires.may),
+  seat_may_take c.args.words.now.key c.args.words.now.table_id.slots c.loop.seat.id c.loop.seat.me
+      (subst MayTake (sym c.loop.invariant.me) c.requires.may),
 )
 
 pub exchange-requires : goal.exchange-requires

@@ -12,7 +12,8 @@ pub store-requires : goal.store-requires
 store-requires c =
     let old = c.args.seat.now.me in
     let same-rest : rest old.1 ≡ [] = ap rest c.requires.taken.0 in
-    let m : c.exchange.new.seat.me ≡ (old.0, (0, Some c.args.desk) ∷ []) = c.exchange.ensures.3 ∙ ap (λ l. (old.0, (0, Some c.args.desk) ∷ l)) same-rest in
+    let m : c.exchange.new.seat.me ≡ (old.0, (0, Some c.args.desk) ∷ []) =
+    c.exchange.ensures.3 ∙ ap (λ l. (old.0, (0, Some c.args.desk) ∷ l)) same-rest in
     let v : c.exchange.new.seat.me.0 ≡ old.0 = ap (λ (x : Sat). x.0) m in
     let P : View → Type 0 = λ x. MayFree x c.args.desk in (
       c.exchange.ensures.0 ∙ c.requires.desk.1,

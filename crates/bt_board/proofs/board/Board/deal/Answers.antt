@@ -39,8 +39,10 @@ invariant_of-push_reserved c =
     let split = c.split_seat-seat.ensures in
     let words : c.self.inside.table.shared.table_id.words ≡ words_of (piece_count c.args.self.now.torrent)
     = c.self.invariant.words ∙ ap (λ (t : Layout). words_of (piece_count t)) (ap (λ (b : BoardState). b.torrent) c.self.view_is) in
-    let same : c.split_seat-seat.result.table_id ≡ c.self.inside.table.shared.table_id = split.3 ∙ c.loop.invariant.1.0 ∙ sym (ap (λ (b : BoardState). b.table) c.self.view_is) in record {
-      wide = ap length c.in_ok-given.ensures ∙ length-replicate (words_of (piece_count c.args.self.now.torrent)) 0 ∙ sym words ∙ ap (λ (z : TableId). z.words) (sym same);
+    let same : c.split_seat-seat.result.table_id ≡ c.self.inside.table.shared.table_id =
+    split.3 ∙ c.loop.invariant.1.0 ∙ sym (ap (λ (b : BoardState). b.table) c.self.view_is) in record {
+      wide = ap length c.in_ok-given.ensures ∙ length-replicate (words_of (piece_count c.args.self.now.torrent)) 0 ∙ sym words ∙
+          ap (λ (z : TableId). z.words) (sym same);
       bare = ap (λ (m : Me (Unit {0}) View). m.1) split.4;
       stands = λ no_seat. dealt_stands dealt seats v (omega arith) is (sym (ap (λ (m : Me (Unit {0}) View). m.0.seats) split.4) ∙ no_seat);
     }
@@ -62,7 +64,8 @@ loop-preserved c =
     let rest : c.split_seat-seat.new.seat.me ≡ (view [] [] (range_with_len (dealt + 1) (seats - (dealt + 1))), [])
     = split.2 ∙ (λ i. (dealt_rest dealt seats v lt is i, ap (λ (m : Me (Unit {0}) View). m.1) first_is i)) in
     let table : c.split_seat-seat.result.table_id ≡ c.args.self.now.table = split.3 ∙ c.loop.invariant.1.0 in
-    let known : c.split_seat-seat.result.me.0 ≡ (newcomer c.args.self.now dealt).view = ap (λ (m : Me (Unit {0}) View). m.0) split.4 ∙ dealt_first dealt seats v lt is in (
+    let known : c.split_seat-seat.result.me.0 ≡ (newcomer c.args.self.now dealt).view =
+    ap (λ (m : Me (Unit {0}) View). m.0) split.4 ∙ dealt_first dealt seats v lt is in (
       omega arith,
       (split.0 ∙ c.loop.invariant.1.0, rw longer rest),
       listed_more (newcomer c.args.self.now) c.loop.all.items c.push_reserved.new.self.items _ pushed

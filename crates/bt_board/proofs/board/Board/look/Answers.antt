@@ -15,7 +15,8 @@ load-requires g c =
     let torrent = (arc_value table.key.torrent).layout in
     let here : (arc_value c.self.inside.about.torrent).layout ≡ c.args.self.now.torrent = ap (λ (b : BoardState). b.torrent) c.self.view_is in
     let same : torrent ≡ c.args.self.now.torrent = ap (λ (a : About). (arc_value a.torrent).layout) c.self.invariant.told_is ∙ here in
-    let words : table.table_id.words ≡ words_of (piece_count c.args.self.now.torrent) = c.self.invariant.words ∙ ap (λ (t : Layout). words_of (piece_count t)) here in (
+    let words : table.table_id.words ≡ words_of (piece_count c.args.self.now.torrent) =
+    c.self.invariant.words ∙ ap (λ (t : Layout). words_of (piece_count t)) here in (
       ap (λ (s : SeatState). s.table) c.seat.view_is ∙ c.requires.seat ∙ sym (ap (λ (b : BoardState). b.table) c.self.view_is),
       subst (λ (n : ℕ). c.args.word < n) (sym words) c.requires.word,
       looks torrent table.key.seats table.table_id.slots seat.id c.args.word seat.me.0 seat.me.1 c.seat.invariant.stands g.K.Counted.pieces
@@ -25,7 +26,8 @@ load-requires g c =
 pub returns-clause-wide : goal.returns-clause-wide
 returns-clause-wide g c =
     let here : (arc_value c.self.inside.about.torrent).layout ≡ c.args.self.now.torrent = ap (λ (b : BoardState). b.torrent) c.self.view_is in
-    let words : c.self.inside.table.shared.table_id.words ≡ words_of (piece_count c.args.self.now.torrent) = c.self.invariant.words ∙ ap (λ (t : Layout). words_of (piece_count t)) here in
+    let words : c.self.inside.table.shared.table_id.words ≡ words_of (piece_count c.args.self.now.torrent) =
+    c.self.invariant.words ∙ ap (λ (t : Layout). words_of (piece_count t)) here in
     let same : c.seat.inside.seat.table_id ≡ c.self.inside.table.shared.table_id
     = ap (λ (s : SeatState). s.table) c.seat.view_is ∙ c.requires.seat ∙ sym (ap (λ (b : BoardState). b.table) c.self.view_is) in
     (c.seat.invariant.wide ∙ ap (λ (z : TableId). z.words) same ∙ words, subst (λ (n : ℕ). n ≤ 2 ^ 26) words c.self.invariant.few)

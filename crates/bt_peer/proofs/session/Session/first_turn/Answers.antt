@@ -1,8 +1,8 @@
 use Rattle.std.proofs.Common.{◌≡◌, ◌∙◌, ap, List, ℕ, Some, Err, false, refl, subst}
-use Rattle.bt_peer.specs.Hearing.{source_state}
-use Rattle.bt_peer.specs.Saying.{greeting}
+use Rattle.bt_peer.specs.Reader.{source_state}
+use Rattle.bt_peer.specs.Writer.{greeting}
 use Rattle.bt_peer.specs.Sessions.{SessionState, FailsWith}
-use Rattle.bt_peer.specs.Turning.{start, surroundings}
+use Rattle.bt_peer.specs.Steps.{start, surroundings}
 use Rattle.bt_peer.proofs.Failing.{FirstFails, session_fails_first}
 use Rattle.bt_peer.proofs.session.Session.first_turn.Goals as goal
 
@@ -16,21 +16,21 @@ returns-in-Err-clause-fails g c =
       stream = inside.peer.inbound;
       joined = inside.joined;
       interested = inside.peer.interested;
-      asked = inside.peer.asked;
+      reads = inside.peer.reads;
       messages = inside.messages;
       outcome = inside.outcome;
     } in
     let new : SessionState = record state {
       stream = c.greet-greeted.new.peer.inbound;
       interested = c.greet-greeted.new.peer.interested;
-      asked =
-          c.greet-greeted.new.peer.asked;
+      reads =
+          c.greet-greeted.new.peer.reads;
       outcome = Some (Err fault);
     } in
     let out = surroundings g.P.Place.past g.R.Source.left g.W.Sink.written c.args.place.now c.args.reader.now c.args.writer.now in
     let out' = surroundings g.P.Place.past g.R.Source.left g.W.Sink.written c.greet-greeted.new.place c.greet-greeted.new.reader
     c.greet-greeted.new.writer in
-    let source = source_state g.R.Source.left g.R.Source.ended g.R.Source.failed c.greet-greeted.new.reader c.greet-greeted.new.peer.asked in
+    let source = source_state g.R.Source.left g.R.Source.ended g.R.Source.failed c.greet-greeted.new.reader c.greet-greeted.new.peer.reads in
     let said : c.greeting-hello.result ≡ greeting state.terms.infohash state.worker =
     c.greeting-hello.ensures ∙ ap (λ (hash : List ℕ). greeting hash state.worker) c.infohash.ensures in
     let fails : FirstFails fault c.greeting-hello.result state.interested

@@ -10,20 +10,23 @@ use Rattle.bt_picker.proofs.pieces.Pieces.apply.Goals as goal
 pub index-shown_by-requires : goal.index-shown_by-requires
 index-shown_by-requires c =
     let o = c.self.inside in
-    let kept = kept_piece o.shelf o.rows.items o.shown_by.items _ c.args.piece c.self.invariant.0 c.self.invariant.1 c.self.view_is c.requires.piece in
+    let kept = kept_piece o.shelf o.rows.items o.shown_by.items _ c.args.piece c.self.invariant.0 c.self.invariant.1 c.self.view_is c.requires.piece
+    in
     omega (arith, o.shown_by.ok.0, kept.len, kept.within)
 
 pub index_mut-row-requires : goal.index_mut-row-requires
 index_mut-row-requires c =
     let o = c.self.inside in
-    let kept = kept_piece o.shelf o.rows.items o.shown_by.items _ c.args.piece c.self.invariant.0 c.self.invariant.1 c.self.view_is c.requires.piece in
+    let kept = kept_piece o.shelf o.rows.items o.shown_by.items _ c.args.piece c.self.invariant.0 c.self.invariant.1 c.self.view_is c.requires.piece
+    in
     omega (arith, o.rows.ok.0, kept.within)
 
 pub apply-requires : goal.apply-requires
 apply-requires c =
     let o = c.self.inside in
     let row = c.index_mut-row.result.now in
-    let kept = kept_piece o.shelf o.rows.items o.shown_by.items _ c.args.piece c.self.invariant.0 c.self.invariant.1 c.self.view_is c.requires.piece in
+    let kept = kept_piece o.shelf o.rows.items o.shown_by.items _ c.args.piece c.self.invariant.0 c.self.invariant.1 c.self.view_is c.requires.piece
+    in
     let fits = rw (← c.self.view_is) at c.requires.fits in
     let at_piece = piece_row (whole_rows o.rows.items o.shown_by.items) c.args.piece in
     subst (HasRoomOf c.args.change)
@@ -33,14 +36,16 @@ apply-requires c =
 pub put-requires-clause-piece : goal.put-requires-clause-piece
 put-requires-clause-piece c =
     let o = c.self.inside in
-    let kept = kept_piece o.shelf o.rows.items o.shown_by.items _ c.args.piece c.self.invariant.0 c.self.invariant.1 c.self.view_is c.requires.piece in
+    let kept = kept_piece o.shelf o.rows.items o.shown_by.items _ c.args.piece c.self.invariant.0 c.self.invariant.1 c.self.view_is c.requires.piece
+    in
     in_groups o.shelf o.rows.items o.shown_by.items c.args.piece kept
 
 pub put-requires-clause-before : goal.put-requires-clause-before
 put-requires-clause-before c =
     let o = c.self.inside in
     let row = c.index_mut-row.result.now in
-    let kept = kept_piece o.shelf o.rows.items o.shown_by.items _ c.args.piece c.self.invariant.0 c.self.invariant.1 c.self.view_is c.requires.piece in
+    let kept = kept_piece o.shelf o.rows.items o.shown_by.items _ c.args.piece c.self.invariant.0 c.self.invariant.1 c.self.view_is c.requires.piece
+    in
     let m = c.index-shown_by.result.now in
     let read = c.index-shown_by.ensures ∙ get_or_default o.shown_by.items c.args.piece m 0 (omega (arith, kept.len, kept.within)) in
     ap (λ (s : Standing). s.group) c.standing-before.ensures.is
@@ -50,12 +55,15 @@ pub put-requires-clause-fits : goal.put-requires-clause-fits
 put-requires-clause-fits c =
     let o = c.self.inside in
     let row = c.index_mut-row.result.now in
-    let kept = kept_piece o.shelf o.rows.items o.shown_by.items _ c.args.piece c.self.invariant.0 c.self.invariant.1 c.self.view_is c.requires.piece in
+    let kept = kept_piece o.shelf o.rows.items o.shown_by.items _ c.args.piece c.self.invariant.0 c.self.invariant.1 c.self.view_is c.requires.piece
+    in
     let m = c.index-shown_by.result.now in
     let read = c.index-shown_by.ensures ∙ get_or_default o.shown_by.items c.args.piece m 0 (omega (arith, kept.len, kept.within)) in
     let whole = whole_rows o.rows.items o.shown_by.items in
-    let same : length c.apply.new.self.blocks ≡ length row.blocks = ap (λ (r : PieceState). length r.blocks) c.apply.ensures ∙ same_length c.args.change row in
-    can_file o.shelf whole c.args.piece (shown_row m row) (shown_row m c.apply.new.self) c.standing-before.result c.standing-after.result c.self.invariant.0
+    let same : length c.apply.new.self.blocks ≡ length row.blocks =
+    ap (λ (r : PieceState). length r.blocks) c.apply.ensures ∙ same_length c.args.change row in
+    can_file o.shelf whole c.args.piece (shown_row m row) (shown_row m c.apply.new.self) c.standing-before.result c.standing-after.result
+    c.self.invariant.0
     (in_whole o.shelf o.rows.items o.shown_by.items c.args.piece kept)
     (row_is o.shelf o.rows.items o.shown_by.items c.args.piece kept row m c.index_mut-row.ensures.value read)
     c.standing-before.ensures.is c.standing-after.ensures.is same
@@ -64,11 +72,13 @@ pub invariant_of-self : goal.invariant_of-self
 invariant_of-self c =
     let o = c.self.inside in
     let row = c.index_mut-row.result.now in
-    let kept = kept_piece o.shelf o.rows.items o.shown_by.items _ c.args.piece c.self.invariant.0 c.self.invariant.1 c.self.view_is c.requires.piece in
+    let kept = kept_piece o.shelf o.rows.items o.shown_by.items _ c.args.piece c.self.invariant.0 c.self.invariant.1 c.self.view_is c.requires.piece
+    in
     let m = c.index-shown_by.result.now in
     let read = c.index-shown_by.ensures ∙ get_or_default o.shown_by.items c.args.piece m 0 (omega (arith, kept.len, kept.within)) in
     let whole = whole_rows o.rows.items o.shown_by.items in
-    let same : length c.apply.new.self.blocks ≡ length row.blocks = ap (λ (r : PieceState). length r.blocks) c.apply.ensures ∙ same_length c.args.change row in
+    let same : length c.apply.new.self.blocks ≡ length row.blocks =
+    ap (λ (r : PieceState). length r.blocks) c.apply.ensures ∙ same_length c.args.change row in
     let shelved = files o.shelf c.put.new.self whole c.args.piece (shown_row m row) (shown_row m c.apply.new.self) c.standing-before.result
     c.standing-after.result c.self.invariant.0 (in_whole o.shelf o.rows.items o.shown_by.items c.args.piece kept)
     (row_is o.shelf o.rows.items o.shown_by.items c.args.piece kept row m c.index_mut-row.ensures.value read)
@@ -83,8 +93,10 @@ pub returns : goal.returns
 returns c =
     let o = c.self.inside in
     let row = c.index_mut-row.result.now in
-    let kept = kept_piece o.shelf o.rows.items o.shown_by.items _ c.args.piece c.self.invariant.0 c.self.invariant.1 c.self.view_is c.requires.piece in
+    let kept = kept_piece o.shelf o.rows.items o.shown_by.items _ c.args.piece c.self.invariant.0 c.self.invariant.1 c.self.view_is c.requires.piece
+    in
     let m = c.index-shown_by.result.now in
     let read = c.index-shown_by.ensures ∙ get_or_default o.shown_by.items c.args.piece m 0 (omega (arith, kept.len, kept.within)) in
     rw (← c.self.view_is)
-    (edit_is o.shelf o.rows.items o.shown_by.items c.args.piece kept c.args.change row c.apply.new.self m c.index_mut-row.ensures.value read c.apply.ensures)
+    (edit_is o.shelf o.rows.items o.shown_by.items c.args.piece kept c.args.change row c.apply.new.self m c.index_mut-row.ensures.value read
+    c.apply.ensures)

@@ -19,8 +19,10 @@ pub invariant_of-self : goal.invariant_of-self
 invariant_of-self c =
     let o = c.self.inside in
     let kept = kept_piece o.shelf o.rows.items o.shown_by.items _ c.args.piece c.self.invariant.0 c.self.invariant.1 c.self.view_is c.requires in
-    let read = c.index-shown_by.ensures ∙ get_or_default o.shown_by.items c.args.piece c.index-shown_by.result.now 0 (omega (arith, kept.len, kept.within)) in (
-      shown_less o.shelf o.rows.items o.shown_by.items c.args.piece kept c.lower.new.self c.index-shown_by.result.now _ read (omega arith) c.lower.ensures,
+    let read = c.index-shown_by.ensures ∙ get_or_default o.shown_by.items c.args.piece c.index-shown_by.result.now 0
+    (omega (arith, kept.len, kept.within)) in (
+      shown_less o.shelf o.rows.items o.shown_by.items c.args.piece kept c.lower.new.self c.index-shown_by.result.now _ read (omega arith)
+          c.lower.ensures,
       length-set o.shown_by.items c.args.piece _ ∙ c.self.invariant.1,
       c.self.invariant.2,
     )
@@ -29,6 +31,7 @@ pub returns : goal.returns
 returns c =
     let o = c.self.inside in
     let kept = kept_piece o.shelf o.rows.items o.shown_by.items _ c.args.piece c.self.invariant.0 c.self.invariant.1 c.self.view_is c.requires in
-    let read = c.index-shown_by.ensures ∙ get_or_default o.shown_by.items c.args.piece c.index-shown_by.result.now 0 (omega (arith, kept.len, kept.within)) in
+    let read = c.index-shown_by.ensures ∙ get_or_default o.shown_by.items c.args.piece c.index-shown_by.result.now 0
+    (omega (arith, kept.len, kept.within)) in
     rw (← c.self.view_is)
     (counted_less o.shelf o.rows.items o.shown_by.items c.args.piece kept _ (omega (arith, read)))

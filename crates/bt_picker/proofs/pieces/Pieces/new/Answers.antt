@@ -15,7 +15,8 @@ use Rattle.bt_picker.proofs.Apart.{fresh_apart, whole_fresh}
 use Rattle.bt_picker.proofs.pieces.Pieces.new.Goals as goal
 
 -- how much one row more makes
-sum_step : (rows : List PieceState) (row : PieceState) (k n : ℕ) → sum_by (λ r. length r.blocks) rows ≤ k * (2 ^ 32 - 1) → length row.blocks ≡ n → n < 2 ^ 32
+sum_step : (rows : List PieceState) (row : PieceState) (k n : ℕ) → sum_by (λ r. length r.blocks) rows ≤ k * (2 ^ 32 - 1) → length row.blocks ≡ n →
+    n < 2 ^ 32
     → sum_by (λ r. length r.blocks) (rows ++ row ∷ []) ≤ (k + 1) * (2 ^ 32 - 1)
 sum_step rows row k n le is lt = omega (arith, sum_by_push (λ (r : PieceState). length r.blocks) rows row)
 
@@ -33,19 +34,22 @@ put-requires-clause-before c =
     let rows = c.loop-piece.rows.items in
     let long : length rows ≡ c.loop-piece.piece = length_is_table _ _ _ c.loop-piece.invariant.0 in
     let groups = ap (λ (s : ShelfState). at s.groups c.loop-piece.piece) c.loop-piece.invariant.1 in
-    sym (groups ∙ none_filed (map group_of_row rows) (piece_count c.args.torrent.now.layout - c.loop-piece.piece) c.loop-piece.piece (length-map rows group_of_row ∙ long))
+    sym (groups ∙ none_filed (map group_of_row rows) (piece_count c.args.torrent.now.layout - c.loop-piece.piece) c.loop-piece.piece
+    (length-map rows group_of_row ∙ long))
 
 pub put-requires-clause-fits : goal.put-requires-clause-fits
 put-requires-clause-fits c =
     let rows = c.loop-piece.rows.items in
     let row = c.in_ok-row.row in
     let long : length rows ≡ c.loop-piece.piece = length_is_table _ _ _ c.loop-piece.invariant.0 in
-    let blocks : length row.blocks ≡ c.block_count.result = ap (λ (r : PieceState). length r.blocks) c.in_ok-row.ensures ∙ length-replicate c.block_count.result empty_cell in
+    let blocks : length row.blocks ≡ c.block_count.result = ap (λ (r : PieceState). length r.blocks) c.in_ok-row.ensures ∙
+    length-replicate c.block_count.result empty_cell in
     let sum = sum_step rows row c.loop-piece.piece c.block_count.result c.loop-piece.invariant.2 blocks (omega arith) in
     let stands : c.standing.result ≡ standing_of row =
     c.standing.ensures.is ∙ (ap (λ (r : PieceState). standing_of (shown_row 0 r)) c.in_ok-row.ensures ∙ sym (ap standing_of c.in_ok-row.ensures)) in
     rw (c.loop-piece.invariant.1, stands)
-    (shelf_fits rows row (piece_count c.args.torrent.now.layout - c.loop-piece.piece) (omega (arith, long, c.loop-piece-test.true)) (omega (arith, sum, c.loop-piece-test.true)))
+    (shelf_fits rows row (piece_count c.args.torrent.now.layout - c.loop-piece.piece) (omega (arith, long, c.loop-piece-test.true))
+    (omega (arith, sum, c.loop-piece-test.true)))
 
 pub loop-piece-preserved : goal.loop-piece-preserved
 loop-piece-preserved c =
@@ -54,7 +58,8 @@ loop-piece-preserved c =
     let k = c.loop-piece.piece in
     let n = piece_count c.args.torrent.now.layout - k in
     let long : length rows ≡ k = length_is_table _ _ _ c.loop-piece.invariant.0 in
-    let blocks : length row.blocks ≡ c.block_count.result = ap (λ (r : PieceState). length r.blocks) c.in_ok-row.ensures ∙ length-replicate c.block_count.result empty_cell in
+    let blocks : length row.blocks ≡ c.block_count.result = ap (λ (r : PieceState). length r.blocks) c.in_ok-row.ensures ∙
+    length-replicate c.block_count.result empty_cell in
     let sum = sum_step rows row k c.block_count.result c.loop-piece.invariant.2 blocks (omega arith) in
     let some : 0 < n = omega (arith, c.loop-piece-test.true, c.piece_count-piece-end.ensures.count) in
     let stands : c.standing.result ≡ standing_of row =

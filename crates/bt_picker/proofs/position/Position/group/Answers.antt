@@ -7,6 +7,7 @@ use Rattle.bt_picker.proofs.position.Position.group.Goals as goal
 
 pub returns : goal.returns
 returns c =
-    let rows : map group_of_row c.self.inside.tables.now.pieces ≡ _ = ap (map group_of_row) c.self.invariant.pieces_are ∙ map_table group_of_row _ _ in
+    let rows : map group_of_row c.self.inside.tables.now.pieces ≡ _ =
+    ap (map group_of_row) c.self.invariant.pieces_are ∙ map_table group_of_row _ _ in
     subst (λ (groups : List ℕ). ListsGroup groups c.args.group c.group.result.now)
     (rows ∙ ap (λ (d : DeskState). groups_of d.setting d.history) c.self.view_is) c.group.ensures

@@ -22,5 +22,6 @@ returns-else-unasked-eq0 c =
     let fails : (c.unasked.result == 0) ≡ false = ne_eqb c.unasked.result 0 c.if-unasked-eq0.false in
     let lacking = nat_lt 0 (sum_by (λ row. (standing_of row).unheld) c.self.inside.tables.now.pieces) in
     let whole : ((c.unasked.result == 0) && lacking) ≡ endgame d.setting d.history =
-    ap (λ (n : ℕ). (n == 0) && lacking) c.unasked.ensures ∙ (endgame_rows _ _ c.self.invariant ∙ ap (λ (e : DeskState). endgame e.setting e.history) c.self.view_is) in
+    ap (λ (n : ℕ). (n == 0) && lacking) c.unasked.ensures ∙ (endgame_rows _ _ c.self.invariant ∙
+    ap (λ (e : DeskState). endgame e.setting e.history) c.self.view_is) in
     fails ∙ (sym (ap (λ (x : Bool). x && lacking) fails) ∙ whole)

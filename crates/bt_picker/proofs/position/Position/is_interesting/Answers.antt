@@ -21,11 +21,13 @@ some_shown-requires-2-clause-pieces c =
 pub returns-in-Some-some_shown : goal.returns-in-Some-some_shown
 returns-in-Some-some_shown c =
     let d = c.args.self.now in
-    sym (listed_interests d.setting d.history c.args.worker 2 c.in-Some-some_shown.field-0 c.group-2.result.now (omega arith) c.group-2.ensures c.in-Some-some_shown.ensures)
+    sym (listed_interests d.setting d.history c.args.worker 2 c.in-Some-some_shown.field-0 c.group-2.result.now (omega arith) c.group-2.ensures
+    c.in-Some-some_shown.ensures)
 
 pub returns : goal.returns
 returns c =
     let d = c.args.self.now in
     c.is_some.ensures
-    ∙ rest_interests d.setting d.history c.args.worker c.group.result.now c.group-2.result.now c.rarest.result c.group.ensures c.group-2.ensures c.in_default.ensures
+    ∙ rest_interests d.setting d.history c.args.worker c.group.result.now c.group-2.result.now c.rarest.result c.group.ensures c.group-2.ensures
+    c.in_default.ensures
     c.in_default-some_shown.ensures c.rarest.ensures.least c.rarest.ensures.within

@@ -26,24 +26,30 @@ returns-in-Some-clause-least c =
     let d = c.args.self.now in
     let n = c.loop-shown_by.shown_by in
     let layout = subst (λ (e : DeskState). IsLayout e.setting.torrent) c.self.view_is c.self.invariant.layout in
-    let under : n < 1025 = under_crowd d.setting.workers n (omega (arith, c.loop-shown_by-test.true, c.min-most.ensures, ap (λ (m : ℕ). min m 1024) c.workers.ensures)) in
-    (rarest_found d.setting d.history c.args.worker n c.group-pieces.result.now layout under c.group-pieces.ensures c.loop-shown_by.invariant c.in-Some.piece c.in-Some.ensures).0
+    let under : n < 1025 = under_crowd d.setting.workers n (omega
+    (arith, c.loop-shown_by-test.true, c.min-most.ensures, ap (λ (m : ℕ). min m 1024) c.workers.ensures)) in
+    (rarest_found d.setting d.history c.args.worker n c.group-pieces.result.now layout under c.group-pieces.ensures c.loop-shown_by.invariant
+    c.in-Some.piece c.in-Some.ensures).0
 
 pub returns-in-Some-clause-within : goal.returns-in-Some-clause-within
 returns-in-Some-clause-within c =
     let d = c.args.self.now in
     let n = c.loop-shown_by.shown_by in
     let layout = subst (λ (e : DeskState). IsLayout e.setting.torrent) c.self.view_is c.self.invariant.layout in
-    let under : n < 1025 = under_crowd d.setting.workers n (omega (arith, c.loop-shown_by-test.true, c.min-most.ensures, ap (λ (m : ℕ). min m 1024) c.workers.ensures)) in
-    (rarest_found d.setting d.history c.args.worker n c.group-pieces.result.now layout under c.group-pieces.ensures c.loop-shown_by.invariant c.in-Some.piece c.in-Some.ensures).1
+    let under : n < 1025 = under_crowd d.setting.workers n (omega
+    (arith, c.loop-shown_by-test.true, c.min-most.ensures, ap (λ (m : ℕ). min m 1024) c.workers.ensures)) in
+    (rarest_found d.setting d.history c.args.worker n c.group-pieces.result.now layout under c.group-pieces.ensures c.loop-shown_by.invariant
+    c.in-Some.piece c.in-Some.ensures).1
 
 pub loop-shown_by-preserved : goal.loop-shown_by-preserved
 loop-shown_by-preserved c =
     let d = c.args.self.now in
     let n = c.loop-shown_by.shown_by in
     let layout = subst (λ (e : DeskState). IsLayout e.setting.torrent) c.self.view_is c.self.invariant.layout in
-    let under : n < 1025 = under_crowd d.setting.workers n (omega (arith, c.loop-shown_by-test.true, c.min-most.ensures, ap (λ (m : ℕ). min m 1024) c.workers.ensures)) in
-    rarest_more d.setting d.history c.args.worker n c.group-pieces.result.now layout under c.group-pieces.ensures c.loop-shown_by.invariant c.in_default.ensures
+    let under : n < 1025 = under_crowd d.setting.workers n (omega
+    (arith, c.loop-shown_by-test.true, c.min-most.ensures, ap (λ (m : ℕ). min m 1024) c.workers.ensures)) in
+    rarest_more d.setting d.history c.args.worker n c.group-pieces.result.now layout under c.group-pieces.ensures c.loop-shown_by.invariant
+    c.in_default.ensures
 
 pub rarest_of-requires-clause-pieces : goal.rarest_of-requires-clause-pieces
 rarest_of-requires-clause-pieces c =
@@ -55,13 +61,25 @@ returns-clause-least c =
     let d = c.args.self.now in
     let n = c.loop-shown_by.shown_by in
     let layout = subst (λ (e : DeskState). IsLayout e.setting.torrent) c.self.view_is c.self.invariant.layout in
-    let past = past_them d.setting.workers n (omega (arith, c.loop-shown_by-test.false, c.min-most.ensures, ap (λ (m : ℕ). min m 1024) c.workers.ensures)) in
-    (crowd_found d.setting d.history c.args.worker n c.group.result.now layout past c.group.ensures c.loop-shown_by.invariant c.rarest_of.result c.rarest_of.ensures).0
+    let past = past_them d.setting.workers n (omega (
+      arith,
+      c.loop-shown_by-test.false,
+      c.min-most.ensures,
+      ap (λ (m : ℕ). min m 1024) c.workers.ensures,
+    )) in
+    (crowd_found d.setting d.history c.args.worker n c.group.result.now layout past c.group.ensures c.loop-shown_by.invariant c.rarest_of.result
+    c.rarest_of.ensures).0
 
 pub returns-clause-within : goal.returns-clause-within
 returns-clause-within c =
     let d = c.args.self.now in
     let n = c.loop-shown_by.shown_by in
     let layout = subst (λ (e : DeskState). IsLayout e.setting.torrent) c.self.view_is c.self.invariant.layout in
-    let past = past_them d.setting.workers n (omega (arith, c.loop-shown_by-test.false, c.min-most.ensures, ap (λ (m : ℕ). min m 1024) c.workers.ensures)) in
-    (crowd_found d.setting d.history c.args.worker n c.group.result.now layout past c.group.ensures c.loop-shown_by.invariant c.rarest_of.result c.rarest_of.ensures).1
+    let past = past_them d.setting.workers n (omega (
+      arith,
+      c.loop-shown_by-test.false,
+      c.min-most.ensures,
+      ap (λ (m : ℕ). min m 1024) c.workers.ensures,
+    )) in
+    (crowd_found d.setting d.history c.args.worker n c.group.result.now layout past c.group.ensures c.loop-shown_by.invariant c.rarest_of.result
+    c.rarest_of.ensures).1

@@ -6,4 +6,5 @@ use Rattle.bt_picker.proofs.position.Position.shows_no_candidate.Goals as goal
 pub returns : goal.returns
 returns c is =
     let d = c.args.self.now in
-    above_all d.setting d.history c.args.worker c.floor.result c.floor.ensures (omega (arith, ltb-true c.workers.result c.floor.result is, c.workers.ensures))
+    above_all d.setting d.history c.args.worker c.floor.result c.floor.ensures
+    (omega (arith, ltb-true c.workers.result c.floor.result is, c.workers.ensures))

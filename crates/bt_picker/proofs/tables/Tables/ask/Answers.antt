@@ -18,7 +18,8 @@ invariant_of-self c =
     let asked = kept_peer o.floors.items o.peers.items o.pieces w c.index_mut.result.now c.ask.new.self c.self.invariant lw c.index_mut.ensures.value
     (ap (λ (r : PeerState). r.shows) c.ask.ensures) in
     rw c.apply.ensures
-    (edit_stale o.floors.items (set o.peers.items w c.ask.new.self) o.pieces b.piece (changed_row (Raise (b.begin / block_size))) asked room.cell.has_piece
+    (edit_stale o.floors.items (set o.peers.items w c.ask.new.self) o.pieces b.piece (changed_row (Raise (b.begin / block_size))) asked
+    room.cell.has_piece
     (raised_stale (piece_row o.pieces b.piece) (b.begin / block_size) room.cell.has_cell))
 
 pub apply-requires-clause-fits : goal.apply-requires-clause-fits

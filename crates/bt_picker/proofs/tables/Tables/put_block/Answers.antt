@@ -15,7 +15,8 @@ invariant_of-self c =
     let p = c.args.piece in
     let row : ℕ → PeerState = λ q. without_block p (block_size * c.args.index) (c.args.worker == q) (peer_row old.peers.items q) in
     let told : c.forget.new.peers ≡ table (length old.peers.items) row = c.forget.ensures
-    ∙ ap (λ (peers : List PeerState). table (length peers) (λ q. without_block p (block_size * c.args.index) (c.args.worker == q) (peer_row peers q))) c.deref_mut.ensures.value in
+    ∙ ap (λ (peers : List PeerState). table (length peers) (λ q. without_block p (block_size * c.args.index) (c.args.worker == q) (peer_row peers q)))
+    c.deref_mut.ensures.value in
     let long = length_table (length old.peers.items) row in
     let whole = with_items_is old.peers c.forget.new.peers (ap length told ∙ long ∙ sym old.peers.ok.0) ∙ told in
     let at_place = rw (← c.self.view_is) at c.requires.stored in

@@ -23,5 +23,6 @@ returns-clause-had g c =
 
 pub gather-requires-clause-passes : goal.gather-requires-clause-passes
 gather-requires-clause-passes g c =
-    are_of c.self.inside.desk g.L.RunName.desk g.L.RunName.setting c.join_seats.new.passes.items c.self.invariant.desk_is c.self.invariant.desk_setting
+    are_of c.self.inside.desk g.L.RunName.desk g.L.RunName.setting c.join_seats.new.passes.items c.self.invariant.desk_is
+    c.self.invariant.desk_setting
     c.join_seats.ensures.named

@@ -12,7 +12,8 @@ invariant_of-pass g c =
       search rules,
       search rules,
       search rules,
-      agrees_call c.enter-made.result c.lock-desk.result c.enter-made.new.desk c.pass.inside.worker old.0.part.seen _ c.args.call c.pass.inside.log.items _
+      agrees_call c.enter-made.result c.lock-desk.result c.enter-made.new.desk c.pass.inside.worker old.0.part.seen _ c.args.call
+          c.pass.inside.log.items _
           c.enter-made.ensures.ok c.enter-made.ensures.log c.enter-made.ensures.err goes is c.pass.invariant.3,
     )
 
@@ -26,5 +27,6 @@ returns-clause-ok g c =
     let found = c.lock-desk.ensures.found in
     let goes = knows_continue c.lock-desk.result.history old.0.part pass.worker c.pass.invariant.0.alone found.0.part in
     enters_ok _ c.args.pass.now _ (c.pass.view_is ∙ c.make_room.ensures.same) c.lock-desk.result goes
-    record { table = search rules; setting = search rules; worker = refl } c.enter-made.new.desk (ap (λ (m : Sat). m.0.part.seen) c.unlock.ensures.freed)
+    record { table = search rules; setting = search rules; worker = refl } c.enter-made.new.desk
+    (ap (λ (m : Sat). m.0.part.seen) c.unlock.ensures.freed)
     c.enter-made.result c.args.call c.enter-made.ensures.ok c.enter-made.ensures.log

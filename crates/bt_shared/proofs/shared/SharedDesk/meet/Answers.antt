@@ -31,9 +31,15 @@ pub invariant_of-second : goal.invariant_of-second
 invariant_of-second g c =
     let old : Sat = c.second.inside.seat.me in
     let h = c.lock-desk.result.history in
-    let goes = met_continues h old c.split_seat-copy.result.me.0 c.join_seat.new.seat.me.0 c.second.inside.worker c.second.invariant.0 (ap (λ (m : Sat). m.0) c.join_seat.ensures.2) c.lock-desk.ensures.found.0.parts in
-    let is = ap (λ (m : Sat). m.0.part.seen) c.unlock.ensures.freed in
-    (search rules, search rules, search rules, agrees_continue c.second.inside.worker old.0.part.seen h _ c.second.inside.log.items goes is c.second.invariant.3)
+    let goes = met_continues h old c.split_seat-copy.result.me.0 c.join_seat.new.seat.me.0 c.second.inside.worker c.second.invariant.0
+    (ap (λ (m : Sat). m.0) c.join_seat.ensures.2) c.lock-desk.ensures.found.0.parts in
+    let is = ap (λ (m : Sat). m.0.part.seen) c.unlock.ensures.freed in (
+      search rules,
+      search rules,
+      search rules,
+      agrees_continue c.second.inside.worker old.0.part.seen h _ c.second.inside.log.items goes is
+          c.second.invariant.3,
+    )
 
 pub lock-desk-requires-clause-may : goal.lock-desk-requires-clause-may
 lock-desk-requires-clause-may g c =
@@ -42,5 +48,7 @@ lock-desk-requires-clause-may g c =
     record {
       idle = search rules;
       worker = w;
-      speaks = subst (IsAmong w) (sym (ap (λ (m : Sat). m.0.part.workers) joined)) (among_left w c.second.inside.seat.me.0.part.workers c.split_seat-copy.result.me.0.part.workers (subst (IsAmong w) (sym c.second.invariant.0.alone) (inl refl)));
+      speaks = subst (IsAmong w) (sym (ap (λ (m : Sat). m.0.part.workers) joined))
+          (among_left w c.second.inside.seat.me.0.part.workers c.split_seat-copy.result.me.0.part.workers
+          (subst (IsAmong w) (sym c.second.invariant.0.alone) (inl refl)));
     }

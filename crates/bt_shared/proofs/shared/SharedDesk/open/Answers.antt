@@ -10,8 +10,14 @@ pub split_seat-seat-requires : goal.split_seat-seat-requires
 split_seat-seat-requires c = (
   c.loop-worker.invariant.table,
   omega (arith, c.in_ok-table.ensures.desk.one_word),
-  makes_newcomer c.in_ok-table.table.shared.key c.loop-worker.maker.id c.loop-worker.maker.me.0 c.loop-worker.invariant.live c.loop-worker.invariant.makes
-      (omega (arith, c.loop-worker.invariant.next, ap (λ (t : Setting). t.workers) (c.loop-worker.invariant.setting ∙ c.in_ok-table.ensures.key), c.loop-worker-test.true)),
+  makes_newcomer c.in_ok-table.table.shared.key c.loop-worker.maker.id c.loop-worker.maker.me.0 c.loop-worker.invariant.live
+      c.loop-worker.invariant.makes
+      (omega (
+        arith,
+        c.loop-worker.invariant.next,
+        ap (λ (t : Setting). t.workers) (c.loop-worker.invariant.setting ∙ c.in_ok-table.ensures.key),
+        c.loop-worker-test.true,
+      )),
 )
 
 pub loop-worker-preserved : goal.loop-worker-preserved
@@ -21,7 +27,14 @@ loop-worker-preserved c =
     let xs = c.loop-worker.passes.items in
     let seat = c.split_seat-seat.ensures in
     let n : c.loop-worker.worker ≡ length xs = omega (arith, old.count) in
-    let p : PassState = record { table = c.split_seat-seat.result.table_id; setting = c.split_seat-seat.result.me.0.setting; worker = c.loop-worker.worker; seen = c.split_seat-seat.result.me.0.part.seen; log = c.new.result.items } in
+    let p : PassState = record {
+      table = c.split_seat-seat.result.table_id;
+      setting = c.split_seat-seat.result.me.0.setting;
+      worker =
+          c.loop-worker.worker;
+      seen = c.split_seat-seat.result.me.0.part.seen;
+      log = c.new.result.items;
+    } in
     let is : p ≡ newcomer s (length xs) = λ k. record {
       table = (seat.3 ∙ old.table) k;
       setting = (ap (λ (m : Sat). m.0.setting) seat.4 ∙ old.setting) k;
@@ -36,5 +49,6 @@ loop-worker-preserved c =
       setting = search rules;
       next = search rules;
       count = search rules;
-      fresh = λ w below. rw c.in_ok-push.ensures.items (one_more xs p (newcomer s) (λ v lt. old.fresh v (omega (arith, n, lt))) is w (omega (arith, n, below)));
+      fresh = λ w below. rw c.in_ok-push.ensures.items (one_more xs p (newcomer s) (λ v lt. old.fresh v (omega (arith, n, lt))) is w
+          (omega (arith, n, below)));
     }

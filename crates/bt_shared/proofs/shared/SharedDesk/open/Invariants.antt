@@ -10,5 +10,6 @@ invariant-loop-worker l = record {
   setting : l.maker.me.0.setting ≡ l.table.shared.key;
   next : l.maker.me.0.next ≡ l.worker;
   count : vec_len l.passes ≡ l.worker;
-  fresh : (w : ℕ) → w < l.worker → slice_get l.passes.items w ≡ Some (newcomer (record { table = l.table.shared.table_id; setting = l.table.shared.key }) w);
+  fresh : (w : ℕ) → w < l.worker → slice_get l.passes.items w ≡ Some
+      (newcomer (record { table = l.table.shared.table_id; setting = l.table.shared.key }) w);
 }

@@ -12,7 +12,8 @@ invariant_of-pass g c =
       search rules,
       search rules,
       search rules,
-      agrees_check c.enter_check-made.result c.lock-desk.result c.enter_check-made.new.desk c.pass.inside.worker old.0.part.seen _ c.args.piece c.pass.inside.log.items _
+      agrees_check c.enter_check-made.result c.lock-desk.result c.enter_check-made.new.desk c.pass.inside.worker old.0.part.seen _ c.args.piece
+          c.pass.inside.log.items _
           c.enter_check-made.ensures.ok c.enter_check-made.ensures.log c.enter_check-made.ensures.err goes is c.pass.invariant.3,
     )
 
@@ -23,7 +24,8 @@ returns-clause-ok g c =
     let found = c.lock-desk.ensures.found in
     let goes = knows_continue c.lock-desk.result.history old.0.part pass.worker c.pass.invariant.0.alone found.0.part in
     settles_ok _ c.args.pass.now _ c.pass.view_is c.lock-desk.result goes
-    record { table = search rules; setting = search rules; worker = refl } c.enter_check-made.new.desk (ap (λ (m : Sat). m.0.part.seen) c.unlock.ensures.freed)
+    record { table = search rules; setting = search rules; worker = refl } c.enter_check-made.new.desk
+    (ap (λ (m : Sat). m.0.part.seen) c.unlock.ensures.freed)
     c.enter_check-made.result c.args.piece c.enter_check-made.ensures.ok c.enter_check-made.ensures.log
     (ap (λ (m : Sat). m.0.setting) c.unlock.ensures.freed ∙ (ap (λ (m : Sat). m.0.setting) c.lock-desk.ensures.taken ∙ found.1))
 

@@ -23,7 +23,8 @@ returns-in-Ok g c =
       count = same ∙ many;
       checkers = same_checked ∙ many_checkers;
       plays = λ i worker stream end below.
-          let d : Played g.row.L.Denot g.row.R.Denot g.row.W.Denot = record { end = end; worker = worker; stream = stream; short = c.stop-told.result } in
+          let d : Played g.row.L.Denot g.row.R.Denot g.row.W.Denot =
+          record { end = end; worker = worker; stream = stream; short = c.stop-told.result } in
           let there : i < length hs = omega (arith, below, many) in
           let back : i < length all = omega (arith, there, same) in
           let k = (c.join_each.ensures.each i d (omega (arith, there, whole))).1 in

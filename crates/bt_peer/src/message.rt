@@ -1,0 +1,164 @@
+//! What a session does for a message after the handshake.
+
+ghost use Rattle.std.specs.Prelude.{◌≡◌, ◌⊎◌, None, Some, true, false, List, [], ◌++◌, IfErr, IfOk, OnOk, OnErr, MatchOption};
+ghost use Rattle.bt_peer.specs.declared.fault.SessionFault.TheVariants.{WriteFault, NoMemory, BadBits};
+ghost use Rattle.rand_core.specs.Stream.{Stream};
+ghost use Rattle.bt_peer.specs.Conduct.{Conducts, DrawsWords, word_of};
+ghost use Rattle.bt_peer.specs.Acts.{Act, is_check, mark_of_call};
+ghost use Rattle.bt_peer.specs.Terms.{pieces_of};
+ghost use Rattle.bt_peer.specs.Turns.{call_of, arrived_piece as piece_of_mark, if_completed, Opens, IsTurn, IsAcceptable, NoneRefused, IsLater};
+ghost use Rattle.bt_peer.specs.Outlets.{outlet, Performs, PerformsUpTo, EndsCalls};
+ghost use Rattle.bt_peer.specs.Steps.{StopsOpening, StopsTurn, TellsNews};
+
+use crate::calls::{ask, make_call, tell_news};
+use crate::fault::SessionFault;
+use crate::place::Place;
+use crate::terms::Terms;
+use bt_history::{Call, Reply};
+use bt_meta::{BitFault, Bitfield, Sink};
+use bt_wire::Message;
+use rand_core::Rng;
+use std::alloc::Global;
+
+/// The call that a message makes.
+fn call_for(alloc: Global, terms: &Terms, message: Message) -> Result<Option<Call>, SessionFault>
+    requires { IsLater message }
+    ensures ok { IfOk result (λ o. IsAcceptable (pieces_of terms.now) message
+        × MatchOption o (call_of message ≡ None) (λ call. call_of message ≡ Some (mark_of_call call))) }
+    ensures err { IfErr result (λ fault.
+        ((fault ≡ NoMemory) × IsAcceptable (pieces_of terms.now) message)
+        ⊎ ((fault ≡ BadBits) × ¬ IsAcceptable (pieces_of terms.now) message)) }
+{
+    Ok(match message {
+        Message::Choke => Some(Call::Choke),
+        Message::Unchoke => Some(Call::Unchoke),
+        Message::Have(piece) => Some(Call::Have(piece)),
+        Message::Bits(bits) => match Bitfield::from_wire(alloc, &bits, terms.piece_count()) {
+            Ok(bitfield) => Some(Call::Bits(bitfield)),
+            Err(BitFault::NoMemory) => return Err(SessionFault::NoMemory),
+            Err(_) => return Err(SessionFault::BadBits),
+        },
+        Message::Piece {
+            piece,
+            begin,
+            bytes,
+        } => Some(Call::Arrived {
+            piece,
+            begin,
+            bytes,
+        }),
+        _ => None,
+    })
+}
+
+/// The piece of a block that arrived.
+fn arrived_piece(call: &Call) -> Option<u32>
+    ensures { result ≡ piece_of_mark (mark_of_call call.now) }
+{
+    match call {
+        Call::Arrived { piece, .. } => Some(*piece),
+        _ => None,
+    }
+}
+
+/// That piece, where the reply completes it.
+fn completed(arrived: Option<u32>, reply: &Reply) -> Option<u32>
+    ensures { result ≡ if_completed arrived reply.now }
+{
+    match reply {
+        Reply::Completed => arrived,
+        _ => None,
+    }
+}
+
+/// Makes a call, and sees to the check of a piece that it completes.
+fn call_and_check<P: Place, W: Sink>(
+    alloc: Global,
+    place: &mut P,
+    writer: &mut W,
+    interested: &mut bool,
+    call: Call,
+) -> Result<(), SessionFault>
+    requires { is_check (mark_of_call call) ≡ false }
+    ensures ok { OnOk result ((acts : List Act) × (Opens (Some (mark_of_call call)) acts × NoneRefused acts
+        × Performs (outlet P.past W.written place.old writer.old interested.old) acts
+        (outlet P.past W.written place.new writer.new interested.new))) }
+    // At a call that isn't Next no word is drawn.
+    ensures conduct { OnOk result (word_of (mark_of_call call) ≡ [] → (generator : Stream) →
+        Conducts P.settles generator (P.past place.old).calls (P.past place.new).calls generator) }
+    ensures ok_sound { OnOk result (W.failed writer.new ≡ W.failed writer.old) }
+    ensures err { IfErr result (λ fault. (acts : List Act) × ((rest : List Act) × (Opens (Some (mark_of_call call)) (acts ++ rest)
+        × EndsCalls fault acts
+        × PerformsUpTo fault (outlet P.past W.written place.old writer.old interested.old) acts
+        (outlet P.past W.written place.new writer.new interested.new)))) }
+    ensures words { OnErr result (word_of (mark_of_call call) ≡ [] → (generator : Stream) →
+        DrawsWords generator (P.past place.old).calls (P.past place.new).calls) }
+    ensures err_failed { IfErr result (λ fault. fault ≡ WriteFault → W.failed writer.new ≡ true) }
+{
+    let arrived = arrived_piece(&call);
+    let reply = make_call(alloc, place, writer, interested, call)?;
+    if let Some(piece) = completed(arrived, &reply) {
+        place.completed(alloc, piece)?;
+    }
+    Ok(())
+}
+
+/// Makes the call of a message, if it has one.
+fn open<P: Place, W: Sink>(
+    alloc: Global,
+    terms: &Terms,
+    message: Message,
+    place: &mut P,
+    writer: &mut W,
+    interested: &mut bool,
+) -> Result<(), SessionFault>
+    requires { IsLater message }
+    ensures acceptable { OnOk result (IsAcceptable (pieces_of terms.now) message) }
+    ensures ok { OnOk result ((acts : List Act) × (Opens (call_of message) acts × NoneRefused acts
+        × Performs (outlet P.past W.written place.old writer.old interested.old) acts
+        (outlet P.past W.written place.new writer.new interested.new))) }
+    ensures conduct { OnOk result ((generator : Stream) →
+        Conducts P.settles generator (P.past place.old).calls (P.past place.new).calls generator) }
+    ensures ok_sound { OnOk result (W.failed writer.new ≡ W.failed writer.old) }
+    ensures err { IfErr result (λ fault. (acts : List Act) × (StopsOpening fault (pieces_of terms.now) message acts
+        × PerformsUpTo fault (outlet P.past W.written place.old writer.old interested.old) acts
+        (outlet P.past W.written place.new writer.new interested.new))) }
+    ensures words { OnErr result ((generator : Stream) →
+        DrawsWords generator (P.past place.old).calls (P.past place.new).calls) }
+    ensures err_failed { IfErr result (λ fault. fault ≡ WriteFault → W.failed writer.new ≡ true) }
+{
+    match call_for(alloc, terms, message)? {
+        Some(call) => call_and_check(alloc, place, writer, interested, call),
+        None => Ok(()),
+    }
+}
+
+/// The turn of a message after the handshake: its call, then news, then Next calls.
+pub fn attend<P: Place, W: Sink, N: Rng>(
+    alloc: Global,
+    terms: &Terms,
+    message: Message,
+    place: &mut P,
+    writer: &mut W,
+    interested: &mut bool,
+    rng: &mut N,
+) -> Result<(), SessionFault>
+    requires { IsLater message }
+    ensures ok { OnOk result ((acts : List Act) × (IsTurn terms.now message acts × NoneRefused acts
+        × TellsNews (pieces_of terms.now) (P.past place.old) acts (P.past place.new)
+        × Performs (outlet P.past W.written place.old writer.old interested.old) acts
+        (outlet P.past W.written place.new writer.new interested.new))) }
+    ensures conduct { OnOk result (Conducts P.settles
+        (N.stream rng.old) (P.past place.old).calls (P.past place.new).calls (N.stream rng.new)) }
+    ensures ok_sound { OnOk result (W.failed writer.new ≡ W.failed writer.old) }
+    ensures err { IfErr result (λ fault. (acts : List Act) × (StopsTurn fault terms.now message acts
+        × PerformsUpTo fault (outlet P.past W.written place.old writer.old interested.old) acts
+        (outlet P.past W.written place.new writer.new interested.new))) }
+    ensures words { OnErr result (DrawsWords (N.stream rng.old) (P.past place.old).calls (P.past place.new).calls) }
+    ensures err_failed { IfErr result (λ fault. fault ≡ WriteFault → W.failed writer.new ≡ true) }
+{
+    open(alloc, terms, message, place, writer, interested)?;
+    tell_news(alloc, place, writer, terms.piece_count())?;
+    ask(alloc, place, writer, interested, rng, terms.most_next())?;
+    Ok(())
+}
