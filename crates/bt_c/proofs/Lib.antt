@@ -1,0 +1,3 @@
+pub mod Values
+pub mod DeskHandles
+pub mod JobHandles
