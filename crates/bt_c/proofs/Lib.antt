@@ -1,3 +1,4 @@
 pub mod Values
 pub mod DeskHandles
 pub mod JobHandles
+pub mod Sound

@@ -66,13 +66,7 @@ PutsIn (Ok h) None None (Err NoMemory) = Unit {0}
 PutsIn (Err f) None None o = o ≡ Err f
 PutsIn opened None new o = ⊥
 
--- a handle that holds a desk keeps it, and an empty one gets the new one, if there is one
-abbrev pub Fills : Reading → ℕ → Choice → Option Held → Option Held → Done → Type 0
-Fills reading w choice (Some d) new o = (new ≡ Some d) × (o ≡ Err Open)
-Fills reading w choice None None (Err f) = Opened reading w choice (Err f)
-Fills reading w choice None (Some e) (Ok u) = Opened reading w choice (Ok e)
-Fills reading w choice None new o = ⊥
-
--- the status tells what came of filling a handle
+-- what came of making a desk of a torrent that is read so is put into the handle, and the status tells it
 abbrev pub Opens : Reading → ℕ → Choice → Option Held → Option Held → ℕ → Type 0
-Opens reading w choice old new s = (o : Done) × Fills reading w choice old new o × (s ≡ status_of o)
+Opens reading w choice old new s = (opened : Result Held Fault) × Opened reading w choice opened
+    × ((o : Done) × PutsIn opened old new o × (s ≡ status_of o))

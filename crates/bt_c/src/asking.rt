@@ -67,13 +67,13 @@ impl Held {
     }
 
     /// How many blocks are asked of the worker's peer.
-    pub fn outstanding_count(&self, worker: u32) -> Result<u32, Fault>
+    pub fn outstanding_count(&self, worker: u32) -> Result<u64, Fault>
         ensures { SaysOfWorker self.now.desk worker (count_of_peer self.now.desk worker) result }
     {
         if worker >= self.desk.workers() {
             return Err(Fault::Worker);
         }
-        Ok(self.desk.outstanding(worker).len() as u32)
+        Ok(self.desk.outstanding(worker).len() as u64)
     }
 
     /// The block at this place among those that are asked of the worker's peer, the oldest request first.
@@ -111,7 +111,7 @@ impl Held {
         let desk = &self.desk;
         match audit(alloc, desk.torrent(), desk.workers(), desk.rules(), desk.journal()) {
             Ok(()) => Ok(()),
-            Err(AuditFault::NotAllowed(_)) => Err(Fault::NotAllowed),
+            Err(AuditFault::NotAllowed(_)) => unreachable!(),
             Err(AuditFault::NoMemory) => Err(Fault::NoMemory),
         }
     }

@@ -1,7 +1,7 @@
 //! The handle that C holds.
 ghost use Rattle.std.specs.Prelude.{◌≡◌, ℕ, None, Some, Option, MatchOption};
 ghost use Rattle.bt_c.specs.Handles.{handle_owns};
-ghost use Rattle.bt_c.specs.contracts.check.Check as check;
+ghost use Rattle.bt_c.specs.contracts.check.Check as away;
 
 use crate::check::Check;
 use crate::loose::Loose;
@@ -14,11 +14,11 @@ use std::ptr::null_mut;
 pub struct JobHandle {
     at: *mut u8,
     alloc: Global,
-    pub ghost check: { Option check.the_row.Denot },
+    pub ghost check: { Option away.the_row.Denot },
 }
 
 impl Model for JobHandle {
-    ghost also_owns = { λ s. handle_owns check.the_row s.at s.alloc s.check };
+    ghost also_owns = { λ s. handle_owns away.the_row s.at s.alloc s.check };
 }
 
 impl JobHandle {

@@ -5,7 +5,7 @@ ghost use Rattle.bt_c.specs.declared.asking.Question.TheVariants as questions;
 ghost use Rattle.bt_c.specs.declared.asking.PieceQuestion.TheVariants as of_piece;
 ghost use Rattle.bt_c.specs.Outcomes.{AtOpen, TellsBlock, TellsDone, TellsNumber};
 
-use super::tell::{tell, tell_done, tell_number};
+use super::tell::{tell, tell_count, tell_done, tell_number};
 use crate::answer::Answer;
 use crate::asking::{PieceQuestion, Question};
 use crate::desk_handle::DeskHandle;
@@ -43,7 +43,7 @@ fn ask_of_piece(
     number
 }
 
-fn outstanding_count(alloc: Global, desk: &mut DeskHandle, worker: u32) -> Result<u32, Fault>
+fn outstanding_count(alloc: Global, desk: &mut DeskHandle, worker: u32) -> Result<u64, Fault>
     ensures same { desk.new.desk ≡ desk.old.desk }
     ensures says { AtOpen (λ d o. SaysOfWorker d worker (count_of_peer d worker) o) desk.old.desk result }
 {
@@ -207,13 +207,13 @@ pub extern "C" fn piecepick_outstanding(
     alloc: Global,
     desk: &mut DeskHandle,
     worker: u32,
-    number: &mut u32,
+    count: &mut u64,
 ) -> u32
     ensures same { desk.new.desk ≡ desk.old.desk }
     ensures says { TellsNumber (λ d o. SaysOfWorker d worker (count_of_peer d worker) o)
-        desk.old.desk result number.new }
+        desk.old.desk result count.new }
 {
-    tell_number(outstanding_count(alloc, desk, worker), number)
+    tell_count(outstanding_count(alloc, desk, worker), count)
 }
 
 /// One of these blocks, by its place from 0, the oldest request first: an answer of kind `Request`.
