@@ -29,7 +29,7 @@ extern "C" {
 /* A desk: the picker of one download. */
 typedef struct piecepick_desk { void *at; } piecepick_desk;
 /* The check of a piece that left its desk, to be hashed while others use that. */
-typedef struct piecepick_job { void *at; } piecepick_job;
+typedef struct piecepick_check { void *at; } piecepick_check;
 #define PIECEPICK_NONE { NULL }
 
 /* What the desk answers to a worker's call. The block is told by CANCEL and REQUEST alone. `detail` is 1 at NOTED where the peer has a
@@ -114,10 +114,10 @@ uint32_t piecepick_settle_now(piecepick_desk *desk, uint32_t worker, uint32_t pi
 /* The same check away from the desk. `job` fills an empty handle (SHUT, PIECE, NOT_WAITING, OPEN, MEMORY); `job_hash` hashes without any
    desk, so outside the caller's lock (NO_JOB, MEMORY); `job_settle` tells the verdict (SHUT, NO_JOB, NOT_HASHED, WORKER, MEMORY) and keeps
    it; `job_close` frees it, before or after its desk. */
-uint32_t piecepick_job(piecepick_desk *desk, uint32_t piece, piecepick_job *job);
-uint32_t piecepick_job_hash(piecepick_job *job);
-uint32_t piecepick_job_settle(piecepick_desk *desk, uint32_t worker, piecepick_job *job, piecepick_answer *answer);
-void piecepick_job_close(piecepick_job *job);
+uint32_t piecepick_job(piecepick_desk *desk, uint32_t piece, piecepick_check *job);
+uint32_t piecepick_job_hash(piecepick_check *job);
+uint32_t piecepick_job_settle(piecepick_desk *desk, uint32_t worker, piecepick_check *job, piecepick_answer *answer);
+void piecepick_job_close(piecepick_check *job);
 
 /* What the desk knows; flags are 1 or 0. SHUT; PIECE where a piece is named. They change nothing. */
 uint32_t piecepick_pieces(piecepick_desk *desk, uint32_t *number);
