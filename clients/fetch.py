@@ -312,7 +312,7 @@ def main() -> int:
     parser.add_argument("torrent")
     parser.add_argument("out")
     parser.add_argument("peers", nargs="+", metavar="HOST:PORT")
-    parser.add_argument("--depth", type=int, default=16, help="blocks asked of one peer at once, 1 to 64")
+    parser.add_argument("--depth", type=int, default=64, help="blocks asked of one peer at once, 1 to 64")
     parser.add_argument("--quiet", action="store_true", help="no progress line")
     given = parser.parse_args()
     return fetch(given.torrent, given.out, given.peers, given.depth, given.quiet)

@@ -52,21 +52,33 @@ boxed a p x = box_owns (ghosts.dealloc_token a) R p x
 module _ {M : Type 1} {𝓤 : Ura M} (𝓛 : Logic 𝓤) where
   pub tested : (a : Global) (p : Ptr) (x : R.Denot) → ent 𝓤 (sem 𝓛 (boxed a p x)) (guard 𝓤 (Testable p) (sem 𝓛 (boxed a p x)))
   tested a p x = let B : SProp 𝓤 = sem 𝓛 (boxed a p x) in
-      fact_use 𝓤 (Testable p) (via 𝓤 _ (snd∗ 𝓤 (sem 𝓛 (Rattle.core.specs.Ptr.points_to R p x)) (sem 𝓛 (ghosts.dealloc_token a (bare (lone R.mir)) p))) (dealloc_token-Testable 𝓛 a (bare (lone R.mir)) p)) (guard_i 𝓤 (Testable p) B)
+      fact_use 𝓤 (Testable p) (via 𝓤 _ (snd∗ 𝓤 (sem 𝓛 (Rattle.core.specs.Ptr.points_to R p x)) (sem 𝓛 (ghosts.dealloc_token a (bare (lone R.mir))
+      p))) (dealloc_token-Testable 𝓛 a (bare (lone R.mir)) p)) (guard_i 𝓤 (Testable p) B)
 
 module _ {M : Type 1} {𝓤 : Ura M} {𝓛 : Logic 𝓤} {K : Type 0} {Γ : List (Item 𝓤)} {G : Goal 𝓤 𝓛.H} where
   pub handle_out : K → (d : handle.the_row.Denot) (vs : List Val)
-      → ((h : Val) → vs ≡ both (ptr_val d.at) h ∷ [] → Good (layout Z) h → Seq K 𝓛 (‵ (handle_owns R d.at d.alloc d.desk) ∷ ‵ (Z.own_val d.alloc (h ∷ [])) ∷ Γ) G)
+      → ((h : Val) → vs ≡ both (ptr_val d.at) h ∷ [] → Good (layout Z) h
+      → Seq K 𝓛 (‵ (handle_owns R d.at d.alloc d.desk) ∷ ‵ (Z.own_val d.alloc (h ∷ [])) ∷ Γ) G)
       → Seq K 𝓛 (‵ (handle.the_row.own_val d vs) ∷ Γ) G
   handle_out t d vs k =
-      fsplit t $ fpick t (λ vss. fsplit t $ feq_l t (λ ev. fsplit t $ feq_l t (λ ep. fsplit t $ handle_tells al t d.alloc vss.1.0 (λ h ea fits. move t (1 ∷ []) $ drop t $ move t (1 ∷ []) $
-      k h (subst (λ (ws : List Val). vs ≡ vstruct (of_list (ptr_val d.at ∷ (ws ++ []))) ∷ []) ea (subst (λ (ps : List Val). vs ≡ vstruct (of_list (ps ++ (vss.1.0 ++ []))) ∷ []) ep ev)) fits))))
+      fsplit t $ fpick t (λ vss. fsplit t $ feq_l t (λ ev. fsplit t $ feq_l t (λ ep. fsplit t $
+      handle_tells al t d.alloc vss.1.0 (λ h ea fits. move t (1 ∷ []) $ drop t $ move t (1 ∷ []) $
+      k h (subst (λ (ws : List Val). vs ≡ vstruct (of_list (ptr_val d.at ∷ (ws ++ []))) ∷ []) ea (subst (λ (ps : List Val).
+      vs ≡ vstruct (of_list (ps ++ (vss.1.0 ++ []))) ∷ []) ep ev)) fits))))
 
   pub handle_in : K → (d : handle.the_row.Denot) (h : Val)
-      → Step K 𝓛 (‵ (handle.the_row.own_val d (both (ptr_val d.at) h ∷ [])) ∷ Γ) G (‵ (handle_owns R d.at d.alloc d.desk) ∷ ‵ (Z.own_val d.alloc (h ∷ [])) ∷ Γ) G
+      → Step K 𝓛 (‵ (handle.the_row.own_val d (both (ptr_val d.at) h ∷ [])) ∷ Γ) G
+      (‵ (handle_owns R d.at d.alloc d.desk) ∷ ‵ (Z.own_val d.alloc (h ∷ [])) ∷ Γ) G
   handle_in t d h = step (λ s. let v : Val = both (ptr_val d.at) h in
-      nothing t $ move t (2 ∷ 0 ∷ []) $ fjoin t $ feq_i t (List Val) (ptr_val d.at ∷ []) (ptr_val d.at ∷ []) refl $ fjoin t $ feq_i t (List Val) (v ∷ []) (v ∷ []) refl $ fjoin t $
-      fpack t (Valss (shape handle.the_type).fields) (within (shape handle.the_type) (to handle.the_type d) (v ∷ [])) (ptr_val d.at ∷ [], (h ∷ [], tt)) $ fjoin t $ s)
+      nothing t $ move t (2 ∷ 0 ∷ []) $ fjoin t $ feq_i t (List Val) (ptr_val d.at ∷ []) (ptr_val d.at ∷ []) refl $ fjoin t $
+      feq_i t (List Val) (v ∷ []) (v ∷ []) refl $ fjoin t $
+      fpack t (Valss (shape handle.the_type).fields) (within (shape handle.the_type) (to handle.the_type d) (v ∷ [])) (
+        ptr_val d.at ∷ [],
+        (
+          h ∷ [],
+          tt,
+        ),
+      ) $ fjoin t $ s)
 
   pub either_handle : K → (p : Ptr) (a : Global) (o : Option R.Denot)
       → (o ≡ None → p ≡ null_ptr → Seq K 𝓛 Γ G)

@@ -24,7 +24,7 @@ parted : (xs : List Entry) (i : ℕ) (d : Entry) → i < length xs
 parted xs i d lt =
     let more : take (i + 1) xs ≡ take i xs ++ get_or xs i d ∷ [] = take_more xs i d lt in
     let whole : xs ≡ (take i xs ++ get_or xs i d ∷ []) ++ drop (i + 1) xs =
-        sym (take-append-drop (i + 1) xs) ∙ ap (λ (ys : List Entry). ys ++ drop (i + 1) xs) more in
+    sym (take-append-drop (i + 1) xs) ∙ ap (λ (ys : List Entry). ys ++ drop (i + 1) xs) more in
     ap history_of whole ∙ grind (arith, common_steps, map-append)
 
 -- each entry is allowed after those before it

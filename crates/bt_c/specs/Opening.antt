@@ -6,8 +6,6 @@ use Rattle.std.specs.declared.result.Result.TheVariants.{Ok, Err}
 use Rattle.bt_meta.specs.declared.fault.MetaFault.{MetaFault}
 use Rattle.bt_meta.specs.declared.fault.MetaFault.TheVariants.{PiecesLength}
 use Rattle.bt_meta.specs.Layout.{Layout, Metainfo as Torrent, torrent_of}
-use Rattle.bt_meta.specs.Metainfo.{IsMeta}
-use Rattle.bt_meta.specs.Reading.{torrent_of_file}
 use Rattle.bt_history.specs.declared.rules.Rules.{Rules as Choice}
 use Rattle.bt_history.specs.Setting.{AreRules, setting_of}
 use Rattle.bt_c.specs.declared.fault.Fault.{Fault}

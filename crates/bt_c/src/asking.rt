@@ -109,7 +109,13 @@ impl Held {
         ensures { Audits self.now.desk result }
     {
         let desk = &self.desk;
-        match audit(alloc, desk.torrent(), desk.workers(), desk.rules(), desk.journal()) {
+        match audit(
+            alloc,
+            desk.torrent(),
+            desk.workers(),
+            desk.rules(),
+            desk.journal(),
+        ) {
             Ok(()) => Ok(()),
             Err(AuditFault::NotAllowed(_)) => unreachable!(),
             Err(AuditFault::NoMemory) => Err(Fault::NoMemory),

@@ -73,12 +73,7 @@ impl Held {
     }
 
     /// A desk of the torrent whose metainfo file this is.
-    pub fn open(
-        alloc: Global,
-        metainfo: &[u8],
-        workers: u32,
-        rules: Rules,
-    ) -> Result<Held, Fault>
+    pub fn open(alloc: Global, metainfo: &[u8], workers: u32, rules: Rules) -> Result<Held, Fault>
         ensures { Opened (torrent_of_file metainfo.now) workers rules result }
     {
         if !are_workers(workers) {
@@ -107,11 +102,7 @@ impl Held {
 }
 
 /// Puts a new desk into an empty handle.
-pub fn fill(
-    alloc: Global,
-    desk: &mut DeskHandle,
-    opened: Result<Held, Fault>,
-) -> Result<(), Fault>
+pub fn fill(alloc: Global, desk: &mut DeskHandle, opened: Result<Held, Fault>) -> Result<(), Fault>
     ensures { PutsIn opened desk.old.desk desk.new.desk result }
 {
     if let Some(held) = desk.take(alloc) {

@@ -64,12 +64,7 @@ fn arrived(
     outcome
 }
 
-fn settle_now(
-    alloc: Global,
-    desk: &mut DeskHandle,
-    worker: u32,
-    piece: u32,
-) -> Result<Reply, Fault>
+fn settle_now(alloc: Global, desk: &mut DeskHandle, worker: u32, piece: u32) -> Result<Reply, Fault>
     ensures { AtHandle (λ d e o. Settles d e worker piece o) desk.old.desk desk.new.desk result }
 {
     let Some(mut held) = desk.take(alloc) else {

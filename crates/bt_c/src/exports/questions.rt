@@ -72,12 +72,7 @@ fn outstanding(
     block
 }
 
-fn read(
-    alloc: Global,
-    desk: &mut DeskHandle,
-    piece: u32,
-    room: &mut [u8],
-) -> Result<(), Fault>
+fn read(alloc: Global, desk: &mut DeskHandle, piece: u32, room: &mut [u8]) -> Result<(), Fault>
     ensures same { desk.new.desk ≡ desk.old.desk }
     ensures shut { desk.old.desk ≡ None → room.new ≡ room.old }
     ensures reads { AtOpen (λ d o. Reads d piece room.old room.new o) desk.old.desk result }
@@ -110,7 +105,11 @@ pub extern "C" fn piecepick_workers(alloc: Global, desk: &mut DeskHandle, number
 
 /// Whether each piece is had, wanted or not.
 #[unsafe(no_mangle)]
-pub extern "C" fn piecepick_is_complete(alloc: Global, desk: &mut DeskHandle, number: &mut u32) -> u32
+pub extern "C" fn piecepick_is_complete(
+    alloc: Global,
+    desk: &mut DeskHandle,
+    number: &mut u32,
+) -> u32
     ensures same { desk.new.desk ≡ desk.old.desk }
     ensures says { TellsNumber (λ d o. Says (number_of d questions.Complete) o) desk.old.desk result number.new }
 {
@@ -119,7 +118,11 @@ pub extern "C" fn piecepick_is_complete(alloc: Global, desk: &mut DeskHandle, nu
 
 /// Whether each wanted piece is had.
 #[unsafe(no_mangle)]
-pub extern "C" fn piecepick_has_wanted(alloc: Global, desk: &mut DeskHandle, number: &mut u32) -> u32
+pub extern "C" fn piecepick_has_wanted(
+    alloc: Global,
+    desk: &mut DeskHandle,
+    number: &mut u32,
+) -> u32
     ensures same { desk.new.desk ≡ desk.old.desk }
     ensures says { TellsNumber (λ d o. Says (number_of d questions.HasWanted) o) desk.old.desk result number.new }
 {
@@ -153,7 +156,10 @@ pub extern "C" fn piecepick_wanted(
     ensures says { TellsNumber (λ d o. SaysOfPiece d piece (number_of_piece d of_piece.Wanted piece) o)
         desk.old.desk result number.new }
 {
-    tell_number(ask_of_piece(alloc, desk, PieceQuestion::Wanted, piece), number)
+    tell_number(
+        ask_of_piece(alloc, desk, PieceQuestion::Wanted, piece),
+        number,
+    )
 }
 
 /// How many joined peers show the piece.
@@ -168,7 +174,10 @@ pub extern "C" fn piecepick_availability(
     ensures says { TellsNumber (λ d o. SaysOfPiece d piece (number_of_piece d of_piece.Availability piece) o)
         desk.old.desk result number.new }
 {
-    tell_number(ask_of_piece(alloc, desk, PieceQuestion::Availability, piece), number)
+    tell_number(
+        ask_of_piece(alloc, desk, PieceQuestion::Availability, piece),
+        number,
+    )
 }
 
 /// The bytes of the piece.
@@ -183,7 +192,10 @@ pub extern "C" fn piecepick_piece_length(
     ensures says { TellsNumber (λ d o. SaysOfPiece d piece (number_of_piece d of_piece.Length piece) o)
         desk.old.desk result number.new }
 {
-    tell_number(ask_of_piece(alloc, desk, PieceQuestion::Length, piece), number)
+    tell_number(
+        ask_of_piece(alloc, desk, PieceQuestion::Length, piece),
+        number,
+    )
 }
 
 /// The blocks of the piece.
@@ -198,7 +210,10 @@ pub extern "C" fn piecepick_blocks(
     ensures says { TellsNumber (λ d o. SaysOfPiece d piece (number_of_piece d of_piece.Blocks piece) o)
         desk.old.desk result number.new }
 {
-    tell_number(ask_of_piece(alloc, desk, PieceQuestion::Blocks, piece), number)
+    tell_number(
+        ask_of_piece(alloc, desk, PieceQuestion::Blocks, piece),
+        number,
+    )
 }
 
 /// How many blocks are asked of the worker's peer.

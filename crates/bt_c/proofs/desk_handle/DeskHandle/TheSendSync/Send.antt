@@ -18,7 +18,11 @@ use Rattle.bt_c.proofs.held.Held.TheSendSync.{the_send as held-send}
 
 owns-Keyless : (p : Ptr) (a : Global) (o : Option held.the_row.Denot) → Keyless (handle_owns held.the_row p a o)
 owns-Keyless p a None = tt
-owns-Keyless (block_ptr b k) a (Some x) = (part_keyless held.the_row held-send full_share x b k, frees.frees a (bare (lone held.the_row.mir)) (block_ptr b k))
+owns-Keyless (block_ptr b k) a (Some x) = (
+  part_keyless held.the_row held-send full_share x b k,
+  frees.frees a (bare (lone held.the_row.mir))
+      (block_ptr b k),
+)
 owns-Keyless null_ptr a (Some x) = (tt, frees.frees a (bare (lone held.the_row.mir)) null_ptr)
 
 pub send : IsSend handle.the_row

@@ -18,7 +18,11 @@ use Rattle.bt_c.proofs.check.Check.TheSendSync.{the_send as check-send}
 
 owns-Keyless : (p : Ptr) (a : Global) (o : Option check.the_row.Denot) → Keyless (handle_owns check.the_row p a o)
 owns-Keyless p a None = tt
-owns-Keyless (block_ptr b k) a (Some x) = (part_keyless check.the_row check-send full_share x b k, frees.frees a (bare (lone check.the_row.mir)) (block_ptr b k))
+owns-Keyless (block_ptr b k) a (Some x) = (
+  part_keyless check.the_row check-send full_share x b k,
+  frees.frees a (bare (lone check.the_row.mir))
+      (block_ptr b k),
+)
 owns-Keyless null_ptr a (Some x) = (tt, frees.frees a (bare (lone check.the_row.mir)) null_ptr)
 
 pub send : IsSend handle.the_row
