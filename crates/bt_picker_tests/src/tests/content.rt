@@ -120,3 +120,14 @@ fn nothing_where_a_piece_is_missing(rt: HostRuntime) -> Result<(), Fail> {
     assert_eq!(rt; ContentFault::WriteFault as u8, 2);
     Ok(())
 }
+
+#[test]
+fn one_piece_once_it_is_had(rt: HostRuntime) -> Result<(), Fail> {
+    let played = with_blocks(&rt, rt.alloc(), 2)?;
+    let mut writer = ToWrite::new(Vec::with_capacity(rt.alloc(), 3)?);
+    assert!(rt; played.write_piece(&rt, &mut writer, 2) == Err(ContentFault::Incomplete));
+    assert!(rt; played.write_piece(&rt, &mut writer, 1) == Ok(()));
+    assert_eq!(rt; writer.into_inner().as_slice(), b"abc".as_slice());
+    assert_eq!(rt; played.made_of(), (4, 5, 3));
+    Ok(())
+}

@@ -156,6 +156,23 @@ impl Played {
         self.desk.is_complete()
     }
 
+    /// The workers, the depth and the pieces of the desk.
+    pub fn made_of(&self) -> (u32, u32, u32) {
+        let torrent = self.desk.torrent();
+        let rules = self.desk.rules();
+        (self.desk.workers(), rules.depth, torrent.piece_count())
+    }
+
+    pub fn write_piece<W: Sink>(
+        &self,
+        rt: &impl Abort,
+        writer: &mut W,
+        piece: u32,
+    ) -> Result<(), ContentFault> {
+        assert!(rt; piece < PIECES);
+        self.desk.write_piece(writer, piece)
+    }
+
     pub fn write<W: Sink>(&self, writer: &mut W) -> Result<(), ContentFault> {
         self.desk.write_content(writer)
     }

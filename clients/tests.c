@@ -1,0 +1,237 @@
+/* What only a caller in C can try: each allocation refused in turn, four threads at one desk, and a round of misuses.
+
+   usage: tests FILE.torrent CONTENT        linked with -Wl,--wrap=malloc,--wrap=realloc */
+#include "piecepick.h"
+#include <pthread.h>
+#include <stdio.h>
+#include <stdlib.h>
+#include <string.h>
+
+enum { WORKERS = 4, MOST = 1 << 24 };
+
+#ifdef __cplusplus
+extern "C" {
+#endif
+void *__real_malloc(size_t size);
+void *__real_realloc(void *at, size_t size);
+void *__wrap_malloc(size_t size);
+void *__wrap_realloc(void *at, size_t size);
+#ifdef __cplusplus
+}
+#endif
+
+static long until_refusal = -1; /* allocations until one is refused; none is while it is negative */
+static long made;
+
+static int refuses(void)
+{
+    made++;
+    return until_refusal >= 0 && until_refusal-- == 0;
+}
+
+void *__wrap_malloc(size_t size) { return refuses() ? NULL : __real_malloc(size); }
+void *__wrap_realloc(void *at, size_t size) { return refuses() ? NULL : __real_realloc(at, size); }
+
+static uint8_t metainfo[1 << 20];
+static uint8_t content[MOST];
+static uint8_t room[MOST];
+static size_t metainfo_len, content_len;
+
+static void fail(const char *what, uint32_t status)
+{
+    printf("%s: status %u\n", what, (unsigned)status);
+    exit(1);
+}
+
+/* The call, made once more where there was no memory; any other status but OK fails. */
+static long refusals;
+#define AGAIN(call)                                                     \
+    do {                                                                \
+        uint32_t again_status;                                          \
+        while ((again_status = (call)) != PIECEPICK_OK) {               \
+            if (again_status != PIECEPICK_MEMORY) fail(#call, again_status); \
+            refusals++;                                                 \
+        }                                                               \
+    } while (0)
+
+static void all_flags(uint8_t *flags, uint32_t pieces)
+{
+    memset(flags, 0, (pieces + 7) / 8);
+    for (uint32_t piece = 0; piece < pieces; piece++)
+        flags[piece / 8] = (uint8_t)(flags[piece / 8] | (0x80 >> piece % 8));
+}
+
+/* A piece that is full is checked, by a job in every second piece. */
+static void settle(piecepick_desk *desk, uint32_t worker, uint32_t piece)
+{
+    piecepick_check job = PIECEPICK_NONE;
+    piecepick_answer answer;
+    if (piece % 2 == 0) {
+        AGAIN(piecepick_settle_now(desk, worker, piece, &answer));
+    } else {
+        AGAIN(piecepick_job(desk, piece, &job));
+        AGAIN(piecepick_job_hash(&job));
+        AGAIN(piecepick_job_settle(desk, worker, &job, &answer));
+        piecepick_job_close(&job);
+    }
+    if (answer.kind != PIECEPICK_HAD) fail("a check", answer.kind);
+}
+
+/* A whole download by two workers in one thread, every call repeated where it found no memory. */
+static void run(void)
+{
+    piecepick_desk desk = PIECEPICK_NONE;
+    piecepick_answer answer;
+    uint8_t flags[1 << 12];
+    uint32_t pieces, piece_length, length, idle = 0;
+    AGAIN(piecepick_open(&desk, metainfo, metainfo_len, 2, 5, 1));
+    AGAIN(piecepick_pieces(&desk, &pieces));
+    AGAIN(piecepick_piece_length(&desk, 0, &piece_length));
+    all_flags(flags, pieces);
+    AGAIN(piecepick_want(&desk, 0, flags, (pieces + 7) / 8, &answer));
+    for (uint32_t worker = 0; worker < 2; worker++) {
+        AGAIN(piecepick_join(&desk, worker, &answer));
+        AGAIN(piecepick_bits(&desk, worker, flags, (pieces + 7) / 8, &answer));
+        AGAIN(piecepick_unchoke(&desk, worker, &answer));
+    }
+    for (uint32_t worker = 0; idle < 2; worker = 1 - worker) {
+        AGAIN(piecepick_next(&desk, worker, worker * 77u, &answer));
+        idle = answer.kind == PIECEPICK_NOTHING_LEFT ? idle + 1 : 0;
+        if (answer.kind != PIECEPICK_REQUEST) continue;
+        uint32_t piece = answer.piece;
+        AGAIN(piecepick_arrived(&desk, worker, piece, answer.begin, content + (size_t)piece * piece_length + answer.begin, answer.len, &answer));
+        if (answer.kind == PIECEPICK_COMPLETED) settle(&desk, worker, piece);
+    }
+    for (uint32_t piece = 0; piece < pieces; piece++) {
+        AGAIN(piecepick_piece_length(&desk, piece, &length));
+        AGAIN(piecepick_read(&desk, piece, room + (size_t)piece * piece_length, length));
+    }
+    AGAIN(piecepick_audit(&desk));
+    if (memcmp(room, content, content_len) != 0) fail("the content", 0);
+    piecepick_close(&desk);
+}
+
+static void refuse_each(void)
+{
+    long before = made;
+    run();
+    long each = made - before;
+    for (long place = 0; place < each; place++) {
+        until_refusal = place;
+        run();
+    }
+    until_refusal = -1;
+    printf("%ld allocations of a download, each refused in turn: %ld statuses of no memory, each call repeated\n", each, refusals);
+    if (refusals != each) fail("refusals", (uint32_t)refusals);
+}
+
+static pthread_mutex_t lock = PTHREAD_MUTEX_INITIALIZER;
+static piecepick_desk shared = PIECEPICK_NONE;
+static uint32_t shared_pieces, shared_length;
+
+#define LOCKED(call)                     \
+    do {                                 \
+        uint32_t locked_status;          \
+        pthread_mutex_lock(&lock);       \
+        locked_status = (call);          \
+        pthread_mutex_unlock(&lock);     \
+        if (locked_status) fail(#call, locked_status); \
+    } while (0)
+
+/* One worker's peer: its pieces are hashed outside the lock. */
+static void *worker_thread(void *argument)
+{
+    uint32_t worker = (uint32_t)(size_t)argument;
+    piecepick_answer answer;
+    uint8_t flags[1 << 12];
+    all_flags(flags, shared_pieces);
+    LOCKED(piecepick_join(&shared, worker, &answer));
+    LOCKED(piecepick_bits(&shared, worker, flags, (shared_pieces + 7) / 8, &answer));
+    LOCKED(piecepick_unchoke(&shared, worker, &answer));
+    for (;;) {
+        LOCKED(piecepick_next(&shared, worker, worker, &answer));
+        if (answer.kind == PIECEPICK_NOTHING_LEFT) return NULL;
+        if (answer.kind != PIECEPICK_REQUEST) continue;
+        uint32_t piece = answer.piece;
+        const uint8_t *block = content + (size_t)piece * shared_length + answer.begin;
+        LOCKED(piecepick_arrived(&shared, worker, piece, answer.begin, block, answer.len, &answer));
+        if (answer.kind != PIECEPICK_COMPLETED) continue;
+        piecepick_check job = PIECEPICK_NONE;
+        LOCKED(piecepick_job(&shared, piece, &job));
+        if (piecepick_job_hash(&job)) fail("hash", 0);
+        LOCKED(piecepick_job_settle(&shared, worker, &job, &answer));
+        LOCKED((piecepick_job_close(&job), 0u));
+    }
+}
+
+static void by_threads(void)
+{
+    for (int round = 0; round < 25; round++) {
+        pthread_t threads[WORKERS];
+        uint32_t complete;
+        LOCKED(piecepick_open(&shared, metainfo, metainfo_len, WORKERS, 5, 1));
+        LOCKED(piecepick_pieces(&shared, &shared_pieces));
+        LOCKED(piecepick_piece_length(&shared, 0, &shared_length));
+        for (size_t worker = 0; worker < WORKERS; worker++)
+            if (pthread_create(&threads[worker], NULL, worker_thread, (void *)worker)) fail("thread", 0);
+        for (size_t worker = 0; worker < WORKERS; worker++) pthread_join(threads[worker], NULL);
+        LOCKED(piecepick_is_complete(&shared, &complete));
+        if (!complete) fail("threads", 0);
+        LOCKED(piecepick_audit(&shared));
+        piecepick_close(&shared);
+    }
+    puts("25 downloads by four threads under one lock, hashed outside it: complete, and the journals sound");
+}
+
+#define IS(call, wanted) do { uint32_t is_status = (call); if (is_status != (wanted)) fail(#call, is_status); } while (0)
+
+static void misuses(void)
+{
+    piecepick_desk desk = PIECEPICK_NONE;
+    piecepick_check job = PIECEPICK_NONE;
+    piecepick_answer answer;
+    uint32_t number, pieces;
+    uint64_t count;
+    uint8_t none[1] = {0}, spare[1 << 12];
+    IS(piecepick_join(&desk, 0, &answer), PIECEPICK_SHUT);
+    if (answer.kind != 0) fail("an answer", answer.kind);
+    IS(piecepick_open(&desk, none, 0, 1, 5, 1), PIECEPICK_BENCODE);
+    IS(piecepick_open(&desk, metainfo, metainfo_len, 1025, 5, 1), PIECEPICK_WORKER);
+    IS(piecepick_open(&desk, metainfo, metainfo_len, 1, 65, 1), PIECEPICK_RULES);
+    IS(piecepick_open_parts(&desk, 16384, 1, none, 1, 1, 5, 1), PIECEPICK_PIECES_LENGTH);
+    IS(piecepick_open(&desk, metainfo, metainfo_len, 1, 5, 1), PIECEPICK_OK);
+    IS(piecepick_open(&desk, metainfo, metainfo_len, 1, 5, 1), PIECEPICK_OPEN);
+    IS(piecepick_pieces(&desk, &pieces), PIECEPICK_OK);
+    IS(piecepick_join(&desk, 1, &answer), PIECEPICK_WORKER);
+    IS(piecepick_had(&desk, pieces, &number), PIECEPICK_PIECE);
+    IS(piecepick_bits(&desk, 0, none, 0, &answer), PIECEPICK_BITS_LENGTH);
+    memset(spare, 255, sizeof spare);
+    IS(piecepick_bits(&desk, 0, spare, (pieces + 7) / 8, &answer), pieces % 8 ? (uint32_t)PIECEPICK_SPARE_BITS : (uint32_t)PIECEPICK_OK);
+    IS(piecepick_read(&desk, 0, room, 1), PIECEPICK_NOT_HAD);
+    IS(piecepick_job(&desk, 0, &job), PIECEPICK_NOT_WAITING);
+    IS(piecepick_job_hash(&job), PIECEPICK_NO_JOB);
+    IS(piecepick_job_settle(&desk, 0, &job, &answer), PIECEPICK_NO_JOB);
+    IS(piecepick_outstanding(&desk, 0, &count), PIECEPICK_OK);
+    IS(piecepick_outstanding_at(&desk, 0, 0, &answer), PIECEPICK_PLACE);
+    piecepick_job_close(&job);
+    piecepick_close(&desk);
+    piecepick_close(&desk);
+    puts("21 misuses: the statuses that the header says");
+}
+
+int main(int argc, char **argv)
+{
+    if (argc != 3) return 2;
+    FILE *file = fopen(argv[1], "rb");
+    if (file == NULL) return 2;
+    metainfo_len = fread(metainfo, 1, sizeof metainfo, file);
+    fclose(file);
+    file = fopen(argv[2], "rb");
+    if (file == NULL) return 2;
+    content_len = fread(content, 1, sizeof content, file);
+    fclose(file);
+    misuses();
+    refuse_each();
+    by_threads();
+    return 0;
+}
