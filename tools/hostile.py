@@ -143,7 +143,7 @@ class Table:
 
 SLACK = 2**20  # by which the memory of two like runs differs
 PER_MESSAGE = 600  # two entries and two marks, in tables that double as they grow
-PER_BYTE = 64  # of a metainfo file: a part of it takes at least two bytes
+PER_BYTE = 3  # of a metainfo file: it itself, and what the torrent keeps and prints of it
 
 
 def main():
