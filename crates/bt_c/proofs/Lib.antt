@@ -1,4 +1,0 @@
-pub mod Values
-pub mod DeskHandles
-pub mod JobHandles
-pub mod Sound
