@@ -1,0 +1,4 @@
+pub mod Values
+pub mod DeskHandles
+pub mod JobHandles
+pub mod Sound

@@ -1,0 +1,89 @@
+-- What a desk tells, its pieces and workers tested first.
+use Rattle.std.specs.Prelude.{◌≡◌, ℕ, ◌<◌, List, true, false, length, slice_index_or}
+use Rattle.std.specs.declared.result.Result.{Result}
+use Rattle.std.specs.declared.result.Result.TheVariants.{Ok, Err}
+use Rattle.bt_meta.specs.declared.block.Block.{Block}
+use Rattle.bt_meta.specs.Layout.{block_count, piece_count, piece_len}
+use Rattle.bt_history.specs.Legal.{IsLegal}
+use Rattle.bt_history.specs.Peers.{outstanding}
+use Rattle.bt_history.specs.Pieces.{availability, content, had, wanted}
+use Rattle.bt_picker.specs.Contents.{complete, has_wanted}
+use Rattle.bt_picker.specs.Positions.{DeskState}
+use Rattle.bt_c.specs.declared.asking.Question.{Question}
+use Rattle.bt_c.specs.declared.asking.Question.TheVariants.{Pieces, Workers, Complete, HasWanted}
+use Rattle.bt_c.specs.declared.asking.PieceQuestion.{PieceQuestion}
+use Rattle.bt_c.specs.declared.asking.PieceQuestion.TheVariants.{Had, Wanted, Availability, Length, Blocks}
+use Rattle.bt_c.specs.declared.fault.Fault.{Fault}
+use Rattle.bt_c.specs.declared.fault.Fault.TheVariants.{Worker, Piece, Room, NotHad, NoMemory, Place}
+use Rattle.bt_c.specs.Calling.{IsWorker}
+use Rattle.bt_c.specs.Outcomes.{Done, flag}
+
+-- p is a piece of the desk's torrent
+abbrev pub IsPiece : DeskState → ℕ → Type 0
+IsPiece d p = p < piece_count d.setting.torrent
+
+-- what the desk is asked, a flag as 1 or 0
+abbrev pub number_of : DeskState → Question → ℕ
+number_of d Pieces = piece_count d.setting.torrent
+number_of d Workers = d.setting.workers
+number_of d Complete = flag (complete d.setting d.history)
+number_of d HasWanted = flag (has_wanted d.setting d.history)
+
+-- what the desk is asked of piece p
+abbrev pub number_of_piece : DeskState → PieceQuestion → ℕ → ℕ
+number_of_piece d Had p = flag (had d.history p)
+number_of_piece d Wanted p = flag (wanted d.setting d.history p)
+number_of_piece d Availability p = availability d.setting d.history p
+number_of_piece d Length p = piece_len d.setting.torrent p
+number_of_piece d Blocks p = block_count d.setting.torrent p
+
+-- how many blocks are asked of worker w's peer
+abbrev pub count_of_peer : DeskState → ℕ → ℕ
+count_of_peer d w = length (outstanding d.history w)
+
+-- a number that each desk has
+abbrev pub Says : ℕ → Result ℕ Fault → Type 0
+Says n (Ok x) = x ≡ n
+Says n (Err f) = ⊥
+
+-- a number of piece p
+abbrev pub SaysOfPiece : DeskState → ℕ → ℕ → Result ℕ Fault → Type 0
+SaysOfPiece d p n (Ok x) = IsPiece d p × (x ≡ n)
+SaysOfPiece d p n (Err Piece) = IsPiece d p → ⊥
+SaysOfPiece d p n (Err f) = ⊥
+
+-- a number of worker w's peer
+abbrev pub SaysOfWorker : DeskState → ℕ → ℕ → Result ℕ Fault → Type 0
+SaysOfWorker d w n (Ok x) = IsWorker d w × (x ≡ n)
+SaysOfWorker d w n (Err Worker) = IsWorker d w → ⊥
+SaysOfWorker d w n (Err f) = ⊥
+
+-- the block at a place among those that are asked of worker w's peer, the oldest request first
+abbrev pub IsOutstanding : DeskState → ℕ → ℕ → Result Block Fault → Type 0
+IsOutstanding d w place (Ok block) = IsWorker d w × (place < count_of_peer d w)
+    × ((other : Block) → block ≡ slice_index_or (outstanding d.history w) place other)
+IsOutstanding d w place (Err Worker) = IsWorker d w → ⊥
+IsOutstanding d w place (Err Place) = IsWorker d w × ((place < count_of_peer d w) → ⊥)
+IsOutstanding d w place (Err f) = ⊥
+
+-- the room gets the content of piece p where that is had, and has its length; else nothing is written
+abbrev pub Reads : DeskState → ℕ → List ℕ → List ℕ → Done → Type 0
+Reads d p old new (Ok u) = IsPiece d p × (had d.history p ≡ true) × (new ≡ content d.setting d.history p)
+Reads d p old new (Err Piece) = (IsPiece d p → ⊥) × (new ≡ old)
+Reads d p old new (Err NotHad) = IsPiece d p × (had d.history p ≡ false) × (new ≡ old)
+Reads d p old new (Err Room) = IsPiece d p × (had d.history p ≡ true)
+    × ((length old ≡ length (content d.setting d.history p)) → ⊥) × (new ≡ old)
+Reads d p old new (Err NoMemory) = IsPiece d p × (had d.history p ≡ true) × (new ≡ old)
+Reads d p old new (Err f) = ⊥
+
+-- each entry of the journal is allowed after those before it
+abbrev pub Audits : DeskState → Done → Type 0
+Audits d (Ok u) = IsLegal d.setting d.history
+Audits d (Err NoMemory) = Unit {0}
+Audits d (Err f) = ⊥
+
+-- the room gets the bytes where it has their number
+abbrev pub Copies : List ℕ → List ℕ → List ℕ → Done → Type 0
+Copies bytes old new (Ok u) = new ≡ bytes
+Copies bytes old new (Err Room) = ((length old ≡ length bytes) → ⊥) × (new ≡ old)
+Copies bytes old new (Err f) = ⊥

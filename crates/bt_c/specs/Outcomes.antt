@@ -1,0 +1,75 @@
+-- What came of a call, as its status and its results tell it.
+use Rattle.std.specs.Prelude.{◌≡◌, ℕ, Option, None, Some, Bool, true, false}
+use Rattle.std.specs.declared.result.Result.{Result}
+use Rattle.std.specs.declared.result.Result.TheVariants.{Ok, Err}
+use Rattle.bt_meta.specs.declared.block.Block.{Block}
+use Rattle.bt_history.specs.declared.call.Reply.{Reply}
+use Rattle.bt_history.specs.declared.call.Reply.TheVariants.{Request}
+use Rattle.bt_picker.specs.Positions.{DeskState}
+use Rattle.bt_c.specs.declared.answer.Answer.{Answer}
+use Rattle.bt_c.specs.declared.fault.Fault.{Fault}
+use Rattle.bt_c.specs.declared.fault.Fault.TheVariants.{Shut}
+use Rattle.bt_c.specs.declared.held.Held.{Held}
+use Rattle.bt_c.specs.Answers.{answer_of, nothing}
+use Rattle.bt_c.specs.Statuses.{fault_number}
+
+-- a reply, or why there is none
+abbrev pub Outcome : Type 0
+Outcome = Result Reply Fault
+
+-- a thing was done, or why it wasn't
+abbrev pub Done : Type 0
+Done = Result (Unit {0}) Fault
+
+-- the status: 0, or the fault's number
+abbrev pub status_of : {X : Type 0} → Result X Fault → ℕ
+status_of (Ok x) = 0
+status_of (Err f) = fault_number f
+
+-- the answer: the reply's, or none
+abbrev pub told : Outcome → Answer
+told (Ok r) = answer_of r
+told (Err f) = nothing
+
+-- the number: what was asked for, or 0
+abbrev pub number_told : Result ℕ Fault → ℕ
+number_told (Ok x) = x
+number_told (Err f) = 0
+
+-- a flag as a number
+abbrev pub flag : Bool → ℕ
+flag true = 1
+flag false = 0
+
+-- a call at a handle: a null one stays null and says so, and an open one stays open, its desk changed as P says
+abbrev pub AtHandle : {X : Type 0} → (DeskState → DeskState → Result X Fault → Type 0)
+    → Option Held → Option Held → Result X Fault → Type 0
+AtHandle P None new o = (new ≡ None) × (o ≡ Err Shut)
+AtHandle P (Some d) None o = ⊥
+AtHandle P (Some d) (Some e) o = P d.desk e.desk o
+
+-- a question to a handle, which changes nothing: a null one has no answer
+abbrev pub AtOpen : {X : Type 0} → (DeskState → Result X Fault → Type 0) → Option Held → Result X Fault → Type 0
+AtOpen P None o = o ≡ Err Shut
+AtOpen P (Some d) o = P d.desk o
+
+-- the status and the answer tell what came of a call at a handle
+abbrev pub Tells : (DeskState → DeskState → Outcome → Type 0) → Option Held → Option Held → ℕ → Answer → Type 0
+Tells P old new s a = (o : Outcome) × AtHandle P old new o × (s ≡ status_of o) × (a ≡ told o)
+
+-- the status and the number tell what came of a question to a handle
+abbrev pub TellsNumber : (DeskState → Result ℕ Fault → Type 0) → Option Held → ℕ → ℕ → Type 0
+TellsNumber P h s x = (o : Result ℕ Fault) × AtOpen P h o × (s ≡ status_of o) × (x ≡ number_told o)
+
+-- the status tells what came of a question to a handle
+abbrev pub TellsDone : (DeskState → Done → Type 0) → Option Held → ℕ → Type 0
+TellsDone P h s = (o : Done) × AtOpen P h o × (s ≡ status_of o)
+
+-- a block that was found, told as if it were to be requested
+abbrev pub block_told : Result Block Fault → Answer
+block_told (Ok b) = answer_of (Request b)
+block_told (Err f) = nothing
+
+-- the status and the answer tell a block of an open handle
+abbrev pub TellsBlock : (DeskState → Result Block Fault → Type 0) → Option Held → ℕ → Answer → Type 0
+TellsBlock P h s a = (o : Result Block Fault) × AtOpen P h o × (s ≡ status_of o) × (a ≡ block_told o)

@@ -1,0 +1,224 @@
+//! What a worker tells of its peer, and asks.
+ghost use Rattle.std.specs.Prelude.{◌≡◌};
+ghost use Rattle.bt_history.specs.declared.event.Action.TheVariants as actions;
+ghost use Rattle.bt_history.specs.Entries.{action_of};
+ghost use Rattle.bt_c.specs.Calling.{Makes, MakesFlags, Settles};
+ghost use Rattle.bt_c.specs.Outcomes.{AtHandle, Tells};
+
+use super::tell::tell;
+use crate::answer::Answer;
+use crate::desk_handle::DeskHandle;
+use crate::fault::Fault;
+use bt_picker::{Call, Reply};
+use std::alloc::Global;
+
+fn call(alloc: Global, desk: &mut DeskHandle, worker: u32, call: Call) -> Result<Reply, Fault>
+    ensures { AtHandle (λ d e o. Makes d e worker (action_of call) o) desk.old.desk desk.new.desk result }
+{
+    let Some(mut held) = desk.take(alloc) else {
+        return Err(Fault::Shut);
+    };
+    let outcome = held.call(worker, call);
+    *desk = DeskHandle::of(held);
+    outcome
+}
+
+fn bits(alloc: Global, desk: &mut DeskHandle, worker: u32, bytes: &[u8]) -> Result<Reply, Fault>
+    ensures { AtHandle (λ d e o. MakesFlags d e worker bytes.now actions.Bits o) desk.old.desk desk.new.desk result }
+{
+    let Some(mut held) = desk.take(alloc) else {
+        return Err(Fault::Shut);
+    };
+    let outcome = held.bits(alloc, worker, bytes);
+    *desk = DeskHandle::of(held);
+    outcome
+}
+
+fn want(alloc: Global, desk: &mut DeskHandle, worker: u32, bytes: &[u8]) -> Result<Reply, Fault>
+    ensures { AtHandle (λ d e o. MakesFlags d e worker bytes.now actions.Want o) desk.old.desk desk.new.desk result }
+{
+    let Some(mut held) = desk.take(alloc) else {
+        return Err(Fault::Shut);
+    };
+    let outcome = held.want(alloc, worker, bytes);
+    *desk = DeskHandle::of(held);
+    outcome
+}
+
+fn arrived(
+    alloc: Global,
+    desk: &mut DeskHandle,
+    worker: u32,
+    piece: u32,
+    begin: u32,
+    bytes: &[u8],
+) -> Result<Reply, Fault>
+    ensures { AtHandle (λ d e o. Makes d e worker (actions.Arrived piece begin bytes.now) o)
+        desk.old.desk desk.new.desk result }
+{
+    let Some(mut held) = desk.take(alloc) else {
+        return Err(Fault::Shut);
+    };
+    let outcome = held.arrived(alloc, worker, piece, begin, bytes);
+    *desk = DeskHandle::of(held);
+    outcome
+}
+
+fn settle_now(alloc: Global, desk: &mut DeskHandle, worker: u32, piece: u32) -> Result<Reply, Fault>
+    ensures { AtHandle (λ d e o. Settles d e worker piece o) desk.old.desk desk.new.desk result }
+{
+    let Some(mut held) = desk.take(alloc) else {
+        return Err(Fault::Shut);
+    };
+    let outcome = held.settle_now(alloc, worker, piece);
+    *desk = DeskHandle::of(held);
+    outcome
+}
+
+/// The handshakes were exchanged.
+#[unsafe(no_mangle)]
+pub extern "C" fn piecepick_join(
+    alloc: Global,
+    desk: &mut DeskHandle,
+    worker: u32,
+    answer: &mut Answer,
+) -> u32
+    ensures { Tells (λ d e o. Makes d e worker actions.Join o)
+        desk.old.desk desk.new.desk result answer.new }
+{
+    tell(call(alloc, desk, worker, Call::Join), answer)
+}
+
+/// The connection is gone.
+#[unsafe(no_mangle)]
+pub extern "C" fn piecepick_leave(
+    alloc: Global,
+    desk: &mut DeskHandle,
+    worker: u32,
+    answer: &mut Answer,
+) -> u32
+    ensures { Tells (λ d e o. Makes d e worker actions.Leave o)
+        desk.old.desk desk.new.desk result answer.new }
+{
+    tell(call(alloc, desk, worker, Call::Leave), answer)
+}
+
+/// A `choke` message came, or the peer is silent.
+#[unsafe(no_mangle)]
+pub extern "C" fn piecepick_choke(
+    alloc: Global,
+    desk: &mut DeskHandle,
+    worker: u32,
+    answer: &mut Answer,
+) -> u32
+    ensures { Tells (λ d e o. Makes d e worker actions.Choke o)
+        desk.old.desk desk.new.desk result answer.new }
+{
+    tell(call(alloc, desk, worker, Call::Choke), answer)
+}
+
+/// An `unchoke` message came.
+#[unsafe(no_mangle)]
+pub extern "C" fn piecepick_unchoke(
+    alloc: Global,
+    desk: &mut DeskHandle,
+    worker: u32,
+    answer: &mut Answer,
+) -> u32
+    ensures { Tells (λ d e o. Makes d e worker actions.Unchoke o)
+        desk.old.desk desk.new.desk result answer.new }
+{
+    tell(call(alloc, desk, worker, Call::Unchoke), answer)
+}
+
+/// A `have` message came.
+#[unsafe(no_mangle)]
+pub extern "C" fn piecepick_have(
+    alloc: Global,
+    desk: &mut DeskHandle,
+    worker: u32,
+    piece: u32,
+    answer: &mut Answer,
+) -> u32
+    ensures { Tells (λ d e o. Makes d e worker (actions.Have piece) o)
+        desk.old.desk desk.new.desk result answer.new }
+{
+    tell(call(alloc, desk, worker, Call::Have(piece)), answer)
+}
+
+/// What to say to the peer next. The word settles what the rules leave to chance.
+#[unsafe(no_mangle)]
+pub extern "C" fn piecepick_next(
+    alloc: Global,
+    desk: &mut DeskHandle,
+    worker: u32,
+    word: u64,
+    answer: &mut Answer,
+) -> u32
+    ensures { Tells (λ d e o. Makes d e worker (actions.Next word) o)
+        desk.old.desk desk.new.desk result answer.new }
+{
+    tell(call(alloc, desk, worker, Call::Next(word)), answer)
+}
+
+/// A `bitfield` message came: its payload.
+#[unsafe(no_mangle)]
+pub extern "C" fn piecepick_bits(
+    alloc: Global,
+    desk: &mut DeskHandle,
+    worker: u32,
+    payload: &[u8],
+    answer: &mut Answer,
+) -> u32
+    ensures { Tells (λ d e o. MakesFlags d e worker payload.now actions.Bits o)
+        desk.old.desk desk.new.desk result answer.new }
+{
+    tell(bits(alloc, desk, worker, payload), answer)
+}
+
+/// From now on just these pieces are to be downloaded, spelled as in a `bitfield` message.
+#[unsafe(no_mangle)]
+pub extern "C" fn piecepick_want(
+    alloc: Global,
+    desk: &mut DeskHandle,
+    worker: u32,
+    flags: &[u8],
+    answer: &mut Answer,
+) -> u32
+    ensures { Tells (λ d e o. MakesFlags d e worker flags.now actions.Want o)
+        desk.old.desk desk.new.desk result answer.new }
+{
+    tell(want(alloc, desk, worker, flags), answer)
+}
+
+/// A `piece` message came: a block, `begin` bytes into the piece. The desk keeps a copy of its bytes.
+#[unsafe(no_mangle)]
+pub extern "C" fn piecepick_arrived(
+    alloc: Global,
+    desk: &mut DeskHandle,
+    worker: u32,
+    piece: u32,
+    begin: u32,
+    bytes: &[u8],
+    answer: &mut Answer,
+) -> u32
+    ensures { Tells (λ d e o. Makes d e worker (actions.Arrived piece begin bytes.now) o)
+        desk.old.desk desk.new.desk result answer.new }
+{
+    tell(arrived(alloc, desk, worker, piece, begin, bytes), answer)
+}
+
+/// Hashes the bytes that are held of the piece, and settles it.
+#[unsafe(no_mangle)]
+pub extern "C" fn piecepick_settle_now(
+    alloc: Global,
+    desk: &mut DeskHandle,
+    worker: u32,
+    piece: u32,
+    answer: &mut Answer,
+) -> u32
+    ensures { Tells (λ d e o. Settles d e worker piece o)
+        desk.old.desk desk.new.desk result answer.new }
+{
+    tell(settle_now(alloc, desk, worker, piece), answer)
+}

@@ -1,0 +1,98 @@
+//! The handle that C holds.
+ghost use Rattle.std.specs.Prelude.{◌≡◌, ℕ, None, Some, Option, MatchOption};
+ghost use Rattle.bt_c.specs.Handles.{handle_owns};
+ghost use Rattle.bt_c.specs.contracts.check.Check as away;
+
+use crate::check::Check;
+use crate::loose::Loose;
+use std::alloc::Global;
+use std::marker::Model;
+use std::ptr::null_mut;
+
+/// A handle: one pointer in C. Null holds no job.
+#[repr(C)]
+pub struct JobHandle {
+    at: *mut u8,
+    alloc: Global,
+    pub ghost check: { Option away.the_row.Denot },
+}
+
+impl Model for JobHandle {
+    ghost also_owns = { λ s. handle_owns away.the_row s.at s.alloc s.check };
+}
+
+impl JobHandle {
+    pub fn shut(alloc: Global) -> JobHandle
+        ensures { result.check ≡ None }
+    {
+        JobHandle {
+            at: null_mut(),
+            alloc,
+        }
+    }
+
+    fn of_loose(check: Loose<Check, Global>) -> JobHandle
+        ensures { result.check ≡ Some check.value }
+    {
+        let Loose { at, alloc } = check;
+        JobHandle {
+            at: at as *mut u8,
+            alloc,
+        }
+    }
+
+    fn into_loose(self) -> Option<Loose<Check, Global>>
+        ensures { MatchOption result (self.check ≡ None) (λ l. self.check ≡ Some l.value) }
+    {
+        let JobHandle { at, alloc } = self;
+        if at.is_null() {
+            None
+        } else {
+            Some(Loose {
+                at: at as *mut Check,
+                alloc,
+            })
+        }
+    }
+}
+
+impl JobHandle {
+    pub fn of(check: Box<Check>) -> JobHandle
+        ensures { result.check ≡ Some check.value }
+    {
+        JobHandle::of_loose(Loose::of(check))
+    }
+
+    pub fn into_box(self) -> Option<Box<Check>>
+        ensures { MatchOption result (self.check ≡ None) (λ b. self.check ≡ Some b.value) }
+    {
+        match self.into_loose() {
+            None => None,
+            Some(loose) => Some(loose.into_box()),
+        }
+    }
+
+    /// Takes the check out of a handle, which is null then.
+    pub fn take(&mut self, alloc: Global) -> Option<Box<Check>>
+        ensures check { MatchOption result (self.old.check ≡ None) (λ b. self.old.check ≡ Some b.value) }
+        ensures shut { self.new.check ≡ None }
+    {
+        std::mem::replace(self, JobHandle::shut(alloc)).into_box()
+    }
+}
+
+impl Drop for JobHandle {
+    fn drop(self) {
+        drop(self.into_box());
+    }
+}
+
+// It may go to another thread, as what it owns may: plain data, counted blocks of bytes, and a handle of the C heap.
+unsafe impl Send for JobHandle {}
+
+fn is_send<T: Send>(_value: &T) {}
+
+/// C may hand a handle to another thread.
+fn a_handle_is_send(handle: &JobHandle) {
+    is_send(handle)
+}
