@@ -20,7 +20,7 @@ use Rattle.bt_history.specs.Next.{Exactly}
 use Rattle.bt_history.specs.Legal.{first_cause, refusal, answer, arrived_answer, Permits, IsAllowed}
 use Rattle.bt_history.specs.Logs.{answers, call_mark}
 use Rattle.bt_history.proofs.Below.{any_fails, any_witness}
-use Rattle.bt_history.proofs.SamePlace.{held_at}
+use Rattle.bt_history.proofs.SameBegin.{held_at}
 use Rattle.bt_history.proofs.Allowed.{allowed_answers, no_cause, answered}
 
 arrived_cases : (a b c d : Bool) → first_cause ((not a, NotJoined) ∷ (b, NoSuchPiece) ∷ (not c, NoSuchBlock) ∷ (not d, WrongLength) ∷ []) ≡ None

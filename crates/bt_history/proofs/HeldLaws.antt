@@ -12,12 +12,12 @@ use Rattle.bt_history.specs.declared.call.Reply.{Reply}
 use Rattle.bt_history.specs.declared.call.Reply.TheVariants.{Had, Failed}
 use Rattle.bt_history.specs.declared.event.Event.{Event}
 use Rattle.bt_history.specs.Setting.{Setting}
-use Rattle.bt_history.specs.History.{History, own_call, same_place, stored, stores, bytes_for, failed, is_failed, is_had, settles, passed, requested}
+use Rattle.bt_history.specs.History.{History, own_call, same_begin, stored, stores, bytes_for, failed, is_failed, is_had, settles, passed, requested}
 use Rattle.bt_history.specs.Peers.{asked, asks, resets, outstanding}
 use Rattle.bt_history.specs.Pieces.{kept, held, content, joined_below, full, had, asked_of_some, endgame, was_endgame}
 use Rattle.bt_history.specs.Legal.{IsLegal, IsAllowed, same_bytes}
 use Rattle.bt_history.proofs.Below.{any_fails, all_at, all_found}
-use Rattle.bt_history.proofs.SamePlace.{held_at}
+use Rattle.bt_history.proofs.SameBegin.{held_at}
 use Rattle.bt_history.proofs.Allowed.{request_facts, check_facts, passed_hash, had_reply, failed_reply, worker_below}
 use Rattle.bt_history.proofs.Arrivals.{stored_unheld}
 use Rattle.bt_history.proofs.Lines.{asked_outstanding}
@@ -58,7 +58,7 @@ held_unasked s (e ∷ h) q b legal is = ⊎_elim
     (λ (some : is_some (stored e b) ≡ true).
     and_right (not (resets (own_call q e))) _ (or_from (is_none (stored e b) && asked h q b) (asks q e b)
     (and_left (is_none (stored e b)) (asked h q b) (opposite (stored e b) some))
-    (ap (list_any (λ a. same_place a b)) (storing_asks_nothing q e b some))))
+    (ap (list_any (λ a. same_begin a b)) (storing_asks_nothing q e b some))))
     (stored_cases e b)
   where
     was_held : (x : Bool) → is_some (if x then None else kept h b) ≡ true → held h b ≡ true
@@ -73,10 +73,10 @@ held_unasked s (e ∷ h) q b legal is = ⊎_elim
     not_asked_now before = ⊎_elim
         (λ (asking : (c : Block) × Asks q e c).
         let facts = request_facts s h e asking.0 legal.1 asking.1.reply in
-        ap (list_any (λ a. same_place a b)) asking.1.only
-        ∙ or_from (same_place asking.0 b) false
-        (false_from_ne_true (same_place asking.0 b) (λ same. true≢false (sym before ∙ (held_at h asking.0 b same ∙ facts.not_held)))) refl)
-        (λ (none : requested q e ≡ []). ap (list_any (λ a. same_place a b)) none)
+        ap (list_any (λ a. same_begin a b)) asking.1.only
+        ∙ or_from (same_begin asking.0 b) false
+        (false_from_ne_true (same_begin asking.0 b) (λ same. true≢false (sym before ∙ (held_at h asking.0 b same ∙ facts.not_held)))) refl)
+        (λ (none : requested q e ≡ []). ap (list_any (λ a. same_begin a b)) none)
         (asks_or_none q e)
 
 -- ---- a piece that is had is full, with the bytes of its hash
@@ -153,21 +153,21 @@ asked_cases h e q b is =
     (or_cases (is_none (stored e b) && asked h q b) (asks q e b) (and_parts (not (resets (own_call q e))) _ is).1)
 
 -- what asked b of q is a request by q of a block at its place
-asking : (q : ℕ) (e : Event) (b : Block) → asks q e b ≡ true → (c : Block) × Asks q e c × (same_place c b ≡ true)
+asking : (q : ℕ) (e : Event) (b : Block) → asks q e b ≡ true → (c : Block) × Asks q e c × (same_begin c b ≡ true)
 asking q e b is = ⊎_elim
     (λ (named : (c : Block) × Asks q e c). (
       named.0,
       named.1,
-      only (same_place named.0 b) (sym (ap (list_any (λ a. same_place a b)) named.1.only) ∙ is),
+      only (same_begin named.0 b) (sym (ap (list_any (λ a. same_begin a b)) named.1.only) ∙ is),
     ))
-    (λ (none : requested q e ≡ []). absurd (false≢true (sym (ap (list_any (λ a. same_place a b)) none) ∙ is)))
+    (λ (none : requested q e ≡ []). absurd (false≢true (sym (ap (list_any (λ a. same_begin a b)) none) ∙ is)))
     (asks_or_none q e)
   where
     only : (x : Bool) → (x || false) ≡ true → x ≡ true
     only true h = refl
     only false h = absurd (cc h)
 
-asked_at : (h : History) (q : ℕ) (a b : Block) → same_place a b ≡ true → asked h q b ≡ asked h q a
+asked_at : (h : History) (q : ℕ) (a b : Block) → same_begin a b ≡ true → asked h q b ≡ asked h q a
 asked_at h q a b same = asked_outstanding h q b ∙ (place_resized (outstanding h q) a b same ∙ sym (asked_outstanding h q a))
 
 -- where the newest entry asked b of one peer while it was asked of another, that was in endgame

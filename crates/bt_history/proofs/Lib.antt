@@ -1,6 +1,6 @@
 pub mod ExampleProofs
 pub mod Below
-pub mod SamePlace
+pub mod SameBegin
 pub mod Lines
 pub mod NextCases
 pub mod Allowed

@@ -15,11 +15,11 @@ use Rattle.bt_history.specs.declared.call.Reply.TheVariants.{Completed, Dropped,
 use Rattle.bt_history.specs.declared.event.Event.{Event}
 use Rattle.bt_history.specs.Counting.{count_below}
 use Rattle.bt_history.specs.Setting.{Setting, some_block, some_block_of, is_block, count_blocks}
-use Rattle.bt_history.specs.History.{History, own_call, same_place, stored, requested, requested_by, cancelled}
+use Rattle.bt_history.specs.History.{History, own_call, same_begin, stored, requested, requested_by, cancelled}
 use Rattle.bt_history.specs.Peers.{asked, asked_count, outstanding, has_place, AreApart, due, due_count, dues, resets}
 use Rattle.bt_history.specs.Legal.{IsLegal}
 use Rattle.bt_history.proofs.Below.{any_found, any_witness, count_at, count_same, count_none, sum_at, sum_same, sum_none, one_if}
-use Rattle.bt_history.proofs.SamePlace.{same_place_self, same_place_sym, same_but_len}
+use Rattle.bt_history.proofs.SameBegin.{same_place_self, same_place_sym, same_but_len}
 use Rattle.bt_history.proofs.Lines.{any_append, asked_outstanding, due_dues}
 use Rattle.bt_history.proofs.Allowed.{request_facts}
 
@@ -83,11 +83,11 @@ blocks_append t (b ∷ bs) cs are too = (are.0, blocks_append t bs cs are.1 too)
 place_filter : (test : Block → Bool) (b : Block) (bs : List Block) → has_place b bs ≡ false → has_place b (filter test bs) ≡ false
 place_filter test b [] none = refl
 place_filter test b (c ∷ bs) none =
-    let parts = or_parts (same_place c b) (has_place b bs) none in
+    let parts = or_parts (same_begin c b) (has_place b bs) none in
     either (test c) parts.0 (place_filter test b bs parts.1) where
-      either : (x : Bool) → same_place c b ≡ false → has_place b (filter test bs) ≡ false →
+      either : (x : Bool) → same_begin c b ≡ false → has_place b (filter test bs) ≡ false →
           has_place b (if x then c ∷ filter test bs else filter test bs) ≡ false
-      either true first rest = or_from (same_place c b) (has_place b (filter test bs)) first rest
+      either true first rest = or_from (same_begin c b) (has_place b (filter test bs)) first rest
       either false first rest = rest
 
 apart_filter : (test : Block → Bool) (bs : List Block) → AreApart bs → AreApart (filter test bs)
@@ -98,18 +98,18 @@ apart_filter test (b ∷ bs) are = either (test b) (apart_filter test bs are.1) 
   either true rest = (place_filter test b bs are.0, rest)
   either false rest = rest
 
-other_place : (a b : Block) → same_place a b ≡ false → same_place b a ≡ false
-other_place a b is = ⊎_elim (λ (same : same_place b a ≡ true). absurd (false≢true (sym is ∙ same_place_sym b a same)))
-    (λ (apart : same_place b a ≡ false). apart) (cases_Bool (same_place b a))
+other_place : (a b : Block) → same_begin a b ≡ false → same_begin b a ≡ false
+other_place a b is = ⊎_elim (λ (same : same_begin b a ≡ true). absurd (false≢true (sym is ∙ same_place_sym b a same)))
+    (λ (apart : same_begin b a ≡ false). apart) (cases_Bool (same_begin b a))
 
 -- one more block at the end, whose place the list lacks
 apart_push : (bs : List Block) (b : Block) → AreApart bs → has_place b bs ≡ false → AreApart (bs ++ b ∷ [])
 unfolding AreApart
 apart_push [] b are none = (refl, tt)
 apart_push (c ∷ bs) b are none =
-    let parts = or_parts (same_place c b) (has_place b bs) none in (
-      any_append (λ (a : Block). same_place a c) bs (b ∷ [])
-          ∙ or_from (has_place c bs) (same_place b c || false) are.0 (or_from (same_place b c) false (other_place c b parts.0) refl),
+    let parts = or_parts (same_begin c b) (has_place b bs) none in (
+      any_append (λ (a : Block). same_begin a c) bs (b ∷ [])
+          ∙ or_from (has_place c bs) (same_begin b c || false) are.0 (or_from (same_begin b c) false (other_place c b parts.0) refl),
       apart_push bs b are.1 parts.1,
     )
 
@@ -208,7 +208,7 @@ outstanding_apart s (e ∷ h) q legal =
 
 -- the test passes at one block of the torrent more
 pub count_blocks_more : (t : Layout) (f g : Block → Bool) (x : Block) → is_block t x ≡ true → f x ≡ true → g x ≡ false
-    → ((b : Block) → same_place x b ≡ false → f b ≡ g b) → count_blocks t f ≡ count_blocks t g + 1
+    → ((b : Block) → same_begin x b ≡ false → f b ≡ g b) → count_blocks t f ≡ count_blocks t g + 1
 count_blocks_more t f g x is now before others =
     let at = block_index t x is in
     let blocks : (Block → Bool) → ℕ → ℕ = λ test p. count_below (block_count t p) (λ k. test (block t p k)) in
@@ -231,7 +231,7 @@ unfolding AreBlocks AreApart
 count_listed t [] are apart = sum_none (piece_count t) _ (λ p lp. count_none (block_count t p) (λ k. false) (λ k lk. refl))
 count_listed t (x ∷ bs) are apart =
     count_blocks_more t (λ b. has_place b (x ∷ bs)) (λ b. has_place b bs) x are.0
-    (or_left (same_place x x) (has_place x bs) (same_place_self x)) apart.0
+    (or_left (same_begin x x) (has_place x bs) (same_place_self x)) apart.0
     (λ b other. ap (λ (y : Bool). y || has_place b bs) other)
     ∙ (ap (λ (n : ℕ). n + 1) (count_listed t bs are.1 apart.1) ∙ suc_is (length bs))
   where
@@ -268,7 +268,7 @@ dues_empty s h q legal none = by_line (dues h q) refl where
   by_line [] is = refl
   by_line (b ∷ bs) is =
       let block : is_block s.torrent b ≡ true = first_is_block (subst (AreBlocks s.torrent) is (dues_blocks s h q legal)) in
-      let is_due : due h q b ≡ true = due_dues h q b ∙ ap (has_place b) is ∙ or_left (same_place b b) (has_place b bs) (same_place_self b) in
+      let is_due : due h q b ≡ true = due_dues h q b ∙ ap (has_place b) is ∙ or_left (same_begin b b) (has_place b bs) (same_place_self b) in
       absurd (false≢true (sym none ∙ some_found s.torrent (due h q) b block is_due)) where
         first_is_block : AreBlocks s.torrent (b ∷ bs) → is_block s.torrent b ≡ true
         first_is_block are = are.0
@@ -323,11 +323,11 @@ lines_room s (e ∷ h) q legal = by_reset (resets (own_call q e)) (asks_or_none 
       omega (arith, length-append old (requested q e), length-append still (if e.worker == q then [] else new), zero, split, others, short, room))
       asking
 
-pub place_resized : (bs : List Block) (a b : Block) → same_place a b ≡ true → has_place b bs ≡ has_place a bs
+pub place_resized : (bs : List Block) (a b : Block) → same_begin a b ≡ true → has_place b bs ≡ has_place a bs
 place_resized [] a b same = refl
 place_resized (c ∷ bs) a b same =
-    ap (λ (x : Block). same_place c x || has_place b bs) (same_but_len a b same)
-    ∙ ap (λ (y : Bool). same_place c a || y) (place_resized bs a b same)
+    ap (λ (x : Block). same_begin c x || has_place b bs) (same_but_len a b same)
+    ∙ ap (λ (y : Bool). same_begin c a || y) (place_resized bs a b same)
 
 -- a list of blocks of the torrent has at least as many blocks as have their place in it
 count_listed_most : (t : Layout) (bs : List Block) → AreBlocks t bs → count_blocks t (λ b. has_place b bs) ≤ length bs
@@ -336,17 +336,17 @@ count_listed_most t [] are = let none : count_blocks t (λ b. false) ≡ 0 =
     sum_none (piece_count t) _ (λ p lp. count_none (block_count t p) (λ k. false) (λ k lk. refl)) in omega arith
 count_listed_most t (x ∷ bs) are = ⊎_elim
     (λ (again : has_place x bs ≡ true).
-    let same = count_blocks_same t (λ b. has_place b (x ∷ bs)) (λ b. has_place b bs) (λ b. one_of b (same_place x b) refl again) in
+    let same = count_blocks_same t (λ b. has_place b (x ∷ bs)) (λ b. has_place b bs) (λ b. one_of b (same_begin x b) refl again) in
     let rest = count_listed_most t bs are.1 in
     omega (arith, same, rest))
     (λ (fresh : has_place x bs ≡ false).
     let more = count_blocks_more t (λ b. has_place b (x ∷ bs)) (λ b. has_place b bs) x are.0
-    (or_left (same_place x x) (has_place x bs) (same_place_self x)) fresh (λ b other. ap (λ (y : Bool). y || has_place b bs) other) in
+    (or_left (same_begin x x) (has_place x bs) (same_place_self x)) fresh (λ b other. ap (λ (y : Bool). y || has_place b bs) other) in
     let rest = count_listed_most t bs are.1 in
     omega (arith, more, rest))
     (cases_Bool (has_place x bs))
   where
-    one_of : (b : Block) (y : Bool) → same_place x b ≡ y → has_place x bs ≡ true → (y || has_place b bs) ≡ has_place b bs
+    one_of : (b : Block) (y : Bool) → same_begin x b ≡ y → has_place x bs ≡ true → (y || has_place b bs) ≡ has_place b bs
     one_of b true same again = sym (place_resized bs x b same ∙ again)
     one_of b false apart again = refl
 

@@ -10,9 +10,9 @@ use Rattle.bt_history.specs.declared.call.Reply.{Reply}
 use Rattle.bt_history.specs.declared.call.Reply.TheVariants.{Joined, Noted, Quiet, Cancel, Request, Choked, PipeFull, Idle, NothingLeft, Stored}
 use Rattle.bt_history.specs.declared.call.Reply.TheVariants.{Completed, Dropped, Had, Failed, Refused}
 use Rattle.bt_history.specs.declared.event.Event.{Event}
-use Rattle.bt_history.specs.History.{History, own_call, same_place, stored, stores, requested, cancelled, cancelled_by, bytes_for}
+use Rattle.bt_history.specs.History.{History, own_call, same_begin, stored, stores, requested, cancelled, cancelled_by, bytes_for}
 use Rattle.bt_history.specs.Peers.{asked, asks, outstanding, has_place, due, dues, resets}
-use Rattle.bt_history.proofs.SamePlace.{stored_at, same_but_len}
+use Rattle.bt_history.proofs.SameBegin.{stored_at, same_but_len}
 
 pub any_append : {A : Type 0} (test : A → Bool) (xs ys : List A) → list_any test (xs ++ ys) ≡ (list_any test xs || list_any test ys)
 any_append test [] ys = refl
@@ -31,11 +31,11 @@ asked_outstanding (e ∷ h) q b =
     let lasting : Block → Bool = λ a. is_none (stored e a) in
     let older : (is_none (stored e b) && asked h q b) ≡ has_place b (filter lasting (outstanding h q)) =
     ap (λ (x : Bool). is_none (stored e b) && x) (asked_outstanding h q b)
-    ∙ sym (any-filter_same (λ (a : Block). same_place a b) lasting (is_none (stored e b)) (λ a same. ap is_none (sym (stored_at e a b same)))
+    ∙ sym (any-filter_same (λ (a : Block). same_begin a b) lasting (is_none (stored e b)) (λ a same. ap is_none (sym (stored_at e a b same)))
     (outstanding h q)) in
-    sym (any_either (resets (own_call q e)) (λ (a : Block). same_place a b) (filter lasting (outstanding h q) ++ requested q e)
+    sym (any_either (resets (own_call q e)) (λ (a : Block). same_begin a b) (filter lasting (outstanding h q) ++ requested q e)
     ∙ ap (λ (x : Bool). not (resets (own_call q e)) && x)
-    (any_append (λ (a : Block). same_place a b) (filter lasting (outstanding h q)) (requested q e) ∙ ap (λ (x : Bool). x || asks q e b) (sym older)))
+    (any_append (λ (a : Block). same_begin a b) (filter lasting (outstanding h q)) (requested q e) ∙ ap (λ (x : Bool). x || asks q e b) (sym older)))
 
 -- an entry that cancels stores nothing
 cancel_stores_nothing : (reply : Reply) (b : Block) → cancelled_by reply b ≡ true → stores reply ≡ false
@@ -55,7 +55,7 @@ cancel_stores_nothing Had b is = refl
 cancel_stores_nothing Failed b is = refl
 cancel_stores_nothing (Refused reason) b is = refl
 
-cancelled_at : (q : ℕ) (e : Event) (a b : Block) → same_place a b ≡ true → cancelled q e a ≡ cancelled q e b
+cancelled_at : (q : ℕ) (e : Event) (a b : Block) → same_begin a b ≡ true → cancelled q e a ≡ cancelled q e b
 cancelled_at q e a b same = ap (λ (x : Bool). (e.worker == q) && x)
     (sym (ap (cancelled_by e.reply) (same_but_len a b same) ∙ resized_reply e.reply a b.len)) where
       resized_reply : (reply : Reply) (c : Block) (n : ℕ) → cancelled_by reply (record { piece = c.piece; begin = c.begin; len = n }) ≡ cancelled_by reply
@@ -83,7 +83,7 @@ due_dues [] q b = refl
 due_dues (e ∷ h) q b =
     let keeps : Block → Bool = λ a. not (cancelled q e a) in
     let arrived : Block → Bool = λ a. is_some (stored e a) in
-    let here : Block → Bool = λ a. same_place a b in
+    let here : Block → Bool = λ a. same_begin a b in
     let older : (not (cancelled q e b) && due h q b) ≡ has_place b (filter keeps (dues h q)) =
     ap (λ (x : Bool). not (cancelled q e b) && x) (due_dues h q b)
     ∙ sym (any-filter_same here keeps (not (cancelled q e b)) (λ a same. ap not (cancelled_at q e a b same)) (dues h q)) in

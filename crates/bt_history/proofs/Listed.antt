@@ -6,10 +6,10 @@ use Rattle.std.proofs.lemmas.List.Elements.{All-from_recursion}
 use Rattle.bt_meta.specs.declared.block.Block.{Block}
 use Rattle.bt_meta.specs.Layout.{Layout}
 use Rattle.bt_history.specs.Setting.{Setting, is_block}
-use Rattle.bt_history.specs.History.{History, same_place}
+use Rattle.bt_history.specs.History.{History, same_begin}
 use Rattle.bt_history.specs.Peers.{asked, outstanding, has_place, ListsAsked}
 use Rattle.bt_history.specs.Legal.{IsLegal}
-use Rattle.bt_history.proofs.SamePlace.{same_place_self}
+use Rattle.bt_history.proofs.SameBegin.{same_place_self}
 use Rattle.bt_history.proofs.Lines.{asked_outstanding}
 use Rattle.bt_history.proofs.LineLaws.{AreBlocks, outstanding_blocks, outstanding_apart, asked_count_is}
 
@@ -19,8 +19,8 @@ each_passes : (t : Layout) (test : Block → Bool) (bs : List Block) → AreBloc
 unfolding AreBlocks
 each_passes t test [] are passes = tt
 each_passes t test (b ∷ bs) are passes = (
-  (are.0, passes b (or_left (same_place b b) (has_place b bs) (same_place_self b))),
-  each_passes t test bs are.1 (λ c listed. passes c (or_right (same_place b c) (has_place c bs) listed)),
+  (are.0, passes b (or_left (same_begin b b) (has_place b bs) (same_place_self b))),
+  each_passes t test bs are.1 (λ c listed. passes c (or_right (same_begin b c) (has_place c bs) listed)),
 )
 
 pub lists_asked : (s : Setting) (h : History) (q : ℕ) → IsLegal s h → ListsAsked s h q

@@ -24,9 +24,9 @@ counted_call e = if counts e.reply then Some e.action else None
 abbrev pub own_call : ℕ → Event → Option Action
 own_call q e = if counts e.reply && (e.worker == q) then Some e.action else None
 
--- both begin at the same place of the content
-abbrev pub same_place : Block → Block → Bool
-same_place a b = (a.piece == b.piece) && (a.begin == b.begin)
+-- both begin at the same byte of one piece
+abbrev pub same_begin : Block → Block → Bool
+same_begin a b = (a.piece == b.piece) && (a.begin == b.begin)
 
 -- the arrival was stored
 abbrev pub stores : Reply → Bool
@@ -52,7 +52,7 @@ abbrev pub requested : ℕ → Event → List Block
 requested q e = if e.worker == q then requested_by e.reply else []
 
 abbrev pub cancelled_by : Reply → Block → Bool
-cancelled_by (Cancel a) b = same_place a b
+cancelled_by (Cancel a) b = same_begin a b
 cancelled_by reply b = false
 
 -- the entry cancelled block b at q

@@ -6,7 +6,7 @@ use Rattle.bt_meta.specs.declared.block.Block.{Block}
 use Rattle.bt_history.specs.declared.event.Action.{Action}
 use Rattle.bt_history.specs.declared.event.Action.TheVariants.{Join, Bits, Have, Choke, Unchoke, Arrived, Leave}
 use Rattle.bt_history.specs.declared.event.Event.{Event}
-use Rattle.bt_history.specs.History.{History, own_call, same_place, stored, requested, cancelled}
+use Rattle.bt_history.specs.History.{History, own_call, same_begin, stored, requested, cancelled}
 use Rattle.bt_history.specs.Setting.{Setting, count_blocks, is_block}
 
 abbrev pub joined_after : Option Action → Bool → Bool
@@ -70,7 +70,7 @@ resets call = false
 
 -- the entry asked block b of q
 abbrev pub asks : ℕ → Event → Block → Bool
-asks q e b = list_any (λ a. same_place a b) (requested q e)
+asks q e b = list_any (λ a. same_begin a b) (requested q e)
 
 -- block b is asked of q: requested, and since then neither stored from anybody nor freed
 unfoldable pub asked : History → ℕ → Block → Bool
@@ -91,7 +91,7 @@ outstanding (e ∷ h) q =
 
 -- a block of the list begins where b does
 abbrev pub has_place : Block → List Block → Bool
-has_place b = list_any (λ a. same_place a b)
+has_place b = list_any (λ a. same_begin a b)
 
 -- no two blocks of the list begin at one place
 unfoldable pub AreApart : List Block → Type 0

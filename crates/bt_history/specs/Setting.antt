@@ -3,6 +3,7 @@ use Rattle.std.specs.Prelude.{ℕ, ◌≤◌, Bool, ◌&&◌, ◌==◌, nat_lt}
 use Rattle.bt_meta.specs.declared.block.Block.{Block}
 use Rattle.bt_meta.specs.Layout.{Layout, piece_count, block_count, block}
 use Rattle.bt_history.specs.declared.rules.Rules.{Rules}
+use Rattle.bt_history.specs.declared.rules.TheConstants.{MOST_DEPTH}
 use Rattle.bt_history.specs.Counting.{any_below, all_below, count_below, sum_below}
 
 -- the torrent, how many workers there are, how many blocks may be asked of one peer,
@@ -25,8 +26,8 @@ usual_rules = record { depth = 5; random = 1 }
 pub record AreRules (t : Layout) (rules : Rules) : Type 0 where
   -- one block or more may be asked of a peer
   pub shallow : 1 ≤ rules.depth
-  -- and no more than 64
-  pub deep : rules.depth ≤ 64
+  -- and no more than a picker takes
+  pub deep : rules.depth ≤ MOST_DEPTH
   -- there are as many pieces as are picked at random
   pub random : rules.random ≤ piece_count t
 

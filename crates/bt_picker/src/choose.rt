@@ -110,8 +110,7 @@ impl<'a> Position<'a> {
             (rank_of self.now.setting self.now.history true) 0 (piece_count self.now.setting.torrent) result }
         ensures within { IfSome result (λ p. p < piece_count self.now.setting.torrent) }
     {
-        // Read so that the proof has what holds of every position: its torrent has no empty piece.
-        let _layout = &self.tables;
+        self.attest();
         let most = self.workers().min(CROWD - 1);
         for shown_by in self.floor(worker)..most + 1 {
             let pieces = self.group(UNBEGUN + shown_by);
@@ -262,8 +261,7 @@ impl<'a> Position<'a> {
             × IsTrue (starts self.now.setting self.now.history worker b)) }
         ensures none { IfNone result (some_block self.now.setting.torrent (usable self.now.setting self.now.history worker) ≡ false) }
     {
-        // Read so that the proof has what holds of every position: its history is legal.
-        let _legal = &self.tables;
+        self.attest();
         let rare = !self.is_random();
         match self.candidate(worker, rare, word) {
             Some(piece) => Some(self.block(piece, 0)),
@@ -337,8 +335,7 @@ impl<'a> Position<'a> {
         requires endgame { IsTrue (endgame self.now.setting self.now.history) }
         ensures { Finds self.now.setting.torrent (doubles self.now.setting self.now.history worker) result }
     {
-        // Read so that the proof has what holds of every position: its history is legal.
-        let _legal = &self.tables;
+        self.attest();
         self.least_doubling(worker, self.group(ASKED_OUT))
     }
 
@@ -436,8 +433,7 @@ impl<'a> Position<'a> {
         requires { worker < self.now.setting.workers }
         ensures { Finds self.now.setting.torrent (due self.now.history worker) result }
     {
-        // Read so that the proof has what holds of every position: its history is legal.
-        let _legal = &self.tables;
+        self.attest();
         self.dues(worker).first().copied()
     }
 
@@ -446,8 +442,7 @@ impl<'a> Position<'a> {
         requires { worker < self.now.setting.workers }
         ensures { result ≡ nat_le self.now.setting.depth (asked_count self.now.setting self.now.history worker) }
     {
-        // Read so that the proof has what holds of every position: its history is legal.
-        let _legal = &self.tables;
+        self.attest();
         self.depth() as usize <= self.outstanding(worker).len()
     }
 

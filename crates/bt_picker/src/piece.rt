@@ -4,6 +4,7 @@ ghost use Rattle.bt_picker.specs.Floors.{is_fresh};
 ghost use Rattle.bt_picker.specs.Standings.{AreTouched, cell_kept, is_held, is_touched, held_count, touched_count, group_of_row, shown_row, standing_of};
 
 use crate::cell::Cell;
+use bt_history::MOST_WORKERS;
 use std::alloc::{AllocError, Global};
 use std::marker::Model;
 
@@ -53,7 +54,7 @@ pub const OPEN: u32 = 2;
 /// The group of the unbegun pieces that nobody shows; those that n peers show are n groups behind it.
 pub const UNBEGUN: u32 = 3;
 /// Unbegun pieces that so many peers show, or more, are one group: a desk has fewer workers, but a journal of more can be audited.
-pub const CROWD: u32 = 1025;
+pub const CROWD: u32 = MOST_WORKERS + 1;
 /// So many groups there are.
 pub const GROUPS: u32 = UNBEGUN + CROWD + 1;
 
@@ -101,7 +102,7 @@ impl Piece {
     /// What the row amounts to, of a piece that so many peers show.
     pub fn standing(&self, shown_by: u32) -> Standing
         ensures is { result ≡ standing_of (shown_row shown_by self.now) }
-        ensures few { result.group < 1029 }
+        ensures few { result.group < GROUPS }
     {
         let blocks = if self.wanted {
             self.blocks.len() as u32
@@ -118,7 +119,7 @@ impl Piece {
 
     fn group(&self, shown_by: u32) -> u32
         ensures is { result ≡ group_of_row (shown_row shown_by self.now) }
-        ensures few { result < 1029 }
+        ensures few { result < GROUPS }
     {
         if self.had || !self.wanted {
             RESTING

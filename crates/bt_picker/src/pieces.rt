@@ -7,7 +7,7 @@ ghost use Rattle.bt_picker.specs.Standings.{apart, group_of_row, standing_of};
 ghost use Rattle.bt_history.specs.Counting.{table};
 ghost use Rattle.bt_picker.specs.Tables.{HasRoomOf, changed_row, edit, fresh_piece, less_available, more_available, piece_row};
 
-use crate::piece::{Change, Piece, Standing};
+use crate::piece::{Change, GROUPS, Piece, Standing};
 use crate::shelf::Shelf;
 use bt_meta::Torrent;
 use std::alloc::{AllocError, Global};
@@ -81,7 +81,7 @@ impl Pieces {
 
     /// The pieces of the group.
     pub fn group(&self, group: u32) -> &[u32]
-        requires { group < 1029 }
+        requires { group < GROUPS }
         ensures { ListsGroup (map group_of_row self.now) group result.now }
     {
         self.shelf.group(group)

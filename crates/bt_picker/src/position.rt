@@ -1,10 +1,11 @@
 //! A journal with its tables: each question that the rules ask, answered by its definition.
 ghost use Rattle.std.specs.Prelude.{◌≡◌, ◌<◌, ◌≤◌, ◌∷◌, [], ℕ, Bool, false, true, length, slice_index_or, IfSome, IfNone, Some, None, IsTrue, is_some, option_and_then};
 ghost use Rattle.bt_meta.specs.declared.block.Block.{Block};
-ghost use Rattle.bt_meta.specs.Layout.{piece_count, block_count, block};
+ghost use Rattle.bt_meta.specs.Layout.{IsLayout, piece_count, block_count, block};
 ghost use Rattle.std.specs.List.{list_any};
 ghost use Rattle.bt_history.specs.Setting.{is_block, some_block_of};
-ghost use Rattle.bt_history.specs.History.{same_place};
+ghost use Rattle.bt_history.specs.History.{same_begin};
+ghost use Rattle.bt_history.specs.Legal.{IsLegal};
 ghost use Rattle.bt_history.specs.Peers.{joined, late, shows, is_open, outstanding, asked, due, dues, flag};
 ghost use Rattle.bt_history.specs.Pieces.{availability, asked_of_some, begun, full, had, held, held_or_asked, interesting, kept, lacks, unbegun, wanted};
 ghost use Rattle.bt_order.specs.Orders.{at, ListsGroup};
@@ -15,7 +16,7 @@ ghost use Rattle.bt_picker.specs.Tables.{AreTables, cell_of, peer_of, piece_of, 
 
 use crate::cell::Cell;
 use crate::peer::Peer;
-use crate::piece::Piece;
+use crate::piece::{GROUPS, Piece};
 use crate::tables::Tables;
 use bt_history::{Call, Entry};
 use bt_meta::{Bitfield, Block, Torrent};
@@ -49,6 +50,15 @@ impl<'a> Position<'a> {
         ensures history { result.history ≡ history_of journal.now }
     {
         Position { tables, journal }
+    }
+
+    /// Tells a proof what holds of each position: its history is legal, and its torrent has no empty piece. Nothing is done: that the
+    /// tables are read is what opens the invariant.
+    pub(crate) fn attest(&self)
+        ensures legal { IsLegal self.now.setting self.now.history }
+        ensures layout { IsLayout self.now.setting.torrent }
+    {
+        let _tables = self.tables;
     }
 
     pub fn torrent(&self) -> &Torrent
@@ -114,7 +124,7 @@ impl<'a> Position<'a> {
 
     /// The pieces of the group.
     pub(crate) fn group(&self, group: u32) -> &[u32]
-        requires { group < 1029 }
+        requires { group < GROUPS }
         ensures { ListsGroup (groups_of self.now.setting self.now.history) group result.now }
     {
         self.tables.group(group)
@@ -299,7 +309,7 @@ impl<'a> Position<'a> {
 
 /// Whether a block of the line begins where this one does.
 fn contains_place(line: &[Block], block: &Block) -> bool
-    ensures { result ≡ list_any (λ a. same_place a block.now) line.now }
+    ensures { result ≡ list_any (λ a. same_begin a block.now) line.now }
 {
     for other in line {
         if other.piece == block.piece && other.begin == block.begin {

@@ -23,12 +23,13 @@ pub struct Shelf {
 impl Model for Shelf {
     ghost use Rattle.std.specs.Prelude.{◌≡◌};
     ghost use Rattle.bt_picker.specs.Standings.{AreOpen, ShelfState};
+    ghost use Rattle.bt_picker.specs.declared.piece.TheConstants.{GROUPS};
 
     ghost Value = { ShelfState };
 
     ghost view = { λ s. record { groups = s.order.group_of; unasked = s.unasked; unheld = s.unheld; had = s.had } };
 
-    ghost invariant = { λ s. (s.order.count ≡ 1029) × AreOpen s.order.group_of s.open_pieces.bound s.open_pieces.numbers };
+    ghost invariant = { λ s. (s.order.count ≡ GROUPS) × AreOpen s.order.group_of s.open_pieces.bound s.open_pieces.numbers };
 }
 
 impl Shelf {
@@ -47,7 +48,7 @@ impl Shelf {
 
     /// The pieces of the group.
     pub fn group(&self, group: u32) -> &[u32]
-        requires { group < 1029 }
+        requires { group < GROUPS }
         ensures { ListsGroup self.now.groups group result.now }
     {
         self.order.group(group)
@@ -94,7 +95,7 @@ impl Shelf {
     #[inline(always)]
     pub fn raise(&mut self, piece: u32, shown_by: u32)
         requires piece { piece < length self.old.groups }
-        requires next { shown_by ≤ 1025 → at self.old.groups piece + 1 < 1029 }
+        requires next { shown_by ≤ CROWD → at self.old.groups piece + 1 < GROUPS }
         ensures { self.new ≡ record self.old {
           groups = slice_set self.old.groups piece (raised_group shown_by (at self.old.groups piece));
         } }
@@ -127,7 +128,7 @@ impl Shelf {
     pub fn put(&mut self, piece: u32, before: Standing, after: Standing)
         requires piece { piece < length self.old.groups }
         requires before { before.group ≡ at self.old.groups piece }
-        requires group { after.group < 1029 }
+        requires group { after.group < GROUPS }
         requires fits { IsFiled self.old before after }
         ensures { self.new ≡ record {
           groups = slice_set self.old.groups piece after.group;
@@ -147,7 +148,7 @@ impl Shelf {
     fn put_in(&mut self, piece: u32, before: u32, after: u32)
         requires piece { piece < length self.old.groups }
         requires before { before ≡ at self.old.groups piece }
-        requires after { after < 1029 }
+        requires after { after < GROUPS }
         ensures { self.new ≡ record self.old { groups = slice_set self.old.groups piece after } }
     {
         if before == after {

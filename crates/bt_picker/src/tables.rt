@@ -15,10 +15,10 @@ ghost use Rattle.bt_picker.specs.Floors.{IsFloor, IsRarestStart, TellsFloor, is_
 ghost use Rattle.bt_picker.specs.Tables.{AreAskers, AreCounted, AreTables, asks_at, HasBlock, HasRoomFor, bits_row, leave_row, PeerState, PieceState, TablesState, after_arrival, after_check, after_next, announced, cancel_row, late_row, edit, empty_cell, failed_row, entered_call, fresh_peer, fresh_piece, have_row, join_row, choke_row, unchoke_row, less_available, lowered, lowered_by, more_available, peer_row, piece_row, recounted, released, reshown, rewanted, wanted_by, with_block, with_peer, without_block};
 
 use crate::peer::Peer;
-use crate::piece::{Change, Piece, UNBEGUN};
+use crate::piece::{Change, GROUPS, Piece, UNBEGUN};
 use crate::pieces::Pieces;
 use crate::sweep::{lower_all, recount, rewant};
-use bt_history::{Call, Entry, Reply, Rules};
+use bt_history::{Call, Entry, MOST_DEPTH, Reply, Rules};
 use bt_meta::{BLOCK_SIZE, Bitfield, Block, Torrent};
 use std::alloc::{AllocError, Global};
 use std::marker::Model;
@@ -62,7 +62,7 @@ impl Tables {
         workers: u32,
         rules: Rules,
     ) -> Result<Tables, AllocError>
-        requires { rules.depth ≤ 64 }
+        requires { rules.depth ≤ MOST_DEPTH }
         ensures setting { IfOk result (λ t. t.setting ≡ setting_of torrent.value.layout workers rules) }
         ensures are { IfOk result (λ t. AreTables t []) }
     {
@@ -121,7 +121,7 @@ impl Tables {
 
     /// The pieces of the group.
     pub fn group(&self, group: u32) -> &[u32]
-        requires { group < 1029 }
+        requires { group < GROUPS }
         ensures { ListsGroup (map group_of_row self.now.pieces) group result.now }
     {
         self.pieces.group(group)
@@ -364,7 +364,7 @@ impl Tables {
         requires begin { block_size * index < 2 ^ 32 }
         requires askers { AreAskers self.old piece index }
         requires room { EachIndex self.old.peers
-            (λ q. length (peer_row self.old.peers q).asked + length (peer_row self.old.peers q).due ≤ 64) }
+            (λ q. length (peer_row self.old.peers q).asked + length (peer_row self.old.peers q).due ≤ MOST_DEPTH) }
         ensures { self.new ≡ with_block self.old worker piece index older }
     {
         let askers = self.pieces.row(piece).cell(index).askers();
@@ -378,7 +378,7 @@ impl Tables {
         requires stored { IsTrue (stores reply) → HasBlock self.old piece (begin / block_size) }
         requires askers { IsTrue (stores reply) → AreAskers self.old piece (begin / block_size) }
         requires room { EachIndex self.old.peers
-            (λ q. length (peer_row self.old.peers q).asked + length (peer_row self.old.peers q).due ≤ 64) }
+            (λ q. length (peer_row self.old.peers q).asked + length (peer_row self.old.peers q).due ≤ MOST_DEPTH) }
         ensures { self.new ≡ after_arrival self.old worker piece begin older reply }
     {
         if reply.is_stored() {
@@ -433,12 +433,12 @@ fn floor_with(floor: u32, row: &Piece, shown_by: u32) -> u32
     }
 }
 
-/// Tells the rows that the block at this place was stored, brought by the worker's own peer, where so many peers are asked for it:
+/// Tells the rows that the block that begins there was stored, brought by the worker's own peer, where so many peers are asked for it:
 /// the own row alone, where no other peer is.
 fn forget(peers: &mut [Peer], worker: u32, piece: u32, begin: u32, askers: u32)
     requires worker { worker < length peers.old }
     requires askers { askers ≡ count_below (length peers.old) (λ q. asks_at piece begin (peer_row peers.old q)) }
-    requires room { EachIndex peers.old (λ q. length (peer_row peers.old q).asked + length (peer_row peers.old q).due ≤ 64) }
+    requires room { EachIndex peers.old (λ q. length (peer_row peers.old q).asked + length (peer_row peers.old q).due ≤ MOST_DEPTH) }
     ensures { peers.new ≡ table (length peers.old) (λ q. without_block piece begin (worker == q) (peer_row peers.old q)) }
 {
     if askers > u32::from(peers[worker as usize].asks(piece, begin)) {
@@ -448,9 +448,9 @@ fn forget(peers: &mut [Peer], worker: u32, piece: u32, begin: u32, askers: u32)
     }
 }
 
-/// Tells each peer's row that the block at this place was stored, brought by the worker's own peer.
+/// Tells each peer's row that the block that begins there was stored, brought by the worker's own peer.
 fn forget_all(peers: &mut [Peer], worker: u32, piece: u32, begin: u32)
-    requires { EachIndex peers.old (λ q. length (peer_row peers.old q).asked + length (peer_row peers.old q).due ≤ 64) }
+    requires { EachIndex peers.old (λ q. length (peer_row peers.old q).asked + length (peer_row peers.old q).due ≤ MOST_DEPTH) }
     ensures { peers.new ≡ table (length peers.old) (λ q. without_block piece begin (worker == q) (peer_row peers.old q)) }
 {
     for index in 0..peers.len() {

@@ -13,6 +13,13 @@ use bt_check::Job;
 use bt_picker::{Call, CallMark, Desk, Mark, Reply};
 use std::alloc::{AllocError, Global};
 
+/// Tells a proof that the desk's history is legal. Nothing is done: that the journal is read is what opens the desk's invariant.
+pub(crate) fn attest(desk: &Desk)
+    ensures { IsLegal desk.now.setting desk.now.history }
+{
+    let _journal = desk.journal();
+}
+
 /// How many entries the desk's journal has, which is legal.
 #[tactic(auto, using(bt_history::proofs::Journals::history_length))]
 pub(crate) fn entries_of(desk: &Desk) -> usize
@@ -42,7 +49,7 @@ pub(crate) fn enter(
     log.reserve(1)?;
     let mark = call.mark();
     let made = desk.call(worker, call);
-    let _journal = desk.journal();
+    attest(desk);
     let reply = made?;
     log.push_reserved(Mark {
         place,
@@ -74,12 +81,12 @@ pub(crate) fn enter_check(
     let place = entries_of(desk);
     if !desk.is_waiting(piece) {
         let made = desk.settle_now(alloc, worker, piece);
-        let _journal = desk.journal();
+        attest(desk);
         return made;
     }
     log.reserve(1)?;
     let made = desk.settle_now(alloc, worker, piece);
-    let _journal = desk.journal();
+    attest(desk);
     let reply = made?;
     log.push_reserved(Mark {
         place,
@@ -96,6 +103,6 @@ pub(crate) fn job_of(desk: &Desk, alloc: Global, piece: u32) -> Result<Option<Jo
         (job.piece ≡ piece) × HasLengths desk.now.setting.torrent piece job.blocks.items)) }
     ensures unasked { waits desk.now.setting desk.now.history piece ≡ false → IsOk result }
 {
-    let _journal = desk.journal();
+    attest(desk);
     desk.job(alloc, piece)
 }

@@ -12,8 +12,8 @@ ghost use Rattle.bt_shared.specs.Seen.{Each};
 ghost use Rattle.bt_shared.specs.declared.gather.GatherFault.TheVariants.{NoMemory};
 
 use crate::compare::{first_differing, first_other};
-use crate::entering::entries_of;
-use crate::lock::{FREE, Guard, Meet, Place, Words};
+use crate::entering::{attest, entries_of};
+use crate::lock::{DeskSeat, FREE, Guard, Meet, Words};
 use crate::pass::Pass;
 use crate::view::{Terms, View};
 use atomic_table::{Closed, Table};
@@ -68,7 +68,7 @@ fn empty_logs(alloc: Global, count: u32) -> Result<Vec<Vec<Mark>>, AllocError>
 }
 
 /// The seat, into which the others were joined.
-fn joined(words: &Words, mut seat: Place, others: Option<Place>) -> Place
+fn joined(words: &Words, mut seat: DeskSeat, others: Option<DeskSeat>) -> DeskSeat
     requires desk { IsDesk words.now.table_id.words words.now.table_id.slots }
     requires seat { (seat.table_id ≡ words.now.table_id) × IsIdle seat.me }
     requires others { IfSome others (λ others. (others.table_id ≡ words.now.table_id) × IsIdle others.me) }
@@ -84,7 +84,11 @@ fn joined(words: &Words, mut seat: Place, others: Option<Place>) -> Place
 }
 
 /// Joins the passes' seats into one, puts each log at its worker's place, and counts the marks.
-fn spread(words: &Words, mut passes: Vec<Pass>, logs: &mut Vec<Vec<Mark>>) -> (usize, Option<Place>)
+fn spread(
+    words: &Words,
+    mut passes: Vec<Pass>,
+    logs: &mut Vec<Vec<Mark>>,
+) -> (usize, Option<DeskSeat>)
     requires desk { IsDesk words.now.table_id.words words.now.table_id.slots }
     requires passes { AreOf (record { table = words.now.table_id; setting = words.now.key }) passes.items }
     requires room { vec_len logs.old ≡ words.now.key.workers }
@@ -122,13 +126,16 @@ fn desk_in(mut closed: Closed<Option<Desk>, Global>) -> Option<Desk>
         return None;
     }
     if let Some(desk) = &slot {
-        let _journal = desk.journal();
+        attest(desk);
     }
     slot
 }
 
 /// The desk, if the word is free, out of a table that this seat closes. It is free where the seat speaks for all workers.
-fn close_with(table: Table<Option<Desk>, View, Terms, Guard, Global>, seat: Place) -> Option<Desk>
+fn close_with(
+    table: Table<Option<Desk>, View, Terms, Guard, Global>,
+    seat: DeskSeat,
+) -> Option<Desk>
     requires desk { IsDesk table.shared.table_id.words table.shared.table_id.slots }
     requires seat { (seat.table_id ≡ table.shared.table_id) × IsIdle seat.me }
     ensures setting { IfSome result (λ desk. desk.setting ≡ table.shared.key) }
@@ -141,7 +148,10 @@ fn close_with(table: Table<Option<Desk>, View, Terms, Guard, Global>, seat: Plac
 }
 
 /// The desk, if the word is free. It is free where the seat speaks for all workers.
-fn close(table: Table<Option<Desk>, View, Terms, Guard, Global>, all: Option<Place>) -> Option<Desk>
+fn close(
+    table: Table<Option<Desk>, View, Terms, Guard, Global>,
+    all: Option<DeskSeat>,
+) -> Option<Desk>
     requires desk { IsDesk table.shared.table_id.words table.shared.table_id.slots }
     requires all { IfSome all (λ seat. (seat.table_id ≡ table.shared.table_id) × IsIdle seat.me) }
     ensures setting { IfSome result (λ desk. desk.setting ≡ table.shared.key) }

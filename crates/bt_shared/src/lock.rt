@@ -2,6 +2,7 @@ ghost use Rattle.std.specs.Prelude.{◌≡◌, ◌∷◌, [], true, false, None}
 ghost use Rattle.bt_history.specs.Legal.{IsLegal};
 ghost use Rattle.bt_shared.specs.Guard.{Fits, IsDesk, MayFree, MayTake, seeing};
 
+use crate::entering::attest;
 use crate::view::{Terms, View};
 use atomic_table::{Join, Play, Seat, Shared, Split, TableRule};
 use bt_picker::Desk;
@@ -74,12 +75,12 @@ impl Join<View> for Meet {
     ghost spent = { spent_view };
 }
 
-pub(crate) type Place = Seat<Option<Desk>, View>;
+pub(crate) type DeskSeat = Seat<Option<Desk>, View>;
 
 pub(crate) type Words = Shared<Option<Desk>, View, Terms, Guard>;
 
 /// Waits for the word, and takes the desk out of its slot.
-pub(crate) fn lock<R: Wait>(rt: &R, words: &Words, seat: &mut Place) -> Desk
+pub(crate) fn lock<R: Wait>(rt: &R, words: &Words, seat: &mut DeskSeat) -> Desk
     requires desk { IsDesk words.now.table_id.words words.now.table_id.slots × (seat.old.table_id ≡ words.now.table_id) }
     requires may { MayTake seat.old.me }
     ensures same { (seat.new.table_id ≡ seat.old.table_id) × (seat.new.id ≡ seat.old.id) }
@@ -92,7 +93,7 @@ pub(crate) fn lock<R: Wait>(rt: &R, words: &Words, seat: &mut Place) -> Desk
             let Some(desk) = words.exchange(seat, 0, None) else {
                 unreachable!()
             };
-            let _journal = desk.journal();
+            attest(&desk);
             return desk;
         }
         thread::yield_now();
@@ -101,7 +102,7 @@ pub(crate) fn lock<R: Wait>(rt: &R, words: &Words, seat: &mut Place) -> Desk
 }
 
 /// Puts the desk back into its slot, and frees the word.
-pub(crate) fn unlock(words: &Words, seat: &mut Place, desk: Desk)
+pub(crate) fn unlock(words: &Words, seat: &mut DeskSeat, desk: Desk)
     requires desk { IsDesk words.now.table_id.words words.now.table_id.slots × (seat.old.table_id ≡ words.now.table_id) }
     requires taken { (seat.old.me.1 ≡ (0, None) ∷ []) × (seat.old.me.0.spent ≡ false) × MayFree seat.old.me.0 desk }
     ensures same { (seat.new.table_id ≡ seat.old.table_id) × (seat.new.id ≡ seat.old.id) }

@@ -2,7 +2,7 @@ ghost use Rattle.std.specs.Prelude.{◌≡◌};
 ghost use Rattle.bt_history.specs.Legal.{IsLegal};
 ghost use Rattle.bt_history.specs.Logs.{Agrees};
 
-use crate::lock::Place;
+use crate::lock::DeskSeat;
 use bt_picker::Mark;
 use std::alloc::AllocError;
 use std::marker::Model;
@@ -13,7 +13,7 @@ use std::marker::Model;
 #[derive(Drop)]
 pub struct Pass {
     pub(crate) worker: u32,
-    pub(crate) seat: Place,
+    pub(crate) seat: DeskSeat,
     pub(crate) log: Vec<Mark>,
 }
 

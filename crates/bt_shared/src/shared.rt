@@ -14,7 +14,7 @@ ghost use Rattle.bt_shared.specs.Seen.{Continues, StartsWith};
 
 use crate::entering::{enter, enter_check, job_of};
 use crate::gather::{Book, GatherFault, gather};
-use crate::lock::{FREE, Guard, Make, Meet, Place, Witness, lock, unlock};
+use crate::lock::{DeskSeat, FREE, Guard, Make, Meet, Witness, lock, unlock};
 use crate::pass::Pass;
 use crate::view::{Terms, View};
 use atomic_table::Table;
@@ -64,7 +64,7 @@ fn lay(
     torrent: Arc<Torrent>,
     workers: u32,
     rules: Rules,
-) -> Result<(Table<Option<Desk>, View, Terms, Guard, Global>, Place), AllocError>
+) -> Result<(Table<Option<Desk>, View, Terms, Guard, Global>, DeskSeat), AllocError>
     requires workers { (1 ≤ workers) × (workers ≤ 1024) }
     requires rules { AreRules torrent.value.layout rules }
     ensures key { IfOk result (λ laid. laid.0.shared.key ≡ setting_of torrent.value.layout workers rules) }

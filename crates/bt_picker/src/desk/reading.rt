@@ -9,7 +9,7 @@ ghost use Rattle.bt_picker.specs.declared.content.ContentFault.TheVariants.{Inco
 
 use super::Desk;
 use crate::content::ContentFault;
-use bt_history::Rules;
+use bt_history::{MOST_WORKERS, Rules};
 use bt_meta::{DeviceFault, Sink, Torrent};
 
 impl Desk {
@@ -23,7 +23,7 @@ impl Desk {
     /// How many workers there are, 1 to 1,024: a worker's number is below it.
     pub fn workers(&self) -> u32
         ensures count { result ≡ self.now.setting.workers }
-        ensures bound { result ≤ 1024 }
+        ensures bound { result ≤ MOST_WORKERS }
     {
         self.tables.workers()
     }

@@ -25,7 +25,7 @@ pub returns-in-Some-clause-least : goal.returns-in-Some-clause-least
 returns-in-Some-clause-least c =
     let d = c.args.self.now in
     let n = c.loop-shown_by.shown_by in
-    let layout = subst (λ (e : DeskState). IsLayout e.setting.torrent) c.self.view_is c.self.invariant.layout in
+    let layout = c.attest.ensures.layout in
     let under : n < 1025 = under_crowd d.setting.workers n (omega
     (arith, c.loop-shown_by-test.true, c.min-most.ensures, ap (λ (m : ℕ). min m 1024) c.workers.ensures)) in
     (rarest_found d.setting d.history c.args.worker n c.group-pieces.result.now layout under c.group-pieces.ensures c.loop-shown_by.invariant
@@ -35,7 +35,7 @@ pub returns-in-Some-clause-within : goal.returns-in-Some-clause-within
 returns-in-Some-clause-within c =
     let d = c.args.self.now in
     let n = c.loop-shown_by.shown_by in
-    let layout = subst (λ (e : DeskState). IsLayout e.setting.torrent) c.self.view_is c.self.invariant.layout in
+    let layout = c.attest.ensures.layout in
     let under : n < 1025 = under_crowd d.setting.workers n (omega
     (arith, c.loop-shown_by-test.true, c.min-most.ensures, ap (λ (m : ℕ). min m 1024) c.workers.ensures)) in
     (rarest_found d.setting d.history c.args.worker n c.group-pieces.result.now layout under c.group-pieces.ensures c.loop-shown_by.invariant
@@ -45,7 +45,7 @@ pub loop-shown_by-preserved : goal.loop-shown_by-preserved
 loop-shown_by-preserved c =
     let d = c.args.self.now in
     let n = c.loop-shown_by.shown_by in
-    let layout = subst (λ (e : DeskState). IsLayout e.setting.torrent) c.self.view_is c.self.invariant.layout in
+    let layout = c.attest.ensures.layout in
     let under : n < 1025 = under_crowd d.setting.workers n (omega
     (arith, c.loop-shown_by-test.true, c.min-most.ensures, ap (λ (m : ℕ). min m 1024) c.workers.ensures)) in
     rarest_more d.setting d.history c.args.worker n c.group-pieces.result.now layout under c.group-pieces.ensures c.loop-shown_by.invariant
@@ -60,7 +60,7 @@ pub returns-clause-least : goal.returns-clause-least
 returns-clause-least c =
     let d = c.args.self.now in
     let n = c.loop-shown_by.shown_by in
-    let layout = subst (λ (e : DeskState). IsLayout e.setting.torrent) c.self.view_is c.self.invariant.layout in
+    let layout = c.attest.ensures.layout in
     let past = past_them d.setting.workers n (omega (
       arith,
       c.loop-shown_by-test.false,
@@ -74,7 +74,7 @@ pub returns-clause-within : goal.returns-clause-within
 returns-clause-within c =
     let d = c.args.self.now in
     let n = c.loop-shown_by.shown_by in
-    let layout = subst (λ (e : DeskState). IsLayout e.setting.torrent) c.self.view_is c.self.invariant.layout in
+    let layout = c.attest.ensures.layout in
     let past = past_them d.setting.workers n (omega (
       arith,
       c.loop-shown_by-test.false,
