@@ -56,14 +56,7 @@ next_fits t None s h w word reply is = fits reply (next_answers t _ _ _ _ _ _ _ 
       fits Idle h = refl
       fits NothingLeft h = refl
       fits (Refused reason) h = refl
-      fits Joined h = h
-      fits (Noted x) h = h
-      fits Quiet h = h
-      fits Stored h = h
-      fits Completed h = h
-      fits Dropped h = h
-      fits Had h = h
-      fits Failed h = h
+      fits _ h = h
 next_fits t (Some reason) s h w word reply is = ap (answers (call_mark (Next word))) is
 
 -- a reply that is allowed is one that a call of its kind can have
@@ -87,17 +80,7 @@ allowed_answers s h e allowed = by_call e.action allowed.1 where
         arrived_fits Completed h = refl
         arrived_fits Dropped h = refl
         arrived_fits (Refused reason) h = refl
-        arrived_fits Joined h = h
-        arrived_fits (Noted x) h = h
-        arrived_fits Quiet h = h
-        arrived_fits (Cancel b) h = h
-        arrived_fits (Request b) h = h
-        arrived_fits Choked h = h
-        arrived_fits PipeFull h = h
-        arrived_fits Idle h = h
-        arrived_fits NothingLeft h = h
-        arrived_fits Had h = h
-        arrived_fits Failed h = h
+        arrived_fits _ h = h
   by_call (Settle p bytes) is = settled_fits (same_bytes (sha1 (content s h p)) (hash_of s.torrent p)) is where
     settled_fits : (x : Bool) → Permits s.torrent (answer_unless (refusal s h e.worker (Settle p bytes)) (Exactly (if x then Had else Failed)))
         e.reply
@@ -181,15 +164,7 @@ next_facts s h w b lt is =
 -- only Next is replied by a request
 next_alone : (call : Action) (b : Block) → answers (call_mark call) (Request b) ≡ true → (word : ℕ) × (call ≡ Next word)
 next_alone (Next word) b is = (word, refl)
-next_alone Join b is = absurd (cc is)
-next_alone (Bits flags) b is = absurd (cc is)
-next_alone (Have p) b is = absurd (cc is)
-next_alone Choke b is = absurd (cc is)
-next_alone Unchoke b is = absurd (cc is)
-next_alone (Arrived p begin bytes) b is = absurd (cc is)
-next_alone (Settle p bytes) b is = absurd (cc is)
-next_alone Leave b is = absurd (cc is)
-next_alone (Want flags) b is = absurd (cc is)
+next_alone _ b is = absurd (cc is)
 
 pub request_facts : (s : Setting) (h : History) (e : Event) (b : Block) → IsAllowed s h e → e.reply ≡ Request b → RequestFacts s h e.worker b
 unfolding answer
@@ -212,15 +187,7 @@ waiting_cases false true false false is = (refl, refl, refl, refl)
 
 settled : (call : Action) (p : ℕ) → settles call p ≡ true → (bytes : List ℕ) × (call ≡ Settle p bytes)
 settled (Settle r bytes) p is = (bytes, ap (λ (m : ℕ). Settle m bytes) (eqb-true r p is))
-settled Join p is = absurd (cc is)
-settled (Bits flags) p is = absurd (cc is)
-settled (Have r) p is = absurd (cc is)
-settled Choke p is = absurd (cc is)
-settled Unchoke p is = absurd (cc is)
-settled (Next word) p is = absurd (cc is)
-settled (Arrived r begin bytes) p is = absurd (cc is)
-settled Leave p is = absurd (cc is)
-settled (Want flags) p is = absurd (cc is)
+settled _ p is = absurd (cc is)
 
 -- what a check of piece p that was made shows of the history before it
 pub record CheckFacts (s : Setting) (h : History) (p : ℕ) (bytes : List ℕ) : Type 0 where

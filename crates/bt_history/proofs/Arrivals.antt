@@ -67,54 +67,22 @@ pub record StoreFacts (s : Setting) (h : History) (e : Event) : Type 0 where
   pub arrival : ArrivalFacts s h e.worker piece begin bytes
   pub not_held : held h (block s.torrent piece arrival.index) ≡ false
 
-arrived_alone : (call : Action) (r : Reply) → stores r ≡ true → answers (call_mark call) r ≡ true →
-    (p : ℕ) × (begin : ℕ) × (bytes : List ℕ) × (call ≡ Arrived p begin bytes)
-arrived_alone (Arrived p begin bytes) r storing is = (p, begin, bytes, refl)
-arrived_alone Join r storing is = absurd (not_one r storing is) where
-  not_one : (r : Reply) → stores r ≡ true → answers (call_mark Join) r ≡ true → ⊥
-  not_one Stored a b = cc b
-  not_one Completed a b = cc b
-  not_one r a b = cc a
-arrived_alone (Bits flags) r storing is = absurd (not_one r storing is) where
-  not_one : (r : Reply) → stores r ≡ true → answers (call_mark (Bits flags)) r ≡ true → ⊥
-  not_one Stored a b = cc b
-  not_one Completed a b = cc b
-  not_one r a b = cc a
-arrived_alone (Have p) r storing is = absurd (not_one r storing is) where
-  not_one : (r : Reply) → stores r ≡ true → answers (call_mark (Have p)) r ≡ true → ⊥
-  not_one Stored a b = cc b
-  not_one Completed a b = cc b
-  not_one r a b = cc a
-arrived_alone Choke r storing is = absurd (not_one r storing is) where
-  not_one : (r : Reply) → stores r ≡ true → answers (call_mark Choke) r ≡ true → ⊥
-  not_one Stored a b = cc b
-  not_one Completed a b = cc b
-  not_one r a b = cc a
-arrived_alone Unchoke r storing is = absurd (not_one r storing is) where
-  not_one : (r : Reply) → stores r ≡ true → answers (call_mark Unchoke) r ≡ true → ⊥
-  not_one Stored a b = cc b
-  not_one Completed a b = cc b
-  not_one r a b = cc a
-arrived_alone (Next word) r storing is = absurd (not_one r storing is) where
-  not_one : (r : Reply) → stores r ≡ true → answers (call_mark (Next word)) r ≡ true → ⊥
-  not_one Stored a b = cc b
-  not_one Completed a b = cc b
-  not_one r a b = cc a
-arrived_alone (Settle p bytes) r storing is = absurd (not_one r storing is) where
-  not_one : (r : Reply) → stores r ≡ true → answers (call_mark (Settle p bytes)) r ≡ true → ⊥
-  not_one Stored a b = cc b
-  not_one Completed a b = cc b
-  not_one r a b = cc a
-arrived_alone Leave r storing is = absurd (not_one r storing is) where
-  not_one : (r : Reply) → stores r ≡ true → answers (call_mark Leave) r ≡ true → ⊥
-  not_one Stored a b = cc b
-  not_one Completed a b = cc b
-  not_one r a b = cc a
-arrived_alone (Want flags) r storing is = absurd (not_one r storing is) where
-  not_one : (r : Reply) → stores r ≡ true → answers (call_mark (Want flags)) r ≡ true → ⊥
-  not_one Stored a b = cc b
-  not_one Completed a b = cc b
-  not_one r a b = cc a
+-- the call is an arrival
+abbrev Arrives : Action → Type 0
+Arrives call = (p : ℕ) × (begin : ℕ) × (bytes : List ℕ) × (call ≡ Arrived p begin bytes)
+
+stored_alone : (call : Action) → answers (call_mark call) Stored ≡ true → Arrives call
+stored_alone (Arrived p begin bytes) is = (p, begin, bytes, refl)
+stored_alone _ is = absurd (cc is)
+
+completed_alone : (call : Action) → answers (call_mark call) Completed ≡ true → Arrives call
+completed_alone (Arrived p begin bytes) is = (p, begin, bytes, refl)
+completed_alone _ is = absurd (cc is)
+
+arrived_alone : (call : Action) (r : Reply) → stores r ≡ true → answers (call_mark call) r ≡ true → Arrives call
+arrived_alone call Stored storing is = stored_alone call is
+arrived_alone call Completed storing is = completed_alone call is
+arrived_alone call _ storing is = absurd (cc storing)
 
 not_dropped : (s : Setting) (h : History) (p begin : ℕ) (r : Reply) → stores r ≡ true → Permits s.torrent (arrived_answer s h p begin) r
     → some_block_of s.torrent p (λ b. (b.begin == begin) && held h b) ≡ false

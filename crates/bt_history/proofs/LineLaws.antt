@@ -19,7 +19,7 @@ use Rattle.bt_history.specs.History.{History, own_call, same_begin, stored, requ
 use Rattle.bt_history.specs.Peers.{asked, asked_count, outstanding, has_place, AreApart, due, due_count, dues, resets}
 use Rattle.bt_history.specs.Legal.{IsLegal}
 use Rattle.bt_history.proofs.Below.{any_found, any_witness, count_at, count_same, count_none, sum_at, sum_same, sum_none, one_if}
-use Rattle.bt_history.proofs.SameBegin.{same_place_self, same_place_sym, same_but_len}
+use Rattle.bt_history.proofs.SameBegin.{same_begin_self, same_begin_sym, same_but_len}
 use Rattle.bt_history.proofs.Lines.{any_append, asked_outstanding, due_dues}
 use Rattle.bt_history.proofs.Allowed.{request_facts}
 
@@ -99,7 +99,7 @@ apart_filter test (b ∷ bs) are = either (test b) (apart_filter test bs are.1) 
   either false rest = rest
 
 other_place : (a b : Block) → same_begin a b ≡ false → same_begin b a ≡ false
-other_place a b is = ⊎_elim (λ (same : same_begin b a ≡ true). absurd (false≢true (sym is ∙ same_place_sym b a same)))
+other_place a b is = ⊎_elim (λ (same : same_begin b a ≡ true). absurd (false≢true (sym is ∙ same_begin_sym b a same)))
     (λ (apart : same_begin b a ≡ false). apart) (cases_Bool (same_begin b a))
 
 -- one more block at the end, whose place the list lacks
@@ -231,7 +231,7 @@ unfolding AreBlocks AreApart
 count_listed t [] are apart = sum_none (piece_count t) _ (λ p lp. count_none (block_count t p) (λ k. false) (λ k lk. refl))
 count_listed t (x ∷ bs) are apart =
     count_blocks_more t (λ b. has_place b (x ∷ bs)) (λ b. has_place b bs) x are.0
-    (or_left (same_begin x x) (has_place x bs) (same_place_self x)) apart.0
+    (or_left (same_begin x x) (has_place x bs) (same_begin_self x)) apart.0
     (λ b other. ap (λ (y : Bool). y || has_place b bs) other)
     ∙ (ap (λ (n : ℕ). n + 1) (count_listed t bs are.1 apart.1) ∙ suc_is (length bs))
   where
@@ -268,7 +268,7 @@ dues_empty s h q legal none = by_line (dues h q) refl where
   by_line [] is = refl
   by_line (b ∷ bs) is =
       let block : is_block s.torrent b ≡ true = first_is_block (subst (AreBlocks s.torrent) is (dues_blocks s h q legal)) in
-      let is_due : due h q b ≡ true = due_dues h q b ∙ ap (has_place b) is ∙ or_left (same_begin b b) (has_place b bs) (same_place_self b) in
+      let is_due : due h q b ≡ true = due_dues h q b ∙ ap (has_place b) is ∙ or_left (same_begin b b) (has_place b bs) (same_begin_self b) in
       absurd (false≢true (sym none ∙ some_found s.torrent (due h q) b block is_due)) where
         first_is_block : AreBlocks s.torrent (b ∷ bs) → is_block s.torrent b ≡ true
         first_is_block are = are.0
@@ -341,7 +341,7 @@ count_listed_most t (x ∷ bs) are = ⊎_elim
     omega (arith, same, rest))
     (λ (fresh : has_place x bs ≡ false).
     let more = count_blocks_more t (λ b. has_place b (x ∷ bs)) (λ b. has_place b bs) x are.0
-    (or_left (same_begin x x) (has_place x bs) (same_place_self x)) fresh (λ b other. ap (λ (y : Bool). y || has_place b bs) other) in
+    (or_left (same_begin x x) (has_place x bs) (same_begin_self x)) fresh (λ b other. ap (λ (y : Bool). y || has_place b bs) other) in
     let rest = count_listed_most t bs are.1 in
     omega (arith, more, rest))
     (cases_Bool (has_place x bs))

@@ -9,7 +9,7 @@ use Rattle.bt_history.specs.Setting.{Setting, is_block}
 use Rattle.bt_history.specs.History.{History, same_begin}
 use Rattle.bt_history.specs.Peers.{asked, outstanding, has_place, ListsAsked}
 use Rattle.bt_history.specs.Legal.{IsLegal}
-use Rattle.bt_history.proofs.SameBegin.{same_place_self}
+use Rattle.bt_history.proofs.SameBegin.{same_begin_self}
 use Rattle.bt_history.proofs.Lines.{asked_outstanding}
 use Rattle.bt_history.proofs.LineLaws.{AreBlocks, outstanding_blocks, outstanding_apart, asked_count_is}
 
@@ -19,7 +19,7 @@ each_passes : (t : Layout) (test : Block → Bool) (bs : List Block) → AreBloc
 unfolding AreBlocks
 each_passes t test [] are passes = tt
 each_passes t test (b ∷ bs) are passes = (
-  (are.0, passes b (or_left (same_begin b b) (has_place b bs) (same_place_self b))),
+  (are.0, passes b (or_left (same_begin b b) (has_place b bs) (same_begin_self b))),
   each_passes t test bs are.1 (λ c listed. passes c (or_right (same_begin b c) (has_place c bs) listed)),
 )
 

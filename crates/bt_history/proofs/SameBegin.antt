@@ -21,26 +21,18 @@ same_but_len a b is =
     let begin = eqb-true a.begin b.begin parts.1 in
     (λ i. record { piece = sym piece i; begin = sym begin i; len = b.len })
 
-pub same_place_self : (b : Block) → same_begin b b ≡ true
-same_place_self b = and_from (b.piece == b.piece) (b.begin == b.begin) (eq-eqb b.piece b.piece refl) (eq-eqb b.begin b.begin refl)
+pub same_begin_self : (b : Block) → same_begin b b ≡ true
+same_begin_self b = and_from (b.piece == b.piece) (b.begin == b.begin) (eq-eqb b.piece b.piece refl) (eq-eqb b.begin b.begin refl)
 
-pub same_place_sym : (a b : Block) → same_begin a b ≡ true → same_begin b a ≡ true
-same_place_sym a b is =
+pub same_begin_sym : (a b : Block) → same_begin a b ≡ true → same_begin b a ≡ true
+same_begin_sym a b is =
     let parts = and_parts (a.piece == b.piece) (a.begin == b.begin) is in
     and_from (b.piece == a.piece) (b.begin == a.begin) (eq-eqb b.piece a.piece (sym (eqb-true a.piece b.piece parts.0)))
     (eq-eqb b.begin a.begin (sym (eqb-true a.begin b.begin parts.1)))
 
 bytes_resized : (call : Action) (b : Block) (n : ℕ) → bytes_for (resized b n) call ≡ bytes_for b call
-bytes_resized Join b n = refl
-bytes_resized (Bits flags) b n = refl
-bytes_resized (Have p) b n = refl
-bytes_resized Choke b n = refl
-bytes_resized Unchoke b n = refl
-bytes_resized (Next word) b n = refl
 bytes_resized (Arrived p begin bytes) b n = refl
-bytes_resized (Settle p bytes) b n = refl
-bytes_resized Leave b n = refl
-bytes_resized (Want flags) b n = refl
+bytes_resized _ b n = refl
 
 pub stored_resized : (e : Event) (b : Block) (n : ℕ) → stored e (resized b n) ≡ stored e b
 stored_resized e b n = ap (λ (o : Option (List ℕ)). if stores e.reply then o else None) (bytes_resized e.action b n)
