@@ -226,34 +226,8 @@ passed_hash s h e p allowed is settling =
 
 pub had_reply : (r : Reply) → is_had r ≡ true → r ≡ Had
 had_reply Had is = refl
-had_reply Joined is = absurd (cc is)
-had_reply (Noted x) is = absurd (cc is)
-had_reply Quiet is = absurd (cc is)
-had_reply (Cancel b) is = absurd (cc is)
-had_reply (Request b) is = absurd (cc is)
-had_reply Choked is = absurd (cc is)
-had_reply PipeFull is = absurd (cc is)
-had_reply Idle is = absurd (cc is)
-had_reply NothingLeft is = absurd (cc is)
-had_reply Stored is = absurd (cc is)
-had_reply Completed is = absurd (cc is)
-had_reply Dropped is = absurd (cc is)
-had_reply Failed is = absurd (cc is)
-had_reply (Refused reason) is = absurd (cc is)
+had_reply _ is = absurd (cc is)
 
 pub failed_reply : (r : Reply) → is_failed r ≡ true → r ≡ Failed
 failed_reply Failed is = refl
-failed_reply Joined is = absurd (cc is)
-failed_reply (Noted x) is = absurd (cc is)
-failed_reply Quiet is = absurd (cc is)
-failed_reply (Cancel b) is = absurd (cc is)
-failed_reply (Request b) is = absurd (cc is)
-failed_reply Choked is = absurd (cc is)
-failed_reply PipeFull is = absurd (cc is)
-failed_reply Idle is = absurd (cc is)
-failed_reply NothingLeft is = absurd (cc is)
-failed_reply Stored is = absurd (cc is)
-failed_reply Completed is = absurd (cc is)
-failed_reply Dropped is = absurd (cc is)
-failed_reply Had is = absurd (cc is)
-failed_reply (Refused reason) is = absurd (cc is)
+failed_reply _ is = absurd (cc is)
