@@ -1,6 +1,7 @@
 //! The set of had pieces, as bits of words that threads share.
 
-ghost use Rattle.std.specs.Prelude.{◌≡◌, ◌<◌, ◌≤◌, ◌+◌, ◌/◌, ◌%◌, ◌^◌, ◌↔◌, ◌⊎◌, ℕ, List, [], false, length, map, replicate, slice_index_or, IfOk, IfErr, IfSome, IfNone, IsTrue, MatchOption};
+ghost use Rattle.std.specs.Prelude.{◌≡◌, ◌<◌, ◌≤◌, ◌+◌, ◌/◌, ◌%◌, ◌^◌, ◌↔◌, ◌⊎◌, ℕ, List, [], false, length, map, replicate};
+ghost use Rattle.std.specs.Prelude.{slice_index_or, IfOk, IfErr, IfSome, IfNone, IsTrue, MatchOption};
 ghost use Rattle.std.specs.Arc.{arc_value};
 ghost use Rattle.std.specs.Int.{bit_at};
 ghost use Rattle.std.specs.List.{range_with_len};
@@ -166,7 +167,8 @@ impl Board {
         requires word { word < words_of (piece_count self.now.torrent) }
         ensures seat { seat.new.table ≡ seat.old.table }
         ensures finds { (found : ℕ) × Finds (piece_count self.now.torrent) seat.old.view word found seat.new.view
-            × MatchOption result (GivesNone word found seat.old.given seat.new.given) (λ piece. Gives word found seat.old.given seat.new.given piece) }
+            × MatchOption result (GivesNone word found seat.old.given seat.new.given)
+            (λ piece. Gives word found seat.old.given seat.new.given piece) }
     {
         let found = self.look::<Brand>(seat, word);
         match least_new(found, seat.given[word]) {

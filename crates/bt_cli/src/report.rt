@@ -5,7 +5,8 @@ ghost use Rattle.std.specs.Io.KnownBytes.{Appends};
 ghost use Rattle.bt_meta.specs.Layout.{piece_count};
 ghost use Rattle.bt_history.specs.Counting.{count_below};
 ghost use Rattle.bt_history.specs.Pieces.{had, had_count};
-ghost use Rattle.bt_cli.specs.Reports.{counts_text, end_text, is_done, judged_text, missing_piece, missing_text, numbered, pieces_text, report_text, session_fault_number};
+ghost use Rattle.bt_cli.specs.Reports.{counts_text, end_text, is_done, judged_text, missing_piece, missing_text, numbered, pieces_text};
+ghost use Rattle.bt_cli.specs.Reports.{report_text, session_fault_number};
 
 use bt_meta::{DeviceFault, Sink};
 use bt_picker::Desk;

@@ -2,7 +2,26 @@
 ghost use Rattle.std.specs.Prelude.{reverse, take};
 ghost use Rattle.bt_history.specs.Setting.{setting_of, usual_rules};
 ghost use Rattle.bt_history.specs.Legal.{IsLegal, IsAllowed};
-ghost use Rattle.bt_history.specs.Examples.{rules, torrent_short_last, torrent_one_piece, torrent_two_pieces, torrent_two_blocks, torrent_many_blocks, torrent_four_pieces, first_request, another_first_request, one_peer_to_the_end, rarest_first, full_pipe, choke_frees, cancel_in_endgame, no_double_before_endgame, double_outlasts_endgame, failed_check, failed_check_in_endgame, held_block_dropped, block_by_block, refusals, wrong_count, stale_verdict, random_first_piece, rare_first_piece_too, strict_priority, gone_peer_not_counted, rejoin_in_endgame, depth_two, deep_pipe, rarest_from_the_start, second_piece_at_random, rarest_after_two_pieces, wants, endgame_of_the_wanted, want_before_the_bits, asked_stays_asked, idle_though_a_block_is_usable, second_piece_started_while_a_begun_one_has_a_usable_block, availability_counts_a_peer_that_left, commoner_piece_started, second_peer_asked_while_a_block_is_unasked, second_peer_asked_before_endgame, had_with_another_hash, replaced_bytes_settled, replaced_bytes_failed, idle_though_a_cancel_is_due, sixth_request, pipe_full_after_four, pipe_full_though_the_choke_freed_it, noted_from_before_the_bits, block_stored_twice, late_bits_noted, request_of_a_wrong_length, third_request_at_depth_two, pipe_full_at_depth_two_after_one, pipe_full_at_five_though_deep, first_piece_at_random_though_none_is, third_piece_at_random, unwanted_block_asked, older_want_still_counts, idle_though_nothing_is_wanted, unwanted_piece_noted, want_of_a_stranger_refused, want_of_a_wrong_count_taken, unwanted_block_keeps_endgame_off, bits_late_by_a_want, unwanted_block_freed};
+ghost use Rattle.bt_history.specs.Examples.{rules, torrent_short_last, torrent_one_piece, torrent_two_pieces, torrent_two_blocks};
+ghost use Rattle.bt_history.specs.Examples.{torrent_many_blocks, torrent_four_pieces, first_request, another_first_request};
+ghost use Rattle.bt_history.specs.Examples.{one_peer_to_the_end, rarest_first, full_pipe, choke_frees, cancel_in_endgame};
+ghost use Rattle.bt_history.specs.Examples.{no_double_before_endgame, double_outlasts_endgame, failed_check, failed_check_in_endgame};
+ghost use Rattle.bt_history.specs.Examples.{held_block_dropped, block_by_block, refusals, wrong_count, stale_verdict, random_first_piece};
+ghost use Rattle.bt_history.specs.Examples.{rare_first_piece_too, strict_priority, gone_peer_not_counted, rejoin_in_endgame, depth_two};
+ghost use Rattle.bt_history.specs.Examples.{deep_pipe, rarest_from_the_start, second_piece_at_random, rarest_after_two_pieces, wants};
+ghost use Rattle.bt_history.specs.Examples.{endgame_of_the_wanted, want_before_the_bits, asked_stays_asked, idle_though_a_block_is_usable};
+ghost use Rattle.bt_history.specs.Examples.{second_piece_started_while_a_begun_one_has_a_usable_block};
+ghost use Rattle.bt_history.specs.Examples.{availability_counts_a_peer_that_left, commoner_piece_started};
+ghost use Rattle.bt_history.specs.Examples.{second_peer_asked_while_a_block_is_unasked, second_peer_asked_before_endgame};
+ghost use Rattle.bt_history.specs.Examples.{had_with_another_hash, replaced_bytes_settled, replaced_bytes_failed};
+ghost use Rattle.bt_history.specs.Examples.{idle_though_a_cancel_is_due, sixth_request, pipe_full_after_four};
+ghost use Rattle.bt_history.specs.Examples.{pipe_full_though_the_choke_freed_it, noted_from_before_the_bits, block_stored_twice};
+ghost use Rattle.bt_history.specs.Examples.{late_bits_noted, request_of_a_wrong_length, third_request_at_depth_two};
+ghost use Rattle.bt_history.specs.Examples.{pipe_full_at_depth_two_after_one, pipe_full_at_five_though_deep};
+ghost use Rattle.bt_history.specs.Examples.{first_piece_at_random_though_none_is, third_piece_at_random, unwanted_block_asked};
+ghost use Rattle.bt_history.specs.Examples.{older_want_still_counts, idle_though_nothing_is_wanted, unwanted_piece_noted};
+ghost use Rattle.bt_history.specs.Examples.{want_of_a_stranger_refused, want_of_a_wrong_count_taken, unwanted_block_keeps_endgame_off};
+ghost use Rattle.bt_history.specs.Examples.{bits_late_by_a_want, unwanted_block_freed};
 
 /// The worked examples are legal histories.
 pub fn worked_examples()

@@ -1,5 +1,6 @@
 //! What to say to a peer next: strict priority, rarest first, random first piece and endgame (Cohen 2003, "Piece selection"; BEP 3).
-ghost use Rattle.std.specs.Prelude.{◌≡◌, ◌<◌, ◌≤◌, ◌+◌, ◌&&◌, ◌||◌, ◌⊎◌, ℕ, Bool, true, false, not, length, IfSome, IfNone, IsTrue, Some, None, nat_le, nat_lt, Option};
+ghost use Rattle.std.specs.Prelude.{◌≡◌, ◌<◌, ◌≤◌, ◌+◌, ◌&&◌, ◌||◌, ◌⊎◌, ℕ, Bool, true, false, not, length, IfSome, IfNone, IsTrue, Some};
+ghost use Rattle.std.specs.Prelude.{None, nat_le, nat_lt, Option};
 ghost use Rattle.bt_meta.specs.declared.block.Block.{Block};
 ghost use Rattle.bt_meta.specs.Layout.{piece_count, block_count, block};
 ghost use Rattle.bt_history.specs.Setting.{each_block, each_block_of, is_block, some_block, some_block_of};
@@ -212,7 +213,8 @@ impl<'a> Position<'a> {
     /// Whether it is known that nothing may be begun at the peer: no piece is shown by as many peers as its floor says.
     fn shows_no_candidate(&self, worker: u32) -> bool
         requires { worker < self.now.setting.workers }
-        ensures { result ≡ true → (p : ℕ) → p < piece_count self.now.setting.torrent → is_candidate self.now.setting self.now.history worker p ≡ false }
+        ensures { result ≡ true → (p : ℕ) → p < piece_count self.now.setting.torrent →
+            is_candidate self.now.setting self.now.history worker p ≡ false }
     {
         self.floor(worker) > self.workers()
     }
@@ -362,7 +364,8 @@ impl<'a> Position<'a> {
     fn asking_again(&self, worker: u32) -> Option<Block>
         requires { worker < self.now.setting.workers }
         ensures some { IfSome result (λ b.
-            IsTrue (endgame self.now.setting self.now.history && some_block self.now.setting.torrent (doubles self.now.setting self.now.history worker))
+            IsTrue (endgame self.now.setting self.now.history
+            && some_block self.now.setting.torrent (doubles self.now.setting self.now.history worker))
             × IsTrue (is_block self.now.setting.torrent b) × IsTrue (doubles self.now.setting self.now.history worker b)) }
         ensures none { IfNone result ((endgame self.now.setting self.now.history
             && some_block self.now.setting.torrent (doubles self.now.setting self.now.history worker)) ≡ false) }

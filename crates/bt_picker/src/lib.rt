@@ -21,6 +21,9 @@ mod unread;
 
 pub use auditing::{AuditFault, audit};
 pub use bt_check::{Job, Verdict};
-pub use bt_history::{Action, Call, CallMark, Entry, Event, Mark, Reason, Reply, Rules, laws};
+pub use bt_history::{
+    Action, Call, CallMark, Entry, Event, MOST_DEPTH, MOST_WORKERS, Mark, Reason, Reply, Rules,
+    laws,
+};
 pub use content::ContentFault;
 pub use desk::Desk;

@@ -1,7 +1,10 @@
-ghost use Rattle.std.specs.Prelude.{◌≡◌, ◌<◌, ◌≤◌, ◌+◌, ◌-◌, ◌^◌, ◌==◌, nat_lt, min, if◌then◌else◌, None, length, slice_index_or, slice_set, IfOk, Bool, true, false, replicate};
-ghost use Rattle.bt_picker.specs.Tables.{HasRoomOf, PieceState, changed_row, edit, empty_cell, failed_row, fresh_piece, one_if, one_less, one_more, stored_row};
+ghost use Rattle.std.specs.Prelude.{◌≡◌, ◌<◌, ◌≤◌, ◌+◌, ◌-◌, ◌^◌, ◌==◌, nat_lt, min, if◌then◌else◌, None, length, slice_index_or};
+ghost use Rattle.std.specs.Prelude.{slice_set, IfOk, Bool, true, false, replicate};
+ghost use Rattle.bt_picker.specs.Tables.{HasRoomOf, PieceState, changed_row, edit, empty_cell, failed_row, fresh_piece, one_if, one_less};
+ghost use Rattle.bt_picker.specs.Tables.{one_more, stored_row};
 ghost use Rattle.bt_picker.specs.Floors.{is_fresh};
-ghost use Rattle.bt_picker.specs.Standings.{AreTouched, cell_kept, is_held, is_touched, held_count, touched_count, group_of_row, shown_row, standing_of};
+ghost use Rattle.bt_picker.specs.Standings.{AreTouched, cell_kept, is_held, is_touched, held_count, touched_count, group_of_row, shown_row};
+ghost use Rattle.bt_picker.specs.Standings.{standing_of};
 
 use crate::cell::Cell;
 use bt_history::MOST_WORKERS;
@@ -58,9 +61,10 @@ pub const CROWD: u32 = MOST_WORKERS + 1;
 /// So many groups there are.
 pub const GROUPS: u32 = UNBEGUN + CROWD + 1;
 
-/// What is kept of a piece: whether it is had and wanted, and a cell for each of its blocks, in order, so that a block is found by its
-/// place. How many peers show it stands apart (`Pieces`): contracts see a row that nobody shows. Of the blocks it counts those that are held, and those that are held or asked, so that whether the
-/// piece is full or begun is one look; and it knows up to which block each is held or asked, since the next one is looked for behind it. The rows stand by the piece's number.
+/// What is kept of a piece: whether it is had and wanted, and a cell for each of its blocks, by the block's index. How many peers show it
+/// stands apart (`Pieces`): contracts see a row that nobody shows. Of the blocks it counts those that are held, and those that are held or
+/// asked, so that whether the piece is full or begun is one look; and it knows up to which block each is held or asked, since the next one
+/// is looked for behind it. The rows stand by the piece's number.
 #[derive(Drop)]
 pub struct Piece {
     had: bool,

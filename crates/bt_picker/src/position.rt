@@ -1,5 +1,6 @@
 //! A journal with its tables: each question that the rules ask, answered by its definition.
-ghost use Rattle.std.specs.Prelude.{◌≡◌, ◌<◌, ◌≤◌, ◌∷◌, [], ℕ, Bool, false, true, length, slice_index_or, IfSome, IfNone, Some, None, IsTrue, is_some, option_and_then};
+ghost use Rattle.std.specs.Prelude.{◌≡◌, ◌<◌, ◌≤◌, ◌∷◌, [], ℕ, Bool, false, true, length, slice_index_or, IfSome, IfNone, Some, None};
+ghost use Rattle.std.specs.Prelude.{IsTrue, is_some, option_and_then};
 ghost use Rattle.bt_meta.specs.declared.block.Block.{Block};
 ghost use Rattle.bt_meta.specs.Layout.{IsLayout, piece_count, block_count, block};
 ghost use Rattle.std.specs.List.{list_any};
@@ -7,7 +8,8 @@ ghost use Rattle.bt_history.specs.Setting.{is_block, some_block_of};
 ghost use Rattle.bt_history.specs.History.{same_begin};
 ghost use Rattle.bt_history.specs.Legal.{IsLegal};
 ghost use Rattle.bt_history.specs.Peers.{joined, late, shows, is_open, outstanding, asked, due, dues, flag};
-ghost use Rattle.bt_history.specs.Pieces.{availability, asked_of_some, begun, full, had, held, held_or_asked, interesting, kept, lacks, unbegun, wanted};
+ghost use Rattle.bt_history.specs.Pieces.{availability, asked_of_some, begun, full, had, held, held_or_asked, interesting, kept, lacks};
+ghost use Rattle.bt_history.specs.Pieces.{unbegun, wanted};
 ghost use Rattle.bt_order.specs.Orders.{at, ListsGroup};
 ghost use Rattle.bt_order.specs.Risings.{Rises};
 ghost use Rattle.bt_picker.specs.Floors.{NoneRarer};

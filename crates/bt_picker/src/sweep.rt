@@ -2,7 +2,8 @@
 
 ghost use Rattle.std.specs.Prelude.{◌≡◌, ◌<◌, ◌+◌, ◌^◌, [], false, true, length, slice_index_or, unwrap_or};
 ghost use Rattle.std.specs.Option.{option_copied};
-ghost use Rattle.bt_picker.specs.Tables.{AreCounted, edit, hidden_rows, less_available, lowered, lowered_by, more_available, piece_row, recounted, shown_rows, wanted_by};
+ghost use Rattle.bt_picker.specs.Tables.{AreCounted, edit, hidden_rows, less_available, lowered, lowered_by, more_available, piece_row};
+ghost use Rattle.bt_picker.specs.Tables.{recounted, shown_rows, wanted_by};
 
 use crate::piece::Change;
 use crate::pieces::Pieces;

@@ -1,4 +1,5 @@
-ghost use Rattle.std.specs.Prelude.{◌≡◌, ◌<◌, ◌≤◌, ◌+◌, ◌^◌, ◌*◌, ◌/◌, ◌==◌, ◌∷◌, [], ℕ, Bool, false, length, map, slice_index_or, not, true, IfOk, IfSome, Some, IsTrue, EachIndex, unwrap_or};
+ghost use Rattle.std.specs.Prelude.{◌≡◌, ◌<◌, ◌≤◌, ◌+◌, ◌^◌, ◌*◌, ◌/◌, ◌==◌, ◌∷◌, [], ℕ, Bool, false, length, map, slice_index_or, not};
+ghost use Rattle.std.specs.Prelude.{true, IfOk, IfSome, Some, IsTrue, EachIndex, unwrap_or};
 ghost use Rattle.bt_meta.specs.Layout.{block_count, piece_count, block_size};
 ghost use Rattle.std.specs.Option.{option_copied};
 ghost use Rattle.std.specs.List.{count_by, sum_by};
@@ -12,7 +13,11 @@ ghost use Rattle.bt_history.specs.History.{stores};
 ghost use Rattle.bt_meta.specs.declared.block.Block.{Block};
 ghost use Rattle.bt_history.specs.Counting.{count_below, table};
 ghost use Rattle.bt_picker.specs.Floors.{IsFloor, IsRarestStart, TellsFloor, is_fresh};
-ghost use Rattle.bt_picker.specs.Tables.{AreAskers, AreCounted, AreTables, asks_at, HasBlock, HasRoomFor, bits_row, leave_row, PeerState, PieceState, TablesState, after_arrival, after_check, after_next, announced, cancel_row, late_row, edit, empty_cell, failed_row, entered_call, fresh_peer, fresh_piece, have_row, join_row, choke_row, unchoke_row, less_available, lowered, lowered_by, more_available, peer_row, piece_row, recounted, released, reshown, rewanted, wanted_by, with_block, with_peer, without_block};
+ghost use Rattle.bt_picker.specs.Tables.{AreAskers, AreCounted, AreTables, asks_at, HasBlock, HasRoomFor, bits_row, leave_row, PeerState};
+ghost use Rattle.bt_picker.specs.Tables.{PieceState, TablesState, after_arrival, after_check, after_next, announced, cancel_row, late_row};
+ghost use Rattle.bt_picker.specs.Tables.{edit, empty_cell, failed_row, entered_call, fresh_peer, fresh_piece, have_row, join_row};
+ghost use Rattle.bt_picker.specs.Tables.{choke_row, unchoke_row, less_available, lowered, lowered_by, more_available, peer_row, piece_row};
+ghost use Rattle.bt_picker.specs.Tables.{recounted, released, reshown, rewanted, wanted_by, with_block, with_peer, without_block};
 
 use crate::peer::Peer;
 use crate::piece::{Change, GROUPS, Piece, UNBEGUN};

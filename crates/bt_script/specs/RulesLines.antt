@@ -2,11 +2,12 @@
 use Rattle.std.specs.Prelude.{ℕ, ◌&&◌, nat_le, List, [], ◌∷◌, Option, Some, None, option_and_then, codes, if◌then◌else◌}
 use Rattle.std.specs.Str.{bytes_eq}
 use Rattle.bt_history.specs.declared.rules.Rules.{Rules}
+use Rattle.bt_history.specs.declared.rules.TheConstants.{MOST_DEPTH}
 use Rattle.bt_script.specs.Fields.{fields_of, small_number_in}
 
--- a depth: 1 to 64
+-- a depth that a picker takes
 abbrev pub depth_within : ℕ → Option ℕ
-depth_within n = if nat_le 1 n && nat_le n 64 then Some n else None
+depth_within n = if nat_le 1 n && nat_le n MOST_DEPTH then Some n else None
 
 abbrev pub depth_in : List ℕ → Option ℕ
 depth_in text = option_and_then depth_within (small_number_in text)

@@ -3,12 +3,13 @@ use Rattle.std.specs.Prelude.{ℕ, ◌&&◌, nat_le, List, [], ◌∷◌, replic
 use Rattle.std.specs.Result.{result_ok}
 use Rattle.std.specs.Str.{bytes_eq}
 use Rattle.bt_meta.specs.Layout.{torrent_of}
+use Rattle.bt_history.specs.declared.rules.TheConstants.{MOST_WORKERS}
 use Rattle.bt_script.specs.declared.script.setup.Setup.{Setup}
 use Rattle.bt_script.specs.Fields.{fields_of, number_in, small_number_in, digest_in}
 
--- a number of workers: 1 to 1,024
+-- a number of workers that a picker takes
 abbrev pub workers_within : ℕ → Option ℕ
-workers_within n = if nat_le 1 n && nat_le n 1024 then Some n else None
+workers_within n = if nat_le 1 n && nat_le n MOST_WORKERS then Some n else None
 
 abbrev pub workers_in : List ℕ → Option ℕ
 workers_in text = option_and_then workers_within (small_number_in text)

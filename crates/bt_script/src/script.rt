@@ -4,7 +4,8 @@ ghost use Rattle.std.specs.Prelude.{◌≡◌, ◌<◌, ◌≤◌, ◌+◌, ◌^
 ghost use Rattle.std.specs.String.{string_bytes};
 ghost use Rattle.bt_script.specs.Setups.{setup_in};
 ghost use Rattle.bt_script.specs.Played.{AnswersLine, TakesFront};
-ghost use Rattle.bt_script.specs.Scripts.{Blames, Explains, IsPrintedBy, IsScript, MaySetRules, Prints, IsFirstLine, Passes, Starts, StopsOpening, line_at, lines_of};
+ghost use Rattle.bt_script.specs.Scripts.{Blames, Explains, IsPrintedBy, IsScript, MaySetRules, Prints, IsFirstLine, Passes, Starts};
+ghost use Rattle.bt_script.specs.Scripts.{StopsOpening, line_at, lines_of};
 
 mod fault;
 mod fields;
@@ -15,12 +16,12 @@ mod setup;
 
 use crate::fault::Fault;
 use crate::text::Said;
-use bt_picker::Rules;
+pub use bt_picker::MOST_DEPTH;
+use bt_picker::{MOST_WORKERS, Rules};
 pub use fault::LineFault;
 pub use fields::read_hex;
 pub use line::{Command, Line};
 pub use player::Player;
-pub use rules::MOST_DEPTH;
 use rules::read_rules;
 pub use setup::Setup;
 use std::alloc::{AllocError, Global};
@@ -111,7 +112,7 @@ fn start(alloc: Global, lines: &[&[u8]]) -> Result<Opened, Fault>
 fn open(alloc: Global, text: &[u8], index: usize) -> Result<Setup, Fault>
     requires { index + 1 < 2 ^ 64 }
     ensures ok { IfOk result (λ setup. setup_in text.now ≡ Some setup) }
-    ensures workers { IfOk result (λ setup. (1 ≤ setup.workers) × (setup.workers ≤ 1024)) }
+    ensures workers { IfOk result (λ setup. (1 ≤ setup.workers) × (setup.workers ≤ MOST_WORKERS)) }
     ensures err { IfErr result (λ fault. Blames fault (index + 1) (setup_in text.now ≡ None)) }
 {
     match Setup::parse(alloc, text) {
@@ -137,7 +138,7 @@ fn rules_behind(
     ensures ok { IfOk result (λ part.
         MaySetRules (map (λ x. x.now) lines.now) pieces from part.rules part.next) }
     ensures shallow { IfOk result (λ part. 1 ≤ part.rules.depth) }
-    ensures deep { IfOk result (λ part. part.rules.depth ≤ 64) }
+    ensures deep { IfOk result (λ part. part.rules.depth ≤ MOST_DEPTH) }
     ensures random { IfOk result (λ part. part.rules.random ≤ pieces) }
 {
     if let Some(line) = first_line(lines, from) {

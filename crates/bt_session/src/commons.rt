@@ -1,6 +1,7 @@
 //! What the threads of a run share, and what each of them has of its own.
 
-ghost use Rattle.std.specs.Prelude.{◌≡◌, ◌≤◌, ℕ, [], Some, true, map, length, vec_capacity, vec_len, slice_index_or, IsTrue, IfOk, IfErr, IfSome, IfNone, OnErr};
+ghost use Rattle.std.specs.Prelude.{◌≡◌, ◌≤◌, ℕ, [], Some, true, map, length, vec_capacity, vec_len, slice_index_or, IsTrue, IfOk, IfErr};
+ghost use Rattle.std.specs.Prelude.{IfSome, IfNone, OnErr};
 ghost use Rattle.std.specs.List.{All};
 ghost use Rattle.bt_board.specs.Story.{Seen};
 ghost use Rattle.bt_history.specs.Entries.{action_of, event};

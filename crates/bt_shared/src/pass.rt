@@ -25,9 +25,16 @@ impl Model for Pass {
 
     ghost Value = { PassState };
 
-    ghost view = { λ p. record { table = p.seat.table_id; setting = p.seat.me.0.setting; worker = p.worker; seen = p.seat.me.0.part.seen; log = p.log.items } };
+    ghost view = { λ p. record {
+      table = p.seat.table_id;
+      setting = p.seat.me.0.setting;
+      worker = p.worker;
+      seen = p.seat.me.0.part.seen;
+      log = p.log.items;
+    } };
 
-    ghost invariant = { λ p. IsSeatOf p.worker p.seat.me × (p.worker < p.seat.me.0.setting.workers) × IsLegal p.seat.me.0.setting p.seat.me.0.part.seen
+    ghost invariant = { λ p. IsSeatOf p.worker p.seat.me × (p.worker < p.seat.me.0.setting.workers)
+        × IsLegal p.seat.me.0.setting p.seat.me.0.part.seen
         × Agrees p.seat.me.0.part.seen p.worker p.log.items };
 }
 

@@ -1,4 +1,5 @@
-ghost use Rattle.std.specs.Prelude.{◌≡◌, ◌<◌, ◌≤◌, [], ℕ, Some, false, length, option_copied, slice_get, vec_len, IfErr, IfOk, IfSome, IsOk, OnErr, IsTrue};
+ghost use Rattle.std.specs.Prelude.{◌≡◌, ◌<◌, ◌≤◌, [], ℕ, Some, false, length, option_copied, slice_get, vec_len, IfErr, IfOk, IfSome};
+ghost use Rattle.std.specs.Prelude.{IsOk, OnErr, IsTrue};
 ghost use Rattle.bt_meta.specs.Layout.{piece_count};
 ghost use Rattle.bt_history.specs.Entries.{action_of, event};
 ghost use Rattle.bt_history.specs.Legal.{IsLegal};

@@ -8,7 +8,8 @@ use bytes::Bytes;
 use std::alloc::AllocError;
 use thiserror::Error;
 
-/// A message of BEP 3. A piece is named by its index, and a block by its piece, the offset of its first byte in the piece and its length, both in bytes.
+/// A message of BEP 3. A piece is named by its index, and a block by its piece, the offset of its first byte in the piece and its length,
+/// both in bytes.
 #[derive(Debug, Drop, PartialEq, Eq)]
 pub enum Message {
     Hello(Hello),

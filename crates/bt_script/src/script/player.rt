@@ -7,7 +7,7 @@ ghost use Rattle.bt_script.specs.Lines.{seen_command};
 
 use super::{Command, Line, LineFault, Setup};
 use bt_meta::Bitfield;
-use bt_picker::{Call, Desk, Reply, Rules};
+use bt_picker::{Call, Desk, MOST_WORKERS, Reply, Rules};
 use bytes::Bytes;
 use std::alloc::{AllocError, Global};
 use std::sync::Arc;
@@ -30,7 +30,7 @@ impl Player {
     ghost use Rattle.bt_script.specs.Played.{PlaysOrder, PlaysLine};
 
     pub fn new(alloc: Global, setup: Setup, rules: Rules) -> Result<Player, AllocError>
-        requires workers { (1 ≤ setup.workers) × (setup.workers ≤ 1024) }
+        requires workers { (1 ≤ setup.workers) × (setup.workers ≤ MOST_WORKERS) }
         requires rules { AreRules setup.torrent.layout rules }
         ensures workers { IfOk result (λ player. player.workers ≡ setup.workers) }
         ensures pieces { IfOk result (λ player. player.pieces ≡ piece_count setup.torrent.layout) }

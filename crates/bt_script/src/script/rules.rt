@@ -6,17 +6,14 @@ ghost use Rattle.bt_script.specs.RulesLines.{depth_in, random_in, rules_in, rule
 
 use super::LineFault;
 use super::fields::{fields, is, small_number};
-use bt_picker::Rules;
+use bt_picker::{MOST_DEPTH, Rules};
 use std::alloc::Global;
-
-/// The most blocks that may be asked of a peer.
-pub const MOST_DEPTH: u32 = 64;
 
 /// The rules that this text says for a torrent of so many pieces: `rules`, the depth, and the number of pieces at random.
 pub fn read_rules(alloc: Global, text: &[u8], pieces: u32) -> Result<Rules, LineFault>
     ensures reads { Reads (λ rules. rules) result (rules_in pieces text.now) }
     ensures shallow { IfOk result (λ rules. 1 ≤ rules.depth) }
-    ensures deep { IfOk result (λ rules. rules.depth ≤ 64) }
+    ensures deep { IfOk result (λ rules. rules.depth ≤ MOST_DEPTH) }
     ensures random { IfOk result (λ rules. rules.random ≤ pieces) }
 {
     let fields = fields(alloc, text)?;
@@ -35,7 +32,7 @@ pub fn read_rules(alloc: Global, text: &[u8], pieces: u32) -> Result<Rules, Line
 /// How many blocks may be asked of a peer, within its limits.
 fn depth_of(text: &[u8]) -> Result<u32, LineFault>
     ensures reads { Reads (λ n. n) result (depth_in text.now) }
-    ensures within { IfOk result (λ n. (1 ≤ n) × (n ≤ 64)) }
+    ensures within { IfOk result (λ n. (1 ≤ n) × (n ≤ MOST_DEPTH)) }
 {
     let depth = small_number(text)?;
     if depth < 1 || depth > MOST_DEPTH {

@@ -7,10 +7,8 @@ ghost use Rattle.bt_script.specs.Setups.{setup_in, digests_in, workers_in};
 use super::LineFault;
 use super::fields::{fields, hex_digest, is, number, small_number};
 use bt_meta::{MetaFault, Torrent};
+use bt_picker::MOST_WORKERS;
 use std::alloc::Global;
-
-/// The workers that a desk may have.
-pub const MOST_WORKERS: u32 = 1024;
 
 /// What a script is about.
 #[derive(Drop)]
@@ -23,7 +21,7 @@ impl Setup {
     /// The setup that this text says: `torrent`, the piece length, the total, the number of workers, and each piece's hash.
     pub fn parse(alloc: Global, text: &[u8]) -> Result<Setup, LineFault>
         ensures reads { Reads (λ s. s) result (setup_in text.now) }
-        ensures workers { IfOk result (λ s. (1 ≤ s.workers) × (s.workers ≤ 1024)) }
+        ensures workers { IfOk result (λ s. (1 ≤ s.workers) × (s.workers ≤ MOST_WORKERS)) }
     {
         let fields = fields(alloc, text)?;
         let [word, piece_length, total, workers, hashes @ ..] = fields.as_slice() else {
@@ -55,7 +53,7 @@ impl From<MetaFault> for LineFault {
 /// The number of workers, within its limits.
 fn worker_count(text: &[u8]) -> Result<u32, LineFault>
     ensures reads { Reads (λ n. n) result (workers_in text.now) }
-    ensures within { IfOk result (λ n. (1 ≤ n) × (n ≤ 1024)) }
+    ensures within { IfOk result (λ n. (1 ≤ n) × (n ≤ MOST_WORKERS)) }
 {
     let workers = small_number(text)?;
     if workers < 1 || workers > MOST_WORKERS {
