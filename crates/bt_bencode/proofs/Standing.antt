@@ -172,6 +172,7 @@ dict_entries room source at es end is = sym (entries_within room source at (dict
 pub is_dict_stands : (room : ℕ) (source : List ℕ) (at : ℕ) (t : Term) (end : ℕ) → Stands room source at t end →
     is_some (entries_of t) ≡ eqb (get_or source at 0) 100
 is_dict_stands room source at t end (an_integer n byte read is) = rw (is, byte) refl
-is_dict_stands room source at t end (a_string bytes byte read is) = rw (is, ne_eqb (get_or source at 0) 100 (λ e. not_digit _ 100 e (omega arith) byte)) refl
+is_dict_stands room source at t end (a_string bytes byte read is) =
+    rw (is, ne_eqb (get_or source at 0) 100 (λ e. not_digit _ 100 e (omega arith) byte)) refl
 is_dict_stands room source at t end (a_list ts byte read is) = rw (is, byte) refl
 is_dict_stands room source at t end (a_dict es byte read is) = rw (is, byte) refl

@@ -192,7 +192,7 @@ fn find<'a>(entries: &'a [(Vec<u8>, Tree)], key: &[u8]) -> Option<&'a Tree>
 /// The levels of the deepest item.
 fn deepest_item(items: &[Tree]) -> u8
     ensures levels { result ≡ depth_of_terms (terms_from items.now) }
-    ensures bound { result ≤ 64 }
+    ensures bound { result ≤ MAX_DEPTH }
     ensures sound { AreSound (terms_from items.now) }
 {
     let mut levels = 0;
@@ -205,7 +205,7 @@ fn deepest_item(items: &[Tree]) -> u8
 /// The levels of the deepest value.
 fn deepest_value(entries: &[(Vec<u8>, Tree)]) -> u8
     ensures levels { result ≡ depth_of_entries (entries_from entries.now) }
-    ensures bound { result ≤ 64 }
+    ensures bound { result ≤ MAX_DEPTH }
     ensures sound { EntriesAreSound (entries_from entries.now) }
 {
     let mut levels = 0;

@@ -58,7 +58,8 @@ cancel_stores_nothing (Refused reason) b is = refl
 cancelled_at : (q : ℕ) (e : Event) (a b : Block) → same_begin a b ≡ true → cancelled q e a ≡ cancelled q e b
 cancelled_at q e a b same = ap (λ (x : Bool). (e.worker == q) && x)
     (sym (ap (cancelled_by e.reply) (same_but_len a b same) ∙ resized_reply e.reply a b.len)) where
-      resized_reply : (reply : Reply) (c : Block) (n : ℕ) → cancelled_by reply (record { piece = c.piece; begin = c.begin; len = n }) ≡ cancelled_by reply
+      resized_reply : (reply : Reply) (c : Block) (n : ℕ) →
+          cancelled_by reply (record { piece = c.piece; begin = c.begin; len = n }) ≡ cancelled_by reply
           c
       resized_reply (Cancel a) c n = refl
       resized_reply Joined c n = refl

@@ -72,7 +72,8 @@ module _ (bytes : List ℕ) (from : ℕ) where
       let parts = div-add-mod' from 8 in
       let e : 7 - k - from % 8 ≡ 7 - (from % 8 + k) = omega arith in
       bit_of bytes (from + k) (from / 8) (from % 8 + k) within (omega arith)
-      ∙ ap (λ b. b == 1) (sym (shifted_bit (get_or bytes (from / 8) 0) (from % 8) (7 - k) (omega arith) (omega arith) ∙ ap (bit_at (get_or bytes (from / 8) 0)) e))
+      ∙ ap (λ b. b == 1)
+      (sym (shifted_bit (get_or bytes (from / 8) 0) (from % 8) (7 - k) (omega arith) (omega arith) ∙ ap (bit_at (get_or bytes (from / 8) 0)) e))
 
   -- a set bit of the rest is one of the byte
   rest_within : (zeros : ℕ) → IsFirstBit rest zeros → from % 8 + zeros < 8

@@ -17,7 +17,8 @@ pub record Partly (old new : Option (List ℕ)) (bytes rest : List ℕ) : Type 0
 pub partly_start : (a : Option (List ℕ)) (bytes : List ℕ) → Partly a a bytes bytes
 partly_start a bytes = record { done = []; parts = refl; wrote = Appends-nil a }
 
-pub partly_more : (a b c : Option (List ℕ)) (bytes rest : List ℕ) (n : ℕ) → Partly a b bytes rest → Appends b c (take n rest) → Partly a c bytes (drop n rest)
+pub partly_more : (a b c : Option (List ℕ)) (bytes rest : List ℕ) (n : ℕ) → Partly a b bytes rest → Appends b c (take n rest) →
+    Partly a c bytes (drop n rest)
 partly_more a b c bytes rest n p more = record {
   done = p.done ++ take n rest;
   parts = p.parts ∙ ap (λ (xs : List ℕ). p.done ++ xs) (sym (take-append-drop n rest)) ∙ sym (append_assoc p.done (take n rest) (drop n rest));

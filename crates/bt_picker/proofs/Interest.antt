@@ -80,14 +80,16 @@ nothing_interests s h q asked_out begun lists_out lists_begun none_out none_begu
             (and_from (shows h q p) _ shown (and_from (not (had h p)) _ (ap not lacks) (ap not touched_is))))
         by_group wants shown lacks true true touched_is all_is =
             unlisted 1 p asked_out lists_out none_out lp shown
-            (group_is s h p ∙ (λ i. if lacks i || not (picked i) then 0 else if not (touched_is i) then shown_group (availability s h p) else if all_is
+            (group_is s h p
+            ∙ (λ i. if lacks i || not (picked i) then 0 else if not (touched_is i) then shown_group (availability s h p) else if all_is
             i then 1 else 2))
           where
             picked : chosen h p ≡ true
             picked = sym (wanted_chosen s h p lp) ∙ wants
         by_group wants shown lacks true false touched_is all_is =
             unlisted 2 p begun lists_begun none_begun lp shown
-            (group_is s h p ∙ (λ i. if lacks i || not (picked i) then 0 else if not (touched_is i) then shown_group (availability s h p) else if all_is
+            (group_is s h p
+            ∙ (λ i. if lacks i || not (picked i) then 0 else if not (touched_is i) then shown_group (availability s h p) else if all_is
             i then 1 else 2))
           where
             picked : chosen h p ≡ true

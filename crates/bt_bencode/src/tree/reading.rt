@@ -63,7 +63,7 @@ struct ReadEntries {
 #[tactic(auto, using(crate::proofs::Values::value_rules))]
 fn value(alloc: Global, source: &[u8], at: usize, room: u8) -> Result<(Tree, usize), BenFault>
     requires place { at ≤ length source.now }
-    requires room { room ≤ 64 }
+    requires room { room ≤ MAX_DEPTH }
     ensures read { Gives (λ x. x) result (value_at room source.now at) }
     ensures end { IfOk result (λ x. (at < x.1) × (x.1 ≤ length source.now)) }
     ensures levels { IfOk result (λ x. depth x.0 ≤ room) }

@@ -3,13 +3,14 @@ ghost use Rattle.bt_bencode.specs.Reading.{end_of, value_at, items_in, entries_i
 
 use crate::fault::BenFault;
 use crate::scalar::{integer, key, string};
+use crate::tree::MAX_DEPTH;
 
 /// The place behind the value at a place with room for this many levels.
 #[cycle(skip)]
 #[tactic(auto, using(crate::proofs::Skips::skip_rules))]
 pub(crate) fn skip(source: &[u8], at: usize, room: u8) -> Result<usize, BenFault>
     requires place { at ≤ length source.now }
-    requires room { room ≤ 64 }
+    requires room { room ≤ MAX_DEPTH }
     ensures read { result ≡ end_of (value_at room source.now at) }
     ensures end { IfOk result (λ end. (at < end) × (end ≤ length source.now)) }
 {
@@ -30,7 +31,7 @@ pub(crate) fn skip(source: &[u8], at: usize, room: u8) -> Result<usize, BenFault
 #[cycle(skip)]
 fn skip_items(source: &[u8], at: usize, room: u8) -> Result<usize, BenFault>
     requires place { at ≤ length source.now }
-    requires room { room ≤ 64 }
+    requires room { room ≤ MAX_DEPTH }
     ensures read { result ≡ end_of (items_in room source.now at) }
     ensures end { IfOk result (λ end. (at < end) × (end ≤ length source.now)) }
 {
@@ -51,7 +52,7 @@ fn skip_items(source: &[u8], at: usize, room: u8) -> Result<usize, BenFault>
 #[cycle(skip)]
 fn skip_entries(source: &[u8], at: usize, room: u8) -> Result<usize, BenFault>
     requires place { at ≤ length source.now }
-    requires room { room ≤ 64 }
+    requires room { room ≤ MAX_DEPTH }
     ensures read { result ≡ end_of (entries_in room source.now at) }
     ensures end { IfOk result (λ end. (at < end) × (end ≤ length source.now)) }
 {

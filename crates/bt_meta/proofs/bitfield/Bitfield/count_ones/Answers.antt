@@ -11,4 +11,5 @@ has-requires c =
 pub returns : goal.returns
 returns c =
     let few = counted c.self.inside.count c.self.inside.bytes.items c.args.self.now c.self.view_is in
-    c.loop-piece.invariant ∙ ap (count_by (λ (flag : Bool). flag)) (take_all c.loop-piece.piece c.args.self.now (omega (arith, few, c.loop-piece-test.false)))
+    c.loop-piece.invariant
+    ∙ ap (count_by (λ (flag : Bool). flag)) (take_all c.loop-piece.piece c.args.self.now (omega (arith, few, c.loop-piece-test.false)))
