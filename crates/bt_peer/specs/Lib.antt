@@ -1,6 +1,7 @@
 pub mod Acts
 pub mod Conduct
 pub mod Desks
+pub mod Hearing
 pub mod Outcomes
 pub mod Outlets
 pub mod Places

@@ -5,10 +5,11 @@ ghost use Rattle.std.specs.Prelude.{◌≡◌, ◌<◌, ◌≤◌, true, false, 
 use crate::fault::{End, SessionFault};
 use crate::handshake::greeting;
 use crate::place::Place;
+use crate::reader::Heard;
 use crate::terms::Terms;
-use crate::turn::{Peer, greet, listen};
+use crate::turn::{greet, listen};
 use bt_meta::{Sink, Source, Torrent};
-use bt_wire::{Inbound, frame_limit};
+use bt_wire::frame_limit;
 use rand_pcg::Lcg64Xsh32;
 use std::alloc::Global;
 use std::marker::Model;
@@ -19,15 +20,17 @@ use std::sync::Arc;
 pub struct Session {
     terms: Terms,
     worker: u32,
-    peer: Peer,
+    heard: Heard,
     joined: bool,
+    /// We have told the peer that we are interested, and not since then that we aren't.
+    interested: bool,
     messages: u64,
     outcome: Option<Result<End, SessionFault>>,
 }
 
 impl Model for Session {
     ghost use Rattle.std.specs.Prelude.{◌≡◌, ◌≤◌, ◌+◌, ◌*◌, None, length};
-    ghost use Rattle.bt_peer.specs.Reader.{most_reads, room_len};
+    ghost use Rattle.bt_peer.specs.Reader.{room_len};
     ghost use Rattle.bt_peer.specs.Sessions.{SessionState};
 
     ghost Value = { SessionState };
@@ -35,16 +38,16 @@ impl Model for Session {
     ghost view = { λ a. record {
       terms = a.terms;
       worker = a.worker;
-      stream = a.peer.inbound;
+      stream = a.heard.inbound;
       joined = a.joined;
-      interested = a.peer.interested;
-      reads = a.peer.reads;
+      interested = a.interested;
+      reads = a.heard.reads;
       messages = a.messages;
       outcome = a.outcome;
     } };
 
-    ghost invariant = { λ a. (a.peer.reads ≤ most_reads) × (a.outcome ≡ None →
-        (a.peer.inbound.greeted ≡ a.joined) × (4 * a.messages + length a.peer.inbound.bytes ≤ room_len * a.peer.reads)) };
+    ghost invariant = { λ a. a.outcome ≡ None →
+        (a.heard.inbound.greeted ≡ a.joined) × (4 * a.messages + length a.heard.inbound.bytes ≤ room_len * a.heard.reads) };
 }
 
 impl Session {
@@ -66,12 +69,9 @@ impl Session {
         Session {
             terms: Terms::new(torrent, depth),
             worker,
-            peer: Peer {
-                inbound: Inbound::new(alloc, limit),
-                reads: 0,
-                interested: false,
-            },
+            heard: Heard::new(alloc, limit),
             joined: false,
+            interested: false,
             messages: 0,
             outcome: None,
         }
@@ -118,7 +118,7 @@ impl Session {
             alloc,
             &self.terms,
             &hello,
-            &mut self.peer,
+            &mut self.heard,
             reader,
             writer,
             place,
@@ -184,7 +184,8 @@ impl Session {
         match listen(
             alloc,
             &self.terms,
-            &mut self.peer,
+            &mut self.heard,
+            &mut self.interested,
             reader,
             writer,
             place,
