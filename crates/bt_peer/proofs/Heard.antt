@@ -84,8 +84,3 @@ pub later : (old : InboundState) (left left' : Option (List ℕ)) (m : Message) 
     IsLater m
 later old left left' m new greeted hears =
     framed old.limit m hears.gives.text (subst (λ (b : Bool). Spells b old.limit m hears.gives.text) greeted hears.gives.spells)
-
--- behind a message the stream is greeted
-pub greeted_then : (old : InboundState) (left left' : Option (List ℕ)) (m : Message) (new : InboundState) → Hears old left left' m new →
-    new.greeted ≡ true
-greeted_then old left left' m new hears = ap (λ (stream : InboundState). stream.greeted) hears.gives.after

@@ -13,10 +13,8 @@ use Rattle.bt_peer.specs.Acts.{Act, Called, is_refusal, is_check, is_refused_cal
 use Rattle.bt_peer.specs.Writer.{answer, interest_by}
 use Rattle.bt_peer.specs.Places.{PlaceRecord, Gains, LacksMemory}
 use Rattle.bt_peer.specs.Turns.{Opens, Checks, ChecksAtMost, if_completed, arrived_piece, NoneRefused}
-use Rattle.bt_peer.specs.Outlets.{Outlet, Performs, PerformsUpTo, StopsCall, EndsCalls, IsCut}
-use Rattle.std.specs.Io.KnownBytes.{Appends}
-use Rattle.std.proofs.KnownBytes.{Appends-nil}
-use Rattle.bt_peer.proofs.Stretches.{Performs-join, Performs-stops}
+use Rattle.bt_peer.specs.Outlets.{Outlet, Performs, PerformsUpTo, StopsCall, EndsCalls, IsCut, Writes}
+use Rattle.bt_peer.proofs.Stretches.{Performs-join, Performs-stops, Writes-none, WritesUpTo-none}
 use Rattle.bt_peer.proofs.Asking.{stops_ways, ends_cut}
 
 -- a call of a session's own is no check
@@ -93,13 +91,14 @@ opening_stops mark fault a c own stopped =
     ]
 
 -- there was no memory for the check
-pub opening_unchecked : (mark : CallMark) (reply : Reply) (fault : SessionFault) (a b : Outlet) (past : PlaceRecord) → IsCut fault →
-    is_refusal reply ≡ false → Performs a (Called mark reply ∷ []) b → LacksMemory b.past past → OpeningStops fault mark a (record b { past = past })
-opening_unchecked mark reply fault a b past cut accepted does lacks =
-    let stops : PerformsUpTo fault b [] (record b { past = past }) =
-    record { gains = lacks.gains; wrote = record { front = []; rest = []; parts = refl; wrote = Appends-nil b.written; all = inr refl } } in
-    stops_one fault mark reply a (record b { past = past }) cut accepted
-    (Performs-stops fault a b (record b { past = past }) (Called mark reply ∷ []) [] does stops)
+pub opening_unchecked : (mark : CallMark) (reply : Reply) (a b : Outlet) (past : PlaceRecord) → is_refusal reply ≡ false →
+    Performs a (Called mark reply ∷ []) b → LacksMemory b.past past → OpeningStops faults.NoMemory mark a (record b { past = past })
+opening_unchecked mark reply a b past accepted does lacks =
+    let c = record b { past = past } in
+    let stops : PerformsUpTo faults.NoMemory b [] c =
+    record { gains = lacks.gains; writes = WritesUpTo-none faults.NoMemory b.said (λ is. cc) } in
+    stops_one faults.NoMemory mark reply a c (inr refl) accepted
+    (Performs-stops faults.NoMemory a b c (Called mark reply ∷ []) [] does stops)
 
 -- a check's reply calls for nothing
 check_says : (piece : ℕ) (i : Bool) (reply : Reply) → IsTrue (answers (marks.Settle piece) reply) → answer i reply ++ [] ≡ []
@@ -129,7 +128,7 @@ opening_checked mark reply piece a b past is accepted does seen =
     elim seen.1.0 [
       | inl none ↦
           let nothing : Performs b [] (record b { past = past }) =
-          record { gains = subst (λ (es : List Act). Gains b.past es past) none seen.1.1; wrote = Appends-nil b.written; interest = refl } in (
+          record { gains = subst (λ (es : List Act). Gains b.past es past) none seen.1.1; writes = Writes-none b.said; interest = refl } in (
             Called mark reply ∷ [],
             (
               (refl, unchecked mark reply),
@@ -141,8 +140,9 @@ opening_checked mark reply piece a b past is accepted does seen =
           let act : Act = Called (marks.Settle piece) check.0 in
           let does_check : Performs b (act ∷ []) (record b { past = past }) = record {
             gains = subst (λ (es : List Act). Gains b.past es past) check.1.1 seen.1.1;
-            wrote = subst (Appends b.written b.written) (sym (check_says piece b.interested check.0 check.1.0)) (Appends-nil b.written);
-            interest = check_interest piece b.interested check.0 check.1.0;
+            writes = subst (λ (xs : List ℕ). Writes b.said xs b.said) (sym (check_says piece b.said.interested check.0 check.1.0))
+                (Writes-none b.said);
+            interest = check_interest piece b.said.interested check.0 check.1.0;
           } in (
             Called mark reply ∷ act ∷ [],
             (

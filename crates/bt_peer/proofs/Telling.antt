@@ -1,14 +1,13 @@
 -- News, one piece after another.
 use Rattle.std.proofs.Common.{inl, inr, ◌⊎◌, ◌∙◌, refl, ◌≡◌, ℕ, ◌+◌, ◌≤◌, List, [], ◌∷◌, ◌++◌, length, map, sym, subst, arith, length-append}
 use Rattle.std.proofs.lemmas.List.{append-nil, map-append}
-use Rattle.std.specs.Io.KnownBytes.{Appends}
 use Rattle.bt_wire.specs.Messages.{spelling}
 use Rattle.bt_wire.specs.declared.message.Message.TheVariants as messages
 use Rattle.bt_peer.specs.declared.fault.SessionFault.{SessionFault}
 use Rattle.bt_peer.specs.Acts.{Act, News}
-use Rattle.bt_peer.specs.Places.{Gains, AllTold}
-use Rattle.bt_peer.specs.Outlets.{Outlet, Performs, PerformsUpTo, WroteFront, IsCut}
-use Rattle.bt_peer.proofs.Stretches.{up_to, Performs-none, Performs-join, Performs-stops}
+use Rattle.bt_peer.specs.Places.{PlaceRecord, Gains, AllTold}
+use Rattle.bt_peer.specs.Outlets.{Outlet, Performs, PerformsUpTo, Writes, WritesUpTo, IsCut}
+use Rattle.bt_peer.proofs.Stretches.{up_to, Writes-none, Performs-none, Performs-join, Performs-stops}
 
 -- so many pieces were told
 pub record Telling (a b : Outlet) (most : ℕ) : Type 0 where
@@ -19,33 +18,33 @@ pub record Telling (a b : Outlet) (most : ℕ) : Type 0 where
 pub Telling-start : (a : Outlet) → Telling a a 0
 Telling-start a = record { news = []; count = refl; does = Performs-none a }
 
-told_one : (piece : ℕ) (b c : Outlet) → Gains b.past (News piece ∷ []) c.past → Appends b.written c.written (spelling (messages.Have piece)) →
-    c.interested ≡ b.interested → Performs b (News piece ∷ []) c
-told_one piece b c gains wrote same = record {
+told_one : (piece : ℕ) (b c : Outlet) → Gains b.past (News piece ∷ []) c.past → Writes b.said (spelling (messages.Have piece)) c.said →
+    c.said.interested ≡ b.said.interested → Performs b (News piece ∷ []) c
+told_one piece b c gains writes same = record {
   gains = gains;
-  wrote =
-      subst (Appends b.written c.written) (sym (append-nil (spelling (messages.Have piece)))) wrote;
+  writes = subst (λ (xs : List ℕ). Writes b.said xs c.said) (sym (append-nil (spelling (messages.Have piece)))) writes;
   interest = same;
 }
 
 pub Telling-more : (piece : ℕ) (a b c : Outlet) (most : ℕ) → Telling a b most → Gains b.past (News piece ∷ []) c.past →
-    Appends b.written c.written (spelling (messages.Have piece)) → c.interested ≡ b.interested → Telling a c (most + 1)
-Telling-more piece a b c most t gains wrote same =
+    Writes b.said (spelling (messages.Have piece)) c.said → c.said.interested ≡ b.said.interested → Telling a c (most + 1)
+Telling-more piece a b c most t gains writes same =
     record {
       news = t.news ++ piece ∷ [];
       count = omega (arith, t.count, length-append t.news (piece ∷ []));
       does = subst (λ (es : List Act). Performs a es c) (sym (map-append News t.news (piece ∷ [])))
-          (Performs-join a b c (map News t.news) (News piece ∷ []) t.does (told_one piece b c gains wrote same));
+          (Performs-join a b c (map News t.news) (News piece ∷ []) t.does (told_one piece b c gains writes same));
     }
 
 abbrev Told : ℕ → Outlet → Outlet → Type 0
 Told most a c = (news : List ℕ) × ((length news ≤ most) × ((length news ≡ most) ⊎ AllTold c.past) × Performs a (map News news) c)
 
 -- no more news
-pub Telling-done : (a b c : Outlet) (n most : ℕ) → Telling a b n → n ≤ most → Gains b.past [] c.past → AllTold c.past →
-    Appends b.written c.written [] → c.interested ≡ b.interested → Told most a c
-Telling-done a b c n most t le gains all wrote same =
-    let nothing : Performs b [] c = record { gains = gains; wrote = wrote; interest = same } in (
+pub Telling-done : (a b : Outlet) (past : PlaceRecord) (n most : ℕ) → Telling a b n → n ≤ most → Gains b.past [] past → AllTold past →
+    Told most a (record b { past = past })
+Telling-done a b past n most t le gains all =
+    let c = record b { past = past } in
+    let nothing : Performs b [] c = record { gains = gains; writes = Writes-none b.said; interest = refl } in (
       t.news,
       (
         omega (arith, t.count),
@@ -60,14 +59,14 @@ Telling-full a b n most t is = (t.news, (omega (arith, t.count, is), inl (t.coun
 
 -- a have that was cut off
 pub Telling-cut : (fault : SessionFault) (piece : ℕ) (a b c : Outlet) (n most : ℕ) → Telling a b n → n + 1 ≤ most →
-    Gains b.past (News piece ∷ []) c.past → IsCut fault → WroteFront fault b.written (spelling (messages.Have piece)) c.written →
+    Gains b.past (News piece ∷ []) c.past → IsCut fault → WritesUpTo fault b.said (spelling (messages.Have piece)) c.said →
     (news : List ℕ) × ((length news ≤ most) × IsCut fault × PerformsUpTo fault a (map News news) c)
-Telling-cut fault piece a b c n most t le gains cut wrote =
+Telling-cut fault piece a b c n most t le gains cut writes =
     let stops : PerformsUpTo fault b (News piece ∷ []) c =
     record {
       gains = up_to b.past c.past (News piece ∷ []) gains;
-      wrote =
-          subst (λ (xs : List ℕ). WroteFront fault b.written xs c.written) (sym (append-nil (spelling (messages.Have piece)))) wrote;
+      writes =
+          subst (λ (xs : List ℕ). WritesUpTo fault b.said xs c.said) (sym (append-nil (spelling (messages.Have piece)))) writes;
     } in (
       t.news ++ piece ∷ [],
       (

@@ -1,11 +1,9 @@
 -- The parts of a turn, one after another.
-use Rattle.std.proofs.Common.{◌≡◌, ℕ, ◌≤◌, List, [], ◌∷◌, ◌++◌, length, map, Bool, true, false, Option, Some, None, refl, sym, ap, subst, ◌∙◌}
+use Rattle.std.proofs.Common.{◌≡◌, ◌≢◌, ℕ, ◌≤◌, List, [], ◌∷◌, ◌++◌, length, map, Bool, true, false, Option, Some, None, refl, sym, ap, subst, ◌∙◌}
 use Rattle.std.proofs.Common.{append_assoc, inl, inr, ◌⊎◌, arith}
 use Rattle.std.specs.Prelude.{◌||◌}
 use Rattle.std.specs.List.{list_any}
-use Rattle.std.specs.Io.KnownBytes.{Appends}
 use Rattle.std.proofs.lemmas.List.{append-nil}
-use Rattle.bt_wire.specs.Messages.{spelling}
 use Rattle.bt_wire.specs.declared.message.Message.{Message}
 use Rattle.bt_wire.specs.declared.message.Message.TheVariants as messages
 use Rattle.bt_history.specs.declared.mark.CallMark.{CallMark}
@@ -13,14 +11,12 @@ use Rattle.bt_history.specs.declared.call.Reply.TheVariants as replies
 use Rattle.bt_peer.specs.declared.fault.SessionFault.{SessionFault}
 use Rattle.bt_peer.specs.declared.fault.SessionFault.TheVariants as faults
 use Rattle.bt_peer.specs.Acts.{Act, Called, News, is_refused_call}
-use Rattle.bt_peer.specs.Writer.{says, interest_after}
 use Rattle.bt_peer.specs.Terms.{TermsState, pieces_of, most_next}
 use Rattle.bt_peer.specs.Turns.{call_of, Opens, Asks, Attends, IsTurn, BeginsTurn, IsAcceptable, NoneRefused, IsLater}
-use Rattle.bt_peer.specs.Outlets.{Outlet, Performs, PerformsUpTo, EndsCalls, IsCut, WroteFront}
+use Rattle.bt_peer.specs.Outlets.{Outlet, Performs, PerformsUpTo, EndsCalls, IsCut}
 use Rattle.bt_peer.specs.Steps.{StopsOpening, StopsTurn, TellsNews}
 use Rattle.bt_peer.specs.Places.{AllTold}
-use Rattle.std.proofs.KnownBytes.{Appends-nil}
-use Rattle.bt_peer.proofs.Stretches.{Performs-join, Performs-stops, Gains-none, up_to}
+use Rattle.bt_peer.proofs.Stretches.{Performs-join, Performs-stops, WritesUpTo-none, Gains-none, up_to}
 use Rattle.bt_peer.proofs.Asking.{asks_some, ends_cut}
 
 or_false : (a b c : Bool) → (a || b) ≡ false → (b ≡ false → c ≡ false) → (a || c) ≡ false
@@ -35,32 +31,6 @@ none_refused-append (e ∷ es) fs p q = or_false (is_refused_call e) (list_any i
 none_refused-news : (news : List ℕ) → NoneRefused (map News news)
 none_refused-news [] = refl
 none_refused-news (piece ∷ news) = none_refused-news news
-
--- what news say doesn't hang on the interest
-news_say : (i : Bool) (news : List ℕ) → says i (map News news) ≡ says false (map News news)
-news_say i [] = refl
-news_say i (piece ∷ news) = ap (λ (xs : List ℕ). spelling (messages.Have piece) ++ xs) (news_say i news)
-
-news_interest : (i : Bool) (news : List ℕ) → interest_after i (map News news) ≡ i
-news_interest i [] = refl
-news_interest i (piece ∷ news) = news_interest i news
-
-news_do : (b c : Outlet) (news : List ℕ) → Performs (record b { interested = false }) (map News news) (record c { interested = false }) →
-    c.interested ≡ b.interested → Performs b (map News news) c
-news_do b c news does same =
-    record {
-      gains = does.gains;
-      wrote = subst (Appends b.written c.written) (sym (news_say b.interested news)) does.wrote;
-      interest = same ∙ sym (news_interest b.interested news);
-    }
-
-news_stop : (fault : SessionFault) (b c : Outlet) (news : List ℕ) →
-    PerformsUpTo fault (record b { interested = false }) (map News news) (record c { interested = false }) → PerformsUpTo fault b (map News news) c
-news_stop fault b c news stops =
-    record {
-      gains = stops.gains;
-      wrote = subst (λ (xs : List ℕ). WroteFront fault b.written xs c.written) (sym (news_say b.interested news)) stops.wrote;
-    }
 
 later_turn : (terms : TermsState) (m : Message) (es : List Act) → IsLater m → Attends terms m es → IsTurn terms m es
 later_turn terms (messages.Hello hello) es later attends = absurd later
@@ -77,11 +47,9 @@ Opened o a b = (acts : List Act) × (Opens o acts × NoneRefused acts × Perform
 abbrev pub OpenedStops : SessionFault → ℕ → Message → Outlet → Outlet → Type 0
 OpenedStops fault pieces m a b = (acts : List Act) × (StopsOpening fault pieces m acts × PerformsUpTo fault a acts b)
 
-stops_at_once : (fault : SessionFault) (a : Outlet) → PerformsUpTo fault a [] a
-stops_at_once fault a = record {
-  gains = up_to a.past a.past [] (Gains-none a.past);
-  wrote = record { front = []; rest = []; parts = refl; wrote = Appends-nil a.written; all = inr refl };
-}
+stops_at_once : (fault : SessionFault) (a : Outlet) → fault ≢ faults.WriteFault → PerformsUpTo fault a [] a
+stops_at_once fault a other =
+    record { gains = up_to a.past a.past [] (Gains-none a.past); writes = WritesUpTo-none fault a.said other }
 
 -- no call was made of the message
 pub nothing_came : (pieces : ℕ) (m : Message) (fault : SessionFault) (a : Outlet) →
@@ -89,10 +57,10 @@ pub nothing_came : (pieces : ℕ) (m : Message) (fault : SessionFault) (a : Outl
 nothing_came pieces m fault a cause =
     let rest = opens_some (call_of m) in
     elim cause [
-      | inl memory ↦
-          ([], (subst (λ (f : SessionFault). StopsOpening f pieces m []) (sym memory.0) (memory.1, (rest.0, (rest.1, refl))), stops_at_once fault a))
-      | inr bad ↦
-          ([], (subst (λ (f : SessionFault). StopsOpening f pieces m []) (sym bad.0) (bad.1, refl), stops_at_once fault a))
+      | inl memory ↦ subst (λ (f : SessionFault). OpenedStops f pieces m a a) (sym memory.0)
+          ([], ((memory.1, (rest.0, (rest.1, refl))), stops_at_once faults.NoMemory a (λ is. cc)))
+      | inr bad ↦ subst (λ (f : SessionFault). OpenedStops f pieces m a a) (sym bad.0)
+          ([], ((bad.1, refl), stops_at_once faults.BadBits a (λ is. cc)))
     ]
 
 stops_opening : (fault : SessionFault) (pieces : ℕ) (m : Message) (es rest : List Act) → IsAcceptable pieces m →
@@ -126,16 +94,15 @@ ends_after _ es fs none h = absurd h
 abbrev Told : ℕ → Outlet → Outlet → Type 0
 Told pieces b c = (news : List ℕ) ×
     ((length news ≤ pieces) × ((length news ≡ pieces) ⊎ AllTold c.past)
-    × Performs (record b { interested = false }) (map News news) (record c { interested = false }))
+    × Performs b (map News news) c)
 
 -- a whole turn
 pub turn_done : (terms : TermsState) (m : Message) (a b c d : Outlet) → IsLater m → IsAcceptable (pieces_of terms) m → Opened (call_of m) a b →
-    Told (pieces_of terms) b c →
-    c.interested ≡ b.interested → (asking : List Act) × (Asks (most_next terms) asking × NoneRefused asking × Performs c asking d) →
+    Told (pieces_of terms) b c → (asking : List Act) × (Asks (most_next terms) asking × NoneRefused asking × Performs c asking d) →
     (acts : List Act) × (IsTurn terms m acts × NoneRefused acts × TellsNews (pieces_of terms) a.past acts d.past × Performs a acts d)
-turn_done terms m a b c d later acceptable opened told same asked =
+turn_done terms m a b c d later acceptable opened told asked =
     let front = opened.0 ++ map News told.0 in
-    let does_front = Performs-join a b c opened.0 (map News told.0) opened.1.2 (news_do b c told.0 told.1.2 same) in
+    let does_front = Performs-join a b c opened.0 (map News told.0) opened.1.2 told.1.2 in
     let attends : Attends terms m (front ++ asked.0) = record {
       acceptable = acceptable;
       opening = opened.0;
@@ -209,7 +176,7 @@ turn_stops_open fault terms m a b later h = (h.0, (opening_stopped fault terms m
 pub turn_stops_news : (fault : SessionFault) (terms : TermsState) (m : Message) (a b c : Outlet) → IsLater m → IsAcceptable (pieces_of terms) m →
     Opened (call_of m) a b →
     (news : List ℕ) × ((length news ≤ pieces_of terms) × IsCut fault
-    × PerformsUpTo fault (record b { interested = false }) (map News news) (record c { interested = false })) →
+    × PerformsUpTo fault b (map News news) c) →
     TurnStops fault terms m a c
 turn_stops_news fault terms m a b c later acceptable opened told =
     let idle = asks_some (most_next terms) in
@@ -228,20 +195,19 @@ turn_stops_news fault terms m a b c later acceptable opened told =
       front,
       (
         stops_turn fault terms m front (idle.0, later_turn terms m (front ++ idle.0) later attends) (ends_cut fault front told.1.1 none),
-        Performs-stops fault a b c opened.0 (map News told.0) opened.1.2 (news_stop fault b c told.0 told.1.2),
+        Performs-stops fault a b c opened.0 (map News told.0) opened.1.2 told.1.2,
       ),
     )
 
 -- a Next call stopped
 pub turn_stops_ask : (fault : SessionFault) (terms : TermsState) (m : Message) (a b c d : Outlet) → IsLater m → IsAcceptable (pieces_of terms) m →
     Opened (call_of m) a b → Told (pieces_of terms) b c →
-    c.interested ≡ b.interested →
     (asking : List Act) × ((rest : List Act) × (Asks (most_next terms) (asking ++ rest) × EndsCalls fault asking ×
     PerformsUpTo fault c asking d)) →
     TurnStops fault terms m a d
-turn_stops_ask fault terms m a b c d later acceptable opened told same asked =
+turn_stops_ask fault terms m a b c d later acceptable opened told asked =
     let front = opened.0 ++ map News told.0 in
-    let does_front = Performs-join a b c opened.0 (map News told.0) opened.1.2 (news_do b c told.0 told.1.2 same) in
+    let does_front = Performs-join a b c opened.0 (map News told.0) opened.1.2 told.1.2 in
     let none = none_refused-append opened.0 (map News told.0) opened.1.1 (none_refused-news told.0) in
     let acts = front ++ asked.0 in
     let attends : Attends terms m (acts ++ asked.1.0) = record {

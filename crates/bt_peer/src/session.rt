@@ -8,6 +8,7 @@ use crate::place::Place;
 use crate::reader::Heard;
 use crate::terms::Terms;
 use crate::turn::{greet, listen};
+use crate::writer::Said;
 use bt_meta::{Sink, Source, Torrent};
 use bt_wire::frame_limit;
 use rand_pcg::Lcg64Xsh32;
@@ -114,15 +115,20 @@ impl Session {
         ensures failed { IfErr result (λ fault. fault ≡ WriteFault → W.failed writer.new ≡ true) }
     {
         let hello = greeting(self.terms.infohash(), self.worker);
+        let mut said = Said {
+            writer,
+            interested: self.interested,
+        };
         let greeted = greet(
             alloc,
             &self.terms,
             &hello,
             &mut self.heard,
+            &mut said,
             reader,
-            writer,
             place,
         );
+        self.interested = said.interested;
         match greeted {
             Ok(()) => {
                 self.joined = true;
@@ -181,16 +187,21 @@ impl Session {
             self.first_turn(alloc, reader, writer, place)?;
             return Ok(None);
         }
-        match listen(
+        let mut said = Said {
+            writer,
+            interested: self.interested,
+        };
+        let listened = listen(
             alloc,
             &self.terms,
             &mut self.heard,
-            &mut self.interested,
+            &mut said,
             reader,
-            writer,
             place,
             rng,
-        ) {
+        );
+        self.interested = said.interested;
+        match listened {
             Ok(true) => {
                 self.messages += 1;
                 Ok(None)

@@ -1,6 +1,6 @@
 //! The turns of a session: the handshakes, and one message after another.
 
-ghost use Rattle.std.specs.Prelude.{◌≡◌, ◌++◌, [], Bool, true, false, List, IfOk, IfErr, OnOk, OnErr};
+ghost use Rattle.std.specs.Prelude.{◌≡◌, ◌++◌, [], true, false, List, IfOk, IfErr, OnOk, OnErr};
 ghost use Rattle.std.specs.Bool.{OnTrue, OnFalse};
 ghost use Rattle.bt_peer.specs.declared.fault.SessionFault.TheVariants.{WriteFault};
 ghost use Rattle.rand_core.specs.Stream.{Stream};
@@ -18,7 +18,7 @@ use crate::message::attend;
 use crate::place::Place;
 use crate::reader::Heard;
 use crate::terms::Terms;
-use crate::writer::write_all;
+use crate::writer::Said;
 use bt_history::{Call, Reply};
 use bt_meta::{Sink, Source};
 use bt_wire::Message;
@@ -31,31 +31,31 @@ pub fn greet<R: Source, W: Sink, P: Place>(
     terms: &Terms,
     greeting: &[u8],
     heard: &mut Heard,
+    said: &mut Said<'_, W>,
     reader: &mut R,
-    writer: &mut W,
     place: &mut P,
 ) -> Result<(), SessionFault>
     requires greeted { heard.old.inbound.greeted ≡ false }
-    // Nothing is said of interest.
-    ensures ok { OnOk result ((interested : Bool) → TakesTurn terms.now greeting.now
-        (reading heard.old.inbound interested) (surroundings P.past R.left W.written place.old reader.old writer.old)
-        (reading heard.new.inbound interested) (surroundings P.past R.left W.written place.new reader.new writer.new)) }
+    ensures ok { OnOk result (TakesTurn terms.now greeting.now
+        (reading heard.old.inbound said.old.interested) (surroundings P.past R.left W.written place.old reader.old said.old.writer.now)
+        (reading heard.new.inbound said.new.interested) (surroundings P.past R.left W.written place.new reader.new said.new.writer.now)) }
     // No word is drawn.
     ensures conduct { OnOk result ((generator : Stream) →
         Conducts P.settles generator (P.past place.old).calls (P.past place.new).calls generator) }
-    ensures ok_sound { OnOk result ((R.failed reader.new ≡ R.failed reader.old) × (W.failed writer.new ≡ W.failed writer.old)) }
+    ensures ok_sound { OnOk result ((R.failed reader.new ≡ R.failed reader.old) × (W.failed said.new.writer.now ≡ W.failed said.old.writer.now)) }
     ensures few { OnOk result (UsesUp (hearing R.Source heard.old reader.old) (hearing R.Source heard.new reader.new)) }
-    ensures err { IfErr result (λ fault. (interested : Bool) → (acts : List Act) × (GainsUpTo (P.past place.old) acts (P.past place.new)
+    ensures err { IfErr result (λ fault. (acts : List Act) × (GainsUpTo (P.past place.old) acts (P.past place.new)
         × (is_in false acts ≡ false)
-        × WroteFront fault (W.written writer.old) (greeting.now ++ says interested acts) (W.written writer.new)
+        × WroteFront fault (W.written said.old.writer.now) (greeting.now ++ says said.old.interested acts) (W.written said.new.writer.now)
         × BreaksBy fault (start terms.now false heard.old.inbound (R.left reader.old))
         (source_state R.left R.ended R.failed reader.new heard.new.reads) acts)) }
     ensures words { OnErr result ((generator : Stream) →
         DrawsWords generator (P.past place.old).calls (P.past place.new).calls) }
-    ensures err_failed { IfErr result (λ fault. fault ≡ WriteFault → W.failed writer.new ≡ true) }
+    ensures err_failed { IfErr result (λ fault. fault ≡ WriteFault → W.failed said.new.writer.now ≡ true) }
+    ensures same_sink { said.new.writer.ghost_name ≡ said.old.writer.ghost_name }
     ensures counted { StaysCounted (hearing R.Source heard.old reader.old) (hearing R.Source heard.new reader.new) }
 {
-    write_all(writer, greeting)?;
+    said.write(greeting)?;
     let Some(message) = heard.next(alloc, reader)? else {
         return Err(SessionFault::Truncated);
     };
@@ -89,32 +89,32 @@ pub fn listen<R: Source, W: Sink, P: Place, N: Rng>(
     alloc: Global,
     terms: &Terms,
     heard: &mut Heard,
-    interested: &mut bool,
+    said: &mut Said<'_, W>,
     reader: &mut R,
-    writer: &mut W,
     place: &mut P,
     rng: &mut N,
 ) -> Result<bool, SessionFault>
     requires greeted { heard.old.inbound.greeted ≡ true }
     ensures goes_on { IfOk result (λ goes_on. OnTrue goes_on (TakesTurn terms.now []
-        (reading heard.old.inbound interested.old) (surroundings P.past R.left W.written place.old reader.old writer.old)
-        (reading heard.new.inbound interested.new) (surroundings P.past R.left W.written place.new reader.new writer.new))) }
+        (reading heard.old.inbound said.old.interested) (surroundings P.past R.left W.written place.old reader.old said.old.writer.now)
+        (reading heard.new.inbound said.new.interested) (surroundings P.past R.left W.written place.new reader.new said.new.writer.now))) }
     ensures few { IfOk result (λ goes_on. OnTrue goes_on
         (UsesUp (hearing R.Source heard.old reader.old) (hearing R.Source heard.new reader.new))) }
     ensures leaves { IfOk result (λ goes_on. OnFalse goes_on (TakesLeave
-        (reading heard.old.inbound interested.old) (surroundings P.past R.left W.written place.old reader.old writer.old) (R.ended reader.new)
-        (reading heard.new.inbound interested.new) (surroundings P.past R.left W.written place.new reader.new writer.new))) }
+        (reading heard.old.inbound said.old.interested) (surroundings P.past R.left W.written place.old reader.old said.old.writer.now) (R.ended reader.new)
+        (reading heard.new.inbound said.new.interested) (surroundings P.past R.left W.written place.new reader.new said.new.writer.now))) }
     ensures conduct { OnOk result (Conducts P.settles
         (N.stream rng.old) (P.past place.old).calls (P.past place.new).calls (N.stream rng.new)) }
-    ensures ok_sound { OnOk result ((R.failed reader.new ≡ R.failed reader.old) × (W.failed writer.new ≡ W.failed writer.old)) }
+    ensures ok_sound { OnOk result ((R.failed reader.new ≡ R.failed reader.old) × (W.failed said.new.writer.now ≡ W.failed said.old.writer.now)) }
     ensures err { IfErr result (λ fault. (acts : List Act) × ((leave : List Act) ×
         (GainsUpTo (P.past place.old) (acts ++ leave) (P.past place.new)
         × Departs (is_in true acts) (P.past place.new).short leave
-        × WroteFront fault (W.written writer.old) (says interested.old acts) (W.written writer.new)
+        × WroteFront fault (W.written said.old.writer.now) (says said.old.interested acts) (W.written said.new.writer.now)
         × BreaksBy fault (start terms.now true heard.old.inbound (R.left reader.old))
         (source_state R.left R.ended R.failed reader.new heard.new.reads) acts))) }
     ensures words { OnErr result (DrawsWords (N.stream rng.old) (P.past place.old).calls (P.past place.new).calls) }
-    ensures err_failed { IfErr result (λ fault. fault ≡ WriteFault → W.failed writer.new ≡ true) }
+    ensures err_failed { IfErr result (λ fault. fault ≡ WriteFault → W.failed said.new.writer.now ≡ true) }
+    ensures same_sink { said.new.writer.ghost_name ≡ said.old.writer.ghost_name }
     ensures counted { StaysCounted (hearing R.Source heard.old reader.old) (hearing R.Source heard.new reader.new) }
 {
     let message = match heard.next(alloc, reader) {
@@ -130,7 +130,7 @@ pub fn listen<R: Source, W: Sink, P: Place, N: Rng>(
         }
         Err(fault) => return Err(leave_by(alloc, place, fault)),
     };
-    if let Err(fault) = attend(alloc, terms, message, place, writer, interested, rng) {
+    if let Err(fault) = attend(alloc, terms, message, place, said, rng) {
         return Err(leave_by(alloc, place, fault));
     }
     Ok(true)

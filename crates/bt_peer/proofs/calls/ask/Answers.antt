@@ -35,7 +35,6 @@ next-preserved g c =
       asking = Asking-more c.next_u64.result c.in_ok-reply.reply _ _ _ c.next.counter c.next.invariant.asking c.in_ok-reply.ensures.ok more;
       conduct = Conducts-join g.P.Place.settles _ _ _ _ _ _ c.next.invariant.conduct
           (asked_one g.P.Place.settles _ _ c.next_u64.result _ _ _ c.next_u64.ensures c.in_ok-reply.ensures.ok.gains);
-      sound = c.in_ok-reply.ensures.ok_sound ∙ c.next.invariant.sound;
     }
 
 pub returns-clause-ok : goal.returns-clause-ok

@@ -1,4 +1,3 @@
-use Rattle.std.proofs.Common.{refl}
 use Rattle.std.proofs.lemmas.Result.{err_from_is_err_and}
 use Rattle.bt_picker.proofs.Contents.{on_err}
 use Rattle.bt_peer.proofs.Conduct.{Conducts-join, Conducts-draws, DrawsWords-join, told_conducts}
@@ -23,13 +22,13 @@ returns-in_err-ask-clause-err g c =
     let told = rw c.piece_count.ensures at c.in_ok-tell_news.ensures.ok in
     let asked = rw c.most_next.ensures at c.in_err-ask.ensures.err in
     rw (p.1, p.2) (turn_stops_ask _ c.args.terms.now c.args.message _ _ _ _ c.requires c.in_ok-open.ensures.acceptable
-    c.in_ok-open.ensures.ok told refl asked)
+    c.in_ok-open.ensures.ok told asked)
 
 pub returns-clause-ok : goal.returns-clause-ok
 returns-clause-ok g c =
     let told = rw c.piece_count.ensures at c.in_ok-tell_news.ensures.ok in
     let asked = rw c.most_next.ensures at c.in_ok-ask.ensures.ok in
-    turn_done c.args.terms.now c.args.message _ _ _ _ c.requires c.in_ok-open.ensures.acceptable c.in_ok-open.ensures.ok told refl asked
+    turn_done c.args.terms.now c.args.message _ _ _ _ c.requires c.in_ok-open.ensures.acceptable c.in_ok-open.ensures.ok told asked
 
 pub returns-in_err-tell_news-clause-words : goal.returns-in_err-tell_news-clause-words
 returns-in_err-tell_news-clause-words g c =

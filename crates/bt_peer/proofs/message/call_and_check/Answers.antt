@@ -1,4 +1,4 @@
-use Rattle.std.proofs.Common.{◌≡◌, ℕ, List, [], ◌++◌, Some, sym, ap, ◌∙◌, inr, refl}
+use Rattle.std.proofs.Common.{◌≡◌, ℕ, List, [], ◌++◌, Some, sym, ap, ◌∙◌, refl}
 use Rattle.std.proofs.lemmas.Result.{err_from_is_err_and}
 use Rattle.rand_core.specs.Stream.{Stream}
 use Rattle.bt_picker.proofs.Contents.{on_err}
@@ -17,8 +17,8 @@ returns-in_err-reply-clause-err g c =
 pub returns-in_err-completed-clause-err : goal.returns-in_err-completed-clause-err
 returns-in_err-completed-clause-err g c =
     let p = err_from_is_err_and c.from_residual-in_err-completed.result c.from_residual-in_err-completed.ensures.1 in
-    rw (p.1, p.2) (opening_unchecked (mark_of_call c.args.call) c.in_ok-reply.reply _ _ _ _
-    (inr refl) c.in_ok-reply.ensures.ok_accepted c.in_ok-reply.ensures.ok c.in_err-completed.ensures.err)
+    rw (p.1, p.2) (opening_unchecked (mark_of_call c.args.call) c.in_ok-reply.reply _ _ _
+    c.in_ok-reply.ensures.ok_accepted c.in_ok-reply.ensures.ok c.in_err-completed.ensures.err)
 
 pub returns-in_ok-completed-clause-ok : goal.returns-in_ok-completed-clause-ok
 returns-in_ok-completed-clause-ok g c =

@@ -12,7 +12,7 @@ pub returns-in-Err-clause-err : goal.returns-in-Err-clause-err
 returns-in-Err-clause-err g c =
     let old = start c.args.terms.now true c.args.heard.now.inbound (g.R.Source.left c.args.reader.now) in
     rw c.leave_by-in-Err.ensures.fault
-    (hearing_fails _ c.args.interested.now old _ _ _ _ c.in-Err.ensures.fault c.leave_by-in-Err.ensures.leave)
+    (hearing_fails _ c.args.said.now.interested old _ _ _ _ c.in-Err.ensures.fault c.leave_by-in-Err.ensures.leave)
 
 pub returns-in-Ok-None-clause-err : goal.returns-in-Ok-None-clause-err
 returns-in-Ok-None-clause-err g c =
@@ -20,7 +20,7 @@ returns-in-Ok-None-clause-err g c =
     let old = start c.args.terms.now true c.args.heard.now.inbound (g.R.Source.left c.args.reader.now) in
     let source = source_state g.R.Source.left g.R.Source.ended g.R.Source.failed c.next.new.reader c.next.new.self.reads in
     rw c.leave_by.ensures.fault
-    (ends_within c.args.interested.now old source c.next.new.self.inbound _ _ _ (rw c.in-Ok-None.field-0-is at c.in-Ok-None.ensures.end) some
+    (ends_within c.args.said.now.interested old source c.next.new.self.inbound _ _ _ (rw c.in-Ok-None.field-0-is at c.in-Ok-None.ensures.end) some
     c.leave_by.ensures.leave)
 
 pub returns-in_err-reason-in-Ok-None-2-clause-err : goal.returns-in_err-reason-in-Ok-None-2-clause-err
@@ -28,15 +28,15 @@ returns-in_err-reason-in-Ok-None-2-clause-err g c =
     let p = err_from_is_err_and c.from_residual.result c.from_residual.ensures.1 in
     let old = start c.args.terms.now true c.args.heard.now.inbound (g.R.Source.left c.args.reader.now) in
     let source = source_state g.R.Source.left g.R.Source.ended g.R.Source.failed c.next.new.reader c.next.new.self.reads in
-    rw (p.1, p.2) (leave_lacks_memory _ c.args.interested.now old source _ _
-    (g.W.Sink.written c.args.writer.now) refl c.in_err-reason-in-Ok-None-2.ensures.err)
+    rw (p.1, p.2) (leave_lacks_memory _ c.args.said.now.interested old source _ _
+    (g.W.Sink.written c.args.said.now.writer.now) refl c.in_err-reason-in-Ok-None-2.ensures.err)
 
 pub returns-in-Refused-clause-err : goal.returns-in-Refused-clause-err
 returns-in-Refused-clause-err g c =
     let old = start c.args.terms.now true c.args.heard.now.inbound (g.R.Source.left c.args.reader.now) in
     let source = source_state g.R.Source.left g.R.Source.ended g.R.Source.failed c.next.new.reader c.next.new.self.reads in
     let empty : c.next.new.self.inbound.bytes ≡ [] = nil_from_length c.next.new.self.inbound.bytes (omega arith) in
-    leave_refused c.in-Refused.reason c.args.interested.now old source c.next.new.self.inbound _ _ (g.W.Sink.written c.args.writer.now)
+    leave_refused c.in-Refused.reason c.args.said.now.interested old source c.next.new.self.inbound _ _ (g.W.Sink.written c.args.said.now.writer.now)
     (rw c.in-Ok-None.field-0-is at c.in-Ok-None.ensures.end) empty refl (rw c.in-Refused.is at c.in_ok-reason-in-Ok-None-2.ensures.ok)
 
 pub returns-in-Err-attend-clause-err : goal.returns-in-Err-attend-clause-err
