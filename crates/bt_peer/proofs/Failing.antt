@@ -17,7 +17,8 @@ use Rattle.bt_peer.specs.Acts.{Act, Called, is_in}
 use Rattle.bt_peer.specs.Places.{PlaceRecord, Gains, GainsUpTo, LacksMemory}
 use Rattle.bt_peer.specs.Writer.{greeting, says}
 use Rattle.bt_peer.specs.Turns.{IsLater, BeginsTurn}
-use Rattle.bt_peer.specs.Outlets.{Outlet, PerformsUpTo, WroteFront, EndsCalls}
+use Rattle.bt_peer.specs.Outlets.{Outlet, WroteFront, EndsCalls}
+use Rattle.bt_peer.specs.Parts.{TurnStops}
 use Rattle.bt_peer.specs.Reader.{Hears, HearsEnd, HearsFault, SourceState}
 use Rattle.bt_peer.specs.Sessions.{SessionState, FailsWith}
 use Rattle.bt_peer.specs.Steps.{Start, start, Surroundings, BreaksBy, StopsTurn, Departs, Leaves}
@@ -174,18 +175,18 @@ stopped_turn _ m stream old source acts hears stops = absurd stops.1
 pub attending_fails : (fault : SessionFault) (m : Message) (stream : InboundState) (old : Start) (source : SourceState) (a d : Outlet)
     (past' : PlaceRecord) →
     IsLater m → Hears old.stream old.left source.left m stream →
-    (acts : List Act) × (StopsTurn fault old.terms m acts × PerformsUpTo fault a acts d) → Leaves d.past past' →
+    TurnStops fault old.terms m a d → Leaves d.past past' →
     LaterFails fault a.said.interested old source a.past a.said.written past' d.said.written
 attending_fails fault m stream old source a d past' later hears h left =
-    let still = stays_in fault old.terms m h.0 later h.1.0 in (
-      h.0,
+    let still = stays_in fault old.terms m h.acts later h.stops in (
+      h.acts,
       (
         left.leave,
         (
-          GainsUpTo-join a.past d.past past' h.0 left.leave h.1.1.gains left.gains,
+          GainsUpTo-join a.past d.past past' h.acts left.leave h.performs.gains left.gains,
           subst (λ (is_in : Bool). Departs is_in past'.short left.leave) (sym still) left.departs,
-          h.1.1.writes.wrote,
-          stopped_turn fault m stream old source h.0 hears h.1.0,
+          h.performs.writes.wrote,
+          stopped_turn fault m stream old source h.acts hears h.stops,
         ),
       ),
     )

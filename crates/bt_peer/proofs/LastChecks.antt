@@ -167,7 +167,7 @@ begun_in terms seed worker setting desk seat stream layout same_setting uncalled
 -- how a stream's session ended that stands
 words_after : (outcome : Result End SessionFault) (generator left : Words) (calls : Calls) → ConductBy (Some outcome) generator [] calls left →
     DrawsWords generator [] calls
-words_after (Ok end) generator left calls conduct = Conducts-draws true generator left [] calls conduct
+words_after (Ok end) generator left calls conduct = Conducts-draws conduct
 words_after (Err fault) generator left calls words = words
 
 checks_after : (outcome : Result End SessionFault) (generator left : Words) (calls : Calls) → ConductBy (Some outcome) generator [] calls left →

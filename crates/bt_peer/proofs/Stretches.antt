@@ -12,6 +12,7 @@ use Rattle.bt_peer.specs.Acts.{Act, Called, News, calls_of, news_of, is_refusal}
 use Rattle.bt_peer.specs.Writer.{says, answer, interest_by, interest_after}
 use Rattle.bt_peer.specs.Places.{PlaceRecord, Gains, GainsUpTo, AllHad, Tells}
 use Rattle.bt_peer.specs.Outlets.{Outlet, Saying, Performs, PerformsUpTo, StopsCall, Writes, WritesUpTo, IsCut}
+use Rattle.bt_peer.specs.Parts.{CallStops}
 use Rattle.std.proofs.KnownBytes.{Appends-nil, Appends-trans}
 
 calls_of-append : (es fs : List Act) → calls_of (es ++ fs) ≡ calls_of es ++ calls_of fs
@@ -169,13 +170,12 @@ cut_call call reply fault accepted cut =
 
 -- a call whose answer was cut off
 pub call_cut : (a b : Outlet) (call : CallMark) (reply : Reply) (fault : SessionFault) → Gains a.past (Called call reply ∷ []) b.past →
-    is_refusal reply ≡ false → IsCut fault → WritesUpTo fault a.said (answer a.said.interested reply) b.said →
-    (acts : List Act) × (StopsCall call fault acts × PerformsUpTo fault a acts b)
-call_cut a b call reply fault gains accepted cut wrote =
-    let stops : PerformsUpTo fault a (Called call reply ∷ []) b =
-    record {
-      gains = up_to a.past b.past (Called call reply ∷ []) gains;
-      writes =
-          subst (λ (xs : List ℕ). WritesUpTo fault a.said xs b.said) (sym (append-nil (answer a.said.interested reply))) wrote;
-    } in
-    (Called call reply ∷ [], (cut_call call reply fault accepted cut, stops))
+    is_refusal reply ≡ false → IsCut fault → WritesUpTo fault a.said (answer a.said.interested reply) b.said → CallStops fault call a b
+call_cut a b call reply fault gains accepted cut wrote = record {
+  acts = Called call reply ∷ [];
+  stops = cut_call call reply fault accepted cut;
+  performs = record {
+    gains = up_to a.past b.past (Called call reply ∷ []) gains;
+    writes = subst (λ (xs : List ℕ). WritesUpTo fault a.said xs b.said) (sym (append-nil (answer a.said.interested reply))) wrote;
+  };
+}

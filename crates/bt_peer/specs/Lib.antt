@@ -4,6 +4,7 @@ pub mod Desks
 pub mod Hearing
 pub mod Outcomes
 pub mod Outlets
+pub mod Parts
 pub mod Places
 pub mod Reader
 pub mod Serial

@@ -1,11 +1,11 @@
 //! Calls of a turn, each with what is written for it.
 
-ghost use Rattle.std.specs.Prelude.{◌≡◌, ◌≤◌, ◌⊎◌, ℕ, false, true, List, [], ◌∷◌, ◌++◌, length, map, Some, IfErr, IfOk, OnOk, OnErr};
-ghost use Rattle.bt_peer.specs.Conduct.{Conducts, DrawsWords};
-ghost use Rattle.bt_peer.specs.Acts.{Act, Called, News, is_refusal, mark_of_call};
-ghost use Rattle.bt_peer.specs.Turns.{Asks, arrived_piece, has_more as more_after, if_completed, NoneRefused};
-ghost use Rattle.bt_peer.specs.Places.{AllTold};
-ghost use Rattle.bt_peer.specs.Outlets.{outlet, Performs, PerformsUpTo, StopsCall, EndsCalls, IsCut};
+ghost use Rattle.std.specs.Prelude.{◌≡◌, ℕ, false, true, [], ◌∷◌, Some, IfErr, IfOk, OnOk};
+ghost use Rattle.bt_peer.specs.Conduct.{ConductsBy};
+ghost use Rattle.bt_peer.specs.Acts.{Called, is_refusal, mark_of_call};
+ghost use Rattle.bt_peer.specs.Turns.{arrived_piece, has_more as more_after, if_completed};
+ghost use Rattle.bt_peer.specs.Outlets.{outlet, Performs};
+ghost use Rattle.bt_peer.specs.Parts.{AskingDone, AskingStops, CallStops, NewsDone, NewsStops};
 
 use crate::fault::SessionFault;
 use crate::place::Place;
@@ -29,9 +29,8 @@ pub fn make_call<P: Place, W: Sink>(
     ensures ok_accepted { IfOk result (λ reply. is_refusal reply ≡ false) }
     ensures completes { IfOk result (λ reply. P.settles ≡ true → (piece : ℕ) →
         if_completed (arrived_piece (mark_of_call call)) reply ≡ Some piece → P.awaits place.new piece ≡ true) }
-    ensures err { IfErr result (λ fault. (acts : List Act) × (StopsCall (mark_of_call call) fault acts
-        × PerformsUpTo fault (outlet P.Place W.Sink place.old said.old) acts
-        (outlet P.Place W.Sink place.new said.new))) }
+    ensures err { IfErr result (λ fault. CallStops fault (mark_of_call call)
+        (outlet P.Place W.Sink place.old said.old) (outlet P.Place W.Sink place.new said.new)) }
 {
     let reply = place.call(alloc, call)?;
     if let Reply::Refused(reason) = reply {
@@ -48,11 +47,8 @@ pub fn tell_news<P: Place, W: Sink>(
     said: &mut Said<'_, W>,
     most: u32,
 ) -> Result<(), SessionFault>
-    ensures ok { OnOk result ((news : List ℕ) × ((length news ≤ most) × ((length news ≡ most) ⊎ AllTold (P.past place.new))
-        × Performs (outlet P.Place W.Sink place.old said.old) (map News news) (outlet P.Place W.Sink place.new said.new))) }
-    ensures err { IfErr result (λ fault. (news : List ℕ) × ((length news ≤ most) × IsCut fault
-        × PerformsUpTo fault (outlet P.Place W.Sink place.old said.old) (map News news)
-        (outlet P.Place W.Sink place.new said.new))) }
+    ensures ok { OnOk result (NewsDone most (outlet P.Place W.Sink place.old said.old) (outlet P.Place W.Sink place.new said.new)) }
+    ensures err { IfErr result (λ fault. NewsStops fault most (outlet P.Place W.Sink place.old said.old) (outlet P.Place W.Sink place.new said.new)) }
 {
     'news: for _ in 0..most {
         let Some(piece) = place.news() else {
@@ -78,16 +74,10 @@ pub fn ask<P: Place, W: Sink, N: Rng>(
     rng: &mut N,
     most: u32,
 ) -> Result<(), SessionFault>
-    ensures ok { OnOk result ((asking : List Act) × (Asks most asking × NoneRefused asking
-        × Performs (outlet P.Place W.Sink place.old said.old) asking
-        (outlet P.Place W.Sink place.new said.new))) }
-    ensures conduct { OnOk result (Conducts P.settles
-        (N.stream rng.old) (P.past place.old).calls (P.past place.new).calls (N.stream rng.new)) }
-    ensures err { IfErr result (λ fault. (asking : List Act) × ((rest : List Act) × (Asks most (asking ++ rest)
-        × EndsCalls fault asking
-        × PerformsUpTo fault (outlet P.Place W.Sink place.old said.old) asking
-        (outlet P.Place W.Sink place.new said.new)))) }
-    ensures words { OnErr result (DrawsWords (N.stream rng.old) (P.past place.old).calls (P.past place.new).calls) }
+    ensures ok { OnOk result (AskingDone most (outlet P.Place W.Sink place.old said.old) (outlet P.Place W.Sink place.new said.new)) }
+    ensures err { IfErr result (λ fault. AskingStops fault most (outlet P.Place W.Sink place.old said.old) (outlet P.Place W.Sink place.new said.new)) }
+    ensures conduct { ConductsBy result P.settles
+        (N.stream rng.old) (P.past place.old).calls (P.past place.new).calls (N.stream rng.new) }
 {
     'next: for _ in 0..most {
         let reply = make_call(alloc, place, said, Call::Next(rng.next_u64()))?;

@@ -1,14 +1,14 @@
 //! What a session does for a message after the handshake.
 
-ghost use Rattle.std.specs.Prelude.{◌≡◌, ◌⊎◌, None, Some, true, false, List, [], ◌++◌, IfErr, IfOk, OnOk, OnErr, MatchOption};
+ghost use Rattle.std.specs.Prelude.{◌≡◌, ◌⊎◌, None, Some, false, [], IfErr, IfOk, OnOk, MatchOption};
 ghost use Rattle.bt_peer.specs.declared.fault.SessionFault.TheVariants.{NoMemory, BadBits};
 ghost use Rattle.rand_core.specs.Stream.{Stream};
-ghost use Rattle.bt_peer.specs.Conduct.{Conducts, DrawsWords, word_of};
-ghost use Rattle.bt_peer.specs.Acts.{Act, is_check, mark_of_call};
+ghost use Rattle.bt_peer.specs.Conduct.{ConductsBy, word_of};
+ghost use Rattle.bt_peer.specs.Acts.{is_check, mark_of_call};
 ghost use Rattle.bt_peer.specs.Terms.{pieces_of};
-ghost use Rattle.bt_peer.specs.Turns.{call_of, arrived_piece as piece_of_mark, if_completed, Opens, IsTurn, IsAcceptable, NoneRefused, IsLater};
-ghost use Rattle.bt_peer.specs.Outlets.{outlet, Performs, PerformsUpTo, EndsCalls};
-ghost use Rattle.bt_peer.specs.Steps.{StopsOpening, StopsTurn, TellsNews};
+ghost use Rattle.bt_peer.specs.Turns.{call_of, arrived_piece as piece_of_mark, if_completed, IsAcceptable, IsLater};
+ghost use Rattle.bt_peer.specs.Outlets.{outlet};
+ghost use Rattle.bt_peer.specs.Parts.{MessageStops, OpeningDone, OpeningStops, TurnDone, TurnStops};
 
 use crate::calls::{ask, make_call, tell_news};
 use crate::fault::SessionFault;
@@ -80,18 +80,12 @@ fn call_and_check<P: Place, W: Sink>(
     call: Call,
 ) -> Result<(), SessionFault>
     requires { is_check (mark_of_call call) ≡ false }
-    ensures ok { OnOk result ((acts : List Act) × (Opens (Some (mark_of_call call)) acts × NoneRefused acts
-        × Performs (outlet P.Place W.Sink place.old said.old) acts
-        (outlet P.Place W.Sink place.new said.new))) }
+    ensures ok { OnOk result (OpeningDone (Some (mark_of_call call)) (outlet P.Place W.Sink place.old said.old) (outlet P.Place W.Sink place.new said.new)) }
+    ensures err { IfErr result (λ fault. OpeningStops fault (Some (mark_of_call call))
+        (outlet P.Place W.Sink place.old said.old) (outlet P.Place W.Sink place.new said.new)) }
     // At a call that isn't Next no word is drawn.
-    ensures conduct { OnOk result (word_of (mark_of_call call) ≡ [] → (generator : Stream) →
-        Conducts P.settles generator (P.past place.old).calls (P.past place.new).calls generator) }
-    ensures err { IfErr result (λ fault. (acts : List Act) × ((rest : List Act) × (Opens (Some (mark_of_call call)) (acts ++ rest)
-        × EndsCalls fault acts
-        × PerformsUpTo fault (outlet P.Place W.Sink place.old said.old) acts
-        (outlet P.Place W.Sink place.new said.new)))) }
-    ensures words { OnErr result (word_of (mark_of_call call) ≡ [] → (generator : Stream) →
-        DrawsWords generator (P.past place.old).calls (P.past place.new).calls) }
+    ensures conduct { word_of (mark_of_call call) ≡ [] → (generator : Stream) →
+        ConductsBy result P.settles generator (P.past place.old).calls (P.past place.new).calls generator }
 {
     let arrived = arrived_piece(&call);
     let reply = make_call(alloc, place, said, call)?;
@@ -111,16 +105,11 @@ fn open<P: Place, W: Sink>(
 ) -> Result<(), SessionFault>
     requires { IsLater message }
     ensures acceptable { OnOk result (IsAcceptable (pieces_of terms.now) message) }
-    ensures ok { OnOk result ((acts : List Act) × (Opens (call_of message) acts × NoneRefused acts
-        × Performs (outlet P.Place W.Sink place.old said.old) acts
-        (outlet P.Place W.Sink place.new said.new))) }
-    ensures conduct { OnOk result ((generator : Stream) →
-        Conducts P.settles generator (P.past place.old).calls (P.past place.new).calls generator) }
-    ensures err { IfErr result (λ fault. (acts : List Act) × (StopsOpening fault (pieces_of terms.now) message acts
-        × PerformsUpTo fault (outlet P.Place W.Sink place.old said.old) acts
-        (outlet P.Place W.Sink place.new said.new))) }
-    ensures words { OnErr result ((generator : Stream) →
-        DrawsWords generator (P.past place.old).calls (P.past place.new).calls) }
+    ensures ok { OnOk result (OpeningDone (call_of message) (outlet P.Place W.Sink place.old said.old) (outlet P.Place W.Sink place.new said.new)) }
+    ensures err { IfErr result (λ fault. MessageStops fault (pieces_of terms.now) message
+        (outlet P.Place W.Sink place.old said.old) (outlet P.Place W.Sink place.new said.new)) }
+    ensures conduct { (generator : Stream) →
+        ConductsBy result P.settles generator (P.past place.old).calls (P.past place.new).calls generator }
 {
     match call_for(alloc, terms, message)? {
         Some(call) => call_and_check(alloc, place, said, call),
@@ -138,16 +127,10 @@ pub fn attend<P: Place, W: Sink, N: Rng>(
     rng: &mut N,
 ) -> Result<(), SessionFault>
     requires { IsLater message }
-    ensures ok { OnOk result ((acts : List Act) × (IsTurn terms.now message acts × NoneRefused acts
-        × TellsNews (pieces_of terms.now) (P.past place.old) acts (P.past place.new)
-        × Performs (outlet P.Place W.Sink place.old said.old) acts
-        (outlet P.Place W.Sink place.new said.new))) }
-    ensures conduct { OnOk result (Conducts P.settles
-        (N.stream rng.old) (P.past place.old).calls (P.past place.new).calls (N.stream rng.new)) }
-    ensures err { IfErr result (λ fault. (acts : List Act) × (StopsTurn fault terms.now message acts
-        × PerformsUpTo fault (outlet P.Place W.Sink place.old said.old) acts
-        (outlet P.Place W.Sink place.new said.new))) }
-    ensures words { OnErr result (DrawsWords (N.stream rng.old) (P.past place.old).calls (P.past place.new).calls) }
+    ensures ok { OnOk result (TurnDone terms.now message (outlet P.Place W.Sink place.old said.old) (outlet P.Place W.Sink place.new said.new)) }
+    ensures err { IfErr result (λ fault. TurnStops fault terms.now message (outlet P.Place W.Sink place.old said.old) (outlet P.Place W.Sink place.new said.new)) }
+    ensures conduct { ConductsBy result P.settles
+        (N.stream rng.old) (P.past place.old).calls (P.past place.new).calls (N.stream rng.new) }
 {
     open(alloc, terms, message, place, said)?;
     tell_news(alloc, place, said, terms.piece_count())?;

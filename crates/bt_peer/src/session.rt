@@ -54,7 +54,7 @@ impl Model for Session {
 impl Session {
     ghost use Rattle.rand_core.specs.Stream.{Stream};
     ghost use Rattle.bt_peer.specs.declared.fault.SessionFault.TheVariants.{WriteFault};
-    ghost use Rattle.bt_peer.specs.Conduct.{Conducts, DrawsWords, answers_of};
+    ghost use Rattle.bt_peer.specs.Conduct.{Conducts, ConductsBy, DrawsWords, answers_of};
     ghost use Rattle.bt_peer.specs.Reader.{most_reads, source_state};
     ghost use Rattle.bt_peer.specs.Terms.{terms_of};
     ghost use Rattle.bt_peer.specs.Steps.{surroundings};
@@ -104,10 +104,8 @@ impl Session {
             (source_state R.left R.ended R.failed reader.new self.new.reads)
             self.new (surroundings P.past R.left W.written place.new reader.new writer.new)) }
         // No word is drawn.
-        ensures conduct { OnOk result ((generator : Stream) →
-            Conducts P.settles generator (P.past place.old).calls (P.past place.new).calls generator) }
-        ensures words { OnErr result ((generator : Stream) →
-            DrawsWords generator (P.past place.old).calls (P.past place.new).calls) }
+        ensures conduct { (generator : Stream) →
+            ConductsBy result P.settles generator (P.past place.old).calls (P.past place.new).calls generator }
         ensures counted { R.reads reader.old ≡ self.old.reads → R.reads reader.new ≡ self.new.reads }
         ensures most { self.new.reads ≤ most_reads }
         ensures sound { OnOk result (

@@ -1,10 +1,10 @@
 //! The turns of a session: the handshakes, and one message after another.
 
-ghost use Rattle.std.specs.Prelude.{◌≡◌, ◌++◌, [], true, false, List, IfOk, IfErr, OnOk, OnErr};
+ghost use Rattle.std.specs.Prelude.{◌≡◌, ◌++◌, [], true, false, List, IfOk, IfErr, OnOk};
 ghost use Rattle.std.specs.Bool.{OnTrue, OnFalse};
 ghost use Rattle.bt_peer.specs.declared.fault.SessionFault.TheVariants.{WriteFault};
 ghost use Rattle.rand_core.specs.Stream.{Stream};
-ghost use Rattle.bt_peer.specs.Conduct.{Conducts, DrawsWords};
+ghost use Rattle.bt_peer.specs.Conduct.{ConductsBy};
 ghost use Rattle.bt_peer.specs.Acts.{Act, is_in};
 ghost use Rattle.bt_peer.specs.Places.{Gains, GainsUpTo};
 ghost use Rattle.bt_peer.specs.Writer.{says};
@@ -40,8 +40,8 @@ pub fn greet<R: Source, W: Sink, P: Place>(
         (reading heard.old.inbound said.old.interested) (surroundings P.past R.left W.written place.old reader.old said.old.writer.now)
         (reading heard.new.inbound said.new.interested) (surroundings P.past R.left W.written place.new reader.new said.new.writer.now)) }
     // No word is drawn.
-    ensures conduct { OnOk result ((generator : Stream) →
-        Conducts P.settles generator (P.past place.old).calls (P.past place.new).calls generator) }
+    ensures conduct { (generator : Stream) →
+        ConductsBy result P.settles generator (P.past place.old).calls (P.past place.new).calls generator }
     ensures ok_sound { OnOk result ((R.failed reader.new ≡ R.failed reader.old) × (W.failed said.new.writer.now ≡ W.failed said.old.writer.now)) }
     ensures few { OnOk result (UsesUp (hearing R.Source heard.old reader.old) (hearing R.Source heard.new reader.new)) }
     ensures err { IfErr result (λ fault. (acts : List Act) × (GainsUpTo (P.past place.old) acts (P.past place.new)
@@ -49,8 +49,6 @@ pub fn greet<R: Source, W: Sink, P: Place>(
         × WroteFront fault (W.written said.old.writer.now) (greeting.now ++ says said.old.interested acts) (W.written said.new.writer.now)
         × BreaksBy fault (start terms.now false heard.old.inbound (R.left reader.old))
         (source_state R.left R.ended R.failed reader.new heard.new.reads) acts)) }
-    ensures words { OnErr result ((generator : Stream) →
-        DrawsWords generator (P.past place.old).calls (P.past place.new).calls) }
     ensures err_failed { IfErr result (λ fault. fault ≡ WriteFault → W.failed said.new.writer.now ≡ true) }
     ensures same_sink { said.new.writer.ghost_name ≡ said.old.writer.ghost_name }
     ensures counted { StaysCounted (hearing R.Source heard.old reader.old) (hearing R.Source heard.new reader.new) }
@@ -103,8 +101,8 @@ pub fn listen<R: Source, W: Sink, P: Place, N: Rng>(
     ensures leaves { IfOk result (λ goes_on. OnFalse goes_on (TakesLeave
         (reading heard.old.inbound said.old.interested) (surroundings P.past R.left W.written place.old reader.old said.old.writer.now) (R.ended reader.new)
         (reading heard.new.inbound said.new.interested) (surroundings P.past R.left W.written place.new reader.new said.new.writer.now))) }
-    ensures conduct { OnOk result (Conducts P.settles
-        (N.stream rng.old) (P.past place.old).calls (P.past place.new).calls (N.stream rng.new)) }
+    ensures conduct { ConductsBy result P.settles
+        (N.stream rng.old) (P.past place.old).calls (P.past place.new).calls (N.stream rng.new) }
     ensures ok_sound { OnOk result ((R.failed reader.new ≡ R.failed reader.old) × (W.failed said.new.writer.now ≡ W.failed said.old.writer.now)) }
     ensures err { IfErr result (λ fault. (acts : List Act) × ((leave : List Act) ×
         (GainsUpTo (P.past place.old) (acts ++ leave) (P.past place.new)
@@ -112,7 +110,6 @@ pub fn listen<R: Source, W: Sink, P: Place, N: Rng>(
         × WroteFront fault (W.written said.old.writer.now) (says said.old.interested acts) (W.written said.new.writer.now)
         × BreaksBy fault (start terms.now true heard.old.inbound (R.left reader.old))
         (source_state R.left R.ended R.failed reader.new heard.new.reads) acts))) }
-    ensures words { OnErr result (DrawsWords (N.stream rng.old) (P.past place.old).calls (P.past place.new).calls) }
     ensures err_failed { IfErr result (λ fault. fault ≡ WriteFault → W.failed said.new.writer.now ≡ true) }
     ensures same_sink { said.new.writer.ghost_name ≡ said.old.writer.ghost_name }
     ensures counted { StaysCounted (hearing R.Source heard.old reader.old) (hearing R.Source heard.new reader.new) }

@@ -49,17 +49,17 @@ returns-in-Err-attend-clause-err g c =
     (later _ _ _ _ _ c.requires.greeted hears) hears c.in-Err-attend.ensures.err
     c.leave_by-in-Err-attend.ensures.leave)
 
-pub returns-in-Err-clause-words : goal.returns-in-Err-clause-words
-returns-in-Err-clause-words g c =
+pub returns-in-Err-clause-conduct : goal.returns-in-Err-clause-conduct
+returns-in-Err-clause-conduct g c =
     let past = g.P.Place.past c.args.place.now in
     left_draws _ past past _ (DrawsWords-none _ past.calls) c.leave_by-in-Err.ensures.leave
 
-pub returns-in-Ok-None-clause-words : goal.returns-in-Ok-None-clause-words
-returns-in-Ok-None-clause-words g c =
+pub returns-in-Ok-None-clause-conduct : goal.returns-in-Ok-None-clause-conduct
+returns-in-Ok-None-clause-conduct g c =
     let past = g.P.Place.past c.args.place.now in
     left_draws _ past past _ (DrawsWords-none _ past.calls) c.leave_by.ensures.leave
 
-pub returns-in-Err-attend-clause-words : goal.returns-in-Err-attend-clause-words
-returns-in-Err-attend-clause-words g c =
+pub returns-in-Err-attend-clause-conduct : goal.returns-in-Err-attend-clause-conduct
+returns-in-Err-attend-clause-conduct g c =
     let past = g.P.Place.past c.args.place.now in
-    left_draws _ past (g.P.Place.past c.attend.new.place) _ c.in-Err-attend.ensures.words c.leave_by-in-Err-attend.ensures.leave
+    left_draws _ past (g.P.Place.past c.attend.new.place) _ c.in-Err-attend.ensures.conduct c.leave_by-in-Err-attend.ensures.leave
