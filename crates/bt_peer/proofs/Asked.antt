@@ -1,10 +1,10 @@
 -- News that was asked for in turn after turn.
-use Rattle.std.proofs.Common.{◌≡◌, ℕ, List, [], ◌∷◌, ◌++◌, refl, sym, ap, subst, ◌∙◌, append_assoc}
+use Rattle.std.proofs.Common.{ℕ, List, [], ◌∷◌, ◌++◌, refl, sym, ap, ◌∙◌, append_assoc}
 use Rattle.std.proofs.lemmas.List.{append-nil}
 use Rattle.bt_wire.specs.declared.message.Message.{Message}
 use Rattle.bt_peer.specs.Acts.{Act}
 use Rattle.bt_peer.specs.Places.{PlaceRecord, Gains}
-use Rattle.bt_peer.specs.Steps.{AsksForNews, EachAsksForNews, TellsAllNews}
+use Rattle.bt_peer.specs.Steps.{AsksForNews, EachAsksForNews}
 use Rattle.bt_peer.proofs.Stretches.{Gains-join, Gains-none}
 
 module _ (pieces : ℕ) where

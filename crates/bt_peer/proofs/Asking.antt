@@ -14,6 +14,7 @@ use Rattle.bt_peer.specs.declared.fault.SessionFault.TheVariants as faults
 use Rattle.bt_peer.specs.Acts.{Act, Called, is_refusal, is_refused_call}
 use Rattle.bt_peer.specs.Turns.{Asks, has_more, NoneRefused}
 use Rattle.bt_peer.specs.Outlets.{Outlet, Performs, PerformsUpTo, StopsCall, EndsCalls, IsCut}
+use Rattle.bt_peer.specs.Parts.{AskingDone, AskingStops, CallStops}
 use Rattle.bt_peer.proofs.Stretches.{Performs-none, Performs-join, Performs-stops}
 
 -- Next calls whose replies all have more
@@ -115,21 +116,22 @@ Asking-more word reply a b c n s does more =
 
 -- the last call had nothing more
 pub Asking-last : (word : ℕ) (reply : Reply) (a b c : Outlet) (n most : ℕ) → Asking a b n → n < most →
-    Performs b (Called (marks.Next word) reply ∷ []) c → is_refusal reply ≡ false → has_more reply ≡ false →
-    (asking : List Act) × (Asks most asking × NoneRefused asking × Performs a asking c)
-Asking-last word reply a b c n most s lt does accepted last = (
-  s.asking ++ Called (marks.Next word) reply ∷ [],
-  (
-    asks_last most s.asking word reply s.more (omega (arith, s.count)) last,
-    none_refused_one s.asking word reply s.more accepted,
-    Performs-join a b c s.asking (Called (marks.Next word) reply ∷ []) s.does does,
-  ),
-)
+    Performs b (Called (marks.Next word) reply ∷ []) c → is_refusal reply ≡ false → has_more reply ≡ false → AskingDone most a c
+Asking-last word reply a b c n most s lt does accepted last = record {
+  acts = s.asking ++ Called (marks.Next word) reply ∷ [];
+  asks = asks_last most s.asking word reply s.more (omega (arith, s.count)) last;
+  accepted = none_refused_one s.asking word reply s.more accepted;
+  performs = Performs-join a b c s.asking (Called (marks.Next word) reply ∷ []) s.does does;
+}
 
 -- as many as there may be
-pub Asking-full : (a b : Outlet) (n most : ℕ) → Asking a b n → n ≡ most →
-    (asking : List Act) × (Asks most asking × NoneRefused asking × Performs a asking b)
-Asking-full a b n most s is = (s.asking, (asks_full most s.asking s.more (s.count ∙ is), none_refused s.asking s.more, s.does))
+pub Asking-full : (a b : Outlet) (n most : ℕ) → Asking a b n → n ≡ most → AskingDone most a b
+Asking-full a b n most s is = record {
+  acts = s.asking;
+  asks = asks_full most s.asking s.more (s.count ∙ is);
+  accepted = none_refused s.asking s.more;
+  performs = s.does;
+}
 
 pub ends_cut : (fault : SessionFault) (es : List Act) → IsCut fault → NoneRefused es → EndsCalls fault es
 ends_cut fault es cut none =
@@ -145,69 +147,56 @@ pub stops_ways : (call : CallMark) (fault : SessionFault) (acts : List Act) → 
 stops_ways call (faults.Refused reason) acts h = inl (reason, (refl, h))
 stops_ways call _ acts h = inr h
 
-abbrev AskingStops : SessionFault → ℕ → Outlet → Outlet → Type 0
-AskingStops fault most a c = (asking : List Act)
-    × ((rest : List Act) × (Asks most (asking ++ rest) × EndsCalls fault asking × PerformsUpTo fault a asking c))
-
 stops_refused : (word : ℕ) (reason : Reason) (a b c : Outlet) (n most : ℕ) → Asking a b n → n < most →
     PerformsUpTo (faults.Refused reason) b (Called (marks.Next word) (replies.Refused reason) ∷ []) c → AskingStops (faults.Refused reason) most a c
 stops_refused word reason a b c n most s lt stops =
     let last : Act = Called (marks.Next word) (replies.Refused reason) in
-    let made = asks_last most s.asking word (replies.Refused reason) s.more (omega (arith, s.count)) refl in (
-      s.asking ++ last ∷ [],
-      (
-        [],
-        (
-          subst (Asks most) (sym (append-nil (s.asking ++ last ∷ []))) made,
-          (marks.Next word, record { before = s.asking; accepted = none_refused s.asking s.more; refused = refl; last = refl }),
-          Performs-stops (faults.Refused reason) a b c s.asking (last ∷ []) s.does stops,
-        ),
-      ),
-    )
+    let made = asks_last most s.asking word (replies.Refused reason) s.more (omega (arith, s.count)) refl in
+    record {
+      acts = s.asking ++ last ∷ [];
+      rest = [];
+      asks = subst (Asks most) (sym (append-nil (s.asking ++ last ∷ []))) made;
+      ends = (marks.Next word, record { before = s.asking; accepted = none_refused s.asking s.more; refused = refl; last = refl });
+      performs = Performs-stops (faults.Refused reason) a b c s.asking (last ∷ []) s.does stops;
+    }
 
 stops_none : (fault : SessionFault) (a b c : Outlet) (n most : ℕ) → Asking a b n → n < most → IsCut fault → PerformsUpTo fault b [] c →
     AskingStops fault most a c
 stops_none fault a b c n most s lt cut stops =
-    let begun = asks_begun most s.asking s.more (omega (arith, s.count)) in (
-      s.asking,
-      (
-        begun.0,
-        (
-          begun.1,
-          ends_cut fault s.asking cut (none_refused s.asking s.more),
-          subst (λ (es : List Act). PerformsUpTo fault a es c) (append-nil s.asking) (Performs-stops fault a b c s.asking [] s.does stops),
-        ),
-      ),
-    )
+    let begun = asks_begun most s.asking s.more (omega (arith, s.count)) in
+    record {
+      acts = s.asking;
+      rest = begun.0;
+      asks = begun.1;
+      ends = ends_cut fault s.asking cut (none_refused s.asking s.more);
+      performs = subst (λ (es : List Act). PerformsUpTo fault a es c) (append-nil s.asking) (Performs-stops fault a b c s.asking [] s.does stops);
+    }
 
 stops_one : (word : ℕ) (reply : Reply) (fault : SessionFault) (a b c : Outlet) (n most : ℕ) → Asking a b n → n < most → IsCut fault →
     is_refusal reply ≡ false → PerformsUpTo fault b (Called (marks.Next word) reply ∷ []) c → AskingStops fault most a c
 stops_one word reply fault a b c n most s lt cut accepted stops =
     let last : Act = Called (marks.Next word) reply in
-    let begun = asks_one most s.asking word reply s.more (omega (arith, s.count)) in (
-      s.asking ++ last ∷ [],
-      (
-        begun.0,
-        (
-          subst (Asks most) (sym (append_assoc s.asking (last ∷ []) begun.0)) begun.1,
-          ends_cut fault (s.asking ++ last ∷ []) cut (none_refused_one s.asking word reply s.more accepted),
-          Performs-stops fault a b c s.asking (last ∷ []) s.does stops,
-        ),
-      ),
-    )
+    let begun = asks_one most s.asking word reply s.more (omega (arith, s.count)) in
+    record {
+      acts = s.asking ++ last ∷ [];
+      rest = begun.0;
+      asks = subst (Asks most) (sym (append_assoc s.asking (last ∷ []) begun.0)) begun.1;
+      ends = ends_cut fault (s.asking ++ last ∷ []) cut (none_refused_one s.asking word reply s.more accepted);
+      performs = Performs-stops fault a b c s.asking (last ∷ []) s.does stops;
+    }
 
 -- a call that stopped
 pub Asking-stops : (word : ℕ) (fault : SessionFault) (a b c : Outlet) (n most : ℕ) → Asking a b n → n < most →
-    (acts : List Act) × (StopsCall (marks.Next word) fault acts × PerformsUpTo fault b acts c) → AskingStops fault most a c
+    CallStops fault (marks.Next word) b c → AskingStops fault most a c
 Asking-stops word fault a b c n most s lt stopped =
-    elim (stops_ways (marks.Next word) fault stopped.0 stopped.1.0) [
+    let at = λ (es : List Act) (is : stopped.acts ≡ es). subst (λ (acts : List Act). PerformsUpTo fault b acts c) is stopped.performs in
+    elim (stops_ways (marks.Next word) fault stopped.acts stopped.stops) [
       | inl refused ↦ subst (λ (f : SessionFault). AskingStops f most a c) (sym refused.1.0)
           (stops_refused word refused.0 a b c n most s lt
           (subst (λ (f : SessionFault). PerformsUpTo f b (Called (marks.Next word) (replies.Refused refused.0) ∷ []) c) refused.1.0
-          (subst (λ (es : List Act). PerformsUpTo fault b es c) refused.1.1 stopped.1.1)))
+          (at _ refused.1.1)))
       | inr cut ↦ elim cut.1 [
-        | inl none ↦ stops_none fault a b c n most s lt cut.0 (subst (λ (es : List Act). PerformsUpTo fault b es c) none stopped.1.1)
-        | inr some ↦ stops_one word some.0 fault a b c n most s lt cut.0 some.1.0
-            (subst (λ (es : List Act). PerformsUpTo fault b es c) some.1.1 stopped.1.1)
+        | inl none ↦ stops_none fault a b c n most s lt cut.0 (at [] none)
+        | inr some ↦ stops_one word some.0 fault a b c n most s lt cut.0 some.1.0 (at _ some.1.1)
       ]
     ]

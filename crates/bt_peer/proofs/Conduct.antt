@@ -17,6 +17,8 @@ use Rattle.bt_peer.specs.Outlets.{StopsCall}
 use Rattle.bt_peer.specs.Places.{PlaceRecord, Gains, GainsUpTo}
 use Rattle.bt_peer.specs.Steps.{Leaves, Departs}
 use Rattle.bt_peer.specs.Turns.{call_of, arrived_piece, if_completed, ChecksAtMost}
+use Rattle.bt_peer.specs.Outlets.{Outlet}
+use Rattle.bt_peer.specs.Parts.{CallStops}
 use Rattle.bt_peer.proofs.Asking.{stops_ways}
 use Rattle.bt_peer.specs.Conduct.{Calls, Draws, word_of, words_of, completed_by, checks_first, all_checked, SettlesAtOnce, Conducts, DrawsWords}
 
@@ -49,8 +51,8 @@ pub Conducts-none : (settles : Bool) (generator : Stream) (calls : Calls) → Co
 Conducts-none settles generator calls =
     record { gained = []; calls = sym (append-nil calls); drawn = refl; checked = λ own. refl }
 
-pub Conducts-join : (settles : Bool) (s t u : Stream) (a b c : Calls) → Conducts settles s a b t → Conducts settles t b c u → Conducts settles s a c u
-Conducts-join settles s t u a b c first second = record {
+pub Conducts-join : {settles : Bool} {s t u : Stream} {a b c : Calls} → Conducts settles s a b t → Conducts settles t b c u → Conducts settles s a c u
+Conducts-join {s = s} {t = t} {u = u} {a = a} first second = record {
   gained = first.gained ++ second.gained;
   calls = second.calls ∙ ap (λ (calls : Calls). calls ++ second.gained) first.calls ∙ append_assoc a first.gained second.gained;
   drawn = subst (λ (words : List ℕ). Draws s words u) (sym (words_of-append first.gained second.gained))
@@ -58,16 +60,16 @@ Conducts-join settles s t u a b c first second = record {
   checked = λ own. all_checked-append first.gained second.gained (first.checked own) (second.checked own);
 }
 
-pub Conducts-draws : (settles : Bool) (s t : Stream) (a b : Calls) → Conducts settles s a b t → DrawsWords s a b
-Conducts-draws settles s t a b conducts =
+pub Conducts-draws : {settles : Bool} {s t : Stream} {a b : Calls} → Conducts settles s a b t → DrawsWords s a b
+Conducts-draws {t = t} conducts =
     record { gained = conducts.gained; calls = conducts.calls; left = t; drawn = conducts.drawn }
 
 pub DrawsWords-none : (s : Stream) (calls : Calls) → DrawsWords s calls calls
 DrawsWords-none s calls = record { gained = []; calls = sym (append-nil calls); left = s; drawn = refl }
 
 -- a stretch, then one that may have been cut off
-pub DrawsWords-join : (settles : Bool) (s t : Stream) (a b c : Calls) → Conducts settles s a b t → DrawsWords t b c → DrawsWords s a c
-DrawsWords-join settles s t a b c first second = record {
+pub DrawsWords-join : {settles : Bool} {s t : Stream} {a b c : Calls} → Conducts settles s a b t → DrawsWords t b c → DrawsWords s a c
+DrawsWords-join {s = s} {t = t} {a = a} first second = record {
   gained = first.gained ++ second.gained;
   calls = second.calls ∙ ap (λ (calls : Calls). calls ++ second.gained) first.calls ∙ append_assoc a first.gained second.gained;
   left = second.left;
@@ -142,22 +144,24 @@ stopped_calls call fault acts stops =
     ]
 
 -- a Next that stopped
-pub asked_cut : (a b : Stream) (word : ℕ) (fault : SessionFault) (acts : List Act) (old new : PlaceRecord) → (word, b) ≡ next_u64 a →
-    StopsCall (marks.Next word) fault acts → GainsUpTo old acts new → DrawsWords a old.calls new.calls
-asked_cut a b word fault acts old new drawn stops gains =
-    elim (stopped_calls (marks.Next word) fault acts stops) [
-      | inl none ↦ silent_draws a old.calls new.calls (calls_of acts) gains.calls (ap words_of none)
-      | inr one ↦ drew_one a b word one.0 old.calls new.calls drawn (gains.calls ∙ ap (λ (calls : Calls). old.calls ++ calls) one.1)
+pub asked_cut : (a b : Stream) (word : ℕ) (fault : SessionFault) (old new : Outlet) → (word, b) ≡ next_u64 a →
+    CallStops fault (marks.Next word) old new → DrawsWords a old.past.calls new.past.calls
+asked_cut a b word fault old new drawn cut =
+    let old_calls = old.past.calls in
+    let gains = cut.performs.gains.calls in
+    elim (stopped_calls (marks.Next word) fault cut.acts cut.stops) [
+      | inl none ↦ silent_draws a old_calls new.past.calls (calls_of cut.acts) gains (ap words_of none)
+      | inr one ↦ drew_one a b word one.0 old_calls new.past.calls drawn (gains ∙ ap (λ (calls : Calls). old_calls ++ calls) one.1)
     ]
 
 -- another call that stopped
-pub other_cut : (s : Stream) (call : CallMark) (fault : SessionFault) (acts : List Act) (old new : PlaceRecord) → word_of call ≡ [] →
-    StopsCall call fault acts → GainsUpTo old acts new → DrawsWords s old.calls new.calls
-other_cut s call fault acts old new silent stops gains =
-    elim (stopped_calls call fault acts stops) [
-      | inl none ↦ silent_draws s old.calls new.calls (calls_of acts) gains.calls (ap words_of none)
-      | inr one ↦ silent_draws s old.calls new.calls (calls_of acts) gains.calls
-          (ap words_of one.1 ∙ ap (λ (words : List ℕ). words ++ []) silent)
+pub other_cut : (s : Stream) (call : CallMark) (fault : SessionFault) (old new : Outlet) → word_of call ≡ [] →
+    CallStops fault call old new → DrawsWords s old.past.calls new.past.calls
+other_cut s call fault old new silent cut =
+    let draws = silent_draws s old.past.calls new.past.calls (calls_of cut.acts) cut.performs.gains.calls in
+    elim (stopped_calls call fault cut.acts cut.stops) [
+      | inl none ↦ draws (ap words_of none)
+      | inr one ↦ draws (ap words_of one.1 ∙ ap (λ (words : List ℕ). words ++ []) silent)
     ]
 
 -- a call that isn't Next, which completed no piece

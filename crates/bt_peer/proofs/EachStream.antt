@@ -1,18 +1,20 @@
 -- Rounds of several streams' sessions.
 use Rattle.std.proofs.Common.{◌≡◌, ◌≢◌, ◌<◌, ◌+◌, ◌∙◌, ℕ, Bool, true, false, List, [], ◌∷◌, ◌++◌, length-append, length, map, Some, Result, get_or}
-use Rattle.std.proofs.Common.{set, sum_by, refl, sym, ap, subst, ◌==◌, arith}
-use Rattle.std.specs.List.{AllWithin, HoldsAt}
+use Rattle.std.proofs.Common.{set, length-set, sum_by, refl, sym, ap, subst, ◌==◌, arith}
+use Rattle.std.specs.List.{All, AllWithin, HoldsAt}
 use Rattle.std.proofs.lemmas.Bool.Decides.{nat_tests}
 use Rattle.std.proofs.lemmas.Grind.{get_or-set_at}
 use Rattle.std.proofs.lemmas.List.{get_or-set_other, get_or_append_left, get_or_default, get_or_push, length-map}
-use Rattle.std.proofs.lemmas.List.Elements.{AllWithin-more}
+use Rattle.std.proofs.lemmas.List.Elements.{All-set, AllWithin-more}
+use Rattle.bt_meta.specs.Layout.{piece_count}
+use Rattle.bt_history.specs.Setting.{Setting}
 use Rattle.bt_picker.specs.Positions.{DeskState}
 use Rattle.bt_peer.specs.declared.fault.End.{End}
 use Rattle.bt_peer.specs.declared.fault.SessionFault.{SessionFault}
 use Rattle.bt_peer.specs.declared.seat.Seat.{Seat}
 use Rattle.bt_peer.specs.Conduct.{answers_of}
 use Rattle.bt_peer.specs.Serial.{StreamRecord}
-use Rattle.bt_peer.specs.Standing.{Standing, Keeps, EachKeeps, LeavesOthers, LeavesRest, HasEnded, IsNew, AreNew, left_of, standing}
+use Rattle.bt_peer.specs.Standing.{Standing, Keeps, LeavesOthers, HasEnded, IsNew, AreNew, MayPlay, NotesPieces, Played, left_of, standing}
 use Rattle.bt_peer.specs.Terms.{TermsState}
 use Rattle.bt_peer.proofs.Standing.{Keeps-join, Keeps-refl, others_stand}
 
@@ -52,31 +54,55 @@ each_at record_of desk new seats streams i seat seat' stream stream' within with
     Keeps-same j _ _ _ _ refl (standing-same new _ _ _ _ kept (ap record_of kept'))
     (others_stand i j desk new old.session old.told (record_of (get_or streams j x)) (answers_of old.rng) others apart)
 
+MayPlay-next : {X : Type 0} (desk new : DeskState) (seats seats' : List Seat) (streams streams' : List X) → MayPlay desk seats streams →
+    length seats' ≡ length seats → length streams' ≡ length streams → new.setting ≡ desk.setting →
+    All (NotesPieces desk) seats' → MayPlay new seats' streams'
+MayPlay-next desk new seats seats' streams streams' may same same' setting fit = record {
+  seated = same ∙ may.seated ∙ sym same';
+  workers = subst (λ (s : Setting). length streams' < s.workers) (sym setting) (omega (arith, may.workers));
+  few = omega (arith, may.few);
+  fit = λ i. λ any. λ within. fit i any within ∙ ap (λ (s : Setting). piece_count s.torrent) (sym setting);
+}
+
 -- after one stream's turn
-pub each_turn : {X : Type 0} (record_of : X → StreamRecord) (desk new : DeskState) (seats : List Seat) (streams : List X) (i : ℕ) (seat seat' : Seat)
+pub played_turn : {X : Type 0} (record_of : X → StreamRecord) (desk new : DeskState) (seats : List Seat) (streams : List X) (i : ℕ) (seat seat' : Seat)
     (stream stream' : X) →
-    i < length seats → i < length streams →
+    MayPlay desk seats streams → i < length streams →
     Keeps i (standing desk (get_or seats i seat) (record_of (get_or streams i stream))) (standing new seat' (record_of stream')) →
-    LeavesOthers i desk new →
-    EachKeeps record_of desk seats streams new (set seats i seat') (set streams i stream')
-each_turn record_of desk new seats streams i seat seat' stream stream' within within' keeps others =
-    λ j. λ s. λ x. λ few. each_at record_of desk new seats streams i seat seat' stream stream' within within' keeps others (j == i) j s x refl
+    LeavesOthers i desk new → length seat'.told ≡ length (get_or seats i seat).told →
+    Played record_of desk seats streams new (set seats i seat') (set streams i stream')
+played_turn record_of desk new seats streams i seat seat' stream stream' may within keeps others told =
+    let seated : i < length seats = omega (arith, may.seated) in
+    let fit = All-set (NotesPieces desk) seats i seat' (told ∙ may.fit i seat seated) may.fit in
+    record {
+      count = length-set streams i stream';
+      keeps = λ j. λ s. λ x. λ few. each_at record_of desk new seats streams i seat seat' stream stream' seated within keeps others (j == i) j s x refl;
+      rest = record { setting = others.setting; calls = λ other. λ above. others.calls other (omega arith) };
+      may = MayPlay-next desk new seats (set seats i seat') streams (set streams i stream') may (length-set seats i seat')
+          (length-set streams i stream') others.setting fit;
+    }
 
-pub EachKeeps-refl : {X : Type 0} (record_of : X → StreamRecord) (desk : DeskState) (seats : List Seat) (streams : List X) →
-    EachKeeps record_of desk seats streams desk seats streams
-EachKeeps-refl record_of desk seats streams = λ j. λ s. λ x. λ few. Keeps-refl j _
+pub Played-refl : {X : Type 0} (record_of : X → StreamRecord) (desk : DeskState) (seats : List Seat) (streams : List X) → MayPlay desk seats streams →
+    Played record_of desk seats streams desk seats streams
+Played-refl record_of desk seats streams may = record {
+  count = refl;
+  keeps = λ j. λ s. λ x. λ few. Keeps-refl j _;
+  rest = record { setting = refl; calls = λ other. λ above. refl };
+  may = may;
+}
 
-pub EachKeeps-join : {X : Type 0} (record_of : X → StreamRecord) (a b c : DeskState) (seats seats' seats'' : List Seat)
-    (streams streams' streams'' : List X) → length streams' ≡ length streams →
-    EachKeeps record_of a seats streams b seats' streams' → EachKeeps record_of b seats' streams' c seats'' streams'' →
-    EachKeeps record_of a seats streams c seats'' streams''
-EachKeeps-join record_of a b c seats seats' seats'' streams streams' streams'' same first then =
-    λ j. λ s. λ x. λ few. Keeps-join j _ _ _ (first j s x few) (then j s x (omega arith))
-
-pub LeavesRest-join : (count : ℕ) (a b c : DeskState) → LeavesRest count a b → LeavesRest count b c → LeavesRest count a c
-LeavesRest-join count a b c first then = record {
-  setting = then.setting ∙ first.setting;
-  calls = λ other. λ above. then.calls other above ∙ first.calls other above;
+pub Played-join : {X : Type 0} (record_of : X → StreamRecord) (a b c : DeskState) (seats seats' seats'' : List Seat)
+    (streams streams' streams'' : List X) →
+    Played record_of a seats streams b seats' streams' → Played record_of b seats' streams' c seats'' streams'' →
+    Played record_of a seats streams c seats'' streams''
+Played-join record_of a b c seats seats' seats'' streams streams' streams'' first then = record {
+  count = then.count ∙ first.count;
+  keeps = λ j. λ s. λ x. λ few. Keeps-join j _ _ _ (first.keeps j s x few) (then.keeps j s x (omega (arith, first.count)));
+  rest = record {
+    setting = then.rest.setting ∙ first.rest.setting;
+    calls = λ other. λ above. then.rest.calls other (omega (arith, first.count)) ∙ first.rest.calls other above;
+  };
+  may = then.may;
 }
 
 -- how far a round has come: a turn was taken, or all sessions so far had ended

@@ -1,6 +1,6 @@
 -- What a turn left that broke off.
 use Rattle.std.proofs.Common.{◌≡◌, ◌≢◌, ◌<◌, length, arith, ℕ, List, [], ◌∷◌, ◌++◌, Bool, true, false, Option, Some, Err, refl, sym, ap, subst, inl}
-use Rattle.std.proofs.Common.{inr}
+use Rattle.std.proofs.Common.{inr, ◌∙◌}
 use Rattle.std.specs.Prelude.{if◌then◌else◌}
 use Rattle.std.proofs.lemmas.List.{append-nil}
 use Rattle.std.specs.Io.KnownBytes.{Appends}
@@ -17,7 +17,8 @@ use Rattle.bt_peer.specs.Acts.{Act, Called, is_in}
 use Rattle.bt_peer.specs.Places.{PlaceRecord, Gains, GainsUpTo, LacksMemory}
 use Rattle.bt_peer.specs.Writer.{greeting, says}
 use Rattle.bt_peer.specs.Turns.{IsLater, BeginsTurn}
-use Rattle.bt_peer.specs.Outlets.{Outlet, PerformsUpTo, WroteFront, EndsCalls}
+use Rattle.bt_peer.specs.Outlets.{Outlet, WroteFront, EndsCalls}
+use Rattle.bt_peer.specs.Parts.{TurnStops}
 use Rattle.bt_peer.specs.Reader.{Hears, HearsEnd, HearsFault, SourceState}
 use Rattle.bt_peer.specs.Sessions.{SessionState, FailsWith}
 use Rattle.bt_peer.specs.Steps.{Start, start, Surroundings, BreaksBy, StopsTurn, Departs, Leaves}
@@ -174,29 +175,28 @@ stopped_turn _ m stream old source acts hears stops = absurd stops.1
 pub attending_fails : (fault : SessionFault) (m : Message) (stream : InboundState) (old : Start) (source : SourceState) (a d : Outlet)
     (past' : PlaceRecord) →
     IsLater m → Hears old.stream old.left source.left m stream →
-    (acts : List Act) × (StopsTurn fault old.terms m acts × PerformsUpTo fault a acts d) → Leaves d.past past' →
-    LaterFails fault a.interested old source a.past a.written past' d.written
+    TurnStops fault old.terms m a d → Leaves d.past past' →
+    LaterFails fault a.said.interested old source a.past a.said.written past' d.said.written
 attending_fails fault m stream old source a d past' later hears h left =
-    let still = stays_in fault old.terms m h.0 later h.1.0 in (
-      h.0,
+    let still = stays_in fault old.terms m h.acts later h.stops in (
+      h.acts,
       (
         left.leave,
         (
-          GainsUpTo-join a.past d.past past' h.0 left.leave h.1.1.gains left.gains,
+          GainsUpTo-join a.past d.past past' h.acts left.leave h.performs.gains left.gains,
           subst (λ (is_in : Bool). Departs is_in past'.short left.leave) (sym still) left.departs,
-          h.1.1.wrote,
-          stopped_turn fault m stream old source h.0 hears h.1.0,
+          h.performs.writes.wrote,
+          stopped_turn fault m stream old source h.acts hears h.stops,
         ),
       ),
     )
 
--- the first turn of a session broke off
-pub session_fails_first : (fault : SessionFault) (old new : SessionState) (out out' : Surroundings) (source : SourceState) → old.joined ≡ false →
+fails_first : (fault : SessionFault) (old new : SessionState) (out out' : Surroundings) (source : SourceState) → old.joined ≡ false →
     new.outcome ≡ Some (Err fault) →
     FirstFails fault (greeting old.terms.infohash old.worker) old.interested
     (start old.terms false old.stream out.left) source out.past out.written out'.past out'.written →
     FailsWith fault old out source new out'
-session_fails_first fault old new out out' source first is h =
+fails_first fault old new out out' source first is h =
     record {
       acts = h.0;
       leave = [];
@@ -207,3 +207,17 @@ session_fails_first fault old new out out' source first is h =
       cause = subst (λ (b : Bool). BreaksBy fault (start old.terms b old.stream out.left) source h.0) (sym first) h.1.3;
       outcome = is;
     }
+
+-- the first turn of a session broke off: with this greeting, from the state inside, with this written
+pub session_fails_first : (fault : SessionFault) (hello : List ℕ) (inside old new : SessionState) (out out' : Surroundings) (source : SourceState)
+    (written : Option (List ℕ)) →
+    FirstFails fault hello inside.interested (start inside.terms false inside.stream out.left) source out.past out.written out'.past written →
+    inside ≡ old → hello ≡ greeting inside.terms.infohash inside.worker → old.joined ≡ false → new.outcome ≡ Some (Err fault) →
+    out'.written ≡ written → FailsWith fault old out source new out'
+session_fails_first fault hello inside old new out out' source written h view said first is wrote =
+    let fails : (bytes : List ℕ) (to : Option (List ℕ)) → Type 0 = λ bytes. λ to.
+    FirstFails fault bytes inside.interested (start inside.terms false inside.stream out.left) source out.past out.written out'.past to in
+    let greeted = subst (λ (bytes : List ℕ). fails bytes written) said h in
+    let same = subst (fails (greeting inside.terms.infohash inside.worker)) (sym wrote) greeted in
+    let joined : inside.joined ≡ false = ap (λ (now : SessionState). now.joined) view ∙ first in
+    subst (λ (now : SessionState). FailsWith fault now out source new out') view (fails_first fault inside new out out' source joined is same)

@@ -2,10 +2,11 @@
 use Rattle.bt_wire.specs.declared.message.Message.{Message}
 use Rattle.bt_wire.specs.declared.message.Message.TheVariants as messages
 use Rattle.std.proofs.Common.{Bool, true, false, ◌≤◌, length, length-append, ◌≡◌, ℕ, ◌+◌, List, [], ◌++◌, Option, Some, None, refl, sym, ap, subst}
-use Rattle.std.proofs.Common.{◌∙◌, append_assoc, arith}
+use Rattle.std.proofs.Common.{◌∙◌, append_assoc, arith, Ok}
 use Rattle.std.proofs.lemmas.List.{append-nil}
 use Rattle.std.specs.Io.KnownBytes.{Consumes, Keeps}
 use Rattle.bt_wire.specs.Stream.{InboundState, Gives, Spells}
+use Rattle.bt_peer.specs.Hearing.{Hearing, HearsNext}
 use Rattle.bt_peer.specs.Reader.{fed, Hears}
 use Rattle.bt_peer.specs.Turns.{IsLater}
 
@@ -48,28 +49,35 @@ BytesRead-more a b c held now new xs r more is =
       now = is ∙ ap (λ (h : InboundState). fed h xs) r.now ∙ fed-more held r.read xs;
     }
 
--- a message was held already
-pub heard_at_once : (left : Option (List ℕ)) (old new : InboundState) (m : Message) → Gives old m new → Hears old left left m new
-heard_at_once left old new m gives =
-    record {
-      read = [];
-      consumed = Consumes-none left;
-      gives = subst (λ (stream : InboundState). Gives stream m new) (sym (fed-none old)) gives;
-    }
-
 -- a message has four bytes at least
 text_len : (greeted : Bool) (limit : ℕ) (m : Message) (text : List ℕ) → Spells greeted limit m text → 4 ≤ length text
 text_len false limit (messages.Hello h) text is = rw is.1 (simp length-append (omega arith))
 text_len false limit _ text is = absurd is
 text_len true limit m text is = rw is.1.2 (omega arith)
 
-pub shorter : (old new : InboundState) (m : Message) → Gives old m new → length new.bytes + 4 ≤ length old.bytes
+shorter : (old new : InboundState) (m : Message) → Gives old m new → length new.bytes + 4 ≤ length old.bytes
 shorter old new m gives =
     omega (arith, text_len old.greeted old.limit m gives.text gives.spells, ap length gives.bytes, length-append gives.text new.bytes)
 
 framed : (limit : ℕ) (m : Message) (text : List ℕ) → Spells true limit m text → IsLater m
 framed limit (messages.Hello h) text is = is.1.0
 framed limit _ text is = tt
+
+-- a message was held already
+pub heard_at_once : (old : Hearing) (stream : InboundState) (m : Message) → Gives old.stream m stream →
+    HearsNext (Ok (Some m)) old (record old { stream = stream })
+heard_at_once old stream m gives = record {
+  message = record {
+    read = [];
+    consumed = Consumes-none old.source.left;
+    gives = subst (λ (held : InboundState). Gives held m stream) (sym (fed-none old.stream)) gives;
+  };
+  end = tt;
+  fault = tt;
+  few = omega (arith, shorter old.stream stream m gives);
+  sound = refl;
+  counted = λ same. same;
+}
 
 -- a message after the handshake is no handshake
 pub later : (old : InboundState) (left left' : Option (List ℕ)) (m : Message) (new : InboundState) → old.greeted ≡ true → Hears old left left' m new →

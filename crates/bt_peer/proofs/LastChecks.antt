@@ -22,8 +22,8 @@ use Rattle.bt_peer.specs.Places.{PlaceRecord, Gains}
 use Rattle.bt_peer.specs.Sessions.{SessionState, Running}
 use Rattle.bt_peer.specs.Serial.{StreamRecord, Ended, EachEnded, ChecksAfter, Finishes, around, before_all, own_record, source_of}
 use Rattle.bt_peer.specs.Terms.{TermsState}
-use Rattle.bt_peer.specs.Standing.{Standing, Stands, StandsBy, ConductBy, DevicesBy, EachKeeps, LeavesOthers, LeavesRest, IsFresh, IsNew, AreNew}
-use Rattle.bt_peer.specs.Standing.{standing}
+use Rattle.bt_peer.specs.Standing.{Standing, Stands, StandsBy, ConductBy, DevicesBy, LeavesOthers, LeavesRest, IsFresh, IsNew, AreNew}
+use Rattle.bt_peer.specs.Standing.{MayPlay, Played, standing}
 use Rattle.bt_peer.proofs.Conduct.{Conducts-none, Conducts-draws}
 use Rattle.bt_peer.proofs.EachStream.{ends_count}
 use Rattle.bt_peer.proofs.Desks.{calls_in-other, and-more, had-more}
@@ -167,7 +167,7 @@ begun_in terms seed worker setting desk seat stream layout same_setting uncalled
 -- how a stream's session ended that stands
 words_after : (outcome : Result End SessionFault) (generator left : Words) (calls : Calls) → ConductBy (Some outcome) generator [] calls left →
     DrawsWords generator [] calls
-words_after (Ok end) generator left calls conduct = Conducts-draws true generator left [] calls conduct
+words_after (Ok end) generator left calls conduct = Conducts-draws conduct
 words_after (Err fault) generator left calls words = words
 
 checks_after : (outcome : Result End SessionFault) (generator left : Words) (calls : Calls) → ConductBy (Some outcome) generator [] calls left →
@@ -217,23 +217,21 @@ end_at ends seats i end any told within =
 -- each stream's session ended so, once the last checks were made
 pub each_ended : {X : Type 0} (record_of : X → StreamRecord) (terms : TermsState) (seed : ℕ) (first mid last : DeskState) (seats seats' : List Seat)
     (streams streams' : List X) (ends : List (Result End SessionFault)) →
-    first.setting.torrent ≡ terms.layout → IsFresh (length streams) first → AreNew terms seed seats → length seats ≡ length streams →
-    length seats' ≡ length streams →
-    EachKeeps record_of first seats streams mid seats' streams' → LeavesRest (length streams) first mid → (worker : ℕ) → length streams ≤ worker →
-    LeavesOthers worker mid last →
+    first.setting.torrent ≡ terms.layout → IsFresh (length streams) first → AreNew terms seed seats → MayPlay first seats streams →
+    Played record_of first seats streams mid seats' streams' → (worker : ℕ) → length streams ≤ worker → LeavesOthers worker mid last →
     map Some ends ≡ map (λ seat. seat.session.outcome) seats' → EachEnded record_of terms seed streams last streams' ends
-each_ended record_of terms seed first mid last seats seats' streams streams' ends layout fresh new same same' keeps rest worker above left told =
+each_ended record_of terms seed first mid last seats seats' streams streams' ends layout fresh new may played worker above left told =
     λ i. λ stream. λ end. λ within.
-    let within_seats : i < length seats = omega (arith, same) in
-    let within_seats' : i < length seats' = omega (arith, same') in
+    let within_seats : i < length seats = omega (arith, may.seated) in
+    let within_seats' : i < length seats' = omega (arith, played.may.seated, played.count) in
     let any = first_of seats i within_seats in
     let apart : i ≢ worker = omega arith in
     let seat = get_or seats' i any in
     let old = record_of (get_or streams i stream) in
     let now = record_of (get_or streams' i stream) in
     let kept = Keeps-join i (standing first (get_or seats i any) old) (standing mid seat now) (standing last seat now)
-    (keeps i any stream within) (others_stand worker i mid last seat.session seat.told now (answers_of seat.rng) left apart) in
-    let setting : first.setting ≡ last.setting = sym (left.setting ∙ rest.setting) in
+    (played.keeps i any stream within) (others_stand worker i mid last seat.session seat.told now (answers_of seat.rng) left apart) in
+    let setting : first.setting ≡ last.setting = sym (left.setting ∙ played.rest.setting) in
     let layout' : last.setting.torrent ≡ terms.layout = sym (ap (λ (s : Setting). s.torrent) setting) ∙ layout in
     let start = begun_in terms seed i last.setting first (get_or seats i any) old layout' setting (fresh.uncalled i within)
     fresh.none_had (new i any within_seats) in

@@ -1,5 +1,5 @@
 -- The desk of a run before its first round.
-use Rattle.std.proofs.Common.{◌≡◌, ℕ, Bool, false, not, List, [], ◌∷◌, length, refl, sym, ap, subst, ◌==◌, ◌∙◌, arith, eq-eqb}
+use Rattle.std.proofs.Common.{◌≡◌, ◌<◌, ◌≤◌, ℕ, Bool, false, not, List, [], ◌∷◌, length, refl, sym, ap, subst, ◌==◌, ◌∙◌, arith, eq-eqb}
 use Rattle.std.proofs.lemmas.Bool.Decides.{nat_tests}
 use Rattle.std.proofs.lemmas.List.{length-replicate}
 use Rattle.bt_meta.specs.Layout.{piece_count}
@@ -16,7 +16,8 @@ use Rattle.bt_history.specs.Setting.{Setting}
 use Rattle.bt_picker.specs.Positions.{DeskState, Gains as Enters}
 use Rattle.bt_peer.specs.Desks.{calls_in}
 use Rattle.bt_peer.specs.declared.seat.Seat.{Seat}
-use Rattle.bt_peer.specs.Standing.{AreNew, Fit, IsFresh, HasOpened}
+use Rattle.bt_peer.specs.declared.stream.TheConstants.{MOST_STREAMS}
+use Rattle.bt_peer.specs.Standing.{AreNew, IsFresh, HasOpened, MayPlay}
 use Rattle.bt_peer.specs.Terms.{TermsState, pieces_of}
 use Rattle.bt_peer.proofs.Desks.{calls_in-own, calls_in-other}
 
@@ -66,8 +67,14 @@ opened_by old new worker flags reply empty same enters =
     ∙ ap (λ (r : Reply). let desk : DeskState = record { setting = old.setting; history = entry r ∷ [] } in desk) quiet)) in
     subst (HasOpened worker flags) (sym is) (first_want old.setting worker flags)
 
--- new seats note pieces of the torrent
-pub AreNew-fit : (terms : TermsState) (seed : ℕ) (desk : DeskState) (seats : List Seat) → desk.setting.torrent ≡ terms.layout →
-    AreNew terms seed seats → Fit desk seats
-AreNew-fit terms seed desk seats layout new = λ i. λ any. λ within.
-    ap length (new i any within).told ∙ (length-replicate {A = Bool} (pieces_of terms) false ∙ ap piece_count (sym layout))
+-- a run with new seats may take turns
+pub AreNew-play : {X : Type 0} (terms : TermsState) (seed : ℕ) (desk : DeskState) (seats : List Seat) (streams : List X) →
+    desk.setting.torrent ≡ terms.layout → length streams < desk.setting.workers → length streams ≤ MOST_STREAMS → length seats ≡ length streams →
+    AreNew terms seed seats → MayPlay desk seats streams
+AreNew-play terms seed desk seats streams layout workers few seated new = record {
+  seated = seated;
+  workers = workers;
+  few = few;
+  fit = λ i. λ any. λ within.
+      ap length (new i any within).told ∙ (length-replicate {A = Bool} (pieces_of terms) false ∙ ap piece_count (sym layout));
+}

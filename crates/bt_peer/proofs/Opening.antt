@@ -12,11 +12,10 @@ use Rattle.bt_peer.specs.declared.fault.SessionFault.TheVariants as faults
 use Rattle.bt_peer.specs.Acts.{Act, Called, is_refusal, is_check, is_refused_call}
 use Rattle.bt_peer.specs.Writer.{answer, interest_by}
 use Rattle.bt_peer.specs.Places.{PlaceRecord, Gains, LacksMemory}
-use Rattle.bt_peer.specs.Turns.{Opens, Checks, ChecksAtMost, if_completed, arrived_piece, NoneRefused}
-use Rattle.bt_peer.specs.Outlets.{Outlet, Performs, PerformsUpTo, StopsCall, EndsCalls, IsCut}
-use Rattle.std.specs.Io.KnownBytes.{Appends}
-use Rattle.std.proofs.KnownBytes.{Appends-nil}
-use Rattle.bt_peer.proofs.Stretches.{Performs-join, Performs-stops}
+use Rattle.bt_peer.specs.Turns.{Checks, ChecksAtMost, if_completed, arrived_piece, NoneRefused}
+use Rattle.bt_peer.specs.Outlets.{Outlet, Performs, PerformsUpTo, IsCut, Writes}
+use Rattle.bt_peer.specs.Parts.{CallStops, OpeningDone, OpeningStops}
+use Rattle.bt_peer.proofs.Stretches.{Performs-join, Performs-stops, Writes-none, WritesUpTo-none}
 use Rattle.bt_peer.proofs.Asking.{stops_ways, ends_cut}
 
 -- a call of a session's own is no check
@@ -39,51 +38,44 @@ none_follows (Some piece) acts none = inl none
 pub unchecked : (mark : CallMark) (reply : Reply) → Checks mark reply []
 unchecked mark reply = none_follows (if_completed (arrived_piece mark) reply) [] refl
 
-abbrev OpeningStops : SessionFault → CallMark → Outlet → Outlet → Type 0
-OpeningStops fault mark a c = (acts : List Act)
-    × ((rest : List Act) × (Opens (Some mark) (acts ++ rest) × EndsCalls fault acts × PerformsUpTo fault a acts c))
-
 stops_refused : (mark : CallMark) (reason : Reason) (a c : Outlet) → is_check mark ≡ false →
-    PerformsUpTo (faults.Refused reason) a (Called mark (replies.Refused reason) ∷ []) c → OpeningStops (faults.Refused reason) mark a c
-stops_refused mark reason a c own stops = (
-  Called mark (replies.Refused reason) ∷ [],
-  (
-    [],
-    (
-      (refl, unchecked mark (replies.Refused reason)),
-      (mark, record { before = []; accepted = refl; refused = refused_call mark reason own; last = refl }),
-      stops,
-    ),
-  ),
-)
+    PerformsUpTo (faults.Refused reason) a (Called mark (replies.Refused reason) ∷ []) c → OpeningStops (faults.Refused reason) (Some mark) a c
+stops_refused mark reason a c own stops = record {
+  acts = Called mark (replies.Refused reason) ∷ [];
+  rest = [];
+  opens = (refl, unchecked mark (replies.Refused reason));
+  ends = (mark, record { before = []; accepted = refl; refused = refused_call mark reason own; last = refl });
+  performs = stops;
+}
 
-stops_none : (fault : SessionFault) (mark : CallMark) (a c : Outlet) → IsCut fault → PerformsUpTo fault a [] c → OpeningStops fault mark a c
-stops_none fault mark a c cut stops =
-    ([], (Called mark replies.Idle ∷ [], ((refl, unchecked mark replies.Idle), ends_cut fault [] cut refl, stops)))
+stops_none : (fault : SessionFault) (mark : CallMark) (a c : Outlet) → IsCut fault → PerformsUpTo fault a [] c → OpeningStops fault (Some mark) a c
+stops_none fault mark a c cut stops = record {
+  acts = [];
+  rest = Called mark replies.Idle ∷ [];
+  opens = (refl, unchecked mark replies.Idle);
+  ends = ends_cut fault [] cut refl;
+  performs = stops;
+}
 
 stops_one : (fault : SessionFault) (mark : CallMark) (reply : Reply) (a c : Outlet) → IsCut fault → is_refusal reply ≡ false →
-    PerformsUpTo fault a (Called mark reply ∷ []) c → OpeningStops fault mark a c
-stops_one fault mark reply a c cut accepted stops = (
-  Called mark reply ∷ [],
-  (
-    [],
-    (
-      (refl, unchecked mark reply),
-      ends_cut fault (Called mark reply ∷ []) cut (accepted_one mark reply accepted),
-      stops,
-    ),
-  ),
-)
+    PerformsUpTo fault a (Called mark reply ∷ []) c → OpeningStops fault (Some mark) a c
+stops_one fault mark reply a c cut accepted stops = record {
+  acts = Called mark reply ∷ [];
+  rest = [];
+  opens = (refl, unchecked mark reply);
+  ends = ends_cut fault (Called mark reply ∷ []) cut (accepted_one mark reply accepted);
+  performs = stops;
+}
 
 -- the call stopped
-pub opening_stops : (mark : CallMark) (fault : SessionFault) (a c : Outlet) → is_check mark ≡ false →
-    (acts : List Act) × (StopsCall mark fault acts × PerformsUpTo fault a acts c) → OpeningStops fault mark a c
+pub opening_stops : (mark : CallMark) (fault : SessionFault) (a c : Outlet) → is_check mark ≡ false → CallStops fault mark a c →
+    OpeningStops fault (Some mark) a c
 opening_stops mark fault a c own stopped =
-    let at = λ (es : List Act) (is : stopped.0 ≡ es). subst (λ (acts : List Act). PerformsUpTo fault a acts c) is stopped.1.1 in
-    elim (stops_ways mark fault stopped.0 stopped.1.0) [
+    let at = λ (es : List Act) (is : stopped.acts ≡ es). subst (λ (acts : List Act). PerformsUpTo fault a acts c) is stopped.performs in
+    elim (stops_ways mark fault stopped.acts stopped.stops) [
       | inl refused ↦
           let act : Act = Called mark (replies.Refused refused.0) in
-          subst (λ (f : SessionFault). OpeningStops f mark a c) (sym refused.1.0)
+          subst (λ (f : SessionFault). OpeningStops f (Some mark) a c) (sym refused.1.0)
           (stops_refused mark refused.0 a c own (subst (λ (f : SessionFault). PerformsUpTo f a (act ∷ []) c) refused.1.0
           (at (act ∷ []) refused.1.1)))
       | inr cut ↦ elim cut.1 [
@@ -93,13 +85,14 @@ opening_stops mark fault a c own stopped =
     ]
 
 -- there was no memory for the check
-pub opening_unchecked : (mark : CallMark) (reply : Reply) (fault : SessionFault) (a b : Outlet) (past : PlaceRecord) → IsCut fault →
-    is_refusal reply ≡ false → Performs a (Called mark reply ∷ []) b → LacksMemory b.past past → OpeningStops fault mark a (record b { past = past })
-opening_unchecked mark reply fault a b past cut accepted does lacks =
-    let stops : PerformsUpTo fault b [] (record b { past = past }) =
-    record { gains = lacks.gains; wrote = record { front = []; rest = []; parts = refl; wrote = Appends-nil b.written; all = inr refl } } in
-    stops_one fault mark reply a (record b { past = past }) cut accepted
-    (Performs-stops fault a b (record b { past = past }) (Called mark reply ∷ []) [] does stops)
+pub opening_unchecked : (mark : CallMark) (reply : Reply) (a b : Outlet) (past : PlaceRecord) → is_refusal reply ≡ false →
+    Performs a (Called mark reply ∷ []) b → LacksMemory b.past past → OpeningStops faults.NoMemory (Some mark) a (record b { past = past })
+opening_unchecked mark reply a b past accepted does lacks =
+    let c = record b { past = past } in
+    let stops : PerformsUpTo faults.NoMemory b [] c =
+    record { gains = lacks.gains; writes = WritesUpTo-none faults.NoMemory b.said (λ is. cc) } in
+    stops_one faults.NoMemory mark reply a c (inr refl) accepted
+    (Performs-stops faults.NoMemory a b c (Called mark reply ∷ []) [] does stops)
 
 -- a check's reply calls for nothing
 check_says : (piece : ℕ) (i : Bool) (reply : Reply) → IsTrue (answers (marks.Settle piece) reply) → answer i reply ++ [] ≡ []
@@ -114,9 +107,6 @@ check_interest piece i replies.Failed h = refl
 check_interest piece i (replies.Refused reason) h = refl
 check_interest piece i _ h = absurd cc
 
-abbrev OpeningDoes : CallMark → Outlet → Outlet → Type 0
-OpeningDoes mark a c = (acts : List Act) × (Opens (Some mark) acts × NoneRefused acts × Performs a acts c)
-
 checked_by : (o : Option ℕ) (piece : ℕ) (acts : List Act) → o ≡ Some piece → ChecksAtMost piece acts →
     MatchOption o (acts ≡ []) (λ p. ChecksAtMost p acts)
 checked_by o piece acts is checks = subst (λ (q : Option ℕ). MatchOption q (acts ≡ []) (λ p. ChecksAtMost p acts)) (sym is) checks
@@ -124,31 +114,30 @@ checked_by o piece acts is checks = subst (λ (q : Option ℕ). MatchOption q (a
 -- the piece was completed, and seen to
 pub opening_checked : (mark : CallMark) (reply : Reply) (piece : ℕ) (a b : Outlet) (past : PlaceRecord) →
     if_completed (arrived_piece mark) reply ≡ Some piece → is_refusal reply ≡ false → Performs a (Called mark reply ∷ []) b →
-    (acts : List Act) × (ChecksAtMost piece acts × Gains b.past acts past) → OpeningDoes mark a (record b { past = past })
+    (acts : List Act) × (ChecksAtMost piece acts × Gains b.past acts past) → OpeningDone (Some mark) a (record b { past = past })
 opening_checked mark reply piece a b past is accepted does seen =
+    let c = record b { past = past } in
+    let gains = λ (es : List Act) (same : seen.0 ≡ es). subst (λ (acts : List Act). Gains b.past acts past) same seen.1.1 in
     elim seen.1.0 [
-      | inl none ↦
-          let nothing : Performs b [] (record b { past = past }) =
-          record { gains = subst (λ (es : List Act). Gains b.past es past) none seen.1.1; wrote = Appends-nil b.written; interest = refl } in (
-            Called mark reply ∷ [],
-            (
-              (refl, unchecked mark reply),
-              accepted_one mark reply accepted,
-              Performs-join a b (record b { past = past }) (Called mark reply ∷ []) [] does nothing,
-            ),
-          )
+      | inl none ↦ record {
+        acts = Called mark reply ∷ [];
+        opens = (refl, unchecked mark reply);
+        accepted = accepted_one mark reply accepted;
+        performs = Performs-join a b c (Called mark reply ∷ []) [] does
+            (record { gains = gains [] none; writes = Writes-none b.said; interest = refl });
+      }
       | inr check ↦
           let act : Act = Called (marks.Settle piece) check.0 in
-          let does_check : Performs b (act ∷ []) (record b { past = past }) = record {
-            gains = subst (λ (es : List Act). Gains b.past es past) check.1.1 seen.1.1;
-            wrote = subst (Appends b.written b.written) (sym (check_says piece b.interested check.0 check.1.0)) (Appends-nil b.written);
-            interest = check_interest piece b.interested check.0 check.1.0;
-          } in (
-            Called mark reply ∷ act ∷ [],
-            (
-              (refl, checked_by (if_completed (arrived_piece mark) reply) piece (act ∷ []) is (inr (check.0, (check.1.0, refl)))),
-              ap (λ v. v || false) (accepted_call mark reply accepted),
-              Performs-join a b (record b { past = past }) (Called mark reply ∷ []) (act ∷ []) does does_check,
-            ),
-          )
+          let does_check : Performs b (act ∷ []) c = record {
+            gains = gains (act ∷ []) check.1.1;
+            writes = subst (λ (xs : List ℕ). Writes b.said xs b.said) (sym (check_says piece b.said.interested check.0 check.1.0))
+                (Writes-none b.said);
+            interest = check_interest piece b.said.interested check.0 check.1.0;
+          } in
+          record {
+            acts = Called mark reply ∷ act ∷ [];
+            opens = (refl, checked_by (if_completed (arrived_piece mark) reply) piece (act ∷ []) is (inr (check.0, (check.1.0, refl))));
+            accepted = ap (λ v. v || false) (accepted_call mark reply accepted);
+            performs = Performs-join a b c (Called mark reply ∷ []) (act ∷ []) does does_check;
+          }
     ]

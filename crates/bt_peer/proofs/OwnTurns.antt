@@ -145,7 +145,7 @@ conduct_on : (terms : TermsState) (worker : ℕ) (begun : Words) (out : Surround
     Conducts true begun out.past.calls (calls_in new.desk.history worker) new.generator
 conduct_on terms worker begun out first old new p q is is' runs stands turn =
     subst (λ (calls : Calls). Conducts true begun out.past.calls calls new.generator) (ap (λ (r : PlaceRecord). r.calls) is')
-    (Conducts-join true begun old.generator new.generator out.past.calls p.calls q.calls
+    (Conducts-join
     (conduct_so_far terms worker begun out first old p is runs stands) turn)
 
 words_on : (terms : TermsState) (worker : ℕ) (begun : Words) (out : Surroundings) (first : StreamRecord) (old new : Standing) (p q : PlaceRecord) →
@@ -154,7 +154,7 @@ words_on : (terms : TermsState) (worker : ℕ) (begun : Words) (out : Surroundin
     DrawsWords begun out.past.calls (calls_in new.desk.history worker)
 words_on terms worker begun out first old new p q is is' runs stands turn =
     subst (DrawsWords begun out.past.calls) (ap (λ (r : PlaceRecord). r.calls) is')
-    (DrawsWords-join true begun old.generator out.past.calls p.calls q.calls (conduct_so_far terms worker begun out first old p is runs stands) turn)
+    (DrawsWords-join (conduct_so_far terms worker begun out first old p is runs stands) turn)
 
 -- after a fault the writer has failed where a write did
 pub devices_of : (fault : SessionFault) (old new : StreamRecord) → (fault ≡ faults.WriteFault → new.writer_failed ≡ true) →

@@ -1,17 +1,18 @@
 -- Stretches of a session, one after another.
-use Rattle.std.proofs.Common.{◌≡◌, ℕ, List, [], ◌∷◌, ◌++◌, Bool, true, false, Option, refl, sym, ap, subst, ◌∙◌, append_assoc, inl, inr}
+use Rattle.std.proofs.Common.{◌≡◌, ◌≢◌, ℕ, List, [], ◌∷◌, ◌++◌, Bool, true, false, refl, sym, ap, subst, ◌∙◌, append_assoc, inl, inr}
 use Rattle.std.specs.Prelude.{◌==◌, if◌then◌else◌}
 use Rattle.std.proofs.lemmas.List.{append-nil}
-use Rattle.std.specs.Io.KnownBytes.{Appends}
 use Rattle.bt_wire.specs.Messages.{spelling}
 use Rattle.bt_wire.specs.declared.message.Message.TheVariants as messages
 use Rattle.bt_history.specs.declared.mark.CallMark.{CallMark}
 use Rattle.bt_history.specs.declared.call.Reply.{Reply}
 use Rattle.bt_peer.specs.declared.fault.SessionFault.{SessionFault}
+use Rattle.bt_peer.specs.declared.fault.SessionFault.TheVariants as faults
 use Rattle.bt_peer.specs.Acts.{Act, Called, News, calls_of, news_of, is_refusal}
 use Rattle.bt_peer.specs.Writer.{says, answer, interest_by, interest_after}
 use Rattle.bt_peer.specs.Places.{PlaceRecord, Gains, GainsUpTo, AllHad, Tells}
-use Rattle.bt_peer.specs.Outlets.{Outlet, Performs, PerformsUpTo, StopsCall, WroteFront, IsCut}
+use Rattle.bt_peer.specs.Outlets.{Outlet, Saying, Performs, PerformsUpTo, StopsCall, Writes, WritesUpTo, IsCut}
+use Rattle.bt_peer.specs.Parts.{CallStops}
 use Rattle.std.proofs.KnownBytes.{Appends-nil, Appends-trans}
 
 calls_of-append : (es fs : List Act) → calls_of (es ++ fs) ≡ calls_of es ++ calls_of fs
@@ -98,28 +99,56 @@ up_to a b es g = g.up_to
 pub Gains-join : (a b c : PlaceRecord) (es fs : List Act) → Gains a es b → Gains b fs c → Gains a (es ++ fs) c
 Gains-join a b c es fs g h = record { up_to = GainsUpTo-join a b c es fs g.up_to h.up_to; short = h.short ∙ g.short }
 
+pub Writes-none : (a : Saying) → Writes a [] a
+Writes-none a = record { wrote = Appends-nil a.written; sound = refl; same_sink = refl }
+
+Writes-join : (a b c : Saying) (xs ys : List ℕ) → Writes a xs b → Writes b ys c → Writes a (xs ++ ys) c
+Writes-join a b c xs ys p q = record {
+  wrote = Appends-trans a.written b.written c.written xs ys p.wrote q.wrote;
+  sound = q.sound ∙ p.sound;
+  same_sink = q.same_sink ∙ p.same_sink;
+}
+
+WritesUpTo-join : (fault : SessionFault) (a b c : Saying) (xs ys : List ℕ) → Writes a xs b → WritesUpTo fault b ys c →
+    WritesUpTo fault a (xs ++ ys) c
+WritesUpTo-join fault a b c xs ys p q = record {
+  wrote = record {
+    front = xs ++ q.wrote.front;
+    rest = q.wrote.rest;
+    parts = ap (λ (zs : List ℕ). xs ++ zs) q.wrote.parts ∙ sym (append_assoc xs q.wrote.front q.wrote.rest);
+    wrote = Appends-trans a.written b.written c.written xs q.wrote.front p.wrote q.wrote.wrote;
+    all = q.wrote.all;
+  };
+  failed = q.failed;
+  same_sink = q.same_sink ∙ p.same_sink;
+}
+
+-- nothing more is written up to a fault that no write has
+pub WritesUpTo-none : (fault : SessionFault) (a : Saying) → fault ≢ faults.WriteFault → WritesUpTo fault a [] a
+WritesUpTo-none fault a other = record {
+  wrote = record { front = []; rest = []; parts = refl; wrote = Appends-nil a.written; all = inr refl };
+  failed = λ is. absurd (other is);
+  same_sink = refl;
+}
+
 pub Performs-none : (a : Outlet) → Performs a [] a
-Performs-none a = record { gains = Gains-none a.past; wrote = Appends-nil a.written; interest = refl }
+Performs-none a = record { gains = Gains-none a.past; writes = Writes-none a.said; interest = refl }
+
+-- what acts say after others
+says-after : (a b : Outlet) (es fs : List Act) → Performs a es b →
+    says a.said.interested es ++ says b.said.interested fs ≡ says a.said.interested (es ++ fs)
+says-after a b es fs p =
+    let i = a.said.interested in
+    sym (says-append i es fs ∙ ap (λ (j : Bool). says i es ++ says j fs) (sym p.interest))
 
 pub Performs-join : (a b c : Outlet) (es fs : List Act) → Performs a es b → Performs b fs c → Performs a (es ++ fs) c
 Performs-join a b c es fs p q =
+    let i = a.said.interested in
     record {
       gains = Gains-join a.past b.past c.past es fs p.gains q.gains;
-      wrote = subst (Appends a.written c.written)
-          (sym (says-append a.interested es fs ∙ ap (λ i. says a.interested es ++ says i fs) (sym p.interest)))
-          (Appends-trans a.written b.written c.written (says a.interested es) (says b.interested fs) p.wrote q.wrote);
-      interest = q.interest ∙ ap (λ i. interest_after i fs) p.interest ∙ sym (interest_after-append a.interested es fs);
-    }
-
-pub WroteFront-join : (fault : SessionFault) (a b c : Option (List ℕ)) (xs ys : List ℕ) → Appends a b xs → WroteFront fault b ys c →
-    WroteFront fault a (xs ++ ys) c
-WroteFront-join fault a b c xs ys p q =
-    record {
-      front = xs ++ q.front;
-      rest = q.rest;
-      parts = ap (λ (zs : List ℕ). xs ++ zs) q.parts ∙ sym (append_assoc xs q.front q.rest);
-      wrote = Appends-trans a b c xs q.front p q.wrote;
-      all = q.all;
+      writes = subst (λ (xs : List ℕ). Writes a.said xs c.said) (says-after a b es fs p)
+          (Writes-join a.said b.said c.said (says i es) (says b.said.interested fs) p.writes q.writes);
+      interest = q.interest ∙ ap (λ j. interest_after j fs) p.interest ∙ sym (interest_after-append i es fs);
     }
 
 pub Performs-stops : (fault : SessionFault) (a b c : Outlet) (es fs : List Act) → Performs a es b → PerformsUpTo fault b fs c →
@@ -127,9 +156,8 @@ pub Performs-stops : (fault : SessionFault) (a b c : Outlet) (es fs : List Act) 
 Performs-stops fault a b c es fs p q =
     record {
       gains = GainsUpTo-join a.past b.past c.past es fs (up_to a.past b.past es p.gains) q.gains;
-      wrote = subst (λ (xs : List ℕ). WroteFront fault a.written xs c.written)
-          (sym (says-append a.interested es fs ∙ ap (λ i. says a.interested es ++ says i fs) (sym p.interest)))
-          (WroteFront-join fault a.written b.written c.written (says a.interested es) (says b.interested fs) p.wrote q.wrote);
+      writes = subst (λ (xs : List ℕ). WritesUpTo fault a.said xs c.said) (says-after a b es fs p)
+          (WritesUpTo-join fault a.said b.said c.said (says a.said.interested es) (says b.said.interested fs) p.writes q.writes);
     }
 
 cut_call : (call : CallMark) (reply : Reply) (fault : SessionFault) → is_refusal reply ≡ false → IsCut fault →
@@ -142,13 +170,12 @@ cut_call call reply fault accepted cut =
 
 -- a call whose answer was cut off
 pub call_cut : (a b : Outlet) (call : CallMark) (reply : Reply) (fault : SessionFault) → Gains a.past (Called call reply ∷ []) b.past →
-    is_refusal reply ≡ false → IsCut fault → WroteFront fault a.written (answer a.interested reply) b.written →
-    (acts : List Act) × (StopsCall call fault acts × PerformsUpTo fault a acts b)
-call_cut a b call reply fault gains accepted cut wrote =
-    let stops : PerformsUpTo fault a (Called call reply ∷ []) b =
-    record {
-      gains = up_to a.past b.past (Called call reply ∷ []) gains;
-      wrote =
-          subst (λ (xs : List ℕ). WroteFront fault a.written xs b.written) (sym (append-nil (answer a.interested reply))) wrote;
-    } in
-    (Called call reply ∷ [], (cut_call call reply fault accepted cut, stops))
+    is_refusal reply ≡ false → IsCut fault → WritesUpTo fault a.said (answer a.said.interested reply) b.said → CallStops fault call a b
+call_cut a b call reply fault gains accepted cut wrote = record {
+  acts = Called call reply ∷ [];
+  stops = cut_call call reply fault accepted cut;
+  performs = record {
+    gains = up_to a.past b.past (Called call reply ∷ []) gains;
+    writes = subst (λ (xs : List ℕ). WritesUpTo fault a.said xs b.said) (sym (append-nil (answer a.said.interested reply))) wrote;
+  };
+}

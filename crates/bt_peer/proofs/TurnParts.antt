@@ -1,11 +1,9 @@
 -- The parts of a turn, one after another.
-use Rattle.std.proofs.Common.{◌≡◌, ℕ, ◌≤◌, List, [], ◌∷◌, ◌++◌, length, map, Bool, true, false, Option, Some, None, refl, sym, ap, subst, ◌∙◌}
+use Rattle.std.proofs.Common.{◌≡◌, ◌≢◌, ℕ, List, [], ◌∷◌, ◌++◌, map, Bool, true, false, Option, Some, None, refl, sym, ap, subst, ◌∙◌}
 use Rattle.std.proofs.Common.{append_assoc, inl, inr, ◌⊎◌, arith}
 use Rattle.std.specs.Prelude.{◌||◌}
 use Rattle.std.specs.List.{list_any}
-use Rattle.std.specs.Io.KnownBytes.{Appends}
 use Rattle.std.proofs.lemmas.List.{append-nil}
-use Rattle.bt_wire.specs.Messages.{spelling}
 use Rattle.bt_wire.specs.declared.message.Message.{Message}
 use Rattle.bt_wire.specs.declared.message.Message.TheVariants as messages
 use Rattle.bt_history.specs.declared.mark.CallMark.{CallMark}
@@ -13,14 +11,12 @@ use Rattle.bt_history.specs.declared.call.Reply.TheVariants as replies
 use Rattle.bt_peer.specs.declared.fault.SessionFault.{SessionFault}
 use Rattle.bt_peer.specs.declared.fault.SessionFault.TheVariants as faults
 use Rattle.bt_peer.specs.Acts.{Act, Called, News, is_refused_call}
-use Rattle.bt_peer.specs.Writer.{says, interest_after}
 use Rattle.bt_peer.specs.Terms.{TermsState, pieces_of, most_next}
-use Rattle.bt_peer.specs.Turns.{call_of, Opens, Asks, Attends, IsTurn, BeginsTurn, IsAcceptable, NoneRefused, IsLater}
-use Rattle.bt_peer.specs.Outlets.{Outlet, Performs, PerformsUpTo, EndsCalls, IsCut, WroteFront}
-use Rattle.bt_peer.specs.Steps.{StopsOpening, StopsTurn, TellsNews}
-use Rattle.bt_peer.specs.Places.{AllTold}
-use Rattle.std.proofs.KnownBytes.{Appends-nil}
-use Rattle.bt_peer.proofs.Stretches.{Performs-join, Performs-stops, Gains-none, up_to}
+use Rattle.bt_peer.specs.Turns.{call_of, Opens, Attends, IsTurn, BeginsTurn, IsAcceptable, NoneRefused, IsLater}
+use Rattle.bt_peer.specs.Outlets.{Outlet, PerformsUpTo, EndsCalls}
+use Rattle.bt_peer.specs.Steps.{StopsOpening, StopsTurn}
+use Rattle.bt_peer.specs.Parts.{AskingDone, AskingStops, MessageStops, NewsDone, NewsStops, OpeningDone, OpeningStops, TurnDone, TurnStops}
+use Rattle.bt_peer.proofs.Stretches.{Performs-join, Performs-stops, WritesUpTo-none, Gains-none, up_to}
 use Rattle.bt_peer.proofs.Asking.{asks_some, ends_cut}
 
 or_false : (a b c : Bool) → (a || b) ≡ false → (b ≡ false → c ≡ false) → (a || c) ≡ false
@@ -36,32 +32,6 @@ none_refused-news : (news : List ℕ) → NoneRefused (map News news)
 none_refused-news [] = refl
 none_refused-news (piece ∷ news) = none_refused-news news
 
--- what news say doesn't hang on the interest
-news_say : (i : Bool) (news : List ℕ) → says i (map News news) ≡ says false (map News news)
-news_say i [] = refl
-news_say i (piece ∷ news) = ap (λ (xs : List ℕ). spelling (messages.Have piece) ++ xs) (news_say i news)
-
-news_interest : (i : Bool) (news : List ℕ) → interest_after i (map News news) ≡ i
-news_interest i [] = refl
-news_interest i (piece ∷ news) = news_interest i news
-
-news_do : (b c : Outlet) (news : List ℕ) → Performs (record b { interested = false }) (map News news) (record c { interested = false }) →
-    c.interested ≡ b.interested → Performs b (map News news) c
-news_do b c news does same =
-    record {
-      gains = does.gains;
-      wrote = subst (Appends b.written c.written) (sym (news_say b.interested news)) does.wrote;
-      interest = same ∙ sym (news_interest b.interested news);
-    }
-
-news_stop : (fault : SessionFault) (b c : Outlet) (news : List ℕ) →
-    PerformsUpTo fault (record b { interested = false }) (map News news) (record c { interested = false }) → PerformsUpTo fault b (map News news) c
-news_stop fault b c news stops =
-    record {
-      gains = stops.gains;
-      wrote = subst (λ (xs : List ℕ). WroteFront fault b.written xs c.written) (sym (news_say b.interested news)) stops.wrote;
-    }
-
 later_turn : (terms : TermsState) (m : Message) (es : List Act) → IsLater m → Attends terms m es → IsTurn terms m es
 later_turn terms (messages.Hello hello) es later attends = absurd later
 later_turn terms _ es later attends = attends
@@ -70,29 +40,26 @@ opens_some : (o : Option CallMark) → (rest : List Act) × Opens o rest
 opens_some None = ([], refl)
 opens_some (Some call) = (Called call replies.Idle ∷ [], (refl, refl))
 
-abbrev Opened : Option CallMark → Outlet → Outlet → Type 0
-Opened o a b = (acts : List Act) × (Opens o acts × NoneRefused acts × Performs a acts b)
-
--- what a message's opening left where it stopped
-abbrev pub OpenedStops : SessionFault → ℕ → Message → Outlet → Outlet → Type 0
-OpenedStops fault pieces m a b = (acts : List Act) × (StopsOpening fault pieces m acts × PerformsUpTo fault a acts b)
-
-stops_at_once : (fault : SessionFault) (a : Outlet) → PerformsUpTo fault a [] a
-stops_at_once fault a = record {
-  gains = up_to a.past a.past [] (Gains-none a.past);
-  wrote = record { front = []; rest = []; parts = refl; wrote = Appends-nil a.written; all = inr refl };
-}
+stops_at_once : (fault : SessionFault) (a : Outlet) → fault ≢ faults.WriteFault → PerformsUpTo fault a [] a
+stops_at_once fault a other =
+    record { gains = up_to a.past a.past [] (Gains-none a.past); writes = WritesUpTo-none fault a.said other }
 
 -- no call was made of the message
 pub nothing_came : (pieces : ℕ) (m : Message) (fault : SessionFault) (a : Outlet) →
-    ((fault ≡ faults.NoMemory) × IsAcceptable pieces m) ⊎ ((fault ≡ faults.BadBits) × (IsAcceptable pieces m → ⊥)) → OpenedStops fault pieces m a a
+    ((fault ≡ faults.NoMemory) × IsAcceptable pieces m) ⊎ ((fault ≡ faults.BadBits) × (IsAcceptable pieces m → ⊥)) → MessageStops fault pieces m a a
 nothing_came pieces m fault a cause =
     let rest = opens_some (call_of m) in
     elim cause [
-      | inl memory ↦
-          ([], (subst (λ (f : SessionFault). StopsOpening f pieces m []) (sym memory.0) (memory.1, (rest.0, (rest.1, refl))), stops_at_once fault a))
-      | inr bad ↦
-          ([], (subst (λ (f : SessionFault). StopsOpening f pieces m []) (sym bad.0) (bad.1, refl), stops_at_once fault a))
+      | inl memory ↦ subst (λ (f : SessionFault). MessageStops f pieces m a a) (sym memory.0) (record {
+        acts = [];
+        stops = (memory.1, (rest.0, (rest.1, refl)));
+        performs = stops_at_once faults.NoMemory a (λ is. cc);
+      })
+      | inr bad ↦ subst (λ (f : SessionFault). MessageStops f pieces m a a) (sym bad.0) (record {
+        acts = [];
+        stops = (bad.1, refl);
+        performs = stops_at_once faults.BadBits a (λ is. cc);
+      })
     ]
 
 stops_opening : (fault : SessionFault) (pieces : ℕ) (m : Message) (es rest : List Act) → IsAcceptable pieces m →
@@ -102,11 +69,10 @@ stops_opening _ pieces m es rest acceptable opens ends = (acceptable, (rest, (op
 
 -- a call's stop is a stop of the opening
 pub opened_stops : (fault : SessionFault) (pieces : ℕ) (m : Message) (o : Option CallMark) (a b : Outlet) → call_of m ≡ o → IsAcceptable pieces m →
-    (acts : List Act) × ((rest : List Act) × (Opens o (acts ++ rest) × EndsCalls fault acts × PerformsUpTo fault a acts b)) →
-    OpenedStops fault pieces m a b
+    OpeningStops fault o a b → MessageStops fault pieces m a b
 opened_stops fault pieces m o a b is acceptable h =
-    let opens = subst (λ (call : Option CallMark). Opens call (h.0 ++ h.1.0)) (sym is) h.1.1.0 in
-    (h.0, (stops_opening fault pieces m h.0 h.1.0 acceptable opens h.1.1.1, h.1.1.2))
+    let opens = subst (λ (call : Option CallMark). Opens call (h.acts ++ h.rest)) (sym is) h.opens in
+    record { acts = h.acts; stops = stops_opening fault pieces m h.acts h.rest acceptable opens h.ends; performs = h.performs }
 
 pub ends_after : (fault : SessionFault) (es fs : List Act) → NoneRefused es → EndsCalls fault fs → EndsCalls fault (es ++ fs)
 ends_after (faults.Refused reason) es fs none h =
@@ -123,50 +89,39 @@ ends_after faults.WriteFault es fs none h = none_refused-append es fs none h
 ends_after faults.NoMemory es fs none h = none_refused-append es fs none h
 ends_after _ es fs none h = absurd h
 
-abbrev Told : ℕ → Outlet → Outlet → Type 0
-Told pieces b c = (news : List ℕ) ×
-    ((length news ≤ pieces) × ((length news ≡ pieces) ⊎ AllTold c.past)
-    × Performs (record b { interested = false }) (map News news) (record c { interested = false }))
-
 -- a whole turn
-pub turn_done : (terms : TermsState) (m : Message) (a b c d : Outlet) → IsLater m → IsAcceptable (pieces_of terms) m → Opened (call_of m) a b →
-    Told (pieces_of terms) b c →
-    c.interested ≡ b.interested → (asking : List Act) × (Asks (most_next terms) asking × NoneRefused asking × Performs c asking d) →
-    (acts : List Act) × (IsTurn terms m acts × NoneRefused acts × TellsNews (pieces_of terms) a.past acts d.past × Performs a acts d)
-turn_done terms m a b c d later acceptable opened told same asked =
-    let front = opened.0 ++ map News told.0 in
-    let does_front = Performs-join a b c opened.0 (map News told.0) opened.1.2 (news_do b c told.0 told.1.2 same) in
-    let attends : Attends terms m (front ++ asked.0) = record {
+pub turn_done : (terms : TermsState) (m : Message) (a b c d : Outlet) → IsLater m → IsAcceptable (pieces_of terms) m →
+    OpeningDone (call_of m) a b → NewsDone (pieces_of terms) b c → AskingDone (most_next terms) c d → TurnDone terms m a d
+turn_done terms m a b c d later acceptable opened told asked =
+    let front = opened.acts ++ map News told.news in
+    let does_front = Performs-join a b c opened.acts (map News told.news) opened.performs told.performs in
+    let attends : Attends terms m (front ++ asked.acts) = record {
       acceptable = acceptable;
-      opening = opened.0;
-      news = told.0;
-      asking = asked.0;
-      opens = opened.1.0;
-      few = told.1.0;
-      asks = asked.1.0;
+      opening = opened.acts;
+      news = told.news;
+      asking = asked.acts;
+      opens = opened.opens;
+      few = told.few;
+      asks = asked.asks;
       parts = refl;
-    } in (
-      front ++ asked.0,
-      (
-        later_turn terms m (front ++ asked.0) later attends,
-        none_refused-append front asked.0 (none_refused-append opened.0 (map News told.0) opened.1.1 (none_refused-news told.0)) asked.1.1,
-        record {
-          opening = opened.0;
-          news = told.0;
-          asking = asked.0;
-          parts = refl;
-          mid = c.past;
-          before = does_front.gains;
-          after = asked.1.2.gains;
-          told = told.1.1;
-        },
-        Performs-join a c d front asked.0 does_front asked.1.2,
-      ),
-    )
-
--- what a message's turn left where it stopped
-abbrev pub TurnStops : SessionFault → TermsState → Message → Outlet → Outlet → Type 0
-TurnStops fault terms m a d = (acts : List Act) × (StopsTurn fault terms m acts × PerformsUpTo fault a acts d)
+    } in
+    record {
+      acts = front ++ asked.acts;
+      turn = later_turn terms m (front ++ asked.acts) later attends;
+      accepted = none_refused-append front asked.acts
+          (none_refused-append opened.acts (map News told.news) opened.accepted (none_refused-news told.news)) asked.accepted;
+      news = record {
+        opening = opened.acts;
+        news = told.news;
+        asking = asked.acts;
+        parts = refl;
+        mid = c.past;
+        before = does_front.gains;
+        after = asked.performs.gains;
+        told = told.told;
+      };
+      performs = Performs-join a c d front asked.acts does_front asked.performs;
+    }
 
 stops_turn : (fault : SessionFault) (terms : TermsState) (m : Message) (es : List Act) → BeginsTurn terms m es → EndsCalls fault es →
     StopsTurn fault terms m es
@@ -201,63 +156,54 @@ opening_stopped _ terms m es later stops = (opening_begins terms m es stops.1.0 
 
 -- the opening stopped
 pub turn_stops_open : (fault : SessionFault) (terms : TermsState) (m : Message) (a b : Outlet) → IsLater m →
-    OpenedStops fault (pieces_of terms) m a b →
-    TurnStops fault terms m a b
-turn_stops_open fault terms m a b later h = (h.0, (opening_stopped fault terms m h.0 later h.1.0, h.1.1))
+    MessageStops fault (pieces_of terms) m a b → TurnStops fault terms m a b
+turn_stops_open fault terms m a b later h =
+    record { acts = h.acts; stops = opening_stopped fault terms m h.acts later h.stops; performs = h.performs }
 
 -- news were cut off
 pub turn_stops_news : (fault : SessionFault) (terms : TermsState) (m : Message) (a b c : Outlet) → IsLater m → IsAcceptable (pieces_of terms) m →
-    Opened (call_of m) a b →
-    (news : List ℕ) × ((length news ≤ pieces_of terms) × IsCut fault
-    × PerformsUpTo fault (record b { interested = false }) (map News news) (record c { interested = false })) →
-    TurnStops fault terms m a c
+    OpeningDone (call_of m) a b → NewsStops fault (pieces_of terms) b c → TurnStops fault terms m a c
 turn_stops_news fault terms m a b c later acceptable opened told =
     let idle = asks_some (most_next terms) in
-    let front = opened.0 ++ map News told.0 in
+    let front = opened.acts ++ map News told.news in
     let attends : Attends terms m (front ++ idle.0) = record {
       acceptable = acceptable;
-      opening = opened.0;
-      news = told.0;
+      opening = opened.acts;
+      news = told.news;
       asking = idle.0;
-      opens = opened.1.0;
-      few = told.1.0;
+      opens = opened.opens;
+      few = told.few;
       asks = idle.1;
       parts = refl;
     } in
-    let none = none_refused-append opened.0 (map News told.0) opened.1.1 (none_refused-news told.0) in (
-      front,
-      (
-        stops_turn fault terms m front (idle.0, later_turn terms m (front ++ idle.0) later attends) (ends_cut fault front told.1.1 none),
-        Performs-stops fault a b c opened.0 (map News told.0) opened.1.2 (news_stop fault b c told.0 told.1.2),
-      ),
-    )
+    let none = none_refused-append opened.acts (map News told.news) opened.accepted (none_refused-news told.news) in
+    record {
+      acts = front;
+      stops = stops_turn fault terms m front (idle.0, later_turn terms m (front ++ idle.0) later attends) (ends_cut fault front told.cut none);
+      performs = Performs-stops fault a b c opened.acts (map News told.news) opened.performs told.performs;
+    }
 
 -- a Next call stopped
 pub turn_stops_ask : (fault : SessionFault) (terms : TermsState) (m : Message) (a b c d : Outlet) → IsLater m → IsAcceptable (pieces_of terms) m →
-    Opened (call_of m) a b → Told (pieces_of terms) b c →
-    c.interested ≡ b.interested →
-    (asking : List Act) × ((rest : List Act) × (Asks (most_next terms) (asking ++ rest) × EndsCalls fault asking ×
-    PerformsUpTo fault c asking d)) →
-    TurnStops fault terms m a d
-turn_stops_ask fault terms m a b c d later acceptable opened told same asked =
-    let front = opened.0 ++ map News told.0 in
-    let does_front = Performs-join a b c opened.0 (map News told.0) opened.1.2 (news_do b c told.0 told.1.2 same) in
-    let none = none_refused-append opened.0 (map News told.0) opened.1.1 (none_refused-news told.0) in
-    let acts = front ++ asked.0 in
-    let attends : Attends terms m (acts ++ asked.1.0) = record {
+    OpeningDone (call_of m) a b → NewsDone (pieces_of terms) b c → AskingStops fault (most_next terms) c d → TurnStops fault terms m a d
+turn_stops_ask fault terms m a b c d later acceptable opened told asked =
+    let front = opened.acts ++ map News told.news in
+    let does_front = Performs-join a b c opened.acts (map News told.news) opened.performs told.performs in
+    let none = none_refused-append opened.acts (map News told.news) opened.accepted (none_refused-news told.news) in
+    let acts = front ++ asked.acts in
+    let attends : Attends terms m (acts ++ asked.rest) = record {
       acceptable = acceptable;
-      opening = opened.0;
-      news = told.0;
-      asking = asked.0 ++ asked.1.0;
-      opens = opened.1.0;
-      few = told.1.0;
-      asks = asked.1.1.0;
-      parts = append_assoc front asked.0 asked.1.0;
-    } in (
-      acts,
-      (
-        stops_turn fault terms m acts (asked.1.0, later_turn terms m (acts ++ asked.1.0) later attends)
-            (ends_after fault front asked.0 none asked.1.1.1),
-        Performs-stops fault a c d front asked.0 does_front asked.1.1.2,
-      ),
-    )
+      opening = opened.acts;
+      news = told.news;
+      asking = asked.acts ++ asked.rest;
+      opens = opened.opens;
+      few = told.few;
+      asks = asked.asks;
+      parts = append_assoc front asked.acts asked.rest;
+    } in
+    record {
+      acts = acts;
+      stops = stops_turn fault terms m acts (asked.rest, later_turn terms m (acts ++ asked.rest) later attends)
+          (ends_after fault front asked.acts none asked.ends);
+      performs = Performs-stops fault a c d front asked.acts does_front asked.performs;
+    }

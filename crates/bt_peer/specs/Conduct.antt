@@ -1,5 +1,5 @@
 -- What a worker's calls keep to beside their turns: where the words of Next come from, and that a completed piece is checked at once.
-use Rattle.std.specs.Prelude.{◌≡◌, ℕ, ◌==◌, Bool, true, false, ◌&&◌, List, [], ◌∷◌, ◌++◌, Option, Some, None}
+use Rattle.std.specs.Prelude.{◌≡◌, ℕ, ◌==◌, Bool, true, false, ◌&&◌, List, [], ◌∷◌, ◌++◌, Option, Some, None, Result, Ok, Err}
 use Rattle.rand_core.specs.Steps.{stream_of, steps_u32}
 use Rattle.rand_core.specs.Stream.{Stream, next_u64}
 use Rattle.rand_pcg.specs.Lcg.{Lcg, started, increment_of}
@@ -7,6 +7,7 @@ use Rattle.rand_pcg.specs.Pcg.{multiplier_64, pcg32}
 use Rattle.bt_history.specs.declared.call.Reply.{Reply}
 use Rattle.bt_history.specs.declared.mark.CallMark.{CallMark}
 use Rattle.bt_history.specs.declared.mark.CallMark.TheVariants as marks
+use Rattle.bt_peer.specs.declared.fault.SessionFault.{SessionFault}
 use Rattle.bt_peer.specs.Turns.{arrived_piece, if_completed}
 
 -- all that a generator in this state will answer
@@ -75,3 +76,8 @@ pub record DrawsWords (generator : Stream) (old new : Calls) : Type 0 where
   pub calls : new ≡ old ++ gained
   pub left : Stream
   pub drawn : Draws generator (words_of gained) left
+
+-- the calls of a stretch that went on, or that a fault cut off
+abbrev pub ConductsBy : {X : Type 0} → Result X SessionFault → Bool → Stream → Calls → Calls → Stream → Type 0
+ConductsBy (Ok value) settles generator old new left = Conducts settles generator old new left
+ConductsBy (Err fault) settles generator old new left = DrawsWords generator old new

@@ -1,8 +1,10 @@
 pub mod Acts
 pub mod Conduct
 pub mod Desks
+pub mod Hearing
 pub mod Outcomes
 pub mod Outlets
+pub mod Parts
 pub mod Places
 pub mod Reader
 pub mod Serial

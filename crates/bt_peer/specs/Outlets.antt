@@ -1,8 +1,12 @@
 -- Stretches of a session: what it called and what it wrote.
 use Rattle.std.specs.Prelude.{◌≡◌, ◌⊎◌, Bool, true, false, List, [], ◌∷◌, ◌++◌, ℕ, Option}
+use Rattle.std.specs.Borrow.{GName}
 use Rattle.std.specs.Io.KnownBytes.{Appends}
+use Rattle.bt_meta.specs.declared.devices.Sink as sinks
 use Rattle.bt_peer.specs.declared.fault.SessionFault.{SessionFault}
 use Rattle.bt_peer.specs.declared.fault.SessionFault.TheVariants as faults
+use Rattle.bt_peer.specs.declared.place.Place as places
+use Rattle.bt_peer.specs.declared.writer.Said.{Said}
 use Rattle.bt_history.specs.declared.mark.CallMark.{CallMark}
 use Rattle.bt_history.specs.declared.call.Reply.{Reply}
 use Rattle.bt_history.specs.declared.call.Reply.TheVariants as replies
@@ -11,21 +15,42 @@ use Rattle.bt_peer.specs.Turns.{NoneRefused}
 use Rattle.bt_peer.specs.Writer.{says, interest_after}
 use Rattle.bt_peer.specs.Places.{PlaceRecord, Gains, GainsUpTo}
 
--- what a session acts on: the place, what was written, and the interest that was told
+-- what was said to a peer
+pub record Saying : Type 0 where
+  -- the bytes that were written, and whether the sink has failed
+  pub written : Option (List ℕ)
+  pub failed : Bool
+  pub interested : Bool
+  -- by which the sink's owner knows it again
+  pub sink : GName
+
+abbrev pub saying : {W : Type 0} → sinks.Ghosts W → Said W → Saying
+saying of said = record {
+  written = of.written said.writer.now;
+  failed = of.failed said.writer.now;
+  interested = said.interested;
+  sink = said.writer.ghost_name;
+}
+
+-- what a session acts on: the place, and what was said
 pub record Outlet : Type 0 where
   pub past : PlaceRecord
-  pub written : Option (List ℕ)
-  pub interested : Bool
+  pub said : Saying
 
-abbrev pub outlet : {P W : Type 0} → (P → PlaceRecord) → (W → Option (List ℕ)) → P → W → Bool → Outlet
-outlet past written place writer interested =
-    record { past = past place; written = written writer; interested = interested }
+abbrev pub outlet : {P W : Type 0} → places.Ghosts P → sinks.Ghosts W → P → Said W → Outlet
+outlet at to place said = record { past = at.past place; said = saying to said }
+
+-- these bytes were written
+pub record Writes (old : Saying) (bytes : List ℕ) (new : Saying) : Type 0 where
+  pub wrote : Appends old.written new.written bytes
+  pub sound : new.failed ≡ old.failed
+  pub same_sink : new.sink ≡ old.sink
 
 -- these acts came, and what they say was written
 pub record Performs (old : Outlet) (acts : List Act) (new : Outlet) : Type 0 where
   pub gains : Gains old.past acts new.past
-  pub wrote : Appends old.written new.written (says old.interested acts)
-  pub interest : new.interested ≡ interest_after old.interested acts
+  pub writes : Writes old.said (says old.said.interested acts) new.said
+  pub interest : new.said.interested ≡ interest_after old.said.interested acts
 
 -- a fault that may cut off what is written: a write that failed, or want of memory
 abbrev pub IsCut : SessionFault → Type 0
@@ -39,10 +64,16 @@ pub record WroteFront (fault : SessionFault) (old : Option (List ℕ)) (bytes : 
   pub wrote : Appends old new front
   pub all : IsCut fault ⊎ (rest ≡ [])
 
+-- so much of these bytes was written, up to this fault
+pub record WritesUpTo (fault : SessionFault) (old : Saying) (bytes : List ℕ) (new : Saying) : Type 0 where
+  pub wrote : WroteFront fault old.written bytes new.written
+  pub failed : fault ≡ faults.WriteFault → new.failed ≡ true
+  pub same_sink : new.sink ≡ old.sink
+
 -- these acts came up to a fault
 pub record PerformsUpTo (fault : SessionFault) (old : Outlet) (acts : List Act) (new : Outlet) : Type 0 where
   pub gains : GainsUpTo old.past acts new.past
-  pub wrote : WroteFront fault old.written (says old.interested acts) new.written
+  pub writes : WritesUpTo fault old.said (says old.said.interested acts) new.said
 
 -- these acts end in that call refused, and no other was
 pub record EndsRefused (call : CallMark) (reply : Reply) (acts : List Act) : Type 0 where

@@ -1,6 +1,8 @@
 -- Several streams' sessions at one desk: what each of them sees there, and how it ended.
 use Rattle.std.specs.Prelude.{◌≡◌, ◌≤◌, ◌<◌, ℕ, Bool, true, false, List, [], ◌∷◌, ◌&&◌, nat_lt, length, replicate, slice_index_or, Option, Some}
 use Rattle.std.specs.Prelude.{None, Result, Ok, Err}
+use Rattle.bt_meta.specs.declared.devices.Sink as sinks
+use Rattle.bt_meta.specs.declared.devices.Source as sources
 use Rattle.bt_meta.specs.Layout.{piece_count}
 use Rattle.bt_history.specs.declared.call.Reply.TheVariants as replies
 use Rattle.bt_history.specs.declared.mark.CallMark.TheVariants as marks
@@ -45,6 +47,10 @@ stream_record left ended failed reads written writer_failed stream = record {
   written = written stream.writer;
   writer_failed = writer_failed stream.writer;
 }
+
+-- the same, by all that the bounds of its devices say
+abbrev pub stream_of : {R W : Type 0} → sources.Ghosts R → sinks.Ghosts W → Stream R W → StreamRecord
+stream_of of to stream = stream_record of.left of.ended of.failed of.reads to.written to.failed stream
 
 -- a piece of the torrent that is had
 abbrev pub had_at : DeskState → ℕ → Bool

@@ -8,6 +8,7 @@ use Rattle.bt_picker.specs.Positions.{DeskState}
 use Rattle.bt_peer.specs.declared.fault.End.{End}
 use Rattle.bt_peer.specs.declared.fault.SessionFault.{SessionFault}
 use Rattle.bt_peer.specs.declared.seat.Seat.{Seat}
+use Rattle.bt_peer.specs.declared.stream.TheConstants.{MOST_STREAMS}
 use Rattle.rand_core.specs.Stream.{Stream as Words}
 use Rattle.bt_peer.specs.Conduct.{Calls, Conducts, DrawsWords, answers_of, generator_of}
 use Rattle.bt_peer.specs.Desks.{calls_in}
@@ -86,9 +87,24 @@ pub record LeavesRest (count : ℕ) (old new : DeskState) : Type 0 where
   pub setting : new.setting ≡ old.setting
   pub calls : (other : ℕ) → count ≤ other → calls_in new.history other ≡ calls_in old.history other
 
--- each seat notes pieces of the desk's torrent
-abbrev pub Fit : DeskState → List Seat → Type 0
-Fit desk seats = All (λ seat. length seat.told ≡ piece_count desk.setting.torrent) seats
+-- a seat notes pieces of the desk's torrent
+abbrev pub NotesPieces : DeskState → Seat → Type 0
+NotesPieces desk seat = length seat.told ≡ piece_count desk.setting.torrent
+
+-- a run may take turns: each stream has a seat and a worker, and there is one worker more
+pub record MayPlay {X : Type 0} (desk : DeskState) (seats : List Seat) (streams : List X) : Type 0 where
+  pub seated : length seats ≡ length streams
+  pub workers : length streams < desk.setting.workers
+  pub few : length streams ≤ MOST_STREAMS
+  pub fit : All (NotesPieces desk) seats
+
+-- a run took turns: each stream's session goes on standing, the other workers are left alone, and the run may go on
+pub record Played {X : Type 0} (record_of : X → StreamRecord) (desk : DeskState) (seats : List Seat) (streams : List X)
+    (desk' : DeskState) (seats' : List Seat) (streams' : List X) : Type 0 where
+  pub count : length streams' ≡ length streams
+  pub keeps : EachKeeps record_of desk seats streams desk' seats' streams'
+  pub rest : LeavesRest (length streams) desk desk'
+  pub may : MayPlay desk' seats' streams'
 
 abbrev pub HasEnded : Seat → Type 0
 HasEnded seat = seat.session.outcome ≢ None

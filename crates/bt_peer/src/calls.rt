@@ -1,16 +1,15 @@
 //! Calls of a turn, each with what is written for it.
 
-ghost use Rattle.std.specs.Prelude.{◌≡◌, ◌≤◌, ◌⊎◌, ℕ, false, true, List, [], ◌∷◌, ◌++◌, length, map, Some, IfErr, IfOk, OnOk, OnErr};
-ghost use Rattle.bt_peer.specs.declared.fault.SessionFault.TheVariants.{WriteFault};
-ghost use Rattle.bt_peer.specs.Conduct.{Conducts, DrawsWords};
-ghost use Rattle.bt_peer.specs.Acts.{Act, Called, News, is_refusal, mark_of_call};
-ghost use Rattle.bt_peer.specs.Turns.{Asks, arrived_piece, has_more as more_after, if_completed, NoneRefused};
-ghost use Rattle.bt_peer.specs.Places.{AllTold};
-ghost use Rattle.bt_peer.specs.Outlets.{outlet, Performs, PerformsUpTo, StopsCall, EndsCalls, IsCut};
+ghost use Rattle.std.specs.Prelude.{◌≡◌, ℕ, false, true, [], ◌∷◌, Some, IfErr, IfOk, OnOk};
+ghost use Rattle.bt_peer.specs.Conduct.{ConductsBy};
+ghost use Rattle.bt_peer.specs.Acts.{Called, is_refusal, mark_of_call};
+ghost use Rattle.bt_peer.specs.Turns.{arrived_piece, has_more as more_after, if_completed};
+ghost use Rattle.bt_peer.specs.Outlets.{outlet, Performs};
+ghost use Rattle.bt_peer.specs.Parts.{AskingDone, AskingStops, CallStops, NewsDone, NewsStops};
 
 use crate::fault::SessionFault;
 use crate::place::Place;
-use crate::writer::{send, tell};
+use crate::writer::Said;
 use bt_history::{Call, Reply};
 use bt_meta::Sink;
 use bt_wire::Message;
@@ -21,27 +20,23 @@ use std::alloc::Global;
 pub fn make_call<P: Place, W: Sink>(
     alloc: Global,
     place: &mut P,
-    writer: &mut W,
-    interested: &mut bool,
+    said: &mut Said<'_, W>,
     call: Call,
 ) -> Result<Reply, SessionFault>
     ensures ok { IfOk result (λ reply. Performs
-        (outlet P.past W.written place.old writer.old interested.old) (Called (mark_of_call call) reply ∷ [])
-        (outlet P.past W.written place.new writer.new interested.new)) }
+        (outlet P.Place W.Sink place.old said.old) (Called (mark_of_call call) reply ∷ [])
+        (outlet P.Place W.Sink place.new said.new)) }
     ensures ok_accepted { IfOk result (λ reply. is_refusal reply ≡ false) }
     ensures completes { IfOk result (λ reply. P.settles ≡ true → (piece : ℕ) →
         if_completed (arrived_piece (mark_of_call call)) reply ≡ Some piece → P.awaits place.new piece ≡ true) }
-    ensures ok_sound { OnOk result (W.failed writer.new ≡ W.failed writer.old) }
-    ensures err { IfErr result (λ fault. (acts : List Act) × (StopsCall (mark_of_call call) fault acts
-        × PerformsUpTo fault (outlet P.past W.written place.old writer.old interested.old) acts
-        (outlet P.past W.written place.new writer.new interested.new))) }
-    ensures err_failed { IfErr result (λ fault. fault ≡ WriteFault → W.failed writer.new ≡ true) }
+    ensures err { IfErr result (λ fault. CallStops fault (mark_of_call call)
+        (outlet P.Place W.Sink place.old said.old) (outlet P.Place W.Sink place.new said.new)) }
 {
     let reply = place.call(alloc, call)?;
     if let Reply::Refused(reason) = reply {
         return Err(SessionFault::Refused(reason));
     }
-    tell(alloc, writer, interested, &reply)?;
+    said.tell(alloc, &reply)?;
     Ok(reply)
 }
 
@@ -49,22 +44,17 @@ pub fn make_call<P: Place, W: Sink>(
 pub fn tell_news<P: Place, W: Sink>(
     alloc: Global,
     place: &mut P,
-    writer: &mut W,
+    said: &mut Said<'_, W>,
     most: u32,
 ) -> Result<(), SessionFault>
-    ensures ok { OnOk result ((news : List ℕ) × ((length news ≤ most) × ((length news ≡ most) ⊎ AllTold (P.past place.new))
-        × Performs (outlet P.past W.written place.old writer.old false) (map News news) (outlet P.past W.written place.new writer.new false))) }
-    ensures ok_sound { OnOk result (W.failed writer.new ≡ W.failed writer.old) }
-    ensures err { IfErr result (λ fault. (news : List ℕ) × ((length news ≤ most) × IsCut fault
-        × PerformsUpTo fault (outlet P.past W.written place.old writer.old false) (map News news)
-        (outlet P.past W.written place.new writer.new false))) }
-    ensures err_failed { IfErr result (λ fault. fault ≡ WriteFault → W.failed writer.new ≡ true) }
+    ensures ok { OnOk result (NewsDone most (outlet P.Place W.Sink place.old said.old) (outlet P.Place W.Sink place.new said.new)) }
+    ensures err { IfErr result (λ fault. NewsStops fault most (outlet P.Place W.Sink place.old said.old) (outlet P.Place W.Sink place.new said.new)) }
 {
     'news: for _ in 0..most {
         let Some(piece) = place.news() else {
             return Ok(());
         };
-        send(alloc, writer, &Message::Have(piece))?;
+        said.send(alloc, &Message::Have(piece))?;
     }
     Ok(())
 }
@@ -80,26 +70,17 @@ fn has_more(reply: &Reply) -> bool
 pub fn ask<P: Place, W: Sink, N: Rng>(
     alloc: Global,
     place: &mut P,
-    writer: &mut W,
-    interested: &mut bool,
+    said: &mut Said<'_, W>,
     rng: &mut N,
     most: u32,
 ) -> Result<(), SessionFault>
-    ensures ok { OnOk result ((asking : List Act) × (Asks most asking × NoneRefused asking
-        × Performs (outlet P.past W.written place.old writer.old interested.old) asking
-        (outlet P.past W.written place.new writer.new interested.new))) }
-    ensures conduct { OnOk result (Conducts P.settles
-        (N.stream rng.old) (P.past place.old).calls (P.past place.new).calls (N.stream rng.new)) }
-    ensures ok_sound { OnOk result (W.failed writer.new ≡ W.failed writer.old) }
-    ensures err { IfErr result (λ fault. (asking : List Act) × ((rest : List Act) × (Asks most (asking ++ rest)
-        × EndsCalls fault asking
-        × PerformsUpTo fault (outlet P.past W.written place.old writer.old interested.old) asking
-        (outlet P.past W.written place.new writer.new interested.new)))) }
-    ensures words { OnErr result (DrawsWords (N.stream rng.old) (P.past place.old).calls (P.past place.new).calls) }
-    ensures err_failed { IfErr result (λ fault. fault ≡ WriteFault → W.failed writer.new ≡ true) }
+    ensures ok { OnOk result (AskingDone most (outlet P.Place W.Sink place.old said.old) (outlet P.Place W.Sink place.new said.new)) }
+    ensures err { IfErr result (λ fault. AskingStops fault most (outlet P.Place W.Sink place.old said.old) (outlet P.Place W.Sink place.new said.new)) }
+    ensures conduct { ConductsBy result P.settles
+        (N.stream rng.old) (P.past place.old).calls (P.past place.new).calls (N.stream rng.new) }
 {
     'next: for _ in 0..most {
-        let reply = make_call(alloc, place, writer, interested, Call::Next(rng.next_u64()))?;
+        let reply = make_call(alloc, place, said, Call::Next(rng.next_u64()))?;
         if !has_more(&reply) {
             return Ok(());
         }

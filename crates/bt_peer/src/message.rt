@@ -1,19 +1,20 @@
 //! What a session does for a message after the handshake.
 
-ghost use Rattle.std.specs.Prelude.{◌≡◌, ◌⊎◌, None, Some, true, false, List, [], ◌++◌, IfErr, IfOk, OnOk, OnErr, MatchOption};
-ghost use Rattle.bt_peer.specs.declared.fault.SessionFault.TheVariants.{WriteFault, NoMemory, BadBits};
+ghost use Rattle.std.specs.Prelude.{◌≡◌, ◌⊎◌, None, Some, false, [], IfErr, IfOk, OnOk, MatchOption};
+ghost use Rattle.bt_peer.specs.declared.fault.SessionFault.TheVariants.{NoMemory, BadBits};
 ghost use Rattle.rand_core.specs.Stream.{Stream};
-ghost use Rattle.bt_peer.specs.Conduct.{Conducts, DrawsWords, word_of};
-ghost use Rattle.bt_peer.specs.Acts.{Act, is_check, mark_of_call};
+ghost use Rattle.bt_peer.specs.Conduct.{ConductsBy, word_of};
+ghost use Rattle.bt_peer.specs.Acts.{is_check, mark_of_call};
 ghost use Rattle.bt_peer.specs.Terms.{pieces_of};
-ghost use Rattle.bt_peer.specs.Turns.{call_of, arrived_piece as piece_of_mark, if_completed, Opens, IsTurn, IsAcceptable, NoneRefused, IsLater};
-ghost use Rattle.bt_peer.specs.Outlets.{outlet, Performs, PerformsUpTo, EndsCalls};
-ghost use Rattle.bt_peer.specs.Steps.{StopsOpening, StopsTurn, TellsNews};
+ghost use Rattle.bt_peer.specs.Turns.{call_of, arrived_piece as piece_of_mark, if_completed, IsAcceptable, IsLater};
+ghost use Rattle.bt_peer.specs.Outlets.{outlet};
+ghost use Rattle.bt_peer.specs.Parts.{MessageStops, OpeningDone, OpeningStops, TurnDone, TurnStops};
 
 use crate::calls::{ask, make_call, tell_news};
 use crate::fault::SessionFault;
 use crate::place::Place;
 use crate::terms::Terms;
+use crate::writer::Said;
 use bt_history::{Call, Reply};
 use bt_meta::{BitFault, Bitfield, Sink};
 use bt_wire::Message;
@@ -75,28 +76,19 @@ fn completed(arrived: Option<u32>, reply: &Reply) -> Option<u32>
 fn call_and_check<P: Place, W: Sink>(
     alloc: Global,
     place: &mut P,
-    writer: &mut W,
-    interested: &mut bool,
+    said: &mut Said<'_, W>,
     call: Call,
 ) -> Result<(), SessionFault>
     requires { is_check (mark_of_call call) ≡ false }
-    ensures ok { OnOk result ((acts : List Act) × (Opens (Some (mark_of_call call)) acts × NoneRefused acts
-        × Performs (outlet P.past W.written place.old writer.old interested.old) acts
-        (outlet P.past W.written place.new writer.new interested.new))) }
+    ensures ok { OnOk result (OpeningDone (Some (mark_of_call call)) (outlet P.Place W.Sink place.old said.old) (outlet P.Place W.Sink place.new said.new)) }
+    ensures err { IfErr result (λ fault. OpeningStops fault (Some (mark_of_call call))
+        (outlet P.Place W.Sink place.old said.old) (outlet P.Place W.Sink place.new said.new)) }
     // At a call that isn't Next no word is drawn.
-    ensures conduct { OnOk result (word_of (mark_of_call call) ≡ [] → (generator : Stream) →
-        Conducts P.settles generator (P.past place.old).calls (P.past place.new).calls generator) }
-    ensures ok_sound { OnOk result (W.failed writer.new ≡ W.failed writer.old) }
-    ensures err { IfErr result (λ fault. (acts : List Act) × ((rest : List Act) × (Opens (Some (mark_of_call call)) (acts ++ rest)
-        × EndsCalls fault acts
-        × PerformsUpTo fault (outlet P.past W.written place.old writer.old interested.old) acts
-        (outlet P.past W.written place.new writer.new interested.new)))) }
-    ensures words { OnErr result (word_of (mark_of_call call) ≡ [] → (generator : Stream) →
-        DrawsWords generator (P.past place.old).calls (P.past place.new).calls) }
-    ensures err_failed { IfErr result (λ fault. fault ≡ WriteFault → W.failed writer.new ≡ true) }
+    ensures conduct { word_of (mark_of_call call) ≡ [] → (generator : Stream) →
+        ConductsBy result P.settles generator (P.past place.old).calls (P.past place.new).calls generator }
 {
     let arrived = arrived_piece(&call);
-    let reply = make_call(alloc, place, writer, interested, call)?;
+    let reply = make_call(alloc, place, said, call)?;
     if let Some(piece) = completed(arrived, &reply) {
         place.completed(alloc, piece)?;
     }
@@ -109,26 +101,18 @@ fn open<P: Place, W: Sink>(
     terms: &Terms,
     message: Message,
     place: &mut P,
-    writer: &mut W,
-    interested: &mut bool,
+    said: &mut Said<'_, W>,
 ) -> Result<(), SessionFault>
     requires { IsLater message }
     ensures acceptable { OnOk result (IsAcceptable (pieces_of terms.now) message) }
-    ensures ok { OnOk result ((acts : List Act) × (Opens (call_of message) acts × NoneRefused acts
-        × Performs (outlet P.past W.written place.old writer.old interested.old) acts
-        (outlet P.past W.written place.new writer.new interested.new))) }
-    ensures conduct { OnOk result ((generator : Stream) →
-        Conducts P.settles generator (P.past place.old).calls (P.past place.new).calls generator) }
-    ensures ok_sound { OnOk result (W.failed writer.new ≡ W.failed writer.old) }
-    ensures err { IfErr result (λ fault. (acts : List Act) × (StopsOpening fault (pieces_of terms.now) message acts
-        × PerformsUpTo fault (outlet P.past W.written place.old writer.old interested.old) acts
-        (outlet P.past W.written place.new writer.new interested.new))) }
-    ensures words { OnErr result ((generator : Stream) →
-        DrawsWords generator (P.past place.old).calls (P.past place.new).calls) }
-    ensures err_failed { IfErr result (λ fault. fault ≡ WriteFault → W.failed writer.new ≡ true) }
+    ensures ok { OnOk result (OpeningDone (call_of message) (outlet P.Place W.Sink place.old said.old) (outlet P.Place W.Sink place.new said.new)) }
+    ensures err { IfErr result (λ fault. MessageStops fault (pieces_of terms.now) message
+        (outlet P.Place W.Sink place.old said.old) (outlet P.Place W.Sink place.new said.new)) }
+    ensures conduct { (generator : Stream) →
+        ConductsBy result P.settles generator (P.past place.old).calls (P.past place.new).calls generator }
 {
     match call_for(alloc, terms, message)? {
-        Some(call) => call_and_check(alloc, place, writer, interested, call),
+        Some(call) => call_and_check(alloc, place, said, call),
         None => Ok(()),
     }
 }
@@ -139,26 +123,17 @@ pub fn attend<P: Place, W: Sink, N: Rng>(
     terms: &Terms,
     message: Message,
     place: &mut P,
-    writer: &mut W,
-    interested: &mut bool,
+    said: &mut Said<'_, W>,
     rng: &mut N,
 ) -> Result<(), SessionFault>
     requires { IsLater message }
-    ensures ok { OnOk result ((acts : List Act) × (IsTurn terms.now message acts × NoneRefused acts
-        × TellsNews (pieces_of terms.now) (P.past place.old) acts (P.past place.new)
-        × Performs (outlet P.past W.written place.old writer.old interested.old) acts
-        (outlet P.past W.written place.new writer.new interested.new))) }
-    ensures conduct { OnOk result (Conducts P.settles
-        (N.stream rng.old) (P.past place.old).calls (P.past place.new).calls (N.stream rng.new)) }
-    ensures ok_sound { OnOk result (W.failed writer.new ≡ W.failed writer.old) }
-    ensures err { IfErr result (λ fault. (acts : List Act) × (StopsTurn fault terms.now message acts
-        × PerformsUpTo fault (outlet P.past W.written place.old writer.old interested.old) acts
-        (outlet P.past W.written place.new writer.new interested.new))) }
-    ensures words { OnErr result (DrawsWords (N.stream rng.old) (P.past place.old).calls (P.past place.new).calls) }
-    ensures err_failed { IfErr result (λ fault. fault ≡ WriteFault → W.failed writer.new ≡ true) }
+    ensures ok { OnOk result (TurnDone terms.now message (outlet P.Place W.Sink place.old said.old) (outlet P.Place W.Sink place.new said.new)) }
+    ensures err { IfErr result (λ fault. TurnStops fault terms.now message (outlet P.Place W.Sink place.old said.old) (outlet P.Place W.Sink place.new said.new)) }
+    ensures conduct { ConductsBy result P.settles
+        (N.stream rng.old) (P.past place.old).calls (P.past place.new).calls (N.stream rng.new) }
 {
-    open(alloc, terms, message, place, writer, interested)?;
-    tell_news(alloc, place, writer, terms.piece_count())?;
-    ask(alloc, place, writer, interested, rng, terms.most_next())?;
+    open(alloc, terms, message, place, said)?;
+    tell_news(alloc, place, said, terms.piece_count())?;
+    ask(alloc, place, said, rng, terms.most_next())?;
     Ok(())
 }

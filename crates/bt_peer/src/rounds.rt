@@ -8,8 +8,8 @@ ghost use Rattle.bt_history.specs.Setting.{AreRules, setting_of};
 ghost use Rattle.bt_meta.specs.Layout.{piece_count};
 ghost use Rattle.bt_picker.specs.Checks.{waits};
 ghost use Rattle.bt_peer.specs.Desks.{calls_in};
-ghost use Rattle.bt_peer.specs.Serial.{EachEnded, Finishes, opening_of, stream_record};
-ghost use Rattle.bt_peer.specs.Standing.{AreNew, EachKeeps, Fit, HasEnded, HasOpened, IsFresh, IsNew, LeavesOthers, LeavesRest, left_of};
+ghost use Rattle.bt_peer.specs.Serial.{EachEnded, Finishes, opening_of, stream_of, stream_record};
+ghost use Rattle.bt_peer.specs.Standing.{AreNew, HasEnded, HasOpened, IsFresh, IsNew, LeavesOthers, MayPlay, Played, left_of};
 ghost use Rattle.bt_peer.specs.Terms.{TermsState, terms_of};
 
 use crate::fault::{End, SessionFault};
@@ -70,14 +70,8 @@ fn turn_of<R: Source, W: Sink>(
     i: usize,
 ) -> bool
     requires i { i < length streams.old }
-    requires seats { length seats.old ≡ length streams.old }
-    requires workers { length streams.old < desk.old.setting.workers }
-    requires few { length streams.old ≤ MOST_STREAMS }
-    requires fit { Fit desk.old seats.old }
-    ensures keeps { EachKeeps (stream_record R.left R.ended R.failed R.reads W.written W.failed)
-        desk.old seats.old streams.old desk.new seats.new streams.new }
-    ensures rest { LeavesRest (length streams.old) desk.old desk.new }
-    ensures fit { Fit desk.new seats.new }
+    requires may { MayPlay desk.old seats.old streams.old }
+    ensures played { Played (stream_of R.Source W.Sink) desk.old seats.old streams.old desk.new seats.new streams.new }
     ensures falls { result ≡ true → sum_by left_of seats.new < sum_by left_of seats.old }
     ensures same { result ≡ false → seats.new ≡ seats.old }
     ensures ended { result ≡ false → HoldsAt HasEnded seats.new i }
@@ -96,14 +90,8 @@ fn round<R: Source, W: Sink>(
     seats: &mut [Seat],
     streams: &mut [Stream<R, W>],
 ) -> bool
-    requires seats { length seats.old ≡ length streams.old }
-    requires workers { length streams.old < desk.old.setting.workers }
-    requires few { length streams.old ≤ MOST_STREAMS }
-    requires fit { Fit desk.old seats.old }
-    ensures keeps { EachKeeps (stream_record R.left R.ended R.failed R.reads W.written W.failed)
-        desk.old seats.old streams.old desk.new seats.new streams.new }
-    ensures rest { LeavesRest (length streams.old) desk.old desk.new }
-    ensures fit { Fit desk.new seats.new }
+    requires { MayPlay desk.old seats.old streams.old }
+    ensures played { Played (stream_of R.Source W.Sink) desk.old seats.old streams.old desk.new seats.new streams.new }
     ensures falls { result ≡ true → sum_by left_of seats.new < sum_by left_of seats.old }
     ensures ended { result ≡ false → All HasEnded seats.new }
 {
@@ -123,13 +111,8 @@ fn play<R: Source, W: Sink>(
     seats: &mut [Seat],
     streams: &mut [Stream<R, W>],
 )
-    requires seats { length seats.old ≡ length streams.old }
-    requires workers { length streams.old < desk.old.setting.workers }
-    requires few { length streams.old ≤ MOST_STREAMS }
-    requires fit { Fit desk.old seats.old }
-    ensures keeps { EachKeeps (stream_record R.left R.ended R.failed R.reads W.written W.failed)
-        desk.old seats.old streams.old desk.new seats.new streams.new }
-    ensures rest { LeavesRest (length streams.old) desk.old desk.new }
+    requires { MayPlay desk.old seats.old streams.old }
+    ensures played { Played (stream_of R.Source W.Sink) desk.old seats.old streams.old desk.new seats.new streams.new }
     ensures ended { All HasEnded seats.new }
 {
     'rounds: while round(alloc, desk, seats, streams) {}
@@ -169,10 +152,7 @@ fn play_out<R: Source, W: Sink>(
     streams: &mut [Stream<R, W>],
     ends: &mut Vec<Result<End, SessionFault>>,
 ) -> bool
-    requires seats { length seats.old ≡ length streams.old }
-    requires workers { length streams.old < desk.old.setting.workers }
-    requires few { length streams.old ≤ MOST_STREAMS }
-    requires fit { Fit desk.old seats.old }
+    requires may { MayPlay desk.old seats.old streams.old }
     requires fresh { IsFresh (length streams.old) desk.old }
     requires empty { ends.old.items ≡ [] }
     requires room { length streams.old ≤ vec_capacity ends.old }

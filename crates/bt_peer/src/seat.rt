@@ -2,7 +2,7 @@
 
 ghost use Rattle.std.specs.Prelude.{◌≡◌, ◌<◌, None, length};
 ghost use Rattle.bt_meta.specs.Layout.{piece_count};
-ghost use Rattle.bt_peer.specs.Serial.{stream_record};
+ghost use Rattle.bt_peer.specs.Serial.{stream_of};
 ghost use Rattle.bt_peer.specs.Standing.{Keeps, LeavesOthers, left_of, standing};
 
 use crate::desk_place::DeskPlace;
@@ -35,8 +35,8 @@ pub fn take_turn<R: Source, W: Sink>(
     requires told { length seat.old.told ≡ piece_count desk.old.setting.torrent }
     requires runs { seat.old.session.outcome ≡ None }
     ensures keeps { Keeps worker
-        (standing desk.old seat.old (stream_record R.left R.ended R.failed R.reads W.written W.failed stream.old))
-        (standing desk.new seat.new (stream_record R.left R.ended R.failed R.reads W.written W.failed stream.new)) }
+        (standing desk.old seat.old (stream_of R.Source W.Sink stream.old))
+        (standing desk.new seat.new (stream_of R.Source W.Sink stream.new)) }
     ensures others { LeavesOthers worker desk.old desk.new }
     ensures told { length seat.new.told ≡ length seat.old.told }
     ensures shrinks { left_of seat.new < left_of seat.old }

@@ -5,10 +5,12 @@ ghost use Rattle.std.specs.Prelude.{◌≡◌, ◌<◌, ◌≤◌, true, false, 
 use crate::fault::{End, SessionFault};
 use crate::handshake::greeting;
 use crate::place::Place;
+use crate::reader::Heard;
 use crate::terms::Terms;
-use crate::turn::{Peer, greet, listen};
+use crate::turn::{greet, listen};
+use crate::writer::Said;
 use bt_meta::{Sink, Source, Torrent};
-use bt_wire::{Inbound, frame_limit};
+use bt_wire::frame_limit;
 use rand_pcg::Lcg64Xsh32;
 use std::alloc::Global;
 use std::marker::Model;
@@ -19,15 +21,17 @@ use std::sync::Arc;
 pub struct Session {
     terms: Terms,
     worker: u32,
-    peer: Peer,
+    heard: Heard,
     joined: bool,
+    /// We have told the peer that we are interested, and not since then that we aren't.
+    interested: bool,
     messages: u64,
     outcome: Option<Result<End, SessionFault>>,
 }
 
 impl Model for Session {
     ghost use Rattle.std.specs.Prelude.{◌≡◌, ◌≤◌, ◌+◌, ◌*◌, None, length};
-    ghost use Rattle.bt_peer.specs.Reader.{most_reads, room_len};
+    ghost use Rattle.bt_peer.specs.Reader.{room_len};
     ghost use Rattle.bt_peer.specs.Sessions.{SessionState};
 
     ghost Value = { SessionState };
@@ -35,22 +39,22 @@ impl Model for Session {
     ghost view = { λ a. record {
       terms = a.terms;
       worker = a.worker;
-      stream = a.peer.inbound;
+      stream = a.heard.inbound;
       joined = a.joined;
-      interested = a.peer.interested;
-      reads = a.peer.reads;
+      interested = a.interested;
+      reads = a.heard.reads;
       messages = a.messages;
       outcome = a.outcome;
     } };
 
-    ghost invariant = { λ a. (a.peer.reads ≤ most_reads) × (a.outcome ≡ None →
-        (a.peer.inbound.greeted ≡ a.joined) × (4 * a.messages + length a.peer.inbound.bytes ≤ room_len * a.peer.reads)) };
+    ghost invariant = { λ a. a.outcome ≡ None →
+        (a.heard.inbound.greeted ≡ a.joined) × (4 * a.messages + length a.heard.inbound.bytes ≤ room_len * a.heard.reads) };
 }
 
 impl Session {
     ghost use Rattle.rand_core.specs.Stream.{Stream};
     ghost use Rattle.bt_peer.specs.declared.fault.SessionFault.TheVariants.{WriteFault};
-    ghost use Rattle.bt_peer.specs.Conduct.{Conducts, DrawsWords, answers_of};
+    ghost use Rattle.bt_peer.specs.Conduct.{Conducts, ConductsBy, DrawsWords, answers_of};
     ghost use Rattle.bt_peer.specs.Reader.{most_reads, source_state};
     ghost use Rattle.bt_peer.specs.Terms.{terms_of};
     ghost use Rattle.bt_peer.specs.Steps.{surroundings};
@@ -66,12 +70,9 @@ impl Session {
         Session {
             terms: Terms::new(torrent, depth),
             worker,
-            peer: Peer {
-                inbound: Inbound::new(alloc, limit),
-                reads: 0,
-                interested: false,
-            },
+            heard: Heard::new(alloc, limit),
             joined: false,
+            interested: false,
             messages: 0,
             outcome: None,
         }
@@ -103,10 +104,8 @@ impl Session {
             (source_state R.left R.ended R.failed reader.new self.new.reads)
             self.new (surroundings P.past R.left W.written place.new reader.new writer.new)) }
         // No word is drawn.
-        ensures conduct { OnOk result ((generator : Stream) →
-            Conducts P.settles generator (P.past place.old).calls (P.past place.new).calls generator) }
-        ensures words { OnErr result ((generator : Stream) →
-            DrawsWords generator (P.past place.old).calls (P.past place.new).calls) }
+        ensures conduct { (generator : Stream) →
+            ConductsBy result P.settles generator (P.past place.old).calls (P.past place.new).calls generator }
         ensures counted { R.reads reader.old ≡ self.old.reads → R.reads reader.new ≡ self.new.reads }
         ensures most { self.new.reads ≤ most_reads }
         ensures sound { OnOk result (
@@ -114,15 +113,20 @@ impl Session {
         ensures failed { IfErr result (λ fault. fault ≡ WriteFault → W.failed writer.new ≡ true) }
     {
         let hello = greeting(self.terms.infohash(), self.worker);
+        let mut said = Said {
+            writer,
+            interested: self.interested,
+        };
         let greeted = greet(
             alloc,
             &self.terms,
             &hello,
-            &mut self.peer,
+            &mut self.heard,
+            &mut said,
             reader,
-            writer,
             place,
         );
+        self.interested = said.interested;
         match greeted {
             Ok(()) => {
                 self.joined = true;
@@ -181,15 +185,21 @@ impl Session {
             self.first_turn(alloc, reader, writer, place)?;
             return Ok(None);
         }
-        match listen(
+        let mut said = Said {
+            writer,
+            interested: self.interested,
+        };
+        let listened = listen(
             alloc,
             &self.terms,
-            &mut self.peer,
+            &mut self.heard,
+            &mut said,
             reader,
-            writer,
             place,
             rng,
-        ) {
+        );
+        self.interested = said.interested;
+        match listened {
             Ok(true) => {
                 self.messages += 1;
                 Ok(None)

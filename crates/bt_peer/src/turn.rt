@@ -1,71 +1,60 @@
 //! The turns of a session: the handshakes, and one message after another.
 
-ghost use Rattle.std.specs.Prelude.{◌≡◌, ◌≤◌, ◌+◌, ◌*◌, ◌++◌, length, [], true, false, List, IfOk, IfErr, OnOk, OnErr};
+ghost use Rattle.std.specs.Prelude.{◌≡◌, ◌++◌, [], true, false, List, IfOk, IfErr, OnOk};
 ghost use Rattle.std.specs.Bool.{OnTrue, OnFalse};
 ghost use Rattle.bt_peer.specs.declared.fault.SessionFault.TheVariants.{WriteFault};
 ghost use Rattle.rand_core.specs.Stream.{Stream};
-ghost use Rattle.bt_peer.specs.Conduct.{Conducts, DrawsWords};
+ghost use Rattle.bt_peer.specs.Conduct.{ConductsBy};
 ghost use Rattle.bt_peer.specs.Acts.{Act, is_in};
 ghost use Rattle.bt_peer.specs.Places.{Gains, GainsUpTo};
 ghost use Rattle.bt_peer.specs.Writer.{says};
 ghost use Rattle.bt_peer.specs.Outlets.{WroteFront};
-ghost use Rattle.bt_peer.specs.Reader.{most_reads, room_len, source_state};
+ghost use Rattle.bt_peer.specs.Hearing.{StaysCounted, UsesUp, hearing};
+ghost use Rattle.bt_peer.specs.Reader.{source_state};
 ghost use Rattle.bt_peer.specs.Steps.{reading, surroundings, start, TakesTurn, TakesLeave, BreaksBy, Departs, Leaves};
 
 use crate::fault::SessionFault;
 use crate::message::attend;
 use crate::place::Place;
-use crate::reader::hear;
+use crate::reader::Heard;
 use crate::terms::Terms;
-use crate::writer::write_all;
+use crate::writer::Said;
 use bt_history::{Call, Reply};
 use bt_meta::{Sink, Source};
-use bt_wire::{Inbound, Message};
+use bt_wire::Message;
 use rand_core::Rng;
 use std::alloc::Global;
-
-/// What a session keeps of its peer: the stream that comes from it, the reads that were asked for, and whether it was told that we are interested.
-#[derive(Drop)]
-pub struct Peer {
-    pub inbound: Inbound,
-    pub reads: u64,
-    pub interested: bool,
-}
 
 /// The first turn: each side's handshake, then Join.
 pub fn greet<R: Source, W: Sink, P: Place>(
     alloc: Global,
     terms: &Terms,
     greeting: &[u8],
-    peer: &mut Peer,
+    heard: &mut Heard,
+    said: &mut Said<'_, W>,
     reader: &mut R,
-    writer: &mut W,
     place: &mut P,
 ) -> Result<(), SessionFault>
-    requires greeted { peer.old.inbound.greeted ≡ false }
-    requires reads { peer.old.reads ≤ most_reads }
+    requires greeted { heard.old.inbound.greeted ≡ false }
     ensures ok { OnOk result (TakesTurn terms.now greeting.now
-        (reading peer.old.inbound peer.old.interested) (surroundings P.past R.left W.written place.old reader.old writer.old)
-        (reading peer.new.inbound peer.new.interested) (surroundings P.past R.left W.written place.new reader.new writer.new)) }
+        (reading heard.old.inbound said.old.interested) (surroundings P.past R.left W.written place.old reader.old said.old.writer.now)
+        (reading heard.new.inbound said.new.interested) (surroundings P.past R.left W.written place.new reader.new said.new.writer.now)) }
     // No word is drawn.
-    ensures conduct { OnOk result ((generator : Stream) →
-        Conducts P.settles generator (P.past place.old).calls (P.past place.new).calls generator) }
-    ensures ok_sound { OnOk result ((R.failed reader.new ≡ R.failed reader.old) × (W.failed writer.new ≡ W.failed writer.old)) }
-    ensures few { OnOk result (
-        length peer.new.inbound.bytes + 4 + room_len * peer.old.reads ≤ length peer.old.inbound.bytes + room_len * peer.new.reads) }
+    ensures conduct { (generator : Stream) →
+        ConductsBy result P.settles generator (P.past place.old).calls (P.past place.new).calls generator }
+    ensures ok_sound { OnOk result ((R.failed reader.new ≡ R.failed reader.old) × (W.failed said.new.writer.now ≡ W.failed said.old.writer.now)) }
+    ensures few { OnOk result (UsesUp (hearing R.Source heard.old reader.old) (hearing R.Source heard.new reader.new)) }
     ensures err { IfErr result (λ fault. (acts : List Act) × (GainsUpTo (P.past place.old) acts (P.past place.new)
         × (is_in false acts ≡ false)
-        × WroteFront fault (W.written writer.old) (greeting.now ++ says peer.old.interested acts) (W.written writer.new)
-        × BreaksBy fault (start terms.now false peer.old.inbound (R.left reader.old))
-        (source_state R.left R.ended R.failed reader.new peer.new.reads) acts)) }
-    ensures words { OnErr result ((generator : Stream) →
-        DrawsWords generator (P.past place.old).calls (P.past place.new).calls) }
-    ensures err_failed { IfErr result (λ fault. fault ≡ WriteFault → W.failed writer.new ≡ true) }
-    ensures most { peer.new.reads ≤ most_reads }
-    ensures counted { R.reads reader.old ≡ peer.old.reads → R.reads reader.new ≡ peer.new.reads }
+        × WroteFront fault (W.written said.old.writer.now) (greeting.now ++ says said.old.interested acts) (W.written said.new.writer.now)
+        × BreaksBy fault (start terms.now false heard.old.inbound (R.left reader.old))
+        (source_state R.left R.ended R.failed reader.new heard.new.reads) acts)) }
+    ensures err_failed { IfErr result (λ fault. fault ≡ WriteFault → W.failed said.new.writer.now ≡ true) }
+    ensures same_sink { said.new.writer.ghost_name ≡ said.old.writer.ghost_name }
+    ensures counted { StaysCounted (hearing R.Source heard.old reader.old) (hearing R.Source heard.new reader.new) }
 {
-    write_all(writer, greeting)?;
-    let Some(message) = hear(alloc, &mut peer.inbound, &mut peer.reads, reader)? else {
+    said.write(greeting)?;
+    let Some(message) = heard.next(alloc, reader)? else {
         return Err(SessionFault::Truncated);
     };
     let Message::Hello(hello) = message else {
@@ -97,39 +86,37 @@ fn leave_by<P: Place>(alloc: Global, place: &mut P, fault: SessionFault) -> Sess
 pub fn listen<R: Source, W: Sink, P: Place, N: Rng>(
     alloc: Global,
     terms: &Terms,
-    peer: &mut Peer,
+    heard: &mut Heard,
+    said: &mut Said<'_, W>,
     reader: &mut R,
-    writer: &mut W,
     place: &mut P,
     rng: &mut N,
 ) -> Result<bool, SessionFault>
-    requires greeted { peer.old.inbound.greeted ≡ true }
-    requires reads { peer.old.reads ≤ most_reads }
+    requires greeted { heard.old.inbound.greeted ≡ true }
     ensures goes_on { IfOk result (λ goes_on. OnTrue goes_on (TakesTurn terms.now []
-        (reading peer.old.inbound peer.old.interested) (surroundings P.past R.left W.written place.old reader.old writer.old)
-        (reading peer.new.inbound peer.new.interested) (surroundings P.past R.left W.written place.new reader.new writer.new))) }
+        (reading heard.old.inbound said.old.interested) (surroundings P.past R.left W.written place.old reader.old said.old.writer.now)
+        (reading heard.new.inbound said.new.interested) (surroundings P.past R.left W.written place.new reader.new said.new.writer.now))) }
     ensures few { IfOk result (λ goes_on. OnTrue goes_on
-        (length peer.new.inbound.bytes + 4 + room_len * peer.old.reads ≤ length peer.old.inbound.bytes + room_len * peer.new.reads)) }
+        (UsesUp (hearing R.Source heard.old reader.old) (hearing R.Source heard.new reader.new))) }
     ensures leaves { IfOk result (λ goes_on. OnFalse goes_on (TakesLeave
-        (reading peer.old.inbound peer.old.interested) (surroundings P.past R.left W.written place.old reader.old writer.old) (R.ended reader.new)
-        (reading peer.new.inbound peer.new.interested) (surroundings P.past R.left W.written place.new reader.new writer.new))) }
-    ensures conduct { OnOk result (Conducts P.settles
-        (N.stream rng.old) (P.past place.old).calls (P.past place.new).calls (N.stream rng.new)) }
-    ensures ok_sound { OnOk result ((R.failed reader.new ≡ R.failed reader.old) × (W.failed writer.new ≡ W.failed writer.old)) }
+        (reading heard.old.inbound said.old.interested) (surroundings P.past R.left W.written place.old reader.old said.old.writer.now) (R.ended reader.new)
+        (reading heard.new.inbound said.new.interested) (surroundings P.past R.left W.written place.new reader.new said.new.writer.now))) }
+    ensures conduct { ConductsBy result P.settles
+        (N.stream rng.old) (P.past place.old).calls (P.past place.new).calls (N.stream rng.new) }
+    ensures ok_sound { OnOk result ((R.failed reader.new ≡ R.failed reader.old) × (W.failed said.new.writer.now ≡ W.failed said.old.writer.now)) }
     ensures err { IfErr result (λ fault. (acts : List Act) × ((leave : List Act) ×
         (GainsUpTo (P.past place.old) (acts ++ leave) (P.past place.new)
         × Departs (is_in true acts) (P.past place.new).short leave
-        × WroteFront fault (W.written writer.old) (says peer.old.interested acts) (W.written writer.new)
-        × BreaksBy fault (start terms.now true peer.old.inbound (R.left reader.old))
-        (source_state R.left R.ended R.failed reader.new peer.new.reads) acts))) }
-    ensures words { OnErr result (DrawsWords (N.stream rng.old) (P.past place.old).calls (P.past place.new).calls) }
-    ensures err_failed { IfErr result (λ fault. fault ≡ WriteFault → W.failed writer.new ≡ true) }
-    ensures most { peer.new.reads ≤ most_reads }
-    ensures counted { R.reads reader.old ≡ peer.old.reads → R.reads reader.new ≡ peer.new.reads }
+        × WroteFront fault (W.written said.old.writer.now) (says said.old.interested acts) (W.written said.new.writer.now)
+        × BreaksBy fault (start terms.now true heard.old.inbound (R.left reader.old))
+        (source_state R.left R.ended R.failed reader.new heard.new.reads) acts))) }
+    ensures err_failed { IfErr result (λ fault. fault ≡ WriteFault → W.failed said.new.writer.now ≡ true) }
+    ensures same_sink { said.new.writer.ghost_name ≡ said.old.writer.ghost_name }
+    ensures counted { StaysCounted (hearing R.Source heard.old reader.old) (hearing R.Source heard.new reader.new) }
 {
-    let message = match hear(alloc, &mut peer.inbound, &mut peer.reads, reader) {
+    let message = match heard.next(alloc, reader) {
         Ok(Some(message)) => message,
-        Ok(None) if peer.inbound.rest() > 0 => {
+        Ok(None) if heard.inbound.rest() > 0 => {
             return Err(leave_by(alloc, place, SessionFault::Truncated));
         }
         Ok(None) => {
@@ -140,15 +127,7 @@ pub fn listen<R: Source, W: Sink, P: Place, N: Rng>(
         }
         Err(fault) => return Err(leave_by(alloc, place, fault)),
     };
-    if let Err(fault) = attend(
-        alloc,
-        terms,
-        message,
-        place,
-        writer,
-        &mut peer.interested,
-        rng,
-    ) {
+    if let Err(fault) = attend(alloc, terms, message, place, said, rng) {
         return Err(leave_by(alloc, place, fault));
     }
     Ok(true)

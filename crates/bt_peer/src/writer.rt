@@ -1,10 +1,9 @@
 //! Writing to a peer.
 
 ghost use Rattle.bt_peer.specs.declared.fault.SessionFault.TheVariants.{WriteFault};
-ghost use Rattle.std.specs.Prelude.{◌≡◌, [], ◌++◌, true, List, ℕ, IfErr, OnOk, OnErr, MatchOption};
-ghost use Rattle.std.specs.Io.KnownBytes.{Appends};
+ghost use Rattle.std.specs.Prelude.{◌≡◌, [], IfErr, OnOk, MatchOption};
 ghost use Rattle.bt_wire.specs.Messages.{spelling, CanEncode};
-ghost use Rattle.bt_peer.specs.Outlets.{WroteFront, IsCut};
+ghost use Rattle.bt_peer.specs.Outlets.{IsCut, Writes, WritesUpTo, saying};
 ghost use Rattle.bt_peer.specs.Writer.{answer, interest_by};
 
 use crate::fault::SessionFault;
@@ -13,33 +12,54 @@ use bt_meta::{Block, DeviceFault, Sink};
 use bt_wire::{Message, encode};
 use std::alloc::Global;
 
-/// Writes all the bytes.
-#[tactic(auto, using(crate::proofs::Written::front_cut))]
-pub fn write_all<W: Sink>(writer: &mut W, bytes: &[u8]) -> Result<(), SessionFault>
-    ensures ok { OnOk result (Appends (W.written writer.old) (W.written writer.new) bytes.now) }
-    ensures ok_sound { OnOk result (W.failed writer.new ≡ W.failed writer.old) }
-    ensures err { IfErr result (λ fault. WroteFront fault (W.written writer.old) bytes.now (W.written writer.new)) }
-    ensures err_failed { OnErr result (W.failed writer.new ≡ true) }
-    ensures cause { IfErr result (λ fault. fault ≡ WriteFault) }
-{
-    match bt_meta::write_all(writer, bytes) {
-        Ok(()) => Ok(()),
-        Err(DeviceFault) => Err(SessionFault::WriteFault),
-    }
+/// What is said to a peer: where it is written, and whether we have said that we are interested.
+#[derive(Drop)]
+pub struct Said<'a, W> {
+    pub writer: &'a mut W,
+    pub interested: bool,
 }
 
-/// Writes a message.
-pub fn send<W: Sink>(alloc: Global, writer: &mut W, message: &Message) -> Result<(), SessionFault>
-    requires { CanEncode message.now }
-    ensures ok { OnOk result (Appends (W.written writer.old) (W.written writer.new) (spelling message.now)) }
-    ensures ok_sound { OnOk result (W.failed writer.new ≡ W.failed writer.old) }
-    ensures err { IfErr result (λ fault. WroteFront fault (W.written writer.old) (spelling message.now) (W.written writer.new)) }
-    ensures err_failed { IfErr result (λ fault. fault ≡ WriteFault → W.failed writer.new ≡ true) }
-    ensures cause { IfErr result IsCut }
-{
-    let mut bytes = Vec::new(alloc);
-    encode(message, &mut bytes)?;
-    write_all(writer, &bytes)
+impl<'a, W: Sink> Said<'a, W> {
+    /// Writes all the bytes.
+    #[tactic(auto, using(crate::proofs::Written::front_cut))]
+    pub fn write(&mut self, bytes: &[u8]) -> Result<(), SessionFault>
+        ensures ok { OnOk result (Writes (saying W.Sink self.old) bytes.now (saying W.Sink self.new)) }
+        ensures err { IfErr result (λ fault. WritesUpTo fault (saying W.Sink self.old) bytes.now (saying W.Sink self.new)) }
+        ensures cause { IfErr result (λ fault. fault ≡ WriteFault) }
+        ensures interest { self.new.interested ≡ self.old.interested }
+    {
+        match bt_meta::write_all(self.writer, bytes) {
+            Ok(()) => Ok(()),
+            Err(DeviceFault) => Err(SessionFault::WriteFault),
+        }
+    }
+
+    /// Writes a message.
+    pub fn send(&mut self, alloc: Global, message: &Message) -> Result<(), SessionFault>
+        requires { CanEncode message.now }
+        ensures ok { OnOk result (Writes (saying W.Sink self.old) (spelling message.now) (saying W.Sink self.new)) }
+        ensures err { IfErr result (λ fault. WritesUpTo fault (saying W.Sink self.old) (spelling message.now) (saying W.Sink self.new)) }
+        ensures cause { IfErr result IsCut }
+        ensures interest { self.new.interested ≡ self.old.interested }
+    {
+        let mut bytes = Vec::new(alloc);
+        encode(message, &mut bytes)?;
+        self.write(&bytes)
+    }
+
+    /// Says what a reply calls for.
+    pub fn tell(&mut self, alloc: Global, reply: &Reply) -> Result<(), SessionFault>
+        ensures ok { OnOk result (Writes (saying W.Sink self.old) (answer self.old.interested reply.now) (saying W.Sink self.new)) }
+        ensures interest { OnOk result (self.new.interested ≡ interest_by self.old.interested reply.now) }
+        ensures err { IfErr result (λ fault. WritesUpTo fault (saying W.Sink self.old) (answer self.old.interested reply.now) (saying W.Sink self.new)) }
+        ensures cause { IfErr result IsCut }
+    {
+        if let Some(message) = answer_to(self.interested, reply) {
+            self.send(alloc, &message)?;
+        }
+        self.interested = interest_after(self.interested, reply);
+        Ok(())
+    }
 }
 
 /// What is to be said for a reply.
@@ -64,25 +84,4 @@ fn interest_after(interested: bool, reply: &Reply) -> bool
         Reply::NothingLeft => false,
         _ => interested,
     }
-}
-
-/// Says what a reply calls for.
-pub fn tell<W: Sink>(
-    alloc: Global,
-    writer: &mut W,
-    interested: &mut bool,
-    reply: &Reply,
-) -> Result<(), SessionFault>
-    ensures ok { OnOk result (Appends (W.written writer.old) (W.written writer.new) (answer interested.old reply.now)) }
-    ensures interest { OnOk result (interested.new ≡ interest_by interested.old reply.now) }
-    ensures ok_sound { OnOk result (W.failed writer.new ≡ W.failed writer.old) }
-    ensures err { IfErr result (λ fault. WroteFront fault (W.written writer.old) (answer interested.old reply.now) (W.written writer.new)) }
-    ensures err_failed { IfErr result (λ fault. fault ≡ WriteFault → W.failed writer.new ≡ true) }
-    ensures cause { IfErr result IsCut }
-{
-    if let Some(message) = answer_to(*interested, reply) {
-        send(alloc, writer, &message)?;
-    }
-    *interested = interest_after(*interested, reply);
-    Ok(())
 }

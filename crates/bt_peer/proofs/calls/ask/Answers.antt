@@ -1,7 +1,6 @@
 use Rattle.std.proofs.Common.{◌≡◌, true, false, arith, sym, ◌∙◌}
 use Rattle.std.proofs.lemmas.Result.{err_from_is_err_and}
 use Rattle.bt_peer.specs.Turns.{has_more}
-use Rattle.bt_picker.proofs.Contents.{on_err}
 use Rattle.bt_peer.proofs.Conduct.{Conducts-join, DrawsWords-join, asked_one, asked_cut}
 use Rattle.bt_peer.proofs.Asking.{Asking-more, Asking-last, Asking-full, Asking-stops}
 use Rattle.bt_peer.proofs.calls.ask.Goals as goal
@@ -11,15 +10,15 @@ returns-in_err-reply-clause-err g c =
     let p = err_from_is_err_and c.from_residual.result c.from_residual.ensures.1 in
     rw (p.1, p.2) (Asking-stops c.next_u64.result _ _ _ _ c.next.counter _ c.next.invariant.asking c.next-test.true c.in_err-reply.ensures.err)
 
-pub returns-in_err-reply-clause-words : goal.returns-in_err-reply-clause-words
-returns-in_err-reply-clause-words g c =
-    let cut = c.in_err-reply.ensures.err in
-    on_err _ _ (DrawsWords-join g.P.Place.settles _ _ _ _ _ c.next.invariant.conduct
-    (asked_cut _ _ c.next_u64.result _ cut.0 _ _ c.next_u64.ensures cut.1.0 cut.1.1.gains))
+pub returns-in_err-reply-clause-conduct : goal.returns-in_err-reply-clause-conduct
+returns-in_err-reply-clause-conduct g c =
+    let p = err_from_is_err_and c.from_residual.result c.from_residual.ensures.1 in
+    rw p.1 (DrawsWords-join c.next.invariant.conduct
+    (asked_cut _ _ c.next_u64.result _ _ _ c.next_u64.ensures c.in_err-reply.ensures.err))
 
 pub returns-then-not-has_more-clause-conduct : goal.returns-then-not-has_more-clause-conduct
 returns-then-not-has_more-clause-conduct g c =
-    Conducts-join g.P.Place.settles _ _ _ _ _ _ c.next.invariant.conduct
+    Conducts-join c.next.invariant.conduct
     (asked_one g.P.Place.settles _ _ c.next_u64.result _ _ _ c.next_u64.ensures c.in_ok-reply.ensures.ok.gains)
 
 pub returns-then-not-has_more-clause-ok : goal.returns-then-not-has_more-clause-ok
@@ -33,9 +32,8 @@ next-preserved g c =
     let more : has_more c.in_ok-reply.reply ≡ true = sym c.has_more.ensures ∙ c.if-not-has_more.false in
     record {
       asking = Asking-more c.next_u64.result c.in_ok-reply.reply _ _ _ c.next.counter c.next.invariant.asking c.in_ok-reply.ensures.ok more;
-      conduct = Conducts-join g.P.Place.settles _ _ _ _ _ _ c.next.invariant.conduct
+      conduct = Conducts-join c.next.invariant.conduct
           (asked_one g.P.Place.settles _ _ c.next_u64.result _ _ _ c.next_u64.ensures c.in_ok-reply.ensures.ok.gains);
-      sound = c.in_ok-reply.ensures.ok_sound ∙ c.next.invariant.sound;
     }
 
 pub returns-clause-ok : goal.returns-clause-ok

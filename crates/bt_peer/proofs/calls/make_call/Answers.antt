@@ -12,8 +12,6 @@ returns-in_err-tell g c =
       ok = tt;
       ok_accepted = tt;
       completes = tt;
-      ok_sound = tt;
       err =
           call_cut _ _ _ _ _ c.in_ok-reply.ensures.ok accepted c.in_err-tell.ensures.cause c.in_err-tell.ensures.err;
-      err_failed = c.in_err-tell.ensures.err_failed;
     })

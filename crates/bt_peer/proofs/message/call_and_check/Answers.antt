@@ -1,8 +1,5 @@
-use Rattle.std.proofs.Common.{◌≡◌, ℕ, List, [], ◌++◌, Some, sym, ap, ◌∙◌, inr, refl}
+use Rattle.std.proofs.Common.{◌≡◌, ℕ, List, [], ◌++◌, Some, sym, ap, ◌∙◌, refl}
 use Rattle.std.proofs.lemmas.Result.{err_from_is_err_and}
-use Rattle.rand_core.specs.Stream.{Stream}
-use Rattle.bt_picker.proofs.Contents.{on_err}
-use Rattle.bt_peer.specs.Conduct.{DrawsWords, word_of}
 use Rattle.bt_peer.specs.Acts.{mark_of_call}
 use Rattle.bt_peer.specs.Turns.{if_completed, arrived_piece}
 use Rattle.bt_peer.proofs.Conduct.{DrawsWords-silent, other_cut, silent_draws}
@@ -17,8 +14,8 @@ returns-in_err-reply-clause-err g c =
 pub returns-in_err-completed-clause-err : goal.returns-in_err-completed-clause-err
 returns-in_err-completed-clause-err g c =
     let p = err_from_is_err_and c.from_residual-in_err-completed.result c.from_residual-in_err-completed.ensures.1 in
-    rw (p.1, p.2) (opening_unchecked (mark_of_call c.args.call) c.in_ok-reply.reply _ _ _ _
-    (inr refl) c.in_ok-reply.ensures.ok_accepted c.in_ok-reply.ensures.ok c.in_err-completed.ensures.err)
+    rw (p.1, p.2) (opening_unchecked (mark_of_call c.args.call) c.in_ok-reply.reply _ _ _
+    c.in_ok-reply.ensures.ok_accepted c.in_ok-reply.ensures.ok c.in_err-completed.ensures.err)
 
 pub returns-in_ok-completed-clause-ok : goal.returns-in_ok-completed-clause-ok
 returns-in_ok-completed-clause-ok g c =
@@ -28,21 +25,14 @@ returns-in_ok-completed-clause-ok g c =
     ap (λ piece. if_completed piece reply) (sym c.arrived_piece-arrived.ensures) ∙ sym c.completed.ensures ∙ c.in-Some.is in
     opening_checked mark reply c.in-Some.piece _ _ _ is c.in_ok-reply.ensures.ok_accepted c.in_ok-reply.ensures.ok c.in_ok-completed.ensures.ok
 
-pub returns-in_err-reply-clause-words : goal.returns-in_err-reply-clause-words
-returns-in_err-reply-clause-words g c =
-    let mark = mark_of_call c.args.call in
-    let cut = c.in_err-reply.ensures.err in
-    let words : word_of mark ≡ [] → (generator : Stream) →
-    DrawsWords generator (g.P.Place.past c.args.place.now).calls (g.P.Place.past c.make_call.new.place).calls =
-    λ silent. λ generator. other_cut generator mark _ cut.0 _ _ silent cut.1.0 cut.1.1.gains in
-    on_err _ _ words
+pub returns-in_err-reply-clause-conduct : goal.returns-in_err-reply-clause-conduct
+returns-in_err-reply-clause-conduct g c =
+    let p = err_from_is_err_and c.from_residual.result c.from_residual.ensures.1 in
+    rw p.1 (λ silent. λ generator. other_cut generator (mark_of_call c.args.call) _ _ _ silent c.in_err-reply.ensures.err)
 
-pub returns-in_err-completed-clause-words : goal.returns-in_err-completed-clause-words
-returns-in_err-completed-clause-words g c =
-    let mark = mark_of_call c.args.call in
+pub returns-in_err-completed-clause-conduct : goal.returns-in_err-completed-clause-conduct
+returns-in_err-completed-clause-conduct g c =
+    let p = err_from_is_err_and c.from_residual-in_err-completed.result c.from_residual-in_err-completed.ensures.1 in
     let made = c.in_ok-reply.ensures.ok.gains.up_to.calls in
-    let words : word_of mark ≡ [] → (generator : Stream) →
-    DrawsWords generator (g.P.Place.past c.args.place.now).calls (g.P.Place.past c.completed-in-Some.new.self).calls =
-    λ silent. λ generator. DrawsWords-silent generator _ _ _ []
-    (silent_draws generator _ _ _ made (ap (λ (words : List ℕ). words ++ []) silent)) c.in_err-completed.ensures.err.gains.calls refl in
-    on_err _ _ words
+    rw p.1 (λ silent. λ generator. DrawsWords-silent generator _ _ _ []
+    (silent_draws generator _ _ _ made (ap (λ (words : List ℕ). words ++ []) silent)) c.in_err-completed.ensures.err.gains.calls refl)

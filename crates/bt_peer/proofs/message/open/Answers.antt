@@ -1,4 +1,4 @@
-use Rattle.std.proofs.lemmas.Result.{err_from_is_err_and, IfErr-weaker, on_ok_weaker}
+use Rattle.std.proofs.lemmas.Result.{err_from_is_err_and, IfErr-weaker}
 use Rattle.std.proofs.Common.{◌≡◌, Option, Some, None, [], refl, subst, sym}
 use Rattle.bt_peer.specs.Acts.{mark_of_call}
 use Rattle.bt_history.specs.declared.mark.CallMark.{CallMark}
@@ -23,9 +23,9 @@ pub returns-in-None-clause-ok : goal.returns-in-None-clause-ok
 returns-in-None-clause-ok g c =
     let made = rw c.in-None.is at c.in_ok-call.ensures.ok in
     let none : call_of c.args.message ≡ None = made.1 in
-    ([], (subst (λ (call : Option CallMark). Opens call []) (sym none) refl, refl, Performs-none _))
+    record { acts = []; opens = subst (λ (call : Option CallMark). Opens call []) (sym none) refl; accepted = refl; performs = Performs-none _ }
 
 pub returns-in-Some-clause-conduct : goal.returns-in-Some-clause-conduct
 returns-in-Some-clause-conduct g c =
     let made = rw c.in-Some.is at c.in_ok-call.ensures.ok in
-    on_ok_weaker c.call_and_check.result (λ conduct. conduct (own_word c.args.message _ made.1)) c.call_and_check.ensures.conduct
+    c.call_and_check.ensures.conduct (own_word c.args.message _ made.1)

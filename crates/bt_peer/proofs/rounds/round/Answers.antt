@@ -1,13 +1,11 @@
-use Rattle.std.proofs.Common.{◌≡◌, true, false, sym, subst, ◌∙◌}
-use Rattle.bt_peer.specs.Serial.{stream_record}
-use Rattle.bt_peer.specs.Standing.{LeavesRest}
-use Rattle.bt_peer.proofs.EachStream.{EachKeeps-join, LeavesRest-join, Progress, progress_on}
+use Rattle.std.proofs.Common.{◌≡◌, true, false, sym, ◌∙◌}
+use Rattle.bt_peer.specs.Serial.{stream_of}
+use Rattle.bt_peer.proofs.EachStream.{Played-join, Progress, progress_on}
 use Rattle.bt_peer.proofs.rounds.round.Goals as goal
 use Rattle.bt_peer.proofs.rounds.round.Goals.{then-turn_of, else-turn_of}
 
 pub loop-i-preserved : goal.loop-i-preserved
 loop-i-preserved g c =
-    let record_of = stream_record g.R.Source.left g.R.Source.ended g.R.Source.failed g.R.Source.reads g.W.Sink.written g.W.Sink.failed in
     let before = c.loop-i.invariant in
     let turn = c.turn_of.ensures in
     let progress : Progress c.loop-i.turns c.loop-i.i c.args.seats.now c.loop-i.seats =
@@ -25,11 +23,7 @@ loop-i-preserved g c =
     let after = progress_on c.turn_of.result c.loop-i.turns c.if-turn_of.turns c.loop-i.i c.args.seats.now c.loop-i.seats c.turn_of.new.seats taken
     idle progress turn.falls turn.same turn.ended in
     record {
-      keeps = EachKeeps-join record_of c.args.desk.now c.loop-i.desk c.turn_of.new.desk c.args.seats.now c.loop-i.seats c.turn_of.new.seats
-          c.args.streams.now c.loop-i.streams c.turn_of.new.streams
-          c.loop-i.auto.streams before.keeps turn.keeps;
-      rest = LeavesRest-join _ _ _ _ before.rest (subst (λ count. LeavesRest count c.loop-i.desk c.turn_of.new.desk) c.loop-i.auto.streams turn.rest);
-      fit = turn.fit;
+      played = Played-join (stream_of g.R.Source g.W.Sink) _ _ _ _ _ _ _ _ _ before.played turn.played;
       falls = after.falls;
       same = after.same;
       ended = after.ended;

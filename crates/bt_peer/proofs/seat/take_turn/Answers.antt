@@ -1,6 +1,6 @@
 use Rattle.std.proofs.Common.{rules, [], ◌∷◌, sym, arith}
 use Rattle.std.proofs.lemmas.Grind.{common_steps}
-use Rattle.bt_peer.specs.Serial.{stream_record}
+use Rattle.bt_peer.specs.Serial.{stream_of}
 use Rattle.bt_peer.specs.Standing.{standing}
 use Rattle.bt_peer.proofs.seat.take_turn.Goals as goal
 use Rattle.bt_peer.proofs.OwnTurns.{at_same_desk, turn_at_desk}
@@ -9,7 +9,7 @@ use Rattle.bt_peer.proofs.Own.{first_name, others_left_at}
 pub returns : goal.returns
 returns g c =
     let place = c.turn.new.place in
-    let stream = stream_record g.R.Source.left g.R.Source.ended g.R.Source.failed g.R.Source.reads g.W.Sink.written g.W.Sink.failed in
+    let stream = stream_of g.R.Source g.W.Sink in
     let old = standing c.args.desk.now c.args.seat.now (stream c.args.stream.now) in
     let new = standing place.desk.now (record { session = c.turn.new.self; told = place.told.now; rng = c.turn.new.rng })
     (stream (record { reader = c.turn.new.reader; writer = c.turn.new.writer })) in

@@ -17,7 +17,7 @@ turns-preserved g c =
       counted = λ none. did.counted (was.counted none);
       failed = did.sound.0 ∙ was.failed;
       writer_failed = did.sound.1 ∙ was.writer_failed;
-      conduct = Conducts-join g.P.Place.settles _ _ _ _ _ _ was.conduct did.conduct;
+      conduct = Conducts-join was.conduct did.conduct;
       turns = omega (arith, was.turns, less);
     }
 
@@ -29,14 +29,14 @@ returns-in-Some-clause-runs g c =
     record {
       reads = c.turn.new.self.reads;
       ends = running_ends c.in-Some.end _ _ _ _ _ _ _ _ was.running (λ fresh. rw c.in-Some.is at (did.ends fresh));
-      words = Conducts-draws g.P.Place.settles _ _ _ _ (Conducts-join g.P.Place.settles _ _ _ _ _ _ was.conduct did.conduct);
+      words = Conducts-draws (Conducts-join was.conduct did.conduct);
       devices = (last.leave.hears.ended, did.sound.0 ∙ was.failed, did.sound.1 ∙ was.writer_failed);
       counted = λ none. did.counted (was.counted none);
       most = did.most;
     }
 
 pub returns-in-Some-clause-conduct : goal.returns-in-Some-clause-conduct
-returns-in-Some-clause-conduct g c = Conducts-join g.P.Place.settles _ _ _ _ _ _ c.turns.invariant.conduct c.in_ok-end.ensures.conduct
+returns-in-Some-clause-conduct g c = Conducts-join c.turns.invariant.conduct c.in_ok-end.ensures.conduct
 
 pub returns-in_err-end-clause-runs : goal.returns-in_err-end-clause-runs
 returns-in_err-end-clause-runs g c =
@@ -47,7 +47,7 @@ returns-in_err-end-clause-runs g c =
     rw (p.1, p.2) (record {
       reads = c.turn.new.self.reads;
       ends = running_fails _ _ _ _ _ _ source _ _ was.running (λ fresh. did.fails fresh);
-      words = DrawsWords-join g.P.Place.settles _ _ _ _ _ was.conduct did.words;
+      words = DrawsWords-join was.conduct did.words;
       devices = devices_of _ _ _ (did.failed (unended _ _ _ _ _ was.running));
       counted = λ none. did.counted (was.counted none);
       most = did.most;

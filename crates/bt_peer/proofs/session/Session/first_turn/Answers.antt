@@ -1,42 +1,9 @@
-use Rattle.std.proofs.Common.{◌≡◌, ◌∙◌, ap, List, ℕ, Some, Err, false, refl, subst}
-use Rattle.bt_peer.specs.Reader.{source_state}
+use Rattle.std.proofs.Common.{ap, ◌∙◌, List, ℕ, refl, rules}
 use Rattle.bt_peer.specs.Writer.{greeting}
-use Rattle.bt_peer.specs.Sessions.{SessionState, FailsWith}
-use Rattle.bt_peer.specs.Steps.{start, surroundings}
-use Rattle.bt_peer.proofs.Failing.{FirstFails, session_fails_first}
+use Rattle.bt_peer.proofs.Failing.{session_fails_first}
 use Rattle.bt_peer.proofs.session.Session.first_turn.Goals as goal
 
 pub returns-in-Err-clause-fails : goal.returns-in-Err-clause-fails
 returns-in-Err-clause-fails g c =
-    let inside = c.self.inside in
-    let fault = c.in-Err.fault in
-    let state : SessionState = record {
-      terms = inside.terms;
-      worker = inside.worker;
-      stream = inside.peer.inbound;
-      joined = inside.joined;
-      interested = inside.peer.interested;
-      reads = inside.peer.reads;
-      messages = inside.messages;
-      outcome = inside.outcome;
-    } in
-    let new : SessionState = record state {
-      stream = c.greet-greeted.new.peer.inbound;
-      interested = c.greet-greeted.new.peer.interested;
-      reads =
-          c.greet-greeted.new.peer.reads;
-      outcome = Some (Err fault);
-    } in
-    let out = surroundings g.P.Place.past g.R.Source.left g.W.Sink.written c.args.place.now c.args.reader.now c.args.writer.now in
-    let out' = surroundings g.P.Place.past g.R.Source.left g.W.Sink.written c.greet-greeted.new.place c.greet-greeted.new.reader
-    c.greet-greeted.new.writer in
-    let source = source_state g.R.Source.left g.R.Source.ended g.R.Source.failed c.greet-greeted.new.reader c.greet-greeted.new.peer.reads in
-    let said : c.greeting-hello.result ≡ greeting state.terms.infohash state.worker =
-    c.greeting-hello.ensures ∙ ap (λ (hash : List ℕ). greeting hash state.worker) c.infohash.ensures in
-    let fails : FirstFails fault c.greeting-hello.result state.interested
-    (start state.terms false state.stream out.left) source out.past out.written out'.past out'.written = c.in-Err.ensures.err in
-    let same = subst (λ (hello : List ℕ). FirstFails fault hello state.interested
-    (start state.terms false state.stream out.left) source out.past out.written out'.past out'.written) said fails in
-    let first : state.joined ≡ false = ap (λ (now : SessionState). now.joined) c.self.view_is ∙ c.requires.joined in
-    subst (λ (old : SessionState). FailsWith fault old out source new out') c.self.view_is
-    (session_fails_first fault state new out out' source first refl same)
+    let hello = c.greeting-hello.ensures ∙ ap (λ (hash : List ℕ). greeting hash c.self.inside.worker) c.infohash.ensures in
+    session_fails_first c.in-Err.fault _ _ _ _ _ _ _ _ c.in-Err.ensures.err c.self.view_is hello c.requires.joined refl (search rules)

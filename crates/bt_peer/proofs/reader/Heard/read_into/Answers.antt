@@ -1,19 +1,27 @@
-use Rattle.std.proofs.Common.{◌≡◌, ap, ◌∙◌}
+use Rattle.std.proofs.Common.{◌≡◌, ap, ◌∙◌, arith}
+use Rattle.std.proofs.lemmas.Grind.{common_steps}
 use Rattle.std.proofs.lemmas.Result.{err_from_is_err_and}
 use Rattle.bt_wire.specs.declared.message.WireFault.TheVariants.{NoMemory}
 use Rattle.std.specs.Prelude.{unwrap_or}
 use Rattle.bt_peer.specs.Reader.{session_fault}
 use Rattle.bt_peer.proofs.Heard.{Consumes-join}
-use Rattle.bt_peer.proofs.reader.hear_into.Goals as goal
+use Rattle.bt_peer.proofs.reader.Heard.read_into.Goals as goal
 
-pub returns-in_err-feed-clause-fault : goal.returns-in_err-feed-clause-fault
-returns-in_err-feed-clause-fault g c =
+pub returns-in_err-feed : goal.returns-in_err-feed
+returns-in_err-feed g c =
     let p = err_from_is_err_and c.from_residual-in_err-feed.result c.from_residual-in_err-feed.ensures.1 in
     let e = c.in_err-feed.ensures.cause in
     let memory : c.in_err-feed.field-0.0 ≡ NoMemory = e ∙ ap (λ f. unwrap_or f NoMemory) c.in_ok-message.ensures.sound.1 in
     let is = p.2 ∙ ap session_fault memory in
     rw (p.1, is) (record {
-      read = _;
-      consumed = Consumes-join _ _ _ _ _ c.reads.invariant.reading.consumed c.in_ok-count.ensures.bytes.0;
-      cause = tt;
+      message = tt;
+      end = tt;
+      fault = record {
+        read = _;
+        consumed = Consumes-join _ _ _ _ _ c.reads.invariant.reading.consumed c.in_ok-count.ensures.bytes.0;
+        cause = tt;
+      };
+      few = tt;
+      sound = tt;
+      counted = grind (arith, common_steps);
     })

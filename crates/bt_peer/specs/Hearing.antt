@@ -1,0 +1,41 @@
+-- What is heard of a peer: the stream that comes from it, and how often its source was asked.
+use Rattle.std.specs.Prelude.{◌≡◌, ℕ, ◌+◌, ◌*◌, ◌≤◌, length, Option, Result, IfOk, IfErr, IfSome, IfNone, OnOk}
+use Rattle.bt_meta.specs.declared.devices.Source as sources
+use Rattle.bt_wire.specs.declared.message.Message.{Message}
+use Rattle.bt_wire.specs.Stream.{InboundState}
+use Rattle.bt_peer.specs.declared.fault.SessionFault.{SessionFault}
+use Rattle.bt_peer.specs.declared.reader.Heard.{Heard}
+use Rattle.bt_peer.specs.Reader.{Hears, HearsEnd, HearsFault, SourceState, room_len, source_state}
+
+-- what is heard of a peer, beside what its source says
+pub record Hearing : Type 0 where
+  pub stream : InboundState
+  -- with our count of its reads
+  pub source : SourceState
+  -- its own count
+  pub asked : ℕ
+
+abbrev pub hearing : {R : Type 0} → sources.Ghosts R → Heard → R → Hearing
+hearing of heard reader = record {
+  stream = heard.inbound;
+  source = source_state of.left of.ended of.failed reader heard.reads;
+  asked = of.reads reader;
+}
+
+-- our count of the reads stays the source's
+abbrev pub StaysCounted : Hearing → Hearing → Type 0
+StaysCounted old new = old.asked ≡ old.source.reads → new.asked ≡ new.source.reads
+
+-- a message was taken off the bytes held, and off those that the reads gave
+abbrev pub UsesUp : Hearing → Hearing → Type 0
+UsesUp old new =
+    length new.stream.bytes + 4 + room_len * old.source.reads ≤ length old.stream.bytes + room_len * new.source.reads
+
+-- the next message was heard, or the end of the input, or a fault came
+pub record HearsNext (result : Result (Option Message) SessionFault) (old new : Hearing) : Type 0 where
+  pub message : IfOk result (λ o. IfSome o (λ m. Hears old.stream old.source.left new.source.left m new.stream))
+  pub end : IfOk result (λ o. IfNone o (HearsEnd old.stream old.source.left new.source.left new.source.ended new.stream))
+  pub fault : IfErr result (HearsFault old.stream old.source.left new.source)
+  pub few : IfOk result (λ o. IfSome o (λ m. UsesUp old new))
+  pub sound : OnOk result (new.source.failed ≡ old.source.failed)
+  pub counted : StaysCounted old new

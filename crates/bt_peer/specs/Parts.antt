@@ -1,0 +1,78 @@
+-- The parts of a turn, each with the acts that it came to, where it was done or where a fault stopped it. Only contracts within the crate
+-- cite this module.
+use Rattle.std.specs.Prelude.{◌≡◌, ◌⊎◌, ℕ, ◌≤◌, List, ◌++◌, length, map, Option}
+use Rattle.bt_history.specs.declared.mark.CallMark.{CallMark}
+use Rattle.bt_peer.specs.declared.fault.SessionFault.{SessionFault}
+use Rattle.bt_wire.specs.declared.message.Message.{Message}
+use Rattle.bt_peer.specs.Acts.{Act, News}
+use Rattle.bt_peer.specs.Outlets.{Outlet, Performs, PerformsUpTo, StopsCall, EndsCalls, IsCut}
+use Rattle.bt_peer.specs.Places.{AllTold}
+use Rattle.bt_peer.specs.Steps.{StopsOpening, StopsTurn, TellsNews}
+use Rattle.bt_peer.specs.Terms.{TermsState, pieces_of}
+use Rattle.bt_peer.specs.Turns.{Opens, Asks, IsTurn, NoneRefused}
+
+-- a call
+pub record CallStops (fault : SessionFault) (call : CallMark) (old new : Outlet) : Type 0 where
+  pub acts : List Act
+  pub stops : StopsCall call fault acts
+  pub performs : PerformsUpTo fault old acts new
+
+-- the call of a message, and a check
+pub record OpeningDone (call : Option CallMark) (old new : Outlet) : Type 0 where
+  pub acts : List Act
+  pub opens : Opens call acts
+  pub accepted : NoneRefused acts
+  pub performs : Performs old acts new
+
+pub record OpeningStops (fault : SessionFault) (call : Option CallMark) (old new : Outlet) : Type 0 where
+  pub acts : List Act
+  pub rest : List Act
+  pub opens : Opens call (acts ++ rest)
+  pub ends : EndsCalls fault acts
+  pub performs : PerformsUpTo fault old acts new
+
+-- the same, or the message wasn't acceptable
+pub record MessageStops (fault : SessionFault) (pieces : ℕ) (m : Message) (old new : Outlet) : Type 0 where
+  pub acts : List Act
+  pub stops : StopsOpening fault pieces m acts
+  pub performs : PerformsUpTo fault old acts new
+
+-- news of all pieces that are known to be finished, or of so many
+pub record NewsDone (most : ℕ) (old new : Outlet) : Type 0 where
+  pub news : List ℕ
+  pub few : length news ≤ most
+  pub told : (length news ≡ most) ⊎ AllTold new.past
+  pub performs : Performs old (map News news) new
+
+pub record NewsStops (fault : SessionFault) (most : ℕ) (old new : Outlet) : Type 0 where
+  pub news : List ℕ
+  pub few : length news ≤ most
+  pub cut : IsCut fault
+  pub performs : PerformsUpTo fault old (map News news) new
+
+-- Next calls
+pub record AskingDone (most : ℕ) (old new : Outlet) : Type 0 where
+  pub acts : List Act
+  pub asks : Asks most acts
+  pub accepted : NoneRefused acts
+  pub performs : Performs old acts new
+
+pub record AskingStops (fault : SessionFault) (most : ℕ) (old new : Outlet) : Type 0 where
+  pub acts : List Act
+  pub rest : List Act
+  pub asks : Asks most (acts ++ rest)
+  pub ends : EndsCalls fault acts
+  pub performs : PerformsUpTo fault old acts new
+
+-- the turn of a message after the handshake
+pub record TurnDone (terms : TermsState) (m : Message) (old new : Outlet) : Type 0 where
+  pub acts : List Act
+  pub turn : IsTurn terms m acts
+  pub accepted : NoneRefused acts
+  pub news : TellsNews (pieces_of terms) old.past acts new.past
+  pub performs : Performs old acts new
+
+pub record TurnStops (fault : SessionFault) (terms : TermsState) (m : Message) (old new : Outlet) : Type 0 where
+  pub acts : List Act
+  pub stops : StopsTurn fault terms m acts
+  pub performs : PerformsUpTo fault old acts new
