@@ -2,3 +2,4 @@ pub mod Values
 pub mod DeskHandles
 pub mod JobHandles
 pub mod Sound
+pub mod ContentLengths
