@@ -1,5 +1,5 @@
 -- What a desk tells, its pieces and workers tested first.
-use Rattle.std.specs.Prelude.{◌≡◌, ℕ, ◌<◌, List, true, false, length, slice_index_or}
+use Rattle.std.specs.Prelude.{◌≡◌, ℕ, ◌<◌, ◌≤◌, List, true, false, length, slice_index_or}
 use Rattle.std.specs.declared.result.Result.{Result}
 use Rattle.std.specs.declared.result.Result.TheVariants.{Ok, Err}
 use Rattle.bt_meta.specs.declared.block.Block.{Block}
@@ -52,11 +52,11 @@ SaysOfPiece d p n (Ok x) = IsPiece d p × (x ≡ n)
 SaysOfPiece d p n (Err Piece) = IsPiece d p → ⊥
 SaysOfPiece d p n (Err f) = ⊥
 
--- a number of worker w's peer
-abbrev pub SaysOfWorker : DeskState → ℕ → ℕ → Result ℕ Fault → Type 0
-SaysOfWorker d w n (Ok x) = IsWorker d w × (x ≡ n)
-SaysOfWorker d w n (Err Worker) = IsWorker d w → ⊥
-SaysOfWorker d w n (Err f) = ⊥
+-- how many blocks are asked of worker w's peer, which are no more than the depth
+abbrev pub CountsOutstanding : DeskState → ℕ → Result ℕ Fault → Type 0
+CountsOutstanding d w (Ok x) = IsWorker d w × (x ≡ count_of_peer d w) × (x ≤ d.setting.depth)
+CountsOutstanding d w (Err Worker) = IsWorker d w → ⊥
+CountsOutstanding d w (Err f) = ⊥
 
 -- the block at a place among those that are asked of worker w's peer, the oldest request first
 abbrev pub IsOutstanding : DeskState → ℕ → ℕ → Result Block Fault → Type 0

@@ -1,6 +1,6 @@
 //! What a desk tells.
 ghost use Rattle.std.specs.Prelude.{◌≡◌};
-ghost use Rattle.bt_c.specs.Asking.{Audits, IsOutstanding, Reads, SaysOfContent, SaysOfPiece, SaysOfWorker, count_of_peer, number_of, number_of_piece};
+ghost use Rattle.bt_c.specs.Asking.{Audits, CountsOutstanding, IsOutstanding, Reads, SaysOfContent, SaysOfPiece, number_of, number_of_piece};
 
 use crate::buffer::Buffer;
 use crate::fault::Fault;
@@ -69,7 +69,7 @@ impl Held {
 
     /// How many blocks are asked of the worker's peer.
     pub fn outstanding_count(&self, worker: u32) -> Result<u32, Fault>
-        ensures { SaysOfWorker self.now.desk worker (count_of_peer self.now.desk worker) result }
+        ensures { CountsOutstanding self.now.desk worker result }
     {
         if worker >= self.desk.workers() {
             return Err(Fault::Worker);

@@ -1,6 +1,6 @@
 //! What a desk tells.
 ghost use Rattle.std.specs.Prelude.{◌≡◌, None};
-ghost use Rattle.bt_c.specs.Asking.{IsOutstanding, Reads, Says, SaysOfPiece, SaysOfWorker, count_of_peer, number_of, number_of_piece};
+ghost use Rattle.bt_c.specs.Asking.{CountsOutstanding, IsOutstanding, Reads, Says, SaysOfPiece, number_of, number_of_piece};
 ghost use Rattle.bt_c.specs.declared.asking.Question.TheVariants as questions;
 ghost use Rattle.bt_c.specs.declared.asking.PieceQuestion.TheVariants as of_piece;
 ghost use Rattle.bt_c.specs.Outcomes.{AtOpen, TellsBlock, TellsDone, TellsNumber};
@@ -45,7 +45,7 @@ fn ask_of_piece(
 
 fn outstanding_count(alloc: Global, desk: &mut DeskHandle, worker: u32) -> Result<u32, Fault>
     ensures same { desk.new.desk ≡ desk.old.desk }
-    ensures says { AtOpen (λ d o. SaysOfWorker d worker (count_of_peer d worker) o) desk.old.desk result }
+    ensures says { AtOpen (λ d o. CountsOutstanding d worker o) desk.old.desk result }
 {
     let Some(held) = desk.take(alloc) else {
         return Err(Fault::Shut);
@@ -216,7 +216,7 @@ pub extern "C" fn piecepick_blocks(
     )
 }
 
-/// How many blocks are asked of the worker's peer.
+/// How many blocks are asked of the worker's peer: no more than the depth.
 #[unsafe(no_mangle)]
 pub extern "C" fn piecepick_outstanding(
     alloc: Global,
@@ -225,8 +225,7 @@ pub extern "C" fn piecepick_outstanding(
     number: &mut u32,
 ) -> u32
     ensures same { desk.new.desk ≡ desk.old.desk }
-    ensures says { TellsNumber (λ d o. SaysOfWorker d worker (count_of_peer d worker) o)
-        desk.old.desk result number.new }
+    ensures says { TellsNumber (λ d o. CountsOutstanding d worker o) desk.old.desk result number.new }
 {
     tell_number(outstanding_count(alloc, desk, worker), number)
 }
