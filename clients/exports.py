@@ -59,7 +59,8 @@ class Signature:
 
     def __str__(self) -> str:
         names = self.names or [""] * len(self.types)
-        return f"{self.result} ({', '.join((kind + ' ' + name).strip() for kind, name in zip(self.types, names, strict=True))})"
+        spelled = [f"{kind} {name}".strip().replace("* ", "*") for kind, name in zip(self.types, names, strict=True)]
+        return f"{self.result} ({', '.join(spelled)})"
 
 
 class Unread(Exception):
