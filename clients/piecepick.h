@@ -24,7 +24,7 @@ extern "C" {
 #endif
 
 /* Compare it with piecepick_abi() before the first other call. */
-#define PIECEPICK_ABI 1u
+#define PIECEPICK_ABI 2u
 
 /* A desk: the picker of one download. */
 typedef struct piecepick_desk { void *at; } piecepick_desk;
@@ -129,10 +129,10 @@ uint32_t piecepick_wanted(piecepick_desk *desk, uint32_t piece, uint32_t *number
 uint32_t piecepick_availability(piecepick_desk *desk, uint32_t piece, uint32_t *number); /* joined peers that show it */
 uint32_t piecepick_piece_length(piecepick_desk *desk, uint32_t piece, uint32_t *number); /* in bytes */
 uint32_t piecepick_blocks(piecepick_desk *desk, uint32_t piece, uint32_t *number);
-/* How many blocks are asked of the worker's peer, and each by its place from 0, told as a REQUEST. SHUT, WORKER, PLACE. */
-uint32_t piecepick_outstanding(piecepick_desk *desk, uint32_t worker, uint64_t *count);
+/* How many blocks are asked of the worker's peer (`depth` at most), and each by its place from 0, told as a REQUEST. SHUT, WORKER, PLACE. */
+uint32_t piecepick_outstanding(piecepick_desk *desk, uint32_t worker, uint32_t *number);
 uint32_t piecepick_outstanding_at(piecepick_desk *desk, uint32_t worker, uint32_t place, piecepick_answer *answer);
-/* Copies a had piece into a room of just its length. SHUT, PIECE, NOT_HAD, ROOM, MEMORY: then nothing is written. */
+/* Writes a had piece into a room of just its length, and takes no memory. SHUT, PIECE, NOT_HAD, ROOM: then nothing is written. */
 uint32_t piecepick_read(piecepick_desk *desk, uint32_t piece, uint8_t *room, size_t room_len);
 /* Goes over the journal of all calls by the picker's rules. No journal fails it: SHUT, MEMORY. */
 uint32_t piecepick_audit(piecepick_desk *desk);

@@ -23,7 +23,7 @@ from dataclasses import dataclass
 from enum import IntEnum
 from typing import Any
 
-ABI = 1
+ABI = 2
 
 BytesLike = bytes | bytearray | memoryview
 
@@ -124,7 +124,11 @@ class Answer:
         return self.piece, self.begin, self.length
 
 
-class _Handle(ctypes.Structure):
+class _DeskHandle(ctypes.Structure):
+    _fields_ = [("at", c_void_p)]
+
+
+class _CheckHandle(ctypes.Structure):
     _fields_ = [("at", c_void_p)]
 
 
@@ -133,43 +137,47 @@ class _Answer(ctypes.Structure):
 
 
 _BYTES = [POINTER(c_uint8), c_size_t]
-_H = POINTER(_Handle)
+_D = POINTER(_DeskHandle)
+_C = POINTER(_CheckHandle)
 _A = POINTER(_Answer)
 _N = POINTER(c_uint32)
 
 _CALLS: dict[str, list[Any]] = {
     "abi": [],
-    "open": [_H, *_BYTES, c_uint32, c_uint32, c_uint32],
-    "open_parts": [_H, c_uint32, c_uint64, *_BYTES, c_uint32, c_uint32, c_uint32],
-    "close": [_H],
-    "join": [_H, c_uint32, _A],
-    "leave": [_H, c_uint32, _A],
-    "choke": [_H, c_uint32, _A],
-    "unchoke": [_H, c_uint32, _A],
-    "have": [_H, c_uint32, c_uint32, _A],
-    "bits": [_H, c_uint32, *_BYTES, _A],
-    "want": [_H, c_uint32, *_BYTES, _A],
-    "arrived": [_H, c_uint32, c_uint32, c_uint32, *_BYTES, _A],
-    "next": [_H, c_uint32, c_uint64, _A],
-    "settle_now": [_H, c_uint32, c_uint32, _A],
-    "job": [_H, c_uint32, _H],
-    "job_hash": [_H],
-    "job_settle": [_H, c_uint32, _H, _A],
-    "job_close": [_H],
-    "pieces": [_H, _N],
-    "workers": [_H, _N],
-    "is_complete": [_H, _N],
-    "has_wanted": [_H, _N],
-    "had": [_H, c_uint32, _N],
-    "wanted": [_H, c_uint32, _N],
-    "availability": [_H, c_uint32, _N],
-    "piece_length": [_H, c_uint32, _N],
-    "blocks": [_H, c_uint32, _N],
-    "outstanding": [_H, c_uint32, POINTER(c_uint64)],
-    "outstanding_at": [_H, c_uint32, c_uint32, _A],
-    "read": [_H, c_uint32, *_BYTES],
-    "audit": [_H],
+    "open": [_D, *_BYTES, c_uint32, c_uint32, c_uint32],
+    "open_parts": [_D, c_uint32, c_uint64, *_BYTES, c_uint32, c_uint32, c_uint32],
+    "close": [_D],
+    "join": [_D, c_uint32, _A],
+    "leave": [_D, c_uint32, _A],
+    "choke": [_D, c_uint32, _A],
+    "unchoke": [_D, c_uint32, _A],
+    "have": [_D, c_uint32, c_uint32, _A],
+    "bits": [_D, c_uint32, *_BYTES, _A],
+    "want": [_D, c_uint32, *_BYTES, _A],
+    "arrived": [_D, c_uint32, c_uint32, c_uint32, *_BYTES, _A],
+    "next": [_D, c_uint32, c_uint64, _A],
+    "settle_now": [_D, c_uint32, c_uint32, _A],
+    "job": [_D, c_uint32, _C],
+    "job_hash": [_C],
+    "job_settle": [_D, c_uint32, _C, _A],
+    "job_close": [_C],
+    "pieces": [_D, _N],
+    "workers": [_D, _N],
+    "is_complete": [_D, _N],
+    "has_wanted": [_D, _N],
+    "had": [_D, c_uint32, _N],
+    "wanted": [_D, c_uint32, _N],
+    "availability": [_D, c_uint32, _N],
+    "piece_length": [_D, c_uint32, _N],
+    "blocks": [_D, c_uint32, _N],
+    "outstanding": [_D, c_uint32, _N],
+    "outstanding_at": [_D, c_uint32, c_uint32, _A],
+    "read": [_D, c_uint32, *_BYTES],
+    "audit": [_D],
 }
+
+# The calls that return no status.
+_SILENT = ["close", "job_close"]
 
 
 def _load(path: str | None) -> ctypes.CDLL:
@@ -178,7 +186,7 @@ def _load(path: str | None) -> ctypes.CDLL:
     for name, parameters in _CALLS.items():
         call = getattr(library, "piecepick_" + name)
         call.argtypes = parameters
-        call.restype = None if name in ("close", "job_close") else c_uint32
+        call.restype = None if name in _SILENT else c_uint32
     if library.piecepick_abi() != ABI:
         raise OSError(f"libpiecepick has interface {library.piecepick_abi()}, and this module {ABI}")
     return library
@@ -224,7 +232,7 @@ class Desk:
 
     def _prepare(self, library: str | None) -> None:
         self._library = _load(library)
-        self._handle = _Handle()
+        self._handle = _DeskHandle()
         self._lock = threading.Lock()
         self.seconds = 0.0
         self.calls = 0
@@ -348,9 +356,7 @@ class Desk:
 
     def outstanding(self, worker: int) -> list[tuple[int, int, int]]:
         """The blocks that are asked of the worker's peer, the oldest request first. Between two calls of others they may change."""
-        count = c_uint64()
-        self._do("outstanding", worker, byref(count))
-        return [self._answer("outstanding_at", worker, place).block for place in range(count.value)]
+        return [self._answer("outstanding_at", worker, place).block for place in range(self._number("outstanding", worker))]
 
     def read(self, piece: int) -> bytes:
         """The bytes of a piece that is had."""
@@ -369,7 +375,7 @@ class Job:
 
     def __init__(self, desk: Desk, piece: int) -> None:
         self._desk = desk
-        self._handle = _Handle()
+        self._handle = _CheckHandle()
         desk._do("job", piece, byref(self._handle))
 
     def __enter__(self) -> Job:

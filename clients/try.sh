@@ -1,8 +1,10 @@
 #!/bin/sh
 # Compiles the example and the tests as C11 and as C++17 with all warnings as errors, and runs them under the address and undefined
-# behaviour checks (of the C side: the library is built without them). Run build.sh first.
+# behaviour checks (of the C side: the library is built without them). Run build.sh first. Before that it compares the header and the
+# Python module with what the library exports.
 set -eu
 here=$(cd "$(dirname "$0")" && pwd)
+"$here/exports.py"
 work=$(mktemp -d)
 trap 'rm -rf "$work"' EXIT
 cd "$work"

@@ -1,4 +1,5 @@
 pub mod Values
-pub mod DeskHandles
-pub mod JobHandles
+pub mod Handles
 pub mod Sound
+pub mod ContentLengths
+pub mod Crossings

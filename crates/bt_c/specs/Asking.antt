@@ -1,5 +1,5 @@
 -- What a desk tells, its pieces and workers tested first.
-use Rattle.std.specs.Prelude.{◌≡◌, ℕ, ◌<◌, List, true, false, length, slice_index_or}
+use Rattle.std.specs.Prelude.{◌≡◌, ℕ, ◌<◌, ◌≤◌, List, true, false, length, slice_index_or}
 use Rattle.std.specs.declared.result.Result.{Result}
 use Rattle.std.specs.declared.result.Result.TheVariants.{Ok, Err}
 use Rattle.bt_meta.specs.declared.block.Block.{Block}
@@ -52,11 +52,11 @@ SaysOfPiece d p n (Ok x) = IsPiece d p × (x ≡ n)
 SaysOfPiece d p n (Err Piece) = IsPiece d p → ⊥
 SaysOfPiece d p n (Err f) = ⊥
 
--- a number of worker w's peer
-abbrev pub SaysOfWorker : DeskState → ℕ → ℕ → Result ℕ Fault → Type 0
-SaysOfWorker d w n (Ok x) = IsWorker d w × (x ≡ n)
-SaysOfWorker d w n (Err Worker) = IsWorker d w → ⊥
-SaysOfWorker d w n (Err f) = ⊥
+-- how many blocks are asked of worker w's peer, which are no more than the depth
+abbrev pub CountsOutstanding : DeskState → ℕ → Result ℕ Fault → Type 0
+CountsOutstanding d w (Ok x) = IsWorker d w × (x ≡ count_of_peer d w) × (x ≤ d.setting.depth)
+CountsOutstanding d w (Err Worker) = IsWorker d w → ⊥
+CountsOutstanding d w (Err f) = ⊥
 
 -- the block at a place among those that are asked of worker w's peer, the oldest request first
 abbrev pub IsOutstanding : DeskState → ℕ → ℕ → Result Block Fault → Type 0
@@ -66,6 +66,13 @@ IsOutstanding d w place (Err Worker) = IsWorker d w → ⊥
 IsOutstanding d w place (Err Place) = IsWorker d w × ((place < count_of_peer d w) → ⊥)
 IsOutstanding d w place (Err f) = ⊥
 
+-- the length of piece p's content, where that is had
+abbrev pub SaysOfContent : DeskState → ℕ → Result ℕ Fault → Type 0
+SaysOfContent d p (Ok n) = IsPiece d p × (had d.history p ≡ true) × (n ≡ length (content d.setting d.history p))
+SaysOfContent d p (Err Piece) = IsPiece d p → ⊥
+SaysOfContent d p (Err NotHad) = IsPiece d p × (had d.history p ≡ false)
+SaysOfContent d p (Err f) = ⊥
+
 -- the room gets the content of piece p where that is had, and has its length; else nothing is written
 abbrev pub Reads : DeskState → ℕ → List ℕ → List ℕ → Done → Type 0
 Reads d p old new (Ok u) = IsPiece d p × (had d.history p ≡ true) × (new ≡ content d.setting d.history p)
@@ -73,7 +80,6 @@ Reads d p old new (Err Piece) = (IsPiece d p → ⊥) × (new ≡ old)
 Reads d p old new (Err NotHad) = IsPiece d p × (had d.history p ≡ false) × (new ≡ old)
 Reads d p old new (Err Room) = IsPiece d p × (had d.history p ≡ true)
     × ((length old ≡ length (content d.setting d.history p)) → ⊥) × (new ≡ old)
-Reads d p old new (Err NoMemory) = IsPiece d p × (had d.history p ≡ true) × (new ≡ old)
 Reads d p old new (Err f) = ⊥
 
 -- each entry of the journal is allowed after those before it
@@ -81,9 +87,3 @@ abbrev pub Audits : DeskState → Done → Type 0
 Audits d (Ok u) = IsLegal d.setting d.history
 Audits d (Err NoMemory) = Unit {0}
 Audits d (Err f) = ⊥
-
--- the room gets the bytes where it has their number
-abbrev pub Copies : List ℕ → List ℕ → List ℕ → Done → Type 0
-Copies bytes old new (Ok u) = new ≡ bytes
-Copies bytes old new (Err Room) = ((length old ≡ length bytes) → ⊥) × (new ≡ old)
-Copies bytes old new (Err f) = ⊥

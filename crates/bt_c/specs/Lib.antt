@@ -6,3 +6,4 @@ pub mod Opening
 pub mod Calling
 pub mod Asking
 pub mod Jobs
+pub mod Rooms

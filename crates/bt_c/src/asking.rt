@@ -1,10 +1,11 @@
 //! What a desk tells.
 ghost use Rattle.std.specs.Prelude.{◌≡◌};
-ghost use Rattle.bt_c.specs.Asking.{Audits, Copies, IsOutstanding, Reads, SaysOfPiece, SaysOfWorker, count_of_peer, number_of, number_of_piece};
+ghost use Rattle.bt_c.specs.Asking.{Audits, CountsOutstanding, IsOutstanding, Reads, SaysOfContent, SaysOfPiece, number_of, number_of_piece};
 
+use crate::buffer::Buffer;
 use crate::fault::Fault;
 use crate::held::Held;
-use bt_meta::{Block, ToWrite};
+use bt_meta::Block;
 use bt_picker::{AuditFault, ContentFault, audit};
 use std::alloc::Global;
 
@@ -67,13 +68,15 @@ impl Held {
     }
 
     /// How many blocks are asked of the worker's peer.
-    pub fn outstanding_count(&self, worker: u32) -> Result<u64, Fault>
-        ensures { SaysOfWorker self.now.desk worker (count_of_peer self.now.desk worker) result }
+    pub fn outstanding_count(&self, worker: u32) -> Result<u32, Fault>
+        ensures { CountsOutstanding self.now.desk worker result }
     {
         if worker >= self.desk.workers() {
             return Err(Fault::Worker);
         }
-        Ok(self.desk.outstanding(worker).len() as u64)
+        // They fit, since in a legal journal they are no more than the depth.
+        let _legal = self.desk.journal();
+        Ok(self.desk.outstanding(worker).len() as u32)
     }
 
     /// The block at this place among those that are asked of the worker's peer, the oldest request first.
@@ -89,18 +92,33 @@ impl Held {
         }
     }
 
-    /// Copies the bytes of a piece that is had into a room of their number.
-    pub fn read(&self, alloc: Global, piece: u32, room: &mut [u8]) -> Result<(), Fault>
-        ensures { Reads self.now.desk piece room.old room.new result }
+    /// The length of a piece's content, where that is had.
+    fn content_len(&self, piece: u32) -> Result<u32, Fault>
+        ensures { SaysOfContent self.now.desk piece result }
     {
         if piece >= self.desk.torrent().piece_count() {
             return Err(Fault::Piece);
         }
-        let mut writer = ToWrite::new(Vec::new(alloc));
-        match self.desk.write_piece(&mut writer, piece) {
-            Ok(()) => copy_to(&writer.into_inner(), room),
+        if !self.desk.had(piece) {
+            return Err(Fault::NotHad);
+        }
+        // It is the piece's, since in a legal journal each block that is held has its length.
+        let _legal = self.desk.journal();
+        Ok(self.desk.torrent().piece_len(piece))
+    }
+
+    /// Writes the bytes of a piece that is had into a room of their number.
+    pub fn read(&self, piece: u32, room: &mut [u8]) -> Result<(), Fault>
+        ensures { Reads self.now.desk piece room.old room.new result }
+    {
+        let length = self.content_len(piece)?;
+        if room.len() != length as usize {
+            return Err(Fault::Room);
+        }
+        match self.desk.write_piece(&mut Buffer::new(room), piece) {
+            // A room refuses where it is full, and then it has all of the content.
+            Ok(()) | Err(ContentFault::WriteFault) => Ok(()),
             Err(ContentFault::Incomplete) => Err(Fault::NotHad),
-            Err(ContentFault::WriteFault) => Err(Fault::NoMemory),
         }
     }
 
@@ -121,15 +139,4 @@ impl Held {
             Err(AuditFault::NoMemory) => Err(Fault::NoMemory),
         }
     }
-}
-
-/// Copies the bytes, where the room has their number.
-fn copy_to(bytes: &[u8], room: &mut [u8]) -> Result<(), Fault>
-    ensures { Copies bytes.now room.old room.new result }
-{
-    if bytes.len() != room.len() {
-        return Err(Fault::Room);
-    }
-    room.copy_from_slice(bytes);
-    Ok(())
 }

@@ -3,6 +3,7 @@
 
 mod answer;
 mod asking;
+mod buffer;
 mod calling;
 mod check;
 mod desk_handle;

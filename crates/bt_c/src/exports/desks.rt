@@ -14,12 +14,12 @@ use bt_picker::Rules;
 use std::alloc::Global;
 
 /// The number of this interface. It rises with each change that a caller compiled against an older one can't bear.
-const ABI: u32 = 1;
+const ABI: u32 = 2;
 
 /// The number of this interface, to be compared with the header's.
 #[unsafe(no_mangle)]
 pub extern "C" fn piecepick_abi() -> u32
-    ensures { result ≡ 1 }
+    ensures { result ≡ 2 }
 {
     ABI
 }

@@ -1,11 +1,11 @@
 //! What a desk tells.
 ghost use Rattle.std.specs.Prelude.{◌≡◌, None};
-ghost use Rattle.bt_c.specs.Asking.{IsOutstanding, Reads, Says, SaysOfPiece, SaysOfWorker, count_of_peer, number_of, number_of_piece};
+ghost use Rattle.bt_c.specs.Asking.{CountsOutstanding, IsOutstanding, Reads, Says, SaysOfPiece, number_of, number_of_piece};
 ghost use Rattle.bt_c.specs.declared.asking.Question.TheVariants as questions;
 ghost use Rattle.bt_c.specs.declared.asking.PieceQuestion.TheVariants as of_piece;
 ghost use Rattle.bt_c.specs.Outcomes.{AtOpen, TellsBlock, TellsDone, TellsNumber};
 
-use super::tell::{tell, tell_count, tell_done, tell_number};
+use super::tell::{tell, tell_done, tell_number};
 use crate::answer::Answer;
 use crate::asking::{PieceQuestion, Question};
 use crate::desk_handle::DeskHandle;
@@ -43,9 +43,9 @@ fn ask_of_piece(
     number
 }
 
-fn outstanding_count(alloc: Global, desk: &mut DeskHandle, worker: u32) -> Result<u64, Fault>
+fn outstanding_count(alloc: Global, desk: &mut DeskHandle, worker: u32) -> Result<u32, Fault>
     ensures same { desk.new.desk ≡ desk.old.desk }
-    ensures says { AtOpen (λ d o. SaysOfWorker d worker (count_of_peer d worker) o) desk.old.desk result }
+    ensures says { AtOpen (λ d o. CountsOutstanding d worker o) desk.old.desk result }
 {
     let Some(held) = desk.take(alloc) else {
         return Err(Fault::Shut);
@@ -80,7 +80,7 @@ fn read(alloc: Global, desk: &mut DeskHandle, piece: u32, room: &mut [u8]) -> Re
     let Some(held) = desk.take(alloc) else {
         return Err(Fault::Shut);
     };
-    let done = held.read(alloc, piece, room);
+    let done = held.read(piece, room);
     *desk = DeskHandle::of(held);
     done
 }
@@ -216,19 +216,18 @@ pub extern "C" fn piecepick_blocks(
     )
 }
 
-/// How many blocks are asked of the worker's peer.
+/// How many blocks are asked of the worker's peer: no more than the depth.
 #[unsafe(no_mangle)]
 pub extern "C" fn piecepick_outstanding(
     alloc: Global,
     desk: &mut DeskHandle,
     worker: u32,
-    count: &mut u64,
+    number: &mut u32,
 ) -> u32
     ensures same { desk.new.desk ≡ desk.old.desk }
-    ensures says { TellsNumber (λ d o. SaysOfWorker d worker (count_of_peer d worker) o)
-        desk.old.desk result count.new }
+    ensures says { TellsNumber (λ d o. CountsOutstanding d worker o) desk.old.desk result number.new }
 {
-    tell_count(outstanding_count(alloc, desk, worker), count)
+    tell_number(outstanding_count(alloc, desk, worker), number)
 }
 
 /// One of these blocks, by its place from 0, the oldest request first: an answer of kind `Request`.
@@ -249,7 +248,7 @@ pub extern "C" fn piecepick_outstanding_at(
     }
 }
 
-/// Copies the bytes of a piece that is had into a room of their number.
+/// Writes the bytes of a piece that is had into a room of their number. Takes no memory.
 #[unsafe(no_mangle)]
 pub extern "C" fn piecepick_read(
     alloc: Global,

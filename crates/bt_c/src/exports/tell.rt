@@ -49,20 +49,3 @@ pub fn tell_number(outcome: Result<u32, Fault>, number: &mut u32) -> u32
         }
     }
 }
-
-/// The status of a question, with a count.
-pub fn tell_count(outcome: Result<u64, Fault>, count: &mut u64) -> u32
-    ensures status { result ≡ status_of outcome }
-    ensures count { count.new ≡ number_told outcome }
-{
-    match outcome {
-        Ok(found) => {
-            *count = found;
-            0
-        }
-        Err(fault) => {
-            *count = 0;
-            fault.number()
-        }
-    }
-}

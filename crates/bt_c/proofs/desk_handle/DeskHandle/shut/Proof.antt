@@ -20,8 +20,9 @@ use Rattle.std.specs.Prelude.{None}
 use Rattle.core.proofs.alloc.Calls.{handle_tells}
 use Rattle.std.proofs.raw_atomic.Walks.{proved_at, leaves}
 use Rattle.bt_c.specs.contracts.desk_handle.DeskHandle as handle
+use Rattle.bt_c.specs.contracts.held.Held.{the_row as R}
 use Rattle.bt_c.proofs.Values.{both}
-use Rattle.bt_c.proofs.DeskHandles.{Z, al, handle_in, handle_good}
+use Rattle.bt_c.proofs.Handles.{Z, al, handle_in, handle_good}
 use Rattle.bt_c.specs.contracts.desk_handle.DeskHandle.shut.{ended, clauses}
 use Rattle.bt_c.specs.contracts.desk_handle.DeskHandle.shut.Key.{name as #self}
 use Rattle.bt_c.proofs.desk_handle.DeskHandle.shut.Statement.{statement}
@@ -41,6 +42,6 @@ shut_spec 𝓤 𝓛 𝓜 𝓡 wired =
     suffices ! (Run (h ∷ [])) (subst (λ (us : List Val). ent 𝓤 (Run (h ∷ [])) (Run us)) (sym (λ i. eh i ++ [])) (id⊢ 𝓤 (Run (h ∷ [])))) $
     enter ! 𝓣.C 𝓣.Λ fn (h ∷ []) Post $ alloc_all ! (λ l. pass_all ! refl (fits, tt) $
     sets ! (agg ! (and_then ! (lit ! tt) (and_then ! (get ! refl) (no_more !)))) refl (handle_good null_ptr h fits) $
-    feq_i ! Ptr null_ptr null_ptr refl $ handle_in ! d h $
+    feq_i ! Ptr null_ptr null_ptr refl $ handle_in R ! d.at d.alloc d.desk h $
     use0 𝓛 (raw (fact 𝓤 (d.desk ≡ None))) (fact_i 𝓤 (d.desk ≡ None) (emp 𝓤) refl) $ nothing ! $ nothing ! $ fjoin ! $
     returns ! (look_at ! 0 refl) $ free_all ! refl $ keep ! (4 ∷ 0 ∷ 2 ∷ 1 ∷ []) $ by ! (leaves 𝓛 En hs c z v d (tt, tt) (tt, tt)))))

@@ -1,30 +1,14 @@
--- A handle may go to another thread, since the check may, and any thread may give a block back to the C heap.
-use Rattle.std.specs.Prelude.{Option, Some, None}
-use base.Fraction.{full_share}
-use base.Shift.{Keyless}
-use mir.Raw.{raw as bare}
-use denote.Memory.{lone}
-use denote.RawPtr.{Ptr, block_ptr, null_ptr}
+-- A handle may go to another thread, since the check may.
 use denote.Struct.Struct.{exits_of}
 use denote.Struct.Owning.{shape, fields, to}
-use denote.Param.Send.{IsSend, AllSend, part_keyless, owning_send, struct_send, sendable}
-use Rattle.std.specs.declared.alloc.Global.{Global}
-use Rattle.std.proofs.Crossing.{frees}
+use denote.Param.Send.{IsSend, AllSend, owning_send, struct_send, sendable}
 use Rattle.std_alloc.proofs.SendSync.{quiet}
-use Rattle.bt_c.specs.Handles.{handle_owns}
-use Rattle.bt_c.specs.contracts.check.Check as check
+use Rattle.bt_c.specs.contracts.check.Check.{the_row as R}
 use Rattle.bt_c.specs.contracts.job_handle.JobHandle as handle
-use Rattle.bt_c.proofs.check.Check.TheSendSync.{the_send as check-send}
-
-owns-Keyless : (p : Ptr) (a : Global) (o : Option check.the_row.Denot) → Keyless (handle_owns check.the_row p a o)
-owns-Keyless p a None = tt
-owns-Keyless (block_ptr b k) a (Some x) = (
-  part_keyless check.the_row check-send full_share x b k,
-  frees.frees a (bare (lone check.the_row.mir))
-      (block_ptr b k),
-)
-owns-Keyless null_ptr a (Some x) = (tt, frees.frees a (bare (lone check.the_row.mir)) null_ptr)
+use Rattle.bt_c.proofs.check.Check.TheSendSync.{the_send}
+use Rattle.bt_c.proofs.Crossings.{owns-Keyless}
 
 pub send : IsSend handle.the_row
 send = let O = handle.the_type in let all : AllSend (fields O) = search sendable in
-    owning_send O all (λ d. owns-Keyless d.at d.alloc d.check) (λ k. quiet (to O) (exits_of k (fields O)) ((struct_send (shape O) all).leaving k))
+    owning_send O all (λ d. owns-Keyless R the_send d.at d.alloc d.check)
+    (λ k. quiet (to O) (exits_of k (fields O)) ((struct_send (shape O) all).leaving k))

@@ -28,8 +28,9 @@ use Rattle.std.proofs.alloc.Global.TheLaws as heap_laws
 use Rattle.std.specs.contracts.impls.GlobalAllocator.TheImpl.{ghosts}
 use Rattle.std.proofs.raw_atomic.Walks.{proved_at, leaves}
 use Rattle.bt_c.specs.contracts.job_handle.JobHandle as handle
+use Rattle.bt_c.specs.contracts.check.Check.{the_row as R}
 use Rattle.bt_c.proofs.Values.{both, Loose, loose_good, loose_in}
-use Rattle.bt_c.proofs.JobHandles.{R, Z, handle_out, handle_good, either_handle}
+use Rattle.bt_c.proofs.Handles.{Z, handle_out, handle_good, either_handle}
 use Rattle.bt_c.specs.contracts.job_handle.JobHandle.into_loose.{ended, clauses}
 use Rattle.bt_c.specs.contracts.job_handle.JobHandle.into_loose.Key.{name as #self}
 use Rattle.bt_c.proofs.job_handle.JobHandle.into_loose.Statement.{statement}
@@ -45,7 +46,7 @@ into_loose_spec 𝓤 𝓛 𝓜 𝓡 wired =
     let Run : List Val → SProp 𝓤 = λ ws. WpFn 𝓤 H 𝓣.C 𝓣.Λ fn ws Post in let Out : RattleType = type_at En.signature.result κs in
     qed 𝓛 ((‵ ftrue ⊛ ‵ (owns (types_at En.signature.params κs) z.0.3 z.0.4)) ∷ raw ((c κs z.0.3).requires z.1) ∷ []) ∵ split ! $ move ! (1 ∷ []) $
     fsplit ! $
-    handle_out ! s z.0.4.0 (λ h ws fits. either_handle ! s.at s.alloc s.check
+    handle_out R ! s.at s.alloc s.check z.0.4.0 (λ h ws fits. either_handle R ! s.at s.alloc s.check
     (λ none is. let w : Val = both (ptr_val null_ptr) h in let told : z.0.4.0 ≡ w ∷ [] = subst (λ (p : Ptr).
     z.0.4.0 ≡ both (ptr_val p) h ∷ []) is ws in
     suffices ! (Run (w ∷ [])) (subst (λ (us : List Val). ent 𝓤 (Run (w ∷ [])) (Run us)) (sym (λ i. told i ++ [])) (id⊢ 𝓤 (Run (w ∷ [])))) $

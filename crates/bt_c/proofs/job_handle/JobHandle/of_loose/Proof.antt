@@ -21,8 +21,9 @@ use Rattle.std.proofs.alloc.Global.TheLaws as heap_laws
 use Rattle.std.specs.contracts.impls.GlobalAllocator.TheImpl.{ghosts}
 use Rattle.std.proofs.raw_atomic.Walks.{proved_at, leaves}
 use Rattle.bt_c.specs.contracts.job_handle.JobHandle as handle
+use Rattle.bt_c.specs.contracts.check.Check.{the_row as R}
 use Rattle.bt_c.proofs.Values.{both, Loose, loose_good, loose_out}
-use Rattle.bt_c.proofs.JobHandles.{R, Z, handle_in, handle_good}
+use Rattle.bt_c.proofs.Handles.{Z, handle_in, handle_good}
 use Rattle.bt_c.specs.contracts.job_handle.JobHandle.of_loose.{ended, clauses}
 use Rattle.bt_c.specs.contracts.job_handle.JobHandle.of_loose.Key.{name as #self}
 use Rattle.bt_c.proofs.job_handle.JobHandle.of_loose.Statement.{statement}
@@ -50,7 +51,8 @@ of_loose_spec 𝓤 𝓛 𝓜 𝓡 wired =
     sets ! (of_opd ! (get_in ! (fld ! refl (stop !)) (sub ! 1 refl (whole !)))) refl fits $
     sets ! (of_opd ! (get ! refl)) refl (tt, tt) $
     sets ! (agg ! (and_then ! (get ! refl) (and_then ! (get ! refl) (no_more !)))) refl (handle_good (block_ptr b o) h fits) $
-    handle_in ! d h $ use0 𝓛 (raw (fact 𝓤 (d.check ≡ Some v.value))) (fact_i 𝓤 (d.check ≡ Some v.value) (emp 𝓤) refl) $ nothing ! $ nothing ! $
+    handle_in R ! d.at d.alloc d.check h $
+    use0 𝓛 (raw (fact 𝓤 (d.check ≡ Some v.value))) (fact_i 𝓤 (d.check ≡ Some v.value) (emp 𝓤) refl) $ nothing ! $ nothing ! $
     fjoin ! $
     returns ! (look_at ! 0 refl) $ free_all ! refl $ keep ! (4 ∷ 0 ∷ 2 ∷ 1 ∷ []) $
     by ! (leaves 𝓛 En hs c z (both (vptr b o) h) d (tt, tt) (tt, tt)))))

@@ -1,0 +1,15 @@
+use Rattle.std.proofs.Common.{◌≡◌, true, sym, ap, ◌∙◌, arith}
+use Rattle.bt_meta.specs.Layout.{Layout, piece_len}
+use Rattle.bt_history.specs.Pieces.{had}
+use Rattle.bt_c.proofs.ContentLengths.{content_len}
+use Rattle.bt_c.proofs.held.Held.content_len.Goals as goal
+
+pub returns : goal.returns
+returns c =
+    let d = c.args.self.now.desk in let p = c.args.piece in
+    let is : had d.history p ≡ true = grind arith in (
+      grind arith,
+      is,
+      c.piece_len.ensures.len ∙ (ap (λ (t : Layout). piece_len t p) c.torrent-2.ensures
+          ∙ sym (content_len d.setting d.history p c.journal-legal.ensures.legal is)),
+    )
