@@ -16,7 +16,7 @@ use crate::fault::{End, SessionFault};
 use crate::seat::{Seat, take_turn};
 use crate::session::Session;
 use crate::stream::{MOST_STREAMS, SerialRun, Stream};
-use bt_history::{Call, Rules};
+use bt_history::{Call, MOST_DEPTH, Rules};
 use bt_meta::{Bitfield, Sink, Source, Torrent};
 use bt_picker::Desk;
 use rand_pcg::Lcg64Xsh32;
@@ -31,7 +31,7 @@ fn new_seat(
     seed: u64,
     depth: u32,
 ) -> Result<Seat, AllocError>
-    requires { (1 ≤ depth) × (depth ≤ 64) }
+    requires { (1 ≤ depth) × (depth ≤ MOST_DEPTH) }
     ensures { IfOk result (IsNew (terms_of torrent.now.value depth) seed worker) }
 {
     let told = Bitfield::empty(alloc, torrent.piece_count())?;
@@ -50,7 +50,7 @@ fn new_seats(
     seed: u64,
     depth: u32,
 ) -> Result<Vec<Seat>, AllocError>
-    requires { (1 ≤ depth) × (depth ≤ 64) }
+    requires { (1 ≤ depth) × (depth ≤ MOST_DEPTH) }
     ensures count { IfOk result (λ seats. length seats.items ≡ count) }
     ensures new { IfOk result (λ seats. AreNew (terms_of torrent.now.value depth) seed seats.items) }
 {

@@ -9,6 +9,7 @@ use crate::reader::Heard;
 use crate::terms::Terms;
 use crate::turn::{greet, listen};
 use crate::writer::Said;
+use bt_history::MOST_DEPTH;
 use bt_meta::{Sink, Source, Torrent};
 use bt_wire::frame_limit;
 use rand_pcg::Lcg64Xsh32;
@@ -63,7 +64,7 @@ impl Session {
     /// A session that has done nothing yet, with a peer that is asked for so many blocks at a time: the depth of its desk's rules, 1 to
     /// 64. Takes no memory.
     pub fn new(alloc: Global, torrent: Arc<Torrent>, worker: u32, depth: u32) -> Session
-        requires { (1 ≤ depth) × (depth ≤ 64) }
+        requires { (1 ≤ depth) × (depth ≤ MOST_DEPTH) }
         ensures { result ≡ begun (terms_of torrent.value depth) worker }
     {
         let limit = frame_limit(torrent.piece_count());

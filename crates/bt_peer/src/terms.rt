@@ -3,6 +3,7 @@
 ghost use Rattle.std.specs.Prelude.{◌≡◌, ◌≤◌};
 ghost use Rattle.bt_peer.specs.Terms.{most_next, pieces_of, terms_of};
 
+use bt_history::MOST_DEPTH;
 use bt_meta::Torrent;
 use std::marker::Model;
 use std::sync::Arc;
@@ -16,18 +17,19 @@ pub struct Terms {
 
 impl Model for Terms {
     ghost use Rattle.std.specs.Prelude.{◌≤◌};
+    ghost use Rattle.bt_history.specs.declared.rules.TheConstants.{MOST_DEPTH};
     ghost use Rattle.bt_peer.specs.Terms.{TermsState, terms_of};
 
     ghost Value = { TermsState };
 
     ghost view = { λ t. terms_of t.torrent.value t.depth };
 
-    ghost invariant = { λ t. t.depth ≤ 64 };
+    ghost invariant = { λ t. t.depth ≤ MOST_DEPTH };
 }
 
 impl Terms {
     pub fn new(torrent: Arc<Torrent>, depth: u32) -> Terms
-        requires { depth ≤ 64 }
+        requires { depth ≤ MOST_DEPTH }
         ensures { result ≡ terms_of torrent.value depth }
     {
         Terms { torrent, depth }

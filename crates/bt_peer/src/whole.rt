@@ -13,6 +13,7 @@ use crate::fault::{End, SessionFault};
 use crate::gate::{Gate, OpenGate};
 use crate::place::Place;
 use crate::session::Session;
+use bt_history::MOST_DEPTH;
 use bt_meta::{Sink, Source, Torrent};
 use rand_pcg::Lcg64Xsh32;
 use std::alloc::Global;
@@ -29,7 +30,7 @@ pub fn session<R: Source, W: Sink, P: Place>(
     rng: &mut Lcg64Xsh32,
     depth: u32,
 ) -> Result<End, SessionFault>
-    requires { (1 ≤ depth) × (depth ≤ 64) }
+    requires { (1 ≤ depth) × (depth ≤ MOST_DEPTH) }
     ensures whole { IfOk result (λ end. IsWhole end (terms_of torrent.value depth) worker
         (surroundings P.past R.left W.written place.old reader.old writer.old)
         (surroundings P.past R.left W.written place.new reader.new writer.new)) }
@@ -65,7 +66,7 @@ pub fn gated<R: Source, W: Sink, P: Place, G: Gate>(
     depth: u32,
     gate: &G,
 ) -> Result<End, SessionFault>
-    requires { (1 ≤ depth) × (depth ≤ 64) }
+    requires { (1 ≤ depth) × (depth ≤ MOST_DEPTH) }
     ensures runs { RunsTo result (terms_of torrent.value depth) worker (answers_of rng.old)
         (P.past place.old) (devices_record R.left R.ended R.failed R.reads W.written W.failed reader.old writer.old)
         (P.past place.new) (devices_record R.left R.ended R.failed R.reads W.written W.failed reader.new writer.new) }

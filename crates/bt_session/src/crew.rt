@@ -13,6 +13,7 @@ use crate::play::Played;
 use crate::run_name::RunName;
 use crate::swarm_run::SwarmFault;
 use crate::threads::{PlayOf, join_each, start_sessions};
+use bt_history::MOST_DEPTH;
 use bt_meta::{Sink, Source};
 use bt_peer::{Gate, Stream};
 use std::alloc::Global;
@@ -55,7 +56,7 @@ fn start_all<
     playing: &mut Vec<PromisedHandle<Played<L, R, W>, PlayOf<L, R, W>>>,
 ) -> Result<(), SwarmFault>
     requires count { length sessions.items ≡ length streams.items }
-    requires depth { (1 ≤ depth) × (depth ≤ 64) }
+    requires depth { (1 ≤ depth) × (depth ≤ MOST_DEPTH) }
     requires room { (playing.old.items ≡ []) × (length streams.items ≤ vec_capacity playing.old) }
     requires checkers_room { (checking.old.items ≡ []) × (length checkers.items ≤ vec_capacity checking.old) }
     ensures few { length playing.new.items ≤ length streams.items }
@@ -97,7 +98,7 @@ pub fn crew<
     gate: &'e G,
 ) -> Result<Joined<L, R, W>, SwarmFault>
     requires count { length sessions.items ≡ length streams.items }
-    requires depth { (1 ≤ depth) × (depth ≤ 64) }
+    requires depth { (1 ≤ depth) × (depth ≤ MOST_DEPTH) }
     ensures count { IfOk result (λ r. length r.played.items ≡ length streams.items) }
     ensures checkers { IfOk result (λ r. length r.checked.items ≡ length checkers.items) }
     ensures plays { IfOk result (λ r. EachPlays (stream_record R.left R.ended R.failed R.reads W.written W.failed)
@@ -112,7 +113,7 @@ pub fn crew<
         rt,
         move |scope| -> Result<Joined<L, R, W>, SwarmFault>
             requires count { length sessions.items ≡ length streams.items }
-            requires depth { (1 ≤ depth) × (depth ≤ 64) }
+            requires depth { (1 ≤ depth) × (depth ≤ MOST_DEPTH) }
             ensures count { IfOk result (λ r. length r.played.items ≡ length streams.items) }
             ensures checkers { IfOk result (λ r. length r.checked.items ≡ length checkers.items) }
             ensures plays { IfOk result (λ r. EachPlays (stream_record R.left R.ended R.failed R.reads W.written W.failed)

@@ -8,7 +8,7 @@ use crate::commons::{Commons, Worker};
 use crate::run_name::RunName;
 use bt_board::{Board, BoardSeat};
 use bt_check::{TicketPass, Tickets};
-use bt_history::Rules;
+use bt_history::{MOST_WORKERS, Rules};
 use bt_meta::Torrent;
 use bt_shared::{Pass, SharedDesk};
 use std::alloc::{AllocError, Global};
@@ -32,7 +32,7 @@ pub fn fit_out(
     workers: u32,
     rules: Rules,
 ) -> Result<Fittings, AllocError>
-    requires workers { (1 ≤ workers) × (workers ≤ 1024) }
+    requires workers { (1 ≤ workers) × (workers ≤ MOST_WORKERS) }
     requires rules { AreRules torrent.now.value.layout rules }
     ensures { IfOk result (AreFittings (setting_of torrent.now.value.layout workers rules)) }
 {

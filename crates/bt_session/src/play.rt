@@ -8,6 +8,7 @@ ghost use Rattle.bt_session.specs.Swarms.{Plays};
 use crate::commons::{Commons, Worker};
 use crate::pass_place::PassPlace;
 use crate::run_name::RunName;
+use bt_history::MOST_DEPTH;
 use bt_meta::{Sink, Source, Torrent};
 use bt_peer::whole::gated;
 use bt_peer::{End, Gate, SessionFault, Stream};
@@ -37,7 +38,7 @@ pub fn play<L: RunName, R: Source, W: Sink, T: Wait, G: Gate>(
     depth: u32,
     gate: &G,
 ) -> Played<L, R, W>
-    requires { (1 ≤ depth) × (depth ≤ 64) }
+    requires { (1 ≤ depth) × (depth ≤ MOST_DEPTH) }
     ensures { Plays result.end (terms_of torrent.value depth) L.setting seed
         worker (stream_record R.left R.ended R.failed R.reads W.written W.failed stream)
         result.worker (stream_record R.left R.ended R.failed R.reads W.written W.failed result.stream) }

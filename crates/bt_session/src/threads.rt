@@ -10,6 +10,7 @@ use crate::commons::{Commons, Worker};
 use crate::play::{Played, play};
 use crate::run_name::RunName;
 use crate::swarm_run::SwarmFault;
+use bt_history::MOST_DEPTH;
 use bt_meta::{Sink, Source, Torrent};
 use bt_peer::{Gate, Stream};
 use std::alloc::Global;
@@ -56,7 +57,7 @@ fn start<
     depth: u32,
     gate: &'e G,
 ) -> Result<PromisedHandle<Played<L, R, W>, PlayOf<L, R, W>>, SwarmFault>
-    requires { (1 ≤ depth) × (depth ≤ 64) }
+    requires { (1 ≤ depth) × (depth ≤ MOST_DEPTH) }
     ensures terms { IfOk result (λ h. terms_of h.promise.torrent.value.value h.promise.depth ≡ terms_of torrent.value depth) }
     ensures seed { IfOk result (λ h. h.promise.seed ≡ seed) }
     ensures worker { IfOk result (λ h. h.promise.worker.value ≡ worker) }
@@ -71,7 +72,7 @@ fn start<
         stream: Snapshot::of(&stream),
     };
     let job = move || -> Played<L, R, W>
-        requires { (1 ≤ depth) × (depth ≤ 64) }
+        requires { (1 ≤ depth) × (depth ≤ MOST_DEPTH) }
         ensures { Plays result.end (terms_of torrent.value depth) L.setting seed
             worker (stream_record R.left R.ended R.failed R.reads W.written W.failed stream)
             result.worker (stream_record R.left R.ended R.failed R.reads W.written W.failed result.stream) }
@@ -108,7 +109,7 @@ pub fn start_sessions<
     handles: &mut Vec<PromisedHandle<Played<L, R, W>, PlayOf<L, R, W>>>,
 ) -> Result<(), SwarmFault>
     requires count { length workers.items ≡ length streams.items }
-    requires depth { (1 ≤ depth) × (depth ≤ 64) }
+    requires depth { (1 ≤ depth) × (depth ≤ MOST_DEPTH) }
     requires room { (handles.old.items ≡ []) × (length streams.items ≤ vec_capacity handles.old) }
     ensures few { length handles.new.items ≤ length streams.items }
     ensures terms { OnOk result (All

@@ -14,6 +14,7 @@ use crate::crew::{Joined, crew};
 use crate::play::Played;
 use crate::run_name::RunName;
 use crate::swarm_run::SwarmFault;
+use bt_history::MOST_DEPTH;
 use bt_meta::{Sink, Source};
 use bt_peer::{End, Gate, SessionFault, Stream};
 use std::alloc::Global;
@@ -115,7 +116,7 @@ pub fn work<
     gate: &'e G,
 ) -> Result<Worked<L, R, W>, SwarmFault>
     requires count { length workers.items ≡ length streams.items + checkers + 1 }
-    requires depth { (1 ≤ depth) × (depth ≤ 64) }
+    requires depth { (1 ≤ depth) × (depth ≤ MOST_DEPTH) }
     ensures count { IfOk result (λ r. (length r.ends.items ≡ length streams.items) × (length r.streams.items ≡ length streams.items)
         × (length r.workers.items ≡ length workers.items)) }
     ensures plays { IfOk result (λ r. EachPlays (stream_record R.left R.ended R.failed R.reads W.written W.failed)
