@@ -1,15 +1,17 @@
 -- The parts of a turn, each with the acts that it came to, where it was done or where a fault stopped it. Only contracts within the crate
 -- cite this module.
-use Rattle.std.specs.Prelude.{◌≡◌, ◌⊎◌, ℕ, ◌≤◌, List, ◌++◌, length, map, Option}
+use Rattle.std.specs.Prelude.{◌≡◌, ◌⊎◌, ℕ, ◌≤◌, Bool, true, false, List, ◌++◌, length, map, Option}
 use Rattle.bt_history.specs.declared.mark.CallMark.{CallMark}
 use Rattle.bt_peer.specs.declared.fault.SessionFault.{SessionFault}
 use Rattle.bt_wire.specs.declared.message.Message.{Message}
-use Rattle.bt_peer.specs.Acts.{Act, News}
-use Rattle.bt_peer.specs.Outlets.{Outlet, Performs, PerformsUpTo, StopsCall, EndsCalls, IsCut}
-use Rattle.bt_peer.specs.Places.{AllTold}
-use Rattle.bt_peer.specs.Steps.{StopsOpening, StopsTurn, TellsNews}
+use Rattle.bt_peer.specs.Acts.{Act, News, is_in}
+use Rattle.bt_peer.specs.Outlets.{Outlet, Performs, PerformsUpTo, StopsCall, EndsCalls, IsCut, WroteFront}
+use Rattle.bt_peer.specs.Places.{PlaceRecord, GainsUpTo, AllTold}
+use Rattle.bt_peer.specs.Reader.{SourceState}
+use Rattle.bt_peer.specs.Steps.{Start, BreaksBy, Departs, StopsOpening, StopsTurn, TellsNews}
 use Rattle.bt_peer.specs.Terms.{TermsState, pieces_of}
 use Rattle.bt_peer.specs.Turns.{Opens, Asks, IsTurn, NoneRefused}
+use Rattle.bt_peer.specs.Writer.{says}
 
 -- a call
 pub record CallStops (fault : SessionFault) (call : CallMark) (old new : Outlet) : Type 0 where
@@ -76,3 +78,22 @@ pub record TurnStops (fault : SessionFault) (terms : TermsState) (m : Message) (
   pub acts : List Act
   pub stops : StopsTurn fault terms m acts
   pub performs : PerformsUpTo fault old acts new
+
+-- the first turn broke off, and the peer isn't in
+pub record GreetingFails (fault : SessionFault) (greeting : List ℕ) (interested : Bool) (old : Start) (source : SourceState)
+    (past : PlaceRecord) (written : Option (List ℕ)) (past' : PlaceRecord) (written' : Option (List ℕ)) : Type 0 where
+  pub acts : List Act
+  pub gains : GainsUpTo past acts past'
+  pub outside : is_in false acts ≡ false
+  pub wrote : WroteFront fault written (greeting ++ says interested acts) written'
+  pub cause : BreaksBy fault old source acts
+
+-- a later turn broke off, and then came the departure
+pub record ListeningFails (fault : SessionFault) (interested : Bool) (old : Start) (source : SourceState)
+    (past : PlaceRecord) (written : Option (List ℕ)) (past' : PlaceRecord) (written' : Option (List ℕ)) : Type 0 where
+  pub acts : List Act
+  pub leave : List Act
+  pub gains : GainsUpTo past (acts ++ leave) past'
+  pub departs : Departs (is_in true acts) past'.short leave
+  pub wrote : WroteFront fault written (says interested acts) written'
+  pub cause : BreaksBy fault old source acts
