@@ -149,7 +149,7 @@ pub record TookTurn (lent lent' : List GName) (worker : ℕ) (old new : Standing
 pub turn_at_desk : (result : Result (Option End) SessionFault) (lent lent' : List GName) (worker worker' : ℕ) (short : Bool) (old new : Standing)
     (place : PlaceRecord) →
     place ≡ desk_record lent old.desk worker old.told false → old.session.outcome ≡ None →
-    Turned result (record { session = old.session; place = place; stream = old.stream; generator = old.generator }) (left_at lent' worker' short new) →
+    Turned result (record (left_at lent worker false old) { place = place }) (left_at lent' worker' short new) →
     TookTurn lent lent' worker old new
 turn_at_desk result lent lent' worker worker' short old new place is runs turned =
     let first = left_at lent worker false old in
