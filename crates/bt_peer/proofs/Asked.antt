@@ -19,48 +19,14 @@ module _ (pieces : ℕ) where
       AsksForNews pieces m b fs c → EachAsksForNews pieces (ms ++ m ∷ []) a (es ++ fs) c
   asked_last [] m a b c es fs asked gains news =
       (fs, ([], (b, (c, (asked.1, gains, news, (refl, Gains-none c), ap (λ (xs : List Act). xs ++ fs) asked.0 ∙ sym (append-nil fs))))))
-  asked_last (n ∷ ms) m a b c es fs asked gains news =
-      let rest = asked.1.1.1.1 in (
-        asked.0,
-        (
-          asked.1.0 ++ fs,
-          (
-            asked.1.1.0,
-            (
-              asked.1.1.1.0,
-              (
-                rest.0,
-                rest.1,
-                rest.2,
-                asked_last ms m asked.1.1.1.0 b c asked.1.0 fs rest.3 gains news,
-                ap (λ (xs : List Act). xs ++ fs) rest.4 ∙ append_assoc asked.0 asked.1.0 fs,
-              ),
-            ),
-          ),
-        ),
-      )
+  asked_last (n ∷ ms) m a b c es fs (first, (others, (from, (mid, (before, gained, told, asked, is))))) gains news =
+      let more = asked_last ms m mid b c others fs asked gains news in
+      let same = ap (λ (xs : List Act). xs ++ fs) is ∙ append_assoc first others fs in
+      (first, (others ++ fs, (from, (mid, (before, gained, told, more, same)))))
 
   -- more pieces came to be finished meanwhile
   pub asked_later : (ms : List Message) (a b c : PlaceRecord) (es : List Act) → EachAsksForNews pieces ms a es b → Gains b [] c →
       EachAsksForNews pieces ms a es c
   asked_later [] a b c es asked later = (asked.0, Gains-join a b c [] [] asked.1 later)
-  asked_later (n ∷ ms) a b c es asked later =
-      let rest = asked.1.1.1.1 in (
-        asked.0,
-        (
-          asked.1.0,
-          (
-            asked.1.1.0,
-            (
-              asked.1.1.1.0,
-              (
-                rest.0,
-                rest.1,
-                rest.2,
-                asked_later ms asked.1.1.1.0 b c asked.1.0 rest.3 later,
-                rest.4,
-              ),
-            ),
-          ),
-        ),
-      )
+  asked_later (n ∷ ms) a b c es (first, (others, (from, (mid, (before, gained, told, asked, is))))) later =
+      (first, (others, (from, (mid, (before, gained, told, asked_later ms mid b c others asked later, is)))))

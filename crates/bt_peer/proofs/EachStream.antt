@@ -65,8 +65,8 @@ MayPlay-next desk new seats seats' streams streams' may same same' setting fit =
 }
 
 -- after one stream's turn
-pub played_turn : {X : Type 0} (record_of : X → StreamRecord) (desk new : DeskState) (seats : List Seat) (streams : List X) (i : ℕ) (seat seat' : Seat)
-    (stream stream' : X) →
+pub played_turn : {X : Type 0} (record_of : X → StreamRecord) (desk new : DeskState) (seats : List Seat) (streams : List X) (i : ℕ)
+    (seat seat' : Seat) (stream stream' : X) →
     MayPlay desk seats streams → i < length streams →
     Keeps i (standing desk (get_or seats i seat) (record_of (get_or streams i stream))) (standing new seat' (record_of stream')) →
     LeavesOthers i desk new → length seat'.told ≡ length (get_or seats i seat).told →
@@ -76,7 +76,8 @@ played_turn record_of desk new seats streams i seat seat' stream stream' may wit
     let fit = All-set (NotesPieces desk) seats i seat' (told ∙ may.fit i seat seated) may.fit in
     record {
       count = length-set streams i stream';
-      keeps = λ j. λ s. λ x. λ few. each_at record_of desk new seats streams i seat seat' stream stream' seated within keeps others (j == i) j s x refl;
+      keeps = λ j. λ s. λ x. λ few.
+          each_at record_of desk new seats streams i seat seat' stream stream' seated within keeps others (j == i) j s x refl;
       rest = record { setting = others.setting; calls = λ other. λ above. others.calls other (omega arith) };
       may = MayPlay-next desk new seats (set seats i seat') streams (set streams i stream') may (length-set seats i seat')
           (length-set streams i stream') others.setting fit;

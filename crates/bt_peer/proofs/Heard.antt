@@ -53,7 +53,7 @@ BytesRead-more a b c held now new xs r more is =
 text_len : (greeted : Bool) (limit : ℕ) (m : Message) (text : List ℕ) → Spells greeted limit m text → 4 ≤ length text
 text_len false limit (messages.Hello h) text is = rw is.1 (simp length-append (omega arith))
 text_len false limit _ text is = absurd is
-text_len true limit m text is = rw is.1.2 (omega arith)
+text_len true limit m text (bytes, (body, short, is)) = rw is (omega arith)
 
 shorter : (old new : InboundState) (m : Message) → Gives old m new → length new.bytes + 4 ≤ length old.bytes
 shorter old new m gives =

@@ -65,9 +65,9 @@ one_leaves false desk worker piece new same = subst (LeavesOthers worker desk) (
 -- the last checks leave the others alone
 pub finished_leaves : (first : DeskState) (worker count : ℕ) (new : DeskState) → FinishedBelow first worker count new → LeavesOthers worker first new
 finished_leaves first worker zero new same = subst (LeavesOthers worker first) (sym same) (LeavesOthers-refl worker first)
-finished_leaves first worker (suc count) new finished =
-    LeavesOthers-join worker first finished.0 new (finished_leaves first worker count finished.0 finished.1)
-    (one_leaves (waits first.setting first.history count) finished.0 worker count new finished.2)
+finished_leaves first worker (suc count) new (mid, below, one) =
+    LeavesOthers-join worker first mid new (finished_leaves first worker count mid below)
+    (one_leaves (waits first.setting first.history count) mid worker count new one)
 
 by_result : {E : Type 0} (result : Result Unit E) (worker : ℕ) (before desk : DeskState) →
     OnOk result (FinishedBelow before worker (piece_count before.setting.torrent) desk) →

@@ -27,59 +27,33 @@ use Rattle.bt_peer.proofs.Stretches.{says-append, interest_after-append, Gains-j
 Begins-more : (greeted : Bool) (limit : ℕ) (bytes : List ℕ) (ms : List Message) (rest more : List ℕ) → Begins greeted limit bytes ms rest →
     Begins greeted limit (bytes ++ more) ms (rest ++ more)
 Begins-more greeted limit bytes [] rest more is = ap (λ (xs : List ℕ). xs ++ more) is
-Begins-more greeted limit bytes (m ∷ ms) rest more is = (
-  is.0,
-  (
-    is.1.0 ++ more,
-    (
-      is.1.1.0,
-      ap (λ (xs : List ℕ). xs ++ more) is.1.1.1 ∙ append_assoc is.0 is.1.0 more,
-      Begins-more true limit is.1.0 ms rest more is.1.1.2,
-    ),
-  ),
-)
+Begins-more greeted limit bytes (m ∷ ms) rest more (text, (after, (spells, is, begins))) =
+    let same = ap (λ (xs : List ℕ). xs ++ more) is ∙ append_assoc text after more in
+    (text, (after ++ more, (spells, same, Begins-more true limit after ms rest more begins)))
 
 Begins-last : (limit : ℕ) (bytes : List ℕ) (ms : List Message) (rest : List ℕ) (m : Message) (text after : List ℕ) → Begins true limit bytes ms rest →
     Spells true limit m text → rest ≡ text ++ after → Begins true limit bytes (ms ++ m ∷ []) after
 Begins-last limit bytes [] rest m text after begins spells is = (text, (after, (spells, begins ∙ is, refl)))
-Begins-last limit bytes (n ∷ ms) rest m text after begins spells is =
-    (begins.0, (begins.1.0, (begins.1.1.0, begins.1.1.1, Begins-last limit begins.1.0 ms rest m text after begins.1.1.2 spells is)))
+Begins-last limit bytes (n ∷ ms) rest m text after (first, (others, (own, same, begins))) spells is =
+    (first, (others, (own, same, Begins-last limit others ms rest m text after begins spells is)))
 
 TurnsOf-last : (terms : TermsState) (ms : List Message) (acts : List Act) (m : Message) (es : List Act) → TurnsOf terms ms acts →
     IsTurn terms m es → NoneRefused es →
     TurnsOf terms (ms ++ m ∷ []) (acts ++ es)
 TurnsOf-last terms [] acts m es turned turn none =
     (es, ([], (turn, none, refl, ap (λ (xs : List Act). xs ++ es) turned ∙ sym (append-nil es))))
-TurnsOf-last terms (n ∷ ms) acts m es turned turn none = (
-  turned.0,
-  (
-    turned.1.0 ++ es,
-    (
-      turned.1.1.0,
-      turned.1.1.1,
-      TurnsOf-last terms ms turned.1.0 m es turned.1.1.2 turn none,
-      ap (λ (xs : List Act). xs ++ es) turned.1.1.3 ∙ append_assoc turned.0 turned.1.0 es,
-    ),
-  ),
-)
+TurnsOf-last terms (n ∷ ms) acts m es (first, (others, (own, accepted, turned, is))) turn none =
+    let same = ap (λ (xs : List Act). xs ++ es) is ∙ append_assoc first others es in
+    (first, (others ++ es, (own, accepted, TurnsOf-last terms ms others m es turned turn none, same)))
 
 abbrev last : List Act
 last = Called marks.Leave replies.Quiet ∷ []
 
 TurnsOf-left : (terms : TermsState) (ms : List Message) (acts : List Act) → TurnsOf terms ms acts → AreTurns terms ms (acts ++ last)
 TurnsOf-left terms [] acts turned = ap (λ (xs : List Act). xs ++ last) turned
-TurnsOf-left terms (m ∷ ms) acts turned = (
-  turned.0,
-  (
-    turned.1.0 ++ last,
-    (
-      turned.1.1.0,
-      turned.1.1.1,
-      TurnsOf-left terms ms turned.1.0 turned.1.1.2,
-      ap (λ (xs : List Act). xs ++ last) turned.1.1.3 ∙ append_assoc turned.0 turned.1.0 last,
-    ),
-  ),
-)
+TurnsOf-left terms (m ∷ ms) acts (first, (others, (own, accepted, turned, is))) =
+    let same = ap (λ (xs : List Act). xs ++ last) is ∙ append_assoc first others last in
+    (first, (others ++ last, (own, accepted, TurnsOf-left terms ms others turned, same)))
 
 -- a handshake that is taken is of the torrent
 names_torrent : (infohash : List ℕ) (limit : ℕ) (m : Message) (text : List ℕ) → Spells false limit m text → IsOfTorrent infohash m →

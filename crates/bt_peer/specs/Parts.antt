@@ -1,15 +1,24 @@
 -- The parts of a turn, each with the acts that it came to, where it was done or where a fault stopped it. Only contracts within the crate
 -- cite this module.
-use Rattle.std.specs.Prelude.{◌≡◌, ◌⊎◌, ℕ, ◌≤◌, List, ◌++◌, length, map, Option}
+use Rattle.std.specs.Prelude.{◌≡◌, ◌⊎◌, ℕ, ◌≤◌, Bool, true, false, List, ◌++◌, length, map, Option, Result, IfErr, OnOk}
 use Rattle.bt_history.specs.declared.mark.CallMark.{CallMark}
+use Rattle.bt_meta.specs.declared.devices.Sink as sinks
+use Rattle.bt_meta.specs.declared.devices.Source as sources
 use Rattle.bt_peer.specs.declared.fault.SessionFault.{SessionFault}
+use Rattle.bt_peer.specs.declared.fault.SessionFault.TheVariants as faults
+use Rattle.bt_peer.specs.declared.place.Place as places
+use Rattle.bt_peer.specs.declared.reader.Heard.{Heard}
+use Rattle.bt_peer.specs.declared.writer.Said.{Said}
 use Rattle.bt_wire.specs.declared.message.Message.{Message}
-use Rattle.bt_peer.specs.Acts.{Act, News}
-use Rattle.bt_peer.specs.Outlets.{Outlet, Performs, PerformsUpTo, StopsCall, EndsCalls, IsCut}
-use Rattle.bt_peer.specs.Places.{AllTold}
-use Rattle.bt_peer.specs.Steps.{StopsOpening, StopsTurn, TellsNews}
+use Rattle.bt_peer.specs.Acts.{Act, News, is_in}
+use Rattle.bt_peer.specs.Hearing.{Hearing, StaysCounted}
+use Rattle.bt_peer.specs.Outlets.{Outlet, Saying, Performs, PerformsUpTo, StopsCall, EndsCalls, IsCut, WroteFront}
+use Rattle.bt_peer.specs.Places.{PlaceRecord, GainsUpTo, AllTold}
+use Rattle.bt_peer.specs.Reader.{SourceState}
+use Rattle.bt_peer.specs.Steps.{Reading, Start, Surroundings, reading, surroundings, BreaksBy, Departs, StopsOpening, StopsTurn, TellsNews}
 use Rattle.bt_peer.specs.Terms.{TermsState, pieces_of}
 use Rattle.bt_peer.specs.Turns.{Opens, Asks, IsTurn, NoneRefused}
+use Rattle.bt_peer.specs.Writer.{says}
 
 -- a call
 pub record CallStops (fault : SessionFault) (call : CallMark) (old new : Outlet) : Type 0 where
@@ -76,3 +85,38 @@ pub record TurnStops (fault : SessionFault) (terms : TermsState) (m : Message) (
   pub acts : List Act
   pub stops : StopsTurn fault terms m acts
   pub performs : PerformsUpTo fault old acts new
+
+-- what is round a turn, and what a session keeps of its peer meanwhile
+abbrev pub round_turn : {P R W : Type 0} → places.Ghosts P → sources.Ghosts R → sinks.Ghosts W → P → R → Said W → Surroundings
+round_turn at of to place reader said = surroundings at.past of.left to.written place reader said.writer.now
+
+abbrev pub kept : {W : Type 0} → Heard → Said W → Reading
+kept heard said = reading heard.inbound said.interested
+
+-- What each turn keeps: our count of the reads stays the source's, the sink is the one that was lent, and both devices stay sound, if they
+-- were; but after the fault of a write the sink has failed.
+pub record TurnKeeps {X : Type 0} (result : Result X SessionFault) (heard : Hearing) (said : Saying)
+    (heard' : Hearing) (said' : Saying) : Type 0 where
+  pub counted : StaysCounted heard heard'
+  pub same_sink : said'.sink ≡ said.sink
+  pub sound : OnOk result ((heard'.source.failed ≡ heard.source.failed) × (said'.failed ≡ said.failed))
+  pub failed : IfErr result (λ fault. fault ≡ faults.WriteFault → said'.failed ≡ true)
+
+-- the first turn broke off, and the peer isn't in
+pub record GreetingFails (fault : SessionFault) (greeting : List ℕ) (interested : Bool) (old : Start) (source : SourceState)
+    (past : PlaceRecord) (written : Option (List ℕ)) (past' : PlaceRecord) (written' : Option (List ℕ)) : Type 0 where
+  pub acts : List Act
+  pub gains : GainsUpTo past acts past'
+  pub outside : is_in false acts ≡ false
+  pub wrote : WroteFront fault written (greeting ++ says interested acts) written'
+  pub cause : BreaksBy fault old source acts
+
+-- a later turn broke off, and then came the departure
+pub record ListeningFails (fault : SessionFault) (interested : Bool) (old : Start) (source : SourceState)
+    (past : PlaceRecord) (written : Option (List ℕ)) (past' : PlaceRecord) (written' : Option (List ℕ)) : Type 0 where
+  pub acts : List Act
+  pub leave : List Act
+  pub gains : GainsUpTo past (acts ++ leave) past'
+  pub departs : Departs (is_in true acts) past'.short leave
+  pub wrote : WroteFront fault written (says interested acts) written'
+  pub cause : BreaksBy fault old source acts

@@ -106,8 +106,8 @@ abbrev pub BeginsWith : List ℕ → List Message → Type 0
 BeginsWith infohash [] = ⊥
 BeginsWith infohash (m ∷ ms) = NamesTorrent infohash m
 
--- A session that came to its end: the source gave a whole stream, of this torrent, and nothing is left of it; each of its messages made a turn at the place, in which news was
--- asked for, and then Leave came; and the greeting was written, then what the acts say.
+-- A session that came to its end: the source gave a whole stream, of this torrent, and nothing is left of it; each of its messages made a
+-- turn at the place, in which news was asked for, and then Leave came; and the greeting was written, then what the acts say.
 pub record IsWhole (end : End) (terms : TermsState) (worker : ℕ) (out out' : Surroundings) : Type 0 where
   pub read : List ℕ
   pub messages : List Message

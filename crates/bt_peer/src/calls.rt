@@ -47,8 +47,10 @@ pub fn tell_news<P: Place, W: Sink>(
     said: &mut Said<'_, W>,
     most: u32,
 ) -> Result<(), SessionFault>
-    ensures ok { OnOk result (NewsDone most (outlet P.Place W.Sink place.old said.old) (outlet P.Place W.Sink place.new said.new)) }
-    ensures err { IfErr result (λ fault. NewsStops fault most (outlet P.Place W.Sink place.old said.old) (outlet P.Place W.Sink place.new said.new)) }
+    ensures ok { OnOk result (NewsDone most
+        (outlet P.Place W.Sink place.old said.old) (outlet P.Place W.Sink place.new said.new)) }
+    ensures err { IfErr result (λ fault. NewsStops fault most
+        (outlet P.Place W.Sink place.old said.old) (outlet P.Place W.Sink place.new said.new)) }
 {
     'news: for _ in 0..most {
         let Some(piece) = place.news() else {
@@ -74,8 +76,10 @@ pub fn ask<P: Place, W: Sink, N: Rng>(
     rng: &mut N,
     most: u32,
 ) -> Result<(), SessionFault>
-    ensures ok { OnOk result (AskingDone most (outlet P.Place W.Sink place.old said.old) (outlet P.Place W.Sink place.new said.new)) }
-    ensures err { IfErr result (λ fault. AskingStops fault most (outlet P.Place W.Sink place.old said.old) (outlet P.Place W.Sink place.new said.new)) }
+    ensures ok { OnOk result (AskingDone most
+        (outlet P.Place W.Sink place.old said.old) (outlet P.Place W.Sink place.new said.new)) }
+    ensures err { IfErr result (λ fault. AskingStops fault most
+        (outlet P.Place W.Sink place.old said.old) (outlet P.Place W.Sink place.new said.new)) }
     ensures conduct { ConductsBy result P.settles
         (N.stream rng.old) (P.past place.old).calls (P.past place.new).calls (N.stream rng.new) }
 {

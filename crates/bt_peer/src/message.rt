@@ -80,7 +80,8 @@ fn call_and_check<P: Place, W: Sink>(
     call: Call,
 ) -> Result<(), SessionFault>
     requires { is_check (mark_of_call call) ≡ false }
-    ensures ok { OnOk result (OpeningDone (Some (mark_of_call call)) (outlet P.Place W.Sink place.old said.old) (outlet P.Place W.Sink place.new said.new)) }
+    ensures ok { OnOk result (OpeningDone (Some (mark_of_call call))
+        (outlet P.Place W.Sink place.old said.old) (outlet P.Place W.Sink place.new said.new)) }
     ensures err { IfErr result (λ fault. OpeningStops fault (Some (mark_of_call call))
         (outlet P.Place W.Sink place.old said.old) (outlet P.Place W.Sink place.new said.new)) }
     // At a call that isn't Next no word is drawn.
@@ -105,7 +106,8 @@ fn open<P: Place, W: Sink>(
 ) -> Result<(), SessionFault>
     requires { IsLater message }
     ensures acceptable { OnOk result (IsAcceptable (pieces_of terms.now) message) }
-    ensures ok { OnOk result (OpeningDone (call_of message) (outlet P.Place W.Sink place.old said.old) (outlet P.Place W.Sink place.new said.new)) }
+    ensures ok { OnOk result (OpeningDone (call_of message)
+        (outlet P.Place W.Sink place.old said.old) (outlet P.Place W.Sink place.new said.new)) }
     ensures err { IfErr result (λ fault. MessageStops fault (pieces_of terms.now) message
         (outlet P.Place W.Sink place.old said.old) (outlet P.Place W.Sink place.new said.new)) }
     ensures conduct { (generator : Stream) →
@@ -127,8 +129,10 @@ pub fn attend<P: Place, W: Sink, N: Rng>(
     rng: &mut N,
 ) -> Result<(), SessionFault>
     requires { IsLater message }
-    ensures ok { OnOk result (TurnDone terms.now message (outlet P.Place W.Sink place.old said.old) (outlet P.Place W.Sink place.new said.new)) }
-    ensures err { IfErr result (λ fault. TurnStops fault terms.now message (outlet P.Place W.Sink place.old said.old) (outlet P.Place W.Sink place.new said.new)) }
+    ensures ok { OnOk result (TurnDone terms.now message
+        (outlet P.Place W.Sink place.old said.old) (outlet P.Place W.Sink place.new said.new)) }
+    ensures err { IfErr result (λ fault. TurnStops fault terms.now message
+        (outlet P.Place W.Sink place.old said.old) (outlet P.Place W.Sink place.new said.new)) }
     ensures conduct { ConductsBy result P.settles
         (N.stream rng.old) (P.past place.old).calls (P.past place.new).calls (N.stream rng.new) }
 {

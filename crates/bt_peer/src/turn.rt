@@ -1,17 +1,13 @@
 //! The turns of a session: the handshakes, and one message after another.
 
-ghost use Rattle.std.specs.Prelude.{◌≡◌, ◌++◌, [], true, false, List, IfOk, IfErr, OnOk};
+ghost use Rattle.std.specs.Prelude.{◌≡◌, [], true, false, IfOk, IfErr, OnOk};
 ghost use Rattle.std.specs.Bool.{OnTrue, OnFalse};
-ghost use Rattle.bt_peer.specs.declared.fault.SessionFault.TheVariants.{WriteFault};
 ghost use Rattle.rand_core.specs.Stream.{Stream};
 ghost use Rattle.bt_peer.specs.Conduct.{ConductsBy};
-ghost use Rattle.bt_peer.specs.Acts.{Act, is_in};
-ghost use Rattle.bt_peer.specs.Places.{Gains, GainsUpTo};
-ghost use Rattle.bt_peer.specs.Writer.{says};
-ghost use Rattle.bt_peer.specs.Outlets.{WroteFront};
-ghost use Rattle.bt_peer.specs.Hearing.{StaysCounted, UsesUp, hearing};
-ghost use Rattle.bt_peer.specs.Reader.{source_state};
-ghost use Rattle.bt_peer.specs.Steps.{reading, surroundings, start, TakesTurn, TakesLeave, BreaksBy, Departs, Leaves};
+ghost use Rattle.bt_peer.specs.Hearing.{UsesUp, hearing};
+ghost use Rattle.bt_peer.specs.Outlets.{saying};
+ghost use Rattle.bt_peer.specs.Parts.{GreetingFails, ListeningFails, TurnKeeps, kept, round_turn};
+ghost use Rattle.bt_peer.specs.Steps.{start, TakesTurn, TakesLeave, Leaves};
 
 use crate::fault::SessionFault;
 use crate::message::attend;
@@ -37,21 +33,18 @@ pub fn greet<R: Source, W: Sink, P: Place>(
 ) -> Result<(), SessionFault>
     requires greeted { heard.old.inbound.greeted ≡ false }
     ensures ok { OnOk result (TakesTurn terms.now greeting.now
-        (reading heard.old.inbound said.old.interested) (surroundings P.past R.left W.written place.old reader.old said.old.writer.now)
-        (reading heard.new.inbound said.new.interested) (surroundings P.past R.left W.written place.new reader.new said.new.writer.now)) }
+        (kept heard.old said.old) (round_turn P.Place R.Source W.Sink place.old reader.old said.old)
+        (kept heard.new said.new) (round_turn P.Place R.Source W.Sink place.new reader.new said.new)) }
     // No word is drawn.
     ensures conduct { (generator : Stream) →
         ConductsBy result P.settles generator (P.past place.old).calls (P.past place.new).calls generator }
-    ensures ok_sound { OnOk result ((R.failed reader.new ≡ R.failed reader.old) × (W.failed said.new.writer.now ≡ W.failed said.old.writer.now)) }
     ensures few { OnOk result (UsesUp (hearing R.Source heard.old reader.old) (hearing R.Source heard.new reader.new)) }
-    ensures err { IfErr result (λ fault. (acts : List Act) × (GainsUpTo (P.past place.old) acts (P.past place.new)
-        × (is_in false acts ≡ false)
-        × WroteFront fault (W.written said.old.writer.now) (greeting.now ++ says said.old.interested acts) (W.written said.new.writer.now)
-        × BreaksBy fault (start terms.now false heard.old.inbound (R.left reader.old))
-        (source_state R.left R.ended R.failed reader.new heard.new.reads) acts)) }
-    ensures err_failed { IfErr result (λ fault. fault ≡ WriteFault → W.failed said.new.writer.now ≡ true) }
-    ensures same_sink { said.new.writer.ghost_name ≡ said.old.writer.ghost_name }
-    ensures counted { StaysCounted (hearing R.Source heard.old reader.old) (hearing R.Source heard.new reader.new) }
+    ensures err { IfErr result (λ fault. GreetingFails fault greeting.now said.old.interested
+        (start terms.now false heard.old.inbound (R.left reader.old)) (hearing R.Source heard.new reader.new).source
+        (P.past place.old) (W.written said.old.writer.now) (P.past place.new) (W.written said.new.writer.now)) }
+    ensures keeps { TurnKeeps result
+        (hearing R.Source heard.old reader.old) (saying W.Sink said.old)
+        (hearing R.Source heard.new reader.new) (saying W.Sink said.new) }
 {
     said.write(greeting)?;
     let Some(message) = heard.next(alloc, reader)? else {
@@ -94,25 +87,21 @@ pub fn listen<R: Source, W: Sink, P: Place, N: Rng>(
 ) -> Result<bool, SessionFault>
     requires greeted { heard.old.inbound.greeted ≡ true }
     ensures goes_on { IfOk result (λ goes_on. OnTrue goes_on (TakesTurn terms.now []
-        (reading heard.old.inbound said.old.interested) (surroundings P.past R.left W.written place.old reader.old said.old.writer.now)
-        (reading heard.new.inbound said.new.interested) (surroundings P.past R.left W.written place.new reader.new said.new.writer.now))) }
+        (kept heard.old said.old) (round_turn P.Place R.Source W.Sink place.old reader.old said.old)
+        (kept heard.new said.new) (round_turn P.Place R.Source W.Sink place.new reader.new said.new))) }
     ensures few { IfOk result (λ goes_on. OnTrue goes_on
         (UsesUp (hearing R.Source heard.old reader.old) (hearing R.Source heard.new reader.new))) }
     ensures leaves { IfOk result (λ goes_on. OnFalse goes_on (TakesLeave
-        (reading heard.old.inbound said.old.interested) (surroundings P.past R.left W.written place.old reader.old said.old.writer.now) (R.ended reader.new)
-        (reading heard.new.inbound said.new.interested) (surroundings P.past R.left W.written place.new reader.new said.new.writer.now))) }
+        (kept heard.old said.old) (round_turn P.Place R.Source W.Sink place.old reader.old said.old) (R.ended reader.new)
+        (kept heard.new said.new) (round_turn P.Place R.Source W.Sink place.new reader.new said.new))) }
     ensures conduct { ConductsBy result P.settles
         (N.stream rng.old) (P.past place.old).calls (P.past place.new).calls (N.stream rng.new) }
-    ensures ok_sound { OnOk result ((R.failed reader.new ≡ R.failed reader.old) × (W.failed said.new.writer.now ≡ W.failed said.old.writer.now)) }
-    ensures err { IfErr result (λ fault. (acts : List Act) × ((leave : List Act) ×
-        (GainsUpTo (P.past place.old) (acts ++ leave) (P.past place.new)
-        × Departs (is_in true acts) (P.past place.new).short leave
-        × WroteFront fault (W.written said.old.writer.now) (says said.old.interested acts) (W.written said.new.writer.now)
-        × BreaksBy fault (start terms.now true heard.old.inbound (R.left reader.old))
-        (source_state R.left R.ended R.failed reader.new heard.new.reads) acts))) }
-    ensures err_failed { IfErr result (λ fault. fault ≡ WriteFault → W.failed said.new.writer.now ≡ true) }
-    ensures same_sink { said.new.writer.ghost_name ≡ said.old.writer.ghost_name }
-    ensures counted { StaysCounted (hearing R.Source heard.old reader.old) (hearing R.Source heard.new reader.new) }
+    ensures err { IfErr result (λ fault. ListeningFails fault said.old.interested
+        (start terms.now true heard.old.inbound (R.left reader.old)) (hearing R.Source heard.new reader.new).source
+        (P.past place.old) (W.written said.old.writer.now) (P.past place.new) (W.written said.new.writer.now)) }
+    ensures keeps { TurnKeeps result
+        (hearing R.Source heard.old reader.old) (saying W.Sink said.old)
+        (hearing R.Source heard.new reader.new) (saying W.Sink said.new) }
 {
     let message = match heard.next(alloc, reader) {
         Ok(Some(message)) => message,

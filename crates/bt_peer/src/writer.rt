@@ -51,7 +51,8 @@ impl<'a, W: Sink> Said<'a, W> {
     pub fn tell(&mut self, alloc: Global, reply: &Reply) -> Result<(), SessionFault>
         ensures ok { OnOk result (Writes (saying W.Sink self.old) (answer self.old.interested reply.now) (saying W.Sink self.new)) }
         ensures interest { OnOk result (self.new.interested ≡ interest_by self.old.interested reply.now) }
-        ensures err { IfErr result (λ fault. WritesUpTo fault (saying W.Sink self.old) (answer self.old.interested reply.now) (saying W.Sink self.new)) }
+        ensures err { IfErr result (λ fault.
+            WritesUpTo fault (saying W.Sink self.old) (answer self.old.interested reply.now) (saying W.Sink self.new)) }
         ensures cause { IfErr result IsCut }
     {
         if let Some(message) = answer_to(self.interested, reply) {
