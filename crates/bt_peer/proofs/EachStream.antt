@@ -1,6 +1,7 @@
 -- Rounds of several streams' sessions.
 use Rattle.std.proofs.Common.{◌≡◌, ◌≢◌, ◌<◌, ◌+◌, ◌∙◌, ℕ, Bool, true, false, List, [], ◌∷◌, ◌++◌, length-append, length, map, Some, Result, get_or}
 use Rattle.std.proofs.Common.{set, length-set, sum_by, refl, sym, ap, subst, ◌==◌, arith}
+use Rattle.std.specs.Prelude.{◌||◌}
 use Rattle.std.specs.List.{All, AllWithin, HoldsAt}
 use Rattle.std.proofs.lemmas.Bool.Decides.{nat_tests}
 use Rattle.std.proofs.lemmas.Grind.{get_or-set_at}
@@ -117,25 +118,32 @@ not_more : (turns : Bool) {i : ℕ} (first now new : List Seat) → Progress tur
 not_more true first now new progress falls = let before = progress.falls refl in omega arith
 not_more false first now new progress falls = subst (λ (seats : List Seat). sum_by left_of new < sum_by left_of seats) (progress.same refl) falls
 
+or_true : (turns : Bool) → (turns || true) ≡ true
+or_true true = refl
+or_true false = refl
+
+or_none : (turns : Bool) → (turns || false) ≡ turns
+or_none true = refl
+or_none false = refl
+
 -- one stream more
-pub progress_on : (took turns turns' : Bool) (i : ℕ) (first now new : List Seat) → (took ≡ true → turns' ≡ true) → (took ≡ false → turns' ≡ turns) →
-    Progress turns i first now → (took ≡ true → sum_by left_of new < sum_by left_of now) → (took ≡ false → new ≡ now) →
-    (took ≡ false → HoldsAt HasEnded new i) →
-    Progress turns' (i + 1) first new
-progress_on true turns turns' i first now new taken idle progress falls same ended =
-    let is = taken refl in
+pub progress_on : (took turns : Bool) (i : ℕ) (first now new : List Seat) → Progress turns i first now →
+    (took ≡ true → sum_by left_of new < sum_by left_of now) → (took ≡ false → new ≡ now) → (took ≡ false → HoldsAt HasEnded new i) →
+    Progress (turns || took) (i + 1) first new
+progress_on true turns i first now new progress falls same ended =
+    let on : (turns || true) ≡ true = or_true turns in
     record {
-      falls = λ on. not_more turns first now new progress (falls refl);
-      same = λ off. absurd cc;
-      ended = λ off. absurd cc;
+      falls = λ some. not_more turns first now new progress (falls refl);
+      same = λ none. absurd cc;
+      ended = λ none. absurd cc;
     }
-progress_on false turns turns' i first now new taken idle progress falls same ended =
-    let is = idle refl in
+progress_on false turns i first now new progress falls same ended =
+    let is : (turns || false) ≡ turns = or_none turns in
     record {
-      falls = λ on. subst (λ (seats : List Seat). sum_by left_of seats < sum_by left_of first) (sym (same refl)) (progress.falls (sym is ∙ on));
-      same = λ off. same refl ∙ progress.same (sym is ∙ off);
-      ended = λ off. AllWithin-more HasEnded new 0 i
-          (subst (λ (seats : List Seat). AllWithin HasEnded seats 0 i) (sym (same refl)) (progress.ended (sym is ∙ off))) (ended refl);
+      falls = λ some. subst (λ (seats : List Seat). sum_by left_of seats < sum_by left_of first) (sym (same refl)) (progress.falls (sym is ∙ some));
+      same = λ none. same refl ∙ progress.same (sym is ∙ none);
+      ended = λ none. AllWithin-more HasEnded new 0 i
+          (subst (λ (seats : List Seat). AllWithin HasEnded seats 0 i) (sym (same refl)) (progress.ended (sym is ∙ none))) (ended refl);
     }
 
 new_at : (terms : TermsState) (seed : ℕ) (seats : List Seat) (seat : Seat) → AreNew terms seed seats →

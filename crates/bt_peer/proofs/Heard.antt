@@ -2,11 +2,12 @@
 use Rattle.bt_wire.specs.declared.message.Message.{Message}
 use Rattle.bt_wire.specs.declared.message.Message.TheVariants as messages
 use Rattle.std.proofs.Common.{Bool, true, false, ◌≤◌, length, length-append, ◌≡◌, ℕ, ◌+◌, List, [], ◌++◌, Option, Some, None, refl, sym, ap, subst}
-use Rattle.std.proofs.Common.{◌∙◌, append_assoc, arith, Ok}
+use Rattle.std.proofs.Common.{◌∙◌, append_assoc, arith, Ok, Err}
 use Rattle.std.proofs.lemmas.List.{append-nil}
 use Rattle.std.specs.Io.KnownBytes.{Consumes, Keeps}
 use Rattle.bt_wire.specs.Stream.{InboundState, Gives, Spells}
-use Rattle.bt_peer.specs.Hearing.{Hearing, HearsNext}
+use Rattle.bt_peer.specs.declared.fault.SessionFault.TheVariants as faults
+use Rattle.bt_peer.specs.Hearing.{Hearing, HearsNext, StaysCounted}
 use Rattle.bt_peer.specs.Reader.{fed, Hears}
 use Rattle.bt_peer.specs.Turns.{IsLater}
 
@@ -77,6 +78,18 @@ heard_at_once old stream m gives = record {
   few = omega (arith, shorter old.stream stream m gives);
   sound = refl;
   counted = λ same. same;
+}
+
+-- memory ran out behind some reads
+pub heard_nothing : (old new : Hearing) (read : List ℕ) → Consumes old.source.left new.source.left read → StaysCounted old new →
+    HearsNext (Err faults.NoMemory) old new
+heard_nothing old new read consumed counted = record {
+  message = tt;
+  end = tt;
+  fault = record { read = read; consumed = consumed; cause = tt };
+  few = tt;
+  sound = tt;
+  counted = counted;
 }
 
 -- a message after the handshake is no handshake

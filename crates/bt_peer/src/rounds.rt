@@ -97,9 +97,7 @@ fn round<R: Source, W: Sink>(
 {
     let mut turns = false;
     for i in 0..streams.len() {
-        if turn_of(alloc, desk, seats, streams, i) {
-            turns = true;
-        }
+        turns |= turn_of(alloc, desk, seats, streams, i);
     }
     turns
 }

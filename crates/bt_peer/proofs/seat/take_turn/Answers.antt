@@ -14,17 +14,7 @@ returns g c =
     let new = standing place.desk.now (record { session = c.turn.new.self; told = place.told.now; rng = c.turn.new.rng })
     (stream (record { reader = c.turn.new.reader; writer = c.turn.new.writer })) in
     let took = turn_at_desk c.turn.result _ (place.desk.ghost_name ∷ (place.told.ghost_name ∷ [])) c.args.worker place.worker place.short old new _
-    c.new-place.ensures c.requires.runs (record {
-      goes_on = c.turn.ensures.goes_on;
-      ends = c.turn.ensures.ends;
-      fails = c.turn.ensures.fails;
-      conduct = c.turn.ensures.conduct;
-      words = c.turn.ensures.words;
-      counted = c.turn.ensures.counted;
-      most = c.turn.ensures.most;
-      sound = c.turn.ensures.sound;
-      failed = c.turn.ensures.failed;
-    }) in
+    c.new-place.ensures c.requires.runs (search rules) in
     let name = first_name _ _ _ _ (sym took.same_lent) in
     record {
       keeps = at_same_desk c.args.worker old new _ (search rules) took.keeps;
