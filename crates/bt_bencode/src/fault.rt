@@ -1,3 +1,5 @@
+//! Why bytes are no bencoding.
+
 ghost use Rattle.std.specs.Prelude.{◌≡◌};
 ghost use Rattle.bt_bencode.specs.declared.fault.BenFault.TheVariants.{NoMemory};
 

@@ -1,3 +1,5 @@
+//! A tree of bencoding, which owns what it has.
+
 ghost use Rattle.std.specs.Prelude.{◌≡◌, ◌<◌, ◌≤◌, IfOk, IfErr, option_map};
 ghost use Rattle.bt_bencode.specs.Term.{int, text, int_of, text_of, items_of, entries_of, span_of, get, entry_at, depth_of_terms};
 ghost use Rattle.bt_bencode.specs.Term.{depth_of_entries};

@@ -1,3 +1,5 @@
+//! A value where it stands in its source, read without a tree.
+
 ghost use Rattle.std.specs.Prelude.{◌≡◌, ℕ, ◌<◌, ◌^◌, List, [], ◌∷◌, length, Ok, Some, IfOk, IfSome, IfNone, MatchOption, is_some, option_map};
 ghost use Rattle.bt_bencode.specs.Term.{Term, int_of, text_of, items_of, entries_of, span_of, get, entry_at};
 ghost use Rattle.bt_bencode.specs.Grammar.{Spells, spelling};

@@ -49,7 +49,7 @@ abbrev pub loads_from : ℕ → List ℕ → List Load
 loads_from word [] = []
 loads_from word (n ∷ ns) = load word n ∷ loads_from (word + 1) ns
 
--- the view with these loads of the first words
+-- the view of a seat whose news loaded the first words, and found these
 abbrev pub with_loads : View → List ℕ → View
 with_loads v found = view v.marks (v.loads ++ loads_from 0 found) v.seats
 

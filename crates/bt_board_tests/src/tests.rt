@@ -1,3 +1,5 @@
+//! The board: its worked example, and marks of two threads.
+
 ghost use Rattle.std.specs.Prelude.{◌≡◌, IfOk, IfSome};
 ghost use Rattle.bt_check.specs.Checked.{Fits};
 

@@ -1,3 +1,5 @@
+//! The desk that stands behind a handle.
+
 ghost use Rattle.bt_history.specs.Setting.{AreRules};
 
 use bt_picker::Desk;

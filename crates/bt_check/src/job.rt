@@ -1,3 +1,5 @@
+//! The hashing of a piece, and the verdict that keeps its digest with the bytes.
+
 ghost use Rattle.std.specs.Prelude.{◌≡◌};
 ghost use Rattle.bt_check.specs.Checked.{digest_of};
 

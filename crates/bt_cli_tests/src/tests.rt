@@ -1,3 +1,5 @@
+//! Commands over bytes and devices.
+
 mod saving;
 mod serial;
 mod threads;

@@ -1,3 +1,5 @@
+//! The calls of a picker, its replies, and the entries of a journal.
+
 ghost use Rattle.std.specs.Prelude.{◌≡◌, not};
 ghost use Rattle.bt_history.specs.Entries.{action_of};
 ghost use Rattle.bt_history.specs.Logs.{call_mark};

@@ -1,3 +1,5 @@
+//! What a log keeps of an entry.
+
 use crate::call::Reply;
 
 /// A call without its bytes and its bitfield.

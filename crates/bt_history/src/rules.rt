@@ -1,3 +1,5 @@
+//! What a download may choose of the rules, and within which limits.
+
 ghost use Rattle.std.specs.Prelude.{◌≡◌};
 ghost use Rattle.bt_history.specs.Setting.{usual_rules};
 

@@ -1,3 +1,5 @@
+//! A set of pieces, by its payload on the wire (BEP 3, "bitfield").
+
 ghost use Rattle.std.specs.Prelude.{◌≡◌, ◌≢◌, ◌↔◌, ◌<◌, ◌-◌, ◌==◌, IsTrue, ◌≤◌, ◌*◌, ◌+◌, ◌^◌, ℕ, Bool, true, false, length, replicate};
 ghost use Rattle.std.specs.Prelude.{slice_index_or, slice_set, count_by, IfOk, Err, List};
 ghost use Rattle.bt_meta.specs.WireBits.{FindsFirst, HasSpareBit, IsFirstBit, IsSpelled, wire_bit, wire_len};

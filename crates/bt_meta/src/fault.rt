@@ -1,3 +1,5 @@
+//! Why bytes are no metainfo file.
+
 ghost use Rattle.std.specs.Prelude.{◌≡◌};
 ghost use Rattle.bt_meta.specs.declared.fault.MetaFault.TheVariants.{NoMemory};
 ghost use Rattle.bt_meta.specs.Faults.{fault_number, of_bencode};

@@ -1,3 +1,5 @@
+//! The keys of a metainfo file.
+
 ghost use Rattle.std.specs.Prelude.{◌≡◌};
 ghost use Rattle.bt_meta.specs.Keys.{key_name};
 

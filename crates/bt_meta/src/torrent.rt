@@ -1,3 +1,5 @@
+//! A torrent: how its content is cut into pieces and blocks, and the digest of each piece.
+
 ghost use Rattle.std.specs.Prelude.{◌≡◌, ◌<◌, ◌≤◌, ◌^◌, IfOk, IfErr, List, ℕ};
 ghost use Rattle.bt_meta.specs.Layout.{IsLayout, piece_count, piece_len, block_count, block, block_at, hash_of, torrent_of, pieces_in};
 ghost use Rattle.bt_meta.specs.Layout.{sizes_checked};
@@ -186,7 +188,8 @@ impl Torrent {
     }
 }
 
-/// Whether so much content makes so many pieces of this length, all within the limits.
+/// Whether so much content makes so many pieces of this length, all within the limits. The order of the tests is the definition's, since
+/// it says which fault is told.
 fn check_sizes(piece_len: u32, total: u64, digests: usize) -> Result<(), MetaFault>
     requires { (0 < piece_len) × (piece_len ≤ 2 ^ 31) }
     ensures { result ≡ sizes_checked piece_len total digests }

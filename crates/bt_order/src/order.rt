@@ -1,3 +1,5 @@
+//! Numbers in groups: each group is listed, and a number moves between groups next to one another.
+
 ghost use Rattle.std.specs.Prelude.{◌≡◌, ◌<◌, ◌≤◌, ◌+◌, ◌-◌, length, replicate, slice_set, IfOk};
 ghost use Rattle.std.specs.List.{range_with_len};
 ghost use Rattle.bt_order.specs.Orders.{at, AreInverse, Begins, ListsGroup, OrderState};

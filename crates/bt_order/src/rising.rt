@@ -1,3 +1,5 @@
+//! A set of numbers, listed in rising order.
+
 ghost use Rattle.std.specs.Prelude.{◌≡◌, ◌<◌, [], true, false, IfOk};
 ghost use Rattle.bt_order.specs.Risings.{IsRising, Puts, RisingState};
 

@@ -1,3 +1,5 @@
+//! The crates that know nothing of a history, by worked examples.
+
 mod bencode;
 mod check;
 mod devices;

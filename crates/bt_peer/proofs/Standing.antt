@@ -74,6 +74,7 @@ took_later terms worker out now old new later took = record {
   unended = took.unended;
 }
 
+-- a session that runs on, one that came to its end, and one that a fault cut short (`stands_later` goes through the three)
 running_later : (terms : TermsState) (worker : ℕ) (out : Surroundings) (now : SessionState) (old new : Surroundings) → IsLater old new →
     Running terms worker out now old → Running terms worker out now new
 running_later terms worker out now old new later running =

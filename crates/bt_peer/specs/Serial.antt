@@ -115,6 +115,7 @@ pub record Ended (outcome : Result End SessionFault) (terms : TermsState) (seed 
   pub words : DrawsWords (generator_of seed worker) [] (calls_in desk.history worker)
   pub checks : ChecksAfter outcome (calls_in desk.history worker)
   pub devices : DevicesAfter outcome old new
+  -- its reads are those that its source was asked for, if none were before, and no more than a session asks for
   pub counted : old.reads ≡ 0 → new.reads ≡ reads
   pub most : reads ≤ most_reads
 

@@ -1,3 +1,5 @@
+//! Sessions with one peer, over memory.
+
 mod devices;
 mod serial;
 mod settings;

@@ -147,6 +147,7 @@ stored_stale row i entry li =
 
 -- ---- a peer's row as the calls change it
 
+-- its lines of blocks change, and not what it shows
 pub kept_peer : (floors : List ℕ) (peers : List PeerState) (rows : List PieceState) (w : ℕ) (old now : PeerState) → AreFloors floors peers rows →
     w < length peers
     → old ≡ get_or peers w old → now.shows ≡ old.shows → AreFloors floors (set peers w now) rows

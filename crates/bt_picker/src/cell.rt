@@ -1,3 +1,5 @@
+//! What is kept of a block.
+
 ghost use Rattle.std.specs.Prelude.{◌≡◌, ◌<◌, ◌+◌, ◌^◌, Some, None};
 ghost use Rattle.bt_picker.specs.Tables.{CellState, one_less, one_more, unheld};
 ghost use Rattle.bt_picker.specs.Standings.{cell_kept, is_held, is_touched};

@@ -1,3 +1,5 @@
+//! The row of a piece, and what it amounts to.
+
 ghost use Rattle.std.specs.Prelude.{◌≡◌, ◌<◌, ◌≤◌, ◌+◌, ◌-◌, ◌^◌, ◌==◌, nat_lt, min, if◌then◌else◌, None, length, slice_index_or};
 ghost use Rattle.std.specs.Prelude.{slice_set, IfOk, Bool, true, false, replicate};
 ghost use Rattle.bt_picker.specs.Tables.{HasRoomOf, PieceState, changed_row, edit, empty_cell, failed_row, fresh_piece, one_if, one_less};

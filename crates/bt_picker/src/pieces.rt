@@ -1,3 +1,5 @@
+//! The rows of all pieces.
+
 ghost use Rattle.std.specs.Prelude.{◌≡◌, ◌<◌, ◌+◌, ◌^◌, true, false, length, IfOk, map};
 ghost use Rattle.std.specs.List.{count_by, sum_by};
 ghost use Rattle.bt_meta.specs.Layout.{block_count, piece_count};

@@ -1,3 +1,5 @@
+//! How all pieces stand to each other: in groups, in the list of the open ones, and in sums.
+
 ghost use Rattle.std.specs.Prelude.{◌≡◌, ◌<◌, ◌≤◌, ◌+◌, ◌-◌, ◌^◌, length, replicate, slice_set, slice_index_or, IfOk};
 ghost use Rattle.bt_order.specs.Orders.{at, ListsGroup};
 ghost use Rattle.bt_order.specs.Risings.{IsRising};

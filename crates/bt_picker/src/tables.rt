@@ -1,3 +1,5 @@
+//! All rows, and what each entry of the journal makes of them.
+
 ghost use Rattle.std.specs.Prelude.{◌≡◌, ◌<◌, ◌≤◌, ◌+◌, ◌^◌, ◌*◌, ◌/◌, ◌==◌, ◌∷◌, [], ℕ, Bool, false, length, map, slice_index_or, not};
 ghost use Rattle.std.specs.Prelude.{true, IfOk, IfSome, Some, IsTrue, EachIndex, unwrap_or};
 ghost use Rattle.bt_meta.specs.Layout.{block_count, piece_count, block_size};

@@ -1,3 +1,5 @@
+//! The desk, by worked examples, random calls and calls without memory.
+
 mod audits;
 mod calls;
 mod content;

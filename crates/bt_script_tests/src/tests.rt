@@ -1,3 +1,5 @@
+//! Scripts and what they print.
+
 mod examples;
 mod faults;
 mod picks;

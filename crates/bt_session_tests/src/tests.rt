@@ -1,2 +1,4 @@
+//! Runs in threads.
+
 mod haves;
 mod swarm;

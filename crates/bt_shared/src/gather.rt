@@ -1,3 +1,5 @@
+//! Gathering: the seats are joined, the table is closed, and each log is compared with the journal.
+
 ghost use Rattle.std.specs.Prelude.{◌≡◌, ◌++◌, ◌≤◌, ℕ, [], length, option_copied, vec_len, IfErr, IfNone, IfOk, IfSome, IsSome, IsSomeAnd};
 ghost use Rattle.std.specs.Slots.{IsFull, slots_items, slots_len};
 ghost use mathlib.Core.Option.{some};

@@ -1,3 +1,5 @@
+//! The word that is the lock, and the rule of its steps.
+
 ghost use Rattle.std.specs.Prelude.{◌≡◌, ◌∷◌, [], true, false, None};
 ghost use Rattle.bt_history.specs.Legal.{IsLegal};
 ghost use Rattle.bt_shared.specs.Guard.{Fits, IsDesk, MayFree, MayTake, seeing};

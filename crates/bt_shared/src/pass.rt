@@ -1,3 +1,5 @@
+//! A worker's pass: its seat, and the log of its calls.
+
 ghost use Rattle.std.specs.Prelude.{◌≡◌};
 ghost use Rattle.bt_history.specs.Legal.{IsLegal};
 ghost use Rattle.bt_history.specs.Logs.{Agrees};

@@ -1,3 +1,5 @@
+//! The desk that threads share, and the calls at it.
+
 ghost use Rattle.std.specs.Prelude.{◌≡◌, ◌<◌, ◌≤◌, [], ℕ, Some, false, length, option_copied, slice_get, vec_len, IfErr, IfOk, IfSome};
 ghost use Rattle.std.specs.Prelude.{IsOk, OnErr, IsTrue};
 ghost use Rattle.bt_meta.specs.Layout.{piece_count};
@@ -157,8 +159,8 @@ impl SharedDesk {
         made
     }
 
-    /// The job of checking the piece, if it waits for a check in the history that the pass has then seen. To be hashed while others have
-    /// the desk.
+    /// The job of checking the piece, if it waits for a check in the history that the pass has then seen. A checker's thread hashes it while
+    /// others have the desk, and settles the verdict by a call.
     pub fn job<R: Wait>(
         &self,
         rt: &R,

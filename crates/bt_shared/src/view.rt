@@ -1,3 +1,5 @@
+//! What a desk is made for, and what a seat has seen of it, which is a value of the proof alone.
+
 use bt_history::Event;
 use bt_meta::Torrent;
 use bt_picker::Rules;

@@ -1,3 +1,5 @@
+//! The desk that threads share.
+
 mod gathering;
 mod logs;
 mod meeting;

@@ -1,3 +1,5 @@
+//! Reading a tree, in the order of its bytes, and refusing what is no canonical bencoding (BEP 3, "bencoding").
+
 ghost use Rattle.std.specs.Prelude.{◌≡◌, ℕ, List, ◌<◌, ◌≤◌, length, Ok, Some, None, IsTrue, IfOk, option_map};
 ghost use Rattle.bt_bencode.specs.Term.{Term, span_of, get, depth, depth_of_terms, depth_of_entries};
 ghost use Rattle.bt_bencode.specs.Grammar.{Spells, IsSound, AreSound, EntriesAreSound, spelling, keys_rise};

@@ -1,3 +1,5 @@
+//! Writing a tree: the one spelling that it has.
+
 ghost use Rattle.std.specs.Prelude.{◌≡◌, ◌++◌, ◌∷◌, [], IfOk, OnOk};
 ghost use Rattle.std.specs.Fmt.{signed_decimal};
 ghost use Rattle.bt_bencode.specs.Grammar.{spelling, spelling_of_terms, spelling_of_entries, string};

@@ -1,3 +1,5 @@
+//! Finding the end of a value, without making a tree of it.
+
 ghost use Rattle.std.specs.Prelude.{◌≡◌, ◌<◌, ◌≤◌, length, IfOk};
 ghost use Rattle.bt_bencode.specs.Reading.{end_of, value_at, items_in, entries_in};
 

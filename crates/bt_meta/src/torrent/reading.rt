@@ -1,3 +1,5 @@
+//! Reading a torrent from a metainfo file (BEP 3, "metainfo files").
+
 ghost use Rattle.std.specs.Prelude.{◌≡◌, ◌<◌, ◌≤◌, ◌/◌, ◌^◌, length, IfOk, MatchResult};
 ghost use Rattle.std.specs.Simd.{first_chunks};
 ghost use Rattle.sha1.specs.Sha1.{sha1};

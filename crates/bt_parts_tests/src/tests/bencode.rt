@@ -1,3 +1,5 @@
+//! Bencoding, by worked examples.
+
 use bt_bencode::*;
 use std::alloc::{AllocError, AllocFailed, Global};
 use std::test::*;

@@ -1,3 +1,5 @@
+//! Jobs, verdicts and what is proven, by the standard's example (FIPS 180-4).
+
 use bt_check::*;
 use bt_meta::Torrent;
 use bytes::Bytes;

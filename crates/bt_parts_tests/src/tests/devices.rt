@@ -1,3 +1,5 @@
+//! Devices over memory.
+
 use bt_meta::*;
 use std::io::Cursor;
 use std::test::Fail;

@@ -1,3 +1,5 @@
+//! Pieces and blocks, by worked examples.
+
 use bt_meta::*;
 use std::alloc::{AllocError, Global};
 use std::test::*;

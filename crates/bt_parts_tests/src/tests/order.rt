@@ -1,3 +1,5 @@
+//! Numbers in groups.
+
 ghost use Rattle.std.specs.Prelude.{◌<◌};
 
 use bt_order::Order;

@@ -1,3 +1,5 @@
+//! Messages and inbound streams, by worked examples.
+
 use bt_wire::*;
 use bytes::Bytes;
 use std::alloc::{AllocError, Global};

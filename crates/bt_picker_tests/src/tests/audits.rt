@@ -1,3 +1,5 @@
+//! Journals that are judged.
+
 use super::examples::EXAMPLES;
 use super::steps::{Example, entries_of, entry_of, torrent_of};
 use bt_picker::*;

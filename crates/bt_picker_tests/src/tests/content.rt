@@ -1,3 +1,5 @@
+//! Content that is written.
+
 use super::played::Played;
 use bt_meta::{DeviceFault, Sink, ToWrite};
 use bt_picker::ContentFault;

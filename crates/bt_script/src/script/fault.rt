@@ -1,3 +1,5 @@
+//! Why a line of a script is refused.
+
 use crate::fault::Fault;
 use bt_meta::BitFault;
 use std::alloc::{AllocError, AllocFailed};
