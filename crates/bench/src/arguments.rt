@@ -1,6 +1,7 @@
 //! The command line.
 
-use crate::swarm::{MOST_DEPTH, Workload};
+use crate::swarm::Workload;
+use bt_picker::MOST_DEPTH;
 use clap::{Arg, ArgAction, ArgMatches, Command, value_parser};
 use std::alloc::{AllocError, Global};
 

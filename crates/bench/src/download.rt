@@ -3,10 +3,10 @@
 ghost use Rattle.std.specs.Prelude.{◌≡◌, ◌<◌};
 
 use crate::mix::Mix;
-use crate::swarm::{MOST_DEPTH, PEERS, Workload, ZEROS, come, leave};
+use crate::swarm::{PEERS, Workload, ZEROS, come, leave};
 use anyhow::{Result, bail};
 use bt_meta::{BLOCK_SIZE, Bitfield, Block};
-use bt_picker::{Call, Desk, Reply};
+use bt_picker::{Call, Desk, MOST_DEPTH, Reply};
 use bytes::Bytes;
 use std::alloc::Global;
 use std::time::{CpuClock, Duration};

@@ -5,7 +5,7 @@ ghost use Rattle.std.specs.Prelude.{◌≡◌, ◌≤◌, IfOk};
 use crate::mix::Mix;
 use anyhow::{Result, ensure};
 use bt_meta::{Bitfield, Torrent};
-use bt_picker::{Call, Desk, Rules};
+use bt_picker::{Call, Desk, MOST_DEPTH, Rules};
 use std::alloc::Global;
 use std::sync::Arc;
 
@@ -23,9 +23,6 @@ pub const PIECE_HASH: [u8; 20] = [
     0x2e, 0x00, 0x0f, 0xa7, 0xe8, 0x57, 0x59, 0xc7, 0xf4, 0xc2, 0x54, 0xd4, 0xd9, 0xc3, 0x3e, 0xf4,
     0x81, 0xe4, 0x59, 0xa7,
 ];
-
-/// The most that the rules allow to be asked of one peer.
-pub const MOST_DEPTH: u32 = 64;
 
 /// Where the words of the bitfields begin.
 const SEED: u64 = 1;

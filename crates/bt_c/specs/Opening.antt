@@ -7,6 +7,7 @@ use Rattle.bt_meta.specs.declared.fault.MetaFault.{MetaFault}
 use Rattle.bt_meta.specs.declared.fault.MetaFault.TheVariants.{PiecesLength}
 use Rattle.bt_meta.specs.Layout.{Layout, Metainfo as Torrent, torrent_of}
 use Rattle.bt_history.specs.declared.rules.Rules.{Rules as Choice}
+use Rattle.bt_history.specs.declared.rules.TheConstants.{MOST_WORKERS}
 use Rattle.bt_history.specs.Setting.{AreRules, setting_of}
 use Rattle.bt_c.specs.declared.fault.Fault.{Fault}
 use Rattle.bt_c.specs.declared.fault.Fault.TheVariants.{Open, Worker, NoMemory, Rules, Metainfo}
@@ -15,7 +16,7 @@ use Rattle.bt_c.specs.Outcomes.{Done, status_of}
 
 -- a desk may have so many workers
 abbrev pub AreWorkers : ℕ → Type 0
-AreWorkers w = (1 ≤ w) × (w ≤ 1024)
+AreWorkers w = (1 ≤ w) × (w ≤ MOST_WORKERS)
 
 -- the choices that a download may make of the rules
 abbrev pub rules : ℕ → ℕ → Choice

@@ -8,18 +8,12 @@ use crate::desk_handle::DeskHandle;
 use crate::fault::Fault;
 use crate::held::Held;
 use bt_meta::{MetaFault, Torrent};
-use bt_picker::{Desk, Rules};
+use bt_picker::{Desk, MOST_DEPTH, MOST_WORKERS, Rules};
 use std::alloc::{AllocError, Global};
 use std::sync::Arc;
 
 /// The bytes of a SHA-1.
 const DIGEST_LEN: usize = 20;
-
-/// As many workers as a desk may have.
-const MOST_WORKERS: u32 = 1024;
-
-/// As many blocks as may be asked of one peer.
-const MOST_DEPTH: u32 = 64;
 
 fn are_workers(workers: u32) -> bool
     ensures { IsDecided result (AreWorkers workers) }
