@@ -6,9 +6,11 @@ use base.Stored.{Gv, gnil, gnum, gcons}
 use Rattle.bt_bencode.specs.declared.span.Span.{Span}
 use Rattle.bt_bencode.specs.Term.{Term, Terms, Entries, int, text, list, dict, no_terms, more_terms, no_entries, more_entries}
 
+-- a span as a pair of numbers
 abbrev pub coded_span : Coded Span
 coded_span = code_by (ℕ × ℕ) (coded× coded_ℕ coded_ℕ) (λ s. (s.start, s.end)) (λ p. record { start = p.0; end = p.1 }) (λ _. refl)
 
+-- a string as a list of numbers
 abbrev pub text_code : Coded (List ℕ)
 text_code = coded_list coded_ℕ
 
@@ -77,5 +79,6 @@ mutual
       cc
   entries_inj _ _ p = absurd cc
 
+-- a term as a tree of numbers, from which it can be read again
 abbrev pub coded_term : Coded Term
 coded_term = record { code = term_code; inj = term_inj }

@@ -66,6 +66,7 @@ string_at source at =
     let end = at + length run in
     string_behind source end run (drop end source)
 
+-- the number with its sign
 abbrev pub signed_of : Bool → ℕ → ℤ
 signed_of negative n = if negative then neg_ℤ (pos n) else pos n
 
@@ -154,11 +155,12 @@ value_at (suc room) source at =
     let entries = entries_at (value_at room source) source (length source) None in
     value_behind items entries source at (drop at source)
 
--- the items of a list, or the entries of a dictionary, in a value with this room
+-- the items of a list, in a value with room for so many levels
 unfoldable pub items_in : ℕ → List ℕ → ℕ → Result (Terms × ℕ) BenFault
 items_in zero source at = Err TooDeep
 items_in (suc room) source at = items_at (value_at room source) source (length source) at
 
+-- the entries of a dictionary, in a value with room for so many levels
 unfoldable pub entries_in : ℕ → List ℕ → ℕ → Result (Entries × ℕ) BenFault
 entries_in zero source at = Err TooDeep
 entries_in (suc room) source at = entries_at (value_at room source) source (length source) None at

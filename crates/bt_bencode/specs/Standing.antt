@@ -32,7 +32,7 @@ terms_from room source at = list_of_terms (terms_read (items_at (value_at room s
 abbrev pub entries_from : ℕ → List ℕ → ℕ → Entries
 entries_from room source at = entries_read (entries_at (value_at room source) source (length source) None at)
 
--- a value stands there
+-- a value with room for so many levels stands in the source, from `start` up to `end`
 pub record IsValue (room : ℕ) (source : List ℕ) (start : ℕ) (end : ℕ) : Type 0 where
   pub deep : room ≤ 64
   pub short : length source < 2 ^ 64

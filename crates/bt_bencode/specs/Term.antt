@@ -41,10 +41,12 @@ text_of (text s bytes) = Some bytes
 text_of (list s ts) = None
 text_of (dict s es) = None
 
+-- the terms as a list
 abbrev pub list_of_terms : Terms → List Term
 list_of_terms no_terms = []
 list_of_terms (more_terms t ts) = t ∷ list_of_terms ts
 
+-- the entries as a list of keys and values
 abbrev pub list_of_entries : Entries → List (List ℕ × Term)
 list_of_entries no_entries = []
 list_of_entries (more_entries k t es) = (k, t) ∷ list_of_entries es
@@ -63,6 +65,7 @@ entries_of (text s bytes) = None
 entries_of (list s ts) = None
 entries_of (dict s es) = Some (list_of_entries es)
 
+-- the value at a key, among these entries
 abbrev pub entry_at : List ℕ → Entries → Option Term
 entry_at key no_entries = None
 entry_at key (more_entries k t es) = if bytes_eq k key then Some t else entry_at key es

@@ -19,7 +19,8 @@ use std::marker::Model;
 /// A bencoded value where it stands in its source. What is in it is read as it is asked for: it has no tree, and none of its
 /// calls takes memory. Each goes over the value's bytes once at most.
 ///
-/// Contracts see it as a `Term`, as they do a `Tree`.
+/// Contracts see it as a `Term`, as they do a `Tree`. Its type keeps that it stands in the source from `start` up to `end` (`IsValue`), and
+/// so it is never read in vain.
 #[derive(Drop)]
 pub struct Value<'a> {
     source: &'a [u8],

@@ -27,12 +27,15 @@ words_of pieces = (pieces + 63) / 64
 abbrev pub IsSet : List ℕ → ℕ → Type 0
 IsSet words p = bit_at (slice_index words (p / 64)) (p % 64) ≡ 1
 
+-- the piece was marked, with these bytes
 abbrev pub mark : ℕ → List ℕ → Mark
 mark piece bytes = record { piece = piece; bytes = bytes }
 
+-- the word was loaded, and found to be this number
 abbrev pub load : ℕ → ℕ → Load
 load word found = record { word = word; found = found }
 
+-- what a seat did, and the seats that it stands for
 abbrev pub view : List Mark → List Load → List ℕ → View
 view marks loads seats = record { marks = marks; loads = loads; seats = seats }
 
@@ -66,6 +69,7 @@ abbrev pub rest_of : List ℕ → List ℕ
 rest_of [] = []
 rest_of (x ∷ xs) = xs
 
+-- the first seat alone, if there is one
 abbrev pub front_of : List ℕ → List ℕ
 front_of [] = []
 front_of (x ∷ xs) = x ∷ []
@@ -74,6 +78,7 @@ front_of (x ∷ xs) = x ∷ []
 abbrev pub without_first : View → View
 without_first v = view v.marks v.loads (rest_of v.seats)
 
+-- a new view, of the first seat that this view stands for
 abbrev pub first_of : View → View
 first_of v = view [] [] (front_of v.seats)
 

@@ -59,6 +59,7 @@ Hashes (Some c) (Some e) (Ok u) = (checked_of e ≡ checked_of c) × (is_ready e
 Hashes (Some c) (Some e) (Err NoMemory) = checked_of e ≡ checked_of c
 Hashes (Some c) new o = ⊥
 
+-- the status tells how the hashing ended
 abbrev pub TellsHash : Option Check → Option Check → ℕ → Type 0
 TellsHash old new s = (o : Done) × Hashes old new o × (s ≡ status_of o)
 

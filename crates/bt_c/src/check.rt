@@ -29,6 +29,7 @@ fn share(alloc: Global, verdict: Verdict) -> (Check, Result<(), Fault>)
 }
 
 impl Check {
+    /// The check with its verdict, or as it was where there is no memory to share the verdict.
     fn hashed(self, alloc: Global) -> (Check, Result<(), Fault>)
         ensures kept { checked_of result.0 ≡ checked_of self }
         ensures ok { OnOk result.1 (is_ready result.0 ≡ true) }

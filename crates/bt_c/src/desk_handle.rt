@@ -22,6 +22,7 @@ impl Model for DeskHandle {
 }
 
 impl DeskHandle {
+    /// A null handle.
     pub fn shut(alloc: Global) -> DeskHandle
         ensures { result.desk ≡ None }
     {
@@ -31,6 +32,7 @@ impl DeskHandle {
         }
     }
 
+    /// A handle that owns the desk of this pointer.
     fn of_loose(held: Loose<Held, Global>) -> DeskHandle
         ensures { result.desk ≡ Some held.value }
     {
@@ -41,6 +43,7 @@ impl DeskHandle {
         }
     }
 
+    /// The handle's pointer, which owns its desk, unless the handle is null.
     fn into_loose(self) -> Option<Loose<Held, Global>>
         ensures { MatchOption result (self.desk ≡ None) (λ l. self.desk ≡ Some l.value) }
     {
@@ -57,12 +60,14 @@ impl DeskHandle {
 }
 
 impl DeskHandle {
+    /// A handle that owns the desk.
     pub fn of(held: Box<Held>) -> DeskHandle
         ensures { result.desk ≡ Some held.value }
     {
         DeskHandle::of_loose(Loose::of(held))
     }
 
+    /// The desk that the handle owned, unless it is null.
     pub fn into_box(self) -> Option<Box<Held>>
         ensures { MatchOption result (self.desk ≡ None) (λ b. self.desk ≡ Some b.value) }
     {
@@ -81,6 +86,7 @@ impl DeskHandle {
     }
 }
 
+// What C holds is freed by the export that closes it. Here a handle is dropped only where another takes its place.
 impl Drop for DeskHandle {
     fn drop(self) {
         drop(self.into_box());

@@ -22,6 +22,7 @@ impl Model for JobHandle {
 }
 
 impl JobHandle {
+    /// A null handle.
     pub fn shut(alloc: Global) -> JobHandle
         ensures { result.check ≡ None }
     {
@@ -31,6 +32,7 @@ impl JobHandle {
         }
     }
 
+    /// A handle that owns the check of this pointer.
     fn of_loose(check: Loose<Check, Global>) -> JobHandle
         ensures { result.check ≡ Some check.value }
     {
@@ -41,6 +43,7 @@ impl JobHandle {
         }
     }
 
+    /// The handle's pointer, which owns its check, unless the handle is null.
     fn into_loose(self) -> Option<Loose<Check, Global>>
         ensures { MatchOption result (self.check ≡ None) (λ l. self.check ≡ Some l.value) }
     {
@@ -57,12 +60,14 @@ impl JobHandle {
 }
 
 impl JobHandle {
+    /// A handle that owns the check.
     pub fn of(check: Box<Check>) -> JobHandle
         ensures { result.check ≡ Some check.value }
     {
         JobHandle::of_loose(Loose::of(check))
     }
 
+    /// The check that the handle owned, unless it is null.
     pub fn into_box(self) -> Option<Box<Check>>
         ensures { MatchOption result (self.check ≡ None) (λ b. self.check ≡ Some b.value) }
     {
@@ -81,6 +86,7 @@ impl JobHandle {
     }
 }
 
+// What C holds is freed by the export that closes it. Here a handle is dropped only where another takes its place.
 impl Drop for JobHandle {
     fn drop(self) {
         drop(self.into_box());

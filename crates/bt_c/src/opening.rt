@@ -15,12 +15,14 @@ use std::sync::Arc;
 /// The bytes of a SHA-1.
 const DIGEST_LEN: usize = 20;
 
+/// Whether a desk may have so many workers.
 fn are_workers(workers: u32) -> bool
     ensures { IsDecided result (AreWorkers workers) }
 {
     1 <= workers && workers <= MOST_WORKERS
 }
 
+/// Whether a picker of the torrent may go by these rules.
 fn are_rules(torrent: &Torrent, rules: Rules) -> bool
     ensures { IsDecided result (AreRules torrent.now.layout rules) }
 {

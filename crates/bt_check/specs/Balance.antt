@@ -3,6 +3,7 @@ use Rattle.std.specs.Prelude.{◌≡◌, ℕ, ◌+◌, List, [], ◌∷◌, ◌+
 use Rattle.bt_check.specs.declared.rule.Account.{Account}
 use Rattle.bt_check.specs.declared.ticket.Ticket.{Ticket}
 
+-- the tickets put, and those taken
 abbrev pub account : List Ticket → List Ticket → Account
 account put taken = record { put = put; taken = taken }
 

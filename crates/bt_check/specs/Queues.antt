@@ -24,6 +24,7 @@ pub record PassState : Type 0 where
   pub put : List Ticket
   pub taken : List Ticket
 
+-- what contracts see of a pass, by its token
 abbrev pub state_of : Pass Ticket Account → PassState
 state_of p = record { queue = record { table = p.table_id; key = p.me.0.of }; put = (view p).put; taken = (view p).taken }
 

@@ -87,6 +87,7 @@ impl Tickets {
         Ok(all)
     }
 
+    /// One more pass of the queue, made of one that there is.
     fn another(&self, pass: &mut TicketPass) -> TicketPass
         requires { pass.old.queue ≡ self.now }
         ensures same { pass.new ≡ pass.old }

@@ -45,6 +45,7 @@ pub fn fit_random(rules: Rules, pieces: u32) -> Result<(), Fault>
     Ok(())
 }
 
+/// The flags of the wanted pieces, if the options have some, or what is wrong with them.
 fn read_want(alloc: Global, options: &Options, pieces: u32) -> Result<Option<Bitfield>, Fault>
     ensures want { IfOk result (IsWant pieces (want_of options.now)) }
     ensures err { IfErr result (IsWantFault pieces (want_of options.now)) }

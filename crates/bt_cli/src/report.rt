@@ -70,6 +70,7 @@ fn print_ends<O: Sink>(out: &mut O, ends: &[Result<End, SessionFault>]) -> Resul
     Ok(())
 }
 
+/// The line of one stream's end.
 fn print_end<O: Sink>(
     out: &mut O,
     stream: usize,
@@ -104,6 +105,7 @@ fn count_had(desk: &Desk, pieces: u32) -> u32
     count
 }
 
+/// The lines of how many pieces there are and how many are had.
 fn print_counts<O: Sink>(out: &mut O, pieces: u32, had: u32) -> Result<(), DeviceFault>
     ensures ok { OnOk result (Appends (O.written out.old) (O.written out.new) (counts_text pieces had)) }
     ensures err { OnErr result (O.failed out.new ≡ true) }
@@ -166,6 +168,7 @@ fn print_missing_piece<O: Sink>(out: &mut O, piece: u32, done: bool) -> Result<(
     print_number(out, u64::from(piece))
 }
 
+/// The line of what the audit found.
 fn print_judged<O: Sink>(out: &mut O, judged: Judged) -> Result<(), DeviceFault>
     ensures ok { OnOk result (Appends (O.written out.old) (O.written out.new) (judged_text judged)) }
     ensures err { OnErr result (O.failed out.new ≡ true) }

@@ -82,6 +82,7 @@ struct Played {
     run: SerialRun,
 }
 
+/// Plays the streams once the options were read.
 fn play<R: Source, W: Sink>(
     alloc: Global,
     meta: &[u8],

@@ -86,6 +86,7 @@ fn lacks_memory(outcome: Outcome<'_>) -> bool
     outcome.short || is_some_short(outcome.ends)
 }
 
+/// Whether a session ended for want of memory.
 fn is_some_short(ends: &[Result<End, SessionFault>]) -> bool
     ensures { result ≡ list_any ended_short ends.now }
 {
@@ -97,6 +98,7 @@ fn is_some_short(ends: &[Result<End, SessionFault>]) -> bool
     false
 }
 
+/// Whether this one did.
 fn ended_short(end: Result<End, SessionFault>) -> bool
     ensures { result ≡ ended_short end }
 {

@@ -96,6 +96,7 @@ struct Played<R, W> {
     run: SwarmRun<R, W>,
 }
 
+/// Plays the streams in threads once the options were read.
 fn play<T: Threads + Wait + AllocGlobal + Sync, R: Source + Send + Drop, W: Sink + Send + Drop>(
     rt: &T,
     meta: &[u8],

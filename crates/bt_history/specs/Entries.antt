@@ -27,6 +27,7 @@ action_of (calls.Want flags) = Want flags
 abbrev pub event : ℕ → Call → Reply → Event
 event w call reply = record { worker = w; action = action_of call; reply = reply }
 
+-- what contracts see of an entry
 abbrev pub event_of : Entry → Event
 event_of e = event e.worker e.call e.reply
 

@@ -8,6 +8,7 @@ use Rattle.bt_history.specs.declared.event.Action.{Action}
 use Rattle.bt_history.specs.declared.event.Action.TheVariants.{Arrived, Settle}
 use Rattle.bt_history.specs.declared.event.Event.{Event}
 
+-- the entries of a journal as contracts see them, the newest first
 abbrev pub History : Type 0
 History = List Event
 
@@ -43,6 +44,7 @@ bytes_for b action = None
 abbrev pub stored : Event → Block → Option (List ℕ)
 stored e b = if stores e.reply then bytes_for b e.action else None
 
+-- the block that the reply asks for, if it does
 abbrev pub requested_by : Reply → List Block
 requested_by (Request b) = b ∷ []
 requested_by reply = []
@@ -51,6 +53,7 @@ requested_by reply = []
 abbrev pub requested : ℕ → Event → List Block
 requested q e = if e.worker == q then requested_by e.reply else []
 
+-- the reply cancels block b
 abbrev pub cancelled_by : Reply → Block → Bool
 cancelled_by (Cancel a) b = same_begin a b
 cancelled_by reply b = false
@@ -64,10 +67,12 @@ abbrev pub settles : Action → ℕ → Bool
 settles (Settle piece bytes) p = piece == p
 settles action p = false
 
+-- the check found another hash
 abbrev pub is_failed : Reply → Bool
 is_failed Failed = true
 is_failed reply = false
 
+-- the check found the hash of the piece
 abbrev pub is_had : Reply → Bool
 is_had Had = true
 is_had reply = false

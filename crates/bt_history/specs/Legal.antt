@@ -29,12 +29,15 @@ abbrev pub first_cause : List (Bool × Reason) → Option Reason
 first_cause [] = None
 first_cause (cause ∷ causes) = if cause.0 then Some cause.1 else first_cause causes
 
+-- the worker has no peer
 abbrev pub no_peer : History → ℕ → Bool × Reason
 no_peer h w = (not (joined h w), NotJoined)
 
+-- the flags are more or fewer than the pieces
 abbrev pub no_count : Setting → List Bool → Bool × Reason
 no_count s flags = (not (length flags == piece_count s.torrent), WrongCount)
 
+-- there is no such piece
 abbrev pub no_piece : Setting → ℕ → Bool × Reason
 no_piece s p = (nat_le (piece_count s.torrent) p, NoSuchPiece)
 
@@ -87,6 +90,7 @@ answer s h w (Settle p bytes) = settled_answer s h p
 answer s h w Leave = Exactly Quiet
 answer s h w (Want flags) = Exactly Quiet
 
+-- a refusal for this reason, if there is one, else the answer
 abbrev pub answer_unless : Option Reason → Answer → Answer
 answer_unless (Some reason) a = Exactly (Refused reason)
 answer_unless None a = a

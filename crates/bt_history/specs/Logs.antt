@@ -37,6 +37,7 @@ marks_of (e ∷ h) w = marks_of h w ++ (if e.worker == w then mark_of (length h)
 pub record Agrees (h : History) (w : ℕ) (log : List Mark) : Type 0 where
   pub exact : log ≡ marks_of h w
 
+-- what Next may be replied
 abbrev pub answers_next : Reply → Bool
 answers_next (Cancel b) = true
 answers_next (Request b) = true
@@ -46,6 +47,7 @@ answers_next Idle = true
 answers_next NothingLeft = true
 answers_next reply = false
 
+-- what an arrival may be replied
 abbrev pub answers_arrived : Reply → Bool
 answers_arrived Stored = true
 answers_arrived Completed = true

@@ -9,6 +9,7 @@ use Rattle.bt_history.specs.declared.event.Event.{Event}
 use Rattle.bt_history.specs.History.{History, own_call, same_begin, stored, requested, cancelled}
 use Rattle.bt_history.specs.Setting.{Setting, count_blocks, is_block}
 
+-- whether a peer is in after its own newest call, from what it was before
 abbrev pub joined_after : Option Action → Bool → Bool
 joined_after (Some Join) before = true
 joined_after (Some Leave) before = false
@@ -19,6 +20,7 @@ unfoldable pub joined : History → ℕ → Bool
 joined [] q = false
 joined (e ∷ h) q = joined_after (own_call q e) (joined h q)
 
+-- whether a bitfield of it would come too late then
 abbrev pub late_after : Option Action → Bool → Bool
 late_after (Some Join) before = false
 late_after (Some (Bits flags)) before = true
@@ -37,6 +39,7 @@ late (e ∷ h) q = late_after (own_call q e) (late h q)
 abbrev pub flag : List Bool → ℕ → Bool
 flag flags p = slice_index_or flags p false
 
+-- whether it shows piece p then
 abbrev pub shows_after : Option Action → ℕ → Bool → Bool
 shows_after (Some Join) p before = false
 shows_after (Some Leave) p before = false
@@ -49,6 +52,7 @@ unfoldable pub shows : History → ℕ → ℕ → Bool
 shows [] q p = false
 shows (e ∷ h) q p = shows_after (own_call q e) p (shows h q p)
 
+-- whether it lets itself be asked then
 abbrev pub is_open_after : Option Action → Bool → Bool
 is_open_after (Some Unchoke) before = true
 is_open_after (Some Choke) before = false

@@ -20,6 +20,7 @@ kept (e ∷ h) b =
 abbrev pub held : History → Block → Bool
 held h b = is_some (kept h b)
 
+-- the bytes of block b, or none
 abbrev pub content_of_block : History → Block → List ℕ
 content_of_block h b = unwrap_or (kept h b) []
 
@@ -65,6 +66,7 @@ unbegun s h p = not (had h p) && not (some_block_of s.torrent p (held_or_asked s
 abbrev pub availability : Setting → History → ℕ → ℕ
 availability s h p = count_below s.workers (λ q. joined h q && shows h q p)
 
+-- whether piece p is wanted after the newest call, from what it was before
 abbrev pub chosen_after : Option Action → ℕ → Bool → Bool
 chosen_after (Some (Want flags)) p before = flag flags p
 chosen_after call p before = before

@@ -14,6 +14,7 @@ use Rattle.bt_meta.specs.Reading.{text_in, piece_length_in, pieces_in, lengths_i
 abbrev pub content_of : List ℕ → Content
 content_of lengths = record { total = min (sum lengths) (2 ^ 64 - 1); files = length lengths }
 
+-- the content of the files of a list
 abbrev pub content_of_files : List Term → Result Content MetaFault
 content_of_files files = file_lengths_in files >>= λ lengths. Ok (content_of lengths)
 
@@ -21,6 +22,7 @@ content_of_files files = file_lengths_in files >>= λ lengths. Ok (content_of le
 unfoldable pub content_listed : Term → Result Content MetaFault
 content_listed files = ok_or (items_of files) (WrongKind key.Files) >>= λ items. content_of_files items
 
+-- the content that an info dictionary tells
 unfoldable pub content_in : Term → Result Content MetaFault
 content_in info = lengths_in info >>= λ lengths. Ok (content_of lengths)
 

@@ -11,13 +11,15 @@ use Rattle.bt_meta.specs.declared.key.Key.TheVariants.{Info, Name, PieceLength, 
 use Rattle.bt_meta.specs.Keys.{key_name}
 use Rattle.bt_meta.specs.Layout.{IsLayout, Metainfo}
 
--- the integer at a key of a dictionary, where there is one; the string; the list
+-- the integer at a key of a dictionary, where there is one
 abbrev pub int_at : Term → Key → Option ℤ
 int_at t key = option_and_then int_of (get t (key_name key))
 
+-- the string at a key
 abbrev pub text_at : Term → Key → Option (List ℕ)
 text_at t key = option_and_then text_of (get t (key_name key))
 
+-- the list at a key
 abbrev pub items_at : Term → Key → Option (List Term)
 items_at t key = option_and_then items_of (get t (key_name key))
 
@@ -55,6 +57,7 @@ lengths_by info (Some one) (Some files) = None
 lengths_by info (Some one) None = option_and_then (λ n. Some (n ∷ [])) (length_at info)
 lengths_by info None (Some files) = option_and_then file_lengths (items_of files)
 
+-- the lengths of the files that an info dictionary tells
 abbrev pub lengths : Term → Option (List ℕ)
 lengths info = lengths_by info (get info (key_name Length)) (get info (key_name Files))
 

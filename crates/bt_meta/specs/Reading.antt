@@ -32,13 +32,15 @@ Gives view (Err fault) reading = Fails fault reading
 unfoldable pub value_in : Term → Key → Result Term MetaFault
 value_in t key = ok_or (get t (key_name key)) (Missing key)
 
--- the integer at a key; the string; the list
+-- the integer at a key, or the fault
 unfoldable pub int_in : Term → Key → Result ℤ MetaFault
 int_in t key = value_in t key >>= λ value. ok_or (int_of value) (WrongKind key)
 
+-- the string at a key, or the fault
 unfoldable pub text_in : Term → Key → Result (List ℕ) MetaFault
 text_in t key = value_in t key >>= λ value. ok_or (text_of value) (WrongKind key)
 
+-- the list at a key, or the fault
 unfoldable pub items_in : Term → Key → Result (List Term) MetaFault
 items_in t key = value_in t key >>= λ value. ok_or (items_of value) (WrongKind key)
 
@@ -89,6 +91,7 @@ lengths_by info (Some one) (Some files) = Err BothLengthAndFiles
 lengths_by info (Some one) None = length_in info >>= λ n. Ok (n ∷ [])
 lengths_by info None (Some files) = ok_or (items_of files) (WrongKind key.Files) >>= λ items. file_lengths_in items
 
+-- the lengths of the files that an info dictionary tells, or the fault
 unfoldable pub lengths_in : Term → Result (List ℕ) MetaFault
 lengths_in info = lengths_by info (get info (key_name key.Length)) (get info (key_name key.Files))
 

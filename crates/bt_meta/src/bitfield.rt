@@ -80,6 +80,7 @@ impl Bitfield {
         self.count
     }
 
+    /// Whether the piece is in the set.
     pub fn has(&self, piece: u32) -> bool
         requires { piece < length self.now }
         ensures { result ≡ slice_index_or self.now piece false }

@@ -111,6 +111,7 @@ impl Order {
         self.groups[number as usize] = group;
     }
 
+    /// Moves the number up, group by group.
     fn raise_to(&mut self, number: u32, group: u32)
         requires number { number < length self.old.group_of }
         requires group { group < self.old.count }
@@ -122,6 +123,7 @@ impl Order {
         }
     }
 
+    /// Moves the number down, group by group.
     fn lower_to(&mut self, number: u32, group: u32)
         requires number { number < length self.old.group_of }
         requires below { group ≤ at self.old.group_of number }

@@ -58,6 +58,7 @@ impl Rising {
         }
     }
 
+    /// Adds a number that is not in the list, at its place.
     fn insert(&mut self, number: u32)
         requires { number < self.old.bound }
         ensures bound { self.new.bound ≡ self.old.bound }
@@ -68,6 +69,7 @@ impl Rising {
         }
     }
 
+    /// Takes out a number that is in the list.
     fn remove(&mut self, number: u32)
         ensures bound { self.new.bound ≡ self.old.bound }
         ensures puts { Puts self.old.numbers number false self.new.numbers }

@@ -12,6 +12,7 @@ use Rattle.bt_history.specs.Logs.{call_mark}
 abbrev pub mark_of_call : Call → CallMark
 mark_of_call call = call_mark (action_of call)
 
+-- what a session does at its place
 pub data Act : Type 0 where
   -- a call and its reply
   Called : CallMark → Reply → Act
@@ -30,6 +31,7 @@ news_of [] = []
 news_of (Called call reply ∷ acts) = news_of acts
 news_of (News piece ∷ acts) = piece ∷ news_of acts
 
+-- the reply is a refusal
 abbrev pub is_refusal : Reply → Bool
 is_refusal (replies.Refused reason) = true
 is_refusal _ = false

@@ -15,6 +15,7 @@ pub record Hearing : Type 0 where
   -- its own count
   pub asked : ℕ
 
+-- what was heard, by what the source tells of itself
 abbrev pub hearing : {R : Type 0} → sources.Ghosts R → Heard → R → Hearing
 hearing of heard reader = record {
   stream = heard.inbound;

@@ -24,6 +24,7 @@ pub record Saying : Type 0 where
   -- by which the sink's owner knows it again
   pub sink : GName
 
+-- what was said, by what the sink tells of itself
 abbrev pub saying : {W : Type 0} → sinks.Ghosts W → Said W → Saying
 saying of said = record {
   written = of.written said.writer.now;
@@ -37,6 +38,7 @@ pub record Outlet : Type 0 where
   pub past : PlaceRecord
   pub said : Saying
 
+-- place and saying, by what each tells of itself
 abbrev pub outlet : {P W : Type 0} → places.Ghosts P → sinks.Ghosts W → P → Said W → Outlet
 outlet at to place said = record { past = at.past place; said = saying to said }
 

@@ -33,6 +33,7 @@ pub record OpeningDone (call : Option CallMark) (old new : Outlet) : Type 0 wher
   pub accepted : NoneRefused acts
   pub performs : Performs old acts new
 
+-- a fault stopped the call of a message, or the check
 pub record OpeningStops (fault : SessionFault) (call : Option CallMark) (old new : Outlet) : Type 0 where
   pub acts : List Act
   pub rest : List Act
@@ -53,6 +54,7 @@ pub record NewsDone (most : ℕ) (old new : Outlet) : Type 0 where
   pub told : (length news ≡ most) ⊎ AllTold new.past
   pub performs : Performs old (map News news) new
 
+-- a fault stopped the news
 pub record NewsStops (fault : SessionFault) (most : ℕ) (old new : Outlet) : Type 0 where
   pub news : List ℕ
   pub few : length news ≤ most
@@ -66,6 +68,7 @@ pub record AskingDone (most : ℕ) (old new : Outlet) : Type 0 where
   pub accepted : NoneRefused acts
   pub performs : Performs old acts new
 
+-- a fault stopped the Next calls
 pub record AskingStops (fault : SessionFault) (most : ℕ) (old new : Outlet) : Type 0 where
   pub acts : List Act
   pub rest : List Act
@@ -81,6 +84,7 @@ pub record TurnDone (terms : TermsState) (m : Message) (old new : Outlet) : Type
   pub news : TellsNews (pieces_of terms) old.past acts new.past
   pub performs : Performs old acts new
 
+-- a fault stopped the turn
 pub record TurnStops (fault : SessionFault) (terms : TermsState) (m : Message) (old new : Outlet) : Type 0 where
   pub acts : List Act
   pub stops : StopsTurn fault terms m acts
@@ -90,6 +94,7 @@ pub record TurnStops (fault : SessionFault) (terms : TermsState) (m : Message) (
 abbrev pub round_turn : {P R W : Type 0} → places.Ghosts P → sources.Ghosts R → sinks.Ghosts W → P → R → Said W → Surroundings
 round_turn at of to place reader said = surroundings at.past of.left to.written place reader said.writer.now
 
+-- what a session keeps between turns, by its two objects
 abbrev pub kept : {W : Type 0} → Heard → Said W → Reading
 kept heard said = reading heard.inbound said.interested
 

@@ -51,6 +51,7 @@ pub record SourceState : Type 0 where
   pub failed : Bool
   pub reads : ℕ
 
+-- what a source tells of itself, beside a count of its reads
 abbrev pub source_state : {R : Type 0} → (R → Option (List ℕ)) → (R → Bool) → (R → Bool) → R → ℕ → SourceState
 source_state left ended failed reader reads =
     record { left = left reader; ended = ended reader; failed = failed reader; reads = reads }

@@ -37,6 +37,7 @@ pub record StreamRecord : Type 0 where
   -- the writer has failed
   pub writer_failed : Bool
 
+-- what a stream tells of itself, by its reader and its writer
 abbrev pub stream_record : {R W : Type 0} → (R → Option (List ℕ)) → (R → Bool) → (R → Bool) → (R → ℕ) → (W → Option (List ℕ)) → (W → Bool) →
     Stream R W → StreamRecord
 stream_record left ended failed reads written writer_failed stream = record {

@@ -17,6 +17,7 @@ use Rattle.bt_peer.specs.Outlets.{WroteFront}
 use Rattle.bt_peer.specs.Reader.{SourceState, most_reads, room_len}
 use Rattle.bt_peer.specs.Steps.{Reading, reading, Surroundings, Start, TakesTurn, TakesLeave, BreaksBy, Departs, EachAsksForNews, TellsAllNews}
 
+-- what contracts see of a session
 pub record SessionState : Type 0 where
   pub terms : TermsState
   pub worker : ℕ
@@ -48,6 +49,7 @@ begun terms worker = record {
 abbrev pub greeting_of : SessionState → List ℕ
 greeting_of state = if state.joined then [] else greeting state.terms.infohash state.worker
 
+-- what a session keeps of its peer
 abbrev pub reading_of : SessionState → Reading
 reading_of state = reading state.stream state.interested
 

@@ -27,6 +27,7 @@ pub record Standing : Type 0 where
   -- all that its generator will answer
   pub generator : Words
 
+-- desk, seat and stream together
 abbrev pub standing : DeskState → Seat → StreamRecord → Standing
 standing desk seat stream =
     record { desk = desk; session = seat.session; told = seat.told; stream = stream; generator = answers_of seat.rng }
@@ -73,6 +74,7 @@ abbrev pub left_after : Option (Result End SessionFault) → ℕ → ℕ
 left_after None left = suc left
 left_after (Some outcome) left = 0
 
+-- what may be left of the session at a seat
 abbrev pub left_of : Seat → ℕ
 left_of seat = left_after seat.session.outcome (to_hear seat.session)
 
@@ -106,6 +108,7 @@ pub record Played {X : Type 0} (record_of : X → StreamRecord) (desk : DeskStat
   pub rest : LeavesRest (length streams) desk desk'
   pub may : MayPlay desk' seats' streams'
 
+-- the session at a seat has ended
 abbrev pub HasEnded : Seat → Type 0
 HasEnded seat = seat.session.outcome ≢ None
 

@@ -23,6 +23,7 @@ pub record Reading : Type 0 where
   pub stream : InboundState
   pub interested : Bool
 
+-- stream and interest together
 abbrev pub reading : InboundState → Bool → Reading
 reading stream interested = record { stream = stream; interested = interested }
 
@@ -32,6 +33,7 @@ pub record Surroundings : Type 0 where
   pub left : Option (List ℕ)
   pub written : Option (List ℕ)
 
+-- place, reader and writer, by what each tells of itself
 abbrev pub surroundings : {P R W : Type 0} →
     (P → PlaceRecord) → (R → Option (List ℕ)) → (W → Option (List ℕ)) → P → R → W → Surroundings
 surroundings past left written place reader writer =
@@ -103,6 +105,7 @@ pub record Start : Type 0 where
   pub stream : InboundState
   pub left : Option (List ℕ)
 
+-- the parts of a start together
 abbrev pub start : TermsState → Bool → InboundState → Option (List ℕ) → Start
 start terms joined stream left = record { terms = terms; joined = joined; stream = stream; left = left }
 

@@ -8,6 +8,7 @@ pub record TermsState : Type 0 where
   pub infohash : List ℕ
   pub depth : ℕ
 
+-- those of a metainfo file and a depth
 abbrev pub terms_of : Metainfo → ℕ → TermsState
 terms_of torrent depth = record { layout = torrent.layout; infohash = torrent.infohash; depth = depth }
 

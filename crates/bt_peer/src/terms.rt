@@ -28,6 +28,7 @@ impl Model for Terms {
 }
 
 impl Terms {
+    /// Those of a torrent and a depth.
     pub fn new(torrent: Arc<Torrent>, depth: u32) -> Terms
         requires { depth ≤ MOST_DEPTH }
         ensures { result ≡ terms_of torrent.value depth }
@@ -35,12 +36,14 @@ impl Terms {
         Terms { torrent, depth }
     }
 
+    /// The torrent's pieces.
     pub fn piece_count(&self) -> u32
         ensures { result ≡ pieces_of self.now }
     {
         self.torrent.piece_count()
     }
 
+    /// The torrent's infohash.
     pub fn infohash(&self) -> &[u8; 20]
         ensures { result.now ≡ self.now.infohash }
     {

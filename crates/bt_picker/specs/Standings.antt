@@ -19,6 +19,7 @@ abbrev pub cell_kept : Cell → CellState
 cell_kept (Held place) = record { stored_at = Some place; askers = 0 }
 cell_kept (Asked askers) = record { stored_at = None; askers = askers }
 
+-- the block is held
 abbrev pub is_held : CellState → Bool
 is_held cell = is_some cell.stored_at
 
@@ -26,9 +27,11 @@ is_held cell = is_some cell.stored_at
 abbrev pub is_touched : CellState → Bool
 is_touched cell = is_some cell.stored_at || nat_lt 0 cell.askers
 
+-- so many of the blocks are held
 abbrev pub held_count : List CellState → ℕ
 held_count cells = count_by is_held cells
 
+-- so many of them are held or asked
 abbrev pub touched_count : List CellState → ℕ
 touched_count cells = count_by is_touched cells
 
@@ -46,6 +49,7 @@ AreTouched n cells = (i : ℕ) → i < n → i < length cells → is_touched (sl
 abbrev pub apart : PieceState → PieceState
 apart row = record row { availability = 0 }
 
+-- the row of a piece that so many peers show
 abbrev pub shown_row : ℕ → PieceState → PieceState
 shown_row n row = record row { availability = n }
 
@@ -76,6 +80,7 @@ group_of_row row =
 abbrev pub raised_group : ℕ → ℕ → ℕ
 raised_group n g = if nat_lt 1025 n then g else if nat_lt g 3 then g else g + 1
 
+-- the group of a piece of group g once one peer less shows it, n before
 abbrev pub lowered_group : ℕ → ℕ → ℕ
 lowered_group n g = if nat_lt 1025 n then g else if nat_lt 3 g then g - 1 else g
 
@@ -83,6 +88,7 @@ lowered_group n g = if nat_lt 1025 n then g else if nat_lt 3 g then g - 1 else g
 abbrev pub wanted_length : PieceState → ℕ
 wanted_length row = if row.wanted then length row.blocks else 0
 
+-- what the row of a piece amounts to
 abbrev pub standing_of : PieceState → Standing
 standing_of row = record {
   group = group_of_row row;

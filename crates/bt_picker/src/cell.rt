@@ -38,6 +38,7 @@ impl Cell {
         }
     }
 
+    /// Whether the block is held.
     pub fn is_held(self) -> bool
         ensures { result ≡ is_held (cell_kept self) }
     {

@@ -354,6 +354,7 @@ impl<'a> Position<'a> {
         least
     }
 
+    /// Whether each lacking block of a wanted piece is asked for, and there is one.
     fn is_endgame(&self) -> bool
         ensures { result ≡ endgame self.now.setting self.now.history }
     {

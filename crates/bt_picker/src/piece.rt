@@ -123,6 +123,7 @@ impl Piece {
         }
     }
 
+    /// The group of a piece that so many peers show.
     fn group(&self, shown_by: u32) -> u32
         ensures is { result ≡ group_of_row (shown_row shown_by self.now) }
         ensures few { result < GROUPS }
@@ -178,6 +179,7 @@ impl Piece {
         self.wanted
     }
 
+    /// What is kept of the block.
     pub fn cell(&self, index: u32) -> Cell
         requires { index < length self.now.blocks }
         ensures { cell_kept result ≡ slice_index_or self.now.blocks index empty_cell }

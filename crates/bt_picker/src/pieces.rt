@@ -66,6 +66,7 @@ impl Pieces {
         self.rows.len()
     }
 
+    /// The row of the piece.
     pub fn row(&self, piece: u32) -> &Piece
         requires { piece < length self.now }
         ensures { result.now ≡ apart (piece_row self.now piece) }

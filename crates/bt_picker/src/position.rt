@@ -14,7 +14,7 @@ ghost use Rattle.bt_order.specs.Orders.{at, ListsGroup};
 ghost use Rattle.bt_order.specs.Risings.{Rises};
 ghost use Rattle.bt_picker.specs.Floors.{NoneRarer};
 ghost use Rattle.bt_picker.specs.Standings.{apart, cell_kept, groups_of};
-ghost use Rattle.bt_picker.specs.Tables.{AreTables, cell_of, peer_of, piece_of, place};
+ghost use Rattle.bt_picker.specs.Tables.{AreTables, cell_of, peer_of, piece_of, stored_place};
 
 use crate::cell::Cell;
 use crate::peer::Peer;
@@ -110,6 +110,7 @@ impl<'a> Position<'a> {
         self.torrent().block(piece, index)
     }
 
+    /// The row of the worker's peer.
     pub(crate) fn peer(&self, worker: u32) -> &Peer
         requires { worker < self.now.setting.workers }
         ensures { result.now ≡ peer_of self.now.setting self.now.history worker }
@@ -117,6 +118,7 @@ impl<'a> Position<'a> {
         self.tables.peer(worker)
     }
 
+    /// The row of the piece.
     pub(crate) fn piece(&self, piece: u32) -> &Piece
         requires { piece < piece_count self.now.setting.torrent }
         ensures { result.now ≡ apart (piece_of self.now.setting self.now.history piece) }
@@ -156,6 +158,7 @@ impl<'a> Position<'a> {
         self.tables.floor(worker)
     }
 
+    /// The cell of the block.
     fn cell(&self, piece: u32, index: u32) -> Cell
         requires piece { piece < piece_count self.now.setting.torrent }
         requires index { index < block_count self.now.setting.torrent piece }
@@ -301,7 +304,7 @@ impl<'a> Position<'a> {
     pub fn place(&self, piece: u32, index: u32) -> Option<usize>
         requires piece { piece < piece_count self.now.setting.torrent }
         requires index { index < block_count self.now.setting.torrent piece }
-        ensures { result ≡ place self.now.history (block self.now.setting.torrent piece index) }
+        ensures { result ≡ stored_place self.now.history (block self.now.setting.torrent piece index) }
     {
         self.cell(piece, index)
             .stored_at()

@@ -104,6 +104,7 @@ impl Tables {
         &self.torrent
     }
 
+    /// The row of the worker's peer.
     pub fn peer(&self, worker: u32) -> &Peer
         requires { worker < length self.now.peers }
         ensures { result.now ≡ peer_row self.now.peers worker }
@@ -111,6 +112,7 @@ impl Tables {
         &self.peers[worker as usize]
     }
 
+    /// The row of the piece.
     pub fn piece(&self, piece: u32) -> &Piece
         requires { piece < length self.now.pieces }
         ensures { result.now ≡ apart (piece_row self.now.pieces piece) }
@@ -276,6 +278,7 @@ impl Tables {
         self.floors.fill(0); // fewer peers may show a piece
     }
 
+    /// Join: what was asked of an earlier peer of the worker is freed.
     fn join(&mut self, worker: u32)
         requires { worker < length self.old.peers }
         ensures { self.new ≡ with_peer (released self.old worker) worker join_row }
@@ -284,6 +287,7 @@ impl Tables {
         self.peers[worker as usize].join();
     }
 
+    /// Choke: what was asked of the peer is freed.
     fn choke(&mut self, worker: u32)
         requires { worker < length self.old.peers }
         ensures { self.new ≡ with_peer (released self.old worker) worker choke_row }
@@ -292,6 +296,7 @@ impl Tables {
         self.peers[worker as usize].choke();
     }
 
+    /// Unchoke.
     fn unchoke(&mut self, worker: u32)
         requires { worker < length self.old.peers }
         ensures { self.new ≡ with_peer self.old worker unchoke_row }
@@ -299,6 +304,7 @@ impl Tables {
         self.peers[worker as usize].unchoke();
     }
 
+    /// Bits.
     fn put_bits(&mut self, worker: u32, flags: &Bitfield)
         requires worker { worker < length self.old.peers }
         requires flags { length flags.now ≡ length (peer_row self.old.peers worker).shows }
@@ -310,6 +316,7 @@ impl Tables {
         self.peers[worker as usize].put_bits(flags);
     }
 
+    /// Have.
     fn put_have(&mut self, worker: u32, piece: u32)
         requires worker { worker < length self.old.peers }
         requires piece { piece < length self.old.pieces }
@@ -325,6 +332,7 @@ impl Tables {
         self.peers[worker as usize].put_have(piece);
     }
 
+    /// Leave: what was asked of the peer is freed, and it shows nothing.
     fn leave(&mut self, worker: u32)
         requires worker { worker < length self.old.peers }
         requires few { AreCounted (reshown (released self.old worker) worker []).pieces }
@@ -335,6 +343,7 @@ impl Tables {
         self.peers[worker as usize].leave();
     }
 
+    /// Next, by its reply.
     fn put_next(&mut self, worker: u32, reply: Reply)
         requires worker { worker < length self.old.peers }
         requires request { (b : Block) → reply ≡ Reply.Request b → HasRoomFor self.old worker b }
@@ -347,6 +356,7 @@ impl Tables {
         }
     }
 
+    /// The block is asked of the peer.
     fn ask(&mut self, worker: u32, block: Block)
         requires worker { worker < length self.old.peers }
         requires room { HasRoomFor self.old worker block }
@@ -357,6 +367,7 @@ impl Tables {
             .apply(block.piece, Change::Raise(block.begin / BLOCK_SIZE));
     }
 
+    /// The cancel of the block is told.
     fn cancel(&mut self, worker: u32, block: Block)
         requires { worker < length self.old.peers }
         ensures { self.new ≡ with_peer self.old worker (cancel_row block) }
@@ -394,6 +405,7 @@ impl Tables {
         self.note_arrival(worker);
     }
 
+    /// The peer told something, so that a bitfield of it would come too late.
     fn note_arrival(&mut self, worker: u32)
         requires { worker < length self.old.peers }
         ensures { self.new ≡ with_peer self.old worker late_row }
@@ -401,6 +413,7 @@ impl Tables {
         self.peers[worker as usize].note_arrival();
     }
 
+    /// A check of the piece, by its reply.
     fn put_check(&mut self, piece: u32, reply: Reply)
         requires { piece < length self.old.pieces }
         ensures { self.new ≡ after_check self.old piece reply }
@@ -420,6 +433,7 @@ impl Tables {
         self.floors.fill(0); // the piece may be unbegun again
     }
 
+    /// Want.
     fn put_want(&mut self, flags: &Bitfield)
         ensures { self.new ≡ rewanted self.old flags.now }
     {
@@ -465,6 +479,7 @@ fn forget_all(peers: &mut [Peer], worker: u32, piece: u32, begin: u32)
     }
 }
 
+/// The rows of so many peers that told nothing.
 fn new_peers(alloc: Global, workers: u32, pieces: u32) -> Result<Vec<Peer>, AllocError>
     ensures { IfOk result (λ peers. peers.items ≡ table workers (λ q. fresh_peer pieces)) }
 {

@@ -27,6 +27,7 @@ pub fn command<'a>(alloc: Global) -> Result<Command<'a>, AllocError> {
         .subcommand(run(alloc)?)
 }
 
+/// The command `script`.
 fn script<'a>(alloc: Global) -> Command<'a> {
     Command::new(alloc, "script")
         .about(
@@ -35,6 +36,7 @@ fn script<'a>(alloc: Global) -> Command<'a> {
         .after_help(help::SCRIPT)
 }
 
+/// The command `info`.
 fn info<'a>(alloc: Global) -> Result<Command<'a>, AllocError> {
     Command::new(alloc, "info")
         .about("Prints what a metainfo file says of its content")
@@ -50,6 +52,7 @@ fn meta<'a>(alloc: Global) -> Arg<'a> {
         .action(ArgAction::Set)
 }
 
+/// The command `serial`.
 fn serial<'a>(alloc: Global) -> Result<Command<'a>, AllocError> {
     Command::new(alloc, "serial")
         .about("Plays recorded streams of peers at one desk, and reports which pieces are lacking")
@@ -64,6 +67,7 @@ fn serial<'a>(alloc: Global) -> Result<Command<'a>, AllocError> {
         .arg(streams(alloc))
 }
 
+/// The command `run`.
 fn run<'a>(alloc: Global) -> Result<Command<'a>, AllocError> {
     Command::new(alloc, "run")
         .about(
@@ -79,6 +83,7 @@ fn run<'a>(alloc: Global) -> Result<Command<'a>, AllocError> {
         .arg(streams(alloc))
 }
 
+/// The option `--seed`.
 fn seed<'a>(alloc: Global) -> Arg<'a> {
     Arg::new(alloc, "seed")
         .long("seed")
@@ -88,6 +93,7 @@ fn seed<'a>(alloc: Global) -> Arg<'a> {
         .default_value("0")
 }
 
+/// The option `--want`.
 fn want<'a>(alloc: Global) -> Arg<'a> {
     Arg::new(alloc, "want")
         .long("want")
@@ -96,6 +102,7 @@ fn want<'a>(alloc: Global) -> Arg<'a> {
         .action(ArgAction::Set)
 }
 
+/// The option `--depth`.
 fn depth<'a>(alloc: Global) -> Arg<'a> {
     Arg::new(alloc, "depth")
         .long("depth")
@@ -105,6 +112,7 @@ fn depth<'a>(alloc: Global) -> Arg<'a> {
         .default_value("5")
 }
 
+/// The option `--random`.
 fn random<'a>(alloc: Global) -> Arg<'a> {
     Arg::new(alloc, "random")
         .long("random")
@@ -114,6 +122,7 @@ fn random<'a>(alloc: Global) -> Arg<'a> {
         .default_value("1")
 }
 
+/// The option `--checkers`.
 fn checkers<'a>(alloc: Global) -> Arg<'a> {
     Arg::new(alloc, "checkers")
         .long("checkers")
@@ -123,6 +132,7 @@ fn checkers<'a>(alloc: Global) -> Arg<'a> {
         .default_value("1")
 }
 
+/// The option `--journal`.
 fn journal<'a>(alloc: Global) -> Arg<'a> {
     Arg::new(alloc, "journal")
         .long("journal")
@@ -130,6 +140,7 @@ fn journal<'a>(alloc: Global) -> Arg<'a> {
         .action(ArgAction::SetTrue)
 }
 
+/// The option `--out`.
 fn out<'a>(alloc: Global) -> Arg<'a> {
     Arg::new(alloc, "out")
         .long("out")

@@ -35,6 +35,7 @@ where
     conclude(play(rt, words, out, err), err)
 }
 
+/// Plays the command that the arguments say.
 fn play<'w, R: Runtime + AllocGlobal + Threads + Wait + Sync, O: Write + Drop, E: Write>(
     rt: &R,
     words: &'w [String],
@@ -89,6 +90,7 @@ fn ended<'w, O: Write>(done: Result<u8, Fault>, out: &mut Device<O>) -> Result<u
     }
 }
 
+/// What became of an output.
 fn printed<'w, O: Write>(out: &mut Device<O>) -> Result<(), Failure<'w>> {
     match out.finish() {
         Ok(()) => Ok(()),
@@ -96,6 +98,7 @@ fn printed<'w, O: Write>(out: &mut Device<O>) -> Result<(), Failure<'w>> {
     }
 }
 
+/// The command `info`.
 fn info<'w, R: Runtime + AllocGlobal, O: Write>(
     rt: &R,
     arguments: &ArgMatches<'w>,
@@ -108,6 +111,7 @@ fn info<'w, R: Runtime + AllocGlobal, O: Write>(
     ended(describe(rt.alloc(), &meta, out).map(|_| 0), out)
 }
 
+/// The command `script`.
 fn script<'w, R: Runtime + AllocGlobal, O: Write>(
     rt: &R,
     out: &mut Device<O>,
@@ -116,16 +120,19 @@ fn script<'w, R: Runtime + AllocGlobal, O: Write>(
     ended(play_script(rt.alloc(), &input, out).map(|_| 0), out)
 }
 
+/// All of standard input.
 fn read_input<R: Runtime + AllocGlobal>(rt: &R) -> io::Result<Vec<u8>> {
     let mut input = Vec::new(rt.alloc());
     BufReader::new(rt.alloc(), rt.reader())?.read_to_end(&mut input)?;
     Ok(input)
 }
 
+/// All of a file.
 fn read<'w, R: Runtime + AllocGlobal>(rt: &R, path: &'w str) -> Result<Vec<u8>, Failure<'w>> {
     fs::read(rt, path).map_err(|e| Failure::of_file(path, e))
 }
 
+/// The command `serial`.
 fn serial<'w, R: Runtime + AllocGlobal, O: Write, E: Write>(
     rt: &R,
     arguments: &ArgMatches<'w>,
@@ -149,6 +156,7 @@ fn serial<'w, R: Runtime + AllocGlobal, O: Write, E: Write>(
     finish(rt, told, &run.desk, out, arguments.get_str("out"))
 }
 
+/// The command `run`.
 fn run<'w, R: Runtime + AllocGlobal + Threads + Wait + Sync, O: Write, E: Write>(
     rt: &R,
     arguments: &ArgMatches<'w>,
@@ -244,6 +252,7 @@ fn finish<'w, R: Runtime + AllocGlobal, O: Write>(
     }
 }
 
+/// Writes the content to a file, if all pieces are had.
 fn save_to<'w, R: Runtime + AllocGlobal>(
     rt: &R,
     desk: &Desk,

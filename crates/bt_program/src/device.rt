@@ -29,6 +29,7 @@ impl<W: Write> Device<W> {
         self.error
     }
 
+    /// Keeps the first error.
     fn note(&mut self, error: io::Error)
         ensures inner { self.new.inner ≡ self.old.inner }
         ensures failed { is_some self.new.error ≡ true }

@@ -36,6 +36,7 @@ impl<'a> Failure<'a> {
         }
     }
 
+    /// That of standard output.
     pub fn of_output(error: io::Error) -> Failure<'a>
         ensures closed { error_kind error ≡ BrokenPipe → result ≡ Failure.Closed }
         ensures memory { error_kind error ≡ OutOfMemory → result ≡ Failure.Command Fault.Memory }

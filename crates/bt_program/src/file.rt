@@ -36,6 +36,7 @@ impl<'a, R: Files> OutFile<'a, R> {
         self.error
     }
 
+    /// Keeps the first error.
     fn note(&mut self, error: io::Error)
         ensures { is_some self.new.error ≡ true }
     {

@@ -19,6 +19,7 @@ pub record OrderLine : Type 0 where
   pub worker : ℕ
   pub order : Order
 
+-- a command that was read, as an order
 abbrev pub seen_command : Command → Order
 seen_command commands.Join = join
 seen_command (commands.Bits bytes) = bits bytes.items
@@ -31,6 +32,7 @@ seen_command (commands.Settle piece) = settle piece
 seen_command commands.Leave = leave
 seen_command (commands.Want bytes) = want bytes.items
 
+-- a line that was read, as an order of a worker
 abbrev pub seen_line : Line → OrderLine
 seen_line line = record { worker = line.worker; order = seen_command line.command }
 
@@ -70,10 +72,12 @@ command_in word (argument ∷ []) = short_command word argument
 command_in word (piece ∷ begin ∷ hex ∷ []) = block_command word piece begin hex
 command_in word arguments = None
 
+-- worker and order together, if both can be read
 abbrev pub ordered : Option ℕ → Option Order → Option OrderLine
 ordered (Some worker) (Some order) = Some (record { worker = worker; order = order })
 ordered worker order = None
 
+-- the line that these fields say
 abbrev pub line_of_fields : List (List ℕ) → Option OrderLine
 line_of_fields [] = None
 line_of_fields (worker ∷ []) = None

@@ -9,6 +9,7 @@ use Rattle.bt_script.specs.Fields.{fields_of, small_number_in}
 abbrev pub depth_within : ℕ → Option ℕ
 depth_within n = if nat_le 1 n && nat_le n MOST_DEPTH then Some n else None
 
+-- the depth that the text says
 abbrev pub depth_in : List ℕ → Option ℕ
 depth_in text = option_and_then depth_within (small_number_in text)
 
@@ -16,13 +17,16 @@ depth_in text = option_and_then depth_within (small_number_in text)
 abbrev pub random_within : ℕ → ℕ → Option ℕ
 random_within pieces n = if nat_le n pieces then Some n else None
 
+-- the number of pieces at random that the text says
 abbrev pub random_in : ℕ → List ℕ → Option ℕ
 random_in pieces text = option_and_then (random_within pieces) (small_number_in text)
 
+-- depth and number together, if both can be read
 abbrev pub rules_of : Option ℕ → Option ℕ → Option Rules
 rules_of (Some depth) (Some random) = Some (record { depth = depth; random = random })
 rules_of depth random = None
 
+-- the rules that these fields say
 abbrev pub rules_of_fields : ℕ → List (List ℕ) → Option Rules
 rules_of_fields pieces (word ∷ depth ∷ random ∷ []) =
     if bytes_eq word (codes "rules") then rules_of (depth_in depth) (random_in pieces random) else None

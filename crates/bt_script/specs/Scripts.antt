@@ -159,6 +159,7 @@ StopsOpening lines faults.Memory = Unit {0}
 StopsOpening lines faults.NoThread = ⊥
 StopsOpening lines (faults.Gather fault) = ⊥
 
+-- these lines are no script, and the line of this number, counted from 1, is the first at fault
 abbrev pub FailsAt : List (List ℕ) → ℕ → Type 0
 FailsAt lines number = LacksLines lines number ⊎ FailsToStart lines number ⊎ FailsLater lines number
 

@@ -11,6 +11,7 @@ use Rattle.bt_script.specs.Fields.{fields_of, number_in, small_number_in, digest
 abbrev pub workers_within : ℕ → Option ℕ
 workers_within n = if nat_le 1 n && nat_le n MOST_WORKERS then Some n else None
 
+-- the number of workers that the text says
 abbrev pub workers_in : List ℕ → Option ℕ
 workers_in text = option_and_then workers_within (small_number_in text)
 
@@ -28,11 +29,13 @@ digests_in (text ∷ texts) = put_digest (digest_in text) (digests_in texts)
 abbrev pub no_infohash : List ℕ
 no_infohash = replicate 20 0
 
+-- the parts of the first line together, if all can be read
 abbrev pub setup_of : Option ℕ → Option ℕ → Option ℕ → Option (List (List ℕ)) → Option Setup
 setup_of (Some piece_length) (Some total) (Some workers) (Some hashes) =
     option_map (λ torrent. record { torrent = torrent; workers = workers }) (result_ok (torrent_of piece_length total hashes no_infohash))
 setup_of piece_length total workers hashes = None
 
+-- the setup that these fields say
 abbrev pub setup_of_fields : List (List ℕ) → Option Setup
 setup_of_fields [] = None
 setup_of_fields (word ∷ []) = None

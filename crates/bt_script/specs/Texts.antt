@@ -3,7 +3,7 @@ use Rattle.std.specs.Prelude.{ℕ, ◌/◌, ◌%◌, List, [], ◌∷◌, ◌++�
 use Rattle.std.specs.List.{flat_map}
 use Rattle.std.specs.Fmt.{decimal, digit_glyph}
 use Rattle.bt_meta.specs.declared.block.Block as blocks
-use Rattle.bt_script.specs.declared.text.Said.{Said}
+use Rattle.bt_script.specs.declared.text.ReplyText.{ReplyText}
 use Rattle.bt_script.specs.declared.text.Tail.{Tail}
 use Rattle.bt_script.specs.declared.text.Tail.TheVariants.{Nothing, Block, Number}
 use Rattle.bt_history.specs.declared.call.Reason.{Reason}
@@ -25,6 +25,7 @@ is_plain byte = nat_le 33 byte && nat_le byte 126 && not (byte == 37)
 abbrev pub name_byte : ℕ → List ℕ
 name_byte byte = if is_plain byte then byte ∷ [] else 37 ∷ hex_byte byte
 
+-- a name, byte by byte
 abbrev pub name_text : List ℕ → List ℕ
 name_text name = flat_map name_byte name
 
@@ -70,5 +71,5 @@ tail_text (Block b) = codes " " ++ block_text b
 tail_text (Number n) = codes " " ++ decimal n
 
 -- a reply in its two parts
-abbrev pub said_text : Said → List ℕ
+abbrev pub said_text : ReplyText → List ℕ
 said_text said = said.word.now ++ tail_text said.tail

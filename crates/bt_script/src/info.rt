@@ -44,6 +44,7 @@ struct Info<'a> {
 }
 
 impl<'a> Info<'a> {
+    /// What the torrent says of itself.
     fn of(alloc: Global, torrent: &'a Torrent) -> Result<Info<'a>, AllocError>
         ensures { IfOk result (λ info. Describes torrent.now info) }
     {

@@ -8,7 +8,7 @@ ghost use Rattle.bt_history.specs.Entries.{action_of, event_of};
 ghost use Rattle.bt_script.specs.Journals.{arrived_text, AreJournalLines, IsCallText, IsJournalLine};
 
 use crate::printing::{print, print_number, print_said};
-use crate::text::Said;
+use crate::text::ReplyText;
 use bt_meta::{Bitfield, DeviceFault, Sink, write_all};
 use bt_picker::{Call, Entry};
 
@@ -35,10 +35,11 @@ pub fn print_entry<O: Sink>(out: &mut O, entry: &Entry) -> Result<(), DeviceFaul
     print(out, " ")?;
     print_call(out, &entry.call)?;
     print(out, " = ")?;
-    print_said(out, Said::new(entry.reply))?;
+    print_said(out, ReplyText::new(entry.reply))?;
     print(out, "\n")
 }
 
+/// The call of an entry, as a line of a script has it.
 fn print_call<O: Sink>(out: &mut O, call: &Call) -> Result<(), DeviceFault>
     ensures ok { OnOk result ((text : List ℕ) × IsCallText (action_of call.now) text
         × Appends (O.written out.old) (O.written out.new) text) }
@@ -74,6 +75,7 @@ fn print_call<O: Sink>(out: &mut O, call: &Call) -> Result<(), DeviceFault>
     }
 }
 
+/// An arrival, with its length in place of its bytes.
 fn print_arrived<O: Sink>(
     out: &mut O,
     piece: u32,
@@ -100,6 +102,7 @@ fn print_bits<O: Sink>(out: &mut O, flags: &Bitfield) -> Result<(), DeviceFault>
     print_hexadecimal(out, flags.as_wire())
 }
 
+/// Bytes, two digits each.
 fn print_hexadecimal<O: Sink>(out: &mut O, bytes: &[u8]) -> Result<(), DeviceFault>
     ensures ok { OnOk result (Appends (O.written out.old) (O.written out.new) (encode_lower bytes.now)) }
     ensures err { OnErr result (O.failed out.new ≡ true) }
@@ -110,6 +113,7 @@ fn print_hexadecimal<O: Sink>(out: &mut O, bytes: &[u8]) -> Result<(), DeviceFau
     Ok(())
 }
 
+/// A byte, as two digits.
 fn print_byte<O: Sink>(out: &mut O, byte: u8) -> Result<(), DeviceFault>
     ensures ok { OnOk result (Appends (O.written out.old) (O.written out.new) (encode_lower (byte ∷ []))) }
     ensures err { OnErr result (O.failed out.new ≡ true) }

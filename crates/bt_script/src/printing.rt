@@ -5,10 +5,11 @@ ghost use Rattle.std.specs.Fmt.{decimal};
 ghost use Rattle.std.specs.Io.KnownBytes.{Appends};
 ghost use Rattle.bt_script.specs.Texts.{block_text, said_text, tail_text};
 
-use crate::text::{Said, Tail};
+use crate::text::{ReplyText, Tail};
 use bt_meta::{Block, DeviceFault, Sink, write_all};
 use itoa::Buffer;
 
+/// Writes the text.
 pub fn print<O: Sink>(out: &mut O, text: &str) -> Result<(), DeviceFault>
     ensures ok { OnOk result (Appends (O.written out.old) (O.written out.new) text.now) }
     ensures err { OnErr result (O.failed out.new ≡ true) }
@@ -16,6 +17,7 @@ pub fn print<O: Sink>(out: &mut O, text: &str) -> Result<(), DeviceFault>
     write_all(out, text.as_bytes())
 }
 
+/// Writes the number in base ten.
 pub fn print_number<O: Sink>(out: &mut O, number: u64) -> Result<(), DeviceFault>
     ensures ok { OnOk result (Appends (O.written out.old) (O.written out.new) (decimal number)) }
     ensures err { OnErr result (O.failed out.new ≡ true) }
@@ -35,6 +37,7 @@ pub fn print_block<O: Sink>(out: &mut O, block: Block) -> Result<(), DeviceFault
     print_number(out, u64::from(block.len))
 }
 
+/// Writes what stands behind a word.
 fn print_tail<O: Sink>(out: &mut O, tail: Tail) -> Result<(), DeviceFault>
     ensures ok { OnOk result (Appends (O.written out.old) (O.written out.new) (tail_text tail)) }
     ensures err { OnErr result (O.failed out.new ≡ true) }
@@ -53,7 +56,7 @@ fn print_tail<O: Sink>(out: &mut O, tail: Tail) -> Result<(), DeviceFault>
 }
 
 /// A reply of the picker.
-pub fn print_said<O: Sink>(out: &mut O, said: Said) -> Result<(), DeviceFault>
+pub fn print_said<O: Sink>(out: &mut O, said: ReplyText) -> Result<(), DeviceFault>
     ensures ok { OnOk result (Appends (O.written out.old) (O.written out.new) (said_text said)) }
     ensures err { OnErr result (O.failed out.new ≡ true) }
 {

@@ -15,7 +15,7 @@ mod rules;
 mod setup;
 
 use crate::fault::Fault;
-use crate::text::Said;
+use crate::text::ReplyText;
 pub use bt_picker::MOST_DEPTH;
 use bt_picker::{MOST_WORKERS, Rules};
 pub use fault::LineFault;
@@ -77,6 +77,7 @@ fn first_line(lines: &[&[u8]], from: usize) -> Option<usize>
     None
 }
 
+/// The line of this index, or an empty one.
 fn line_at<'a>(lines: &[&'a [u8]], index: usize) -> &'a [u8]
     requires { index < length lines.now }
     ensures { result.now ≡ line_at (map (λ x. x.now) lines.now) index }
@@ -174,7 +175,7 @@ fn answer(alloc: Global, player: &mut Player, text: &[u8], index: usize) -> Resu
     }
     match player.play(alloc, text) {
         Ok(reply) => {
-            let said = Said::new(reply);
+            let said = ReplyText::new(reply);
             Ok(format!(in alloc; "{said}\n")?)
         }
         Err(fault) => Err(fault.at(index)),

@@ -91,48 +91,50 @@ impl fmt::Display for Tail {
 
 /// A reply of the picker: a word, and what stands behind it.
 #[derive(Clone, Copy)]
-pub struct Said {
+pub struct ReplyText {
     pub word: &'static str,
     pub tail: Tail,
 }
 
-impl Said {
-    fn bare(word: &'static str) -> Said
+impl ReplyText {
+    /// A word with nothing behind it.
+    fn bare(word: &'static str) -> ReplyText
         ensures word { result.word.now ≡ word.now }
         ensures tail { result.tail ≡ Tail.Nothing }
     {
-        Said {
+        ReplyText {
             word,
             tail: Tail::Nothing,
         }
     }
 
-    pub fn new(reply: Reply) -> Said
+    /// What is said for a reply.
+    pub fn new(reply: Reply) -> ReplyText
         ensures { said_text result ≡ reply_text reply }
     {
         match reply {
-            Reply::Joined => Said::bare("joined"),
-            Reply::Noted(true) => Said::bare("noted yes"),
-            Reply::Noted(false) => Said::bare("noted no"),
-            Reply::Quiet => Said::bare("quiet"),
-            Reply::Cancel(block) => Said {
+            Reply::Joined => ReplyText::bare("joined"),
+            Reply::Noted(true) => ReplyText::bare("noted yes"),
+            Reply::Noted(false) => ReplyText::bare("noted no"),
+            Reply::Quiet => ReplyText::bare("quiet"),
+            Reply::Cancel(block) => ReplyText {
                 word: "cancel",
                 tail: Tail::Block(block),
             },
-            Reply::Request(block) => Said {
+            Reply::Request(block) => ReplyText {
                 word: "request",
                 tail: Tail::Block(block),
             },
-            Reply::Choked => Said::bare("choked"),
-            Reply::PipeFull => Said::bare("pipefull"),
-            Reply::Idle => Said::bare("idle"),
-            Reply::NothingLeft => Said::bare("nothing"),
-            Reply::Stored => Said::bare("stored"),
-            Reply::Completed => Said::bare("completed"),
-            Reply::Dropped => Said::bare("dropped"),
-            Reply::Had => Said::bare("had"),
-            Reply::Failed => Said::bare("failed"),
-            Reply::Refused(reason) => Said {
+            Reply::Choked => ReplyText::bare("choked"),
+            Reply::PipeFull => ReplyText::bare("pipefull"),
+            Reply::Idle => ReplyText::bare("idle"),
+            Reply::NothingLeft => ReplyText::bare("nothing"),
+            Reply::Stored => ReplyText::bare("stored"),
+            Reply::Completed => ReplyText::bare("completed"),
+            Reply::Dropped => ReplyText::bare("dropped"),
+            Reply::Had => ReplyText::bare("had"),
+            Reply::Failed => ReplyText::bare("failed"),
+            Reply::Refused(reason) => ReplyText {
                 word: "refused",
                 tail: Tail::Number(reason_number(reason)),
             },
@@ -140,11 +142,11 @@ impl Said {
     }
 }
 
-impl fmt::Display for Said {
+impl fmt::Display for ReplyText {
     ghost output = { λ said. Some (said_text said) };
 
     fn fmt<W: fmt::Write>(&self, f: &mut fmt::Formatter<W>) -> fmt::Result {
-        let Said { word, tail } = *self;
+        let ReplyText { word, tail } = *self;
         write!(f, "{word}{tail}")
     }
 }

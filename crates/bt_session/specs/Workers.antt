@@ -27,6 +27,7 @@ pub record IsNamed (desk : Option TableId) (setting : Setting) (pass : PassState
   pub desk_is : desk ≡ Some pass.table
   pub setting_is : pass.setting ≡ setting
 
+-- each of these passes is
 abbrev pub AreNamed : Option TableId → Setting → List PassState → Type 0
 AreNamed desk setting passes = (k : ℕ) (pass : PassState) → slice_get passes k ≡ Some pass → IsNamed desk setting pass
 

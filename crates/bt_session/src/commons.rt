@@ -110,6 +110,7 @@ impl<L: RunName> Commons<L> {
         self.torrent.piece_count()
     }
 
+    /// The torrent, shared once more.
     pub fn torrent(&self) -> Result<Arc<Torrent>, AllocError>
         ensures { IfOk result (λ torrent. torrent.value ≡ self.now) }
     {

@@ -9,6 +9,7 @@ use Rattle.bt_shared.specs.Guard.{IsIdle, Sat, Slot, part}
 use Rattle.bt_shared.specs.Passes.{PassState}
 use Rattle.bt_shared.specs.Seen.{AreApart, Each, IsAmong, Knows}
 
+-- the workers that the passes speak for
 abbrev pub workers_of : List PassState → List ℕ
 workers_of passes = map (λ (p : PassState). p.worker) passes
 
@@ -16,6 +17,7 @@ workers_of passes = map (λ (p : PassState). p.worker) passes
 abbrev pub part_of : PassState → Part
 part_of p = part (p.worker ∷ []) p.seen
 
+-- what each pass's seat knows
 abbrev pub parts_of : List PassState → List Part
 parts_of passes = map part_of passes
 

@@ -11,15 +11,19 @@ use Rattle.bt_shared.specs.declared.view.Part.{Part}
 use Rattle.bt_shared.specs.declared.view.View.{View}
 use Rattle.bt_shared.specs.Seen.{AreApart, Each, Grows, IsAmong, Knows, own}
 
+-- what the slot has: the desk, while nobody has the word
 abbrev pub Slot : Type 0
 Slot = StdOption DeskState
 
+-- the words and slots of the table, with the views of its seats
 abbrev pub Table : Type 0
 Table = State Slot View
 
+-- a seat: its view, and what it holds
 abbrev pub Sat : Type 0
 Sat = Me Slot View
 
+-- a desk of this history
 abbrev pub desk : Setting → List Event → DeskState
 desk setting h = record { setting = setting; history = h }
 
@@ -81,9 +85,11 @@ pub record IsDesk (words slots : ℕ) : Type 0 where
 
 -- ---- views
 
+-- these workers have seen this history
 abbrev pub part : List ℕ → List Event → Part
 part workers seen = record { workers = workers; seen = seen }
 
+-- a view that is not used up, that was given no other parts
 abbrev pub view : Setting → Bool → Bool → ℕ → Part → View
 view setting taken maker next p = record { setting = setting; spent = false; taken = taken; maker = maker; next = next; part = p; parts = p ∷ [] }
 
@@ -107,6 +113,7 @@ newcomer_view v = view v.setting false false 0 (part (v.next ∷ []) [])
 abbrev pub witness : View → View
 witness v = view v.setting false false 0 (part [] v.part.seen)
 
+-- the longer of two histories
 abbrev pub longer : List Event → List Event → List Event
 longer a b = if nat_lt (length a) (length b) then b else a
 

@@ -42,6 +42,7 @@ pub record IsOf (desk : SharedState) (p : PassState) : Type 0 where
   pub table : p.table ≡ desk.table
   pub setting : p.setting ≡ desk.setting
 
+-- each of the passes is
 abbrev pub AreOf : SharedState → List PassState → Type 0
 AreOf desk passes = (k : ℕ) (p : PassState) → slice_get passes k ≡ Some p → IsOf desk p
 
@@ -80,9 +81,11 @@ pub record SeesUnasked (p : ℕ) (answer : Reply) (old new : PassState) : Type 0
   pub told : answer ≡ unasked_check new.setting p
   pub rests : Rests old new
 
+-- a check was made, or none was due
 abbrev pub Settles : ℕ → Reply → PassState → PassState → Type 0
 Settles p reply old new = SeesChecked p reply old new ⊎ SeesUnasked p reply old new
 
+-- the mark of an entry
 abbrev pub mark : ℕ → CallMark → Reply → Mark
 mark place call reply = record { place = place; call = call; reply = reply }
 

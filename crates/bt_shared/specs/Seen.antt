@@ -7,6 +7,7 @@ use Rattle.bt_history.specs.History.{History}
 abbrev pub own : ℕ → History → History
 own worker h = filter (λ (e : Event). e.worker == worker) h
 
+-- w is one of the list
 abbrev pub IsAmong : ℕ → List ℕ → Type 0
 IsAmong w [] = ⊥
 IsAmong w (x ∷ xs) = (x ≡ w) ⊎ IsAmong w xs

@@ -40,7 +40,8 @@ pub struct View {
     /// It makes the seats of workers, of which `next` is the next.
     pub maker: bool,
     pub next: u32,
+    /// What it knows: for which workers it speaks, and which history it has seen.
     pub part: Part,
-    /// What each of the seats knew that were joined into this one since it last had the word.
+    /// `part` as it was when the seat last had the word, and behind it what each of the seats knew that were joined into it since.
     pub parts: LinkedList<Part>,
 }

@@ -37,12 +37,14 @@ impl Buffer {
         }
     }
 
+    /// How many bytes are held.
     pub fn len(&self) -> usize
         ensures { result ≡ length self.now }
     {
         self.unread.len()
     }
 
+    /// The bytes that are held.
     pub fn as_slice(&self) -> &[u8]
         ensures { result.now ≡ self.now }
     {

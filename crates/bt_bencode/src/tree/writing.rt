@@ -17,6 +17,7 @@ pub fn write(alloc: Global, tree: &Tree) -> Result<Vec<u8>, AllocError>
     Ok(out)
 }
 
+/// Writes the tree behind what stands there.
 #[cycle(put)]
 fn put(alloc: Global, out: &mut Vec<u8>, tree: &Tree) -> Result<(), AllocError>
     ensures { OnOk result (out.new.items ≡ out.old.items ++ spelling tree.now) }
@@ -37,6 +38,7 @@ fn put(alloc: Global, out: &mut Vec<u8>, tree: &Tree) -> Result<(), AllocError>
     }
 }
 
+/// Writes the items of a list, one behind the other.
 #[cycle(put)]
 fn put_items(alloc: Global, out: &mut Vec<u8>, items: &[Tree]) -> Result<(), AllocError>
     ensures { OnOk result (out.new.items ≡ out.old.items ++ spelling_of_terms (terms_from items.now)) }
@@ -47,6 +49,7 @@ fn put_items(alloc: Global, out: &mut Vec<u8>, items: &[Tree]) -> Result<(), All
     Ok(())
 }
 
+/// Writes the entries of a dictionary, each key and then its value.
 #[cycle(put)]
 fn put_entries(
     alloc: Global,
@@ -62,6 +65,7 @@ fn put_entries(
     Ok(())
 }
 
+/// Writes an integer.
 fn put_int(alloc: Global, out: &mut Vec<u8>, value: i64) -> Result<(), AllocError>
     ensures { OnOk result (out.new.items ≡ out.old.items ++ 105 ∷ signed_decimal value ++ 101 ∷ []) }
 {
@@ -71,6 +75,7 @@ fn put_int(alloc: Global, out: &mut Vec<u8>, value: i64) -> Result<(), AllocErro
     Ok(out.push(b'e')?)
 }
 
+/// Writes a string, its length first.
 fn put_string(alloc: Global, out: &mut Vec<u8>, bytes: &[u8]) -> Result<(), AllocError>
     ensures { OnOk result (out.new.items ≡ out.old.items ++ string bytes.now) }
 {

@@ -70,6 +70,7 @@ pub extern "C" fn piecepick_close(alloc: Global, desk: &mut DeskHandle)
     drop(desk.take(alloc));
 }
 
+/// Judges the journal of the desk behind the handle.
 fn audit(alloc: Global, desk: &mut DeskHandle) -> Result<(), Fault>
     ensures same { desk.new.desk ≡ desk.old.desk }
     ensures audits { AtOpen Audits desk.old.desk result }

@@ -12,6 +12,7 @@ use crate::jobs::hash;
 use bt_picker::Reply;
 use std::alloc::Global;
 
+/// Puts a piece that waits for a check behind an empty handle.
 fn take_job(
     alloc: Global,
     desk: &mut DeskHandle,
@@ -29,6 +30,7 @@ fn take_job(
     done
 }
 
+/// Settles the verdict of the check behind the handle.
 fn settle(
     alloc: Global,
     desk: &mut DeskHandle,

@@ -12,6 +12,7 @@ use crate::fault::Fault;
 use bt_picker::{Call, Reply};
 use std::alloc::Global;
 
+/// Makes the worker's call at the desk behind the handle.
 fn call(alloc: Global, desk: &mut DeskHandle, worker: u32, call: Call) -> Result<Reply, Fault>
     ensures { AtHandle (λ d e o. Makes d e worker (action_of call) o) desk.old.desk desk.new.desk result }
 {
@@ -23,6 +24,7 @@ fn call(alloc: Global, desk: &mut DeskHandle, worker: u32, call: Call) -> Result
     outcome
 }
 
+/// Bits, with the payload of a bitfield.
 fn bits(alloc: Global, desk: &mut DeskHandle, worker: u32, bytes: &[u8]) -> Result<Reply, Fault>
     ensures { AtHandle (λ d e o. MakesFlags d e worker bytes.now actions.Bits o) desk.old.desk desk.new.desk result }
 {
@@ -34,6 +36,7 @@ fn bits(alloc: Global, desk: &mut DeskHandle, worker: u32, bytes: &[u8]) -> Resu
     outcome
 }
 
+/// Want, with the payload of a bitfield.
 fn want(alloc: Global, desk: &mut DeskHandle, worker: u32, bytes: &[u8]) -> Result<Reply, Fault>
     ensures { AtHandle (λ d e o. MakesFlags d e worker bytes.now actions.Want o) desk.old.desk desk.new.desk result }
 {
@@ -45,6 +48,7 @@ fn want(alloc: Global, desk: &mut DeskHandle, worker: u32, bytes: &[u8]) -> Resu
     outcome
 }
 
+/// Arrived, with a copy of the bytes.
 fn arrived(
     alloc: Global,
     desk: &mut DeskHandle,
@@ -64,6 +68,7 @@ fn arrived(
     outcome
 }
 
+/// Checks the piece here and now.
 fn settle_now(alloc: Global, desk: &mut DeskHandle, worker: u32, piece: u32) -> Result<Reply, Fault>
     ensures { AtHandle (λ d e o. Settles d e worker piece o) desk.old.desk desk.new.desk result }
 {

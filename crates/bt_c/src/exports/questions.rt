@@ -14,6 +14,7 @@ use bt_meta::Block;
 use bt_picker::Reply;
 use std::alloc::Global;
 
+/// A question about the whole desk.
 fn ask(alloc: Global, desk: &mut DeskHandle, question: Question) -> Result<u32, Fault>
     ensures same { desk.new.desk ≡ desk.old.desk }
     ensures says { AtOpen (λ d o. Says (number_of d question) o) desk.old.desk result }
@@ -26,6 +27,7 @@ fn ask(alloc: Global, desk: &mut DeskHandle, question: Question) -> Result<u32, 
     Ok(number)
 }
 
+/// A question about a piece.
 fn ask_of_piece(
     alloc: Global,
     desk: &mut DeskHandle,
@@ -43,6 +45,7 @@ fn ask_of_piece(
     number
 }
 
+/// How many blocks are asked of the worker's peer.
 fn outstanding_count(alloc: Global, desk: &mut DeskHandle, worker: u32) -> Result<u32, Fault>
     ensures same { desk.new.desk ≡ desk.old.desk }
     ensures says { AtOpen (λ d o. CountsOutstanding d worker o) desk.old.desk result }
@@ -55,6 +58,7 @@ fn outstanding_count(alloc: Global, desk: &mut DeskHandle, worker: u32) -> Resul
     count
 }
 
+/// One of the blocks that are asked of the worker's peer.
 fn outstanding(
     alloc: Global,
     desk: &mut DeskHandle,
@@ -72,6 +76,7 @@ fn outstanding(
     block
 }
 
+/// Writes the piece into the room, if it is had.
 fn read(alloc: Global, desk: &mut DeskHandle, piece: u32, room: &mut [u8]) -> Result<(), Fault>
     ensures same { desk.new.desk ≡ desk.old.desk }
     ensures shut { desk.old.desk ≡ None → room.new ≡ room.old }

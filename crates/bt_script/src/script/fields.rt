@@ -30,6 +30,7 @@ pub fn small_number(text: &[u8]) -> Result<u32, LineFault>
     u32::try_from(number(text)?).map_err(|_| LineFault::NotAllowed)
 }
 
+/// The number that the text says in base ten, a sign allowed.
 fn parsed(text: &[u8]) -> Option<u64>
     ensures { result ≡ number_in text.now }
 {
@@ -40,6 +41,7 @@ fn parsed(text: &[u8]) -> Option<u64>
     str::from_utf8(text).ok()?.parse::<u64>().ok()
 }
 
+/// Whether it has a plus sign.
 fn has_plus(text: &[u8]) -> bool
     ensures { IsTrue result ↔ (slice_index text.now 0 ≡ 43) }
 {

@@ -29,6 +29,7 @@ impl Player {
     ghost use Rattle.bt_picker.specs.Checks.{SettlesNow};
     ghost use Rattle.bt_script.specs.Played.{PlaysOrder, PlaysLine};
 
+    /// A player with a desk of its own.
     pub fn new(alloc: Global, setup: Setup, rules: Rules) -> Result<Player, AllocError>
         requires workers { (1 ≤ setup.workers) × (setup.workers ≤ MOST_WORKERS) }
         requires rules { AreRules setup.torrent.layout rules }
@@ -62,6 +63,7 @@ impl Player {
         self.obey(alloc, worker, command)
     }
 
+    /// Does what the line says.
     fn obey(&mut self, alloc: Global, worker: u32, command: Command) -> Result<Reply, LineFault>
         requires { worker < self.old.workers }
         ensures judged { Judges result (IsOfTorrent self.old.pieces (seen_command command)) }
@@ -104,6 +106,7 @@ impl Player {
         }
     }
 
+    /// Makes the worker's call.
     fn make(&mut self, worker: u32, call: Call) -> Result<Reply, LineFault>
         requires { worker < self.old.workers }
         ensures gains { IfOk result (λ reply. Gains self.old.desk self.new.desk (event worker call reply)) }
@@ -114,6 +117,7 @@ impl Player {
         Ok(self.desk.call(worker, call)?)
     }
 
+    /// Checks the piece here and now.
     fn settle(&mut self, alloc: Global, worker: u32, piece: u32) -> Result<Reply, LineFault>
         requires { worker < self.old.workers }
         ensures settles { IfOk result (λ reply. SettlesNow self.old.desk self.new.desk worker piece reply) }
