@@ -20,7 +20,7 @@ use Rattle.bt_peer.proofs.Asked.{asked_later}
 use Rattle.bt_peer.proofs.Stretches.{GainsUpTo-join, Gains-join}
 
 -- nothing of a session's own happened, though a piece may have been had meanwhile
-pub record IsLater (old new : Surroundings) : Type 0 where
+pub record HasIdled (old new : Surroundings) : Type 0 where
   pub left : new.left ≡ old.left
   pub gains : Gains old.past [] new.past
   pub written : new.written ≡ old.written
@@ -40,7 +40,7 @@ appends_later a b c bytes same wrote = subst (λ (written : Option (List ℕ)). 
 front_later : (fault : SessionFault) (a b c : Option (List ℕ)) (bytes : List ℕ) → c ≡ b → WroteFront fault a bytes b → WroteFront fault a bytes c
 front_later fault a b c bytes same wrote = subst (WroteFront fault a bytes) (sym same) wrote
 
-untouched_later : (terms : TermsState) (worker : ℕ) (out : Surroundings) (now : SessionState) (old new : Surroundings) → IsLater old new →
+untouched_later : (terms : TermsState) (worker : ℕ) (out : Surroundings) (now : SessionState) (old new : Surroundings) → HasIdled old new →
     IsUntouched terms worker out now old → IsUntouched terms worker out now new
 untouched_later terms worker out now old new later fresh = record {
   state = fresh.state;
@@ -49,7 +49,7 @@ untouched_later terms worker out now old new later fresh = record {
   written = later.written ∙ fresh.written;
 }
 
-took_later : (terms : TermsState) (worker : ℕ) (out : Surroundings) (now : SessionState) (old new : Surroundings) → IsLater old new →
+took_later : (terms : TermsState) (worker : ℕ) (out : Surroundings) (now : SessionState) (old new : Surroundings) → HasIdled old new →
     TookTurns terms worker out now old → TookTurns terms worker out now new
 took_later terms worker out now old new later took = record {
   first = took.first;
@@ -75,7 +75,7 @@ took_later terms worker out now old new later took = record {
 }
 
 -- a session that runs on, one that came to its end, and one that a fault cut short (`stands_later` goes through the three)
-running_later : (terms : TermsState) (worker : ℕ) (out : Surroundings) (now : SessionState) (old new : Surroundings) → IsLater old new →
+running_later : (terms : TermsState) (worker : ℕ) (out : Surroundings) (now : SessionState) (old new : Surroundings) → HasIdled old new →
     Running terms worker out now old → Running terms worker out now new
 running_later terms worker out now old new later running =
     elim running [
@@ -83,7 +83,7 @@ running_later terms worker out now old new later running =
       | inr took ↦ inr (took_later terms worker out now old new later took)
     ]
 
-whole_later : (end : End) (terms : TermsState) (worker : ℕ) (out old new : Surroundings) → IsLater old new →
+whole_later : (end : End) (terms : TermsState) (worker : ℕ) (out old new : Surroundings) → HasIdled old new →
     IsWhole end terms worker out old → IsWhole end terms worker out new
 whole_later end terms worker out old new later whole = record {
   read = whole.read;
@@ -108,7 +108,7 @@ whole_later end terms worker out old new later whole = record {
 
 fails_later : (fault : SessionFault) (state : SessionState) (out : Surroundings) (source : SourceState) (last : SessionState)
     (old new : Surroundings) →
-    IsLater old new → FailsWith fault state out source last old → FailsWith fault state out source last new
+    HasIdled old new → FailsWith fault state out source last old → FailsWith fault state out source last new
 fails_later fault state out source last old new later fails = record {
   acts = fails.acts;
   leave = fails.leave;
@@ -121,7 +121,7 @@ fails_later fault state out source last old new later fails = record {
 
 ends_later : (outcome : Result End SessionFault) (terms : TermsState) (worker : ℕ) (out : Surroundings) (source : SourceState)
     (old new : Surroundings) →
-    IsLater old new → EndsAs outcome terms worker out source old → EndsAs outcome terms worker out source new
+    HasIdled old new → EndsAs outcome terms worker out source old → EndsAs outcome terms worker out source new
 ends_later (Ok end) terms worker out source old new later whole = whole_later end terms worker out old new later whole
 ends_later (Err fault) terms worker out source old new later cut = record {
   now = cut.now;
@@ -132,7 +132,7 @@ ends_later (Err fault) terms worker out source old new later cut = record {
 }
 
 pub stands_later : (outcome : Option (Result End SessionFault)) (terms : TermsState) (worker : ℕ) (out : Surroundings) (now : SessionState)
-    (source : SourceState) (old new : Bool → Surroundings) → ((short : Bool) → IsLater (old short) (new short)) →
+    (source : SourceState) (old new : Bool → Surroundings) → ((short : Bool) → HasIdled (old short) (new short)) →
     StandsBy outcome terms worker out now source old → StandsBy outcome terms worker out now source new
 stands_later None terms worker out now source old new later stands =
     running_later terms worker out now (old false) (new false) (later false) stands
@@ -146,7 +146,7 @@ pub others_stand : (worker other : ℕ) (old new : DeskState) (session : Session
     Keeps other (record { desk = old; session = session; told = told; stream = stream; generator = generator })
     (record { desk = new; session = session; told = told; stream = stream; generator = generator })
 others_stand worker other old new session told stream generator left apart =
-    let later : (short : Bool) → IsLater (around old other told short stream) (around new other told short stream) =
+    let later : (short : Bool) → HasIdled (around old other told short stream) (around new other told short stream) =
     λ short. record {
       left = refl;
       gains = record {

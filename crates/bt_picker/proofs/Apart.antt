@@ -111,6 +111,7 @@ lowered_by false true asked n =
       ]
     ]
 
+-- where one peer more may be counted (up to CROWD, 1025), the group behind a row's is a group too (below GROUPS, 1029)
 next_room : (resting unbegun asked : Bool) (n : ℕ) → n + 1 ≤ 1025 →
     (if resting then 0 else if unbegun then 3 + min n 1025 else if asked then 1 else 2) + 1 < 1029
 next_room true unbegun asked n few = omega arith

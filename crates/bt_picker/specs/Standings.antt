@@ -5,6 +5,7 @@ use Rattle.std.specs.List.{count_by, sum_by}
 use Rattle.bt_picker.specs.declared.cell.Cell.{Cell}
 use Rattle.bt_picker.specs.declared.cell.Cell.TheVariants.{Asked, Held}
 use Rattle.bt_picker.specs.declared.piece.Standing.{Standing}
+use Rattle.bt_picker.specs.declared.piece.TheConstants.{ASKED_OUT, CROWD, OPEN, RESTING, UNBEGUN}
 use Rattle.bt_picker.specs.Tables.{CellState, PieceState, empty_cell, one_if, piece_of}
 use Rattle.bt_meta.specs.declared.block.Block.{Block}
 use Rattle.bt_meta.specs.Layout.{Layout, piece_count}
@@ -61,28 +62,28 @@ whole_rows (row ∷ rows) (n ∷ shown) = shown_row n row ∷ whole_rows rows sh
 
 -- the group of an unbegun piece that so many peers show
 abbrev pub shown_group : ℕ → ℕ
-shown_group n = 3 + min n 1025
+shown_group n = UNBEGUN + min n CROWD
 
 -- nothing is left to get of the piece: it is had, or not wanted
 abbrev pub is_resting : PieceState → Bool
 is_resting row = row.had || not row.wanted
 
--- 0 for a resting piece, 1 for one whose lacking blocks are all asked (a full one, too), 2 for another begun one, and for an unbegun one by
+-- a resting piece's, that of one whose lacking blocks are all asked (a full one, too), that of another begun one, and for an unbegun one by
 -- its availability
 abbrev pub group_of_row : PieceState → ℕ
 group_of_row row =
-    if is_resting row then 0
+    if is_resting row then RESTING
     else if touched_count row.blocks == 0 then shown_group row.availability
-    else if touched_count row.blocks == length row.blocks then 1
-    else 2
+    else if touched_count row.blocks == length row.blocks then ASKED_OUT
+    else OPEN
 
 -- the group of a piece of group g once one peer more shows it, n in all, and once one less of n does
 abbrev pub raised_group : ℕ → ℕ → ℕ
-raised_group n g = if nat_lt 1025 n then g else if nat_lt g 3 then g else g + 1
+raised_group n g = if nat_lt CROWD n then g else if nat_lt g UNBEGUN then g else g + 1
 
 -- the group of a piece of group g once one peer less shows it, n before
 abbrev pub lowered_group : ℕ → ℕ → ℕ
-lowered_group n g = if nat_lt 1025 n then g else if nat_lt 3 g then g - 1 else g
+lowered_group n g = if nat_lt CROWD n then g else if nat_lt UNBEGUN g then g - 1 else g
 
 -- so many blocks are to be had of the piece
 abbrev pub wanted_length : PieceState → ℕ
