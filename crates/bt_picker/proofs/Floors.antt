@@ -4,13 +4,13 @@ use Rattle.std.proofs.Common.{sym, ◌∙◌, subst, arith, length-set, cond, So
 use Rattle.std.specs.Prelude.{slice_index_or, is_some}
 use Rattle.std.proofs.lemmas.Bool.{false≢true, ne_eqb, lt-ltb, and_right, or_right}
 use Rattle.std.proofs.lemmas.List.Sums.{get_or-le-sum_by}
-use Rattle.std.proofs.lemmas.List.{get_or_default, set-get_or, get_or-set_same, get_or-set_other, get_or-replicate, length-replicate}
+use Rattle.std.proofs.lemmas.List.{set-get_or, get_or-set_same, get_or-set_other, get_or-replicate, length-replicate}
 use Rattle.bt_order.specs.Orders.{at}
 use Rattle.bt_picker.specs.Tables.{CellState, PeerState, PieceState, changed_row, edit, empty_cell, fresh_peer, fresh_piece, have_row, one_if}
 use Rattle.bt_picker.specs.Tables.{one_more, peer_row, piece_row, stored_row}
 use Rattle.bt_picker.specs.declared.piece.Change.TheVariants.{Raise}
 use Rattle.bt_picker.specs.Standings.{is_resting, is_touched, touched_count}
-use Rattle.bt_picker.proofs.Tabled.{edit_read}
+use Rattle.bt_picker.proofs.Tabled.{edit_none, edit_read, get_or_edit_other, get_or_edit_same, length_edit}
 use Rattle.bt_picker.specs.Floors.{AreFloors, IsFloor, is_fresh}
 use mathlib.Core.Logic.{dite}
 use native.Mathlib.Decide.{ℕ_discrete}
@@ -28,37 +28,35 @@ no_floors n peers rows is = record {
 
 -- ---- a peer's row changes
 
-pub set_floor : (floors : List ℕ) (peers : List PeerState) (rows : List PieceState) (w n : ℕ) (row : PeerState) → AreFloors floors peers rows →
-    w < length peers
-    → IsFloor rows row n → AreFloors (set floors w n) (set peers w row) rows
-set_floor floors peers rows w n row are lw here = record {
-  len = length-set floors w n ∙ (are.len ∙ sym (length-set peers w row));
-  each = λ q lq. (let within : q < length peers = omega (arith, lq, length-set peers w row) in dite (ℕ_discrete q w)
-      (λ same. subst (λ (m : ℕ). IsFloor rows (peer_row (set peers w row) m) (at (set floors w n) m)) (sym same)
-      (subst (λ (r : PeerState). IsFloor rows r (at (set floors w n) w)) (sym (get_or-set_same peers w row (fresh_peer 0) lw))
-      (subst (IsFloor rows row) (sym (get_or-set_same floors w n 0 (omega (arith, are.len, lw)))) here)))
-      (λ other. subst (λ (r : PeerState). IsFloor rows r (at (set floors w n) q)) (sym (get_or-set_other peers w q row (fresh_peer 0) other))
+-- its floor is another one, which holds of the new row
+pub new_floor : (floors : List ℕ) (peers : List PeerState) (rows : List PieceState) (w n : ℕ) (change : PeerState → PeerState)
+    → AreFloors floors peers rows → w < length peers → IsFloor rows (change (peer_row peers w)) n
+    → AreFloors (set floors w n) (edit peers w change) rows
+new_floor floors peers rows w n change are lw here = record {
+  len = length-set floors w n ∙ (are.len ∙ sym (length_edit peers w change));
+  each = λ q lq. (let within : q < length peers = omega (arith, lq, length_edit peers w change) in dite (ℕ_discrete q w)
+      (λ same. subst (λ (m : ℕ). IsFloor rows (peer_row (edit peers w change) m) (at (set floors w n) m)) (sym same)
+      (subst (λ (r : PeerState). IsFloor rows r (at (set floors w n) w)) (sym (get_or_edit_same peers w change (fresh_peer 0) lw))
+      (subst (IsFloor rows (change (peer_row peers w))) (sym (get_or-set_same floors w n 0 (omega (arith, are.len, lw)))) here)))
+      (λ other. subst (λ (r : PeerState). IsFloor rows r (at (set floors w n) q)) (sym (get_or_edit_other peers w q change (fresh_peer 0) other))
       (subst (IsFloor rows (peer_row peers q)) (sym (get_or-set_other floors w q n 0 other)) (are.each q within))));
 }
 
-pub set_peer : (floors : List ℕ) (peers : List PeerState) (rows : List PieceState) (w : ℕ) (row : PeerState) → AreFloors floors peers rows →
-    w < length peers
-    → (IsFloor rows (peer_row peers w) (at floors w) → IsFloor rows row (at floors w)) → AreFloors floors (set peers w row) rows
-set_peer floors peers rows w row are lw keeps = record {
-  len = are.len ∙ sym (length-set peers w row);
-  each = λ q lq. (let within : q < length peers = omega (arith, lq, length-set peers w row) in dite (ℕ_discrete q w)
-      (λ same. subst (λ (m : ℕ). IsFloor rows (peer_row (set peers w row) m) (at floors m)) (sym same)
-      (subst (λ (r : PeerState). IsFloor rows r (at floors w)) (sym (get_or-set_same peers w row (fresh_peer 0) lw)) (keeps (are.each w lw))))
-      (λ other. subst (λ (r : PeerState). IsFloor rows r (at floors q)) (sym (get_or-set_other peers w q row (fresh_peer 0) other))
-      (are.each q within)));
-}
+-- its floor holds of the new row too
+pub edit_peer : (floors : List ℕ) (peers : List PeerState) (rows : List PieceState) (w : ℕ) (change : PeerState → PeerState)
+    → AreFloors floors peers rows → w < length peers
+    → (IsFloor rows (peer_row peers w) (at floors w) → IsFloor rows (change (peer_row peers w)) (at floors w))
+    → AreFloors floors (edit peers w change) rows
+edit_peer floors peers rows w change are lw keeps =
+    subst (λ (fs : List ℕ). AreFloors fs (edit peers w change) rows) (set-get_or floors w 0)
+    (new_floor floors peers rows w (at floors w) change are lw (keeps (are.each w lw)))
 
 -- a floor alone is another
 pub raise_floor : (floors : List ℕ) (peers : List PeerState) (rows : List PieceState) (w n : ℕ) → AreFloors floors peers rows → w < length peers
     → IsFloor rows (peer_row peers w) n → AreFloors (set floors w n) peers rows
 raise_floor floors peers rows w n are lw here =
-    subst (λ (l : List PeerState). AreFloors (set floors w n) l rows) (set-get_or peers w (fresh_peer 0))
-    (set_floor floors peers rows w n (peer_row peers w) are lw here)
+    subst (λ (l : List PeerState). AreFloors (set floors w n) l rows) (edit_none peers w (λ row. row) (λ row. refl))
+    (new_floor floors peers rows w n (λ row. row) are lw here)
 
 -- a peer that shows nothing has any floor
 pub shows_none : (rows : List PieceState) (row : PeerState) (k n : ℕ) → row.shows ≡ replicate k false → IsFloor rows row n
@@ -148,19 +146,18 @@ stored_stale row i entry li =
 -- ---- a peer's row as the calls change it
 
 -- its lines of blocks change, and not what it shows
-pub kept_peer : (floors : List ℕ) (peers : List PeerState) (rows : List PieceState) (w : ℕ) (old now : PeerState) → AreFloors floors peers rows →
-    w < length peers
-    → old ≡ get_or peers w old → now.shows ≡ old.shows → AreFloors floors (set peers w now) rows
-kept_peer floors peers rows w old now are lw read same =
-    let row : old ≡ peer_row peers w = read ∙ get_or_default peers w old (fresh_peer 0) lw in
-    let flags : now.shows ≡ (peer_row peers w).shows = same ∙ ap (λ (r : PeerState). r.shows) row in
-    set_peer floors peers rows w now are lw
-    (λ floor p lp shown fresh. floor p lp (ap (λ (fs : List Bool). slice_index_or fs p false) (sym flags) ∙ shown) fresh)
+pub kept_peer : (floors : List ℕ) (peers : List PeerState) (rows : List PieceState) (w : ℕ) (change : PeerState → PeerState)
+    → AreFloors floors peers rows → w < length peers → ((row : PeerState) → (change row).shows ≡ row.shows)
+    → AreFloors floors (edit peers w change) rows
+kept_peer floors peers rows w change are lw same = edit_peer floors peers rows w change are lw
+    (λ floor p lp shown fresh. floor p lp (ap (λ (flags : List Bool). slice_index_or flags p false) (sym (same (peer_row peers w))) ∙ shown) fresh)
 
-pub silent_peer : (floors : List ℕ) (peers : List PeerState) (rows : List PieceState) (w k : ℕ) (now : PeerState) → AreFloors floors peers rows →
-    w < length peers
-    → now.shows ≡ replicate k false → AreFloors floors (set peers w now) rows
-silent_peer floors peers rows w k now are lw none = set_peer floors peers rows w now are lw (λ floor. shows_none rows now k (at floors w) none)
+-- it shows nothing
+pub silent_peer : (floors : List ℕ) (peers : List PeerState) (rows : List PieceState) (w : ℕ) (change : PeerState → PeerState)
+    → AreFloors floors peers rows → w < length peers → ((row : PeerState) → (change row).shows ≡ replicate (length row.shows) false)
+    → AreFloors floors (edit peers w change) rows
+silent_peer floors peers rows w change are lw none = edit_peer floors peers rows w change are lw
+    (λ floor. shows_none rows (change (peer_row peers w)) (length (peer_row peers w).shows) (at floors w) (none (peer_row peers w)))
 
 -- a fresh piece that is shown too may lower the floor
 pub have_floor : (rows : List PieceState) (row : PeerState) (p n : ℕ) → (is_fresh (piece_row rows p) ≡ true → n ≤ (piece_row rows p).availability) →

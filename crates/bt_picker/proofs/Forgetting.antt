@@ -1,14 +1,14 @@
 -- A stored block leaves the rows of the peers that it wasn't asked of as they are.
 use Rattle.std.proofs.Common.{◌≡◌, ◌≢◌, ℕ, zero, suc, ◌==◌, ◌+◌, ◌<◌, ◌≤◌, Bool, true, false, not, ◌&&◌, ◌||◌, List, [], ◌∷◌, ◌++◌, length, get_or}
-use Rattle.std.proofs.Common.{set, refl, ap, sym, ◌∙◌, arith, length-set, ⊎_elim}
+use Rattle.std.proofs.Common.{refl, ap, sym, ◌∙◌, arith, ⊎_elim}
 use Rattle.std.specs.Prelude.{if◌then◌else◌}
 use Rattle.std.specs.List.{filter, list_any}
 use Rattle.std.proofs.lemmas.Bool.{cases_eq, eq-eqb, ne_eqb}
-use Rattle.std.proofs.lemmas.List.{append-nil, get_or-set_same, get_or-set_other, get_or_default}
+use Rattle.std.proofs.lemmas.List.{append-nil, get_or_default}
 use Rattle.bt_meta.specs.declared.block.Block.{Block}
 use Rattle.bt_history.specs.Counting.{count_below, table}
-use Rattle.bt_picker.specs.Tables.{one_if, PeerState, asks_at, fresh_peer, peer_row, without_block}
-use Rattle.bt_picker.proofs.Tabled.{table_from}
+use Rattle.bt_picker.specs.Tables.{one_if, PeerState, asks_at, edit, fresh_peer, peer_row, without_block}
+use Rattle.bt_picker.proofs.Tabled.{get_or_edit_other, get_or_edit_same, length_edit, table_from}
 
 -- ---- counts
 
@@ -69,24 +69,22 @@ unasked_row piece begin row none =
 
 -- ---- the rows
 
-pub forgotten : (peers : List PeerState) (w piece begin askers : ℕ) (row new : PeerState) → w < length peers → row ≡ get_or peers w row
-    → askers ≡ count_below (length peers) (λ q. asks_at piece begin (peer_row peers q)) → askers ≤ one_if (asks_at piece begin row)
-    → new ≡ without_block piece begin true row
-    → set peers w new ≡ table (length peers) (λ q. without_block piece begin (w == q) (peer_row peers q))
-forgotten peers w piece begin askers row new lw read counted few is =
+pub forgotten : (peers : List PeerState) (w piece begin askers : ℕ) → w < length peers
+    → askers ≡ count_below (length peers) (λ q. asks_at piece begin (peer_row peers q)) → askers ≤ one_if (asks_at piece begin (peer_row peers w))
+    → edit peers w (without_block piece begin true) ≡ table (length peers) (λ q. without_block piece begin (w == q) (peer_row peers q))
+forgotten peers w piece begin askers lw counted few =
     let f : ℕ → PeerState = λ q. without_block piece begin (w == q) (peer_row peers q) in
-    let own : row ≡ peer_row peers w = read ∙ get_or_default peers w row (fresh_peer 0) lw in
+    let change = without_block piece begin true in
     let most : count_below (length peers) (λ q. asks_at piece begin (peer_row peers q)) ≤ one_if (asks_at piece begin (peer_row peers w)) =
-    (let same : one_if (asks_at piece begin row) ≡ one_if (asks_at piece begin (peer_row peers w)) =
-    ap (λ (r : PeerState). one_if (asks_at piece begin r)) own in omega (arith, same, few, counted)) in
-    table_from (length peers) f (set peers w new) (length-set peers w new) (λ k d lt. ⊎_elim
+    omega (arith, few, counted) in
+    table_from (length peers) f (edit peers w change) (length_edit peers w change) (λ k d lt. ⊎_elim
     (λ (here : k ≡ w).
-    ap (λ (j : ℕ). get_or (set peers w new) j d) here ∙ (get_or-set_same peers w new d lw
-    ∙ (is ∙ (ap (without_block piece begin true) own
-    ∙ (ap (λ (x : Bool). without_block piece begin x (peer_row peers w)) (sym (eq-eqb w w refl)) ∙ ap f (sym here))))))
+    ap (λ (j : ℕ). get_or (edit peers w change) j d) here ∙ (get_or_edit_same peers w change d lw
+    ∙ (ap change (get_or_default peers w d (fresh_peer 0) lw)
+    ∙ (ap (λ (x : Bool). without_block piece begin x (peer_row peers w)) (sym (eq-eqb w w refl)) ∙ ap f (sym here)))))
     (λ (apart : k ≡ w → ⊥).
     let none = count_alone (length peers) (λ q. asks_at piece begin (peer_row peers q)) w k lw most lt apart in
-    get_or-set_other peers w k new d apart ∙ (get_or_default peers k d (fresh_peer 0) lt
+    get_or_edit_other peers w k change d apart ∙ (get_or_default peers k d (fresh_peer 0) lt
     ∙ (sym (unasked_row piece begin (peer_row peers k) none)
     ∙ ap (λ (x : Bool). without_block piece begin x (peer_row peers k)) (sym (ne_eqb w k (λ e. apart (sym e)))))))
     (cases_eq k w))

@@ -30,3 +30,6 @@ pub mod Audited
 pub mod Finishing
 pub mod Contents
 pub mod Completing
+pub mod Striped
+pub mod Showing
+pub mod Spelled

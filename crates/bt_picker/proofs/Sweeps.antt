@@ -1,5 +1,5 @@
 -- The rows of all pieces, as those of a set change one after the other.
-use Rattle.std.proofs.Common.{◌≡◌, ℕ, zero, suc, ◌+◌, ◌-◌, ◌<◌, ◌≤◌, ◌^◌, Bool, true, false, List, [], ◌∷◌, length, ap, sym, ◌∙◌, arith, inl, inr}
+use Rattle.std.proofs.Common.{◌≡◌, ℕ, ◌+◌, ◌-◌, ◌<◌, ◌≤◌, ◌^◌, Bool, true, false, List, [], length, ap, sym, ◌∙◌, arith, inl, inr}
 use Rattle.std.proofs.Common.{refl}
 use Rattle.std.specs.Prelude.{slice_index_or}
 use Rattle.std.proofs.lemmas.Bool.{cases_lt, false≢true}
@@ -7,7 +7,7 @@ use Rattle.std.proofs.lemmas.List.{get_or_past}
 use Rattle.bt_history.specs.Counting.{table}
 use Rattle.bt_picker.specs.Tables.{AreCounted, PieceState, edit, fresh_piece, hidden_rows, less_available, more_available, one_if, piece_row}
 use Rattle.bt_picker.specs.Tables.{recounted, shown_rows}
-use Rattle.bt_picker.proofs.Tabled.{edit_past, edit_table, get_or_table, length_table, same_table, upto, upto_above, upto_below}
+use Rattle.bt_picker.proofs.Tabled.{edit_none, edit_past, edit_table, get_or_table, length_table, same_table, upto, upto_above, upto_below}
 
 module _ {A : Type 0} (n : ℕ) (g f : ℕ → A) where
   -- where g and f agree from i up to j
@@ -127,11 +127,6 @@ has_room rows now flags i p counted is from shown within =
     omega (arith, fits, one, ap (λ (r : PieceState). r.availability) here)
 
 -- a piece that was shown before stays as it is
-edit_none : {A : Type 0} (xs : List A) (i : ℕ) (f : A → A) → ((x : A) → f x ≡ x) → edit xs i f ≡ xs
-edit_none [] i f same = refl
-edit_none (x ∷ xs) zero f same = ap (λ y. y ∷ xs) (same x)
-edit_none (x ∷ xs) (suc i) f same = ap (λ ys. x ∷ ys) (edit_none xs i f same)
-
 pub tells_nothing : (rows : List PieceState) (p : ℕ) (is_new : Bool) → is_new ≡ false →
     edit rows p (λ row. more_available is_new (less_available false row)) ≡ rows
 tells_nothing rows p is_new old = edit_none rows p (λ row. more_available is_new (less_available false row))

@@ -143,3 +143,28 @@ rows_done ys n i g f is le = is ∙ same_table n (upto i g f) g (λ k lt. upto_b
 pub edit_read : {A : Type 0} (xs : List A) (i : ℕ) (f : A → A) (x d : A) → i < length xs → x ≡ get_or xs i d → set xs i (f x) ≡ edit xs i f
 edit_read xs i f x d lt is =
     ap (λ y. set xs i (f y)) is ∙ edit_set xs i f (get_or xs i d) lt (get_or_default xs i d (get_or xs i d) lt)
+
+-- a change that does nothing, one of an element that was changed before, and two that do the same to it
+pub edit_none : {A : Type 0} (xs : List A) (i : ℕ) (f : A → A) → ((x : A) → f x ≡ x) → edit xs i f ≡ xs
+edit_none [] i f same = refl
+edit_none (x ∷ xs) zero f same = ap (λ y. y ∷ xs) (same x)
+edit_none (x ∷ xs) (suc i) f same = ap (λ ys. x ∷ ys) (edit_none xs i f same)
+
+pub edit_twice : {A : Type 0} (xs : List A) (i : ℕ) (f g : A → A) → edit (edit xs i f) i g ≡ edit xs i (λ x. g (f x))
+edit_twice [] i f g = refl
+edit_twice (x ∷ xs) zero f g = refl
+edit_twice (x ∷ xs) (suc i) f g = ap (λ ys. x ∷ ys) (edit_twice xs i f g)
+
+pub edit_same : {A : Type 0} (xs : List A) (i : ℕ) (f g : A → A) (d : A) → i < length xs → f (get_or xs i d) ≡ g (get_or xs i d)
+    → edit xs i f ≡ edit xs i g
+edit_same [] i f g d lt same = absurd (omega arith)
+edit_same (x ∷ xs) zero f g d lt same = ap (λ y. y ∷ xs) same
+edit_same (x ∷ xs) (suc i) f g d lt same = ap (λ ys. x ∷ ys) (edit_same xs i f g d (omega arith) same)
+
+-- the loop changes its next element
+pub rows_edit : {A : Type 0} (ys : List A) (n i : ℕ) (g f : ℕ → A) (change : A → A) (d : A) → ys ≡ table n (upto i g f) → i < n → change (f i) ≡ g i
+    → edit ys i change ≡ table n (upto (i + 1) g f)
+rows_edit ys n i g f change d is lt at =
+    let within : i < length ys = omega (arith, lt, length_is_table ys n (upto i g f) is) in
+    sym (edit_read ys i change (get_or ys i d) d within refl)
+    ∙ rows_more ys n i g f (change (get_or ys i d)) is lt (ap change (rows_read ys n i g f d is lt) ∙ at)

@@ -8,3 +8,5 @@ pub mod Audits
 pub mod Contents
 pub mod Unbegun
 pub mod Apart
+pub mod Stripes
+pub mod Showing

@@ -13,6 +13,7 @@ ghost use Rattle.bt_history.specs.Pieces.{unbegun, wanted};
 ghost use Rattle.bt_order.specs.Orders.{at, ListsGroup};
 ghost use Rattle.bt_order.specs.Risings.{Rises};
 ghost use Rattle.bt_picker.specs.Floors.{NoneRarer};
+ghost use Rattle.bt_picker.specs.Showing.{dealings};
 ghost use Rattle.bt_picker.specs.Standings.{apart, cell_kept, groups_of};
 ghost use Rattle.bt_picker.specs.Tables.{AreTables, cell_of, peer_of, piece_of, stored_place};
 
@@ -110,10 +111,10 @@ impl<'a> Position<'a> {
         self.torrent().block(piece, index)
     }
 
-    /// The row of the worker's peer.
+    /// The row of the worker's peer, beside the pieces that it shows.
     pub(crate) fn peer(&self, worker: u32) -> &Peer
         requires { worker < self.now.setting.workers }
-        ensures { result.now ≡ peer_of self.now.setting self.now.history worker }
+        ensures { result.now ≡ dealings (peer_of self.now.setting self.now.history worker) }
     {
         self.tables.peer(worker)
     }
@@ -193,7 +194,7 @@ impl<'a> Position<'a> {
         requires piece { piece < piece_count self.now.setting.torrent }
         ensures { result ≡ shows self.now.history worker piece }
     {
-        self.peer(worker).shows(piece)
+        self.tables.shows(worker, piece)
     }
 
     /// The blocks asked of the worker's peer, the oldest request first.

@@ -2,31 +2,34 @@
 
 ghost use Rattle.std.specs.Prelude.{◌≡◌, ◌<◌, ◌+◌, ◌^◌, [], false, true, length, slice_index_or, unwrap_or};
 ghost use Rattle.std.specs.Option.{option_copied};
-ghost use Rattle.bt_picker.specs.Tables.{AreCounted, edit, hidden_rows, less_available, lowered, lowered_by, more_available, piece_row};
+ghost use Rattle.bt_picker.specs.Tables.{AreCounted, edit, hidden_rows, less_available, lowered, lowered_by, more_available, peer_row, piece_row};
 ghost use Rattle.bt_picker.specs.Tables.{recounted, shown_rows, wanted_by};
 
+use crate::peers::Peers;
 use crate::piece::Change;
 use crate::pieces::Pieces;
 use bt_meta::{BLOCK_SIZE, Bitfield, Block};
 
-/// A peer that showed the pieces of `before` shows those of `after` in their place, or none.
-pub fn recount(pieces: &mut Pieces, before: &Bitfield, after: Option<&Bitfield>)
-    requires { AreCounted (recounted pieces.old before.now (unwrap_or (option_copied after) [])) }
-    ensures { pieces.new ≡ recounted pieces.old before.now (unwrap_or (option_copied after.entry) []) }
+/// The worker's peer shows the pieces of `after` in place of those that it showed, or none.
+pub fn recount(pieces: &mut Pieces, peers: &Peers, worker: u32, after: Option<&Bitfield>)
+    requires worker { worker < length peers.now }
+    requires few { AreCounted (recounted pieces.old (peer_row peers.now worker).shows (unwrap_or (option_copied after) [])) }
+    ensures { pieces.new ≡ recounted pieces.old (peer_row peers.now worker).shows (unwrap_or (option_copied after.entry) []) }
 {
-    hide_all(pieces, before);
+    hide_all(pieces, peers, worker);
     if let Some(flags) = after {
         show_all(pieces, flags);
     }
 }
 
-/// A peer that showed the pieces of the set shows them no more.
-fn hide_all(pieces: &mut Pieces, flags: &Bitfield)
-    ensures { pieces.new ≡ hidden_rows flags.now pieces.old }
+/// The worker's peer shows its pieces no more.
+fn hide_all(pieces: &mut Pieces, peers: &Peers, worker: u32)
+    requires { worker < length peers.now }
+    ensures { pieces.new ≡ hidden_rows (peer_row peers.now worker).shows pieces.old }
 {
     let mut from = 0;
-    while from < flags.count() {
-        match flags.first_from(from) {
+    while from < peers.pieces(worker) {
+        match peers.first_shown(worker, from) {
             Some(piece) => {
                 hide(pieces, piece);
                 from = piece + 1;

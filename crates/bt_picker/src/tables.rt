@@ -7,6 +7,7 @@ ghost use Rattle.std.specs.Option.{option_copied};
 ghost use Rattle.std.specs.List.{count_by, sum_by};
 ghost use Rattle.bt_order.specs.Orders.{at, ListsGroup};
 ghost use Rattle.bt_order.specs.Risings.{IsRising};
+ghost use Rattle.bt_picker.specs.Showing.{dealings};
 ghost use Rattle.bt_picker.specs.Standings.{apart, group_of_row, standing_of};
 ghost use Rattle.bt_history.specs.Setting.{setting_of};
 ghost use Rattle.bt_history.specs.Entries.{event, history_of};
@@ -22,6 +23,7 @@ ghost use Rattle.bt_picker.specs.Tables.{choke_row, unchoke_row, less_available,
 ghost use Rattle.bt_picker.specs.Tables.{recounted, released, reshown, rewanted, wanted_by, with_block, with_peer, without_block};
 
 use crate::peer::Peer;
+use crate::peers::Peers;
 use crate::piece::{Change, GROUPS, Piece, UNBEGUN};
 use crate::pieces::Pieces;
 use crate::sweep::{lower_all, recount, rewant};
@@ -39,7 +41,7 @@ pub struct Tables {
     torrent: Arc<Torrent>,
     workers: u32,
     rules: Rules,
-    peers: Vec<Peer>,
+    peers: Peers,
     pieces: Pieces,
     /// For each peer a number: it shows no unbegun wanted piece that fewer peers show.
     floors: Vec<u32>,
@@ -54,11 +56,11 @@ impl Model for Tables {
 
     ghost view = { λ t. record {
       setting = setting_of t.torrent.value.layout t.workers t.rules;
-      peers = t.peers.items;
+      peers = t.peers;
       pieces = t.pieces;
     } };
 
-    ghost invariant = { λ t. AreFloors t.floors.items t.peers.items t.pieces };
+    ghost invariant = { λ t. AreFloors t.floors.items t.peers t.pieces };
 }
 
 impl Tables {
@@ -73,15 +75,13 @@ impl Tables {
         ensures setting { IfOk result (λ t. t.setting ≡ setting_of torrent.value.layout workers rules) }
         ensures are { IfOk result (λ t. AreTables t []) }
     {
-        let peers = new_peers(alloc, workers, torrent.piece_count())?;
-        let pieces = Pieces::new(alloc, &torrent)?;
         Ok(Tables {
+            peers: Peers::new(alloc, workers, torrent.piece_count())?,
+            pieces: Pieces::new(alloc, &torrent)?,
+            floors: vec![in alloc; 0; workers as usize]?,
             torrent,
             workers,
             rules,
-            peers,
-            pieces,
-            floors: vec![in alloc; 0; workers as usize]?,
         })
     }
 
@@ -104,12 +104,21 @@ impl Tables {
         &self.torrent
     }
 
-    /// The row of the worker's peer.
+    /// The row of the worker's peer, beside the pieces that it shows.
     pub fn peer(&self, worker: u32) -> &Peer
         requires { worker < length self.now.peers }
-        ensures { result.now ≡ peer_row self.now.peers worker }
+        ensures { result.now ≡ dealings (peer_row self.now.peers worker) }
     {
-        &self.peers[worker as usize]
+        self.peers.row(worker)
+    }
+
+    /// Whether the worker's peer shows the piece.
+    pub fn shows(&self, worker: u32, piece: u32) -> bool
+        requires worker { worker < length self.now.peers }
+        requires piece { piece < length (peer_row self.now.peers worker).shows }
+        ensures { result ≡ slice_index_or (peer_row self.now.peers worker).shows piece false }
+    {
+        self.peers.shows(worker, piece)
     }
 
     /// The row of the piece.
@@ -264,7 +273,7 @@ impl Tables {
         requires { worker < length self.old.peers }
         ensures { self.new ≡ released self.old worker }
     {
-        lower_all(&mut self.pieces, self.peers[worker as usize].asked());
+        lower_all(&mut self.pieces, self.peers.row(worker).asked());
         self.floors.fill(0); // a freed piece may be unbegun again
     }
 
@@ -274,7 +283,7 @@ impl Tables {
         requires few { AreCounted (reshown self.old worker (unwrap_or (option_copied flags) [])).pieces }
         ensures { self.new ≡ reshown self.old worker (unwrap_or (option_copied flags.entry) []) }
     {
-        recount(&mut self.pieces, self.peers[worker as usize].shown(), flags);
+        recount(&mut self.pieces, &self.peers, worker, flags);
         self.floors.fill(0); // fewer peers may show a piece
     }
 
@@ -284,7 +293,7 @@ impl Tables {
         ensures { self.new ≡ with_peer (released self.old worker) worker join_row }
     {
         self.release(worker);
-        self.peers[worker as usize].join();
+        self.peers.join(worker);
     }
 
     /// Choke: what was asked of the peer is freed.
@@ -293,7 +302,7 @@ impl Tables {
         ensures { self.new ≡ with_peer (released self.old worker) worker choke_row }
     {
         self.release(worker);
-        self.peers[worker as usize].choke();
+        self.peers.choke(worker);
     }
 
     /// Unchoke.
@@ -301,7 +310,7 @@ impl Tables {
         requires { worker < length self.old.peers }
         ensures { self.new ≡ with_peer self.old worker unchoke_row }
     {
-        self.peers[worker as usize].unchoke();
+        self.peers.unchoke(worker);
     }
 
     /// Bits.
@@ -313,7 +322,7 @@ impl Tables {
     {
         self.reshow(worker, Some(flags));
         self.floors[worker as usize] = 0;
-        self.peers[worker as usize].put_bits(flags);
+        self.peers.put_bits(worker, flags);
     }
 
     /// Have.
@@ -324,12 +333,12 @@ impl Tables {
         requires few { AreCounted (announced self.old worker piece).pieces }
         ensures { self.new ≡ announced self.old worker piece }
     {
-        let is_new = !self.peers[worker as usize].shows(piece);
+        let is_new = !self.peers.shows(worker, piece);
         self.pieces.announce(piece, is_new);
         let shown_by = self.pieces.availability(piece);
         let floor = self.floors[worker as usize];
         self.floors[worker as usize] = floor_with(floor, self.pieces.row(piece), shown_by);
-        self.peers[worker as usize].put_have(piece);
+        self.peers.put_have(worker, piece);
     }
 
     /// Leave: what was asked of the peer is freed, and it shows nothing.
@@ -340,7 +349,7 @@ impl Tables {
     {
         self.release(worker);
         self.reshow(worker, None);
-        self.peers[worker as usize].leave();
+        self.peers.leave(worker);
     }
 
     /// Next, by its reply.
@@ -362,7 +371,7 @@ impl Tables {
         requires room { HasRoomFor self.old worker block }
         ensures { self.new ≡ after_next self.old worker (Reply.Request block) }
     {
-        self.peers[worker as usize].ask(block);
+        self.peers.ask(worker, block);
         self.pieces
             .apply(block.piece, Change::Raise(block.begin / BLOCK_SIZE));
     }
@@ -372,7 +381,7 @@ impl Tables {
         requires { worker < length self.old.peers }
         ensures { self.new ≡ with_peer self.old worker (cancel_row block) }
     {
-        self.peers[worker as usize].cancel(block);
+        self.peers.cancel(worker, block);
     }
 
     /// Block `index` of the piece is held now, stored by the entry that so many are older than.
@@ -386,7 +395,7 @@ impl Tables {
         ensures { self.new ≡ with_block self.old worker piece index older }
     {
         let askers = self.pieces.row(piece).cell(index).askers();
-        forget(&mut self.peers, worker, piece, BLOCK_SIZE * index, askers);
+        self.peers.forget(worker, piece, BLOCK_SIZE * index, askers);
         self.pieces.apply(piece, Change::Store(index, older));
     }
 
@@ -410,7 +419,7 @@ impl Tables {
         requires { worker < length self.old.peers }
         ensures { self.new ≡ with_peer self.old worker late_row }
     {
-        self.peers[worker as usize].note_arrival();
+        self.peers.note_arrival(worker);
     }
 
     /// A check of the piece, by its reply.
@@ -452,40 +461,4 @@ fn floor_with(floor: u32, row: &Piece, shown_by: u32) -> u32
     } else {
         floor
     }
-}
-
-/// Tells the rows that the block that begins there was stored, brought by the worker's own peer, where so many peers are asked for it:
-/// the own row alone, where no other peer is.
-fn forget(peers: &mut [Peer], worker: u32, piece: u32, begin: u32, askers: u32)
-    requires worker { worker < length peers.old }
-    requires askers { askers ≡ count_below (length peers.old) (λ q. asks_at piece begin (peer_row peers.old q)) }
-    requires room { EachIndex peers.old (λ q. length (peer_row peers.old q).asked + length (peer_row peers.old q).due ≤ MOST_DEPTH) }
-    ensures { peers.new ≡ table (length peers.old) (λ q. without_block piece begin (worker == q) (peer_row peers.old q)) }
-{
-    if askers > u32::from(peers[worker as usize].asks(piece, begin)) {
-        forget_all(peers, worker, piece, begin);
-    } else {
-        peers[worker as usize].forget(piece, begin, true);
-    }
-}
-
-/// Tells each peer's row that the block that begins there was stored, brought by the worker's own peer.
-fn forget_all(peers: &mut [Peer], worker: u32, piece: u32, begin: u32)
-    requires { EachIndex peers.old (λ q. length (peer_row peers.old q).asked + length (peer_row peers.old q).due ≤ MOST_DEPTH) }
-    ensures { peers.new ≡ table (length peers.old) (λ q. without_block piece begin (worker == q) (peer_row peers.old q)) }
-{
-    for index in 0..peers.len() {
-        peers[index].forget(piece, begin, worker as usize == index);
-    }
-}
-
-/// The rows of so many peers that told nothing.
-fn new_peers(alloc: Global, workers: u32, pieces: u32) -> Result<Vec<Peer>, AllocError>
-    ensures { IfOk result (λ peers. peers.items ≡ table workers (λ q. fresh_peer pieces)) }
-{
-    let mut peers = Vec::new(alloc);
-    for _worker in 0..workers {
-        peers.push(Peer::new(alloc, pieces)?)?;
-    }
-    Ok(peers)
 }

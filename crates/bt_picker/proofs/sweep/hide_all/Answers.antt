@@ -1,5 +1,5 @@
 use Rattle.std.proofs.Common.{◌∙◌, arith}
-use Rattle.bt_picker.specs.Tables.{fresh_piece, less_available}
+use Rattle.bt_picker.specs.Tables.{fresh_piece, less_available, peer_row}
 use Rattle.bt_picker.proofs.Tabled.{rows_init}
 use Rattle.bt_picker.proofs.Sweeps.{hides_none, set_within, swept_all, swept_more, swept_none}
 use Rattle.bt_picker.proofs.sweep.hide_all.Goals as goal
@@ -9,7 +9,7 @@ loop-from-init c = (omega arith, rows_init c.args.pieces.now _ (fresh_piece 0))
 
 pub loop-from-preserved : goal.loop-from-preserved
 loop-from-preserved c =
-    let flags = c.args.flags.now in
+    let flags = (peer_row c.args.peers.now c.args.worker).shows in
     let first = c.in-Some.ensures in (
       omega (arith, set_within flags c.in-Some.piece first.passes),
       c.hide.ensures
@@ -18,10 +18,10 @@ loop-from-preserved c =
     )
 
 pub returns-in-None : goal.returns-in-None
-returns-in-None c = swept_none less_available hides_none c.args.pieces.now c.args.flags.now c.loop-from.pieces c.loop-from.from
+returns-in-None c = swept_none less_available hides_none c.args.pieces.now (peer_row c.args.peers.now c.args.worker).shows c.loop-from.pieces c.loop-from.from
     c.loop-from.invariant.1 c.in-None.ensures
 
 pub returns : goal.returns
 returns c =
-    swept_all less_available hides_none c.args.pieces.now c.args.flags.now c.loop-from.pieces c.loop-from.from c.loop-from.invariant.1
-    (omega (arith, c.loop-from-test.false, c.count.ensures))
+    swept_all less_available hides_none c.args.pieces.now (peer_row c.args.peers.now c.args.worker).shows c.loop-from.pieces c.loop-from.from c.loop-from.invariant.1
+    (omega (arith, c.loop-from-test.false, c.pieces.ensures))

@@ -1,9 +1,7 @@
-use Rattle.std.proofs.Common.{◌≡◌, ◌⊎◌, ◌+◌, ◌<◌, ◌≤◌, ℕ, ap, arith, subst, inl, inr, ⊎_elim}
+use Rattle.std.proofs.Common.{◌≡◌, ◌⊎◌, ◌+◌, ◌<◌, ◌≤◌, ℕ, ap, arith, inl, inr, ⊎_elim}
 use Rattle.std.specs.Prelude.{min}
 use Rattle.std.proofs.Math.Nat.{min-eq_left, min-eq_right}
 use Rattle.std.proofs.lemmas.Bool.{cases_lt}
-use Rattle.bt_meta.specs.Layout.{IsLayout}
-use Rattle.bt_picker.specs.Positions.{DeskState}
 use Rattle.bt_picker.proofs.Endings.{group_within}
 use Rattle.bt_picker.proofs.Rows.{rarest_found, rarest_more, crowd_found}
 use Rattle.bt_picker.proofs.position.Position.rarest.Goals as goal

@@ -9,4 +9,4 @@ invariant_of-self c =
     let lw = rw (← c.self.view_is) at c.requires.worker in
     let none = rw (← c.self.view_is) at c.requires.none in
     let is = c.in-Noted-false.is ∙ ap (λ (x : Bool). Noted x) c.in-Noted-false.field-0-test in
-    raise_floor o.floors.items o.peers.items o.pieces c.args.worker _ c.self.invariant lw (none is _)
+    raise_floor o.floors.items o.peers o.pieces c.args.worker _ c.self.invariant lw (none is _)

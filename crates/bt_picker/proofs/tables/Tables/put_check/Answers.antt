@@ -13,13 +13,13 @@ pub invariant_of-self : goal.invariant_of-self
 invariant_of-self c =
     let o = c.self.inside in
     let lp = rw (← c.self.view_is) at c.requires in
-    rw c.apply.ensures (edit_stale o.floors.items o.peers.items o.pieces c.args.piece had_row c.self.invariant lp refl)
+    rw c.apply.ensures (edit_stale o.floors.items o.peers o.pieces c.args.piece had_row c.self.invariant lp refl)
 
 pub returns-in-Had : goal.returns-in-Had
 returns-in-Had c =
     let o = c.self.inside in
     rw (← c.self.view_is, c.in-Had.is) (ap (λ (pieces : List PieceState). with_pieces (setting_of o.torrent.value.layout o.workers o.rules)
-    o.peers.items pieces) c.apply.ensures)
+    o.peers pieces) c.apply.ensures)
 
 pub returns-in_default : goal.returns-in_default
 returns-in_default c =
