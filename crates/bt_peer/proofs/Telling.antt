@@ -10,10 +10,10 @@ use Rattle.bt_peer.specs.Outlets.{Outlet, Performs, PerformsUpTo, Writes, Writes
 use Rattle.bt_peer.specs.Parts.{NewsDone, NewsStops}
 use Rattle.bt_peer.proofs.Stretches.{up_to, Writes-none, Performs-none, Performs-join, Performs-stops}
 
--- so many pieces were told
-pub record Telling (a b : Outlet) (most : ℕ) : Type 0 where
+-- just so many pieces were told
+pub record Telling (a b : Outlet) (n : ℕ) : Type 0 where
   pub news : List ℕ
-  pub count : length news ≡ most
+  pub count : length news ≡ n
   pub does : Performs a (map News news) b
 
 pub Telling-start : (a : Outlet) → Telling a a 0
@@ -27,9 +27,9 @@ told_one piece b c gains writes same = record {
   interest = same;
 }
 
-pub Telling-more : (piece : ℕ) (a b c : Outlet) (most : ℕ) → Telling a b most → Gains b.past (News piece ∷ []) c.past →
-    Writes b.said (spelling (messages.Have piece)) c.said → c.said.interested ≡ b.said.interested → Telling a c (most + 1)
-Telling-more piece a b c most t gains writes same =
+pub Telling-more : (piece : ℕ) (a b c : Outlet) (n : ℕ) → Telling a b n → Gains b.past (News piece ∷ []) c.past →
+    Writes b.said (spelling (messages.Have piece)) c.said → c.said.interested ≡ b.said.interested → Telling a c (n + 1)
+Telling-more piece a b c n t gains writes same =
     record {
       news = t.news ++ piece ∷ [];
       count = omega (arith, t.count, length-append t.news (piece ∷ []));

@@ -19,13 +19,13 @@ pub data Act : Type 0 where
   -- a finished piece
   News : ℕ → Act
 
--- the calls alone, with their replies
+-- the calls alone, with their replies: what the record of a place gains by these acts
 abbrev pub calls_of : List Act → List (CallMark × Reply)
 calls_of [] = []
 calls_of (Called call reply ∷ acts) = (call, reply) ∷ calls_of acts
 calls_of (News piece ∷ acts) = calls_of acts
 
--- the news alone
+-- the news alone: the pieces of which a have is written
 abbrev pub news_of : List Act → List ℕ
 news_of [] = []
 news_of (Called call reply ∷ acts) = news_of acts

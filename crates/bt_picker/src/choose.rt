@@ -103,7 +103,7 @@ impl<'a> Position<'a> {
         None
     }
 
-    /// The candidate to begin where the rarest come first.
+    /// The candidate to begin where the rarest come first: of those that rank first the nearest from `first` on, which no contract says.
     fn rarest(&self, worker: u32, first: u32) -> Option<u32>
         requires worker { worker < self.now.setting.workers }
         requires first { first ≤ piece_count self.now.setting.torrent }

@@ -29,7 +29,8 @@ desk setting h = record { setting = setting; history = h }
 
 -- ---- the rule
 
--- one of the seats that were joined into one that speaks for these workers: what it knew is so of the journal
+-- one of the seats that were joined into one that speaks for these workers: what it knew is so of the journal, and its workers are among
+-- them, so that what is new of other workers leaves what it knew as it was
 pub record Saw (h : List Event) (workers : List ℕ) (p : Part) : Type 0 where
   pub knows : Knows h p.workers p.seen
   pub among : (w : ℕ) → IsAmong w p.workers → IsAmong w workers
@@ -97,7 +98,7 @@ view setting taken maker next p = record { setting = setting; spent = false; tak
 abbrev pub maker : Setting → View
 maker setting = view setting false true 0 (part [] [])
 
--- what the seat knows then, with the word taken or not
+-- the view of a seat once it has seen this history, which is all that its calls were answered from, with the word taken or not
 abbrev pub seeing : Bool → View → List Event → View
 seeing taken v h = view v.setting taken v.maker v.next (part v.part.workers h)
 

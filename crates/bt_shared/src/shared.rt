@@ -22,6 +22,7 @@ use crate::pass::Pass;
 use crate::view::{Terms, View};
 use atomic_table::Table;
 use bt_check::Job;
+use bt_history::MOST_WORKERS;
 use bt_meta::{Bitfield, Torrent};
 use bt_picker::{Call, Desk, Reply, Rules};
 use std::alloc::{AllocError, Global};
@@ -68,7 +69,7 @@ fn lay(
     workers: u32,
     rules: Rules,
 ) -> Result<(Table<Option<Desk>, View, Terms, Guard, Global>, DeskSeat), AllocError>
-    requires workers { (1 ≤ workers) × (workers ≤ 1024) }
+    requires workers { (1 ≤ workers) × (workers ≤ MOST_WORKERS) }
     requires rules { AreRules torrent.value.layout rules }
     ensures key { IfOk result (λ laid. laid.0.shared.key ≡ setting_of torrent.value.layout workers rules) }
     ensures desk { IfOk result (λ laid. IsDesk laid.0.shared.table_id.words laid.0.shared.table_id.slots) }
@@ -94,7 +95,7 @@ impl SharedDesk {
         workers: u32,
         rules: Rules,
     ) -> Result<(SharedDesk, Vec<Pass>), AllocError>
-        requires workers { (1 ≤ workers) × (workers ≤ 1024) }
+        requires workers { (1 ≤ workers) × (workers ≤ MOST_WORKERS) }
         requires rules { AreRules torrent.value.layout rules }
         ensures desk { IfOk result (λ opened. opened.0.setting ≡ setting_of torrent.value.layout workers rules) }
         ensures count { IfOk result (λ opened. vec_len opened.1 ≡ workers) }

@@ -19,7 +19,8 @@ fn a_lost_pass(rt: HostRuntime) -> Result<(), Fail> {
     Ok(())
 }
 
-/// Of three workers the last two join. Their passes come in another order, and the idle one's doesn't come, which isn't noticed.
+/// Of three workers the last two join. The idle one's pass is lost, which isn't noticed, and the last pass comes in its place: so in
+/// another order.
 #[test]
 fn passes_in_another_order(rt: HostRuntime) -> Result<(), Fail> {
     let mut seated = Seated::open(&rt, rt.alloc(), 3)?;
