@@ -67,4 +67,5 @@ pub empty_payloads : (workers pieces width : ℕ) → pieces < 2 ^ 32 → width 
     → ArePayloads pieces (table workers (λ w. replicate width 0))
 empty_payloads workers pieces width few is w lw =
     let zeros : ℕ → List ℕ = λ w. replicate width 0 in
-    subst (IsPayload pieces) (sym (get_or_table workers zeros w [] (omega (arith, lw, length_table workers zeros)))) (zero_payload pieces width few is)
+    subst (IsPayload pieces) (sym (get_or_table workers zeros w [] (omega (arith, lw, length_table workers zeros))))
+    (zero_payload pieces width few is)

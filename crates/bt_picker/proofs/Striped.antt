@@ -6,8 +6,8 @@ use Rattle.std.proofs.lemmas.List.{get_or-set_same, get_or-set_other, get_or-rep
 use Rattle.bt_history.specs.Counting.{table}
 use Rattle.bt_picker.specs.Stripes.{stripe, striped}
 use Rattle.bt_picker.specs.Tables.{edit}
-use Rattle.bt_picker.proofs.Tabled.{edit_none, edit_same, edit_table, edit_twice, get_or_edit_same, get_or_table, length_table, rows_init, same_table, set_table}
-use Rattle.bt_picker.proofs.Tabled.{table_replicate, upto, upto_below, upto_more}
+use Rattle.bt_picker.proofs.Tabled.{edit_none, edit_same, edit_table, edit_twice, get_or_edit_same, get_or_table, length_table}
+use Rattle.bt_picker.proofs.Tabled.{rows_init, same_table, set_table, table_replicate, upto, upto_below, upto_more}
 
 -- ---- where a byte stands
 
@@ -74,7 +74,8 @@ pub stands : (rows width row place : ℕ) (bytes : List ℕ) (now : List (List �
     → length bytes ≡ rows * width → row < length now → place < length (stripe now row) → Stands rows width row place bytes
 stands rows width row place bytes now is long lr lp =
     let own : row < rows = omega (arith, lr, ap length is, length_striped rows width bytes) in
-    let wide : length (stripe now row) ≡ width = ap (λ (l : List (List ℕ)). length (stripe l row)) (sym is) ∙ length_stripe rows width row bytes own in
+    let wide : length (stripe now row) ≡ width = ap (λ (l : List (List ℕ)). length (stripe l row)) (sym is) ∙
+    length_stripe rows width row bytes own in
     let inside : place < width = omega (arith, lp, wide) in
     record { row_is = own; place_is = inside; within = omega (arith, long, stands_within rows width row place own inside) }
 

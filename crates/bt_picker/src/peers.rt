@@ -1,6 +1,6 @@
 //! The rows of all peers.
 
-ghost use Rattle.std.specs.Prelude.{◌≡◌, ◌<◌, ◌≤◌, ◌+◌, ◌==◌, false, length, slice_index_or, IfOk, EachIndex};
+ghost use Rattle.std.specs.Prelude.{◌≡◌, ◌<◌, ◌≤◌, ◌+◌, ◌==◌, ℕ, false, length, slice_index_or, IfOk, EachIndex};
 ghost use Rattle.bt_meta.specs.WireBits.{FindsFirst};
 ghost use Rattle.bt_history.specs.Counting.{count_below, table};
 ghost use Rattle.bt_picker.specs.Showing.{dealings};
@@ -60,9 +60,8 @@ impl Peers {
     }
 
     /// The number of pieces that the torrent has.
-    pub fn pieces(&self, worker: u32) -> u32
-        requires { worker < length self.now }
-        ensures { result ≡ length (peer_row self.now worker).shows }
+    pub fn pieces(&self) -> u32
+        ensures { (worker : ℕ) → worker < length self.now → length (peer_row self.now worker).shows ≡ result }
     {
         self.shows.pieces()
     }

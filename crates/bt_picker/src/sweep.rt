@@ -28,7 +28,7 @@ fn hide_all(pieces: &mut Pieces, peers: &Peers, worker: u32)
     ensures { pieces.new ≡ hidden_rows (peer_row peers.now worker).shows pieces.old }
 {
     let mut from = 0;
-    while from < peers.pieces(worker) {
+    while from < peers.pieces() {
         match peers.first_shown(worker, from) {
             Some(piece) => {
                 hide(pieces, piece);

@@ -9,7 +9,8 @@ pub returns-then-rest-ne0 : goal.returns-then-rest-ne0
 returns-then-rest-ne0 c =
     let rest = c.byte.result * 2 ^ (c.args.place % 8) % 256 in
     let first = leading rest (omega (arith, c.if-rest-ne0.true)) (omega arith) in
-    first_of_rest (stripe c.args.stripes.now c.args.row) c.args.place _ (subst (λ (byte : ℕ). IsFirstBit (byte * 2 ^ (c.args.place % 8) % 256) (count_leading_zeros 8 rest)) c.byte.ensures first)
+    let here = subst (λ (byte : ℕ). IsFirstBit (byte * 2 ^ (c.args.place % 8) % 256) (count_leading_zeros 8 rest)) c.byte.ensures first in
+    first_of_rest (stripe c.args.stripes.now c.args.row) c.args.place _ here
 
 pub returns : goal.returns
 returns c =

@@ -9,5 +9,6 @@ pub returns-then-byte-ne0 : goal.returns-then-byte-ne0
 returns-then-byte-ne0 c =
     let bytes = stripe c.args.stripes.now c.args.row in
     let first = leading c.byte-byte.result (omega (arith, c.if-byte-ne0.true)) (omega (arith, c.byte-byte.type_inv)) in
-    finds_before (wire_bit bytes) (8 * (c.args.index + 1)) (8 * c.loop-next.next) (Some _) (omega (arith, c.loop-next.auto.next)) c.loop-next.invariant
-    (first_of_byte bytes c.loop-next.next _ (subst (λ (byte : ℕ). IsFirstBit byte (count_leading_zeros 8 c.byte-byte.result)) c.byte-byte.ensures first))
+    let here = subst (λ (byte : ℕ). IsFirstBit byte (count_leading_zeros 8 c.byte-byte.result)) c.byte-byte.ensures first in
+    finds_before (wire_bit bytes) (8 * (c.args.index + 1)) (8 * c.loop-next.next) (Some _) (omega (arith, c.loop-next.auto.next))
+    c.loop-next.invariant (first_of_byte bytes c.loop-next.next _ here)

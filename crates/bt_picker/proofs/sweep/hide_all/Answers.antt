@@ -18,10 +18,11 @@ loop-from-preserved c =
     )
 
 pub returns-in-None : goal.returns-in-None
-returns-in-None c = swept_none less_available hides_none c.args.pieces.now (peer_row c.args.peers.now c.args.worker).shows c.loop-from.pieces c.loop-from.from
-    c.loop-from.invariant.1 c.in-None.ensures
+returns-in-None c = swept_none less_available hides_none c.args.pieces.now (peer_row c.args.peers.now c.args.worker).shows
+    c.loop-from.pieces c.loop-from.from c.loop-from.invariant.1 c.in-None.ensures
 
 pub returns : goal.returns
 returns c =
-    swept_all less_available hides_none c.args.pieces.now (peer_row c.args.peers.now c.args.worker).shows c.loop-from.pieces c.loop-from.from c.loop-from.invariant.1
-    (omega (arith, c.loop-from-test.false, c.pieces.ensures))
+    swept_all less_available hides_none c.args.pieces.now (peer_row c.args.peers.now c.args.worker).shows c.loop-from.pieces c.loop-from.from
+    c.loop-from.invariant.1
+    (omega (arith, c.loop-from-test.false, c.pieces.ensures c.args.worker c.requires))

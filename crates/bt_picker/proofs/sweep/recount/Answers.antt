@@ -13,4 +13,5 @@ pub returns-in-Some : goal.returns-in-Some
 returns-in-Some c =
     let flags = c.in-Some.flags.now in
     rw c.in-Some.is
-    (c.show_all.ensures ∙ (ap (shown_rows flags) c.hide_all.ensures ∙ hidden_then_shown c.args.pieces.now (peer_row c.args.peers.now c.args.worker).shows flags))
+    (c.show_all.ensures ∙ (ap (shown_rows flags) c.hide_all.ensures
+    ∙ hidden_then_shown c.args.pieces.now (peer_row c.args.peers.now c.args.worker).shows flags))

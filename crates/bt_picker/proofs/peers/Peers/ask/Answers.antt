@@ -29,5 +29,6 @@ returns c =
     let lw = worker_within o.rows.items o.shows _ c.args.worker c.self.view_is c.self.invariant c.requires.worker in
     let now : Dealings → Dealings = λ r. record r { asked = r.asked ++ c.args.block ∷ [] } in
     rw (← c.self.view_is, c.ask.ensures)
-    (showing_set o.rows.items o.shows c.args.worker c.index_mut.result.now now (request_row c.args.block) c.self.invariant lw c.index_mut.ensures.value
+    (showing_set o.rows.items o.shows c.args.worker c.index_mut.result.now now (request_row c.args.block)
+    c.self.invariant lw c.index_mut.ensures.value
     (λ flags r. refl))

@@ -34,5 +34,6 @@ returns c =
       due = r.due ++ (if c.args.own then [] else filter (λ b. (c.args.piece == b.piece) && (c.args.begin == b.begin)) r.asked);
     } in
     rw (← c.self.view_is, c.forget.ensures)
-    (showing_set o.rows.items o.shows c.args.worker c.index_mut.result.now now (without_block c.args.piece c.args.begin c.args.own) c.self.invariant lw c.index_mut.ensures.value
+    (showing_set o.rows.items o.shows c.args.worker c.index_mut.result.now now (without_block c.args.piece c.args.begin c.args.own)
+    c.self.invariant lw c.index_mut.ensures.value
     (λ flags r. refl))

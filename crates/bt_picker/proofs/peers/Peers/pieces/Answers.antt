@@ -1,11 +1,12 @@
-use Rattle.std.proofs.Common.{arith, sym, ap, length, ◌∙◌, List, Bool}
+use Rattle.std.proofs.Common.{arith, ap, sym, length, ◌∙◌, List, Bool}
+use Rattle.bt_picker.specs.Tables.{PeerState, peer_row}
 use Rattle.bt_picker.proofs.Showing.{flags_of_row, worker_within}
 use Rattle.bt_picker.proofs.peers.Peers.pieces.Goals as goal
 
 pub returns : goal.returns
-returns c =
+returns c worker lt =
     let o = c.self.inside in
-    let lw = worker_within o.rows.items o.shows _ c.args.worker c.self.view_is c.self.invariant c.requires in
-    rw (← c.self.view_is)
-    (sym (ap (λ (flags : List Bool). length flags) (flags_of_row o.rows.items o.shows c.args.worker c.self.invariant lw)
-    ∙ c.pieces.ensures c.args.worker (omega (arith, lw, c.self.invariant))))
+    let lw = worker_within o.rows.items o.shows _ worker c.self.view_is c.self.invariant lt in
+    ap (λ (rows : List PeerState). length (peer_row rows worker).shows) (sym c.self.view_is)
+    ∙ (ap (λ (flags : List Bool). length flags) (flags_of_row o.rows.items o.shows worker c.self.invariant lw)
+    ∙ c.pieces.ensures worker (omega (arith, lw, c.self.invariant)))

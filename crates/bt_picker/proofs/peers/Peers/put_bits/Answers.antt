@@ -21,7 +21,8 @@ pub put-requires-clause-flags : goal.put-requires-clause-flags
 put-requires-clause-flags c =
     let o = c.self.inside in
     let lw = worker_within o.rows.items o.shows _ c.args.worker c.self.view_is c.self.invariant c.requires.worker in
-    (rw (← c.self.view_is) at c.requires.flags) ∙ ap (λ (flags : List Bool). length flags) (flags_of_row o.rows.items o.shows c.args.worker c.self.invariant lw)
+    (rw (← c.self.view_is) at c.requires.flags)
+    ∙ ap (λ (flags : List Bool). length flags) (flags_of_row o.rows.items o.shows c.args.worker c.self.invariant lw)
 
 pub invariant_of-self : goal.invariant_of-self
 invariant_of-self c =
@@ -35,5 +36,6 @@ returns c =
     let now : Dealings → Dealings = λ r. record r { late = true } in
     let flags : List Bool → List Bool = λ flags. c.args.flags.now in
     rw (← c.self.view_is, c.put.ensures, c.note_message.ensures)
-    (showing_edit o.rows.items o.shows c.args.worker c.index_mut.result.now now flags (bits_row c.args.flags.now) c.self.invariant lw c.index_mut.ensures.value
+    (showing_edit o.rows.items o.shows c.args.worker c.index_mut.result.now now flags (bits_row c.args.flags.now)
+    c.self.invariant lw c.index_mut.ensures.value
     (λ flags r. refl))

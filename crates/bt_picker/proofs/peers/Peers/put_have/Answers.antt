@@ -36,5 +36,6 @@ returns c =
     let now : Dealings → Dealings = λ r. record r { late = true } in
     let flags : List Bool → List Bool = λ flags. set flags c.args.piece true in
     rw (← c.self.view_is, c.set.ensures, c.note_message.ensures)
-    (showing_edit o.rows.items o.shows c.args.worker c.index_mut.result.now now flags (have_row c.args.piece) c.self.invariant lw c.index_mut.ensures.value
+    (showing_edit o.rows.items o.shows c.args.worker c.index_mut.result.now now flags (have_row c.args.piece)
+    c.self.invariant lw c.index_mut.ensures.value
     (λ flags r. refl))

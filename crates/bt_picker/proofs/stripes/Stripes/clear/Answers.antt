@@ -9,7 +9,9 @@ pub loop-place-init : goal.loop-place-init
 loop-place-init c = written_none c.args.self.now c.args.row _
 
 pub put-requires-clause-row : goal.put-requires-clause-row
-put-requires-clause-row c = omega (arith, c.requires, ap length c.loop-place.invariant, length_edit c.args.self.now c.args.row (written c.loop-place.place (λ k. 0)))
+put-requires-clause-row c =
+    let same = length_edit c.args.self.now c.args.row (written c.loop-place.place (λ k. 0)) in
+    omega (arith, c.requires, ap length c.loop-place.invariant, same)
 
 pub put-requires-clause-place : goal.put-requires-clause-place
 put-requires-clause-place c =
@@ -21,7 +23,8 @@ pub loop-place-preserved : goal.loop-place-preserved
 loop-place-preserved c =
     let k = c.loop-place.place in
     let g : ℕ → ℕ = λ k. 0 in
-    let within : c.loop-place.place < length (stripe c.args.self.now c.args.row) = omega (arith, c.loop-place-test.true, c.width-place-end.ensures c.args.row c.requires) in
+    let within : c.loop-place.place < length (stripe c.args.self.now c.args.row) =
+    omega (arith, c.loop-place-test.true, c.width-place-end.ensures c.args.row c.requires) in
     c.put.ensures ∙ (ap (λ (rows : List (List ℕ)). edit rows c.args.row (λ bs. set bs k (g k))) c.loop-place.invariant
     ∙ written_more c.args.self.now c.args.row k g c.requires within)
 
