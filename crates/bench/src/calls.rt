@@ -2,15 +2,15 @@
 //!
 //! A kind's time is that of a row of such calls, less what it takes to read the clock, divided by their number.
 
-ghost use Rattle.std.specs.Prelude.{◌≡◌, ◌<◌};
+ghost use Rattle.std.specs.Prelude.{◌<◌};
 
 mod table;
 
 use crate::mix::Mix;
-use crate::swarm::{PEERS, Workload, ZEROS, come, every, full, leave};
+use crate::swarm::{PEERS, Swarm, Workload, ZEROS, every, full};
 use anyhow::Result;
 use bt_meta::{Bitfield, Block};
-use bt_picker::{Call, Desk, Reply};
+use bt_picker::{Call, Reply};
 use bytes::Bytes;
 use std::alloc::Global;
 use std::sync::Arc;
@@ -49,12 +49,11 @@ const MOST_ROUNDS: u32 = 100;
 /// The rows of wants.
 const WANTS: u32 = 10;
 
-/// The desk, and the times so far.
+/// The swarm, and the times so far.
 #[derive(Drop)]
 struct Trial {
     alloc: Global,
-    desk: Desk,
-    ghost workers: { desk.setting.workers ≡ 57 },
+    swarm: Swarm<WORKERS>,
     workload: Workload,
     words: Mix,
     /// The pieces that are had.
@@ -66,7 +65,7 @@ struct Trial {
 pub fn time_calls<C: CpuClock>(rt: &C, alloc: Global, workload: Workload) -> Result<Table> {
     let mut trial = Trial {
         alloc,
-        desk: workload.desk(alloc, WORKERS)?,
+        swarm: Swarm::new(alloc, &workload)?,
         workload,
         words: Mix::new(SEED),
         had: Vec::new(alloc),
@@ -90,7 +89,7 @@ impl Trial {
         let shown = self.workload.bitfields(self.alloc)?;
         let start = rt.thread_cpu_time()?;
         for worker in 0..PEERS {
-            self.desk.call(worker, Call::Join)?;
+            self.swarm.call(worker, Call::Join)?;
         }
         let joined = rt.thread_cpu_time()?;
         self.tell_bitfields(shown)?;
@@ -109,7 +108,7 @@ impl Trial {
     fn tell_bitfields(&mut self, mut shown: Vec<Bitfield>) -> Result<()> {
         for back in 0..PEERS {
             if let Some(flags) = shown.pop() {
-                self.desk.call(PEERS - 1 - back, Call::Bits(flags))?;
+                self.swarm.call(PEERS - 1 - back, Call::Bits(flags))?;
             }
         }
         Ok(())
@@ -117,24 +116,24 @@ impl Trial {
 
     fn unchoke_all(&mut self) -> Result<()> {
         for worker in 0..PEERS {
-            self.desk.call(worker, Call::Unchoke)?;
+            self.swarm.call(worker, Call::Unchoke)?;
         }
         Ok(())
     }
 
     fn choke_all(&mut self) -> Result<()> {
         for worker in 0..PEERS {
-            self.desk.call(worker, Call::Choke)?;
+            self.swarm.call(worker, Call::Choke)?;
         }
         Ok(())
     }
 
     /// Asks of a peer that chokes us, and of one that shows nothing.
     fn ask_for_nothing<C: CpuClock>(&mut self, rt: &C) -> Result<()> {
-        self.desk.call(NEWCOMER, Call::Join)?;
-        self.desk.call(LATECOMER, Call::Join)?;
+        self.swarm.call(NEWCOMER, Call::Join)?;
+        self.swarm.call(LATECOMER, Call::Join)?;
         self.repeat(rt, NEWCOMER, Reply::Choked, Kind::Choked)?;
-        self.desk.call(NEWCOMER, Call::Unchoke)?;
+        self.swarm.call(NEWCOMER, Call::Unchoke)?;
         self.repeat(rt, NEWCOMER, Reply::NothingLeft, Kind::NothingLeft)
     }
 
@@ -151,7 +150,7 @@ impl Trial {
         let mut others = false;
         let start = rt.thread_cpu_time()?;
         for _ in 0..REPEATS {
-            let reply = self.desk.call(worker, Call::Next(self.words.next_word()))?;
+            let reply = self.swarm.call(worker, Call::Next(self.words.next_word()))?;
             others |= reply != expected;
         }
         let took = rt.thread_cpu_time()?.saturating_sub(start);
@@ -190,7 +189,7 @@ impl Trial {
         let mut others = false;
         let start = rt.thread_cpu_time()?;
         for _ in 0..asks {
-            let reply = self.desk.call(worker, Call::Next(self.words.next_word()))?;
+            let reply = self.swarm.call(worker, Call::Next(self.words.next_word()))?;
             others |= !matches!(reply, Reply::Request(_));
         }
         let took = rt.thread_cpu_time()?.saturating_sub(start);
@@ -225,7 +224,7 @@ impl Trial {
                 begin: block.begin,
                 bytes: Bytes::from_static(&ZEROS),
             };
-            if self.desk.call(worker, call)? == Reply::Completed {
+            if self.swarm.call(worker, call)? == Reply::Completed {
                 completed.push(block.piece)?;
             }
         }
@@ -238,7 +237,7 @@ impl Trial {
         requires { worker < 57 }
     {
         let mut blocks = Vec::new(self.alloc);
-        for block in self.desk.outstanding(worker) {
+        for block in self.swarm.outstanding(worker) {
             blocks.push(*block)?;
         }
         Ok(blocks)
@@ -248,14 +247,14 @@ impl Trial {
     fn settle<C: CpuClock>(&mut self, rt: &C, completed: &[u32]) -> Result<()> {
         for piece in completed {
             let start = rt.thread_cpu_time()?;
-            let Some(job) = self.desk.job(self.alloc, *piece)? else {
+            let Some(job) = self.swarm.job(self.alloc, *piece)? else {
                 continue;
             };
             let shared = rt.thread_cpu_time()?;
             let verdict = job.hash();
             let hashed = rt.thread_cpu_time()?;
             let call = Call::Settle(Arc::new(self.alloc, verdict)?);
-            let reply = self.desk.call(NEWCOMER, call)?;
+            let reply = self.swarm.call(NEWCOMER, call)?;
             let settled = rt.thread_cpu_time()?;
             self.table.note(Kind::Job, 1, shared.saturating_sub(start))?;
             self.table
@@ -274,9 +273,9 @@ impl Trial {
             return Ok(());
         };
         for friend in FRIENDS..FRIENDS + FRIEND_COUNT {
-            self.desk.call(friend, Call::Join)?;
-            self.desk.call(friend, Call::Have(piece))?;
-            self.desk.call(friend, Call::Unchoke)?;
+            self.swarm.call(friend, Call::Join)?;
+            self.swarm.call(friend, Call::Have(piece))?;
+            self.swarm.call(friend, Call::Unchoke)?;
             self.ask_depth(friend)?;
         }
         self.repeat(rt, FRIENDS + FRIEND_COUNT - 1, Reply::Idle, Kind::Idle)
@@ -286,7 +285,7 @@ impl Trial {
         requires { worker < 57 }
     {
         for _ in 0..self.workload.depth.max(1) {
-            self.desk.call(worker, Call::Next(self.words.next_word()))?;
+            self.swarm.call(worker, Call::Next(self.words.next_word()))?;
         }
         Ok(())
     }
@@ -295,7 +294,7 @@ impl Trial {
     fn unbegun(&self) -> Result<Vec<u32>> {
         let mut pieces = Vec::new(self.alloc);
         for shown_by in 0..=WORKERS {
-            take_some(&mut pieces, self.desk.group(shown_by))?;
+            take_some(&mut pieces, self.swarm.group(shown_by))?;
         }
         Ok(pieces)
     }
@@ -320,7 +319,7 @@ impl Trial {
         requires { worker < 57 }
     {
         for piece in pieces {
-            self.desk.call(worker, Call::Have(*piece))?;
+            self.swarm.call(worker, Call::Have(*piece))?;
         }
         Ok(())
     }
@@ -351,10 +350,10 @@ impl Trial {
         self.want_each(rt, same, Kind::WantSame)?;
         // From all pieces to half of them, which changes fewer.
         if let Some(flags) = other.pop() {
-            self.desk.call(0, Call::Want(flags))?;
+            self.swarm.call(0, Call::Want(flags))?;
         }
         self.want_each(rt, other, Kind::WantOther)?;
-        self.desk.call(0, Call::Want(all))?;
+        self.swarm.call(0, Call::Want(all))?;
         Ok(())
     }
 
@@ -362,7 +361,7 @@ impl Trial {
         let count = wants.len() as u64;
         let start = rt.thread_cpu_time()?;
         for flags in wants {
-            self.desk.call(0, Call::Want(flags))?;
+            self.swarm.call(0, Call::Want(flags))?;
         }
         let took = rt.thread_cpu_time()?.saturating_sub(start);
         self.table.note(kind, count, took)
@@ -372,11 +371,11 @@ impl Trial {
     fn go_and_come_back<C: CpuClock>(&mut self, rt: &C) -> Result<()> {
         let shown = self.workload.bitfields(self.alloc)?;
         let start = rt.thread_cpu_time()?;
-        leave(&mut self.desk)?;
+        self.swarm.leave()?;
         let left = rt.thread_cpu_time()?;
-        come(&mut self.desk, shown)?;
+        self.swarm.come(shown)?;
         let came = rt.thread_cpu_time()?;
-        leave(&mut self.desk)?;
+        self.swarm.leave()?;
         let gone = rt.thread_cpu_time()?;
         self.table
             .note(Kind::Leave, SWARM, left.saturating_sub(start))?;

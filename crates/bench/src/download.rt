@@ -1,12 +1,12 @@
 //! A whole download, block by block, in rounds of the peers' turns.
 
-ghost use Rattle.std.specs.Prelude.{◌≡◌, ◌<◌};
+ghost use Rattle.std.specs.Prelude.{◌<◌};
 
 use crate::mix::Mix;
-use crate::swarm::{PEERS, Workload, ZEROS, come, leave};
+use crate::swarm::{PEERS, Swarm, Workload, ZEROS};
 use anyhow::{Result, bail};
 use bt_meta::{BLOCK_SIZE, Bitfield, Block};
-use bt_picker::{Call, Desk, MOST_DEPTH, Reply};
+use bt_picker::{Call, MOST_DEPTH, Reply};
 use bytes::Bytes;
 use std::alloc::Global;
 use std::time::{CpuClock, Duration};
@@ -33,11 +33,10 @@ struct Peer {
     dry: bool,
 }
 
-/// The desk, and what the rounds go by.
+/// The swarm, and what the rounds go by.
 #[derive(Drop)]
 pub struct Download {
-    desk: Desk,
-    ghost workers: { desk.setting.workers ≡ 51 },
+    swarm: Swarm<PEERS>,
     workload: Workload,
     words: Mix,
     peers: Vec<Peer>,
@@ -54,7 +53,7 @@ impl Download {
             dry: false,
         };
         Ok(Download {
-            desk: workload.desk(alloc, PEERS)?,
+            swarm: Swarm::new(alloc, &workload)?,
             workload,
             words: Mix::new(SEED),
             peers: vec![in alloc; fresh; PEERS as usize]?,
@@ -84,12 +83,12 @@ impl Download {
 
     /// All peers come.
     pub fn join(&mut self, shown: Vec<Bitfield>) -> Result<()> {
-        come(&mut self.desk, shown)
+        self.swarm.come(shown)
     }
 
     /// All peers go.
     pub fn leave(&mut self) -> Result<()> {
-        leave(&mut self.desk)
+        self.swarm.leave()
     }
 
     /// Rounds until all pieces are had, or the asks are made.
@@ -146,7 +145,7 @@ impl Download {
     fn due(&self, worker: u32) -> Option<Block>
         requires { worker < 51 }
     {
-        let line = self.desk.outstanding(worker);
+        let line = self.swarm.outstanding(worker);
         let is_dry = match self.peers.get(worker as usize) {
             Some(peer) => peer.dry,
             None => false,
@@ -164,7 +163,7 @@ impl Download {
     {
         for _ in 0..=MOST_DEPTH {
             self.counts.asks = self.counts.asks.saturating_add(1);
-            let reply = self.desk.call(worker, Call::Next(self.words.next_word()))?;
+            let reply = self.swarm.call(worker, Call::Next(self.words.next_word()))?;
             if !matches!(reply, Reply::Cancel(_)) {
                 return Ok(reply);
             }
@@ -197,9 +196,9 @@ impl Download {
             begin: block.begin,
             bytes: Bytes::from_static(&ZEROS),
         };
-        if self.desk.call(worker, call)? == Reply::Completed {
+        if self.swarm.call(worker, call)? == Reply::Completed {
             let start = rt.thread_cpu_time()?;
-            let reply = self.desk.settle_now(alloc, worker, block.piece)?;
+            let reply = self.swarm.settle_now(alloc, worker, block.piece)?;
             let took = rt.thread_cpu_time()?.saturating_sub(start);
             self.settling = self.settling.saturating_add(took);
             if reply == Reply::Had {

@@ -3,6 +3,7 @@
 use crate::download::{Counts, Download};
 use crate::swarm::{PEERS, PIECE_HASH, PIECE_LEN, Workload, ZEROS};
 use anyhow::{Result, ensure};
+use bt_meta::Bitfield;
 use sha1::Sha1;
 use std::alloc::Global;
 use std::rt::Runtime;
@@ -49,6 +50,17 @@ pub fn play<C: CpuClock>(
 ) -> Result<(Download, Times)> {
     let shown = workload.bitfields(alloc)?;
     let mut download = Download::new(alloc, workload, trace)?;
+    let times = time_run(rt, alloc, &mut download, shown)?;
+    Ok((download, times))
+}
+
+/// All peers come, show their pieces and go again once the rounds are played.
+fn time_run<C: CpuClock>(
+    rt: &C,
+    alloc: Global,
+    download: &mut Download,
+    shown: Vec<Bitfield>,
+) -> Result<Times> {
     let start = rt.thread_cpu_time()?;
     download.join(shown)?;
     let joined = rt.thread_cpu_time()?;
@@ -57,13 +69,12 @@ pub fn play<C: CpuClock>(
     download.leave()?;
     let left = rt.thread_cpu_time()?;
     let settling = download.settling();
-    let times = Times {
+    Ok(Times {
         asking: ran.saturating_sub(joined).saturating_sub(settling),
         settling,
         joins: joined.saturating_sub(start),
         leaves: left.saturating_sub(ran),
-    };
-    Ok((download, times))
+    })
 }
 
 /// The nanoseconds of a time.
@@ -140,6 +151,18 @@ pub struct TimeLine {
     pub hash: Duration,
     /// In KiB, where it is known.
     pub peak: Option<u64>,
+}
+
+impl TimeLine {
+    /// The counts of the other line, and of each time the lesser one.
+    pub fn least(self, other: TimeLine) -> TimeLine {
+        TimeLine {
+            counts: other.counts,
+            times: self.times.least(other.times),
+            hash: self.hash.min(other.hash),
+            peak: other.peak,
+        }
+    }
 }
 
 impl fmt::Display for TimeLine {

@@ -14,8 +14,9 @@ use calls::{Table, time_calls};
 use figures::{CountLine, TimeLine, hash_time, peak_memory, play};
 use std::process::ExitCode;
 use std::rt::Runtime;
-use std::time::{CpuClock, Duration};
+use std::time::CpuClock;
 use std::{env, fs};
+use swarm::Workload;
 
 /// The status where the arguments are wrong.
 const WRONG_ARGUMENTS: u8 = 2;
@@ -58,39 +59,66 @@ fn time_download<R: Runtime + AllocGlobal + CpuClock>(
     rt: &R,
     arguments: &Arguments<'_>,
 ) -> Result<()> {
-    let workload = arguments.workload;
     if arguments.runs == 0 || arguments.trace.is_some() {
-        let trace = arguments.trace.map(|_| String::new(rt.alloc()));
-        let (download, _) = play(rt, rt.alloc(), workload, trace)?;
-        let counts = download.counts();
-        if let (Some(path), Some(trace)) = (arguments.trace, download.trace()) {
-            fs::write(rt, path, trace)?;
-        }
-        if arguments.runs == 0 {
-            rt.println(CountLine { workload, counts })?;
-        }
+        play_untimed(rt, arguments)?;
     }
-    let mut least = None;
-    let mut hash = Duration::MAX;
-    for _ in 0..arguments.runs {
-        let (download, times) = play(rt, rt.alloc(), workload, None)?;
-        least = match least {
-            Some((counts, least)) => Some((counts, times.least(least))),
-            None => Some((download.counts(), times)),
-        };
-        hash = hash.min(hash_time(rt)?);
-    }
-    if let Some((counts, times)) = least {
+    let workload = arguments.workload;
+    if let Some(least) = time_runs(rt, workload, arguments.runs)? {
+        let counts = least.counts;
         let line = CountLine { workload, counts };
         let times = TimeLine {
-            counts,
-            times,
-            hash,
             peak: peak_memory(rt),
+            ..least
         };
         println!(rt; "{line} {times}")?;
     }
     Ok(())
+}
+
+/// Plays the workload once. Writes the trace where one is wanted, and prints the counts where no time is.
+fn play_untimed<R: Runtime + AllocGlobal + CpuClock>(
+    rt: &R,
+    arguments: &Arguments<'_>,
+) -> Result<()> {
+    let workload = arguments.workload;
+    let trace = arguments.trace.map(|_| String::new(rt.alloc()));
+    let (download, _) = play(rt, rt.alloc(), workload, trace)?;
+    let counts = download.counts();
+    if let (Some(path), Some(trace)) = (arguments.trace, download.trace()) {
+        fs::write(rt, path, trace)?;
+    }
+    if arguments.runs == 0 {
+        rt.println(CountLine { workload, counts })?;
+    }
+    Ok(())
+}
+
+/// The counts of the first of so many runs and the least times of all, less the memory that they took.
+fn time_runs<R: Runtime + AllocGlobal + CpuClock>(
+    rt: &R,
+    workload: Workload,
+    runs: u32,
+) -> Result<Option<TimeLine>> {
+    let mut least = None;
+    for _ in 0..runs {
+        let run = time_run(rt, workload)?;
+        least = match least {
+            Some(least) => Some(run.least(least)),
+            None => Some(run),
+        };
+    }
+    Ok(least)
+}
+
+/// A run, and the quickest hash of a block after it.
+fn time_run<R: Runtime + AllocGlobal + CpuClock>(rt: &R, workload: Workload) -> Result<TimeLine> {
+    let (download, times) = play(rt, rt.alloc(), workload, None)?;
+    Ok(TimeLine {
+        counts: download.counts(),
+        times,
+        hash: hash_time(rt)?,
+        peak: None,
+    })
 }
 
 /// Prints the table of all kinds of calls.

@@ -1,11 +1,11 @@
 //! What is downloaded, and from whom.
 
-ghost use Rattle.std.specs.Prelude.{◌≡◌, ◌≤◌, IfOk};
+ghost use Rattle.std.specs.Prelude.{◌≡◌, ◌<◌, ◌≤◌, IfOk};
 
 use crate::mix::Mix;
 use anyhow::{Result, ensure};
-use bt_meta::{Bitfield, Torrent};
-use bt_picker::{Call, Desk, MOST_DEPTH, Rules};
+use bt_meta::{Bitfield, Block, Torrent};
+use bt_picker::{Call, Desk, Job, MOST_DEPTH, Reply, Rules};
 use std::alloc::Global;
 use std::sync::Arc;
 
@@ -40,15 +40,20 @@ pub struct Workload {
 }
 
 impl Workload {
+    /// So many pieces of zero bytes.
+    fn torrent(&self, alloc: Global) -> Result<Torrent> {
+        let hashes = vec![in alloc; PIECE_HASH; self.pieces as usize]?;
+        let total = u64::from(PIECE_LEN) * u64::from(self.pieces);
+        Ok(Torrent::of_parts(PIECE_LEN, total, hashes, [0; 20])?)
+    }
+
     /// The desk for so many workers, with no peer yet.
-    pub fn desk(&self, alloc: Global, workers: u32) -> Result<Desk>
+    fn desk(&self, alloc: Global, workers: u32) -> Result<Desk>
         requires { (1 ≤ workers) × (workers ≤ 1024) }
         ensures { IfOk result (λ desk. desk.setting.workers ≡ workers) }
     {
         ensure!(self.depth <= MOST_DEPTH, "a depth is at most {MOST_DEPTH}");
-        let hashes = vec![in alloc; PIECE_HASH; self.pieces as usize]?;
-        let total = u64::from(PIECE_LEN) * u64::from(self.pieces);
-        let torrent = Torrent::of_parts(PIECE_LEN, total, hashes, [0; 20])?;
+        let torrent = self.torrent(alloc)?;
         let rules = Rules {
             depth: self.depth.max(1),
             random: torrent.piece_count().min(1),
@@ -83,31 +88,81 @@ impl Workload {
     }
 }
 
-/// All peers come, with the last bitfield for the last peer.
-pub fn come(desk: &mut Desk, mut shown: Vec<Bitfield>) -> Result<()>
-    requires { 51 ≤ desk.old.setting.workers }
-    ensures { desk.new.setting ≡ desk.old.setting }
-{
-    'peers: for back in 0..PEERS {
-        let worker = PEERS - 1 - back;
-        desk.call(worker, Call::Join)?;
-        if let Some(flags) = shown.pop() {
-            desk.call(worker, Call::Bits(flags))?;
-        }
-        desk.call(worker, Call::Unchoke)?;
-    }
-    Ok(())
+/// A desk for so many workers, and the peers that come to it. What it is asked has no `ensures`: a caller knows of its answers alone, and its
+/// proof is short.
+#[derive(Drop)]
+pub struct Swarm<const WORKERS: u32> {
+    desk: Desk,
+    ghost workers: { desk.setting.workers ≡ WORKERS },
 }
 
-/// All peers go.
-pub fn leave(desk: &mut Desk) -> Result<()>
-    requires { 51 ≤ desk.old.setting.workers }
-    ensures { desk.new.setting ≡ desk.old.setting }
-{
-    'peers: for worker in 0..PEERS {
-        desk.call(worker, Call::Leave)?;
+impl<const WORKERS: u32> Swarm<WORKERS> {
+    /// With no peer yet.
+    pub fn new(alloc: Global, workload: &Workload) -> Result<Swarm<WORKERS>>
+        requires { (1 ≤ WORKERS) × (WORKERS ≤ 1024) }
+    {
+        Ok(Swarm {
+            desk: workload.desk(alloc, WORKERS)?,
+        })
     }
-    Ok(())
+
+    /// What the desk says to the call.
+    pub fn call(&mut self, worker: u32, call: Call) -> Result<Reply>
+        requires { worker < WORKERS }
+    {
+        Ok(self.desk.call(worker, call)?)
+    }
+
+    /// What is asked of the peer, the oldest first.
+    pub fn outstanding(&self, worker: u32) -> &[Block]
+        requires { worker < WORKERS }
+    {
+        self.desk.outstanding(worker)
+    }
+
+    /// The pieces that are yet to be begun and that so many peers show.
+    pub fn group(&self, shown_by: u32) -> &[u32]
+        requires { shown_by ≤ WORKERS }
+    {
+        self.desk.group(shown_by)
+    }
+
+    /// A check of the piece, where it waits for one.
+    pub fn job(&self, alloc: Global, piece: u32) -> Result<Option<Job>> {
+        Ok(self.desk.job(alloc, piece)?)
+    }
+
+    /// Checks the piece at once.
+    pub fn settle_now(&mut self, alloc: Global, worker: u32, piece: u32) -> Result<Reply>
+        requires { worker < WORKERS }
+    {
+        Ok(self.desk.settle_now(alloc, worker, piece)?)
+    }
+
+    /// All peers come, with the last bitfield for the last peer.
+    pub fn come(&mut self, mut shown: Vec<Bitfield>) -> Result<()>
+        requires { 51 ≤ WORKERS }
+    {
+        for back in 0..PEERS {
+            let worker = PEERS - 1 - back;
+            self.call(worker, Call::Join)?;
+            if let Some(flags) = shown.pop() {
+                self.call(worker, Call::Bits(flags))?;
+            }
+            self.call(worker, Call::Unchoke)?;
+        }
+        Ok(())
+    }
+
+    /// All peers go.
+    pub fn leave(&mut self) -> Result<()>
+        requires { 51 ≤ WORKERS }
+    {
+        for worker in 0..PEERS {
+            self.call(worker, Call::Leave)?;
+        }
+        Ok(())
+    }
 }
 
 /// All pieces.
