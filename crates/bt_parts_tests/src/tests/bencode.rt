@@ -1,13 +1,48 @@
-//! Bencoding, by worked examples.
+//! Bencoding, by worked examples. What is read, made and written goes through functions without a contract, so that a test knows of what
+//! they give alone, and its proof is short.
 
 use bt_bencode::*;
 use std::alloc::{AllocError, AllocFailed, Global};
+use std::process::Abort;
 use std::test::*;
+
+fn tree_of(alloc: Global, source: &[u8]) -> Result<Tree, BenFault> {
+    parse(alloc, source)
+}
+
+fn value_of(source: &[u8]) -> Result<Value<'_>, BenFault> {
+    Value::of(source)
+}
+
+fn list(items: Vec<Tree>) -> Result<Tree, BenFault> {
+    Tree::list(items)
+}
+
+fn dict(entries: Vec<(Vec<u8>, Tree)>) -> Result<Tree, BenFault> {
+    Tree::dict(entries)
+}
+
+fn written(alloc: Global, tree: &Tree) -> Result<Vec<u8>, AllocError> {
+    write(alloc, tree)
+}
+
+fn span(tree: &Tree) -> Span {
+    tree.span()
+}
+
+/// The value of the dictionary's key.
+fn part<'a>(tree: &'a Tree, key: &[u8]) -> Option<&'a Tree> {
+    tree.get(key)
+}
+
+fn items(tree: &Tree) -> Option<&[Tree]> {
+    tree.as_list()
+}
 
 /// A tree of the bytes, or their fault. A call that found no memory is made once more.
 fn parse_again(alloc: Global, source: &[u8]) -> Result<Tree, BenFault> {
-    match parse(alloc, source) {
-        Err(BenFault::NoMemory) => parse(alloc, source),
+    match tree_of(alloc, source) {
+        Err(BenFault::NoMemory) => tree_of(alloc, source),
         parsed => parsed,
     }
 }
@@ -22,7 +57,7 @@ fn fault_number(alloc: Global, source: &[u8]) -> u8 {
 
 /// The number of the fault that the bytes give where no tree is made, or 0.
 fn fault_in_place(source: &[u8]) -> u8 {
-    match Value::of(source) {
+    match value_of(source) {
         Ok(_) => 0,
         Err(fault) => fault as u8,
     }
@@ -98,6 +133,16 @@ fn each_proper_prefix_is_truncated(rt: HostRuntime) -> Result<(), Fail> {
     Ok(())
 }
 
+/// Checks that the bytes are written as they were read, and that the tree spans them.
+fn comes_back(rt: &impl Abort, alloc: Global, source: &[u8]) -> Result<(), Fail> {
+    let tree = parse_again(alloc, source)?;
+    assert_eq!(rt; written(alloc, &tree)?.as_slice(), source);
+    let Span { start, end } = span(&tree);
+    assert_eq!(rt; start, 0);
+    assert_eq!(rt; end, source.len());
+    Ok(())
+}
+
 #[test]
 fn what_is_accepted_is_written_back(rt: HostRuntime) -> Result<(), Fail> {
     let deepest = nested_lists(rt.alloc(), 64)?;
@@ -113,106 +158,174 @@ fn what_is_accepted_is_written_back(rt: HostRuntime) -> Result<(), Fail> {
         &deepest,
     ];
     for source in rows {
-        let tree = parse_again(rt.alloc(), source)?;
-        assert_eq!(rt; write(rt.alloc(), &tree)?.as_slice(), source);
-        assert_eq!(rt; tree.span().start, 0);
-        assert_eq!(rt; tree.span().end, source.len());
+        comes_back(&rt, rt.alloc(), source)?;
     }
     Ok(())
 }
 
 #[test]
 fn parts_know_where_they_stand(rt: HostRuntime) -> Result<(), Fail> {
-    let tree = parse(rt.alloc(), b"d4:listl1:xi-3ee4:named0:0:ee")?;
-    let list = tree.get(b"list").ok_or("a list")?;
-    let items = list.as_list().ok_or("items")?;
+    let tree = parse_again(rt.alloc(), b"d4:listl1:xi-3ee4:named0:0:ee")?;
+    let list = part(&tree, b"list").ok_or("a list")?;
+    let items = items(list).ok_or("items")?;
     assert_eq!(rt; items.len(), 2);
-    let name = tree.get(b"name").ok_or("a dictionary")?;
+    let name = part(&tree, b"name").ok_or("a dictionary")?;
     let rows = [
-        (list.span(), 7, 16),
-        (items[0].span(), 8, 11),
-        (items[1].span(), 11, 15),
-        (name.span(), 22, 28),
+        (list, 7, 16),
+        (&items[0], 8, 11),
+        (&items[1], 11, 15),
+        (name, 22, 28),
     ];
-    for (span, start, end) in rows {
-        assert_eq!(rt; span.start, start);
-        assert_eq!(rt; span.end, end);
+    for (part, start, end) in rows {
+        let found = span(part);
+        assert_eq!(rt; found.start, start);
+        assert_eq!(rt; found.end, end);
     }
+    Ok(())
+}
+
+/// The value of the dictionary's key.
+fn part_of<'a>(value: &Value<'a>, key: &[u8]) -> Option<Value<'a>> {
+    value.get(key)
+}
+
+fn items_of<'a>(value: &Value<'a>) -> Option<Items<'a>> {
+    value.as_list()
+}
+
+fn next<'a>(items: &mut Items<'a>) -> Option<Value<'a>> {
+    items.next()
+}
+
+fn text_of<'a>(value: &Value<'a>) -> Option<&'a [u8]> {
+    value.as_text()
+}
+
+fn int_of(value: &Value<'_>) -> Option<i64> {
+    value.as_int()
+}
+
+fn span_of(value: &Value<'_>) -> Span {
+    value.span()
+}
+
+fn is_dict(value: &Value<'_>) -> bool {
+    value.is_dict()
+}
+
+/// Checks that these are `x`, -3 and a dictionary with 1 at `a`, and no more.
+fn are_three(rt: &impl Abort, items: &mut Items<'_>) -> Result<(), Fail> {
+    let text = next(items).ok_or("a string")?;
+    assert_eq!(rt; text_of(&text).ok_or("bytes")?, b"x".as_slice());
+    let number = next(items).ok_or("an integer")?;
+    assert_eq!(rt; int_of(&number), Some(-3));
+    let dict = next(items).ok_or("a dictionary")?;
+    assert!(rt; is_dict(&dict));
+    let one = part_of(&dict, b"a").ok_or("its value")?;
+    assert_eq!(rt; int_of(&one), Some(1));
+    assert!(rt; next(items).is_none());
     Ok(())
 }
 
 #[test]
 fn a_value_is_read_where_it_stands(rt: HostRuntime) -> Result<(), Fail> {
-    let value = Value::of(b"d4:listl1:xi-3ed1:ai1eee4:named0:0:e5:otheri7ee")?;
-    let list = value.get(b"list").ok_or("a list")?;
-    assert_eq!(rt; list.span(), Span { start: 7, end: 24 });
-    let mut items = list.as_list().ok_or("items")?;
-    let text = items.next().ok_or("a string")?;
-    assert_eq!(rt; text.as_text().ok_or("bytes")?, b"x".as_slice());
-    let number = items.next().ok_or("an integer")?;
-    assert_eq!(rt; number.as_int(), Some(-3));
-    let dict = items.next().ok_or("a dictionary")?;
-    assert!(rt; dict.is_dict());
-    assert_eq!(rt; dict.get(b"a").ok_or("its value")?.as_int(), Some(1));
-    assert!(rt; items.next().is_none());
-    let name = value.get(b"name").ok_or("a name")?;
-    let nothing = name.get(b"").ok_or("the empty key")?;
-    assert_eq!(rt; nothing.as_text().ok_or("no bytes")?, b"".as_slice());
-    assert_eq!(rt;
-        value.get(b"other").ok_or("the last")?.span(),
-        Span { start: 43, end: 46 }
-    );
-    assert!(rt; value.get(b"nam").is_none());
-    assert!(rt; !list.is_dict());
+    let value = value_of(b"d4:listl1:xi-3ed1:ai1eee4:named0:0:e5:otheri7ee")?;
+    let list = part_of(&value, b"list").ok_or("a list")?;
+    assert_eq!(rt; span_of(&list), Span { start: 7, end: 24 });
+    assert!(rt; !is_dict(&list));
+    are_three(&rt, &mut items_of(&list).ok_or("items")?)?;
+    let name = part_of(&value, b"name").ok_or("a name")?;
+    let nothing = part_of(&name, b"").ok_or("the empty key")?;
+    assert_eq!(rt; text_of(&nothing).ok_or("no bytes")?, b"".as_slice());
+    let other = part_of(&value, b"other").ok_or("the last")?;
+    assert_eq!(rt; span_of(&other), Span { start: 43, end: 46 });
+    assert!(rt; part_of(&value, b"nam").is_none());
     Ok(())
+}
+
+fn text(alloc: Global, bytes: &[u8]) -> Result<Tree, BenFault> {
+    Tree::text(alloc, bytes)
+}
+
+fn int(value: i64) -> Tree {
+    Tree::int(value)
+}
+
+/// A dictionary with a list of `x` and -3 at `a`.
+fn made_by_hand(alloc: Global) -> Result<Tree, Fail> {
+    let mut items = Vec::new(alloc);
+    items.push(text(alloc, b"x")?)?;
+    items.push(int(-3))?;
+    let mut entries = Vec::new(alloc);
+    entries.push((Vec::from_slice(alloc, b"a")?, list(items)?))?;
+    Ok(dict(entries)?)
+}
+
+fn tree_text(tree: &Tree) -> Option<&[u8]> {
+    tree.as_text()
+}
+
+fn tree_int(tree: &Tree) -> Option<i64> {
+    tree.as_int()
+}
+
+/// How many keys the dictionary has.
+fn key_count(tree: &Tree) -> Option<usize> {
+    match tree.as_dict() {
+        Some(entries) => Some(entries.len()),
+        None => None,
+    }
 }
 
 #[test]
 fn trees_are_made_by_hand(rt: HostRuntime) -> Result<(), Fail> {
-    let mut items = Vec::new(rt.alloc());
-    items.push(Tree::text(rt.alloc(), b"x")?)?;
-    items.push(Tree::int(-3))?;
-    let mut entries = Vec::new(rt.alloc());
-    entries.push((Vec::from_slice(rt.alloc(), b"a")?, Tree::list(items)?))?;
-    let tree = Tree::dict(entries)?;
-    assert_eq!(rt;
-        write(rt.alloc(), &tree)?.as_slice(),
-        b"d1:al1:xi-3eee".as_slice()
-    );
-    let list = tree.get(b"a").ok_or("the list")?;
-    let items = list.as_list().ok_or("a list")?;
+    let tree = made_by_hand(rt.alloc())?;
+    let bytes = written(rt.alloc(), &tree)?;
+    assert_eq!(rt; bytes.as_slice(), b"d1:al1:xi-3eee".as_slice());
+    assert!(rt; part(&tree, b"b").is_none());
+    assert_eq!(rt; key_count(&tree), Some(1));
+    assert_eq!(rt; span(&tree), Span { start: 0, end: 0 });
+    let list = part(&tree, b"a").ok_or("the list")?;
+    assert!(rt; key_count(list).is_none());
+    let items = items(list).ok_or("a list")?;
     assert_eq!(rt; items.len(), 2);
-    assert_eq!(rt; items[0].as_text().ok_or("a string")?, b"x".as_slice());
-    assert_eq!(rt; items[1].as_int(), Some(-3));
-    assert!(rt; list.as_dict().is_none());
-    assert!(rt; tree.get(b"b").is_none());
-    assert_eq!(rt; tree.as_dict().ok_or("a dictionary")?.len(), 1);
-    assert_eq!(rt; tree.span(), Span { start: 0, end: 0 });
+    assert_eq!(rt; tree_text(&items[0]).ok_or("a string")?, b"x".as_slice());
+    assert_eq!(rt; tree_int(&items[1]), Some(-3));
     Ok(())
+}
+
+/// A dictionary of two keys, in this order.
+fn dict_of_two(alloc: Global, first: &[u8], second: &[u8]) -> Result<Result<Tree, BenFault>, Fail> {
+    let mut entries = Vec::new(alloc);
+    entries.push((Vec::from_slice(alloc, first)?, int(1)))?;
+    entries.push((Vec::from_slice(alloc, second)?, int(2)))?;
+    Ok(dict(entries))
 }
 
 #[test]
 fn a_dictionary_by_hand_has_sorted_keys(rt: HostRuntime) -> Result<(), Fail> {
     for (first, second) in [(b"b", b"a"), (b"a", b"a")] {
-        let mut entries = Vec::new(rt.alloc());
-        entries.push((Vec::from_slice(rt.alloc(), first)?, Tree::int(1)))?;
-        entries.push((Vec::from_slice(rt.alloc(), second)?, Tree::int(2)))?;
-        assert!(rt; matches!(Tree::dict(entries), Err(BenFault::KeyOrder)));
+        let made = dict_of_two(rt.alloc(), first, second)?;
+        assert!(rt; matches!(made, Err(BenFault::KeyOrder)));
     }
     Ok(())
 }
 
+/// A list of the tree alone.
+fn list_of_one(alloc: Global, tree: Tree) -> Result<Result<Tree, BenFault>, Fail> {
+    let mut items = Vec::new(alloc);
+    items.push(tree)?;
+    Ok(list(items))
+}
+
 #[test]
 fn lists_by_hand_stand_64_inside_one_another(rt: HostRuntime) -> Result<(), Fail> {
-    let mut tree = Tree::list(Vec::new(rt.alloc()))?;
+    let mut tree = list(Vec::new(rt.alloc()))?;
     for _ in 1..64 {
-        let mut items = Vec::new(rt.alloc());
-        items.push(tree)?;
-        tree = Tree::list(items)?;
+        tree = list_of_one(rt.alloc(), tree)??;
     }
-    let mut items = Vec::new(rt.alloc());
-    items.push(tree)?;
-    assert!(rt; matches!(Tree::list(items), Err(BenFault::TooDeep)));
+    let made = list_of_one(rt.alloc(), tree)?;
+    assert!(rt; matches!(made, Err(BenFault::TooDeep)));
     Ok(())
 }
 
@@ -230,11 +343,11 @@ fn a_tree_that_found_no_room_is_put_once_more(rt: HostRuntime) -> Result<(), Fai
     for source in [b"2:ab".as_slice(), b"i-3e", b"l1:xe", b"d1:ai1ee", b"le"] {
         put(&mut trees, parse_again(rt.alloc(), source)?)?;
     }
-    let list = Tree::list(trees)?;
-    let written = match write(rt.alloc(), &list) {
-        Ok(written) => written,
-        Err(AllocError) => write(rt.alloc(), &list)?,
+    let list = list(trees)?;
+    let bytes = match written(rt.alloc(), &list) {
+        Ok(bytes) => bytes,
+        Err(AllocError) => written(rt.alloc(), &list)?,
     };
-    assert_eq!(rt; written.as_slice(), b"l2:abi-3el1:xed1:ai1eelee".as_slice());
+    assert_eq!(rt; bytes.as_slice(), b"l2:abi-3el1:xed1:ai1eelee".as_slice());
     Ok(())
 }

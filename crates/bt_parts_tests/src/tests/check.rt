@@ -1,4 +1,5 @@
-//! Jobs, verdicts and what is proven, by the standard's example (FIPS 180-4).
+//! Jobs, verdicts and what is proven, by the standard's example (FIPS 180-4). What is hashed and compared goes through functions without a
+//! contract, so that a test knows of what they give alone, and its proof is short.
 
 use bt_check::*;
 use bt_meta::Torrent;
@@ -13,10 +14,14 @@ const ABC: [u8; 20] = [
     0x9c, 0xd0, 0xd8, 0x9d,
 ];
 
+fn hashed(job: Job) -> Verdict {
+    job.hash()
+}
+
 #[test]
 fn a_job_of_two_blocks(rt: HostRuntime) -> Result<(), Fail> {
     let blocks = vec![in rt.alloc(); Bytes::from_static(b"ab"), Bytes::from_static(b"c")]?;
-    let verdict = Job { piece: 7, blocks }.hash();
+    let verdict = hashed(Job { piece: 7, blocks });
     assert_eq!(rt; verdict.piece(), 7);
     assert_eq!(rt; *verdict.digest(), ABC);
     assert_eq!(rt; verdict.blocks().len(), 2);
@@ -32,25 +37,42 @@ const A: [u8; 20] = [
 /// The verdict of a piece of one block.
 fn verdict(alloc: Global, piece: u32, block: &'static [u8]) -> Result<Arc<Verdict>, Fail> {
     let blocks = vec![in alloc; Bytes::from_static(block)]?;
-    Ok(Arc::new(alloc, Job { piece, blocks }.hash())?)
+    Ok(Arc::new(alloc, hashed(Job { piece, blocks }))?)
+}
+
+/// A torrent of pieces `abc`, `abc` and `a`.
+fn three_pieces(alloc: Global) -> Result<Torrent, Fail> {
+    let hashes = vec![in alloc; ABC, ABC, A]?;
+    Ok(Torrent::of_parts(3, 7, hashes, [0; 20])?)
+}
+
+/// The piece that is proven by this block, or the one whose verdict comes back.
+fn proven(
+    alloc: Global,
+    torrent: &Torrent,
+    piece: u32,
+    block: &'static [u8],
+) -> Result<Result<u32, u32>, Fail> {
+    Ok(match Proven::of(verdict(alloc, piece, block)?, torrent) {
+        Ok(proven) => Ok(proven.piece()),
+        Err(back) => Err(back.piece()),
+    })
 }
 
 #[test]
 fn what_fits_the_torrent_is_proven(rt: HostRuntime) -> Result<(), Fail> {
-    let hashes = vec![in rt.alloc(); ABC, ABC, A]?;
-    let torrent = Torrent::of_parts(3, 7, hashes, [0; 20])?;
-    for (piece, block) in [(0, b"abc".as_slice()), (1, b"abc"), (2, b"a")] {
-        let proven = Proven::of(verdict(rt.alloc(), piece, block)?, &torrent);
-        assert_eq!(rt; proven.map(|proven| proven.piece()).ok(), Some(piece));
-    }
-    for (piece, block) in [
-        (2, b"b".as_slice()),
-        (2, b"abc"),
-        (3, b"a"),
-        (u32::MAX, b"a"),
-    ] {
-        let refused = Proven::of(verdict(rt.alloc(), piece, block)?, &torrent);
-        assert_eq!(rt; refused.err().map(|back| back.piece()), Some(piece));
+    let torrent = three_pieces(rt.alloc())?;
+    let rows = [
+        (0, b"abc".as_slice(), Ok(0)),
+        (1, b"abc", Ok(1)),
+        (2, b"a", Ok(2)),
+        (2, b"b", Err(2)),
+        (2, b"abc", Err(2)),
+        (3, b"a", Err(3)),
+        (u32::MAX, b"a", Err(u32::MAX)),
+    ];
+    for (piece, block, wanted) in rows {
+        assert_eq!(rt; proven(rt.alloc(), &torrent, piece, block)?, wanted);
     }
     Ok(())
 }

@@ -1,7 +1,9 @@
-//! Pieces and blocks, by worked examples.
+//! Pieces and blocks, by worked examples. What is made and asked goes through functions without a contract, so that a test knows of what
+//! they give alone, and its proof is short: each tests when it runs what its call requires.
 
 use bt_meta::*;
 use std::alloc::{AllocError, Global};
+use std::process::Abort;
 use std::test::*;
 
 /// So many digests, the first byte of each its place.
@@ -13,66 +15,116 @@ fn digests(alloc: Global, count: u8) -> Result<Vec<[u8; 20]>, AllocError> {
     Ok(digests)
 }
 
-#[test]
-fn a_small_torrent(rt: HostRuntime) -> Result<(), Fail> {
-    let torrent = Torrent::of_parts(3, 7, digests(rt.alloc(), 3)?, [9; 20])?;
+/// A torrent of so many pieces, or why these parts make none.
+fn made(
+    alloc: Global,
+    piece_length: u32,
+    total: u64,
+    count: u8,
+    infohash: [u8; 20],
+) -> Result<Result<Torrent, MetaFault>, AllocError> {
+    let digests = digests(alloc, count)?;
+    Ok(Torrent::of_parts(piece_length, total, digests, infohash))
+}
+
+/// What is expected of the piece, where there is such a piece.
+fn hash(torrent: &Torrent, piece: u32) -> Option<[u8; 20]> {
+    if piece < torrent.piece_count() {
+        Some(*torrent.hash(piece))
+    } else {
+        None
+    }
+}
+
+/// The bytes of the piece, where there is such a piece.
+fn piece_len(torrent: &Torrent, piece: u32) -> Option<u32> {
+    if piece < torrent.piece_count() {
+        Some(torrent.piece_len(piece))
+    } else {
+        None
+    }
+}
+
+/// The blocks of the piece, where there is such a piece.
+fn block_count(torrent: &Torrent, piece: u32) -> Option<u32> {
+    if piece < torrent.piece_count() {
+        Some(torrent.block_count(piece))
+    } else {
+        None
+    }
+}
+
+/// The block of the piece, where there is such a block.
+fn block(torrent: &Torrent, piece: u32, index: u32) -> Option<Block> {
+    if piece < torrent.piece_count() && index < torrent.block_count(piece) {
+        Some(torrent.block(piece, index))
+    } else {
+        None
+    }
+}
+
+/// The block of the piece that begins there, where there is such a piece.
+fn block_at(torrent: &Torrent, piece: u32, begin: u32) -> Option<Option<Block>> {
+    if piece < torrent.piece_count() {
+        Some(torrent.block_at(piece, begin))
+    } else {
+        None
+    }
+}
+
+/// Checks what a torrent of three pieces says of itself.
+fn says_its_parts(rt: &impl Abort, torrent: &Torrent) {
     assert_eq!(rt; torrent.piece_count(), 3);
     assert_eq!(rt; torrent.piece_length(), 3);
     assert_eq!(rt; torrent.total(), 7);
     assert_eq!(rt; torrent.file_count(), 1);
     assert_eq!(rt; *torrent.infohash(), [9; 20]);
     assert!(rt; torrent.name().is_empty());
-    assert_eq!(rt; *torrent.hash(2), [2; 20]);
-    assert_eq!(rt; torrent.piece_len(1), 3);
-    assert_eq!(rt; torrent.piece_len(2), 1);
-    assert_eq!(rt;
-        torrent.block(2, 0),
-        Block {
-            piece: 2,
-            begin: 0,
-            len: 1
-        }
-    );
+}
+
+#[test]
+fn a_small_torrent(rt: HostRuntime) -> Result<(), Fail> {
+    let torrent = made(rt.alloc(), 3, 7, 3, [9; 20])??;
+    says_its_parts(&rt, &torrent);
+    assert_eq!(rt; hash(&torrent, 2), Some([2; 20]));
+    assert_eq!(rt; piece_len(&torrent, 1), Some(3));
+    assert_eq!(rt; piece_len(&torrent, 2), Some(1));
+    let last = Block {
+        piece: 2,
+        begin: 0,
+        len: 1,
+    };
+    assert_eq!(rt; block(&torrent, 2, 0), Some(last));
     Ok(())
+}
+
+/// A block of the first piece.
+const fn first(begin: u32, len: u32) -> Block {
+    Block {
+        piece: 0,
+        begin,
+        len,
+    }
 }
 
 #[test]
 fn blocks_of_a_piece(rt: HostRuntime) -> Result<(), Fail> {
-    let torrent = Torrent::of_parts(1_000_000, 1_000_000, digests(rt.alloc(), 1)?, [0; 20])?;
-    assert_eq!(rt; torrent.block_count(0), 62);
-    let last = Block {
-        piece: 0,
-        begin: 999_424,
-        len: 576,
-    };
-    assert_eq!(rt; torrent.block(0, 61), last);
+    let torrent = made(rt.alloc(), 1_000_000, 1_000_000, 1, [0; 20])??;
+    assert_eq!(rt; block_count(&torrent, 0), Some(62));
+    assert_eq!(rt; block(&torrent, 0, 61), Some(first(999_424, 576)));
     let rows = [
-        (
-            0,
-            Some(Block {
-                piece: 0,
-                begin: 0,
-                len: 16_384,
-            }),
-        ),
+        (0, Some(first(0, 16_384))),
         (1, None),
         (16_383, None),
-        (
-            16_384,
-            Some(Block {
-                piece: 0,
-                begin: 16_384,
-                len: 16_384,
-            }),
-        ),
-        (999_424, Some(last)),
+        (16_384, Some(first(16_384, 16_384))),
+        (999_424, Some(first(999_424, 576))),
         (1_015_808, None),
     ];
     for (begin, block) in rows {
-        assert_eq!(rt; torrent.block_at(0, begin), block);
+        assert_eq!(rt; block_at(&torrent, 0, begin), Some(block));
     }
-    let torrent = Torrent::of_parts(32_768, 65_536, digests(rt.alloc(), 2)?, [0; 20])?;
-    assert_eq!(rt; torrent.block_count(1), 2);
+    let torrent = made(rt.alloc(), 32_768, 65_536, 2, [0; 20])??;
+    assert_eq!(rt; block_count(&torrent, 1), Some(2));
     Ok(())
 }
 
@@ -88,16 +140,20 @@ fn parts_that_make_no_torrent(rt: HostRuntime) -> Result<(), Fail> {
         (3, 7, 4, MetaFault::CountMismatch),
     ];
     for (piece_length, total, count, fault) in rows {
-        let made = Torrent::of_parts(piece_length, total, digests(rt.alloc(), count)?, [0; 20]);
+        let made = made(rt.alloc(), piece_length, total, count, [0; 20])?;
         assert_eq!(rt; made.err(), Some(fault));
     }
     Ok(())
 }
 
+fn set_of(alloc: Global, bytes: &[u8], pieces: u32) -> Result<Bitfield, BitFault> {
+    Bitfield::from_wire(alloc, bytes, pieces)
+}
+
 /// Why the bytes are no bitfield of so many pieces, and none of one. A call that found no memory is made once more.
 fn bit_fault(alloc: Global, bytes: &[u8], pieces: u32) -> Option<BitFault> {
-    match Bitfield::from_wire(alloc, bytes, pieces).err() {
-        Some(BitFault::NoMemory) => Bitfield::from_wire(alloc, bytes, pieces).err(),
+    match set_of(alloc, bytes, pieces).err() {
+        Some(BitFault::NoMemory) => set_of(alloc, bytes, pieces).err(),
         fault => fault,
     }
 }
@@ -114,25 +170,45 @@ fn bitfields_off_the_wire(rt: HostRuntime) -> Result<(), Fail> {
     for (bytes, fault) in rows {
         assert_eq!(rt; bit_fault(rt.alloc(), bytes, 3), fault);
     }
-    let shown = Bitfield::from_wire(rt.alloc(), &[0x80, 0x40], 10)?;
-    assert_eq!(rt; shown.count(), 10);
-    assert_eq!(rt; shown.count_ones(), 2);
-    assert!(rt; shown.has(0) && shown.has(9) && !shown.has(8));
-    assert_eq!(rt;
-        shown.to_wire(rt.alloc())?.as_slice(),
-        [0x80, 0x40].as_slice()
-    );
     Ok(())
 }
 
-/// With no contract: what no test needs would cost its proof minutes.
+/// Whether the piece is one of the set.
+fn has(set: &Bitfield, piece: u32) -> bool {
+    piece < set.count() && set.has(piece)
+}
+
+fn count_ones(set: &Bitfield) -> u32 {
+    set.count_ones()
+}
+
+fn to_wire(alloc: Global, set: &Bitfield) -> Result<Vec<u8>, AllocError> {
+    set.to_wire(alloc)
+}
+
+fn as_wire(set: &Bitfield) -> &[u8] {
+    set.as_wire()
+}
+
+#[test]
+fn a_bitfield_off_the_wire_and_back(rt: HostRuntime) -> Result<(), Fail> {
+    let shown = set_of(rt.alloc(), &[0x80, 0x40], 10)?;
+    assert_eq!(rt; shown.count(), 10);
+    assert_eq!(rt; count_ones(&shown), 2);
+    assert!(rt; has(&shown, 0) && has(&shown, 9) && !has(&shown, 8));
+    let bytes = to_wire(rt.alloc(), &shown)?;
+    assert_eq!(rt; bytes.as_slice(), [0x80, 0x40].as_slice());
+    Ok(())
+}
+
+/// The first piece of the set from that one on.
 fn first_from(set: &Bitfield, piece: u32) -> Option<u32> {
     set.first_from(piece)
 }
 
 #[test]
 fn bitfields_are_looked_through(rt: HostRuntime) -> Result<(), Fail> {
-    let shown = Bitfield::from_wire(rt.alloc(), &[0x80, 0x00, 0x41], 24)?;
+    let shown = set_of(rt.alloc(), &[0x80, 0x00, 0x41], 24)?;
     let rows = [
         (0, Some(0)),
         (1, Some(17)),
@@ -148,19 +224,41 @@ fn bitfields_are_looked_through(rt: HostRuntime) -> Result<(), Fail> {
     Ok(())
 }
 
+fn empty(alloc: Global, pieces: u32) -> Result<Bitfield, AllocError> {
+    Bitfield::empty(alloc, pieces)
+}
+
+/// Adds the piece, where there is such a piece.
+fn set(set: &mut Bitfield, piece: u32) {
+    if piece < set.count() {
+        set.set(piece);
+    }
+}
+
+/// Takes over the other set, where it is of as many pieces.
+fn copy_from(set: &mut Bitfield, other: &Bitfield) {
+    if other.count() == set.count() {
+        set.copy_from(other);
+    }
+}
+
+fn clear(set: &mut Bitfield) {
+    set.clear();
+}
+
 #[test]
 fn bitfields_onto_the_wire(rt: HostRuntime) -> Result<(), Fail> {
-    let mut had = Bitfield::empty(rt.alloc(), 3)?;
-    assert_eq!(rt; had.to_wire(rt.alloc())?.as_slice(), [0x00].as_slice());
-    had.set(0);
-    had.set(2);
-    assert_eq!(rt; had.count_ones(), 2);
-    assert_eq!(rt; had.to_wire(rt.alloc())?.as_slice(), [0xa0].as_slice());
-    assert_eq!(rt; had.as_wire(), [0xa0].as_slice());
-    let mut shown = Bitfield::empty(rt.alloc(), 3)?;
-    shown.copy_from(&had);
-    had.clear();
-    assert_eq!(rt; shown.as_wire(), [0xa0].as_slice());
-    assert_eq!(rt; had.as_wire(), [0x00].as_slice());
+    let mut had = empty(rt.alloc(), 3)?;
+    assert_eq!(rt; to_wire(rt.alloc(), &had)?.as_slice(), [0x00].as_slice());
+    set(&mut had, 0);
+    set(&mut had, 2);
+    assert_eq!(rt; count_ones(&had), 2);
+    assert_eq!(rt; to_wire(rt.alloc(), &had)?.as_slice(), [0xa0].as_slice());
+    assert_eq!(rt; as_wire(&had), [0xa0].as_slice());
+    let mut shown = empty(rt.alloc(), 3)?;
+    copy_from(&mut shown, &had);
+    clear(&mut had);
+    assert_eq!(rt; as_wire(&shown), [0xa0].as_slice());
+    assert_eq!(rt; as_wire(&had), [0x00].as_slice());
     Ok(())
 }

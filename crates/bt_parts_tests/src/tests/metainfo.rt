@@ -12,6 +12,11 @@ const DIGESTS: &[u8; 60] =
     \xa9\x99\x3e\x36\x47\x06\x81\x6a\xba\x3e\x25\x71\x78\x50\xc2\x6c\x9c\xd0\xd8\x9d\
     \x86\xf7\xe4\x37\xfa\xa5\xa7\xfc\xe1\x5d\x1d\xdc\xb9\xea\xea\xea\x37\x76\x67\xb8";
 
+/// Puts the bytes behind the others, with no contract: a test knows nothing of the file that it makes, and its proof is short.
+fn put(file: &mut Vec<u8>, bytes: &[u8]) -> Result<(), AllocError> {
+    file.extend_from_slice(bytes)
+}
+
 /// A file with these digests as `pieces`, between what stands before and behind it.
 fn file_of(
     alloc: Global,
@@ -19,20 +24,26 @@ fn file_of(
     digests: &[u8],
     behind: &[u8],
 ) -> Result<Vec<u8>, AllocError> {
-    let mut file = Vec::from_slice(alloc, before)?;
+    let mut file = Vec::new(alloc);
     let len = digests.len().to_string(alloc)?;
-    file.extend_from_slice(b"6:pieces")?;
-    file.extend_from_slice(len.as_bytes())?;
-    file.push(b':')?;
-    file.extend_from_slice(digests)?;
-    file.extend_from_slice(behind)?;
+    put(&mut file, before)?;
+    put(&mut file, b"6:pieces")?;
+    put(&mut file, len.as_bytes())?;
+    put(&mut file, b":")?;
+    put(&mut file, digests)?;
+    put(&mut file, behind)?;
     Ok(file)
+}
+
+/// The fault of the bytes, and none of a metainfo file.
+fn fault(alloc: Global, file: &[u8]) -> Option<MetaFault> {
+    Torrent::read(alloc, file).err()
 }
 
 /// The fault that the bytes give, and none of a metainfo file. A call that found no memory is made once more.
 fn fault_of(alloc: Global, file: &[u8]) -> Option<MetaFault> {
-    match Torrent::read(alloc, file).err() {
-        Some(MetaFault::NoMemory) => Torrent::read(alloc, file).err(),
+    match fault(alloc, file) {
+        Some(MetaFault::NoMemory) => fault(alloc, file),
         fault => fault,
     }
 }
@@ -95,11 +106,9 @@ fn piece_lengths(rt: HostRuntime) -> Result<(), Fail> {
         (b"i7e", None),
     ];
     for (piece_length, fault) in rows {
-        let mut before = Vec::from_slice(
-            rt.alloc(),
-            b"d4:infod6:lengthi7e4:name1:s12:piece length",
-        )?;
-        before.extend_from_slice(piece_length)?;
+        let mut before = Vec::new(rt.alloc());
+        put(&mut before, b"d4:infod6:lengthi7e4:name1:s12:piece length")?;
+        put(&mut before, piece_length)?;
         let file = file_of(rt.alloc(), &before, &DIGESTS[..20], b"ee")?;
         assert_eq!(rt; fault_of(rt.alloc(), &file), fault, "{piece_length:?}");
     }
@@ -173,9 +182,10 @@ fn contents(rt: HostRuntime) -> Result<(), Fail> {
         (b"6:lengthi9e", None),
     ];
     for (content, fault) in rows {
-        let mut before = Vec::from_slice(rt.alloc(), b"d4:infod")?;
-        before.extend_from_slice(content)?;
-        before.extend_from_slice(b"4:name1:s12:piece lengthi3e")?;
+        let mut before = Vec::new(rt.alloc());
+        put(&mut before, b"d4:infod")?;
+        put(&mut before, content)?;
+        put(&mut before, b"4:name1:s12:piece lengthi3e")?;
         let file = file_of(rt.alloc(), &before, DIGESTS, b"ee")?;
         assert_eq!(rt; fault_of(rt.alloc(), &file), fault, "{content:?}");
     }

@@ -1,9 +1,14 @@
-//! Messages and inbound streams, by worked examples.
+//! Messages and inbound streams, by worked examples. What is fed, given and put goes through functions without an `ensures`, so that a test
+//! knows of what they say alone, and its proof is short.
+
+ghost use Rattle.std.specs.Prelude.{length, ◌≤◌};
+ghost use Rattle.bt_wire.specs.Messages.{CanEncode};
 
 use bt_wire::*;
 use bytes::Bytes;
 use std::alloc::{AllocError, Global};
 use std::fmt::Write;
+use std::process::Abort;
 use std::test::*;
 
 const LIMIT: u32 = 1_048_576;
@@ -14,26 +19,54 @@ const HELLO: Hello = Hello {
     peer_id: [9; 20],
 };
 
+/// What `HELLO` says.
+const HELLO_TOLD: &str = "Hello(Hello { reserved: [1, 2, 3, 4, 5, 6, 7, 8], \
+    infohash: [7, 7, 7, 7, 7, 7, 7, 7, 7, 7, 7, 7, 7, 7, 7, 7, 7, 7, 7, 7], \
+    peer_id: [9, 9, 9, 9, 9, 9, 9, 9, 9, 9, 9, 9, 9, 9, 9, 9, 9, 9, 9, 9] }) ";
+
+/// The bytes of `HELLO`.
+fn hello_bytes() -> [u8; 68] {
+    HELLO.write()
+}
+
+/// A stream of which nothing came yet.
+fn opened(alloc: Global) -> Inbound {
+    Inbound::new(alloc, LIMIT)
+}
+
+fn feed(inbound: &mut Inbound, piece: &[u8]) -> Result<(), WireFault> {
+    inbound.feed(piece)
+}
+
 /// Takes the piece. A call that found no memory has changed nothing, and is made once more.
 fn feed_again(inbound: &mut Inbound, piece: &[u8]) -> Result<(), WireFault> {
-    match inbound.feed(piece) {
-        Err(WireFault::NoMemory) => inbound.feed(piece),
+    match feed(inbound, piece) {
+        Err(WireFault::NoMemory) => feed(inbound, piece),
         fed => fed,
     }
 }
 
+fn next(inbound: &mut Inbound, alloc: Global) -> Result<Option<Message>, WireFault> {
+    inbound.next(alloc)
+}
+
 /// The message in front. A call that found no memory has changed nothing, and is made once more.
 fn next_again(inbound: &mut Inbound, alloc: Global) -> Result<Option<Message>, WireFault> {
-    match inbound.next(alloc) {
-        Err(WireFault::NoMemory) => inbound.next(alloc),
+    match next(inbound, alloc) {
+        Err(WireFault::NoMemory) => next(inbound, alloc),
         given => given,
     }
 }
 
+/// How many bytes stand behind what was given.
+fn rest(inbound: &Inbound) -> usize {
+    inbound.rest()
+}
+
 /// A stream whose handshake was given.
 fn greeted(alloc: Global) -> Result<Inbound, Fail> {
-    let mut inbound = Inbound::new(alloc, LIMIT);
-    feed_again(&mut inbound, &HELLO.write())?;
+    let mut inbound = opened(alloc);
+    feed_again(&mut inbound, &hello_bytes())?;
     match next_again(&mut inbound, alloc)? {
         Some(Message::Hello(_)) => Ok(inbound),
         _ => Err("no handshake")?,
@@ -53,6 +86,41 @@ fn tell(alloc: Global, inbound: &mut Inbound, said: &mut String) -> Result<(), F
         }
     }
     Ok(())
+}
+
+/// Feeds the piece, and appends what stands in front then, behind the fault that refused it if one did.
+fn feed_and_tell(
+    alloc: Global,
+    inbound: &mut Inbound,
+    piece: &[u8],
+    said: &mut String,
+) -> Result<(), Fail> {
+    if let Err(fault) = feed_again(inbound, piece) {
+        write!(said, "refused by {fault:?} ")?;
+    }
+    tell(alloc, inbound, said)
+}
+
+/// What stands in front once the piece came.
+fn told(alloc: Global, inbound: &mut Inbound, piece: &[u8]) -> Result<String, Fail> {
+    let mut said = String::new(alloc);
+    feed_and_tell(alloc, inbound, piece, &mut said)?;
+    Ok(said)
+}
+
+/// What stands in front after each piece of so many bytes, with a stroke behind it.
+fn told_in_pieces(
+    alloc: Global,
+    inbound: &mut Inbound,
+    bytes: &[u8],
+    len: usize,
+) -> Result<String, Fail> {
+    let mut said = String::new(alloc);
+    for piece in bytes.chunks(len.max(1)) {
+        feed_and_tell(alloc, inbound, piece, &mut said)?;
+        said.push_str("| ")?;
+    }
+    Ok(said)
 }
 
 /// Bytes after the handshake, the length of the pieces that they are fed in, and what stands in front after each piece, with a stroke behind it.
@@ -102,68 +170,83 @@ const ROWS: [(&[u8], usize, &str); 13] = [
 fn frames(rt: HostRuntime) -> Result<(), Fail> {
     for (bytes, len, wanted) in ROWS {
         let mut inbound = greeted(rt.alloc())?;
-        let mut said = String::new(rt.alloc());
-        assert!(rt; len > 0);
-        for piece in bytes.chunks(len) {
-            if let Err(fault) = feed_again(&mut inbound, piece) {
-                write!(said, "refused by {fault:?} ")?;
-            }
-            tell(rt.alloc(), &mut inbound, &mut said)?;
-            said.push_str("| ")?;
-        }
+        let said = told_in_pieces(rt.alloc(), &mut inbound, bytes, len)?;
         assert_eq!(rt; said.as_str(), wanted);
     }
     Ok(())
 }
 
+/// The handshake in two pieces, and three bytes behind it.
+fn one_handshake(rt: &impl Abort, alloc: Global, bytes: &[u8; 68]) -> Result<(), Fail> {
+    let mut inbound = opened(alloc);
+    let (front, last) = bytes.split_at(67);
+    assert_eq!(rt; told(alloc, &mut inbound, front)?.as_str(), "");
+    feed_again(&mut inbound, last)?;
+    assert_eq!(rt; told(alloc, &mut inbound, &[0, 0, 0])?.as_str(), HELLO_TOLD);
+    assert_eq!(rt; rest(&inbound), 3);
+    Ok(())
+}
+
+/// Another byte in the place of the first.
+fn a_strange_handshake(rt: &impl Abort, alloc: Global, bytes: &[u8; 68]) -> Result<(), Fail> {
+    let mut inbound = opened(alloc);
+    let (front, last) = bytes.split_at(67);
+    feed_again(&mut inbound, &[18])?;
+    assert_eq!(rt; told(alloc, &mut inbound, &front[1..])?.as_str(), "");
+    assert_eq!(rt; told(alloc, &mut inbound, last)?.as_str(), "BadHandshake ");
+    assert_eq!(rt; feed(&mut inbound, &[0]), Err(WireFault::BadHandshake));
+    assert_eq!(rt; rest(&inbound), 68);
+    Ok(())
+}
+
 #[test]
 fn handshakes(rt: HostRuntime) -> Result<(), Fail> {
-    let mut inbound = Inbound::new(rt.alloc(), LIMIT);
-    let bytes = HELLO.write();
-    inbound.feed(&bytes[..67])?;
-    assert!(rt; inbound.next(rt.alloc())? == None);
-    inbound.feed(&bytes[67..])?;
-    inbound.feed(&[0, 0, 0])?;
-    assert!(rt; inbound.next(rt.alloc())? == Some(Message::Hello(HELLO)));
-    assert!(rt; inbound.next(rt.alloc())? == None);
-    assert_eq!(rt; inbound.rest(), 3);
-
-    let mut strange = Inbound::new(rt.alloc(), LIMIT);
-    strange.feed(&[18])?;
-    strange.feed(&bytes[1..67])?;
-    assert!(rt; strange.next(rt.alloc())? == None);
-    strange.feed(&bytes[67..])?;
-    assert!(rt; strange.next(rt.alloc()) == Err(WireFault::BadHandshake));
-    assert!(rt; strange.feed(&[0]) == Err(WireFault::BadHandshake));
-    assert_eq!(rt; strange.rest(), 68);
-    Ok(())
+    let bytes = hello_bytes();
+    one_handshake(&rt, rt.alloc(), &bytes)?;
+    a_strange_handshake(&rt, rt.alloc(), &bytes)
 }
 
 /// The handshake, a message and a length beyond the limit, all in one piece.
 #[test]
 fn a_fault_behind_messages(rt: HostRuntime) -> Result<(), Fail> {
-    let mut stream = Vec::from_slice(rt.alloc(), &HELLO.write())?;
+    let mut stream = Vec::from_slice(rt.alloc(), &hello_bytes())?;
     stream.extend_from_slice(&[0, 0, 0, 1, 0, 0, 16, 0, 1])?;
-    let mut inbound = Inbound::new(rt.alloc(), LIMIT);
-    inbound.feed(&stream)?;
-    assert!(rt; inbound.next(rt.alloc())? == Some(Message::Hello(HELLO)));
-    assert!(rt; inbound.next(rt.alloc())? == Some(Message::Choke));
-    assert!(rt; inbound.next(rt.alloc()) == Err(WireFault::TooLong));
-    assert_eq!(rt; inbound.rest(), 4);
+    let mut inbound = opened(rt.alloc());
+    let said = told(rt.alloc(), &mut inbound, &stream)?;
+    assert_eq!(rt; said.strip_prefix(HELLO_TOLD), Some("Choke TooLong "));
+    assert_eq!(rt; rest(&inbound), 4);
     Ok(())
+}
+
+/// The length of the bitfield in front.
+fn bits_len(alloc: Global, inbound: &mut Inbound) -> Result<usize, Fail> {
+    match next_again(inbound, alloc)? {
+        Some(Message::Bits(given)) => Ok(given.len()),
+        _ => Err("no bitfield")?,
+    }
+}
+
+/// So many bytes of a bitfield.
+fn bits(alloc: Global, count: usize) -> Result<Vec<u8>, AllocError> {
+    vec![in alloc; 170; count]
 }
 
 #[test]
 fn a_frame_at_the_limit(rt: HostRuntime) -> Result<(), Fail> {
     let mut inbound = greeted(rt.alloc())?;
-    inbound.feed(&[0, 16, 0, 0, 5])?;
-    let bits = vec![in rt.alloc(); 170; 1_048_575]?;
-    inbound.feed(&bits)?;
-    let Some(Message::Bits(given)) = inbound.next(rt.alloc())? else {
-        return Err("no bitfield")?;
-    };
-    assert_eq!(rt; given.len(), 1_048_575);
-    assert_eq!(rt; inbound.rest(), 0);
+    feed_again(&mut inbound, &[0, 16, 0, 0, 5])?;
+    feed_again(&mut inbound, &bits(rt.alloc(), 1_048_575)?)?;
+    assert_eq!(rt; bits_len(rt.alloc(), &mut inbound)?, 1_048_575);
+    assert_eq!(rt; rest(&inbound), 0);
+    Ok(())
+}
+
+fn limit_of(pieces: u32) -> u32 {
+    frame_limit(pieces)
+}
+
+#[test]
+fn limits_of_frames(rt: HostRuntime) {
     let rows = [
         (1, 1_048_576),
         (8_388_600, 1_048_576),
@@ -171,9 +254,8 @@ fn a_frame_at_the_limit(rt: HostRuntime) -> Result<(), Fail> {
         (u32::MAX, 536_870_913),
     ];
     for (pieces, wanted) in rows {
-        assert_eq!(rt; frame_limit(pieces), wanted);
+        assert_eq!(rt; limit_of(pieces), wanted);
     }
-    Ok(())
 }
 
 /// A message of each kind.
@@ -191,70 +273,108 @@ const EACH_KIND: [u8; 94] = [
     0, 0, 0, 1, 20, // unknown
 ];
 
+fn put(message: &Message, out: &mut Vec<u8>) -> Result<(), AllocError>
+    requires { CanEncode message.now }
+{
+    encode(message, out)
+}
+
+/// Puts the messages that have no bytes in them, up to the first that has some.
+fn put_the_first(out: &mut Vec<u8>) -> Result<(), AllocError> {
+    put(&Message::KeepAlive, out)?;
+    put(&Message::Choke, out)?;
+    put(&Message::Unchoke, out)?;
+    put(&Message::Interested, out)?;
+    put(&Message::NotInterested, out)?;
+    put(&Message::Have(2), out)
+}
+
+/// Puts the other messages.
+fn put_the_others(out: &mut Vec<u8>) -> Result<(), AllocError> {
+    let (piece, begin, len) = (0x01_02_03_04, 0x05_06_07_08, 16_384);
+    put(&Message::Bits(Bytes::from_static(&[224])), out)?;
+    put(&Message::Request { piece, begin, len }, out)?;
+    let block = Message::Piece {
+        piece: 0,
+        begin: 0,
+        bytes: Bytes::from_static(b"abc"),
+    };
+    put(&block, out)?;
+    put(&Message::Cancel { piece, begin, len }, out)?;
+    put(&Message::Unknown(20), out)
+}
+
 #[test]
 fn encoded(rt: HostRuntime) -> Result<(), Fail> {
-    let bits = Bytes::copy_from_slice(rt.alloc(), &[224])?;
-    let bytes = Bytes::copy_from_slice(rt.alloc(), b"abc")?;
-    let (piece, begin, len) = (0x01_02_03_04, 0x05_06_07_08, 16_384);
     let mut out = Vec::new(rt.alloc());
-    encode(&Message::KeepAlive, &mut out)?;
-    encode(&Message::Choke, &mut out)?;
-    encode(&Message::Unchoke, &mut out)?;
-    encode(&Message::Interested, &mut out)?;
-    encode(&Message::NotInterested, &mut out)?;
-    encode(&Message::Have(2), &mut out)?;
-    encode(&Message::Bits(bits), &mut out)?;
-    encode(&Message::Request { piece, begin, len }, &mut out)?;
-    encode(
-        &Message::Piece {
-            piece: 0,
-            begin: 0,
-            bytes,
-        },
-        &mut out,
-    )?;
-    encode(&Message::Cancel { piece, begin, len }, &mut out)?;
-    encode(&Message::Unknown(20), &mut out)?;
+    put_the_first(&mut out)?;
+    put_the_others(&mut out)?;
     assert_eq!(rt; out.as_slice(), EACH_KIND.as_slice());
     Ok(())
 }
 
+/// Five messages, and the front of another.
+const FRAMES: [u8; 33] = [
+    0, 0, 0, 0, 0, 0, 0, 2, 20, 255, 0, 0, 0, 5, 4, 0, 0, 0, 2, 0, 0, 0, 1, 0, 0, 0, 0, 2, 5, 128,
+    0, 16, 0,
+];
+
+/// What stands in front as the bytes come in two pieces, the first of this length, and how many bytes stand behind.
+fn told_in_two(alloc: Global, frames: &[u8], len: usize) -> Result<(String, usize), Fail>
+    requires { len ≤ length frames.now }
+{
+    let (first, second) = frames.split_at(len);
+    let mut inbound = greeted(alloc)?;
+    let mut said = String::new(alloc);
+    feed_and_tell(alloc, &mut inbound, first, &mut said)?;
+    feed_and_tell(alloc, &mut inbound, second, &mut said)?;
+    Ok((said, rest(&inbound)))
+}
+
 #[test]
 fn every_cut_in_two(rt: HostRuntime) -> Result<(), Fail> {
-    let frames: [u8; 33] = [
-        0, 0, 0, 0, 0, 0, 0, 2, 20, 255, 0, 0, 0, 5, 4, 0, 0, 0, 2, 0, 0, 0, 1, 0, 0, 0, 0, 2, 5,
-        128, 0, 16, 0,
-    ];
+    let frames = FRAMES.as_slice();
     for at in 0..frames.len() {
-        let (first, second) = frames.split_at(at);
-        let mut inbound = greeted(rt.alloc())?;
-        let mut said = String::new(rt.alloc());
-        inbound.feed(first)?;
-        tell(rt.alloc(), &mut inbound, &mut said)?;
-        inbound.feed(second)?;
-        tell(rt.alloc(), &mut inbound, &mut said)?;
+        let (said, rest) = told_in_two(rt.alloc(), frames, at)?;
         assert_eq!(rt;
             said.as_str(),
             "KeepAlive Unknown(20) Have(2) Choke Bits(b\"\\x80\") ",
             "cut at {at}"
         );
-        assert_eq!(rt; inbound.rest(), 3);
+        assert_eq!(rt; rest, 3);
     }
     Ok(())
+}
+
+/// Puts the message behind the others. One that found no room has left no byte, and is put once more.
+fn put_have(piece: u32, out: &mut Vec<u8>) -> Result<(), AllocError> {
+    let message = Message::Have(piece);
+    match put(&message, out) {
+        Ok(()) => Ok(()),
+        Err(AllocError) => put(&message, out),
+    }
+}
+
+/// Whether the message in front tells of this piece.
+fn gives_have(alloc: Global, inbound: &mut Inbound, piece: u32) -> Result<bool, WireFault> {
+    match next_again(inbound, alloc)? {
+        Some(Message::Have(given)) => Ok(given == piece),
+        _ => Ok(false),
+    }
 }
 
 #[test]
 fn many_messages_in_one_feed(rt: HostRuntime) -> Result<(), Fail> {
     let mut stream = Vec::new(rt.alloc());
     for piece in 0..20_000 {
-        encode(&Message::Have(piece), &mut stream)?;
+        put_have(piece, &mut stream)?;
     }
     let mut inbound = greeted(rt.alloc())?;
-    inbound.feed(&stream)?;
+    feed_again(&mut inbound, &stream)?;
     for piece in 0..20_000 {
-        assert!(rt; inbound.next(rt.alloc())? == Some(Message::Have(piece)));
+        assert!(rt; gives_have(rt.alloc(), &mut inbound, piece)?);
     }
-    assert_eq!(rt; inbound.rest(), 0);
+    assert_eq!(rt; rest(&inbound), 0);
     Ok(())
 }
 
@@ -264,29 +384,24 @@ const EACH_KIND_TOLD: &str =
     Request { piece: 16909060, begin: 84281096, len: 16384 } Piece { piece: 0, begin: 0, bytes: b\"abc\" } \
     Cancel { piece: 16909060, begin: 84281096, len: 16384 } Unknown(20) ";
 
+/// What stands in front after all pieces of so many bytes, and how many bytes stand behind.
+fn told_of_each_kind(alloc: Global, len: usize) -> Result<(String, usize), Fail> {
+    let mut inbound = greeted(alloc)?;
+    let mut said = String::new(alloc);
+    for piece in EACH_KIND.chunks(len.max(1)) {
+        feed_and_tell(alloc, &mut inbound, piece, &mut said)?;
+    }
+    Ok((said, rest(&inbound)))
+}
+
 #[test]
 fn a_call_that_found_no_memory_is_made_once_more(rt: HostRuntime) -> Result<(), Fail> {
     for len in [1, 7, 94] {
-        assert!(rt; len > 0);
-        let mut inbound = greeted(rt.alloc())?;
-        let mut said = String::new(rt.alloc());
-        for piece in EACH_KIND.chunks(len) {
-            feed_again(&mut inbound, piece)?;
-            tell(rt.alloc(), &mut inbound, &mut said)?;
-        }
+        let (said, rest) = told_of_each_kind(rt.alloc(), len)?;
         assert_eq!(rt; said.as_str(), EACH_KIND_TOLD, "in pieces of {len}");
-        assert_eq!(rt; inbound.rest(), 0);
+        assert_eq!(rt; rest, 0);
     }
     Ok(())
-}
-
-/// Puts the message behind the others. One that found no room has left no byte, and is put once more.
-fn put_have(piece: u32, out: &mut Vec<u8>) -> Result<(), AllocError> {
-    let message = Message::Have(piece);
-    match encode(&message, out) {
-        Ok(()) => Ok(()),
-        Err(AllocError) => encode(&message, out),
-    }
 }
 
 #[test]
