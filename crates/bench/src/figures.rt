@@ -3,7 +3,6 @@
 use crate::download::{Counts, Download};
 use crate::swarm::{PEERS, PIECE_HASH, PIECE_LEN, Workload, ZEROS};
 use anyhow::{Result, ensure};
-use bt_meta::Bitfield;
 use sha1::Sha1;
 use std::alloc::Global;
 use std::rt::Runtime;
@@ -41,26 +40,14 @@ impl Times {
     }
 }
 
-/// Plays a whole run.
+/// Plays a whole run: all peers come with their pieces, and go again once the rounds are played.
 pub fn play<C: CpuClock>(
     rt: &C,
     alloc: Global,
     workload: Workload,
-    trace: Option<String>,
-) -> Result<(Download, Times)> {
-    let shown = workload.bitfields(alloc)?;
-    let mut download = Download::new(alloc, workload, trace)?;
-    let times = time_run(rt, alloc, &mut download, shown)?;
-    Ok((download, times))
-}
-
-/// All peers come, show their pieces and go again once the rounds are played.
-fn time_run<C: CpuClock>(
-    rt: &C,
-    alloc: Global,
     download: &mut Download,
-    shown: Vec<Bitfield>,
 ) -> Result<Times> {
+    let shown = workload.bitfields(alloc)?;
     let start = rt.thread_cpu_time()?;
     download.join(shown)?;
     let joined = rt.thread_cpu_time()?;

@@ -11,6 +11,7 @@ mod swarm;
 use anyhow::Result;
 use arguments::{Arguments, command, read};
 use calls::{Table, time_calls};
+use download::Download;
 use figures::{CountLine, TimeLine, hash_time, peak_memory, play};
 use std::process::ExitCode;
 use std::rt::Runtime;
@@ -82,7 +83,8 @@ fn play_untimed<R: Runtime + AllocGlobal + CpuClock>(
 ) -> Result<()> {
     let workload = arguments.workload;
     let trace = arguments.trace.map(|_| String::new(rt.alloc()));
-    let (download, _) = play(rt, rt.alloc(), workload, trace)?;
+    let mut download = Download::new(rt.alloc(), workload, trace)?;
+    play(rt, rt.alloc(), workload, &mut download)?;
     let counts = download.counts();
     if let (Some(path), Some(trace)) = (arguments.trace, download.trace()) {
         fs::write(rt, path, trace)?;
@@ -112,11 +114,13 @@ fn time_runs<R: Runtime + AllocGlobal + CpuClock>(
 
 /// A run, and the quickest hash of a block after it.
 fn time_run<R: Runtime + AllocGlobal + CpuClock>(rt: &R, workload: Workload) -> Result<TimeLine> {
-    let (download, times) = play(rt, rt.alloc(), workload, None)?;
+    let mut download = Download::new(rt.alloc(), workload, None)?;
+    let times = play(rt, rt.alloc(), workload, &mut download)?;
+    let hash = hash_time(rt)?;
     Ok(TimeLine {
         counts: download.counts(),
         times,
-        hash: hash_time(rt)?,
+        hash,
         peak: None,
     })
 }
