@@ -1,11 +1,13 @@
 //! The board: its worked example, and marks of two threads.
 
-ghost use Rattle.std.specs.Prelude.{◌≡◌, IfOk, IfSome};
+ghost use Rattle.std.specs.Prelude.{◌≡◌, ◌<◌, ℕ, IfOk, IfSome};
+ghost use Rattle.bt_board.specs.Story.{StandsFor};
 ghost use Rattle.bt_check.specs.Checked.{Fits};
+ghost use Rattle.bt_meta.specs.Layout.{piece_count};
 
 use bt_board::{Board, BoardSeat};
 use bt_check::{Job, Proven, Verdict};
-use bt_meta::Torrent;
+use bt_meta::{Bitfield, Torrent};
 use bytes::Bytes;
 use std::alloc::{AllocError, Global};
 use std::process::Abort;
@@ -27,10 +29,21 @@ const A: [u8; 20] = [
     0x37, 0x76, 0x67, 0xb8,
 ];
 
+/// The one block of a piece that is the byte `a`.
+fn blocks(alloc: Global) -> Result<Vec<Bytes>, AllocError> {
+    let mut blocks = Vec::new(alloc);
+    blocks.push(Bytes::from_static(b"a"))?;
+    Ok(blocks)
+}
+
+/// The verdict on these blocks of the piece.
+fn hashed(piece: u32, blocks: Vec<Bytes>) -> Verdict {
+    Job { piece, blocks }.hash()
+}
+
 /// The verdict that the piece is the byte `a`.
 fn verdict(alloc: Global, piece: u32) -> Result<Arc<Verdict>, AllocError> {
-    let blocks = vec![in alloc; Bytes::from_static(b"a")]?;
-    Ok(Arc::new(alloc, Job { piece, blocks }.hash())?)
+    Ok(Arc::new(alloc, hashed(piece, blocks(alloc)?))?)
 }
 
 /// The proof that the piece is the byte `a`; none where it isn't. Without memory it is tried once more.
@@ -61,32 +74,74 @@ impl From<AllocError> for Wrong {
     }
 }
 
+/// The digests of the pieces `abc`, `abc` and `a`.
+fn hashes(alloc: Global) -> Result<Vec<[u8; 20]>, AllocError> {
+    let mut hashes = Vec::new(alloc);
+    for digest in [ABC, ABC, A] {
+        hashes.push(digest)?;
+    }
+    Ok(hashes)
+}
+
+/// The torrent of the pieces `abc`, `abc` and `a`.
+fn three_pieces(rt: &impl Abort, alloc: Global) -> Result<Arc<Torrent>, Fail>
+    ensures { IfOk result (λ torrent. piece_count torrent.value.layout ≡ 3) }
+{
+    let torrent = Torrent::of_parts(3, 7, hashes(alloc)?, [0; 20])?;
+    assert!(rt; torrent.piece_count() == 3);
+    Ok(Arc::new(alloc, torrent)?)
+}
+
+/// Marks the last of three pieces by the first seat. The second sees it, and is given it once.
+fn marks_and_sees(
+    rt: &impl Abort,
+    board: &Board,
+    first: &mut BoardSeat,
+    second: &mut BoardSeat,
+    last: Proven,
+)
+    requires first { first.old.table ≡ board.now.table }
+    requires second { second.old.table ≡ board.now.table }
+    requires last { Fits board.now.torrent last }
+    requires count { piece_count board.now.torrent ≡ 3 }
+    ensures first { (first.new.table ≡ first.old.table) × (first.new.view.seats ≡ first.old.view.seats) }
+    ensures second { (second.new.table ≡ second.old.table) × (second.new.view.seats ≡ second.old.view.seats) }
+{
+    board.mark(first, last);
+    assert!(rt; board.has(second, 2));
+    assert!(rt; !board.has(second, 0));
+    assert_eq!(rt; board.news(second), Some(2));
+    assert_eq!(rt; board.news(second), None);
+}
+
+/// The bitfield of a board that is closed. Without memory it is closed once more.
+fn closed(alloc: Global, board: Board, all: BoardSeat) -> Result<Bitfield, Fail>
+    requires seat { all.table ≡ board.table }
+    requires all { (s : ℕ) → s < board.seats → StandsFor all.view s }
+{
+    match board.close(alloc, all) {
+        Ok(bits) => Ok(bits),
+        Err((board, all)) => match board.close(alloc, all) {
+            Ok(bits) => Ok(bits),
+            Err(_) => Err(Fail::from(AllocError)),
+        },
+    }
+}
+
 /// Three pieces, the last of which is marked by one seat and seen by the other.
 #[test]
 fn what_one_marks_the_other_sees(rt: HostRuntime) -> Result<(), Fail> {
-    let hashes = vec![in rt.alloc(); ABC, ABC, A]?;
-    let torrent = Arc::new(rt.alloc(), Torrent::of_parts(3, 7, hashes, [0; 20])?)?;
-    let (board, mut seats) = Board::open(rt.alloc(), torrent.clone()?, 2)?;
-    assert_eq!(rt; seats.len(), 2);
-    let mut second = seats.remove(1);
-    let mut first = seats.remove(0);
+    let torrent = three_pieces(&rt, rt.alloc())?;
     let Some(last) = proven(rt.alloc(), &torrent, 2)? else {
         return Err(Fail::from("the last piece is an a"));
     };
-    board.mark(&mut first, last);
-    assert!(rt; board.has(&mut second, 2));
-    assert!(rt; !board.has(&mut second, 0));
-    assert_eq!(rt; board.news(&mut second), Some(2));
-    assert_eq!(rt; board.news(&mut second), None);
+    let (board, mut seats) = Board::open(rt.alloc(), torrent, 2)?;
+    assert_eq!(rt; seats.len(), 2);
+    let mut second = seats.remove(1);
+    let mut first = seats.remove(0);
+    marks_and_sees(&rt, &board, &mut first, &mut second, last);
     let all = board.join(first, second);
-    let bits = match board.close(rt.alloc(), all) {
-        Ok(bits) => bits,
-        // Without memory both come back, to be closed once more.
-        Err((board, all)) => match board.close(rt.alloc(), all) {
-            Ok(bits) => bits,
-            Err(_) => return Err(Fail::from(AllocError)),
-        },
-    };
+    let bits = closed(rt.alloc(), board, all)?;
     assert_eq!(rt; bits.to_wire(rt.alloc())?.as_slice(), [0x20].as_slice());
     Ok(())
 }
