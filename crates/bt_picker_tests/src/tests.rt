@@ -7,5 +7,6 @@ mod examples;
 mod groups;
 mod played;
 mod random;
+mod shown;
 mod steps;
 mod tickets;

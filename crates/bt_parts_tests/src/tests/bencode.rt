@@ -133,14 +133,19 @@ fn each_proper_prefix_is_truncated(rt: HostRuntime) -> Result<(), Fail> {
     Ok(())
 }
 
+/// Checks how the tree is written.
+fn is_written(rt: &impl Abort, alloc: Global, tree: &Tree, wanted: &[u8]) -> Result<(), Fail> {
+    let bytes = written(alloc, tree)?;
+    assert_eq!(rt; bytes.as_slice(), wanted);
+    Ok(())
+}
+
 /// Checks that the bytes are written as they were read, and that the tree spans them.
 fn comes_back(rt: &impl Abort, alloc: Global, source: &[u8]) -> Result<(), Fail> {
     let tree = parse_again(alloc, source)?;
-    assert_eq!(rt; written(alloc, &tree)?.as_slice(), source);
-    let Span { start, end } = span(&tree);
-    assert_eq!(rt; start, 0);
-    assert_eq!(rt; end, source.len());
-    Ok(())
+    assert_eq!(rt; span(&tree).start, 0);
+    assert_eq!(rt; span(&tree).end, source.len());
+    is_written(rt, alloc, &tree, source)
 }
 
 #[test]
@@ -213,30 +218,53 @@ fn is_dict(value: &Value<'_>) -> bool {
     value.is_dict()
 }
 
-/// Checks that these are `x`, -3 and a dictionary with 1 at `a`, and no more.
-fn are_three(rt: &impl Abort, items: &mut Items<'_>) -> Result<(), Fail> {
+/// Checks that the next item is this string.
+fn next_is_text(rt: &impl Abort, items: &mut Items<'_>, wanted: &[u8]) -> Result<(), Fail> {
     let text = next(items).ok_or("a string")?;
-    assert_eq!(rt; text_of(&text).ok_or("bytes")?, b"x".as_slice());
+    assert_eq!(rt; text_of(&text).ok_or("bytes")?, wanted);
+    Ok(())
+}
+
+/// Checks that the next item is this integer.
+fn next_is_int(rt: &impl Abort, items: &mut Items<'_>, wanted: i64) -> Result<(), Fail> {
     let number = next(items).ok_or("an integer")?;
-    assert_eq!(rt; int_of(&number), Some(-3));
+    assert_eq!(rt; int_of(&number), Some(wanted));
+    Ok(())
+}
+
+/// Checks that the next item is a dictionary with 1 at `a`.
+fn next_is_dict(rt: &impl Abort, items: &mut Items<'_>) -> Result<(), Fail> {
     let dict = next(items).ok_or("a dictionary")?;
     assert!(rt; is_dict(&dict));
     let one = part_of(&dict, b"a").ok_or("its value")?;
     assert_eq!(rt; int_of(&one), Some(1));
-    assert!(rt; next(items).is_none());
+    Ok(())
+}
+
+/// Checks a list of three items.
+fn is_list_of_three(rt: &impl Abort, list: &Value<'_>) -> Result<(), Fail> {
+    assert_eq!(rt; span_of(list), Span { start: 7, end: 24 });
+    assert!(rt; !is_dict(list));
+    let mut items = items_of(list).ok_or("items")?;
+    next_is_text(rt, &mut items, b"x")?;
+    next_is_int(rt, &mut items, -3)?;
+    next_is_dict(rt, &mut items)?;
+    assert!(rt; next(&mut items).is_none());
+    Ok(())
+}
+
+/// Checks a dictionary with the empty string at the empty key.
+fn is_named(rt: &impl Abort, name: &Value<'_>) -> Result<(), Fail> {
+    let nothing = part_of(name, b"").ok_or("the empty key")?;
+    assert_eq!(rt; text_of(&nothing).ok_or("no bytes")?, b"".as_slice());
     Ok(())
 }
 
 #[test]
 fn a_value_is_read_where_it_stands(rt: HostRuntime) -> Result<(), Fail> {
     let value = value_of(b"d4:listl1:xi-3ed1:ai1eee4:named0:0:e5:otheri7ee")?;
-    let list = part_of(&value, b"list").ok_or("a list")?;
-    assert_eq!(rt; span_of(&list), Span { start: 7, end: 24 });
-    assert!(rt; !is_dict(&list));
-    are_three(&rt, &mut items_of(&list).ok_or("items")?)?;
-    let name = part_of(&value, b"name").ok_or("a name")?;
-    let nothing = part_of(&name, b"").ok_or("the empty key")?;
-    assert_eq!(rt; text_of(&nothing).ok_or("no bytes")?, b"".as_slice());
+    is_list_of_three(&rt, &part_of(&value, b"list").ok_or("a list")?)?;
+    is_named(&rt, &part_of(&value, b"name").ok_or("a name")?)?;
     let other = part_of(&value, b"other").ok_or("the last")?;
     assert_eq!(rt; span_of(&other), Span { start: 43, end: 46 });
     assert!(rt; part_of(&value, b"nam").is_none());
@@ -277,20 +305,24 @@ fn key_count(tree: &Tree) -> Option<usize> {
     }
 }
 
-#[test]
-fn trees_are_made_by_hand(rt: HostRuntime) -> Result<(), Fail> {
-    let tree = made_by_hand(rt.alloc())?;
-    let bytes = written(rt.alloc(), &tree)?;
-    assert_eq!(rt; bytes.as_slice(), b"d1:al1:xi-3eee".as_slice());
-    assert!(rt; part(&tree, b"b").is_none());
-    assert_eq!(rt; key_count(&tree), Some(1));
-    assert_eq!(rt; span(&tree), Span { start: 0, end: 0 });
-    let list = part(&tree, b"a").ok_or("the list")?;
+/// Checks a list of `x` and -3.
+fn is_list_of_two(rt: &impl Abort, list: &Tree) -> Result<(), Fail> {
     assert!(rt; key_count(list).is_none());
     let items = items(list).ok_or("a list")?;
     assert_eq!(rt; items.len(), 2);
     assert_eq!(rt; tree_text(&items[0]).ok_or("a string")?, b"x".as_slice());
     assert_eq!(rt; tree_int(&items[1]), Some(-3));
+    Ok(())
+}
+
+#[test]
+fn trees_are_made_by_hand(rt: HostRuntime) -> Result<(), Fail> {
+    let tree = made_by_hand(rt.alloc())?;
+    is_written(&rt, rt.alloc(), &tree, b"d1:al1:xi-3eee")?;
+    is_list_of_two(&rt, part(&tree, b"a").ok_or("the list")?)?;
+    assert!(rt; part(&tree, b"b").is_none());
+    assert_eq!(rt; key_count(&tree), Some(1));
+    assert_eq!(rt; span(&tree), Span { start: 0, end: 0 });
     Ok(())
 }
 

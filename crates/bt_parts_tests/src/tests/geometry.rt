@@ -190,15 +190,20 @@ fn as_wire(set: &Bitfield) -> &[u8] {
     set.as_wire()
 }
 
+/// Checks how the set is spelled on the wire.
+fn is_spelled(rt: &impl Abort, alloc: Global, set: &Bitfield, wanted: &[u8]) -> Result<(), Fail> {
+    let bytes = to_wire(alloc, set)?;
+    assert_eq!(rt; bytes.as_slice(), wanted);
+    Ok(())
+}
+
 #[test]
 fn a_bitfield_off_the_wire_and_back(rt: HostRuntime) -> Result<(), Fail> {
     let shown = set_of(rt.alloc(), &[0x80, 0x40], 10)?;
     assert_eq!(rt; shown.count(), 10);
     assert_eq!(rt; count_ones(&shown), 2);
     assert!(rt; has(&shown, 0) && has(&shown, 9) && !has(&shown, 8));
-    let bytes = to_wire(rt.alloc(), &shown)?;
-    assert_eq!(rt; bytes.as_slice(), [0x80, 0x40].as_slice());
-    Ok(())
+    is_spelled(&rt, rt.alloc(), &shown, &[0x80, 0x40])
 }
 
 /// The first piece of the set from that one on.
@@ -249,12 +254,18 @@ fn clear(set: &mut Bitfield) {
 #[test]
 fn bitfields_onto_the_wire(rt: HostRuntime) -> Result<(), Fail> {
     let mut had = empty(rt.alloc(), 3)?;
-    assert_eq!(rt; to_wire(rt.alloc(), &had)?.as_slice(), [0x00].as_slice());
+    is_spelled(&rt, rt.alloc(), &had, &[0x00])?;
     set(&mut had, 0);
     set(&mut had, 2);
     assert_eq!(rt; count_ones(&had), 2);
-    assert_eq!(rt; to_wire(rt.alloc(), &had)?.as_slice(), [0xa0].as_slice());
+    is_spelled(&rt, rt.alloc(), &had, &[0xa0])?;
     assert_eq!(rt; as_wire(&had), [0xa0].as_slice());
+    Ok(())
+}
+
+#[test]
+fn a_bitfield_of_another(rt: HostRuntime) -> Result<(), Fail> {
+    let mut had = set_of(rt.alloc(), &[0xa0], 3)?;
     let mut shown = empty(rt.alloc(), 3)?;
     copy_from(&mut shown, &had);
     clear(&mut had);

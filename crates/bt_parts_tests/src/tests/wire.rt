@@ -108,6 +108,19 @@ fn told(alloc: Global, inbound: &mut Inbound, piece: &[u8]) -> Result<String, Fa
     Ok(said)
 }
 
+/// Checks what stands in front once the piece came.
+fn tells(
+    rt: &impl Abort,
+    alloc: Global,
+    inbound: &mut Inbound,
+    piece: &[u8],
+    wanted: &str,
+) -> Result<(), Fail> {
+    let said = told(alloc, inbound, piece)?;
+    assert_eq!(rt; said.as_str(), wanted);
+    Ok(())
+}
+
 /// What stands in front after each piece of so many bytes, with a stroke behind it.
 fn told_in_pieces(
     alloc: Global,
@@ -166,44 +179,69 @@ const ROWS: [(&[u8], usize, &str); 13] = [
     ),
 ];
 
+/// The rows, of which a test's proof knows nothing but their kind.
+fn rows() -> &'static [(&'static [u8], usize, &'static str)] {
+    &ROWS
+}
+
+/// Checks what stands in front behind a handshake.
+fn frame(
+    rt: &impl Abort,
+    alloc: Global,
+    bytes: &[u8],
+    len: usize,
+    wanted: &str,
+) -> Result<(), Fail> {
+    let mut inbound = greeted(alloc)?;
+    let said = told_in_pieces(alloc, &mut inbound, bytes, len)?;
+    assert_eq!(rt; said.as_str(), wanted);
+    Ok(())
+}
+
 #[test]
 fn frames(rt: HostRuntime) -> Result<(), Fail> {
-    for (bytes, len, wanted) in ROWS {
-        let mut inbound = greeted(rt.alloc())?;
-        let said = told_in_pieces(rt.alloc(), &mut inbound, bytes, len)?;
-        assert_eq!(rt; said.as_str(), wanted);
+    for (bytes, len, wanted) in rows() {
+        frame(&rt, rt.alloc(), bytes, *len, wanted)?;
     }
     Ok(())
 }
 
 /// The handshake in two pieces, and three bytes behind it.
-fn one_handshake(rt: &impl Abort, alloc: Global, bytes: &[u8; 68]) -> Result<(), Fail> {
-    let mut inbound = opened(alloc);
+fn one_handshake(
+    rt: &impl Abort,
+    alloc: Global,
+    inbound: &mut Inbound,
+    bytes: &[u8; 68],
+) -> Result<(), Fail> {
     let (front, last) = bytes.split_at(67);
-    assert_eq!(rt; told(alloc, &mut inbound, front)?.as_str(), "");
-    feed_again(&mut inbound, last)?;
-    assert_eq!(rt; told(alloc, &mut inbound, &[0, 0, 0])?.as_str(), HELLO_TOLD);
-    assert_eq!(rt; rest(&inbound), 3);
+    tells(rt, alloc, inbound, front, "")?;
+    feed_again(inbound, last)?;
+    tells(rt, alloc, inbound, &[0, 0, 0], HELLO_TOLD)?;
+    assert_eq!(rt; rest(inbound), 3);
     Ok(())
 }
 
 /// Another byte in the place of the first.
-fn a_strange_handshake(rt: &impl Abort, alloc: Global, bytes: &[u8; 68]) -> Result<(), Fail> {
-    let mut inbound = opened(alloc);
+fn a_strange_handshake(
+    rt: &impl Abort,
+    alloc: Global,
+    inbound: &mut Inbound,
+    bytes: &[u8; 68],
+) -> Result<(), Fail> {
     let (front, last) = bytes.split_at(67);
-    feed_again(&mut inbound, &[18])?;
-    assert_eq!(rt; told(alloc, &mut inbound, &front[1..])?.as_str(), "");
-    assert_eq!(rt; told(alloc, &mut inbound, last)?.as_str(), "BadHandshake ");
-    assert_eq!(rt; feed(&mut inbound, &[0]), Err(WireFault::BadHandshake));
-    assert_eq!(rt; rest(&inbound), 68);
+    feed_again(inbound, &[18])?;
+    tells(rt, alloc, inbound, &front[1..], "")?;
+    tells(rt, alloc, inbound, last, "BadHandshake ")?;
+    assert!(rt; feed(inbound, &[0]) == Err(WireFault::BadHandshake));
+    assert_eq!(rt; rest(inbound), 68);
     Ok(())
 }
 
 #[test]
 fn handshakes(rt: HostRuntime) -> Result<(), Fail> {
     let bytes = hello_bytes();
-    one_handshake(&rt, rt.alloc(), &bytes)?;
-    a_strange_handshake(&rt, rt.alloc(), &bytes)
+    one_handshake(&rt, rt.alloc(), &mut opened(rt.alloc()), &bytes)?;
+    a_strange_handshake(&rt, rt.alloc(), &mut opened(rt.alloc()), &bytes)
 }
 
 /// The handshake, a message and a length beyond the limit, all in one piece.

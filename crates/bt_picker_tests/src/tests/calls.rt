@@ -1,43 +1,48 @@
 //! What a desk says and shows, call by call.
 use super::audits::first_wrong;
 use super::played::{Played, three_pieces};
-use bt_picker::Reply::{Failed, Had, Refused};
+use bt_picker::Reply::{Failed, Refused};
 use bt_picker::*;
 use std::alloc::Global;
 use std::process::Abort;
+use std::sync::Arc;
 use std::test::*;
+
+/// Plays the lines at a new desk.
+pub fn plays(rt: &impl Abort, alloc: Global, lines: &'static str) -> Result<(), Fail> {
+    let mut played = Played::new(rt, alloc)?;
+    played.play(rt, alloc, lines)
+}
 
 #[test]
 fn one_peer_to_the_last_piece(rt: HostRuntime) -> Result<(), Fail> {
-    let alloc = rt.alloc();
-    let mut played = Played::new(&rt, alloc)?;
-    played.play(
+    plays(
         &rt,
-        alloc,
+        rt.alloc(),
         "0 join = joined\n\
         0 bits e0 = noted yes\n\
         0 unchoke = quiet\n\
         0 next 5 = request 2 0 1\n\
         0 next 0 = request 0 0 3\n\
         0 next 0 = request 1 0 3\n\
-        0 next 0 = idle",
-    )?;
-    assert_eq!(rt; played.outstanding(&rt, 0), 3);
-    played.play(&rt, alloc, "0 block 2 0 a = completed")?;
-    assert!(rt; !played.had(&rt, 2));
-    assert_eq!(rt; played.settle(&rt, alloc, 0, 2)?, Had);
-    assert!(rt; played.had(&rt, 2));
-    played.play(
-        &rt,
-        alloc,
-        "0 block 0 0 abc = completed\n\
-        0 block 1 0 abc = completed",
-    )?;
-    assert_eq!(rt; played.settle(&rt, alloc, 0, 0)?, Had);
-    assert_eq!(rt; played.settle(&rt, alloc, 0, 1)?, Had);
-    played.play(&rt, alloc, "0 next 0 = nothing")?;
-    assert_eq!(rt; played.entries(), 14);
-    Ok(())
+        0 next 0 = idle\n\
+        outstanding 0 = 3\n\
+        0 block 2 0 a = completed\n\
+        had 2 = no\n\
+        check 0 2 = had\n\
+        had 2 = yes\n\
+        0 block 0 0 abc = completed\n\
+        0 block 1 0 abc = completed\n\
+        check 0 0 = had\n\
+        check 0 1 = had\n\
+        0 next 0 = nothing\n\
+        entries = 14",
+    )
+}
+
+/// A check of piece 0, which waits for it.
+fn verdict(rt: &impl Abort, alloc: Global, played: &Played) -> Result<Arc<Verdict>, Fail> {
+    Ok(played.check(alloc, 0)?.expect(rt, "piece 0 waits"))
 }
 
 #[test]
@@ -47,96 +52,88 @@ fn a_verdict_of_replaced_bytes(rt: HostRuntime) -> Result<(), Fail> {
     let wrong = "0 join = joined\n\
         0 block 0 0 abd = completed";
     played.play(&rt, alloc, wrong)?;
-    let first = played.check(alloc, 0)?.expect(&rt, "piece 0 waits");
-    let second = played.check(alloc, 0)?.expect(&rt, "piece 0 waits");
+    let first = verdict(&rt, alloc, &played)?;
+    let second = verdict(&rt, alloc, &played)?;
     assert_eq!(rt; played.call(&rt, 0, Call::Settle(first))?, Failed);
     assert!(rt; played.check(alloc, 0)?.is_none());
     played.play(&rt, alloc, "0 block 0 0 abc = completed")?;
-    assert_eq!(rt;
-        played.call(&rt, 0, Call::Settle(second))?,
-        Refused(Reason::Stale)
-    );
-    assert_eq!(rt; played.settle(&rt, alloc, 0, 0)?, Had);
-    Ok(())
+    let reply = played.call(&rt, 0, Call::Settle(second))?;
+    assert_eq!(rt; reply, Refused(Reason::Stale));
+    played.play(&rt, alloc, "check 0 0 = had")
 }
 
+/// A check that can't be made leaves no entry.
 #[test]
 fn refusals(rt: HostRuntime) -> Result<(), Fail> {
-    let alloc = rt.alloc();
-    let mut played = Played::new(&rt, alloc)?;
-    let steps = "0 join = joined\n\
+    plays(
+        &rt,
+        rt.alloc(),
+        "0 join = joined\n\
         0 no-bits-of 4 = refused WrongCount\n\
         0 settle 9 a = refused NoSuchPiece\n\
         0 block 2 0 a = completed\n\
         0 settle 2 a = had\n\
-        0 settle 2 a = refused NotWaiting";
-    played.play(&rt, alloc, steps)?;
-    // A check that can't be made leaves no entry.
-    assert_eq!(rt;
-        played.settle(&rt, alloc, 0, 3)?,
-        Refused(Reason::NoSuchPiece)
-    );
-    assert_eq!(rt;
-        played.settle(&rt, alloc, 0, 0)?,
-        Refused(Reason::NotWaiting)
-    );
-    assert_eq!(rt; played.entries(), 6);
-    Ok(())
+        0 settle 2 a = refused NotWaiting\n\
+        check 0 3 = refused NoSuchPiece\n\
+        check 0 0 = refused NotWaiting\n\
+        entries = 6",
+    )
 }
 
 #[test]
 fn a_peer_that_left(rt: HostRuntime) -> Result<(), Fail> {
-    let alloc = rt.alloc();
-    let mut played = Played::new(&rt, alloc)?;
-    let steps = "0 join = joined\n\
+    plays(
+        &rt,
+        rt.alloc(),
+        "0 join = joined\n\
         0 bits e0 = noted yes\n\
         1 join = joined\n\
-        1 bits 80 = noted yes";
-    played.play(&rt, alloc, steps)?;
-    assert_eq!(rt; played.availability(&rt, 0), 2);
-    played.play(&rt, alloc, "1 leave = quiet")?;
-    assert_eq!(rt; played.availability(&rt, 0), 1);
-    Ok(())
+        1 bits 80 = noted yes\n\
+        availability 0 = 2\n\
+        1 leave = quiet\n\
+        availability 0 = 1",
+    )
 }
 
+/// Worker 1 has no peer, and may say what is wanted all the same.
 #[test]
 fn one_wanted_piece_and_then_all(rt: HostRuntime) -> Result<(), Fail> {
-    let alloc = rt.alloc();
-    let mut played = Played::new(&rt, alloc)?;
-    assert!(rt; played.wanted(&rt, 0) && played.wanted(&rt, 1) && played.wanted(&rt, 2));
-    // Worker 1 has no peer, and may say so all the same.
-    played.play(&rt, alloc, "1 want 40 = quiet")?;
-    assert!(rt; !played.wanted(&rt, 0) && played.wanted(&rt, 1) && !played.wanted(&rt, 2));
-    let steps = "0 join = joined\n\
+    plays(
+        &rt,
+        rt.alloc(),
+        "wanted = 0 1 2\n\
+        1 want 40 = quiet\n\
+        wanted = 1\n\
+        0 join = joined\n\
         0 bits e0 = noted yes\n\
         0 unchoke = quiet\n\
         0 next 0 = request 1 0 3\n\
         0 next 0 = idle\n\
-        0 block 1 0 abc = completed";
-    played.play(&rt, alloc, steps)?;
-    assert!(rt; !played.has_wanted());
-    assert_eq!(rt; played.settle(&rt, alloc, 0, 1)?, Had);
-    assert!(rt; played.has_wanted() && !played.is_complete());
-    let steps = "0 next 0 = nothing\n\
+        0 block 1 0 abc = completed\n\
+        has-wanted = no\n\
+        check 0 1 = had\n\
+        has-wanted = yes\n\
+        complete = no\n\
+        0 next 0 = nothing\n\
         0 want e0 = quiet\n\
-        0 want-none-of 2 = refused WrongCount";
-    played.play(&rt, alloc, steps)?;
-    assert!(rt; !played.has_wanted());
-    Ok(())
+        0 want-none-of 2 = refused WrongCount\n\
+        has-wanted = no",
+    )
 }
 
 #[test]
 fn finish_settles_what_waits(rt: HostRuntime) -> Result<(), Fail> {
-    let alloc = rt.alloc();
-    let mut played = Played::new(&rt, alloc)?;
-    let steps = "0 join = joined\n\
+    plays(
+        &rt,
+        rt.alloc(),
+        "0 join = joined\n\
         0 block 2 0 a = completed\n\
-        0 block 0 0 abd = completed";
-    played.play(&rt, alloc, steps)?;
-    played.finish(&rt, alloc, 0)?;
-    assert!(rt; played.had(&rt, 2) && !played.had(&rt, 0));
-    assert_eq!(rt; played.entries(), 5);
-    Ok(())
+        0 block 0 0 abd = completed\n\
+        finish 0 = done\n\
+        had 2 = yes\n\
+        had 0 = no\n\
+        entries = 5",
+    )
 }
 
 #[test]

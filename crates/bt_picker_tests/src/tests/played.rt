@@ -1,14 +1,16 @@
-//! A desk at which histories are played. What it is asked goes through functions without a contract, so that a test knows of its replies
-//! alone, and its proof is short. A call that found no memory is made once more, with the answer that it would have had: so each test can be
-//! run with any one allocation refused.
+//! A desk at which scripts are played: lines as in `steps`, `WORKER CALL = REPLY`, and lines that look at the desk, `QUESTION = ANSWER`. What
+//! it is asked goes through functions without a contract, so that a test knows of its replies alone, and its proof is short. A call that found
+//! no memory is made once more, with the answer that it would have had: so each test can be run with any one allocation refused.
 ghost use Rattle.std.specs.Prelude.{◌≡◌, IfOk};
 ghost use Rattle.bt_meta.specs.Layout.{piece_count};
 
-use super::steps::{entry_of, torrent_of};
+use super::shown::{count, pieces, yes_or_no};
+use super::steps::{entry_of, number, reply_of, torrent_of};
 use bt_meta::{Sink, Torrent};
 use bt_picker::*;
 use std::alloc::{AllocError, Global};
 use std::process::Abort;
+use std::str::Split;
 use std::sync::Arc;
 use std::test::*;
 
@@ -45,7 +47,7 @@ impl Played {
         })
     }
 
-    /// Plays the lines: each reply is as its line says.
+    /// Plays the lines: each reply and each answer is as its line says.
     pub fn play(
         &mut self,
         rt: &impl Abort,
@@ -53,21 +55,93 @@ impl Played {
         lines: &'static str,
     ) -> Result<(), Fail> {
         for line in lines.lines() {
-            let Entry {
-                worker,
-                call,
-                reply,
-            } = entry_of(alloc, PIECES, line)?;
-            let said = match self.enter(rt, worker, call) {
-                Ok(said) => said,
-                Err(AllocError) => {
-                    let again = entry_of(alloc, PIECES, line)?;
-                    self.enter(rt, worker, again.call)?
-                }
+            let Some((asked, wanted)) = line.split_once(" = ") else {
+                return Err(Fail::from("a line without an answer"));
             };
-            assert_eq!(rt; said, reply, "{line}");
+            if matches!(line.as_bytes().first(), Some(b'0'..=b'9')) {
+                self.enter_line(rt, alloc, line)?;
+            } else {
+                self.ask_line(rt, alloc, asked, wanted)?;
+            }
         }
         Ok(())
+    }
+
+    /// A call: its reply is as the line says.
+    fn enter_line(
+        &mut self,
+        rt: &impl Abort,
+        alloc: Global,
+        line: &'static str,
+    ) -> Result<(), Fail> {
+        let Entry {
+            worker,
+            call,
+            reply,
+        } = entry_of(alloc, PIECES, line)?;
+        let said = match self.enter(rt, worker, call) {
+            Ok(said) => said,
+            Err(AllocError) => {
+                let again = entry_of(alloc, PIECES, line)?;
+                self.enter(rt, worker, again.call)?
+            }
+        };
+        assert_eq!(rt; said, reply, "{line}");
+        Ok(())
+    }
+
+    /// What is no call of one worker, or none that changes the desk: its answer is as the line says.
+    fn ask_line(
+        &mut self,
+        rt: &impl Abort,
+        alloc: Global,
+        asked: &'static str,
+        wanted: &str,
+    ) -> Result<(), Fail> {
+        let mut words = asked.split(' ');
+        match words.next().unwrap_or("") {
+            "check" => {
+                let worker = number(words.next())?;
+                let piece = number(words.next())?;
+                assert_eq!(rt;
+                    self.settle(rt, alloc, worker, piece)?,
+                    reply_of(wanted)?,
+                    "{asked}"
+                );
+            }
+            "finish" => self.finish(rt, alloc, number(words.next())?)?,
+            question => {
+                let answer = self.answer(rt, alloc, question, &mut words)?;
+                assert_eq!(rt; answer.as_str(), wanted, "{asked}");
+            }
+        }
+        Ok(())
+    }
+
+    /// What the desk shows.
+    fn answer(
+        &self,
+        rt: &impl Abort,
+        alloc: Global,
+        question: &str,
+        words: &mut Split<'static, char>,
+    ) -> Result<String, Fail> {
+        Ok(match question {
+            "had" => yes_or_no(self.had(rt, number(words.next())?)).to_string(alloc)?,
+            "has-wanted" => yes_or_no(self.has_wanted()).to_string(alloc)?,
+            "complete" => yes_or_no(self.is_complete()).to_string(alloc)?,
+            "wanted" => self.wanted(rt, alloc)?,
+            "shown-by" => self.group(rt, alloc, number(words.next())?)?,
+            "entries" => self.entries().to_string(alloc)?,
+            "unasked" => self.unasked().to_string(alloc)?,
+            "outstanding" => self
+                .outstanding(rt, number(words.next())?)
+                .to_string(alloc)?,
+            "availability" => self
+                .availability(rt, number(words.next())?)
+                .to_string(alloc)?,
+            _ => return Err(Fail::from("no such question")),
+        })
     }
 
     pub fn call(&mut self, rt: &impl Abort, worker: u32, call: Call) -> Result<Reply, Fail> {
@@ -85,7 +159,7 @@ impl Played {
     }
 
     /// What a check of the piece comes to that ends before any other call.
-    pub fn settle(
+    fn settle(
         &mut self,
         rt: &impl Abort,
         alloc: Global,
@@ -115,44 +189,61 @@ impl Played {
         Ok(())
     }
 
-    pub fn had(&self, rt: &impl Abort, piece: u32) -> bool {
+    fn had(&self, rt: &impl Abort, piece: u32) -> bool {
         assert!(rt; piece < PIECES);
         self.desk.had(piece)
     }
 
-    pub fn wanted(&self, rt: &impl Abort, piece: u32) -> bool {
+    fn is_wanted(&self, rt: &impl Abort, piece: u32) -> bool {
         assert!(rt; piece < PIECES);
         self.desk.wanted(piece)
     }
 
-    pub fn availability(&self, rt: &impl Abort, piece: u32) -> u32 {
+    fn wanted(&self, rt: &impl Abort, alloc: Global) -> Result<String, Fail> {
+        let flags = [
+            self.is_wanted(rt, 0),
+            self.is_wanted(rt, 1),
+            self.is_wanted(rt, 2),
+        ];
+        pieces(alloc, flags)
+    }
+
+    fn availability(&self, rt: &impl Abort, piece: u32) -> u32 {
         assert!(rt; piece < PIECES);
         self.desk.availability(piece)
     }
 
-    pub fn outstanding(&self, rt: &impl Abort, worker: u32) -> usize {
+    fn outstanding(&self, rt: &impl Abort, worker: u32) -> usize {
         assert!(rt; worker < WORKERS);
         self.desk.outstanding(worker).len()
     }
 
-    pub fn group(&self, rt: &impl Abort, shown_by: u32) -> &[u32] {
+    fn unbegun(&self, rt: &impl Abort, shown_by: u32) -> &[u32] {
         assert!(rt; shown_by <= WORKERS);
         self.desk.group(shown_by)
     }
 
-    pub fn entries(&self) -> usize {
+    /// The unbegun pieces that so many peers show. None stands there twice.
+    fn group(&self, rt: &impl Abort, alloc: Global, shown_by: u32) -> Result<String, Fail> {
+        let group = self.unbegun(rt, shown_by);
+        let flags = [group.contains(&0), group.contains(&1), group.contains(&2)];
+        assert_eq!(rt; group.len(), count(flags));
+        pieces(alloc, flags)
+    }
+
+    fn entries(&self) -> usize {
         self.desk.journal().len()
     }
 
-    pub fn unasked(&self) -> u64 {
+    fn unasked(&self) -> u64 {
         self.desk.unasked()
     }
 
-    pub fn has_wanted(&self) -> bool {
+    fn has_wanted(&self) -> bool {
         self.desk.has_wanted()
     }
 
-    pub fn is_complete(&self) -> bool {
+    fn is_complete(&self) -> bool {
         self.desk.is_complete()
     }
 

@@ -154,30 +154,90 @@ impl Run {
         Ok(())
     }
 
+    fn call(&mut self, worker: u32, call: Call) -> Result<Reply, Fail>
+        requires { worker < 4 }
+    {
+        Ok(self.desk.call(worker, call)?)
+    }
+
+    fn settle_now(&mut self, alloc: Global, worker: u32, piece: u32) -> Result<Reply, Fail>
+        requires { worker < 4 }
+    {
+        Ok(self.desk.settle_now(alloc, worker, piece)?)
+    }
+
+    /// A verdict of the piece, if it waits for one.
+    fn verdict(&self, alloc: Global, piece: u32) -> Result<Option<Arc<Verdict>>, Fail> {
+        match self.desk.job(alloc, piece)? {
+            Some(job) => Ok(Some(Arc::new(alloc, job.hash())?)),
+            None => Ok(None),
+        }
+    }
+
+    /// What the peer sends next.
+    fn sent(&self, alloc: Global, rng: &mut Lcg64Xsh32, worker: u32) -> Result<Call, Fail>
+        requires { worker < 4 }
+    {
+        from_wire(alloc, rng, self.desk.outstanding(worker))
+    }
+
     /// One call: of a peer's worker, a check at once, one that was begun earlier, or what is wanted.
     fn step(&mut self, alloc: Global, rng: &mut Lcg64Xsh32) -> Result<Reply, Fail> {
         let worker = one_of(rng, WORKERS);
         let piece = one_of(rng, 5);
         if one_of(rng, 8) == 0 {
-            return Ok(self.desk.settle_now(alloc, worker, piece)?);
+            return self.settle_now(alloc, worker, piece);
         }
         if self.late.is_none()
-            && let Some(job) = self.desk.job(alloc, piece)?
+            && let Some(verdict) = self.verdict(alloc, piece)?
         {
-            let verdict = Arc::new(alloc, job.hash())?;
             self.late = Some(verdict.clone()?);
-            return Ok(self.desk.call(worker, Call::Settle(verdict))?);
+            return self.call(worker, Call::Settle(verdict));
         }
+        let call = self.any_call(alloc, rng, worker)?;
+        self.call(worker, call)
+    }
+
+    /// A check that was begun earlier, what is wanted, or what the peer sends.
+    fn any_call(&mut self, alloc: Global, rng: &mut Lcg64Xsh32, worker: u32) -> Result<Call, Fail>
+        requires { worker < 4 }
+    {
         if one_of(rng, 40) == 0
             && let Some(verdict) = self.late.take()
         {
-            return Ok(self.desk.call(worker, Call::Settle(verdict))?);
+            return Ok(Call::Settle(verdict));
         }
         if one_of(rng, 40) == 0 {
-            return Ok(self.desk.call(worker, any_want(alloc, rng)?)?);
+            return any_want(alloc, rng);
         }
-        let call = from_wire(alloc, rng, self.desk.outstanding(worker))?;
-        Ok(self.desk.call(worker, call)?)
+        self.sent(alloc, rng, worker)
+    }
+
+    /// So many calls, each counted by the kind of its reply; then what waits is settled.
+    fn steps(
+        &mut self,
+        alloc: Global,
+        rng: &mut Lcg64Xsh32,
+        counts: &mut [u64; 24],
+    ) -> Result<(), Fail> {
+        for _ in 0..500 {
+            let place = kind(self.step(alloc, rng)?);
+            counts[place] = counts[place].saturating_add(1);
+        }
+        self.desk.finish(alloc, 0)?;
+        Ok(())
+    }
+
+    /// Checks that the audit allows what was said.
+    fn judge(&self, rt: &impl Abort, alloc: Global, rules: Rules) -> Result<(), Fail>
+        requires shallow { 1 ≤ rules.depth }
+        requires deep { rules.depth ≤ 64 }
+        requires random { rules.random ≤ 4 }
+    {
+        assert!(rt; self.desk.has_wanted() || !self.desk.is_complete());
+        let torrent = torrent(rt, alloc)?;
+        audit(alloc, &*torrent, WORKERS, rules, self.desk.journal())?;
+        Ok(())
     }
 }
 
@@ -205,28 +265,25 @@ fn kind(reply: Reply) -> usize
     }
 }
 
+/// A journal of random calls, which the audit allows.
+fn one_journal(
+    rt: &impl Abort,
+    alloc: Global,
+    seed: u64,
+    counts: &mut [u64; 24],
+) -> Result<(), Fail> {
+    let mut rng = Lcg64Xsh32::new(seed, 1);
+    let rules = any_rules(&mut rng);
+    let mut run = Run::new(alloc, torrent(rt, alloc)?, rules)?;
+    run.steps(alloc, &mut rng, counts)?;
+    run.judge(rt, alloc, rules)
+}
+
 #[test]
 fn journals_of_random_calls(rt: HostRuntime) -> Result<(), Fail> {
-    let alloc = rt.alloc();
     let mut counts = [0_u64; 24];
     for seed in 0..40 {
-        let mut rng = Lcg64Xsh32::new(seed, 1);
-        let rules = any_rules(&mut rng);
-        let mut run = Run::new(alloc, torrent(&rt, alloc)?, rules)?;
-        for _ in 0..500 {
-            let reply = run.step(alloc, &mut rng)?;
-            let place = kind(reply);
-            counts[place] = counts[place].saturating_add(1);
-        }
-        run.desk.finish(alloc, 0)?;
-        assert!(rt; run.desk.has_wanted() || !run.desk.is_complete());
-        audit(
-            alloc,
-            &*torrent(&rt, alloc)?,
-            WORKERS,
-            rules,
-            run.desk.journal(),
-        )?;
+        one_journal(&rt, rt.alloc(), seed, &mut counts)?;
     }
     for count in counts {
         assert!(rt; count > 0);

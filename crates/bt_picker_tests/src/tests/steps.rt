@@ -60,7 +60,8 @@ pub fn entry_of(alloc: Global, pieces: u32, line: &'static str) -> Result<Entry,
     })
 }
 
-fn number(word: Option<&str>) -> Result<u32, Fail> {
+/// The number that the word spells.
+pub fn number(word: Option<&str>) -> Result<u32, Fail> {
     match word.unwrap_or("").parse::<u32>() {
         Ok(number) => Ok(number),
         Err(_) => Err(Fail::from("a number is missing")),
@@ -110,7 +111,8 @@ fn verdict_of(alloc: Global, piece: u32, word: Option<&'static str>) -> Result<A
     Ok(Arc::new(alloc, Job { piece, blocks }.hash())?)
 }
 
-fn reply_of(text: &str) -> Result<Reply, Fail> {
+/// The reply that the text tells.
+pub fn reply_of(text: &str) -> Result<Reply, Fail> {
     let mut words = text.split(' ');
     Ok(match words.next().unwrap_or("") {
         "joined" => Reply::Joined,
