@@ -1,7 +1,10 @@
 //! What a worker's log has after its calls.
+ghost use Rattle.std.specs.Prelude.{◌<◌};
+ghost use Rattle.bt_meta.specs.Layout.{piece_count};
+
 use super::setting::*;
 use bt_meta::Bitfield;
-use bt_picker::{Call, CallMark, Reason, Reply};
+use bt_picker::{Call, CallMark, Desk, Reason, Reply};
 use std::test::*;
 
 /// One worker brings the last piece, and has it checked.
@@ -33,6 +36,13 @@ fn one_worker_to_a_had_piece(rt: HostRuntime) -> Result<(), Fail> {
     Ok(())
 }
 
+/// How many peers show the piece.
+fn peers_of(desk: &Desk, piece: u32) -> u32
+    requires { piece < piece_count desk.now.setting.torrent }
+{
+    desk.availability(piece)
+}
+
 /// A peer tells its pieces. The entry has the bitfield, of which the mark has nothing.
 #[test]
 fn a_bitfield_is_entered_whole(rt: HostRuntime) -> Result<(), Fail> {
@@ -41,9 +51,9 @@ fn a_bitfield_is_entered_whole(rt: HostRuntime) -> Result<(), Fail> {
     let told = Call::Bits(bits(rt.alloc(), 0x40)?);
     assert_eq!(rt; seated.call(&rt, 0, told)?, Reply::Noted(true));
     let book = seated.gather(rt.alloc())?;
-    assert_eq!(rt; book.desk.availability(0), 0);
-    assert_eq!(rt; book.desk.availability(1), 1);
-    assert_eq!(rt; book.desk.availability(2), 0);
+    assert_eq!(rt; peers_of(&book.desk, 0), 0);
+    assert_eq!(rt; peers_of(&book.desk, 1), 1);
+    assert_eq!(rt; peers_of(&book.desk, 2), 0);
     Ok(())
 }
 

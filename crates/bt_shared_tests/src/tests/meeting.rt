@@ -21,7 +21,8 @@ fn says<R: Wait + Abort>(
     requires { pass.old.table ≡ desk.now.table }
     ensures { IsSame pass.old pass.new }
 {
-    assert_eq!(rt; desk.call(rt, pass, call)?, wanted);
+    let reply = called(rt, desk, pass, call)?;
+    assert!(rt; is_reply(reply, wanted));
     Ok(())
 }
 
@@ -64,8 +65,9 @@ fn bring_a_piece<R: Wait + Abort>(
     ensures second { IsSame second.old second.new }
 {
     says(rt, desk, second, block(2, b"a"), Reply::Completed)?;
-    assert!(rt; desk.job(rt, alloc, first, 2)?.is_some());
-    assert_eq!(rt; desk.settle_now(rt, alloc, first, 2)?, Reply::Had);
+    assert!(rt; finds_job(rt, alloc, desk, first, 2)?);
+    let reply = settled(rt, alloc, desk, first, 2)?;
+    assert!(rt; is_reply(reply, Reply::Had));
     says(rt, desk, second, block(2, b"a"), Reply::Dropped)
 }
 

@@ -1,7 +1,7 @@
 //! A torrent, calls, and a shared desk with its passes.
 ghost use Rattle.std.specs.Prelude.{◌≡◌, ◌≤◌, length, IfOk};
 ghost use Rattle.bt_meta.specs.Layout.{piece_count};
-ghost use Rattle.bt_shared.specs.Passes.{IsOf};
+ghost use Rattle.bt_shared.specs.Passes.{IsOf, IsSame};
 
 use bt_meta::{Bitfield, Torrent};
 use bt_picker::{Call, CallMark, Mark, Reply, Rules};
@@ -24,6 +24,53 @@ const A: [u8; 20] = [
     0x86, 0xf7, 0xe4, 0x37, 0xfa, 0xa5, 0xa7, 0xfc, 0xe1, 0x5d, 0x1d, 0xdc, 0xb9, 0xea, 0xea, 0xea,
     0x37, 0x76, 0x67, 0xb8,
 ];
+
+/// A call by the pass, whose seat the tests hold by this alone.
+pub fn called<R: Wait>(
+    rt: &R,
+    desk: &SharedDesk,
+    pass: &mut Pass,
+    call: Call,
+) -> Result<Reply, AllocError>
+    requires { pass.old.table ≡ desk.now.table }
+    ensures { IsSame pass.old pass.new }
+{
+    desk.call(rt, pass, call)
+}
+
+/// A check of the piece by the pass.
+pub fn settled<R: Wait>(
+    rt: &R,
+    alloc: Global,
+    desk: &SharedDesk,
+    pass: &mut Pass,
+    piece: u32,
+) -> Result<Reply, AllocError>
+    requires { pass.old.table ≡ desk.now.table }
+    ensures { IsSame pass.old pass.new }
+{
+    desk.settle_now(rt, alloc, pass, piece)
+}
+
+/// Whether the pass finds a job of the piece.
+pub fn finds_job<R: Wait>(
+    rt: &R,
+    alloc: Global,
+    desk: &SharedDesk,
+    pass: &mut Pass,
+    piece: u32,
+) -> Result<bool, AllocError>
+    requires { pass.old.table ≡ desk.now.table }
+    ensures { IsSame pass.old pass.new }
+{
+    let job = desk.job(rt, alloc, pass, piece)?;
+    Ok(job.is_some())
+}
+
+/// Whether it is this reply.
+pub fn is_reply(reply: Reply, wanted: Reply) -> bool {
+    reply == wanted
+}
 
 /// A shared desk of the pieces `abc`, `abc` and `a`, and its passes.
 #[derive(Drop)]
@@ -63,7 +110,7 @@ impl Seated {
     ) -> Result<Reply, Fail> {
         let Seated { desk, passes } = self;
         assert!(rt; worker < passes.len());
-        Ok(desk.call(rt, &mut passes[worker], call)?)
+        Ok(called(rt, desk, &mut passes[worker], call)?)
     }
 
     /// Makes the worker's calls, each of which has to get the reply beside it.
@@ -74,7 +121,8 @@ impl Seated {
         calls: Vec<(Call, Reply)>,
     ) -> Result<(), Fail> {
         for (call, wanted) in calls {
-            assert_eq!(rt; self.call(rt, worker, call)?, wanted);
+            let reply = self.call(rt, worker, call)?;
+            assert!(rt; is_reply(reply, wanted));
         }
         Ok(())
     }
@@ -89,7 +137,7 @@ impl Seated {
     ) -> Result<Reply, Fail> {
         let Seated { desk, passes } = self;
         assert!(rt; worker < passes.len());
-        Ok(desk.settle_now(rt, alloc, &mut passes[worker], piece)?)
+        Ok(settled(rt, alloc, desk, &mut passes[worker], piece)?)
     }
 
     /// Whether there is a job of the piece.
@@ -102,7 +150,7 @@ impl Seated {
     ) -> Result<bool, Fail> {
         let Seated { desk, passes } = self;
         assert!(rt; worker < passes.len());
-        Ok(desk.job(rt, alloc, &mut passes[worker], piece)?.is_some())
+        Ok(finds_job(rt, alloc, desk, &mut passes[worker], piece)?)
     }
 
     /// The worker's log.
@@ -122,10 +170,7 @@ impl Seated {
         ensures same { self.new ≡ self.old }
         ensures pass { IsOf self.old result }
     {
-        let Some(pass) = self.passes.pop() else {
-            panic!(rt; "no pass is left")
-        };
-        pass
+        self.passes.pop().expect(rt, "no pass is left")
     }
 
     /// Puts a pass back.
@@ -168,11 +213,20 @@ pub fn cause(gathered: Result<Book, GatherFault>) -> Result<Option<GatherFault>,
     }
 }
 
+/// The digests of the pieces `abc`, `abc` and `a`.
+fn hashes(alloc: Global) -> Result<Vec<[u8; 20]>, AllocError> {
+    let mut hashes = Vec::new(alloc);
+    for digest in [ABC, ABC, A] {
+        hashes.push(digest)?;
+    }
+    Ok(hashes)
+}
+
+/// The torrent of the pieces `abc`, `abc` and `a`.
 pub fn three_pieces(rt: &impl Abort, alloc: Global) -> Result<Arc<Torrent>, Fail>
     ensures { IfOk result (λ torrent. piece_count torrent.value.layout ≡ 3) }
 {
-    let hashes = vec![in alloc; ABC, ABC, A]?;
-    let torrent = Torrent::of_parts(3, 7, hashes, [0; 20])?;
+    let torrent = Torrent::of_parts(3, 7, hashes(alloc)?, [0; 20])?;
     assert!(rt; torrent.piece_count() == 3);
     Ok(Arc::new(alloc, torrent)?)
 }

@@ -1,10 +1,14 @@
 //! Two threads that call one desk.
 ghost use Rattle.std.specs.Prelude.{◌≡◌};
+ghost use Rattle.bt_meta.specs.Layout.{piece_count};
 ghost use Rattle.bt_shared.specs.Passes.{IsOf, IsSame};
 
 use super::setting::*;
+use bt_meta::Torrent;
 use bt_picker::{Call, Reply, Rules, audit};
-use bt_shared::{Pass, SharedDesk};
+use bt_shared::{Book, Pass, SharedDesk};
+use std::alloc::Global;
+use std::process::Abort;
 use std::sync::Wait;
 use std::sync::atomic::{AtomicBool, Ordering};
 use std::test::*;
@@ -19,6 +23,13 @@ struct Meeting {
 }
 
 impl Meeting {
+    fn new() -> Meeting {
+        Meeting {
+            first: AtomicBool::new(false),
+            second: AtomicBool::new(false),
+        }
+    }
+
     /// Whether the other came, before this one had yielded a million times.
     fn meets(&self, worker: u32) -> bool {
         let (mine, other) = if worker == 0 {
@@ -37,7 +48,11 @@ impl Meeting {
     }
 }
 
+/// How often each worker asks.
 const CALLS: usize = 1000;
+
+/// The entries of both, with the two that join.
+const ENTRIES: usize = 2002;
 
 /// Asks again and again of a peer that chokes, which each reply has to say.
 fn asks<R: Wait>(rt: &R, desk: &SharedDesk, pass: &mut Pass) -> bool
@@ -46,7 +61,7 @@ fn asks<R: Wait>(rt: &R, desk: &SharedDesk, pass: &mut Pass) -> bool
 {
     let mut is_right = true;
     'calls: for _ in 0..CALLS {
-        is_right &= matches!(desk.call(rt, pass, Call::Next(0)), Ok(Reply::Choked));
+        is_right &= matches!(called(rt, desk, pass, Call::Next(0)), Ok(Reply::Choked));
     }
     is_right
 }
@@ -57,7 +72,7 @@ fn calls<R: Wait>(rt: &R, desk: &SharedDesk, meeting: &Meeting, mut pass: Pass) 
     ensures { IsOf desk.now result.0 }
 {
     let mut is_right = meeting.meets(pass.worker());
-    is_right &= matches!(desk.call(rt, &mut pass, Call::Join), Ok(Reply::Joined));
+    is_right &= matches!(called(rt, desk, &mut pass, Call::Join), Ok(Reply::Joined));
     is_right &= asks(rt, desk, &mut pass);
     (pass, is_right)
 }
@@ -88,24 +103,46 @@ fn together<R: Wait + Threads + Sync>(
     )
 }
 
+/// Whether the journal and both logs have the calls of both workers.
+fn is_whole(book: &Book) -> bool {
+    book.desk.journal().len() == ENTRIES
+        && book.logs.len() == 2
+        && book.logs.iter().all(|log| log.len() == CALLS + 1)
+}
+
+/// Whether an audit finds no fault in the journal of two workers.
+fn is_audited(alloc: Global, torrent: &Torrent, book: &Book) -> bool
+    requires { piece_count torrent.now.layout ≡ 3 }
+{
+    audit(alloc, torrent, 2, Rules::usual(), book.desk.journal()).is_ok()
+}
+
+/// The calls of the two workers of this desk, at once. Whether all replies were right.
+fn call_together<R: Wait + Threads + Abort + Sync>(
+    rt: &R,
+    seated: &mut Seated,
+) -> Result<bool, Fail> {
+    let second = seated.take(rt);
+    let first = seated.take(rt);
+    let ((first, is_right), (second, is_right_too)) = together(
+        rt,
+        seated.desk(),
+        &Meeting::new(),
+        first,
+        second,
+    );
+    seated.give(first)?;
+    seated.give(second)?;
+    Ok(is_right && is_right_too)
+}
+
 #[test]
 fn two_threads_at_one_desk(rt: HostRuntime) -> Result<(), Fail> {
     let mut seated = Seated::open(&rt, rt.alloc(), 2)?;
-    let second = seated.take(&rt);
-    let first = seated.take(&rt);
-    let meeting = Meeting {
-        first: AtomicBool::new(false),
-        second: AtomicBool::new(false),
-    };
-    let (first, second) = together(&rt, seated.desk(), &meeting, first, second);
-    assert!(rt; first.1 && second.1);
-    seated.give(first.0)?;
-    seated.give(second.0)?;
+    assert!(rt; call_together(&rt, &mut seated)?);
     let book = seated.gather(rt.alloc())?;
-    assert_eq!(rt; book.desk.journal().len(), 2 * CALLS + 2);
-    assert_eq!(rt; book.logs.len(), 2);
-    assert!(rt; book.logs.iter().all(|log| log.len() == CALLS + 1));
+    assert!(rt; is_whole(&book));
     let torrent = three_pieces(&rt, rt.alloc())?;
-    assert!(rt; audit(rt.alloc(), &torrent, 2, Rules::usual(), book.desk.journal()) == Ok(()));
+    assert!(rt; is_audited(rt.alloc(), &torrent, &book));
     Ok(())
 }
