@@ -4,6 +4,7 @@ use Rattle.std.specs.Fmt.{signed_decimal}
 use Rattle.std.specs.Int.{w64}
 use Rattle.std.specs.Ordering.{nat_cmp, is_lt}
 use Rattle.std.specs.Cmp.Lexicographic.{slice_cmp}
+use Rattle.bt_bencode.specs.declared.tree.TheConstants.{MAX_DEPTH}
 use Rattle.bt_bencode.specs.Term.{Term, Terms, Entries, int, text, list, dict, no_terms, more_terms, no_entries, more_entries, depth}
 
 -- `i`, `l`, `d`, `e`, `:`, `-` and `0` in ASCII
@@ -74,9 +75,9 @@ abbrev mutual
   EntriesAreSound no_entries = Unit {0}
   EntriesAreSound (more_entries k t es) = (length k < 2 ^ 64) × IsSound t × EntriesAreSound es
 
--- a tree of bencode: sound, and no deeper than 64 levels of lists and dictionaries
+-- a tree of bencode: sound, and with no more levels of lists and dictionaries than are read
 abbrev pub IsTree : Term → Type 0
-IsTree t = IsSound t × (depth t ≤ 64)
+IsTree t = IsSound t × (depth t ≤ MAX_DEPTH)
 
 -- these bytes are the spelling of this tree
 pub record Spells (t : Term) (bytes : List ℕ) : Type 0 where

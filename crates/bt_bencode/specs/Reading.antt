@@ -10,6 +10,7 @@ use lib.IntN.{neg_ℤ}
 use Rattle.bt_bencode.specs.declared.fault.BenFault.{BenFault}
 use Rattle.bt_bencode.specs.declared.fault.BenFault.TheVariants.{Truncated, BadInteger, IntegerRange, BadLength, KeyOrder, KeyKind, TooDeep}
 use Rattle.bt_bencode.specs.declared.fault.BenFault.TheVariants.{Trailing, BadByte, NoMemory}
+use Rattle.bt_bencode.specs.declared.tree.TheConstants.{MAX_DEPTH}
 use Rattle.bt_bencode.specs.Term.{Term, Terms, Entries, int, text, list, dict, no_terms, more_terms, no_entries, more_entries}
 use Rattle.bt_bencode.specs.Grammar.{letter_i, letter_l, letter_d, letter_e, colon, minus, digit_zero}
 use Rattle.bt_bencode.specs.Placed.{span}
@@ -167,4 +168,4 @@ entries_in (suc room) source at = entries_at (value_at room source) source (leng
 
 -- the value that all of the bytes are
 unfoldable pub tree_of : List ℕ → Result Term BenFault
-tree_of source = value_at 64 source 0 >>= λ t. if nat_lt t.1 (length source) then Err Trailing else Ok t.0
+tree_of source = value_at MAX_DEPTH source 0 >>= λ t. if nat_lt t.1 (length source) then Err Trailing else Ok t.0

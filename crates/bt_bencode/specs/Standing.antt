@@ -1,6 +1,7 @@
 -- The terms that a `Value` and an `Items` stand for: what is read where they stand.
 use Rattle.std.specs.Prelude.{ℕ, pos, ◌≡◌, ◌≤◌, ◌<◌, ◌^◌, List, length, Result, Ok, Err, None}
 use Rattle.bt_bencode.specs.declared.fault.BenFault.{BenFault}
+use Rattle.bt_bencode.specs.declared.tree.TheConstants.{MAX_DEPTH}
 use Rattle.bt_bencode.specs.Term.{Term, Terms, Entries, int, no_terms, no_entries, list_of_terms}
 use Rattle.bt_bencode.specs.Made.{no_span}
 use Rattle.bt_bencode.specs.Reading.{value_at, items_at, entries_at, end_of}
@@ -34,20 +35,20 @@ entries_from room source at = entries_read (entries_at (value_at room source) so
 
 -- a value with room for so many levels stands in the source, from `start` up to `end`
 pub record IsValue (room : ℕ) (source : List ℕ) (start : ℕ) (end : ℕ) : Type 0 where
-  pub deep : room ≤ 64
+  pub deep : room ≤ MAX_DEPTH
   pub short : length source < 2 ^ 64
   pub read : end_of (value_at room source start) ≡ Ok end
 
 -- the rest of a list stands there
 pub record AreItems (room : ℕ) (source : List ℕ) (at : ℕ) : Type 0 where
-  pub deep : room < 64
+  pub deep : room < MAX_DEPTH
   pub short : length source < 2 ^ 64
   pub end : ℕ
   pub read : end_of (items_at (value_at room source) source (length source) at) ≡ Ok end
 
 -- the entries of a dictionary stand there
 pub record AreEntries (room : ℕ) (source : List ℕ) (at : ℕ) : Type 0 where
-  pub deep : room < 64
+  pub deep : room < MAX_DEPTH
   pub short : length source < 2 ^ 64
   pub end : ℕ
   pub read : end_of (entries_at (value_at room source) source (length source) None at) ≡ Ok end

@@ -46,7 +46,8 @@ fn verdict(alloc: Global, piece: u32) -> Result<Arc<Verdict>, AllocError> {
     Ok(Arc::new(alloc, hashed(piece, blocks(alloc)?))?)
 }
 
-/// The proof that the piece is the byte `a`; none where it isn't. Without memory it is tried once more.
+/// The proof that the piece is the byte `a`; none where it isn't. Without memory it is tried once more: so the test still passes where a
+/// single allocation is refused, whichever it is.
 fn proven(alloc: Global, torrent: &Torrent, piece: u32) -> Result<Option<Proven>, AllocError>
     ensures { IfOk result (λ proven. IfSome proven (λ proven. Fits torrent.now.layout proven)) }
 {

@@ -1,4 +1,4 @@
--- Written by tools/examples.py: the worked examples are legal, and the wrong replies are not allowed, by computation.
+-- Written anew by each run of tools/examples.py: the worked examples are legal, and the wrong replies are not allowed, by computation.
 use Rattle.std.proofs.Common.{◌≡◌, refl, Bool, false, lit<, reverse, take, sym, ap, ◌∙◌}
 use Rattle.std.proofs.lemmas.Bool.{false≢true}
 use Rattle.bt_meta.specs.Layout.{Layout}

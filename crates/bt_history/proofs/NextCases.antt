@@ -35,45 +35,52 @@ unfolding next_answer next_cases
 next_is s h q = refl
 
 -- the reply is one of those to Next
-pub next_answers : (t : Layout) (a b c d e f g : Bool) (cancels ons firsts seconds : Block → Bool) (reply : Reply)
-    → Permits t (next_cases a b c d e f g cancels ons firsts seconds) reply → answers_next reply ≡ true
+pub next_answers : (t : Layout) (has_due opened full goes_on starts_one doubles_one waits : Bool)
+    (cancels ons firsts seconds : Block → Bool) (reply : Reply)
+    → Permits t (next_cases has_due opened full goes_on starts_one doubles_one waits cancels ons firsts seconds) reply
+    → answers_next reply ≡ true
 unfolding next_cases
-next_answers t true b c d e f g cancels ons firsts seconds reply h = ap answers_next (h.1)
-next_answers t false false c d e f g cancels ons firsts seconds reply h = ap answers_next h
-next_answers t false true true d e f g cancels ons firsts seconds reply h = ap answers_next h
-next_answers t false true false true e f g cancels ons firsts seconds reply h = ap answers_next (h.1)
-next_answers t false true false false true f g cancels ons firsts seconds reply h = ap answers_next (h.1)
-next_answers t false true false false false true g cancels ons firsts seconds reply h = ap answers_next (h.1)
+next_answers t true _ _ _ _ _ _ cancels ons firsts seconds reply h = ap answers_next (h.1)
+next_answers t false false _ _ _ _ _ cancels ons firsts seconds reply h = ap answers_next h
+next_answers t false true true _ _ _ _ cancels ons firsts seconds reply h = ap answers_next h
+next_answers t false true false true _ _ _ cancels ons firsts seconds reply h = ap answers_next (h.1)
+next_answers t false true false false true _ _ cancels ons firsts seconds reply h = ap answers_next (h.1)
+next_answers t false true false false false true _ cancels ons firsts seconds reply h = ap answers_next (h.1)
 next_answers t false true false false false false true cancels ons firsts seconds reply h = ap answers_next h
 next_answers t false true false false false false false cancels ons firsts seconds reply h = ap answers_next h
 
--- what a request shows of the tests
-pub record Requests (t : Layout) (has_due full doubles_one : Bool) (ons firsts seconds : Block → Bool) (b : Block) : Type 0 where
+-- what a request shows of the tests: one that neither goes on nor begins also shows that no block is usable
+pub record Requests (t : Layout) (has_due full starts_one doubles_one : Bool) (ons firsts seconds : Block → Bool) (b : Block) : Type 0 where
   pub none_due : has_due ≡ false
   pub room : full ≡ false
   pub block : is_block t b ≡ true
   pub kind : (ons b ≡ true) ⊎ ((firsts b ≡ true) ⊎ ((doubles_one ≡ true) × (seconds b ≡ true)))
+  pub usable : (ons b ≡ true) ⊎ ((firsts b ≡ true) ⊎ (starts_one ≡ false))
 
 named : (test : Block → Bool) (b c : Block) → Request b ≡ Request c → test c ≡ true → test b ≡ true
 named test b c is passes = let same : b ≡ c = cc is in ap test same ∙ passes
 
-pub next_request : (t : Layout) (a b c d e f g : Bool) (cancels ons firsts seconds : Block → Bool) (x : Block)
-    → Permits t (next_cases a b c d e f g cancels ons firsts seconds) (Request x) → Requests t a c f ons firsts seconds x
+pub next_request : (t : Layout) (has_due opened full goes_on starts_one doubles_one waits : Bool)
+    (cancels ons firsts seconds : Block → Bool) (x : Block)
+    → Permits t (next_cases has_due opened full goes_on starts_one doubles_one waits cancels ons firsts seconds) (Request x)
+    → Requests t has_due full starts_one doubles_one ons firsts seconds x
 unfolding next_cases
-next_request t true b c d e f g cancels ons firsts seconds x h = absurd (cc (h.1))
-next_request t false false c d e f g cancels ons firsts seconds x h = absurd (cc h)
-next_request t false true true d e f g cancels ons firsts seconds x h = absurd (cc h)
-next_request t false true false true e f g cancels ons firsts seconds x h =
-    record { none_due = refl; room = refl; block = named (is_block t) x (h.0) (h.1) (h.2); kind = inl (named ons x (h.0) (h.1) (h.3)) }
-next_request t false true false false true f g cancels ons firsts seconds x h =
-    record { none_due = refl; room = refl; block = named (is_block t) x (h.0) (h.1) (h.2); kind = inr (inl (named firsts x (h.0) (h.1) (h.3))) }
-next_request t false true false false false true g cancels ons firsts seconds x h =
+next_request t true _ _ _ _ _ _ cancels ons firsts seconds x h = absurd (cc (h.1))
+next_request t false false _ _ _ _ _ cancels ons firsts seconds x h = absurd (cc h)
+next_request t false true true _ _ _ _ cancels ons firsts seconds x h = absurd (cc h)
+next_request t false true false true _ _ _ cancels ons firsts seconds x h =
+    let on = named ons x (h.0) (h.1) (h.3) in
+    record { none_due = refl; room = refl; block = named (is_block t) x (h.0) (h.1) (h.2); kind = inl on; usable = inl on }
+next_request t false true false false true _ _ cancels ons firsts seconds x h =
+    let first = named firsts x (h.0) (h.1) (h.3) in
+    record { none_due = refl; room = refl; block = named (is_block t) x (h.0) (h.1) (h.2); kind = inr (inl first); usable = inr (inl first) }
+next_request t false true false false false true _ cancels ons firsts seconds x h =
     record {
       none_due = refl;
       room = refl;
       block = named (is_block t) x (h.0) (h.1) (h.2);
-      kind =
-          inr (inr (refl, named seconds x (h.0) (h.1) (h.3)));
+      kind = inr (inr (refl, named seconds x (h.0) (h.1) (h.3)));
+      usable = inr (inr refl);
     }
 next_request t false true false false false false true cancels ons firsts seconds x h = absurd (cc h)
 next_request t false true false false false false false cancels ons firsts seconds x h = absurd (cc h)

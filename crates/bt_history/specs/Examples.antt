@@ -1,4 +1,4 @@
--- Worked examples, written by tools/examples.py: small torrents, histories of them with the oldest entry first, and wrong replies.
+-- Worked examples, written anew by each run of tools/examples.py: small torrents, histories of them with the oldest entry first, and wrong replies.
 use Rattle.std.specs.Prelude.{ℕ, List, [], ◌∷◌, true, false, replicate}
 use Rattle.bt_meta.specs.declared.block.Block.{Block}
 use Rattle.bt_meta.specs.Layout.{Layout}

@@ -1,4 +1,4 @@
-//! Written by tools/examples.py: worked examples of the rules, judged by the definitions.
+//! Written anew by each run of tools/examples.py: worked examples of the rules, judged by the definitions.
 ghost use Rattle.std.specs.Prelude.{reverse, take};
 ghost use Rattle.bt_history.specs.Setting.{setting_of, usual_rules};
 ghost use Rattle.bt_history.specs.Legal.{IsLegal, IsAllowed};

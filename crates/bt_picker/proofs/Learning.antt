@@ -22,7 +22,7 @@ use Rattle.bt_history.specs.Next.{continues, is_candidate, is_rarest, starts, us
 use Rattle.bt_history.proofs.Allowed.{answered, no_cause}
 use Rattle.bt_history.proofs.Below.{all_at, count_most}
 use Rattle.bt_history.proofs.LineLaws.{block_is_block, some_found}
-use Rattle.bt_history.proofs.NextCases.{next_cases, next_is}
+use Rattle.bt_history.proofs.NextCases.{next_cases, next_is, next_request}
 use Rattle.bt_picker.specs.Floors.{IsFloor, NoneRarer, TellsFloor, is_fresh}
 use Rattle.bt_picker.specs.Standings.{group_of_row, shown_group}
 use Rattle.std.specs.List.{count_by}
@@ -98,35 +98,23 @@ none_usable s h w n layout none p lp fits =
     absurd (false≢true (sym none ∙ some_found s.torrent (usable s h w) (block s.torrent p 0) (block_is_block s.torrent p 0 lp some)
     (candidate_usable s h w p lp some fits)))
 
-named : (test : Block → Bool) (b c : Block) → Request b ≡ Request c → test c ≡ true → test b ≡ true
-named test b c is passes = (let same : b ≡ c = cc is in ap test same ∙ passes)
-
--- a request goes on, or begins, or nothing is usable
-request_cases : (t : Layout) (a b c d e f g : Bool) (cancels ons firsts seconds : Block → Bool) (x : Block)
-    → Permits t (next_cases a b c d e f g cancels ons firsts seconds) (Request x) → (ons x ≡ true) ⊎ ((firsts x ≡ true) ⊎ (e ≡ false))
-unfolding next_cases
-request_cases t true b c d e f g cancels ons firsts seconds x h = absurd (cc (h.1))
-request_cases t false false c d e f g cancels ons firsts seconds x h = absurd (cc h)
-request_cases t false true true d e f g cancels ons firsts seconds x h = absurd (cc h)
-request_cases t false true false true e f g cancels ons firsts seconds x h = inl (named ons x (h.0) (h.1) (h.3))
-request_cases t false true false false true f g cancels ons firsts seconds x h = inr (inl (named firsts x (h.0) (h.1) (h.3)))
-request_cases t false true false false false f g cancels ons firsts seconds x h = inr (inr refl)
-
 -- where nothing is to be asked nothing is usable
-idle_cases : (t : Layout) (a b c d e f g : Bool) (cancels ons firsts seconds : Block → Bool) (reply : Reply) → (reply ≡ Idle) ⊎ (reply ≡ NothingLeft)
-    → Permits t (next_cases a b c d e f g cancels ons firsts seconds) reply → e ≡ false
+idle_cases : (t : Layout) (has_due opened full goes_on starts_one doubles_one waits : Bool)
+    (cancels ons firsts seconds : Block → Bool) (reply : Reply) → (reply ≡ Idle) ⊎ (reply ≡ NothingLeft)
+    → Permits t (next_cases has_due opened full goes_on starts_one doubles_one waits cancels ons firsts seconds) reply
+    → starts_one ≡ false
 unfolding next_cases
-idle_cases t true b c d e f g cancels ons firsts seconds reply (inl is) h = absurd (cc (is, h.1))
-idle_cases t true b c d e f g cancels ons firsts seconds reply (inr is) h = absurd (cc (is, h.1))
-idle_cases t false false c d e f g cancels ons firsts seconds reply (inl is) h = absurd (cc (is, h))
-idle_cases t false false c d e f g cancels ons firsts seconds reply (inr is) h = absurd (cc (is, h))
-idle_cases t false true true d e f g cancels ons firsts seconds reply (inl is) h = absurd (cc (is, h))
-idle_cases t false true true d e f g cancels ons firsts seconds reply (inr is) h = absurd (cc (is, h))
-idle_cases t false true false true e f g cancels ons firsts seconds reply (inl is) h = absurd (cc (is, h.1))
-idle_cases t false true false true e f g cancels ons firsts seconds reply (inr is) h = absurd (cc (is, h.1))
-idle_cases t false true false false true f g cancels ons firsts seconds reply (inl is) h = absurd (cc (is, h.1))
-idle_cases t false true false false true f g cancels ons firsts seconds reply (inr is) h = absurd (cc (is, h.1))
-idle_cases t false true false false false f g cancels ons firsts seconds reply why h = refl
+idle_cases t true _ _ _ _ _ _ cancels ons firsts seconds reply (inl is) h = absurd (cc (is, h.1))
+idle_cases t true _ _ _ _ _ _ cancels ons firsts seconds reply (inr is) h = absurd (cc (is, h.1))
+idle_cases t false false _ _ _ _ _ cancels ons firsts seconds reply (inl is) h = absurd (cc (is, h))
+idle_cases t false false _ _ _ _ _ cancels ons firsts seconds reply (inr is) h = absurd (cc (is, h))
+idle_cases t false true true _ _ _ _ cancels ons firsts seconds reply (inl is) h = absurd (cc (is, h))
+idle_cases t false true true _ _ _ _ cancels ons firsts seconds reply (inr is) h = absurd (cc (is, h))
+idle_cases t false true false true _ _ _ cancels ons firsts seconds reply (inl is) h = absurd (cc (is, h.1))
+idle_cases t false true false true _ _ _ cancels ons firsts seconds reply (inr is) h = absurd (cc (is, h.1))
+idle_cases t false true false false true _ _ cancels ons firsts seconds reply (inl is) h = absurd (cc (is, h.1))
+idle_cases t false true false false true _ _ cancels ons firsts seconds reply (inr is) h = absurd (cc (is, h.1))
+idle_cases t false true false false false _ _ cancels ons firsts seconds reply why h = refl
 
 begins : (s : Setting) (h : History) (w p : ℕ) → (nat_lt (had_count s h) s.random || is_rarest s h w p) ≡ true →
     nat_lt (had_count s h) s.random ≡ false
@@ -158,7 +146,7 @@ module _ (s : Setting) (h : History) (w word : ℕ) (layout : IsLayout s.torrent
       (λ (first : starts s h w b ≡ true). begins s h w b.piece (and_parts (unbegun s h b.piece) _ (and_parts (usable s h w b) _ first).1).1 settled)
       (λ (none : some_block s.torrent (usable s h w) ≡ false). none_usable s h w (availability s h b.piece) layout none)
       rest)
-      (request_cases s.torrent _ _ _ _ _ _ _ _ _ _ _ b (subst (λ (a : _). Permits s.torrent a (Request b)) (next_is s h w) permitted))
+      (next_request s.torrent _ _ _ _ _ _ _ _ _ _ _ b (subst (λ (a : _). Permits s.torrent a (Request b)) (next_is s h w) permitted)).usable
 
   -- where nothing is to be asked there is no candidate
   pub idle_rarer : (n : ℕ) (reply : Reply) → (reply ≡ Idle) ⊎ (reply ≡ NothingLeft) →

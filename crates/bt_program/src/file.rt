@@ -18,6 +18,7 @@ pub struct OutFile<'a, R: Files> {
 }
 
 impl<'a, R: Files> OutFile<'a, R> {
+    /// No file yet, and so no failure yet: a command's caller takes a sink that has failed for the reason of `Fault::File`.
     pub fn new(files: &'a R, path: &'a str) -> OutFile<'a, R>
         ensures { ⟦<OutFile<'a, R> as Sink>⟧.failed result ≡ false }
     {

@@ -113,7 +113,7 @@ pub record Starts (lines : List (List ℕ)) (n workers pieces : ℕ) : Type 0 wh
 abbrev pub PassTo : List (List ℕ) → ℕ → ℕ → ℕ → ℕ → Type 0
 PassTo lines from workers pieces n = (k : ℕ) → from ≤ k → k < n → Passes workers pieces (line_at lines k)
 
--- these are the lines of a script
+-- these are the lines of a script: those from `from` on stand behind the ones that open it
 pub record AreScript (lines : List (List ℕ)) : Type 0 where
   pub from : ℕ
   pub workers : ℕ
@@ -135,7 +135,7 @@ pub record FailsToStart (lines : List (List ℕ)) (n : ℕ) : Type 0 where
   pub bad : setup_in (line_at lines first) ≡ None
   pub number : n ≡ first + 1
 
--- a line behind those that open the script doesn't pass, the first one that doesn't
+-- a line behind those that open the script doesn't pass, the first one that doesn't: the script is open from line `from` on
 pub record FailsLater (lines : List (List ℕ)) (n : ℕ) : Type 0 where
   pub from : ℕ
   pub workers : ℕ

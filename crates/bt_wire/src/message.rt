@@ -9,7 +9,7 @@ use std::alloc::AllocError;
 use thiserror::Error;
 
 /// A message of BEP 3. A piece is named by its index, and a block by its piece, the offset of its first byte in the piece and its length,
-/// both in bytes.
+/// both in bytes. The encoding in `specs/` takes the fields by position, and tests compare the text of `Debug`: an edit here shows in both.
 #[derive(Debug, Drop, PartialEq, Eq)]
 pub enum Message {
     Hello(Hello),

@@ -103,7 +103,7 @@ fn value(alloc: Global, source: &[u8], at: usize, room: u8) -> Result<(Tree, usi
 #[cycle(value)]
 fn list_items(alloc: Global, source: &[u8], at: usize, room: u8) -> Result<ReadItems, BenFault>
     requires place { at ≤ length source.now }
-    requires room { room < 64 }
+    requires room { room < MAX_DEPTH }
     ensures read { Gives (λ r. (terms_from r.items.items, r.end)) result
         (items_at (value_at room source.now) source.now (length source.now) at) }
     ensures end { IfOk result (λ r. (at < r.end) × (r.end ≤ length source.now)) }
@@ -130,7 +130,7 @@ fn list_items(alloc: Global, source: &[u8], at: usize, room: u8) -> Result<ReadI
 #[cycle(value)]
 fn dict_entries(alloc: Global, source: &[u8], at: usize, room: u8) -> Result<ReadEntries, BenFault>
     requires place { at ≤ length source.now }
-    requires room { room < 64 }
+    requires room { room < MAX_DEPTH }
     ensures read { Gives (λ r. (entries_from r.entries.items, r.end)) result
         (entries_at (value_at room source.now) source.now (length source.now) None at) }
     ensures end { IfOk result (λ r. (at < r.end) × (r.end ≤ length source.now)) }

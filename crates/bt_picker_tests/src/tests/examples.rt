@@ -1,4 +1,4 @@
-//! Written by tools/examples.py: the worked examples of the rules as texts, each with replies that would be wrong in it.
+//! Written anew by each run of tools/examples.py: the worked examples of the rules as texts, each with replies that would be wrong in it.
 use super::steps::Example;
 
 pub const EXAMPLES: [Example; 30] = [
