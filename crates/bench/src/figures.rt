@@ -12,13 +12,16 @@ use std::{fmt, fs};
 /// Of so many tries the quickest hash of a piece is taken: enough for some to go undisturbed on a busy machine.
 const HASHES: u32 = 500;
 
+/// Of so many readings of the clock the quickest is taken.
+const READINGS: u32 = 1000;
+
 /// Where Linux tells what a process takes.
 const STATUS: &str = "/proc/self/status";
 
 /// The processor times of a run, or the least ones of several.
 #[derive(Clone, Copy)]
 pub struct Times {
-    /// The rounds, without the checks.
+    /// The rounds, without the checks and without the readings of the clock that time those.
     asking: Duration,
     /// The checks.
     settling: Duration,
@@ -26,6 +29,8 @@ pub struct Times {
     joins: Duration,
     /// All peers out.
     leaves: Duration,
+    /// One reading of the clock.
+    reading: Duration,
 }
 
 impl Times {
@@ -36,6 +41,7 @@ impl Times {
             settling: self.settling.min(other.settling),
             joins: self.joins.min(other.joins),
             leaves: self.leaves.min(other.leaves),
+            reading: self.reading.min(other.reading),
         }
     }
 }
@@ -48,6 +54,7 @@ pub fn play<C: CpuClock>(
     download: &mut Download,
 ) -> Result<Times> {
     let shown = workload.bitfields(alloc)?;
+    let reading = reading_time(rt)?;
     let start = rt.thread_cpu_time()?;
     download.join(shown)?;
     let joined = rt.thread_cpu_time()?;
@@ -56,17 +63,32 @@ pub fn play<C: CpuClock>(
     download.leave()?;
     let left = rt.thread_cpu_time()?;
     let settling = download.settling();
+    // A check is timed from the middle of one reading to the middle of the next: the rest of both is one more.
+    let readings = reading.saturating_mul(download.counts().had);
+    let beside = settling.saturating_add(readings);
     Ok(Times {
-        asking: ran.saturating_sub(joined).saturating_sub(settling),
+        asking: ran.saturating_sub(joined).saturating_sub(beside),
         settling,
         joins: joined.saturating_sub(start),
         leaves: left.saturating_sub(ran),
+        reading,
     })
 }
 
 /// The nanoseconds of a time.
 pub fn nanos(time: Duration) -> u64 {
     u64::try_from(time.as_nanos()).unwrap_or(u64::MAX)
+}
+
+/// The processor time to read the clock, which is a call of the system.
+pub fn reading_time<C: CpuClock>(rt: &C) -> Result<Duration> {
+    let mut least = Duration::MAX;
+    for _ in 0..READINGS {
+        let start = rt.thread_cpu_time()?;
+        let took = rt.thread_cpu_time()?.saturating_sub(start);
+        least = least.min(took);
+    }
+    Ok(least)
 }
 
 /// The processor time to hash a block of 16 KiB: a sixteenth of a piece's.
@@ -159,6 +181,7 @@ impl fmt::Display for TimeLine {
         let hash = nanos(self.hash).max(1);
         let ask = asking / asks;
         let ratio = asking.saturating_mul(10_000) / asks.saturating_mul(hash).max(1);
+        let reading = nanos(self.times.reading);
         let settling = nanos(self.times.settling);
         let join = nanos(self.times.joins) / u64::from(PEERS);
         let leave = nanos(self.times.leaves) / u64::from(PEERS);
@@ -166,7 +189,7 @@ impl fmt::Display for TimeLine {
         let part = ratio % 10_000;
         write!(
             f,
-            "ask_ns {ask} hash_ns {hash} ratio {whole}.{part:04} settling_ns {settling} join_ns {join} leave_ns {leave}"
+            "ask_ns {ask} hash_ns {hash} ratio {whole}.{part:04} reading_ns {reading} settling_ns {settling} join_ns {join} leave_ns {leave}"
         )?;
         match self.peak {
             Some(peak) => write!(f, " peak_kib {peak}"),

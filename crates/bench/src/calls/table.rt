@@ -1,13 +1,10 @@
 //! The times of the kinds of calls.
 
-use crate::figures::nanos;
+use crate::figures::{nanos, reading_time};
 use anyhow::Result;
 use std::alloc::Global;
 use std::fmt;
 use std::time::{CpuClock, Duration};
-
-/// The clock is read so often to see what that takes.
-const READINGS: u32 = 1000;
 
 /// What is timed: calls of one kind, with one kind of answer.
 #[derive(Clone, Copy, PartialEq, Eq)]
@@ -107,13 +104,7 @@ impl Table {
 
     /// Finds what it takes to read the clock.
     pub fn read_clock<C: CpuClock>(&mut self, rt: &C) -> Result<()> {
-        let start = rt.thread_cpu_time()?;
-        let mut last = start;
-        for _ in 0..READINGS {
-            last = rt.thread_cpu_time()?;
-        }
-        let took = nanos(last.saturating_sub(start));
-        self.reading = Duration::from_nanos(took / u64::from(READINGS));
+        self.reading = reading_time(rt)?;
         Ok(())
     }
 
