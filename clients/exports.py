@@ -1,5 +1,6 @@
 #!/usr/bin/env python3
-"""Compares the library's exports with its header and with the Python module: names, and the types and names of parameters and results.
+"""Compares the library's exports with its header and with the Python module: names, and the types and names of parameters and results; and
+the numbers of statuses, kinds of answers and reasons.
 
 usage: exports.py        (in the repository; nothing needs to be built)
 
@@ -43,6 +44,18 @@ OF_CTYPES = {
     "_CheckHandle": "piecepick_check",
     "_Answer": "piecepick_answer",
 }
+
+
+# What the sources call otherwise than the header; a metainfo file for which there is no memory is told as any want of it.
+RENAMED = {
+    "NO_MEMORY": "MEMORY",
+    "MISSING": "MISSING_KEY",
+    "BOTH_LENGTH_AND_FILES": "LENGTH_AND_FILES",
+}
+MOST_METAINFO = 10
+
+# A set of numbers, by their names.
+Numbers = dict[str, int]
 
 
 @dataclass(frozen=True)
@@ -159,6 +172,58 @@ def abi(path: Path, pattern: str) -> str:
     return found[1] if found else "none"
 
 
+def snake(name: str) -> str:
+    """A variant's name as C has it."""
+    spelled = re.sub(r"(?<!^)(?=[A-Z])", "_", name).upper()
+    return RENAMED.get(spelled, spelled)
+
+
+def arms(path: Path, kind: str, result: str) -> Numbers:
+    """The numbers that the arms of a match on an enum give."""
+    found = re.findall(rf"\b{kind}::(\w+)(?:\([^)]*\))? => {result}(\d+)[,)]", path.read_text())
+    if not found:
+        raise Unread(f"{path.name}: no numbers of {kind}")
+    return {snake(name): int(number) for name, number in found}
+
+
+def numbers() -> dict[str, Numbers]:
+    """The numbers that the crate gives statuses, kinds and reasons."""
+    metainfo = arms(SOURCES.parents[1] / "bt_meta" / "src" / "fault.rt", "MetaFault", "")
+    status = {"OK": 0} | arms(SOURCES / "fault.rt", "Fault", "")
+    status |= {name: 100 + number for name, number in metainfo.items() if number <= MOST_METAINFO}
+    kinds = arms(SOURCES / "answer.rt", "Reply", r"Answer::\w+\(")
+    return {"Status": status, "Kind": kinds, "Reason": arms(SOURCES / "answer.rt", "Reason", "")}
+
+
+def header_numbers() -> dict[str, Numbers]:
+    """Those that the header has, in its three enums."""
+    text = re.sub(r"/\*.*?\*/", "", (HERE / "piecepick.h").read_text(), flags=re.DOTALL)
+    enums = [re.findall(r"PIECEPICK_(\w+) = (\d+)", body) for body in re.findall(r"^enum \{([^}]*)\};", text, flags=re.MULTILINE)]
+    found = [{name.removeprefix("REASON_"): int(number) for name, number in enum} for enum in enums]
+    return dict(zip(("Status", "Kind", "Reason"), found, strict=True))
+
+
+def python_numbers() -> dict[str, Numbers]:
+    """Those of the Python module's enums."""
+    found: dict[str, Numbers] = {}
+    for node in ast.parse((HERE / "piecepick.py").read_text()).body:
+        if isinstance(node, ast.ClassDef) and any(isinstance(base, ast.Name) and base.id == "IntEnum" for base in node.bases):
+            members = [it for it in node.body if isinstance(it, ast.Assign)]
+            found[node.name] = {ast.unparse(it.targets[0]): ast.literal_eval(it.value) for it in members}
+    return found
+
+
+def number_differences(what: str, wanted: dict[str, Numbers], there: dict[str, Numbers]) -> list[str]:
+    """A line for each number that isn't in both, or not the same in both."""
+    lines = []
+    for enum in sorted(wanted.keys() | there.keys()):
+        left, right = wanted.get(enum, {}), there.get(enum, {})
+        for name in sorted(left.keys() | right.keys()):
+            if left.get(name) != right.get(name):
+                lines.append(f"{enum} {name}: {left.get(name, 'nothing')}, and in {what} {right.get(name, 'nothing')}")
+    return lines
+
+
 def differences(what: str, wanted: dict[str, Signature], there: dict[str, Signature]) -> list[str]:
     """A line for each function that isn't in both, or not the same in both."""
     lines = []
@@ -173,17 +238,19 @@ def main() -> int:
     exported = exports()
     lines = differences("piecepick.h", exported, prototypes())
     lines += differences("piecepick.py", {name: signature.without_const() for name, signature in exported.items()}, calls())
-    numbers = {
+    lines += number_differences("piecepick.h", numbers(), header_numbers())
+    lines += number_differences("piecepick.py", numbers(), python_numbers())
+    interfaces = {
         "the library": abi(SOURCES / "exports" / "desks.rt", r"^const ABI: u32 = (\d+);"),
         "piecepick.h": abi(HERE / "piecepick.h", r"^#define PIECEPICK_ABI (\d+)u$"),
         "piecepick.py": abi(HERE / "piecepick.py", r"^ABI = (\d+)$"),
     }
-    if len(set(numbers.values())) > 1 or "none" in numbers.values():
-        lines.append("the interface's number: " + ", ".join(f"{number} in {place}" for place, number in numbers.items()))
+    if len(set(interfaces.values())) > 1 or "none" in interfaces.values():
+        lines.append("the interface's number: " + ", ".join(f"{number} in {place}" for place, number in interfaces.items()))
     for line in lines:
         print(line)
     if not lines:
-        print(f"{len(exported)} exports: the header and the Python module have the same")
+        print(f"{len(exported)} exports and all numbers: the header and the Python module have the same")
     return 1 if lines else 0
 
 
