@@ -4,6 +4,7 @@ ghost use Rattle.std.specs.Prelude.{Some, []};
 
 use super::serial::{FILE, FRAMES, INFOHASH, run, stream};
 use bt_cli::*;
+use bt_expect::same;
 use bt_meta::{DeviceFault, Sink};
 use std::alloc::Global;
 use std::io::Write;
@@ -71,7 +72,7 @@ fn files_of_a_run(rt: HostRuntime) -> Result<(), Fail> {
     let mut file = Kept::new(rt.alloc(), true)?;
     assert!(rt; save(&desk, &mut file) == Ok(()));
     assert!(rt; file.made);
-    assert_eq!(rt; file.held.as_slice(), b"abc".as_slice());
+    same(&rt, file.held.as_slice(), b"abc".as_slice());
     let mut file = Kept::new(rt.alloc(), false)?;
     assert!(rt; save(&desk, &mut file) == Err(DeviceFault));
     // A piece is lacking.
@@ -80,6 +81,6 @@ fn files_of_a_run(rt: HostRuntime) -> Result<(), Fail> {
     let mut file = Kept::new(rt.alloc(), false)?;
     assert!(rt; save(&desk, &mut file) == Ok(()));
     assert!(rt; !file.made);
-    assert_eq!(rt; file.held.as_slice(), b"older".as_slice());
+    same(&rt, file.held.as_slice(), b"older".as_slice());
     Ok(())
 }

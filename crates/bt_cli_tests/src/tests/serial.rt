@@ -4,6 +4,7 @@
 ghost use Rattle.std.specs.Prelude.{◌≡◌, ◌≤◌};
 
 use bt_cli::*;
+use bt_expect::same;
 use bt_meta::{FromRead, ToWrite};
 use bt_picker::Rules;
 use bt_session::Stream;
@@ -79,9 +80,9 @@ fn a_full_output(rt: HostRuntime) -> Result<(), Fail> {
     let mut out = ToWrite::new(room.as_mut_slice());
     let mut err = Vec::new(rt.alloc());
     let (status, desk) = run_serial(rt.alloc(), FILE, &mut streams, &usual(), &mut out, &mut err);
-    assert_eq!(rt; status, 4);
+    same(&rt, status, 4);
     assert!(rt; desk.is_some());
-    assert_eq!(rt; room.as_slice(), b"stream 0 end\npieces ".as_slice());
-    assert_eq!(rt; err.as_slice(), b"file fault\n".as_slice());
+    same(&rt, room.as_slice(), b"stream 0 end\npieces ".as_slice());
+    same(&rt, err.as_slice(), b"file fault\n".as_slice());
     Ok(())
 }

@@ -7,6 +7,7 @@ use super::serial::{
     FILE, FRAMES, INFOHASH, INFOHASH_OF_THREE, Recorded, THREE_PIECES, recorded, stream, usual,
 };
 use bt_cli::*;
+use bt_expect::same;
 use bt_meta::ToWrite;
 use std::sync::Wait;
 use std::test::*;
@@ -68,13 +69,14 @@ fn three_pieces_of_two_peers(rt: HostRuntime) -> Result<(), Fail> {
     let mut options = usual();
     options.want = Some(Vec::from_slice(rt.alloc(), b"\0\0")?);
     let done = command(&rt, THREE_PIECES, streams, &options, 1000)?;
-    assert_eq!(rt;
+    same(
+        &rt,
         done.out.as_slice(),
-        b"stream 0 end\nstream 1 end\npieces 3\nhad 3\nmissing -\ncomplete yes\njournal ok\n".as_slice()
+        b"stream 0 end\nstream 1 end\npieces 3\nhad 3\nmissing -\ncomplete yes\njournal ok\n".as_slice(),
     );
-    assert_eq!(rt; done.status, 0);
+    same(&rt, done.status, 0);
     assert!(rt; done.err.is_empty());
-    assert_eq!(rt; done.logs, Some(4));
+    same(&rt, done.logs, Some(4));
     Ok(())
 }
 
@@ -83,9 +85,13 @@ fn a_full_output(rt: HostRuntime) -> Result<(), Fail> {
     let sent = stream(rt.alloc(), INFOHASH, FRAMES)?;
     let streams = Vec::from_array(rt.alloc(), [recorded(rt.alloc(), &sent)])?;
     let done = command(&rt, FILE, streams, &usual(), 20)?;
-    assert_eq!(rt; done.status, 4);
-    assert_eq!(rt; done.out.as_slice(), b"stream 0 end\npieces ".as_slice());
-    assert_eq!(rt; done.err.as_slice(), b"file fault\n".as_slice());
-    assert_eq!(rt; done.logs, Some(3));
+    same(&rt, done.status, 4);
+    same(
+        &rt,
+        done.out.as_slice(),
+        b"stream 0 end\npieces ".as_slice(),
+    );
+    same(&rt, done.err.as_slice(), b"file fault\n".as_slice());
+    same(&rt, done.logs, Some(3));
     Ok(())
 }

@@ -2,6 +2,7 @@
 //! they give alone, and its proof is short.
 
 use bt_bencode::*;
+use bt_expect::{same, same_for};
 use std::alloc::{AllocError, AllocFailed, Global};
 use std::process::Abort;
 use std::test::*;
@@ -106,29 +107,29 @@ fn each_fault_has_its_number(rt: HostRuntime) -> Result<(), Fail> {
         (b"dxe", 9),
     ];
     for (source, fault) in rows {
-        assert_eq!(rt; fault_number(rt.alloc(), source), fault, "{source:?}");
-        assert_eq!(rt; fault_in_place(source), fault, "{source:?}");
+        same_for(&rt, fault_number(rt.alloc(), source), fault, source);
+        same_for(&rt, fault_in_place(source), fault, source);
     }
     let too_deep = nested_lists(rt.alloc(), 65)?;
-    assert_eq!(rt; fault_number(rt.alloc(), &too_deep), 7);
-    assert_eq!(rt; fault_in_place(&too_deep), 7);
-    assert_eq!(rt; BenFault::from(AllocError) as u8, 10);
+    same(&rt, fault_number(rt.alloc(), &too_deep), 7);
+    same(&rt, fault_in_place(&too_deep), 7);
+    same(&rt, BenFault::from(AllocError) as u8, 10);
     Ok(())
 }
 
 #[test]
 fn a_mebibyte_of_lists_is_too_deep(rt: HostRuntime) -> Result<(), Fail> {
     let source = vec![in rt.alloc(); b'l'; 1 << 20]?;
-    assert_eq!(rt; fault_number(rt.alloc(), &source), 7);
+    same(&rt, fault_number(rt.alloc(), &source), 7);
     Ok(())
 }
 
 #[test]
 fn each_proper_prefix_is_truncated(rt: HostRuntime) -> Result<(), Fail> {
     let source: &[u8] = b"d4:infold3:keyi-30eel0:11:eleven byteei0ee4:name2:xye";
-    assert_eq!(rt; fault_number(rt.alloc(), source), 0);
+    same(&rt, fault_number(rt.alloc(), source), 0);
     for end in 0..source.len() {
-        assert_eq!(rt; fault_number(rt.alloc(), &source[..end]), 1, "{end}");
+        same_for(&rt, fault_number(rt.alloc(), &source[..end]), 1, end);
     }
     Ok(())
 }
@@ -136,15 +137,15 @@ fn each_proper_prefix_is_truncated(rt: HostRuntime) -> Result<(), Fail> {
 /// Checks how the tree is written.
 fn is_written(rt: &impl Abort, alloc: Global, tree: &Tree, wanted: &[u8]) -> Result<(), Fail> {
     let bytes = written(alloc, tree)?;
-    assert_eq!(rt; bytes.as_slice(), wanted);
+    same(rt, bytes.as_slice(), wanted);
     Ok(())
 }
 
 /// Checks that the bytes are written as they were read, and that the tree spans them.
 fn comes_back(rt: &impl Abort, alloc: Global, source: &[u8]) -> Result<(), Fail> {
     let tree = parse_again(alloc, source)?;
-    assert_eq!(rt; span(&tree).start, 0);
-    assert_eq!(rt; span(&tree).end, source.len());
+    same(rt, span(&tree).start, 0);
+    same(rt, span(&tree).end, source.len());
     is_written(rt, alloc, &tree, source)
 }
 
@@ -173,7 +174,7 @@ fn parts_know_where_they_stand(rt: HostRuntime) -> Result<(), Fail> {
     let tree = parse_again(rt.alloc(), b"d4:listl1:xi-3ee4:named0:0:ee")?;
     let list = part(&tree, b"list").ok_or("a list")?;
     let items = items(list).ok_or("items")?;
-    assert_eq!(rt; items.len(), 2);
+    assert!(rt; items.len() == 2);
     let name = part(&tree, b"name").ok_or("a dictionary")?;
     let rows = [
         (list, 7, 16),
@@ -183,8 +184,8 @@ fn parts_know_where_they_stand(rt: HostRuntime) -> Result<(), Fail> {
     ];
     for (part, start, end) in rows {
         let found = span(part);
-        assert_eq!(rt; found.start, start);
-        assert_eq!(rt; found.end, end);
+        same(&rt, found.start, start);
+        same(&rt, found.end, end);
     }
     Ok(())
 }
@@ -221,14 +222,14 @@ fn is_dict(value: &Value<'_>) -> bool {
 /// Checks that the next item is this string.
 fn next_is_text(rt: &impl Abort, items: &mut Items<'_>, wanted: &[u8]) -> Result<(), Fail> {
     let text = next(items).ok_or("a string")?;
-    assert_eq!(rt; text_of(&text).ok_or("bytes")?, wanted);
+    same(rt, text_of(&text).ok_or("bytes")?, wanted);
     Ok(())
 }
 
 /// Checks that the next item is this integer.
 fn next_is_int(rt: &impl Abort, items: &mut Items<'_>, wanted: i64) -> Result<(), Fail> {
     let number = next(items).ok_or("an integer")?;
-    assert_eq!(rt; int_of(&number), Some(wanted));
+    same(rt, int_of(&number), Some(wanted));
     Ok(())
 }
 
@@ -237,13 +238,13 @@ fn next_is_dict(rt: &impl Abort, items: &mut Items<'_>) -> Result<(), Fail> {
     let dict = next(items).ok_or("a dictionary")?;
     assert!(rt; is_dict(&dict));
     let one = part_of(&dict, b"a").ok_or("its value")?;
-    assert_eq!(rt; int_of(&one), Some(1));
+    same(rt, int_of(&one), Some(1));
     Ok(())
 }
 
 /// Checks a list of three items.
 fn is_list_of_three(rt: &impl Abort, list: &Value<'_>) -> Result<(), Fail> {
-    assert_eq!(rt; span_of(list), Span { start: 7, end: 24 });
+    same(rt, span_of(list), Span { start: 7, end: 24 });
     assert!(rt; !is_dict(list));
     let mut items = items_of(list).ok_or("items")?;
     next_is_text(rt, &mut items, b"x")?;
@@ -256,7 +257,7 @@ fn is_list_of_three(rt: &impl Abort, list: &Value<'_>) -> Result<(), Fail> {
 /// Checks a dictionary with the empty string at the empty key.
 fn is_named(rt: &impl Abort, name: &Value<'_>) -> Result<(), Fail> {
     let nothing = part_of(name, b"").ok_or("the empty key")?;
-    assert_eq!(rt; text_of(&nothing).ok_or("no bytes")?, b"".as_slice());
+    same(rt, text_of(&nothing).ok_or("no bytes")?, b"".as_slice());
     Ok(())
 }
 
@@ -266,7 +267,7 @@ fn a_value_is_read_where_it_stands(rt: HostRuntime) -> Result<(), Fail> {
     is_list_of_three(&rt, &part_of(&value, b"list").ok_or("a list")?)?;
     is_named(&rt, &part_of(&value, b"name").ok_or("a name")?)?;
     let other = part_of(&value, b"other").ok_or("the last")?;
-    assert_eq!(rt; span_of(&other), Span { start: 43, end: 46 });
+    same(&rt, span_of(&other), Span { start: 43, end: 46 });
     assert!(rt; part_of(&value, b"nam").is_none());
     Ok(())
 }
@@ -309,9 +310,9 @@ fn key_count(tree: &Tree) -> Option<usize> {
 fn is_list_of_two(rt: &impl Abort, list: &Tree) -> Result<(), Fail> {
     assert!(rt; key_count(list).is_none());
     let items = items(list).ok_or("a list")?;
-    assert_eq!(rt; items.len(), 2);
-    assert_eq!(rt; tree_text(&items[0]).ok_or("a string")?, b"x".as_slice());
-    assert_eq!(rt; tree_int(&items[1]), Some(-3));
+    assert!(rt; items.len() == 2);
+    same(rt, tree_text(&items[0]).ok_or("a string")?, b"x".as_slice());
+    same(rt, tree_int(&items[1]), Some(-3));
     Ok(())
 }
 
@@ -321,8 +322,8 @@ fn trees_are_made_by_hand(rt: HostRuntime) -> Result<(), Fail> {
     is_written(&rt, rt.alloc(), &tree, b"d1:al1:xi-3eee")?;
     is_list_of_two(&rt, part(&tree, b"a").ok_or("the list")?)?;
     assert!(rt; part(&tree, b"b").is_none());
-    assert_eq!(rt; key_count(&tree), Some(1));
-    assert_eq!(rt; span(&tree), Span { start: 0, end: 0 });
+    same(&rt, key_count(&tree), Some(1));
+    same(&rt, span(&tree), Span { start: 0, end: 0 });
     Ok(())
 }
 
@@ -380,6 +381,10 @@ fn a_tree_that_found_no_room_is_put_once_more(rt: HostRuntime) -> Result<(), Fai
         Ok(bytes) => bytes,
         Err(AllocError) => written(rt.alloc(), &list)?,
     };
-    assert_eq!(rt; bytes.as_slice(), b"l2:abi-3el1:xed1:ai1eelee".as_slice());
+    same(
+        &rt,
+        bytes.as_slice(),
+        b"l2:abi-3el1:xed1:ai1eelee".as_slice(),
+    );
     Ok(())
 }

@@ -2,6 +2,7 @@
 //! contract, so that a test knows of what they give alone, and its proof is short.
 
 use bt_check::*;
+use bt_expect::same;
 use bt_meta::Torrent;
 use bytes::Bytes;
 use std::alloc::Global;
@@ -22,9 +23,9 @@ fn hashed(job: Job) -> Verdict {
 fn a_job_of_two_blocks(rt: HostRuntime) -> Result<(), Fail> {
     let blocks = vec![in rt.alloc(); Bytes::from_static(b"ab"), Bytes::from_static(b"c")]?;
     let verdict = hashed(Job { piece: 7, blocks });
-    assert_eq!(rt; verdict.piece(), 7);
-    assert_eq!(rt; *verdict.digest(), ABC);
-    assert_eq!(rt; verdict.blocks().len(), 2);
+    same(&rt, verdict.piece(), 7);
+    same(&rt, *verdict.digest(), ABC);
+    same(&rt, verdict.blocks().len(), 2);
     Ok(())
 }
 
@@ -72,7 +73,7 @@ fn what_fits_the_torrent_is_proven(rt: HostRuntime) -> Result<(), Fail> {
         (u32::MAX, b"a", Err(u32::MAX)),
     ];
     for (piece, block, wanted) in rows {
-        assert_eq!(rt; proven(rt.alloc(), &torrent, piece, block)?, wanted);
+        same(&rt, proven(rt.alloc(), &torrent, piece, block)?, wanted);
     }
     Ok(())
 }

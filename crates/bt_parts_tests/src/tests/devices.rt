@@ -1,5 +1,6 @@
 //! Devices over memory.
 
+use bt_expect::same;
 use bt_meta::*;
 use std::io::Cursor;
 use std::test::Fail;
@@ -74,7 +75,7 @@ fn readers_and_writers_are_devices(rt: HostRuntime) -> Result<(), Fail> {
     let mut from = FromRead::new(Cursor::new(b"abcde".as_slice()));
     let mut to = ToWrite::new(Vec::with_capacity(rt.alloc(), 5)?);
     copy(&mut from, &mut to)?;
-    assert_eq!(rt; to.into_inner().as_slice(), b"abcde".as_slice());
+    same(&rt, to.into_inner().as_slice(), b"abcde".as_slice());
     Ok(())
 }
 
@@ -83,7 +84,7 @@ fn a_byte_at_a_time_and_the_end(rt: HostRuntime) -> Result<(), Fail> {
     let mut from = Drip::new(b"abc", false);
     let mut to = ToWrite::new(Vec::with_capacity(rt.alloc(), 5)?);
     assert!(rt; copy(&mut from, &mut to) == Ok(()));
-    assert_eq!(rt; to.into_inner().as_slice(), b"abc".as_slice());
+    same(&rt, to.into_inner().as_slice(), b"abc".as_slice());
     assert!(rt; from.ended && !from.failed && from.reads == 4);
     Ok(())
 }
@@ -93,7 +94,7 @@ fn a_byte_at_a_time_and_a_failure(rt: HostRuntime) -> Result<(), Fail> {
     let mut from = Drip::new(b"abc", true);
     let mut to = ToWrite::new(Vec::with_capacity(rt.alloc(), 5)?);
     assert!(rt; copy(&mut from, &mut to) == Err(DeviceFault));
-    assert_eq!(rt; to.into_inner().as_slice(), b"abc".as_slice());
+    same(&rt, to.into_inner().as_slice(), b"abc".as_slice());
     assert!(rt; from.failed && !from.ended);
     Ok(())
 }

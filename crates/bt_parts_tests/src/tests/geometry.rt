@@ -1,6 +1,7 @@
 //! Pieces and blocks, by worked examples. What is made and asked goes through functions without a contract, so that a test knows of what
 //! they give alone, and its proof is short: each tests when it runs what its call requires.
 
+use bt_expect::same;
 use bt_meta::*;
 use std::alloc::{AllocError, Global};
 use std::process::Abort;
@@ -74,11 +75,11 @@ fn block_at(torrent: &Torrent, piece: u32, begin: u32) -> Option<Option<Block>> 
 
 /// Checks what a torrent of three pieces says of itself.
 fn says_its_parts(rt: &impl Abort, torrent: &Torrent) {
-    assert_eq!(rt; torrent.piece_count(), 3);
-    assert_eq!(rt; torrent.piece_length(), 3);
-    assert_eq!(rt; torrent.total(), 7);
-    assert_eq!(rt; torrent.file_count(), 1);
-    assert_eq!(rt; *torrent.infohash(), [9; 20]);
+    same(rt, torrent.piece_count(), 3);
+    same(rt, torrent.piece_length(), 3);
+    same(rt, torrent.total(), 7);
+    same(rt, torrent.file_count(), 1);
+    same(rt, *torrent.infohash(), [9; 20]);
     assert!(rt; torrent.name().is_empty());
 }
 
@@ -86,15 +87,15 @@ fn says_its_parts(rt: &impl Abort, torrent: &Torrent) {
 fn a_small_torrent(rt: HostRuntime) -> Result<(), Fail> {
     let torrent = made(rt.alloc(), 3, 7, 3, [9; 20])??;
     says_its_parts(&rt, &torrent);
-    assert_eq!(rt; hash(&torrent, 2), Some([2; 20]));
-    assert_eq!(rt; piece_len(&torrent, 1), Some(3));
-    assert_eq!(rt; piece_len(&torrent, 2), Some(1));
+    same(&rt, hash(&torrent, 2), Some([2; 20]));
+    same(&rt, piece_len(&torrent, 1), Some(3));
+    same(&rt, piece_len(&torrent, 2), Some(1));
     let last = Block {
         piece: 2,
         begin: 0,
         len: 1,
     };
-    assert_eq!(rt; block(&torrent, 2, 0), Some(last));
+    same(&rt, block(&torrent, 2, 0), Some(last));
     Ok(())
 }
 
@@ -110,8 +111,8 @@ const fn first(begin: u32, len: u32) -> Block {
 #[test]
 fn blocks_of_a_piece(rt: HostRuntime) -> Result<(), Fail> {
     let torrent = made(rt.alloc(), 1_000_000, 1_000_000, 1, [0; 20])??;
-    assert_eq!(rt; block_count(&torrent, 0), Some(62));
-    assert_eq!(rt; block(&torrent, 0, 61), Some(first(999_424, 576)));
+    same(&rt, block_count(&torrent, 0), Some(62));
+    same(&rt, block(&torrent, 0, 61), Some(first(999_424, 576)));
     let rows = [
         (0, Some(first(0, 16_384))),
         (1, None),
@@ -121,10 +122,10 @@ fn blocks_of_a_piece(rt: HostRuntime) -> Result<(), Fail> {
         (1_015_808, None),
     ];
     for (begin, block) in rows {
-        assert_eq!(rt; block_at(&torrent, 0, begin), Some(block));
+        same(&rt, block_at(&torrent, 0, begin), Some(block));
     }
     let torrent = made(rt.alloc(), 32_768, 65_536, 2, [0; 20])??;
-    assert_eq!(rt; block_count(&torrent, 1), Some(2));
+    same(&rt, block_count(&torrent, 1), Some(2));
     Ok(())
 }
 
@@ -141,7 +142,7 @@ fn parts_that_make_no_torrent(rt: HostRuntime) -> Result<(), Fail> {
     ];
     for (piece_length, total, count, fault) in rows {
         let made = made(rt.alloc(), piece_length, total, count, [0; 20])?;
-        assert_eq!(rt; made.err(), Some(fault));
+        same(&rt, made.err(), Some(fault));
     }
     Ok(())
 }
@@ -168,7 +169,7 @@ fn bitfields_off_the_wire(rt: HostRuntime) -> Result<(), Fail> {
         (&[], Some(BitFault::WrongCount)),
     ];
     for (bytes, fault) in rows {
-        assert_eq!(rt; bit_fault(rt.alloc(), bytes, 3), fault);
+        same(&rt, bit_fault(rt.alloc(), bytes, 3), fault);
     }
     Ok(())
 }
@@ -193,15 +194,15 @@ fn as_wire(set: &Bitfield) -> &[u8] {
 /// Checks how the set is spelled on the wire.
 fn is_spelled(rt: &impl Abort, alloc: Global, set: &Bitfield, wanted: &[u8]) -> Result<(), Fail> {
     let bytes = to_wire(alloc, set)?;
-    assert_eq!(rt; bytes.as_slice(), wanted);
+    same(rt, bytes.as_slice(), wanted);
     Ok(())
 }
 
 #[test]
 fn a_bitfield_off_the_wire_and_back(rt: HostRuntime) -> Result<(), Fail> {
     let shown = set_of(rt.alloc(), &[0x80, 0x40], 10)?;
-    assert_eq!(rt; shown.count(), 10);
-    assert_eq!(rt; count_ones(&shown), 2);
+    same(&rt, shown.count(), 10);
+    same(&rt, count_ones(&shown), 2);
     assert!(rt; has(&shown, 0) && has(&shown, 9) && !has(&shown, 8));
     is_spelled(&rt, rt.alloc(), &shown, &[0x80, 0x40])
 }
@@ -224,7 +225,7 @@ fn bitfields_are_looked_through(rt: HostRuntime) -> Result<(), Fail> {
         (u32::MAX, None),
     ];
     for (piece, found) in rows {
-        assert_eq!(rt; first_from(&shown, piece), found);
+        same(&rt, first_from(&shown, piece), found);
     }
     Ok(())
 }
@@ -257,9 +258,9 @@ fn bitfields_onto_the_wire(rt: HostRuntime) -> Result<(), Fail> {
     is_spelled(&rt, rt.alloc(), &had, &[0x00])?;
     set(&mut had, 0);
     set(&mut had, 2);
-    assert_eq!(rt; count_ones(&had), 2);
+    same(&rt, count_ones(&had), 2);
     is_spelled(&rt, rt.alloc(), &had, &[0xa0])?;
-    assert_eq!(rt; as_wire(&had), [0xa0].as_slice());
+    same(&rt, as_wire(&had), [0xa0].as_slice());
     Ok(())
 }
 
@@ -269,7 +270,7 @@ fn a_bitfield_of_another(rt: HostRuntime) -> Result<(), Fail> {
     let mut shown = empty(rt.alloc(), 3)?;
     copy_from(&mut shown, &had);
     clear(&mut had);
-    assert_eq!(rt; as_wire(&shown), [0xa0].as_slice());
-    assert_eq!(rt; as_wire(&had), [0x00].as_slice());
+    same(&rt, as_wire(&shown), [0xa0].as_slice());
+    same(&rt, as_wire(&had), [0x00].as_slice());
     Ok(())
 }

@@ -2,6 +2,7 @@
 
 use super::samples::{MULTI_FILE, SINGLE_FILE};
 use bt_bencode::BenFault;
+use bt_expect::same_for;
 use bt_meta::*;
 use std::alloc::{AllocError, Global};
 use std::test::*;
@@ -53,10 +54,11 @@ fn each_proper_prefix_is_truncated(rt: HostRuntime) -> Result<(), Fail> {
     for file in [SINGLE_FILE, MULTI_FILE] {
         for end in 0..file.len() {
             let fault = fault_of(rt.alloc(), &file[..end]);
-            assert_eq!(rt;
+            same_for(
+                &rt,
                 fault,
                 Some(MetaFault::Bencode(BenFault::Truncated)),
-                "{end}"
+                end,
             );
         }
     }
@@ -92,7 +94,7 @@ fn files_without_a_part(rt: HostRuntime) -> Result<(), Fail> {
         ),
     ];
     for (file, fault) in rows {
-        assert_eq!(rt; fault_of(rt.alloc(), file), Some(fault), "{file:?}");
+        same_for(&rt, fault_of(rt.alloc(), file), Some(fault), file);
     }
     Ok(())
 }
@@ -110,7 +112,7 @@ fn piece_lengths(rt: HostRuntime) -> Result<(), Fail> {
         put(&mut before, b"d4:infod6:lengthi7e4:name1:s12:piece length")?;
         put(&mut before, piece_length)?;
         let file = file_of(rt.alloc(), &before, &DIGESTS[..20], b"ee")?;
-        assert_eq!(rt; fault_of(rt.alloc(), &file), fault, "{piece_length:?}");
+        same_for(&rt, fault_of(rt.alloc(), &file), fault, piece_length);
     }
     Ok(())
 }
@@ -125,7 +127,7 @@ fn digests_that_do_not_fit(rt: HostRuntime) -> Result<(), Fail> {
     ];
     for (bytes, fault) in rows {
         let file = file_of(rt.alloc(), before, &DIGESTS[..bytes], b"ee")?;
-        assert_eq!(rt; fault_of(rt.alloc(), &file), Some(fault), "{bytes}");
+        same_for(&rt, fault_of(rt.alloc(), &file), Some(fault), bytes);
     }
     Ok(())
 }
@@ -187,7 +189,7 @@ fn contents(rt: HostRuntime) -> Result<(), Fail> {
         put(&mut before, content)?;
         put(&mut before, b"4:name1:s12:piece lengthi3e")?;
         let file = file_of(rt.alloc(), &before, DIGESTS, b"ee")?;
-        assert_eq!(rt; fault_of(rt.alloc(), &file), fault, "{content:?}");
+        same_for(&rt, fault_of(rt.alloc(), &file), fault, content);
     }
     Ok(())
 }

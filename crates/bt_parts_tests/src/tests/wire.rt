@@ -4,6 +4,7 @@
 ghost use Rattle.std.specs.Prelude.{length, ◌≤◌};
 ghost use Rattle.bt_wire.specs.Messages.{CanEncode};
 
+use bt_expect::{same, same_for};
 use bt_wire::*;
 use bytes::Bytes;
 use std::alloc::{AllocError, Global};
@@ -117,7 +118,7 @@ fn tells(
     wanted: &str,
 ) -> Result<(), Fail> {
     let said = told(alloc, inbound, piece)?;
-    assert_eq!(rt; said.as_str(), wanted);
+    same(rt, said.as_str(), wanted);
     Ok(())
 }
 
@@ -194,7 +195,7 @@ fn frame(
 ) -> Result<(), Fail> {
     let mut inbound = greeted(alloc)?;
     let said = told_in_pieces(alloc, &mut inbound, bytes, len)?;
-    assert_eq!(rt; said.as_str(), wanted);
+    same(rt, said.as_str(), wanted);
     Ok(())
 }
 
@@ -217,7 +218,7 @@ fn one_handshake(
     tells(rt, alloc, inbound, front, "")?;
     feed_again(inbound, last)?;
     tells(rt, alloc, inbound, &[0, 0, 0], HELLO_TOLD)?;
-    assert_eq!(rt; rest(inbound), 3);
+    same(rt, rest(inbound), 3);
     Ok(())
 }
 
@@ -233,7 +234,7 @@ fn a_strange_handshake(
     tells(rt, alloc, inbound, &front[1..], "")?;
     tells(rt, alloc, inbound, last, "BadHandshake ")?;
     assert!(rt; feed(inbound, &[0]) == Err(WireFault::BadHandshake));
-    assert_eq!(rt; rest(inbound), 68);
+    same(rt, rest(inbound), 68);
     Ok(())
 }
 
@@ -251,8 +252,8 @@ fn a_fault_behind_messages(rt: HostRuntime) -> Result<(), Fail> {
     stream.extend_from_slice(&[0, 0, 0, 1, 0, 0, 16, 0, 1])?;
     let mut inbound = opened(rt.alloc());
     let said = told(rt.alloc(), &mut inbound, &stream)?;
-    assert_eq!(rt; said.strip_prefix(HELLO_TOLD), Some("Choke TooLong "));
-    assert_eq!(rt; rest(&inbound), 4);
+    same(&rt, said.strip_prefix(HELLO_TOLD), Some("Choke TooLong "));
+    same(&rt, rest(&inbound), 4);
     Ok(())
 }
 
@@ -274,8 +275,8 @@ fn a_frame_at_the_limit(rt: HostRuntime) -> Result<(), Fail> {
     let mut inbound = greeted(rt.alloc())?;
     feed_again(&mut inbound, &[0, 16, 0, 0, 5])?;
     feed_again(&mut inbound, &bits(rt.alloc(), 1_048_575)?)?;
-    assert_eq!(rt; bits_len(rt.alloc(), &mut inbound)?, 1_048_575);
-    assert_eq!(rt; rest(&inbound), 0);
+    same(&rt, bits_len(rt.alloc(), &mut inbound)?, 1_048_575);
+    same(&rt, rest(&inbound), 0);
     Ok(())
 }
 
@@ -292,7 +293,7 @@ fn limits_of_frames(rt: HostRuntime) {
         (u32::MAX, 536_870_913),
     ];
     for (pieces, wanted) in rows {
-        assert_eq!(rt; limit_of(pieces), wanted);
+        same(&rt, limit_of(pieces), wanted);
     }
 }
 
@@ -347,7 +348,7 @@ fn encoded(rt: HostRuntime) -> Result<(), Fail> {
     let mut out = Vec::new(rt.alloc());
     put_the_first(&mut out)?;
     put_the_others(&mut out)?;
-    assert_eq!(rt; out.as_slice(), EACH_KIND.as_slice());
+    same(&rt, out.as_slice(), EACH_KIND.as_slice());
     Ok(())
 }
 
@@ -374,12 +375,13 @@ fn every_cut_in_two(rt: HostRuntime) -> Result<(), Fail> {
     let frames = FRAMES.as_slice();
     for at in 0..frames.len() {
         let (said, rest) = told_in_two(rt.alloc(), frames, at)?;
-        assert_eq!(rt;
+        same_for(
+            &rt,
             said.as_str(),
             "KeepAlive Unknown(20) Have(2) Choke Bits(b\"\\x80\") ",
-            "cut at {at}"
+            at,
         );
-        assert_eq!(rt; rest, 3);
+        same(&rt, rest, 3);
     }
     Ok(())
 }
@@ -412,7 +414,7 @@ fn many_messages_in_one_feed(rt: HostRuntime) -> Result<(), Fail> {
     for piece in 0..20_000 {
         assert!(rt; gives_have(rt.alloc(), &mut inbound, piece)?);
     }
-    assert_eq!(rt; rest(&inbound), 0);
+    same(&rt, rest(&inbound), 0);
     Ok(())
 }
 
@@ -436,8 +438,8 @@ fn told_of_each_kind(alloc: Global, len: usize) -> Result<(String, usize), Fail>
 fn a_call_that_found_no_memory_is_made_once_more(rt: HostRuntime) -> Result<(), Fail> {
     for len in [1, 7, 94] {
         let (said, rest) = told_of_each_kind(rt.alloc(), len)?;
-        assert_eq!(rt; said.as_str(), EACH_KIND_TOLD, "in pieces of {len}");
-        assert_eq!(rt; rest, 0);
+        same_for(&rt, said.as_str(), EACH_KIND_TOLD, len);
+        same(&rt, rest, 0);
     }
     Ok(())
 }
@@ -448,9 +450,9 @@ fn a_message_that_found_no_room_is_put_once_more(rt: HostRuntime) -> Result<(), 
     for piece in 0..100 {
         put_have(piece, &mut out)?;
     }
-    assert_eq!(rt; out.len(), 900);
+    same(&rt, out.len(), 900);
     for (piece, frame) in (0..100_u8).zip(out.chunks(9)) {
-        assert_eq!(rt; frame, [0, 0, 0, 5, 4, 0, 0, 0, piece].as_slice());
+        same(&rt, frame, [0, 0, 0, 5, 4, 0, 0, 0, piece].as_slice());
     }
     Ok(())
 }

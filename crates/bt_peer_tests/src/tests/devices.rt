@@ -2,6 +2,7 @@
 
 use super::whole::{WHOLE, tell};
 use crate::{PEER, RULES, peer, torrent};
+use bt_expect::same;
 use bt_meta::{Bitfield, DeviceFault, FromRead, Sink, Source, ToWrite};
 use bt_peer::whole::session;
 use bt_peer::{DeskPlace, End, SessionFault};
@@ -70,7 +71,7 @@ fn each_front_of_a_stream(rt: HostRuntime) -> Result<(), Fail> {
         }
         assert!(rt; calls.is_empty() == (len < 68));
         if len == 68 {
-            assert_eq!(rt; calls.as_str(), "join = Joined; leave = Quiet; ");
+            same(&rt, calls.as_str(), "join = Joined; leave = Quiet; ");
         }
     }
     Ok(())
@@ -179,19 +180,20 @@ fn each_write_fails(rt: HostRuntime) -> Result<(), Fail> {
         assert!(rt; writer.kept.as_slice() == &whole[..room]);
         if room == whole.len() {
             assert!(rt; end == Ok(End { messages: 3 }));
-            assert_eq!(rt; calls.as_str(), WHOLE);
+            same(&rt, calls.as_str(), WHOLE);
             continue;
         }
         assert!(rt; end == Err(SessionFault::WriteFault));
         if room < 68 {
-            assert_eq!(rt; calls.as_str(), "");
+            same(&rt, calls.as_str(), "");
         } else {
             assert!(rt; calls.ends_with("leave = Quiet; "));
         }
         if room == 68 {
-            assert_eq!(rt;
+            same(
+                &rt,
                 calls.as_str(),
-                "join = Joined; bits = Noted(true); leave = Quiet; "
+                "join = Joined; bits = Noted(true); leave = Quiet; ",
             );
         }
     }

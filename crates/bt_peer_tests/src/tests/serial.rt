@@ -2,6 +2,7 @@
 
 use super::whole::tell;
 use crate::{PEER, RULES, Recorded, peer, recorded, torrent, two_pieces};
+use bt_expect::same;
 use bt_meta::{Bitfield, Torrent};
 use bt_peer::{End, MOST_STREAMS, SerialRun, SessionFault, serial};
 use bt_picker::{Call, Rules};
@@ -129,10 +130,11 @@ fn no_piece_is_wanted(rt: HostRuntime) -> Result<(), Fail> {
     let told = told(rt.alloc(), torrent(rt.alloc())?, &sent, 0, Some(want))?;
     assert!(rt; told.ends.as_slice() == [Ok(End { messages: 3 })].as_slice());
     assert!(rt; told.is_complete && !told.short);
-    assert_eq!(rt;
+    same(
+        &rt,
         told.journal.as_str(),
         "1 want = Quiet; 0 join = Joined; 0 bits = Noted(false); 0 next = Choked; 0 unchoke = Quiet; \
-        0 next = NothingLeft; 0 block 0 0 = Completed; 0 settle = Had; 0 next = NothingLeft; 0 leave = Quiet; "
+        0 next = NothingLeft; 0 block 0 0 = Completed; 0 settle = Had; 0 next = NothingLeft; 0 leave = Quiet; ",
     );
     let all = [wanted(rt.alloc(), b'0', &[0, 0, 0, 5, 4, 0, 0, 0, 0])?];
     assert!(rt; told.written.as_slice() == all.as_slice());
@@ -145,14 +147,15 @@ fn two_streams_take_turns(rt: HostRuntime) -> Result<(), Fail> {
     let told = told(rt.alloc(), two_pieces(rt.alloc())?, &sent, 5, None)?;
     let ends = [Ok(End { messages: 3 }), Ok(End { messages: 3 })];
     assert!(rt; told.ends.as_slice() == ends.as_slice());
-    assert_eq!(rt;
+    same(
+        &rt,
         told.journal.as_str(),
         "0 join = Joined; 1 join = Joined; \
         0 bits = Noted(true); 0 next = Choked; 1 bits = Noted(true); 1 next = Choked; \
         0 unchoke = Quiet; 0 next = Request(Block { piece: 0, begin: 0, len: 3 }); 0 next = Idle; \
         1 unchoke = Quiet; 1 next = Request(Block { piece: 1, begin: 0, len: 3 }); 1 next = Idle; \
         0 block 0 0 = Completed; 0 settle = Had; 0 next = NothingLeft; \
-        1 block 1 0 = Completed; 1 settle = Had; 1 next = NothingLeft; 0 leave = Quiet; 1 leave = Quiet; "
+        1 block 1 0 = Completed; 1 settle = Had; 1 next = NothingLeft; 0 leave = Quiet; 1 leave = Quiet; ",
     );
     // The first session ends before it hears of the second piece.
     let all = [
@@ -194,7 +197,7 @@ fn words_come_from_the_seed(rt: HostRuntime) -> Result<(), Fail> {
         for entry in run.desk.journal() {
             if entry.worker == worker {
                 if let Call::Next(word) = &entry.call {
-                    assert_eq!(rt; *word, rng.next_u64());
+                    same(&rt, *word, rng.next_u64());
                     asked = true;
                 }
             }

@@ -2,6 +2,7 @@
 
 use super::serial::{journal, run_by};
 use crate::{peer, recorded, torrent_of, two_pieces};
+use bt_expect::same;
 use bt_meta::{Bitfield, Torrent};
 use bt_peer::SerialRun;
 use bt_picker::Rules;
@@ -32,10 +33,11 @@ fn the_wanted_piece_alone_is_asked(rt: HostRuntime) -> Result<(), Fail> {
     let want = Bitfield::from_wire(rt.alloc(), &[0x40], 2)?;
     let torrent = two_pieces(rt.alloc())?;
     let run = run(rt.alloc(), torrent, &BOTH, Some(want), Rules::usual())?;
-    assert_eq!(rt;
+    same(
+        &rt,
         journal(rt.alloc(), &run)?.as_str(),
         "1 want = Quiet; 0 join = Joined; 0 bits = Noted(true); 0 next = Choked; 0 unchoke = Quiet; \
-        0 next = Request(Block { piece: 1, begin: 0, len: 3 }); 0 next = Idle; 0 leave = Quiet; "
+        0 next = Request(Block { piece: 1, begin: 0, len: 3 }); 0 next = Idle; 0 leave = Quiet; ",
     );
     Ok(())
 }
@@ -74,8 +76,8 @@ fn a_turn_fills_the_pipe(rt: HostRuntime) -> Result<(), Fail> {
     ];
     for (depth, count, requests, last) in rows {
         let asked = asked(rt.alloc(), depth, count)?;
-        assert_eq!(rt; asked.0, requests);
-        assert_eq!(rt; asked.1.as_str(), last);
+        same(&rt, asked.0, requests);
+        same(&rt, asked.1.as_str(), last);
     }
     Ok(())
 }

@@ -2,6 +2,7 @@
 
 use super::whole::{WHOLE, told_of};
 use crate::{PEER, peer};
+use bt_expect::same;
 use bt_meta::{DeviceFault, Source};
 use bt_peer::End;
 use std::test::Fail;
@@ -72,7 +73,7 @@ fn little_by_little(rt: HostRuntime) -> Result<(), Fail> {
     for sizes in sizes {
         let (end, calls, _) = told_of(rt.alloc(), Sips::new(&stream, sizes))?;
         assert!(rt; end == Ok(End { messages: 3 }));
-        assert_eq!(rt; calls.as_str(), WHOLE);
+        same(&rt, calls.as_str(), WHOLE);
     }
     Ok(())
 }

@@ -1,6 +1,7 @@
 //! What a desk says and shows, call by call.
 use super::audits::first_wrong;
 use super::played::{Played, three_pieces};
+use bt_expect::same;
 use bt_picker::Reply::{Failed, Refused};
 use bt_picker::*;
 use std::alloc::Global;
@@ -54,11 +55,11 @@ fn a_verdict_of_replaced_bytes(rt: HostRuntime) -> Result<(), Fail> {
     played.play(&rt, alloc, wrong)?;
     let first = verdict(&rt, alloc, &played)?;
     let second = verdict(&rt, alloc, &played)?;
-    assert_eq!(rt; played.call(&rt, 0, Call::Settle(first))?, Failed);
+    same(&rt, played.call(&rt, 0, Call::Settle(first))?, Failed);
     assert!(rt; played.check(alloc, 0)?.is_none());
     played.play(&rt, alloc, "0 block 0 0 abc = completed")?;
     let reply = played.call(&rt, 0, Call::Settle(second))?;
-    assert_eq!(rt; reply, Refused(Reason::Stale));
+    same(&rt, reply, Refused(Reason::Stale));
     played.play(&rt, alloc, "check 0 0 = had")
 }
 
@@ -146,7 +147,7 @@ fn an_audit_of_no_call(rt: HostRuntime) -> Result<(), Fail> {
         reply: Reply::Joined,
     }];
     let judged = audit(rt.alloc(), &torrent, 1, Rules::usual(), &other);
-    assert_eq!(rt; first_wrong(judged)?, Some(0));
+    same(&rt, first_wrong(judged)?, Some(0));
     Ok(())
 }
 
@@ -174,6 +175,6 @@ fn an_audit_of_more_workers_than_a_desk_has(rt: HostRuntime) -> Result<(), Fail>
     let entries = all_show_a_piece(rt.alloc(), 1030)?;
     audit(rt.alloc(), &torrent, 1030, Rules::usual(), &entries)?;
     let judged = audit(rt.alloc(), &torrent, 1029, Rules::usual(), &entries);
-    assert_eq!(rt; first_wrong(judged)?, Some(2058));
+    same(&rt, first_wrong(judged)?, Some(2058));
     Ok(())
 }

@@ -6,6 +6,7 @@ ghost use Rattle.bt_meta.specs.Layout.{piece_count};
 
 use super::shown::{count, pieces, yes_or_no};
 use super::steps::{entry_of, number, reply_of, torrent_of};
+use bt_expect::{same, same_for};
 use bt_meta::{Sink, Torrent};
 use bt_picker::*;
 use std::alloc::{AllocError, Global};
@@ -86,7 +87,7 @@ impl Played {
                 self.enter(rt, worker, again.call)?
             }
         };
-        assert_eq!(rt; said, reply, "{line}");
+        same_for(rt, said, reply, line);
         Ok(())
     }
 
@@ -103,16 +104,17 @@ impl Played {
             "check" => {
                 let worker = number(words.next())?;
                 let piece = number(words.next())?;
-                assert_eq!(rt;
+                same_for(
+                    rt,
                     self.settle(rt, alloc, worker, piece)?,
                     reply_of(wanted)?,
-                    "{asked}"
+                    asked,
                 );
             }
             "finish" => self.finish(rt, alloc, number(words.next())?)?,
             question => {
                 let answer = self.answer(rt, alloc, question, &mut words)?;
-                assert_eq!(rt; answer.as_str(), wanted, "{asked}");
+                same_for(rt, answer.as_str(), wanted, asked);
             }
         }
         Ok(())
@@ -154,7 +156,7 @@ impl Played {
         let before = self.entries();
         let said = self.desk.call(worker, call);
         let added = if said.is_ok() { 1 } else { 0 };
-        assert_eq!(rt; self.entries().saturating_sub(before), added);
+        same(rt, self.entries().saturating_sub(before), added);
         said
     }
 
@@ -227,7 +229,7 @@ impl Played {
     fn group(&self, rt: &impl Abort, alloc: Global, shown_by: u32) -> Result<String, Fail> {
         let group = self.unbegun(rt, shown_by);
         let flags = [group.contains(&0), group.contains(&1), group.contains(&2)];
-        assert_eq!(rt; group.len(), count(flags));
+        same(rt, group.len(), count(flags));
         pieces(alloc, flags)
     }
 

@@ -1,6 +1,7 @@
 //! Bytes that are no script, with the line at fault and the replies to the lines before.
 
 use super::scripts::ran;
+use bt_expect::{same, same_for};
 use bt_meta::{BitFault, MetaFault};
 use bt_script::*;
 use std::alloc::Global;
@@ -160,8 +161,8 @@ fn lines_behind_the_first(rt: HostRuntime) -> Result<(), Fail> {
         } else {
             Err(Fault::Line(number))
         };
-        assert_eq!(rt; done, wanted, "{behind:?}");
-        assert_eq!(rt; out.as_slice(), printed, "{behind:?}");
+        same_for(&rt, done, wanted, behind);
+        same_for(&rt, out.as_slice(), printed, behind);
     }
     Ok(())
 }
@@ -170,9 +171,9 @@ fn lines_behind_the_first(rt: HostRuntime) -> Result<(), Fail> {
 fn first_lines(rt: HostRuntime) -> Result<(), Fail> {
     for (script, number) in FIRST_LINES {
         let (done, out) = played(rt.alloc(), script);
-        assert_eq!(rt; done, Err(Fault::Line(number)), "{script:?}");
-        assert_eq!(rt; out.as_slice(), b"".as_slice(), "{script:?}");
-        assert_eq!(rt; ran(rt.alloc(), script).0, 2, "{script:?}");
+        same_for(&rt, done, Err(Fault::Line(number)), script);
+        same_for(&rt, out.as_slice(), b"".as_slice(), script);
+        same_for(&rt, ran(rt.alloc(), script).0, 2, script);
     }
     Ok(())
 }
@@ -194,8 +195,8 @@ fn texts_and_statuses(rt: HostRuntime) -> Result<(), Fail> {
         (Fault::Memory, 5, "memory"),
     ];
     for (fault, status, text) in rows {
-        assert_eq!(rt; fault.status(), status);
-        assert_eq!(rt; fault.to_string(rt.alloc())?.as_str(), text);
+        same(&rt, fault.status(), status);
+        same(&rt, fault.to_string(rt.alloc())?.as_str(), text);
     }
     Ok(())
 }

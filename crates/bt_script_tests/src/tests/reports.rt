@@ -1,5 +1,6 @@
 //! Journal lines.
 
+use bt_expect::same;
 use bt_meta::{Bitfield, Block, ToWrite};
 use bt_picker::{Call, Entry, Reason, Reply};
 use bt_script::print_entry;
@@ -67,7 +68,7 @@ fn journal_lines(rt: HostRuntime) -> Result<(), Fail> {
         let mut out = ToWrite::new(Vec::new(rt.alloc()));
         print_entry(&mut out, &entry)?;
         let line = format!(in rt.alloc(); "{line}\n")?;
-        assert_eq!(rt; out.into_inner().as_slice(), line.as_bytes());
+        same(&rt, out.into_inner().as_slice(), line.as_bytes());
     }
     Ok(())
 }

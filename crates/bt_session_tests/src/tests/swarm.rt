@@ -1,6 +1,7 @@
 //! Sessions in threads of their own.
 ghost use Rattle.std.specs.Prelude.{◌≤◌, length};
 
+use bt_expect::same;
 use bt_meta::{FromRead, ToWrite, Torrent};
 use bt_peer_tests::{ABC, PEER, RULES, Recorded, peer, recorded, torrent, two_pieces};
 use bt_picker::{CallMark, Mark, Reply};
@@ -87,22 +88,24 @@ fn one_session_in_a_thread(rt: HostRuntime) -> Result<(), Fail> {
     let streams = Vec::from_array(rt.alloc(), [recorded(rt.alloc(), &sent)])?;
     let torrent = torrent(rt.alloc())?;
     let run = run(&rt, rt.alloc(), torrent, streams, 1, &OpenGate)?;
-    assert_eq!(rt; run.ends.len(), 1);
+    assert!(rt; run.ends.len() == 1);
     assert!(rt; run.ends[0] == Ok(End { messages: 3 }));
     assert!(rt; !run.short);
-    assert_eq!(rt; run.book.logs.len(), 3);
-    assert_eq!(rt; run.book.logs[0].len(), 9);
-    assert_eq!(rt;
+    assert!(rt; run.book.logs.len() == 3);
+    assert!(rt; run.book.logs[0].len() == 9);
+    same(
+        &rt,
         told(rt.alloc(), &run.book.logs[0][..7])?.as_str(),
         "0 Join = Joined; 1 Bits = Noted(true); 2 Next = Choked; 3 Unchoke = Quiet; \
         4 Next = Request(Block { piece: 0, begin: 0, len: 3 }); 5 Next = Idle; \
-        6 Arrived { piece: 0, begin: 0, len: 3 } = Completed; "
+        6 Arrived { piece: 0, begin: 0, len: 3 } = Completed; ",
     );
-    assert_eq!(rt;
+    same(
+        &rt,
         calls(rt.alloc(), &run.book.logs[1])?.as_str(),
-        "Settle(0) = Had; "
+        "Settle(0) = Had; ",
     );
-    assert_eq!(rt; run.book.logs[2].len(), 0);
+    same(&rt, run.book.logs[2].len(), 0);
     assert!(rt; run.book.desk.had(0));
     Ok(())
 }
@@ -127,7 +130,7 @@ fn streams_come_back_in_order(rt: HostRuntime) -> Result<(), Fail> {
     )?;
     let torrent = two_pieces(rt.alloc())?;
     let run = run(&rt, rt.alloc(), torrent, streams, 8, &OpenGate)?;
-    assert_eq!(rt; run.ends.len(), 3);
+    assert!(rt; run.ends.len() == 3);
     assert!(rt; run.ends[0] == Ok(End { messages: 3 }));
     assert!(rt; run.ends[1] == Ok(End { messages: 3 }));
     assert!(rt; run.ends[2] == Err(SessionFault::WrongInfohash));
@@ -136,12 +139,12 @@ fn streams_come_back_in_order(rt: HostRuntime) -> Result<(), Fail> {
     for stream in run.streams {
         written.push(stream.writer.into_inner())?;
     }
-    assert_eq!(rt; written.len(), 3);
+    assert!(rt; written.len() == 3);
     for (written, (worker, piece)) in written.iter().zip([(b'0', 0), (b'1', 1)]) {
         assert!(rt; written.starts_with(hello(worker).as_slice()));
         assert!(rt; asks_for(written, piece));
     }
-    assert_eq!(rt; written[2].len(), 68);
+    same(&rt, written[2].len(), 68);
     Ok(())
 }
 
@@ -189,10 +192,10 @@ fn two_sessions_run(rt: HostRuntime) -> Result<(), Fail> {
     let torrent = two_pieces(rt.alloc())?;
     let run = run(&rt, rt.alloc(), torrent, streams, 1, &gate)?;
     assert!(rt; !gate.gave_up.load(Ordering::SeqCst));
-    assert_eq!(rt; run.ends.len(), 2);
+    assert!(rt; run.ends.len() == 2);
     assert!(rt; run.ends[0] == Ok(End { messages: 0 }));
     assert!(rt; run.ends[1] == Ok(End { messages: 0 }));
-    assert_eq!(rt; run.book.desk.journal().len(), 4);
+    same(&rt, run.book.desk.journal().len(), 4);
     Ok(())
 }
 
@@ -213,18 +216,18 @@ fn checkers_check(rt: HostRuntime) -> Result<(), Fail> {
     let streams = Vec::from_array(rt.alloc(), [recorded(rt.alloc(), &sent)])?;
     let torrent = two_pieces(rt.alloc())?;
     let run = run(&rt, rt.alloc(), torrent, streams, 2, &OpenGate)?;
-    assert_eq!(rt; run.ends.len(), 1);
+    assert!(rt; run.ends.len() == 1);
     assert!(rt; run.ends[0] == Ok(End { messages: 4 }));
     assert!(rt; !run.short);
-    assert_eq!(rt; run.book.logs.len(), 4);
+    assert!(rt; run.book.logs.len() == 4);
     // The checkers, and nobody else, found one piece right and one wrong.
     for (reply, wanted) in [(Reply::Had, 1), (Reply::Failed, 1)] {
-        assert_eq!(rt; answered(&run.book.logs[0], reply), 0);
+        same(&rt, answered(&run.book.logs[0], reply), 0);
         let first = answered(&run.book.logs[1], reply);
         let second = answered(&run.book.logs[2], reply);
-        assert_eq!(rt; first.saturating_add(second), wanted);
+        same(&rt, first.saturating_add(second), wanted);
     }
-    assert_eq!(rt; run.book.logs[3].len(), 0);
+    same(&rt, run.book.logs[3].len(), 0);
     assert!(rt; !run.book.desk.had(0));
     Ok(())
 }
@@ -255,13 +258,13 @@ fn a_full_queue_loses_nothing(rt: HostRuntime) -> Result<(), Fail> {
     let (torrent, sent) = zeros(rt.alloc(), 64)?;
     let streams = Vec::from_array(rt.alloc(), [recorded(rt.alloc(), &sent)])?;
     let run = run(&rt, rt.alloc(), torrent, streams, 1, &OpenGate)?;
-    assert_eq!(rt; run.ends.len(), 1);
+    assert!(rt; run.ends.len() == 1);
     assert!(rt; run.ends[0] == Ok(End { messages: 64 }));
     assert!(rt; !run.short);
-    assert_eq!(rt; run.book.logs.len(), 3);
-    assert_eq!(rt; answered(&run.book.logs[0], Reply::Completed), 64);
-    assert_eq!(rt; answered(&run.book.logs[1], Reply::Had), 64);
-    assert_eq!(rt; run.book.logs[2].len(), 0);
+    assert!(rt; run.book.logs.len() == 3);
+    same(&rt, answered(&run.book.logs[0], Reply::Completed), 64);
+    same(&rt, answered(&run.book.logs[1], Reply::Had), 64);
+    same(&rt, run.book.logs[2].len(), 0);
     assert!(rt; run.book.desk.is_complete());
     Ok(())
 }
@@ -295,15 +298,15 @@ fn a_liar_beside_an_honest_peer(rt: HostRuntime) -> Result<(), Fail> {
         [recorded(rt.alloc(), &liar), recorded(rt.alloc(), &honest)],
     )?;
     let run = run(&rt, rt.alloc(), torrent, streams, 1, &OpenGate)?;
-    assert_eq!(rt; run.ends.len(), 2);
+    assert!(rt; run.ends.len() == 2);
     assert!(rt; run.ends[0] == Ok(End { messages: 3 }));
     assert!(rt; run.ends[1] == Ok(End { messages: 5 }));
     assert!(rt; !run.short);
     let is_complete = run.book.desk.is_complete();
     assert!(rt; is_complete || !run.book.desk.had(0));
-    assert_eq!(rt; run.book.logs.len(), 4);
+    assert!(rt; run.book.logs.len() == 4);
     let had = answered(&run.book.logs[2], Reply::Had);
-    assert_eq!(rt; had, if is_complete { 3 } else { 2 });
+    same(&rt, had, if is_complete { 3 } else { 2 });
     Ok(())
 }
 
@@ -329,7 +332,7 @@ fn faults_of_a_run(rt: HostRuntime) -> Result<(), Fail> {
     for (fault, text) in rows {
         let mut said = String::new(rt.alloc());
         write!(said, "{fault}")?;
-        assert_eq!(rt; said.as_str(), text);
+        same(&rt, said.as_str(), text);
     }
     Ok(())
 }

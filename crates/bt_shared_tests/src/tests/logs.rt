@@ -3,6 +3,7 @@ ghost use Rattle.std.specs.Prelude.{◌<◌};
 ghost use Rattle.bt_meta.specs.Layout.{piece_count};
 
 use super::setting::*;
+use bt_expect::same;
 use bt_meta::Bitfield;
 use bt_picker::{Call, CallMark, Desk, Reason, Reply};
 use std::test::*;
@@ -11,17 +12,18 @@ use std::test::*;
 #[test]
 fn one_worker_to_a_had_piece(rt: HostRuntime) -> Result<(), Fail> {
     let mut seated = Seated::open(&rt, rt.alloc(), 1)?;
-    assert_eq!(rt; seated.call(&rt, 0, Call::Join)?, Reply::Joined);
-    assert_eq!(rt; seated.call(&rt, 0, block(2, b"a"))?, Reply::Completed);
+    same(&rt, seated.call(&rt, 0, Call::Join)?, Reply::Joined);
+    same(&rt, seated.call(&rt, 0, block(2, b"a"))?, Reply::Completed);
     assert!(rt; seated.has_job(&rt, rt.alloc(), 0, 2)?);
     assert!(rt; !seated.has_job(&rt, rt.alloc(), 0, 0)?);
-    assert_eq!(rt; seated.settle_now(&rt, rt.alloc(), 0, 2)?, Reply::Had);
-    assert_eq!(rt;
+    same(&rt, seated.settle_now(&rt, rt.alloc(), 0, 2)?, Reply::Had);
+    same(
+        &rt,
         seated.settle_now(&rt, rt.alloc(), 0, 0)?,
-        Reply::Refused(Reason::NotWaiting)
+        Reply::Refused(Reason::NotWaiting),
     );
     let book = seated.gather(rt.alloc())?;
-    assert_eq!(rt; book.logs.len(), 1);
+    assert!(rt; book.logs.len() == 1);
     let arrived = CallMark::Arrived {
         piece: 2,
         begin: 0,
@@ -47,13 +49,13 @@ fn peers_of(desk: &Desk, piece: u32) -> u32
 #[test]
 fn a_bitfield_is_entered_whole(rt: HostRuntime) -> Result<(), Fail> {
     let mut seated = Seated::open(&rt, rt.alloc(), 1)?;
-    assert_eq!(rt; seated.call(&rt, 0, Call::Join)?, Reply::Joined);
+    same(&rt, seated.call(&rt, 0, Call::Join)?, Reply::Joined);
     let told = Call::Bits(bits(rt.alloc(), 0x40)?);
-    assert_eq!(rt; seated.call(&rt, 0, told)?, Reply::Noted(true));
+    same(&rt, seated.call(&rt, 0, told)?, Reply::Noted(true));
     let book = seated.gather(rt.alloc())?;
-    assert_eq!(rt; peers_of(&book.desk, 0), 0);
-    assert_eq!(rt; peers_of(&book.desk, 1), 1);
-    assert_eq!(rt; peers_of(&book.desk, 2), 0);
+    same(&rt, peers_of(&book.desk, 0), 0);
+    same(&rt, peers_of(&book.desk, 1), 1);
+    same(&rt, peers_of(&book.desk, 2), 0);
     Ok(())
 }
 
@@ -68,9 +70,10 @@ fn refused_calls_are_marked(rt: HostRuntime) -> Result<(), Fail> {
     let wanted = (Call::Want(bits(rt.alloc(), 0xe0)?), Reply::Quiet);
     let stranger = (Call::Leave, Reply::Refused(Reason::NotJoined));
     seated.talk(&rt, 1, vec![in rt.alloc(); stranger, wrong_count, wanted]?)?;
-    assert_eq!(rt;
+    same(
+        &rt,
         seated.settle_now(&rt, rt.alloc(), 1, 9)?,
-        Reply::Refused(Reason::NoSuchPiece)
+        Reply::Refused(Reason::NoSuchPiece),
     );
     let log = [
         mark(0, CallMark::Leave, Reply::Refused(Reason::NotJoined)),

@@ -3,6 +3,7 @@ ghost use Rattle.std.specs.Prelude.{◌≡◌};
 ghost use Rattle.bt_shared.specs.Passes.{IsSame};
 
 use super::setting::*;
+use bt_expect::same;
 use bt_picker::{Call, CallMark, Reason, Reply};
 use bt_shared::{Pass, SharedDesk};
 use std::alloc::Global;
@@ -98,7 +99,7 @@ fn two_passes_meet(rt: HostRuntime) -> Result<(), Fail> {
         mark(3, arrived, Reply::Completed),
         mark(5, arrived, Reply::Dropped),
     ];
-    assert_eq!(rt; book.logs.len(), 2);
+    assert!(rt; book.logs.len() == 2);
     assert!(rt; book.logs[0].as_slice() == firsts.as_slice());
     assert!(rt; book.logs[1].as_slice() == seconds.as_slice());
     Ok(())
