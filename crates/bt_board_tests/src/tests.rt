@@ -7,7 +7,6 @@ ghost use Rattle.bt_meta.specs.Layout.{piece_count};
 
 use bt_board::{Board, BoardSeat};
 use bt_check::{Job, Proven, Verdict};
-use bt_expect::same;
 use bt_meta::{Bitfield, Torrent};
 use bytes::Bytes;
 use std::alloc::{AllocError, Global};
@@ -112,8 +111,8 @@ fn marks_and_sees(
     board.mark(first, last);
     assert!(rt; board.has(second, 2));
     assert!(rt; !board.has(second, 0));
-    same(rt, board.news(second), Some(2));
-    same(rt, board.news(second), None);
+    assert_eq!(rt; board.news(second), Some(2));
+    assert_eq!(rt; board.news(second), None);
 }
 
 /// The bitfield of a board that is closed. Without memory it is closed once more.
@@ -138,13 +137,13 @@ fn what_one_marks_the_other_sees(rt: HostRuntime) -> Result<(), Fail> {
         return Err(Fail::from("the last piece is an a"));
     };
     let (board, mut seats) = Board::open(rt.alloc(), torrent, 2)?;
-    same(&rt, seats.len(), 2);
+    assert_eq!(rt; seats.len(), 2);
     let mut second = seats.remove(1);
     let mut first = seats.remove(0);
     marks_and_sees(&rt, &board, &mut first, &mut second, last);
     let all = board.join(first, second);
     let bits = closed(rt.alloc(), board, all)?;
-    same(&rt, bits.to_wire(rt.alloc())?.as_slice(), [0x20].as_slice());
+    assert_eq!(rt; bits.to_wire(rt.alloc())?.as_slice(), [0x20].as_slice());
     Ok(())
 }
 
@@ -223,7 +222,7 @@ fn in_two_threads<R: Threads + Wait + Abort + Sync>(rt: &R, alloc: Global) -> Re
         noted.push(AtomicBool::new(false))?;
     }
     let (board, mut seats) = Board::open(alloc, torrent.clone()?, 2)?;
-    same(rt, seats.len(), 2);
+    assert_eq!(rt; seats.len(), 2);
     let second = seats.remove(1);
     let first = seats.remove(0);
     let (marked, heard) = thread::join(

@@ -72,7 +72,7 @@ fn files_of_a_run(rt: HostRuntime) -> Result<(), Fail> {
     let mut file = Kept::new(rt.alloc(), true)?;
     assert!(rt; save(&desk, &mut file) == Ok(()));
     assert!(rt; file.made);
-    same(&rt, file.held.as_slice(), b"abc".as_slice());
+    same(file.held.as_slice(), b"abc".as_slice())?;
     let mut file = Kept::new(rt.alloc(), false)?;
     assert!(rt; save(&desk, &mut file) == Err(DeviceFault));
     // A piece is lacking.
@@ -81,6 +81,6 @@ fn files_of_a_run(rt: HostRuntime) -> Result<(), Fail> {
     let mut file = Kept::new(rt.alloc(), false)?;
     assert!(rt; save(&desk, &mut file) == Ok(()));
     assert!(rt; !file.made);
-    same(&rt, file.held.as_slice(), b"older".as_slice());
+    same(file.held.as_slice(), b"older".as_slice())?;
     Ok(())
 }

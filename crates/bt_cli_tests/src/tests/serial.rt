@@ -80,9 +80,9 @@ fn a_full_output(rt: HostRuntime) -> Result<(), Fail> {
     let mut out = ToWrite::new(room.as_mut_slice());
     let mut err = Vec::new(rt.alloc());
     let (status, desk) = run_serial(rt.alloc(), FILE, &mut streams, &usual(), &mut out, &mut err);
-    same(&rt, status, 4);
+    same(status, 4)?;
     assert!(rt; desk.is_some());
-    same(&rt, room.as_slice(), b"stream 0 end\npieces ".as_slice());
-    same(&rt, err.as_slice(), b"file fault\n".as_slice());
+    same(room.as_slice(), b"stream 0 end\npieces ".as_slice())?;
+    same(err.as_slice(), b"file fault\n".as_slice())?;
     Ok(())
 }

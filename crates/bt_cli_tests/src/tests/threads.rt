@@ -70,13 +70,12 @@ fn three_pieces_of_two_peers(rt: HostRuntime) -> Result<(), Fail> {
     options.want = Some(Vec::from_slice(rt.alloc(), b"\0\0")?);
     let done = command(&rt, THREE_PIECES, streams, &options, 1000)?;
     same(
-        &rt,
         done.out.as_slice(),
         b"stream 0 end\nstream 1 end\npieces 3\nhad 3\nmissing -\ncomplete yes\njournal ok\n".as_slice(),
-    );
-    same(&rt, done.status, 0);
+    )?;
+    same(done.status, 0)?;
     assert!(rt; done.err.is_empty());
-    same(&rt, done.logs, Some(4));
+    same(done.logs, Some(4))?;
     Ok(())
 }
 
@@ -85,13 +84,9 @@ fn a_full_output(rt: HostRuntime) -> Result<(), Fail> {
     let sent = stream(rt.alloc(), INFOHASH, FRAMES)?;
     let streams = Vec::from_array(rt.alloc(), [recorded(rt.alloc(), &sent)])?;
     let done = command(&rt, FILE, streams, &usual(), 20)?;
-    same(&rt, done.status, 4);
-    same(
-        &rt,
-        done.out.as_slice(),
-        b"stream 0 end\npieces ".as_slice(),
-    );
-    same(&rt, done.err.as_slice(), b"file fault\n".as_slice());
-    same(&rt, done.logs, Some(3));
+    same(done.status, 4)?;
+    same(done.out.as_slice(), b"stream 0 end\npieces ".as_slice())?;
+    same(done.err.as_slice(), b"file fault\n".as_slice())?;
+    same(done.logs, Some(3))?;
     Ok(())
 }

@@ -107,46 +107,46 @@ fn each_fault_has_its_number(rt: HostRuntime) -> Result<(), Fail> {
         (b"dxe", 9),
     ];
     for (source, fault) in rows {
-        same_for(&rt, fault_number(rt.alloc(), source), fault, source);
-        same_for(&rt, fault_in_place(source), fault, source);
+        same_for(fault_number(rt.alloc(), source), fault, source)?;
+        same_for(fault_in_place(source), fault, source)?;
     }
     let too_deep = nested_lists(rt.alloc(), 65)?;
-    same(&rt, fault_number(rt.alloc(), &too_deep), 7);
-    same(&rt, fault_in_place(&too_deep), 7);
-    same(&rt, BenFault::from(AllocError) as u8, 10);
+    same(fault_number(rt.alloc(), &too_deep), 7)?;
+    same(fault_in_place(&too_deep), 7)?;
+    same(BenFault::from(AllocError) as u8, 10)?;
     Ok(())
 }
 
 #[test]
 fn a_mebibyte_of_lists_is_too_deep(rt: HostRuntime) -> Result<(), Fail> {
     let source = vec![in rt.alloc(); b'l'; 1 << 20]?;
-    same(&rt, fault_number(rt.alloc(), &source), 7);
+    same(fault_number(rt.alloc(), &source), 7)?;
     Ok(())
 }
 
 #[test]
 fn each_proper_prefix_is_truncated(rt: HostRuntime) -> Result<(), Fail> {
     let source: &[u8] = b"d4:infold3:keyi-30eel0:11:eleven byteei0ee4:name2:xye";
-    same(&rt, fault_number(rt.alloc(), source), 0);
+    same(fault_number(rt.alloc(), source), 0)?;
     for end in 0..source.len() {
-        same_for(&rt, fault_number(rt.alloc(), &source[..end]), 1, end);
+        same_for(fault_number(rt.alloc(), &source[..end]), 1, end)?;
     }
     Ok(())
 }
 
 /// Checks how the tree is written.
-fn is_written(rt: &impl Abort, alloc: Global, tree: &Tree, wanted: &[u8]) -> Result<(), Fail> {
+fn is_written(alloc: Global, tree: &Tree, wanted: &[u8]) -> Result<(), Fail> {
     let bytes = written(alloc, tree)?;
-    same(rt, bytes.as_slice(), wanted);
+    same(bytes.as_slice(), wanted)?;
     Ok(())
 }
 
 /// Checks that the bytes are written as they were read, and that the tree spans them.
-fn comes_back(rt: &impl Abort, alloc: Global, source: &[u8]) -> Result<(), Fail> {
+fn comes_back(alloc: Global, source: &[u8]) -> Result<(), Fail> {
     let tree = parse_again(alloc, source)?;
-    same(rt, span(&tree).start, 0);
-    same(rt, span(&tree).end, source.len());
-    is_written(rt, alloc, &tree, source)
+    same(span(&tree).start, 0)?;
+    same(span(&tree).end, source.len())?;
+    is_written(alloc, &tree, source)
 }
 
 #[test]
@@ -164,7 +164,7 @@ fn what_is_accepted_is_written_back(rt: HostRuntime) -> Result<(), Fail> {
         &deepest,
     ];
     for source in rows {
-        comes_back(&rt, rt.alloc(), source)?;
+        comes_back(rt.alloc(), source)?;
     }
     Ok(())
 }
@@ -184,8 +184,8 @@ fn parts_know_where_they_stand(rt: HostRuntime) -> Result<(), Fail> {
     ];
     for (part, start, end) in rows {
         let found = span(part);
-        same(&rt, found.start, start);
-        same(&rt, found.end, end);
+        same(found.start, start)?;
+        same(found.end, end)?;
     }
     Ok(())
 }
@@ -220,16 +220,16 @@ fn is_dict(value: &Value<'_>) -> bool {
 }
 
 /// Checks that the next item is this string.
-fn next_is_text(rt: &impl Abort, items: &mut Items<'_>, wanted: &[u8]) -> Result<(), Fail> {
+fn next_is_text(items: &mut Items<'_>, wanted: &[u8]) -> Result<(), Fail> {
     let text = next(items).ok_or("a string")?;
-    same(rt, text_of(&text).ok_or("bytes")?, wanted);
+    same(text_of(&text).ok_or("bytes")?, wanted)?;
     Ok(())
 }
 
 /// Checks that the next item is this integer.
-fn next_is_int(rt: &impl Abort, items: &mut Items<'_>, wanted: i64) -> Result<(), Fail> {
+fn next_is_int(items: &mut Items<'_>, wanted: i64) -> Result<(), Fail> {
     let number = next(items).ok_or("an integer")?;
-    same(rt, int_of(&number), Some(wanted));
+    same(int_of(&number), Some(wanted))?;
     Ok(())
 }
 
@@ -238,26 +238,26 @@ fn next_is_dict(rt: &impl Abort, items: &mut Items<'_>) -> Result<(), Fail> {
     let dict = next(items).ok_or("a dictionary")?;
     assert!(rt; is_dict(&dict));
     let one = part_of(&dict, b"a").ok_or("its value")?;
-    same(rt, int_of(&one), Some(1));
+    same(int_of(&one), Some(1))?;
     Ok(())
 }
 
 /// Checks a list of three items.
 fn is_list_of_three(rt: &impl Abort, list: &Value<'_>) -> Result<(), Fail> {
-    same(rt, span_of(list), Span { start: 7, end: 24 });
+    same(span_of(list), Span { start: 7, end: 24 })?;
     assert!(rt; !is_dict(list));
     let mut items = items_of(list).ok_or("items")?;
-    next_is_text(rt, &mut items, b"x")?;
-    next_is_int(rt, &mut items, -3)?;
+    next_is_text(&mut items, b"x")?;
+    next_is_int(&mut items, -3)?;
     next_is_dict(rt, &mut items)?;
     assert!(rt; next(&mut items).is_none());
     Ok(())
 }
 
 /// Checks a dictionary with the empty string at the empty key.
-fn is_named(rt: &impl Abort, name: &Value<'_>) -> Result<(), Fail> {
+fn is_named(name: &Value<'_>) -> Result<(), Fail> {
     let nothing = part_of(name, b"").ok_or("the empty key")?;
-    same(rt, text_of(&nothing).ok_or("no bytes")?, b"".as_slice());
+    same(text_of(&nothing).ok_or("no bytes")?, b"".as_slice())?;
     Ok(())
 }
 
@@ -265,9 +265,9 @@ fn is_named(rt: &impl Abort, name: &Value<'_>) -> Result<(), Fail> {
 fn a_value_is_read_where_it_stands(rt: HostRuntime) -> Result<(), Fail> {
     let value = value_of(b"d4:listl1:xi-3ed1:ai1eee4:named0:0:e5:otheri7ee")?;
     is_list_of_three(&rt, &part_of(&value, b"list").ok_or("a list")?)?;
-    is_named(&rt, &part_of(&value, b"name").ok_or("a name")?)?;
+    is_named(&part_of(&value, b"name").ok_or("a name")?)?;
     let other = part_of(&value, b"other").ok_or("the last")?;
-    same(&rt, span_of(&other), Span { start: 43, end: 46 });
+    same(span_of(&other), Span { start: 43, end: 46 })?;
     assert!(rt; part_of(&value, b"nam").is_none());
     Ok(())
 }
@@ -311,19 +311,19 @@ fn is_list_of_two(rt: &impl Abort, list: &Tree) -> Result<(), Fail> {
     assert!(rt; key_count(list).is_none());
     let items = items(list).ok_or("a list")?;
     assert!(rt; items.len() == 2);
-    same(rt, tree_text(&items[0]).ok_or("a string")?, b"x".as_slice());
-    same(rt, tree_int(&items[1]), Some(-3));
+    same(tree_text(&items[0]).ok_or("a string")?, b"x".as_slice())?;
+    same(tree_int(&items[1]), Some(-3))?;
     Ok(())
 }
 
 #[test]
 fn trees_are_made_by_hand(rt: HostRuntime) -> Result<(), Fail> {
     let tree = made_by_hand(rt.alloc())?;
-    is_written(&rt, rt.alloc(), &tree, b"d1:al1:xi-3eee")?;
+    is_written(rt.alloc(), &tree, b"d1:al1:xi-3eee")?;
     is_list_of_two(&rt, part(&tree, b"a").ok_or("the list")?)?;
     assert!(rt; part(&tree, b"b").is_none());
-    same(&rt, key_count(&tree), Some(1));
-    same(&rt, span(&tree), Span { start: 0, end: 0 });
+    same(key_count(&tree), Some(1))?;
+    same(span(&tree), Span { start: 0, end: 0 })?;
     Ok(())
 }
 
@@ -381,10 +381,6 @@ fn a_tree_that_found_no_room_is_put_once_more(rt: HostRuntime) -> Result<(), Fai
         Ok(bytes) => bytes,
         Err(AllocError) => written(rt.alloc(), &list)?,
     };
-    same(
-        &rt,
-        bytes.as_slice(),
-        b"l2:abi-3el1:xed1:ai1eelee".as_slice(),
-    );
+    same(bytes.as_slice(), b"l2:abi-3el1:xed1:ai1eelee".as_slice())?;
     Ok(())
 }

@@ -23,9 +23,9 @@ fn hashed(job: Job) -> Verdict {
 fn a_job_of_two_blocks(rt: HostRuntime) -> Result<(), Fail> {
     let blocks = vec![in rt.alloc(); Bytes::from_static(b"ab"), Bytes::from_static(b"c")]?;
     let verdict = hashed(Job { piece: 7, blocks });
-    same(&rt, verdict.piece(), 7);
-    same(&rt, *verdict.digest(), ABC);
-    same(&rt, verdict.blocks().len(), 2);
+    same(verdict.piece(), 7)?;
+    same(*verdict.digest(), ABC)?;
+    same(verdict.blocks().len(), 2)?;
     Ok(())
 }
 
@@ -73,7 +73,7 @@ fn what_fits_the_torrent_is_proven(rt: HostRuntime) -> Result<(), Fail> {
         (u32::MAX, b"a", Err(u32::MAX)),
     ];
     for (piece, block, wanted) in rows {
-        same(&rt, proven(rt.alloc(), &torrent, piece, block)?, wanted);
+        same(proven(rt.alloc(), &torrent, piece, block)?, wanted)?;
     }
     Ok(())
 }

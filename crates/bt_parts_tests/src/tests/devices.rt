@@ -75,7 +75,7 @@ fn readers_and_writers_are_devices(rt: HostRuntime) -> Result<(), Fail> {
     let mut from = FromRead::new(Cursor::new(b"abcde".as_slice()));
     let mut to = ToWrite::new(Vec::with_capacity(rt.alloc(), 5)?);
     copy(&mut from, &mut to)?;
-    same(&rt, to.into_inner().as_slice(), b"abcde".as_slice());
+    same(to.into_inner().as_slice(), b"abcde".as_slice())?;
     Ok(())
 }
 
@@ -84,7 +84,7 @@ fn a_byte_at_a_time_and_the_end(rt: HostRuntime) -> Result<(), Fail> {
     let mut from = Drip::new(b"abc", false);
     let mut to = ToWrite::new(Vec::with_capacity(rt.alloc(), 5)?);
     assert!(rt; copy(&mut from, &mut to) == Ok(()));
-    same(&rt, to.into_inner().as_slice(), b"abc".as_slice());
+    same(to.into_inner().as_slice(), b"abc".as_slice())?;
     assert!(rt; from.ended && !from.failed && from.reads == 4);
     Ok(())
 }
@@ -94,7 +94,7 @@ fn a_byte_at_a_time_and_a_failure(rt: HostRuntime) -> Result<(), Fail> {
     let mut from = Drip::new(b"abc", true);
     let mut to = ToWrite::new(Vec::with_capacity(rt.alloc(), 5)?);
     assert!(rt; copy(&mut from, &mut to) == Err(DeviceFault));
-    same(&rt, to.into_inner().as_slice(), b"abc".as_slice());
+    same(to.into_inner().as_slice(), b"abc".as_slice())?;
     assert!(rt; from.failed && !from.ended);
     Ok(())
 }

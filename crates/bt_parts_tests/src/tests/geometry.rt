@@ -74,28 +74,29 @@ fn block_at(torrent: &Torrent, piece: u32, begin: u32) -> Option<Option<Block>> 
 }
 
 /// Checks what a torrent of three pieces says of itself.
-fn says_its_parts(rt: &impl Abort, torrent: &Torrent) {
-    same(rt, torrent.piece_count(), 3);
-    same(rt, torrent.piece_length(), 3);
-    same(rt, torrent.total(), 7);
-    same(rt, torrent.file_count(), 1);
-    same(rt, *torrent.infohash(), [9; 20]);
+fn says_its_parts(rt: &impl Abort, torrent: &Torrent) -> Result<(), Fail> {
+    same(torrent.piece_count(), 3)?;
+    same(torrent.piece_length(), 3)?;
+    same(torrent.total(), 7)?;
+    same(torrent.file_count(), 1)?;
+    same(*torrent.infohash(), [9; 20])?;
     assert!(rt; torrent.name().is_empty());
+    Ok(())
 }
 
 #[test]
 fn a_small_torrent(rt: HostRuntime) -> Result<(), Fail> {
     let torrent = made(rt.alloc(), 3, 7, 3, [9; 20])??;
-    says_its_parts(&rt, &torrent);
-    same(&rt, hash(&torrent, 2), Some([2; 20]));
-    same(&rt, piece_len(&torrent, 1), Some(3));
-    same(&rt, piece_len(&torrent, 2), Some(1));
+    says_its_parts(&rt, &torrent)?;
+    same(hash(&torrent, 2), Some([2; 20]))?;
+    same(piece_len(&torrent, 1), Some(3))?;
+    same(piece_len(&torrent, 2), Some(1))?;
     let last = Block {
         piece: 2,
         begin: 0,
         len: 1,
     };
-    same(&rt, block(&torrent, 2, 0), Some(last));
+    same(block(&torrent, 2, 0), Some(last))?;
     Ok(())
 }
 
@@ -111,8 +112,8 @@ const fn first(begin: u32, len: u32) -> Block {
 #[test]
 fn blocks_of_a_piece(rt: HostRuntime) -> Result<(), Fail> {
     let torrent = made(rt.alloc(), 1_000_000, 1_000_000, 1, [0; 20])??;
-    same(&rt, block_count(&torrent, 0), Some(62));
-    same(&rt, block(&torrent, 0, 61), Some(first(999_424, 576)));
+    same(block_count(&torrent, 0), Some(62))?;
+    same(block(&torrent, 0, 61), Some(first(999_424, 576)))?;
     let rows = [
         (0, Some(first(0, 16_384))),
         (1, None),
@@ -122,10 +123,10 @@ fn blocks_of_a_piece(rt: HostRuntime) -> Result<(), Fail> {
         (1_015_808, None),
     ];
     for (begin, block) in rows {
-        same(&rt, block_at(&torrent, 0, begin), Some(block));
+        same(block_at(&torrent, 0, begin), Some(block))?;
     }
     let torrent = made(rt.alloc(), 32_768, 65_536, 2, [0; 20])??;
-    same(&rt, block_count(&torrent, 1), Some(2));
+    same(block_count(&torrent, 1), Some(2))?;
     Ok(())
 }
 
@@ -142,7 +143,7 @@ fn parts_that_make_no_torrent(rt: HostRuntime) -> Result<(), Fail> {
     ];
     for (piece_length, total, count, fault) in rows {
         let made = made(rt.alloc(), piece_length, total, count, [0; 20])?;
-        same(&rt, made.err(), Some(fault));
+        same(made.err(), Some(fault))?;
     }
     Ok(())
 }
@@ -169,7 +170,7 @@ fn bitfields_off_the_wire(rt: HostRuntime) -> Result<(), Fail> {
         (&[], Some(BitFault::WrongCount)),
     ];
     for (bytes, fault) in rows {
-        same(&rt, bit_fault(rt.alloc(), bytes, 3), fault);
+        same(bit_fault(rt.alloc(), bytes, 3), fault)?;
     }
     Ok(())
 }
@@ -192,19 +193,19 @@ fn as_wire(set: &Bitfield) -> &[u8] {
 }
 
 /// Checks how the set is spelled on the wire.
-fn is_spelled(rt: &impl Abort, alloc: Global, set: &Bitfield, wanted: &[u8]) -> Result<(), Fail> {
+fn is_spelled(alloc: Global, set: &Bitfield, wanted: &[u8]) -> Result<(), Fail> {
     let bytes = to_wire(alloc, set)?;
-    same(rt, bytes.as_slice(), wanted);
+    same(bytes.as_slice(), wanted)?;
     Ok(())
 }
 
 #[test]
 fn a_bitfield_off_the_wire_and_back(rt: HostRuntime) -> Result<(), Fail> {
     let shown = set_of(rt.alloc(), &[0x80, 0x40], 10)?;
-    same(&rt, shown.count(), 10);
-    same(&rt, count_ones(&shown), 2);
+    same(shown.count(), 10)?;
+    same(count_ones(&shown), 2)?;
     assert!(rt; has(&shown, 0) && has(&shown, 9) && !has(&shown, 8));
-    is_spelled(&rt, rt.alloc(), &shown, &[0x80, 0x40])
+    is_spelled(rt.alloc(), &shown, &[0x80, 0x40])
 }
 
 /// The first piece of the set from that one on.
@@ -225,7 +226,7 @@ fn bitfields_are_looked_through(rt: HostRuntime) -> Result<(), Fail> {
         (u32::MAX, None),
     ];
     for (piece, found) in rows {
-        same(&rt, first_from(&shown, piece), found);
+        same(first_from(&shown, piece), found)?;
     }
     Ok(())
 }
@@ -255,12 +256,12 @@ fn clear(set: &mut Bitfield) {
 #[test]
 fn bitfields_onto_the_wire(rt: HostRuntime) -> Result<(), Fail> {
     let mut had = empty(rt.alloc(), 3)?;
-    is_spelled(&rt, rt.alloc(), &had, &[0x00])?;
+    is_spelled(rt.alloc(), &had, &[0x00])?;
     set(&mut had, 0);
     set(&mut had, 2);
-    same(&rt, count_ones(&had), 2);
-    is_spelled(&rt, rt.alloc(), &had, &[0xa0])?;
-    same(&rt, as_wire(&had), [0xa0].as_slice());
+    same(count_ones(&had), 2)?;
+    is_spelled(rt.alloc(), &had, &[0xa0])?;
+    same(as_wire(&had), [0xa0].as_slice())?;
     Ok(())
 }
 
@@ -270,7 +271,7 @@ fn a_bitfield_of_another(rt: HostRuntime) -> Result<(), Fail> {
     let mut shown = empty(rt.alloc(), 3)?;
     copy_from(&mut shown, &had);
     clear(&mut had);
-    same(&rt, as_wire(&shown), [0xa0].as_slice());
-    same(&rt, as_wire(&had), [0x00].as_slice());
+    same(as_wire(&shown), [0xa0].as_slice())?;
+    same(as_wire(&had), [0x00].as_slice())?;
     Ok(())
 }

@@ -54,12 +54,7 @@ fn each_proper_prefix_is_truncated(rt: HostRuntime) -> Result<(), Fail> {
     for file in [SINGLE_FILE, MULTI_FILE] {
         for end in 0..file.len() {
             let fault = fault_of(rt.alloc(), &file[..end]);
-            same_for(
-                &rt,
-                fault,
-                Some(MetaFault::Bencode(BenFault::Truncated)),
-                end,
-            );
+            same_for(fault, Some(MetaFault::Bencode(BenFault::Truncated)), end)?;
         }
     }
     Ok(())
@@ -94,7 +89,7 @@ fn files_without_a_part(rt: HostRuntime) -> Result<(), Fail> {
         ),
     ];
     for (file, fault) in rows {
-        same_for(&rt, fault_of(rt.alloc(), file), Some(fault), file);
+        same_for(fault_of(rt.alloc(), file), Some(fault), file)?;
     }
     Ok(())
 }
@@ -112,7 +107,7 @@ fn piece_lengths(rt: HostRuntime) -> Result<(), Fail> {
         put(&mut before, b"d4:infod6:lengthi7e4:name1:s12:piece length")?;
         put(&mut before, piece_length)?;
         let file = file_of(rt.alloc(), &before, &DIGESTS[..20], b"ee")?;
-        same_for(&rt, fault_of(rt.alloc(), &file), fault, piece_length);
+        same_for(fault_of(rt.alloc(), &file), fault, piece_length)?;
     }
     Ok(())
 }
@@ -127,7 +122,7 @@ fn digests_that_do_not_fit(rt: HostRuntime) -> Result<(), Fail> {
     ];
     for (bytes, fault) in rows {
         let file = file_of(rt.alloc(), before, &DIGESTS[..bytes], b"ee")?;
-        same_for(&rt, fault_of(rt.alloc(), &file), Some(fault), bytes);
+        same_for(fault_of(rt.alloc(), &file), Some(fault), bytes)?;
     }
     Ok(())
 }
@@ -189,7 +184,7 @@ fn contents(rt: HostRuntime) -> Result<(), Fail> {
         put(&mut before, content)?;
         put(&mut before, b"4:name1:s12:piece lengthi3e")?;
         let file = file_of(rt.alloc(), &before, DIGESTS, b"ee")?;
-        same_for(&rt, fault_of(rt.alloc(), &file), fault, content);
+        same_for(fault_of(rt.alloc(), &file), fault, content)?;
     }
     Ok(())
 }

@@ -110,15 +110,9 @@ fn told(alloc: Global, inbound: &mut Inbound, piece: &[u8]) -> Result<String, Fa
 }
 
 /// Checks what stands in front once the piece came.
-fn tells(
-    rt: &impl Abort,
-    alloc: Global,
-    inbound: &mut Inbound,
-    piece: &[u8],
-    wanted: &str,
-) -> Result<(), Fail> {
+fn tells(alloc: Global, inbound: &mut Inbound, piece: &[u8], wanted: &str) -> Result<(), Fail> {
     let said = told(alloc, inbound, piece)?;
-    same(rt, said.as_str(), wanted);
+    same(said.as_str(), wanted)?;
     Ok(())
 }
 
@@ -186,39 +180,28 @@ fn rows() -> &'static [(&'static [u8], usize, &'static str)] {
 }
 
 /// Checks what stands in front behind a handshake.
-fn frame(
-    rt: &impl Abort,
-    alloc: Global,
-    bytes: &[u8],
-    len: usize,
-    wanted: &str,
-) -> Result<(), Fail> {
+fn frame(alloc: Global, bytes: &[u8], len: usize, wanted: &str) -> Result<(), Fail> {
     let mut inbound = greeted(alloc)?;
     let said = told_in_pieces(alloc, &mut inbound, bytes, len)?;
-    same(rt, said.as_str(), wanted);
+    same(said.as_str(), wanted)?;
     Ok(())
 }
 
 #[test]
 fn frames(rt: HostRuntime) -> Result<(), Fail> {
     for (bytes, len, wanted) in rows() {
-        frame(&rt, rt.alloc(), bytes, *len, wanted)?;
+        frame(rt.alloc(), bytes, *len, wanted)?;
     }
     Ok(())
 }
 
 /// The handshake in two pieces, and three bytes behind it.
-fn one_handshake(
-    rt: &impl Abort,
-    alloc: Global,
-    inbound: &mut Inbound,
-    bytes: &[u8; 68],
-) -> Result<(), Fail> {
+fn one_handshake(alloc: Global, inbound: &mut Inbound, bytes: &[u8; 68]) -> Result<(), Fail> {
     let (front, last) = bytes.split_at(67);
-    tells(rt, alloc, inbound, front, "")?;
+    tells(alloc, inbound, front, "")?;
     feed_again(inbound, last)?;
-    tells(rt, alloc, inbound, &[0, 0, 0], HELLO_TOLD)?;
-    same(rt, rest(inbound), 3);
+    tells(alloc, inbound, &[0, 0, 0], HELLO_TOLD)?;
+    same(rest(inbound), 3)?;
     Ok(())
 }
 
@@ -231,17 +214,17 @@ fn a_strange_handshake(
 ) -> Result<(), Fail> {
     let (front, last) = bytes.split_at(67);
     feed_again(inbound, &[18])?;
-    tells(rt, alloc, inbound, &front[1..], "")?;
-    tells(rt, alloc, inbound, last, "BadHandshake ")?;
+    tells(alloc, inbound, &front[1..], "")?;
+    tells(alloc, inbound, last, "BadHandshake ")?;
     assert!(rt; feed(inbound, &[0]) == Err(WireFault::BadHandshake));
-    same(rt, rest(inbound), 68);
+    same(rest(inbound), 68)?;
     Ok(())
 }
 
 #[test]
 fn handshakes(rt: HostRuntime) -> Result<(), Fail> {
     let bytes = hello_bytes();
-    one_handshake(&rt, rt.alloc(), &mut opened(rt.alloc()), &bytes)?;
+    one_handshake(rt.alloc(), &mut opened(rt.alloc()), &bytes)?;
     a_strange_handshake(&rt, rt.alloc(), &mut opened(rt.alloc()), &bytes)
 }
 
@@ -252,8 +235,8 @@ fn a_fault_behind_messages(rt: HostRuntime) -> Result<(), Fail> {
     stream.extend_from_slice(&[0, 0, 0, 1, 0, 0, 16, 0, 1])?;
     let mut inbound = opened(rt.alloc());
     let said = told(rt.alloc(), &mut inbound, &stream)?;
-    same(&rt, said.strip_prefix(HELLO_TOLD), Some("Choke TooLong "));
-    same(&rt, rest(&inbound), 4);
+    same(said.strip_prefix(HELLO_TOLD), Some("Choke TooLong "))?;
+    same(rest(&inbound), 4)?;
     Ok(())
 }
 
@@ -275,8 +258,8 @@ fn a_frame_at_the_limit(rt: HostRuntime) -> Result<(), Fail> {
     let mut inbound = greeted(rt.alloc())?;
     feed_again(&mut inbound, &[0, 16, 0, 0, 5])?;
     feed_again(&mut inbound, &bits(rt.alloc(), 1_048_575)?)?;
-    same(&rt, bits_len(rt.alloc(), &mut inbound)?, 1_048_575);
-    same(&rt, rest(&inbound), 0);
+    same(bits_len(rt.alloc(), &mut inbound)?, 1_048_575)?;
+    same(rest(&inbound), 0)?;
     Ok(())
 }
 
@@ -285,7 +268,7 @@ fn limit_of(pieces: u32) -> u32 {
 }
 
 #[test]
-fn limits_of_frames(rt: HostRuntime) {
+fn limits_of_frames() -> Result<(), Fail> {
     let rows = [
         (1, 1_048_576),
         (8_388_600, 1_048_576),
@@ -293,8 +276,9 @@ fn limits_of_frames(rt: HostRuntime) {
         (u32::MAX, 536_870_913),
     ];
     for (pieces, wanted) in rows {
-        same(&rt, limit_of(pieces), wanted);
+        same(limit_of(pieces), wanted)?;
     }
+    Ok(())
 }
 
 /// A message of each kind.
@@ -348,7 +332,7 @@ fn encoded(rt: HostRuntime) -> Result<(), Fail> {
     let mut out = Vec::new(rt.alloc());
     put_the_first(&mut out)?;
     put_the_others(&mut out)?;
-    same(&rt, out.as_slice(), EACH_KIND.as_slice());
+    same(out.as_slice(), EACH_KIND.as_slice())?;
     Ok(())
 }
 
@@ -376,12 +360,11 @@ fn every_cut_in_two(rt: HostRuntime) -> Result<(), Fail> {
     for at in 0..frames.len() {
         let (said, rest) = told_in_two(rt.alloc(), frames, at)?;
         same_for(
-            &rt,
             said.as_str(),
             "KeepAlive Unknown(20) Have(2) Choke Bits(b\"\\x80\") ",
             at,
-        );
-        same(&rt, rest, 3);
+        )?;
+        same(rest, 3)?;
     }
     Ok(())
 }
@@ -414,7 +397,7 @@ fn many_messages_in_one_feed(rt: HostRuntime) -> Result<(), Fail> {
     for piece in 0..20_000 {
         assert!(rt; gives_have(rt.alloc(), &mut inbound, piece)?);
     }
-    same(&rt, rest(&inbound), 0);
+    same(rest(&inbound), 0)?;
     Ok(())
 }
 
@@ -438,8 +421,8 @@ fn told_of_each_kind(alloc: Global, len: usize) -> Result<(String, usize), Fail>
 fn a_call_that_found_no_memory_is_made_once_more(rt: HostRuntime) -> Result<(), Fail> {
     for len in [1, 7, 94] {
         let (said, rest) = told_of_each_kind(rt.alloc(), len)?;
-        same_for(&rt, said.as_str(), EACH_KIND_TOLD, len);
-        same(&rt, rest, 0);
+        same_for(said.as_str(), EACH_KIND_TOLD, len)?;
+        same(rest, 0)?;
     }
     Ok(())
 }
@@ -450,9 +433,9 @@ fn a_message_that_found_no_room_is_put_once_more(rt: HostRuntime) -> Result<(), 
     for piece in 0..100 {
         put_have(piece, &mut out)?;
     }
-    same(&rt, out.len(), 900);
+    same(out.len(), 900)?;
     for (piece, frame) in (0..100_u8).zip(out.chunks(9)) {
-        same(&rt, frame, [0, 0, 0, 5, 4, 0, 0, 0, piece].as_slice());
+        same(frame, [0, 0, 0, 5, 4, 0, 0, 0, piece].as_slice())?;
     }
     Ok(())
 }

@@ -71,7 +71,7 @@ fn each_front_of_a_stream(rt: HostRuntime) -> Result<(), Fail> {
         }
         assert!(rt; calls.is_empty() == (len < 68));
         if len == 68 {
-            same(&rt, calls.as_str(), "join = Joined; leave = Quiet; ");
+            same(calls.as_str(), "join = Joined; leave = Quiet; ")?;
         }
     }
     Ok(())
@@ -180,21 +180,20 @@ fn each_write_fails(rt: HostRuntime) -> Result<(), Fail> {
         assert!(rt; writer.kept.as_slice() == &whole[..room]);
         if room == whole.len() {
             assert!(rt; end == Ok(End { messages: 3 }));
-            same(&rt, calls.as_str(), WHOLE);
+            same(calls.as_str(), WHOLE)?;
             continue;
         }
         assert!(rt; end == Err(SessionFault::WriteFault));
         if room < 68 {
-            same(&rt, calls.as_str(), "");
+            same(calls.as_str(), "")?;
         } else {
             assert!(rt; calls.ends_with("leave = Quiet; "));
         }
         if room == 68 {
             same(
-                &rt,
                 calls.as_str(),
                 "join = Joined; bits = Noted(true); leave = Quiet; ",
-            );
+            )?;
         }
     }
     Ok(())

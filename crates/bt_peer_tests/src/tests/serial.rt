@@ -131,11 +131,10 @@ fn no_piece_is_wanted(rt: HostRuntime) -> Result<(), Fail> {
     assert!(rt; told.ends.as_slice() == [Ok(End { messages: 3 })].as_slice());
     assert!(rt; told.is_complete && !told.short);
     same(
-        &rt,
         told.journal.as_str(),
         "1 want = Quiet; 0 join = Joined; 0 bits = Noted(false); 0 next = Choked; 0 unchoke = Quiet; \
         0 next = NothingLeft; 0 block 0 0 = Completed; 0 settle = Had; 0 next = NothingLeft; 0 leave = Quiet; ",
-    );
+    )?;
     let all = [wanted(rt.alloc(), b'0', &[0, 0, 0, 5, 4, 0, 0, 0, 0])?];
     assert!(rt; told.written.as_slice() == all.as_slice());
     Ok(())
@@ -148,7 +147,6 @@ fn two_streams_take_turns(rt: HostRuntime) -> Result<(), Fail> {
     let ends = [Ok(End { messages: 3 }), Ok(End { messages: 3 })];
     assert!(rt; told.ends.as_slice() == ends.as_slice());
     same(
-        &rt,
         told.journal.as_str(),
         "0 join = Joined; 1 join = Joined; \
         0 bits = Noted(true); 0 next = Choked; 1 bits = Noted(true); 1 next = Choked; \
@@ -156,7 +154,7 @@ fn two_streams_take_turns(rt: HostRuntime) -> Result<(), Fail> {
         1 unchoke = Quiet; 1 next = Request(Block { piece: 1, begin: 0, len: 3 }); 1 next = Idle; \
         0 block 0 0 = Completed; 0 settle = Had; 0 next = NothingLeft; \
         1 block 1 0 = Completed; 1 settle = Had; 1 next = NothingLeft; 0 leave = Quiet; 1 leave = Quiet; ",
-    );
+    )?;
     // The first session ends before it hears of the second piece.
     let all = [
         wanted(rt.alloc(), b'0', &said(rt.alloc(), 0, &[0])?)?,
@@ -197,7 +195,7 @@ fn words_come_from_the_seed(rt: HostRuntime) -> Result<(), Fail> {
         for entry in run.desk.journal() {
             if entry.worker == worker {
                 if let Call::Next(word) = &entry.call {
-                    same(&rt, *word, rng.next_u64());
+                    same(*word, rng.next_u64())?;
                     asked = true;
                 }
             }

@@ -34,11 +34,10 @@ fn the_wanted_piece_alone_is_asked(rt: HostRuntime) -> Result<(), Fail> {
     let torrent = two_pieces(rt.alloc())?;
     let run = run(rt.alloc(), torrent, &BOTH, Some(want), Rules::usual())?;
     same(
-        &rt,
         journal(rt.alloc(), &run)?.as_str(),
         "1 want = Quiet; 0 join = Joined; 0 bits = Noted(true); 0 next = Choked; 0 unchoke = Quiet; \
         0 next = Request(Block { piece: 1, begin: 0, len: 3 }); 0 next = Idle; 0 leave = Quiet; ",
-    );
+    )?;
     Ok(())
 }
 
@@ -76,8 +75,8 @@ fn a_turn_fills_the_pipe(rt: HostRuntime) -> Result<(), Fail> {
     ];
     for (depth, count, requests, last) in rows {
         let asked = asked(rt.alloc(), depth, count)?;
-        same(&rt, asked.0, requests);
-        same(&rt, asked.1.as_str(), last);
+        same(asked.0, requests)?;
+        same(asked.1.as_str(), last)?;
     }
     Ok(())
 }

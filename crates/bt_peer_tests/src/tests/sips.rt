@@ -73,7 +73,7 @@ fn little_by_little(rt: HostRuntime) -> Result<(), Fail> {
     for sizes in sizes {
         let (end, calls, _) = told_of(rt.alloc(), Sips::new(&stream, sizes))?;
         assert!(rt; end == Ok(End { messages: 3 }));
-        same(&rt, calls.as_str(), WHOLE);
+        same(calls.as_str(), WHOLE)?;
     }
     Ok(())
 }

@@ -76,7 +76,7 @@ pub const WHOLE: &str = "join = Joined; bits = Noted(true); next = Choked; uncho
 fn a_whole_session(rt: HostRuntime) -> Result<(), Fail> {
     let (end, calls, written) = told(rt.alloc(), &peer(rt.alloc(), 1, &PEER)?)?;
     assert!(rt; end == Ok(End { messages: 3 }));
-    same(&rt, calls.as_str(), WHOLE);
+    same(calls.as_str(), WHOLE)?;
     let mut wanted = Vec::from_slice(rt.alloc(), b"\x13BitTorrent protocol")?;
     wanted.extend_from_slice(&[0; 8])?;
     wanted.extend_from_slice(&[1; 20])?;
@@ -86,7 +86,7 @@ fn a_whole_session(rt: HostRuntime) -> Result<(), Fail> {
         0, 0, 0, 1, 2, 0, 0, 0, 13, 6, 0, 0, 0, 0, 0, 0, 0, 0, 0, 0, 0, 3, 0, 0, 0, 5, 4, 0, 0, 0,
         0, 0, 0, 0, 1, 3,
     ])?;
-    same(&rt, written.as_slice(), wanted.as_slice());
+    same(written.as_slice(), wanted.as_slice())?;
     Ok(())
 }
 
@@ -113,10 +113,10 @@ fn faults(rt: HostRuntime) -> Result<(), Fail> {
     for (infohash, frames, fault, wanted) in rows {
         let (end, calls, _) = told(rt.alloc(), &peer(rt.alloc(), infohash, frames)?)?;
         assert!(rt; end == Err(fault));
-        same(&rt, calls.as_str(), wanted);
+        same(calls.as_str(), wanted)?;
     }
     let (end, calls, _) = told(rt.alloc(), b"\x13BitTorrent")?;
     assert!(rt; end == Err(SessionFault::Truncated));
-    same(&rt, calls.as_str(), "");
+    same(calls.as_str(), "")?;
     Ok(())
 }

@@ -33,7 +33,7 @@ fn judge(rt: &impl Abort, alloc: Global, example: &Example) -> Result<(), Fail> 
         let mut entries = entries_of(alloc, pieces, example.lines, *before)?;
         entries.push(entry_of(alloc, pieces, line)?)?;
         let judged = audit(alloc, &torrent, example.workers, rules, &entries);
-        same(rt, first_wrong(judged)?, Some(*before));
+        same(first_wrong(judged)?, Some(*before))?;
     }
     Ok(())
 }

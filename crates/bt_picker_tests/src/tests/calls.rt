@@ -55,11 +55,11 @@ fn a_verdict_of_replaced_bytes(rt: HostRuntime) -> Result<(), Fail> {
     played.play(&rt, alloc, wrong)?;
     let first = verdict(&rt, alloc, &played)?;
     let second = verdict(&rt, alloc, &played)?;
-    same(&rt, played.call(&rt, 0, Call::Settle(first))?, Failed);
+    same(played.call(&rt, 0, Call::Settle(first))?, Failed)?;
     assert!(rt; played.check(alloc, 0)?.is_none());
     played.play(&rt, alloc, "0 block 0 0 abc = completed")?;
     let reply = played.call(&rt, 0, Call::Settle(second))?;
-    same(&rt, reply, Refused(Reason::Stale));
+    same(reply, Refused(Reason::Stale))?;
     played.play(&rt, alloc, "check 0 0 = had")
 }
 
@@ -147,7 +147,7 @@ fn an_audit_of_no_call(rt: HostRuntime) -> Result<(), Fail> {
         reply: Reply::Joined,
     }];
     let judged = audit(rt.alloc(), &torrent, 1, Rules::usual(), &other);
-    same(&rt, first_wrong(judged)?, Some(0));
+    same(first_wrong(judged)?, Some(0))?;
     Ok(())
 }
 
@@ -175,6 +175,6 @@ fn an_audit_of_more_workers_than_a_desk_has(rt: HostRuntime) -> Result<(), Fail>
     let entries = all_show_a_piece(rt.alloc(), 1030)?;
     audit(rt.alloc(), &torrent, 1030, Rules::usual(), &entries)?;
     let judged = audit(rt.alloc(), &torrent, 1029, Rules::usual(), &entries);
-    same(&rt, first_wrong(judged)?, Some(2058));
+    same(first_wrong(judged)?, Some(2058))?;
     Ok(())
 }

@@ -87,7 +87,7 @@ impl Played {
                 self.enter(rt, worker, again.call)?
             }
         };
-        same_for(rt, said, reply, line);
+        same_for(said, reply, line)?;
         Ok(())
     }
 
@@ -105,16 +105,15 @@ impl Played {
                 let worker = number(words.next())?;
                 let piece = number(words.next())?;
                 same_for(
-                    rt,
                     self.settle(rt, alloc, worker, piece)?,
                     reply_of(wanted)?,
                     asked,
-                );
+                )?;
             }
             "finish" => self.finish(rt, alloc, number(words.next())?)?,
             question => {
                 let answer = self.answer(rt, alloc, question, &mut words)?;
-                same_for(rt, answer.as_str(), wanted, asked);
+                same_for(answer.as_str(), wanted, asked)?;
             }
         }
         Ok(())
@@ -156,7 +155,7 @@ impl Played {
         let before = self.entries();
         let said = self.desk.call(worker, call);
         let added = if said.is_ok() { 1 } else { 0 };
-        same(rt, self.entries().saturating_sub(before), added);
+        assert!(rt; self.entries().saturating_sub(before) == added);
         said
     }
 
@@ -229,7 +228,7 @@ impl Played {
     fn group(&self, rt: &impl Abort, alloc: Global, shown_by: u32) -> Result<String, Fail> {
         let group = self.unbegun(rt, shown_by);
         let flags = [group.contains(&0), group.contains(&1), group.contains(&2)];
-        same(rt, group.len(), count(flags));
+        same(group.len(), count(flags))?;
         pieces(alloc, flags)
     }
 

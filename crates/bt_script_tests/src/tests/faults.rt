@@ -161,8 +161,8 @@ fn lines_behind_the_first(rt: HostRuntime) -> Result<(), Fail> {
         } else {
             Err(Fault::Line(number))
         };
-        same_for(&rt, done, wanted, behind);
-        same_for(&rt, out.as_slice(), printed, behind);
+        same_for(done, wanted, behind)?;
+        same_for(out.as_slice(), printed, behind)?;
     }
     Ok(())
 }
@@ -171,9 +171,9 @@ fn lines_behind_the_first(rt: HostRuntime) -> Result<(), Fail> {
 fn first_lines(rt: HostRuntime) -> Result<(), Fail> {
     for (script, number) in FIRST_LINES {
         let (done, out) = played(rt.alloc(), script);
-        same_for(&rt, done, Err(Fault::Line(number)), script);
-        same_for(&rt, out.as_slice(), b"".as_slice(), script);
-        same_for(&rt, ran(rt.alloc(), script).0, 2, script);
+        same_for(done, Err(Fault::Line(number)), script)?;
+        same_for(out.as_slice(), b"".as_slice(), script)?;
+        same_for(ran(rt.alloc(), script).0, 2, script)?;
     }
     Ok(())
 }
@@ -195,8 +195,8 @@ fn texts_and_statuses(rt: HostRuntime) -> Result<(), Fail> {
         (Fault::Memory, 5, "memory"),
     ];
     for (fault, status, text) in rows {
-        same(&rt, fault.status(), status);
-        same(&rt, fault.to_string(rt.alloc())?.as_str(), text);
+        same(fault.status(), status)?;
+        same(fault.to_string(rt.alloc())?.as_str(), text)?;
     }
     Ok(())
 }

@@ -68,7 +68,7 @@ fn journal_lines(rt: HostRuntime) -> Result<(), Fail> {
         let mut out = ToWrite::new(Vec::new(rt.alloc()));
         print_entry(&mut out, &entry)?;
         let line = format!(in rt.alloc(); "{line}\n")?;
-        same(&rt, out.into_inner().as_slice(), line.as_bytes());
+        same(out.into_inner().as_slice(), line.as_bytes())?;
     }
     Ok(())
 }

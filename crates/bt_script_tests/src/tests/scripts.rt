@@ -40,8 +40,8 @@ fn worked_examples(rt: HostRuntime) -> Result<(), Fail> {
         let name = example.name;
         let (script, replies) = parts(rt.alloc(), example.torrent, example.lines)?;
         let (status, out) = ran(rt.alloc(), script.as_bytes());
-        same_for(&rt, status, 0, name);
-        same_for(&rt, out.as_slice(), replies.as_bytes(), name);
+        same_for(status, 0, name)?;
+        same_for(out.as_slice(), replies.as_bytes(), name)?;
     }
     Ok(())
 }
@@ -59,12 +59,11 @@ fn blocks_of_two(rt: HostRuntime) -> Result<(), Fail> {
         "{torrent}\n0 join\n0 block 0 0 {block}\n0 block 0 0 {block}\n0 block 0 16384 {block}\n0 settle 0\n"
     )?;
     let (status, out) = ran(rt.alloc(), script.as_bytes());
-    same(&rt, status, 0);
+    same(status, 0)?;
     same(
-        &rt,
         out.as_slice(),
         b"joined\nstored\ndropped\ncompleted\nfailed\n".as_slice(),
-    );
+    )?;
     Ok(())
 }
 
@@ -84,8 +83,8 @@ fn a_deep_pipe(rt: HostRuntime) -> Result<(), Fail> {
     script.push_str("0 next 0\n0 next 0\n")?;
     replies.push_str("request 0 999424 576\nidle\n")?;
     let (status, out) = ran(rt.alloc(), script.as_bytes());
-    same(&rt, status, 0);
-    same(&rt, out.as_slice(), replies.as_bytes());
+    same(status, 0)?;
+    same(out.as_slice(), replies.as_bytes())?;
     Ok(())
 }
 
@@ -116,13 +115,9 @@ fn statuses(rt: HostRuntime) -> Result<(), Fail> {
     for (input, status, text, told) in rows {
         let mut out = Vec::new(rt.alloc());
         let mut err = Vec::new(rt.alloc());
-        same(
-            &rt,
-            script_to(rt.alloc(), input, &mut out, &mut err),
-            status,
-        );
-        same(&rt, out.as_slice(), text);
-        same(&rt, err.as_slice(), told);
+        same(script_to(rt.alloc(), input, &mut out, &mut err), status)?;
+        same(out.as_slice(), text)?;
+        same(err.as_slice(), told)?;
     }
     Ok(())
 }
@@ -134,12 +129,12 @@ fn full_outputs(rt: HostRuntime) -> Result<(), Fail> {
     let mut room = [0; 3];
     let mut out = Cursor::new(room.as_mut_slice());
     let done = play_script(rt.alloc(), script.as_bytes(), &mut out);
-    same(&rt, done, Err(Fault::File));
-    same(&rt, room.as_slice(), b"joi".as_slice());
+    same(done, Err(Fault::File))?;
+    same(room.as_slice(), b"joi".as_slice())?;
     let meta =
         b"d4:infod6:lengthi3e4:name1:s12:piece lengthi3e6:pieces20:\xa9\x99\x3e\x36\x47\x06\x81\x6a\xba\x3e\x25\x71\x78\x50\xc2\x6c\x9c\xd0\xd8\x9dee";
     let mut out = Cursor::new(room.as_mut_slice());
-    same(&rt, describe(rt.alloc(), meta, &mut out), Err(Fault::File));
-    same(&rt, room.as_slice(), b"nam".as_slice());
+    same(describe(rt.alloc(), meta, &mut out), Err(Fault::File))?;
+    same(room.as_slice(), b"nam".as_slice())?;
     Ok(())
 }

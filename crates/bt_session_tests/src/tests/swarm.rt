@@ -94,18 +94,16 @@ fn one_session_in_a_thread(rt: HostRuntime) -> Result<(), Fail> {
     assert!(rt; run.book.logs.len() == 3);
     assert!(rt; run.book.logs[0].len() == 9);
     same(
-        &rt,
         told(rt.alloc(), &run.book.logs[0][..7])?.as_str(),
         "0 Join = Joined; 1 Bits = Noted(true); 2 Next = Choked; 3 Unchoke = Quiet; \
         4 Next = Request(Block { piece: 0, begin: 0, len: 3 }); 5 Next = Idle; \
         6 Arrived { piece: 0, begin: 0, len: 3 } = Completed; ",
-    );
+    )?;
     same(
-        &rt,
         calls(rt.alloc(), &run.book.logs[1])?.as_str(),
         "Settle(0) = Had; ",
-    );
-    same(&rt, run.book.logs[2].len(), 0);
+    )?;
+    same(run.book.logs[2].len(), 0)?;
     assert!(rt; run.book.desk.had(0));
     Ok(())
 }
@@ -144,7 +142,7 @@ fn streams_come_back_in_order(rt: HostRuntime) -> Result<(), Fail> {
         assert!(rt; written.starts_with(hello(worker).as_slice()));
         assert!(rt; asks_for(written, piece));
     }
-    same(&rt, written[2].len(), 68);
+    same(written[2].len(), 68)?;
     Ok(())
 }
 
@@ -195,7 +193,7 @@ fn two_sessions_run(rt: HostRuntime) -> Result<(), Fail> {
     assert!(rt; run.ends.len() == 2);
     assert!(rt; run.ends[0] == Ok(End { messages: 0 }));
     assert!(rt; run.ends[1] == Ok(End { messages: 0 }));
-    same(&rt, run.book.desk.journal().len(), 4);
+    same(run.book.desk.journal().len(), 4)?;
     Ok(())
 }
 
@@ -222,12 +220,12 @@ fn checkers_check(rt: HostRuntime) -> Result<(), Fail> {
     assert!(rt; run.book.logs.len() == 4);
     // The checkers, and nobody else, found one piece right and one wrong.
     for (reply, wanted) in [(Reply::Had, 1), (Reply::Failed, 1)] {
-        same(&rt, answered(&run.book.logs[0], reply), 0);
+        same(answered(&run.book.logs[0], reply), 0)?;
         let first = answered(&run.book.logs[1], reply);
         let second = answered(&run.book.logs[2], reply);
-        same(&rt, first.saturating_add(second), wanted);
+        same(first.saturating_add(second), wanted)?;
     }
-    same(&rt, run.book.logs[3].len(), 0);
+    same(run.book.logs[3].len(), 0)?;
     assert!(rt; !run.book.desk.had(0));
     Ok(())
 }
@@ -262,9 +260,9 @@ fn a_full_queue_loses_nothing(rt: HostRuntime) -> Result<(), Fail> {
     assert!(rt; run.ends[0] == Ok(End { messages: 64 }));
     assert!(rt; !run.short);
     assert!(rt; run.book.logs.len() == 3);
-    same(&rt, answered(&run.book.logs[0], Reply::Completed), 64);
-    same(&rt, answered(&run.book.logs[1], Reply::Had), 64);
-    same(&rt, run.book.logs[2].len(), 0);
+    same(answered(&run.book.logs[0], Reply::Completed), 64)?;
+    same(answered(&run.book.logs[1], Reply::Had), 64)?;
+    same(run.book.logs[2].len(), 0)?;
     assert!(rt; run.book.desk.is_complete());
     Ok(())
 }
@@ -306,7 +304,7 @@ fn a_liar_beside_an_honest_peer(rt: HostRuntime) -> Result<(), Fail> {
     assert!(rt; is_complete || !run.book.desk.had(0));
     assert!(rt; run.book.logs.len() == 4);
     let had = answered(&run.book.logs[2], Reply::Had);
-    same(&rt, had, if is_complete { 3 } else { 2 });
+    same(had, if is_complete { 3 } else { 2 })?;
     Ok(())
 }
 
@@ -332,7 +330,7 @@ fn faults_of_a_run(rt: HostRuntime) -> Result<(), Fail> {
     for (fault, text) in rows {
         let mut said = String::new(rt.alloc());
         write!(said, "{fault}")?;
-        same(&rt, said.as_str(), text);
+        same(said.as_str(), text)?;
     }
     Ok(())
 }

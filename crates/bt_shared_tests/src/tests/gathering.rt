@@ -9,8 +9,8 @@ use std::test::*;
 #[test]
 fn a_lost_pass(rt: HostRuntime) -> Result<(), Fail> {
     let mut seated = Seated::open(&rt, rt.alloc(), 2)?;
-    same(&rt, seated.call(&rt, 0, Call::Join)?, Reply::Joined);
-    same(&rt, seated.call(&rt, 1, Call::Join)?, Reply::Joined);
+    same(seated.call(&rt, 0, Call::Join)?, Reply::Joined)?;
+    same(seated.call(&rt, 1, Call::Join)?, Reply::Joined)?;
     seated.lose(&rt, 1);
     let missing = GatherFault::PassMissing {
         held: 1,
@@ -25,8 +25,8 @@ fn a_lost_pass(rt: HostRuntime) -> Result<(), Fail> {
 #[test]
 fn passes_in_another_order(rt: HostRuntime) -> Result<(), Fail> {
     let mut seated = Seated::open(&rt, rt.alloc(), 3)?;
-    same(&rt, seated.call(&rt, 1, Call::Join)?, Reply::Joined);
-    same(&rt, seated.call(&rt, 2, Call::Join)?, Reply::Joined);
+    same(seated.call(&rt, 1, Call::Join)?, Reply::Joined)?;
+    same(seated.call(&rt, 2, Call::Join)?, Reply::Joined)?;
     seated.lose(&rt, 0);
     let book = seated.gather(rt.alloc())?;
     assert!(rt; book.logs.len() == 3);
@@ -46,9 +46,9 @@ fn bitfields_of_had_pieces(rt: HostRuntime) -> Result<(), Fail> {
         (0x80, Some(0)),
     ] {
         let mut seated = Seated::open(&rt, rt.alloc(), 1)?;
-        same(&rt, seated.call(&rt, 0, Call::Join)?, Reply::Joined);
-        same(&rt, seated.call(&rt, 0, block(2, b"a"))?, Reply::Completed);
-        same(&rt, seated.settle_now(&rt, rt.alloc(), 0, 2)?, Reply::Had);
+        same(seated.call(&rt, 0, Call::Join)?, Reply::Joined)?;
+        same(seated.call(&rt, 0, block(2, b"a"))?, Reply::Completed)?;
+        same(seated.settle_now(&rt, rt.alloc(), 0, 2)?, Reply::Had)?;
         let fault = cause(seated.gather_beside(rt.alloc(), byte)?)?;
         assert!(rt; fault == other.map(|piece| GatherFault::BoardDiffers { piece }));
     }

@@ -12,16 +12,15 @@ use std::test::*;
 #[test]
 fn one_worker_to_a_had_piece(rt: HostRuntime) -> Result<(), Fail> {
     let mut seated = Seated::open(&rt, rt.alloc(), 1)?;
-    same(&rt, seated.call(&rt, 0, Call::Join)?, Reply::Joined);
-    same(&rt, seated.call(&rt, 0, block(2, b"a"))?, Reply::Completed);
+    same(seated.call(&rt, 0, Call::Join)?, Reply::Joined)?;
+    same(seated.call(&rt, 0, block(2, b"a"))?, Reply::Completed)?;
     assert!(rt; seated.has_job(&rt, rt.alloc(), 0, 2)?);
     assert!(rt; !seated.has_job(&rt, rt.alloc(), 0, 0)?);
-    same(&rt, seated.settle_now(&rt, rt.alloc(), 0, 2)?, Reply::Had);
+    same(seated.settle_now(&rt, rt.alloc(), 0, 2)?, Reply::Had)?;
     same(
-        &rt,
         seated.settle_now(&rt, rt.alloc(), 0, 0)?,
         Reply::Refused(Reason::NotWaiting),
-    );
+    )?;
     let book = seated.gather(rt.alloc())?;
     assert!(rt; book.logs.len() == 1);
     let arrived = CallMark::Arrived {
@@ -49,13 +48,13 @@ fn peers_of(desk: &Desk, piece: u32) -> u32
 #[test]
 fn a_bitfield_is_entered_whole(rt: HostRuntime) -> Result<(), Fail> {
     let mut seated = Seated::open(&rt, rt.alloc(), 1)?;
-    same(&rt, seated.call(&rt, 0, Call::Join)?, Reply::Joined);
+    same(seated.call(&rt, 0, Call::Join)?, Reply::Joined)?;
     let told = Call::Bits(bits(rt.alloc(), 0x40)?);
-    same(&rt, seated.call(&rt, 0, told)?, Reply::Noted(true));
+    same(seated.call(&rt, 0, told)?, Reply::Noted(true))?;
     let book = seated.gather(rt.alloc())?;
-    same(&rt, peers_of(&book.desk, 0), 0);
-    same(&rt, peers_of(&book.desk, 1), 1);
-    same(&rt, peers_of(&book.desk, 2), 0);
+    same(peers_of(&book.desk, 0), 0)?;
+    same(peers_of(&book.desk, 1), 1)?;
+    same(peers_of(&book.desk, 2), 0)?;
     Ok(())
 }
 
@@ -71,10 +70,9 @@ fn refused_calls_are_marked(rt: HostRuntime) -> Result<(), Fail> {
     let stranger = (Call::Leave, Reply::Refused(Reason::NotJoined));
     seated.talk(&rt, 1, vec![in rt.alloc(); stranger, wrong_count, wanted]?)?;
     same(
-        &rt,
         seated.settle_now(&rt, rt.alloc(), 1, 9)?,
         Reply::Refused(Reason::NoSuchPiece),
-    );
+    )?;
     let log = [
         mark(0, CallMark::Leave, Reply::Refused(Reason::NotJoined)),
         mark(1, CallMark::Want, Reply::Refused(Reason::WrongCount)),
