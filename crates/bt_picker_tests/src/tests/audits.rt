@@ -2,7 +2,6 @@
 
 use super::examples::EXAMPLES;
 use super::steps::{Example, entries_of, entry_of, torrent_of};
-use bt_expect::same;
 use bt_picker::*;
 use std::alloc::Global;
 use std::process::Abort;
@@ -33,7 +32,7 @@ fn judge(rt: &impl Abort, alloc: Global, example: &Example) -> Result<(), Fail> 
         let mut entries = entries_of(alloc, pieces, example.lines, *before)?;
         entries.push(entry_of(alloc, pieces, line)?)?;
         let judged = audit(alloc, &torrent, example.workers, rules, &entries);
-        same(first_wrong(judged)?, Some(*before))?;
+        assert_eq!(rt; first_wrong(judged)?, Some(*before));
     }
     Ok(())
 }

@@ -1,7 +1,6 @@
 //! What a desk says and shows, call by call.
 use super::audits::first_wrong;
 use super::played::{Played, three_pieces};
-use bt_expect::same;
 use bt_picker::Reply::{Failed, Refused};
 use bt_picker::*;
 use std::alloc::Global;
@@ -55,11 +54,11 @@ fn a_verdict_of_replaced_bytes(rt: HostRuntime) -> Result<(), Fail> {
     played.play(&rt, alloc, wrong)?;
     let first = verdict(&rt, alloc, &played)?;
     let second = verdict(&rt, alloc, &played)?;
-    same(played.call(&rt, 0, Call::Settle(first))?, Failed)?;
+    assert_eq!(rt; played.call(&rt, 0, Call::Settle(first))?, Failed);
     assert!(rt; played.check(alloc, 0)?.is_none());
     played.play(&rt, alloc, "0 block 0 0 abc = completed")?;
     let reply = played.call(&rt, 0, Call::Settle(second))?;
-    same(reply, Refused(Reason::Stale))?;
+    assert_eq!(rt; reply, Refused(Reason::Stale));
     played.play(&rt, alloc, "check 0 0 = had")
 }
 
@@ -147,7 +146,7 @@ fn an_audit_of_no_call(rt: HostRuntime) -> Result<(), Fail> {
         reply: Reply::Joined,
     }];
     let judged = audit(rt.alloc(), &torrent, 1, Rules::usual(), &other);
-    same(first_wrong(judged)?, Some(0))?;
+    assert_eq!(rt; first_wrong(judged)?, Some(0));
     Ok(())
 }
 
@@ -175,6 +174,6 @@ fn an_audit_of_more_workers_than_a_desk_has(rt: HostRuntime) -> Result<(), Fail>
     let entries = all_show_a_piece(rt.alloc(), 1030)?;
     audit(rt.alloc(), &torrent, 1030, Rules::usual(), &entries)?;
     let judged = audit(rt.alloc(), &torrent, 1029, Rules::usual(), &entries);
-    same(first_wrong(judged)?, Some(2058))?;
+    assert_eq!(rt; first_wrong(judged)?, Some(2058));
     Ok(())
 }

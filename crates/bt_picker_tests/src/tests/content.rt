@@ -1,7 +1,6 @@
 //! Content that is written.
 
 use super::played::Played;
-use bt_expect::same;
 use bt_meta::{DeviceFault, Sink, ToWrite};
 use bt_picker::ContentFault;
 use std::alloc::{AllocError, Global};
@@ -84,7 +83,7 @@ fn pieces_in_order(rt: HostRuntime) -> Result<(), Fail> {
     let played = with_blocks(&rt, rt.alloc(), 3)?;
     let mut writer = ToWrite::new(Vec::with_capacity(rt.alloc(), 7)?);
     assert!(rt; played.write(&mut writer) == Ok(()));
-    same(writer.into_inner().as_slice(), b"abcabca".as_slice())?;
+    assert_eq!(rt; writer.into_inner().as_slice(), b"abcabca".as_slice());
     Ok(())
 }
 
@@ -93,7 +92,7 @@ fn a_write_of_four_bytes_and_no_more(rt: HostRuntime) -> Result<(), Fail> {
     let played = with_blocks(&rt, rt.alloc(), 3)?;
     let mut writer = Little::new(rt.alloc(), 100, 4, Full::Fails)?;
     assert!(rt; played.write(&mut writer) == Err(ContentFault::WriteFault));
-    same(writer.kept.as_slice(), b"abca".as_slice())?;
+    assert_eq!(rt; writer.kept.as_slice(), b"abca".as_slice());
     Ok(())
 }
 
@@ -104,12 +103,12 @@ fn byte_by_byte_until_it_fails(rt: HostRuntime) -> Result<(), Fail> {
         for full in [Full::Fails, Full::TakesNone] {
             let mut writer = Little::new(rt.alloc(), 1, room, full)?;
             assert!(rt; played.write(&mut writer) == Err(ContentFault::WriteFault));
-            same(writer.kept.as_slice(), &b"abcabca"[..room])?;
+            assert_eq!(rt; writer.kept.as_slice(), &b"abcabca"[..room]);
         }
     }
     let mut writer = Little::new(rt.alloc(), 1, 7, Full::Fails)?;
     assert!(rt; played.write(&mut writer) == Ok(()));
-    same(writer.kept.as_slice(), b"abcabca".as_slice())?;
+    assert_eq!(rt; writer.kept.as_slice(), b"abcabca".as_slice());
     Ok(())
 }
 
@@ -119,8 +118,8 @@ fn nothing_where_a_piece_is_missing(rt: HostRuntime) -> Result<(), Fail> {
     let mut writer = Little::new(rt.alloc(), 100, 100, Full::Fails)?;
     assert!(rt; played.write(&mut writer) == Err(ContentFault::Incomplete));
     assert!(rt; writer.kept.is_empty() && !writer.failed);
-    same(ContentFault::Incomplete as u8, 1)?;
-    same(ContentFault::WriteFault as u8, 2)?;
+    assert_eq!(rt; ContentFault::Incomplete as u8, 1);
+    assert_eq!(rt; ContentFault::WriteFault as u8, 2);
     Ok(())
 }
 
@@ -130,7 +129,7 @@ fn one_piece_once_it_is_had(rt: HostRuntime) -> Result<(), Fail> {
     let mut writer = ToWrite::new(Vec::with_capacity(rt.alloc(), 3)?);
     assert!(rt; played.write_piece(&rt, &mut writer, 2) == Err(ContentFault::Incomplete));
     assert!(rt; played.write_piece(&rt, &mut writer, 1) == Ok(()));
-    same(writer.into_inner().as_slice(), b"abc".as_slice())?;
-    same(played.made_of(), (4, 5, 3))?;
+    assert_eq!(rt; writer.into_inner().as_slice(), b"abc".as_slice());
+    assert_eq!(rt; played.made_of(), (4, 5, 3));
     Ok(())
 }

@@ -6,7 +6,6 @@ ghost use Rattle.bt_meta.specs.Layout.{piece_count};
 
 use super::shown::{count, pieces, yes_or_no};
 use super::steps::{entry_of, number, reply_of, torrent_of};
-use bt_expect::{same, same_for};
 use bt_meta::{Sink, Torrent};
 use bt_picker::*;
 use std::alloc::{AllocError, Global};
@@ -87,7 +86,7 @@ impl Played {
                 self.enter(rt, worker, again.call)?
             }
         };
-        same_for(said, reply, line)?;
+        assert_eq!(rt; said, reply, "{line}");
         Ok(())
     }
 
@@ -104,16 +103,16 @@ impl Played {
             "check" => {
                 let worker = number(words.next())?;
                 let piece = number(words.next())?;
-                same_for(
+                assert_eq!(rt;
                     self.settle(rt, alloc, worker, piece)?,
                     reply_of(wanted)?,
-                    asked,
-                )?;
+                    "{asked}"
+                );
             }
             "finish" => self.finish(rt, alloc, number(words.next())?)?,
             question => {
                 let answer = self.answer(rt, alloc, question, &mut words)?;
-                same_for(answer.as_str(), wanted, asked)?;
+                assert_eq!(rt; answer.as_str(), wanted, "{asked}");
             }
         }
         Ok(())
@@ -155,7 +154,7 @@ impl Played {
         let before = self.entries();
         let said = self.desk.call(worker, call);
         let added = if said.is_ok() { 1 } else { 0 };
-        assert!(rt; self.entries().saturating_sub(before) == added);
+        assert_eq!(rt; self.entries().saturating_sub(before), added);
         said
     }
 
@@ -228,7 +227,7 @@ impl Played {
     fn group(&self, rt: &impl Abort, alloc: Global, shown_by: u32) -> Result<String, Fail> {
         let group = self.unbegun(rt, shown_by);
         let flags = [group.contains(&0), group.contains(&1), group.contains(&2)];
-        same(group.len(), count(flags))?;
+        assert_eq!(rt; group.len(), count(flags));
         pieces(alloc, flags)
     }
 

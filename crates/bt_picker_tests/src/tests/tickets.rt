@@ -2,7 +2,6 @@
 ghost use Rattle.std.specs.Prelude.{◌≡◌};
 
 use bt_check::{Ticket, TicketPass, Tickets};
-use bt_expect::same;
 use std::alloc::Global;
 use std::process::Abort;
 use std::sync::Wait;
@@ -20,14 +19,14 @@ const HELD: u32 = 16;
 #[test]
 fn tickets_come_in_order(rt: HostRuntime) -> Result<(), Fail> {
     let (tickets, mut passes) = Tickets::open(rt.alloc(), 2)?;
-    same(passes.len(), 2)?;
+    assert_eq!(rt; passes.len(), 2);
     let mut second = passes.remove(1);
     let mut first = passes.remove(0);
     for ticket in [Ticket::Piece(5), Ticket::Piece(7), Ticket::Stop] {
-        same(tickets.put(&rt, &mut first, ticket), Ok(()))?;
+        assert_eq!(rt; tickets.put(&rt, &mut first, ticket), Ok(()));
     }
     for ticket in [Ticket::Piece(5), Ticket::Piece(7), Ticket::Stop] {
-        same(tickets.take(&rt, &mut second), Some(ticket))?;
+        assert_eq!(rt; tickets.take(&rt, &mut second), Some(ticket));
     }
     Ok(())
 }
@@ -72,7 +71,7 @@ fn takes_many<R: Wait>(rt: &R, tickets: &Tickets, mut pass: TicketPass, count: &
 
 fn in_two_threads<R: Threads + Wait + Abort + Sync>(rt: &R, alloc: Global) -> Result<(), Fail> {
     let (tickets, mut passes) = Tickets::open(alloc, 2)?;
-    same(passes.len(), 2)?;
+    assert_eq!(rt; passes.len(), 2);
     let second = passes.remove(1);
     let first = passes.remove(0);
     let count = AtomicU32::new(0);
