@@ -1,8 +1,13 @@
--- No part is deeper than the whole.
-use Rattle.std.proofs.Common.{◌≡◌, ℕ, zero, suc, ◌≤◌, ◌<◌, List, [], ◌∷◌, length, get_or, arith, ap, Vec}
+-- How deep a tree may be, and that no part of it is deeper than the whole.
+use Rattle.std.proofs.Common.{◌≡◌, ℕ, zero, suc, ◌≤◌, ◌<◌, List, [], ◌∷◌, length, get_or, arith, ap, refl, Vec}
 use Rattle.std.specs.Global.{Global}
+use Rattle.bt_bencode.specs.declared.tree.TheConstants.{MAX_DEPTH}
 use Rattle.bt_bencode.specs.Term.{Term, depth, depth_of_terms, depth_of_entries}
 use Rattle.bt_bencode.specs.View.{terms_from, entries_from}
+
+-- a tree has 64 levels at most
+pub deepest : MAX_DEPTH ≡ 64
+deepest = refl
 
 at_item : (ts : List Term) (i : ℕ) (d : Term) → i < length ts → depth (get_or ts i d) ≤ depth_of_terms (terms_from ts)
 at_item [] i d h = absurd (omega arith)

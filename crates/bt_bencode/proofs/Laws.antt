@@ -10,6 +10,7 @@ use Rattle.std.proofs.lemmas.Fmt.{digits_decimal, decimal_nonempty}
 use Rattle.std.specs.Char.{is_ascii_digit}
 use Rattle.bt_bencode.specs.declared.fault.BenFault.{BenFault}
 use Rattle.bt_bencode.specs.declared.fault.BenFault.TheVariants.{KeyOrder}
+use Rattle.bt_bencode.specs.declared.tree.TheConstants.{MAX_DEPTH}
 use Rattle.bt_bencode.specs.Term.{Term, Terms, Entries, int, text, list, dict, no_terms, more_terms, no_entries, more_entries, depth}
 use Rattle.bt_bencode.specs.Term.{depth_of_terms, depth_of_entries}
 use Rattle.bt_bencode.specs.Grammar.{IsSound, AreSound, EntriesAreSound, IsTree, spelling, spelling_of_terms, spelling_of_entries, string}
@@ -163,6 +164,6 @@ mutual
 pub tree_again : (t : Term) → IsTree t → tree_of (spelling t) ≡ Ok (placed 0 t)
 unfolding tree_of
 tree_again t sound =
-    let read = value_again t 64 (spelling t) 0 [] (sym (append-nil (spelling t))) sound.0 sound.1 in
+    let read = value_again t MAX_DEPTH (spelling t) 0 [] (sym (append-nil (spelling t))) sound.0 sound.1 in
     let whole : ltb (0 + length (spelling t)) (length (spelling t)) ≡ false = le-ltb _ _ (omega arith) in
     rw (read, whole) refl

@@ -9,7 +9,7 @@ use Rattle.bt_bencode.specs.declared.fault.BenFault.TheVariants.{Truncated}
 use Rattle.bt_bencode.specs.Term.{Term, Terms, Entries, no_terms, more_terms, no_entries, more_entries, list_of_terms, entry_at}
 use Rattle.bt_bencode.specs.Grammar.{spelling, spelling_of_terms}
 use Rattle.bt_bencode.specs.Reading.{◌>>=◌, value_at, items_at, items_behind, entries_at, string_at, key_at, end_of}
-use Rattle.bt_bencode.specs.Standing.{term_at, terms_read, terms_from, entries_read, entries_from, AreItems, AreEntries}
+use Rattle.bt_bencode.specs.Standing.{term_at, terms_read, terms_standing, entries_read, entries_standing, AreItems, AreEntries}
 use Rattle.bt_bencode.proofs.Results.{bind_ok, chosen, done, ok_is, never}
 use Rattle.bt_bencode.proofs.Loops.{entry_turn, key_is}
 use Rattle.bt_bencode.proofs.Skips.{item_turn}
@@ -126,7 +126,7 @@ left_inside room source place a =
     items_inside (value_at room source) source (length source) place _ a.end (left_items room source place a)
 
 pub none_left : (room : ℕ) (source : List ℕ) (place : ℕ) → AreItems room source place → get_or source place 0 ≡ 101 →
-    terms_from room source place ≡ []
+    terms_standing room source place ≡ []
 none_left room source place a c =
     ap list_of_terms (no_item (value_at room source) source (length source) place _ a.end (left_items room source place a) c)
 
@@ -135,7 +135,7 @@ pub record FirstLeft (room : ℕ) (source : List ℕ) (place : ℕ) : Type 0 whe
   pub behind : ℕ
   pub first : end_of (value_at room source place) ≡ Ok behind
   pub others : AreItems room source behind
-  pub are : terms_from room source place ≡ term_at room source place ∷ terms_from room source behind
+  pub are : terms_standing room source place ≡ term_at room source place ∷ terms_standing room source behind
 
 pub first_left : (room : ℕ) (source : List ℕ) (place : ℕ) → AreItems room source place → get_or source place 0 ≢ 101 →
     FirstLeft room source place
@@ -222,11 +222,11 @@ one_entry value source (suc n) last place es end is c =
     }
 
 pub search_begins : (room : ℕ) (source : List ℕ) (at : ℕ) (key : List ℕ) → AreEntries room source at →
-    EntriesLeft room source at key (entry_at key (entries_from room source at))
+    EntriesLeft room source at key (entry_at key (entries_standing room source at))
 search_begins room source at key are = record {
   turns = length source;
   last = None;
-  entries = entries_from room source at;
+  entries = entries_standing room source at;
   end = are.end;
   entries_are = entries_are (entries_at (value_at room source) source (length source) None at) are.end are.read;
   found_is = refl;

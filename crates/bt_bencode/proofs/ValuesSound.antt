@@ -11,6 +11,7 @@ use Rattle.std.proofs.lemmas.Bool.{ltb-true}
 use Rattle.std.proofs.lemmas.List.{length-append, length-drop}
 use Rattle.bt_bencode.specs.declared.fault.BenFault.{BenFault}
 use Rattle.bt_bencode.specs.declared.fault.BenFault.TheVariants.{Trailing, Truncated, KeyOrder, BadByte, TooDeep, BadInteger, IntegerRange}
+use Rattle.bt_bencode.specs.declared.tree.TheConstants.{MAX_DEPTH}
 use Rattle.bt_bencode.specs.Term.{Term, Terms, Entries, int, text, list, dict, no_terms, more_terms, no_entries, more_entries, depth}
 use Rattle.bt_bencode.specs.Term.{depth_of_terms, depth_of_entries}
 use Rattle.bt_bencode.specs.Grammar.{IsSound, AreSound, EntriesAreSound, IsTree, keys_rise, string}
@@ -218,8 +219,8 @@ value_sound (suc room) source small at t end is =
 pub tree_sound : (source : List ℕ) (t : Term) → length source < 2 ^ 64 → tree_of source ≡ Ok t → IsTree t
 unfolding tree_of
 tree_sound source t small is =
-    let a = bind_ok (value_at 64 source 0) (λ x. cond (ltb x.1 (length source)) (Err Trailing) (Ok x.0)) t is in
+    let a = bind_ok (value_at MAX_DEPTH source 0) (λ x. cond (ltb x.1 (length source)) (Err Trailing) (Ok x.0)) t is in
     elim (chosen (ltb a.0.1 (length source)) _ _ _ a.2) [
       | inl more ↦ absurd (never Trailing _ more.1)
-      | inr all ↦ subst IsTree (ok_is a.0.0 t all.1) (value_sound 64 source small 0 a.0.0 a.0.1 a.1)
+      | inr all ↦ subst IsTree (ok_is a.0.0 t all.1) (value_sound MAX_DEPTH source small 0 a.0.0 a.0.1 a.1)
     ]

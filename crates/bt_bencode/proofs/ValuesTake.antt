@@ -9,8 +9,8 @@ use Rattle.std.proofs.lemmas.List.{append-nil, drop_all}
 use Rattle.std.proofs.lemmas.List.Sums.{take_while-cons}
 use Rattle.std.specs.Char.{is_ascii_digit}
 use Rattle.bt_bencode.specs.declared.fault.BenFault.{BenFault}
-use Rattle.bt_bencode.specs.declared.fault.BenFault.TheVariants.{Trailing, Truncated, KeyOrder, BadByte}
-use Rattle.bt_bencode.specs.declared.fault.BenFault.TheVariants.{TooDeep}
+use Rattle.bt_bencode.specs.declared.fault.BenFault.TheVariants.{Trailing, Truncated, KeyOrder, BadByte, TooDeep}
+use Rattle.bt_bencode.specs.declared.tree.TheConstants.{MAX_DEPTH}
 use Rattle.bt_bencode.specs.Term.{Term, Terms, Entries, int, text, list, dict, no_terms, more_terms, no_entries, more_entries}
 use Rattle.bt_bencode.specs.Grammar.{spelling, spelling_of_terms, spelling_of_entries, string}
 use Rattle.bt_bencode.specs.Placed.{placed, terms_placed, entries_placed, span}
@@ -176,11 +176,11 @@ value_takes (suc room) source small at t end is =
 pub tree_takes : (source : List ℕ) (t : Term) → length source < 2 ^ 64 → tree_of source ≡ Ok t → (spelling t ≡ source) × (placed 0 t ≡ t)
 unfolding tree_of
 tree_takes source t small is =
-    let a = bind_ok (value_at 64 source 0) (λ x. cond (ltb x.1 (length source)) (Err Trailing) (Ok x.0)) t is in
+    let a = bind_ok (value_at MAX_DEPTH source 0) (λ x. cond (ltb x.1 (length source)) (Err Trailing) (Ok x.0)) t is in
     elim (chosen (ltb a.0.1 (length source)) _ _ _ a.2) [
       | inl more ↦ absurd (never Trailing _ more.1)
       | inr all ↦
-          let x = value_takes 64 source small 0 a.0.0 a.0.1 a.1 in
+          let x = value_takes MAX_DEPTH source small 0 a.0.0 a.0.1 a.1 in
           let nothing : drop a.0.1 source ≡ [] = drop_all a.0.1 source (ltb-false _ _ all.0) in
           let whole : source ≡ spelling a.0.0 = x.0.parts ∙ ap (λ (r : List ℕ). spelling a.0.0 ++ r) nothing
           ∙ append-nil (spelling a.0.0) in

@@ -26,12 +26,12 @@ abbrev pub term_at : ℕ → List ℕ → ℕ → Term
 term_at room source at = term_read (value_at room source at)
 
 -- the items of a list from a place on, each with room for this many levels
-abbrev pub terms_from : ℕ → List ℕ → ℕ → List Term
-terms_from room source at = list_of_terms (terms_read (items_at (value_at room source) source (length source) at))
+abbrev pub terms_standing : ℕ → List ℕ → ℕ → List Term
+terms_standing room source at = list_of_terms (terms_read (items_at (value_at room source) source (length source) at))
 
 -- the entries of a dictionary from its first on, each value with room for this many levels
-abbrev pub entries_from : ℕ → List ℕ → ℕ → Entries
-entries_from room source at = entries_read (entries_at (value_at room source) source (length source) None at)
+abbrev pub entries_standing : ℕ → List ℕ → ℕ → Entries
+entries_standing room source at = entries_read (entries_at (value_at room source) source (length source) None at)
 
 -- a value with room for so many levels stands in the source, from `start` up to `end`
 pub record IsValue (room : ℕ) (source : List ℕ) (start : ℕ) (end : ℕ) : Type 0 where

@@ -5,7 +5,7 @@ ghost use Rattle.bt_bencode.specs.Term.{Term, int_of, text_of, items_of, entries
 ghost use Rattle.bt_bencode.specs.Grammar.{Spells, spelling};
 ghost use Rattle.bt_bencode.specs.Placed.{placed, StandsAt};
 ghost use Rattle.bt_bencode.specs.Reading.{tree_of};
-ghost use Rattle.bt_bencode.specs.Standing.{AreEntries, entries_from};
+ghost use Rattle.bt_bencode.specs.Standing.{AreEntries, entries_standing};
 
 mod skipping;
 
@@ -152,7 +152,7 @@ fn whole<'a>(source: &'a [u8]) -> Result<Value<'a>, BenFault>
 /// The value at a key, among the entries from a place on, each value with room for this many levels.
 fn find<'a>(source: &'a [u8], at: usize, room: u8, key: &[u8]) -> Option<Value<'a>>
     requires { AreEntries room source.now at }
-    ensures { result ≡ entry_at key.now (entries_from room source.now at) }
+    ensures { result ≡ entry_at key.now (entries_standing room source.now at) }
 {
     let mut place = at;
     while source[place] != b'e' {
@@ -196,9 +196,9 @@ impl<'a> Model for Items<'a> {
 
     ghost coded = { coded_list coded_term };
 
-    ghost use Rattle.bt_bencode.specs.Standing.{terms_from, AreItems};
+    ghost use Rattle.bt_bencode.specs.Standing.{terms_standing, AreItems};
 
-    ghost view = { λ a. terms_from a.room a.source.now a.place };
+    ghost view = { λ a. terms_standing a.room a.source.now a.place };
 
     ghost invariant = { λ a. AreItems a.room a.source.now a.place };
 }

@@ -105,7 +105,7 @@ pub fn run_threads<
     }
 }
 
-/// The exit status of a run. What it can't be vouched for is told on `err`.
+/// The exit status of a run that ended so. Where it ended by a fault, the fault's line is written to `err`; a run without one leaves `err` as it was.
 fn conclude_run<E: Write>(ended: Result<bool, Fault>, err: &mut E) -> u8
     ensures status { result ≡ run_status ended }
     ensures quiet { OnOk ended (err.new ≡ err.old) }

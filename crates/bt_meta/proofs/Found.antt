@@ -120,7 +120,7 @@ several_lengths None wrong = refl
 several_lengths (Some items) wrong = file_lengths_found items
 
 lengths_by_found : (info : Term) (one several : Option Term) →
-    result_ok (reading.lengths_by info one several) ≡ says.lengths_by info one several
+    result_ok (reading.lengths_in_by info one several) ≡ says.lengths_by info one several
 lengths_by_found info None None = refl
 lengths_by_found info (Some one) (Some files) = refl
 lengths_by_found info (Some one) None = one_length (length_in info) ∙ rw (length_found info) refl

@@ -36,8 +36,8 @@ none_counted : (rest : Result (List ℕ) MetaFault) →
 none_counted (Ok lengths) = ap (λ (c : Content). counts c) (none_with lengths)
 none_counted (Err fault) = refl
 
-pub counted_none : (files : List Term) → counted 0 0 files ≡ content_of_files files
-counted_none files = none_counted (file_lengths_in files)
+pub counted_from_zero : (files : List Term) → counted 0 0 files ≡ content_of_files files
+counted_from_zero files = none_counted (file_lengths_in files)
 
 -- one file more
 add_one : (total files n : ℕ) (lengths : List ℕ) →

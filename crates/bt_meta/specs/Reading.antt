@@ -85,15 +85,15 @@ file_lengths_in [] = Ok []
 file_lengths_in (file ∷ files) = file_length_in file >>= λ n. file_lengths_in files >>= λ ns. Ok (n ∷ ns)
 
 -- the lengths of the files, by what stands at `length` and at `files`
-abbrev pub lengths_by : Term → Option Term → Option Term → Result (List ℕ) MetaFault
-lengths_by info None None = Err NoContent
-lengths_by info (Some one) (Some files) = Err BothLengthAndFiles
-lengths_by info (Some one) None = length_in info >>= λ n. Ok (n ∷ [])
-lengths_by info None (Some files) = ok_or (items_of files) (WrongKind key.Files) >>= λ items. file_lengths_in items
+abbrev pub lengths_in_by : Term → Option Term → Option Term → Result (List ℕ) MetaFault
+lengths_in_by info None None = Err NoContent
+lengths_in_by info (Some one) (Some files) = Err BothLengthAndFiles
+lengths_in_by info (Some one) None = length_in info >>= λ n. Ok (n ∷ [])
+lengths_in_by info None (Some files) = ok_or (items_of files) (WrongKind key.Files) >>= λ items. file_lengths_in items
 
 -- the lengths of the files that an info dictionary tells, or the fault
 unfoldable pub lengths_in : Term → Result (List ℕ) MetaFault
-lengths_in info = lengths_by info (get info (key_name key.Length)) (get info (key_name key.Files))
+lengths_in info = lengths_in_by info (get info (key_name key.Length)) (get info (key_name key.Files))
 
 -- the torrent of these parts
 abbrev pub assembled : List ℕ → ℕ → List ℕ → ℕ → ℕ → List ℕ → Metainfo

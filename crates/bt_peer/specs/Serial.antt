@@ -107,7 +107,7 @@ pub record Ended (outcome : Result End SessionFault) (terms : TermsState) (seed 
     (old : StreamRecord) (desk : DeskState) (new : StreamRecord) : Type 0 where
   -- the pieces that were told to the peer
   pub told : List Bool
-  -- a call found no memory
+  -- whether a call found no memory; only `ends` needs it, where the session was cut short
   pub short : Bool
   -- the reads that the session counted
   pub reads : ℕ

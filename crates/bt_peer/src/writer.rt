@@ -58,7 +58,7 @@ impl<'a, W: Sink> Said<'a, W> {
         if let Some(message) = answer_to(self.interested, reply) {
             self.send(alloc, &message)?;
         }
-        self.interested = interest_after(self.interested, reply);
+        self.interested = is_interested(self.interested, reply);
         Ok(())
     }
 }
@@ -77,7 +77,7 @@ fn answer_to(interested: bool, reply: &Reply) -> Option<Message>
 }
 
 /// Whether the session is interested after a reply.
-fn interest_after(interested: bool, reply: &Reply) -> bool
+fn is_interested(interested: bool, reply: &Reply) -> bool
     ensures { result ≡ interest_by interested reply.now }
 {
     match reply {

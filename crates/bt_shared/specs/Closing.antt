@@ -48,6 +48,7 @@ EachOwn passes = Each (λ (p : PassState). Agrees p.seen p.worker p.log) passes
 abbrev pub IsEntered : DeskState → List PassState → Type 0
 IsEntered d passes = sum_by (λ (p : PassState). length p.log) passes ≡ length d.history
 
--- each pass's worker has no entries in the history but those that the pass has seen, in its beginning
+-- each pass's worker has no entries in the history but those that the pass has seen, in its beginning: what is said of the passes to whom
+-- gathers them
 abbrev pub EachKnows : History → List PassState → Type 0
 EachKnows h passes = Each (λ (p : PassState). Knows h (p.worker ∷ []) p.seen) passes

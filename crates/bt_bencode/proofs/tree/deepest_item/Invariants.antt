@@ -1,4 +1,5 @@
 use Rattle.std.proofs.Common.{◌≡◌, ◌≤◌, max, drop}
+use Rattle.bt_bencode.specs.declared.tree.TheConstants.{MAX_DEPTH}
 use Rattle.bt_bencode.specs.Term.{depth_of_terms}
 use Rattle.bt_bencode.specs.Grammar.{AreSound}
 use Rattle.bt_bencode.specs.View.{terms_from}
@@ -10,6 +11,6 @@ invariant-loop-item l =
     let rest = terms_from (drop l.item-index l.items) in
     record {
       levels : max l.levels (depth_of_terms rest) ≡ depth_of_terms (terms_from l.items);
-      bound : l.levels ≤ 64;
+      bound : l.levels ≤ MAX_DEPTH;
       sound : AreSound rest → AreSound (terms_from l.items);
     }

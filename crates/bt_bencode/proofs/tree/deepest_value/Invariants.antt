@@ -1,4 +1,5 @@
 use Rattle.std.proofs.Common.{◌≡◌, ◌≤◌, max, drop}
+use Rattle.bt_bencode.specs.declared.tree.TheConstants.{MAX_DEPTH}
 use Rattle.bt_bencode.specs.Term.{depth_of_entries}
 use Rattle.bt_bencode.specs.Grammar.{EntriesAreSound}
 use Rattle.bt_bencode.specs.View.{entries_from}
@@ -10,6 +11,6 @@ invariant-loop-value l =
     let rest = entries_from (drop l.value-index l.entries) in
     record {
       levels : max l.levels (depth_of_entries rest) ≡ depth_of_entries (entries_from l.entries);
-      bound : l.levels ≤ 64;
+      bound : l.levels ≤ MAX_DEPTH;
       sound : EntriesAreSound rest → EntriesAreSound (entries_from l.entries);
     }
