@@ -325,7 +325,7 @@ def plain_line(line):
 
 def audits():
     text = open("tools/audits_head.rt.txt").read()
-    text += f"\npub const EXAMPLES: [Example; {len(EXAMPLES)}] = [\n"
+    text += "\npub const EXAMPLES: &[Example] = &[\n"
     for name, (torrent, workers, lines) in EXAMPLES.items():
         piece_length, total, hashes = TORRENTS[torrent]
         wrongs = [(before, line) for example, before, line in WRONG.values() if example == name]

@@ -9,7 +9,7 @@ use Rattle.bt_bencode.specs.declared.fault.BenFault.TheVariants.{Truncated}
 use Rattle.bt_bencode.specs.Term.{Term, Terms, Entries, no_terms, more_terms, no_entries, more_entries, list_of_terms, entry_at}
 use Rattle.bt_bencode.specs.Grammar.{spelling, spelling_of_terms}
 use Rattle.bt_bencode.specs.Reading.{◌>>=◌, value_at, items_at, items_behind, entries_at, string_at, key_at, end_of}
-use Rattle.bt_bencode.specs.Standing.{term_at, terms_read, terms_standing, entries_read, entries_standing, AreItems, AreEntries}
+use Rattle.bt_bencode.specs.Standing.{term_at, terms_read, terms_standing, entries_read, AreItems}
 use Rattle.bt_bencode.proofs.Results.{bind_ok, chosen, done, ok_is, never}
 use Rattle.bt_bencode.proofs.Loops.{entry_turn, key_is}
 use Rattle.bt_bencode.proofs.Skips.{item_turn}
@@ -220,17 +220,6 @@ one_entry value source (suc n) last place es end is c =
       others_are = b.1 ∙ ap (λ (m : ℕ). done (b.0.0, m)) (ap (λ (x : Entries × ℕ). x.1) p);
       are = sym (ap (λ (x : Entries × ℕ). x.0) p);
     }
-
-pub search_begins : (room : ℕ) (source : List ℕ) (at : ℕ) (key : List ℕ) → AreEntries room source at →
-    EntriesLeft room source at key (entry_at key (entries_standing room source at))
-search_begins room source at key are = record {
-  turns = length source;
-  last = None;
-  entries = entries_standing room source at;
-  end = are.end;
-  entries_are = entries_are (entries_at (value_at room source) source (length source) None at) are.end are.read;
-  found_is = refl;
-}
 
 pub search_inside : (room : ℕ) (source : List ℕ) (place : ℕ) (key : List ℕ) (found : Option Term) →
     EntriesLeft room source place key found → place < length source

@@ -9,7 +9,7 @@ use Rattle.std.proofs.lemmas.Bool.Decides.{Decides-or, Decides-and, Decides-at, 
 use Rattle.bt_board.specs.declared.view.Mark.{Mark}
 use Rattle.bt_board.specs.declared.view.Load.{Load}
 use Rattle.bt_board.specs.declared.view.View.{View}
-use Rattle.bt_board.specs.Story.{Has, IsSet, Marked, Loaded, Seen, loads_from, with_loads, with_mark}
+use Rattle.bt_board.specs.Story.{Has, IsSet, Marked, Loaded, Seen, loads_from, with_loads}
 use Rattle.bt_board.specs.Knowing.{marks_have, found_by, loads_have, has_seen, has_given}
 use Rattle.bt_board.proofs.Lists.{has_front, has_back}
 
@@ -56,9 +56,6 @@ pub seen_found : (v : View) (found : List ℕ) (p : ℕ) → p / 64 < length fou
 seen_found v found p lt is =
     inr (has_back (λ (x : Load). (x.word ≡ p / 64) × (bit_at x.found (p % 64) ≡ 1)) v.loads (loads_from 0 found)
     (found_in 0 found p (p / 64) lt (omega arith) is))
-
-pub seen_with_mark : (v : View) (m : Mark) (p : ℕ) → Seen v p → Seen (with_mark v m) p
-seen_with_mark v m p seen = ⊎_elim (λ x. inl (has_front (λ (x : Mark). x.piece ≡ p) v.marks (m ∷ []) x)) (λ l. inr l) seen
 
 same_test : (x y : Bool) → (x ≡ true → y ≡ true) → (y ≡ true → x ≡ true) → x ≡ y
 same_test true y f g = sym (f refl)

@@ -3,7 +3,7 @@ use Rattle.std.proofs.Common.{◌≡◌, ◌⊎◌, ◌↔◌, ℕ, zero, suc, �
 use Rattle.std.proofs.Common.{◌∙◌, inl, inr, ⊎_elim, bit_or, append_assoc, length-append, arith, div-add-mod', lt_of_not-le}
 use Rattle.std.specs.Prelude.{slice_index}
 use Rattle.std.specs.Int.{bit_at}
-use Rattle.std.proofs.lemmas.List.{append-nil, get_or_append_left, get_or_past}
+use Rattle.std.proofs.lemmas.List.{get_or_append_left, get_or_past}
 use Rattle.std.proofs.lemmas.Nat.{div-mul-add, mod-mul-add}
 use Rattle.std.proofs.lemmas.Nat.Bits.{bit_at-zero}
 use mathlib.Core.Logic.{dite}
@@ -34,15 +34,6 @@ pub record Next (v : View) (given : List ℕ) (n : ℕ) (w : View) (value : ℕ)
 
 no_bit : (q : ℕ) → ¬ (bit_at 0 (q % 64) ≡ 1)
 no_bit q h = let none_there = bit_at-zero (q % 64) in omega arith
-
-pub looked_none : (v : View) (given : List ℕ) → Looked v given 0 v
-looked_none v given = record {
-  found = [];
-  count = refl;
-  now = ap (λ (l : List Load). view v.marks l v.seats) (sym (append-nil v.loads));
-  old = λ q h. absurd (no_bit q h);
-  known = λ q lt. absurd (omega arith);
-}
 
 loads_more : (a : ℕ) (xs : List ℕ) (y n : ℕ) → a + length xs ≡ n → loads_from a (xs ++ y ∷ []) ≡ loads_from a xs ++ load n y ∷ []
 loads_more a [] y n e = let here : a ≡ n = omega arith in ap (λ (k : ℕ). load k y ∷ []) here

@@ -309,18 +309,6 @@ closes t n words views id v bits h at all copied =
       (λ p seen. shown p (h.seen id v at p seen)),
     )
 
-no_bit : (n p : ℕ) → get_or (replicate n false) p false ≡ false
-no_bit zero p = refl
-no_bit (suc n) zero = refl
-no_bit (suc n) (suc p) = no_bit n p
-
-pub copied_none : (words : List ℕ) (pieces : ℕ) → Copied words pieces 0 (replicate pieces false)
-copied_none words pieces = record {
-  long = length-replicate pieces false;
-  done = λ p lt. absurd (omega arith);
-  rest = λ p _. no_bit pieces p;
-}
-
 pub copied_set : (words : List ℕ) (pieces n : ℕ) (bits : List Bool) → Copied words pieces n bits → n < pieces → IsSet words n →
     Copied words pieces (n + 1) (set bits n true)
 copied_set words pieces n bits so_far lt is = record {

@@ -32,10 +32,6 @@ put_weight weight a = sum_by weight a.put
 abbrev taken_weight : (Ticket → ℕ) → Account → ℕ
 taken_weight weight a = sum_by weight a.taken
 
--- a queue that is new
-pub balanced_first : Balanced [] (blank ∷ [])
-balanced_first weight = refl
-
 -- a pass is made beside another
 pub balanced_cut : (pass : ℕ) (old : Account) → Forks Balanced pass old old blank
 balanced_cut pass old left accounts balanced at weight =

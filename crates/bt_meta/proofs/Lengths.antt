@@ -25,20 +25,6 @@ content_with total files lengths = record { total = min (total + sum lengths) (2
 abbrev pub counted : ℕ → ℕ → List Term → Result Content MetaFault
 counted total files rest = file_lengths_in rest >>= λ lengths. Ok (content_with total files lengths)
 
-none_with : (lengths : List ℕ) → content_with 0 0 lengths ≡ content_of lengths
-none_with lengths =
-    let t : 0 + sum lengths ≡ sum lengths = omega arith in
-    let f : 0 + length lengths ≡ length lengths = omega arith in
-    rw (t, f) refl
-
-none_counted : (rest : Result (List ℕ) MetaFault) →
-    (rest >>= λ lengths. Ok (content_with 0 0 lengths)) ≡ (rest >>= λ lengths. Ok (content_of lengths))
-none_counted (Ok lengths) = ap (λ (c : Content). counts c) (none_with lengths)
-none_counted (Err fault) = refl
-
-pub counted_from_zero : (files : List Term) → counted 0 0 files ≡ content_of_files files
-counted_from_zero files = none_counted (file_lengths_in files)
-
 -- one file more
 add_one : (total files n : ℕ) (lengths : List ℕ) →
     content_with total files (n ∷ lengths) ≡ content_with (min (total + n) (2 ^ 64 - 1)) (files + 1) lengths

@@ -1,11 +1,11 @@
 -- Writing piece by piece.
-use Rattle.std.proofs.Common.{◌≡◌, ℕ, ◌<◌, List, [], ◌∷◌, ◌++◌, length, take, drop, Bool, true, false, Option, refl, sym, ap, ◌∙◌}
-use Rattle.std.proofs.Common.{append_assoc, arith, subst, zero, suc, Ok}
+use Rattle.std.proofs.Common.{◌≡◌, ℕ, ◌<◌, List, ◌∷◌, ◌++◌, take, drop, Bool, true, false, Option, refl, sym, ap, ◌∙◌}
+use Rattle.std.proofs.Common.{append_assoc, arith, zero, suc, Ok}
 use Rattle.std.specs.Prelude.{◌||◌}
-use Rattle.std.proofs.lemmas.List.{append-nil, take-append-drop}
-use Rattle.std.proofs.KnownBytes.{Appends-nil, Appends-trans}
+use Rattle.std.proofs.lemmas.List.{take-append-drop}
+use Rattle.std.proofs.KnownBytes.{Appends-trans}
 use Rattle.std.specs.Io.KnownBytes.{Appends}
-use Rattle.bt_meta.specs.Devices.{is_refused, WroteFront}
+use Rattle.bt_meta.specs.Devices.{is_refused}
 use Rattle.bt_meta.specs.declared.devices.DeviceFault.{DeviceFault}
 
 -- a part of the bytes is written, and the rest is left
@@ -14,9 +14,6 @@ pub record Partly (old new : Option (List ℕ)) (bytes rest : List ℕ) : Type 0
   pub parts : bytes ≡ done ++ rest
   pub wrote : Appends old new done
 
-pub partly_start : (a : Option (List ℕ)) (bytes : List ℕ) → Partly a a bytes bytes
-partly_start a bytes = record { done = []; parts = refl; wrote = Appends-nil a }
-
 pub partly_more : (a b c : Option (List ℕ)) (bytes rest : List ℕ) (n : ℕ) → Partly a b bytes rest → Appends b c (take n rest) →
     Partly a c bytes (drop n rest)
 partly_more a b c bytes rest n p more = record {
@@ -24,14 +21,6 @@ partly_more a b c bytes rest n p more = record {
   parts = p.parts ∙ ap (λ (xs : List ℕ). p.done ++ xs) (sym (take-append-drop n rest)) ∙ sym (append_assoc p.done (take n rest) (drop n rest));
   wrote = Appends-trans a b c p.done (take n rest) p.wrote more;
 }
-
-pub partly_all : (a b : Option (List ℕ)) (bytes rest : List ℕ) → Partly a b bytes rest → length rest ≡ 0 → Appends a b bytes
-partly_all a b bytes [] p none = let P : List ℕ → Type 0 = Appends a b in subst P (sym (p.parts ∙ append-nil p.done)) p.wrote
-partly_all a b bytes (x ∷ rest) p none = absurd cc
-
--- what was left then wasn't written
-pub partly_cut : (a b : Option (List ℕ)) (bytes rest : List ℕ) → Partly a b bytes rest → WroteFront a bytes b
-partly_cut a b bytes rest p = record { front = p.done; rest = rest; parts = p.parts; wrote = p.wrote }
 
 or_false : (b : Bool) → (b || false) ≡ b
 or_false true = refl

@@ -1,5 +1,5 @@
 -- Where a search in a rising list ends, and what is left once a number came or went there.
-use Rattle.std.proofs.Common.{◌≡◌, ◌≢◌, ◌⊎◌, ℕ, zero, suc, ◌+◌, ◌-◌, ◌<◌, ◌≤◌, true, false, List, [], length, ap, sym, ◌∙◌, arith, ⊎_elim, inl, inr}
+use Rattle.std.proofs.Common.{◌≡◌, ◌≢◌, ◌⊎◌, ℕ, zero, suc, ◌+◌, ◌-◌, ◌<◌, ◌≤◌, true, false, List, length, ap, sym, ◌∙◌, arith, ⊎_elim, inl, inr}
 use Rattle.std.proofs.Common.{true≢false, subst, Ok, Err, nat_cmp}
 use Rattle.std.specs.List.{insert, remove}
 use Rattle.std.proofs.lemmas.Bool.{cases_eq, cases_lt}
@@ -17,12 +17,6 @@ rises_from xs i j up = ⊎_elim
     (λ (past : length xs ≤ j). inr (inr past)) (cases_lt j (length xs)))
     (λ (back : j ≤ i). inr (inl back))
     (cases_lt i j)
-
-pub none_rise : (bound : ℕ) → IsRising bound []
-none_rise bound = record {
-  below = λ i li. absurd (omega (arith, li));
-  rises = λ i j. rises_from [] i j (λ later within. absurd (omega (arith, within)));
-}
 
 module _ (bound : ℕ) (xs : List ℕ) (rising : IsRising bound xs) where
   pub up : (i j : ℕ) → i ≤ j → j < length xs → at xs i ≤ at xs j
@@ -150,23 +144,6 @@ module _ (bound : ℕ) (xs : List ℕ) (p k : ℕ) (rising : IsRising bound xs) 
               get_or-remove_above xs k 0 (has.0 - 1) (omega (arith, le, past)) lk ∙ (ap (at xs) back ∙ has.2),
             ))
             (cases_lt has.0 k);
-      }
-
-  pub rises_less : IsRising bound (remove xs k)
-  rises_less =
-      let short = length-remove xs k lk in
-      record {
-        below = λ i li. ⊎_elim
-            (λ r. (let old = rising.below i (omega (arith, r.0, lk)) in omega (arith, r.1, old)))
-            (λ r. (let old = rising.below (i + 1) (omega (arith, li, short)) in omega (arith, r.1, old)))
-            (left i);
-        rises = λ i j. rises_from (remove xs k) i j (λ later within.
-            let at_i = left i in
-            let at_j = left j in
-            let both = rising.rises i j in
-            let parted = rising.rises i (j + 1) in
-            let moved = rising.rises (i + 1) (j + 1) in
-            omega (arith, at_i, at_j, both, parted, moved, later, within, short, lk));
       }
 
 -- ---- nothing comes or goes

@@ -15,7 +15,7 @@ use Rattle.bt_peer.specs.Acts.{Act, Called, is_refusal, is_refused_call}
 use Rattle.bt_peer.specs.Turns.{Asks, has_more, NoneRefused}
 use Rattle.bt_peer.specs.Outlets.{Outlet, Performs, PerformsUpTo, StopsCall, EndsCalls, IsCut}
 use Rattle.bt_peer.specs.Parts.{AskingDone, AskingStops, CallStops}
-use Rattle.bt_peer.proofs.Stretches.{Performs-none, Performs-join, Performs-stops}
+use Rattle.bt_peer.proofs.Stretches.{Performs-join, Performs-stops}
 
 -- Next calls whose replies all have more
 abbrev pub HaveMore : List Act → Type 0
@@ -100,9 +100,6 @@ pub record Asking (a b : Outlet) (n : ℕ) : Type 0 where
   pub more : HaveMore asking
   pub count : length asking ≡ n
   pub does : Performs a asking b
-
-pub Asking-start : (a : Outlet) → Asking a a 0
-Asking-start a = record { asking = []; more = tt; count = refl; does = Performs-none a }
 
 pub Asking-more : (word : ℕ) (reply : Reply) (a b c : Outlet) (n : ℕ) → Asking a b n → Performs b (Called (marks.Next word) reply ∷ []) c →
     has_more reply ≡ true → Asking a c (n + 1)

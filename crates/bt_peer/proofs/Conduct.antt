@@ -1,7 +1,7 @@
 -- Stretches of a worker's calls, one after another: their words, and the checks of the pieces that they complete.
-use Rattle.std.proofs.Common.{◌≡◌, ℕ, ◌==◌, Bool, true, false, ◌&&◌, List, [], ◌∷◌, ◌++◌, length, map, Option, Some, None, refl, sym, ap, subst}
+use Rattle.std.proofs.Common.{◌≡◌, ℕ, ◌==◌, Bool, true, false, ◌&&◌, List, [], ◌∷◌, ◌++◌, map, Option, Some, None, refl, sym, ap, subst}
 use Rattle.std.proofs.Common.{◌∙◌, ◌⊎◌}
-use Rattle.std.proofs.Common.{append_assoc, eq-eqb, inl, inr, arith, length-append}
+use Rattle.std.proofs.Common.{append_assoc, inl, inr}
 use Rattle.std.proofs.lemmas.List.{append-nil}
 use Rattle.std.proofs.lemmas.Bool.{and_parts}
 use Rattle.rand_core.specs.Stream.{Stream, next_u64}
@@ -16,11 +16,11 @@ use Rattle.bt_peer.specs.Acts.{Act, Called, News, calls_of}
 use Rattle.bt_peer.specs.Outlets.{StopsCall}
 use Rattle.bt_peer.specs.Places.{PlaceRecord, Gains, GainsUpTo}
 use Rattle.bt_peer.specs.Steps.{Leaves, Departs}
-use Rattle.bt_peer.specs.Turns.{call_of, arrived_piece, if_completed, ChecksAtMost}
+use Rattle.bt_peer.specs.Turns.{call_of, arrived_piece, if_completed}
 use Rattle.bt_peer.specs.Outlets.{Outlet}
 use Rattle.bt_peer.specs.Parts.{CallStops}
 use Rattle.bt_peer.proofs.Asking.{stops_ways}
-use Rattle.bt_peer.specs.Conduct.{Calls, Draws, word_of, words_of, completed_by, checks_first, all_checked, SettlesAtOnce, Conducts, DrawsWords}
+use Rattle.bt_peer.specs.Conduct.{Calls, Draws, word_of, words_of, completed_by, checks_first, all_checked, Conducts, DrawsWords}
 
 pub words_of-append : (xs ys : Calls) → words_of (xs ++ ys) ≡ words_of xs ++ words_of ys
 words_of-append [] ys = refl
@@ -162,55 +162,6 @@ other_cut s call fault old new silent cut =
     elim (stopped_calls call fault cut.acts cut.stops) [
       | inl none ↦ draws (ap words_of none)
       | inr one ↦ draws (ap words_of one.1 ∙ ap (λ (words : List ℕ). words ++ []) silent)
-    ]
-
--- a call that isn't Next, which completed no piece
-pub other_one : (settles : Bool) (s : Stream) (call : CallMark) (reply : Reply) (old new : PlaceRecord) → word_of call ≡ [] →
-    if_completed (arrived_piece call) reply ≡ None → Gains old (Called call reply ∷ []) new → Conducts settles s old.calls new.calls s
-other_one settles s call reply old new silent none gains = record {
-  gained = (call, reply) ∷ [];
-  calls = gains.up_to.calls;
-  drawn = subst (λ (words : List ℕ). Draws s words s) (sym (ap (λ (words : List ℕ). words ++ []) silent)) refl;
-  checked = λ own. one_checked call reply none;
-}
-
--- a call that completed a piece, and the check that may follow it
-two_checked : (call : CallMark) (reply checked : Reply) (piece : ℕ) → if_completed (arrived_piece call) reply ≡ Some piece →
-    all_checked ((call, reply) ∷ (marks.Settle piece, checked) ∷ []) ≡ true
-two_checked call reply checked piece is =
-    ap (λ (completed : Option ℕ). checks_first completed ((marks.Settle piece, checked) ∷ []) && all_checked ((marks.Settle piece, checked) ∷ [])) is
-    ∙ both (piece == piece) _ (eq-eqb piece piece refl) (one_checked (marks.Settle piece) checked (none_completed checked))
-
--- the same list isn't one longer
-not_longer : (old mid new : Calls) (made : CallMark × Reply) → new ≡ old ++ [] → new ≡ old ++ made ∷ [] → ⊥
-not_longer old mid new made same more =
-    omega (arith, ap length same, ap length more, length-append old [], length-append old (made ∷ []))
-
-pub completed_conducts : (settles : Bool) (s : Stream) (call : CallMark) (reply : Reply) (piece : ℕ) (old mid new : PlaceRecord) →
-    word_of call ≡ [] → if_completed (arrived_piece call) reply ≡ Some piece → Gains old (Called call reply ∷ []) mid →
-    (acts : List Act) × (ChecksAtMost piece acts × Gains mid acts new) →
-    (settles ≡ true → SettlesAtOnce piece mid.calls new.calls) → Conducts settles s old.calls new.calls s
-completed_conducts settles s call reply piece old mid new silent is made checks at_once =
-    elim checks.1.0 [
-      | inl none ↦
-          let same : new.calls ≡ mid.calls ++ [] =
-          checks.1.1.up_to.calls ∙ ap (λ (acts : List Act). mid.calls ++ calls_of acts) none in
-          record {
-            gained = (call, reply) ∷ [];
-            calls = same ∙ append-nil mid.calls ∙ made.up_to.calls;
-            drawn = subst (λ (words : List ℕ). Draws s words s) (sym (ap (λ (words : List ℕ). words ++ []) silent)) refl;
-            checked = λ own. absurd (not_longer mid.calls mid.calls new.calls _ same (at_once own).made);
-          }
-      | inr check ↦
-          record {
-            gained = (call, reply) ∷ (marks.Settle piece, check.0) ∷ [];
-            calls = checks.1.1.up_to.calls
-                ∙ ap (λ (acts : List Act). mid.calls ++ calls_of acts) check.1.1
-                ∙ ap (λ (calls : Calls). calls ++ (marks.Settle piece, check.0) ∷ []) made.up_to.calls
-                ∙ append_assoc old.calls ((call, reply) ∷ []) ((marks.Settle piece, check.0) ∷ []);
-            drawn = subst (λ (words : List ℕ). Draws s words s) (sym (ap (λ (words : List ℕ). words ++ []) silent)) refl;
-            checked = λ own. two_checked call reply check.0 piece is;
-          }
     ]
 
 -- a call of a message is no Next

@@ -4,7 +4,7 @@ use Rattle.bt_wire.specs.declared.message.Message.TheVariants as messages
 use Rattle.std.proofs.Common.{Bool, true, false, ◌≤◌, length, length-append, ◌≡◌, ℕ, ◌+◌, List, [], ◌++◌, Option, Some, None, refl, sym, ap, subst}
 use Rattle.std.proofs.Common.{◌∙◌, append_assoc, arith, Ok, Err}
 use Rattle.std.proofs.lemmas.List.{append-nil}
-use Rattle.std.specs.Io.KnownBytes.{Consumes, Keeps}
+use Rattle.std.specs.Io.KnownBytes.{Consumes}
 use Rattle.bt_wire.specs.Stream.{InboundState, Gives, Spells}
 use Rattle.bt_peer.specs.declared.fault.SessionFault.TheVariants as faults
 use Rattle.bt_peer.specs.Hearing.{Hearing, HearsNext, StaysCounted}
@@ -14,11 +14,6 @@ use Rattle.bt_peer.specs.Turns.{IsLater}
 pub Consumes-none : (a : Option (List ℕ)) → Consumes a a []
 Consumes-none None = tt
 Consumes-none (Some xs) = refl
-
-pub Consumes-kept : (a b : Option (List ℕ)) → Keeps a b → Consumes a b []
-Consumes-kept None b h = tt
-Consumes-kept (Some xs) None h = absurd h
-Consumes-kept (Some xs) (Some ys) h = sym h
 
 pub Consumes-join : (a b c : Option (List ℕ)) (xs ys : List ℕ) → Consumes a b xs → Consumes b c ys → Consumes a c (xs ++ ys)
 Consumes-join None b c xs ys p q = tt
@@ -34,21 +29,6 @@ pub record BytesRead (old new : Option (List ℕ)) (held held' : InboundState) :
 
 pub fed-none : (held : InboundState) → fed held [] ≡ held
 fed-none held = ap (λ (xs : List ℕ). record held { bytes = xs }) (append-nil held.bytes)
-
-pub fed-more : (held : InboundState) (xs ys : List ℕ) → fed (fed held xs) ys ≡ fed held (xs ++ ys)
-fed-more held xs ys = ap (λ (zs : List ℕ). record held { bytes = zs }) (append_assoc held.bytes xs ys)
-
-pub BytesRead-start : (a : Option (List ℕ)) (held : InboundState) → BytesRead a a held held
-BytesRead-start a held = record { read = []; consumed = Consumes-none a; now = sym (fed-none held) }
-
-pub BytesRead-more : (a b c : Option (List ℕ)) (held now new : InboundState) (xs : List ℕ) → BytesRead a b held now → Consumes b c xs →
-    new ≡ fed now xs → BytesRead a c held new
-BytesRead-more a b c held now new xs r more is =
-    record {
-      read = r.read ++ xs;
-      consumed = Consumes-join a b c r.read xs r.consumed more;
-      now = is ∙ ap (λ (h : InboundState). fed h xs) r.now ∙ fed-more held r.read xs;
-    }
 
 -- a message has four bytes at least
 text_len : (greeted : Bool) (limit : ℕ) (m : Message) (text : List ℕ) → Spells greeted limit m text → 4 ≤ length text

@@ -8,16 +8,13 @@ use Rattle.bt_peer.specs.Acts.{Act, News}
 use Rattle.bt_peer.specs.Places.{PlaceRecord, Gains, AllTold}
 use Rattle.bt_peer.specs.Outlets.{Outlet, Performs, PerformsUpTo, Writes, WritesUpTo, IsCut}
 use Rattle.bt_peer.specs.Parts.{NewsDone, NewsStops}
-use Rattle.bt_peer.proofs.Stretches.{up_to, Writes-none, Performs-none, Performs-join, Performs-stops}
+use Rattle.bt_peer.proofs.Stretches.{up_to, Writes-none, Performs-join, Performs-stops}
 
 -- just so many pieces were told
 pub record Telling (a b : Outlet) (n : ℕ) : Type 0 where
   pub news : List ℕ
   pub count : length news ≡ n
   pub does : Performs a (map News news) b
-
-pub Telling-start : (a : Outlet) → Telling a a 0
-Telling-start a = record { news = []; count = refl; does = Performs-none a }
 
 told_one : (piece : ℕ) (b c : Outlet) → Gains b.past (News piece ∷ []) c.past → Writes b.said (spelling (messages.Have piece)) c.said →
     c.said.interested ≡ b.said.interested → Performs b (News piece ∷ []) c

@@ -98,12 +98,6 @@ set_piece floors peers rows p row are lp grows = record {
       omega (arith, low, is));
 }
 
--- a piece that isn't fresh keeps all floors
-pub set_stale : (floors : List ℕ) (peers : List PeerState) (rows : List PieceState) (p : ℕ) (row : PieceState) → AreFloors floors peers rows →
-    p < length rows
-    → is_fresh row ≡ false → AreFloors floors peers (set rows p row)
-set_stale floors peers rows p row are lp stale = set_piece floors peers rows p row are lp (λ fresh. absurd (false≢true (sym stale ∙ fresh)))
-
 pub edit_piece : (floors : List ℕ) (peers : List PeerState) (rows : List PieceState) (p : ℕ) (f : PieceState → PieceState) →
     AreFloors floors peers rows → p < length rows
     → (is_fresh (f (piece_row rows p)) ≡ true → (is_fresh (piece_row rows p) ≡ true) ×

@@ -1,5 +1,5 @@
 -- The rows of all pieces, as those of a set change one after the other.
-use Rattle.std.proofs.Common.{◌≡◌, ℕ, ◌+◌, ◌-◌, ◌<◌, ◌≤◌, ◌^◌, Bool, true, false, List, [], length, ap, sym, ◌∙◌, arith, inl, inr}
+use Rattle.std.proofs.Common.{◌≡◌, ℕ, ◌+◌, ◌-◌, ◌<◌, ◌≤◌, ◌^◌, Bool, true, false, List, length, ap, sym, ◌∙◌, arith, inl, inr}
 use Rattle.std.proofs.Common.{refl}
 use Rattle.std.specs.Prelude.{slice_index_or}
 use Rattle.std.proofs.lemmas.Bool.{cases_lt, false≢true}
@@ -102,11 +102,6 @@ hidden_then_shown rows before after =
     ∙ same_table n (λ p. more_available (slice_index_or after p false) (piece_row (table n hidden) p))
     (λ p. more_available (slice_index_or after p false) (hidden p))
     (λ k lk. ap (more_available (slice_index_or after k false)) (get_or_table n hidden k (fresh_piece 0) lk))
-
-pub hidden_alone : (rows : List PieceState) (before : List Bool) → hidden_rows before rows ≡ recounted rows before []
-hidden_alone rows before =
-    let hidden : ℕ → PieceState = λ p. less_available (slice_index_or before p false) (piece_row rows p) in
-    same_table (length rows) hidden (λ p. more_available false (hidden p)) (λ k lk. sym (shows_none false (hidden k) refl))
 
 -- there is room for one more that shows a piece of the set
 pub has_room : (rows now : List PieceState) (flags : List Bool) (i p : ℕ) → AreCounted (shown_rows flags rows)

@@ -25,10 +25,6 @@ table_from n f xs len each =
     let below : k < n = omega (arith, len) in
     each k d below ∙ sym (get_or_table n f k d below))
 
--- what is read from a list that is a table
-pub read_table : {A : Type 0} (xs : List A) (n : ℕ) (f : ℕ → A) (k : ℕ) (x : A) → xs ≡ table n f → k < n → x ≡ get_or xs k x → x ≡ f k
-read_table xs n f k x e h r = r ∙ ap (λ l. get_or l k x) e ∙ get_or_table n f k x h
-
 pub get_or_is_table : {A : Type 0} (xs : List A) (n : ℕ) (f : ℕ → A) (k : ℕ) (d : A) → xs ≡ table n f → k < n → get_or xs k d ≡ f k
 get_or_is_table xs n f k d e h = ap (λ l. get_or l k d) e ∙ get_or_table n f k d h
 
@@ -74,9 +70,6 @@ upto_above i g f k le = ap (λ (b : Bool). if b then g k else f k) (le-ltb k i l
 
 pub upto_none : {A : Type 0} (n : ℕ) (g f : ℕ → A) → table n f ≡ table n (upto 0 g f)
 upto_none n g f = same_table n f (upto 0 g f) (λ k lt. sym (upto_above 0 g f k (omega arith)))
-
-pub upto_all : {A : Type 0} (n : ℕ) (g f : ℕ → A) → table n (upto n g f) ≡ table n g
-upto_all n g f = same_table n (upto n g f) g (λ k lt. upto_below n g f k lt)
 
 pub upto_more : {A : Type 0} (n i : ℕ) (g f : ℕ → A) → i < n → set (table n (upto i g f)) i (g i) ≡ table n (upto (i + 1) g f)
 upto_more n i g f lt =

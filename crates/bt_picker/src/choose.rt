@@ -122,7 +122,8 @@ impl<'a> Position<'a> {
         self.rarest_of(worker, self.group(UNBEGUN + CROWD))
     }
 
-    /// Of these pieces that the peer shows one that the fewest peers show.
+    /// Of these pieces that the peer shows one that the fewest peers show. It is asked for the crowd's group, which is empty at a desk: only the
+    /// audit of a journal of more workers finds pieces there.
     fn rarest_of(&self, worker: u32, pieces: &[u32]) -> Option<u32>
         requires worker { worker < self.now.setting.workers }
         requires pieces { (i : ℕ) → i < length pieces.now → at pieces.now i < piece_count self.now.setting.torrent }

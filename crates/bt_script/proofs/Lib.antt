@@ -2,7 +2,6 @@ pub mod Counts
 pub mod Numbers
 pub mod Played
 pub mod Results
-pub mod Settled
 pub mod Written
 pub mod Hexadecimal
 pub mod JournalLines

@@ -2,11 +2,11 @@
 use Rattle.std.proofs.Common.{◌≡◌, ◌<◌, ◌≤◌, ◌+◌, ◌-◌, ℕ, zero, suc, Result, Ok, Err, inl, inr, List, [], ◌∷◌, ◌++◌, Some, length, take, refl, sym}
 use Rattle.std.proofs.Common.{ap, ◌∙◌, subst, append_assoc, append-nil, arith}
 use Rattle.std.specs.Result.{IsErrAnd}
-use Rattle.std.proofs.lemmas.List.{take_all, take_more}
+use Rattle.std.proofs.lemmas.List.{take_more}
 use Rattle.bt_picker.specs.Positions.{DeskState}
 use Rattle.bt_script.specs.declared.fault.Fault.{Fault}
 use Rattle.bt_script.specs.declared.fault.Fault.TheVariants as faults
-use Rattle.bt_script.specs.Scripts.{AreBlank, Blames, EndsAfter, IsPrintedBy, MaySetRules, SetsRules, StopsOpening, lines_of, line_at}
+use Rattle.bt_script.specs.Scripts.{AreBlank, EndsAfter, IsPrintedBy, MaySetRules, SetsRules, StopsOpening, lines_of, line_at}
 use Rattle.bt_script.specs.Setups.{setup_in}
 use Rattle.bt_script.specs.Played.{IsDesk, IsPrintedOf, Stage, TakesFront, TakesLine, TakesLines, opened, playing, silent}
 use Rattle.bt_script.specs.declared.script.setup.Setup.{Setup}
@@ -87,27 +87,6 @@ printed_of : (input : List ℕ) (lines : List (List ℕ)) (k : ℕ) (stage : Sta
 printed_of input lines k stage text e takes =
     record { stage = stage; takes = subst (λ (ls : List (List ℕ)). TakesLines silent stage (take k ls) text) e takes }
 
-ends_before : (input : List ℕ) (fault : Fault) (k : ℕ) (reason : Type 0) → Blames fault (k + 1) reason → EndsAfter input (Err fault) k
-ends_before input (faults.Line n) k reason blames = blames.0
-ends_before input (faults.Metainfo fault) k reason blames = absurd blames
-ends_before input (faults.Want fault) k reason blames = absurd blames
-ends_before input faults.Random k reason blames = absurd blames
-ends_before input faults.File k reason blames = tt
-ends_before input faults.Memory k reason blames = tt
-ends_before input faults.NoThread k reason blames = absurd blames
-ends_before input (faults.Gather fault) k reason blames = absurd blames
-
--- a script that ended with a fault at line k, from 0, or with one of no line there
-pub printed_before : (input : List ℕ) (lines : List (List ℕ)) (r : Result (Unit {0}) Fault) (fault : Fault) (k : ℕ) (reason : Type 0)
-    (stage : Stage) (text : List ℕ) → lines ≡ lines_of input → IsErrAnd r (λ x. x ≡ fault) → Blames fault (k + 1) reason
-    → TakesLines silent stage (take k lines) text → IsPrintedBy input r text
-printed_before input lines (Ok done) fault k reason stage text e is blames takes = absurd is
-printed_before input lines (Err other) fault k reason stage text e is blames takes = record {
-  count = k;
-  ends = ends_before input other k reason (subst (λ (f : Fault). Blames f (k + 1) reason) (sym is) blames);
-  is = printed_of input lines k stage text e takes;
-}
-
 nothing_printed : (input : List ℕ) (lines : List (List ℕ)) (fault : Fault) (n : ℕ) → lines ≡ lines_of input → EndsAfter input (Err fault) n
     → n ≤ length lines → AreBlank lines 0 n → IsPrintedBy input (Err fault) []
 nothing_printed input lines fault n e ends le blank =
@@ -134,14 +113,3 @@ pub printed_unopened : (input : List ℕ) (lines : List (List ℕ)) (r : Result 
 printed_unopened input lines (Ok done) fault text e is stops none = absurd is
 printed_unopened input lines (Err other) fault text e is stops none =
     subst (IsPrintedBy input (Err other)) (sym none) (unopened input lines other e (subst (StopsOpening lines) (sym is) stops))
-
--- a script that came to its end
-pub printed_all : (input : List ℕ) (lines : List (List ℕ)) (k : ℕ) (stage : Stage) (text : List ℕ) → lines ≡ lines_of input
-    → length lines ≤ k → TakesLines silent stage (take k lines) text → IsPrintedBy input (Ok tt) text
-printed_all input lines k stage text e over takes =
-    let whole : take k lines ≡ take (length lines) lines = take_all k lines over ∙ sym (take_all (length lines) lines (omega arith)) in
-    record {
-      count = length lines;
-      ends = ap length e;
-      is = printed_of input lines (length lines) stage text e (subst (λ (ls : List (List ℕ)). TakesLines silent stage ls text) whole takes);
-    }

@@ -1,5 +1,5 @@
 -- Lists of which each element is a part of another's.
-use Rattle.std.proofs.Common.{◌≡◌, ℕ, suc, ◌<◌, List, [], ◌∷◌, ◌++◌, map, length, get_or, sym, ap, ◌∙◌, subst, arith, append_assoc}
+use Rattle.std.proofs.Common.{◌≡◌, ℕ, ◌<◌, List, [], ◌∷◌, ◌++◌, map, length, get_or, sym, ap, ◌∙◌, subst, arith, append_assoc}
 use Rattle.std.specs.List.{All}
 use Rattle.std.proofs.lemmas.List.Elements.{All-append, All-cons}
 use Rattle.std.proofs.lemmas.List.{get_or-map, map-append}
@@ -23,7 +23,3 @@ grown part hs hs' h x rest rest' all more left is old =
 pub all_grown : {H : Type 0} (P : H → Type 0) (hs hs' : List H) (h : H) → hs' ≡ hs ++ h ∷ [] → P h → All P hs → All P hs'
 all_grown P hs hs' h more here old =
     subst (All P) (sym more) (All-append P hs (h ∷ []) old (All-cons P h [] here (λ i d below. absurd (omega arith))))
-
--- what holds of each element holds of each but the first
-pub all_but_first : {H : Type 0} (P : H → Type 0) (hs rest : List H) (h : H) → hs ≡ h ∷ rest → All P hs → All P rest
-all_but_first P hs rest h is all = let some = subst (All P) is all in λ k d below. some (suc k) d (omega (arith, below))

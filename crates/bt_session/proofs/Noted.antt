@@ -1,5 +1,5 @@
 -- What a place at a shared desk gains by its pass's marks.
-use Rattle.std.proofs.Common.{◌≡◌, ℕ, Bool, List, [], ◌∷◌, ◌++◌, length, Result, Ok, Err, refl, ap, ◌∙◌}
+use Rattle.std.proofs.Common.{◌≡◌, ℕ, Bool, [], ◌∷◌, ◌++◌, length, Result, Ok, Err, refl, ap, ◌∙◌}
 use Rattle.std.specs.Prelude.{IfOk, OnErr}
 use Rattle.std.proofs.lemmas.List.{map-append}
 use Rattle.bt_history.specs.declared.call.Call.{Call}
@@ -47,15 +47,3 @@ quiet_rests old new rests = record { worker = rests.same.worker; log = rests.log
 pub quiet_err : {A E : Type 0} (result : Result A E) (old new : PassState) → OnErr result (Rests old new) → OnErr result (IsQuiet old new)
 quiet_err (Ok a) old new rests = tt
 quiet_err (Err e) old new rests = quiet_rests old new rests
-
--- what was quiet before a call that was noted, or wasn't made
-pub quiet_notes : (old found new : PassState) (call : CallMark) (reply : Reply) → Rests old found → Notes found call reply new →
-    Notes old call reply new
-quiet_notes old found new call reply rests notes = record {
-  place = notes.place;
-  worker = notes.worker ∙ rests.same.worker;
-  log = notes.log ∙ ap (λ (log : List Mark). log ++ mark notes.place call reply ∷ []) rests.log;
-}
-
-pub quiet_twice : (old found new : PassState) → Rests old found → IsQuiet found new → IsQuiet old new
-quiet_twice old found new rests quiet = record { worker = quiet.worker ∙ rests.same.worker; log = quiet.log ∙ rests.log }

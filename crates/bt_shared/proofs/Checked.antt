@@ -1,6 +1,6 @@
 -- What a call or a check that is entered, or isn't, makes of what a pass has seen.
 use Rattle.std.proofs.Common.{◌≡◌, ℕ, Bool, true, false, [], ◌∷◌, ◌++◌, length, Result, Ok, Err, refl, sym, ap, ◌∙◌, subst, inl, inr}
-use Rattle.std.specs.Prelude.{IfOk, OnErr}
+use Rattle.std.specs.Prelude.{IfOk}
 use Rattle.bt_history.specs.declared.call.Call.{Call}
 use Rattle.bt_history.specs.declared.call.Reply.{Reply}
 use Rattle.bt_history.specs.Entries.{event}
@@ -20,10 +20,6 @@ module _ (view before after : PassState) (is : view ≡ before) (found : DeskSta
       subst P is record { same = same; seen = subst (Continues view.worker view.seen) (sym seen) goes; log = log }
 
   module _ (new : DeskState) (seen : after.seen ≡ new.history) where
-    pub rests_err : {A E : Type 0} (result : Result A E) → OnErr result ((new ≡ found) × (after.log ≡ view.log)) → OnErr result (Rests before after)
-    rests_err (Ok a) err = tt
-    rests_err (Err e) err = rests (seen ∙ ap (λ (d : DeskState). d.history) err.0) err.1
-
     pub enters_ok : {E : Type 0} (result : Result Reply E) (call : Call) → IfOk result (λ reply. Gains found new (event view.worker call reply))
         → IfOk result (λ reply. after.log ≡ view.log ++ mark_of (length found.history) (event view.worker call reply) ∷ [])
         → IfOk result (λ reply. Enters (event before.worker call reply) before after)

@@ -6,10 +6,7 @@ use Rattle.std.proofs.lemmas.Bool.{true≢false}
 use Rattle.std.proofs.lemmas.Option.{none-some, same_Some, slice_get_cases, slice_get_past, slice_get-get_or}
 use Rattle.bt_history.specs.contracts.mark.MarkEq.TheImpl.Laws.{laws-law}
 use Rattle.bt_history.specs.contracts.mark.MarkPartialEq.TheImpl as marks
-use Rattle.bt_history.specs.declared.call.Entry.{Entry}
 use Rattle.bt_history.specs.declared.mark.Mark.{Mark}
-use Rattle.bt_history.specs.Entries.{history_of}
-use Rattle.bt_history.specs.Logs.{marks_of}
 use Rattle.bt_history.proofs.Marks.{same_mark}
 use Rattle.bt_shared.specs.Gathering.{IsFirstDifference}
 
@@ -55,9 +52,3 @@ module _ (log : List Mark) (n : ℕ) (within : n ≤ length log) where
             (λ past. omega (arith, past.0, more))
             (slice_get_cases log n).1;
       }
-
--- a log that is the marks of the whole journal
-pub whole_log : (journal : List Entry) (worker k : ℕ) (log : List Mark) (n : ℕ) → take n log ≡ marks_of (history_of (take k journal)) worker
-    → length journal ≤ k → length log ≤ n → log ≡ marks_of (history_of journal) worker
-whole_log journal worker k log n same past all =
-    sym (take_all n log all) ∙ (same ∙ ap (λ (j : List Entry). marks_of (history_of j) worker) (take_all k journal past))

@@ -16,7 +16,7 @@ use Rattle.bt_shared.specs.declared.view.Part.{Part}
 use Rattle.bt_shared.specs.declared.view.View.{View}
 use Rattle.bt_shared.specs.Guard.{MayTake, Sat, Saw, meeting, part}
 use Rattle.bt_shared.specs.Passes.{IsSeatOf, LogsIf}
-use Rattle.bt_shared.specs.Seen.{Continues, Each, IsAmong, Knows, StartsWith, own}
+use Rattle.bt_shared.specs.Seen.{Continues, Each, IsAmong, Knows, own}
 use Rattle.bt_shared.proofs.Histories.{own_append}
 
 -- entries of others leave no mark
@@ -106,7 +106,3 @@ module _ (h : History) (old : Sat) (u after : View) (w : ℕ) (seat : IsSeatOf w
 
   pub met_continues : Continues w old.0.part.seen h
   met_continues = knows_continue h (part (w ∷ []) old.0.part.seen) w refl both.0.knows
-
-  -- and it begins with all that the other has seen
-  pub met_starts : (seen : History) → u.parts ≡ part [] seen ∷ [] → StartsWith h seen
-  met_starts seen alone = (subst (Each (Saw h after.part.workers)) alone both.1).0.knows.begins

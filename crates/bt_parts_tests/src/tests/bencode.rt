@@ -75,7 +75,7 @@ fn nested_lists(alloc: Global, levels: usize) -> Result<Vec<u8>, AllocError> {
 
 #[test]
 fn each_fault_has_its_number(rt: HostRuntime) -> Result<(), Fail> {
-    let rows: [(&[u8], u8); 29] = [
+    const ROWS: &[(&[u8], u8)] = &[
         (b"", 1),
         (b"l", 1),
         (b"3:ab", 1),
@@ -106,7 +106,7 @@ fn each_fault_has_its_number(rt: HostRuntime) -> Result<(), Fail> {
         (b"d1:ae", 9),
         (b"dxe", 9),
     ];
-    for (source, fault) in rows {
+    for &(source, fault) in ROWS {
         same_for(fault_number(rt.alloc(), source), fault, source)?;
         same_for(fault_in_place(source), fault, source)?;
     }
@@ -151,8 +151,7 @@ fn comes_back(alloc: Global, source: &[u8]) -> Result<(), Fail> {
 
 #[test]
 fn what_is_accepted_is_written_back(rt: HostRuntime) -> Result<(), Fail> {
-    let deepest = nested_lists(rt.alloc(), 64)?;
-    let rows: [&[u8]; 9] = [
+    const SOURCES: &[&[u8]] = &[
         b"i-3e",
         b"i0e",
         b"i9223372036854775807e",
@@ -161,12 +160,11 @@ fn what_is_accepted_is_written_back(rt: HostRuntime) -> Result<(), Fail> {
         b"le",
         b"de",
         b"d0:0:1:Ai1e1:ai2e2:aalee",
-        &deepest,
     ];
-    for source in rows {
+    for source in SOURCES {
         comes_back(rt.alloc(), source)?;
     }
-    Ok(())
+    comes_back(rt.alloc(), &nested_lists(rt.alloc(), 64)?)
 }
 
 #[test]
@@ -372,8 +370,9 @@ fn put(trees: &mut Vec<Tree>, tree: Tree) -> Result<(), AllocError> {
 
 #[test]
 fn a_tree_that_found_no_room_is_put_once_more(rt: HostRuntime) -> Result<(), Fail> {
+    const SOURCES: &[&[u8]] = &[b"2:ab", b"i-3e", b"l1:xe", b"d1:ai1ee", b"le"];
     let mut trees = Vec::new(rt.alloc());
-    for source in [b"2:ab".as_slice(), b"i-3e", b"l1:xe", b"d1:ai1ee", b"le"] {
+    for source in SOURCES {
         put(&mut trees, parse_again(rt.alloc(), source)?)?;
     }
     let list = list(trees)?;

@@ -62,9 +62,8 @@ fn proven(
 
 #[test]
 fn what_fits_the_torrent_is_proven(rt: HostRuntime) -> Result<(), Fail> {
-    let torrent = three_pieces(rt.alloc())?;
-    let rows = [
-        (0, b"abc".as_slice(), Ok(0)),
+    const ROWS: &[(u32, &[u8], Result<u32, u32>)] = &[
+        (0, b"abc", Ok(0)),
         (1, b"abc", Ok(1)),
         (2, b"a", Ok(2)),
         (2, b"b", Err(2)),
@@ -72,7 +71,8 @@ fn what_fits_the_torrent_is_proven(rt: HostRuntime) -> Result<(), Fail> {
         (3, b"a", Err(3)),
         (u32::MAX, b"a", Err(u32::MAX)),
     ];
-    for (piece, block, wanted) in rows {
+    let torrent = three_pieces(rt.alloc())?;
+    for &(piece, block, wanted) in ROWS {
         same(proven(rt.alloc(), &torrent, piece, block)?, wanted)?;
     }
     Ok(())

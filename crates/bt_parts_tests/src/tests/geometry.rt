@@ -111,10 +111,7 @@ const fn first(begin: u32, len: u32) -> Block {
 
 #[test]
 fn blocks_of_a_piece(rt: HostRuntime) -> Result<(), Fail> {
-    let torrent = made(rt.alloc(), 1_000_000, 1_000_000, 1, [0; 20])??;
-    same(block_count(&torrent, 0), Some(62))?;
-    same(block(&torrent, 0, 61), Some(first(999_424, 576)))?;
-    let rows = [
+    const ROWS: &[(u32, Option<Block>)] = &[
         (0, Some(first(0, 16_384))),
         (1, None),
         (16_383, None),
@@ -122,7 +119,10 @@ fn blocks_of_a_piece(rt: HostRuntime) -> Result<(), Fail> {
         (999_424, Some(first(999_424, 576))),
         (1_015_808, None),
     ];
-    for (begin, block) in rows {
+    let torrent = made(rt.alloc(), 1_000_000, 1_000_000, 1, [0; 20])??;
+    same(block_count(&torrent, 0), Some(62))?;
+    same(block(&torrent, 0, 61), Some(first(999_424, 576)))?;
+    for &(begin, block) in ROWS {
         same(block_at(&torrent, 0, begin), Some(block))?;
     }
     let torrent = made(rt.alloc(), 32_768, 65_536, 2, [0; 20])??;
@@ -132,16 +132,17 @@ fn blocks_of_a_piece(rt: HostRuntime) -> Result<(), Fail> {
 
 #[test]
 fn parts_that_make_no_torrent(rt: HostRuntime) -> Result<(), Fail> {
-    let rows = [
+    const ROWS: &[(u32, u64, u8, MetaFault)] = &[
         (0, 0, 0, MetaFault::PieceLength),
         ((1 << 31) + 1, 7, 3, MetaFault::PieceLength),
         (3, 0, 0, MetaFault::NoContent),
+        // So many bytes are too many pieces too, whatever a piece's length.
         (3, 1 << 63, 3, MetaFault::TooLarge),
         (1, 1 << 32, 3, MetaFault::TooLarge),
         (3, 7, 2, MetaFault::CountMismatch),
         (3, 7, 4, MetaFault::CountMismatch),
     ];
-    for (piece_length, total, count, fault) in rows {
+    for &(piece_length, total, count, fault) in ROWS {
         let made = made(rt.alloc(), piece_length, total, count, [0; 20])?;
         same(made.err(), Some(fault))?;
     }
@@ -162,14 +163,14 @@ fn bit_fault(alloc: Global, bytes: &[u8], pieces: u32) -> Option<BitFault> {
 
 #[test]
 fn bitfields_off_the_wire(rt: HostRuntime) -> Result<(), Fail> {
-    let rows: [(&[u8], Option<BitFault>); 5] = [
+    const ROWS: &[(&[u8], Option<BitFault>)] = &[
         (&[0xe0], None),
         (&[0xf0], Some(BitFault::SpareBits)),
         (&[0xe1], Some(BitFault::SpareBits)),
         (&[0xe0, 0x00], Some(BitFault::WrongCount)),
         (&[], Some(BitFault::WrongCount)),
     ];
-    for (bytes, fault) in rows {
+    for &(bytes, fault) in ROWS {
         same(bit_fault(rt.alloc(), bytes, 3), fault)?;
     }
     Ok(())
@@ -215,8 +216,7 @@ fn first_from(set: &Bitfield, piece: u32) -> Option<u32> {
 
 #[test]
 fn bitfields_are_looked_through(rt: HostRuntime) -> Result<(), Fail> {
-    let shown = set_of(rt.alloc(), &[0x80, 0x00, 0x41], 24)?;
-    let rows = [
+    const ROWS: &[(u32, Option<u32>)] = &[
         (0, Some(0)),
         (1, Some(17)),
         (17, Some(17)),
@@ -225,7 +225,8 @@ fn bitfields_are_looked_through(rt: HostRuntime) -> Result<(), Fail> {
         (24, None),
         (u32::MAX, None),
     ];
-    for (piece, found) in rows {
+    let shown = set_of(rt.alloc(), &[0x80, 0x00, 0x41], 24)?;
+    for &(piece, found) in ROWS {
         same(first_from(&shown, piece), found)?;
     }
     Ok(())

@@ -62,7 +62,7 @@ fn each_proper_prefix_is_truncated(rt: HostRuntime) -> Result<(), Fail> {
 
 #[test]
 fn files_without_a_part(rt: HostRuntime) -> Result<(), Fail> {
-    let rows: [(&[u8], MetaFault); 12] = [
+    const ROWS: &[(&[u8], MetaFault)] = &[
         (b"x", MetaFault::Bencode(BenFault::BadByte)),
         (b"dee", MetaFault::Bencode(BenFault::Trailing)),
         (b"le", MetaFault::NotDictionary),
@@ -88,7 +88,7 @@ fn files_without_a_part(rt: HostRuntime) -> Result<(), Fail> {
             MetaFault::WrongKind(Key::Pieces),
         ),
     ];
-    for (file, fault) in rows {
+    for &(file, fault) in ROWS {
         same_for(fault_of(rt.alloc(), file), Some(fault), file)?;
     }
     Ok(())
@@ -96,13 +96,13 @@ fn files_without_a_part(rt: HostRuntime) -> Result<(), Fail> {
 
 #[test]
 fn piece_lengths(rt: HostRuntime) -> Result<(), Fail> {
-    let rows: [(&[u8], Option<MetaFault>); 4] = [
+    const ROWS: &[(&[u8], Option<MetaFault>)] = &[
         (b"i-3e", Some(MetaFault::PieceLength)),
         (b"i2147483649e", Some(MetaFault::PieceLength)),
         (b"i2147483648e", None),
         (b"i7e", None),
     ];
-    for (piece_length, fault) in rows {
+    for &(piece_length, fault) in ROWS {
         let mut before = Vec::new(rt.alloc());
         put(&mut before, b"d4:infod6:lengthi7e4:name1:s12:piece length")?;
         put(&mut before, piece_length)?;
@@ -114,13 +114,13 @@ fn piece_lengths(rt: HostRuntime) -> Result<(), Fail> {
 
 #[test]
 fn digests_that_do_not_fit(rt: HostRuntime) -> Result<(), Fail> {
-    let before = b"d4:infod6:lengthi7e4:name1:s12:piece lengthi3e";
-    let rows = [
+    const ROWS: &[(usize, MetaFault)] = &[
         (59, MetaFault::PiecesLength),
         (0, MetaFault::CountMismatch),
         (40, MetaFault::CountMismatch),
     ];
-    for (bytes, fault) in rows {
+    let before = b"d4:infod6:lengthi7e4:name1:s12:piece lengthi3e";
+    for &(bytes, fault) in ROWS {
         let file = file_of(rt.alloc(), before, &DIGESTS[..bytes], b"ee")?;
         same_for(fault_of(rt.alloc(), &file), Some(fault), bytes)?;
     }
@@ -129,7 +129,7 @@ fn digests_that_do_not_fit(rt: HostRuntime) -> Result<(), Fail> {
 
 #[test]
 fn contents(rt: HostRuntime) -> Result<(), Fail> {
-    let rows: [(&[u8], Option<MetaFault>); 20] = [
+    const ROWS: &[(&[u8], Option<MetaFault>)] = &[
         (b"", Some(MetaFault::NoContent)),
         (b"5:filesle6:lengthi7e", Some(MetaFault::BothLengthAndFiles)),
         (b"6:lengthi0e", Some(MetaFault::NoContent)),
@@ -178,7 +178,7 @@ fn contents(rt: HostRuntime) -> Result<(), Fail> {
         ),
         (b"6:lengthi9e", None),
     ];
-    for (content, fault) in rows {
+    for &(content, fault) in ROWS {
         let mut before = Vec::new(rt.alloc());
         put(&mut before, b"d4:infod")?;
         put(&mut before, content)?;

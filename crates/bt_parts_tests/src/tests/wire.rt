@@ -132,7 +132,7 @@ fn told_in_pieces(
 }
 
 /// Bytes after the handshake, the length of the pieces that they are fed in, and what stands in front after each piece, with a stroke behind it.
-const ROWS: [(&[u8], usize, &str); 13] = [
+const ROWS: &[(&[u8], usize, &str)] = &[
     (&[0, 0, 0, 0], 4, "KeepAlive | "),
     (&[0, 0, 0, 2, 20, 255], 6, "Unknown(20) | "),
     (
@@ -174,11 +174,6 @@ const ROWS: [(&[u8], usize, &str); 13] = [
     ),
 ];
 
-/// The rows, of which a test's proof knows nothing but their kind.
-fn rows() -> &'static [(&'static [u8], usize, &'static str)] {
-    &ROWS
-}
-
 /// Checks what stands in front behind a handshake.
 fn frame(alloc: Global, bytes: &[u8], len: usize, wanted: &str) -> Result<(), Fail> {
     let mut inbound = greeted(alloc)?;
@@ -189,8 +184,8 @@ fn frame(alloc: Global, bytes: &[u8], len: usize, wanted: &str) -> Result<(), Fa
 
 #[test]
 fn frames(rt: HostRuntime) -> Result<(), Fail> {
-    for (bytes, len, wanted) in rows() {
-        frame(rt.alloc(), bytes, *len, wanted)?;
+    for &(bytes, len, wanted) in ROWS {
+        frame(rt.alloc(), bytes, len, wanted)?;
     }
     Ok(())
 }
@@ -269,13 +264,13 @@ fn limit_of(pieces: u32) -> u32 {
 
 #[test]
 fn limits_of_frames() -> Result<(), Fail> {
-    let rows = [
+    const ROWS: &[(u32, u32)] = &[
         (1, 1_048_576),
         (8_388_600, 1_048_576),
         (8_388_601, 1_048_577),
         (u32::MAX, 536_870_913),
     ];
-    for (pieces, wanted) in rows {
+    for &(pieces, wanted) in ROWS {
         same(limit_of(pieces), wanted)?;
     }
     Ok(())

@@ -66,14 +66,14 @@ fn asked(alloc: Global, depth: u32, count: u32) -> Result<(usize, String), Fail>
 #[test]
 fn a_turn_fills_the_pipe(rt: HostRuntime) -> Result<(), Fail> {
     // The depth, the blocks, the requests, and the last reply to Next.
-    let rows = [
+    const ROWS: &[(u32, u32, usize, &str)] = &[
         (1, 3, 1, "PipeFull"),
         (2, 3, 2, "PipeFull"),
         (5, 13, 5, "PipeFull"),
         (64, 13, 13, "Idle"),
         (64, 70, 64, "PipeFull"),
     ];
-    for (depth, count, requests, last) in rows {
+    for &(depth, count, requests, last) in ROWS {
         let asked = asked(rt.alloc(), depth, count)?;
         same(asked.0, requests)?;
         same(asked.1.as_str(), last)?;

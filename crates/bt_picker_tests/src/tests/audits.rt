@@ -40,7 +40,7 @@ fn judge(rt: &impl Abort, alloc: Global, example: &Example) -> Result<(), Fail> 
 #[test]
 fn worked_examples(rt: HostRuntime) -> Result<(), Fail> {
     for example in EXAMPLES {
-        judge(&rt, rt.alloc(), &example)?;
+        judge(&rt, rt.alloc(), example)?;
     }
     Ok(())
 }

@@ -1,7 +1,7 @@
 //! Written anew by each run of tools/examples.py: the worked examples of the rules as texts, each with replies that would be wrong in it.
 use super::steps::Example;
 
-pub const EXAMPLES: [Example; 30] = [
+pub const EXAMPLES: &[Example] = &[
     // first request
     Example {
         torrent: "3 7 abc abc a",

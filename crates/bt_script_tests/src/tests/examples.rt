@@ -9,7 +9,7 @@ pub struct Example {
 }
 
 /// The SHA-1 of `abc` is a9993e36..., that of `a` is 86f7e437..., and that of a million times `a` is 34aa973c...
-pub const EXAMPLES: [Example; 17] = [
+pub const EXAMPLES: &[Example] = &[
     Example {
         name: "the word picks the first piece",
         torrent: "torrent 3 7 1 a9993e364706816aba3e25717850c26c9cd0d89d a9993e364706816aba3e25717850c26c9cd0d89d 86f7e437faa5a7fce15d1ddcb9eaeaea377667b8",

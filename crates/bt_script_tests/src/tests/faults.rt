@@ -12,7 +12,7 @@ const TORRENT: &[u8] =
     b"torrent 3 7 2 a9993e364706816aba3e25717850c26c9cd0d89d a9993e364706816aba3e25717850c26c9cd0d89d 86f7e437faa5a7fce15d1ddcb9eaeaea377667b8\n";
 
 /// What stands behind the torrent line, the line at fault and what was printed; no line where there is no fault.
-const BEHIND: [(&[u8], u64, &[u8]); 79] = [
+const BEHIND: &[(&[u8], u64, &[u8])] = &[
     (b"", 0, b""),
     (b"\n\n\n", 0, b""),
     (b"0 join", 0, b"joined\n"),
@@ -95,7 +95,7 @@ const BEHIND: [(&[u8], u64, &[u8]); 79] = [
 ];
 
 /// Whole scripts whose first line that isn't empty is at fault.
-const FIRST_LINES: [(&[u8], u64); 21] = [
+const FIRST_LINES: &[(&[u8], u64)] = &[
     (b"", 1),
     (b"\n", 1),
     (b"\n\n\n", 1),
@@ -152,7 +152,7 @@ fn played(alloc: Global, script: &[u8]) -> (Result<(), Fault>, Vec<u8>) {
 
 #[test]
 fn lines_behind_the_first(rt: HostRuntime) -> Result<(), Fail> {
-    for (behind, number, printed) in BEHIND {
+    for &(behind, number, printed) in BEHIND {
         let mut script = Vec::from_slice(rt.alloc(), TORRENT)?;
         script.extend_from_slice(behind)?;
         let (done, out) = played(rt.alloc(), &script);
@@ -169,7 +169,7 @@ fn lines_behind_the_first(rt: HostRuntime) -> Result<(), Fail> {
 
 #[test]
 fn first_lines(rt: HostRuntime) -> Result<(), Fail> {
-    for (script, number) in FIRST_LINES {
+    for &(script, number) in FIRST_LINES {
         let (done, out) = played(rt.alloc(), script);
         same_for(done, Err(Fault::Line(number)), script)?;
         same_for(out.as_slice(), b"".as_slice(), script)?;
@@ -181,7 +181,7 @@ fn first_lines(rt: HostRuntime) -> Result<(), Fail> {
 /// What is told of a fault, and its exit status.
 #[test]
 fn texts_and_statuses(rt: HostRuntime) -> Result<(), Fail> {
-    let rows = [
+    const ROWS: &[(Fault, u8, &str)] = &[
         (Fault::Line(12), 2, "line 12"),
         (
             Fault::Metainfo(MetaFault::PiecesLength),
@@ -194,9 +194,9 @@ fn texts_and_statuses(rt: HostRuntime) -> Result<(), Fail> {
         (Fault::File, 4, "file fault"),
         (Fault::Memory, 5, "memory"),
     ];
-    for (fault, status, text) in rows {
-        same(fault.status(), status)?;
-        same(fault.to_string(rt.alloc())?.as_str(), text)?;
+    for (fault, status, text) in ROWS {
+        same(fault.status(), *status)?;
+        same(fault.to_string(rt.alloc())?.as_str(), *text)?;
     }
     Ok(())
 }

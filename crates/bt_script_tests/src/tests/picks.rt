@@ -4,7 +4,7 @@
 use super::examples::Example;
 
 /// The SHA-1 of `abc` is a9993e36..., that of `a` is 86f7e437...
-pub const PICKS: [Example; 6] = [
+pub const PICKS: &[Example] = &[
     // The cancel of piece 1 came due first, though piece 0 is less and was requested before it.
     Example {
         name: "the oldest cancel first",

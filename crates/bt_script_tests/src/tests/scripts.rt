@@ -36,7 +36,7 @@ pub fn ran(alloc: Global, script: &[u8]) -> (u8, Vec<u8>) {
 
 #[test]
 fn worked_examples(rt: HostRuntime) -> Result<(), Fail> {
-    for example in EXAMPLES.iter().chain(&PICKS).chain(&SETTINGS) {
+    for example in EXAMPLES.iter().chain(PICKS).chain(SETTINGS) {
         let name = example.name;
         let (script, replies) = parts(rt.alloc(), example.torrent, example.lines)?;
         let (status, out) = ran(rt.alloc(), script.as_bytes());
@@ -91,7 +91,7 @@ fn a_deep_pipe(rt: HostRuntime) -> Result<(), Fail> {
 /// The exit status, what was printed, and what was told.
 #[test]
 fn statuses(rt: HostRuntime) -> Result<(), Fail> {
-    let rows: [(&[u8], u8, &[u8], &[u8]); 4] = [
+    const ROWS: &[(&[u8], u8, &[u8], &[u8])] = &[
         (
             b"torrent 3 3 1 a9993e364706816aba3e25717850c26c9cd0d89d\n0 join\n",
             0,
@@ -112,7 +112,7 @@ fn statuses(rt: HostRuntime) -> Result<(), Fail> {
             b"line 2\n",
         ),
     ];
-    for (input, status, text, told) in rows {
+    for &(input, status, text, told) in ROWS {
         let mut out = Vec::new(rt.alloc());
         let mut err = Vec::new(rt.alloc());
         same(script_to(rt.alloc(), input, &mut out, &mut err), status)?;

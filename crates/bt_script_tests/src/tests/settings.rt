@@ -3,7 +3,7 @@
 use super::examples::Example;
 
 /// The SHA-1 of `abc` is a9993e36..., that of `a` is 86f7e437..., and that of a million times `a` is 34aa973c...
-pub const SETTINGS: [Example; 7] = [
+pub const SETTINGS: &[Example] = &[
     Example {
         name: "two blocks in the pipe",
         torrent: "torrent 1000000 1000000 1 34aa973cd4c4daa4f61eeb2bdbad27316534016f",

@@ -310,27 +310,27 @@ fn a_liar_beside_an_honest_peer(rt: HostRuntime) -> Result<(), Fail> {
 
 #[test]
 fn faults_of_a_run(rt: HostRuntime) -> Result<(), Fail> {
-    let missing = GatherFault::PassMissing {
+    const MISSING: GatherFault = GatherFault::PassMissing {
         held: 0,
         journal: 1,
     };
-    let differ = GatherFault::LogsDiffer {
+    const DIFFER: GatherFault = GatherFault::LogsDiffer {
         worker: 0,
         place: 0,
     };
-    let other = GatherFault::BoardDiffers { piece: 0 };
-    let rows = [
+    const OTHER: GatherFault = GatherFault::BoardDiffers { piece: 0 };
+    const ROWS: &[(SwarmFault, &str)] = &[
         (SwarmFault::NoMemory, "memory"),
-        (SwarmFault::Gather(missing), "gather fault 1"),
-        (SwarmFault::Gather(differ), "gather fault 2"),
-        (SwarmFault::Gather(other), "gather fault 3"),
+        (SwarmFault::Gather(MISSING), "gather fault 1"),
+        (SwarmFault::Gather(DIFFER), "gather fault 2"),
+        (SwarmFault::Gather(OTHER), "gather fault 3"),
         (SwarmFault::NoThread, "no thread"),
-        (SwarmFault::from(GatherFault::NoMemory), "memory"),
     ];
-    for (fault, text) in rows {
+    for &(fault, text) in ROWS {
         let mut said = String::new(rt.alloc());
         write!(said, "{fault}")?;
         same(said.as_str(), text)?;
     }
+    same(SwarmFault::from(GatherFault::NoMemory), SwarmFault::NoMemory)?;
     Ok(())
 }
