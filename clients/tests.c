@@ -245,7 +245,7 @@ static void misuses(void)
     piecepick_job_close(&job);
     piecepick_close(&desk);
     piecepick_close(&desk);
-    puts("21 misuses: the statuses that the header says");
+    puts("15 misuses: the statuses that the header says");
 }
 
 int main(int argc, char **argv)

@@ -324,26 +324,24 @@ def plain_line(line):
 
 
 def audits():
-    text = open("tools/audits_head.rt.txt").read()
-    text += "\npub const EXAMPLES: &[Example] = &[\n"
+    texts = []
     for name, (torrent, workers, lines) in EXAMPLES.items():
         piece_length, total, hashes = TORRENTS[torrent]
         wrongs = [(before, line) for example, before, line in WRONG.values() if example == name]
         wrongs += [WRONG_IN_AUDITS[name]] if name in WRONG_IN_AUDITS else []
         contents = " ".join({ABC: "abc", A: "a", MILLION: "million"}[h] for h in hashes)
         depth, random = RULES.get(name, USUAL)
-        joined = "\\n\\\n            ".join(plain_line(line) for line in lines)
-        text += f"""    // {name.replace("_", " ")}
-    Example {{
-        torrent: "{piece_length} {total} {contents}",
-        workers: {workers},
-        depth: {depth},
-        random: {random},
-        lines: "{joined}",
-        wrong: &[{", ".join(f'({before}, "{plain_line(line)}")' for before, line in wrongs)}],
-    }},
-"""
-    open("crates/bt_picker_tests/src/tests/examples.rt", "w").write(text + "];\n")
+        texts.append("\n".join([
+            name.replace("_", " "),
+            f"{piece_length} {total} {contents}",
+            f"{workers} {depth} {random}",
+            *(plain_line(line) for line in lines),
+            "but",
+            *(f"{before} {plain_line(line)}" for before, line in wrongs),
+        ]))
+    text = open("tools/audits_head.rt.txt").read()
+    text += f"pub const COUNT: u32 = {len(texts)};\n\npub const EXAMPLES: &str = \"\\\n" + "\n\n".join(texts) + "\";\n"
+    open("crates/bt_picker_tests/src/tests/examples.rt", "w").write(text)
 
 
 main()

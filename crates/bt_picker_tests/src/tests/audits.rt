@@ -1,7 +1,7 @@
 //! Journals that are judged.
 
-use super::examples::EXAMPLES;
-use super::steps::{Example, entries_of, entry_of, torrent_of};
+use super::examples::{COUNT, EXAMPLES};
+use super::steps::{Example, entries_of, entry_of, number, torrent_of};
 use bt_picker::*;
 use std::alloc::Global;
 use std::process::Abort;
@@ -20,27 +20,33 @@ pub fn first_wrong(judged: Result<(), AuditFault>) -> Result<Option<usize>, Audi
 fn judge(rt: &impl Abort, alloc: Global, example: &Example) -> Result<(), Fail> {
     let torrent = torrent_of(alloc, example.torrent)?;
     let pieces = torrent.piece_count();
+    let mut terms = example.terms.split(' ');
+    let workers = number(terms.next())?;
     let rules = Rules {
-        depth: example.depth,
-        random: example.random,
+        depth: number(terms.next())?,
+        random: number(terms.next())?,
     };
     assert!(rt; 1 <= rules.depth && rules.depth <= 64 && rules.random <= pieces);
     let entries = entries_of(alloc, pieces, example.lines, usize::MAX)?;
-    audit(alloc, &torrent, example.workers, rules, &entries)?;
-    assert!(rt; !example.wrong.is_empty());
-    for (before, line) in example.wrong {
-        let mut entries = entries_of(alloc, pieces, example.lines, *before)?;
+    audit(alloc, &torrent, workers, rules, &entries)?;
+    for wrong in example.wrong.lines() {
+        let (before, line) = wrong.split_once(' ').ok_or("no number of lines")?;
+        let before = number(Some(before))? as usize;
+        let mut entries = entries_of(alloc, pieces, example.lines, before)?;
         entries.push(entry_of(alloc, pieces, line)?)?;
-        let judged = audit(alloc, &torrent, example.workers, rules, &entries);
-        assert_eq!(rt; first_wrong(judged)?, Some(*before));
+        let judged = audit(alloc, &torrent, workers, rules, &entries);
+        assert_eq!(rt; first_wrong(judged)?, Some(before));
     }
     Ok(())
 }
 
 #[test]
 fn worked_examples(rt: HostRuntime) -> Result<(), Fail> {
-    for example in EXAMPLES {
-        judge(&rt, rt.alloc(), example)?;
+    let mut count = 0_u32;
+    for example in EXAMPLES.split("\n\n") {
+        judge(&rt, rt.alloc(), &Example::of(example)?)?;
+        count = count.saturating_add(1);
     }
+    assert!(rt; count == COUNT);
     Ok(())
 }

@@ -157,17 +157,31 @@ fn reason_of(name: &str) -> Result<Reason, Fail> {
     })
 }
 
-/// A worked example of the rules.
+/// A worked example of the rules, as `examples` spells them.
 #[derive(Clone, Copy)]
 pub struct Example {
     /// As `torrent_of` reads it.
     pub torrent: &'static str,
-    pub workers: u32,
-    pub depth: u32,
-    pub random: u32,
+    /// How many workers there are, the depth, and how many pieces are picked at random.
+    pub terms: &'static str,
     pub lines: &'static str,
-    /// How many of the lines come before, and what mustn't come then.
-    pub wrong: &'static [(usize, &'static str)],
+    /// What mustn't come, each behind how many of the lines come before.
+    pub wrong: &'static str,
+}
+
+impl Example {
+    pub fn of(text: &'static str) -> Result<Example, Fail> {
+        let (right, wrong) = text.split_once("\nbut\n").ok_or("no wrong reply")?;
+        let (_, right) = right.split_once('\n').ok_or("no torrent")?;
+        let (torrent, right) = right.split_once('\n').ok_or("no terms")?;
+        let (terms, lines) = right.split_once('\n').ok_or("no lines")?;
+        Ok(Example {
+            torrent,
+            terms,
+            lines,
+            wrong,
+        })
+    }
 }
 
 /// The first so many lines as entries.
