@@ -6,7 +6,7 @@ use bt_wire::Message;
 use std::fmt;
 
 /// The kinds of messages; those of the peer wire go by their type.
-const KINDS: [&str; 12] = [
+const KINDS: &[&str] = &[
     "0",
     "1",
     "2",

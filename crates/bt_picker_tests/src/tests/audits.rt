@@ -1,15 +1,26 @@
 //! Journals that are judged.
 
+ghost use Rattle.bt_history.specs.Setting.{AreRules};
+
 use super::examples::{COUNT, EXAMPLES};
 use super::steps::{Example, entries_of, entry_of, number, torrent_of};
+use bt_meta::Torrent;
 use bt_picker::*;
 use std::alloc::Global;
 use std::process::Abort;
 use std::test::*;
 
 /// The place of the first entry that isn't allowed, and none in a journal.
-pub fn first_wrong(judged: Result<(), AuditFault>) -> Result<Option<usize>, AuditFault> {
-    match judged {
+pub fn first_wrong(
+    alloc: Global,
+    torrent: &Torrent,
+    workers: u32,
+    rules: Rules,
+    entries: &[Entry],
+) -> Result<Option<usize>, AuditFault>
+    requires { AreRules torrent.now.layout rules }
+{
+    match audit(alloc, torrent, workers, rules, entries) {
         Ok(()) => Ok(None),
         Err(AuditFault::NotAllowed(place)) => Ok(Some(place)),
         Err(AuditFault::NoMemory) => Err(AuditFault::NoMemory),
@@ -28,14 +39,14 @@ fn judge(rt: &impl Abort, alloc: Global, example: &Example) -> Result<(), Fail> 
     };
     assert!(rt; 1 <= rules.depth && rules.depth <= 64 && rules.random <= pieces);
     let entries = entries_of(alloc, pieces, example.lines, usize::MAX)?;
-    audit(alloc, &torrent, workers, rules, &entries)?;
+    assert_eq!(rt; first_wrong(alloc, &torrent, workers, rules, &entries)?, None);
     for wrong in example.wrong.lines() {
         let (before, line) = wrong.split_once(' ').ok_or("no number of lines")?;
         let before = number(Some(before))? as usize;
         let mut entries = entries_of(alloc, pieces, example.lines, before)?;
         entries.push(entry_of(alloc, pieces, line)?)?;
-        let judged = audit(alloc, &torrent, workers, rules, &entries);
-        assert_eq!(rt; first_wrong(judged)?, Some(before));
+        let found = first_wrong(alloc, &torrent, workers, rules, &entries)?;
+        assert_eq!(rt; found, Some(before));
     }
     Ok(())
 }

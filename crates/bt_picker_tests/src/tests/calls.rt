@@ -139,14 +139,15 @@ fn finish_settles_what_waits(rt: HostRuntime) -> Result<(), Fail> {
 #[test]
 fn an_audit_of_no_call(rt: HostRuntime) -> Result<(), Fail> {
     let torrent = three_pieces(&rt, rt.alloc())?;
-    audit(rt.alloc(), &torrent, 1, Rules::usual(), &[])?;
+    let found = first_wrong(rt.alloc(), &torrent, 1, Rules::usual(), &[])?;
+    assert_eq!(rt; found, None);
     let other = [Entry {
         worker: 1,
         call: Call::Join,
         reply: Reply::Joined,
     }];
-    let judged = audit(rt.alloc(), &torrent, 1, Rules::usual(), &other);
-    assert_eq!(rt; first_wrong(judged)?, Some(0));
+    let found = first_wrong(rt.alloc(), &torrent, 1, Rules::usual(), &other)?;
+    assert_eq!(rt; found, Some(0));
     Ok(())
 }
 
@@ -172,8 +173,9 @@ fn all_show_a_piece(alloc: Global, workers: u32) -> Result<Vec<Entry>, Fail> {
 fn an_audit_of_more_workers_than_a_desk_has(rt: HostRuntime) -> Result<(), Fail> {
     let torrent = three_pieces(&rt, rt.alloc())?;
     let entries = all_show_a_piece(rt.alloc(), 1030)?;
-    audit(rt.alloc(), &torrent, 1030, Rules::usual(), &entries)?;
-    let judged = audit(rt.alloc(), &torrent, 1029, Rules::usual(), &entries);
-    assert_eq!(rt; first_wrong(judged)?, Some(2058));
+    let found = first_wrong(rt.alloc(), &torrent, 1030, Rules::usual(), &entries)?;
+    assert_eq!(rt; found, None);
+    let found = first_wrong(rt.alloc(), &torrent, 1029, Rules::usual(), &entries)?;
+    assert_eq!(rt; found, Some(2058));
     Ok(())
 }
