@@ -3,8 +3,8 @@
 
 Each example is a torrent, a number of workers and lines `CALL = REPLY`, as a person writes them from the rules; nothing here runs the
 picker. The definitions in specs/ judge them: `worked_examples` proves each legal, `wrong_replies` proves each wrong reply not allowed.
-The same lines are data of a test of `audit`. Run it from the top of the repository after an edit, then `rt tidy` in
-bt_history, which drops the imports that no example needs, and `rt fmt` in bt_picker_tests.
+The same lines are the text of a test of `audit`. Run it from the top of the repository after an edit, then `rt tidy` in
+bt_history, which drops the imports that no example needs and lays the files out.
 """
 
 import os

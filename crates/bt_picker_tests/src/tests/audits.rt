@@ -39,7 +39,10 @@ fn judge(rt: &impl Abort, alloc: Global, example: &Example) -> Result<(), Fail> 
     };
     assert!(rt; 1 <= rules.depth && rules.depth <= 64 && rules.random <= pieces);
     let entries = entries_of(alloc, pieces, example.lines, usize::MAX)?;
-    assert_eq!(rt; first_wrong(alloc, &torrent, workers, rules, &entries)?, None);
+    assert_eq!(rt;
+        first_wrong(alloc, &torrent, workers, rules, &entries)?,
+        None
+    );
     for wrong in example.wrong.lines() {
         let (before, line) = wrong.split_once(' ').ok_or("no number of lines")?;
         let before = number(Some(before))? as usize;

@@ -331,6 +331,9 @@ fn faults_of_a_run(rt: HostRuntime) -> Result<(), Fail> {
         write!(said, "{fault}")?;
         same(said.as_str(), text)?;
     }
-    same(SwarmFault::from(GatherFault::NoMemory), SwarmFault::NoMemory)?;
+    same(
+        SwarmFault::from(GatherFault::NoMemory),
+        SwarmFault::NoMemory,
+    )?;
     Ok(())
 }
