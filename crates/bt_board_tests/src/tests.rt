@@ -176,6 +176,20 @@ fn marks_many(
     Ok(())
 }
 
+/// A seat with its board.
+#[derive(Drop)]
+struct Listener<'a> {
+    board: &'a Board,
+    seat: BoardSeat,
+    ghost ours: { seat.table ≡ board.now.table },
+}
+
+impl<'a> Listener<'a> {
+    fn news(&mut self) -> Option<u32> {
+        self.board.news(&mut self.seat)
+    }
+}
+
 /// How often the news is taken before the other thread is given up.
 const TRIES: u64 = 1_000_000_000;
 
@@ -183,18 +197,19 @@ const TRIES: u64 = 1_000_000_000;
 fn hears_many(
     alloc: Global,
     board: &Board,
-    mut seat: BoardSeat,
+    seat: BoardSeat,
     noted: &[AtomicBool],
 ) -> Result<(), Wrong>
     requires { seat.table ≡ board.now.table }
 {
+    let mut listener = Listener { board, seat };
     let mut heard = Vec::from_elem(alloc, false, MANY as usize)?;
     let mut count = 0u32;
     for _ in 0..TRIES {
         if count == MANY {
             return Ok(());
         }
-        let Some(piece) = board.news(&mut seat) else {
+        let Some(piece) = listener.news() else {
             thread::yield_now();
             continue;
         };
