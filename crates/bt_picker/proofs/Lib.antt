@@ -13,7 +13,7 @@ pub mod Shelves
 pub mod Apart
 pub mod Sweeps
 pub mod Opened
-pub mod Floors
+pub mod FloorSteps
 pub mod Scans
 pub mod Rows
 pub mod Endings

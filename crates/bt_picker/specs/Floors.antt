@@ -1,5 +1,5 @@
 -- From how few peers on the search for a rarest piece has to look. No public clause cites this module.
-use Rattle.std.specs.Prelude.{ℕ, ◌≡◌, ◌<◌, ◌≤◌, ◌==◌, ◌&&◌, ⊤, Bool, true, false, not, List, length, slice_index_or}
+use Rattle.std.specs.Prelude.{ℕ, ◌≡◌, ◌≢◌, ◌<◌, ◌≤◌, ◌==◌, ◌&&◌, ⊤, Bool, true, false, not, List, length, slice_index_or}
 use Rattle.bt_meta.specs.Layout.{piece_count}
 use Rattle.bt_history.specs.Setting.{Setting}
 use Rattle.bt_history.specs.History.{History}
@@ -25,6 +25,22 @@ IsFloor rows peer n = (p : ℕ) → p < length rows → slice_index_or peer.show
 pub record AreFloors (floors : List ℕ) (peers : List PeerState) (rows : List PieceState) : Type 0 where
   pub len : length floors ≡ length peers
   pub each : (q : ℕ) → q < length peers → IsFloor rows (peer_row peers q) (at floors q)
+
+-- the same, but for one piece, of which nothing is said
+abbrev pub IsFloorBeside : ℕ → List PieceState → PeerState → ℕ → Type 0
+IsFloorBeside piece rows peer n = (p : ℕ) → p ≢ piece → p < length rows → slice_index_or peer.shows p false ≡ true
+    → is_fresh (piece_row rows p) ≡ true → n ≤ (piece_row rows p).availability
+
+-- there is such a number for each peer
+pub record AreFloorsBeside (piece : ℕ) (floors : List ℕ) (peers : List PeerState) (rows : List PieceState) : Type 0 where
+  pub len : length floors ≡ length peers
+  pub each : (q : ℕ) → q < length peers → IsFloorBeside piece rows (peer_row peers q) (at floors q)
+
+-- no floor is higher than before, and of those of the first k peers that show the piece none is higher than n
+pub record AreLowered (before after : List ℕ) (peers : List PeerState) (k piece n : ℕ) : Type 0 where
+  pub len : length after ≡ length before
+  pub most : (q : ℕ) → at after q ≤ at before q
+  pub shown : (q : ℕ) → q < k → slice_index_or (peer_row peers q).shows piece false ≡ true → at after q ≤ n
 
 -- no candidate is shown by fewer peers than n
 abbrev pub NoneRarer : Setting → History → ℕ → ℕ → Type 0

@@ -2,9 +2,11 @@
 
 ghost use Rattle.std.specs.Prelude.{◌≡◌, ◌<◌, ◌+◌, ◌^◌, [], false, true, length, slice_index_or, unwrap_or};
 ghost use Rattle.std.specs.Option.{option_copied};
+ghost use Rattle.bt_picker.specs.Floors.{AreFloors};
 ghost use Rattle.bt_picker.specs.Tables.{AreCounted, edit, hidden_rows, less_available, lowered, lowered_by, more_available, peer_row, piece_row};
 ghost use Rattle.bt_picker.specs.Tables.{recounted, shown_rows, wanted_by};
 
+use crate::floors::Floors;
 use crate::peers::Peers;
 use crate::piece::Change;
 use crate::pieces::Pieces;
@@ -94,19 +96,24 @@ fn has(flags: &Bitfield, piece: u32) -> bool
 }
 
 /// Frees the blocks of the line: one peer less is asked for each.
-pub fn lower_all(pieces: &mut Pieces, line: &[Block])
-    ensures { pieces.new ≡ lowered_by line.now pieces.old }
+pub fn lower_all(pieces: &mut Pieces, floors: &mut Floors, peers: &Peers, line: &[Block])
+    requires { AreFloors floors.old peers.now pieces.old }
+    ensures pieces { pieces.new ≡ lowered_by line.now pieces.old }
+    ensures floors { AreFloors floors.new peers.now pieces.new }
 {
     for block in line {
-        lower(pieces, *block);
+        lower(pieces, floors, peers, *block);
     }
 }
 
-/// One peer less is asked for the block.
-fn lower(pieces: &mut Pieces, block: Block)
-    ensures { pieces.new ≡ lowered block pieces.old }
+/// One peer less is asked for the block, whose piece may be unbegun again.
+fn lower(pieces: &mut Pieces, floors: &mut Floors, peers: &Peers, block: Block)
+    requires { AreFloors floors.old peers.now pieces.old }
+    ensures pieces { pieces.new ≡ lowered block pieces.old }
+    ensures floors { AreFloors floors.new peers.now pieces.new }
 {
     if (block.piece as usize) < pieces.len() {
         pieces.apply(block.piece, Change::Lower(block.begin / BLOCK_SIZE));
+        floors.admit(peers, pieces, block.piece);
     }
 }

@@ -22,6 +22,7 @@ ghost use Rattle.bt_picker.specs.Tables.{edit, empty_cell, failed_row, entered_c
 ghost use Rattle.bt_picker.specs.Tables.{choke_row, unchoke_row, less_available, lowered, lowered_by, more_available, peer_row, piece_row};
 ghost use Rattle.bt_picker.specs.Tables.{recounted, released, reshown, rewanted, wanted_by, with_block, with_peer, without_block};
 
+use crate::floors::Floors;
 use crate::peer::Peer;
 use crate::peers::Peers;
 use crate::piece::{Change, GROUPS, Piece, UNBEGUN};
@@ -43,8 +44,7 @@ pub struct Tables {
     rules: Rules,
     peers: Peers,
     pieces: Pieces,
-    /// For each peer a number: it shows no unbegun wanted piece that fewer peers show.
-    floors: Vec<u32>,
+    floors: Floors,
 }
 
 impl Model for Tables {
@@ -60,7 +60,7 @@ impl Model for Tables {
       pieces = t.pieces;
     } };
 
-    ghost invariant = { λ t. AreFloors t.floors.items t.peers t.pieces };
+    ghost invariant = { λ t. AreFloors t.floors t.peers t.pieces };
 }
 
 impl Tables {
@@ -78,7 +78,7 @@ impl Tables {
         Ok(Tables {
             peers: Peers::new(alloc, workers, torrent.piece_count())?,
             pieces: Pieces::new(alloc, &torrent)?,
-            floors: vec![in alloc; 0; workers as usize]?,
+            floors: Floors::new(alloc, workers)?,
             torrent,
             workers,
             rules,
@@ -187,7 +187,7 @@ impl Tables {
         requires { worker < length self.now.peers }
         ensures { IsFloor self.now.pieces (peer_row self.now.peers worker) result }
     {
-        self.floors[worker as usize]
+        self.floors.of(worker)
     }
 
     /// The floor that a reply to Next tells: once enough pieces are had, a piece that begins is a rarest one; and where nothing is to be
@@ -211,7 +211,7 @@ impl Tables {
         ensures { self.new ≡ self.old }
     {
         if let Reply::Noted(false) = reply {
-            self.floors[worker as usize] = u32::MAX;
+            self.floors.put(worker, u32::MAX);
         }
     }
 
@@ -222,7 +222,7 @@ impl Tables {
         ensures { self.new ≡ self.old }
     {
         if let Some(floor) = self.floor_told(reply) {
-            self.floors[worker as usize] = floor;
+            self.floors.put(worker, floor);
         }
     }
 
@@ -273,8 +273,8 @@ impl Tables {
         requires { worker < length self.old.peers }
         ensures { self.new ≡ released self.old worker }
     {
-        lower_all(&mut self.pieces, self.peers.row(worker).asked());
-        self.floors.fill(0); // a freed piece may be unbegun again
+        let line = self.peers.row(worker).asked();
+        lower_all(&mut self.pieces, &mut self.floors, &self.peers, line);
     }
 
     /// The worker's peer shows these pieces in place of those that it showed, or none.
@@ -284,7 +284,7 @@ impl Tables {
         ensures { self.new ≡ reshown self.old worker (unwrap_or (option_copied flags.entry) []) }
     {
         recount(&mut self.pieces, &self.peers, worker, flags);
-        self.floors.fill(0); // fewer peers may show a piece
+        self.floors.ease(); // one peer less may show a piece
     }
 
     /// Join: what was asked of an earlier peer of the worker is freed.
@@ -294,6 +294,7 @@ impl Tables {
     {
         self.release(worker);
         self.peers.join(worker);
+        self.floors.put(worker, u32::MAX); // it shows nothing yet
     }
 
     /// Choke: what was asked of the peer is freed.
@@ -321,7 +322,7 @@ impl Tables {
         ensures { self.new ≡ with_peer (reshown self.old worker flags.now) worker (bits_row flags.now) }
     {
         self.reshow(worker, Some(flags));
-        self.floors[worker as usize] = 0;
+        self.floors.put(worker, 0);
         self.peers.put_bits(worker, flags);
     }
 
@@ -336,8 +337,8 @@ impl Tables {
         let is_new = !self.peers.shows(worker, piece);
         self.pieces.announce(piece, is_new);
         let shown_by = self.pieces.availability(piece);
-        let floor = self.floors[worker as usize];
-        self.floors[worker as usize] = floor_with(floor, self.pieces.row(piece), shown_by);
+        let floor = floor_with(self.floors.of(worker), self.pieces.row(piece), shown_by);
+        self.floors.put(worker, floor);
         self.peers.put_have(worker, piece);
     }
 
@@ -439,7 +440,7 @@ impl Tables {
         ensures { self.new ≡ record self.old { pieces = edit self.old.pieces piece failed_row } }
     {
         self.pieces.apply(piece, Change::Fail);
-        self.floors.fill(0); // the piece may be unbegun again
+        self.floors.admit(&self.peers, &self.pieces, piece);
     }
 
     /// Want.
@@ -447,7 +448,7 @@ impl Tables {
         ensures { self.new ≡ rewanted self.old flags.now }
     {
         rewant(&mut self.pieces, flags);
-        self.floors.fill(0); // more may be wanted
+        self.floors.clear(); // more may be wanted
     }
 }
 

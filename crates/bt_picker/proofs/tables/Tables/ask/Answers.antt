@@ -2,7 +2,7 @@ use Rattle.std.proofs.Common.{◌/◌, refl}
 use Rattle.bt_meta.specs.Layout.{block_size}
 use Rattle.bt_picker.specs.declared.piece.Change.TheVariants.{Raise}
 use Rattle.bt_picker.specs.Tables.{changed_row, edit, piece_row, request_row}
-use Rattle.bt_picker.proofs.Floors.{edit_stale, kept_peer, raised_stale}
+use Rattle.bt_picker.proofs.FloorSteps.{edit_stale, kept_peer, raised_stale}
 use Rattle.bt_picker.proofs.tables.Tables.ask.Goals as goal
 
 pub ask-requires-clause-room : goal.ask-requires-clause-room
@@ -15,9 +15,9 @@ invariant_of-self c =
     let w = c.args.worker in
     let lw = rw (← c.self.view_is) at c.requires.worker in
     let room = rw (← c.self.view_is) at c.requires.room in
-    let asked = kept_peer o.floors.items o.peers o.pieces w (request_row b) c.self.invariant lw (λ row. refl) in
+    let asked = kept_peer o.floors o.peers o.pieces w (request_row b) c.self.invariant lw (λ row. refl) in
     rw (c.apply.ensures, c.ask.ensures)
-    (edit_stale o.floors.items (edit o.peers w (request_row b)) o.pieces b.piece (changed_row (Raise (b.begin / block_size))) asked
+    (edit_stale o.floors (edit o.peers w (request_row b)) o.pieces b.piece (changed_row (Raise (b.begin / block_size))) asked
     room.cell.has_piece
     (raised_stale (piece_row o.pieces b.piece) (b.begin / block_size) room.cell.has_cell))
 

@@ -1,6 +1,6 @@
 use Rattle.std.proofs.Common.{Bool, ap, ◌∙◌}
 use Rattle.bt_history.specs.declared.call.Reply.TheVariants.{Noted}
-use Rattle.bt_picker.proofs.Floors.{raise_floor}
+use Rattle.bt_picker.proofs.FloorSteps.{raise_floor}
 use Rattle.bt_picker.proofs.tables.Tables.note_interest.Goals as goal
 
 pub invariant_of-self : goal.invariant_of-self
@@ -9,4 +9,4 @@ invariant_of-self c =
     let lw = rw (← c.self.view_is) at c.requires.worker in
     let none = rw (← c.self.view_is) at c.requires.none in
     let is = c.in-Noted-false.is ∙ ap (λ (x : Bool). Noted x) c.in-Noted-false.field-0-test in
-    raise_floor o.floors.items o.peers o.pieces c.args.worker _ c.self.invariant lw (none is _)
+    rw c.put.ensures (raise_floor o.floors o.peers o.pieces c.args.worker _ c.self.invariant lw (none is _))

@@ -6,14 +6,14 @@ use Rattle.bt_history.specs.Setting.{setting_of}
 use Rattle.bt_history.proofs.Allowed.{had_reply}
 use Rattle.bt_picker.specs.Tables.{PieceState, had_row, failed_row, edit}
 use Rattle.bt_picker.proofs.Changes.{with_pieces}
-use Rattle.bt_picker.proofs.Floors.{edit_stale}
+use Rattle.bt_picker.proofs.FloorSteps.{edit_stale}
 use Rattle.bt_picker.proofs.tables.Tables.put_check.Goals as goal
 
 pub invariant_of-self : goal.invariant_of-self
 invariant_of-self c =
     let o = c.self.inside in
     let lp = rw (← c.self.view_is) at c.requires in
-    rw c.apply.ensures (edit_stale o.floors.items o.peers o.pieces c.args.piece had_row c.self.invariant lp refl)
+    rw c.apply.ensures (edit_stale o.floors o.peers o.pieces c.args.piece had_row c.self.invariant lp refl)
 
 pub returns-in-Had : goal.returns-in-Had
 returns-in-Had c =

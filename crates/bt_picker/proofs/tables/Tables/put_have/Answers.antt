@@ -1,10 +1,9 @@
 use Rattle.std.proofs.Common.{arith, length, ◌≡◌, ◌<◌, ◌^◌, ◌∙◌, ap, subst, sym, Bool, true, false, not, ◌≤◌, List, refl}
 use Rattle.std.specs.Prelude.{slice_index_or}
-use Rattle.std.proofs.lemmas.List.{get_or_default}
 use Rattle.bt_picker.specs.Tables.{PieceState, edit, have_row, less_available, more_available, peer_row}
 use Rattle.bt_picker.specs.Tables.{piece_row}
 use Rattle.bt_picker.proofs.Changes.{edited_counted}
-use Rattle.bt_picker.proofs.Floors.{edit_piece, have_floor, less_floor, new_floor, no_less}
+use Rattle.bt_picker.proofs.FloorSteps.{edit_piece, have_floor, less_floor, new_floor, no_less}
 use Rattle.bt_picker.proofs.Tabled.{length_edit}
 use Rattle.bt_picker.specs.Floors.{is_fresh}
 use Rattle.bt_picker.specs.Standings.{apart}
@@ -31,20 +30,19 @@ invariant_of-self c =
     let lw = rw (← c.self.view_is) at c.requires.worker in
     let lp = rw (← c.self.view_is) at c.requires.piece in
     let f : PieceState → PieceState = λ row. more_available (not c.shows-is_new.result) (less_available false row) in
-    let n = c.floor_with.result in
+    let n = c.floor_with-floor.result in
     let old = peer_row o.peers w in
-    let grown = edit_piece o.floors.items o.peers o.pieces p f c.self.invariant lp
+    let grown = edit_piece o.floors o.peers o.pieces p f c.self.invariant lp
     (λ fresh. (fresh, no_less (piece_row o.pieces p).availability (not c.shows-is_new.result))) in
     let row : c.row.result.now ≡ apart (piece_row (edit o.pieces p f) p) =
     c.row.ensures ∙ ap (λ (rows : List PieceState). apart (piece_row rows p)) c.announce.ensures in
     let shown_by : c.availability-shown_by.result ≡ (piece_row (edit o.pieces p f) p).availability =
     c.availability-shown_by.ensures ∙ ap (λ (rows : List PieceState). (piece_row rows p).availability) c.announce.ensures in
-    let own = c.index-floor.ensures ∙ get_or_default o.floors.items w c.index-floor.result.now 0 (omega (arith, lw, c.self.invariant.len)) in
-    let floor = less_floor (edit o.pieces p f) old (at o.floors.items w) n (omega (arith, c.floor_with.ensures.most, own)) (grown.each w lw) in
+    let floor = less_floor (edit o.pieces p f) old (at o.floors w) n (omega (arith, c.floor_with-floor.ensures.most, c.of.ensures)) (grown.each w lw) in
     let low : is_fresh (piece_row (edit o.pieces p f) p) ≡ true → n ≤ (piece_row (edit o.pieces p f) p).availability =
-    λ fresh. (let shown = c.floor_with.ensures.shown (ap is_fresh row ∙ fresh) in omega (arith, shown, shown_by)) in
-    rw (c.announce.ensures, c.put_have.ensures)
-    (new_floor o.floors.items o.peers (edit o.pieces p f) w n (have_row p) grown lw (have_floor (edit o.pieces p f) old p n low floor))
+    λ fresh. (let shown = c.floor_with-floor.ensures.shown (ap is_fresh row ∙ fresh) in omega (arith, shown, shown_by)) in
+    rw (c.announce.ensures, c.put_have.ensures, c.put.ensures)
+    (new_floor o.floors o.peers (edit o.pieces p f) w n (have_row p) grown lw (have_floor (edit o.pieces p f) old p n low floor))
 
 pub announce-requires-clause-few : goal.announce-requires-clause-few
 announce-requires-clause-few c =

@@ -1,5 +1,5 @@
 -- The floors of all peers, as a row of a peer or of a piece changes.
-use Rattle.std.proofs.Common.{◌≡◌, ℕ, zero, suc, ◌+◌, ◌<◌, ◌≤◌, ◌&&◌, ◌||◌, Bool, true, false, not, List, length, get_or, set, replicate, refl, ap}
+use Rattle.std.proofs.Common.{◌≡◌, ◌≢◌, ℕ, zero, suc, ◌+◌, ◌<◌, ◌≤◌, ◌&&◌, ◌||◌, Bool, true, false, not, List, length, get_or, set, replicate, refl, ap}
 use Rattle.std.proofs.Common.{sym, ◌∙◌, subst, arith, length-set, cond, Some, ◌-◌}
 use Rattle.std.specs.Prelude.{slice_index_or, is_some}
 use Rattle.std.proofs.lemmas.Bool.{false≢true, ne_eqb, lt-ltb, and_right, or_right}
@@ -7,11 +7,11 @@ use Rattle.std.proofs.lemmas.List.Sums.{get_or-le-sum_by}
 use Rattle.std.proofs.lemmas.List.{set-get_or, get_or-set_same, get_or-set_other, get_or-replicate, length-replicate}
 use Rattle.bt_order.specs.Orders.{at}
 use Rattle.bt_picker.specs.Tables.{CellState, PeerState, PieceState, changed_row, edit, empty_cell, fresh_peer, fresh_piece, have_row, one_if}
-use Rattle.bt_picker.specs.Tables.{one_more, peer_row, piece_row, stored_row}
+use Rattle.bt_picker.specs.Tables.{less_available, more_available, one_more, peer_row, piece_row, recounted, stored_row}
 use Rattle.bt_picker.specs.declared.piece.Change.TheVariants.{Raise}
 use Rattle.bt_picker.specs.Standings.{is_resting, is_touched, touched_count}
-use Rattle.bt_picker.proofs.Tabled.{edit_none, edit_read, get_or_edit_other, get_or_edit_same, length_edit}
-use Rattle.bt_picker.specs.Floors.{AreFloors, IsFloor, is_fresh}
+use Rattle.bt_picker.proofs.Tabled.{edit_none, edit_read, get_or_edit_other, get_or_edit_same, get_or_table, length_edit, length_table}
+use Rattle.bt_picker.specs.Floors.{AreFloors, AreFloorsBeside, AreLowered, IsFloor, is_fresh}
 use mathlib.Core.Logic.{dite}
 use native.Mathlib.Decide.{ℕ_discrete}
 
@@ -168,3 +168,97 @@ less_floor rows row n m le floor p lp shown fresh = (let low = floor p lp shown 
 pub no_less : (n : ℕ) (x : Bool) → n ≤ n - one_if false + one_if x
 no_less n true = omega arith
 no_less n false = omega arith
+
+-- ---- a piece is unbegun that wasn't
+
+-- where one row changes the floors are of the others as before
+pub edit_beside : (floors : List ℕ) (peers : List PeerState) (rows : List PieceState) (p : ℕ) (f : PieceState → PieceState) →
+    AreFloors floors peers rows → AreFloorsBeside p floors peers (edit rows p f)
+edit_beside floors peers rows p f are = record {
+  len = are.len;
+  each = λ q lq r other lr shown fresh.
+      let now : piece_row (edit rows p f) r ≡ piece_row rows r = get_or_edit_other rows p r f (fresh_piece 0) other in
+      let low = are.each q lq r (omega (arith, lr, length_edit rows p f)) shown (ap is_fresh (sym now) ∙ fresh) in
+      let is : (piece_row (edit rows p f) r).availability ≡ (piece_row rows r).availability = ap (λ (s : PieceState). s.availability) now in
+      omega (arith, low, is);
+}
+
+-- they are of all, where the one isn't fresh, or where each peer that shows it has a floor that is low enough
+pub stale_beside : (floors : List ℕ) (peers : List PeerState) (rows : List PieceState) (p : ℕ) → AreFloorsBeside p floors peers rows
+    → is_fresh (piece_row rows p) ≡ false → AreFloors floors peers rows
+stale_beside floors peers rows p beside stale = record {
+  len = beside.len;
+  each = λ q lq r lr shown fresh. dite (ℕ_discrete r p)
+      (λ same. absurd (false≢true (sym (ap (λ (m : ℕ). is_fresh (piece_row rows m)) same ∙ stale) ∙ fresh)))
+      (λ other. beside.each q lq r other lr shown fresh);
+}
+
+pub lowered_beside : (floors now : List ℕ) (peers : List PeerState) (rows : List PieceState) (p : ℕ) → AreFloorsBeside p floors peers rows
+    → AreLowered floors now peers (length peers) p (piece_row rows p).availability → AreFloors now peers rows
+lowered_beside floors now peers rows p beside low = record {
+  len = low.len ∙ beside.len;
+  each = λ q lq r lr shown fresh. dite (ℕ_discrete r p)
+      (λ same.
+      let most = low.shown q lq (ap (λ (m : ℕ). slice_index_or (peer_row peers q).shows m false) (sym same) ∙ shown) in
+      let is : (piece_row rows r).availability ≡ (piece_row rows p).availability = ap (λ (m : ℕ). (piece_row rows m).availability) same in
+      omega (arith, most, is))
+      (λ other. (let least = beside.each q lq r other lr shown fresh in omega (arith, least, low.most q)));
+}
+
+pub lowered_none : (floors : List ℕ) (peers : List PeerState) (p n : ℕ) → AreLowered floors floors peers 0 p n
+lowered_none floors peers p n = record { len = refl; most = λ q. omega arith; shown = λ q lq shown. absurd (omega (arith, lq)) }
+
+-- the floor of one peer more that shows the piece is low enough
+pub lowered_more : (floors now : List ℕ) (peers : List PeerState) (k p n m : ℕ) → AreLowered floors now peers k p n → k < length now
+    → m ≤ at now k → m ≤ n → AreLowered floors (set now k m) peers (k + 1) p n
+lowered_more floors now peers k p n m low lk least most = record {
+  len = length-set now k m ∙ low.len;
+  most = λ q. dite (ℕ_discrete q k)
+      (λ same. (let is = here q same in let before = low.most q in let own = ap (at now) same in omega (arith, is, least, before, own)))
+      (λ other. (let is = apart q other in omega (arith, is, low.most q)));
+  shown = λ q lq shown. dite (ℕ_discrete q k)
+      (λ same. (let is = here q same in omega (arith, is, most)))
+      (λ other. (let is = apart q other in let before = low.shown q (omega (arith, lq, other)) shown in omega (arith, is, before)));
+} where
+  here : (q : ℕ) → q ≡ k → at (set now k m) q ≡ m
+  here q same = ap (at (set now k m)) same ∙ get_or-set_same now k m 0 lk
+
+  apart : (q : ℕ) → q ≢ k → at (set now k m) q ≡ at now q
+  apart q other = get_or-set_other now k q m 0 other
+
+-- one that doesn't show it needs none
+pub lowered_past : (floors now : List ℕ) (peers : List PeerState) (k p n : ℕ) → AreLowered floors now peers k p n
+    → slice_index_or (peer_row peers k).shows p false ≡ false → AreLowered floors now peers (k + 1) p n
+lowered_past floors now peers k p n low hidden = record {
+  len = low.len;
+  most = low.most;
+  shown = λ q lq shown. dite (ℕ_discrete q k)
+      (λ same. absurd (false≢true (sym (ap (λ (m : ℕ). slice_index_or (peer_row peers m).shows p false) same ∙ hidden) ∙ shown)))
+      (λ other. low.shown q (omega (arith, lq, other)) shown);
+}
+
+-- ---- one peer less may show each piece
+
+pub eased_floors : (floors now : List ℕ) (peers : List PeerState) (rows : List PieceState) (before after : List Bool) → AreFloors floors peers rows
+    → length now ≡ length floors → ((q : ℕ) → q < length floors → at now q ≡ at floors q - 1) → AreFloors now peers (recounted rows before after)
+eased_floors floors now peers rows before after are len less = record {
+  len = len ∙ are.len;
+  each = λ q lq p lp shown fresh.
+      let x = slice_index_or after p false in
+      let y = slice_index_or before p false in
+      let within : p < length rows = omega (arith, lp, length_table (length rows) (reseen rows before after)) in
+      let row : piece_row (recounted rows before after) p ≡ more_available x (less_available y (piece_row rows p)) =
+      get_or_table (length rows) (reseen rows before after) p (fresh_piece 0) within in
+      let low = are.each q lq p within shown (ap is_fresh (sym row) ∙ fresh) in
+      let is : (piece_row (recounted rows before after) p).availability ≡ (piece_row rows p).availability - one_if y + one_if x =
+      ap (λ (r : PieceState). r.availability) row in
+      one_less_at (at floors q) (piece_row rows p).availability x y (at now q) _ (less q (omega (arith, lq, are.len))) is low;
+} where
+  reseen : List PieceState → List Bool → List Bool → ℕ → PieceState
+  reseen rows before after p = more_available (slice_index_or after p false) (less_available (slice_index_or before p false) (piece_row rows p))
+
+  one_less_at : (n a : ℕ) (x y : Bool) (m b : ℕ) → m ≡ n - 1 → b ≡ a - one_if y + one_if x → n ≤ a → m ≤ b
+  one_less_at n a true true m b is sum low = omega (arith, is, sum, low)
+  one_less_at n a true false m b is sum low = omega (arith, is, sum, low)
+  one_less_at n a false true m b is sum low = omega (arith, is, sum, low)
+  one_less_at n a false false m b is sum low = omega (arith, is, sum, low)
