@@ -2,7 +2,8 @@
 //! answers from memory.
 #![tactic(auto)]
 
-ghost use Rattle.std.specs.Prelude.{◌≡◌, ◌<◌};
+ghost use Rattle.std.specs.Prelude.{◌≡◌, ◌<◌, ◌≤◌, IfOk};
+ghost use Rattle.bt_meta.specs.Layout.{piece_count};
 
 mod peer;
 
@@ -14,6 +15,7 @@ use rand_core::Rng;
 use rand_pcg::Lcg64Xsh32;
 use sha1::Sha1;
 use std::alloc::Global;
+use std::rt::Runtime;
 use std::sync::Arc;
 
 /// The bytes of a piece.
@@ -31,20 +33,30 @@ const MOST_ASKS: u32 = 11;
 fn main(rt: HostRuntime) -> Result<()> {
     let alloc = rt.alloc();
     let mut peer = Peer::new(alloc, vec![in alloc; b'a'; 49_152]?);
-    let mut hashes = Vec::new(alloc);
-    for piece in peer.content().chunks(PIECE_LEN as usize) {
-        hashes.push(Sha1::digest(piece))?;
-    }
-    let torrent = Torrent::of_parts(PIECE_LEN, 49_152, hashes, [0; 20])?;
+    let torrent = torrent_of(alloc, peer.content())?;
     let mut desk = Desk::new(alloc, Arc::new(alloc, torrent)?, 1, Rules::usual())?;
     download(alloc, &mut desk, 0, &mut peer)?;
+    tell(&rt, &desk, peer.asked())
+}
 
-    let asked = peer.asked();
+/// What a metainfo file would tell of this content.
+fn torrent_of(alloc: Global, content: &[u8]) -> Result<Torrent>
+    ensures { IfOk result (λ torrent. 1 ≤ piece_count torrent.layout) }
+{
+    let mut hashes = Vec::new(alloc);
+    for piece in content.chunks(PIECE_LEN as usize) {
+        hashes.push(Sha1::digest(piece))?;
+    }
+    Ok(Torrent::of_parts(PIECE_LEN, content.len() as u64, hashes, [0; 20])?)
+}
+
+/// Prints how the download went, and the hash of what came.
+fn tell<R: Runtime + AllocGlobal>(rt: &R, desk: &Desk, asked: u64) -> Result<()> {
     let complete = desk.is_complete();
     println!(rt; "asked for {asked} blocks, complete: {complete}")?;
-    let mut content = ToWrite::new(Vec::new(alloc));
+    let mut content = ToWrite::new(Vec::new(rt.alloc()));
     desk.write_content(&mut content)?;
-    let digest = hex::encode(alloc, Sha1::digest(&content.into_inner()).as_slice())?;
+    let digest = hex::encode(rt.alloc(), Sha1::digest(&content.into_inner()).as_slice())?;
     println!(rt; "sha1 {digest}")?;
     Ok(())
 }
