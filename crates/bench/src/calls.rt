@@ -63,27 +63,37 @@ struct Trial {
 
 /// Times each kind of call once through.
 pub fn time_calls<C: CpuClock>(rt: &C, alloc: Global, workload: Workload) -> Result<Table> {
-    let mut trial = Trial {
-        alloc,
-        swarm: Swarm::new(alloc, &workload)?,
-        workload,
-        words: Mix::new(SEED),
-        had: Vec::new(alloc),
-        table: Table::new(alloc),
-    };
-    trial.table.read_clock(rt)?;
-    trial.come(rt)?;
-    trial.ask_for_nothing(rt)?;
-    trial.download(rt)?;
-    trial.ask_beyond(rt)?;
-    trial.tell_pieces(rt)?;
-    trial.choke(rt)?;
-    trial.want(rt)?;
-    trial.go_and_come_back(rt)?;
+    let mut trial = Trial::new(alloc, workload)?;
+    trial.time(rt)?;
     Ok(trial.table)
 }
 
 impl Trial {
+    /// With no peer yet.
+    fn new(alloc: Global, workload: Workload) -> Result<Trial> {
+        Ok(Trial {
+            alloc,
+            swarm: Swarm::new(alloc, &workload)?,
+            workload,
+            words: Mix::new(SEED),
+            had: Vec::new(alloc),
+            table: Table::new(alloc),
+        })
+    }
+
+    /// Each kind of call.
+    fn time<C: CpuClock>(&mut self, rt: &C) -> Result<()> {
+        self.table.read_clock(rt)?;
+        self.come(rt)?;
+        self.ask_for_nothing(rt)?;
+        self.download(rt)?;
+        self.ask_beyond(rt)?;
+        self.tell_pieces(rt)?;
+        self.choke(rt)?;
+        self.want(rt)?;
+        self.go_and_come_back(rt)
+    }
+
     /// All peers of the swarm come.
     fn come<C: CpuClock>(&mut self, rt: &C) -> Result<()> {
         let shown = self.workload.bitfields(self.alloc)?;

@@ -11,8 +11,8 @@ mod swarm;
 use anyhow::Result;
 use arguments::{Arguments, command, read};
 use calls::{Table, time_calls};
-use download::Download;
-use figures::{CountLine, TimeLine, hash_time, peak_memory, play};
+use download::{Counts, Download};
+use figures::{CountLine, TimeLine, Times, hash_time, peak_memory, play};
 use std::process::ExitCode;
 use std::rt::Runtime;
 use std::time::CpuClock;
@@ -35,23 +35,32 @@ fn main(rt: HostRuntime) -> ExitCode {
 /// Does what the command line says.
 fn obey<R: Runtime + AllocGlobal + CpuClock>(rt: &R) -> Result<ExitCode> {
     let words: Vec<String> = env::args(rt)?.collect(rt.alloc())?;
-    let matches = match command(rt.alloc())?.try_get_matches_from(words.as_slice()) {
-        Ok(matches) => matches,
-        Err(error) if error.use_stderr() => {
-            rt.eprint(&error)?;
-            return Ok(ExitCode::from(WRONG_ARGUMENTS));
-        }
-        Err(error) => {
-            rt.print(&error)?;
-            return Ok(ExitCode::SUCCESS);
-        }
-    };
-    let arguments = read(&matches);
-    if arguments.calls {
-        time_each_call(rt, &arguments)?;
-    } else {
-        time_download(rt, &arguments)?;
+    match command(rt.alloc())?.try_get_matches_from(words.as_slice()) {
+        Ok(matches) => time(rt, &read(&matches)),
+        Err(error) => refuse(rt, &error),
     }
+}
+
+/// Times what is asked for.
+fn time<R: Runtime + AllocGlobal + CpuClock>(
+    rt: &R,
+    arguments: &Arguments<'_>,
+) -> Result<ExitCode> {
+    if arguments.calls {
+        time_each_call(rt, arguments)?;
+    } else {
+        time_download(rt, arguments)?;
+    }
+    Ok(ExitCode::SUCCESS)
+}
+
+/// Prints what is wrong with the command line, or the help that it asks for.
+fn refuse<R: Runtime>(rt: &R, error: &clap::Error) -> Result<ExitCode> {
+    if error.use_stderr() {
+        rt.eprint(error)?;
+        return Ok(ExitCode::from(WRONG_ARGUMENTS));
+    }
+    rt.print(error)?;
     Ok(ExitCode::SUCCESS)
 }
 
@@ -81,16 +90,26 @@ fn play_untimed<R: Runtime + AllocGlobal + CpuClock>(
     rt: &R,
     arguments: &Arguments<'_>,
 ) -> Result<()> {
-    let workload = arguments.workload;
     let trace = arguments.trace.map(|_| String::new(rt.alloc()));
-    let mut download = Download::new(rt.alloc(), workload, trace)?;
-    play(rt, rt.alloc(), workload, &mut download)?;
-    let counts = download.counts();
+    let mut download = Download::new(rt.alloc(), arguments.workload, trace)?;
+    play(rt, rt.alloc(), arguments.workload, &mut download)?;
+    tell(rt, arguments, &download)
+}
+
+/// Writes the requests of the download, and prints its counts, as far as they are wanted.
+fn tell<R: Runtime + AllocGlobal>(
+    rt: &R,
+    arguments: &Arguments<'_>,
+    download: &Download,
+) -> Result<()> {
     if let (Some(path), Some(trace)) = (arguments.trace, download.trace()) {
         fs::write(rt, path, trace)?;
     }
     if arguments.runs == 0 {
-        rt.println(CountLine { workload, counts })?;
+        rt.println(CountLine {
+            workload: arguments.workload,
+            counts: download.counts(),
+        })?;
     }
     Ok(())
 }
@@ -114,15 +133,23 @@ fn time_runs<R: Runtime + AllocGlobal + CpuClock>(
 
 /// A run, and the quickest hash of a block after it.
 fn time_run<R: Runtime + AllocGlobal + CpuClock>(rt: &R, workload: Workload) -> Result<TimeLine> {
-    let mut download = Download::new(rt.alloc(), workload, None)?;
-    let times = play(rt, rt.alloc(), workload, &mut download)?;
-    let hash = hash_time(rt)?;
+    let (counts, times) = play_timed(rt, workload)?;
     Ok(TimeLine {
-        counts: download.counts(),
+        counts,
         times,
-        hash,
+        hash: hash_time(rt)?,
         peak: None,
     })
+}
+
+/// A run's counts and times.
+fn play_timed<R: Runtime + AllocGlobal + CpuClock>(
+    rt: &R,
+    workload: Workload,
+) -> Result<(Counts, Times)> {
+    let mut download = Download::new(rt.alloc(), workload, None)?;
+    let times = play(rt, rt.alloc(), workload, &mut download)?;
+    Ok((download.counts(), times))
 }
 
 /// Prints the table of all kinds of calls.

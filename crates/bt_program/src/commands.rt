@@ -35,7 +35,7 @@ where
     conclude(play(rt, words, out, err), err)
 }
 
-/// Plays the command that the arguments say.
+/// Plays the command that the arguments say, with a buffer before its output.
 fn play<'w, R: Runtime + AllocGlobal + Threads + Wait + Sync, O: Write + Drop, E: Write>(
     rt: &R,
     words: &'w [String],
@@ -45,19 +45,43 @@ fn play<'w, R: Runtime + AllocGlobal + Threads + Wait + Sync, O: Write + Drop, E
 where
     R::File: Send,
 {
-    let mut out = match BufWriter::new(rt.alloc(), out) {
-        Ok(out) => Device::new(out),
-        Err(error) => return Err(Failure::of_output(error)),
-    };
-    let matches = match command(rt.alloc())?.try_get_matches_from(words) {
-        Ok(matches) => matches,
-        Err(error) => return explain(&error, &mut out, err),
-    };
+    match BufWriter::new(rt.alloc(), out) {
+        Ok(out) => play_to(rt, words, &mut Device::new(out), err),
+        Err(error) => Err(Failure::of_output(error)),
+    }
+}
+
+/// Plays the command that the arguments say.
+fn play_to<'w, R: Runtime + AllocGlobal + Threads + Wait + Sync, O: Write, E: Write>(
+    rt: &R,
+    words: &'w [String],
+    out: &mut Device<O>,
+    err: &mut E,
+) -> Result<u8, Failure<'w>>
+where
+    R::File: Send,
+{
+    match command(rt.alloc())?.try_get_matches_from(words) {
+        Ok(matches) => play_command(rt, &matches, out, err),
+        Err(error) => explain(&error, out, err),
+    }
+}
+
+/// Plays the command that was found.
+fn play_command<'w, R: Runtime + AllocGlobal + Threads + Wait + Sync, O: Write, E: Write>(
+    rt: &R,
+    matches: &ArgMatches<'w>,
+    out: &mut Device<O>,
+    err: &mut E,
+) -> Result<u8, Failure<'w>>
+where
+    R::File: Send,
+{
     match matches.subcommand() {
-        Some(("info", arguments)) => info(rt, arguments, &mut out),
-        Some(("run", arguments)) => run(rt, arguments, &mut out, err),
-        Some(("script", _)) => script(rt, &mut out),
-        Some(("serial", arguments)) => serial(rt, arguments, &mut out, err),
+        Some(("info", arguments)) => info(rt, arguments, out),
+        Some(("run", arguments)) => run(rt, arguments, out, err),
+        Some(("script", _)) => script(rt, out),
+        Some(("serial", arguments)) => serial(rt, arguments, out, err),
         _ => Ok(WRONG_ARGUMENTS),
     }
 }
@@ -149,11 +173,27 @@ fn serial<'w, R: Runtime + AllocGlobal, O: Write, E: Write>(
     if !is_taken(names.len(), err) {
         return Ok(WRONG_ARGUMENTS);
     }
+    let path = arguments.get_str("out");
+    play_in_turns(rt, meta, names, &options, out, path)
+}
+
+/// Plays the streams with these names in one thread.
+fn play_in_turns<'w, R: Runtime + AllocGlobal, O: Write>(
+    rt: &R,
+    meta: &'w str,
+    names: &[&'w str],
+    options: &Options,
+    out: &mut Device<O>,
+    path: Option<&'w str>,
+) -> Result<u8, Failure<'w>>
+    requires count { (1 ≤ length names.now) × (length names.now ≤ MOST_STREAMS) }
+    requires depth { (1 ≤ options.now.rules.depth) × (options.now.rules.depth ≤ MOST_DEPTH) }
+{
     let meta = read(rt, meta)?;
     let mut streams = recorded(rt, names)?;
-    let run = play_streams(rt.alloc(), &meta, &mut streams, &options, out)?;
+    let run = play_streams(rt.alloc(), &meta, &mut streams, options, out)?;
     let told = run.ended.map(|_| run.status());
-    finish(rt, told, &run.desk, out, arguments.get_str("out"))
+    finish(rt, told, &run.desk, out, path)
 }
 
 /// The command `run`.
@@ -176,10 +216,29 @@ where
     if !is_taken(names.len(), err) {
         return Ok(WRONG_ARGUMENTS);
     }
+    let path = arguments.get_str("out");
+    play_at_once(rt, meta, names, &options, out, path)
+}
+
+/// Plays the streams with these names in threads.
+fn play_at_once<'w, R: Runtime + AllocGlobal + Threads + Wait + Sync, O: Write>(
+    rt: &R,
+    meta: &'w str,
+    names: &[&'w str],
+    options: &Options,
+    out: &mut Device<O>,
+    path: Option<&'w str>,
+) -> Result<u8, Failure<'w>>
+where
+    R::File: Send,
+    requires count { (1 ≤ length names.now) × (length names.now ≤ MOST_STREAMS) }
+    requires depth { (1 ≤ options.now.rules.depth) × (options.now.rules.depth ≤ MOST_DEPTH) }
+    requires checkers { (1 ≤ options.now.checkers) × (options.now.checkers ≤ MOST_CHECKERS) }
+{
     let meta = read(rt, meta)?;
-    let run = play_threads(rt, &meta, recorded(rt, names)?, &options, out)?;
+    let run = play_threads(rt, &meta, recorded(rt, names)?, options, out)?;
     let told = run.ended.map(|_| run.status());
-    finish(rt, told, &run.book.desk, out, arguments.get_str("out"))
+    finish(rt, told, &run.book.desk, out, path)
 }
 
 /// Whether a run takes so many streams; where it doesn't that is told.
