@@ -92,16 +92,16 @@ fn play_untimed<R: Runtime + AllocGlobal + CpuClock>(
 ) -> Result<()> {
     let trace = arguments.trace.map(|_| String::new(rt.alloc()));
     let mut download = Download::new(rt.alloc(), arguments.workload, trace)?;
-    play(rt, rt.alloc(), arguments.workload, &mut download)?;
-    tell(rt, arguments, &download)
+    play_and_tell(rt, arguments, &mut download)
 }
 
-/// Writes the requests of the download, and prints its counts, as far as they are wanted.
-fn tell<R: Runtime + AllocGlobal>(
+/// Plays the download, and then writes its requests and prints its counts, as far as they are wanted.
+fn play_and_tell<R: Runtime + AllocGlobal + CpuClock>(
     rt: &R,
     arguments: &Arguments<'_>,
-    download: &Download,
+    download: &mut Download,
 ) -> Result<()> {
+    play(rt, rt.alloc(), arguments.workload, download)?;
     if let (Some(path), Some(trace)) = (arguments.trace, download.trace()) {
         fs::write(rt, path, trace)?;
     }
@@ -148,7 +148,16 @@ fn play_timed<R: Runtime + AllocGlobal + CpuClock>(
     workload: Workload,
 ) -> Result<(Counts, Times)> {
     let mut download = Download::new(rt.alloc(), workload, None)?;
-    let times = play(rt, rt.alloc(), workload, &mut download)?;
+    counts_and_times(rt, workload, &mut download)
+}
+
+/// Plays the download.
+fn counts_and_times<R: Runtime + AllocGlobal + CpuClock>(
+    rt: &R,
+    workload: Workload,
+    download: &mut Download,
+) -> Result<(Counts, Times)> {
+    let times = play(rt, rt.alloc(), workload, download)?;
     Ok((download.counts(), times))
 }
 
