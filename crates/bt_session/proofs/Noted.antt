@@ -1,5 +1,5 @@
 -- What a place at a shared desk gains by its pass's marks.
-use Rattle.std.proofs.Common.{◌≡◌, ℕ, Bool, [], ◌∷◌, ◌++◌, length, Result, Ok, Err, refl, ap, ◌∙◌}
+use Rattle.std.proofs.Common.{ℕ, Bool, [], ◌∷◌, length, Result, Ok, Err, refl, ap, ◌∙◌}
 use Rattle.std.specs.Prelude.{IfOk, OnErr}
 use Rattle.std.proofs.lemmas.List.{map-append}
 use Rattle.bt_history.specs.declared.call.Call.{Call}

@@ -16,7 +16,7 @@ use crate::threads::{PlayOf, join_each, start_sessions};
 use bt_history::MOST_DEPTH;
 use bt_meta::{Sink, Source};
 use bt_peer::{Gate, Stream};
-use std::alloc::Global;
+use std::alloc::{AllocError, Global};
 use std::sync::Wait;
 use std::thread;
 use std::thread::{PromisedHandle, Threads};
@@ -30,6 +30,32 @@ pub struct Joined<L: RunName, R, W> {
     pub last: Worker<L>,
     /// A checker couldn't be told to stop.
     pub short: bool,
+}
+
+/// Room for the handles of a run's threads, and for what these give back.
+#[derive(Drop)]
+struct Rooms<L: RunName, R: Source, W: Sink> {
+    checking: Vec<PromisedHandle<Checked<L>, CheckOf<L>>>,
+    checked: Vec<Checked<L>>,
+    playing: Vec<PromisedHandle<Played<L, R, W>, PlayOf<L, R, W>>>,
+    played: Vec<Played<L, R, W>>,
+}
+
+impl<L: RunName, R: Source + Drop, W: Sink + Drop> Rooms<L, R, W> {
+    /// Room for so many checkers and sessions.
+    fn new(alloc: Global, checkers: usize, sessions: usize) -> Result<Rooms<L, R, W>, AllocError>
+        ensures checking { IfOk result (λ r. (r.checking.items ≡ []) × (checkers ≤ vec_capacity r.checking)) }
+        ensures checked { IfOk result (λ r. (r.checked.items ≡ []) × (checkers ≤ vec_capacity r.checked)) }
+        ensures playing { IfOk result (λ r. (r.playing.items ≡ []) × (sessions ≤ vec_capacity r.playing)) }
+        ensures played { IfOk result (λ r. (r.played.items ≡ []) × (sessions ≤ vec_capacity r.played)) }
+    {
+        Ok(Rooms {
+            checking: Vec::with_capacity(alloc, checkers)?,
+            checked: Vec::with_capacity(alloc, checkers)?,
+            playing: Vec::with_capacity(alloc, sessions)?,
+            played: Vec::with_capacity(alloc, sessions)?,
+        })
+    }
 }
 
 /// Starts the checkers, and then the sessions. Where a thread can't be started, the handles are of those that run.
@@ -124,10 +150,12 @@ pub fn crew<
             ensures err { IfErr result IsRunFault }
         {
             let mut last = last;
-            let mut checking = Vec::with_capacity(alloc, checkers.len())?;
-            let mut checked = Vec::with_capacity(alloc, checkers.len())?;
-            let mut playing = Vec::with_capacity(alloc, streams.len())?;
-            let mut played = Vec::with_capacity(alloc, streams.len())?;
+            let Rooms {
+                mut checking,
+                mut checked,
+                mut playing,
+                mut played,
+            } = Rooms::new(alloc, checkers.len(), streams.len())?;
             let started = start_all(
                 rt,
                 alloc,

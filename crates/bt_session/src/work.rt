@@ -17,7 +17,7 @@ use crate::swarm_run::SwarmFault;
 use bt_history::MOST_DEPTH;
 use bt_meta::{Sink, Source};
 use bt_peer::{End, Gate, SessionFault, Stream};
-use std::alloc::Global;
+use std::alloc::{AllocError, Global};
 use std::sync::Wait;
 use std::thread::Threads;
 
@@ -31,6 +31,26 @@ pub struct Worked<L: RunName, R, W> {
     pub streams: Vec<Stream<R, W>>,
     /// A check was given up, or a ticket came back.
     pub given_up: bool,
+}
+
+impl<L: RunName, R: Drop, W: Drop> Worked<L, R, W> {
+    /// Of a run that has yet to work, with room for so many streams and workers.
+    fn with_room(
+        alloc: Global,
+        streams: usize,
+        workers: usize,
+    ) -> Result<Worked<L, R, W>, AllocError>
+        ensures ends { IfOk result (λ w. (w.ends.items ≡ []) × (streams ≤ vec_capacity w.ends)) }
+        ensures workers { IfOk result (λ w. (w.workers.items ≡ []) × (workers ≤ vec_capacity w.workers)) }
+        ensures streams { IfOk result (λ w. (w.streams.items ≡ []) × (streams ≤ vec_capacity w.streams)) }
+    {
+        Ok(Worked {
+            ends: Vec::with_capacity(alloc, streams)?,
+            workers: Vec::with_capacity(alloc, workers)?,
+            streams: Vec::with_capacity(alloc, streams)?,
+            given_up: false,
+        })
+    }
 }
 
 /// Puts what the sessions gave back into three lists. Whether a ticket came back.
@@ -128,15 +148,12 @@ pub fn work<
     ensures err { IfErr result IsRunFault }
 {
     let count = streams.len();
-    let all = workers.len();
+    let mut worked = Worked::with_room(alloc, count, workers.len())?;
     let mut sessions = workers;
     let Some(last) = sessions.pop() else {
         unreachable!()
     };
     let checkers = sessions.split_off(count)?;
-    let mut ends = Vec::with_capacity(alloc, count)?;
-    let mut back = Vec::with_capacity(alloc, all)?;
-    let mut left = Vec::with_capacity(alloc, count)?;
     let joined = crew(
         rt, alloc, commons, sessions, streams, checkers, last, seed, depth, gate,
     )?;
@@ -146,14 +163,15 @@ pub fn work<
         mut last,
         short,
     } = joined;
-    let came_back = part(played, &mut ends, &mut back, &mut left);
-    let given_up = part_checked(checked, &mut back);
+    let came_back = part(
+        played,
+        &mut worked.ends,
+        &mut worked.workers,
+        &mut worked.streams,
+    );
+    let given_up = part_checked(checked, &mut worked.workers);
     let unfinished = last_checks(rt, alloc, commons, &mut last);
-    back.push_reserved(last);
-    Ok(Worked {
-        ends,
-        workers: back,
-        streams: left,
-        given_up: short | came_back | given_up | unfinished,
-    })
+    worked.workers.push_reserved(last);
+    worked.given_up = short | came_back | given_up | unfinished;
+    Ok(worked)
 }

@@ -1,4 +1,4 @@
-use Rattle.std.proofs.Common.{◌≡◌, ◌<◌, length, ap, arith, rules}
+use Rattle.std.proofs.Common.{◌≡◌, length, ap, arith, rules}
 use Rattle.bt_check.specs.Queues.{PassState as TicketState}
 use Rattle.bt_history.specs.Setting.{Setting, setting_of}
 use Rattle.bt_session.proofs.Seats.{are_new, are_new_passes, seats_count}

@@ -1,5 +1,4 @@
-use Rattle.bt_session.proofs.Noted.{notes_entered, quiet_err}
-use Rattle.bt_session.proofs.Seats.{belongs_on, same_table}
+use Rattle.bt_session.proofs.Seats.{same_table}
 use Rattle.bt_session.proofs.commons.Commons.call.Goals as goal
 
 pub call-requires : goal.call-requires
