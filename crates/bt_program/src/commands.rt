@@ -191,7 +191,22 @@ fn play_in_turns<'w, R: Runtime + AllocGlobal, O: Write>(
 {
     let meta = read(rt, meta)?;
     let mut streams = recorded(rt, names)?;
-    let run = play_streams(rt.alloc(), &meta, &mut streams, options, out)?;
+    play_opened(rt, &meta, &mut streams, options, out, path)
+}
+
+/// Plays these streams in one thread.
+fn play_opened<'w, R: Runtime + AllocGlobal, O: Write>(
+    rt: &R,
+    meta: &[u8],
+    streams: &mut [Stream<FromRead<R::File>, ToWrite<io::Sink>>],
+    options: &Options,
+    out: &mut Device<O>,
+    path: Option<&'w str>,
+) -> Result<u8, Failure<'w>>
+    requires count { (1 ≤ length streams.old) × (length streams.old ≤ MOST_STREAMS) }
+    requires depth { (1 ≤ options.now.rules.depth) × (options.now.rules.depth ≤ MOST_DEPTH) }
+{
+    let run = play_streams(rt.alloc(), meta, streams, options, out)?;
     let told = run.ended.map(|_| run.status());
     finish(rt, told, &run.desk, out, path)
 }
@@ -236,7 +251,25 @@ where
     requires checkers { (1 ≤ options.now.checkers) × (options.now.checkers ≤ MOST_CHECKERS) }
 {
     let meta = read(rt, meta)?;
-    let run = play_threads(rt, &meta, recorded(rt, names)?, options, out)?;
+    play_opened_at_once(rt, &meta, recorded(rt, names)?, options, out, path)
+}
+
+/// Plays these streams in threads.
+fn play_opened_at_once<'w, R: Runtime + AllocGlobal + Threads + Wait + Sync, O: Write>(
+    rt: &R,
+    meta: &[u8],
+    streams: Vec<Stream<FromRead<R::File>, ToWrite<io::Sink>>>,
+    options: &Options,
+    out: &mut Device<O>,
+    path: Option<&'w str>,
+) -> Result<u8, Failure<'w>>
+where
+    R::File: Send,
+    requires count { (1 ≤ length streams.items) × (length streams.items ≤ MOST_STREAMS) }
+    requires depth { (1 ≤ options.now.rules.depth) × (options.now.rules.depth ≤ MOST_DEPTH) }
+    requires checkers { (1 ≤ options.now.checkers) × (options.now.checkers ≤ MOST_CHECKERS) }
+{
+    let run = play_threads(rt, meta, streams, options, out)?;
     let told = run.ended.map(|_| run.status());
     finish(rt, told, &run.book.desk, out, path)
 }
