@@ -3,6 +3,7 @@
 ghost use Rattle.std.specs.Prelude.{◌<◌};
 
 use crate::mix::Mix;
+use crate::stretches::Stretches;
 use crate::swarm::{PEERS, Swarm, Workload, ZEROS};
 use anyhow::{Result, bail};
 use bt_meta::{BLOCK_SIZE, Bitfield, Block};
@@ -13,6 +14,9 @@ use std::time::{CpuClock, Duration};
 
 /// Where the words of the asks begin.
 const SEED: u64 = 2;
+
+/// The rounds of a stretch: some thousand asks, half a millisecond.
+const STRETCH: u32 = 20;
 
 /// What was done so far.
 #[derive(Clone, Copy)]
@@ -91,10 +95,35 @@ impl Download {
         self.swarm.leave()
     }
 
-    /// Rounds until all pieces are had, or the asks are made.
-    pub fn run<C: CpuClock>(&mut self, rt: &C, alloc: Global) -> Result<()> {
+    /// Rounds until all pieces are had, or the asks are made. Each stretch of them is noted, without its checks and what it takes to read the
+    /// clock for those.
+    pub fn run<C: CpuClock>(
+        &mut self,
+        rt: &C,
+        alloc: Global,
+        reading: Duration,
+        stretches: &mut Stretches,
+    ) -> Result<()> {
+        stretches.restart();
         for _ in 0..u64::MAX {
-            if self.is_done() || self.counts.asks >= self.workload.asks {
+            if self.is_done() {
+                return Ok(());
+            }
+            let (settling, had) = (self.settling, self.counts.had);
+            let start = rt.thread_cpu_time()?;
+            self.rounds(rt, alloc)?;
+            let took = rt.thread_cpu_time()?.saturating_sub(start);
+            let checks = self.settling.saturating_sub(settling);
+            let readings = reading.saturating_mul(self.counts.had.saturating_sub(had));
+            stretches.note(took.saturating_sub(checks.saturating_add(readings)))?;
+        }
+        Ok(())
+    }
+
+    /// The rounds of a stretch.
+    fn rounds<C: CpuClock>(&mut self, rt: &C, alloc: Global) -> Result<()> {
+        for _ in 0..STRETCH {
+            if self.is_done() {
                 return Ok(());
             }
             self.round(rt, alloc)?;
@@ -102,7 +131,12 @@ impl Download {
         Ok(())
     }
 
+    /// Whether all pieces are had, or the asks are made.
     fn is_done(&self) -> bool {
+        self.has_all() || self.counts.asks >= self.workload.asks
+    }
+
+    fn has_all(&self) -> bool {
         self.counts.had >= self.workload.pieces
     }
 
@@ -113,7 +147,7 @@ impl Download {
                 Some(peer) => peer.active,
                 None => false,
             };
-            if is_active && !self.is_done() {
+            if is_active && !self.has_all() {
                 self.turn(rt, alloc, worker)?;
             }
         }

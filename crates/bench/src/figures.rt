@@ -1,6 +1,7 @@
 //! What a download costs.
 
 use crate::download::{Counts, Download};
+use crate::stretches::Stretches;
 use crate::swarm::{PEERS, PIECE_HASH, PIECE_LEN, Workload, ZEROS};
 use anyhow::{Result, ensure};
 use sha1::Sha1;
@@ -31,6 +32,8 @@ pub struct Times {
     leaves: Duration,
     /// One reading of the clock.
     reading: Duration,
+    /// The rounds again, each stretch of them by its least time in the runs so far.
+    stretches: Duration,
 }
 
 impl Times {
@@ -42,6 +45,7 @@ impl Times {
             joins: self.joins.min(other.joins),
             leaves: self.leaves.min(other.leaves),
             reading: self.reading.min(other.reading),
+            stretches: self.stretches.min(other.stretches),
         }
     }
 }
@@ -52,13 +56,14 @@ pub fn play<C: CpuClock>(
     alloc: Global,
     workload: Workload,
     download: &mut Download,
+    stretches: &mut Stretches,
 ) -> Result<Times> {
     let shown = workload.bitfields(alloc)?;
     let reading = reading_time(rt)?;
     let start = rt.thread_cpu_time()?;
     download.join(shown)?;
     let joined = rt.thread_cpu_time()?;
-    download.run(rt, alloc)?;
+    download.run(rt, alloc, reading, stretches)?;
     let ran = rt.thread_cpu_time()?;
     download.leave()?;
     let left = rt.thread_cpu_time()?;
@@ -72,6 +77,7 @@ pub fn play<C: CpuClock>(
         joins: joined.saturating_sub(start),
         leaves: left.saturating_sub(ran),
         reading,
+        stretches: stretches.sum(),
     })
 }
 
@@ -179,21 +185,43 @@ impl fmt::Display for TimeLine {
         let asks = self.counts.asks.max(1);
         let asking = nanos(self.times.asking);
         let hash = nanos(self.hash).max(1);
+        let least = nanos(self.times.stretches);
         let ask = asking / asks;
-        let ratio = asking.saturating_mul(10_000) / asks.saturating_mul(hash).max(1);
+        let ratio = Ratio::of(asking, asks, hash);
+        let least_ask = least / asks;
+        let least_ratio = Ratio::of(least, asks, hash);
         let reading = nanos(self.times.reading);
         let settling = nanos(self.times.settling);
         let join = nanos(self.times.joins) / u64::from(PEERS);
         let leave = nanos(self.times.leaves) / u64::from(PEERS);
-        let whole = ratio / 10_000;
-        let part = ratio % 10_000;
+        write!(f, "ask_ns {ask} hash_ns {hash} ratio {ratio}")?;
+        write!(f, " least_ns {least_ask} least_ratio {least_ratio}")?;
         write!(
             f,
-            "ask_ns {ask} hash_ns {hash} ratio {whole}.{part:04} reading_ns {reading} settling_ns {settling} join_ns {join} leave_ns {leave}"
+            " reading_ns {reading} settling_ns {settling} join_ns {join} leave_ns {leave}"
         )?;
         match self.peak {
             Some(peak) => write!(f, " peak_kib {peak}"),
             None => Ok(()),
         }
+    }
+}
+
+/// The time of an ask by the time to hash a block, in parts of ten thousand.
+#[derive(Clone, Copy)]
+struct Ratio(u64);
+
+impl Ratio {
+    /// Of so many asks that took this time together.
+    fn of(time: u64, asks: u64, hash: u64) -> Ratio {
+        Ratio(time.saturating_mul(10_000) / asks.saturating_mul(hash).max(1))
+    }
+}
+
+impl fmt::Display for Ratio {
+    fn fmt<W: fmt::Write>(&self, f: &mut fmt::Formatter<W>) -> fmt::Result {
+        let whole = self.0 / 10_000;
+        let part = self.0 % 10_000;
+        write!(f, "{whole}.{part:04}")
     }
 }

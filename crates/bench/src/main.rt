@@ -6,6 +6,7 @@ mod calls;
 mod download;
 mod figures;
 mod mix;
+mod stretches;
 mod swarm;
 
 use anyhow::Result;
@@ -17,6 +18,7 @@ use std::process::ExitCode;
 use std::rt::Runtime;
 use std::time::CpuClock;
 use std::{env, fs};
+use stretches::Stretches;
 use swarm::Workload;
 
 /// The status where the arguments are wrong.
@@ -101,7 +103,8 @@ fn play_and_tell<R: Runtime + AllocGlobal + CpuClock>(
     arguments: &Arguments<'_>,
     download: &mut Download,
 ) -> Result<()> {
-    play(rt, rt.alloc(), arguments.workload, download)?;
+    let mut stretches = Stretches::new(rt.alloc());
+    play(rt, rt.alloc(), arguments.workload, download, &mut stretches)?;
     if let (Some(path), Some(trace)) = (arguments.trace, download.trace()) {
         fs::write(rt, path, trace)?;
     }
@@ -121,8 +124,9 @@ fn time_runs<R: Runtime + AllocGlobal + CpuClock>(
     runs: u32,
 ) -> Result<Option<TimeLine>> {
     let mut least = None;
+    let mut stretches = Stretches::new(rt.alloc());
     for _ in 0..runs {
-        let run = time_run(rt, workload)?;
+        let run = time_run(rt, workload, &mut stretches)?;
         least = match least {
             Some(least) => Some(run.least(least)),
             None => Some(run),
@@ -132,8 +136,12 @@ fn time_runs<R: Runtime + AllocGlobal + CpuClock>(
 }
 
 /// A run, and the quickest hash of a block after it.
-fn time_run<R: Runtime + AllocGlobal + CpuClock>(rt: &R, workload: Workload) -> Result<TimeLine> {
-    let (counts, times) = play_timed(rt, workload)?;
+fn time_run<R: Runtime + AllocGlobal + CpuClock>(
+    rt: &R,
+    workload: Workload,
+    stretches: &mut Stretches,
+) -> Result<TimeLine> {
+    let (counts, times) = play_timed(rt, workload, stretches)?;
     Ok(TimeLine {
         counts,
         times,
@@ -146,9 +154,10 @@ fn time_run<R: Runtime + AllocGlobal + CpuClock>(rt: &R, workload: Workload) -> 
 fn play_timed<R: Runtime + AllocGlobal + CpuClock>(
     rt: &R,
     workload: Workload,
+    stretches: &mut Stretches,
 ) -> Result<(Counts, Times)> {
     let mut download = Download::new(rt.alloc(), workload, None)?;
-    counts_and_times(rt, workload, &mut download)
+    counts_and_times(rt, workload, &mut download, stretches)
 }
 
 /// Plays the download.
@@ -156,8 +165,9 @@ fn counts_and_times<R: Runtime + AllocGlobal + CpuClock>(
     rt: &R,
     workload: Workload,
     download: &mut Download,
+    stretches: &mut Stretches,
 ) -> Result<(Counts, Times)> {
-    let times = play(rt, rt.alloc(), workload, download)?;
+    let times = play(rt, rt.alloc(), workload, download, stretches)?;
     Ok((download.counts(), times))
 }
 
