@@ -1,12 +1,15 @@
 //! A session in a thread that tells of a finished piece while it runs.
 
-use bt_expect::same;
 use bt_meta::{DeviceFault, Sink, Source};
 use bt_peer_tests::{PEER, RULES, peer, torrent};
-use bt_session::{OpenGate, Stream, swarm};
+use bt_session::{OpenGate, Stream, SwarmRun, swarm};
+use std::alloc::Global;
+use std::process::Abort;
+use std::sync::Wait;
 use std::sync::atomic::{AtomicBool, Ordering};
 use std::test::Fail;
 use std::thread;
+use std::thread::Threads;
 
 /// The have of the first piece.
 const HAVE: [u8; 9] = [0, 0, 0, 5, 4, 0, 0, 0, 0];
@@ -84,26 +87,41 @@ impl Source for Patient<'_> {
     }
 }
 
+/// A run of one piece and of one peer that sends this, then keepalives.
+fn run<'a, T: Threads + Wait + Sync>(
+    rt: &T,
+    alloc: Global,
+    sent: &'a [u8],
+    told: &'a AtomicBool,
+) -> Result<SwarmRun<Patient<'a>, Listening<'a>>, Fail> {
+    let reader = Patient {
+        rest: sent,
+        told,
+        keepalives: 10_000,
+        reads: 0,
+        ended: false,
+    };
+    let writer = Listening { told };
+    let torrent = torrent(alloc)?;
+    let streams = Vec::from_array(alloc, [Stream { reader, writer }])?;
+    Ok(swarm(rt, alloc, torrent, streams, 0, RULES, 1, &OpenGate)?)
+}
+
+/// Checks that the session ended well, and that all is had.
+fn ended_well(rt: &impl Abort, run: &SwarmRun<Patient<'_>, Listening<'_>>) {
+    assert!(rt; run.ends.len() == 1);
+    assert!(rt; run.ends[0].is_ok());
+    assert!(rt; run.book.desk.is_complete());
+    assert!(rt; !run.short);
+}
+
 /// The piece is checked by another thread while the peer sends nothing but keepalives, and the session tells the peer that it is there.
 #[test]
 fn have_while_running(rt: HostRuntime) -> Result<(), Fail> {
     let told = AtomicBool::new(false);
     let sent = peer(rt.alloc(), 1, &PEER)?;
-    let reader = Patient {
-        rest: &sent,
-        told: &told,
-        keepalives: 10_000,
-        reads: 0,
-        ended: false,
-    };
-    let writer = Listening { told: &told };
-    let streams = Vec::from_array(rt.alloc(), [Stream { reader, writer }])?;
-    let torrent = torrent(rt.alloc())?;
-    let run = swarm(&rt, rt.alloc(), torrent, streams, 0, RULES, 1, &OpenGate)?;
+    let run = run(&rt, rt.alloc(), &sent, &told)?;
     assert!(rt; told.load(Ordering::SeqCst));
-    assert!(rt; run.ends.len() == 1);
-    assert!(rt; run.ends[0].is_ok());
-    assert!(rt; run.book.desk.is_complete());
-    assert!(rt; !run.short);
+    ended_well(&rt, &run);
     Ok(())
 }

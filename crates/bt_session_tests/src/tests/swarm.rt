@@ -11,6 +11,7 @@ use bt_wire::Hello;
 use std::alloc::{AllocError, Global};
 use std::fmt::Write;
 use std::io::Cursor;
+use std::process::Abort;
 use std::sync::atomic::{AtomicBool, Ordering};
 use std::sync::{Arc, Wait};
 use std::test::Fail;
@@ -32,6 +33,47 @@ fn run<'a, T: Threads + Wait + Sync, G: Gate + Sync>(
     requires checkers { (1 ≤ checkers) × (checkers ≤ 8) }
 {
     Ok(swarm(rt, alloc, torrent, streams, 0, RULES, checkers, gate)?)
+}
+
+/// A run of one stream, whose peer sends this, at a gate that is open.
+fn run_of_one<'a, T: Threads + Wait + Sync>(
+    rt: &T,
+    alloc: Global,
+    torrent: Arc<Torrent>,
+    sent: &'a [u8],
+    checkers: u32,
+) -> Result<Run<'a>, Fail>
+    requires checkers { (1 ≤ checkers) × (checkers ≤ 8) }
+{
+    let streams = Vec::from_array(alloc, [recorded(alloc, sent)])?;
+    run(rt, alloc, torrent, streams, checkers, &OpenGate)
+}
+
+/// A run of two streams, whose peers send these, with one checker.
+fn run_of_two<'a, T: Threads + Wait + Sync, G: Gate + Sync>(
+    rt: &T,
+    alloc: Global,
+    torrent: Arc<Torrent>,
+    sent: [&'a [u8]; 2],
+    gate: &G,
+) -> Result<Run<'a>, Fail> {
+    let [first, second] = sent;
+    let streams = Vec::from_array(alloc, [recorded(alloc, first), recorded(alloc, second)])?;
+    run(rt, alloc, torrent, streams, 1, gate)
+}
+
+/// Checks that a run of one stream isn't short, and that its session ended well after so many messages.
+fn ended_alone(rt: &impl Abort, run: &Run<'_>, messages: u64) {
+    assert!(rt; run.ends.len() == 1);
+    assert!(rt; run.ends[0] == Ok(End { messages }));
+    assert!(rt; !run.short);
+}
+
+/// Checks that a run has two streams, and that their sessions ended well after so many messages.
+fn both_ended(rt: &impl Abort, run: &Run<'_>, first: u64, second: u64) {
+    assert!(rt; run.ends.len() == 2);
+    assert!(rt; run.ends[0] == Ok(End { messages: first }));
+    assert!(rt; run.ends[1] == Ok(End { messages: second }));
 }
 
 /// A mark by its call and its reply, without words.
@@ -82,35 +124,111 @@ fn asks_for(bytes: &[u8], piece: u8) -> bool {
     bytes.windows(17).any(|window| window == request.as_slice())
 }
 
-#[test]
-fn one_session_in_a_thread(rt: HostRuntime) -> Result<(), Fail> {
-    let sent = peer(rt.alloc(), 1, &PEER)?;
-    let streams = Vec::from_array(rt.alloc(), [recorded(rt.alloc(), &sent)])?;
-    let torrent = torrent(rt.alloc())?;
-    let run = run(&rt, rt.alloc(), torrent, streams, 1, &OpenGate)?;
-    assert!(rt; run.ends.len() == 1);
-    assert!(rt; run.ends[0] == Ok(End { messages: 3 }));
-    assert!(rt; !run.short);
-    assert!(rt; run.book.logs.len() == 3);
-    assert!(rt; run.book.logs[0].len() == 9);
-    same(
-        told(rt.alloc(), &run.book.logs[0][..7])?.as_str(),
+/// Checks the marks of a log, with their places.
+fn is_told(alloc: Global, log: &[Mark], wanted: &str) -> Result<(), Fail> {
+    let said = told(alloc, log)?;
+    same(said.as_str(), wanted)
+}
+
+/// Checks the marks of a log, without places.
+fn are_calls(alloc: Global, log: &[Mark], wanted: &str) -> Result<(), Fail> {
+    let said = calls(alloc, log)?;
+    same(said.as_str(), wanted)
+}
+
+/// Checks the logs of a session that gets the only piece, of its checker, and of the worker behind them, which has nothing left.
+fn logs_of_one_session(rt: &impl Abort, alloc: Global, logs: &[Vec<Mark>]) -> Result<(), Fail> {
+    assert!(rt; logs.len() == 3);
+    assert!(rt; logs[0].len() == 9);
+    is_told(
+        alloc,
+        &logs[0][..7],
         "0 Join = Joined; 1 Bits = Noted(true); 2 Next = Choked; 3 Unchoke = Quiet; \
         4 Next = Request(Block { piece: 0, begin: 0, len: 3 }); 5 Next = Idle; \
         6 Arrived { piece: 0, begin: 0, len: 3 } = Completed; ",
     )?;
-    same(
-        calls(rt.alloc(), &run.book.logs[1])?.as_str(),
-        "Settle(0) = Had; ",
-    )?;
-    same(run.book.logs[2].len(), 0)?;
+    are_calls(alloc, &logs[1], "Settle(0) = Had; ")?;
+    same(logs[2].len(), 0)
+}
+
+/// Checks a run of a peer of one piece that sends this.
+fn gets_the_piece<T: Threads + Wait + Abort + Sync>(
+    rt: &T,
+    alloc: Global,
+    sent: &[u8],
+) -> Result<(), Fail> {
+    let run = run_of_one(rt, alloc, torrent(alloc)?, sent, 1)?;
+    ended_alone(rt, &run, 3);
     assert!(rt; run.book.desk.had(0));
-    Ok(())
+    logs_of_one_session(rt, alloc, &run.book.logs)
+}
+
+#[test]
+fn one_session_in_a_thread(rt: HostRuntime) -> Result<(), Fail> {
+    let sent = peer(rt.alloc(), 1, &PEER)?;
+    gets_the_piece(&rt, rt.alloc(), &sent)
 }
 
 const SECOND: [u8; 27] = [
     0, 0, 0, 2, 5, 64, 0, 0, 0, 1, 1, 0, 0, 0, 12, 7, 0, 0, 0, 1, 0, 0, 0, 0, 97, 98, 99,
 ];
+
+/// A run of two pieces and of three streams, whose peers send these, with eight checkers.
+fn run_of_three<'a, T: Threads + Wait + Sync>(
+    rt: &T,
+    alloc: Global,
+    sent: [&'a [u8]; 3],
+) -> Result<Run<'a>, Fail> {
+    let [first, second, third] = sent;
+    let streams = Vec::from_array(
+        alloc,
+        [
+            recorded(alloc, first),
+            recorded(alloc, second),
+            recorded(alloc, third),
+        ],
+    )?;
+    run(rt, alloc, two_pieces(alloc)?, streams, 8, &OpenGate)
+}
+
+/// Checks that two sessions ended well, that the third's peer was of another torrent, and that all is had.
+fn two_of_three_ended(rt: &impl Abort, run: &Run<'_>) {
+    assert!(rt; run.ends.len() == 3);
+    assert!(rt; run.ends[0] == Ok(End { messages: 3 }));
+    assert!(rt; run.ends[1] == Ok(End { messages: 3 }));
+    assert!(rt; run.ends[2] == Err(SessionFault::WrongInfohash));
+    assert!(rt; run.book.desk.is_complete());
+}
+
+/// What was written to each stream.
+fn all_written(alloc: Global, streams: Vec<Recorded<'_>>) -> Result<Vec<Vec<u8>>, Fail> {
+    let mut written = Vec::new(alloc);
+    for stream in streams {
+        written.push(stream.writer.into_inner())?;
+    }
+    Ok(written)
+}
+
+/// Checks that each of the first two peers got its session's handshake and the request of its piece, and the third a handshake alone.
+fn each_is_asked(rt: &impl Abort, written: &[Vec<u8>]) -> Result<(), Fail> {
+    assert!(rt; written.len() == 3);
+    for (written, (worker, piece)) in written.iter().zip([(b'0', 0), (b'1', 1)]) {
+        assert!(rt; written.starts_with(hello(worker).as_slice()));
+        assert!(rt; asks_for(written, piece));
+    }
+    same(written[2].len(), 68)
+}
+
+/// What a run of three streams wrote to each, once its ends are checked.
+fn written_by_three<T: Threads + Wait + Abort + Sync>(
+    rt: &T,
+    alloc: Global,
+    sent: [&[u8]; 3],
+) -> Result<Vec<Vec<u8>>, Fail> {
+    let run = run_of_three(rt, alloc, sent)?;
+    two_of_three_ended(rt, &run);
+    all_written(alloc, run.streams)
+}
 
 /// However the two threads run, each peer is asked for the piece that it has alone.
 #[test]
@@ -118,32 +236,8 @@ fn streams_come_back_in_order(rt: HostRuntime) -> Result<(), Fail> {
     let first = peer(rt.alloc(), 1, &PEER)?;
     let second = peer(rt.alloc(), 1, &SECOND)?;
     let third = peer(rt.alloc(), 2, &PEER)?;
-    let streams = Vec::from_array(
-        rt.alloc(),
-        [
-            recorded(rt.alloc(), &first),
-            recorded(rt.alloc(), &second),
-            recorded(rt.alloc(), &third),
-        ],
-    )?;
-    let torrent = two_pieces(rt.alloc())?;
-    let run = run(&rt, rt.alloc(), torrent, streams, 8, &OpenGate)?;
-    assert!(rt; run.ends.len() == 3);
-    assert!(rt; run.ends[0] == Ok(End { messages: 3 }));
-    assert!(rt; run.ends[1] == Ok(End { messages: 3 }));
-    assert!(rt; run.ends[2] == Err(SessionFault::WrongInfohash));
-    assert!(rt; run.book.desk.is_complete());
-    let mut written = Vec::new(rt.alloc());
-    for stream in run.streams {
-        written.push(stream.writer.into_inner())?;
-    }
-    assert!(rt; written.len() == 3);
-    for (written, (worker, piece)) in written.iter().zip([(b'0', 0), (b'1', 1)]) {
-        assert!(rt; written.starts_with(hello(worker).as_slice()));
-        assert!(rt; asks_for(written, piece));
-    }
-    same(written[2].len(), 68)?;
-    Ok(())
+    let written = written_by_three(&rt, rt.alloc(), [&first, &second, &third])?;
+    each_is_asked(&rt, &written)
 }
 
 /// It holds each worker's first turn until the other's first turn came.
@@ -175,26 +269,24 @@ impl Gate for Meeting {
     }
 }
 
-#[test]
-fn two_sessions_run(rt: HostRuntime) -> Result<(), Fail> {
-    let hello = peer(rt.alloc(), 1, &[])?;
-    let streams = Vec::from_array(
-        rt.alloc(),
-        [recorded(rt.alloc(), &hello), recorded(rt.alloc(), &hello)],
-    )?;
-    let gate = Meeting {
+/// A gate where nobody came yet.
+fn empty_gate() -> Meeting {
+    Meeting {
         first: AtomicBool::new(false),
         second: AtomicBool::new(false),
         gave_up: AtomicBool::new(false),
-    };
+    }
+}
+
+#[test]
+fn two_sessions_run(rt: HostRuntime) -> Result<(), Fail> {
+    let hello = peer(rt.alloc(), 1, &[])?;
+    let gate = empty_gate();
     let torrent = two_pieces(rt.alloc())?;
-    let run = run(&rt, rt.alloc(), torrent, streams, 1, &gate)?;
+    let run = run_of_two(&rt, rt.alloc(), torrent, [&hello, &hello], &gate)?;
     assert!(rt; !gate.gave_up.load(Ordering::SeqCst));
-    assert!(rt; run.ends.len() == 2);
-    assert!(rt; run.ends[0] == Ok(End { messages: 0 }));
-    assert!(rt; run.ends[1] == Ok(End { messages: 0 }));
-    same(run.book.desk.journal().len(), 4)?;
-    Ok(())
+    both_ended(&rt, &run, 0, 0);
+    same(run.book.desk.journal().len(), 4)
 }
 
 /// Both pieces, the first with wrong bytes.
@@ -208,26 +300,34 @@ fn answered(log: &[Mark], reply: Reply) -> usize {
     log.iter().filter(|mark| mark.reply == reply).count()
 }
 
+/// Checks that the two checkers, and nobody else, found one piece right and one wrong.
+fn one_right_and_one_wrong(rt: &impl Abort, logs: &[Vec<Mark>]) -> Result<(), Fail> {
+    assert!(rt; logs.len() == 4);
+    for (reply, wanted) in [(Reply::Had, 1), (Reply::Failed, 1)] {
+        same(answered(&logs[0], reply), 0)?;
+        let first = answered(&logs[1], reply);
+        let second = answered(&logs[2], reply);
+        same(first.saturating_add(second), wanted)?;
+    }
+    same(logs[3].len(), 0)
+}
+
+/// Checks a run of a peer that sends this, where the first of two pieces is wrong.
+fn first_is_wrong<T: Threads + Wait + Abort + Sync>(
+    rt: &T,
+    alloc: Global,
+    sent: &[u8],
+) -> Result<(), Fail> {
+    let run = run_of_one(rt, alloc, two_pieces(alloc)?, sent, 2)?;
+    ended_alone(rt, &run, 4);
+    assert!(rt; !run.book.desk.had(0));
+    one_right_and_one_wrong(rt, &run.book.logs)
+}
+
 #[test]
 fn checkers_check(rt: HostRuntime) -> Result<(), Fail> {
     let sent = peer(rt.alloc(), 1, &WRONG)?;
-    let streams = Vec::from_array(rt.alloc(), [recorded(rt.alloc(), &sent)])?;
-    let torrent = two_pieces(rt.alloc())?;
-    let run = run(&rt, rt.alloc(), torrent, streams, 2, &OpenGate)?;
-    assert!(rt; run.ends.len() == 1);
-    assert!(rt; run.ends[0] == Ok(End { messages: 4 }));
-    assert!(rt; !run.short);
-    assert!(rt; run.book.logs.len() == 4);
-    // The checkers, and nobody else, found one piece right and one wrong.
-    for (reply, wanted) in [(Reply::Had, 1), (Reply::Failed, 1)] {
-        same(answered(&run.book.logs[0], reply), 0)?;
-        let first = answered(&run.book.logs[1], reply);
-        let second = answered(&run.book.logs[2], reply);
-        same(first.saturating_add(second), wanted)?;
-    }
-    same(run.book.logs[3].len(), 0)?;
-    assert!(rt; !run.book.desk.had(0));
-    Ok(())
+    first_is_wrong(&rt, rt.alloc(), &sent)
 }
 
 /// The SHA-1 of a block of 16,384 zeros.
@@ -250,21 +350,28 @@ fn zeros(alloc: Global, count: u8) -> Result<(Arc<Torrent>, Vec<u8>), Fail> {
     Ok((Arc::new(alloc, torrent)?, peer(alloc, 1, sent.as_slice())?))
 }
 
+/// Checks that a session got 64 pieces, and that the checker, and nobody behind it, checked them all.
+fn all_are_checked(rt: &impl Abort, logs: &[Vec<Mark>]) -> Result<(), Fail> {
+    assert!(rt; logs.len() == 3);
+    same(answered(&logs[0], Reply::Completed), 64)?;
+    same(answered(&logs[1], Reply::Had), 64)?;
+    same(logs[2].len(), 0)
+}
+
+/// Checks a run of one session that gets 64 pieces.
+fn got_all(rt: &impl Abort, run: &Run<'_>) -> Result<(), Fail> {
+    ended_alone(rt, run, 64);
+    all_are_checked(rt, &run.book.logs)?;
+    assert!(rt; run.book.desk.is_complete());
+    Ok(())
+}
+
 /// Pieces come faster than one checker hashes them, and are four times as many as the queue holds: the session waits, and none is lost.
 #[test]
 fn a_full_queue_loses_nothing(rt: HostRuntime) -> Result<(), Fail> {
     let (torrent, sent) = zeros(rt.alloc(), 64)?;
-    let streams = Vec::from_array(rt.alloc(), [recorded(rt.alloc(), &sent)])?;
-    let run = run(&rt, rt.alloc(), torrent, streams, 1, &OpenGate)?;
-    assert!(rt; run.ends.len() == 1);
-    assert!(rt; run.ends[0] == Ok(End { messages: 64 }));
-    assert!(rt; !run.short);
-    assert!(rt; run.book.logs.len() == 3);
-    same(answered(&run.book.logs[0], Reply::Completed), 64)?;
-    same(answered(&run.book.logs[1], Reply::Had), 64)?;
-    same(run.book.logs[2].len(), 0)?;
-    assert!(rt; run.book.desk.is_complete());
-    Ok(())
+    let run = run_of_one(&rt, rt.alloc(), torrent, &sent, 1)?;
+    got_all(&rt, &run)
 }
 
 /// The SHA-1 of `a`, by another program.
@@ -284,28 +391,46 @@ const HONEST: [u8; 57] = [
     12, 7, 0, 0, 0, 1, 0, 0, 0, 0, 97, 98, 99, 0, 0, 0, 10, 7, 0, 0, 0, 2, 0, 0, 0, 0, 97,
 ];
 
-/// Both sessions end well; the first piece is had unless the honest block came while the wrong one was held.
-#[test]
-fn a_liar_beside_an_honest_peer(rt: HostRuntime) -> Result<(), Fail> {
-    let hashes = Vec::from_array(rt.alloc(), [ABC, ABC, A])?;
-    let torrent = Arc::new(rt.alloc(), Torrent::of_parts(3, 7, hashes, [1; 20])?)?;
-    let liar = peer(rt.alloc(), 1, &LIAR)?;
-    let honest = peer(rt.alloc(), 1, &HONEST)?;
-    let streams = Vec::from_array(
-        rt.alloc(),
-        [recorded(rt.alloc(), &liar), recorded(rt.alloc(), &honest)],
-    )?;
-    let run = run(&rt, rt.alloc(), torrent, streams, 1, &OpenGate)?;
-    assert!(rt; run.ends.len() == 2);
-    assert!(rt; run.ends[0] == Ok(End { messages: 3 }));
-    assert!(rt; run.ends[1] == Ok(End { messages: 5 }));
+/// The pieces `abc`, `abc` and `a`.
+fn three_pieces(alloc: Global) -> Result<Arc<Torrent>, Fail> {
+    let hashes = Vec::from_array(alloc, [ABC, ABC, A])?;
+    let torrent = Torrent::of_parts(3, 7, hashes, [1; 20])?;
+    Ok(Arc::new(alloc, torrent)?)
+}
+
+/// Checks that the checker found so many pieces right.
+fn checker_found(rt: &impl Abort, logs: &[Vec<Mark>], pieces: usize) -> Result<(), Fail> {
+    assert!(rt; logs.len() == 4);
+    same(answered(&logs[2], Reply::Had), pieces)
+}
+
+/// Checks a run of two peers that send these, of which the first is a liar.
+fn first_may_be_lacking<T: Threads + Wait + Abort + Sync>(
+    rt: &T,
+    alloc: Global,
+    sent: [&[u8]; 2],
+) -> Result<(), Fail> {
+    let run = run_of_two(rt, alloc, three_pieces(alloc)?, sent, &OpenGate)?;
+    both_ended(rt, &run, 3, 5);
     assert!(rt; !run.short);
     let is_complete = run.book.desk.is_complete();
     assert!(rt; is_complete || !run.book.desk.had(0));
-    assert!(rt; run.book.logs.len() == 4);
-    let had = answered(&run.book.logs[2], Reply::Had);
-    same(had, if is_complete { 3 } else { 2 })?;
-    Ok(())
+    checker_found(rt, &run.book.logs, if is_complete { 3 } else { 2 })
+}
+
+/// Both sessions end well; the first piece is had unless the honest block came while the wrong one was held.
+#[test]
+fn a_liar_beside_an_honest_peer(rt: HostRuntime) -> Result<(), Fail> {
+    let liar = peer(rt.alloc(), 1, &LIAR)?;
+    let honest = peer(rt.alloc(), 1, &HONEST)?;
+    first_may_be_lacking(&rt, rt.alloc(), [&liar, &honest])
+}
+
+/// Checks how a fault is told.
+fn is_fault_told(alloc: Global, fault: SwarmFault, text: &str) -> Result<(), Fail> {
+    let mut said = String::new(alloc);
+    write!(said, "{fault}")?;
+    same(said.as_str(), text)
 }
 
 #[test]
@@ -327,13 +452,10 @@ fn faults_of_a_run(rt: HostRuntime) -> Result<(), Fail> {
         (SwarmFault::NoThread, "no thread"),
     ];
     for &(fault, text) in ROWS {
-        let mut said = String::new(rt.alloc());
-        write!(said, "{fault}")?;
-        same(said.as_str(), text)?;
+        is_fault_told(rt.alloc(), fault, text)?;
     }
     same(
         SwarmFault::from(GatherFault::NoMemory),
         SwarmFault::NoMemory,
-    )?;
-    Ok(())
+    )
 }
