@@ -29,29 +29,73 @@ pub fn first_wrong(
 
 /// Checks that the example is a journal, and that none of its wrong entries is one in its place.
 fn judge(rt: &impl Abort, alloc: Global, example: &Example) -> Result<(), Fail> {
+    let (workers, rules) = terms_of(example.terms)?;
     let torrent = torrent_of(alloc, example.torrent)?;
-    let pieces = torrent.piece_count();
-    let mut terms = example.terms.split(' ');
+    judge_by(rt, alloc, &torrent, workers, rules, example)
+}
+
+/// The number of workers and the rules that the terms spell.
+fn terms_of(terms: &str) -> Result<(u32, Rules), Fail> {
+    let mut terms = terms.split(' ');
     let workers = number(terms.next())?;
-    let rules = Rules {
-        depth: number(terms.next())?,
-        random: number(terms.next())?,
-    };
+    let depth = number(terms.next())?;
+    let random = number(terms.next())?;
+    Ok((workers, Rules { depth, random }))
+}
+
+/// The same, with the torrent and by the rules of the example.
+fn judge_by(
+    rt: &impl Abort,
+    alloc: Global,
+    torrent: &Torrent,
+    workers: u32,
+    rules: Rules,
+    example: &Example,
+) -> Result<(), Fail> {
+    let pieces = torrent.piece_count();
     assert!(rt; 1 <= rules.depth && rules.depth <= 64 && rules.random <= pieces);
     let entries = entries_of(alloc, pieces, example.lines, usize::MAX)?;
     assert_eq!(rt;
-        first_wrong(alloc, &torrent, workers, rules, &entries)?,
+        first_wrong(alloc, torrent, workers, rules, &entries)?,
         None
     );
     for wrong in example.wrong.lines() {
-        let (before, line) = wrong.split_once(' ').ok_or("no number of lines")?;
-        let before = number(Some(before))? as usize;
-        let mut entries = entries_of(alloc, pieces, example.lines, before)?;
-        entries.push(entry_of(alloc, pieces, line)?)?;
-        let found = first_wrong(alloc, &torrent, workers, rules, &entries)?;
-        assert_eq!(rt; found, Some(before));
+        judge_wrong(rt, alloc, torrent, workers, rules, example.lines, wrong)?;
     }
     Ok(())
+}
+
+/// Checks that the wrong entry is none behind as many of the lines as its text says.
+fn judge_wrong(
+    rt: &impl Abort,
+    alloc: Global,
+    torrent: &Torrent,
+    workers: u32,
+    rules: Rules,
+    lines: &'static str,
+    wrong: &'static str,
+) -> Result<(), Fail>
+    requires { AreRules torrent.now.layout rules }
+{
+    let (before, line) = wrong.split_once(' ').ok_or("no number of lines")?;
+    let before = number(Some(before))? as usize;
+    let entries = entries_with(alloc, torrent.piece_count(), lines, before, line)?;
+    let found = first_wrong(alloc, torrent, workers, rules, &entries)?;
+    assert_eq!(rt; found, Some(before));
+    Ok(())
+}
+
+/// The first so many lines as entries, and then the one of this line.
+fn entries_with(
+    alloc: Global,
+    pieces: u32,
+    lines: &'static str,
+    before: usize,
+    line: &'static str,
+) -> Result<Vec<Entry>, Fail> {
+    let mut entries = entries_of(alloc, pieces, lines, before)?;
+    entries.push(entry_of(alloc, pieces, line)?)?;
+    Ok(entries)
 }
 
 #[test]

@@ -1,6 +1,10 @@
 //! What a desk says and shows, call by call.
+ghost use Rattle.std.specs.Prelude.{◌≡◌};
+ghost use Rattle.bt_meta.specs.Layout.{piece_count};
+
 use super::audits::first_wrong;
 use super::played::{Played, three_pieces};
+use bt_meta::Torrent;
 use bt_picker::Reply::{Failed, Refused};
 use bt_picker::*;
 use std::alloc::Global;
@@ -47,19 +51,44 @@ fn verdict(rt: &impl Abort, alloc: Global, played: &Played) -> Result<Arc<Verdic
 
 #[test]
 fn a_verdict_of_replaced_bytes(rt: HostRuntime) -> Result<(), Fail> {
-    let alloc = rt.alloc();
-    let mut played = Played::new(&rt, alloc)?;
+    let mut played = Played::new(&rt, rt.alloc())?;
+    two_verdicts(&rt, rt.alloc(), &mut played)
+}
+
+/// Wrong bytes of piece 0 come, and two verdicts of them are made.
+fn two_verdicts(rt: &impl Abort, alloc: Global, played: &mut Played) -> Result<(), Fail> {
     let wrong = "0 join = joined\n\
         0 block 0 0 abd = completed";
-    played.play(&rt, alloc, wrong)?;
-    let first = verdict(&rt, alloc, &played)?;
-    let second = verdict(&rt, alloc, &played)?;
-    assert_eq!(rt; played.call(&rt, 0, Call::Settle(first))?, Failed);
+    played.play(rt, alloc, wrong)?;
+    let first = verdict(rt, alloc, played)?;
+    let second = verdict(rt, alloc, played)?;
+    fails_at_once(rt, alloc, played, first)?;
+    is_stale(rt, alloc, played, second)
+}
+
+/// The verdict is the first to come: the piece fails, and waits no more.
+fn fails_at_once(
+    rt: &impl Abort,
+    alloc: Global,
+    played: &mut Played,
+    verdict: Arc<Verdict>,
+) -> Result<(), Fail> {
+    assert_eq!(rt; played.call(rt, 0, Call::Settle(verdict))?, Failed);
     assert!(rt; played.check(alloc, 0)?.is_none());
-    played.play(&rt, alloc, "0 block 0 0 abc = completed")?;
-    let reply = played.call(&rt, 0, Call::Settle(second))?;
+    Ok(())
+}
+
+/// The verdict comes when the right bytes are there: it is of none of them.
+fn is_stale(
+    rt: &impl Abort,
+    alloc: Global,
+    played: &mut Played,
+    verdict: Arc<Verdict>,
+) -> Result<(), Fail> {
+    played.play(rt, alloc, "0 block 0 0 abc = completed")?;
+    let reply = played.call(rt, 0, Call::Settle(verdict))?;
     assert_eq!(rt; reply, Refused(Reason::Stale));
-    played.play(&rt, alloc, "check 0 0 = had")
+    played.play(rt, alloc, "check 0 0 = had")
 }
 
 /// A check that can't be made leaves no entry.
@@ -139,15 +168,28 @@ fn finish_settles_what_waits(rt: HostRuntime) -> Result<(), Fail> {
 #[test]
 fn an_audit_of_no_call(rt: HostRuntime) -> Result<(), Fail> {
     let torrent = three_pieces(&rt, rt.alloc())?;
-    let found = first_wrong(rt.alloc(), &torrent, 1, Rules::usual(), &[])?;
-    assert_eq!(rt; found, None);
     let other = [Entry {
         worker: 1,
         call: Call::Join,
         reply: Reply::Joined,
     }];
-    let found = first_wrong(rt.alloc(), &torrent, 1, Rules::usual(), &other)?;
-    assert_eq!(rt; found, Some(0));
+    finds(&rt, rt.alloc(), &torrent, 1, &[], None)?;
+    finds(&rt, rt.alloc(), &torrent, 1, &other, Some(0))
+}
+
+/// Checks that the first entry that isn't allowed to so many workers is this.
+fn finds(
+    rt: &impl Abort,
+    alloc: Global,
+    torrent: &Torrent,
+    workers: u32,
+    entries: &[Entry],
+    wanted: Option<usize>,
+) -> Result<(), Fail>
+    requires { piece_count torrent.now.layout ≡ 3 }
+{
+    let found = first_wrong(alloc, torrent, workers, Rules::usual(), entries)?;
+    assert_eq!(rt; found, wanted);
     Ok(())
 }
 
@@ -173,9 +215,6 @@ fn all_show_a_piece(alloc: Global, workers: u32) -> Result<Vec<Entry>, Fail> {
 fn an_audit_of_more_workers_than_a_desk_has(rt: HostRuntime) -> Result<(), Fail> {
     let torrent = three_pieces(&rt, rt.alloc())?;
     let entries = all_show_a_piece(rt.alloc(), 1030)?;
-    let found = first_wrong(rt.alloc(), &torrent, 1030, Rules::usual(), &entries)?;
-    assert_eq!(rt; found, None);
-    let found = first_wrong(rt.alloc(), &torrent, 1029, Rules::usual(), &entries)?;
-    assert_eq!(rt; found, Some(2058));
-    Ok(())
+    finds(&rt, rt.alloc(), &torrent, 1030, &entries, None)?;
+    finds(&rt, rt.alloc(), &torrent, 1029, &entries, Some(2058))
 }

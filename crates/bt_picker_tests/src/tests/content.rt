@@ -66,22 +66,37 @@ impl Sink for Little {
 
 /// A desk at which the blocks of pieces `abc`, `abc` and `a` came, but for the last ones, and each full piece is checked.
 fn with_blocks(rt: &impl Abort, alloc: Global, count: usize) -> Result<Played, Fail> {
+    let mut played = Played::new(rt, alloc)?;
+    play_blocks(rt, alloc, &mut played, count)?;
+    Ok(played)
+}
+
+/// Plays so many blocks at the desk, and has each full piece checked.
+fn play_blocks(
+    rt: &impl Abort,
+    alloc: Global,
+    played: &mut Played,
+    count: usize,
+) -> Result<(), Fail> {
     let steps = "0 block 0 0 abc = completed\n\
         0 block 1 0 abc = completed\n\
         0 block 2 0 a = completed";
-    let mut played = Played::new(rt, alloc)?;
     played.play(rt, alloc, "0 join = joined")?;
     for line in steps.lines().take(count) {
         played.play(rt, alloc, line)?;
     }
-    played.finish(rt, alloc, 0)?;
-    Ok(played)
+    played.finish(rt, alloc, 0)
 }
 
 #[test]
 fn pieces_in_order(rt: HostRuntime) -> Result<(), Fail> {
     let played = with_blocks(&rt, rt.alloc(), 3)?;
-    let mut writer = ToWrite::new(Vec::with_capacity(rt.alloc(), 7)?);
+    writes_in_order(&rt, rt.alloc(), &played)
+}
+
+/// All pieces are written, the first one first.
+fn writes_in_order(rt: &impl Abort, alloc: Global, played: &Played) -> Result<(), Fail> {
+    let mut writer = ToWrite::new(Vec::with_capacity(alloc, 7)?);
     assert!(rt; played.write(&mut writer) == Ok(()));
     assert_eq!(rt; writer.into_inner().as_slice(), b"abcabca".as_slice());
     Ok(())
@@ -91,22 +106,37 @@ fn pieces_in_order(rt: HostRuntime) -> Result<(), Fail> {
 fn a_write_of_four_bytes_and_no_more(rt: HostRuntime) -> Result<(), Fail> {
     let played = with_blocks(&rt, rt.alloc(), 3)?;
     let mut writer = Little::new(rt.alloc(), 100, 4, Full::Fails)?;
-    assert!(rt; played.write(&mut writer) == Err(ContentFault::WriteFault));
-    assert_eq!(rt; writer.kept.as_slice(), b"abca".as_slice());
+    write_fails(&rt, &played, &mut writer, b"abca".as_slice());
     Ok(())
+}
+
+/// The write fails, once the sink has taken this front.
+fn write_fails(rt: &impl Abort, played: &Played, writer: &mut Little, front: &[u8]) {
+    assert!(rt; played.write(writer) == Err(ContentFault::WriteFault));
+    assert_eq!(rt; writer.kept.as_slice(), front);
 }
 
 #[test]
 fn byte_by_byte_until_it_fails(rt: HostRuntime) -> Result<(), Fail> {
     let played = with_blocks(&rt, rt.alloc(), 3)?;
+    fails_in_each_room(&rt, rt.alloc(), &played)?;
+    writes_byte_by_byte(&rt, rt.alloc(), &played)
+}
+
+/// A sink of each room that is too little takes as many bytes as it has room for.
+fn fails_in_each_room(rt: &impl Abort, alloc: Global, played: &Played) -> Result<(), Fail> {
     for room in 0..7 {
         for full in [Full::Fails, Full::TakesNone] {
-            let mut writer = Little::new(rt.alloc(), 1, room, full)?;
-            assert!(rt; played.write(&mut writer) == Err(ContentFault::WriteFault));
-            assert_eq!(rt; writer.kept.as_slice(), &b"abcabca"[..room]);
+            let mut writer = Little::new(alloc, 1, room, full)?;
+            write_fails(rt, played, &mut writer, &b"abcabca"[..room]);
         }
     }
-    let mut writer = Little::new(rt.alloc(), 1, 7, Full::Fails)?;
+    Ok(())
+}
+
+/// A sink of enough room takes all, byte by byte.
+fn writes_byte_by_byte(rt: &impl Abort, alloc: Global, played: &Played) -> Result<(), Fail> {
+    let mut writer = Little::new(alloc, 1, 7, Full::Fails)?;
     assert!(rt; played.write(&mut writer) == Ok(()));
     assert_eq!(rt; writer.kept.as_slice(), b"abcabca".as_slice());
     Ok(())
@@ -116,20 +146,31 @@ fn byte_by_byte_until_it_fails(rt: HostRuntime) -> Result<(), Fail> {
 fn nothing_where_a_piece_is_missing(rt: HostRuntime) -> Result<(), Fail> {
     let played = with_blocks(&rt, rt.alloc(), 2)?;
     let mut writer = Little::new(rt.alloc(), 100, 100, Full::Fails)?;
-    assert!(rt; played.write(&mut writer) == Err(ContentFault::Incomplete));
-    assert!(rt; writer.kept.is_empty() && !writer.failed);
+    writes_nothing(&rt, &played, &mut writer);
     assert_eq!(rt; ContentFault::Incomplete as u8, 1);
     assert_eq!(rt; ContentFault::WriteFault as u8, 2);
     Ok(())
 }
 
+/// As a piece is missing, the sink gets nothing.
+fn writes_nothing(rt: &impl Abort, played: &Played, writer: &mut Little) {
+    assert!(rt; played.write(writer) == Err(ContentFault::Incomplete));
+    assert!(rt; writer.kept.is_empty() && !writer.failed);
+}
+
 #[test]
 fn one_piece_once_it_is_had(rt: HostRuntime) -> Result<(), Fail> {
     let played = with_blocks(&rt, rt.alloc(), 2)?;
-    let mut writer = ToWrite::new(Vec::with_capacity(rt.alloc(), 3)?);
-    assert!(rt; played.write_piece(&rt, &mut writer, 2) == Err(ContentFault::Incomplete));
-    assert!(rt; played.write_piece(&rt, &mut writer, 1) == Ok(()));
-    assert_eq!(rt; writer.into_inner().as_slice(), b"abc".as_slice());
+    writes_one_piece(&rt, rt.alloc(), &played)?;
     assert_eq!(rt; played.made_of(), (4, 5, 3));
+    Ok(())
+}
+
+/// The last piece, which is missing, isn't written, and the second one is.
+fn writes_one_piece(rt: &impl Abort, alloc: Global, played: &Played) -> Result<(), Fail> {
+    let mut writer = ToWrite::new(Vec::with_capacity(alloc, 3)?);
+    assert!(rt; played.write_piece(rt, &mut writer, 2) == Err(ContentFault::Incomplete));
+    assert!(rt; played.write_piece(rt, &mut writer, 1) == Ok(()));
+    assert_eq!(rt; writer.into_inner().as_slice(), b"abc".as_slice());
     Ok(())
 }

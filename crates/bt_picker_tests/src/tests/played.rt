@@ -31,6 +31,21 @@ fn hashed(alloc: Global, job: Job) -> Result<Arc<Verdict>, Fail> {
     Ok(Arc::new(alloc, job.hash())?)
 }
 
+/// Checks that the reply is as the line says.
+fn is_said(rt: &impl Abort, said: Reply, wanted: Reply, asked: &str) {
+    assert_eq!(rt; said, wanted, "{asked}");
+}
+
+/// Checks that the answer is as the line says.
+fn is_answered(rt: &impl Abort, answer: &str, wanted: &str, asked: &str) {
+    assert_eq!(rt; answer, wanted, "{asked}");
+}
+
+/// The flag as a word.
+fn word_of(alloc: Global, is_so: bool) -> Result<String, Fail> {
+    Ok(yes_or_no(is_so).to_string(alloc)?)
+}
+
 /// A desk of pieces `abc`, `abc` and `a` for four workers.
 #[derive(Drop)]
 pub struct Played {
@@ -86,7 +101,7 @@ impl Played {
                 self.enter(rt, worker, again.call)?
             }
         };
-        assert_eq!(rt; said, reply, "{line}");
+        is_said(rt, said, reply, line);
         Ok(())
     }
 
@@ -103,19 +118,17 @@ impl Played {
             "check" => {
                 let worker = number(words.next())?;
                 let piece = number(words.next())?;
-                assert_eq!(rt;
-                    self.settle(rt, alloc, worker, piece)?,
-                    reply_of(wanted)?,
-                    "{asked}"
-                );
+                let said = self.settle(rt, alloc, worker, piece)?;
+                is_said(rt, said, reply_of(wanted)?, asked);
+                Ok(())
             }
-            "finish" => self.finish(rt, alloc, number(words.next())?)?,
+            "finish" => self.finish(rt, alloc, number(words.next())?),
             question => {
                 let answer = self.answer(rt, alloc, question, &mut words)?;
-                assert_eq!(rt; answer.as_str(), wanted, "{asked}");
+                is_answered(rt, &answer, wanted, asked);
+                Ok(())
             }
         }
-        Ok(())
     }
 
     /// What the desk shows.
@@ -126,22 +139,30 @@ impl Played {
         question: &str,
         words: &mut Split<'static, char>,
     ) -> Result<String, Fail> {
-        Ok(match question {
-            "had" => yes_or_no(self.had(rt, number(words.next())?)).to_string(alloc)?,
-            "has-wanted" => yes_or_no(self.has_wanted()).to_string(alloc)?,
-            "complete" => yes_or_no(self.is_complete()).to_string(alloc)?,
-            "wanted" => self.wanted(rt, alloc)?,
-            "shown-by" => self.group(rt, alloc, number(words.next())?)?,
-            "entries" => self.entries().to_string(alloc)?,
-            "unasked" => self.unasked().to_string(alloc)?,
-            "outstanding" => self
-                .outstanding(rt, number(words.next())?)
-                .to_string(alloc)?,
-            "availability" => self
-                .availability(rt, number(words.next())?)
-                .to_string(alloc)?,
-            _ => return Err(Fail::from("no such question")),
-        })
+        match question {
+            "had" => word_of(alloc, self.had(rt, number(words.next())?)),
+            "has-wanted" => word_of(alloc, self.has_wanted()),
+            "complete" => word_of(alloc, self.is_complete()),
+            "wanted" => self.wanted(rt, alloc),
+            "shown-by" => self.group(rt, alloc, number(words.next())?),
+            _ => Ok(self.counted(rt, question, words)?.to_string(alloc)?),
+        }
+    }
+
+    /// The number that the desk shows.
+    fn counted(
+        &self,
+        rt: &impl Abort,
+        question: &str,
+        words: &mut Split<'static, char>,
+    ) -> Result<u64, Fail> {
+        match question {
+            "entries" => Ok(self.entries() as u64),
+            "unasked" => Ok(self.unasked()),
+            "outstanding" => Ok(self.outstanding(rt, number(words.next())?) as u64),
+            "availability" => Ok(u64::from(self.availability(rt, number(words.next())?))),
+            _ => Err(Fail::from("no such question")),
+        }
     }
 
     pub fn call(&mut self, rt: &impl Abort, worker: u32, call: Call) -> Result<Reply, Fail> {

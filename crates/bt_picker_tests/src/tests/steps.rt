@@ -84,26 +84,53 @@ fn flags_of(alloc: Global, pieces: u32, word: Option<&str>) -> Result<Bitfield, 
     }
 }
 
+/// A bitfield of so many pieces, none of which is set.
+fn no_flags_of(alloc: Global, word: Option<&str>) -> Result<Bitfield, Fail> {
+    Ok(Bitfield::empty(alloc, number(word)?)?)
+}
+
 fn call_of(alloc: Global, pieces: u32, words: &mut Split<'static, char>) -> Result<Call, Fail> {
-    Ok(match words.next().unwrap_or("") {
-        "join" => Call::Join,
-        "bits" => Call::Bits(flags_of(alloc, pieces, words.next())?),
-        "no-bits-of" => Call::Bits(Bitfield::empty(alloc, number(words.next())?)?),
-        "have" => Call::Have(number(words.next())?),
-        "choke" => Call::Choke,
-        "unchoke" => Call::Unchoke,
-        "next" => Call::Next(u64::from(number(words.next())?)),
-        "block" => Call::Arrived {
-            piece: number(words.next())?,
-            begin: number(words.next())?,
-            bytes: bytes_of(words.next()),
-        },
-        "settle" => Call::Settle(verdict_of(alloc, number(words.next())?, words.next())?),
-        "leave" => Call::Leave,
-        "want" => Call::Want(flags_of(alloc, pieces, words.next())?),
-        "want-none-of" => Call::Want(Bitfield::empty(alloc, number(words.next())?)?),
-        _ => return Err(Fail::from("no such call")),
+    match words.next().unwrap_or("") {
+        "join" => Ok(Call::Join),
+        "choke" => Ok(Call::Choke),
+        "unchoke" => Ok(Call::Unchoke),
+        "leave" => Ok(Call::Leave),
+        "bits" => Ok(Call::Bits(flags_of(alloc, pieces, words.next())?)),
+        "no-bits-of" => Ok(Call::Bits(no_flags_of(alloc, words.next())?)),
+        "want" => Ok(Call::Want(flags_of(alloc, pieces, words.next())?)),
+        "want-none-of" => Ok(Call::Want(no_flags_of(alloc, words.next())?)),
+        name => call_of_a_piece(alloc, name, words),
+    }
+}
+
+/// A call with a number: of a piece, but for `next`, whose number is any.
+fn call_of_a_piece(
+    alloc: Global,
+    name: &str,
+    words: &mut Split<'static, char>,
+) -> Result<Call, Fail> {
+    match name {
+        "have" => Ok(Call::Have(number(words.next())?)),
+        "next" => Ok(Call::Next(u64::from(number(words.next())?))),
+        "block" => arrival_of(words),
+        "settle" => settle_of(alloc, words),
+        _ => Err(Fail::from("no such call")),
+    }
+}
+
+fn arrival_of(words: &mut Split<'static, char>) -> Result<Call, Fail> {
+    let piece = number(words.next())?;
+    let begin = number(words.next())?;
+    Ok(Call::Arrived {
+        piece,
+        begin,
+        bytes: bytes_of(words.next()),
     })
+}
+
+fn settle_of(alloc: Global, words: &mut Split<'static, char>) -> Result<Call, Fail> {
+    let piece = number(words.next())?;
+    Ok(Call::Settle(verdict_of(alloc, piece, words.next())?))
 }
 
 fn verdict_of(alloc: Global, piece: u32, word: Option<&'static str>) -> Result<Arc<Verdict>, Fail> {
