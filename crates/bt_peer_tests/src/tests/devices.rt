@@ -1,6 +1,6 @@
 //! Streams that end early, readers that fail, and writers that take little or fail.
 
-use super::whole::{WHOLE, tell};
+use super::whole::{WHOLE, calls_of};
 use crate::{PEER, RULES, peer, torrent};
 use bt_expect::same;
 use bt_meta::{Bitfield, DeviceFault, FromRead, Sink, Source, ToWrite};
@@ -10,6 +10,7 @@ use bt_picker::Desk;
 use rand_pcg::Lcg64Xsh32;
 use std::alloc::Global;
 use std::io::Cursor;
+use std::process::Abort;
 use std::test::Fail;
 
 /// How a session with these devices ended, and its calls.
@@ -33,10 +34,7 @@ fn played<R: Source + Drop, W: Sink>(
         &mut rng,
         5,
     );
-    let mut said = String::new(alloc);
-    for entry in desk.journal() {
-        tell(entry, &mut said)?;
-    }
+    let said = calls_of(alloc, &desk)?;
     Ok((end, said))
 }
 
@@ -55,24 +53,39 @@ fn whole_written(alloc: Global, sent: &[u8]) -> Result<Vec<u8>, Fail> {
 fn each_front_of_a_stream(rt: HostRuntime) -> Result<(), Fail> {
     let sent = peer(rt.alloc(), 1, &PEER)?;
     for len in 0..=sent.len() {
-        let mut writer = ToWrite::new(Vec::new(rt.alloc()));
-        let front = FromRead::new(Cursor::new(&sent[..len]));
-        let (end, calls) = played(rt.alloc(), front, &mut writer)?;
-        let messages = match len {
-            68 => Some(0),
-            74 => Some(1),
-            79 => Some(2),
-            95 => Some(3),
-            _ => None,
-        };
-        match messages {
-            Some(messages) => assert!(rt; end == Ok(End { messages })),
-            None => assert!(rt; end == Err(SessionFault::Truncated)),
-        }
-        assert!(rt; calls.is_empty() == (len < 68));
-        if len == 68 {
-            same(calls.as_str(), "join = Joined; leave = Quiet; ")?;
-        }
+        play_front(&rt, rt.alloc(), &sent[..len])?;
+    }
+    Ok(())
+}
+
+/// How this front of a stream ends.
+fn play_front(rt: &impl Abort, alloc: Global, front: &[u8]) -> Result<(), Fail> {
+    let mut writer = ToWrite::new(Vec::new(alloc));
+    let (end, calls) = played(alloc, FromRead::new(Cursor::new(front)), &mut writer)?;
+    front_ends(rt, front.len(), end, calls.as_str())
+}
+
+/// Checks how a front of this length ended, and its calls.
+fn front_ends(
+    rt: &impl Abort,
+    len: usize,
+    end: Result<End, SessionFault>,
+    calls: &str,
+) -> Result<(), Fail> {
+    let messages = match len {
+        68 => Some(0),
+        74 => Some(1),
+        79 => Some(2),
+        95 => Some(3),
+        _ => None,
+    };
+    match messages {
+        Some(messages) => assert!(rt; end == Ok(End { messages })),
+        None => assert!(rt; end == Err(SessionFault::Truncated)),
+    }
+    assert!(rt; calls.is_empty() == (len < 68));
+    if len == 68 {
+        same(calls, "join = Joined; leave = Quiet; ")?;
     }
     Ok(())
 }
@@ -121,18 +134,30 @@ fn each_read_fails(rt: HostRuntime) -> Result<(), Fail> {
     let sent = peer(rt.alloc(), 1, &PEER)?;
     let whole = whole_written(rt.alloc(), &sent)?;
     for left in 0..sent.len() {
-        let mut writer = ToWrite::new(Vec::new(rt.alloc()));
-        let reader = Breaking {
-            rest: &sent,
-            left,
-            reads: 0,
-            failed: false,
-            ended: false,
-        };
-        let (end, _) = played(rt.alloc(), reader, &mut writer)?;
-        assert!(rt; end == Err(SessionFault::ReadFault));
-        assert!(rt; whole.starts_with(writer.into_inner().as_slice()));
+        read_fails(&rt, rt.alloc(), &sent, &whole, left)?;
     }
+    Ok(())
+}
+
+/// A read fails after so many of the bytes that are sent.
+fn read_fails(
+    rt: &impl Abort,
+    alloc: Global,
+    sent: &[u8],
+    whole: &[u8],
+    left: usize,
+) -> Result<(), Fail> {
+    let mut writer = ToWrite::new(Vec::new(alloc));
+    let reader = Breaking {
+        rest: sent,
+        left,
+        reads: 0,
+        failed: false,
+        ended: false,
+    };
+    let (end, _) = played(alloc, reader, &mut writer)?;
+    assert!(rt; end == Err(SessionFault::ReadFault));
+    assert!(rt; whole.starts_with(writer.into_inner().as_slice()));
     Ok(())
 }
 
@@ -170,31 +195,55 @@ fn each_write_fails(rt: HostRuntime) -> Result<(), Fail> {
     let sent = peer(rt.alloc(), 1, &PEER)?;
     let whole = whole_written(rt.alloc(), &sent)?;
     for room in 0..=whole.len() {
-        let mut writer = Narrow {
-            kept: Vec::new(rt.alloc()),
-            room,
-            failed: false,
-        };
-        let reader = FromRead::new(Cursor::new(sent.as_slice()));
-        let (end, calls) = played(rt.alloc(), reader, &mut writer)?;
-        assert!(rt; writer.kept.as_slice() == &whole[..room]);
+        let (end, calls) = write_front(&rt, rt.alloc(), &sent, &whole[..room])?;
         if room == whole.len() {
-            assert!(rt; end == Ok(End { messages: 3 }));
-            same(calls.as_str(), WHOLE)?;
-            continue;
-        }
-        assert!(rt; end == Err(SessionFault::WriteFault));
-        if room < 68 {
-            same(calls.as_str(), "")?;
+            ends_whole(&rt, end, &calls)?;
         } else {
-            assert!(rt; calls.ends_with("leave = Quiet; "));
+            ends_in_a_write(&rt, room, end, &calls)?;
         }
-        if room == 68 {
-            same(
-                calls.as_str(),
-                "join = Joined; bits = Noted(true); leave = Quiet; ",
-            )?;
-        }
+    }
+    Ok(())
+}
+
+/// How a session ended whose writer has room for this front alone, which it has taken, and the calls.
+fn write_front(
+    rt: &impl Abort,
+    alloc: Global,
+    sent: &[u8],
+    front: &[u8],
+) -> Result<(Result<End, SessionFault>, String), Fail> {
+    let mut writer = Narrow {
+        kept: Vec::new(alloc),
+        room: front.len(),
+        failed: false,
+    };
+    let told = played(alloc, FromRead::new(Cursor::new(sent)), &mut writer)?;
+    assert!(rt; writer.kept.as_slice() == front);
+    Ok(told)
+}
+
+/// Checks that a session ended well.
+fn ends_whole(rt: &impl Abort, end: Result<End, SessionFault>, calls: &str) -> Result<(), Fail> {
+    assert!(rt; end == Ok(End { messages: 3 }));
+    same(calls, WHOLE)?;
+    Ok(())
+}
+
+/// Checks how a session ended whose writer had room for so many bytes, which were too few.
+fn ends_in_a_write(
+    rt: &impl Abort,
+    room: usize,
+    end: Result<End, SessionFault>,
+    calls: &str,
+) -> Result<(), Fail> {
+    assert!(rt; end == Err(SessionFault::WriteFault));
+    if room < 68 {
+        same(calls, "")?;
+    } else {
+        assert!(rt; calls.ends_with("leave = Quiet; "));
+    }
+    if room == 68 {
+        same(calls, "join = Joined; bits = Noted(true); leave = Quiet; ")?;
     }
     Ok(())
 }

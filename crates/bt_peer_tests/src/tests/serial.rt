@@ -10,6 +10,7 @@ use rand_core::Rng;
 use rand_pcg::Lcg64Xsh32;
 use std::alloc::{AllocError, Global};
 use std::fmt::Write;
+use std::process::Abort;
 use std::sync::Arc;
 use std::test::Fail;
 
@@ -72,20 +73,27 @@ fn told(
     seed: u64,
     want: Option<Bitfield>,
 ) -> Result<Outcome, Fail> {
-    let mut streams = Vec::new(alloc);
-    for bytes in sent {
-        streams.push(recorded(alloc, bytes))?;
-    }
+    let mut streams = streams_of(alloc, sent)?;
     let run = run_by(alloc, torrent, &mut streams, seed, want, RULES)?;
+    let written = written(alloc, streams)?;
     let journal = journal(alloc, &run)?;
     let SerialRun { ends, desk, short } = run;
     Ok(Outcome {
         ends,
         journal,
-        written: written(alloc, streams)?,
+        written,
         is_complete: desk.is_complete(),
         short,
     })
+}
+
+/// A stream for each of these, in which it is sent.
+fn streams_of(alloc: Global, sent: &[Vec<u8>]) -> Result<Vec<Recorded<'_>>, Fail> {
+    let mut streams = Vec::new(alloc);
+    for bytes in sent {
+        streams.push(recorded(alloc, bytes))?;
+    }
+    Ok(streams)
 }
 
 fn written(alloc: Global, streams: Vec<Recorded<'_>>) -> Result<Vec<Vec<u8>>, Fail> {
@@ -98,13 +106,20 @@ fn written(alloc: Global, streams: Vec<Recorded<'_>>) -> Result<Vec<Vec<u8>>, Fa
 
 /// What the session of the worker with this digit writes: its handshake, then these messages.
 fn wanted(alloc: Global, worker: u8, messages: &[u8]) -> Result<Vec<u8>, Fail> {
-    let mut bytes = Vec::from_slice(alloc, b"\x13BitTorrent protocol")?;
+    let mut bytes = Vec::new(alloc);
+    add_hello(&mut bytes, worker)?;
+    bytes.extend_from_slice(messages)?;
+    Ok(bytes)
+}
+
+/// Adds the handshake of that worker's session.
+fn add_hello(bytes: &mut Vec<u8>, worker: u8) -> Result<(), Fail> {
+    bytes.extend_from_slice(b"\x13BitTorrent protocol")?;
     bytes.extend_from_slice(&[0; 8])?;
     bytes.extend_from_slice(&[1; 20])?;
     bytes.extend_from_slice(b"-PP0001-00000000000")?;
     bytes.push(worker)?;
-    bytes.extend_from_slice(messages)?;
-    Ok(bytes)
+    Ok(())
 }
 
 const INTERESTED: [u8; 5] = [0, 0, 0, 1, 2];
@@ -128,6 +143,14 @@ fn no_piece_is_wanted(rt: HostRuntime) -> Result<(), Fail> {
     let sent = [peer(rt.alloc(), 1, &PEER)?];
     let want = Bitfield::empty(rt.alloc(), 1)?;
     let told = told(rt.alloc(), torrent(rt.alloc())?, &sent, 0, Some(want))?;
+    has_no_interest(&rt, &told)?;
+    let all = [wanted(rt.alloc(), b'0', &[0, 0, 0, 5, 4, 0, 0, 0, 0])?];
+    assert!(rt; told.written.as_slice() == all.as_slice());
+    Ok(())
+}
+
+/// The one piece came, and the journal has why.
+fn has_no_interest(rt: &impl Abort, told: &Outcome) -> Result<(), Fail> {
     assert!(rt; told.ends.as_slice() == [Ok(End { messages: 3 })].as_slice());
     assert!(rt; told.is_complete && !told.short);
     same(
@@ -135,8 +158,6 @@ fn no_piece_is_wanted(rt: HostRuntime) -> Result<(), Fail> {
         "1 want = Quiet; 0 join = Joined; 0 bits = Noted(false); 0 next = Choked; 0 unchoke = Quiet; \
         0 next = NothingLeft; 0 block 0 0 = Completed; 0 settle = Had; 0 next = NothingLeft; 0 leave = Quiet; ",
     )?;
-    let all = [wanted(rt.alloc(), b'0', &[0, 0, 0, 5, 4, 0, 0, 0, 0])?];
-    assert!(rt; told.written.as_slice() == all.as_slice());
     Ok(())
 }
 
@@ -144,6 +165,12 @@ fn no_piece_is_wanted(rt: HostRuntime) -> Result<(), Fail> {
 fn two_streams_take_turns(rt: HostRuntime) -> Result<(), Fail> {
     let sent = [peer(rt.alloc(), 1, &FIRST)?, peer(rt.alloc(), 1, &SECOND)?];
     let told = told(rt.alloc(), two_pieces(rt.alloc())?, &sent, 5, None)?;
+    has_calls_in_turn(&rt, &told)?;
+    writes_of_both(&rt, rt.alloc(), &told)
+}
+
+/// Both sessions end well, and the journal has their calls in turn.
+fn has_calls_in_turn(rt: &impl Abort, told: &Outcome) -> Result<(), Fail> {
     let ends = [Ok(End { messages: 3 }), Ok(End { messages: 3 })];
     assert!(rt; told.ends.as_slice() == ends.as_slice());
     same(
@@ -155,23 +182,42 @@ fn two_streams_take_turns(rt: HostRuntime) -> Result<(), Fail> {
         0 block 0 0 = Completed; 0 settle = Had; 0 next = NothingLeft; \
         1 block 1 0 = Completed; 1 settle = Had; 1 next = NothingLeft; 0 leave = Quiet; 1 leave = Quiet; ",
     )?;
-    // The first session ends before it hears of the second piece.
-    let all = [
-        wanted(rt.alloc(), b'0', &said(rt.alloc(), 0, &[0])?)?,
-        wanted(rt.alloc(), b'1', &said(rt.alloc(), 1, &[0, 1])?)?,
-    ];
+    Ok(())
+}
+
+/// Each session asks for its piece. The first one ends before it hears of the second piece.
+fn writes_of_both(rt: &impl Abort, alloc: Global, told: &Outcome) -> Result<(), Fail> {
+    let first = asks_for(alloc, b'0', 0, &[0])?;
+    let second = asks_for(alloc, b'1', 1, &[0, 1])?;
+    let all = [first, second];
     assert!(rt; told.written.as_slice() == all.as_slice());
     Ok(())
 }
 
+/// What the session of the worker with this digit writes that asks for a piece, and learns of these.
+fn asks_for(alloc: Global, worker: u8, piece: u8, finished: &[u8]) -> Result<Vec<u8>, Fail> {
+    let said = said(alloc, piece, finished)?;
+    wanted(alloc, worker, &said)
+}
+
 #[test]
 fn a_fault_ends_one_session_alone(rt: HostRuntime) -> Result<(), Fail> {
-    let sent = [
-        peer(rt.alloc(), 2, &PEER)?,
-        peer(rt.alloc(), 1, &PEER[..7])?,
-        peer(rt.alloc(), 1, &PEER)?,
-    ];
-    let told = told(rt.alloc(), torrent(rt.alloc())?, &sent, 0, None)?;
+    let stranger = peer(rt.alloc(), 2, &PEER)?;
+    let front = peer(rt.alloc(), 1, &PEER[..7])?;
+    let whole = peer(rt.alloc(), 1, &PEER)?;
+    let told = told(
+        rt.alloc(),
+        torrent(rt.alloc())?,
+        &[stranger, front, whole],
+        0,
+        None,
+    )?;
+    has_two_faults(&rt, &told);
+    Ok(())
+}
+
+/// Of three sessions the last one ends well, and with it all pieces are there.
+fn has_two_faults(rt: &impl Abort, told: &Outcome) {
     let ends = [
         Err(SessionFault::WrongInfohash),
         Err(SessionFault::Truncated),
@@ -179,7 +225,6 @@ fn a_fault_ends_one_session_alone(rt: HostRuntime) -> Result<(), Fail> {
     ];
     assert!(rt; told.ends.as_slice() == ends.as_slice());
     assert!(rt; told.is_complete);
-    Ok(())
 }
 
 #[test]
@@ -190,17 +235,23 @@ fn words_come_from_the_seed(rt: HostRuntime) -> Result<(), Fail> {
     let torrent = two_pieces(rt.alloc())?;
     let run = run_by(rt.alloc(), torrent, &mut streams, 5, None, RULES)?;
     for worker in 0..2u32 {
-        let mut rng = Lcg64Xsh32::new(5, u64::from(worker));
-        let mut asked = false;
-        for entry in run.desk.journal() {
-            if entry.worker == worker {
-                if let Call::Next(word) = &entry.call {
-                    same(*word, rng.next_u64())?;
-                    asked = true;
-                }
+        asks_by_the_seed(&rt, &run, worker)?;
+    }
+    Ok(())
+}
+
+/// The worker asks with the words that come from the seed.
+fn asks_by_the_seed(rt: &impl Abort, run: &SerialRun, worker: u32) -> Result<(), Fail> {
+    let mut rng = Lcg64Xsh32::new(5, u64::from(worker));
+    let mut asked = false;
+    for entry in run.desk.journal() {
+        if entry.worker == worker {
+            if let Call::Next(word) = &entry.call {
+                same(*word, rng.next_u64())?;
+                asked = true;
             }
         }
-        assert!(rt; asked);
     }
+    assert!(rt; asked);
     Ok(())
 }

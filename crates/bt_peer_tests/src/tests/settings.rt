@@ -54,13 +54,19 @@ fn asked(alloc: Global, depth: u32, count: u32) -> Result<(usize, String), Fail>
     let mut last = String::new(alloc);
     let said = journal(alloc, &run)?;
     let requests = said.as_str().matches("Request").count();
-    for call in said.as_str().split("; ") {
+    keep_last(said.as_str(), &mut last)?;
+    Ok((requests, last))
+}
+
+/// Keeps the last reply to Next in a journal.
+fn keep_last(said: &str, last: &mut String) -> Result<(), Fail> {
+    for call in said.split("; ") {
         if let Some(reply) = call.strip_prefix("0 next = ") {
             last.clear();
             last.push_str(reply)?;
         }
     }
-    Ok((requests, last))
+    Ok(())
 }
 
 #[test]

@@ -11,6 +11,7 @@ use rand_pcg::Lcg64Xsh32;
 use std::alloc::{AllocError, Global};
 use std::fmt::Write;
 use std::io::Cursor;
+use std::process::Abort;
 use std::test::Fail;
 
 /// An entry by its call and its reply, without words, bytes and bitfields.
@@ -60,11 +61,17 @@ pub fn told_of<R: Source + Drop>(
         &mut rng,
         5,
     );
+    let said = calls_of(alloc, &desk)?;
+    Ok((end, said, writer.into_inner()))
+}
+
+/// The desk's journal, entry by entry.
+pub fn calls_of(alloc: Global, desk: &Desk) -> Result<String, Fail> {
     let mut said = String::new(alloc);
     for entry in desk.journal() {
         tell(entry, &mut said)?;
     }
-    Ok((end, said, writer.into_inner()))
+    Ok(said)
 }
 
 /// The calls of a whole session with that peer.
@@ -77,7 +84,20 @@ fn a_whole_session(rt: HostRuntime) -> Result<(), Fail> {
     let (end, calls, written) = told(rt.alloc(), &peer(rt.alloc(), 1, &PEER)?)?;
     assert!(rt; end == Ok(End { messages: 3 }));
     same(calls.as_str(), WHOLE)?;
-    let mut wanted = Vec::from_slice(rt.alloc(), b"\x13BitTorrent protocol")?;
+    writes_all(rt.alloc(), &written)
+}
+
+/// These bytes are what a whole session with that peer writes.
+fn writes_all(alloc: Global, written: &[u8]) -> Result<(), Fail> {
+    let mut wanted = Vec::new(alloc);
+    add_whole(&mut wanted)?;
+    same(written, wanted.as_slice())?;
+    Ok(())
+}
+
+/// Adds what a whole session with that peer writes.
+fn add_whole(wanted: &mut Vec<u8>) -> Result<(), Fail> {
+    wanted.extend_from_slice(b"\x13BitTorrent protocol")?;
     wanted.extend_from_slice(&[0; 8])?;
     wanted.extend_from_slice(&[1; 20])?;
     wanted.extend_from_slice(b"-PP0001-000000000003")?;
@@ -86,7 +106,6 @@ fn a_whole_session(rt: HostRuntime) -> Result<(), Fail> {
         0, 0, 0, 1, 2, 0, 0, 0, 13, 6, 0, 0, 0, 0, 0, 0, 0, 0, 0, 0, 0, 3, 0, 0, 0, 5, 4, 0, 0, 0,
         0, 0, 0, 0, 1, 3,
     ])?;
-    same(written.as_slice(), wanted.as_slice())?;
     Ok(())
 }
 
@@ -111,12 +130,28 @@ fn faults(rt: HostRuntime) -> Result<(), Fail> {
         ),
     ];
     for (infohash, frames, fault, wanted) in rows {
-        let (end, calls, _) = told(rt.alloc(), &peer(rt.alloc(), infohash, frames)?)?;
-        assert!(rt; end == Err(fault));
-        same(calls.as_str(), wanted)?;
+        let sent = peer(rt.alloc(), infohash, frames)?;
+        ends_with_fault(&rt, rt.alloc(), &sent, fault, wanted)?;
     }
-    let (end, calls, _) = told(rt.alloc(), b"\x13BitTorrent")?;
-    assert!(rt; end == Err(SessionFault::Truncated));
-    same(calls.as_str(), "")?;
+    ends_with_fault(
+        &rt,
+        rt.alloc(),
+        b"\x13BitTorrent",
+        SessionFault::Truncated,
+        "",
+    )
+}
+
+/// The session of this stream ends with this fault, after these calls.
+fn ends_with_fault(
+    rt: &impl Abort,
+    alloc: Global,
+    sent: &[u8],
+    fault: SessionFault,
+    wanted: &str,
+) -> Result<(), Fail> {
+    let (end, calls, _) = told(alloc, sent)?;
+    assert!(rt; end == Err(fault));
+    same(calls.as_str(), wanted)?;
     Ok(())
 }

@@ -5,7 +5,7 @@ ghost use Rattle.bt_shared.specs.Passes.{IsSame};
 use super::setting::*;
 use bt_expect::same;
 use bt_picker::{Call, CallMark, Reason, Reply};
-use bt_shared::{Pass, SharedDesk};
+use bt_shared::{Book, Pass, SharedDesk};
 use std::alloc::Global;
 use std::process::Abort;
 use std::sync::Wait;
@@ -76,13 +76,25 @@ fn bring_a_piece<R: Wait + Abort>(
 #[test]
 fn two_passes_meet(rt: HostRuntime) -> Result<(), Fail> {
     let mut seated = Seated::open(&rt, rt.alloc(), 2)?;
-    let mut second = seated.take(&rt);
-    let mut first = seated.take(&rt);
-    join_and_meet(&rt, seated.desk(), &mut first, &mut second)?;
-    bring_a_piece(&rt, rt.alloc(), seated.desk(), &mut first, &mut second)?;
+    call_in_turn(&rt, rt.alloc(), &mut seated)?;
+    let book = seated.gather_beside(rt.alloc(), 0x20)??;
+    has_both_logs(&rt, &book);
+    Ok(())
+}
+
+/// The calls of both, whose passes are put back.
+fn call_in_turn<R: Wait + Abort>(rt: &R, alloc: Global, seated: &mut Seated) -> Result<(), Fail> {
+    let mut second = seated.take(rt);
+    let mut first = seated.take(rt);
+    join_and_meet(rt, seated.desk(), &mut first, &mut second)?;
+    bring_a_piece(rt, alloc, seated.desk(), &mut first, &mut second)?;
     seated.give(second)?;
     seated.give(first)?;
-    let book = seated.gather_beside(rt.alloc(), 0x20)??;
+    Ok(())
+}
+
+/// Each log has its own worker's calls.
+fn has_both_logs(rt: &impl Abort, book: &Book) {
     let arrived = CallMark::Arrived {
         piece: 2,
         begin: 0,
@@ -102,5 +114,4 @@ fn two_passes_meet(rt: HostRuntime) -> Result<(), Fail> {
     assert!(rt; book.logs.len() == 2);
     assert!(rt; book.logs[0].as_slice() == firsts.as_slice());
     assert!(rt; book.logs[1].as_slice() == seconds.as_slice());
-    Ok(())
 }

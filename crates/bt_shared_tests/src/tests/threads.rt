@@ -141,8 +141,13 @@ fn two_threads_at_one_desk(rt: HostRuntime) -> Result<(), Fail> {
     let mut seated = Seated::open(&rt, rt.alloc(), 2)?;
     assert!(rt; call_together(&rt, &mut seated)?);
     let book = seated.gather(rt.alloc())?;
-    assert!(rt; is_whole(&book));
-    let torrent = three_pieces(&rt, rt.alloc())?;
-    assert!(rt; is_audited(rt.alloc(), &torrent, &book));
+    has_all_calls(&rt, rt.alloc(), &book)
+}
+
+/// The journal and the logs have all calls, and an audit finds no fault.
+fn has_all_calls(rt: &impl Abort, alloc: Global, book: &Book) -> Result<(), Fail> {
+    assert!(rt; is_whole(book));
+    let torrent = three_pieces(rt, alloc)?;
+    assert!(rt; is_audited(alloc, &torrent, book));
     Ok(())
 }
