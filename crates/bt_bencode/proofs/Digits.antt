@@ -1,14 +1,14 @@
 -- The number that digits write, digit by digit.
-use Rattle.std.proofs.Common.{◌≡◌, ℕ, ◌+◌, ◌-◌, ◌*◌, ◌/◌, ◌^◌, ◌<◌, ◌≤◌, List, [], ◌∷◌, length, get_or, drop, refl, ap, arith}
+use Rattle.std.proofs.Common.{◌≡◌, ℕ, ◌+◌, ◌-◌, ◌*◌, ◌/◌, ◌^◌, ◌<◌, ◌≤◌, List, [], ◌∷◌, length, get_or, take, drop, refl, ap, arith}
 use Rattle.std.proofs.Common.{true, false, Bool, cond}
 use Rattle.std.specs.Prelude.{IsTrue, All, take_while, nat_lt}
 use Rattle.std.specs.Char.{is_ascii_digit, digit_value}
-use Rattle.std.specs.List.{AllByRecursion}
+use Rattle.std.specs.List.{AllByRecursion, prefix_len}
 use Rattle.std.specs.Str.Parse.{digits_value, digits_value_after}
 use Rattle.std.proofs.lemmas.List.{drop_more}
 use Rattle.std.proofs.lemmas.Bool.Decides.{nat_tests}
 use Rattle.std.proofs.lemmas.Bool.{le-ltb}
-use Rattle.std.proofs.lemmas.List.Sums.{take_while-cons}
+use Rattle.std.proofs.lemmas.List.Sums.{take_while-cons, prefix_len-drop_yes}
 use Rattle.std.proofs.lemmas.List.Elements.{All-from_recursion}
 
 pub digit_is : (c : ℕ) → IsTrue (is_ascii_digit c) → digit_value c ≡ c - 48
@@ -50,3 +50,17 @@ passes run i n h all so_far big digit =
 
 pub digit_below : (c : ℕ) → IsTrue (is_ascii_digit c) → c < 58
 digit_below c h = grind (arith, nat_tests)
+
+-- a run that is read on by one digit
+pub run_goes_on : (source : List ℕ) (at end : ℕ) → end < length source → is_ascii_digit (get_or source end 0) ≡ true →
+    end + prefix_len is_ascii_digit (drop end source) ≡ at + prefix_len is_ascii_digit (drop at source) →
+    end + 1 + prefix_len is_ascii_digit (drop (end + 1) source) ≡ at + prefix_len is_ascii_digit (drop at source)
+run_goes_on source at end within digit so_far = omega (arith, prefix_len-drop_yes is_ascii_digit source end 0 within digit)
+
+-- a run behind which no digit follows
+pub run_ends : (source : List ℕ) (at end : ℕ) → prefix_len is_ascii_digit (drop end source) ≡ 0 →
+    end + prefix_len is_ascii_digit (drop end source) ≡ at + prefix_len is_ascii_digit (drop at source) →
+    take (end - at) (drop at source) ≡ take_while is_ascii_digit (drop at source)
+run_ends source at end none so_far =
+    let count : end - at ≡ prefix_len is_ascii_digit (drop at source) = omega arith in
+    ap (λ (n : ℕ). take n (drop at source)) count

@@ -7,7 +7,6 @@ ghost use Rattle.bt_bencode.specs.Reading.{seen, key_at, is_late, no_key, run_at
 use crate::fault::BenFault;
 
 /// The integer behind an `i`, and the place behind it.
-#[tactic(auto, unfolding(crate::specs::Reading::integer_at))]
 pub(crate) fn integer(source: &[u8], at: usize) -> Result<(i64, usize), BenFault>
     requires { at ≤ length source.now }
     ensures read { result ≡ integer_at source.now at }
@@ -55,7 +54,6 @@ fn signed(negative: bool, number: u64) -> Option<i64>
 }
 
 /// The string at whose place a digit stands, and the place behind it.
-#[tactic(auto, unfolding(crate::specs::Reading::string_at))]
 pub(crate) fn string(source: &[u8], at: usize) -> Result<(&[u8], usize), BenFault>
     requires { at ≤ length source.now }
     ensures read { seen (λ x. (x.0.now, x.1)) result ≡ string_at source.now at }

@@ -62,7 +62,6 @@ struct ReadEntries {
 
 /// The value at a place with room for this many levels, and the place behind it.
 #[cycle(value)]
-#[tactic(auto, using(crate::proofs::Values::value_rules))]
 fn value(alloc: Global, source: &[u8], at: usize, room: u8) -> Result<(Tree, usize), BenFault>
     requires place { at ≤ length source.now }
     requires room { room ≤ MAX_DEPTH }

@@ -9,7 +9,6 @@ use crate::tree::MAX_DEPTH;
 
 /// The place behind the value at a place with room for this many levels.
 #[cycle(skip)]
-#[tactic(auto, using(crate::proofs::Skips::skip_rules))]
 pub(crate) fn skip(source: &[u8], at: usize, room: u8) -> Result<usize, BenFault>
     requires place { at ≤ length source.now }
     requires room { room ≤ MAX_DEPTH }

@@ -2,6 +2,7 @@ use Rattle.std.proofs.Common.{◌≡◌, arith, refl, sym}
 use Rattle.std.proofs.lemmas.Result.{err_from_is_err_and}
 use Rattle.bt_bencode.specs.Term.{depth}
 use Rattle.bt_bencode.specs.Reading.{value_at}
+use Rattle.bt_bencode.proofs.Values.{value_rules}
 use Rattle.bt_bencode.proofs.Lists.{depth_push, sound_push, depth_entries_push, sound_entries_push, rise_push}
 use Rattle.bt_bencode.proofs.Loops.{fails_as, items_begin, items_end, items_out, items_fail, items_more, entries_begin, entries_end, entries_out}
 use Rattle.bt_bencode.proofs.Loops.{entries_bad_key, entries_fail, entries_more, key_is}
@@ -113,3 +114,27 @@ dict_entries-loop-place-preserved t c =
           c.if-source-place-eq101.false (rw key is) c.in_ok-value.ensures.read
           (omega (arith, c.in_ok-value.ensures.end, c.in_ok-key.ensures.end)) c.loop-place.invariant.left);
     }
+
+pub value-returns-then-at-source-clause-read : goal.value-returns-then-at-source-clause-read
+value-returns-then-at-source-clause-read t c = grind (arith, value_rules)
+
+pub value-returns-in-108-clause-read : goal.value-returns-in-108-clause-read
+value-returns-in-108-clause-read t c = grind (arith, value_rules)
+
+pub value-returns-in_err-read-in-108-2-clause-read : goal.value-returns-in_err-read-in-108-2-clause-read
+value-returns-in_err-read-in-108-2-clause-read t c = grind (arith, value_rules)
+
+pub value-returns-in_err-read-in-100-clause-read : goal.value-returns-in_err-read-in-100-clause-read
+value-returns-in_err-read-in-100-clause-read t c = grind (arith, value_rules)
+
+pub value-returns-in_err-number-in-105-clause-read : goal.value-returns-in_err-number-in-105-clause-read
+value-returns-in_err-number-in-105-clause-read t c = grind (arith, value_rules)
+
+pub value-returns-in_err-bytes-in_default-clause-read : goal.value-returns-in_err-bytes-in_default-clause-read
+value-returns-in_err-bytes-in_default-clause-read t c = grind (arith, value_rules)
+
+pub value-returns-in_default-2-clause-read : goal.value-returns-in_default-2-clause-read
+value-returns-in_default-2-clause-read t c = grind (arith, value_rules)
+
+pub value-returns-clause-read : goal.value-returns-clause-read
+value-returns-clause-read t c = grind (arith, value_rules)

@@ -1,4 +1,5 @@
 use Rattle.std.proofs.Common.{◌≡◌, suc, refl, arith}
+use Rattle.std.proofs.lemmas.Grind.{common_steps}
 use Rattle.bt_bencode.specs.Term.{depth, depth_of_terms, depth_of_entries}
 use Rattle.bt_bencode.specs.View.{terms_from, entries_from}
 use Rattle.bt_bencode.proofs.Depths.{depth_of_item, depth_of_value}
@@ -23,3 +24,24 @@ put_entries-put-requires t c = (
   omega (arith, depth_of_value c.args.entries.now c.loop-key.key-index c.loop-key-item.result c.loop-key-test.true c.loop-key-item.is),
   tt,
 )
+
+pub put-returns-in-Int : goal.put-returns-in-Int
+put-returns-in-Int t c = grind (arith, common_steps)
+
+pub put-returns-in_ok-push-in-List-2 : goal.put-returns-in_ok-push-in-List-2
+put-returns-in_ok-push-in-List-2 t c = grind (arith, common_steps)
+
+pub put-returns-in_ok-push-in-Dict-2 : goal.put-returns-in_ok-push-in-Dict-2
+put-returns-in_ok-push-in-Dict-2 t c = grind (arith, common_steps)
+
+pub put_entries-loop-key-preserved : goal.put_entries-loop-key-preserved
+put_entries-loop-key-preserved t c = grind (arith, common_steps)
+
+pub put_entries-returns : goal.put_entries-returns
+put_entries-returns t c = grind (arith, common_steps)
+
+pub put_items-loop-item-preserved : goal.put_items-loop-item-preserved
+put_items-loop-item-preserved t c = grind (arith, common_steps)
+
+pub put_items-returns : goal.put_items-returns
+put_items-returns t c = grind (arith, common_steps)

@@ -1,8 +1,7 @@
 use Rattle.std.proofs.Common.{arith, sym, ◌-◌}
 use Rattle.std.proofs.lemmas.Result.{err_from_is_err_and}
 use Rattle.bt_bencode.specs.Reading.{value_at}
-use Rattle.bt_bencode.proofs.Skips.{end_items_deep, end_entries_deep}
-use Rattle.bt_bencode.proofs.Skips.{skips_begin, skips_end, skips_out, skips_fail, skips_more}
+use Rattle.bt_bencode.proofs.Skips.{skip_rules, end_items_deep, end_entries_deep, skips_begin, skips_end, skips_out, skips_fail, skips_more}
 use Rattle.bt_bencode.proofs.Skips.{entry_skips_begin, entry_skips_end, entry_skips_out, entry_skips_bad_key, entry_skips_fail, entry_skips_more}
 use Rattle.bt_bencode.proofs.value.skipping.+skip.Goals as goal
 
@@ -94,3 +93,27 @@ pub skip_entries-returns-clause-read : goal.skip_entries-returns-clause-read
 skip_entries-returns-clause-read t c = sym
     (entry_skips_out (value_at (c.args.room - 1) c.args.source.now) c.args.source.now _ c.loop-place.place _
     c.loop-place-test.false c.loop-place.invariant.left)
+
+pub skip-returns-then-at-source-clause-read : goal.skip-returns-then-at-source-clause-read
+skip-returns-then-at-source-clause-read t c = grind (arith, skip_rules)
+
+pub skip-returns-in_err-integer-in-105-clause-read : goal.skip-returns-in_err-integer-in-105-clause-read
+skip-returns-in_err-integer-in-105-clause-read t c = grind (arith, skip_rules)
+
+pub skip-returns-in_err-string-in_default-clause-read : goal.skip-returns-in_err-string-in_default-clause-read
+skip-returns-in_err-string-in_default-clause-read t c = grind (arith, skip_rules)
+
+pub skip-returns-in_ok-integer-in-105-clause-read : goal.skip-returns-in_ok-integer-in-105-clause-read
+skip-returns-in_ok-integer-in-105-clause-read t c = grind (arith, skip_rules)
+
+pub skip-returns-in-108-clause-read : goal.skip-returns-in-108-clause-read
+skip-returns-in-108-clause-read t c = grind (arith, skip_rules)
+
+pub skip-returns-in-100-clause-read : goal.skip-returns-in-100-clause-read
+skip-returns-in-100-clause-read t c = grind (arith, skip_rules)
+
+pub skip-returns-in_ok-string-in_default-clause-read : goal.skip-returns-in_ok-string-in_default-clause-read
+skip-returns-in_ok-string-in_default-clause-read t c = grind (arith, skip_rules)
+
+pub skip-returns-in_default-2-clause-read : goal.skip-returns-in_default-2-clause-read
+skip-returns-in_default-2-clause-read t c = grind (arith, skip_rules)
