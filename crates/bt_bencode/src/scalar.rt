@@ -2,7 +2,7 @@
 ghost use Rattle.std.specs.Prelude.{◌≡◌, ◌+◌, ◌<◌, ◌≤◌, ◌^◌, length, Some, None, nat_lt, if◌then◌else◌, All, IsTrue, IfOk, option_map};
 ghost use Rattle.std.specs.Char.{is_ascii_digit};
 ghost use Rattle.std.specs.Str.Parse.{digits_value};
-ghost use Rattle.bt_bencode.specs.Reading.{seen, key_at, is_late, no_key, run_at, is_padded, string_at, integer_at, signed_of};
+ghost use Rattle.bt_bencode.specs.Reading.{seen, key_at, is_late, no_key, run_at, is_padded, string_at, integer_at, integer_of, signed_of};
 
 use crate::fault::BenFault;
 
@@ -22,6 +22,14 @@ pub(crate) fn integer(source: &[u8], at: usize) -> Result<(i64, usize), BenFault
     if source[end] != b'e' {
         return Err(BenFault::BadInteger);
     }
+    Ok((integer_of(negative, run)?, end + 1))
+}
+
+/// The integer that a sign and a run of digits write.
+fn integer_of(negative: bool, run: &[u8]) -> Result<i64, BenFault>
+    requires { All (λ c. IsTrue (is_ascii_digit c)) run.now }
+    ensures { result ≡ integer_of negative run.now }
+{
     if run.is_empty() || padded(run) || (negative && run[0] == b'0') {
         return Err(BenFault::BadInteger);
     }
@@ -29,7 +37,7 @@ pub(crate) fn integer(source: &[u8], at: usize) -> Result<(i64, usize), BenFault
         return Err(BenFault::IntegerRange);
     };
     match signed(negative, number) {
-        Some(number) => Ok((number, end + 1)),
+        Some(number) => Ok(number),
         None => Err(BenFault::IntegerRange),
     }
 }

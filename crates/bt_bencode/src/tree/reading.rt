@@ -33,7 +33,6 @@ pub fn parse(alloc: Global, source: &[u8]) -> Result<Tree, BenFault>
 }
 
 /// The tree that is read from all of the bytes.
-#[tactic(auto, unfolding(crate::specs::Reading::tree_of))]
 fn whole(alloc: Global, source: &[u8]) -> Result<Tree, BenFault>
     ensures { Gives (λ t. t) result (tree_of source.now) }
 {
