@@ -1,4 +1,4 @@
-use Rattle.std.proofs.Common.{subst, true}
+use Rattle.std.proofs.Common.{rules, subst, true}
 use Rattle.bt_wire.specs.Stream.{InboundState, Gives}
 use Rattle.bt_wire.proofs.Front.{gives}
 use Rattle.bt_wire.proofs.inbound.Inbound.next.Goals as goal
@@ -11,3 +11,9 @@ returns-in-Ok-Some-clause-message c =
     let left = c.advance.new.self in
     subst (λ (old : InboundState). Gives old front.message (record state { greeted = true; bytes = left })) c.self.view_is
     (gives state front.message front.len left (rw (← c.as_slice.ensures) (rw front.field-0-is at front.ensures.found).1) c.advance.ensures)
+
+pub returns-in-Ok-None-clause-none : goal.returns-in-Ok-None-clause-none
+returns-in-Ok-None-clause-none c = search rules
+
+pub returns-in-Err : goal.returns-in-Err
+returns-in-Err c = search rules
