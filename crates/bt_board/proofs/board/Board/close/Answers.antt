@@ -1,16 +1,17 @@
 use Rattle.std.proofs.Common.{◌≡◌, ◌↔◌, ◌<◌, ◌+◌, ◌/◌, ◌%◌, ◌^◌, ℕ, List, true, false, bit_and, get_or, ap, subst, sym, ◌∙◌, arith}
+use Rattle.std.proofs.lemmas.Grind.{common_steps}
 use Rattle.std.specs.Prelude.{slice_index}
 use Rattle.std.specs.Int.{bit_at}
 use Rattle.std.specs.Arc.{arc_value}
 use Rattle.std.specs.Slots.{slots_items}
 use Rattle.std.proofs.lemmas.Nat.Bits.{shr_and_one}
-use mathlib.Core.Option.{some}
-use lib.ListN.{get_elem?}
 use Rattle.bt_meta.specs.Layout.{Metainfo, piece_count}
 use Rattle.bt_board.specs.declared.rule.About.{About}
 use Rattle.bt_board.specs.declared.view.View.{View}
 use Rattle.bt_board.specs.Seats.{BoardState, SeatState}
 use Rattle.bt_board.specs.Story.{Story, Marked, Seen, StandsFor}
+use mathlib.Core.Option.{some}
+use lib.ListN.{get_elem?}
 use Rattle.bt_board.proofs.Lists.{value_at}
 use Rattle.bt_board.proofs.Stories.{Copied, closes, copied_set, copied_unset}
 use Rattle.bt_board.proofs.board.Board.close.Goals as goal
@@ -84,3 +85,6 @@ returns-clause-seen c =
     let closed = closes torrent about.seats words last.0.views c.seat.inside.seat.id c.seat.inside.seat.me.0 c.loop-piece.bits story last.1.1 stands
     copied in
     subst (λ (v : View). (p : ℕ) → Seen v p → get_or c.loop-piece.bits p false ≡ true) same closed.1
+
+pub loop-piece-init : goal.loop-piece-init
+loop-piece-init c = grind (arith, common_steps)

@@ -1,4 +1,5 @@
-use Rattle.std.proofs.Common.{ap, sym, ◌∙◌}
+use Rattle.std.proofs.Common.{arith, ap, sym, ◌∙◌}
+use Rattle.std.proofs.lemmas.Grind.{common_steps}
 use Rattle.std.specs.Arc.{arc_value}
 use Rattle.bt_board.specs.Seats.{BoardState, SeatState}
 use Rattle.bt_board.proofs.Stories.{joins}
@@ -16,3 +17,9 @@ join_seat-requires c =
       c.self.invariant.some,
       joins (arc_value table.key.torrent).layout table.key.seats one.id other.id one.me.0 other.me.0 c.one.invariant.stands,
     )
+
+pub invariant_of-one : goal.invariant_of-one
+invariant_of-one c = grind (arith, common_steps)
+
+pub returns-clause-given : goal.returns-clause-given
+returns-clause-given c = grind (arith, common_steps)
