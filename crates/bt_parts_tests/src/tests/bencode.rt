@@ -113,15 +113,13 @@ fn each_fault_has_its_number(rt: HostRuntime) -> Result<(), Fail> {
     let too_deep = nested_lists(rt.alloc(), 65)?;
     same(fault_number(rt.alloc(), &too_deep), 7)?;
     same(fault_in_place(&too_deep), 7)?;
-    same(BenFault::from(AllocError) as u8, 10)?;
-    Ok(())
+    same(BenFault::from(AllocError) as u8, 10)
 }
 
 #[test]
 fn a_mebibyte_of_lists_is_too_deep(rt: HostRuntime) -> Result<(), Fail> {
     let source = vec![in rt.alloc(); b'l'; 1 << 20]?;
-    same(fault_number(rt.alloc(), &source), 7)?;
-    Ok(())
+    same(fault_number(rt.alloc(), &source), 7)
 }
 
 #[test]
@@ -134,11 +132,18 @@ fn each_proper_prefix_is_truncated(rt: HostRuntime) -> Result<(), Fail> {
     Ok(())
 }
 
+/// What is written of the tree. A call that found no memory is made once more.
+fn write_again(alloc: Global, tree: &Tree) -> Result<Vec<u8>, AllocError> {
+    match written(alloc, tree) {
+        Err(AllocError) => written(alloc, tree),
+        bytes => bytes,
+    }
+}
+
 /// Checks how the tree is written.
 fn is_written(alloc: Global, tree: &Tree, wanted: &[u8]) -> Result<(), Fail> {
-    let bytes = written(alloc, tree)?;
-    same(bytes.as_slice(), wanted)?;
-    Ok(())
+    let bytes = write_again(alloc, tree)?;
+    same(bytes.as_slice(), wanted)
 }
 
 /// Checks that the bytes are written as they were read, and that the tree spans them.
@@ -167,25 +172,30 @@ fn what_is_accepted_is_written_back(rt: HostRuntime) -> Result<(), Fail> {
     comes_back(rt.alloc(), &nested_lists(rt.alloc(), 64)?)
 }
 
+/// Checks where the tree stands.
+fn stands(tree: &Tree, start: usize, end: usize) -> Result<(), Fail> {
+    same(span(tree), Span { start, end })
+}
+
+/// Checks where a list stands, and its two items.
+fn list_stands(rt: &impl Abort, list: &Tree) -> Result<(), Fail> {
+    stands(list, 7, 16)?;
+    let items = items(list).ok_or("items")?;
+    assert!(rt; items.len() == 2);
+    stands(&items[0], 8, 11)?;
+    stands(&items[1], 11, 15)
+}
+
+/// Checks where the parts of a dictionary stand.
+fn parts_stand(rt: &impl Abort, dict: &Tree) -> Result<(), Fail> {
+    list_stands(rt, part(dict, b"list").ok_or("a list")?)?;
+    stands(part(dict, b"name").ok_or("a dictionary")?, 22, 28)
+}
+
 #[test]
 fn parts_know_where_they_stand(rt: HostRuntime) -> Result<(), Fail> {
     let tree = parse_again(rt.alloc(), b"d4:listl1:xi-3ee4:named0:0:ee")?;
-    let list = part(&tree, b"list").ok_or("a list")?;
-    let items = items(list).ok_or("items")?;
-    assert!(rt; items.len() == 2);
-    let name = part(&tree, b"name").ok_or("a dictionary")?;
-    let rows = [
-        (list, 7, 16),
-        (&items[0], 8, 11),
-        (&items[1], 11, 15),
-        (name, 22, 28),
-    ];
-    for (part, start, end) in rows {
-        let found = span(part);
-        same(found.start, start)?;
-        same(found.end, end)?;
-    }
-    Ok(())
+    parts_stand(&rt, &tree)
 }
 
 /// The value of the dictionary's key.
@@ -220,15 +230,13 @@ fn is_dict(value: &Value<'_>) -> bool {
 /// Checks that the next item is this string.
 fn next_is_text(items: &mut Items<'_>, wanted: &[u8]) -> Result<(), Fail> {
     let text = next(items).ok_or("a string")?;
-    same(text_of(&text).ok_or("bytes")?, wanted)?;
-    Ok(())
+    same(text_of(&text).ok_or("bytes")?, wanted)
 }
 
 /// Checks that the next item is this integer.
 fn next_is_int(items: &mut Items<'_>, wanted: i64) -> Result<(), Fail> {
     let number = next(items).ok_or("an integer")?;
-    same(int_of(&number), Some(wanted))?;
-    Ok(())
+    same(int_of(&number), Some(wanted))
 }
 
 /// Checks that the next item is a dictionary with 1 at `a`.
@@ -236,7 +244,15 @@ fn next_is_dict(rt: &impl Abort, items: &mut Items<'_>) -> Result<(), Fail> {
     let dict = next(items).ok_or("a dictionary")?;
     assert!(rt; is_dict(&dict));
     let one = part_of(&dict, b"a").ok_or("its value")?;
-    same(int_of(&one), Some(1))?;
+    same(int_of(&one), Some(1))
+}
+
+/// Checks that three items follow, and no other.
+fn are_three(rt: &impl Abort, items: &mut Items<'_>) -> Result<(), Fail> {
+    next_is_text(items, b"x")?;
+    next_is_int(items, -3)?;
+    next_is_dict(rt, items)?;
+    assert!(rt; next(items).is_none());
     Ok(())
 }
 
@@ -244,30 +260,28 @@ fn next_is_dict(rt: &impl Abort, items: &mut Items<'_>) -> Result<(), Fail> {
 fn is_list_of_three(rt: &impl Abort, list: &Value<'_>) -> Result<(), Fail> {
     same(span_of(list), Span { start: 7, end: 24 })?;
     assert!(rt; !is_dict(list));
-    let mut items = items_of(list).ok_or("items")?;
-    next_is_text(&mut items, b"x")?;
-    next_is_int(&mut items, -3)?;
-    next_is_dict(rt, &mut items)?;
-    assert!(rt; next(&mut items).is_none());
-    Ok(())
+    are_three(rt, &mut items_of(list).ok_or("items")?)
 }
 
 /// Checks a dictionary with the empty string at the empty key.
 fn is_named(name: &Value<'_>) -> Result<(), Fail> {
     let nothing = part_of(name, b"").ok_or("the empty key")?;
-    same(text_of(&nothing).ok_or("no bytes")?, b"".as_slice())?;
-    Ok(())
+    same(text_of(&nothing).ok_or("no bytes")?, b"".as_slice())
+}
+
+/// Checks a dictionary with that list and that dictionary.
+fn has_both(rt: &impl Abort, value: &Value<'_>) -> Result<(), Fail> {
+    is_list_of_three(rt, &part_of(value, b"list").ok_or("a list")?)?;
+    is_named(&part_of(value, b"name").ok_or("a name")?)
 }
 
 #[test]
 fn a_value_is_read_where_it_stands(rt: HostRuntime) -> Result<(), Fail> {
     let value = value_of(b"d4:listl1:xi-3ed1:ai1eee4:named0:0:e5:otheri7ee")?;
-    is_list_of_three(&rt, &part_of(&value, b"list").ok_or("a list")?)?;
-    is_named(&part_of(&value, b"name").ok_or("a name")?)?;
-    let other = part_of(&value, b"other").ok_or("the last")?;
-    same(span_of(&other), Span { start: 43, end: 46 })?;
+    has_both(&rt, &value)?;
     assert!(rt; part_of(&value, b"nam").is_none());
-    Ok(())
+    let other = part_of(&value, b"other").ok_or("the last")?;
+    same(span_of(&other), Span { start: 43, end: 46 })
 }
 
 fn text(alloc: Global, bytes: &[u8]) -> Result<Tree, BenFault> {
@@ -278,13 +292,18 @@ fn int(value: i64) -> Tree {
     Tree::int(value)
 }
 
-/// A dictionary with a list of `x` and -3 at `a`.
-fn made_by_hand(alloc: Global) -> Result<Tree, Fail> {
+/// A list of `x` and -3.
+fn list_by_hand(alloc: Global) -> Result<Tree, Fail> {
     let mut items = Vec::new(alloc);
     items.push(text(alloc, b"x")?)?;
     items.push(int(-3))?;
+    Ok(list(items)?)
+}
+
+/// A dictionary with that list at `a`.
+fn made_by_hand(alloc: Global) -> Result<Tree, Fail> {
     let mut entries = Vec::new(alloc);
-    entries.push((Vec::from_slice(alloc, b"a")?, list(items)?))?;
+    entries.push((Vec::from_slice(alloc, b"a")?, list_by_hand(alloc)?))?;
     Ok(dict(entries)?)
 }
 
@@ -310,19 +329,22 @@ fn is_list_of_two(rt: &impl Abort, list: &Tree) -> Result<(), Fail> {
     let items = items(list).ok_or("a list")?;
     assert!(rt; items.len() == 2);
     same(tree_text(&items[0]).ok_or("a string")?, b"x".as_slice())?;
-    same(tree_int(&items[1]), Some(-3))?;
-    Ok(())
+    same(tree_int(&items[1]), Some(-3))
+}
+
+/// Checks a dictionary with that list at `a`, and no other key.
+fn has_that_list(rt: &impl Abort, tree: &Tree) -> Result<(), Fail> {
+    is_list_of_two(rt, part(tree, b"a").ok_or("the list")?)?;
+    assert!(rt; part(tree, b"b").is_none());
+    same(key_count(tree), Some(1))?;
+    stands(tree, 0, 0)
 }
 
 #[test]
 fn trees_are_made_by_hand(rt: HostRuntime) -> Result<(), Fail> {
     let tree = made_by_hand(rt.alloc())?;
     is_written(rt.alloc(), &tree, b"d1:al1:xi-3eee")?;
-    is_list_of_two(&rt, part(&tree, b"a").ok_or("the list")?)?;
-    assert!(rt; part(&tree, b"b").is_none());
-    same(key_count(&tree), Some(1))?;
-    same(span(&tree), Span { start: 0, end: 0 })?;
-    Ok(())
+    has_that_list(&rt, &tree)
 }
 
 /// A dictionary of two keys, in this order.
@@ -333,13 +355,17 @@ fn dict_of_two(alloc: Global, first: &[u8], second: &[u8]) -> Result<Result<Tree
     Ok(dict(entries))
 }
 
+/// Checks that no dictionary has these keys, in this order.
+fn are_not_sorted(rt: &impl Abort, alloc: Global, first: &[u8], second: &[u8]) -> Result<(), Fail> {
+    let made = dict_of_two(alloc, first, second)?;
+    assert!(rt; matches!(made, Err(BenFault::KeyOrder)));
+    Ok(())
+}
+
 #[test]
 fn a_dictionary_by_hand_has_sorted_keys(rt: HostRuntime) -> Result<(), Fail> {
-    for (first, second) in [(b"b", b"a"), (b"a", b"a")] {
-        let made = dict_of_two(rt.alloc(), first, second)?;
-        assert!(rt; matches!(made, Err(BenFault::KeyOrder)));
-    }
-    Ok(())
+    are_not_sorted(&rt, rt.alloc(), b"b", b"a")?;
+    are_not_sorted(&rt, rt.alloc(), b"a", b"a")
 }
 
 /// A list of the tree alone.
@@ -349,12 +375,18 @@ fn list_of_one(alloc: Global, tree: Tree) -> Result<Result<Tree, BenFault>, Fail
     Ok(list(items))
 }
 
+/// As many lists inside one another.
+fn lists_by_hand(alloc: Global, levels: usize) -> Result<Tree, Fail> {
+    let mut tree = list(Vec::new(alloc))?;
+    for _ in 1..levels {
+        tree = list_of_one(alloc, tree)??;
+    }
+    Ok(tree)
+}
+
 #[test]
 fn lists_by_hand_stand_64_inside_one_another(rt: HostRuntime) -> Result<(), Fail> {
-    let mut tree = list(Vec::new(rt.alloc()))?;
-    for _ in 1..64 {
-        tree = list_of_one(rt.alloc(), tree)??;
-    }
+    let tree = lists_by_hand(rt.alloc(), 64)?;
     let made = list_of_one(rt.alloc(), tree)?;
     assert!(rt; matches!(made, Err(BenFault::TooDeep)));
     Ok(())
@@ -368,18 +400,18 @@ fn put(trees: &mut Vec<Tree>, tree: Tree) -> Result<(), AllocError> {
     }
 }
 
+/// Puts a tree of each source behind the others.
+fn put_each(alloc: Global, trees: &mut Vec<Tree>, sources: &[&[u8]]) -> Result<(), Fail> {
+    for source in sources {
+        put(trees, parse_again(alloc, source)?)?;
+    }
+    Ok(())
+}
+
 #[test]
 fn a_tree_that_found_no_room_is_put_once_more(rt: HostRuntime) -> Result<(), Fail> {
     const SOURCES: &[&[u8]] = &[b"2:ab", b"i-3e", b"l1:xe", b"d1:ai1ee", b"le"];
     let mut trees = Vec::new(rt.alloc());
-    for source in SOURCES {
-        put(&mut trees, parse_again(rt.alloc(), source)?)?;
-    }
-    let list = list(trees)?;
-    let bytes = match written(rt.alloc(), &list) {
-        Ok(bytes) => bytes,
-        Err(AllocError) => written(rt.alloc(), &list)?,
-    };
-    same(bytes.as_slice(), b"l2:abi-3el1:xed1:ai1eelee".as_slice())?;
-    Ok(())
+    put_each(rt.alloc(), &mut trees, SOURCES)?;
+    is_written(rt.alloc(), &list(trees)?, b"l2:abi-3el1:xed1:ai1eelee")
 }

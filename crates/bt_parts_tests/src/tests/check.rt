@@ -25,8 +25,7 @@ fn a_job_of_two_blocks(rt: HostRuntime) -> Result<(), Fail> {
     let verdict = hashed(Job { piece: 7, blocks });
     same(verdict.piece(), 7)?;
     same(*verdict.digest(), ABC)?;
-    same(verdict.blocks().len(), 2)?;
-    Ok(())
+    same(verdict.blocks().len(), 2)
 }
 
 /// The SHA-1 of `a`, by another program.

@@ -75,8 +75,7 @@ fn readers_and_writers_are_devices(rt: HostRuntime) -> Result<(), Fail> {
     let mut from = FromRead::new(Cursor::new(b"abcde".as_slice()));
     let mut to = ToWrite::new(Vec::with_capacity(rt.alloc(), 5)?);
     copy(&mut from, &mut to)?;
-    same(to.into_inner().as_slice(), b"abcde".as_slice())?;
-    Ok(())
+    same(to.into_inner().as_slice(), b"abcde".as_slice())
 }
 
 #[test]

@@ -84,20 +84,24 @@ fn says_its_parts(rt: &impl Abort, torrent: &Torrent) -> Result<(), Fail> {
     Ok(())
 }
 
-#[test]
-fn a_small_torrent(rt: HostRuntime) -> Result<(), Fail> {
-    let torrent = made(rt.alloc(), 3, 7, 3, [9; 20])??;
-    says_its_parts(&rt, &torrent)?;
-    same(hash(&torrent, 2), Some([2; 20]))?;
-    same(piece_len(&torrent, 1), Some(3))?;
-    same(piece_len(&torrent, 2), Some(1))?;
+/// Checks what it says of its last two pieces.
+fn says_its_pieces(torrent: &Torrent) -> Result<(), Fail> {
+    same(hash(torrent, 2), Some([2; 20]))?;
+    same(piece_len(torrent, 1), Some(3))?;
+    same(piece_len(torrent, 2), Some(1))?;
     let last = Block {
         piece: 2,
         begin: 0,
         len: 1,
     };
-    same(block(&torrent, 2, 0), Some(last))?;
-    Ok(())
+    same(block(torrent, 2, 0), Some(last))
+}
+
+#[test]
+fn a_small_torrent(rt: HostRuntime) -> Result<(), Fail> {
+    let torrent = made(rt.alloc(), 3, 7, 3, [9; 20])??;
+    says_its_parts(&rt, &torrent)?;
+    says_its_pieces(&torrent)
 }
 
 /// A block of the first piece.
@@ -109,8 +113,8 @@ const fn first(begin: u32, len: u32) -> Block {
     }
 }
 
-#[test]
-fn blocks_of_a_piece(rt: HostRuntime) -> Result<(), Fail> {
+/// Checks the blocks of a torrent's only piece.
+fn has_its_blocks(torrent: &Torrent) -> Result<(), Fail> {
     // Where a block may begin, and the bytes of the one that does.
     const ROWS: &[(u32, Option<u32>)] = &[
         (0, Some(16_384)),
@@ -120,16 +124,25 @@ fn blocks_of_a_piece(rt: HostRuntime) -> Result<(), Fail> {
         (999_424, Some(576)),
         (1_015_808, None),
     ];
-    let torrent = made(rt.alloc(), 1_000_000, 1_000_000, 1, [0; 20])??;
-    same(block_count(&torrent, 0), Some(62))?;
-    same(block(&torrent, 0, 61), Some(first(999_424, 576)))?;
+    same(block_count(torrent, 0), Some(62))?;
+    same(block(torrent, 0, 61), Some(first(999_424, 576)))?;
     for &(begin, len) in ROWS {
         let block = len.map(|len| first(begin, len));
-        same(block_at(&torrent, 0, begin), Some(block))?;
+        same(block_at(torrent, 0, begin), Some(block))?;
     }
-    let torrent = made(rt.alloc(), 32_768, 65_536, 2, [0; 20])??;
-    same(block_count(&torrent, 1), Some(2))?;
     Ok(())
+}
+
+#[test]
+fn blocks_of_a_piece(rt: HostRuntime) -> Result<(), Fail> {
+    let torrent = made(rt.alloc(), 1_000_000, 1_000_000, 1, [0; 20])??;
+    has_its_blocks(&torrent)
+}
+
+#[test]
+fn blocks_of_a_last_piece(rt: HostRuntime) -> Result<(), Fail> {
+    let torrent = made(rt.alloc(), 32_768, 65_536, 2, [0; 20])??;
+    same(block_count(&torrent, 1), Some(2))
 }
 
 #[test]
@@ -198,8 +211,7 @@ fn as_wire(set: &Bitfield) -> &[u8] {
 /// Checks how the set is spelled on the wire.
 fn is_spelled(alloc: Global, set: &Bitfield, wanted: &[u8]) -> Result<(), Fail> {
     let bytes = to_wire(alloc, set)?;
-    same(bytes.as_slice(), wanted)?;
-    Ok(())
+    same(bytes.as_slice(), wanted)
 }
 
 #[test]
@@ -264,8 +276,7 @@ fn bitfields_onto_the_wire(rt: HostRuntime) -> Result<(), Fail> {
     set(&mut had, 2);
     same(count_ones(&had), 2)?;
     is_spelled(rt.alloc(), &had, &[0xa0])?;
-    same(as_wire(&had), [0xa0].as_slice())?;
-    Ok(())
+    same(as_wire(&had), [0xa0].as_slice())
 }
 
 #[test]
@@ -275,6 +286,5 @@ fn a_bitfield_of_another(rt: HostRuntime) -> Result<(), Fail> {
     copy_from(&mut shown, &had);
     clear(&mut had);
     same(as_wire(&shown), [0xa0].as_slice())?;
-    same(as_wire(&had), [0x00].as_slice())?;
-    Ok(())
+    same(as_wire(&had), [0x00].as_slice())
 }

@@ -18,21 +18,33 @@ fn put(file: &mut Vec<u8>, bytes: &[u8]) -> Result<(), AllocError> {
     file.extend_from_slice(bytes)
 }
 
-/// A file with these digests as `pieces`, between what stands before and behind it.
-fn file_of(
+/// Puts the number behind the others.
+fn put_number(alloc: Global, file: &mut Vec<u8>, number: usize) -> Result<(), AllocError> {
+    let digits = number.to_string(alloc)?;
+    put(file, digits.as_bytes())
+}
+
+/// Puts these parts, the digests as `pieces`, and the ends of both dictionaries.
+fn put_file(
     alloc: Global,
-    before: &[u8],
+    file: &mut Vec<u8>,
+    before: &[&[u8]],
     digests: &[u8],
-    behind: &[u8],
-) -> Result<Vec<u8>, AllocError> {
+) -> Result<(), AllocError> {
+    for part in before {
+        put(file, part)?;
+    }
+    put(file, b"6:pieces")?;
+    put_number(alloc, file, digests.len())?;
+    put(file, b":")?;
+    put(file, digests)?;
+    put(file, b"ee")
+}
+
+/// A file of these parts, with these digests as `pieces` behind them.
+fn file_of(alloc: Global, before: &[&[u8]], digests: &[u8]) -> Result<Vec<u8>, AllocError> {
     let mut file = Vec::new(alloc);
-    let len = digests.len().to_string(alloc)?;
-    put(&mut file, before)?;
-    put(&mut file, b"6:pieces")?;
-    put(&mut file, len.as_bytes())?;
-    put(&mut file, b":")?;
-    put(&mut file, digests)?;
-    put(&mut file, behind)?;
+    put_file(alloc, &mut file, before, digests)?;
     Ok(file)
 }
 
@@ -103,10 +115,11 @@ fn piece_lengths(rt: HostRuntime) -> Result<(), Fail> {
         (b"i7e", None),
     ];
     for &(piece_length, fault) in ROWS {
-        let mut before = Vec::new(rt.alloc());
-        put(&mut before, b"d4:infod6:lengthi7e4:name1:s12:piece length")?;
-        put(&mut before, piece_length)?;
-        let file = file_of(rt.alloc(), &before, &DIGESTS[..20], b"ee")?;
+        let before = [
+            b"d4:infod6:lengthi7e4:name1:s12:piece length".as_slice(),
+            piece_length,
+        ];
+        let file = file_of(rt.alloc(), &before, &DIGESTS[..20])?;
         same_for(fault_of(rt.alloc(), &file), fault, piece_length)?;
     }
     Ok(())
@@ -119,9 +132,9 @@ fn digests_that_do_not_fit(rt: HostRuntime) -> Result<(), Fail> {
         (0, MetaFault::CountMismatch),
         (40, MetaFault::CountMismatch),
     ];
-    let before = b"d4:infod6:lengthi7e4:name1:s12:piece lengthi3e";
+    const BEFORE: &[&[u8]] = &[b"d4:infod6:lengthi7e4:name1:s12:piece lengthi3e"];
     for &(bytes, fault) in ROWS {
-        let file = file_of(rt.alloc(), before, &DIGESTS[..bytes], b"ee")?;
+        let file = file_of(rt.alloc(), BEFORE, &DIGESTS[..bytes])?;
         same_for(fault_of(rt.alloc(), &file), Some(fault), bytes)?;
     }
     Ok(())
@@ -179,11 +192,12 @@ fn contents(rt: HostRuntime) -> Result<(), Fail> {
         (b"6:lengthi9e", None),
     ];
     for &(content, fault) in ROWS {
-        let mut before = Vec::new(rt.alloc());
-        put(&mut before, b"d4:infod")?;
-        put(&mut before, content)?;
-        put(&mut before, b"4:name1:s12:piece lengthi3e")?;
-        let file = file_of(rt.alloc(), &before, DIGESTS, b"ee")?;
+        let before = [
+            b"d4:infod".as_slice(),
+            content,
+            b"4:name1:s12:piece lengthi3e".as_slice(),
+        ];
+        let file = file_of(rt.alloc(), &before, DIGESTS)?;
         same_for(fault_of(rt.alloc(), &file), fault, content)?;
     }
     Ok(())

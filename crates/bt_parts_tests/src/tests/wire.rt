@@ -64,14 +64,26 @@ fn rest(inbound: &Inbound) -> usize {
     inbound.rest()
 }
 
+/// Whether the message in front is a handshake.
+fn gives_hello(alloc: Global, inbound: &mut Inbound) -> Result<bool, WireFault> {
+    Ok(matches!(next_again(inbound, alloc)?, Some(Message::Hello(_))))
+}
+
+/// Takes a handshake, and gives it.
+fn greet(alloc: Global, inbound: &mut Inbound) -> Result<(), Fail> {
+    feed_again(inbound, &hello_bytes())?;
+    if gives_hello(alloc, inbound)? {
+        Ok(())
+    } else {
+        Err("no handshake")?
+    }
+}
+
 /// A stream whose handshake was given.
 fn greeted(alloc: Global) -> Result<Inbound, Fail> {
     let mut inbound = opened(alloc);
-    feed_again(&mut inbound, &hello_bytes())?;
-    match next_again(&mut inbound, alloc)? {
-        Some(Message::Hello(_)) => Ok(inbound),
-        _ => Err("no handshake")?,
-    }
+    greet(alloc, &mut inbound)?;
+    Ok(inbound)
 }
 
 /// Appends what stands in front: the messages, and then the fault if one follows.
@@ -112,8 +124,7 @@ fn told(alloc: Global, inbound: &mut Inbound, piece: &[u8]) -> Result<String, Fa
 /// Checks what stands in front once the piece came.
 fn tells(alloc: Global, inbound: &mut Inbound, piece: &[u8], wanted: &str) -> Result<(), Fail> {
     let said = told(alloc, inbound, piece)?;
-    same(said.as_str(), wanted)?;
-    Ok(())
+    same(said.as_str(), wanted)
 }
 
 /// What stands in front after each piece of so many bytes, with a stroke behind it.
@@ -178,8 +189,7 @@ const ROWS: &[(&[u8], usize, &str)] = &[
 fn frame(alloc: Global, bytes: &[u8], len: usize, wanted: &str) -> Result<(), Fail> {
     let mut inbound = greeted(alloc)?;
     let said = told_in_pieces(alloc, &mut inbound, bytes, len)?;
-    same(said.as_str(), wanted)?;
-    Ok(())
+    same(said.as_str(), wanted)
 }
 
 #[test]
@@ -196,8 +206,7 @@ fn one_handshake(alloc: Global, inbound: &mut Inbound, bytes: &[u8; 68]) -> Resu
     tells(alloc, inbound, front, "")?;
     feed_again(inbound, last)?;
     tells(alloc, inbound, &[0, 0, 0], HELLO_TOLD)?;
-    same(rest(inbound), 3)?;
-    Ok(())
+    same(rest(inbound), 3)
 }
 
 /// Another byte in the place of the first.
@@ -212,8 +221,7 @@ fn a_strange_handshake(
     tells(alloc, inbound, &front[1..], "")?;
     tells(alloc, inbound, last, "BadHandshake ")?;
     assert!(rt; feed(inbound, &[0]) == Err(WireFault::BadHandshake));
-    same(rest(inbound), 68)?;
-    Ok(())
+    same(rest(inbound), 68)
 }
 
 #[test]
@@ -223,16 +231,19 @@ fn handshakes(rt: HostRuntime) -> Result<(), Fail> {
     a_strange_handshake(&rt, rt.alloc(), &mut opened(rt.alloc()), &bytes)
 }
 
+/// Checks that the stream has a handshake, a message and a fault.
+fn ends_in_a_fault(alloc: Global, inbound: &mut Inbound, stream: &[u8]) -> Result<(), Fail> {
+    let said = told(alloc, inbound, stream)?;
+    same(said.strip_prefix(HELLO_TOLD), Some("Choke TooLong "))?;
+    same(rest(inbound), 4)
+}
+
 /// The handshake, a message and a length beyond the limit, all in one piece.
 #[test]
 fn a_fault_behind_messages(rt: HostRuntime) -> Result<(), Fail> {
     let mut stream = Vec::from_slice(rt.alloc(), &hello_bytes())?;
     stream.extend_from_slice(&[0, 0, 0, 1, 0, 0, 16, 0, 1])?;
-    let mut inbound = opened(rt.alloc());
-    let said = told(rt.alloc(), &mut inbound, &stream)?;
-    same(said.strip_prefix(HELLO_TOLD), Some("Choke TooLong "))?;
-    same(rest(&inbound), 4)?;
-    Ok(())
+    ends_in_a_fault(rt.alloc(), &mut opened(rt.alloc()), &stream)
 }
 
 /// The length of the bitfield in front.
@@ -248,14 +259,18 @@ fn bits(alloc: Global, count: usize) -> Result<Vec<u8>, AllocError> {
     vec![in alloc; 170; count]
 }
 
+/// Takes the longest bitfield, and gives it.
+fn takes_the_longest(alloc: Global, inbound: &mut Inbound) -> Result<(), Fail> {
+    feed_again(inbound, &[0, 16, 0, 0, 5])?;
+    feed_again(inbound, &bits(alloc, 1_048_575)?)?;
+    same(bits_len(alloc, inbound)?, 1_048_575)?;
+    same(rest(inbound), 0)
+}
+
 #[test]
 fn a_frame_at_the_limit(rt: HostRuntime) -> Result<(), Fail> {
     let mut inbound = greeted(rt.alloc())?;
-    feed_again(&mut inbound, &[0, 16, 0, 0, 5])?;
-    feed_again(&mut inbound, &bits(rt.alloc(), 1_048_575)?)?;
-    same(bits_len(rt.alloc(), &mut inbound)?, 1_048_575)?;
-    same(rest(&inbound), 0)?;
-    Ok(())
+    takes_the_longest(rt.alloc(), &mut inbound)
 }
 
 fn limit_of(pieces: u32) -> u32 {
@@ -307,17 +322,27 @@ fn put_the_first(out: &mut Vec<u8>) -> Result<(), AllocError> {
     put(&Message::Have(2), out)
 }
 
-/// Puts the other messages.
-fn put_the_others(out: &mut Vec<u8>) -> Result<(), AllocError> {
-    let (piece, begin, len) = (0x01_02_03_04, 0x05_06_07_08, 16_384);
-    put(&Message::Bits(Bytes::from_static(&[224])), out)?;
-    put(&Message::Request { piece, begin, len }, out)?;
+/// Puts a bitfield of one byte.
+fn put_bits(out: &mut Vec<u8>) -> Result<(), AllocError> {
+    put(&Message::Bits(Bytes::from_static(&[224])), out)
+}
+
+/// Puts a block of three bytes.
+fn put_block(out: &mut Vec<u8>) -> Result<(), AllocError> {
     let block = Message::Piece {
         piece: 0,
         begin: 0,
         bytes: Bytes::from_static(b"abc"),
     };
-    put(&block, out)?;
+    put(&block, out)
+}
+
+/// Puts the other messages.
+fn put_the_others(out: &mut Vec<u8>) -> Result<(), AllocError> {
+    let (piece, begin, len) = (0x01_02_03_04, 0x05_06_07_08, 16_384);
+    put_bits(out)?;
+    put(&Message::Request { piece, begin, len }, out)?;
+    put_block(out)?;
     put(&Message::Cancel { piece, begin, len }, out)?;
     put(&Message::Unknown(20), out)
 }
@@ -327,8 +352,7 @@ fn encoded(rt: HostRuntime) -> Result<(), Fail> {
     let mut out = Vec::new(rt.alloc());
     put_the_first(&mut out)?;
     put_the_others(&mut out)?;
-    same(out.as_slice(), EACH_KIND.as_slice())?;
-    Ok(())
+    same(out.as_slice(), EACH_KIND.as_slice())
 }
 
 /// Five messages, and the front of another.
@@ -373,6 +397,14 @@ fn put_have(piece: u32, out: &mut Vec<u8>) -> Result<(), AllocError> {
     }
 }
 
+/// Puts a message of each piece, up to that one.
+fn put_haves(pieces: u32, out: &mut Vec<u8>) -> Result<(), AllocError> {
+    for piece in 0..pieces {
+        put_have(piece, out)?;
+    }
+    Ok(())
+}
+
 /// Whether the message in front tells of this piece.
 fn gives_have(alloc: Global, inbound: &mut Inbound, piece: u32) -> Result<bool, WireFault> {
     match next_again(inbound, alloc)? {
@@ -381,19 +413,25 @@ fn gives_have(alloc: Global, inbound: &mut Inbound, piece: u32) -> Result<bool, 
     }
 }
 
+/// Takes a message of each piece at once, and gives one after another.
+fn takes_many(
+    rt: &impl Abort,
+    alloc: Global,
+    inbound: &mut Inbound,
+    stream: &[u8],
+) -> Result<(), Fail> {
+    feed_again(inbound, stream)?;
+    for piece in 0..20_000 {
+        assert!(rt; gives_have(alloc, inbound, piece)?);
+    }
+    same(rest(inbound), 0)
+}
+
 #[test]
 fn many_messages_in_one_feed(rt: HostRuntime) -> Result<(), Fail> {
     let mut stream = Vec::new(rt.alloc());
-    for piece in 0..20_000 {
-        put_have(piece, &mut stream)?;
-    }
-    let mut inbound = greeted(rt.alloc())?;
-    feed_again(&mut inbound, &stream)?;
-    for piece in 0..20_000 {
-        assert!(rt; gives_have(rt.alloc(), &mut inbound, piece)?);
-    }
-    same(rest(&inbound), 0)?;
-    Ok(())
+    put_haves(20_000, &mut stream)?;
+    takes_many(&rt, rt.alloc(), &mut greeted(rt.alloc())?, &stream)
 }
 
 /// What `EACH_KIND` says.
@@ -422,15 +460,18 @@ fn a_call_that_found_no_memory_is_made_once_more(rt: HostRuntime) -> Result<(), 
     Ok(())
 }
 
-#[test]
-fn a_message_that_found_no_room_is_put_once_more(rt: HostRuntime) -> Result<(), Fail> {
-    let mut out = Vec::new(rt.alloc());
-    for piece in 0..100 {
-        put_have(piece, &mut out)?;
-    }
-    same(out.len(), 900)?;
-    for (piece, frame) in (0..100_u8).zip(out.chunks(9)) {
+/// Checks that the bytes are a message of each of a hundred pieces.
+fn are_haves(bytes: &[u8]) -> Result<(), Fail> {
+    same(bytes.len(), 900)?;
+    for (piece, frame) in (0..100_u8).zip(bytes.chunks(9)) {
         same(frame, [0, 0, 0, 5, 4, 0, 0, 0, piece].as_slice())?;
     }
     Ok(())
+}
+
+#[test]
+fn a_message_that_found_no_room_is_put_once_more(rt: HostRuntime) -> Result<(), Fail> {
+    let mut out = Vec::new(rt.alloc());
+    put_haves(100, &mut out)?;
+    are_haves(&out)
 }

@@ -4,7 +4,7 @@ use super::scripts::ran;
 use bt_expect::{same, same_for};
 use bt_meta::{BitFault, MetaFault};
 use bt_script::*;
-use std::alloc::Global;
+use std::alloc::{AllocError, Global};
 use std::test::*;
 
 /// Three pieces for two workers: `abc`, `abc` and `a`.
@@ -150,19 +150,36 @@ fn played(alloc: Global, script: &[u8]) -> (Result<(), Fault>, Vec<u8>) {
     (done, out)
 }
 
+/// A script of the torrent line and what stands behind it.
+fn script_of(alloc: Global, behind: &[u8]) -> Result<Vec<u8>, AllocError> {
+    let mut script = Vec::from_slice(alloc, TORRENT)?;
+    script.extend_from_slice(behind)?;
+    Ok(script)
+}
+
+/// Checks how a script is played, and what was printed.
+fn plays(
+    alloc: Global,
+    script: &[u8],
+    wanted: Result<(), Fault>,
+    printed: &[u8],
+    case: &[u8],
+) -> Result<(), Fail> {
+    let (done, out) = played(alloc, script);
+    same_for(done, wanted, case)?;
+    same_for(out.as_slice(), printed, case)
+}
+
 #[test]
 fn lines_behind_the_first(rt: HostRuntime) -> Result<(), Fail> {
     for &(behind, number, printed) in BEHIND {
-        let mut script = Vec::from_slice(rt.alloc(), TORRENT)?;
-        script.extend_from_slice(behind)?;
-        let (done, out) = played(rt.alloc(), &script);
+        let script = script_of(rt.alloc(), behind)?;
         let wanted = if number == 0 {
             Ok(())
         } else {
             Err(Fault::Line(number))
         };
-        same_for(done, wanted, behind)?;
-        same_for(out.as_slice(), printed, behind)?;
+        plays(rt.alloc(), &script, wanted, printed, behind)?;
     }
     Ok(())
 }
@@ -170,12 +187,17 @@ fn lines_behind_the_first(rt: HostRuntime) -> Result<(), Fail> {
 #[test]
 fn first_lines(rt: HostRuntime) -> Result<(), Fail> {
     for &(script, number) in FIRST_LINES {
-        let (done, out) = played(rt.alloc(), script);
-        same_for(done, Err(Fault::Line(number)), script)?;
-        same_for(out.as_slice(), b"".as_slice(), script)?;
-        same_for(ran(rt.alloc(), script).0, 2, script)?;
+        plays(rt.alloc(), script, Err(Fault::Line(number)), b"", script)?;
+        let (status, _) = ran(rt.alloc(), script);
+        same_for(status, 2, script)?;
     }
     Ok(())
+}
+
+/// Checks what is told of a fault.
+fn is_told(alloc: Global, fault: Fault, text: &str) -> Result<(), Fail> {
+    let told = fault.to_string(alloc)?;
+    same(told.as_str(), text)
 }
 
 /// What is told of a fault, and its exit status.
@@ -194,9 +216,9 @@ fn texts_and_statuses(rt: HostRuntime) -> Result<(), Fail> {
         (Fault::File, 4, "file fault"),
         (Fault::Memory, 5, "memory"),
     ];
-    for (fault, status, text) in ROWS {
-        same(fault.status(), *status)?;
-        same(fault.to_string(rt.alloc())?.as_str(), *text)?;
+    for &(fault, status, text) in ROWS {
+        same(fault.status(), status)?;
+        is_told(rt.alloc(), fault, text)?;
     }
     Ok(())
 }

@@ -1,74 +1,101 @@
-//! Journal lines.
+//! Journal lines. What is printed goes through a function without a contract, so that a test knows of what it gives alone.
 
 use bt_expect::same;
-use bt_meta::{Bitfield, Block, ToWrite};
+use bt_meta::{BitFault, Bitfield, Block, DeviceFault, ToWrite};
 use bt_picker::{Call, Entry, Reason, Reply};
 use bt_script::print_entry;
 use bytes::Bytes;
+use std::alloc::Global;
 use std::test::*;
 
-#[test]
-fn journal_lines(rt: HostRuntime) -> Result<(), Fail> {
+/// The line of an entry.
+fn line_of(alloc: Global, entry: &Entry) -> Result<Vec<u8>, DeviceFault> {
+    let mut out = ToWrite::new(Vec::new(alloc));
+    print_entry(&mut out, entry)?;
+    Ok(out.into_inner())
+}
+
+/// Checks the line of a call of worker 7.
+fn is_line(alloc: Global, call: Call, reply: Reply, wanted: &[u8]) -> Result<(), Fail> {
+    let entry = Entry {
+        worker: 7,
+        call,
+        reply,
+    };
+    let line = line_of(alloc, &entry)?;
+    same(line.as_slice(), wanted)
+}
+
+fn bits(alloc: Global, bytes: &[u8], pieces: u32) -> Result<Bitfield, BitFault> {
+    Bitfield::from_wire(alloc, bytes, pieces)
+}
+
+/// Checks lines with a bitfield.
+fn lines_of_bits(alloc: Global) -> Result<(), Fail> {
+    let call = Call::Bits(bits(alloc, b"\xe0", 3)?);
+    is_line(alloc, call, Reply::Noted(true), b"7 bits e0 = noted yes\n")?;
+    let call = Call::Bits(bits(alloc, b"\x0f\xa5\x80", 17)?);
+    let reply = Reply::Refused(Reason::WrongCount);
+    is_line(alloc, call, reply, b"7 bits 0fa580 = refused 4\n")?;
+    let call = Call::Want(bits(alloc, b"\x40", 3)?);
+    is_line(alloc, call, Reply::Quiet, b"7 want 40 = quiet\n")
+}
+
+/// Checks the line of a block that came.
+fn line_of_a_block(alloc: Global) -> Result<(), Fail> {
+    let call = Call::Arrived {
+        piece: 0,
+        begin: 16384,
+        bytes: Bytes::from_static(b"abc"),
+    };
+    is_line(
+        alloc,
+        call,
+        Reply::Completed,
+        b"7 block 0 16384 3 = completed\n",
+    )
+}
+
+/// Checks lines of Next.
+fn lines_of_next(alloc: Global) -> Result<(), Fail> {
     let block = Block {
         piece: 0,
         begin: 16384,
         len: 3,
     };
-    let rows = [
-        (Call::Join, Reply::Joined, "7 join = joined"),
-        (
-            Call::Bits(Bitfield::from_wire(rt.alloc(), b"\xe0", 3)?),
-            Reply::Noted(true),
-            "7 bits e0 = noted yes",
-        ),
-        (
-            Call::Bits(Bitfield::from_wire(rt.alloc(), b"\x0f\xa5\x80", 17)?),
-            Reply::Refused(Reason::WrongCount),
-            "7 bits 0fa580 = refused 4",
-        ),
-        (Call::Have(2), Reply::Noted(false), "7 have 2 = noted no"),
-        (
-            Call::Next(5),
-            Reply::Request(block),
-            "7 next = request 0 16384 3",
-        ),
-        (
-            Call::Next(5),
-            Reply::Cancel(block),
-            "7 next = cancel 0 16384 3",
-        ),
-        (
-            Call::Arrived {
-                piece: 0,
-                begin: 16384,
-                bytes: Bytes::from_static(b"abc"),
-            },
-            Reply::Completed,
-            "7 block 0 16384 3 = completed",
-        ),
-        (
-            Call::Want(Bitfield::from_wire(rt.alloc(), b"\x40", 3)?),
-            Reply::Quiet,
-            "7 want 40 = quiet",
-        ),
-        (Call::Choke, Reply::Quiet, "7 choke = quiet"),
-        (Call::Unchoke, Reply::Quiet, "7 unchoke = quiet"),
-        (
-            Call::Leave,
-            Reply::Refused(Reason::NotJoined),
-            "7 leave = refused 1",
-        ),
-    ];
-    for (call, reply, line) in rows {
-        let entry = Entry {
-            worker: 7,
-            call,
-            reply,
-        };
-        let mut out = ToWrite::new(Vec::new(rt.alloc()));
-        print_entry(&mut out, &entry)?;
-        let line = format!(in rt.alloc(); "{line}\n")?;
-        same(out.into_inner().as_slice(), line.as_bytes())?;
-    }
-    Ok(())
+    is_line(
+        alloc,
+        Call::Next(5),
+        Reply::Request(block),
+        b"7 next = request 0 16384 3\n",
+    )?;
+    is_line(
+        alloc,
+        Call::Next(5),
+        Reply::Cancel(block),
+        b"7 next = cancel 0 16384 3\n",
+    )
+}
+
+/// Checks lines whose call is a word, or a word and a number.
+fn short_lines(alloc: Global) -> Result<(), Fail> {
+    is_line(alloc, Call::Join, Reply::Joined, b"7 join = joined\n")?;
+    is_line(
+        alloc,
+        Call::Have(2),
+        Reply::Noted(false),
+        b"7 have 2 = noted no\n",
+    )?;
+    is_line(alloc, Call::Choke, Reply::Quiet, b"7 choke = quiet\n")?;
+    is_line(alloc, Call::Unchoke, Reply::Quiet, b"7 unchoke = quiet\n")?;
+    let reply = Reply::Refused(Reason::NotJoined);
+    is_line(alloc, Call::Leave, reply, b"7 leave = refused 1\n")
+}
+
+#[test]
+fn journal_lines(rt: HostRuntime) -> Result<(), Fail> {
+    short_lines(rt.alloc())?;
+    lines_of_bits(rt.alloc())?;
+    lines_of_next(rt.alloc())?;
+    line_of_a_block(rt.alloc())
 }
