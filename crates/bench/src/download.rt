@@ -38,7 +38,6 @@ struct Peer {
 }
 
 /// The swarm, and what the rounds go by.
-#[derive(Drop)]
 pub struct Download {
     swarm: Swarm<PEERS>,
     workload: Workload,
@@ -47,6 +46,21 @@ pub struct Download {
     counts: Counts,
     settling: Duration,
     trace: Option<String>,
+}
+
+/// The end of a download is one call for whoever owns one.
+impl Drop for Download {
+    fn drop(self) {
+        let Download {
+            swarm: _swarm,
+            workload: _,
+            words: _words,
+            peers: _peers,
+            counts: _,
+            settling: _,
+            trace: _trace,
+        } = self;
+    }
 }
 
 impl Download {

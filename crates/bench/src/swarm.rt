@@ -90,10 +90,16 @@ impl Workload {
 
 /// A desk for so many workers, and the peers that come to it. What it is asked has no `ensures`: a caller knows of its answers alone, and its
 /// proof is short.
-#[derive(Drop)]
 pub struct Swarm<const WORKERS: u32> {
     desk: Desk,
     ghost workers: { desk.setting.workers ≡ WORKERS },
+}
+
+/// The end of a swarm is one call for whoever owns one.
+impl<const WORKERS: u32> Drop for Swarm<WORKERS> {
+    fn drop(self) {
+        let Swarm { desk: _desk } = self;
+    }
 }
 
 impl<const WORKERS: u32> Swarm<WORKERS> {

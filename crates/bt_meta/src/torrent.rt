@@ -18,7 +18,6 @@ pub const BLOCK_SIZE: u32 = 16384;
 /// concatenation.
 ///
 /// Contracts see it as plain data, a `Metainfo`, whose layout fits together (`IsLayout`).
-#[derive(Drop)]
 pub struct Torrent {
     piece_length: u32,
     total: u64,
@@ -26,6 +25,20 @@ pub struct Torrent {
     infohash: [u8; 20],
     name: Vec<u8>,
     files: usize,
+}
+
+/// The end of a torrent is one call for whoever owns one.
+impl Drop for Torrent {
+    fn drop(self) {
+        let Torrent {
+            piece_length: _,
+            total: _,
+            hashes: _hashes,
+            infohash: _,
+            name: _name,
+            files: _,
+        } = self;
+    }
 }
 
 impl Model for Torrent {

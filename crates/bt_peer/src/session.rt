@@ -18,7 +18,6 @@ use std::marker::Model;
 use std::sync::Arc;
 
 /// A session of a worker with one peer, from the handshakes to the end of the peer's stream.
-#[derive(Drop)]
 pub struct Session {
     terms: Terms,
     worker: u32,
@@ -28,6 +27,21 @@ pub struct Session {
     interested: bool,
     messages: u64,
     outcome: Option<Result<End, SessionFault>>,
+}
+
+/// The end of a session is one call for whoever owns one.
+impl Drop for Session {
+    fn drop(self) {
+        let Session {
+            terms: _terms,
+            worker: _,
+            heard: _heard,
+            joined: _,
+            interested: _,
+            messages: _,
+            outcome: _,
+        } = self;
+    }
 }
 
 impl Model for Session {

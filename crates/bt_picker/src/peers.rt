@@ -16,10 +16,19 @@ use std::marker::Model;
 
 /// A row for each worker's peer, by the worker's number, and the pieces that each shows, which stand in a table of their own. Contracts
 /// see the rows with these pieces in them.
-#[derive(Drop)]
 pub struct Peers {
     rows: Vec<Peer>,
     shows: Shows,
+}
+
+/// The end of all rows is one call for whoever owns them.
+impl Drop for Peers {
+    fn drop(self) {
+        let Peers {
+            rows: _rows,
+            shows: _shows,
+        } = self;
+    }
 }
 
 impl Model for Peers {

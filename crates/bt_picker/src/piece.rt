@@ -14,7 +14,7 @@ use std::alloc::{AllocError, Global};
 use std::marker::Model;
 
 /// A change of what is kept of a piece. Blocks are counted from the front of the piece.
-#[derive(Clone, Copy, Debug, PartialEq, Eq)]
+#[derive(Clone, Copy)]
 pub enum Change {
     /// One peer more is asked for the block.
     Raise(u32),
@@ -32,7 +32,7 @@ pub enum Change {
 
 /// What a piece amounts to among the others: its group, how many of its blocks are unasked and how many aren't held, if it is wanted, and
 /// whether it is had.
-#[derive(Clone, Copy, Debug, PartialEq, Eq)]
+#[derive(Clone, Copy)]
 pub struct Standing {
     pub group: u32,
     pub unasked: u32,

@@ -17,11 +17,21 @@ use std::marker::Model;
 
 /// The rows of all pieces, how many joined peers show each, and what they amount to together. Contracts see the rows with these counts in
 /// them. They stand apart since a bitfield that comes or goes changes a count of each piece in it, and nothing else of its row.
-#[derive(Drop)]
 pub struct Pieces {
     rows: Vec<Piece>,
     shown_by: Vec<u32>,
     shelf: Shelf,
+}
+
+/// The end of all rows is one call for whoever owns them.
+impl Drop for Pieces {
+    fn drop(self) {
+        let Pieces {
+            rows: _rows,
+            shown_by: _shown_by,
+            shelf: _shelf,
+        } = self;
+    }
 }
 
 impl Model for Pieces {

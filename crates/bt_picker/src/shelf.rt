@@ -13,13 +13,25 @@ use std::marker::Model;
 
 /// What the rows of the pieces amount to together: the pieces by group, those of group OPEN in rising order too, since strict priority
 /// takes the least that a peer shows; the numbers of unasked blocks and of those that aren't held, and how many pieces are had.
-#[derive(Drop)]
 pub struct Shelf {
     order: Order,
     open_pieces: Rising,
     unasked: u64,
     unheld: u64,
     had: u32,
+}
+
+/// The end of a shelf is one call for whoever owns one.
+impl Drop for Shelf {
+    fn drop(self) {
+        let Shelf {
+            order: _order,
+            open_pieces: _open_pieces,
+            unasked: _,
+            unheld: _,
+            had: _,
+        } = self;
+    }
 }
 
 impl Model for Shelf {

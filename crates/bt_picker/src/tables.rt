@@ -37,7 +37,6 @@ use std::sync::Arc;
 /// A row for each worker's peer, by the worker's number, and the rows of all pieces: what the picker answers from, so that it never reads
 /// the journal but for the bytes of held blocks. Beside the journal that they tell of the tables make a `Position`, which answers by the
 /// definitions.
-#[derive(Drop)]
 pub struct Tables {
     torrent: Arc<Torrent>,
     workers: u32,
@@ -45,6 +44,20 @@ pub struct Tables {
     peers: Peers,
     pieces: Pieces,
     floors: Floors,
+}
+
+/// The end of all tables is one call for whoever owns them.
+impl Drop for Tables {
+    fn drop(self) {
+        let Tables {
+            torrent: _torrent,
+            workers: _,
+            rules: _,
+            peers: _peers,
+            pieces: _pieces,
+            floors: _floors,
+        } = self;
+    }
 }
 
 impl Model for Tables {

@@ -27,12 +27,23 @@ use std::marker::{Model, PhantomData};
 use std::sync::{Arc, Wait};
 
 /// What a worker of a run has of its own. Contracts see the three parts.
-#[derive(Drop)]
 pub struct Worker<L: RunName> {
     pass: Pass,
     seat: BoardSeat,
     tickets: TicketPass,
     run: PhantomData<L>,
+}
+
+/// The end of a worker is one call for whoever owns one.
+impl<L: RunName> Drop for Worker<L> {
+    fn drop(self) {
+        let Worker {
+            pass: _pass,
+            seat: _seat,
+            tickets: _tickets,
+            run: _,
+        } = self;
+    }
 }
 
 impl<L: RunName> Model for Worker<L> {
@@ -58,6 +69,20 @@ impl<L: RunName> Worker<L> {
         }
     }
 
+    /// What the worker has.
+    pub fn into_parts(self) -> (Pass, BoardSeat, TicketPass)
+        ensures parts { self ≡ record { pass = result.0; seat = result.1; tickets = result.2 } }
+        ensures belongs { Belongs L.setting L.desk L.board L.queue (record { pass = result.0; seat = result.1; tickets = result.2 }) }
+    {
+        let Worker {
+            pass,
+            seat,
+            tickets,
+            run: _,
+        } = self;
+        (pass, seat, tickets)
+    }
+
     /// The worker's number.
     pub fn number(&self) -> u32
         ensures { result ≡ self.now.pass.worker }
@@ -68,13 +93,25 @@ impl<L: RunName> Worker<L> {
 
 /// What the threads of a run share: the torrent, its desk, the board of its finished pieces, and the queue of tickets for pieces to be
 /// checked. Contracts see the torrent.
-#[derive(Drop)]
 pub struct Commons<L: RunName> {
     torrent: Arc<Torrent>,
     desk: SharedDesk,
     board: Board,
     queue: Tickets,
     run: PhantomData<L>,
+}
+
+/// The end of what the threads share is one call for whoever owns it.
+impl<L: RunName> Drop for Commons<L> {
+    fn drop(self) {
+        let Commons {
+            torrent: _torrent,
+            desk: _desk,
+            board: _board,
+            queue: _queue,
+            run: _,
+        } = self;
+    }
 }
 
 impl<L: RunName> Model for Commons<L> {
@@ -231,21 +268,11 @@ fn join_seats<L: RunName>(
     ensures takes { IfSome result (λ seat. All (Takes seat.view) workers.items) }
 {
     let mut workers = workers.into_iter();
-    let Worker {
-        pass,
-        seat,
-        tickets: _,
-        run: _,
-    } = workers.next()?;
+    let (pass, seat, _) = workers.next()?.into_parts();
     passes.push_reserved(pass);
     let mut all = seat;
     for worker in workers {
-        let Worker {
-            pass,
-            seat,
-            tickets: _,
-            run: _,
-        } = worker;
+        let (pass, seat, _) = worker.into_parts();
         passes.push_reserved(pass);
         all = board.join(all, seat);
     }

@@ -80,6 +80,13 @@ IsCause s passes bits (BoardDiffers p) =
     (h : History) × IsLegal s h × (held_by passes ≡ length h) × AreAlike s h passes × IsSomeAnd bits (λ b. IsFirstOther b h p)
 IsCause s passes bits NoMemory = Unit {0}
 
+-- why a history isn't what logs with so many marks and a bitfield tell: the first cause that holds
+abbrev pub IsDifference : History → ℕ → List (Vec Mark) → Option (List Bool) → GatherFault → Type 0
+IsDifference h held logs bits (PassMissing found journal) = (found ≡ held) × (journal ≡ length h) × (held ≢ journal)
+IsDifference h held logs bits (LogsDiffer w index) = (held ≡ length h) × IsFirstDiffering h logs w index
+IsDifference h held logs bits (BoardDiffers p) = (held ≡ length h) × EachAgrees h logs × IsSomeAnd bits (λ b. IsFirstOther b h p)
+IsDifference h held logs bits NoMemory = ⊥
+
 -- no pass is missing
 abbrev pub IsNotMissing : GatherFault → Type 0
 IsNotMissing (PassMissing held journal) = ⊥

@@ -1,13 +1,13 @@
 //! Gathering: the seats are joined, the table is closed, and each log is compared with the journal.
 
-ghost use Rattle.std.specs.Prelude.{◌≡◌, ◌++◌, ◌≤◌, ℕ, [], length, option_copied, vec_len, IfErr, IfNone, IfOk, IfSome, IsSome, IsSomeAnd};
+ghost use Rattle.std.specs.Prelude.{◌≡◌, ◌++◌, ◌<◌, ◌≤◌, ◌^◌, ℕ, [], length, option_copied, vec_len, IfErr, IfNone, IfOk, IfSome, IsSome, IsSomeAnd};
 ghost use Rattle.std.specs.Slots.{IsFull, slots_items, slots_len};
 ghost use mathlib.Core.Option.{some};
 ghost use lib.ListN.{get_elem?};
 ghost use Rattle.bt_meta.specs.Layout.{piece_count};
 ghost use Rattle.bt_history.specs.Legal.{IsLegal};
 ghost use Rattle.bt_shared.specs.Closing.{AreCounted, EachKnows, EachOwn, IsEntered, IsEveryone, IsJoined, slot_if_free};
-ghost use Rattle.bt_shared.specs.Gathering.{AreHad, EachAgrees, EachEmpty, EachFrom, IsCause, IsNotMissing, held_by};
+ghost use Rattle.bt_shared.specs.Gathering.{AreHad, EachAgrees, EachEmpty, EachFrom, IsCause, IsDifference, IsNotMissing, held_by};
 ghost use Rattle.bt_shared.specs.Guard.{IsDesk, IsIdle, Saw, Slot};
 ghost use Rattle.bt_shared.specs.Passes.{AreOf};
 ghost use Rattle.bt_shared.specs.Seen.{Each};
@@ -191,6 +191,32 @@ fn take_apart(
     (held, close(table, all))
 }
 
+/// Why the desk's journal isn't what the logs, with so many marks, and the bitfield tell: the first cause that holds.
+fn difference(
+    desk: &Desk,
+    logs: &[Vec<Mark>],
+    held: usize,
+    bits: Option<&Bitfield>,
+) -> Option<GatherFault>
+    requires few { length logs.now < 2 ^ 32 }
+    requires bits { IfSome bits (λ bits. length bits.now ≡ piece_count desk.now.setting.torrent) }
+    ensures legal { IsLegal desk.now.setting desk.now.history }
+    ensures some { IfSome result (IsDifference desk.now.history held logs.now (option_copied bits.entry)) }
+    ensures held { IfNone result (held ≡ length desk.now.history) }
+    ensures agrees { IfNone result (EachAgrees desk.now.history logs.now) }
+    ensures bits { IfNone result (IfSome bits.entry (λ bits. AreHad bits.now desk.now.history)) }
+{
+    let journal = entries_of(desk);
+    if held != journal {
+        return Some(GatherFault::PassMissing { held, journal });
+    }
+    if let Some((worker, place)) = first_differing(desk.journal(), logs) {
+        return Some(GatherFault::LogsDiffer { worker, place });
+    }
+    let piece = first_other(desk, bits?)?;
+    Some(GatherFault::BoardDiffers { piece })
+}
+
 /// The desk of all calls, with a log for each worker, if the passes have all calls of the journal, each at its place, and the bitfield, if
 /// there is one, has exactly the pieces that are had.
 pub(crate) fn gather(
@@ -220,17 +246,8 @@ pub(crate) fn gather(
         let journal = held.wrapping_add(1);
         return Err(GatherFault::PassMissing { held, journal });
     };
-    let journal = entries_of(&desk);
-    if held != journal {
-        return Err(GatherFault::PassMissing { held, journal });
-    }
-    if let Some((worker, place)) = first_differing(desk.journal(), &logs) {
-        return Err(GatherFault::LogsDiffer { worker, place });
-    }
-    if let Some(bits) = bits {
-        if let Some(piece) = first_other(&desk, bits) {
-            return Err(GatherFault::BoardDiffers { piece });
-        }
+    if let Some(fault) = difference(&desk, &logs, held, bits) {
+        return Err(fault);
     }
     Ok(Book { desk, logs })
 }

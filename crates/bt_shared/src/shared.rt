@@ -32,10 +32,19 @@ use std::sync::{Arc, Wait};
 /// A desk that threads share. Each call waits until it has the desk alone, and its pass then knows the history that it has found.
 /// Contracts see which desk it is, and the setting that its history is judged by. A pass is handed to the desk with which it was opened,
 /// the caller's condition.
-#[derive(Drop)]
 pub struct SharedDesk {
     table: Table<Option<Desk>, View, Terms, Guard, Global>,
     workers: u32,
+}
+
+/// The end of a shared desk is one call for whoever owns one.
+impl Drop for SharedDesk {
+    fn drop(self) {
+        let SharedDesk {
+            table: _table,
+            workers: _,
+        } = self;
+    }
 }
 
 impl Model for SharedDesk {

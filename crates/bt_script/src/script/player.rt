@@ -13,13 +13,23 @@ use std::alloc::{AllocError, Global};
 use std::sync::Arc;
 
 /// The desk of a script, with what its lines are judged by.
-#[derive(Drop)]
 pub struct Player {
     desk: Desk,
     workers: u32,
     pieces: u32,
     ghost same_workers: { workers ≡ desk.setting.workers },
     ghost same_pieces: { pieces ≡ piece_count desk.setting.torrent },
+}
+
+/// The end of a player is one call for whoever owns one.
+impl Drop for Player {
+    fn drop(self) {
+        let Player {
+            desk: _desk,
+            workers: _,
+            pieces: _,
+        } = self;
+    }
 }
 
 impl Player {

@@ -1,10 +1,10 @@
-use Rattle.std.proofs.Common.{◌≡◌, ◌+◌, ◌<◌, ◌∷◌, [], ◌++◌, ◌∙◌, ℕ, List, ap, sym, arith, subst, length, take, get_or}
+use Rattle.std.proofs.Common.{rules, ◌≡◌, ◌+◌, ◌<◌, ◌∷◌, [], ◌++◌, ◌∙◌, ℕ, List, ap, sym, arith, subst, length, take, get_or}
 use Rattle.std.proofs.lemmas.Grind.{common_steps}
 use Rattle.std.proofs.lemmas.List.{take_more, map-append}
 use Rattle.bt_history.specs.declared.call.Entry.{Entry}
 use Rattle.bt_history.specs.Entries.{event_of, history_of}
 use Rattle.bt_picker.specs.Tables.{AreTables}
-use Rattle.bt_picker.proofs.auditing.audit.Goals as goal
+use Rattle.bt_picker.proofs.auditing.judge.Goals as goal
 
 -- the history that one entry more tells
 history_more : (xs : List Entry) (i : ℕ) (e : Entry) → i < length xs → e ≡ get_or xs i e →
@@ -20,3 +20,9 @@ loop-place-preserved c =
       setting = c.enter.ensures.setting ∙ c.loop-place.invariant.setting;
       are = subst (AreTables c.enter.new.self) (sym more) c.enter.ensures.are;
     }
+
+pub returns-then-not-allows-clause-ok : goal.returns-then-not-allows-clause-ok
+returns-then-not-allows-clause-ok c = search rules
+
+pub returns-then-not-allows-clause-err : goal.returns-then-not-allows-clause-err
+returns-then-not-allows-clause-err c = grind (arith, common_steps)
