@@ -136,11 +136,7 @@ fn has_its_blocks(torrent: &Torrent) -> Result<(), Fail> {
 #[test]
 fn blocks_of_a_piece(rt: HostRuntime) -> Result<(), Fail> {
     let torrent = made(rt.alloc(), 1_000_000, 1_000_000, 1, [0; 20])??;
-    has_its_blocks(&torrent)
-}
-
-#[test]
-fn blocks_of_a_last_piece(rt: HostRuntime) -> Result<(), Fail> {
+    has_its_blocks(&torrent)?;
     let torrent = made(rt.alloc(), 32_768, 65_536, 2, [0; 20])??;
     same(block_count(&torrent, 1), Some(2))
 }

@@ -1,47 +1,28 @@
 //! Streams that end early, readers that fail, and writers that take little or fail.
 
-use super::whole::{WHOLE, calls_of};
-use crate::{PEER, RULES, peer, torrent};
+use super::whole::{WHOLE, played};
+use crate::{PEER, peer};
 use bt_expect::same;
-use bt_meta::{Bitfield, DeviceFault, FromRead, Sink, Source, ToWrite};
-use bt_peer::whole::session;
-use bt_peer::{DeskPlace, End, SessionFault};
-use bt_picker::Desk;
-use rand_pcg::Lcg64Xsh32;
+use bt_meta::{DeviceFault, FromRead, Sink, Source, ToWrite};
+use bt_peer::{End, SessionFault};
 use std::alloc::Global;
 use std::io::Cursor;
 use std::process::Abort;
 use std::test::Fail;
 
-/// How a session with these devices ended, and its calls.
-fn played<R: Source + Drop, W: Sink>(
+/// How the session of a desk's only worker ended whose peer sends these bytes, and its calls.
+fn played_alone<W: Sink>(
     alloc: Global,
-    mut reader: R,
+    sent: &[u8],
     writer: &mut W,
 ) -> Result<(Result<End, SessionFault>, String), Fail> {
-    let torrent = torrent(alloc)?;
-    let mut told = Bitfield::empty(alloc, torrent.piece_count())?;
-    let mut desk = Desk::new(alloc, torrent.clone()?, 1, RULES)?;
-    let mut rng = Lcg64Xsh32::new(0, 0);
-    let mut place = DeskPlace::new(&mut desk, 0, &mut told);
-    let end = session(
-        alloc,
-        torrent,
-        0,
-        &mut reader,
-        writer,
-        &mut place,
-        &mut rng,
-        5,
-    );
-    let said = calls_of(alloc, &desk)?;
-    Ok((end, said))
+    played(alloc, 1, &mut FromRead::new(Cursor::new(sent)), writer)
 }
 
 /// The bytes that a whole session writes.
 fn whole_written(alloc: Global, sent: &[u8]) -> Result<Vec<u8>, Fail> {
     let mut writer = ToWrite::new(Vec::new(alloc));
-    let (end, _) = played(alloc, FromRead::new(Cursor::new(sent)), &mut writer)?;
+    let (end, _) = played_alone(alloc, sent, &mut writer)?;
     match end {
         Ok(_) => Ok(writer.into_inner()),
         Err(_) => Err(Fail::from("a whole session has no fault")),
@@ -61,7 +42,7 @@ fn each_front_of_a_stream(rt: HostRuntime) -> Result<(), Fail> {
 /// How this front of a stream ends.
 fn play_front(rt: &impl Abort, alloc: Global, front: &[u8]) -> Result<(), Fail> {
     let mut writer = ToWrite::new(Vec::new(alloc));
-    let (end, calls) = played(alloc, FromRead::new(Cursor::new(front)), &mut writer)?;
+    let (end, calls) = played_alone(alloc, front, &mut writer)?;
     front_ends(rt, front.len(), end, calls.as_str())
 }
 
@@ -148,14 +129,14 @@ fn read_fails(
     left: usize,
 ) -> Result<(), Fail> {
     let mut writer = ToWrite::new(Vec::new(alloc));
-    let reader = Breaking {
+    let mut reader = Breaking {
         rest: sent,
         left,
         reads: 0,
         failed: false,
         ended: false,
     };
-    let (end, _) = played(alloc, reader, &mut writer)?;
+    let (end, _) = played(alloc, 1, &mut reader, &mut writer)?;
     assert!(rt; end == Err(SessionFault::ReadFault));
     assert!(rt; whole.starts_with(writer.into_inner().as_slice()));
     Ok(())
@@ -194,15 +175,17 @@ impl Sink for Narrow {
 fn each_write_fails(rt: HostRuntime) -> Result<(), Fail> {
     let sent = peer(rt.alloc(), 1, &PEER)?;
     let whole = whole_written(rt.alloc(), &sent)?;
-    for room in 0..=whole.len() {
-        let (end, calls) = write_front(&rt, rt.alloc(), &sent, &whole[..room])?;
-        if room == whole.len() {
-            ends_whole(&rt, end, &calls)?;
-        } else {
-            ends_in_a_write(&rt, room, end, &calls)?;
-        }
+    for room in 0..whole.len() {
+        write_fails(&rt, rt.alloc(), &sent, &whole[..room])?;
     }
-    Ok(())
+    let (end, calls) = write_front(&rt, rt.alloc(), &sent, &whole)?;
+    ends_whole(&rt, end, &calls)
+}
+
+/// A write fails after this front.
+fn write_fails(rt: &impl Abort, alloc: Global, sent: &[u8], front: &[u8]) -> Result<(), Fail> {
+    let (end, calls) = write_front(rt, alloc, sent, front)?;
+    ends_in_a_write(rt, front.len(), end, &calls)
 }
 
 /// How a session ended whose writer has room for this front alone, which it has taken, and the calls.
@@ -217,7 +200,7 @@ fn write_front(
         room: front.len(),
         failed: false,
     };
-    let told = played(alloc, FromRead::new(Cursor::new(sent)), &mut writer)?;
+    let told = played_alone(alloc, sent, &mut writer)?;
     assert!(rt; writer.kept.as_slice() == front);
     Ok(told)
 }
@@ -225,8 +208,7 @@ fn write_front(
 /// Checks that a session ended well.
 fn ends_whole(rt: &impl Abort, end: Result<End, SessionFault>, calls: &str) -> Result<(), Fail> {
     assert!(rt; end == Ok(End { messages: 3 }));
-    same(calls, WHOLE)?;
-    Ok(())
+    same(calls, WHOLE)
 }
 
 /// Checks how a session ended whose writer had room for so many bytes, which were too few.

@@ -75,6 +75,11 @@ fn told(
 ) -> Result<Outcome, Fail> {
     let mut streams = streams_of(alloc, sent)?;
     let run = run_by(alloc, torrent, &mut streams, seed, want, RULES)?;
+    outcome_of(alloc, run, streams)
+}
+
+/// What came of this run over these streams.
+fn outcome_of(alloc: Global, run: SerialRun, streams: Vec<Recorded<'_>>) -> Result<Outcome, Fail> {
     let written = written(alloc, streams)?;
     let journal = journal(alloc, &run)?;
     let SerialRun { ends, desk, short } = run;
@@ -144,7 +149,12 @@ fn no_piece_is_wanted(rt: HostRuntime) -> Result<(), Fail> {
     let want = Bitfield::empty(rt.alloc(), 1)?;
     let told = told(rt.alloc(), torrent(rt.alloc())?, &sent, 0, Some(want))?;
     has_no_interest(&rt, &told)?;
-    let all = [wanted(rt.alloc(), b'0', &[0, 0, 0, 5, 4, 0, 0, 0, 0])?];
+    writes_no_interest(&rt, rt.alloc(), &told)
+}
+
+/// The session tells the peer of the piece alone.
+fn writes_no_interest(rt: &impl Abort, alloc: Global, told: &Outcome) -> Result<(), Fail> {
+    let all = [wanted(alloc, b'0', &[0, 0, 0, 5, 4, 0, 0, 0, 0])?];
     assert!(rt; told.written.as_slice() == all.as_slice());
     Ok(())
 }
@@ -157,13 +167,17 @@ fn has_no_interest(rt: &impl Abort, told: &Outcome) -> Result<(), Fail> {
         told.journal.as_str(),
         "1 want = Quiet; 0 join = Joined; 0 bits = Noted(false); 0 next = Choked; 0 unchoke = Quiet; \
         0 next = NothingLeft; 0 block 0 0 = Completed; 0 settle = Had; 0 next = NothingLeft; 0 leave = Quiet; ",
-    )?;
-    Ok(())
+    )
+}
+
+/// What two peers send, each of which has one of two pieces.
+fn sent_by_two(alloc: Global) -> Result<[Vec<u8>; 2], Fail> {
+    Ok([peer(alloc, 1, &FIRST)?, peer(alloc, 1, &SECOND)?])
 }
 
 #[test]
 fn two_streams_take_turns(rt: HostRuntime) -> Result<(), Fail> {
-    let sent = [peer(rt.alloc(), 1, &FIRST)?, peer(rt.alloc(), 1, &SECOND)?];
+    let sent = sent_by_two(rt.alloc())?;
     let told = told(rt.alloc(), two_pieces(rt.alloc())?, &sent, 5, None)?;
     has_calls_in_turn(&rt, &told)?;
     writes_of_both(&rt, rt.alloc(), &told)
@@ -181,8 +195,7 @@ fn has_calls_in_turn(rt: &impl Abort, told: &Outcome) -> Result<(), Fail> {
         1 unchoke = Quiet; 1 next = Request(Block { piece: 1, begin: 0, len: 3 }); 1 next = Idle; \
         0 block 0 0 = Completed; 0 settle = Had; 0 next = NothingLeft; \
         1 block 1 0 = Completed; 1 settle = Had; 1 next = NothingLeft; 0 leave = Quiet; 1 leave = Quiet; ",
-    )?;
-    Ok(())
+    )
 }
 
 /// Each session asks for its piece. The first one ends before it hears of the second piece.
@@ -200,18 +213,18 @@ fn asks_for(alloc: Global, worker: u8, piece: u8, finished: &[u8]) -> Result<Vec
     wanted(alloc, worker, &said)
 }
 
+/// What a peer of another torrent sends, one that breaks off, and one without fault.
+fn sent_by_three(alloc: Global) -> Result<[Vec<u8>; 3], Fail> {
+    let stranger = peer(alloc, 2, &PEER)?;
+    let front = peer(alloc, 1, &PEER[..7])?;
+    let whole = peer(alloc, 1, &PEER)?;
+    Ok([stranger, front, whole])
+}
+
 #[test]
 fn a_fault_ends_one_session_alone(rt: HostRuntime) -> Result<(), Fail> {
-    let stranger = peer(rt.alloc(), 2, &PEER)?;
-    let front = peer(rt.alloc(), 1, &PEER[..7])?;
-    let whole = peer(rt.alloc(), 1, &PEER)?;
-    let told = told(
-        rt.alloc(),
-        torrent(rt.alloc())?,
-        &[stranger, front, whole],
-        0,
-        None,
-    )?;
+    let sent = sent_by_three(rt.alloc())?;
+    let told = told(rt.alloc(), torrent(rt.alloc())?, &sent, 0, None)?;
     has_two_faults(&rt, &told);
     Ok(())
 }
@@ -229,15 +242,16 @@ fn has_two_faults(rt: &impl Abort, told: &Outcome) {
 
 #[test]
 fn words_come_from_the_seed(rt: HostRuntime) -> Result<(), Fail> {
-    let first = peer(rt.alloc(), 1, &FIRST)?;
-    let second = peer(rt.alloc(), 1, &SECOND)?;
-    let mut streams = [recorded(rt.alloc(), &first), recorded(rt.alloc(), &second)];
-    let torrent = two_pieces(rt.alloc())?;
-    let run = run_by(rt.alloc(), torrent, &mut streams, 5, None, RULES)?;
-    for worker in 0..2u32 {
-        asks_by_the_seed(&rt, &run, worker)?;
-    }
-    Ok(())
+    let sent = sent_by_two(rt.alloc())?;
+    let run = run_of_two(rt.alloc(), &sent)?;
+    asks_by_the_seed(&rt, &run, 0)?;
+    asks_by_the_seed(&rt, &run, 1)
+}
+
+/// A run over two streams in which these bytes are sent.
+fn run_of_two(alloc: Global, sent: &[Vec<u8>]) -> Result<SerialRun, Fail> {
+    let mut streams = streams_of(alloc, sent)?;
+    run_by(alloc, two_pieces(alloc)?, &mut streams, 5, None, RULES)
 }
 
 /// The worker asks with the words that come from the seed.

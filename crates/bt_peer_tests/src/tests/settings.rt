@@ -28,17 +28,32 @@ fn run(
     run_by(alloc, torrent, &mut streams, 0, want, rules)
 }
 
+/// The journal of such a run.
+fn calls(
+    alloc: Global,
+    torrent: Arc<Torrent>,
+    frames: &[u8],
+    want: Option<Bitfield>,
+    rules: Rules,
+) -> Result<String, Fail> {
+    let run = run(alloc, torrent, frames, want, rules)?;
+    Ok(journal(alloc, &run)?)
+}
+
+/// The journal of a run in which the second piece alone is wanted.
+fn calls_for_the_second(alloc: Global) -> Result<String, Fail> {
+    let want = Bitfield::from_wire(alloc, &[0x40], 2)?;
+    calls(alloc, two_pieces(alloc)?, &BOTH, Some(want), Rules::usual())
+}
+
 #[test]
 fn the_wanted_piece_alone_is_asked(rt: HostRuntime) -> Result<(), Fail> {
-    let want = Bitfield::from_wire(rt.alloc(), &[0x40], 2)?;
-    let torrent = two_pieces(rt.alloc())?;
-    let run = run(rt.alloc(), torrent, &BOTH, Some(want), Rules::usual())?;
+    let said = calls_for_the_second(rt.alloc())?;
     same(
-        journal(rt.alloc(), &run)?.as_str(),
+        said.as_str(),
         "1 want = Quiet; 0 join = Joined; 0 bits = Noted(true); 0 next = Choked; 0 unchoke = Quiet; \
         0 next = Request(Block { piece: 1, begin: 0, len: 3 }); 0 next = Idle; 0 leave = Quiet; ",
-    )?;
-    Ok(())
+    )
 }
 
 /// One piece of so many blocks. No byte of it comes.
@@ -50,12 +65,10 @@ fn blocks(alloc: Global, count: u32) -> Result<Arc<Torrent>, Fail> {
 /// The replies to Next of the unchoke's turn: so many requests, and then this one.
 fn asked(alloc: Global, depth: u32, count: u32) -> Result<(usize, String), Fail> {
     let rules = Rules { depth, random: 1 };
-    let run = run(alloc, blocks(alloc, count)?, &ONE, None, rules)?;
+    let said = calls(alloc, blocks(alloc, count)?, &ONE, None, rules)?;
     let mut last = String::new(alloc);
-    let said = journal(alloc, &run)?;
-    let requests = said.as_str().matches("Request").count();
     keep_last(said.as_str(), &mut last)?;
-    Ok((requests, last))
+    Ok((said.as_str().matches("Request").count(), last))
 }
 
 /// Keeps the last reply to Next in a journal.

@@ -5,6 +5,8 @@ use crate::{PEER, peer};
 use bt_expect::same;
 use bt_meta::{DeviceFault, Source};
 use bt_peer::End;
+use std::alloc::Global;
+use std::process::Abort;
 use std::test::Fail;
 
 /// A source that gives at each read as many bytes as its list says next, then those of the list again.
@@ -69,13 +71,15 @@ const MESSAGES: [usize; 4] = [68, 6, 5, 16];
 #[test]
 fn little_by_little(rt: HostRuntime) -> Result<(), Fail> {
     let stream = peer(rt.alloc(), 1, &PEER)?;
-    let sizes: [&[usize]; 2] = [&[1], &MESSAGES];
-    for sizes in sizes {
-        let (end, calls, _) = told_of(rt.alloc(), Sips::new(&stream, sizes))?;
-        assert!(rt; end == Ok(End { messages: 3 }));
-        same(calls.as_str(), WHOLE)?;
-    }
-    Ok(())
+    is_whole(&rt, rt.alloc(), &stream, &[1])?;
+    is_whole(&rt, rt.alloc(), &stream, &MESSAGES)
+}
+
+/// The session is a whole one where each read gives as much as the sizes say.
+fn is_whole(rt: &impl Abort, alloc: Global, stream: &[u8], sizes: &[usize]) -> Result<(), Fail> {
+    let (end, calls, _) = told_of(alloc, &mut Sips::new(stream, sizes))?;
+    assert!(rt; end == Ok(End { messages: 3 }));
+    same(calls.as_str(), WHOLE)
 }
 
 /// The bytes of the keepalives that come at once, four each.
@@ -86,7 +90,12 @@ const KEEPALIVES: usize = 200_000;
 fn much_at_once(rt: HostRuntime) -> Result<(), Fail> {
     let keepalives = vec![in rt.alloc(); 0; KEEPALIVES]?;
     let stream = peer(rt.alloc(), 1, &keepalives)?;
-    let (end, calls, _) = told_of(rt.alloc(), Sips::new(&stream, &[65_535]))?;
+    takes_all(&rt, rt.alloc(), &stream)
+}
+
+/// Each of the keepalives is a message.
+fn takes_all(rt: &impl Abort, alloc: Global, stream: &[u8]) -> Result<(), Fail> {
+    let (end, calls, _) = told_of(alloc, &mut Sips::new(stream, &[65_535]))?;
     assert!(rt; end == Ok(End { messages: 50_000 }));
     assert!(rt; calls.as_str().ends_with("next = Choked; leave = Quiet; "));
     Ok(())
