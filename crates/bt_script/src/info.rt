@@ -1,9 +1,10 @@
 //! The command `info`.
 
-ghost use Rattle.std.specs.Prelude.{◌≡◌, Some, Ok, Err, IfOk, IfErr, OnOk};
+ghost use Rattle.std.specs.Prelude.{◌≡◌, Some, Ok, Err, IfOk, IfErr, IsOkAnd, OnOk};
 ghost use Rattle.std.specs.String.{string_bytes};
 ghost use Rattle.std.specs.Io.KnownBytes.{Appends};
 ghost use Rattle.bt_meta.specs.Reading.{torrent_of_file};
+ghost use Rattle.bt_script.specs.declared.info.Info.{Info};
 ghost use Rattle.bt_script.specs.Info.{info_lines, blocks_of, Describes, IsInfoFault, PrintsInfo};
 
 use crate::fault::Fault;
@@ -20,11 +21,21 @@ pub fn describe<W: Write>(alloc: Global, meta: &[u8], out: &mut W) -> Result<(),
     ensures ok { OnOk result (PrintsInfo (torrent_of_file meta.now) (W.contents out.old) (W.contents out.new)) }
     ensures err { IfErr result (IsInfoFault (torrent_of_file meta.now)) }
 {
-    let torrent = Torrent::read(alloc, meta)?;
-    let text = Info::of(alloc, &torrent)?.to_string(alloc)?;
+    let text = description(alloc, meta)?;
     out.write_all(text.as_bytes())?;
     out.flush()?;
     Ok(())
+}
+
+/// What a metainfo file says of its content, a line each.
+fn description(alloc: Global, meta: &[u8]) -> Result<String, Fault>
+    ensures ok { IfOk result (λ text. IsOkAnd (torrent_of_file meta.now) (λ t.
+        (info : Info) × (Describes t info × (string_bytes text ≡ info_lines info)))) }
+    ensures err { IfErr result (IsInfoFault (torrent_of_file meta.now)) }
+{
+    let torrent = Torrent::read(alloc, meta)?;
+    let text = Info::of(alloc, &torrent)?.to_string(alloc)?;
+    Ok(text)
 }
 
 /// What is told of a torrent.

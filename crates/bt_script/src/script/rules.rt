@@ -17,7 +17,17 @@ pub fn read_rules(alloc: Global, text: &[u8], pieces: u32) -> Result<Rules, Line
     ensures random { IfOk result (λ rules. rules.random ≤ pieces) }
 {
     let fields = fields(alloc, text)?;
-    let [word, depth, random] = fields.as_slice() else {
+    rules_of(&fields, pieces)
+}
+
+/// The rules that these fields say.
+fn rules_of(fields: &[&[u8]], pieces: u32) -> Result<Rules, LineFault>
+    ensures reads { Reads (λ rules. rules) result (rules_of_fields pieces (map (λ x. x.now) fields.now)) }
+    ensures shallow { IfOk result (λ rules. 1 ≤ rules.depth) }
+    ensures deep { IfOk result (λ rules. rules.depth ≤ MOST_DEPTH) }
+    ensures random { IfOk result (λ rules. rules.random ≤ pieces) }
+{
+    let [word, depth, random] = fields else {
         return Err(LineFault::NotAllowed);
     };
     if !is(word, "rules") {

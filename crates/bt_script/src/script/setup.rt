@@ -2,7 +2,7 @@
 
 ghost use Rattle.std.specs.Prelude.{◌≡◌, ◌<◌, ◌≤◌, map, IfOk};
 ghost use Rattle.bt_script.specs.Fields.{Reads};
-ghost use Rattle.bt_script.specs.Setups.{setup_in, digests_in, workers_in};
+ghost use Rattle.bt_script.specs.Setups.{setup_in, setup_of_fields, digests_in, workers_in};
 
 use super::LineFault;
 use super::fields::{fields, hex_digest, is, number, small_number};
@@ -24,7 +24,15 @@ impl Setup {
         ensures workers { IfOk result (λ s. (1 ≤ s.workers) × (s.workers ≤ MOST_WORKERS)) }
     {
         let fields = fields(alloc, text)?;
-        let [word, piece_length, total, workers, hashes @ ..] = fields.as_slice() else {
+        Setup::of_fields(alloc, &fields)
+    }
+
+    /// The setup that these fields say.
+    fn of_fields(alloc: Global, fields: &[&[u8]]) -> Result<Setup, LineFault>
+        ensures reads { Reads (λ s. s) result (setup_of_fields (map (λ x. x.now) fields.now)) }
+        ensures workers { IfOk result (λ s. (1 ≤ s.workers) × (s.workers ≤ MOST_WORKERS)) }
+    {
+        let [word, piece_length, total, workers, hashes @ ..] = fields else {
             return Err(LineFault::NotAllowed);
         };
         if !is(word, "torrent") {
