@@ -234,9 +234,10 @@ pub fn serial<R: Source, W: Sink>(
     ensures err { OnErr result (streams.new ≡ streams.old) }
 {
     let count = streams.len() as u32;
-    let mut desk = open_desk(alloc, torrent.clone()?, count, want, rules)?;
     let mut seats = new_seats(alloc, &torrent, count, seed, rules.depth)?;
     let mut ends = Vec::with_capacity(alloc, seats.len())?;
+    // The desk is the largest, and stands last, where nothing can fail behind it.
+    let mut desk = open_desk(alloc, torrent, count, want, rules)?;
     let short = play_out(alloc, &mut desk, &mut seats, streams, &mut ends);
     Ok(SerialRun { ends, desk, short })
 }

@@ -66,7 +66,6 @@ pub fn greet<R: Source, W: Sink, P: Place>(
 }
 
 /// Leaves the place before a session ends by a fault. Where there is no memory for it, the peer stays joined.
-#[tactic(auto, using(crate::proofs::Leaving::left))]
 fn leave_by<P: Place>(alloc: Global, place: &mut P, fault: SessionFault) -> SessionFault
     ensures fault { result ≡ fault }
     ensures leave { Leaves (P.past place.old) (P.past place.new) }

@@ -1,5 +1,4 @@
-use Rattle.std.proofs.Common.{◌≡◌, ◌∙◌, ap, arith}
-use Rattle.bt_meta.specs.Layout.{Metainfo}
+use Rattle.std.proofs.Common.{ap, arith}
 use Rattle.bt_history.specs.Setting.{Setting}
 use Rattle.bt_peer.specs.Terms.{terms_of}
 use Rattle.bt_peer.proofs.Opened.{AreNew-play}
@@ -7,9 +6,8 @@ use Rattle.bt_peer.proofs.rounds.serial.Goals as goal
 
 pub play_out-short-requires-clause-may : goal.play_out-short-requires-clause-may
 play_out-short-requires-clause-may g c =
-    let same : c.in_ok-clone.field-0.value ≡ c.args.torrent.value = c.in_ok-clone.ensures.cases in
     let setting = c.in_ok-desk.ensures.setting in
-    let layout = ap (λ (s : Setting). s.torrent) setting ∙ ap (λ (t : Metainfo). t.layout) same in
+    let layout = ap (λ (s : Setting). s.torrent) setting in
     let workers = ap (λ (s : Setting). s.workers) setting in
     rw c.deref_mut.ensures.value (AreNew-play (terms_of c.args.torrent.value c.args.rules.depth) c.args.seed c.in_ok-desk.desk
     c.in_ok-seats.seats.items c.args.streams.now layout (omega (arith, workers)) (omega arith) (omega (arith, c.in_ok-seats.ensures.count))
@@ -17,7 +15,6 @@ play_out-short-requires-clause-may g c =
 
 pub returns-clause-sessions : goal.returns-clause-sessions
 returns-clause-sessions g c =
-    let same : c.in_ok-clone.field-0.value ≡ c.args.torrent.value = c.in_ok-clone.ensures.cases in
-    let layout = ap (λ (s : Setting). s.torrent) c.in_ok-desk.ensures.setting ∙ ap (λ (t : Metainfo). t.layout) same in
+    let layout = ap (λ (s : Setting). s.torrent) c.in_ok-desk.ensures.setting in
     c.play_out-short.ensures.sessions (terms_of c.args.torrent.value c.args.rules.depth) c.args.seed layout
     (rw c.deref_mut.ensures.value c.in_ok-seats.ensures.new)

@@ -1,4 +1,4 @@
-use Rattle.std.proofs.Common.{refl, false}
+use Rattle.std.proofs.Common.{refl, rules, false}
 use Rattle.std.proofs.lemmas.Result.{err_from_is_err_and}
 use Rattle.bt_peer.specs.Reader.{source_state}
 use Rattle.bt_peer.specs.Steps.{start}
@@ -26,3 +26,6 @@ returns-in-Refused-clause-err g c =
     join_refused c.in-Refused.reason c.args.greeting.now c.args.said.now.interested c.in-Hello.hello c.next.new.self.inbound old source _ _ _ _
     c.in_ok-write.ensures.ok.wrote
     (rw (c.in-Some.is, c.in-Hello.is) at c.in_ok-message.ensures.message) (rw c.in-Refused.is at c.in_ok-reason.ensures.ok)
+
+pub returns-in_default-2-clause-ok : goal.returns-in_default-2-clause-ok
+returns-in_default-2-clause-ok g c = search rules

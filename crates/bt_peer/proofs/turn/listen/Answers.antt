@@ -1,4 +1,5 @@
-use Rattle.std.proofs.Common.{◌≡◌, ◌<◌, [], length, refl, arith, true}
+use Rattle.std.proofs.Common.{◌≡◌, ◌<◌, [], length, refl, arith, rules, true}
+use Rattle.std.proofs.lemmas.Grind.{common_steps}
 use Rattle.std.proofs.lemmas.List.{nil_from_length}
 use Rattle.std.proofs.lemmas.Result.{err_from_is_err_and}
 use Rattle.bt_peer.specs.Reader.{source_state}
@@ -63,3 +64,11 @@ pub returns-in-Err-attend-clause-conduct : goal.returns-in-Err-attend-clause-con
 returns-in-Err-attend-clause-conduct g c =
     let past = g.P.Place.past c.args.place.now in
     left_draws _ past (g.P.Place.past c.attend.new.place) _ c.in-Err-attend.ensures.conduct c.leave_by-in-Err-attend.ensures.leave
+
+pub returns-in_default-clause-leaves : goal.returns-in_default-clause-leaves
+returns-in_default-clause-leaves g c = record {
+  hears = rw c.in-Ok-None.field-0-is at c.in-Ok-None.ensures.end;
+  empty = nil_from_length c.next.new.self.inbound.bytes (omega arith);
+  gains = grind (arith, common_steps);
+  wrote = search rules;
+}
