@@ -1,4 +1,5 @@
 use Rattle.std.proofs.Common.{◌≡◌, ◌<◌, [], length, refl, arith, rules, true}
+use Rattle.std.proofs.lemmas.Grind.{common_steps}
 use Rattle.std.proofs.lemmas.List.{nil_from_length}
 use Rattle.std.proofs.lemmas.Result.{err_from_is_err_and}
 use Rattle.bt_peer.specs.Reader.{source_state}
@@ -65,4 +66,9 @@ returns-in-Err-attend-clause-conduct g c =
     left_draws _ past (g.P.Place.past c.attend.new.place) _ c.in-Err-attend.ensures.conduct c.leave_by-in-Err-attend.ensures.leave
 
 pub returns-in_default-clause-leaves : goal.returns-in_default-clause-leaves
-returns-in_default-clause-leaves g c = search rules
+returns-in_default-clause-leaves g c = record {
+  hears = rw c.in-Ok-None.field-0-is at c.in-Ok-None.ensures.end;
+  empty = nil_from_length c.next.new.self.inbound.bytes (omega arith);
+  gains = grind (arith, common_steps);
+  wrote = search rules;
+}
