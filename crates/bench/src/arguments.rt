@@ -19,16 +19,30 @@ pub struct Arguments<'a> {
 
 /// The command with its arguments.
 pub fn command<'a>(alloc: Global) -> Result<Command<'a>, AllocError> {
+    with_timing(alloc, with_swarm(alloc, named(alloc))?)?.arg(pieces(alloc))
+}
+
+/// The command before it has any argument.
+fn named<'a>(alloc: Global) -> Command<'a> {
     Command::new(alloc, "bench")
         .about("Times the picker: a whole download from 51 peers, block by block")
         .arg_required_else_help(true)
+}
+
+/// Adds the options that say what is downloaded, and how.
+fn with_swarm<'a>(alloc: Global, command: Command<'a>) -> Result<Command<'a>, AllocError> {
+    command
         .arg(asks(alloc))?
         .arg(density(alloc))?
-        .arg(depth(alloc))?
+        .arg(depth(alloc))
+}
+
+/// Adds the options that say what is timed and told of it.
+fn with_timing<'a>(alloc: Global, command: Command<'a>) -> Result<Command<'a>, AllocError> {
+    command
         .arg(runs(alloc))?
         .arg(trace(alloc))?
-        .arg(calls(alloc))?
-        .arg(pieces(alloc))
+        .arg(calls(alloc))
 }
 
 /// What was asked for.
@@ -46,6 +60,14 @@ pub fn read<'a>(matches: &ArgMatches<'a>) -> Arguments<'a> {
     }
 }
 
+/// An option with a value of this name.
+fn option<'a>(alloc: Global, name: &'a str, value: &'a str, help: &'a str) -> Arg<'a> {
+    Arg::new(alloc, name)
+        .long(name)
+        .value_name(value)
+        .help(help)
+}
+
 fn pieces<'a>(alloc: Global) -> Arg<'a> {
     Arg::new(alloc, "pieces")
         .value_name("PIECES")
@@ -55,47 +77,55 @@ fn pieces<'a>(alloc: Global) -> Arg<'a> {
 }
 
 fn asks<'a>(alloc: Global) -> Arg<'a> {
-    Arg::new(alloc, "asks")
-        .long("asks")
-        .value_name("N")
-        .help("Ends the download once so many asks were made")
+    option(
+        alloc,
+        "asks",
+        "N",
+        "Ends the download once so many asks were made",
+    )
         .value_parser(value_parser!(u64))
 }
 
 fn density<'a>(alloc: Global) -> Arg<'a> {
-    Arg::new(alloc, "density")
-        .long("density")
-        .value_name("D")
-        .help("Each peer but the seed shows a piece with the probability 1/2^D")
+    option(
+        alloc,
+        "density",
+        "D",
+        "Each peer but the seed shows a piece with the probability 1/2^D",
+    )
         .value_parser(value_parser!(u32).range(0..=32))
         .default_value("1")
 }
 
 fn depth<'a>(alloc: Global) -> Arg<'a> {
-    Arg::new(alloc, "depth")
-        .long("depth")
-        .value_name("D")
-        .help("Blocks outstanding at a peer; with 0 each block arrives as soon as it is asked for")
+    option(
+        alloc,
+        "depth",
+        "D",
+        "Blocks outstanding at a peer; with 0 each block arrives as soon as it is asked for",
+    )
         .value_parser(value_parser!(u32).range(0..=i64::from(MOST_DEPTH)))
         .default_value("5")
 }
 
 fn runs<'a>(alloc: Global) -> Arg<'a> {
-    Arg::new(alloc, "runs")
-        .long("runs")
-        .value_name("N")
-        .help("Times so many runs and prints the least times; with 0 it plays once and prints none")
+    option(
+        alloc,
+        "runs",
+        "N",
+        "Times so many runs and prints the least times; with 0 it plays once and prints none",
+    )
         .value_parser(value_parser!(u32))
         .default_value("3")
 }
 
 fn trace<'a>(alloc: Global) -> Arg<'a> {
-    Arg::new(alloc, "trace")
-        .long("trace")
-        .value_name("FILE")
-        .help(
-            "Writes worker, piece and block of each request to this file, in a run that isn't timed",
-        )
+    option(
+        alloc,
+        "trace",
+        "FILE",
+        "Writes worker, piece and block of each request to this file, in a run that isn't timed",
+    )
         .action(ArgAction::Set)
 }
 

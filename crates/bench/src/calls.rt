@@ -10,7 +10,7 @@ use crate::mix::Mix;
 use crate::swarm::{PEERS, Swarm, Workload, ZEROS, every, full};
 use anyhow::Result;
 use bt_meta::{Bitfield, Block};
-use bt_picker::{Call, Reply};
+use bt_picker::{Call, Reply, Verdict};
 use bytes::Bytes;
 use std::alloc::Global;
 use std::sync::Arc;
@@ -96,22 +96,29 @@ impl Trial {
 
     /// All peers of the swarm come.
     fn come<C: CpuClock>(&mut self, rt: &C) -> Result<()> {
-        let shown = self.workload.bitfields(self.alloc)?;
+        self.join_all(rt)?;
+        self.show_all(rt)?;
+        let start = rt.thread_cpu_time()?;
+        self.unchoke_all()?;
+        let took = rt.thread_cpu_time()?.saturating_sub(start);
+        self.table.note(Kind::Unchoke, SWARM, took)
+    }
+
+    fn join_all<C: CpuClock>(&mut self, rt: &C) -> Result<()> {
         let start = rt.thread_cpu_time()?;
         for worker in 0..PEERS {
             self.swarm.call(worker, Call::Join)?;
         }
-        let joined = rt.thread_cpu_time()?;
+        let took = rt.thread_cpu_time()?.saturating_sub(start);
+        self.table.note(Kind::Join, SWARM, took)
+    }
+
+    fn show_all<C: CpuClock>(&mut self, rt: &C) -> Result<()> {
+        let shown = self.workload.bitfields(self.alloc)?;
+        let start = rt.thread_cpu_time()?;
         self.tell_bitfields(shown)?;
-        let told = rt.thread_cpu_time()?;
-        self.unchoke_all()?;
-        let unchoked = rt.thread_cpu_time()?;
-        self.table
-            .note(Kind::Join, SWARM, joined.saturating_sub(start))?;
-        self.table
-            .note(Kind::Bits, SWARM, told.saturating_sub(joined))?;
-        self.table
-            .note(Kind::Unchoke, SWARM, unchoked.saturating_sub(told))
+        let took = rt.thread_cpu_time()?.saturating_sub(start);
+        self.table.note(Kind::Bits, SWARM, took)
     }
 
     /// The last peer has the last bitfield.
@@ -227,8 +234,21 @@ impl Trial {
         requires { worker < 57 }
     {
         let blocks = self.line(worker)?;
+        self.arrive_each(rt, worker, &blocks, completed)
+    }
+
+    /// These blocks come from the peer.
+    fn arrive_each<C: CpuClock>(
+        &mut self,
+        rt: &C,
+        worker: u32,
+        blocks: &[Block],
+        completed: &mut Vec<u32>,
+    ) -> Result<()>
+        requires { worker < 57 }
+    {
         let start = rt.thread_cpu_time()?;
-        for block in &blocks {
+        for block in blocks {
             let call = Call::Arrived {
                 piece: block.piece,
                 begin: block.begin,
@@ -256,24 +276,40 @@ impl Trial {
     /// Checks the pieces; hashing isn't timed.
     fn settle<C: CpuClock>(&mut self, rt: &C, completed: &[u32]) -> Result<()> {
         for piece in completed {
-            let start = rt.thread_cpu_time()?;
-            let Some(job) = self.swarm.job(self.alloc, *piece)? else {
-                continue;
-            };
-            let shared = rt.thread_cpu_time()?;
-            let verdict = job.hash();
-            let hashed = rt.thread_cpu_time()?;
-            let call = Call::Settle(Arc::new(self.alloc, verdict)?);
-            let reply = self.swarm.call(NEWCOMER, call)?;
-            let settled = rt.thread_cpu_time()?;
-            self.table.note(Kind::Job, 1, shared.saturating_sub(start))?;
-            self.table
-                .note(Kind::Settle, 1, settled.saturating_sub(hashed))?;
-            if reply == Reply::Had {
-                self.had.push(*piece)?;
-            }
+            self.settle_piece(rt, *piece)?;
         }
         Ok(())
+    }
+
+    /// Checks the piece, if it waits for it.
+    fn settle_piece<C: CpuClock>(&mut self, rt: &C, piece: u32) -> Result<()> {
+        let start = rt.thread_cpu_time()?;
+        let job = self.swarm.job(self.alloc, piece)?;
+        let shared = rt.thread_cpu_time()?;
+        let Some(job) = job else {
+            return Ok(());
+        };
+        let reply = self.tell_verdict(rt, job.hash())?;
+        self.table.note(Kind::Job, 1, shared.saturating_sub(start))?;
+        if reply == Reply::Had {
+            self.had.push(piece)?;
+        }
+        Ok(())
+    }
+
+    /// Tells the desk what was hashed.
+    fn tell_verdict<C: CpuClock>(&mut self, rt: &C, verdict: Verdict) -> Result<Reply> {
+        let hashed = rt.thread_cpu_time()?;
+        let reply = self.settle_by(verdict)?;
+        let settled = rt.thread_cpu_time()?;
+        self.table
+            .note(Kind::Settle, 1, settled.saturating_sub(hashed))?;
+        Ok(reply)
+    }
+
+    fn settle_by(&mut self, verdict: Verdict) -> Result<Reply> {
+        let call = Call::Settle(Arc::new(self.alloc, verdict)?);
+        self.swarm.call(NEWCOMER, call)
     }
 
     /// Asks of a peer whose pipe is full, and of one that shows a piece alone of which each block is asked of others.
@@ -312,17 +348,30 @@ impl Trial {
     /// Haves of pieces that aren't had, by a peer that shows nothing yet, and then of pieces that are, by another one.
     fn tell_pieces<C: CpuClock>(&mut self, rt: &C) -> Result<()> {
         let lacking = self.unbegun()?;
-        let start = rt.thread_cpu_time()?;
-        self.tell(NEWCOMER, &lacking)?;
-        let took = rt.thread_cpu_time()?.saturating_sub(start);
-        self.table
-            .note(Kind::HaveLacking, lacking.len() as u64, took)?;
+        self.time_haves(rt, NEWCOMER, &lacking, Kind::HaveLacking)?;
+        self.tell_had(rt)
+    }
+
+    fn tell_had<C: CpuClock>(&mut self, rt: &C) -> Result<()> {
         let mut had = Vec::new(self.alloc);
         take_some(&mut had, &self.had)?;
+        self.time_haves(rt, LATECOMER, &had, Kind::HaveHad)
+    }
+
+    /// A have of each of these pieces by the worker's peer.
+    fn time_haves<C: CpuClock>(
+        &mut self,
+        rt: &C,
+        worker: u32,
+        pieces: &[u32],
+        kind: Kind,
+    ) -> Result<()>
+        requires { worker < 57 }
+    {
         let start = rt.thread_cpu_time()?;
-        self.tell(LATECOMER, &had)?;
+        self.tell(worker, pieces)?;
         let took = rt.thread_cpu_time()?.saturating_sub(start);
-        self.table.note(Kind::HaveHad, had.len() as u64, took)
+        self.table.note(kind, pieces.len() as u64, took)
     }
 
     fn tell(&mut self, worker: u32, pieces: &[u32]) -> Result<()>
@@ -336,35 +385,48 @@ impl Trial {
 
     /// All peers choke us while their pipes are full, and again when nothing is asked of them.
     fn choke<C: CpuClock>(&mut self, rt: &C) -> Result<()> {
-        let start = rt.thread_cpu_time()?;
-        self.choke_all()?;
-        let took = rt.thread_cpu_time()?.saturating_sub(start);
-        self.table.note(Kind::ChokeAsked, SWARM, took)?;
+        self.time_chokes(rt, Kind::ChokeAsked)?;
         self.unchoke_all()?;
+        self.time_chokes(rt, Kind::Choke)?;
+        self.unchoke_all()
+    }
+
+    fn time_chokes<C: CpuClock>(&mut self, rt: &C, kind: Kind) -> Result<()> {
         let start = rt.thread_cpu_time()?;
         self.choke_all()?;
         let took = rt.thread_cpu_time()?.saturating_sub(start);
-        self.table.note(Kind::Choke, SWARM, took)?;
-        self.unchoke_all()
+        self.table.note(kind, SWARM, took)
     }
 
     /// Wants of all pieces, and wants that change each of them.
     fn want<C: CpuClock>(&mut self, rt: &C) -> Result<()> {
-        let mut same = Vec::new(self.alloc);
-        let mut other = Vec::new(self.alloc);
-        for turn in 0..WANTS {
-            same.push(full(self.alloc, self.workload.pieces)?)?;
-            other.push(every(self.alloc, self.workload.pieces, 2, turn % 2)?)?;
-        }
+        self.want_same(rt)?;
+        self.want_other(rt)?;
         let all = full(self.alloc, self.workload.pieces)?;
-        self.want_each(rt, same, Kind::WantSame)?;
-        // From all pieces to half of them, which changes fewer.
-        if let Some(flags) = other.pop() {
-            self.swarm.call(0, Call::Want(flags))?;
-        }
-        self.want_each(rt, other, Kind::WantOther)?;
         self.swarm.call(0, Call::Want(all))?;
         Ok(())
+    }
+
+    /// Wants of all pieces, which change nothing.
+    fn want_same<C: CpuClock>(&mut self, rt: &C) -> Result<()> {
+        let mut wants = Vec::new(self.alloc);
+        for _ in 0..WANTS {
+            wants.push(full(self.alloc, self.workload.pieces)?)?;
+        }
+        self.want_each(rt, wants, Kind::WantSame)
+    }
+
+    /// Wants that change each piece, once half of them are wanted.
+    fn want_other<C: CpuClock>(&mut self, rt: &C) -> Result<()> {
+        let mut wants = Vec::new(self.alloc);
+        for turn in 0..WANTS {
+            wants.push(every(self.alloc, self.workload.pieces, 2, turn % 2)?)?;
+        }
+        // From all pieces to half of them, which changes fewer.
+        if let Some(flags) = wants.pop() {
+            self.swarm.call(0, Call::Want(flags))?;
+        }
+        self.want_each(rt, wants, Kind::WantOther)
     }
 
     fn want_each<C: CpuClock>(&mut self, rt: &C, wants: Vec<Bitfield>, kind: Kind) -> Result<()> {
@@ -380,18 +442,28 @@ impl Trial {
     /// All peers of the swarm go, come back, and go again.
     fn go_and_come_back<C: CpuClock>(&mut self, rt: &C) -> Result<()> {
         let shown = self.workload.bitfields(self.alloc)?;
+        self.go(rt)?;
+        self.come_back(rt, shown)
+    }
+
+    fn go<C: CpuClock>(&mut self, rt: &C) -> Result<()> {
         let start = rt.thread_cpu_time()?;
         self.swarm.leave()?;
-        let left = rt.thread_cpu_time()?;
+        let took = rt.thread_cpu_time()?.saturating_sub(start);
+        self.table.note(Kind::Leave, SWARM, took)
+    }
+
+    /// All peers come with these bitfields, and go again.
+    fn come_back<C: CpuClock>(&mut self, rt: &C, shown: Vec<Bitfield>) -> Result<()> {
+        let start = rt.thread_cpu_time()?;
         self.swarm.come(shown)?;
         let came = rt.thread_cpu_time()?;
         self.swarm.leave()?;
         let gone = rt.thread_cpu_time()?;
         self.table
-            .note(Kind::Leave, SWARM, left.saturating_sub(start))?;
-        self.table.note(Kind::In, SWARM, came.saturating_sub(left))?;
+            .note(Kind::In, SWARM, came.saturating_sub(start))?;
         self.table
-            .note(Kind::InAndOut, SWARM, gone.saturating_sub(left))
+            .note(Kind::InAndOut, SWARM, gone.saturating_sub(start))
     }
 }
 

@@ -58,8 +58,8 @@ pub fn play<C: CpuClock>(
     download: &mut Download,
     stretches: &mut Stretches,
 ) -> Result<Times> {
-    let shown = workload.bitfields(alloc)?;
     let reading = reading_time(rt)?;
+    let shown = workload.bitfields(alloc)?;
     let start = rt.thread_cpu_time()?;
     download.join(shown)?;
     let joined = rt.thread_cpu_time()?;
@@ -122,6 +122,11 @@ fn piece_hash() -> [u8; 20] {
 /// The most memory that the process has held so far, in KiB, where the system tells it.
 pub fn peak_memory<R: Runtime + AllocGlobal>(rt: &R) -> Option<u64> {
     let status = fs::read_to_string(rt, STATUS).ok()?;
+    peak_in(&status)
+}
+
+/// The same in the text that the system tells.
+fn peak_in(status: &str) -> Option<u64> {
     for line in status.lines() {
         if let Some(peak) = line.strip_prefix("VmHWM:") {
             return peak.split_whitespace().next()?.parse::<u64>().ok();
@@ -182,6 +187,18 @@ impl TimeLine {
 
 impl fmt::Display for TimeLine {
     fn fmt<W: fmt::Write>(&self, f: &mut fmt::Formatter<W>) -> fmt::Result {
+        self.tell_asks(f)?;
+        self.tell_rest(f)?;
+        match self.peak {
+            Some(peak) => write!(f, " peak_kib {peak}"),
+            None => Ok(()),
+        }
+    }
+}
+
+impl TimeLine {
+    /// An ask by both measures, and each beside a hash.
+    fn tell_asks<W: fmt::Write>(&self, f: &mut fmt::Formatter<W>) -> fmt::Result {
         let asks = self.counts.asks.max(1);
         let asking = nanos(self.times.asking);
         let hash = nanos(self.hash).max(1);
@@ -190,20 +207,20 @@ impl fmt::Display for TimeLine {
         let ratio = Ratio::of(asking, asks, hash);
         let least_ask = least / asks;
         let least_ratio = Ratio::of(least, asks, hash);
+        write!(f, "ask_ns {ask} hash_ns {hash} ratio {ratio}")?;
+        write!(f, " least_ns {least_ask} least_ratio {least_ratio}")
+    }
+
+    /// What was done beside the asks.
+    fn tell_rest<W: fmt::Write>(&self, f: &mut fmt::Formatter<W>) -> fmt::Result {
         let reading = nanos(self.times.reading);
         let settling = nanos(self.times.settling);
         let join = nanos(self.times.joins) / u64::from(PEERS);
         let leave = nanos(self.times.leaves) / u64::from(PEERS);
-        write!(f, "ask_ns {ask} hash_ns {hash} ratio {ratio}")?;
-        write!(f, " least_ns {least_ask} least_ratio {least_ratio}")?;
         write!(
             f,
             " reading_ns {reading} settling_ns {settling} join_ns {join} leave_ns {leave}"
-        )?;
-        match self.peak {
-            Some(peak) => write!(f, " peak_kib {peak}"),
-            None => Ok(()),
-        }
+        )
     }
 }
 

@@ -37,7 +37,12 @@ fn main(rt: HostRuntime) -> ExitCode {
 /// Does what the command line says.
 fn obey<R: Runtime + AllocGlobal + CpuClock>(rt: &R) -> Result<ExitCode> {
     let words: Vec<String> = env::args(rt)?.collect(rt.alloc())?;
-    match command(rt.alloc())?.try_get_matches_from(words.as_slice()) {
+    obey_words(rt, &words)
+}
+
+/// Does what these words say, the first of them being the program's name.
+fn obey_words<R: Runtime + AllocGlobal + CpuClock>(rt: &R, words: &[String]) -> Result<ExitCode> {
+    match command(rt.alloc())?.try_get_matches_from(words) {
         Ok(matches) => time(rt, &read(&matches)),
         Err(error) => refuse(rt, &error),
     }
@@ -74,16 +79,21 @@ fn time_download<R: Runtime + AllocGlobal + CpuClock>(
     if arguments.runs == 0 || arguments.trace.is_some() {
         play_untimed(rt, arguments)?;
     }
-    let workload = arguments.workload;
-    if let Some(least) = time_runs(rt, workload, arguments.runs)? {
-        let counts = least.counts;
-        let line = CountLine { workload, counts };
-        let times = TimeLine {
-            peak: peak_memory(rt),
-            ..least
-        };
-        println!(rt; "{line} {times}")?;
+    if let Some(least) = time_runs(rt, arguments.workload, arguments.runs)? {
+        tell_times(rt, arguments.workload, least)?;
     }
+    Ok(())
+}
+
+/// Prints the counts and the times.
+fn tell_times<R: Runtime + AllocGlobal>(rt: &R, workload: Workload, least: TimeLine) -> Result<()> {
+    let counts = least.counts;
+    let line = CountLine { workload, counts };
+    let times = TimeLine {
+        peak: peak_memory(rt),
+        ..least
+    };
+    println!(rt; "{line} {times}")?;
     Ok(())
 }
 
@@ -105,6 +115,11 @@ fn play_and_tell<R: Runtime + AllocGlobal + CpuClock>(
 ) -> Result<()> {
     let mut stretches = Stretches::new(rt.alloc());
     play(rt, rt.alloc(), arguments.workload, download, &mut stretches)?;
+    tell(rt, arguments, download)
+}
+
+/// Writes the requests and prints the counts, as far as they are wanted.
+fn tell<R: Runtime>(rt: &R, arguments: &Arguments<'_>, download: &Download) -> Result<()> {
     if let (Some(path), Some(trace)) = (arguments.trace, download.trace()) {
         fs::write(rt, path, trace)?;
     }
@@ -178,10 +193,23 @@ fn time_each_call<R: Runtime + AllocGlobal + CpuClock>(
 ) -> Result<()> {
     let mut least = Table::new(rt.alloc());
     for _ in 0..arguments.runs.max(1) {
-        let table = time_calls(rt, rt.alloc(), arguments.workload)?;
-        least.take_lesser(&table)?;
+        take_lesser(rt, arguments.workload, &mut least)?;
     }
-    for row in least.rows() {
+    tell_table(rt, &least)
+}
+
+/// Times each kind of call once more, and keeps the lesser times.
+fn take_lesser<R: Runtime + AllocGlobal + CpuClock>(
+    rt: &R,
+    workload: Workload,
+    least: &mut Table,
+) -> Result<()> {
+    let table = time_calls(rt, rt.alloc(), workload)?;
+    least.take_lesser(&table)
+}
+
+fn tell_table<R: Runtime>(rt: &R, table: &Table) -> Result<()> {
+    for row in table.rows() {
         rt.println(row)?;
     }
     Ok(())

@@ -41,14 +41,19 @@ pub fn open(alloc: Global, threads: u32, pieces: u32) -> Result<(SharedDesk, Vec
     ensures { IfOk result (λ opened. All (λ pass. pass.table ≡ opened.0.table) opened.1.items) }
 {
     ensure!(1 <= threads && threads <= 1024, "from 1 to 1,024 threads");
-    let hashes = vec![in alloc; [0; 20]; pieces as usize]?;
-    let total = u64::from(PIECE_LEN) * u64::from(pieces);
-    let torrent = Torrent::of_parts(PIECE_LEN, total, hashes, [0; 20])?;
+    let torrent = torrent_of(alloc, pieces)?;
     let rules = Rules {
         depth: 5,
         random: torrent.piece_count().min(1),
     };
     Ok(SharedDesk::open(alloc, Arc::new(alloc, torrent)?, threads, rules)?)
+}
+
+/// So many pieces whose digests are zeros.
+fn torrent_of(alloc: Global, pieces: u32) -> Result<Torrent> {
+    let hashes = vec![in alloc; [0; 20]; pieces as usize]?;
+    let total = u64::from(PIECE_LEN) * u64::from(pieces);
+    Ok(Torrent::of_parts(PIECE_LEN, total, hashes, [0; 20])?)
 }
 
 /// Pieces of more than so many blocks, a multiple of eight, so that their bitfield has no spare bit.
@@ -70,10 +75,22 @@ pub fn hammer<R: Wait + Clock>(
     requires { pass.table ≡ desk.now.table }
 {
     come(rt, alloc, desk, &mut pass, pieces)?;
+    ask_and_bring_each(rt, desk, &mut pass, pairs)
+}
+
+/// Asks for so many blocks and brings each.
+fn ask_and_bring_each<R: Wait + Clock>(
+    rt: &R,
+    desk: &SharedDesk,
+    pass: &mut Pass,
+    pairs: u32,
+) -> Option<Tally>
+    requires { pass.old.table ≡ desk.now.table }
+{
     let mut tally = Tally::default();
     let mut last = rt.monotonic().ok()?;
     'pairs: for pair in 0..pairs {
-        ask_and_bring(rt, desk, &mut pass, pair)?;
+        ask_and_bring(rt, desk, pass, pair)?;
         let now = rt.monotonic().ok()?;
         tally = tally.with(Tally {
             calls: 2,
@@ -82,6 +99,12 @@ pub fn hammer<R: Wait + Clock>(
         last = now;
     }
     Some(tally)
+}
+
+/// So many pieces, a multiple of eight.
+fn all_of(alloc: Global, pieces: u32) -> Option<Bitfield> {
+    let bytes = vec![in alloc; 0xff; pieces as usize / 8].ok()?;
+    Bitfield::from_wire(alloc, &bytes, pieces).ok()
 }
 
 /// A peer that has all pieces.
@@ -95,8 +118,7 @@ fn come<R: Wait>(
     requires { pass.old.table ≡ desk.now.table }
     ensures { IsSame pass.old pass.new }
 {
-    let bytes = vec![in alloc; 0xff; pieces as usize / 8].ok()?;
-    let shown = Bitfield::from_wire(alloc, &bytes, pieces).ok()?;
+    let shown = all_of(alloc, pieces)?;
     desk.call(rt, pass, Call::Join).ok()?;
     desk.call(rt, pass, Call::Bits(shown)).ok()?;
     desk.call(rt, pass, Call::Unchoke).ok()?;

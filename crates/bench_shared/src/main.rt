@@ -1,14 +1,14 @@
 //! A benchmark of the desk that threads share: each thread asks for a block and brings it, again and again.
 #![tactic(auto)]
 
-ghost use Rattle.std.specs.Prelude.{◌≡◌};
+ghost use Rattle.std.specs.Prelude.{◌≡◌, All};
 
 mod arguments;
 mod hammer;
 
 use anyhow::{Context, Result};
 use arguments::{Arguments, command, read};
-use bt_shared::Pass;
+use bt_shared::{Pass, SharedDesk};
 use hammer::{Tally, hammer, open, pieces_for};
 use std::process::ExitCode;
 use std::rt::Runtime;
@@ -33,18 +33,35 @@ fn main(rt: HostRuntime) -> ExitCode {
 /// Does what the command line says.
 fn obey<R: Runtime + AllocGlobal + Clock + Threads + Wait + Sync>(rt: &R) -> Result<ExitCode> {
     let words: Vec<String> = env::args(rt)?.collect(rt.alloc())?;
-    let matches = match command(rt.alloc())?.try_get_matches_from(words.as_slice()) {
-        Ok(matches) => matches,
-        Err(error) if error.use_stderr() => {
-            rt.eprint(&error)?;
-            return Ok(ExitCode::from(WRONG_ARGUMENTS));
-        }
-        Err(error) => {
-            rt.print(&error)?;
-            return Ok(ExitCode::SUCCESS);
-        }
-    };
-    let arguments = read(&matches);
+    obey_words(rt, &words)
+}
+
+/// Does what these words say, the first of them being the program's name.
+fn obey_words<R: Runtime + AllocGlobal + Clock + Threads + Wait + Sync>(
+    rt: &R,
+    words: &[String],
+) -> Result<ExitCode> {
+    match command(rt.alloc())?.try_get_matches_from(words) {
+        Ok(matches) => time(rt, read(&matches)),
+        Err(error) => refuse(rt, &error),
+    }
+}
+
+/// Prints what is wrong with the command line, or the help that it asks for.
+fn refuse<R: Runtime>(rt: &R, error: &clap::Error) -> Result<ExitCode> {
+    if error.use_stderr() {
+        rt.eprint(error)?;
+        return Ok(ExitCode::from(WRONG_ARGUMENTS));
+    }
+    rt.print(error)?;
+    Ok(ExitCode::SUCCESS)
+}
+
+/// Lets the threads call, and prints what is wanted of it.
+fn time<R: Runtime + AllocGlobal + Clock + Threads + Wait + Sync>(
+    rt: &R,
+    arguments: Arguments,
+) -> Result<ExitCode> {
     let (tally, took) = time_threads(rt, arguments)?;
     let Arguments { threads, pairs, .. } = arguments;
     rt.println(format_args!("threads {threads} pairs {pairs} calls {}", tally.calls))?;
@@ -60,23 +77,41 @@ fn time_threads<R: Runtime + AllocGlobal + Clock + Threads + Wait + Sync>(
     arguments: Arguments,
 ) -> Result<(Tally, Duration)> {
     let Arguments { threads, pairs, .. } = arguments;
-    let alloc = rt.alloc();
     let pieces = pieces_for(threads, pairs)?;
-    let (desk, passes) = open(alloc, threads, pieces)?;
+    let (desk, passes) = open(rt.alloc(), threads, pieces)?;
+    time_passes(rt, &desk, passes, pieces, pairs)
+}
+
+/// The same by these passes, a thread each.
+fn time_passes<R: Runtime + AllocGlobal + Clock + Threads + Wait + Sync>(
+    rt: &R,
+    desk: &SharedDesk,
+    passes: Vec<Pass>,
+    pieces: u32,
+    pairs: u32,
+) -> Result<(Tally, Duration)>
+    requires { All (λ pass. pass.table ≡ desk.now.table) passes.items }
+{
+    let alloc = rt.alloc();
     let start = rt.monotonic()?;
     let tallies = thread::map_vec(
         rt,
         passes,
         &|pass: Pass| -> Option<Tally>
-            requires { pass.table ≡ desk.table }
-        { hammer(rt, alloc, &desk, pass, pieces, pairs) },
+            requires { pass.table ≡ desk.now.table }
+        { hammer(rt, alloc, desk, pass, pieces, pairs) },
     )?;
     let took = rt.monotonic()?.saturating_sub(start);
+    Ok((sum(&tallies)?, took))
+}
+
+/// What all threads did, if none gave up.
+fn sum(tallies: &[Option<Tally>]) -> Result<Tally> {
     let mut all = Tally::default();
     for tally in tallies {
         all = all.with(tally.context("a call failed, or had a reply that isn't due")?);
     }
-    Ok((all, took))
+    Ok(all)
 }
 
 /// Prints what a call took, from the first to the last, and how long the longest pair of calls waited.

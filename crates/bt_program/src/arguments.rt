@@ -15,16 +15,26 @@ Each command's help has its own table.";
 
 /// The program's commands and their arguments.
 pub fn command<'a>(alloc: Global) -> Result<Command<'a>, AllocError> {
+    let program = with(with(named(alloc), Ok(script(alloc)))?, info(alloc))?;
+    with(with(program, serial(alloc))?, run(alloc))
+}
+
+/// The program, with no command yet.
+fn named<'a>(alloc: Global) -> Command<'a> {
     Command::new(alloc, "piecepick")
         .version(VERSION)
         .about("Decides which block of a torrent to request next from which peer")
         .after_help(STATUSES)
         .subcommand_required(true)
         .arg_required_else_help(true)
-        .subcommand(script(alloc))?
-        .subcommand(info(alloc)?)?
-        .subcommand(serial(alloc)?)?
-        .subcommand(run(alloc)?)
+}
+
+/// The program with one command more, if there was memory for that.
+fn with<'a>(
+    program: Command<'a>,
+    command: Result<Command<'a>, AllocError>,
+) -> Result<Command<'a>, AllocError> {
+    program.subcommand(command?)
 }
 
 /// The command `script`.
@@ -54,80 +64,110 @@ fn meta<'a>(alloc: Global) -> Arg<'a> {
 
 /// The command `serial`.
 fn serial<'a>(alloc: Global) -> Result<Command<'a>, AllocError> {
+    let command = with_rules(alloc, serial_with_seed(alloc)?.arg(want(alloc))?)?;
+    with_files(alloc, command.arg(journal(alloc))?)
+}
+
+/// The command `serial` with its first option.
+fn serial_with_seed<'a>(alloc: Global) -> Result<Command<'a>, AllocError> {
     Command::new(alloc, "serial")
         .about("Plays recorded streams of peers at one desk, and reports which pieces are lacking")
         .after_help(help::SERIAL)
-        .arg(seed(alloc))?
-        .arg(want(alloc))?
-        .arg(depth(alloc))?
-        .arg(random(alloc))?
-        .arg(journal(alloc))?
-        .arg(out(alloc))?
-        .arg(meta(alloc))?
-        .arg(streams(alloc))
+        .arg(seed(alloc))
 }
 
 /// The command `run`.
 fn run<'a>(alloc: Global) -> Result<Command<'a>, AllocError> {
+    let command = with_rules(alloc, run_with_seed(alloc)?)?;
+    with_files(alloc, command.arg(checkers(alloc))?)
+}
+
+/// The command `run` with its first option.
+fn run_with_seed<'a>(alloc: Global) -> Result<Command<'a>, AllocError> {
     Command::new(alloc, "run")
         .about(
             "Plays recorded streams of peers at one desk, each in a thread of its own, and reports as `serial` does",
         )
         .after_help(help::RUN)
-        .arg(seed(alloc))?
-        .arg(depth(alloc))?
-        .arg(random(alloc))?
-        .arg(checkers(alloc))?
+        .arg(seed(alloc))
+}
+
+/// Adds the options that say by which rules is picked.
+fn with_rules<'a>(alloc: Global, command: Command<'a>) -> Result<Command<'a>, AllocError> {
+    command.arg(depth(alloc))?.arg(random(alloc))
+}
+
+/// Adds the names of the files that are written and read.
+fn with_files<'a>(alloc: Global, command: Command<'a>) -> Result<Command<'a>, AllocError> {
+    command
         .arg(out(alloc))?
         .arg(meta(alloc))?
         .arg(streams(alloc))
 }
 
+/// An option with a value of this name.
+fn option<'a>(alloc: Global, name: &'a str, value: &'a str, help: &'a str) -> Arg<'a> {
+    Arg::new(alloc, name)
+        .long(name)
+        .value_name(value)
+        .help(help)
+}
+
 /// The option `--seed`.
 fn seed<'a>(alloc: Global) -> Arg<'a> {
-    Arg::new(alloc, "seed")
-        .long("seed")
-        .value_name("N")
-        .help("Settles what the picker leaves to chance")
+    option(
+        alloc,
+        "seed",
+        "N",
+        "Settles what the picker leaves to chance",
+    )
         .value_parser(value_parser!(u64))
         .default_value("0")
 }
 
 /// The option `--want`.
 fn want<'a>(alloc: Global) -> Arg<'a> {
-    Arg::new(alloc, "want")
-        .long("want")
-        .value_name("HEX")
-        .help("Downloads the pieces of this bitfield alone")
+    option(
+        alloc,
+        "want",
+        "HEX",
+        "Downloads the pieces of this bitfield alone",
+    )
         .action(ArgAction::Set)
 }
 
 /// The option `--depth`.
 fn depth<'a>(alloc: Global) -> Arg<'a> {
-    Arg::new(alloc, "depth")
-        .long("depth")
-        .value_name("N")
-        .help("Asks for so many blocks of a peer at a time, 1 to 64")
+    option(
+        alloc,
+        "depth",
+        "N",
+        "Asks for so many blocks of a peer at a time, 1 to 64",
+    )
         .value_parser(value_parser!(u32).range(1..=i64::from(MOST_DEPTH)))
         .default_value("5")
 }
 
 /// The option `--random`.
 fn random<'a>(alloc: Global) -> Arg<'a> {
-    Arg::new(alloc, "random")
-        .long("random")
-        .value_name("N")
-        .help("Picks pieces at random until so many are had, and then the rarest")
+    option(
+        alloc,
+        "random",
+        "N",
+        "Picks pieces at random until so many are had, and then the rarest",
+    )
         .value_parser(value_parser!(u32))
         .default_value("1")
 }
 
 /// The option `--checkers`.
 fn checkers<'a>(alloc: Global) -> Arg<'a> {
-    Arg::new(alloc, "checkers")
-        .long("checkers")
-        .value_name("K")
-        .help("Checks pieces in so many threads, 1 to 8")
+    option(
+        alloc,
+        "checkers",
+        "K",
+        "Checks pieces in so many threads, 1 to 8",
+    )
         .value_parser(value_parser!(u32).range(1..=i64::from(MOST_CHECKERS)))
         .default_value("1")
 }
@@ -142,10 +182,12 @@ fn journal<'a>(alloc: Global) -> Arg<'a> {
 
 /// The option `--out`.
 fn out<'a>(alloc: Global) -> Arg<'a> {
-    Arg::new(alloc, "out")
-        .long("out")
-        .value_name("FILE")
-        .help("Writes the content to this file, if all pieces are had")
+    option(
+        alloc,
+        "out",
+        "FILE",
+        "Writes the content to this file, if all pieces are had",
+    )
         .action(ArgAction::Set)
 }
 

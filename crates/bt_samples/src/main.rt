@@ -1,7 +1,7 @@
 //! Real clients' streams: the messages of each by type, however it is cut, and what a run of all of a torrent's streams comes to.
 #![tactic(auto)]
 
-ghost use Rattle.std.specs.Prelude.{◌≤◌};
+ghost use Rattle.std.specs.Prelude.{◌≤◌, length};
 
 mod counts;
 
@@ -26,16 +26,56 @@ fn main(rt: HostRuntime) -> Result<()> {
         .next()
         .context("the lengths of the pieces, as 1,65536")?;
     let words: Vec<String> = args.collect(rt.alloc())?;
+    show_all(&rt, lens.as_str(), &words)
+}
+
+/// Shows each sample: the words stand in groups, a metainfo file and its streams.
+fn show_all<R: Runtime + AllocGlobal + Threads + Wait + Sync>(
+    rt: &R,
+    lens: &str,
+    words: &[String],
+) -> Result<()>
+where
+    R::File: Send,
+{
     for sample in words.split(|word| word.as_str() == "--") {
         let (meta, streams) = sample.split_first().context("a metainfo file")?;
-        let meta = fs::read(&rt, meta.as_str())?;
-        let torrent = Torrent::read(rt.alloc(), &meta)?;
-        let limit = frame_limit(torrent.piece_count());
-        for name in streams {
-            decode(&rt, name.as_str(), lens.as_str(), limit)?;
-        }
-        play(&rt, &meta, streams)?;
-        play_in_threads(&rt, &meta, streams)?;
+        show(rt, lens, meta.as_str(), streams)?;
+    }
+    Ok(())
+}
+
+/// Shows a torrent's streams.
+fn show<R: Runtime + AllocGlobal + Threads + Wait + Sync>(
+    rt: &R,
+    lens: &str,
+    meta: &str,
+    streams: &[String],
+) -> Result<()>
+where
+    R::File: Send,
+{
+    let meta = fs::read(rt, meta)?;
+    decode_all(rt, lens, streams, limit_of(rt.alloc(), &meta)?)?;
+    play(rt, &meta, streams)?;
+    play_in_threads(rt, &meta, streams)
+}
+
+/// The longest message that a peer of this torrent sends.
+fn limit_of(alloc: Global, meta: &[u8]) -> Result<u32> {
+    let torrent = Torrent::read(alloc, meta)?;
+    Ok(frame_limit(torrent.piece_count()))
+}
+
+/// Prints the messages of each stream.
+fn decode_all<R: Runtime + AllocGlobal>(
+    rt: &R,
+    lens: &str,
+    streams: &[String],
+    limit: u32,
+) -> Result<()> {
+    for name in streams {
+        decode(rt, name.as_str(), lens, limit)?;
     }
     Ok(())
 }
@@ -43,8 +83,19 @@ fn main(rt: HostRuntime) -> Result<()> {
 /// Prints the messages of a stream by type, for each of these lengths of pieces that it may come in.
 fn decode<R: Runtime + AllocGlobal>(rt: &R, name: &str, lens: &str, limit: u32) -> Result<()> {
     let bytes = fs::read(rt, name)?;
+    decode_bytes(rt, name, &bytes, lens, limit)
+}
+
+/// The same of the bytes of the stream with this name.
+fn decode_bytes<R: Runtime + AllocGlobal>(
+    rt: &R,
+    name: &str,
+    bytes: &[u8],
+    lens: &str,
+    limit: u32,
+) -> Result<()> {
     for len in lens.split(',') {
-        let counts = count(rt.alloc(), &bytes, len.parse::<usize>()?, limit)?;
+        let counts = count(rt.alloc(), bytes, len.parse::<usize>()?, limit)?;
         println!(rt; "{name} in pieces of {len}: {counts}")?;
     }
     Ok(())
@@ -83,18 +134,25 @@ fn options() -> Options
 /// Prints the report of a run of these streams, its status, and the SHA-1 of the content.
 fn play<R: Runtime + AllocGlobal>(rt: &R, meta: &[u8], names: &[String]) -> Result<()> {
     let mut streams = opened(rt, rt.alloc(), names)?;
+    play_opened(rt, meta, &mut streams)
+}
+
+/// The same of streams that are open.
+fn play_opened<R: Runtime + AllocGlobal>(
+    rt: &R,
+    meta: &[u8],
+    streams: &mut [Stream<FromRead<R::File>, ToWrite<io::Sink>>],
+) -> Result<()> {
     if streams.is_empty() || streams.len() > MOST_STREAMS {
         bail!("a run takes 1 to {MOST_STREAMS} streams");
     }
     let mut out = ToWrite::new(BufWriter::new(rt.alloc(), io::writer(rt))?);
-    let run = match play_streams(rt.alloc(), meta, &mut streams, &options(), &mut out) {
+    let run = match play_streams(rt.alloc(), meta, streams, &options(), &mut out) {
         Ok(run) => run,
         Err(fault) => bail!("{fault}"),
     };
     out.into_inner().flush()?;
-    let status = run.status();
-    println!(rt; "status {status}")?;
-    tell_content(rt, &run.desk)
+    tell(rt, run.status(), &run.desk)
 }
 
 /// The same of a run in threads.
@@ -111,22 +169,43 @@ where
         bail!("a run takes 1 to {MOST_STREAMS} streams");
     }
     println!(rt; "in threads:")?;
+    play_opened_in_threads(rt, meta, streams)
+}
+
+/// The same of streams that are open.
+fn play_opened_in_threads<R: Runtime + AllocGlobal + Threads + Wait + Sync>(
+    rt: &R,
+    meta: &[u8],
+    streams: Vec<Stream<FromRead<R::File>, ToWrite<io::Sink>>>,
+) -> Result<()>
+where
+    R::File: Send,
+    requires { (1 ≤ length streams.items) × (length streams.items ≤ MOST_STREAMS) }
+{
     let mut out = ToWrite::new(BufWriter::new(rt.alloc(), io::writer(rt))?);
     let run = match play_threads(rt, meta, streams, &options(), &mut out) {
         Ok(run) => run,
         Err(fault) => bail!("{fault}"),
     };
     out.into_inner().flush()?;
-    let status = run.status();
-    println!(rt; "status {status}")?;
-    tell_content(rt, &run.book.desk)
+    tell(rt, run.status(), &run.book.desk)
 }
 
-fn tell_content<R: Runtime + AllocGlobal>(rt: &R, desk: &Desk) -> Result<()> {
-    let mut content = ToWrite::new(Vec::new(rt.alloc()));
+/// Prints how a run ended, and what it came to.
+fn tell<R: Runtime + AllocGlobal>(rt: &R, status: u8, desk: &Desk) -> Result<()> {
+    println!(rt; "status {status}")?;
+    let content = content_of(rt.alloc(), desk)?;
+    tell_content(rt, &content)
+}
+
+fn content_of(alloc: Global, desk: &Desk) -> Result<Vec<u8>> {
+    let mut content = ToWrite::new(Vec::new(alloc));
     desk.write_content(&mut content)?;
-    let content = content.into_inner();
-    let digest = hex::encode(rt.alloc(), Sha1::digest(&content).as_slice())?;
+    Ok(content.into_inner())
+}
+
+fn tell_content<R: Runtime + AllocGlobal>(rt: &R, content: &[u8]) -> Result<()> {
+    let digest = hex::encode(rt.alloc(), Sha1::digest(content).as_slice())?;
     let len = content.len();
     println!(rt; "content bytes {len} sha1 {digest}")?;
     Ok(())
