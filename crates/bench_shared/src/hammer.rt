@@ -41,19 +41,14 @@ pub fn open(alloc: Global, threads: u32, pieces: u32) -> Result<(SharedDesk, Vec
     ensures { IfOk result (λ opened. All (λ pass. pass.table ≡ opened.0.table) opened.1.items) }
 {
     ensure!(1 <= threads && threads <= 1024, "from 1 to 1,024 threads");
-    let torrent = torrent_of(alloc, pieces)?;
+    let hashes = vec![in alloc; [0; 20]; pieces as usize]?;
+    let total = u64::from(PIECE_LEN) * u64::from(pieces);
+    let torrent = Torrent::of_parts(PIECE_LEN, total, hashes, [0; 20])?;
     let rules = Rules {
         depth: 5,
         random: torrent.piece_count().min(1),
     };
     Ok(SharedDesk::open(alloc, Arc::new(alloc, torrent)?, threads, rules)?)
-}
-
-/// So many pieces whose digests are zeros.
-fn torrent_of(alloc: Global, pieces: u32) -> Result<Torrent> {
-    let hashes = vec![in alloc; [0; 20]; pieces as usize]?;
-    let total = u64::from(PIECE_LEN) * u64::from(pieces);
-    Ok(Torrent::of_parts(PIECE_LEN, total, hashes, [0; 20])?)
 }
 
 /// Pieces of more than so many blocks, a multiple of eight, so that their bitfield has no spare bit.

@@ -78,10 +78,27 @@ where
     R::File: Send,
 {
     match matches.subcommand() {
-        Some(("info", arguments)) => info(rt, arguments, out),
-        Some(("run", arguments)) => run(rt, arguments, out, err),
-        Some(("script", _)) => script(rt, out),
-        Some(("serial", arguments)) => serial(rt, arguments, out, err),
+        Some((name, arguments)) => play_named(rt, name, arguments, out, err),
+        None => Ok(WRONG_ARGUMENTS),
+    }
+}
+
+/// Plays the command of this name.
+fn play_named<'w, R: Runtime + AllocGlobal + Threads + Wait + Sync, O: Write, E: Write>(
+    rt: &R,
+    name: &str,
+    arguments: &ArgMatches<'w>,
+    out: &mut Device<O>,
+    err: &mut E,
+) -> Result<u8, Failure<'w>>
+where
+    R::File: Send,
+{
+    match name {
+        "info" => info(rt, arguments, out),
+        "run" => run(rt, arguments, out, err),
+        "script" => script(rt, out),
+        "serial" => serial(rt, arguments, out, err),
         _ => Ok(WRONG_ARGUMENTS),
     }
 }
@@ -166,15 +183,28 @@ fn serial<'w, R: Runtime + AllocGlobal, O: Write, E: Write>(
     let Some(meta) = arguments.get_str("META") else {
         return Ok(WRONG_ARGUMENTS);
     };
-    let Some(options) = options(rt.alloc(), arguments, err)? else {
-        return Ok(WRONG_ARGUMENTS);
-    };
+    match options(rt.alloc(), arguments, err)? {
+        Some(options) => serial_by(rt, arguments, meta, &options, out, err),
+        None => Ok(WRONG_ARGUMENTS),
+    }
+}
+
+/// The command `serial` by these options.
+fn serial_by<'w, R: Runtime + AllocGlobal, O: Write, E: Write>(
+    rt: &R,
+    arguments: &ArgMatches<'w>,
+    meta: &'w str,
+    options: &Options,
+    out: &mut Device<O>,
+    err: &mut E,
+) -> Result<u8, Failure<'w>>
+    requires depth { (1 ≤ options.now.rules.depth) × (options.now.rules.depth ≤ MOST_DEPTH) }
+{
     let names = arguments.get_strs("STREAM").unwrap_or(&[]);
     if !is_taken(names.len(), err) {
         return Ok(WRONG_ARGUMENTS);
     }
-    let path = arguments.get_str("out");
-    play_in_turns(rt, meta, names, &options, out, path)
+    play_in_turns(rt, meta, names, options, out, arguments.get_str("out"))
 }
 
 /// Plays the streams with these names in one thread.
@@ -224,15 +254,31 @@ where
     let Some(meta) = arguments.get_str("META") else {
         return Ok(WRONG_ARGUMENTS);
     };
-    let Some(options) = options(rt.alloc(), arguments, err)? else {
-        return Ok(WRONG_ARGUMENTS);
-    };
+    match options(rt.alloc(), arguments, err)? {
+        Some(options) => run_by(rt, arguments, meta, &options, out, err),
+        None => Ok(WRONG_ARGUMENTS),
+    }
+}
+
+/// The command `run` by these options.
+fn run_by<'w, R: Runtime + AllocGlobal + Threads + Wait + Sync, O: Write, E: Write>(
+    rt: &R,
+    arguments: &ArgMatches<'w>,
+    meta: &'w str,
+    options: &Options,
+    out: &mut Device<O>,
+    err: &mut E,
+) -> Result<u8, Failure<'w>>
+where
+    R::File: Send,
+    requires depth { (1 ≤ options.now.rules.depth) × (options.now.rules.depth ≤ MOST_DEPTH) }
+    requires checkers { (1 ≤ options.now.checkers) × (options.now.checkers ≤ MOST_CHECKERS) }
+{
     let names = arguments.get_strs("STREAM").unwrap_or(&[]);
     if !is_taken(names.len(), err) {
         return Ok(WRONG_ARGUMENTS);
     }
-    let path = arguments.get_str("out");
-    play_at_once(rt, meta, names, &options, out, path)
+    play_at_once(rt, meta, names, options, out, arguments.get_str("out"))
 }
 
 /// Plays the streams with these names in threads.
@@ -312,21 +358,42 @@ fn options<E: Write>(
         let _ = writeln!(err, "error: a run takes 1 to {MOST_CHECKERS} checkers");
         return Ok(None);
     }
-    let mut want = None;
-    if let Some(text) = arguments.get_str("want") {
-        want = read_hex(alloc, text.as_bytes())?;
-        if want.is_none() {
-            let _ = writeln!(err, "error: the value of --want is not hexadecimal");
-            return Ok(None);
-        }
-    }
-    Ok(Some(Options {
+    with_want(alloc, arguments, usual_options(arguments, rules, checkers), err)
+}
+
+/// The options by these rules and so many checkers, that want all pieces.
+fn usual_options(arguments: &ArgMatches<'_>, rules: Rules, checkers: u32) -> Options
+    ensures rules { result.rules ≡ rules }
+    ensures checkers { result.checkers ≡ checkers }
+{
+    Options {
         seed: arguments.get_one::<u64>("seed").unwrap_or(0),
         journal: arguments.get_flag("journal"),
-        want,
+        want: None,
         rules,
         checkers,
-    }))
+    }
+}
+
+/// The options with the pieces that are wanted, if that is asked for; none where that is told wrong, which is told.
+fn with_want<E: Write>(
+    alloc: Global,
+    arguments: &ArgMatches<'_>,
+    options: Options,
+    err: &mut E,
+) -> Result<Option<Options>, AllocError>
+    ensures rules { IfOk result (λ found. IfSome found (λ with. with.rules ≡ options.rules)) }
+    ensures checkers { IfOk result (λ found. IfSome found (λ with. with.checkers ≡ options.checkers)) }
+{
+    let Some(text) = arguments.get_str("want") else {
+        return Ok(Some(options));
+    };
+    let want = read_hex(alloc, text.as_bytes())?;
+    if want.is_none() {
+        let _ = writeln!(err, "error: the value of --want is not hexadecimal");
+        return Ok(None);
+    }
+    Ok(Some(Options { want, ..options }))
 }
 
 /// Saves the content of a run that ended so at this desk, where that is asked for and all pieces are had, and says how the program ends.
@@ -368,11 +435,19 @@ fn recorded<'w, R: Runtime + AllocGlobal>(
 {
     let mut streams = Vec::new(rt.alloc());
     for name in names {
-        let file = fs::open(rt, *name).map_err(|e| Failure::of_file(name, e))?;
-        streams.push(Stream {
-            reader: FromRead::new(file),
-            writer: ToWrite::new(io::sink()),
-        })?;
+        streams.push(opened(rt, name)?)?;
     }
     Ok(streams)
+}
+
+/// The stream of this file, opened.
+fn opened<'w, R: Runtime>(
+    rt: &R,
+    name: &'w str,
+) -> Result<Stream<FromRead<R::File>, ToWrite<io::Sink>>, Failure<'w>> {
+    let file = fs::open(rt, name).map_err(|e| Failure::of_file(name, e))?;
+    Ok(Stream {
+        reader: FromRead::new(file),
+        writer: ToWrite::new(io::sink()),
+    })
 }
