@@ -151,8 +151,7 @@ fn play_opened<R: Runtime + AllocGlobal>(
         Ok(run) => run,
         Err(fault) => bail!("{fault}"),
     };
-    out.into_inner().flush()?;
-    tell(rt, run.status(), &run.desk)
+    tell(rt, out, run.status(), &run.desk)
 }
 
 /// The same of a run in threads.
@@ -187,12 +186,17 @@ where
         Ok(run) => run,
         Err(fault) => bail!("{fault}"),
     };
-    out.into_inner().flush()?;
-    tell(rt, run.status(), &run.book.desk)
+    tell(rt, out, run.status(), &run.book.desk)
 }
 
-/// Prints how a run ended, and what it came to.
-fn tell<R: Runtime + AllocGlobal>(rt: &R, status: u8, desk: &Desk) -> Result<()> {
+/// Prints how a run ended whose report went to `out`, and what it came to.
+fn tell<R: Runtime + AllocGlobal, W: Write + Drop>(
+    rt: &R,
+    out: ToWrite<W>,
+    status: u8,
+    desk: &Desk,
+) -> Result<()> {
+    out.into_inner().flush()?;
     println!(rt; "status {status}")?;
     let content = content_of(rt.alloc(), desk)?;
     tell_content(rt, &content)
