@@ -4,7 +4,7 @@
 use bt_meta::{Bitfield, Block, Torrent};
 use bt_picker::*;
 use bytes::Bytes;
-use std::alloc::Global;
+use std::alloc::{AllocError, Global};
 use std::str::Split;
 use std::sync::Arc;
 use std::test::Fail;
@@ -33,31 +33,53 @@ const SIXTEENS: [u8; 16384] = [b'a'; 16384];
 /// A torrent's piece length, its length, and the content of each piece: `3 7 abc abc a`.
 pub fn torrent_of(alloc: Global, text: &'static str) -> Result<Torrent, Fail> {
     let mut words = text.split(' ');
-    let piece_length = number(words.next())?;
-    let total = u64::from(number(words.next())?);
+    let piece_length = next_number(&mut words)?;
+    let total = u64::from(next_number(&mut words)?);
+    let hashes = hashes_of(alloc, words)?;
+    Ok(Torrent::of_parts(piece_length, total, hashes, [0; 20])?)
+}
+
+/// The digests of the pieces that the words spell.
+fn hashes_of(alloc: Global, words: Split<'static, char>) -> Result<Vec<[u8; 20]>, AllocError> {
     let mut hashes = Vec::new(alloc);
     for word in words {
-        hashes.push(match word {
-            "abc" => ABC,
-            "a" => A,
-            _ => MILLION,
-        })?;
+        hashes.push(hash_of(word))?;
     }
-    Ok(Torrent::of_parts(piece_length, total, hashes, [0; 20])?)
+    Ok(hashes)
+}
+
+fn hash_of(word: &str) -> [u8; 20] {
+    match word {
+        "abc" => ABC,
+        "a" => A,
+        _ => MILLION,
+    }
 }
 
 /// The entry that a line tells, for a torrent of so many pieces.
 pub fn entry_of(alloc: Global, pieces: u32, line: &'static str) -> Result<Entry, Fail> {
-    let Some((call, reply)) = line.split_once(" = ") else {
-        return Err(Fail::from("a line without a reply"));
-    };
+    let (call, reply) = cut(line, " = ", "a line without a reply")?;
+    let reply = reply_of(reply)?;
     let mut words = call.split(' ');
-    let worker = number(words.next())?;
+    let worker = next_number(&mut words)?;
+    let call = call_of(alloc, pieces, &mut words)?;
     Ok(Entry {
         worker,
-        call: call_of(alloc, pieces, &mut words)?,
-        reply: reply_of(reply)?,
+        call,
+        reply,
     })
+}
+
+/// What stands before the mark and what behind it; else the text has too little.
+pub fn cut(
+    text: &'static str,
+    mark: &str,
+    missing: &'static str,
+) -> Result<(&'static str, &'static str), Fail> {
+    match text.split_once(mark) {
+        Some(parts) => Ok(parts),
+        None => Err(Fail::from(missing)),
+    }
 }
 
 /// The number that the word spells.
@@ -66,6 +88,11 @@ pub fn number(word: Option<&str>) -> Result<u32, Fail> {
         Ok(number) => Ok(number),
         Err(_) => Err(Fail::from("a number is missing")),
     }
+}
+
+/// The number that the next word spells.
+pub fn next_number(words: &mut Split<'_, char>) -> Result<u32, Fail> {
+    number(words.next())
 }
 
 fn bytes_of(word: Option<&'static str>) -> Bytes {
@@ -95,6 +122,18 @@ fn call_of(alloc: Global, pieces: u32, words: &mut Split<'static, char>) -> Resu
         "choke" => Ok(Call::Choke),
         "unchoke" => Ok(Call::Unchoke),
         "leave" => Ok(Call::Leave),
+        name => call_with_words(alloc, pieces, name, words),
+    }
+}
+
+/// A call with flags, or with a number.
+fn call_with_words(
+    alloc: Global,
+    pieces: u32,
+    name: &str,
+    words: &mut Split<'static, char>,
+) -> Result<Call, Fail> {
+    match name {
         "bits" => Ok(Call::Bits(flags_of(alloc, pieces, words.next())?)),
         "no-bits-of" => Ok(Call::Bits(no_flags_of(alloc, words.next())?)),
         "want" => Ok(Call::Want(flags_of(alloc, pieces, words.next())?)),
@@ -110,8 +149,8 @@ fn call_of_a_piece(
     words: &mut Split<'static, char>,
 ) -> Result<Call, Fail> {
     match name {
-        "have" => Ok(Call::Have(number(words.next())?)),
-        "next" => Ok(Call::Next(u64::from(number(words.next())?))),
+        "have" => Ok(Call::Have(next_number(words)?)),
+        "next" => Ok(Call::Next(u64::from(next_number(words)?))),
         "block" => arrival_of(words),
         "settle" => settle_of(alloc, words),
         _ => Err(Fail::from("no such call")),
@@ -119,8 +158,8 @@ fn call_of_a_piece(
 }
 
 fn arrival_of(words: &mut Split<'static, char>) -> Result<Call, Fail> {
-    let piece = number(words.next())?;
-    let begin = number(words.next())?;
+    let piece = next_number(words)?;
+    let begin = next_number(words)?;
     Ok(Call::Arrived {
         piece,
         begin,
@@ -129,7 +168,7 @@ fn arrival_of(words: &mut Split<'static, char>) -> Result<Call, Fail> {
 }
 
 fn settle_of(alloc: Global, words: &mut Split<'static, char>) -> Result<Call, Fail> {
-    let piece = number(words.next())?;
+    let piece = next_number(words)?;
     Ok(Call::Settle(verdict_of(alloc, piece, words.next())?))
 }
 
@@ -138,49 +177,60 @@ fn verdict_of(alloc: Global, piece: u32, word: Option<&'static str>) -> Result<A
     Ok(Arc::new(alloc, Job { piece, blocks }.hash())?)
 }
 
+/// The replies that name no block, each as a line spells it.
+const REPLIES: &[(&str, Reply)] = &[
+    ("joined", Reply::Joined),
+    ("noted yes", Reply::Noted(true)),
+    ("noted no", Reply::Noted(false)),
+    ("quiet", Reply::Quiet),
+    ("choked", Reply::Choked),
+    ("pipefull", Reply::PipeFull),
+    ("idle", Reply::Idle),
+    ("nothing", Reply::NothingLeft),
+    ("stored", Reply::Stored),
+    ("completed", Reply::Completed),
+    ("dropped", Reply::Dropped),
+    ("had", Reply::Had),
+    ("failed", Reply::Failed),
+    ("refused NotJoined", Reply::Refused(Reason::NotJoined)),
+    (
+        "refused AlreadyJoined",
+        Reply::Refused(Reason::AlreadyJoined),
+    ),
+    ("refused LateBits", Reply::Refused(Reason::LateBits)),
+    ("refused WrongCount", Reply::Refused(Reason::WrongCount)),
+    ("refused NoSuchPiece", Reply::Refused(Reason::NoSuchPiece)),
+    ("refused NoSuchBlock", Reply::Refused(Reason::NoSuchBlock)),
+    ("refused WrongLength", Reply::Refused(Reason::WrongLength)),
+    ("refused NotWaiting", Reply::Refused(Reason::NotWaiting)),
+    ("refused Stale", Reply::Refused(Reason::Stale)),
+];
+
 /// The reply that the text tells.
 pub fn reply_of(text: &str) -> Result<Reply, Fail> {
+    for &(spelled, reply) in REPLIES {
+        if text == spelled {
+            return Ok(reply);
+        }
+    }
     let mut words = text.split(' ');
-    Ok(match words.next().unwrap_or("") {
-        "joined" => Reply::Joined,
-        "noted" => Reply::Noted(words.next() == Some("yes")),
-        "quiet" => Reply::Quiet,
-        "cancel" => Reply::Cancel(block_of(&mut words)?),
-        "request" => Reply::Request(block_of(&mut words)?),
-        "choked" => Reply::Choked,
-        "pipefull" => Reply::PipeFull,
-        "idle" => Reply::Idle,
-        "nothing" => Reply::NothingLeft,
-        "stored" => Reply::Stored,
-        "completed" => Reply::Completed,
-        "dropped" => Reply::Dropped,
-        "had" => Reply::Had,
-        "failed" => Reply::Failed,
-        "refused" => Reply::Refused(reason_of(words.next().unwrap_or(""))?),
-        _ => return Err(Fail::from("no such reply")),
-    })
+    reply_with_block(words.next().unwrap_or(""), &mut words)
+}
+
+/// A reply that names a block.
+fn reply_with_block(name: &str, words: &mut Split<'_, char>) -> Result<Reply, Fail> {
+    match name {
+        "cancel" => Ok(Reply::Cancel(block_of(words)?)),
+        "request" => Ok(Reply::Request(block_of(words)?)),
+        _ => Err(Fail::from("no such reply")),
+    }
 }
 
 fn block_of(words: &mut Split<'_, char>) -> Result<Block, Fail> {
     Ok(Block {
-        piece: number(words.next())?,
-        begin: number(words.next())?,
-        len: number(words.next())?,
-    })
-}
-
-fn reason_of(name: &str) -> Result<Reason, Fail> {
-    Ok(match name {
-        "NotJoined" => Reason::NotJoined,
-        "AlreadyJoined" => Reason::AlreadyJoined,
-        "LateBits" => Reason::LateBits,
-        "WrongCount" => Reason::WrongCount,
-        "NoSuchPiece" => Reason::NoSuchPiece,
-        "NoSuchBlock" => Reason::NoSuchBlock,
-        "WrongLength" => Reason::WrongLength,
-        "NotWaiting" => Reason::NotWaiting,
-        "Stale" => Reason::Stale,
-        _ => return Err(Fail::from("no such reason")),
+        piece: next_number(words)?,
+        begin: next_number(words)?,
+        len: next_number(words)?,
     })
 }
 
@@ -198,10 +248,10 @@ pub struct Example {
 
 impl Example {
     pub fn of(text: &'static str) -> Result<Example, Fail> {
-        let (right, wrong) = text.split_once("\nbut\n").ok_or("no wrong reply")?;
-        let (_, right) = right.split_once('\n').ok_or("no torrent")?;
-        let (torrent, right) = right.split_once('\n').ok_or("no terms")?;
-        let (terms, lines) = right.split_once('\n').ok_or("no lines")?;
+        let (right, wrong) = cut(text, "\nbut\n", "no wrong reply")?;
+        let (_, right) = cut(right, "\n", "no torrent")?;
+        let (torrent, right) = cut(right, "\n", "no terms")?;
+        let (terms, lines) = cut(right, "\n", "no lines")?;
         Ok(Example {
             torrent,
             terms,
@@ -220,7 +270,18 @@ pub fn entries_of(
 ) -> Result<Vec<Entry>, Fail> {
     let mut entries = Vec::new(alloc);
     for line in lines.lines().take(count) {
-        entries.push(entry_of(alloc, pieces, line)?)?;
+        add_entry(alloc, pieces, line, &mut entries)?;
     }
     Ok(entries)
+}
+
+/// The entry of the line behind the others.
+pub fn add_entry(
+    alloc: Global,
+    pieces: u32,
+    line: &'static str,
+    entries: &mut Vec<Entry>,
+) -> Result<(), Fail> {
+    entries.push(entry_of(alloc, pieces, line)?)?;
+    Ok(())
 }
