@@ -44,18 +44,18 @@ pub fn finds(
 
 /// Checks that the example is a journal, and that none of its wrong entries is one in its place.
 fn judge(rt: &impl Abort, alloc: Global, example: &Example) -> Result<(), Fail> {
-    let (workers, rules) = terms_of(example.terms)?;
-    let torrent = torrent_of(alloc, example.torrent)?;
+    let (workers, rules) = terms_of(rt, example.terms);
+    let torrent = torrent_of(rt, alloc, example.torrent)?;
     judge_by(rt, alloc, &torrent, workers, rules, example)
 }
 
 /// The number of workers and the rules that the terms spell.
-fn terms_of(terms: &str) -> Result<(u32, Rules), Fail> {
+fn terms_of(rt: &impl Abort, terms: &str) -> (u32, Rules) {
     let mut terms = terms.split(' ');
-    let workers = next_number(&mut terms)?;
-    let depth = next_number(&mut terms)?;
-    let random = next_number(&mut terms)?;
-    Ok((workers, Rules { depth, random }))
+    let workers = next_number(rt, &mut terms);
+    let depth = next_number(rt, &mut terms);
+    let random = next_number(rt, &mut terms);
+    (workers, Rules { depth, random })
 }
 
 /// The same, with the torrent and by the rules of the example.
@@ -83,7 +83,7 @@ fn judge_right(
     rules: Rules,
     lines: &'static str,
 ) -> Result<(), Fail> {
-    let entries = entries_of(alloc, torrent.piece_count(), lines, usize::MAX)?;
+    let entries = entries_of(rt, alloc, torrent.piece_count(), lines, usize::MAX)?;
     finds(rt, alloc, torrent, workers, rules, &entries, None)
 }
 
@@ -97,22 +97,24 @@ fn judge_wrong(
     lines: &'static str,
     wrong: &'static str,
 ) -> Result<(), Fail> {
-    let (before, line) = cut(wrong, " ", "no number of lines")?;
-    let before = number(Some(before))? as usize;
-    let entries = entries_with(alloc, torrent.piece_count(), lines, before, line)?;
+    let (before, line) = cut(rt, wrong, " ");
+    let before = number(rt, before) as usize;
+    let pieces = torrent.piece_count();
+    let entries = entries_with(rt, alloc, pieces, lines, before, line)?;
     finds(rt, alloc, torrent, workers, rules, &entries, Some(before))
 }
 
 /// The first so many lines as entries, and then the one of this line.
 fn entries_with(
+    rt: &impl Abort,
     alloc: Global,
     pieces: u32,
     lines: &'static str,
     before: usize,
     line: &'static str,
 ) -> Result<Vec<Entry>, Fail> {
-    let mut entries = entries_of(alloc, pieces, lines, before)?;
-    add_entry(alloc, pieces, line, &mut entries)?;
+    let mut entries = entries_of(rt, alloc, pieces, lines, before)?;
+    add_entry(rt, alloc, pieces, line, &mut entries)?;
     Ok(entries)
 }
 
@@ -120,7 +122,7 @@ fn entries_with(
 fn judge_all(rt: &impl Abort, alloc: Global, examples: &'static str) -> Result<u32, Fail> {
     let mut count = 0_u32;
     for example in examples.split("\n\n") {
-        judge(rt, alloc, &Example::of(example)?)?;
+        judge(rt, alloc, &Example::of(rt, example))?;
         count = count.saturating_add(1);
     }
     Ok(count)
@@ -129,6 +131,6 @@ fn judge_all(rt: &impl Abort, alloc: Global, examples: &'static str) -> Result<u
 #[test]
 fn worked_examples(rt: HostRuntime) -> Result<(), Fail> {
     let count = judge_all(&rt, rt.alloc(), EXAMPLES)?;
-    assert!(rt; count == COUNT);
+    same(&rt, count, COUNT, "examples");
     Ok(())
 }

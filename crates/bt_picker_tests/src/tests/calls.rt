@@ -2,6 +2,7 @@
 
 use super::audits::finds;
 use super::played::{Played, three_pieces};
+use super::same::same;
 use super::steps::entries_of;
 use bt_meta::Torrent;
 use bt_picker::Reply::{Failed, Refused};
@@ -84,7 +85,7 @@ fn fails_at_once(
     verdict: Arc<Verdict>,
 ) -> Result<(), Fail> {
     played.settles(rt, 0, verdict, Failed)?;
-    assert!(rt; !waits(alloc, played)?);
+    same(rt, waits(alloc, played)?, false, "whether piece 0 waits");
     Ok(())
 }
 
@@ -187,7 +188,7 @@ fn an_audit_of_no_call(rt: HostRuntime) -> Result<(), Fail> {
 
 /// Where there is no entry, none is wrong; the one worker is the only one who may call.
 fn finds_no_call(rt: &impl Abort, alloc: Global, torrent: &Torrent) -> Result<(), Fail> {
-    let other = entries_of(alloc, 3, "1 join = joined", 1)?;
+    let other = entries_of(rt, alloc, 3, "1 join = joined", 1)?;
     finds_among(rt, alloc, torrent, 1, &[], None)?;
     finds_among(rt, alloc, torrent, 1, &other, Some(0))
 }

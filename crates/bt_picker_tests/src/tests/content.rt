@@ -177,7 +177,8 @@ fn faults_are_numbered(rt: &impl Abort) {
 fn writes_nothing(rt: &impl Abort, alloc: Global, played: &Played) -> Result<(), Fail> {
     let mut writer = Little::new(alloc, 100, 100, Full::Fails)?;
     writes(rt, played, &mut writer, Err(ContentFault::Incomplete));
-    assert!(rt; writer.kept.is_empty() && !writer.failed);
+    took(rt, &writer.kept, b"");
+    same(rt, writer.failed, false, "whether the sink failed");
     Ok(())
 }
 

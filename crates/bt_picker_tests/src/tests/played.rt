@@ -6,7 +6,7 @@ ghost use Rattle.bt_meta.specs.Layout.{piece_count};
 
 use super::same::same;
 use super::shown::{Shown, count, pieces, yes_or_no};
-use super::steps::{cut, entry_of, next_number, number, reply_of, torrent_of};
+use super::steps::{cut, entry_of, hashed, next_number, number, reply_of, torrent_of};
 use bt_meta::{Sink, Torrent};
 use bt_picker::*;
 use std::alloc::{AllocError, Global};
@@ -23,14 +23,9 @@ const WORKERS: u32 = 4;
 pub fn three_pieces(rt: &impl Abort, alloc: Global) -> Result<Torrent, Fail>
     ensures { IfOk result (λ torrent. piece_count torrent.layout ≡ 3) }
 {
-    let torrent = torrent_of(alloc, "3 7 abc abc a")?;
+    let torrent = torrent_of(rt, alloc, "3 7 abc abc a")?;
     assert!(rt; torrent.piece_count() == PIECES);
     Ok(torrent)
-}
-
-/// The verdict of the job.
-pub fn hashed(alloc: Global, job: Job) -> Result<Arc<Verdict>, Fail> {
-    Ok(Arc::new(alloc, job.hash())?)
 }
 
 /// Checks that the answer is as the line says.
@@ -42,11 +37,17 @@ fn is_answered(rt: &impl Abort, answer: Shown, wanted: &str, asked: &str) {
 }
 
 /// A desk of pieces `abc`, `abc` and `a` for four workers.
-#[derive(Drop)]
 pub struct Played {
     desk: Desk,
     ghost workers: { desk.setting.workers ≡ 4 },
     ghost pieces: { piece_count desk.setting.torrent ≡ 3 },
+}
+
+/// The end of a desk that is played at is one call for whoever owns one.
+impl Drop for Played {
+    fn drop(self) {
+        let Played { desk: _desk } = self;
+    }
 }
 
 impl Played {
@@ -91,7 +92,7 @@ impl Played {
         if matches!(line.as_bytes().first(), Some(b'0'..=b'9')) {
             return self.enter_line(rt, alloc, line);
         }
-        let (asked, wanted) = cut(line, " = ", "a line without an answer")?;
+        let (asked, wanted) = cut(rt, line, " = ");
         self.ask_line(rt, alloc, asked, wanted)
     }
 
@@ -106,11 +107,11 @@ impl Played {
             worker,
             call,
             reply,
-        } = entry_of(alloc, PIECES, line)?;
+        } = entry_of(rt, alloc, PIECES, line)?;
         let said = match self.enter(rt, worker, call) {
             Ok(said) => said,
             Err(AllocError) => {
-                let again = entry_of(alloc, PIECES, line)?;
+                let again = entry_of(rt, alloc, PIECES, line)?;
                 self.enter(rt, worker, again.call)?
             }
         };
@@ -129,9 +130,9 @@ impl Played {
         let mut words = asked.split(' ');
         match words.next().unwrap_or("") {
             "check" => self.check_line(rt, alloc, &mut words, wanted),
-            "finish" => self.finish(rt, alloc, next_number(&mut words)?),
+            "finish" => self.finish(rt, alloc, next_number(rt, &mut words)),
             question => {
-                let answer = self.answer(rt, question, words.next())?;
+                let answer = self.answer(rt, question, words.next());
                 is_answered(rt, answer, wanted, asked);
                 Ok(())
             }
@@ -146,46 +147,41 @@ impl Played {
         words: &mut Split<'static, char>,
         wanted: &str,
     ) -> Result<(), Fail> {
-        let worker = next_number(words)?;
-        let piece = next_number(words)?;
+        let worker = next_number(rt, words);
+        let piece = next_number(rt, words);
         let said = self.settle(rt, alloc, worker, piece)?;
-        same(rt, said, reply_of(wanted)?, "a check");
+        same(rt, said, reply_of(rt, wanted), "a check");
         Ok(())
     }
 
     /// What the desk shows, of a number if one is told.
-    fn answer(
-        &self,
-        rt: &impl Abort,
-        question: &str,
-        word: Option<&'static str>,
-    ) -> Result<Shown, Fail> {
+    fn answer(&self, rt: &impl Abort, question: &str, word: Option<&str>) -> Shown {
         match word {
-            Some(_) => self.answer_of(rt, question, number(word)?),
+            Some(word) => self.answer_of(rt, question, number(rt, word)),
             None => self.answer_of_all(rt, question),
         }
     }
 
     /// What the desk shows of a piece, of a worker, or of what so many peers show.
-    fn answer_of(&self, rt: &impl Abort, question: &str, number: u32) -> Result<Shown, Fail> {
+    fn answer_of(&self, rt: &impl Abort, question: &str, number: u32) -> Shown {
         match question {
-            "had" => Ok(yes_or_no(self.had(rt, number))),
-            "shown-by" => Ok(self.group(rt, number)),
-            "outstanding" => Ok(Shown::Count(self.outstanding(rt, number) as u64)),
-            "availability" => Ok(Shown::Count(u64::from(self.availability(rt, number)))),
-            _ => Err(Fail::from("no such question")),
+            "had" => yes_or_no(self.had(rt, number)),
+            "shown-by" => self.group(rt, number),
+            "outstanding" => Shown::Count(self.outstanding(rt, number) as u64),
+            "availability" => Shown::Count(u64::from(self.availability(rt, number))),
+            _ => panic!(rt; "no such question"),
         }
     }
 
     /// What the desk shows of all pieces.
-    fn answer_of_all(&self, rt: &impl Abort, question: &str) -> Result<Shown, Fail> {
+    fn answer_of_all(&self, rt: &impl Abort, question: &str) -> Shown {
         match question {
-            "has-wanted" => Ok(yes_or_no(self.has_wanted())),
-            "complete" => Ok(yes_or_no(self.is_complete())),
-            "wanted" => Ok(self.wanted(rt)),
-            "entries" => Ok(Shown::Count(self.entries() as u64)),
-            "unasked" => Ok(Shown::Count(self.unasked())),
-            _ => Err(Fail::from("no such question")),
+            "has-wanted" => yes_or_no(self.has_wanted()),
+            "complete" => yes_or_no(self.is_complete()),
+            "wanted" => self.wanted(rt),
+            "entries" => Shown::Count(self.entries() as u64),
+            "unasked" => Shown::Count(self.unasked()),
+            _ => panic!(rt; "no such question"),
         }
     }
 

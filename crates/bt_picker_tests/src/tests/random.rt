@@ -4,7 +4,7 @@ ghost use Rattle.bt_meta.specs.Layout.{piece_count};
 ghost use Rattle.bt_history.specs.Setting.{AreRules};
 
 use super::audits::finds;
-use super::played::hashed;
+use super::steps::hashed;
 use bt_meta::{Bitfield, Block, Torrent};
 use bt_picker::*;
 use bytes::Bytes;
@@ -94,18 +94,25 @@ fn any_block(rng: &mut Lcg64Xsh32) -> Block {
 
 /// What the peer sends next, given what is asked of it.
 fn from_wire(alloc: Global, rng: &mut Lcg64Xsh32, asked: &[Block]) -> Result<Call, Fail> {
-    Ok(match one_of(rng, 64) {
+    match one_of(rng, 64) {
+        6..=10 => Ok(Call::Bits(any_flags(alloc, rng)?)),
+        11 => Ok(Call::Bits(Bitfield::empty(alloc, 3)?)),
+        case => Ok(plain_call(rng, asked, case)),
+    }
+}
+
+/// What the peer sends in a case in which that is no bitfield.
+fn plain_call(rng: &mut Lcg64Xsh32, asked: &[Block], case: u32) -> Call {
+    match case {
         0..=4 => Call::Join,
         5 => Call::Leave,
-        6..=10 => Call::Bits(any_flags(alloc, rng)?),
-        11 => Call::Bits(Bitfield::empty(alloc, 3)?),
         12..=14 => Call::Have(one_of(rng, 5)),
         15 => Call::Choke,
         16..=21 => Call::Unchoke,
         22..=29 => any_arrival(rng),
         30..=35 => last_arrival(rng, asked),
         _ => Call::Next(rng.next_u64()),
-    })
+    }
 }
 
 fn any_arrival(rng: &mut Lcg64Xsh32) -> Call {

@@ -134,9 +134,8 @@ fn put_and_take<R: Threads + Wait + Sync>(
 
 fn in_two_threads<R: Threads + Wait + Abort + Sync>(rt: &R, alloc: Global) -> Result<(), Fail> {
     let (tickets, first, second) = opened(rt, alloc)?;
-    let (put, taken) = put_and_take(rt, &tickets, &AtomicU32::new(0), first, second);
-    assert!(rt; put);
-    assert!(rt; taken);
+    let found = put_and_take(rt, &tickets, &AtomicU32::new(0), first, second);
+    same(rt, found, (true, true), "put and taken");
     Ok(())
 }
 
