@@ -7,6 +7,7 @@ mod examples;
 mod groups;
 mod played;
 mod random;
+mod same;
 mod shown;
 mod steps;
 mod tickets;

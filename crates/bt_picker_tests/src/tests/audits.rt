@@ -1,25 +1,25 @@
 //! Journals that are judged.
 
-ghost use Rattle.bt_history.specs.Setting.{AreRules};
-
 use super::examples::{COUNT, EXAMPLES};
-use super::steps::{Example, entries_of, entry_of, number, torrent_of};
+use super::same::same;
+use super::steps::{Example, add_entry, cut, entries_of, next_number, number, torrent_of};
 use bt_meta::Torrent;
 use bt_picker::*;
 use std::alloc::Global;
 use std::process::Abort;
 use std::test::*;
 
-/// The place of the first entry that isn't allowed, and none in a journal.
-pub fn first_wrong(
+/// The place of the first entry that isn't allowed, and none in a journal. The rules are right ones for the torrent.
+fn first_wrong(
+    rt: &impl Abort,
     alloc: Global,
     torrent: &Torrent,
     workers: u32,
     rules: Rules,
     entries: &[Entry],
-) -> Result<Option<usize>, AuditFault>
-    requires { AreRules torrent.now.layout rules }
-{
+) -> Result<Option<usize>, AuditFault> {
+    let pieces = torrent.piece_count();
+    assert!(rt; 1 <= rules.depth && rules.depth <= 64 && rules.random <= pieces);
     match audit(alloc, torrent, workers, rules, entries) {
         Ok(()) => Ok(None),
         Err(AuditFault::NotAllowed(place)) => Ok(Some(place)),
@@ -27,20 +27,35 @@ pub fn first_wrong(
     }
 }
 
+/// Checks that the first entry that isn't allowed is this one, or that all are.
+pub fn finds(
+    rt: &impl Abort,
+    alloc: Global,
+    torrent: &Torrent,
+    workers: u32,
+    rules: Rules,
+    entries: &[Entry],
+    wanted: Option<usize>,
+) -> Result<(), Fail> {
+    let found = first_wrong(rt, alloc, torrent, workers, rules, entries)?;
+    same(rt, found, wanted, "the first wrong entry");
+    Ok(())
+}
+
 /// Checks that the example is a journal, and that none of its wrong entries is one in its place.
 fn judge(rt: &impl Abort, alloc: Global, example: &Example) -> Result<(), Fail> {
-    let (workers, rules) = terms_of(example.terms)?;
-    let torrent = torrent_of(alloc, example.torrent)?;
+    let (workers, rules) = terms_of(rt, example.terms);
+    let torrent = torrent_of(rt, alloc, example.torrent)?;
     judge_by(rt, alloc, &torrent, workers, rules, example)
 }
 
 /// The number of workers and the rules that the terms spell.
-fn terms_of(terms: &str) -> Result<(u32, Rules), Fail> {
+fn terms_of(rt: &impl Abort, terms: &str) -> (u32, Rules) {
     let mut terms = terms.split(' ');
-    let workers = number(terms.next())?;
-    let depth = number(terms.next())?;
-    let random = number(terms.next())?;
-    Ok((workers, Rules { depth, random }))
+    let workers = next_number(rt, &mut terms);
+    let depth = next_number(rt, &mut terms);
+    let random = next_number(rt, &mut terms);
+    (workers, Rules { depth, random })
 }
 
 /// The same, with the torrent and by the rules of the example.
@@ -52,17 +67,24 @@ fn judge_by(
     rules: Rules,
     example: &Example,
 ) -> Result<(), Fail> {
-    let pieces = torrent.piece_count();
-    assert!(rt; 1 <= rules.depth && rules.depth <= 64 && rules.random <= pieces);
-    let entries = entries_of(alloc, pieces, example.lines, usize::MAX)?;
-    assert_eq!(rt;
-        first_wrong(alloc, torrent, workers, rules, &entries)?,
-        None
-    );
+    judge_right(rt, alloc, torrent, workers, rules, example.lines)?;
     for wrong in example.wrong.lines() {
         judge_wrong(rt, alloc, torrent, workers, rules, example.lines, wrong)?;
     }
     Ok(())
+}
+
+/// Checks that the lines are a journal.
+fn judge_right(
+    rt: &impl Abort,
+    alloc: Global,
+    torrent: &Torrent,
+    workers: u32,
+    rules: Rules,
+    lines: &'static str,
+) -> Result<(), Fail> {
+    let entries = entries_of(rt, alloc, torrent.piece_count(), lines, usize::MAX)?;
+    finds(rt, alloc, torrent, workers, rules, &entries, None)
 }
 
 /// Checks that the wrong entry is none behind as many of the lines as its text says.
@@ -74,37 +96,41 @@ fn judge_wrong(
     rules: Rules,
     lines: &'static str,
     wrong: &'static str,
-) -> Result<(), Fail>
-    requires { AreRules torrent.now.layout rules }
-{
-    let (before, line) = wrong.split_once(' ').ok_or("no number of lines")?;
-    let before = number(Some(before))? as usize;
-    let entries = entries_with(alloc, torrent.piece_count(), lines, before, line)?;
-    let found = first_wrong(alloc, torrent, workers, rules, &entries)?;
-    assert_eq!(rt; found, Some(before));
-    Ok(())
+) -> Result<(), Fail> {
+    let (before, line) = cut(rt, wrong, " ");
+    let before = number(rt, before) as usize;
+    let pieces = torrent.piece_count();
+    let entries = entries_with(rt, alloc, pieces, lines, before, line)?;
+    finds(rt, alloc, torrent, workers, rules, &entries, Some(before))
 }
 
 /// The first so many lines as entries, and then the one of this line.
 fn entries_with(
+    rt: &impl Abort,
     alloc: Global,
     pieces: u32,
     lines: &'static str,
     before: usize,
     line: &'static str,
 ) -> Result<Vec<Entry>, Fail> {
-    let mut entries = entries_of(alloc, pieces, lines, before)?;
-    entries.push(entry_of(alloc, pieces, line)?)?;
+    let mut entries = entries_of(rt, alloc, pieces, lines, before)?;
+    add_entry(rt, alloc, pieces, line, &mut entries)?;
     Ok(entries)
+}
+
+/// Judges each example of the text. How many there are.
+fn judge_all(rt: &impl Abort, alloc: Global, examples: &'static str) -> Result<u32, Fail> {
+    let mut count = 0_u32;
+    for example in examples.split("\n\n") {
+        judge(rt, alloc, &Example::of(rt, example))?;
+        count = count.saturating_add(1);
+    }
+    Ok(count)
 }
 
 #[test]
 fn worked_examples(rt: HostRuntime) -> Result<(), Fail> {
-    let mut count = 0_u32;
-    for example in EXAMPLES.split("\n\n") {
-        judge(&rt, rt.alloc(), &Example::of(example)?)?;
-        count = count.saturating_add(1);
-    }
-    assert!(rt; count == COUNT);
+    let count = judge_all(&rt, rt.alloc(), EXAMPLES)?;
+    same(&rt, count, COUNT, "examples");
     Ok(())
 }

@@ -1,13 +1,13 @@
 //! What a desk says and shows, call by call.
-ghost use Rattle.std.specs.Prelude.{◌≡◌};
-ghost use Rattle.bt_meta.specs.Layout.{piece_count};
 
-use super::audits::first_wrong;
+use super::audits::finds;
 use super::played::{Played, three_pieces};
+use super::same::same;
+use super::steps::entries_of;
 use bt_meta::Torrent;
 use bt_picker::Reply::{Failed, Refused};
 use bt_picker::*;
-use std::alloc::Global;
+use std::alloc::{AllocError, Global};
 use std::process::Abort;
 use std::sync::Arc;
 use std::test::*;
@@ -62,6 +62,17 @@ fn two_verdicts(rt: &impl Abort, alloc: Global, played: &mut Played) -> Result<(
     played.play(rt, alloc, wrong)?;
     let first = verdict(rt, alloc, played)?;
     let second = verdict(rt, alloc, played)?;
+    settles_both(rt, alloc, played, first, second)
+}
+
+/// The first verdict fails the piece, and the second one comes when the right bytes are there.
+fn settles_both(
+    rt: &impl Abort,
+    alloc: Global,
+    played: &mut Played,
+    first: Arc<Verdict>,
+    second: Arc<Verdict>,
+) -> Result<(), Fail> {
     fails_at_once(rt, alloc, played, first)?;
     is_stale(rt, alloc, played, second)
 }
@@ -73,9 +84,14 @@ fn fails_at_once(
     played: &mut Played,
     verdict: Arc<Verdict>,
 ) -> Result<(), Fail> {
-    assert_eq!(rt; played.call(rt, 0, Call::Settle(verdict))?, Failed);
-    assert!(rt; played.check(alloc, 0)?.is_none());
+    played.settles(rt, 0, verdict, Failed)?;
+    same(rt, waits(alloc, played)?, false, "whether piece 0 waits");
     Ok(())
+}
+
+/// Whether there is a check of piece 0.
+fn waits(alloc: Global, played: &Played) -> Result<bool, Fail> {
+    Ok(played.check(alloc, 0)?.is_some())
 }
 
 /// The verdict comes when the right bytes are there: it is of none of them.
@@ -86,8 +102,7 @@ fn is_stale(
     verdict: Arc<Verdict>,
 ) -> Result<(), Fail> {
     played.play(rt, alloc, "0 block 0 0 abc = completed")?;
-    let reply = played.call(rt, 0, Call::Settle(verdict))?;
-    assert_eq!(rt; reply, Refused(Reason::Stale));
+    played.settles(rt, 0, verdict, Refused(Reason::Stale))?;
     played.play(rt, alloc, "check 0 0 = had")
 }
 
@@ -168,53 +183,57 @@ fn finish_settles_what_waits(rt: HostRuntime) -> Result<(), Fail> {
 #[test]
 fn an_audit_of_no_call(rt: HostRuntime) -> Result<(), Fail> {
     let torrent = three_pieces(&rt, rt.alloc())?;
-    let other = [Entry {
-        worker: 1,
-        call: Call::Join,
-        reply: Reply::Joined,
-    }];
-    finds(&rt, rt.alloc(), &torrent, 1, &[], None)?;
-    finds(&rt, rt.alloc(), &torrent, 1, &other, Some(0))
+    finds_no_call(&rt, rt.alloc(), &torrent)
+}
+
+/// Where there is no entry, none is wrong; the one worker is the only one who may call.
+fn finds_no_call(rt: &impl Abort, alloc: Global, torrent: &Torrent) -> Result<(), Fail> {
+    let other = entries_of(rt, alloc, 3, "1 join = joined", 1)?;
+    finds_among(rt, alloc, torrent, 1, &[], None)?;
+    finds_among(rt, alloc, torrent, 1, &other, Some(0))
 }
 
 /// Checks that the first entry that isn't allowed to so many workers is this.
-fn finds(
+fn finds_among(
     rt: &impl Abort,
     alloc: Global,
     torrent: &Torrent,
     workers: u32,
     entries: &[Entry],
     wanted: Option<usize>,
-) -> Result<(), Fail>
-    requires { piece_count torrent.now.layout ≡ 3 }
-{
-    let found = first_wrong(alloc, torrent, workers, Rules::usual(), entries)?;
-    assert_eq!(rt; found, wanted);
-    Ok(())
+) -> Result<(), Fail> {
+    let rules = Rules::usual();
+    finds(rt, alloc, torrent, workers, rules, entries, wanted)
 }
 
 /// Peers of this many workers join, and each has piece 0.
 fn all_show_a_piece(alloc: Global, workers: u32) -> Result<Vec<Entry>, Fail> {
     let mut entries = Vec::new(alloc);
     for worker in 0..workers {
-        for (call, reply) in [
-            (Call::Join, Reply::Joined),
-            (Call::Have(0), Reply::Noted(true)),
-        ] {
-            entries.push(Entry {
-                worker,
-                call,
-                reply,
-            })?;
-        }
+        add(&mut entries, worker, Call::Join, Reply::Joined)?;
+        add(&mut entries, worker, Call::Have(0), Reply::Noted(true))?;
     }
     Ok(entries)
+}
+
+fn add(entries: &mut Vec<Entry>, worker: u32, call: Call, reply: Reply) -> Result<(), AllocError> {
+    entries.push(Entry {
+        worker,
+        call,
+        reply,
+    })?;
+    Ok(())
 }
 
 #[test]
 fn an_audit_of_more_workers_than_a_desk_has(rt: HostRuntime) -> Result<(), Fail> {
     let torrent = three_pieces(&rt, rt.alloc())?;
-    let entries = all_show_a_piece(rt.alloc(), 1030)?;
-    finds(&rt, rt.alloc(), &torrent, 1030, &entries, None)?;
-    finds(&rt, rt.alloc(), &torrent, 1029, &entries, Some(2058))
+    finds_many_workers(&rt, rt.alloc(), &torrent)
+}
+
+/// The last worker of so many may call, and of fewer not.
+fn finds_many_workers(rt: &impl Abort, alloc: Global, torrent: &Torrent) -> Result<(), Fail> {
+    let entries = all_show_a_piece(alloc, 1030)?;
+    finds_among(rt, alloc, torrent, 1030, &entries, None)?;
+    finds_among(rt, alloc, torrent, 1029, &entries, Some(2058))
 }

@@ -1,6 +1,7 @@
 //! Content that is written.
 
 use super::played::Played;
+use super::same::same;
 use bt_meta::{DeviceFault, Sink, ToWrite};
 use bt_picker::ContentFault;
 use std::alloc::{AllocError, Global};
@@ -82,10 +83,23 @@ fn play_blocks(
         0 block 1 0 abc = completed\n\
         0 block 2 0 a = completed";
     played.play(rt, alloc, "0 join = joined")?;
-    for line in steps.lines().take(count) {
-        played.play(rt, alloc, line)?;
-    }
+    played.play_front(rt, alloc, steps, count)?;
     played.finish(rt, alloc, 0)
+}
+
+/// Writes all pieces, and checks what comes of it.
+fn writes<W: Sink>(
+    rt: &impl Abort,
+    played: &Played,
+    writer: &mut W,
+    wanted: Result<(), ContentFault>,
+) {
+    same(rt, played.write(writer), wanted, "all pieces");
+}
+
+/// Checks what a sink took.
+fn took(rt: &impl Abort, taken: &[u8], wanted: &[u8]) {
+    same(rt, taken, wanted, "what the sink took");
 }
 
 #[test]
@@ -97,80 +111,94 @@ fn pieces_in_order(rt: HostRuntime) -> Result<(), Fail> {
 /// All pieces are written, the first one first.
 fn writes_in_order(rt: &impl Abort, alloc: Global, played: &Played) -> Result<(), Fail> {
     let mut writer = ToWrite::new(Vec::with_capacity(alloc, 7)?);
-    assert!(rt; played.write(&mut writer) == Ok(()));
-    assert_eq!(rt; writer.into_inner().as_slice(), b"abcabca".as_slice());
+    writes(rt, played, &mut writer, Ok(()));
+    took(rt, &writer.into_inner(), b"abcabca");
     Ok(())
 }
 
 #[test]
 fn a_write_of_four_bytes_and_no_more(rt: HostRuntime) -> Result<(), Fail> {
     let played = with_blocks(&rt, rt.alloc(), 3)?;
-    let mut writer = Little::new(rt.alloc(), 100, 4, Full::Fails)?;
-    write_fails(&rt, &played, &mut writer, b"abca".as_slice());
-    Ok(())
+    write_fails(&rt, rt.alloc(), &played, 100, Full::Fails, b"abca")
 }
 
-/// The write fails, once the sink has taken this front.
-fn write_fails(rt: &impl Abort, played: &Played, writer: &mut Little, front: &[u8]) {
-    assert!(rt; played.write(writer) == Err(ContentFault::WriteFault));
-    assert_eq!(rt; writer.kept.as_slice(), front);
+/// The write fails, once a sink that has room for this front has taken it.
+fn write_fails(
+    rt: &impl Abort,
+    alloc: Global,
+    played: &Played,
+    at_once: usize,
+    full: Full,
+    front: &[u8],
+) -> Result<(), Fail> {
+    let mut writer = Little::new(alloc, at_once, front.len(), full)?;
+    writes(rt, played, &mut writer, Err(ContentFault::WriteFault));
+    took(rt, &writer.kept, front);
+    Ok(())
 }
 
 #[test]
 fn byte_by_byte_until_it_fails(rt: HostRuntime) -> Result<(), Fail> {
     let played = with_blocks(&rt, rt.alloc(), 3)?;
-    fails_in_each_room(&rt, rt.alloc(), &played)?;
-    writes_byte_by_byte(&rt, rt.alloc(), &played)
+    writes_in_each_room(&rt, rt.alloc(), &played)
 }
 
-/// A sink of each room that is too little takes as many bytes as it has room for.
-fn fails_in_each_room(rt: &impl Abort, alloc: Global, played: &Played) -> Result<(), Fail> {
+/// A sink takes as many bytes as it has room for, and all if that is enough.
+fn writes_in_each_room(rt: &impl Abort, alloc: Global, played: &Played) -> Result<(), Fail> {
     for room in 0..7 {
-        for full in [Full::Fails, Full::TakesNone] {
-            let mut writer = Little::new(alloc, 1, room, full)?;
-            write_fails(rt, played, &mut writer, &b"abcabca"[..room]);
-        }
+        let front = &b"abcabca"[..room];
+        write_fails(rt, alloc, played, 1, Full::Fails, front)?;
+        write_fails(rt, alloc, played, 1, Full::TakesNone, front)?;
     }
-    Ok(())
+    writes_byte_by_byte(rt, alloc, played)
 }
 
 /// A sink of enough room takes all, byte by byte.
 fn writes_byte_by_byte(rt: &impl Abort, alloc: Global, played: &Played) -> Result<(), Fail> {
     let mut writer = Little::new(alloc, 1, 7, Full::Fails)?;
-    assert!(rt; played.write(&mut writer) == Ok(()));
-    assert_eq!(rt; writer.kept.as_slice(), b"abcabca".as_slice());
+    writes(rt, played, &mut writer, Ok(()));
+    took(rt, &writer.kept, b"abcabca");
     Ok(())
 }
 
 #[test]
 fn nothing_where_a_piece_is_missing(rt: HostRuntime) -> Result<(), Fail> {
+    faults_are_numbered(&rt);
     let played = with_blocks(&rt, rt.alloc(), 2)?;
-    let mut writer = Little::new(rt.alloc(), 100, 100, Full::Fails)?;
-    writes_nothing(&rt, &played, &mut writer);
-    assert_eq!(rt; ContentFault::Incomplete as u8, 1);
-    assert_eq!(rt; ContentFault::WriteFault as u8, 2);
-    Ok(())
+    writes_nothing(&rt, rt.alloc(), &played)
+}
+
+fn faults_are_numbered(rt: &impl Abort) {
+    same(rt, ContentFault::Incomplete as u8, 1, "incomplete");
+    same(rt, ContentFault::WriteFault as u8, 2, "a write fault");
 }
 
 /// As a piece is missing, the sink gets nothing.
-fn writes_nothing(rt: &impl Abort, played: &Played, writer: &mut Little) {
-    assert!(rt; played.write(writer) == Err(ContentFault::Incomplete));
-    assert!(rt; writer.kept.is_empty() && !writer.failed);
+fn writes_nothing(rt: &impl Abort, alloc: Global, played: &Played) -> Result<(), Fail> {
+    let mut writer = Little::new(alloc, 100, 100, Full::Fails)?;
+    writes(rt, played, &mut writer, Err(ContentFault::Incomplete));
+    took(rt, &writer.kept, b"");
+    same(rt, writer.failed, false, "whether the sink failed");
+    Ok(())
 }
 
 #[test]
 fn one_piece_once_it_is_had(rt: HostRuntime) -> Result<(), Fail> {
     let played = with_blocks(&rt, rt.alloc(), 2)?;
-    writes_one_piece(&rt, rt.alloc(), &played)?;
-    assert_eq!(rt; played.made_of(), (4, 5, 3));
-    Ok(())
+    same(&rt, played.made_of(), (4, 5, 3), "the desk");
+    writes_one_piece(&rt, rt.alloc(), &played)
 }
 
 /// The last piece, which is missing, isn't written, and the second one is.
 fn writes_one_piece(rt: &impl Abort, alloc: Global, played: &Played) -> Result<(), Fail> {
     let mut writer = ToWrite::new(Vec::with_capacity(alloc, 3)?);
-    assert!(rt; played.write_piece(rt, &mut writer, 2) == Err(ContentFault::Incomplete));
-    assert!(rt; played.write_piece(rt, &mut writer, 1) == Ok(()));
-    assert_eq!(rt; writer.into_inner().as_slice(), b"abc".as_slice());
+    write_two(rt, played, &mut writer);
+    took(rt, &writer.into_inner(), b"abc");
     Ok(())
+}
+
+fn write_two<W: Sink>(rt: &impl Abort, played: &Played, writer: &mut W) {
+    let incomplete = Err(ContentFault::Incomplete);
+    same(rt, played.write_piece(rt, writer, 2), incomplete, "piece 2");
+    same(rt, played.write_piece(rt, writer, 1), Ok(()), "piece 1");
 }

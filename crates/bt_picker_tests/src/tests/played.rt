@@ -4,8 +4,9 @@
 ghost use Rattle.std.specs.Prelude.{◌≡◌, IfOk};
 ghost use Rattle.bt_meta.specs.Layout.{piece_count};
 
-use super::shown::{count, pieces, yes_or_no};
-use super::steps::{entry_of, number, reply_of, torrent_of};
+use super::same::same;
+use super::shown::{Shown, count, pieces, yes_or_no};
+use super::steps::{cut, entry_of, hashed, next_number, number, reply_of, torrent_of};
 use bt_meta::{Sink, Torrent};
 use bt_picker::*;
 use std::alloc::{AllocError, Global};
@@ -22,36 +23,31 @@ const WORKERS: u32 = 4;
 pub fn three_pieces(rt: &impl Abort, alloc: Global) -> Result<Torrent, Fail>
     ensures { IfOk result (λ torrent. piece_count torrent.layout ≡ 3) }
 {
-    let torrent = torrent_of(alloc, "3 7 abc abc a")?;
+    let torrent = torrent_of(rt, alloc, "3 7 abc abc a")?;
     assert!(rt; torrent.piece_count() == PIECES);
     Ok(torrent)
 }
 
-fn hashed(alloc: Global, job: Job) -> Result<Arc<Verdict>, Fail> {
-    Ok(Arc::new(alloc, job.hash())?)
-}
-
-/// Checks that the reply is as the line says.
-fn is_said(rt: &impl Abort, said: Reply, wanted: Reply, asked: &str) {
-    assert_eq!(rt; said, wanted, "{asked}");
-}
-
 /// Checks that the answer is as the line says.
-fn is_answered(rt: &impl Abort, answer: &str, wanted: &str, asked: &str) {
-    assert_eq!(rt; answer, wanted, "{asked}");
-}
-
-/// The flag as a word.
-fn word_of(alloc: Global, is_so: bool) -> Result<String, Fail> {
-    Ok(yes_or_no(is_so).to_string(alloc)?)
+fn is_answered(rt: &impl Abort, answer: Shown, wanted: &str, asked: &str) {
+    match answer {
+        Shown::Word(word) => same(rt, word, wanted, asked),
+        Shown::Count(count) => same(rt, Some(count), wanted.parse::<u64>().ok(), asked),
+    }
 }
 
 /// A desk of pieces `abc`, `abc` and `a` for four workers.
-#[derive(Drop)]
 pub struct Played {
     desk: Desk,
     ghost workers: { desk.setting.workers ≡ 4 },
     ghost pieces: { piece_count desk.setting.torrent ≡ 3 },
+}
+
+/// The end of a desk that is played at is one call for whoever owns one.
+impl Drop for Played {
+    fn drop(self) {
+        let Played { desk: _desk } = self;
+    }
 }
 
 impl Played {
@@ -69,17 +65,35 @@ impl Played {
         alloc: Global,
         lines: &'static str,
     ) -> Result<(), Fail> {
-        for line in lines.lines() {
-            let Some((asked, wanted)) = line.split_once(" = ") else {
-                return Err(Fail::from("a line without an answer"));
-            };
-            if matches!(line.as_bytes().first(), Some(b'0'..=b'9')) {
-                self.enter_line(rt, alloc, line)?;
-            } else {
-                self.ask_line(rt, alloc, asked, wanted)?;
-            }
+        self.play_front(rt, alloc, lines, usize::MAX)
+    }
+
+    /// Plays the first so many lines.
+    pub fn play_front(
+        &mut self,
+        rt: &impl Abort,
+        alloc: Global,
+        lines: &'static str,
+        count: usize,
+    ) -> Result<(), Fail> {
+        for line in lines.lines().take(count) {
+            self.play_line(rt, alloc, line)?;
         }
         Ok(())
+    }
+
+    /// The line of a call begins with its worker's number.
+    fn play_line(
+        &mut self,
+        rt: &impl Abort,
+        alloc: Global,
+        line: &'static str,
+    ) -> Result<(), Fail> {
+        if matches!(line.as_bytes().first(), Some(b'0'..=b'9')) {
+            return self.enter_line(rt, alloc, line);
+        }
+        let (asked, wanted) = cut(rt, line, " = ");
+        self.ask_line(rt, alloc, asked, wanted)
     }
 
     /// A call: its reply is as the line says.
@@ -93,15 +107,15 @@ impl Played {
             worker,
             call,
             reply,
-        } = entry_of(alloc, PIECES, line)?;
+        } = entry_of(rt, alloc, PIECES, line)?;
         let said = match self.enter(rt, worker, call) {
             Ok(said) => said,
             Err(AllocError) => {
-                let again = entry_of(alloc, PIECES, line)?;
+                let again = entry_of(rt, alloc, PIECES, line)?;
                 self.enter(rt, worker, again.call)?
             }
         };
-        is_said(rt, said, reply, line);
+        same(rt, said, reply, line);
         Ok(())
     }
 
@@ -115,58 +129,73 @@ impl Played {
     ) -> Result<(), Fail> {
         let mut words = asked.split(' ');
         match words.next().unwrap_or("") {
-            "check" => {
-                let worker = number(words.next())?;
-                let piece = number(words.next())?;
-                let said = self.settle(rt, alloc, worker, piece)?;
-                is_said(rt, said, reply_of(wanted)?, asked);
-                Ok(())
-            }
-            "finish" => self.finish(rt, alloc, number(words.next())?),
+            "check" => self.check_line(rt, alloc, &mut words, wanted),
+            "finish" => self.finish(rt, alloc, next_number(rt, &mut words)),
             question => {
-                let answer = self.answer(rt, alloc, question, &mut words)?;
-                is_answered(rt, &answer, wanted, asked);
+                let answer = self.answer(rt, question, words.next());
+                is_answered(rt, answer, wanted, asked);
                 Ok(())
             }
         }
     }
 
-    /// What the desk shows.
-    fn answer(
-        &self,
+    /// A check of a piece: what it comes to is as the line says.
+    fn check_line(
+        &mut self,
         rt: &impl Abort,
         alloc: Global,
-        question: &str,
         words: &mut Split<'static, char>,
-    ) -> Result<String, Fail> {
-        match question {
-            "had" => word_of(alloc, self.had(rt, number(words.next())?)),
-            "has-wanted" => word_of(alloc, self.has_wanted()),
-            "complete" => word_of(alloc, self.is_complete()),
-            "wanted" => self.wanted(rt, alloc),
-            "shown-by" => self.group(rt, alloc, number(words.next())?),
-            _ => Ok(self.counted(rt, question, words)?.to_string(alloc)?),
+        wanted: &str,
+    ) -> Result<(), Fail> {
+        let worker = next_number(rt, words);
+        let piece = next_number(rt, words);
+        let said = self.settle(rt, alloc, worker, piece)?;
+        same(rt, said, reply_of(rt, wanted), "a check");
+        Ok(())
+    }
+
+    /// What the desk shows, of a number if one is told.
+    fn answer(&self, rt: &impl Abort, question: &str, word: Option<&str>) -> Shown {
+        match word {
+            Some(word) => self.answer_of(rt, question, number(rt, word)),
+            None => self.answer_of_all(rt, question),
         }
     }
 
-    /// The number that the desk shows.
-    fn counted(
-        &self,
+    /// What the desk shows of a piece, of a worker, or of what so many peers show.
+    fn answer_of(&self, rt: &impl Abort, question: &str, number: u32) -> Shown {
+        match question {
+            "had" => yes_or_no(self.had(rt, number)),
+            "shown-by" => self.group(rt, number),
+            "outstanding" => Shown::Count(self.outstanding(rt, number) as u64),
+            "availability" => Shown::Count(u64::from(self.availability(rt, number))),
+            _ => panic!(rt; "no such question"),
+        }
+    }
+
+    /// What the desk shows of all pieces.
+    fn answer_of_all(&self, rt: &impl Abort, question: &str) -> Shown {
+        match question {
+            "has-wanted" => yes_or_no(self.has_wanted()),
+            "complete" => yes_or_no(self.is_complete()),
+            "wanted" => self.wanted(rt),
+            "entries" => Shown::Count(self.entries() as u64),
+            "unasked" => Shown::Count(self.unasked()),
+            _ => panic!(rt; "no such question"),
+        }
+    }
+
+    /// The verdict comes, and gets this reply.
+    pub fn settles(
+        &mut self,
         rt: &impl Abort,
-        question: &str,
-        words: &mut Split<'static, char>,
-    ) -> Result<u64, Fail> {
-        match question {
-            "entries" => Ok(self.entries() as u64),
-            "unasked" => Ok(self.unasked()),
-            "outstanding" => Ok(self.outstanding(rt, number(words.next())?) as u64),
-            "availability" => Ok(u64::from(self.availability(rt, number(words.next())?))),
-            _ => Err(Fail::from("no such question")),
-        }
-    }
-
-    pub fn call(&mut self, rt: &impl Abort, worker: u32, call: Call) -> Result<Reply, Fail> {
-        Ok(self.enter(rt, worker, call)?)
+        worker: u32,
+        verdict: Arc<Verdict>,
+        wanted: Reply,
+    ) -> Result<(), Fail> {
+        let said = self.enter(rt, worker, Call::Settle(verdict))?;
+        same(rt, said, wanted, "a verdict");
+        Ok(())
     }
 
     /// Makes the call. It adds its entry, and nothing where it finds no memory.
@@ -175,7 +204,7 @@ impl Played {
         let before = self.entries();
         let said = self.desk.call(worker, call);
         let added = if said.is_ok() { 1 } else { 0 };
-        assert_eq!(rt; self.entries().saturating_sub(before), added);
+        same(rt, self.entries().saturating_sub(before), added, "entries");
         said
     }
 
@@ -220,13 +249,13 @@ impl Played {
         self.desk.wanted(piece)
     }
 
-    fn wanted(&self, rt: &impl Abort, alloc: Global) -> Result<String, Fail> {
+    fn wanted(&self, rt: &impl Abort) -> Shown {
         let flags = [
             self.is_wanted(rt, 0),
             self.is_wanted(rt, 1),
             self.is_wanted(rt, 2),
         ];
-        pieces(alloc, flags)
+        pieces(flags)
     }
 
     fn availability(&self, rt: &impl Abort, piece: u32) -> u32 {
@@ -245,11 +274,11 @@ impl Played {
     }
 
     /// The unbegun pieces that so many peers show. None stands there twice.
-    fn group(&self, rt: &impl Abort, alloc: Global, shown_by: u32) -> Result<String, Fail> {
+    fn group(&self, rt: &impl Abort, shown_by: u32) -> Shown {
         let group = self.unbegun(rt, shown_by);
         let flags = [group.contains(&0), group.contains(&1), group.contains(&2)];
-        assert_eq!(rt; group.len(), count(flags));
-        pieces(alloc, flags)
+        same(rt, group.len(), count(flags), "unbegun pieces");
+        pieces(flags)
     }
 
     fn entries(&self) -> usize {

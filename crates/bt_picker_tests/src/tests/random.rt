@@ -3,12 +3,14 @@ ghost use Rattle.std.specs.Prelude.{◌≡◌, ◌<◌, ◌≤◌, IfOk};
 ghost use Rattle.bt_meta.specs.Layout.{piece_count};
 ghost use Rattle.bt_history.specs.Setting.{AreRules};
 
+use super::audits::finds;
+use super::steps::hashed;
 use bt_meta::{Bitfield, Block, Torrent};
 use bt_picker::*;
 use bytes::Bytes;
 use rand_core::Rng;
 use rand_pcg::Lcg64Xsh32;
-use std::alloc::Global;
+use std::alloc::{AllocError, Global};
 use std::process::Abort;
 use std::sync::Arc;
 use std::test::*;
@@ -40,13 +42,13 @@ fn torrent_of(piece_length: u32, total: u64, hashes: Vec<[u8; 20]>) -> Result<To
 fn torrent(rt: &impl Abort, alloc: Global) -> Result<Arc<Torrent>, Fail>
     ensures { IfOk result (λ torrent. piece_count torrent.value.layout ≡ 4) }
 {
-    let torrent = torrent_of(
-        16386,
-        3 * 16386 + 16384,
-        vec![in alloc; LONG, LONG, LONG, SHORT]?,
-    )?;
+    let torrent = torrent_of(16386, 3 * 16386 + 16384, hashes(alloc)?)?;
     assert!(rt; torrent.piece_count() == 4);
     Ok(Arc::new(alloc, torrent)?)
+}
+
+fn hashes(alloc: Global) -> Result<Vec<[u8; 20]>, AllocError> {
+    Ok(vec![in alloc; LONG, LONG, LONG, SHORT]?)
 }
 
 /// Of so many cases, one.
@@ -92,27 +94,44 @@ fn any_block(rng: &mut Lcg64Xsh32) -> Block {
 
 /// What the peer sends next, given what is asked of it.
 fn from_wire(alloc: Global, rng: &mut Lcg64Xsh32, asked: &[Block]) -> Result<Call, Fail> {
-    Ok(match one_of(rng, 64) {
+    match one_of(rng, 64) {
+        6..=10 => Ok(Call::Bits(any_flags(alloc, rng)?)),
+        11 => Ok(Call::Bits(Bitfield::empty(alloc, 3)?)),
+        case => Ok(plain_call(rng, asked, case)),
+    }
+}
+
+/// What the peer sends in a case in which that is no bitfield.
+fn plain_call(rng: &mut Lcg64Xsh32, asked: &[Block], case: u32) -> Call {
+    match case {
         0..=4 => Call::Join,
         5 => Call::Leave,
-        6..=10 => {
-            let flags = [[0xf0], [0xc0], [0x30], [0x00]][one_of(rng, 4) as usize];
-            Call::Bits(Bitfield::from_wire(alloc, &flags, 4)?)
-        }
-        11 => Call::Bits(Bitfield::empty(alloc, 3)?),
         12..=14 => Call::Have(one_of(rng, 5)),
         15 => Call::Choke,
         16..=21 => Call::Unchoke,
-        22..=29 => {
-            let block = any_block(rng);
-            arrival(rng, block)
-        }
-        30..=35 => match asked.last() {
-            Some(block) => arrival(rng, *block),
-            None => Call::Unchoke,
-        },
+        22..=29 => any_arrival(rng),
+        30..=35 => last_arrival(rng, asked),
         _ => Call::Next(rng.next_u64()),
-    })
+    }
+}
+
+fn any_arrival(rng: &mut Lcg64Xsh32) -> Call {
+    let block = any_block(rng);
+    arrival(rng, block)
+}
+
+/// The block that was asked last arrives.
+fn last_arrival(rng: &mut Lcg64Xsh32, asked: &[Block]) -> Call {
+    match asked.last() {
+        Some(block) => arrival(rng, *block),
+        None => Call::Unchoke,
+    }
+}
+
+/// All pieces, some or none.
+fn any_flags(alloc: Global, rng: &mut Lcg64Xsh32) -> Result<Bitfield, Fail> {
+    let flags = [[0xf0], [0xc0], [0x30], [0x00]][one_of(rng, 4) as usize];
+    Ok(Bitfield::from_wire(alloc, &flags, 4)?)
 }
 
 /// What is wanted from now on: all pieces, some or none; now and then flags of too few pieces.
@@ -120,16 +139,24 @@ fn any_want(alloc: Global, rng: &mut Lcg64Xsh32) -> Result<Call, Fail> {
     if one_of(rng, 6) == 0 {
         return Ok(Call::Want(Bitfield::empty(alloc, 3)?));
     }
-    let flags = [[0xf0], [0xc0], [0x30], [0x00]][one_of(rng, 4) as usize];
-    Ok(Call::Want(Bitfield::from_wire(alloc, &flags, 4)?))
+    Ok(Call::Want(any_flags(alloc, rng)?))
 }
 
 /// A run of calls at one desk, and a verdict that a worker keeps for later.
-#[derive(Drop)]
 struct Run {
     desk: Desk,
     late: Option<Arc<Verdict>>,
     ghost workers: { desk.setting.workers ≡ 4 },
+}
+
+/// The end of a run is one call for whoever owns one.
+impl Drop for Run {
+    fn drop(self) {
+        let Run {
+            desk: _desk,
+            late: _late,
+        } = self;
+    }
 }
 
 impl Run {
@@ -141,10 +168,15 @@ impl Run {
             desk: Desk::new(alloc, torrent, WORKERS, rules)?,
             late: None,
         };
-        for worker in 0..WORKERS {
-            run.join(worker)?;
-        }
+        run.join_all()?;
         Ok(run)
+    }
+
+    fn join_all(&mut self) -> Result<(), Fail> {
+        for worker in 0..WORKERS {
+            self.join(worker)?;
+        }
+        Ok(())
     }
 
     fn join(&mut self, worker: u32) -> Result<(), Fail>
@@ -169,7 +201,7 @@ impl Run {
     /// A verdict of the piece, if it waits for one.
     fn verdict(&self, alloc: Global, piece: u32) -> Result<Option<Arc<Verdict>>, Fail> {
         match self.desk.job(alloc, piece)? {
-            Some(job) => Ok(Some(Arc::new(alloc, job.hash())?)),
+            Some(job) => Ok(Some(hashed(alloc, job)?)),
             None => Ok(None),
         }
     }
@@ -191,11 +223,18 @@ impl Run {
         if self.late.is_none()
             && let Some(verdict) = self.verdict(alloc, piece)?
         {
-            self.late = Some(verdict.clone()?);
-            return self.call(worker, Call::Settle(verdict));
+            return self.settle_and_keep(worker, verdict);
         }
         let call = self.any_call(alloc, rng, worker)?;
         self.call(worker, call)
+    }
+
+    /// The verdict comes, and is kept to come once more.
+    fn settle_and_keep(&mut self, worker: u32, verdict: Arc<Verdict>) -> Result<Reply, Fail>
+        requires { worker < 4 }
+    {
+        self.late = Some(verdict.clone()?);
+        self.call(worker, Call::Settle(verdict))
     }
 
     /// A check that was begun earlier, what is wanted, or what the peer sends.
@@ -221,23 +260,36 @@ impl Run {
         counts: &mut [u64; 24],
     ) -> Result<(), Fail> {
         for _ in 0..500 {
-            let place = kind(self.step(alloc, rng)?);
-            counts[place] = counts[place].saturating_add(1);
+            count(counts, self.step(alloc, rng)?);
         }
         self.desk.finish(alloc, 0)?;
         Ok(())
     }
 
+    /// The steps, and what comes of them is judged.
+    fn play(
+        &mut self,
+        rt: &impl Abort,
+        alloc: Global,
+        rules: Rules,
+        rng: &mut Lcg64Xsh32,
+        counts: &mut [u64; 24],
+    ) -> Result<(), Fail> {
+        self.steps(alloc, rng, counts)?;
+        self.judge(rt, alloc, rules)
+    }
+
     /// Checks that the audit allows what was said.
-    fn judge(&self, rt: &impl Abort, alloc: Global, rules: Rules) -> Result<(), Fail>
-        requires shallow { 1 ≤ rules.depth }
-        requires deep { rules.depth ≤ 64 }
-        requires random { rules.random ≤ 4 }
-    {
-        assert!(rt; self.desk.has_wanted() || !self.desk.is_complete());
+    fn judge(&self, rt: &impl Abort, alloc: Global, rules: Rules) -> Result<(), Fail> {
+        assert!(rt; self.has_wanted_at_the_end());
         let torrent = torrent(rt, alloc)?;
-        audit(alloc, &*torrent, WORKERS, rules, self.desk.journal())?;
-        Ok(())
+        let journal = self.desk.journal();
+        finds(rt, alloc, &torrent, WORKERS, rules, journal, None)
+    }
+
+    /// Who has all pieces has those that are wanted.
+    fn has_wanted_at_the_end(&self) -> bool {
+        self.desk.has_wanted() || !self.desk.is_complete()
     }
 }
 
@@ -265,6 +317,12 @@ fn kind(reply: Reply) -> usize
     }
 }
 
+/// Counts a reply by its kind.
+fn count(counts: &mut [u64; 24], reply: Reply) {
+    let place = kind(reply);
+    counts[place] = counts[place].saturating_add(1);
+}
+
 /// A journal of random calls, which the audit allows.
 fn one_journal(
     rt: &impl Abort,
@@ -275,18 +333,26 @@ fn one_journal(
     let mut rng = Lcg64Xsh32::new(seed, 1);
     let rules = any_rules(&mut rng);
     let mut run = Run::new(alloc, torrent(rt, alloc)?, rules)?;
-    run.steps(alloc, &mut rng, counts)?;
-    run.judge(rt, alloc, rules)
+    run.play(rt, alloc, rules, &mut rng, counts)
+}
+
+/// The journals of so many seeds.
+fn journals(
+    rt: &impl Abort,
+    alloc: Global,
+    seeds: u64,
+    counts: &mut [u64; 24],
+) -> Result<(), Fail> {
+    for seed in 0..seeds {
+        one_journal(rt, alloc, seed, counts)?;
+    }
+    Ok(())
 }
 
 #[test]
 fn journals_of_random_calls(rt: HostRuntime) -> Result<(), Fail> {
     let mut counts = [0_u64; 24];
-    for seed in 0..40 {
-        one_journal(&rt, rt.alloc(), seed, &mut counts)?;
-    }
-    for count in counts {
-        assert!(rt; count > 0);
-    }
+    journals(&rt, rt.alloc(), 40, &mut counts)?;
+    assert!(rt; !counts.contains(&0));
     Ok(())
 }

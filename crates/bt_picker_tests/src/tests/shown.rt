@@ -1,35 +1,32 @@
-//! What a desk of three pieces shows, as text.
+//! What a desk of three pieces shows.
 
-use std::alloc::Global;
-use std::fmt::Write;
-use std::test::Fail;
+/// What is answered to a question.
+#[derive(Clone, Copy)]
+pub enum Shown {
+    Word(&'static str),
+    Count(u64),
+}
 
-pub fn yes_or_no(is_so: bool) -> &'static str {
-    if is_so { "yes" } else { "no" }
+pub fn yes_or_no(is_so: bool) -> Shown {
+    Shown::Word(if is_so { "yes" } else { "no" })
 }
 
 /// How many flags are set.
 pub fn count(flags: [bool; 3]) -> usize {
-    let mut count: usize = 0;
-    for flag in flags {
-        if flag {
-            count = count.saturating_add(1);
-        }
-    }
-    count
+    let [first, second, third] = flags;
+    usize::from(first) + usize::from(second) + usize::from(third)
 }
 
 /// The pieces whose flags are set, in their order, or `none`.
-pub fn pieces(alloc: Global, flags: [bool; 3]) -> Result<String, Fail> {
-    let mut told = String::new(alloc);
-    for (piece, flag) in (0..3_u8).zip(flags) {
-        if flag {
-            let space = if told.is_empty() { "" } else { " " };
-            write!(told, "{space}{piece}")?;
-        }
-    }
-    if told.is_empty() {
-        told.push_str("none")?;
-    }
-    Ok(told)
+pub fn pieces(flags: [bool; 3]) -> Shown {
+    Shown::Word(match flags {
+        [false, false, false] => "none",
+        [false, false, true] => "2",
+        [false, true, false] => "1",
+        [false, true, true] => "1 2",
+        [true, false, false] => "0",
+        [true, false, true] => "0 2",
+        [true, true, false] => "0 1",
+        [true, true, true] => "0 1 2",
+    })
 }

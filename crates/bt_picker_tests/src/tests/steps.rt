@@ -4,7 +4,8 @@
 use bt_meta::{Bitfield, Block, Torrent};
 use bt_picker::*;
 use bytes::Bytes;
-use std::alloc::Global;
+use std::alloc::{AllocError, Global};
+use std::process::Abort;
 use std::str::Split;
 use std::sync::Arc;
 use std::test::Fail;
@@ -31,41 +32,63 @@ const MILLION: [u8; 20] = [
 const SIXTEENS: [u8; 16384] = [b'a'; 16384];
 
 /// A torrent's piece length, its length, and the content of each piece: `3 7 abc abc a`.
-pub fn torrent_of(alloc: Global, text: &'static str) -> Result<Torrent, Fail> {
+pub fn torrent_of(rt: &impl Abort, alloc: Global, text: &'static str) -> Result<Torrent, Fail> {
     let mut words = text.split(' ');
-    let piece_length = number(words.next())?;
-    let total = u64::from(number(words.next())?);
-    let mut hashes = Vec::new(alloc);
-    for word in words {
-        hashes.push(match word {
-            "abc" => ABC,
-            "a" => A,
-            _ => MILLION,
-        })?;
-    }
+    let piece_length = next_number(rt, &mut words);
+    let total = u64::from(next_number(rt, &mut words));
+    let hashes = hashes_of(alloc, words)?;
     Ok(Torrent::of_parts(piece_length, total, hashes, [0; 20])?)
 }
 
+/// The digests of the pieces that the words spell.
+fn hashes_of(alloc: Global, words: Split<'static, char>) -> Result<Vec<[u8; 20]>, AllocError> {
+    let mut hashes = Vec::new(alloc);
+    for word in words {
+        hashes.push(hash_of(word))?;
+    }
+    Ok(hashes)
+}
+
+fn hash_of(word: &str) -> [u8; 20] {
+    match word {
+        "abc" => ABC,
+        "a" => A,
+        _ => MILLION,
+    }
+}
+
 /// The entry that a line tells, for a torrent of so many pieces.
-pub fn entry_of(alloc: Global, pieces: u32, line: &'static str) -> Result<Entry, Fail> {
-    let Some((call, reply)) = line.split_once(" = ") else {
-        return Err(Fail::from("a line without a reply"));
-    };
+pub fn entry_of(
+    rt: &impl Abort,
+    alloc: Global,
+    pieces: u32,
+    line: &'static str,
+) -> Result<Entry, Fail> {
+    let (call, reply) = cut(rt, line, " = ");
+    let reply = reply_of(rt, reply);
     let mut words = call.split(' ');
-    let worker = number(words.next())?;
+    let worker = next_number(rt, &mut words);
     Ok(Entry {
         worker,
-        call: call_of(alloc, pieces, &mut words)?,
-        reply: reply_of(reply)?,
+        call: call_of(rt, alloc, pieces, &mut words)?,
+        reply,
     })
 }
 
+/// What stands before the mark and what behind it.
+pub fn cut(rt: &impl Abort, text: &'static str, mark: &str) -> (&'static str, &'static str) {
+    text.split_once(mark).expect(rt, "a part is missing")
+}
+
 /// The number that the word spells.
-pub fn number(word: Option<&str>) -> Result<u32, Fail> {
-    match word.unwrap_or("").parse::<u32>() {
-        Ok(number) => Ok(number),
-        Err(_) => Err(Fail::from("a number is missing")),
-    }
+pub fn number(rt: &impl Abort, word: &str) -> u32 {
+    let number = word.parse::<u32>();
+    number.ok().expect(rt, "a number is missing")
+}
+
+/// The number that the next word spells.
+pub fn next_number(rt: &impl Abort, words: &mut Split<'_, char>) -> u32 {
+    number(rt, words.next().unwrap_or(""))
 }
 
 fn bytes_of(word: Option<&'static str>) -> Bytes {
@@ -77,111 +100,128 @@ fn bytes_of(word: Option<&'static str>) -> Bytes {
 }
 
 /// A bitfield of up to eight pieces, spelled by its byte on the wire.
-fn flags_of(alloc: Global, pieces: u32, word: Option<&str>) -> Result<Bitfield, Fail> {
-    match u8::from_str_radix(word.unwrap_or(""), 16) {
-        Ok(byte) => Ok(Bitfield::from_wire(alloc, &[byte], pieces)?),
-        Err(_) => Err(Fail::from("a bitfield is missing")),
-    }
+fn flags_of(
+    rt: &impl Abort,
+    alloc: Global,
+    pieces: u32,
+    word: Option<&str>,
+) -> Result<Bitfield, Fail> {
+    let byte = u8::from_str_radix(word.unwrap_or(""), 16);
+    let byte = byte.ok().expect(rt, "a bitfield is missing");
+    Ok(Bitfield::from_wire(alloc, &[byte], pieces)?)
 }
 
-/// A bitfield of so many pieces, none of which is set.
-fn no_flags_of(alloc: Global, word: Option<&str>) -> Result<Bitfield, Fail> {
-    Ok(Bitfield::empty(alloc, number(word)?)?)
-}
-
-fn call_of(alloc: Global, pieces: u32, words: &mut Split<'static, char>) -> Result<Call, Fail> {
+fn call_of(
+    rt: &impl Abort,
+    alloc: Global,
+    pieces: u32,
+    words: &mut Split<'static, char>,
+) -> Result<Call, Fail> {
     match words.next().unwrap_or("") {
-        "join" => Ok(Call::Join),
-        "choke" => Ok(Call::Choke),
-        "unchoke" => Ok(Call::Unchoke),
-        "leave" => Ok(Call::Leave),
-        "bits" => Ok(Call::Bits(flags_of(alloc, pieces, words.next())?)),
-        "no-bits-of" => Ok(Call::Bits(no_flags_of(alloc, words.next())?)),
-        "want" => Ok(Call::Want(flags_of(alloc, pieces, words.next())?)),
-        "want-none-of" => Ok(Call::Want(no_flags_of(alloc, words.next())?)),
-        name => call_of_a_piece(alloc, name, words),
+        "bits" => Ok(Call::Bits(flags_of(rt, alloc, pieces, words.next())?)),
+        "want" => Ok(Call::Want(flags_of(rt, alloc, pieces, words.next())?)),
+        "settle" => settle_of(rt, alloc, words),
+        name => call_of_none(rt, alloc, name, words),
     }
 }
 
-/// A call with a number: of a piece, but for `next`, whose number is any.
-fn call_of_a_piece(
+/// A call with a bitfield of so many pieces, none of which is set, or one without a bitfield.
+fn call_of_none(
+    rt: &impl Abort,
     alloc: Global,
     name: &str,
     words: &mut Split<'static, char>,
 ) -> Result<Call, Fail> {
     match name {
-        "have" => Ok(Call::Have(number(words.next())?)),
-        "next" => Ok(Call::Next(u64::from(number(words.next())?))),
-        "block" => arrival_of(words),
-        "settle" => settle_of(alloc, words),
-        _ => Err(Fail::from("no such call")),
+        "no-bits-of" => Ok(Call::Bits(Bitfield::empty(alloc, next_number(rt, words))?)),
+        "want-none-of" => Ok(Call::Want(Bitfield::empty(alloc, next_number(rt, words))?)),
+        _ => Ok(plain_call(rt, name, words)),
     }
 }
 
-fn arrival_of(words: &mut Split<'static, char>) -> Result<Call, Fail> {
-    let piece = number(words.next())?;
-    let begin = number(words.next())?;
-    Ok(Call::Arrived {
-        piece,
-        begin,
-        bytes: bytes_of(words.next()),
-    })
+/// A call without a bitfield or a verdict. The number of `next` is any, others are of a piece.
+fn plain_call(rt: &impl Abort, name: &str, words: &mut Split<'static, char>) -> Call {
+    match name {
+        "join" => Call::Join,
+        "choke" => Call::Choke,
+        "unchoke" => Call::Unchoke,
+        "leave" => Call::Leave,
+        "have" => Call::Have(next_number(rt, words)),
+        "next" => Call::Next(u64::from(next_number(rt, words))),
+        "block" => Call::Arrived {
+            piece: next_number(rt, words),
+            begin: next_number(rt, words),
+            bytes: bytes_of(words.next()),
+        },
+        _ => panic!(rt; "no such call"),
+    }
 }
 
-fn settle_of(alloc: Global, words: &mut Split<'static, char>) -> Result<Call, Fail> {
-    let piece = number(words.next())?;
-    Ok(Call::Settle(verdict_of(alloc, piece, words.next())?))
+fn settle_of(
+    rt: &impl Abort,
+    alloc: Global,
+    words: &mut Split<'static, char>,
+) -> Result<Call, Fail> {
+    let piece = next_number(rt, words);
+    let blocks = vec![in alloc; bytes_of(words.next())]?;
+    Ok(Call::Settle(hashed(alloc, Job { piece, blocks })?))
 }
 
-fn verdict_of(alloc: Global, piece: u32, word: Option<&'static str>) -> Result<Arc<Verdict>, Fail> {
-    let blocks = vec![in alloc; bytes_of(word)]?;
-    Ok(Arc::new(alloc, Job { piece, blocks }.hash())?)
+/// The verdict of the job.
+pub fn hashed(alloc: Global, job: Job) -> Result<Arc<Verdict>, Fail> {
+    Ok(Arc::new(alloc, job.hash())?)
 }
+
+/// The replies that name no block, each as a line spells it.
+const REPLIES: &[(&str, Reply)] = &[
+    ("joined", Reply::Joined),
+    ("noted yes", Reply::Noted(true)),
+    ("noted no", Reply::Noted(false)),
+    ("quiet", Reply::Quiet),
+    ("choked", Reply::Choked),
+    ("pipefull", Reply::PipeFull),
+    ("idle", Reply::Idle),
+    ("nothing", Reply::NothingLeft),
+    ("stored", Reply::Stored),
+    ("completed", Reply::Completed),
+    ("dropped", Reply::Dropped),
+    ("had", Reply::Had),
+    ("failed", Reply::Failed),
+    ("refused NotJoined", Reply::Refused(Reason::NotJoined)),
+    (
+        "refused AlreadyJoined",
+        Reply::Refused(Reason::AlreadyJoined),
+    ),
+    ("refused LateBits", Reply::Refused(Reason::LateBits)),
+    ("refused WrongCount", Reply::Refused(Reason::WrongCount)),
+    ("refused NoSuchPiece", Reply::Refused(Reason::NoSuchPiece)),
+    ("refused NoSuchBlock", Reply::Refused(Reason::NoSuchBlock)),
+    ("refused WrongLength", Reply::Refused(Reason::WrongLength)),
+    ("refused NotWaiting", Reply::Refused(Reason::NotWaiting)),
+    ("refused Stale", Reply::Refused(Reason::Stale)),
+];
 
 /// The reply that the text tells.
-pub fn reply_of(text: &str) -> Result<Reply, Fail> {
+pub fn reply_of(rt: &impl Abort, text: &str) -> Reply {
+    for &(spelled, reply) in REPLIES {
+        if text == spelled {
+            return reply;
+        }
+    }
     let mut words = text.split(' ');
-    Ok(match words.next().unwrap_or("") {
-        "joined" => Reply::Joined,
-        "noted" => Reply::Noted(words.next() == Some("yes")),
-        "quiet" => Reply::Quiet,
-        "cancel" => Reply::Cancel(block_of(&mut words)?),
-        "request" => Reply::Request(block_of(&mut words)?),
-        "choked" => Reply::Choked,
-        "pipefull" => Reply::PipeFull,
-        "idle" => Reply::Idle,
-        "nothing" => Reply::NothingLeft,
-        "stored" => Reply::Stored,
-        "completed" => Reply::Completed,
-        "dropped" => Reply::Dropped,
-        "had" => Reply::Had,
-        "failed" => Reply::Failed,
-        "refused" => Reply::Refused(reason_of(words.next().unwrap_or(""))?),
-        _ => return Err(Fail::from("no such reply")),
-    })
+    match words.next().unwrap_or("") {
+        "cancel" => Reply::Cancel(block_of(rt, &mut words)),
+        "request" => Reply::Request(block_of(rt, &mut words)),
+        _ => panic!(rt; "no such reply"),
+    }
 }
 
-fn block_of(words: &mut Split<'_, char>) -> Result<Block, Fail> {
-    Ok(Block {
-        piece: number(words.next())?,
-        begin: number(words.next())?,
-        len: number(words.next())?,
-    })
-}
-
-fn reason_of(name: &str) -> Result<Reason, Fail> {
-    Ok(match name {
-        "NotJoined" => Reason::NotJoined,
-        "AlreadyJoined" => Reason::AlreadyJoined,
-        "LateBits" => Reason::LateBits,
-        "WrongCount" => Reason::WrongCount,
-        "NoSuchPiece" => Reason::NoSuchPiece,
-        "NoSuchBlock" => Reason::NoSuchBlock,
-        "WrongLength" => Reason::WrongLength,
-        "NotWaiting" => Reason::NotWaiting,
-        "Stale" => Reason::Stale,
-        _ => return Err(Fail::from("no such reason")),
-    })
+fn block_of(rt: &impl Abort, words: &mut Split<'_, char>) -> Block {
+    Block {
+        piece: next_number(rt, words),
+        begin: next_number(rt, words),
+        len: next_number(rt, words),
+    }
 }
 
 /// A worked example of the rules, as `examples` spells them.
@@ -197,22 +237,23 @@ pub struct Example {
 }
 
 impl Example {
-    pub fn of(text: &'static str) -> Result<Example, Fail> {
-        let (right, wrong) = text.split_once("\nbut\n").ok_or("no wrong reply")?;
-        let (_, right) = right.split_once('\n').ok_or("no torrent")?;
-        let (torrent, right) = right.split_once('\n').ok_or("no terms")?;
-        let (terms, lines) = right.split_once('\n').ok_or("no lines")?;
-        Ok(Example {
+    pub fn of(rt: &impl Abort, text: &'static str) -> Example {
+        let (right, wrong) = cut(rt, text, "\nbut\n");
+        let (_, right) = cut(rt, right, "\n");
+        let (torrent, right) = cut(rt, right, "\n");
+        let (terms, lines) = cut(rt, right, "\n");
+        Example {
             torrent,
             terms,
             lines,
             wrong,
-        })
+        }
     }
 }
 
 /// The first so many lines as entries.
 pub fn entries_of(
+    rt: &impl Abort,
     alloc: Global,
     pieces: u32,
     lines: &'static str,
@@ -220,7 +261,19 @@ pub fn entries_of(
 ) -> Result<Vec<Entry>, Fail> {
     let mut entries = Vec::new(alloc);
     for line in lines.lines().take(count) {
-        entries.push(entry_of(alloc, pieces, line)?)?;
+        add_entry(rt, alloc, pieces, line, &mut entries)?;
     }
     Ok(entries)
+}
+
+/// The entry of the line behind the others.
+pub fn add_entry(
+    rt: &impl Abort,
+    alloc: Global,
+    pieces: u32,
+    line: &'static str,
+    entries: &mut Vec<Entry>,
+) -> Result<(), Fail> {
+    entries.push(entry_of(rt, alloc, pieces, line)?)?;
+    Ok(())
 }

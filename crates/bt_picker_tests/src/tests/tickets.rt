@@ -1,6 +1,7 @@
 //! Tickets that come in order, also to another thread, and a queue that makes who puts wait while it is full.
-ghost use Rattle.std.specs.Prelude.{◌≡◌};
+ghost use Rattle.std.specs.Prelude.{◌≡◌, IfOk};
 
+use super::same::same;
 use bt_check::{Ticket, TicketPass, Tickets};
 use std::alloc::Global;
 use std::process::Abort;
@@ -16,19 +17,59 @@ const MANY: u32 = 40;
 /// How many tickets a queue holds.
 const HELD: u32 = 16;
 
+/// A queue, and two passes of it.
+fn opened(rt: &impl Abort, alloc: Global) -> Result<(Tickets, TicketPass, TicketPass), Fail>
+    ensures first { IfOk result (λ opened. opened.1.queue ≡ opened.0) }
+    ensures second { IfOk result (λ opened. opened.2.queue ≡ opened.0) }
+{
+    let (tickets, mut passes) = Tickets::open(alloc, 2)?;
+    assert!(rt; passes.len() == 2);
+    let second = passes.remove(1);
+    let first = passes.remove(0);
+    Ok((tickets, first, second))
+}
+
 #[test]
 fn tickets_come_in_order(rt: HostRuntime) -> Result<(), Fail> {
-    let (tickets, mut passes) = Tickets::open(rt.alloc(), 2)?;
-    assert_eq!(rt; passes.len(), 2);
-    let mut second = passes.remove(1);
-    let mut first = passes.remove(0);
-    for ticket in [Ticket::Piece(5), Ticket::Piece(7), Ticket::Stop] {
-        assert_eq!(rt; tickets.put(&rt, &mut first, ticket), Ok(()));
-    }
-    for ticket in [Ticket::Piece(5), Ticket::Piece(7), Ticket::Stop] {
-        assert_eq!(rt; tickets.take(&rt, &mut second), Some(ticket));
-    }
+    let (tickets, mut first, mut second) = opened(&rt, rt.alloc())?;
+    puts_three(&rt, &tickets, &mut first);
+    takes_three(&rt, &tickets, &mut second);
     Ok(())
+}
+
+fn puts_three<R: Wait + Abort>(rt: &R, tickets: &Tickets, pass: &mut TicketPass)
+    requires { pass.old.queue ≡ tickets.now }
+{
+    puts(rt, tickets, pass, Ticket::Piece(5));
+    puts(rt, tickets, pass, Ticket::Piece(7));
+    puts(rt, tickets, pass, Ticket::Stop);
+}
+
+fn puts<R: Wait + Abort>(rt: &R, tickets: &Tickets, pass: &mut TicketPass, ticket: Ticket)
+    requires { pass.old.queue ≡ tickets.now }
+    ensures { pass.new.queue ≡ pass.old.queue }
+{
+    same(rt, tickets.put(rt, pass, ticket), Ok(()), "a ticket is put");
+}
+
+fn takes_three<R: Wait + Abort>(rt: &R, tickets: &Tickets, pass: &mut TicketPass)
+    requires { pass.old.queue ≡ tickets.now }
+{
+    takes(rt, tickets, pass, Ticket::Piece(5));
+    takes(rt, tickets, pass, Ticket::Piece(7));
+    takes(rt, tickets, pass, Ticket::Stop);
+}
+
+fn takes<R: Wait + Abort>(rt: &R, tickets: &Tickets, pass: &mut TicketPass, ticket: Ticket)
+    requires { pass.old.queue ≡ tickets.now }
+    ensures { pass.new.queue ≡ pass.old.queue }
+{
+    same(
+        rt,
+        tickets.take(rt, pass),
+        Some(ticket),
+        "a ticket is taken",
+    );
 }
 
 /// Puts a ticket for each of many pieces, and counts those that were put. Whether none was handed back.
@@ -69,23 +110,32 @@ fn takes_many<R: Wait>(rt: &R, tickets: &Tickets, mut pass: TicketPass, count: &
     is_right
 }
 
-fn in_two_threads<R: Threads + Wait + Abort + Sync>(rt: &R, alloc: Global) -> Result<(), Fail> {
-    let (tickets, mut passes) = Tickets::open(alloc, 2)?;
-    assert_eq!(rt; passes.len(), 2);
-    let second = passes.remove(1);
-    let first = passes.remove(0);
-    let count = AtomicU32::new(0);
-    let (put, taken) = thread::join(
+/// One thread puts, and another one takes. Whether each found what it should.
+fn put_and_take<R: Threads + Wait + Sync>(
+    rt: &R,
+    tickets: &Tickets,
+    count: &AtomicU32,
+    first: TicketPass,
+    second: TicketPass,
+) -> (bool, bool)
+    requires first { first.queue ≡ tickets.now }
+    requires second { second.queue ≡ tickets.now }
+{
+    thread::join(
         rt,
-        || -> bool
-            requires { first.queue ≡ tickets }
-        { puts_many(rt, &tickets, first, &count) },
-        || -> bool
-            requires { second.queue ≡ tickets }
-        { takes_many(rt, &tickets, second, &count) },
-    );
-    assert!(rt; put);
-    assert!(rt; taken);
+        move || -> bool
+            requires { first.queue ≡ tickets.now }
+        { puts_many(rt, tickets, first, count) },
+        move || -> bool
+            requires { second.queue ≡ tickets.now }
+        { takes_many(rt, tickets, second, count) },
+    )
+}
+
+fn in_two_threads<R: Threads + Wait + Abort + Sync>(rt: &R, alloc: Global) -> Result<(), Fail> {
+    let (tickets, first, second) = opened(rt, alloc)?;
+    let found = put_and_take(rt, &tickets, &AtomicU32::new(0), first, second);
+    same(rt, found, (true, true), "put and taken");
     Ok(())
 }
 

@@ -1,7 +1,7 @@
 //! What `gather` answers, and why it refuses.
 use super::setting::*;
 use bt_expect::same;
-use bt_picker::{Call, CallMark, Reply};
+use bt_picker::{Call, CallMark, Mark, Reply};
 use bt_shared::{Book, GatherFault};
 use std::alloc::Global;
 use std::process::Abort;
@@ -15,23 +15,32 @@ fn two_join<R: Wait + Abort>(
     first: usize,
     second: usize,
 ) -> Result<(), Fail> {
-    same(seated.call(rt, first, Call::Join)?, Reply::Joined)?;
-    same(seated.call(rt, second, Call::Join)?, Reply::Joined)?;
-    Ok(())
+    seated.says(rt, first, Call::Join, Reply::Joined)?;
+    seated.says(rt, second, Call::Join, Reply::Joined)
 }
 
 /// Of two workers that joined, one pass is lost.
 #[test]
 fn a_lost_pass(rt: HostRuntime) -> Result<(), Fail> {
     let mut seated = Seated::open(&rt, rt.alloc(), 2)?;
-    two_join(&rt, &mut seated, 0, 1)?;
-    seated.lose(&rt, 1);
+    join_and_lose(&rt, &mut seated)?;
+    misses_a_pass(rt.alloc(), seated)
+}
+
+/// Both join, and the last one's pass is lost.
+fn join_and_lose<R: Wait + Abort>(rt: &R, seated: &mut Seated) -> Result<(), Fail> {
+    two_join(rt, seated, 0, 1)?;
+    seated.lose(rt, 1);
+    Ok(())
+}
+
+/// The desk isn't gathered, as the passes have one call, and the journal has two.
+fn misses_a_pass(alloc: Global, seated: Seated) -> Result<(), Fail> {
     let missing = GatherFault::PassMissing {
         held: 1,
         journal: 2,
     };
-    assert!(rt; cause(seated.gather(rt.alloc()))? == Some(missing));
-    Ok(())
+    same(cause(seated.gather(alloc))?, Some(missing))
 }
 
 /// Of three workers the last two join. The idle one's pass is lost, which isn't noticed, and the last pass comes in its place: so in
@@ -39,36 +48,72 @@ fn a_lost_pass(rt: HostRuntime) -> Result<(), Fail> {
 #[test]
 fn passes_in_another_order(rt: HostRuntime) -> Result<(), Fail> {
     let mut seated = Seated::open(&rt, rt.alloc(), 3)?;
-    two_join(&rt, &mut seated, 1, 2)?;
-    seated.lose(&rt, 0);
+    join_and_lose_another(&rt, &mut seated)?;
     let book = seated.gather(rt.alloc())?;
-    has_two_joins(&rt, &book);
+    has_two_joins(&rt, &book)
+}
+
+/// The last two join, and the first one's pass is lost.
+fn join_and_lose_another<R: Wait + Abort>(rt: &R, seated: &mut Seated) -> Result<(), Fail> {
+    two_join(rt, seated, 1, 2)?;
+    seated.lose(rt, 0);
     Ok(())
 }
 
+/// The log of whoever joins first.
+const FIRST: &[Mark] = &[Mark {
+    place: 0,
+    call: CallMark::Join,
+    reply: Reply::Joined,
+}];
+
+/// The log of whoever joins second.
+const SECOND: &[Mark] = &[Mark {
+    place: 1,
+    call: CallMark::Join,
+    reply: Reply::Joined,
+}];
+
 /// Of three logs the first is empty, and each other one has that its worker joined.
-fn has_two_joins(rt: &impl Abort, book: &Book) {
-    assert!(rt; book.logs.len() == 3);
-    assert!(rt; book.logs[0].is_empty());
-    assert!(rt; book.logs[1].as_slice() == [mark(0, CallMark::Join, Reply::Joined)].as_slice());
-    assert!(rt; book.logs[2].as_slice() == [mark(1, CallMark::Join, Reply::Joined)].as_slice());
+fn has_two_joins(rt: &impl Abort, book: &Book) -> Result<(), Fail> {
+    same(book.logs.len(), 3)?;
+    log_is(rt, book, 0, &[])?;
+    log_is(rt, book, 1, FIRST)?;
+    log_is(rt, book, 2, SECOND)
 }
+
+/// Bytes of bitfields, and the piece at which each differs from the desk.
+const ROWS: &[(u8, Option<u32>)] = &[
+    (0x20, None),
+    (0x00, Some(2)),
+    (0x60, Some(1)),
+    (0x80, Some(0)),
+];
 
 /// The last piece is had, and a bitfield tells which pieces are.
 #[test]
 fn bitfields_of_had_pieces(rt: HostRuntime) -> Result<(), Fail> {
-    for (byte, other) in [
-        (0x20, None),
-        (0x00, Some(2)),
-        (0x60, Some(1)),
-        (0x80, Some(0)),
-    ] {
-        let mut seated = Seated::open(&rt, rt.alloc(), 1)?;
-        bring_the_last_piece(&rt, rt.alloc(), &mut seated)?;
-        let fault = cause(seated.gather_beside(rt.alloc(), byte)?)?;
-        assert!(rt; fault == other.map(|piece| GatherFault::BoardDiffers { piece }));
+    for &(byte, other) in ROWS {
+        differs_at(&rt, rt.alloc(), byte, other)?;
     }
     Ok(())
+}
+
+/// A desk that has the last piece differs from the bitfield in this piece, or in none.
+fn differs_at<R: Wait + Abort>(
+    rt: &R,
+    alloc: Global,
+    byte: u8,
+    other: Option<u32>,
+) -> Result<(), Fail> {
+    let mut seated = Seated::open(rt, alloc, 1)?;
+    bring_the_last_piece(rt, alloc, &mut seated)?;
+    let fault = cause(seated.gather_beside(alloc, byte)?)?;
+    same(fault, other.map(differs))
+}
+
+fn differs(piece: u32) -> GatherFault {
+    GatherFault::BoardDiffers { piece }
 }
 
 /// The worker joins, brings the last piece and has it checked.
@@ -77,8 +122,7 @@ fn bring_the_last_piece<R: Wait + Abort>(
     alloc: Global,
     seated: &mut Seated,
 ) -> Result<(), Fail> {
-    same(seated.call(rt, 0, Call::Join)?, Reply::Joined)?;
-    same(seated.call(rt, 0, block(2, b"a"))?, Reply::Completed)?;
-    same(seated.settle_now(rt, alloc, 0, 2)?, Reply::Had)?;
-    Ok(())
+    seated.says(rt, 0, Call::Join, Reply::Joined)?;
+    seated.says(rt, 0, block(2, b"a"), Reply::Completed)?;
+    seated.settles(rt, alloc, 0, 2, Reply::Had)
 }

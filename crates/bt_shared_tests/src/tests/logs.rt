@@ -5,7 +5,7 @@ ghost use Rattle.bt_meta.specs.Layout.{piece_count};
 use super::setting::*;
 use bt_expect::same;
 use bt_meta::Bitfield;
-use bt_picker::{Call, CallMark, Desk, Reason, Reply};
+use bt_picker::{Call, CallMark, Desk, Mark, Reason, Reply};
 use bt_shared::Book;
 use std::alloc::Global;
 use std::process::Abort;
@@ -19,43 +19,46 @@ fn one_worker_to_a_had_piece(rt: HostRuntime) -> Result<(), Fail> {
     bring_a_piece(&rt, &mut seated)?;
     check_pieces(&rt, rt.alloc(), &mut seated)?;
     let book = seated.gather(rt.alloc())?;
-    has_a_had_piece(&rt, &book);
-    Ok(())
+    has_a_had_piece(&rt, &book)
 }
 
 /// The worker joins, and the last piece comes.
 fn bring_a_piece<R: Wait + Abort>(rt: &R, seated: &mut Seated) -> Result<(), Fail> {
-    same(seated.call(rt, 0, Call::Join)?, Reply::Joined)?;
-    same(seated.call(rt, 0, block(2, b"a"))?, Reply::Completed)?;
-    Ok(())
+    seated.says(rt, 0, Call::Join, Reply::Joined)?;
+    seated.says(rt, 0, block(2, b"a"), Reply::Completed)
 }
 
 /// There is a job of the last piece, which then is had, and none of the first one.
 fn check_pieces<R: Wait + Abort>(rt: &R, alloc: Global, seated: &mut Seated) -> Result<(), Fail> {
-    assert!(rt; seated.has_job(rt, alloc, 0, 2)?);
-    assert!(rt; !seated.has_job(rt, alloc, 0, 0)?);
-    same(seated.settle_now(rt, alloc, 0, 2)?, Reply::Had)?;
-    same(
-        seated.settle_now(rt, alloc, 0, 0)?,
-        Reply::Refused(Reason::NotWaiting),
-    )?;
-    Ok(())
+    same(seated.has_job(rt, alloc, 0, 2)?, true)?;
+    same(seated.has_job(rt, alloc, 0, 0)?, false)?;
+    seated.settles(rt, alloc, 0, 2, Reply::Had)?;
+    seated.settles(rt, alloc, 0, 0, Reply::Refused(Reason::NotWaiting))
 }
 
+/// The calls by which the last piece comes and is had.
+const HAD: &[Mark] = &[
+    Mark {
+        place: 0,
+        call: CallMark::Join,
+        reply: Reply::Joined,
+    },
+    Mark {
+        place: 1,
+        call: ARRIVED,
+        reply: Reply::Completed,
+    },
+    Mark {
+        place: 2,
+        call: CallMark::Settle(2),
+        reply: Reply::Had,
+    },
+];
+
 /// The one log has how the piece came, and that it is had.
-fn has_a_had_piece(rt: &impl Abort, book: &Book) {
-    assert!(rt; book.logs.len() == 1);
-    let arrived = CallMark::Arrived {
-        piece: 2,
-        begin: 0,
-        len: 1,
-    };
-    let log = [
-        mark(0, CallMark::Join, Reply::Joined),
-        mark(1, arrived, Reply::Completed),
-        mark(2, CallMark::Settle(2), Reply::Had),
-    ];
-    assert!(rt; book.logs[0].as_slice() == log.as_slice());
+fn has_a_had_piece(rt: &impl Abort, book: &Book) -> Result<(), Fail> {
+    same(book.logs.len(), 1)?;
+    log_is(rt, book, 0, HAD)
 }
 
 /// How many peers show the piece.
@@ -76,10 +79,9 @@ fn a_bitfield_is_entered_whole(rt: HostRuntime) -> Result<(), Fail> {
 
 /// A peer joins, and tells that it has the second piece.
 fn tell_a_piece<R: Wait + Abort>(rt: &R, alloc: Global, seated: &mut Seated) -> Result<(), Fail> {
-    same(seated.call(rt, 0, Call::Join)?, Reply::Joined)?;
+    seated.says(rt, 0, Call::Join, Reply::Joined)?;
     let told = Call::Bits(bits(alloc, 0x40)?);
-    same(seated.call(rt, 0, told)?, Reply::Noted(true))?;
-    Ok(())
+    seated.says(rt, 0, told, Reply::Noted(true))
 }
 
 /// One peer shows the second piece, and none another.
@@ -88,8 +90,7 @@ fn is_shown_by_one(desk: &Desk) -> Result<(), Fail>
 {
     same(peers_of(desk, 0), 0)?;
     same(peers_of(desk, 1), 1)?;
-    same(peers_of(desk, 2), 0)?;
-    Ok(())
+    same(peers_of(desk, 2), 0)
 }
 
 /// Calls that are refused are entries, and have their marks; a check of a piece that doesn't wait for one is none.
@@ -97,41 +98,53 @@ fn is_shown_by_one(desk: &Desk) -> Result<(), Fail>
 fn refused_calls_are_marked(rt: HostRuntime) -> Result<(), Fail> {
     let mut seated = Seated::open(&rt, rt.alloc(), 2)?;
     make_refused_calls(&rt, rt.alloc(), &mut seated)?;
-    has_refused_calls(&rt, &seated);
-    Ok(())
+    has_refused_calls(&rt, &seated)
 }
 
-/// Two calls that are refused and one that isn't, with their replies.
-fn refused_calls(alloc: Global) -> Result<Vec<(Call, Reply)>, Fail> {
-    let wrong_count = (
-        Call::Want(Bitfield::empty(alloc, 4)?),
-        Reply::Refused(Reason::WrongCount),
-    );
-    let wanted = (Call::Want(bits(alloc, 0xe0)?), Reply::Quiet);
-    let stranger = (Call::Leave, Reply::Refused(Reason::NotJoined));
-    Ok(vec![in alloc; stranger, wrong_count, wanted]?)
-}
-
-/// The second worker makes these calls, and asks for a check of a piece that isn't there.
+/// The second worker's calls, of which two are refused and one isn't; then it asks for a check of a piece that isn't there.
 fn make_refused_calls<R: Wait + Abort>(
     rt: &R,
     alloc: Global,
     seated: &mut Seated,
 ) -> Result<(), Fail> {
-    seated.talk(rt, 1, refused_calls(alloc)?)?;
-    same(
-        seated.settle_now(rt, alloc, 1, 9)?,
-        Reply::Refused(Reason::NoSuchPiece),
-    )?;
-    Ok(())
+    seated.says(rt, 1, Call::Leave, Reply::Refused(Reason::NotJoined))?;
+    want_too_many(rt, alloc, seated)?;
+    want_all(rt, alloc, seated)?;
+    seated.settles(rt, alloc, 1, 9, Reply::Refused(Reason::NoSuchPiece))
 }
 
+/// The second worker tells what is wanted of four pieces.
+fn want_too_many<R: Wait + Abort>(rt: &R, alloc: Global, seated: &mut Seated) -> Result<(), Fail> {
+    let call = Call::Want(Bitfield::empty(alloc, 4)?);
+    seated.says(rt, 1, call, Reply::Refused(Reason::WrongCount))
+}
+
+/// The second worker wants all pieces.
+fn want_all<R: Wait + Abort>(rt: &R, alloc: Global, seated: &mut Seated) -> Result<(), Fail> {
+    let call = Call::Want(bits(alloc, 0xe0)?);
+    seated.says(rt, 1, call, Reply::Quiet)
+}
+
+/// The calls of which two are refused.
+const REFUSED: &[Mark] = &[
+    Mark {
+        place: 0,
+        call: CallMark::Leave,
+        reply: Reply::Refused(Reason::NotJoined),
+    },
+    Mark {
+        place: 1,
+        call: CallMark::Want,
+        reply: Reply::Refused(Reason::WrongCount),
+    },
+    Mark {
+        place: 2,
+        call: CallMark::Want,
+        reply: Reply::Quiet,
+    },
+];
+
 /// The second worker's log has the calls, and no check.
-fn has_refused_calls(rt: &impl Abort, seated: &Seated) {
-    let log = [
-        mark(0, CallMark::Leave, Reply::Refused(Reason::NotJoined)),
-        mark(1, CallMark::Want, Reply::Refused(Reason::WrongCount)),
-        mark(2, CallMark::Want, Reply::Quiet),
-    ];
-    assert!(rt; seated.log(rt, 1) == log.as_slice());
+fn has_refused_calls(rt: &impl Abort, seated: &Seated) -> Result<(), Fail> {
+    same(seated.log(rt, 1), REFUSED)
 }

@@ -4,7 +4,7 @@ ghost use Rattle.bt_shared.specs.Passes.{IsSame};
 
 use super::setting::*;
 use bt_expect::same;
-use bt_picker::{Call, CallMark, Reason, Reply};
+use bt_picker::{Call, CallMark, Mark, Reason, Reply};
 use bt_shared::{Book, Pass, SharedDesk};
 use std::alloc::Global;
 use std::process::Abort;
@@ -23,8 +23,7 @@ fn says<R: Wait + Abort>(
     ensures { IsSame pass.old pass.new }
 {
     let reply = called(rt, desk, pass, call)?;
-    assert!(rt; is_reply(reply, wanted));
-    Ok(())
+    same(reply, wanted)
 }
 
 /// Both join; the first asks to join again, which the second then knows.
@@ -66,9 +65,8 @@ fn bring_a_piece<R: Wait + Abort>(
     ensures second { IsSame second.old second.new }
 {
     says(rt, desk, second, block(2, b"a"), Reply::Completed)?;
-    assert!(rt; finds_job(rt, alloc, desk, first, 2)?);
-    let reply = settled(rt, alloc, desk, first, 2)?;
-    assert!(rt; is_reply(reply, Reply::Had));
+    same(finds_job(rt, alloc, desk, first, 2)?, true)?;
+    same(settled(rt, alloc, desk, first, 2)?, Reply::Had)?;
     says(rt, desk, second, block(2, b"a"), Reply::Dropped)
 }
 
@@ -78,8 +76,7 @@ fn two_passes_meet(rt: HostRuntime) -> Result<(), Fail> {
     let mut seated = Seated::open(&rt, rt.alloc(), 2)?;
     call_in_turn(&rt, rt.alloc(), &mut seated)?;
     let book = seated.gather_beside(rt.alloc(), 0x20)??;
-    has_both_logs(&rt, &book);
-    Ok(())
+    has_both_logs(&rt, &book)
 }
 
 /// The calls of both, whose passes are put back.
@@ -93,25 +90,47 @@ fn call_in_turn<R: Wait + Abort>(rt: &R, alloc: Global, seated: &mut Seated) -> 
     Ok(())
 }
 
+/// The first worker's calls.
+const FIRSTS: &[Mark] = &[
+    Mark {
+        place: 0,
+        call: CallMark::Join,
+        reply: Reply::Joined,
+    },
+    Mark {
+        place: 2,
+        call: CallMark::Join,
+        reply: Reply::Refused(Reason::AlreadyJoined),
+    },
+    Mark {
+        place: 4,
+        call: CallMark::Settle(2),
+        reply: Reply::Had,
+    },
+];
+
+/// The second worker's calls.
+const SECONDS: &[Mark] = &[
+    Mark {
+        place: 1,
+        call: CallMark::Join,
+        reply: Reply::Joined,
+    },
+    Mark {
+        place: 3,
+        call: ARRIVED,
+        reply: Reply::Completed,
+    },
+    Mark {
+        place: 5,
+        call: ARRIVED,
+        reply: Reply::Dropped,
+    },
+];
+
 /// Each log has its own worker's calls.
-fn has_both_logs(rt: &impl Abort, book: &Book) {
-    let arrived = CallMark::Arrived {
-        piece: 2,
-        begin: 0,
-        len: 1,
-    };
-    let again = Reply::Refused(Reason::AlreadyJoined);
-    let firsts = [
-        mark(0, CallMark::Join, Reply::Joined),
-        mark(2, CallMark::Join, again),
-        mark(4, CallMark::Settle(2), Reply::Had),
-    ];
-    let seconds = [
-        mark(1, CallMark::Join, Reply::Joined),
-        mark(3, arrived, Reply::Completed),
-        mark(5, arrived, Reply::Dropped),
-    ];
-    assert!(rt; book.logs.len() == 2);
-    assert!(rt; book.logs[0].as_slice() == firsts.as_slice());
-    assert!(rt; book.logs[1].as_slice() == seconds.as_slice());
+fn has_both_logs(rt: &impl Abort, book: &Book) -> Result<(), Fail> {
+    same(book.logs.len(), 2)?;
+    log_is(rt, book, 0, FIRSTS)?;
+    log_is(rt, book, 1, SECONDS)
 }

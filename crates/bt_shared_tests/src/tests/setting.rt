@@ -3,6 +3,7 @@ ghost use Rattle.std.specs.Prelude.{◌≡◌, ◌≤◌, length, IfOk};
 ghost use Rattle.bt_meta.specs.Layout.{piece_count};
 ghost use Rattle.bt_shared.specs.Passes.{IsOf, IsSame};
 
+use bt_expect::same;
 use bt_meta::{Bitfield, Torrent};
 use bt_picker::{Call, CallMark, Mark, Reply, Rules};
 use bt_shared::{Book, GatherFault, Pass, SharedDesk};
@@ -67,16 +68,20 @@ pub fn finds_job<R: Wait>(
     Ok(job.is_some())
 }
 
-/// Whether it is this reply.
-pub fn is_reply(reply: Reply, wanted: Reply) -> bool {
-    reply == wanted
-}
-
 /// A shared desk of the pieces `abc`, `abc` and `a`, and its passes.
-#[derive(Drop)]
 pub struct Seated {
     desk: SharedDesk,
     passes: Vec<Pass>,
+}
+
+/// The end of a desk with its passes is one call for whoever owns one.
+impl Drop for Seated {
+    fn drop(self) {
+        let Seated {
+            desk: _desk,
+            passes: _passes,
+        } = self;
+    }
 }
 
 impl Model for Seated {
@@ -102,33 +107,39 @@ impl Seated {
     }
 
     /// The worker's call.
-    pub fn call<R: Wait + Abort>(
-        &mut self,
-        rt: &R,
-        worker: usize,
-        call: Call,
-    ) -> Result<Reply, Fail> {
+    fn call<R: Wait + Abort>(&mut self, rt: &R, worker: usize, call: Call) -> Result<Reply, Fail> {
         let Seated { desk, passes } = self;
         assert!(rt; worker < passes.len());
         Ok(called(rt, desk, &mut passes[worker], call)?)
     }
 
-    /// Makes the worker's calls, each of which has to get the reply beside it.
-    pub fn talk<R: Wait + Abort>(
+    /// The worker's call, which has to get this reply.
+    pub fn says<R: Wait + Abort>(
         &mut self,
         rt: &R,
         worker: usize,
-        calls: Vec<(Call, Reply)>,
+        call: Call,
+        wanted: Reply,
     ) -> Result<(), Fail> {
-        for (call, wanted) in calls {
-            let reply = self.call(rt, worker, call)?;
-            assert!(rt; is_reply(reply, wanted));
-        }
-        Ok(())
+        let reply = self.call(rt, worker, call)?;
+        same(reply, wanted)
+    }
+
+    /// The worker's check of a piece, which has to come to this.
+    pub fn settles<R: Wait + Abort>(
+        &mut self,
+        rt: &R,
+        alloc: Global,
+        worker: usize,
+        piece: u32,
+        wanted: Reply,
+    ) -> Result<(), Fail> {
+        let reply = self.settle_now(rt, alloc, worker, piece)?;
+        same(reply, wanted)
     }
 
     /// The worker's check of a piece.
-    pub fn settle_now<R: Wait + Abort>(
+    fn settle_now<R: Wait + Abort>(
         &mut self,
         rt: &R,
         alloc: Global,
@@ -215,11 +226,7 @@ pub fn cause(gathered: Result<Book, GatherFault>) -> Result<Option<GatherFault>,
 
 /// The digests of the pieces `abc`, `abc` and `a`.
 fn hashes(alloc: Global) -> Result<Vec<[u8; 20]>, AllocError> {
-    let mut hashes = Vec::new(alloc);
-    for digest in [ABC, ABC, A] {
-        hashes.push(digest)?;
-    }
-    Ok(hashes)
+    Ok(vec![in alloc; ABC, ABC, A]?)
 }
 
 /// The torrent of the pieces `abc`, `abc` and `a`.
@@ -247,6 +254,15 @@ pub fn block(piece: u32, bytes: &'static [u8]) -> Call {
     }
 }
 
-pub fn mark(place: usize, call: CallMark, reply: Reply) -> Mark {
-    Mark { place, call, reply }
+/// The last piece arrives.
+pub const ARRIVED: CallMark = CallMark::Arrived {
+    piece: 2,
+    begin: 0,
+    len: 1,
+};
+
+/// The log of a worker in the book, which has to be this.
+pub fn log_is(rt: &impl Abort, book: &Book, worker: usize, wanted: &[Mark]) -> Result<(), Fail> {
+    assert!(rt; worker < book.logs.len());
+    same(book.logs[worker].as_slice(), wanted)
 }
