@@ -102,11 +102,14 @@ impl Source for Breaking<'_> {
             return Err(DeviceFault);
         }
         self.left -= 1;
-        let (Some(to), Some((byte, rest))) = (room.first_mut(), self.rest.split_first()) else {
-            self.ended |= !room.is_empty();
+        if room.is_empty() {
+            return Ok(0);
+        }
+        let Some((byte, rest)) = self.rest.split_first() else {
+            self.ended = true;
             return Ok(0);
         };
-        *to = *byte;
+        room[0] = *byte;
         self.rest = rest;
         Ok(1)
     }

@@ -113,20 +113,36 @@ fn outcome_of(alloc: Global, run: SerialRun, streams: Vec<Recorded<'_>>) -> Resu
     })
 }
 
-/// A stream for each of these, in which it is sent.
-fn streams_of(alloc: Global, sent: &[Vec<u8>]) -> Result<Vec<Recorded<'_>>, Fail> {
-    let mut streams = Vec::new(alloc);
+/// Puts a stream for each of these behind the others, in which it is sent.
+fn put_streams<'a>(
+    alloc: Global,
+    streams: &mut Vec<Recorded<'a>>,
+    sent: &'a [Vec<u8>],
+) -> Result<(), AllocError> {
     for bytes in sent {
         streams.push(recorded(alloc, bytes))?;
     }
+    Ok(())
+}
+
+/// A stream for each of these.
+fn streams_of(alloc: Global, sent: &[Vec<u8>]) -> Result<Vec<Recorded<'_>>, AllocError> {
+    let mut streams = Vec::new(alloc);
+    put_streams(alloc, &mut streams, sent)?;
     Ok(streams)
 }
 
-fn written(alloc: Global, streams: Vec<Recorded<'_>>) -> Result<Vec<Vec<u8>>, Fail> {
-    let mut all = Vec::new(alloc);
+/// Puts what was written to each stream behind the others.
+fn put_written(all: &mut Vec<Vec<u8>>, streams: Vec<Recorded<'_>>) -> Result<(), AllocError> {
     for stream in streams {
         all.push(stream.writer.into_inner())?;
     }
+    Ok(())
+}
+
+fn written(alloc: Global, streams: Vec<Recorded<'_>>) -> Result<Vec<Vec<u8>>, AllocError> {
+    let mut all = Vec::new(alloc);
+    put_written(&mut all, streams)?;
     Ok(all)
 }
 
@@ -160,8 +176,13 @@ fn is_written(alloc: Global, told: &Outcome, stream: u8, messages: &[u8]) -> Res
 /// A run in which no piece is wanted.
 fn without_a_wish(alloc: Global) -> Result<Outcome, Fail> {
     let sent = [peer(alloc, 1, &PEER)?];
+    told_without_a_wish(alloc, &sent)
+}
+
+fn told_without_a_wish(alloc: Global, sent: &[Vec<u8>]) -> Result<Outcome, Fail> {
+    let torrent = torrent(alloc)?;
     let want = Bitfield::empty(alloc, 1)?;
-    told(alloc, torrent(alloc)?, &sent, 0, Some(want))
+    told(alloc, torrent, sent, 0, Some(want))
 }
 
 /// A block that came though its piece isn't wanted is kept, and the piece checked; the peer is told of it, and never of interest.
@@ -298,7 +319,11 @@ fn words_come_from_the_seed(rt: HostRuntime) -> Result<(), Fail> {
 fn run_of_two(alloc: Global) -> Result<SerialRun, Fail> {
     let sent = sent_by_two(alloc)?;
     let mut streams = streams_of(alloc, &sent)?;
-    run_by(alloc, two_pieces(alloc)?, &mut streams, 5, None, RULES)
+    run_for_two(alloc, &mut streams)
+}
+
+fn run_for_two(alloc: Global, streams: &mut [Recorded<'_>]) -> Result<SerialRun, Fail> {
+    run_by(alloc, two_pieces(alloc)?, streams, 5, None, RULES)
 }
 
 fn both_ask_by_the_seed(entries: &[Entry]) -> Result<(), Fail> {

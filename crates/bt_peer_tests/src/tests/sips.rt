@@ -1,6 +1,6 @@
 //! Sources that give little at each read.
 
-use super::whole::{WHOLE, told_of};
+use super::whole::{WHOLE, ended};
 use crate::{PEER, peer};
 use bt_expect::same;
 use bt_meta::{DeviceFault, Source};
@@ -52,9 +52,7 @@ impl Source for Sips<'_> {
         let size = self.size().min(room.len()).min(self.rest.len());
         self.reads = self.reads.saturating_add(1);
         let (sip, rest) = self.rest.split_at(size);
-        for (to, from) in room.iter_mut().zip(sip) {
-            *to = *from;
-        }
+        room[..size].copy_from_slice(sip);
         self.rest = rest;
         if size == 0 && !room.is_empty() {
             self.ended = true;
@@ -81,7 +79,7 @@ fn is_whole_twice(alloc: Global, stream: &[u8]) -> Result<(), Fail> {
 
 /// The session is a whole one where each read gives as much as the sizes say.
 fn is_whole(alloc: Global, stream: &[u8], sizes: &[usize]) -> Result<(), Fail> {
-    let (end, calls, _) = told_of(alloc, &mut Sips::new(stream, sizes))?;
+    let (end, calls) = ended(alloc, &mut Sips::new(stream, sizes))?;
     same((end, calls.as_str()), (Ok(End { messages: 3 }), WHOLE))
 }
 
@@ -103,7 +101,7 @@ fn much_at_once(rt: HostRuntime) -> Result<(), Fail> {
 
 /// Each of the keepalives is a message.
 fn takes_all(alloc: Global, stream: &[u8]) -> Result<(), Fail> {
-    let (end, calls, _) = told_of(alloc, &mut Sips::new(stream, &[65_535]))?;
+    let (end, calls) = ended(alloc, &mut Sips::new(stream, &[65_535]))?;
     let last = calls.as_str().ends_with("next = Choked; leave = Quiet; ");
     same((end, last), (Ok(End { messages: 50_000 }), true))
 }

@@ -50,22 +50,12 @@ pub fn tell(entry: &Entry, said: &mut String) -> Result<(), AllocError> {
     write!(said, " = {reply:?}; ")
 }
 
-/// What came of it, the journal, and what was written.
-fn told(
-    alloc: Global,
-    stream: &[u8],
-) -> Result<(Result<End, SessionFault>, String, Vec<u8>), Fail> {
-    told_of(alloc, &mut FromRead::new(Cursor::new(stream)))
-}
-
-/// The same of a source, which is read to its end.
-pub fn told_of<R: Source>(
+/// How a session of the last of four workers ended whose source is read to its end, and the journal.
+pub fn ended<R: Source>(
     alloc: Global,
     reader: &mut R,
-) -> Result<(Result<End, SessionFault>, String, Vec<u8>), Fail> {
-    let mut writer = ToWrite::new(Vec::new(alloc));
-    let (end, said) = played(alloc, 4, reader, &mut writer)?;
-    Ok((end, said, writer.into_inner()))
+) -> Result<(Result<End, SessionFault>, String), Fail> {
+    played(alloc, 4, reader, &mut ToWrite::new(Vec::new(alloc)))
 }
 
 /// How a session of the last of so many workers with these devices ended, and its calls.
@@ -154,11 +144,15 @@ fn a_whole_session(rt: HostRuntime) -> Result<(), Fail> {
 
 /// The session of this stream is a whole one.
 fn is_whole(alloc: Global, sent: &[u8]) -> Result<(), Fail> {
-    let (end, calls, written) = told(alloc, sent)?;
-    same(
-        (end, calls.as_str(), written.as_slice()),
-        (Ok(End { messages: 3 }), WHOLE, WRITTEN),
-    )
+    let mut writer = ToWrite::new(Vec::new(alloc));
+    ends_whole(alloc, sent, &mut writer)?;
+    same(writer.into_inner().as_slice(), WRITTEN)
+}
+
+/// The session of this stream ends well, with the calls of a whole one.
+fn ends_whole<W: Sink>(alloc: Global, sent: &[u8], writer: &mut W) -> Result<(), Fail> {
+    let (end, calls) = played(alloc, 4, &mut FromRead::new(Cursor::new(sent)), writer)?;
+    same((end, calls.as_str()), (Ok(End { messages: 3 }), WHOLE))
 }
 
 /// The calls of a session whose peer breaks off in the block.
@@ -215,6 +209,6 @@ fn ends_with_fault(
     fault: SessionFault,
     wanted: &str,
 ) -> Result<(), Fail> {
-    let (end, calls, _) = told(alloc, sent)?;
+    let (end, calls) = ended(alloc, &mut FromRead::new(Cursor::new(sent)))?;
     same((end, calls.as_str()), (Err(fault), wanted))
 }
