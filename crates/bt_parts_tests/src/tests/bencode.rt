@@ -4,6 +4,7 @@
 use bt_bencode::*;
 use bt_expect::{same, same_for};
 use std::alloc::{AllocError, AllocFailed, Global};
+use std::process::Abort;
 use std::test::*;
 
 fn tree_of(alloc: Global, source: &[u8]) -> Result<Tree, BenFault> {
@@ -63,30 +64,13 @@ fn fault_in_place(source: &[u8]) -> u8 {
     }
 }
 
-/// As many bytes `e`, behind the others.
-fn put_ends(source: &mut Vec<u8>, levels: usize) -> Result<(), AllocError> {
-    for _ in 0..levels {
-        source.push(b'e')?;
-    }
-    Ok(())
-}
-
 /// As many lists inside one another, with nothing in the innermost.
 fn nested_lists(alloc: Global, levels: usize) -> Result<Vec<u8>, AllocError> {
     let mut source = vec![in alloc; b'l'; levels]?;
-    put_ends(&mut source, levels)?;
+    for _ in 0..levels {
+        source.push(b'e')?;
+    }
     Ok(source)
-}
-
-/// Checks the number of the fault that the bytes give, with a tree and where none is made.
-fn has_fault(alloc: Global, source: &[u8], fault: u8) -> Result<(), Fail> {
-    let found = (fault_number(alloc, source), fault_in_place(source));
-    same_for(found, (fault, fault), source)
-}
-
-/// Checks that as many lists inside one another are too deep.
-fn are_too_deep(alloc: Global, levels: usize) -> Result<(), Fail> {
-    has_fault(alloc, &nested_lists(alloc, levels)?, 7)
 }
 
 #[test]
@@ -123,9 +107,12 @@ fn each_fault_has_its_number(rt: HostRuntime) -> Result<(), Fail> {
         (b"dxe", 9),
     ];
     for &(source, fault) in ROWS {
-        has_fault(rt.alloc(), source, fault)?;
+        same_for(fault_number(rt.alloc(), source), fault, source)?;
+        same_for(fault_in_place(source), fault, source)?;
     }
-    are_too_deep(rt.alloc(), 65)?;
+    let too_deep = nested_lists(rt.alloc(), 65)?;
+    same(fault_number(rt.alloc(), &too_deep), 7)?;
+    same(fault_in_place(&too_deep), 7)?;
     same(BenFault::from(AllocError) as u8, 10)
 }
 
@@ -137,11 +124,12 @@ fn a_mebibyte_of_lists_is_too_deep(rt: HostRuntime) -> Result<(), Fail> {
 
 #[test]
 fn each_proper_prefix_is_truncated(rt: HostRuntime) -> Result<(), Fail> {
-    const SOURCE: &[u8] = b"d4:infold3:keyi-30eel0:11:eleven byteei0ee4:name2:xye";
-    for end in 0..SOURCE.len() {
-        same_for(fault_number(rt.alloc(), &SOURCE[..end]), 1, end)?;
+    let source: &[u8] = b"d4:infold3:keyi-30eel0:11:eleven byteei0ee4:name2:xye";
+    same(fault_number(rt.alloc(), source), 0)?;
+    for end in 0..source.len() {
+        same_for(fault_number(rt.alloc(), &source[..end]), 1, end)?;
     }
-    same(fault_number(rt.alloc(), SOURCE), 0)
+    Ok(())
 }
 
 /// What is written of the tree. A call that found no memory is made once more.
@@ -158,21 +146,12 @@ fn is_written(alloc: Global, tree: &Tree, wanted: &[u8]) -> Result<(), Fail> {
     same(bytes.as_slice(), wanted)
 }
 
-/// Checks that the tree spans the bytes, and is written as they are.
-fn stands_and_is_written(alloc: Global, tree: &Tree, source: &[u8]) -> Result<(), Fail> {
-    stands(tree, 0, source.len())?;
-    is_written(alloc, tree, source)
-}
-
 /// Checks that the bytes are written as they were read, and that the tree spans them.
 fn comes_back(alloc: Global, source: &[u8]) -> Result<(), Fail> {
     let tree = parse_again(alloc, source)?;
-    stands_and_is_written(alloc, &tree, source)
-}
-
-/// Checks as many lists inside one another.
-fn lists_come_back(alloc: Global, levels: usize) -> Result<(), Fail> {
-    comes_back(alloc, &nested_lists(alloc, levels)?)
+    same(span(&tree).start, 0)?;
+    same(span(&tree).end, source.len())?;
+    is_written(alloc, &tree, source)
 }
 
 #[test]
@@ -190,7 +169,7 @@ fn what_is_accepted_is_written_back(rt: HostRuntime) -> Result<(), Fail> {
     for source in SOURCES {
         comes_back(rt.alloc(), source)?;
     }
-    lists_come_back(rt.alloc(), 64)
+    comes_back(rt.alloc(), &nested_lists(rt.alloc(), 64)?)
 }
 
 /// Checks where the tree stands.
@@ -199,33 +178,24 @@ fn stands(tree: &Tree, start: usize, end: usize) -> Result<(), Fail> {
 }
 
 /// Checks where a list stands, and its two items.
-fn list_stands(list: &Tree) -> Result<(), Fail> {
-    const WANTED: [Span; 3] = [
-        Span { start: 7, end: 16 },
-        Span { start: 8, end: 11 },
-        Span { start: 11, end: 15 },
-    ];
-    match items(list) {
-        Some([first, second]) => same([span(list), span(first), span(second)], WANTED),
-        _ => Err(Fail::new("no list of two")),
-    }
+fn list_stands(rt: &impl Abort, list: &Tree) -> Result<(), Fail> {
+    stands(list, 7, 16)?;
+    let items = items(list).ok_or("items")?;
+    assert!(rt; items.len() == 2);
+    stands(&items[0], 8, 11)?;
+    stands(&items[1], 11, 15)
 }
 
 /// Checks where the parts of a dictionary stand.
-fn parts_stand(dict: &Tree) -> Result<(), Fail> {
-    match (part(dict, b"list"), part(dict, b"name")) {
-        (Some(list), Some(name)) => {
-            stands(name, 22, 28)?;
-            list_stands(list)
-        }
-        _ => Err(Fail::new("no list, or no name")),
-    }
+fn parts_stand(rt: &impl Abort, dict: &Tree) -> Result<(), Fail> {
+    list_stands(rt, part(dict, b"list").ok_or("a list")?)?;
+    stands(part(dict, b"name").ok_or("a dictionary")?, 22, 28)
 }
 
 #[test]
 fn parts_know_where_they_stand(rt: HostRuntime) -> Result<(), Fail> {
     let tree = parse_again(rt.alloc(), b"d4:listl1:xi-3ee4:named0:0:ee")?;
-    parts_stand(&tree)
+    parts_stand(&rt, &tree)
 }
 
 /// The value of the dictionary's key.
@@ -257,106 +227,61 @@ fn is_dict(value: &Value<'_>) -> bool {
     value.is_dict()
 }
 
-/// The string that a value is, if there is one.
-fn text_in<'a>(value: Option<Value<'a>>) -> Option<&'a [u8]> {
-    match value {
-        Some(value) => text_of(&value),
-        None => None,
-    }
+/// Checks that the next item is this string.
+fn next_is_text(items: &mut Items<'_>, wanted: &[u8]) -> Result<(), Fail> {
+    let text = next(items).ok_or("a string")?;
+    same(text_of(&text).ok_or("bytes")?, wanted)
 }
 
-/// The integer that a value is, if there is one.
-fn int_in(value: Option<Value<'_>>) -> Option<i64> {
-    match value {
-        Some(value) => int_of(&value),
-        None => None,
-    }
+/// Checks that the next item is this integer.
+fn next_is_int(items: &mut Items<'_>, wanted: i64) -> Result<(), Fail> {
+    let number = next(items).ok_or("an integer")?;
+    same(int_of(&number), Some(wanted))
 }
 
-/// Where a value stands, if there is one.
-fn span_in(value: Option<Value<'_>>) -> Option<Span> {
-    match value {
-        Some(value) => Some(span_of(&value)),
-        None => None,
-    }
+/// Checks that the next item is a dictionary with 1 at `a`.
+fn next_is_dict(rt: &impl Abort, items: &mut Items<'_>) -> Result<(), Fail> {
+    let dict = next(items).ok_or("a dictionary")?;
+    assert!(rt; is_dict(&dict));
+    let one = part_of(&dict, b"a").ok_or("its value")?;
+    same(int_of(&one), Some(1))
 }
 
-/// The integer at the key of a value, where it is a dictionary.
-fn int_at(value: Option<Value<'_>>, key: &[u8]) -> Option<i64> {
-    match value {
-        Some(value) if is_dict(&value) => int_in(part_of(&value, key)),
-        _ => None,
-    }
-}
-
-/// Checks that a string, an integer and a dictionary with 1 at `a` follow, and no other item.
-fn are_three(items: &mut Items<'_>) -> Result<(), Fail> {
-    let text = text_in(next(items));
-    let int = int_in(next(items));
-    let at = int_at(next(items), b"a");
-    same(
-        (text, int, at, next(items).is_none()),
-        (Some(b"x".as_slice()), Some(-3), Some(1), true),
-    )
-}
-
-/// Checks that the value is a list of those three items.
-fn has_three(list: &Value<'_>) -> Result<(), Fail> {
-    match items_of(list) {
-        Some(mut items) => are_three(&mut items),
-        None => Err(Fail::new("no items")),
-    }
+/// Checks that three items follow, and no other.
+fn are_three(rt: &impl Abort, items: &mut Items<'_>) -> Result<(), Fail> {
+    next_is_text(items, b"x")?;
+    next_is_int(items, -3)?;
+    next_is_dict(rt, items)?;
+    assert!(rt; next(items).is_none());
+    Ok(())
 }
 
 /// Checks a list of three items.
-fn is_list_of_three(list: &Value<'_>) -> Result<(), Fail> {
-    same(
-        (span_of(list), is_dict(list)),
-        (Span { start: 7, end: 24 }, false),
-    )?;
-    has_three(list)
+fn is_list_of_three(rt: &impl Abort, list: &Value<'_>) -> Result<(), Fail> {
+    same(span_of(list), Span { start: 7, end: 24 })?;
+    assert!(rt; !is_dict(list));
+    are_three(rt, &mut items_of(list).ok_or("items")?)
 }
 
-/// Checks that the dictionary has that list at its key.
-fn has_list(value: &Value<'_>) -> Result<(), Fail> {
-    match part_of(value, b"list") {
-        Some(list) => is_list_of_three(&list),
-        None => Err(Fail::new("no list")),
-    }
+/// Checks a dictionary with the empty string at the empty key.
+fn is_named(name: &Value<'_>) -> Result<(), Fail> {
+    let nothing = part_of(name, b"").ok_or("the empty key")?;
+    same(text_of(&nothing).ok_or("no bytes")?, b"".as_slice())
 }
 
-/// The string at a key of the dictionary at another key.
-fn text_within<'a>(value: &Value<'a>, outer: &[u8], inner: &[u8]) -> Option<&'a [u8]> {
-    match part_of(value, outer) {
-        Some(dict) => text_in(part_of(&dict, inner)),
-        None => None,
-    }
-}
-
-/// Checks the other parts of that dictionary: one with the empty string at the empty key, none at the front of a key, and the last one.
-fn has_others(value: &Value<'_>) -> Result<(), Fail> {
-    let named = text_within(value, b"name", b"");
-    let other = span_in(part_of(value, b"other"));
-    same(
-        (named, part_of(value, b"nam").is_none(), other),
-        (
-            Some(b"".as_slice()),
-            true,
-            Some(Span { start: 43, end: 46 }),
-        ),
-    )
-}
-
-/// Checks a dictionary with that list and those parts.
-fn has_all(value: &Value<'_>) -> Result<(), Fail> {
-    has_list(value)?;
-    has_others(value)
+/// Checks a dictionary with that list and that dictionary.
+fn has_both(rt: &impl Abort, value: &Value<'_>) -> Result<(), Fail> {
+    is_list_of_three(rt, &part_of(value, b"list").ok_or("a list")?)?;
+    is_named(&part_of(value, b"name").ok_or("a name")?)
 }
 
 #[test]
-fn a_value_is_read_where_it_stands() -> Result<(), Fail> {
+fn a_value_is_read_where_it_stands(rt: HostRuntime) -> Result<(), Fail> {
     let value = value_of(b"d4:listl1:xi-3ed1:ai1eee4:named0:0:e5:otheri7ee")?;
-    has_all(&value)
+    has_both(&rt, &value)?;
+    assert!(rt; part_of(&value, b"nam").is_none());
+    let other = part_of(&value, b"other").ok_or("the last")?;
+    same(span_of(&other), Span { start: 43, end: 46 })
 }
 
 fn text(alloc: Global, bytes: &[u8]) -> Result<Tree, BenFault> {
@@ -367,35 +292,18 @@ fn int(value: i64) -> Tree {
     Tree::int(value)
 }
 
-/// Puts `x` and -3 behind the others.
-fn put_two(alloc: Global, items: &mut Vec<Tree>) -> Result<(), Fail> {
-    items.push(text(alloc, b"x")?)?;
-    items.push(int(-3))?;
-    Ok(())
-}
-
 /// A list of `x` and -3.
 fn list_by_hand(alloc: Global) -> Result<Tree, Fail> {
     let mut items = Vec::new(alloc);
-    put_two(alloc, &mut items)?;
+    items.push(text(alloc, b"x")?)?;
+    items.push(int(-3))?;
     Ok(list(items)?)
-}
-
-/// Puts the tree at that key behind the others.
-fn put_entry(
-    alloc: Global,
-    entries: &mut Vec<(Vec<u8>, Tree)>,
-    key: &[u8],
-    tree: Tree,
-) -> Result<(), AllocError> {
-    entries.push((Vec::from_slice(alloc, key)?, tree))?;
-    Ok(())
 }
 
 /// A dictionary with that list at `a`.
 fn made_by_hand(alloc: Global) -> Result<Tree, Fail> {
     let mut entries = Vec::new(alloc);
-    put_entry(alloc, &mut entries, b"a", list_by_hand(alloc)?)?;
+    entries.push((Vec::from_slice(alloc, b"a")?, list_by_hand(alloc)?))?;
     Ok(dict(entries)?)
 }
 
@@ -416,81 +324,52 @@ fn key_count(tree: &Tree) -> Option<usize> {
 }
 
 /// Checks a list of `x` and -3.
-fn is_list_of_two(list: &Tree) -> Result<(), Fail> {
-    match items(list) {
-        Some([text, int]) => same(
-            (key_count(list), tree_text(text), tree_int(int)),
-            (None, Some(b"x".as_slice()), Some(-3)),
-        ),
-        _ => Err(Fail::new("no list of two")),
-    }
-}
-
-/// Checks that the dictionary has one key, which is not `b`.
-fn has_one_key(tree: &Tree) -> Result<(), Fail> {
-    same(
-        (part(tree, b"b").is_none(), key_count(tree), span(tree)),
-        (true, Some(1), Span { start: 0, end: 0 }),
-    )
+fn is_list_of_two(rt: &impl Abort, list: &Tree) -> Result<(), Fail> {
+    assert!(rt; key_count(list).is_none());
+    let items = items(list).ok_or("a list")?;
+    assert!(rt; items.len() == 2);
+    same(tree_text(&items[0]).ok_or("a string")?, b"x".as_slice())?;
+    same(tree_int(&items[1]), Some(-3))
 }
 
 /// Checks a dictionary with that list at `a`, and no other key.
-fn has_that_list(tree: &Tree) -> Result<(), Fail> {
-    has_one_key(tree)?;
-    match part(tree, b"a") {
-        Some(list) => is_list_of_two(list),
-        None => Err(Fail::new("no list")),
-    }
-}
-
-/// Checks how that dictionary is written, and what it has.
-fn is_that_dict(alloc: Global, tree: &Tree) -> Result<(), Fail> {
-    is_written(alloc, tree, b"d1:al1:xi-3eee")?;
-    has_that_list(tree)
+fn has_that_list(rt: &impl Abort, tree: &Tree) -> Result<(), Fail> {
+    is_list_of_two(rt, part(tree, b"a").ok_or("the list")?)?;
+    assert!(rt; part(tree, b"b").is_none());
+    same(key_count(tree), Some(1))?;
+    stands(tree, 0, 0)
 }
 
 #[test]
 fn trees_are_made_by_hand(rt: HostRuntime) -> Result<(), Fail> {
     let tree = made_by_hand(rt.alloc())?;
-    is_that_dict(rt.alloc(), &tree)
+    is_written(rt.alloc(), &tree, b"d1:al1:xi-3eee")?;
+    has_that_list(&rt, &tree)
 }
 
 /// A dictionary of two keys, in this order.
-fn dict_of_two(
-    alloc: Global,
-    first: &[u8],
-    second: &[u8],
-) -> Result<Result<Tree, BenFault>, AllocError> {
+fn dict_of_two(alloc: Global, first: &[u8], second: &[u8]) -> Result<Result<Tree, BenFault>, Fail> {
     let mut entries = Vec::new(alloc);
-    put_both(alloc, &mut entries, first, second)?;
+    entries.push((Vec::from_slice(alloc, first)?, int(1)))?;
+    entries.push((Vec::from_slice(alloc, second)?, int(2)))?;
     Ok(dict(entries))
 }
 
-/// Puts 1 and 2 at these keys behind the others.
-fn put_both(
-    alloc: Global,
-    entries: &mut Vec<(Vec<u8>, Tree)>,
-    first: &[u8],
-    second: &[u8],
-) -> Result<(), AllocError> {
-    put_entry(alloc, entries, first, int(1))?;
-    put_entry(alloc, entries, second, int(2))
-}
-
 /// Checks that no dictionary has these keys, in this order.
-fn are_not_sorted(alloc: Global, first: &[u8], second: &[u8]) -> Result<(), Fail> {
+fn are_not_sorted(rt: &impl Abort, alloc: Global, first: &[u8], second: &[u8]) -> Result<(), Fail> {
     let made = dict_of_two(alloc, first, second)?;
-    same(made.err(), Some(BenFault::KeyOrder))
+    assert!(rt; matches!(made, Err(BenFault::KeyOrder)));
+    Ok(())
 }
 
 #[test]
 fn a_dictionary_by_hand_has_sorted_keys(rt: HostRuntime) -> Result<(), Fail> {
-    are_not_sorted(rt.alloc(), b"b", b"a")?;
-    are_not_sorted(rt.alloc(), b"a", b"a")
+    are_not_sorted(&rt, rt.alloc(), b"b", b"a")?;
+    are_not_sorted(&rt, rt.alloc(), b"a", b"a")
 }
 
 /// A list of the tree alone.
-fn list_of_one(alloc: Global, tree: Tree) -> Result<Result<Tree, BenFault>, AllocError> {
+fn list_of_one(alloc: Global, tree: Tree) -> Result<Result<Tree, BenFault>, Fail> {
     let mut items = Vec::new(alloc);
     items.push(tree)?;
     Ok(list(items))
@@ -507,8 +386,10 @@ fn lists_by_hand(alloc: Global, levels: usize) -> Result<Tree, Fail> {
 
 #[test]
 fn lists_by_hand_stand_64_inside_one_another(rt: HostRuntime) -> Result<(), Fail> {
-    let made = list_of_one(rt.alloc(), lists_by_hand(rt.alloc(), 64)?)?;
-    same(made.err(), Some(BenFault::TooDeep))
+    let tree = lists_by_hand(rt.alloc(), 64)?;
+    let made = list_of_one(rt.alloc(), tree)?;
+    assert!(rt; matches!(made, Err(BenFault::TooDeep)));
+    Ok(())
 }
 
 /// Puts the tree behind the others. One that found no room comes back, and is put once more.
@@ -527,16 +408,10 @@ fn put_each(alloc: Global, trees: &mut Vec<Tree>, sources: &[&[u8]]) -> Result<(
     Ok(())
 }
 
-/// A list of a tree of each source.
-fn list_of_each(alloc: Global, sources: &[&[u8]]) -> Result<Tree, Fail> {
-    let mut trees = Vec::new(alloc);
-    put_each(alloc, &mut trees, sources)?;
-    Ok(list(trees)?)
-}
-
 #[test]
 fn a_tree_that_found_no_room_is_put_once_more(rt: HostRuntime) -> Result<(), Fail> {
     const SOURCES: &[&[u8]] = &[b"2:ab", b"i-3e", b"l1:xe", b"d1:ai1ee", b"le"];
-    let list = list_of_each(rt.alloc(), SOURCES)?;
-    is_written(rt.alloc(), &list, b"l2:abi-3el1:xed1:ai1eelee")
+    let mut trees = Vec::new(rt.alloc());
+    put_each(rt.alloc(), &mut trees, SOURCES)?;
+    is_written(rt.alloc(), &list(trees)?, b"l2:abi-3el1:xed1:ai1eelee")
 }

@@ -23,10 +23,9 @@ fn hashed(job: Job) -> Verdict {
 fn a_job_of_two_blocks(rt: HostRuntime) -> Result<(), Fail> {
     let blocks = vec![in rt.alloc(); Bytes::from_static(b"ab"), Bytes::from_static(b"c")]?;
     let verdict = hashed(Job { piece: 7, blocks });
-    same(
-        (verdict.piece(), *verdict.digest(), verdict.blocks().len()),
-        (7, ABC, 2),
-    )
+    same(verdict.piece(), 7)?;
+    same(*verdict.digest(), ABC)?;
+    same(verdict.blocks().len(), 2)
 }
 
 /// The SHA-1 of `a`, by another program.
@@ -60,19 +59,8 @@ fn proven(
     })
 }
 
-/// Checks whether this block proves the piece.
-fn is_proven(
-    alloc: Global,
-    torrent: &Torrent,
-    piece: u32,
-    block: &'static [u8],
-    wanted: Result<u32, u32>,
-) -> Result<(), Fail> {
-    same(proven(alloc, torrent, piece, block)?, wanted)
-}
-
-/// Checks which blocks prove a piece of that torrent.
-fn proves_what_fits(alloc: Global, torrent: &Torrent) -> Result<(), Fail> {
+#[test]
+fn what_fits_the_torrent_is_proven(rt: HostRuntime) -> Result<(), Fail> {
     const ROWS: &[(u32, &[u8], Result<u32, u32>)] = &[
         (0, b"abc", Ok(0)),
         (1, b"abc", Ok(1)),
@@ -82,14 +70,9 @@ fn proves_what_fits(alloc: Global, torrent: &Torrent) -> Result<(), Fail> {
         (3, b"a", Err(3)),
         (u32::MAX, b"a", Err(u32::MAX)),
     ];
+    let torrent = three_pieces(rt.alloc())?;
     for &(piece, block, wanted) in ROWS {
-        is_proven(alloc, torrent, piece, block, wanted)?;
+        same(proven(rt.alloc(), &torrent, piece, block)?, wanted)?;
     }
     Ok(())
-}
-
-#[test]
-fn what_fits_the_torrent_is_proven(rt: HostRuntime) -> Result<(), Fail> {
-    let torrent = three_pieces(rt.alloc())?;
-    proves_what_fits(rt.alloc(), &torrent)
 }

@@ -2,7 +2,6 @@
 
 use bt_expect::same;
 use bt_meta::*;
-use std::alloc::{AllocError, Global};
 use std::io::Cursor;
 use std::test::Fail;
 
@@ -58,77 +57,52 @@ impl Source for Drip {
     }
 }
 
-/// Moves the next bytes through a small room, and says whether there were some.
-fn copy_some<R: Source, W: Sink>(from: &mut R, to: &mut W) -> Result<bool, DeviceFault> {
-    let mut room = [0; 2];
-    let count = from.read(&mut room)?;
-    write_all(to, &room[..count])?;
-    Ok(count > 0)
-}
-
-/// Moves bytes until the source ends.
+/// Moves bytes through a small room until the source ends.
 fn copy<R: Source, W: Sink>(from: &mut R, to: &mut W) -> Result<(), DeviceFault> {
+    let mut room = [0; 2];
     for _ in 0..20 {
-        if !copy_some(from, to)? {
+        let count = from.read(&mut room)?;
+        if count == 0 {
             return Ok(());
         }
+        write_all(to, &room[..count])?;
     }
     Ok(())
 }
 
-/// A writer with room for five bytes.
-fn writer(alloc: Global) -> Result<ToWrite<Vec<u8>>, AllocError> {
-    Ok(ToWrite::new(Vec::with_capacity(alloc, 5)?))
-}
-
-/// Checks what was written.
-fn has_written(to: ToWrite<Vec<u8>>, wanted: &[u8]) -> Result<(), Fail> {
-    same(to.into_inner().as_slice(), wanted)
-}
-
 #[test]
 fn readers_and_writers_are_devices(rt: HostRuntime) -> Result<(), Fail> {
-    let mut to = writer(rt.alloc())?;
-    copy(
-        &mut FromRead::new(Cursor::new(b"abcde".as_slice())),
-        &mut to,
-    )?;
-    has_written(to, b"abcde")
-}
-
-/// Checks how the copy of a source that gives `abc` ends, and that all of it is written.
-fn copies_three(
-    alloc: Global,
-    from: &mut Drip,
-    wanted: Result<(), DeviceFault>,
-) -> Result<(), Fail> {
-    let mut to = writer(alloc)?;
-    same(copy(from, &mut to), wanted)?;
-    has_written(to, b"abc")
+    let mut from = FromRead::new(Cursor::new(b"abcde".as_slice()));
+    let mut to = ToWrite::new(Vec::with_capacity(rt.alloc(), 5)?);
+    copy(&mut from, &mut to)?;
+    same(to.into_inner().as_slice(), b"abcde".as_slice())
 }
 
 #[test]
 fn a_byte_at_a_time_and_the_end(rt: HostRuntime) -> Result<(), Fail> {
     let mut from = Drip::new(b"abc", false);
-    copies_three(rt.alloc(), &mut from, Ok(()))?;
-    same((from.ended, from.failed, from.reads), (true, false, 4))
+    let mut to = ToWrite::new(Vec::with_capacity(rt.alloc(), 5)?);
+    assert!(rt; copy(&mut from, &mut to) == Ok(()));
+    same(to.into_inner().as_slice(), b"abc".as_slice())?;
+    assert!(rt; from.ended && !from.failed && from.reads == 4);
+    Ok(())
 }
 
 #[test]
 fn a_byte_at_a_time_and_a_failure(rt: HostRuntime) -> Result<(), Fail> {
     let mut from = Drip::new(b"abc", true);
-    copies_three(rt.alloc(), &mut from, Err(DeviceFault))?;
-    same((from.failed, from.ended), (true, false))
-}
-
-/// Writes six bytes into the room.
-fn write_six(room: &mut [u8]) -> Result<(), DeviceFault> {
-    write_all(&mut ToWrite::new(room), b"abcdef")
+    let mut to = ToWrite::new(Vec::with_capacity(rt.alloc(), 5)?);
+    assert!(rt; copy(&mut from, &mut to) == Err(DeviceFault));
+    same(to.into_inner().as_slice(), b"abc".as_slice())?;
+    assert!(rt; from.failed && !from.ended);
+    Ok(())
 }
 
 #[test]
-fn a_full_writer() -> Result<(), Fail> {
+fn a_full_writer(rt: HostRuntime) -> Result<(), Fail> {
     let mut room = [0; 4];
-    let end = write_six(&mut room);
-    same((end, room), (Err(DeviceFault), *b"abcd"))
+    let mut to = ToWrite::new(room.as_mut_slice());
+    assert!(rt; write_all(&mut to, b"abcdef") == Err(DeviceFault));
+    assert!(rt; room == *b"abcd");
+    Ok(())
 }

@@ -1,23 +1,18 @@
 //! Pieces and blocks, by worked examples. What is made and asked goes through functions without a contract, so that a test knows of what
 //! they give alone, and its proof is short: each tests when it runs what its call requires.
 
-use bt_expect::{same, same_for};
+use bt_expect::same;
 use bt_meta::*;
 use std::alloc::{AllocError, Global};
+use std::process::Abort;
 use std::test::*;
 
-/// Puts so many digests behind the others, the first byte of each its place.
-fn put_digests(digests: &mut Vec<[u8; 20]>, count: u8) -> Result<(), AllocError> {
+/// So many digests, the first byte of each its place.
+fn digests(alloc: Global, count: u8) -> Result<Vec<[u8; 20]>, AllocError> {
+    let mut digests = Vec::new(alloc);
     for place in 0..count {
         digests.push([place; 20])?;
     }
-    Ok(())
-}
-
-/// So many digests.
-fn digests(alloc: Global, count: u8) -> Result<Vec<[u8; 20]>, AllocError> {
-    let mut digests = Vec::new(alloc);
-    put_digests(&mut digests, count)?;
     Ok(digests)
 }
 
@@ -31,17 +26,6 @@ fn made(
 ) -> Result<Result<Torrent, MetaFault>, AllocError> {
     let digests = digests(alloc, count)?;
     Ok(Torrent::of_parts(piece_length, total, digests, infohash))
-}
-
-/// A torrent of so many pieces.
-fn torrent_of(
-    alloc: Global,
-    piece_length: u32,
-    total: u64,
-    count: u8,
-    infohash: [u8; 20],
-) -> Result<Torrent, Fail> {
-    Ok(made(alloc, piece_length, total, count, infohash)??)
 }
 
 /// What is expected of the piece, where there is such a piece.
@@ -90,44 +74,34 @@ fn block_at(torrent: &Torrent, piece: u32, begin: u32) -> Option<Option<Block>> 
 }
 
 /// Checks what a torrent of three pieces says of itself.
-fn says_its_parts(torrent: &Torrent) -> Result<(), Fail> {
-    let found = (
-        torrent.piece_count(),
-        torrent.piece_length(),
-        torrent.total(),
-        torrent.file_count(),
-        *torrent.infohash(),
-        torrent.name().is_empty(),
-    );
-    same(found, (3, 3, 7, 1, [9; 20], true))
+fn says_its_parts(rt: &impl Abort, torrent: &Torrent) -> Result<(), Fail> {
+    same(torrent.piece_count(), 3)?;
+    same(torrent.piece_length(), 3)?;
+    same(torrent.total(), 7)?;
+    same(torrent.file_count(), 1)?;
+    same(*torrent.infohash(), [9; 20])?;
+    assert!(rt; torrent.name().is_empty());
+    Ok(())
 }
 
 /// Checks what it says of its last two pieces.
 fn says_its_pieces(torrent: &Torrent) -> Result<(), Fail> {
+    same(hash(torrent, 2), Some([2; 20]))?;
+    same(piece_len(torrent, 1), Some(3))?;
+    same(piece_len(torrent, 2), Some(1))?;
     let last = Block {
         piece: 2,
         begin: 0,
         len: 1,
     };
-    let found = (
-        hash(torrent, 2),
-        piece_len(torrent, 1),
-        piece_len(torrent, 2),
-        block(torrent, 2, 0),
-    );
-    same(found, (Some([2; 20]), Some(3), Some(1), Some(last)))
-}
-
-/// Checks what it says.
-fn says_all(torrent: &Torrent) -> Result<(), Fail> {
-    says_its_parts(torrent)?;
-    says_its_pieces(torrent)
+    same(block(torrent, 2, 0), Some(last))
 }
 
 #[test]
 fn a_small_torrent(rt: HostRuntime) -> Result<(), Fail> {
-    let torrent = torrent_of(rt.alloc(), 3, 7, 3, [9; 20])?;
-    says_all(&torrent)
+    let torrent = made(rt.alloc(), 3, 7, 3, [9; 20])??;
+    says_its_parts(&rt, &torrent)?;
+    says_its_pieces(&torrent)
 }
 
 /// A block of the first piece.
@@ -139,16 +113,8 @@ const fn first(begin: u32, len: u32) -> Block {
     }
 }
 
-/// The block of the first piece that is to begin there, and its bytes, if it does.
-fn wanted_at(begin: u32, len: Option<u32>) -> Option<Block> {
-    match len {
-        Some(len) => Some(first(begin, len)),
-        None => None,
-    }
-}
-
-/// Checks where the blocks of a torrent's only piece begin.
-fn blocks_begin(torrent: &Torrent) -> Result<(), Fail> {
+/// Checks the blocks of a torrent's only piece.
+fn has_its_blocks(torrent: &Torrent) -> Result<(), Fail> {
     // Where a block may begin, and the bytes of the one that does.
     const ROWS: &[(u32, Option<u32>)] = &[
         (0, Some(16_384)),
@@ -158,53 +124,21 @@ fn blocks_begin(torrent: &Torrent) -> Result<(), Fail> {
         (999_424, Some(576)),
         (1_015_808, None),
     ];
+    same(block_count(torrent, 0), Some(62))?;
+    same(block(torrent, 0, 61), Some(first(999_424, 576)))?;
     for &(begin, len) in ROWS {
-        same_for(
-            block_at(torrent, 0, begin),
-            Some(wanted_at(begin, len)),
-            begin,
-        )?;
+        let block = len.map(|len| first(begin, len));
+        same(block_at(torrent, 0, begin), Some(block))?;
     }
     Ok(())
 }
 
-/// Checks the blocks of a torrent's only piece.
-fn has_its_blocks(torrent: &Torrent) -> Result<(), Fail> {
-    blocks_begin(torrent)?;
-    same(
-        (block_count(torrent, 0), block(torrent, 0, 61)),
-        (Some(62), Some(first(999_424, 576))),
-    )
-}
-
-/// Checks the blocks of one long piece.
-fn one_piece(alloc: Global) -> Result<(), Fail> {
-    let torrent = torrent_of(alloc, 1_000_000, 1_000_000, 1, [0; 20])?;
-    has_its_blocks(&torrent)
-}
-
-/// Checks the blocks of the second piece of two.
-fn two_pieces(alloc: Global) -> Result<(), Fail> {
-    let torrent = torrent_of(alloc, 32_768, 65_536, 2, [0; 20])?;
-    same(block_count(&torrent, 1), Some(2))
-}
-
 #[test]
 fn blocks_of_a_piece(rt: HostRuntime) -> Result<(), Fail> {
-    one_piece(rt.alloc())?;
-    two_pieces(rt.alloc())
-}
-
-/// Checks why these parts make no torrent.
-fn make_none(
-    alloc: Global,
-    piece_length: u32,
-    total: u64,
-    count: u8,
-    fault: MetaFault,
-) -> Result<(), Fail> {
-    let made = made(alloc, piece_length, total, count, [0; 20])?;
-    same(made.err(), Some(fault))
+    let torrent = made(rt.alloc(), 1_000_000, 1_000_000, 1, [0; 20])??;
+    has_its_blocks(&torrent)?;
+    let torrent = made(rt.alloc(), 32_768, 65_536, 2, [0; 20])??;
+    same(block_count(&torrent, 1), Some(2))
 }
 
 #[test]
@@ -220,7 +154,8 @@ fn parts_that_make_no_torrent(rt: HostRuntime) -> Result<(), Fail> {
         (3, 7, 4, MetaFault::CountMismatch),
     ];
     for &(piece_length, total, count, fault) in ROWS {
-        make_none(rt.alloc(), piece_length, total, count, fault)?;
+        let made = made(rt.alloc(), piece_length, total, count, [0; 20])?;
+        same(made.err(), Some(fault))?;
     }
     Ok(())
 }
@@ -275,20 +210,13 @@ fn is_spelled(alloc: Global, set: &Bitfield, wanted: &[u8]) -> Result<(), Fail> 
     same(bytes.as_slice(), wanted)
 }
 
-/// Checks a set of ten pieces that has the first and the last one.
-fn has_first_and_last(alloc: Global, set: &Bitfield) -> Result<(), Fail> {
-    let pieces = [has(set, 0), has(set, 9), has(set, 8)];
-    same(
-        (set.count(), count_ones(set), pieces),
-        (10, 2, [true, true, false]),
-    )?;
-    is_spelled(alloc, set, &[0x80, 0x40])
-}
-
 #[test]
 fn a_bitfield_off_the_wire_and_back(rt: HostRuntime) -> Result<(), Fail> {
     let shown = set_of(rt.alloc(), &[0x80, 0x40], 10)?;
-    has_first_and_last(rt.alloc(), &shown)
+    same(shown.count(), 10)?;
+    same(count_ones(&shown), 2)?;
+    assert!(rt; has(&shown, 0) && has(&shown, 9) && !has(&shown, 8));
+    is_spelled(rt.alloc(), &shown, &[0x80, 0x40])
 }
 
 /// The first piece of the set from that one on.
@@ -296,8 +224,8 @@ fn first_from(set: &Bitfield, piece: u32) -> Option<u32> {
     set.first_from(piece)
 }
 
-/// Checks the first piece of the set from each piece on.
-fn is_looked_through(set: &Bitfield) -> Result<(), Fail> {
+#[test]
+fn bitfields_are_looked_through(rt: HostRuntime) -> Result<(), Fail> {
     const ROWS: &[(u32, Option<u32>)] = &[
         (0, Some(0)),
         (1, Some(17)),
@@ -307,16 +235,11 @@ fn is_looked_through(set: &Bitfield) -> Result<(), Fail> {
         (24, None),
         (u32::MAX, None),
     ];
+    let shown = set_of(rt.alloc(), &[0x80, 0x00, 0x41], 24)?;
     for &(piece, found) in ROWS {
-        same_for(first_from(set, piece), found, piece)?;
+        same(first_from(&shown, piece), found)?;
     }
     Ok(())
-}
-
-#[test]
-fn bitfields_are_looked_through(rt: HostRuntime) -> Result<(), Fail> {
-    let shown = set_of(rt.alloc(), &[0x80, 0x00, 0x41], 24)?;
-    is_looked_through(&shown)
 }
 
 fn empty(alloc: Global, pieces: u32) -> Result<Bitfield, AllocError> {
@@ -341,38 +264,23 @@ fn clear(set: &mut Bitfield) {
     set.clear();
 }
 
-/// Checks how many pieces the set has, and its bytes.
-fn has_bytes(set: &Bitfield, ones: u32, bytes: &[u8]) -> Result<(), Fail> {
-    same((count_ones(set), as_wire(set)), (ones, bytes))
-}
-
-/// Adds two pieces to a set of three that has none, and checks how it is spelled before and then.
-fn is_filled(alloc: Global, had: &mut Bitfield) -> Result<(), Fail> {
-    is_spelled(alloc, had, &[0x00])?;
-    set(had, 0);
-    set(had, 2);
-    has_bytes(had, 2, &[0xa0])?;
-    is_spelled(alloc, had, &[0xa0])
-}
-
 #[test]
 fn bitfields_onto_the_wire(rt: HostRuntime) -> Result<(), Fail> {
     let mut had = empty(rt.alloc(), 3)?;
-    is_filled(rt.alloc(), &mut had)
-}
-
-/// Takes over the first set and clears it, and checks both.
-fn is_copied(had: &mut Bitfield, shown: &mut Bitfield) -> Result<(), Fail> {
-    copy_from(shown, had);
-    clear(had);
-    same(
-        (as_wire(shown), as_wire(had)),
-        ([0xa0].as_slice(), [0x00].as_slice()),
-    )
+    is_spelled(rt.alloc(), &had, &[0x00])?;
+    set(&mut had, 0);
+    set(&mut had, 2);
+    same(count_ones(&had), 2)?;
+    is_spelled(rt.alloc(), &had, &[0xa0])?;
+    same(as_wire(&had), [0xa0].as_slice())
 }
 
 #[test]
 fn a_bitfield_of_another(rt: HostRuntime) -> Result<(), Fail> {
     let mut had = set_of(rt.alloc(), &[0xa0], 3)?;
-    is_copied(&mut had, &mut empty(rt.alloc(), 3)?)
+    let mut shown = empty(rt.alloc(), 3)?;
+    copy_from(&mut shown, &had);
+    clear(&mut had);
+    same(as_wire(&shown), [0xa0].as_slice())?;
+    same(as_wire(&had), [0x00].as_slice())
 }

@@ -13,11 +13,6 @@ const DIGESTS: &[u8; 60] =
     \xa9\x99\x3e\x36\x47\x06\x81\x6a\xba\x3e\x25\x71\x78\x50\xc2\x6c\x9c\xd0\xd8\x9d\
     \x86\xf7\xe4\x37\xfa\xa5\xa7\xfc\xe1\x5d\x1d\xdc\xb9\xea\xea\xea\x37\x76\x67\xb8";
 
-/// The first bytes of the digests, so many or all of them.
-fn front_of_digests(count: usize) -> &'static [u8] {
-    &DIGESTS[..count.min(60)]
-}
-
 /// Puts the bytes behind the others, with no contract: a test knows nothing of the file that it makes, and its proof is short.
 fn put(file: &mut Vec<u8>, bytes: &[u8]) -> Result<(), AllocError> {
     file.extend_from_slice(bytes)
@@ -29,30 +24,21 @@ fn put_number(alloc: Global, file: &mut Vec<u8>, number: usize) -> Result<(), Al
     put(file, digits.as_bytes())
 }
 
-/// Puts these parts behind the others.
-fn put_all(file: &mut Vec<u8>, parts: &[&[u8]]) -> Result<(), AllocError> {
-    for part in parts {
-        put(file, part)?;
-    }
-    Ok(())
-}
-
-/// Puts the digests as `pieces`, and the ends of both dictionaries.
-fn put_pieces(alloc: Global, file: &mut Vec<u8>, digests: &[u8]) -> Result<(), AllocError> {
-    put(file, b"6:pieces")?;
-    put_number(alloc, file, digests.len())?;
-    put_all(file, &[b":", digests, b"ee"])
-}
-
-/// Puts these parts, and the digests as `pieces` behind them.
+/// Puts these parts, the digests as `pieces`, and the ends of both dictionaries.
 fn put_file(
     alloc: Global,
     file: &mut Vec<u8>,
     before: &[&[u8]],
     digests: &[u8],
 ) -> Result<(), AllocError> {
-    put_all(file, before)?;
-    put_pieces(alloc, file, digests)
+    for part in before {
+        put(file, part)?;
+    }
+    put(file, b"6:pieces")?;
+    put_number(alloc, file, digests.len())?;
+    put(file, b":")?;
+    put(file, digests)?;
+    put(file, b"ee")
 }
 
 /// A file of these parts, with these digests as `pieces` behind them.
@@ -75,19 +61,15 @@ fn fault_of(alloc: Global, file: &[u8]) -> Option<MetaFault> {
     }
 }
 
-/// Checks each proper prefix of the file.
-fn prefixes_are_truncated(alloc: Global, file: &[u8]) -> Result<(), Fail> {
-    const TRUNCATED: Option<MetaFault> = Some(MetaFault::Bencode(BenFault::Truncated));
-    for end in 0..file.len() {
-        same_for(fault_of(alloc, &file[..end]), TRUNCATED, end)?;
-    }
-    Ok(())
-}
-
 #[test]
 fn each_proper_prefix_is_truncated(rt: HostRuntime) -> Result<(), Fail> {
-    prefixes_are_truncated(rt.alloc(), SINGLE_FILE)?;
-    prefixes_are_truncated(rt.alloc(), MULTI_FILE)
+    for file in [SINGLE_FILE, MULTI_FILE] {
+        for end in 0..file.len() {
+            let fault = fault_of(rt.alloc(), &file[..end]);
+            same_for(fault, Some(MetaFault::Bencode(BenFault::Truncated)), end)?;
+        }
+    }
+    Ok(())
 }
 
 #[test]
@@ -124,27 +106,6 @@ fn files_without_a_part(rt: HostRuntime) -> Result<(), Fail> {
     Ok(())
 }
 
-/// Checks the fault of a file of these parts with these digests, or that it has none.
-fn file_has(
-    alloc: Global,
-    before: &[&[u8]],
-    digests: &[u8],
-    fault: Option<MetaFault>,
-) -> Result<(), Fail> {
-    let file = file_of(alloc, before, digests)?;
-    same_for(fault_of(alloc, &file), fault, file.as_slice())
-}
-
-/// Checks the fault of a file with this piece length.
-fn has_piece_length(
-    alloc: Global,
-    piece_length: &[u8],
-    fault: Option<MetaFault>,
-) -> Result<(), Fail> {
-    const BEFORE: &[u8] = b"d4:infod6:lengthi7e4:name1:s12:piece length";
-    file_has(alloc, &[BEFORE, piece_length], front_of_digests(20), fault)
-}
-
 #[test]
 fn piece_lengths(rt: HostRuntime) -> Result<(), Fail> {
     const ROWS: &[(&[u8], Option<MetaFault>)] = &[
@@ -154,7 +115,12 @@ fn piece_lengths(rt: HostRuntime) -> Result<(), Fail> {
         (b"i7e", None),
     ];
     for &(piece_length, fault) in ROWS {
-        has_piece_length(rt.alloc(), piece_length, fault)?;
+        let before = [
+            b"d4:infod6:lengthi7e4:name1:s12:piece length".as_slice(),
+            piece_length,
+        ];
+        let file = file_of(rt.alloc(), &before, &DIGESTS[..20])?;
+        same_for(fault_of(rt.alloc(), &file), fault, piece_length)?;
     }
     Ok(())
 }
@@ -168,16 +134,10 @@ fn digests_that_do_not_fit(rt: HostRuntime) -> Result<(), Fail> {
     ];
     const BEFORE: &[&[u8]] = &[b"d4:infod6:lengthi7e4:name1:s12:piece lengthi3e"];
     for &(bytes, fault) in ROWS {
-        file_has(rt.alloc(), BEFORE, front_of_digests(bytes), Some(fault))?;
+        let file = file_of(rt.alloc(), BEFORE, &DIGESTS[..bytes])?;
+        same_for(fault_of(rt.alloc(), &file), Some(fault), bytes)?;
     }
     Ok(())
-}
-
-/// Checks the fault of a file with this content.
-fn has_content(alloc: Global, content: &[u8], fault: Option<MetaFault>) -> Result<(), Fail> {
-    const FRONT: &[u8] = b"d4:infod";
-    const BACK: &[u8] = b"4:name1:s12:piece lengthi3e";
-    file_has(alloc, &[FRONT, content, BACK], DIGESTS, fault)
 }
 
 #[test]
@@ -232,7 +192,13 @@ fn contents(rt: HostRuntime) -> Result<(), Fail> {
         (b"6:lengthi9e", None),
     ];
     for &(content, fault) in ROWS {
-        has_content(rt.alloc(), content, fault)?;
+        let before = [
+            b"d4:infod".as_slice(),
+            content,
+            b"4:name1:s12:piece lengthi3e".as_slice(),
+        ];
+        let file = file_of(rt.alloc(), &before, DIGESTS)?;
+        same_for(fault_of(rt.alloc(), &file), fault, content)?;
     }
     Ok(())
 }

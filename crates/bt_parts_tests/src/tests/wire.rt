@@ -1,6 +1,7 @@
 //! Messages and inbound streams, by worked examples. What is fed, given and put goes through functions without an `ensures`, so that a test
 //! knows of what they say alone, and its proof is short.
 
+ghost use Rattle.std.specs.Prelude.{length, ◌≤◌};
 ghost use Rattle.bt_wire.specs.Messages.{CanEncode};
 
 use bt_expect::{same, same_for};
@@ -8,6 +9,7 @@ use bt_wire::*;
 use bytes::Bytes;
 use std::alloc::{AllocError, Global};
 use std::fmt::Write;
+use std::process::Abort;
 use std::test::*;
 
 const LIMIT: u32 = 1_048_576;
@@ -45,15 +47,12 @@ fn feed_again(inbound: &mut Inbound, piece: &[u8]) -> Result<(), WireFault> {
     }
 }
 
-/// What a stream gives: the message in front, none yet, or a fault.
-type Given = Result<Option<Message>, WireFault>;
-
-fn next(inbound: &mut Inbound, alloc: Global) -> Given {
+fn next(inbound: &mut Inbound, alloc: Global) -> Result<Option<Message>, WireFault> {
     inbound.next(alloc)
 }
 
 /// The message in front. A call that found no memory has changed nothing, and is made once more.
-fn next_again(inbound: &mut Inbound, alloc: Global) -> Given {
+fn next_again(inbound: &mut Inbound, alloc: Global) -> Result<Option<Message>, WireFault> {
     match next(inbound, alloc) {
         Err(WireFault::NoMemory) => next(inbound, alloc),
         given => given,
@@ -65,20 +64,19 @@ fn rest(inbound: &Inbound) -> usize {
     inbound.rest()
 }
 
-fn is_hello(given: &Given) -> bool {
-    matches!(given, Ok(Some(Message::Hello(_))))
-}
-
 /// Whether the message in front is a handshake.
-fn gives_hello(alloc: Global, inbound: &mut Inbound) -> bool {
-    let given = next_again(inbound, alloc);
-    is_hello(&given)
+fn gives_hello(alloc: Global, inbound: &mut Inbound) -> Result<bool, WireFault> {
+    Ok(matches!(next_again(inbound, alloc)?, Some(Message::Hello(_))))
 }
 
 /// Takes a handshake, and gives it.
 fn greet(alloc: Global, inbound: &mut Inbound) -> Result<(), Fail> {
     feed_again(inbound, &hello_bytes())?;
-    same(gives_hello(alloc, inbound), true)
+    if gives_hello(alloc, inbound)? {
+        Ok(())
+    } else {
+        Err("no handshake")?
+    }
 }
 
 /// A stream whose handshake was given.
@@ -88,42 +86,19 @@ fn greeted(alloc: Global) -> Result<Inbound, Fail> {
     Ok(inbound)
 }
 
-/// Appends what was given, a message or a fault.
-fn append(given: &Given, said: &mut String) -> Result<(), AllocError> {
-    match given {
-        Ok(Some(message)) => write!(said, "{message:?} "),
-        Ok(None) => Ok(()),
-        Err(fault) => write!(said, "{fault:?} "),
-    }
-}
-
-fn is_message(given: &Given) -> bool {
-    matches!(given, Ok(Some(_)))
-}
-
-/// Appends what stands in front, and says whether it is a message.
-fn tell_next(alloc: Global, inbound: &mut Inbound, said: &mut String) -> Result<bool, AllocError> {
-    let given = next_again(inbound, alloc);
-    append(&given, said)?;
-    Ok(is_message(&given))
-}
-
 /// Appends what stands in front: the messages, and then the fault if one follows.
-fn tell(alloc: Global, inbound: &mut Inbound, said: &mut String) -> Result<(), AllocError> {
+fn tell(alloc: Global, inbound: &mut Inbound, said: &mut String) -> Result<(), Fail> {
     for _ in 0..20 {
-        if !tell_next(alloc, inbound, said)? {
-            return Ok(());
+        match next_again(inbound, alloc) {
+            Ok(Some(message)) => write!(said, "{message:?} ")?,
+            Ok(None) => return Ok(()),
+            Err(fault) => {
+                write!(said, "{fault:?} ")?;
+                return Ok(());
+            }
         }
     }
     Ok(())
-}
-
-/// Appends the fault that refused a piece, if one did.
-fn tell_refused(fed: Result<(), WireFault>, said: &mut String) -> Result<(), AllocError> {
-    match fed {
-        Ok(()) => Ok(()),
-        Err(fault) => write!(said, "refused by {fault:?} "),
-    }
 }
 
 /// Feeds the piece, and appends what stands in front then, behind the fault that refused it if one did.
@@ -132,8 +107,10 @@ fn feed_and_tell(
     inbound: &mut Inbound,
     piece: &[u8],
     said: &mut String,
-) -> Result<(), AllocError> {
-    tell_refused(feed_again(inbound, piece), said)?;
+) -> Result<(), Fail> {
+    if let Err(fault) = feed_again(inbound, piece) {
+        write!(said, "refused by {fault:?} ")?;
+    }
     tell(alloc, inbound, said)
 }
 
@@ -150,55 +127,18 @@ fn tells(alloc: Global, inbound: &mut Inbound, piece: &[u8], wanted: &str) -> Re
     same(said.as_str(), wanted)
 }
 
-/// Checks what stands in front once the piece came, and how many bytes stand behind it.
-fn tells_and_keeps(
-    alloc: Global,
-    inbound: &mut Inbound,
-    piece: &[u8],
-    wanted: &str,
-    kept: usize,
-) -> Result<(), Fail> {
-    tells(alloc, inbound, piece, wanted)?;
-    same(rest(inbound), kept)
-}
-
-/// Feeds the piece, and appends what stands in front then, with a mark behind it.
-fn feed_and_mark(
-    alloc: Global,
-    inbound: &mut Inbound,
-    piece: &[u8],
-    mark: &str,
-    said: &mut String,
-) -> Result<(), AllocError> {
-    feed_and_tell(alloc, inbound, piece, said)?;
-    said.push_str(mark)
-}
-
-/// Appends what stands in front after each piece of so many bytes, with a mark behind it.
-fn tell_in_pieces(
-    alloc: Global,
-    inbound: &mut Inbound,
-    bytes: &[u8],
-    len: usize,
-    mark: &str,
-    said: &mut String,
-) -> Result<(), AllocError> {
-    for piece in bytes.chunks(len.max(1)) {
-        feed_and_mark(alloc, inbound, piece, mark, said)?;
-    }
-    Ok(())
-}
-
-/// What stands in front after each piece of so many bytes, with a mark behind it.
+/// What stands in front after each piece of so many bytes, with a stroke behind it.
 fn told_in_pieces(
     alloc: Global,
     inbound: &mut Inbound,
     bytes: &[u8],
     len: usize,
-    mark: &str,
-) -> Result<String, AllocError> {
+) -> Result<String, Fail> {
     let mut said = String::new(alloc);
-    tell_in_pieces(alloc, inbound, bytes, len, mark, &mut said)?;
+    for piece in bytes.chunks(len.max(1)) {
+        feed_and_tell(alloc, inbound, piece, &mut said)?;
+        said.push_str("| ")?;
+    }
     Ok(said)
 }
 
@@ -245,21 +185,11 @@ const ROWS: &[(&[u8], usize, &str)] = &[
     ),
 ];
 
-/// Checks what stands in front after each piece of so many bytes, with a stroke behind it.
-fn tells_in_pieces(
-    alloc: Global,
-    inbound: &mut Inbound,
-    bytes: &[u8],
-    len: usize,
-    wanted: &str,
-) -> Result<(), Fail> {
-    let said = told_in_pieces(alloc, inbound, bytes, len, "| ")?;
-    same(said.as_str(), wanted)
-}
-
-/// The same behind a handshake.
+/// Checks what stands in front behind a handshake.
 fn frame(alloc: Global, bytes: &[u8], len: usize, wanted: &str) -> Result<(), Fail> {
-    tells_in_pieces(alloc, &mut greeted(alloc)?, bytes, len, wanted)
+    let mut inbound = greeted(alloc)?;
+    let said = told_in_pieces(alloc, &mut inbound, bytes, len)?;
+    same(said.as_str(), wanted)
 }
 
 #[test]
@@ -271,80 +201,57 @@ fn frames(rt: HostRuntime) -> Result<(), Fail> {
 }
 
 /// The handshake in two pieces, and three bytes behind it.
-fn takes_two_pieces(alloc: Global, inbound: &mut Inbound, bytes: &[u8; 68]) -> Result<(), Fail> {
+fn one_handshake(alloc: Global, inbound: &mut Inbound, bytes: &[u8; 68]) -> Result<(), Fail> {
     let (front, last) = bytes.split_at(67);
     tells(alloc, inbound, front, "")?;
     feed_again(inbound, last)?;
-    tells_and_keeps(alloc, inbound, &[0, 0, 0], HELLO_TOLD, 3)
-}
-
-fn one_handshake(alloc: Global, bytes: &[u8; 68]) -> Result<(), Fail> {
-    takes_two_pieces(alloc, &mut opened(alloc), bytes)
-}
-
-/// Checks that the last byte of a strange handshake shows it, and that no byte is taken from then on.
-fn is_refused(alloc: Global, inbound: &mut Inbound, last: &[u8]) -> Result<(), Fail> {
-    tells(alloc, inbound, last, "BadHandshake ")?;
-    same(
-        (feed(inbound, &[0]), rest(inbound)),
-        (Err(WireFault::BadHandshake), 68),
-    )
+    tells(alloc, inbound, &[0, 0, 0], HELLO_TOLD)?;
+    same(rest(inbound), 3)
 }
 
 /// Another byte in the place of the first.
-fn takes_another_byte(alloc: Global, inbound: &mut Inbound, bytes: &[u8; 68]) -> Result<(), Fail> {
+fn a_strange_handshake(
+    rt: &impl Abort,
+    alloc: Global,
+    inbound: &mut Inbound,
+    bytes: &[u8; 68],
+) -> Result<(), Fail> {
     let (front, last) = bytes.split_at(67);
     feed_again(inbound, &[18])?;
     tells(alloc, inbound, &front[1..], "")?;
-    is_refused(alloc, inbound, last)
-}
-
-fn a_strange_handshake(alloc: Global, bytes: &[u8; 68]) -> Result<(), Fail> {
-    takes_another_byte(alloc, &mut opened(alloc), bytes)
+    tells(alloc, inbound, last, "BadHandshake ")?;
+    assert!(rt; feed(inbound, &[0]) == Err(WireFault::BadHandshake));
+    same(rest(inbound), 68)
 }
 
 #[test]
 fn handshakes(rt: HostRuntime) -> Result<(), Fail> {
     let bytes = hello_bytes();
-    one_handshake(rt.alloc(), &bytes)?;
-    a_strange_handshake(rt.alloc(), &bytes)
+    one_handshake(rt.alloc(), &mut opened(rt.alloc()), &bytes)?;
+    a_strange_handshake(&rt, rt.alloc(), &mut opened(rt.alloc()), &bytes)
 }
 
 /// Checks that the stream has a handshake, a message and a fault.
 fn ends_in_a_fault(alloc: Global, inbound: &mut Inbound, stream: &[u8]) -> Result<(), Fail> {
     let said = told(alloc, inbound, stream)?;
-    same(
-        (said.strip_prefix(HELLO_TOLD), rest(inbound)),
-        (Some("Choke TooLong "), 4),
-    )
+    same(said.strip_prefix(HELLO_TOLD), Some("Choke TooLong "))?;
+    same(rest(inbound), 4)
 }
 
-/// The handshake, a message and a length beyond the limit.
-fn faulty(alloc: Global) -> Result<Vec<u8>, AllocError> {
-    let mut stream = Vec::from_slice(alloc, &hello_bytes())?;
-    stream.extend_from_slice(&[0, 0, 0, 1, 0, 0, 16, 0, 1])?;
-    Ok(stream)
-}
-
-/// They come all in one piece.
+/// The handshake, a message and a length beyond the limit, all in one piece.
 #[test]
 fn a_fault_behind_messages(rt: HostRuntime) -> Result<(), Fail> {
-    let stream = faulty(rt.alloc())?;
+    let mut stream = Vec::from_slice(rt.alloc(), &hello_bytes())?;
+    stream.extend_from_slice(&[0, 0, 0, 1, 0, 0, 16, 0, 1])?;
     ends_in_a_fault(rt.alloc(), &mut opened(rt.alloc()), &stream)
 }
 
-/// The length of the bitfield that was given.
-fn bits_len(given: &Given) -> Option<usize> {
-    match given {
-        Ok(Some(Message::Bits(bits))) => Some(bits.len()),
-        _ => None,
-    }
-}
-
 /// The length of the bitfield in front.
-fn next_bits(alloc: Global, inbound: &mut Inbound) -> Option<usize> {
-    let given = next_again(inbound, alloc);
-    bits_len(&given)
+fn bits_len(alloc: Global, inbound: &mut Inbound) -> Result<usize, Fail> {
+    match next_again(inbound, alloc)? {
+        Some(Message::Bits(given)) => Ok(given.len()),
+        _ => Err("no bitfield")?,
+    }
 }
 
 /// So many bytes of a bitfield.
@@ -352,20 +259,12 @@ fn bits(alloc: Global, count: usize) -> Result<Vec<u8>, AllocError> {
     vec![in alloc; 170; count]
 }
 
-/// Feeds as many bytes of a bitfield.
-fn feed_bits(alloc: Global, inbound: &mut Inbound, count: usize) -> Result<(), Fail> {
-    let bits = bits(alloc, count)?;
-    Ok(feed_again(inbound, &bits)?)
-}
-
 /// Takes the longest bitfield, and gives it.
 fn takes_the_longest(alloc: Global, inbound: &mut Inbound) -> Result<(), Fail> {
     feed_again(inbound, &[0, 16, 0, 0, 5])?;
-    feed_bits(alloc, inbound, 1_048_575)?;
-    same(
-        (next_bits(alloc, inbound), rest(inbound)),
-        (Some(1_048_575), 0),
-    )
+    feed_again(inbound, &bits(alloc, 1_048_575)?)?;
+    same(bits_len(alloc, inbound)?, 1_048_575)?;
+    same(rest(inbound), 0)
 }
 
 #[test]
@@ -393,7 +292,7 @@ fn limits_of_frames() -> Result<(), Fail> {
 }
 
 /// A message of each kind.
-const EACH_KIND: &[u8] = &[
+const EACH_KIND: [u8; 94] = [
     0, 0, 0, 0, // keepalive
     0, 0, 0, 1, 0, // choke
     0, 0, 0, 1, 1, // unchoke
@@ -407,25 +306,25 @@ const EACH_KIND: &[u8] = &[
     0, 0, 0, 1, 20, // unknown
 ];
 
-fn put(message: Message, out: &mut Vec<u8>) -> Result<(), AllocError>
-    requires { CanEncode message }
+fn put(message: &Message, out: &mut Vec<u8>) -> Result<(), AllocError>
+    requires { CanEncode message.now }
 {
-    encode(&message, out)
+    encode(message, out)
 }
 
 /// Puts the messages that have no bytes in them, up to the first that has some.
 fn put_the_first(out: &mut Vec<u8>) -> Result<(), AllocError> {
-    put(Message::KeepAlive, out)?;
-    put(Message::Choke, out)?;
-    put(Message::Unchoke, out)?;
-    put(Message::Interested, out)?;
-    put(Message::NotInterested, out)?;
-    put(Message::Have(2), out)
+    put(&Message::KeepAlive, out)?;
+    put(&Message::Choke, out)?;
+    put(&Message::Unchoke, out)?;
+    put(&Message::Interested, out)?;
+    put(&Message::NotInterested, out)?;
+    put(&Message::Have(2), out)
 }
 
 /// Puts a bitfield of one byte.
 fn put_bits(out: &mut Vec<u8>) -> Result<(), AllocError> {
-    put(Message::Bits(Bytes::from_static(&[224])), out)
+    put(&Message::Bits(Bytes::from_static(&[224])), out)
 }
 
 /// Puts a block of three bytes.
@@ -435,85 +334,66 @@ fn put_block(out: &mut Vec<u8>) -> Result<(), AllocError> {
         begin: 0,
         bytes: Bytes::from_static(b"abc"),
     };
-    put(block, out)
+    put(&block, out)
 }
 
 /// Puts the other messages.
 fn put_the_others(out: &mut Vec<u8>) -> Result<(), AllocError> {
     let (piece, begin, len) = (0x01_02_03_04, 0x05_06_07_08, 16_384);
     put_bits(out)?;
-    put(Message::Request { piece, begin, len }, out)?;
+    put(&Message::Request { piece, begin, len }, out)?;
     put_block(out)?;
-    put(Message::Cancel { piece, begin, len }, out)?;
-    put(Message::Unknown(20), out)
-}
-
-/// Puts a message of each kind.
-fn put_each_kind(out: &mut Vec<u8>) -> Result<(), AllocError> {
-    put_the_first(out)?;
-    put_the_others(out)
+    put(&Message::Cancel { piece, begin, len }, out)?;
+    put(&Message::Unknown(20), out)
 }
 
 #[test]
 fn encoded(rt: HostRuntime) -> Result<(), Fail> {
     let mut out = Vec::new(rt.alloc());
-    put_each_kind(&mut out)?;
-    same(out.as_slice(), EACH_KIND)
+    put_the_first(&mut out)?;
+    put_the_others(&mut out)?;
+    same(out.as_slice(), EACH_KIND.as_slice())
 }
 
 /// Five messages, and the front of another.
-const FRAMES: &[u8] = &[
+const FRAMES: [u8; 33] = [
     0, 0, 0, 0, 0, 0, 0, 2, 20, 255, 0, 0, 0, 5, 4, 0, 0, 0, 2, 0, 0, 0, 1, 0, 0, 0, 0, 2, 5, 128,
     0, 16, 0,
 ];
 
-/// Appends what stands in front as the bytes come in two pieces.
-fn tell_in_two(
-    alloc: Global,
-    inbound: &mut Inbound,
-    first: &[u8],
-    second: &[u8],
-    said: &mut String,
-) -> Result<(), AllocError> {
-    feed_and_tell(alloc, inbound, first, said)?;
-    feed_and_tell(alloc, inbound, second, said)
-}
-
-/// Checks what stands in front as `FRAMES` come in two pieces, and how many bytes stand behind.
-fn tells_in_two(
-    alloc: Global,
-    inbound: &mut Inbound,
-    first: &[u8],
-    second: &[u8],
-) -> Result<(), Fail> {
+/// What stands in front as the bytes come in two pieces, the first of this length, and how many bytes stand behind.
+fn told_in_two(alloc: Global, frames: &[u8], len: usize) -> Result<(String, usize), Fail>
+    requires { len ≤ length frames.now }
+{
+    let (first, second) = frames.split_at(len);
+    let mut inbound = greeted(alloc)?;
     let mut said = String::new(alloc);
-    tell_in_two(alloc, inbound, first, second, &mut said)?;
-    same_for(
-        (said.as_str(), rest(inbound)),
-        ("KeepAlive Unknown(20) Have(2) Choke Bits(b\"\\x80\") ", 3),
-        first.len(),
-    )
-}
-
-/// The same behind a handshake.
-fn one_cut(alloc: Global, first: &[u8], second: &[u8]) -> Result<(), Fail> {
-    tells_in_two(alloc, &mut greeted(alloc)?, first, second)
+    feed_and_tell(alloc, &mut inbound, first, &mut said)?;
+    feed_and_tell(alloc, &mut inbound, second, &mut said)?;
+    Ok((said, rest(&inbound)))
 }
 
 #[test]
 fn every_cut_in_two(rt: HostRuntime) -> Result<(), Fail> {
-    for at in 0..FRAMES.len() {
-        let (first, second) = FRAMES.split_at(at);
-        one_cut(rt.alloc(), first, second)?;
+    let frames = FRAMES.as_slice();
+    for at in 0..frames.len() {
+        let (said, rest) = told_in_two(rt.alloc(), frames, at)?;
+        same_for(
+            said.as_str(),
+            "KeepAlive Unknown(20) Have(2) Choke Bits(b\"\\x80\") ",
+            at,
+        )?;
+        same(rest, 3)?;
     }
     Ok(())
 }
 
 /// Puts the message behind the others. One that found no room has left no byte, and is put once more.
 fn put_have(piece: u32, out: &mut Vec<u8>) -> Result<(), AllocError> {
-    match put(Message::Have(piece), out) {
+    let message = Message::Have(piece);
+    match put(&message, out) {
         Ok(()) => Ok(()),
-        Err(AllocError) => put(Message::Have(piece), out),
+        Err(AllocError) => put(&message, out),
     }
 }
 
@@ -525,42 +405,33 @@ fn put_haves(pieces: u32, out: &mut Vec<u8>) -> Result<(), AllocError> {
     Ok(())
 }
 
-/// Whether the message that was given tells of this piece.
-fn is_have(given: &Given, piece: u32) -> bool {
-    matches!(given, Ok(Some(Message::Have(told))) if *told == piece)
-}
-
 /// Whether the message in front tells of this piece.
-fn gives_have(alloc: Global, inbound: &mut Inbound, piece: u32) -> bool {
-    let given = next_again(inbound, alloc);
-    is_have(&given, piece)
-}
-
-/// Checks that the messages in front tell of each piece, one after another.
-fn gives_haves(alloc: Global, inbound: &mut Inbound, pieces: u32) -> Result<(), Fail> {
-    for piece in 0..pieces {
-        same_for(gives_have(alloc, inbound, piece), true, piece)?;
+fn gives_have(alloc: Global, inbound: &mut Inbound, piece: u32) -> Result<bool, WireFault> {
+    match next_again(inbound, alloc)? {
+        Some(Message::Have(given)) => Ok(given == piece),
+        _ => Ok(false),
     }
-    Ok(())
 }
 
 /// Takes a message of each piece at once, and gives one after another.
-fn takes_many(alloc: Global, inbound: &mut Inbound, stream: &[u8]) -> Result<(), Fail> {
+fn takes_many(
+    rt: &impl Abort,
+    alloc: Global,
+    inbound: &mut Inbound,
+    stream: &[u8],
+) -> Result<(), Fail> {
     feed_again(inbound, stream)?;
-    gives_haves(alloc, inbound, 20_000)?;
+    for piece in 0..20_000 {
+        assert!(rt; gives_have(alloc, inbound, piece)?);
+    }
     same(rest(inbound), 0)
-}
-
-/// The same behind a handshake.
-fn are_taken(alloc: Global, stream: &[u8]) -> Result<(), Fail> {
-    takes_many(alloc, &mut greeted(alloc)?, stream)
 }
 
 #[test]
 fn many_messages_in_one_feed(rt: HostRuntime) -> Result<(), Fail> {
     let mut stream = Vec::new(rt.alloc());
     put_haves(20_000, &mut stream)?;
-    are_taken(rt.alloc(), &stream)
+    takes_many(&rt, rt.alloc(), &mut greeted(rt.alloc())?, &stream)
 }
 
 /// What `EACH_KIND` says.
@@ -569,32 +440,33 @@ const EACH_KIND_TOLD: &str =
     Request { piece: 16909060, begin: 84281096, len: 16384 } Piece { piece: 0, begin: 0, bytes: b\"abc\" } \
     Cancel { piece: 16909060, begin: 84281096, len: 16384 } Unknown(20) ";
 
-/// Checks what stands in front after all pieces of so many bytes, and that no byte stands behind.
-fn tells_each_kind(alloc: Global, inbound: &mut Inbound, len: usize) -> Result<(), Fail> {
-    let said = told_in_pieces(alloc, inbound, EACH_KIND, len, "")?;
-    same_for((said.as_str(), rest(inbound)), (EACH_KIND_TOLD, 0), len)
-}
-
-/// The same behind a handshake.
-fn each_kind(alloc: Global, len: usize) -> Result<(), Fail> {
-    tells_each_kind(alloc, &mut greeted(alloc)?, len)
+/// What stands in front after all pieces of so many bytes, and how many bytes stand behind.
+fn told_of_each_kind(alloc: Global, len: usize) -> Result<(String, usize), Fail> {
+    let mut inbound = greeted(alloc)?;
+    let mut said = String::new(alloc);
+    for piece in EACH_KIND.chunks(len.max(1)) {
+        feed_and_tell(alloc, &mut inbound, piece, &mut said)?;
+    }
+    Ok((said, rest(&inbound)))
 }
 
 #[test]
 fn a_call_that_found_no_memory_is_made_once_more(rt: HostRuntime) -> Result<(), Fail> {
-    const LENS: &[usize] = &[1, 7, 94];
-    for len in LENS {
-        each_kind(rt.alloc(), *len)?;
+    for len in [1, 7, 94] {
+        let (said, rest) = told_of_each_kind(rt.alloc(), len)?;
+        same_for(said.as_str(), EACH_KIND_TOLD, len)?;
+        same(rest, 0)?;
     }
     Ok(())
 }
 
 /// Checks that the bytes are a message of each of a hundred pieces.
 fn are_haves(bytes: &[u8]) -> Result<(), Fail> {
+    same(bytes.len(), 900)?;
     for (piece, frame) in (0..100_u8).zip(bytes.chunks(9)) {
         same(frame, [0, 0, 0, 5, 4, 0, 0, 0, piece].as_slice())?;
     }
-    same(bytes.len(), 900)
+    Ok(())
 }
 
 #[test]

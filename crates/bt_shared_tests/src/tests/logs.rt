@@ -22,7 +22,7 @@ fn one_worker_to_a_had_piece(rt: HostRuntime) -> Result<(), Fail> {
     has_a_had_piece(&rt, &book)
 }
 
-/// The worker joins, and the last piece comes.
+/// The worker joins, and the last piece comes and is checked.
 fn bring_a_piece<R: Wait + Abort>(rt: &R, seated: &mut Seated) -> Result<(), Fail> {
     seated.says(rt, 0, Call::Join, Reply::Joined)?;
     seated.says(rt, 0, block(2, b"a"), Reply::Completed)
