@@ -43,7 +43,8 @@ pub fn finds(
 }
 
 /// Checks that the example is a journal, and that none of its wrong entries is one in its place.
-fn judge(rt: &impl Abort, alloc: Global, example: &Example) -> Result<(), Fail> {
+fn judge(rt: &impl Abort, alloc: Global, text: &'static str) -> Result<(), Fail> {
+    let example = &Example::of(rt, text);
     let (workers, rules) = terms_of(rt, example.terms);
     let torrent = torrent_of(rt, alloc, example.torrent)?;
     judge_by(rt, alloc, &torrent, workers, rules, example)
@@ -122,7 +123,7 @@ fn entries_with(
 fn judge_all(rt: &impl Abort, alloc: Global, examples: &'static str) -> Result<u32, Fail> {
     let mut count = 0_u32;
     for example in examples.split("\n\n") {
-        judge(rt, alloc, &Example::of(rt, example))?;
+        judge(rt, alloc, example)?;
         count = count.saturating_add(1);
     }
     Ok(count)

@@ -188,8 +188,8 @@ fn an_audit_of_no_call(rt: HostRuntime) -> Result<(), Fail> {
 
 /// Where there is no entry, none is wrong; the one worker is the only one who may call.
 fn finds_no_call(rt: &impl Abort, alloc: Global, torrent: &Torrent) -> Result<(), Fail> {
-    let other = entries_of(rt, alloc, 3, "1 join = joined", 1)?;
     finds_among(rt, alloc, torrent, 1, &[], None)?;
+    let other = entries_of(rt, alloc, 3, "1 join = joined", 1)?;
     finds_among(rt, alloc, torrent, 1, &other, Some(0))
 }
 

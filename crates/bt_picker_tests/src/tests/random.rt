@@ -174,15 +174,8 @@ impl Run {
 
     fn join_all(&mut self) -> Result<(), Fail> {
         for worker in 0..WORKERS {
-            self.join(worker)?;
+            self.call(worker, Call::Join)?;
         }
-        Ok(())
-    }
-
-    fn join(&mut self, worker: u32) -> Result<(), Fail>
-        requires { worker < 4 }
-    {
-        self.desk.call(worker, Call::Join)?;
         Ok(())
     }
 

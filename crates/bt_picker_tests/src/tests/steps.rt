@@ -99,16 +99,23 @@ fn bytes_of(word: Option<&'static str>) -> Bytes {
     }
 }
 
-/// A bitfield of up to eight pieces, spelled by its byte on the wire.
+/// A bitfield of up to eight pieces, spelled by its byte on the wire, or one of so many pieces, none of which is set.
 fn flags_of(
     rt: &impl Abort,
     alloc: Global,
     pieces: u32,
-    word: Option<&str>,
+    name: &str,
+    words: &mut Split<'static, char>,
 ) -> Result<Bitfield, Fail> {
-    let byte = u8::from_str_radix(word.unwrap_or(""), 16);
-    let byte = byte.ok().expect(rt, "a bitfield is missing");
-    Ok(Bitfield::from_wire(alloc, &[byte], pieces)?)
+    match name {
+        "bits" | "want" => Ok(Bitfield::from_wire(alloc, &[next_byte(rt, words)], pieces)?),
+        _ => Ok(Bitfield::empty(alloc, next_number(rt, words))?),
+    }
+}
+
+fn next_byte(rt: &impl Abort, words: &mut Split<'static, char>) -> u8 {
+    let byte = u8::from_str_radix(words.next().unwrap_or(""), 16);
+    byte.ok().expect(rt, "a bitfield is missing")
 }
 
 fn call_of(
@@ -118,24 +125,14 @@ fn call_of(
     words: &mut Split<'static, char>,
 ) -> Result<Call, Fail> {
     match words.next().unwrap_or("") {
-        "bits" => Ok(Call::Bits(flags_of(rt, alloc, pieces, words.next())?)),
-        "want" => Ok(Call::Want(flags_of(rt, alloc, pieces, words.next())?)),
+        name @ ("bits" | "no-bits-of") => {
+            Ok(Call::Bits(flags_of(rt, alloc, pieces, name, words)?))
+        }
+        name @ ("want" | "want-none-of") => {
+            Ok(Call::Want(flags_of(rt, alloc, pieces, name, words)?))
+        }
         "settle" => settle_of(rt, alloc, words),
-        name => call_of_none(rt, alloc, name, words),
-    }
-}
-
-/// A call with a bitfield of so many pieces, none of which is set, or one without a bitfield.
-fn call_of_none(
-    rt: &impl Abort,
-    alloc: Global,
-    name: &str,
-    words: &mut Split<'static, char>,
-) -> Result<Call, Fail> {
-    match name {
-        "no-bits-of" => Ok(Call::Bits(Bitfield::empty(alloc, next_number(rt, words))?)),
-        "want-none-of" => Ok(Call::Want(Bitfield::empty(alloc, next_number(rt, words))?)),
-        _ => Ok(plain_call(rt, name, words)),
+        name => Ok(plain_call(rt, name, words)),
     }
 }
 
@@ -148,12 +145,16 @@ fn plain_call(rt: &impl Abort, name: &str, words: &mut Split<'static, char>) -> 
         "leave" => Call::Leave,
         "have" => Call::Have(next_number(rt, words)),
         "next" => Call::Next(u64::from(next_number(rt, words))),
-        "block" => Call::Arrived {
-            piece: next_number(rt, words),
-            begin: next_number(rt, words),
-            bytes: bytes_of(words.next()),
-        },
+        "block" => arrival_of(rt, words),
         _ => panic!(rt; "no such call"),
+    }
+}
+
+fn arrival_of(rt: &impl Abort, words: &mut Split<'static, char>) -> Call {
+    Call::Arrived {
+        piece: next_number(rt, words),
+        begin: next_number(rt, words),
+        bytes: bytes_of(words.next()),
     }
 }
 
@@ -203,11 +204,22 @@ const REPLIES: &[(&str, Reply)] = &[
 
 /// The reply that the text tells.
 pub fn reply_of(rt: &impl Abort, text: &str) -> Reply {
+    match plain_reply(text) {
+        Some(reply) => reply,
+        None => reply_with_block(rt, text),
+    }
+}
+
+fn plain_reply(text: &str) -> Option<Reply> {
     for &(spelled, reply) in REPLIES {
         if text == spelled {
-            return reply;
+            return Some(reply);
         }
     }
+    None
+}
+
+fn reply_with_block(rt: &impl Abort, text: &str) -> Reply {
     let mut words = text.split(' ');
     match words.next().unwrap_or("") {
         "cancel" => Reply::Cancel(block_of(rt, &mut words)),

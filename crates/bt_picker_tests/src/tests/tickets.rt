@@ -110,18 +110,18 @@ fn takes_many<R: Wait>(rt: &R, tickets: &Tickets, mut pass: TicketPass, count: &
     is_right
 }
 
-/// One thread puts, and another one takes. Whether each found what it should.
-fn put_and_take<R: Threads + Wait + Sync>(
+/// One thread puts, and another one takes. Each finds what it should.
+fn put_and_take<R: Threads + Wait + Abort + Sync>(
     rt: &R,
     tickets: &Tickets,
     count: &AtomicU32,
     first: TicketPass,
     second: TicketPass,
-) -> (bool, bool)
+)
     requires first { first.queue ≡ tickets.now }
     requires second { second.queue ≡ tickets.now }
 {
-    thread::join(
+    let found = thread::join(
         rt,
         move || -> bool
             requires { first.queue ≡ tickets.now }
@@ -129,13 +129,13 @@ fn put_and_take<R: Threads + Wait + Sync>(
         move || -> bool
             requires { second.queue ≡ tickets.now }
         { takes_many(rt, tickets, second, count) },
-    )
+    );
+    same(rt, found, (true, true), "put and taken");
 }
 
 fn in_two_threads<R: Threads + Wait + Abort + Sync>(rt: &R, alloc: Global) -> Result<(), Fail> {
     let (tickets, first, second) = opened(rt, alloc)?;
-    let found = put_and_take(rt, &tickets, &AtomicU32::new(0), first, second);
-    same(rt, found, (true, true), "put and taken");
+    put_and_take(rt, &tickets, &AtomicU32::new(0), first, second);
     Ok(())
 }
 

@@ -2,7 +2,7 @@
 use super::setting::*;
 use bt_expect::same;
 use bt_picker::{Call, CallMark, Mark, Reply};
-use bt_shared::{Book, GatherFault};
+use bt_shared::GatherFault;
 use std::alloc::Global;
 use std::process::Abort;
 use std::sync::Wait;
@@ -49,8 +49,7 @@ fn misses_a_pass(alloc: Global, seated: Seated) -> Result<(), Fail> {
 fn passes_in_another_order(rt: HostRuntime) -> Result<(), Fail> {
     let mut seated = Seated::open(&rt, rt.alloc(), 3)?;
     join_and_lose_another(&rt, &mut seated)?;
-    let book = seated.gather(rt.alloc())?;
-    has_two_joins(&rt, &book)
+    gathers(&rt, seated.gather(rt.alloc()), TWO_JOINS)
 }
 
 /// The last two join, and the first one's pass is lost.
@@ -75,12 +74,7 @@ const SECOND: &[Mark] = &[Mark {
 }];
 
 /// Of three logs the first is empty, and each other one has that its worker joined.
-fn has_two_joins(rt: &impl Abort, book: &Book) -> Result<(), Fail> {
-    same(book.logs.len(), 3)?;
-    log_is(rt, book, 0, &[])?;
-    log_is(rt, book, 1, FIRST)?;
-    log_is(rt, book, 2, SECOND)
-}
+const TWO_JOINS: &[&[Mark]] = &[&[], FIRST, SECOND];
 
 /// Bytes of bitfields, and the piece at which each differs from the desk.
 const ROWS: &[(u8, Option<u32>)] = &[

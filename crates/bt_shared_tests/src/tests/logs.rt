@@ -1,12 +1,10 @@
 //! What a worker's log has after its calls.
-ghost use Rattle.std.specs.Prelude.{◌≡◌, ◌<◌};
-ghost use Rattle.bt_meta.specs.Layout.{piece_count};
 
 use super::setting::*;
 use bt_expect::same;
 use bt_meta::Bitfield;
 use bt_picker::{Call, CallMark, Desk, Mark, Reason, Reply};
-use bt_shared::Book;
+use bt_shared::{Book, GatherFault};
 use std::alloc::Global;
 use std::process::Abort;
 use std::sync::Wait;
@@ -16,22 +14,21 @@ use std::test::*;
 #[test]
 fn one_worker_to_a_had_piece(rt: HostRuntime) -> Result<(), Fail> {
     let mut seated = Seated::open(&rt, rt.alloc(), 1)?;
-    bring_a_piece(&rt, &mut seated)?;
-    check_pieces(&rt, rt.alloc(), &mut seated)?;
-    let book = seated.gather(rt.alloc())?;
-    has_a_had_piece(&rt, &book)
+    bring_a_piece(&rt, rt.alloc(), &mut seated)?;
+    gathers(&rt, seated.gather(rt.alloc()), ONE_LOG)
 }
 
 /// The worker joins, and the last piece comes and is checked.
-fn bring_a_piece<R: Wait + Abort>(rt: &R, seated: &mut Seated) -> Result<(), Fail> {
+fn bring_a_piece<R: Wait + Abort>(rt: &R, alloc: Global, seated: &mut Seated) -> Result<(), Fail> {
     seated.says(rt, 0, Call::Join, Reply::Joined)?;
-    seated.says(rt, 0, block(2, b"a"), Reply::Completed)
+    seated.says(rt, 0, block(2, b"a"), Reply::Completed)?;
+    check_pieces(rt, alloc, seated)
 }
 
 /// There is a job of the last piece, which then is had, and none of the first one.
 fn check_pieces<R: Wait + Abort>(rt: &R, alloc: Global, seated: &mut Seated) -> Result<(), Fail> {
-    same(seated.has_job(rt, alloc, 0, 2)?, true)?;
-    same(seated.has_job(rt, alloc, 0, 0)?, false)?;
+    seated.finds(rt, alloc, 0, 2, true)?;
+    seated.finds(rt, alloc, 0, 0, false)?;
     seated.settles(rt, alloc, 0, 2, Reply::Had)?;
     seated.settles(rt, alloc, 0, 0, Reply::Refused(Reason::NotWaiting))
 }
@@ -56,15 +53,11 @@ const HAD: &[Mark] = &[
 ];
 
 /// The one log has how the piece came, and that it is had.
-fn has_a_had_piece(rt: &impl Abort, book: &Book) -> Result<(), Fail> {
-    same(book.logs.len(), 1)?;
-    log_is(rt, book, 0, HAD)
-}
+const ONE_LOG: &[&[Mark]] = &[HAD];
 
 /// How many peers show the piece.
-fn peers_of(desk: &Desk, piece: u32) -> u32
-    requires { piece < piece_count desk.now.setting.torrent }
-{
+fn peers_of(rt: &impl Abort, desk: &Desk, piece: u32) -> u32 {
+    assert!(rt; piece < desk.torrent().piece_count());
     desk.availability(piece)
 }
 
@@ -73,8 +66,7 @@ fn peers_of(desk: &Desk, piece: u32) -> u32
 fn a_bitfield_is_entered_whole(rt: HostRuntime) -> Result<(), Fail> {
     let mut seated = Seated::open(&rt, rt.alloc(), 1)?;
     tell_a_piece(&rt, rt.alloc(), &mut seated)?;
-    let book = seated.gather(rt.alloc())?;
-    is_shown_by_one(&book.desk)
+    gathers_one_shown(&rt, seated.gather(rt.alloc()))
 }
 
 /// A peer joins, and tells that it has the second piece.
@@ -85,12 +77,16 @@ fn tell_a_piece<R: Wait + Abort>(rt: &R, alloc: Global, seated: &mut Seated) -> 
 }
 
 /// One peer shows the second piece, and none another.
-fn is_shown_by_one(desk: &Desk) -> Result<(), Fail>
-    requires { piece_count desk.now.setting.torrent ≡ 3 }
-{
-    same(peers_of(desk, 0), 0)?;
-    same(peers_of(desk, 1), 1)?;
-    same(peers_of(desk, 2), 0)
+fn is_shown_by_one(rt: &impl Abort, desk: &Desk) -> Result<(), Fail> {
+    same(peers_of(rt, desk, 0), 0)?;
+    same(peers_of(rt, desk, 1), 1)?;
+    same(peers_of(rt, desk, 2), 0)
+}
+
+/// The same once the desk is gathered.
+fn gathers_one_shown(rt: &impl Abort, gathered: Result<Book, GatherFault>) -> Result<(), Fail> {
+    let book = gathered?;
+    is_shown_by_one(rt, &book.desk)
 }
 
 /// Calls that are refused are entries, and have their marks; a check of a piece that doesn't wait for one is none.

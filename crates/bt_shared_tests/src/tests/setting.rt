@@ -40,7 +40,7 @@ pub fn called<R: Wait>(
 }
 
 /// A check of the piece by the pass.
-pub fn settled<R: Wait>(
+fn settled<R: Wait>(
     rt: &R,
     alloc: Global,
     desk: &SharedDesk,
@@ -53,8 +53,18 @@ pub fn settled<R: Wait>(
     desk.settle_now(rt, alloc, pass, piece)
 }
 
+/// The second pass comes to know what the first one has seen.
+fn meet<R: Wait>(rt: &R, desk: &SharedDesk, first: &mut Pass, second: &mut Pass)
+    requires first { first.old.table ≡ desk.now.table }
+    requires second { second.old.table ≡ desk.now.table }
+    ensures first { IsSame first.old first.new }
+    ensures second { IsSame second.old second.new }
+{
+    desk.meet(rt, first, second);
+}
+
 /// Whether the pass finds a job of the piece.
-pub fn finds_job<R: Wait>(
+fn finds_job<R: Wait>(
     rt: &R,
     alloc: Global,
     desk: &SharedDesk,
@@ -107,10 +117,15 @@ impl Seated {
     }
 
     /// The worker's call.
-    fn call<R: Wait + Abort>(&mut self, rt: &R, worker: usize, call: Call) -> Result<Reply, Fail> {
+    fn call<R: Wait + Abort>(
+        &mut self,
+        rt: &R,
+        worker: usize,
+        call: Call,
+    ) -> Result<Reply, AllocError> {
         let Seated { desk, passes } = self;
         assert!(rt; worker < passes.len());
-        Ok(called(rt, desk, &mut passes[worker], call)?)
+        called(rt, desk, &mut passes[worker], call)
     }
 
     /// The worker's call, which has to get this reply.
@@ -145,23 +160,36 @@ impl Seated {
         alloc: Global,
         worker: usize,
         piece: u32,
-    ) -> Result<Reply, Fail> {
+    ) -> Result<Reply, AllocError> {
         let Seated { desk, passes } = self;
         assert!(rt; worker < passes.len());
-        Ok(settled(rt, alloc, desk, &mut passes[worker], piece)?)
+        settled(rt, alloc, desk, &mut passes[worker], piece)
     }
 
-    /// Whether there is a job of the piece.
-    pub fn has_job<R: Wait + Abort>(
+    /// Whether there is a job of the piece, which has to be so.
+    pub fn finds<R: Wait + Abort>(
         &mut self,
         rt: &R,
         alloc: Global,
         worker: usize,
         piece: u32,
-    ) -> Result<bool, Fail> {
+        wanted: bool,
+    ) -> Result<(), Fail> {
+        let has_job = self.has_job(rt, alloc, worker, piece)?;
+        same(has_job, wanted)
+    }
+
+    /// Whether there is a job of the piece.
+    fn has_job<R: Wait + Abort>(
+        &mut self,
+        rt: &R,
+        alloc: Global,
+        worker: usize,
+        piece: u32,
+    ) -> Result<bool, AllocError> {
         let Seated { desk, passes } = self;
         assert!(rt; worker < passes.len());
-        Ok(finds_job(rt, alloc, desk, &mut passes[worker], piece)?)
+        finds_job(rt, alloc, desk, &mut passes[worker], piece)
     }
 
     /// The worker's log.
@@ -184,8 +212,25 @@ impl Seated {
         self.passes.pop().expect(rt, "no pass is left")
     }
 
+    /// Puts two passes back, the first one first.
+    pub fn give_two(&mut self, first: Pass, second: Pass) -> Result<(), AllocError>
+        requires first { IsOf self.old first }
+        requires second { IsOf self.old second }
+    {
+        self.give(first)?;
+        self.give(second)
+    }
+
+    /// The passes of two workers meet, and change places: the second one then knows what the first has seen, and comes first.
+    pub fn meet_and_turn<R: Wait + Abort>(&mut self, rt: &R) -> Result<(), AllocError> {
+        let mut second = self.take(rt);
+        let mut first = self.take(rt);
+        meet(rt, &self.desk, &mut first, &mut second);
+        self.give_two(second, first)
+    }
+
     /// Puts a pass back.
-    pub fn give(&mut self, pass: Pass) -> Result<(), AllocError>
+    fn give(&mut self, pass: Pass) -> Result<(), AllocError>
         requires { IsOf self.old pass }
         ensures { self.new ≡ self.old }
     {
@@ -200,9 +245,7 @@ impl Seated {
         &self.desk
     }
 
-    pub fn gather(self, alloc: Global) -> Result<Book, GatherFault>
-        ensures { IfOk result (λ book. piece_count book.desk.setting.torrent ≡ 3) }
-    {
+    pub fn gather(self, alloc: Global) -> Result<Book, GatherFault> {
         let Seated { desk, passes } = self;
         desk.gather(alloc, passes, None)
     }
@@ -261,8 +304,26 @@ pub const ARRIVED: CallMark = CallMark::Arrived {
     len: 1,
 };
 
-/// The log of a worker in the book, which has to be this.
-pub fn log_is(rt: &impl Abort, book: &Book, worker: usize, wanted: &[Mark]) -> Result<(), Fail> {
+/// A desk is gathered, and the book's logs have to be these.
+pub fn gathers(
+    rt: &impl Abort,
+    gathered: Result<Book, GatherFault>,
+    wanted: &[&[Mark]],
+) -> Result<(), Fail> {
+    let book = gathered?;
+    logs_are(rt, &book, wanted)
+}
+
+/// The logs of the workers in the book, which have to be these.
+fn logs_are(rt: &impl Abort, book: &Book, wanted: &[&[Mark]]) -> Result<(), Fail> {
+    same(book.logs.len(), wanted.len())?;
+    for worker in 0..wanted.len() {
+        same(log_of(rt, book, worker), wanted[worker])?;
+    }
+    Ok(())
+}
+
+fn log_of<'a>(rt: &impl Abort, book: &'a Book, worker: usize) -> &'a [Mark] {
     assert!(rt; worker < book.logs.len());
-    same(book.logs[worker].as_slice(), wanted)
+    &book.logs[worker]
 }

@@ -4,9 +4,10 @@ ghost use Rattle.bt_meta.specs.Layout.{piece_count};
 ghost use Rattle.bt_shared.specs.Passes.{IsOf, IsSame};
 
 use super::setting::*;
+use bt_expect::same;
 use bt_meta::Torrent;
 use bt_picker::{Call, Reply, Rules, audit};
-use bt_shared::{Book, Pass, SharedDesk};
+use bt_shared::{Book, GatherFault, Pass, SharedDesk};
 use std::alloc::Global;
 use std::process::Abort;
 use std::sync::Wait;
@@ -131,23 +132,30 @@ fn call_together<R: Wait + Threads + Abort + Sync>(
         first,
         second,
     );
-    seated.give(first)?;
-    seated.give(second)?;
+    seated.give_two(first, second)?;
     Ok(is_right && is_right_too)
 }
 
 #[test]
 fn two_threads_at_one_desk(rt: HostRuntime) -> Result<(), Fail> {
     let mut seated = Seated::open(&rt, rt.alloc(), 2)?;
-    assert!(rt; call_together(&rt, &mut seated)?);
-    let book = seated.gather(rt.alloc())?;
-    has_all_calls(&rt, rt.alloc(), &book)
+    same(call_together(&rt, &mut seated)?, true)?;
+    gathers_all_calls(&rt, rt.alloc(), seated.gather(rt.alloc()))
+}
+
+/// A desk is gathered, and its book has all calls.
+fn gathers_all_calls(
+    rt: &impl Abort,
+    alloc: Global,
+    gathered: Result<Book, GatherFault>,
+) -> Result<(), Fail> {
+    let book = gathered?;
+    has_all_calls(rt, alloc, &book)
 }
 
 /// The journal and the logs have all calls, and an audit finds no fault.
 fn has_all_calls(rt: &impl Abort, alloc: Global, book: &Book) -> Result<(), Fail> {
-    assert!(rt; is_whole(book));
+    same(is_whole(book), true)?;
     let torrent = three_pieces(rt, alloc)?;
-    assert!(rt; is_audited(alloc, &torrent, book));
-    Ok(())
+    same(is_audited(alloc, &torrent, book), true)
 }
