@@ -2,11 +2,12 @@
 
 use super::whole::{WHOLE, played};
 use crate::{PEER, peer};
-use bt_expect::{same, same_for};
+use bt_expect::same;
 use bt_meta::{DeviceFault, FromRead, Sink, Source, ToWrite};
 use bt_peer::{End, SessionFault};
 use std::alloc::Global;
 use std::io::Cursor;
+use std::process::Abort;
 use std::test::Fail;
 
 /// How the session of a desk's only worker ended whose peer sends these bytes, and its calls.
@@ -18,60 +19,56 @@ fn played_alone<W: Sink>(
     played(alloc, 1, &mut FromRead::new(Cursor::new(sent)), writer)
 }
 
-/// A session whose peer sends these bytes ends well.
-fn ends_well<W: Sink>(alloc: Global, sent: &[u8], writer: &mut W) -> Result<(), Fail> {
-    let (end, _) = played_alone(alloc, sent, writer)?;
-    same(end.is_ok(), true)
-}
-
 /// The bytes that a whole session writes.
 fn whole_written(alloc: Global, sent: &[u8]) -> Result<Vec<u8>, Fail> {
     let mut writer = ToWrite::new(Vec::new(alloc));
-    ends_well(alloc, sent, &mut writer)?;
-    Ok(writer.into_inner())
+    let (end, _) = played_alone(alloc, sent, &mut writer)?;
+    match end {
+        Ok(_) => Ok(writer.into_inner()),
+        Err(_) => Err(Fail::from("a whole session has no fault")),
+    }
 }
 
 /// A stream that ends between two messages ends well; one that ends in the handshake makes no call, and one in a message is a fault.
 #[test]
 fn each_front_of_a_stream(rt: HostRuntime) -> Result<(), Fail> {
     let sent = peer(rt.alloc(), 1, &PEER)?;
-    fronts_end(rt.alloc(), &sent)
-}
-
-/// Checks each front of this stream.
-fn fronts_end(alloc: Global, sent: &[u8]) -> Result<(), Fail> {
     for len in 0..=sent.len() {
-        play_front(alloc, &sent[..len])?;
+        play_front(&rt, rt.alloc(), &sent[..len])?;
     }
     Ok(())
 }
 
 /// How this front of a stream ends.
-fn play_front(alloc: Global, front: &[u8]) -> Result<(), Fail> {
+fn play_front(rt: &impl Abort, alloc: Global, front: &[u8]) -> Result<(), Fail> {
     let mut writer = ToWrite::new(Vec::new(alloc));
     let (end, calls) = played_alone(alloc, front, &mut writer)?;
-    front_ends(front.len(), end, calls.as_str())
-}
-
-/// How a front of this length is to end.
-fn wanted_end(len: usize) -> Result<End, SessionFault> {
-    match len {
-        68 => Ok(End { messages: 0 }),
-        74 => Ok(End { messages: 1 }),
-        79 => Ok(End { messages: 2 }),
-        95 => Ok(End { messages: 3 }),
-        _ => Err(SessionFault::Truncated),
-    }
+    front_ends(rt, front.len(), end, calls.as_str())
 }
 
 /// Checks how a front of this length ended, and its calls.
-fn front_ends(len: usize, end: Result<End, SessionFault>, calls: &str) -> Result<(), Fail> {
-    same_for((end, calls.is_empty()), (wanted_end(len), len < 68), len)?;
-    if len == 68 {
-        same(calls, "join = Joined; leave = Quiet; ")
-    } else {
-        Ok(())
+fn front_ends(
+    rt: &impl Abort,
+    len: usize,
+    end: Result<End, SessionFault>,
+    calls: &str,
+) -> Result<(), Fail> {
+    let messages = match len {
+        68 => Some(0),
+        74 => Some(1),
+        79 => Some(2),
+        95 => Some(3),
+        _ => None,
+    };
+    match messages {
+        Some(messages) => assert!(rt; end == Ok(End { messages })),
+        None => assert!(rt; end == Err(SessionFault::Truncated)),
     }
+    assert!(rt; calls.is_empty() == (len < 68));
+    if len == 68 {
+        same(calls, "join = Joined; leave = Quiet; ")?;
+    }
+    Ok(())
 }
 
 /// A source that gives a byte at a time, until a read fails.
@@ -102,14 +99,11 @@ impl Source for Breaking<'_> {
             return Err(DeviceFault);
         }
         self.left -= 1;
-        if room.is_empty() {
-            return Ok(0);
-        }
-        let Some((byte, rest)) = self.rest.split_first() else {
-            self.ended = true;
+        let (Some(to), Some((byte, rest))) = (room.first_mut(), self.rest.split_first()) else {
+            self.ended |= !room.is_empty();
             return Ok(0);
         };
-        room[0] = *byte;
+        *to = *byte;
         self.rest = rest;
         Ok(1)
     }
@@ -120,36 +114,21 @@ impl Source for Breaking<'_> {
 fn each_read_fails(rt: HostRuntime) -> Result<(), Fail> {
     let sent = peer(rt.alloc(), 1, &PEER)?;
     let whole = whole_written(rt.alloc(), &sent)?;
-    reads_fail(rt.alloc(), &sent, &whole)
-}
-
-/// Checks each read of this stream.
-fn reads_fail(alloc: Global, sent: &[u8], whole: &[u8]) -> Result<(), Fail> {
     for left in 0..sent.len() {
-        read_fails(alloc, sent, whole, left)?;
+        read_fails(&rt, rt.alloc(), &sent, &whole, left)?;
     }
     Ok(())
 }
 
 /// A read fails after so many of the bytes that are sent.
-fn read_fails(alloc: Global, sent: &[u8], whole: &[u8], left: usize) -> Result<(), Fail> {
-    let mut writer = ToWrite::new(Vec::new(alloc));
-    let end = broken_off(alloc, sent, left, &mut writer)?;
-    let written = writer.into_inner();
-    same_for(
-        (end, whole.starts_with(&written)),
-        (Err(SessionFault::ReadFault), true),
-        left,
-    )
-}
-
-/// How the session ends whose source fails after so many bytes.
-fn broken_off<W: Sink>(
+fn read_fails(
+    rt: &impl Abort,
     alloc: Global,
     sent: &[u8],
+    whole: &[u8],
     left: usize,
-    writer: &mut W,
-) -> Result<Result<End, SessionFault>, Fail> {
+) -> Result<(), Fail> {
+    let mut writer = ToWrite::new(Vec::new(alloc));
     let mut reader = Breaking {
         rest: sent,
         left,
@@ -157,8 +136,10 @@ fn broken_off<W: Sink>(
         failed: false,
         ended: false,
     };
-    let (end, _) = played(alloc, 1, &mut reader, writer)?;
-    Ok(end)
+    let (end, _) = played(alloc, 1, &mut reader, &mut writer)?;
+    assert!(rt; end == Err(SessionFault::ReadFault));
+    assert!(rt; whole.starts_with(writer.into_inner().as_slice()));
+    Ok(())
 }
 
 /// A sink that takes a byte at a time, and fails where it has no room.
@@ -194,52 +175,57 @@ impl Sink for Narrow {
 fn each_write_fails(rt: HostRuntime) -> Result<(), Fail> {
     let sent = peer(rt.alloc(), 1, &PEER)?;
     let whole = whole_written(rt.alloc(), &sent)?;
-    writes_fail(rt.alloc(), &sent, &whole)
-}
-
-/// Checks each write of a session with this peer, and a writer with room for all of them.
-fn writes_fail(alloc: Global, sent: &[u8], whole: &[u8]) -> Result<(), Fail> {
-    for room in 0..=whole.len() {
-        write_front(alloc, sent, &whole[..room], room < whole.len())?;
+    for room in 0..whole.len() {
+        write_fails(&rt, rt.alloc(), &sent, &whole[..room])?;
     }
-    Ok(())
+    let (end, calls) = write_front(&rt, rt.alloc(), &sent, &whole)?;
+    ends_whole(&rt, end, &calls)
 }
 
-/// A session whose writer has room for this front alone takes it, and fails behind it or is whole.
-fn write_front(alloc: Global, sent: &[u8], front: &[u8], fails: bool) -> Result<(), Fail> {
+/// A write fails after this front.
+fn write_fails(rt: &impl Abort, alloc: Global, sent: &[u8], front: &[u8]) -> Result<(), Fail> {
+    let (end, calls) = write_front(rt, alloc, sent, front)?;
+    ends_in_a_write(rt, front.len(), end, &calls)
+}
+
+/// How a session ended whose writer has room for this front alone, which it has taken, and the calls.
+fn write_front(
+    rt: &impl Abort,
+    alloc: Global,
+    sent: &[u8],
+    front: &[u8],
+) -> Result<(Result<End, SessionFault>, String), Fail> {
     let mut writer = Narrow {
         kept: Vec::new(alloc),
         room: front.len(),
         failed: false,
     };
-    ends_by_room(alloc, sent, &mut writer, fails)?;
-    same(writer.kept.as_slice(), front)
-}
-
-/// Checks how a session with this writer ends: whether it fails in a write.
-fn ends_by_room(alloc: Global, sent: &[u8], writer: &mut Narrow, fails: bool) -> Result<(), Fail> {
-    let room = writer.room;
-    let (end, calls) = played_alone(alloc, sent, writer)?;
-    if fails {
-        ends_in_a_write(room, end, &calls)
-    } else {
-        ends_whole(end, &calls)
-    }
+    let told = played_alone(alloc, sent, &mut writer)?;
+    assert!(rt; writer.kept.as_slice() == front);
+    Ok(told)
 }
 
 /// Checks that a session ended well.
-fn ends_whole(end: Result<End, SessionFault>, calls: &str) -> Result<(), Fail> {
-    same((end, calls), (Ok(End { messages: 3 }), WHOLE))
+fn ends_whole(rt: &impl Abort, end: Result<End, SessionFault>, calls: &str) -> Result<(), Fail> {
+    assert!(rt; end == Ok(End { messages: 3 }));
+    same(calls, WHOLE)
 }
 
 /// Checks how a session ended whose writer had room for so many bytes, which were too few.
-fn ends_in_a_write(room: usize, end: Result<End, SessionFault>, calls: &str) -> Result<(), Fail> {
-    same_for(end, Err(SessionFault::WriteFault), room)?;
+fn ends_in_a_write(
+    rt: &impl Abort,
+    room: usize,
+    end: Result<End, SessionFault>,
+    calls: &str,
+) -> Result<(), Fail> {
+    assert!(rt; end == Err(SessionFault::WriteFault));
     if room < 68 {
-        same(calls, "")
-    } else if room == 68 {
-        same(calls, "join = Joined; bits = Noted(true); leave = Quiet; ")
+        same(calls, "")?;
     } else {
-        same_for(calls.ends_with("leave = Quiet; "), true, room)
+        assert!(rt; calls.ends_with("leave = Quiet; "));
     }
+    if room == 68 {
+        same(calls, "join = Joined; bits = Noted(true); leave = Quiet; ")?;
+    }
+    Ok(())
 }

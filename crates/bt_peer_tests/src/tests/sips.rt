@@ -1,11 +1,12 @@
 //! Sources that give little at each read.
 
-use super::whole::{WHOLE, ended};
+use super::whole::{WHOLE, told_of};
 use crate::{PEER, peer};
 use bt_expect::same;
 use bt_meta::{DeviceFault, Source};
 use bt_peer::End;
 use std::alloc::Global;
+use std::process::Abort;
 use std::test::Fail;
 
 /// A source that gives at each read as many bytes as its list says next, then those of the list again.
@@ -52,7 +53,9 @@ impl Source for Sips<'_> {
         let size = self.size().min(room.len()).min(self.rest.len());
         self.reads = self.reads.saturating_add(1);
         let (sip, rest) = self.rest.split_at(size);
-        room[..size].copy_from_slice(sip);
+        for (to, from) in room.iter_mut().zip(sip) {
+            *to = *from;
+        }
         self.rest = rest;
         if size == 0 && !room.is_empty() {
             self.ended = true;
@@ -68,40 +71,32 @@ const MESSAGES: [usize; 4] = [68, 6, 5, 16];
 #[test]
 fn little_by_little(rt: HostRuntime) -> Result<(), Fail> {
     let stream = peer(rt.alloc(), 1, &PEER)?;
-    is_whole_twice(rt.alloc(), &stream)
-}
-
-/// The session is a whole one, byte by byte and message by message.
-fn is_whole_twice(alloc: Global, stream: &[u8]) -> Result<(), Fail> {
-    is_whole(alloc, stream, &[1])?;
-    is_whole(alloc, stream, &MESSAGES)
+    is_whole(&rt, rt.alloc(), &stream, &[1])?;
+    is_whole(&rt, rt.alloc(), &stream, &MESSAGES)
 }
 
 /// The session is a whole one where each read gives as much as the sizes say.
-fn is_whole(alloc: Global, stream: &[u8], sizes: &[usize]) -> Result<(), Fail> {
-    let (end, calls) = ended(alloc, &mut Sips::new(stream, sizes))?;
-    same((end, calls.as_str()), (Ok(End { messages: 3 }), WHOLE))
+fn is_whole(rt: &impl Abort, alloc: Global, stream: &[u8], sizes: &[usize]) -> Result<(), Fail> {
+    let (end, calls, _) = told_of(alloc, &mut Sips::new(stream, sizes))?;
+    assert!(rt; end == Ok(End { messages: 3 }));
+    same(calls.as_str(), WHOLE)
 }
 
 /// The bytes of the keepalives that come at once, four each.
 const KEEPALIVES: usize = 200_000;
 
-/// What a peer sends whose keepalives come at once.
-fn keepalives(alloc: Global) -> Result<Vec<u8>, Fail> {
-    let keepalives = vec![in alloc; 0; KEEPALIVES]?;
-    peer(alloc, 1, &keepalives)
-}
-
 /// However much a read gives, each message has a turn of its own.
 #[test]
 fn much_at_once(rt: HostRuntime) -> Result<(), Fail> {
-    let stream = keepalives(rt.alloc())?;
-    takes_all(rt.alloc(), &stream)
+    let keepalives = vec![in rt.alloc(); 0; KEEPALIVES]?;
+    let stream = peer(rt.alloc(), 1, &keepalives)?;
+    takes_all(&rt, rt.alloc(), &stream)
 }
 
 /// Each of the keepalives is a message.
-fn takes_all(alloc: Global, stream: &[u8]) -> Result<(), Fail> {
-    let (end, calls) = ended(alloc, &mut Sips::new(stream, &[65_535]))?;
-    let last = calls.as_str().ends_with("next = Choked; leave = Quiet; ");
-    same((end, last), (Ok(End { messages: 50_000 }), true))
+fn takes_all(rt: &impl Abort, alloc: Global, stream: &[u8]) -> Result<(), Fail> {
+    let (end, calls, _) = told_of(alloc, &mut Sips::new(stream, &[65_535]))?;
+    assert!(rt; end == Ok(End { messages: 50_000 }));
+    assert!(rt; calls.as_str().ends_with("next = Choked; leave = Quiet; "));
+    Ok(())
 }

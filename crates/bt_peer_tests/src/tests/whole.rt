@@ -14,6 +14,7 @@ use rand_pcg::Lcg64Xsh32;
 use std::alloc::{AllocError, Global};
 use std::fmt::Write;
 use std::io::Cursor;
+use std::process::Abort;
 use std::sync::Arc;
 use std::test::Fail;
 
@@ -33,29 +34,34 @@ fn word(call: &Call) -> &'static str {
     }
 }
 
-/// Adds the place that a call is of, if it is of one.
-fn tell_place(call: &Call, said: &mut String) -> Result<(), AllocError> {
-    match call {
-        Call::Have(piece) => write!(said, " {piece}"),
-        Call::Arrived { piece, begin, .. } => write!(said, " {piece} {begin}"),
-        _ => Ok(()),
-    }
-}
-
 /// An entry by its call and its reply, without words of Next, bytes and bitfields.
 pub fn tell(entry: &Entry, said: &mut String) -> Result<(), AllocError> {
     said.push_str(word(&entry.call))?;
-    tell_place(&entry.call, said)?;
+    match &entry.call {
+        Call::Have(piece) => write!(said, " {piece}")?,
+        Call::Arrived { piece, begin, .. } => write!(said, " {piece} {begin}")?,
+        _ => {}
+    }
     let reply = entry.reply;
     write!(said, " = {reply:?}; ")
 }
 
-/// How a session of the last of four workers ended whose source is read to its end, and the journal.
-pub fn ended<R: Source>(
+/// What came of it, the journal, and what was written.
+fn told(
+    alloc: Global,
+    stream: &[u8],
+) -> Result<(Result<End, SessionFault>, String, Vec<u8>), Fail> {
+    told_of(alloc, &mut FromRead::new(Cursor::new(stream)))
+}
+
+/// The same of a source, which is read to its end.
+pub fn told_of<R: Source>(
     alloc: Global,
     reader: &mut R,
-) -> Result<(Result<End, SessionFault>, String), Fail> {
-    played(alloc, 4, reader, &mut ToWrite::new(Vec::new(alloc)))
+) -> Result<(Result<End, SessionFault>, String, Vec<u8>), Fail> {
+    let mut writer = ToWrite::new(Vec::new(alloc));
+    let (end, said) = played(alloc, 4, reader, &mut writer)?;
+    Ok((end, said, writer.into_inner()))
 }
 
 /// How a session of the last of so many workers with these devices ended, and its calls.
@@ -69,23 +75,9 @@ pub fn played<R: Source, W: Sink>(
 {
     let torrent = torrent(alloc)?;
     let mut desk = Desk::new(alloc, torrent.clone()?, workers, RULES)?;
-    play_and_tell(alloc, torrent, &mut desk, workers - 1, reader, writer)
-}
-
-/// How the worker's session ended, and the desk's calls.
-fn play_and_tell<R: Source, W: Sink>(
-    alloc: Global,
-    torrent: Arc<Torrent>,
-    desk: &mut Desk,
-    worker: u32,
-    reader: &mut R,
-    writer: &mut W,
-) -> Result<(Result<End, SessionFault>, String), Fail>
-    requires worker { worker < desk.old.setting.workers }
-    requires pieces { piece_count desk.old.setting.torrent ≡ piece_count torrent.value.layout }
-{
-    let end = play(alloc, torrent, desk, worker, reader, writer)?;
-    Ok((end, calls_of(alloc, desk)?))
+    let end = play(alloc, torrent, &mut desk, workers - 1, reader, writer)?;
+    let said = calls_of(alloc, &desk)?;
+    Ok((end, said))
 }
 
 /// How the worker's session ended, at a desk of this torrent.
@@ -108,18 +100,12 @@ fn play<R: Source, W: Sink>(
     ))
 }
 
-/// Adds the entries, one by one.
-fn tell_each(entries: &[Entry], said: &mut String) -> Result<(), AllocError> {
-    for entry in entries {
-        tell(entry, said)?;
-    }
-    Ok(())
-}
-
 /// The desk's journal, entry by entry.
-fn calls_of(alloc: Global, desk: &Desk) -> Result<String, AllocError> {
+pub fn calls_of(alloc: Global, desk: &Desk) -> Result<String, Fail> {
     let mut said = String::new(alloc);
-    tell_each(desk.journal(), &mut said)?;
+    for entry in desk.journal() {
+        tell(entry, &mut said)?;
+    }
     Ok(said)
 }
 
@@ -128,31 +114,39 @@ pub const WHOLE: &str = "join = Joined; bits = Noted(true); next = Choked; uncho
     next = Request(Block { piece: 0, begin: 0, len: 3 }); next = Idle; \
     block 0 0 = Completed; settle = Had; next = NothingLeft; leave = Quiet; ";
 
-/// What a whole session with that peer writes: its handshake, then interested, a request, have and not interested.
-const WRITTEN: &[u8] = b"\x13BitTorrent protocol\0\0\0\0\0\0\0\0\
-    \x01\x01\x01\x01\x01\x01\x01\x01\x01\x01\x01\x01\x01\x01\x01\x01\x01\x01\x01\x01-PP0001-000000000003\
-    \0\0\0\x01\x02\
-    \0\0\0\x0d\x06\0\0\0\0\0\0\0\0\0\0\0\x03\
-    \0\0\0\x05\x04\0\0\0\0\
-    \0\0\0\x01\x03";
-
 #[test]
 fn a_whole_session(rt: HostRuntime) -> Result<(), Fail> {
     let sent = peer(rt.alloc(), 1, &PEER)?;
-    is_whole(rt.alloc(), &sent)
+    is_whole(&rt, rt.alloc(), &sent)
 }
 
 /// The session of this stream is a whole one.
-fn is_whole(alloc: Global, sent: &[u8]) -> Result<(), Fail> {
-    let mut writer = ToWrite::new(Vec::new(alloc));
-    ends_whole(alloc, sent, &mut writer)?;
-    same(writer.into_inner().as_slice(), WRITTEN)
+fn is_whole(rt: &impl Abort, alloc: Global, sent: &[u8]) -> Result<(), Fail> {
+    let (end, calls, written) = told(alloc, sent)?;
+    assert!(rt; end == Ok(End { messages: 3 }));
+    same(calls.as_str(), WHOLE)?;
+    writes_all(alloc, &written)
 }
 
-/// The session of this stream ends well, with the calls of a whole one.
-fn ends_whole<W: Sink>(alloc: Global, sent: &[u8], writer: &mut W) -> Result<(), Fail> {
-    let (end, calls) = played(alloc, 4, &mut FromRead::new(Cursor::new(sent)), writer)?;
-    same((end, calls.as_str()), (Ok(End { messages: 3 }), WHOLE))
+/// These bytes are what a whole session with that peer writes.
+fn writes_all(alloc: Global, written: &[u8]) -> Result<(), Fail> {
+    let mut wanted = Vec::new(alloc);
+    add_whole(&mut wanted)?;
+    same(written, wanted.as_slice())
+}
+
+/// Adds what a whole session with that peer writes.
+fn add_whole(wanted: &mut Vec<u8>) -> Result<(), Fail> {
+    wanted.extend_from_slice(b"\x13BitTorrent protocol")?;
+    wanted.extend_from_slice(&[0; 8])?;
+    wanted.extend_from_slice(&[1; 20])?;
+    wanted.extend_from_slice(b"-PP0001-000000000003")?;
+    // interested, request, have, not interested
+    wanted.extend_from_slice(&[
+        0, 0, 0, 1, 2, 0, 0, 0, 13, 6, 0, 0, 0, 0, 0, 0, 0, 0, 0, 0, 0, 3, 0, 0, 0, 5, 4, 0, 0, 0,
+        0, 0, 0, 0, 1, 3,
+    ])?;
+    Ok(())
 }
 
 /// The calls of a session whose peer breaks off in the block.
@@ -173,25 +167,26 @@ const ROWS: &[(&[u8], SessionFault, &str)] = &[
     ),
 ];
 
-/// The peers of these rows are at fault.
-fn rows_are_at_fault(alloc: Global) -> Result<(), Fail> {
-    for &(frames, fault, wanted) in ROWS {
-        peer_is_at_fault(alloc, 1, frames, fault, wanted)?;
-    }
-    Ok(())
-}
-
 #[test]
 fn faults(rt: HostRuntime) -> Result<(), Fail> {
     let alloc = rt.alloc();
-    peer_is_at_fault(alloc, 1, &PEER[..26], SessionFault::Truncated, BEGUN)?;
-    peer_is_at_fault(alloc, 2, &PEER, SessionFault::WrongInfohash, "")?;
-    ends_with_fault(alloc, b"\x13BitTorrent", SessionFault::Truncated, "")?;
-    rows_are_at_fault(alloc)
+    peer_is_at_fault(&rt, alloc, 1, &PEER[..26], SessionFault::Truncated, BEGUN)?;
+    peer_is_at_fault(&rt, alloc, 2, &PEER, SessionFault::WrongInfohash, "")?;
+    for &(frames, fault, wanted) in ROWS {
+        peer_is_at_fault(&rt, alloc, 1, frames, fault, wanted)?;
+    }
+    ends_with_fault(
+        &rt,
+        rt.alloc(),
+        b"\x13BitTorrent",
+        SessionFault::Truncated,
+        "",
+    )
 }
 
 /// The session with a peer that sends these frames ends with this fault, after these calls.
 fn peer_is_at_fault(
+    rt: &impl Abort,
     alloc: Global,
     infohash: u8,
     frames: &[u8],
@@ -199,16 +194,18 @@ fn peer_is_at_fault(
     wanted: &str,
 ) -> Result<(), Fail> {
     let sent = peer(alloc, infohash, frames)?;
-    ends_with_fault(alloc, &sent, fault, wanted)
+    ends_with_fault(rt, alloc, &sent, fault, wanted)
 }
 
 /// The session of this stream ends with this fault, after these calls.
 fn ends_with_fault(
+    rt: &impl Abort,
     alloc: Global,
     sent: &[u8],
     fault: SessionFault,
     wanted: &str,
 ) -> Result<(), Fail> {
-    let (end, calls) = ended(alloc, &mut FromRead::new(Cursor::new(sent)))?;
-    same((end, calls.as_str()), (Err(fault), wanted))
+    let (end, calls, _) = told(alloc, sent)?;
+    assert!(rt; end == Err(fault));
+    same(calls.as_str(), wanted)
 }
