@@ -8,30 +8,26 @@ use std::process::Abort;
 use std::sync::Wait;
 use std::test::*;
 
-/// These two workers join.
-fn two_join<R: Wait + Abort>(
+/// These two workers join, and then the pass of this worker is lost.
+fn join_and_lose<R: Wait + Abort>(
     rt: &R,
     seated: &mut Seated,
     first: usize,
     second: usize,
+    lost: usize,
 ) -> Result<(), Fail> {
     seated.says(rt, first, Call::Join, Reply::Joined)?;
-    seated.says(rt, second, Call::Join, Reply::Joined)
+    seated.says(rt, second, Call::Join, Reply::Joined)?;
+    seated.lose(rt, lost);
+    Ok(())
 }
 
 /// Of two workers that joined, one pass is lost.
 #[test]
 fn a_lost_pass(rt: HostRuntime) -> Result<(), Fail> {
     let mut seated = Seated::open(&rt, rt.alloc(), 2)?;
-    join_and_lose(&rt, &mut seated)?;
+    join_and_lose(&rt, &mut seated, 0, 1, 1)?;
     misses_a_pass(rt.alloc(), seated)
-}
-
-/// Both join, and the last one's pass is lost.
-fn join_and_lose<R: Wait + Abort>(rt: &R, seated: &mut Seated) -> Result<(), Fail> {
-    two_join(rt, seated, 0, 1)?;
-    seated.lose(rt, 1);
-    Ok(())
 }
 
 /// The desk isn't gathered, as the passes have one call, and the journal has two.
@@ -48,15 +44,8 @@ fn misses_a_pass(alloc: Global, seated: Seated) -> Result<(), Fail> {
 #[test]
 fn passes_in_another_order(rt: HostRuntime) -> Result<(), Fail> {
     let mut seated = Seated::open(&rt, rt.alloc(), 3)?;
-    join_and_lose_another(&rt, &mut seated)?;
+    join_and_lose(&rt, &mut seated, 1, 2, 0)?;
     gathers(&rt, seated.gather(rt.alloc()), TWO_JOINS)
-}
-
-/// The last two join, and the first one's pass is lost.
-fn join_and_lose_another<R: Wait + Abort>(rt: &R, seated: &mut Seated) -> Result<(), Fail> {
-    two_join(rt, seated, 1, 2)?;
-    seated.lose(rt, 0);
-    Ok(())
 }
 
 /// The log of whoever joins first.
@@ -76,38 +65,33 @@ const SECOND: &[Mark] = &[Mark {
 /// Of three logs the first is empty, and each other one has that its worker joined.
 const TWO_JOINS: &[&[Mark]] = &[&[], FIRST, SECOND];
 
-/// Bytes of bitfields, and the piece at which each differs from the desk.
-const ROWS: &[(u8, Option<u32>)] = &[
+/// Bytes of bitfields, and how each differs from the desk.
+const ROWS: &[(u8, Option<GatherFault>)] = &[
     (0x20, None),
-    (0x00, Some(2)),
-    (0x60, Some(1)),
-    (0x80, Some(0)),
+    (0x00, Some(GatherFault::BoardDiffers { piece: 2 })),
+    (0x60, Some(GatherFault::BoardDiffers { piece: 1 })),
+    (0x80, Some(GatherFault::BoardDiffers { piece: 0 })),
 ];
 
 /// The last piece is had, and a bitfield tells which pieces are.
 #[test]
 fn bitfields_of_had_pieces(rt: HostRuntime) -> Result<(), Fail> {
-    for &(byte, other) in ROWS {
-        differs_at(&rt, rt.alloc(), byte, other)?;
+    for &(byte, wanted) in ROWS {
+        gathers_beside(&rt, rt.alloc(), byte, wanted)?;
     }
     Ok(())
 }
 
-/// A desk that has the last piece differs from the bitfield in this piece, or in none.
-fn differs_at<R: Wait + Abort>(
+/// A desk that has the last piece is gathered beside this bitfield, or isn't and why.
+fn gathers_beside<R: Wait + Abort>(
     rt: &R,
     alloc: Global,
     byte: u8,
-    other: Option<u32>,
+    wanted: Option<GatherFault>,
 ) -> Result<(), Fail> {
     let mut seated = Seated::open(rt, alloc, 1)?;
     bring_the_last_piece(rt, alloc, &mut seated)?;
-    let fault = cause(seated.gather_beside(alloc, byte)?)?;
-    same(fault, other.map(differs))
-}
-
-fn differs(piece: u32) -> GatherFault {
-    GatherFault::BoardDiffers { piece }
+    same(cause(seated.gather_beside(alloc, byte)?)?, wanted)
 }
 
 /// The worker joins, brings the last piece and has it checked.

@@ -323,7 +323,8 @@ fn logs_are(rt: &impl Abort, book: &Book, wanted: &[&[Mark]]) -> Result<(), Fail
     Ok(())
 }
 
-fn log_of<'a>(rt: &impl Abort, book: &'a Book, worker: usize) -> &'a [Mark] {
+/// The log of a worker in the book.
+pub fn log_of<'a>(rt: &impl Abort, book: &'a Book, worker: usize) -> &'a [Mark] {
     assert!(rt; worker < book.logs.len());
     &book.logs[worker]
 }

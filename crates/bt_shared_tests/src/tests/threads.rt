@@ -104,11 +104,12 @@ fn together<R: Wait + Threads + Sync>(
     )
 }
 
-/// Whether the journal and both logs have the calls of both workers.
-fn is_whole(book: &Book) -> bool {
-    book.desk.journal().len() == ENTRIES
-        && book.logs.len() == 2
-        && book.logs.iter().all(|log| log.len() == CALLS + 1)
+/// The journal and both logs have the calls of both workers.
+fn is_whole(rt: &impl Abort, book: &Book) -> Result<(), Fail> {
+    same(book.desk.journal().len(), ENTRIES)?;
+    same(book.logs.len(), 2)?;
+    same(log_of(rt, book, 0).len(), CALLS + 1)?;
+    same(log_of(rt, book, 1).len(), CALLS + 1)
 }
 
 /// Whether an audit finds no fault in the journal of two workers.
@@ -155,7 +156,7 @@ fn gathers_all_calls(
 
 /// The journal and the logs have all calls, and an audit finds no fault.
 fn has_all_calls(rt: &impl Abort, alloc: Global, book: &Book) -> Result<(), Fail> {
-    same(is_whole(book), true)?;
+    is_whole(rt, book)?;
     let torrent = three_pieces(rt, alloc)?;
     same(is_audited(alloc, &torrent, book), true)
 }
