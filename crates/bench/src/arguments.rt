@@ -83,7 +83,7 @@ fn asks<'a>(alloc: Global) -> Arg<'a> {
         "N",
         "Ends the download once so many asks were made",
     )
-        .value_parser(value_parser!(u64))
+    .value_parser(value_parser!(u64))
 }
 
 fn density<'a>(alloc: Global) -> Arg<'a> {
@@ -93,8 +93,8 @@ fn density<'a>(alloc: Global) -> Arg<'a> {
         "D",
         "Each peer but the seed shows a piece with the probability 1/2^D",
     )
-        .value_parser(value_parser!(u32).range(0..=32))
-        .default_value("1")
+    .value_parser(value_parser!(u32).range(0..=32))
+    .default_value("1")
 }
 
 fn depth<'a>(alloc: Global) -> Arg<'a> {
@@ -104,8 +104,8 @@ fn depth<'a>(alloc: Global) -> Arg<'a> {
         "D",
         "Blocks outstanding at a peer; with 0 each block arrives as soon as it is asked for",
     )
-        .value_parser(value_parser!(u32).range(0..=i64::from(MOST_DEPTH)))
-        .default_value("5")
+    .value_parser(value_parser!(u32).range(0..=i64::from(MOST_DEPTH)))
+    .default_value("5")
 }
 
 fn runs<'a>(alloc: Global) -> Arg<'a> {
@@ -115,8 +115,8 @@ fn runs<'a>(alloc: Global) -> Arg<'a> {
         "N",
         "Times so many runs and prints the least times; with 0 it plays once and prints none",
     )
-        .value_parser(value_parser!(u32))
-        .default_value("3")
+    .value_parser(value_parser!(u32))
+    .default_value("3")
 }
 
 fn trace<'a>(alloc: Global) -> Arg<'a> {
@@ -126,7 +126,7 @@ fn trace<'a>(alloc: Global) -> Arg<'a> {
         "FILE",
         "Writes worker, piece and block of each request to this file, in a run that isn't timed",
     )
-        .action(ArgAction::Set)
+    .action(ArgAction::Set)
 }
 
 fn calls<'a>(alloc: Global) -> Arg<'a> {

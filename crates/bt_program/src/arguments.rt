@@ -121,8 +121,8 @@ fn seed<'a>(alloc: Global) -> Arg<'a> {
         "N",
         "Settles what the picker leaves to chance",
     )
-        .value_parser(value_parser!(u64))
-        .default_value("0")
+    .value_parser(value_parser!(u64))
+    .default_value("0")
 }
 
 /// The option `--want`.
@@ -133,7 +133,7 @@ fn want<'a>(alloc: Global) -> Arg<'a> {
         "HEX",
         "Downloads the pieces of this bitfield alone",
     )
-        .action(ArgAction::Set)
+    .action(ArgAction::Set)
 }
 
 /// The option `--depth`.
@@ -144,8 +144,8 @@ fn depth<'a>(alloc: Global) -> Arg<'a> {
         "N",
         "Asks for so many blocks of a peer at a time, 1 to 64",
     )
-        .value_parser(value_parser!(u32).range(1..=i64::from(MOST_DEPTH)))
-        .default_value("5")
+    .value_parser(value_parser!(u32).range(1..=i64::from(MOST_DEPTH)))
+    .default_value("5")
 }
 
 /// The option `--random`.
@@ -156,8 +156,8 @@ fn random<'a>(alloc: Global) -> Arg<'a> {
         "N",
         "Picks pieces at random until so many are had, and then the rarest",
     )
-        .value_parser(value_parser!(u32))
-        .default_value("1")
+    .value_parser(value_parser!(u32))
+    .default_value("1")
 }
 
 /// The option `--checkers`.
@@ -168,8 +168,8 @@ fn checkers<'a>(alloc: Global) -> Arg<'a> {
         "K",
         "Checks pieces in so many threads, 1 to 8",
     )
-        .value_parser(value_parser!(u32).range(1..=i64::from(MOST_CHECKERS)))
-        .default_value("1")
+    .value_parser(value_parser!(u32).range(1..=i64::from(MOST_CHECKERS)))
+    .default_value("1")
 }
 
 /// The option `--journal`.
@@ -188,7 +188,7 @@ fn out<'a>(alloc: Global) -> Arg<'a> {
         "FILE",
         "Writes the content to this file, if all pieces are had",
     )
-        .action(ArgAction::Set)
+    .action(ArgAction::Set)
 }
 
 /// The recorded streams, as many as a run takes.

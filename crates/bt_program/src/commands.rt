@@ -358,7 +358,12 @@ fn options<E: Write>(
         let _ = writeln!(err, "error: a run takes 1 to {MOST_CHECKERS} checkers");
         return Ok(None);
     }
-    with_want(alloc, arguments, usual_options(arguments, rules, checkers), err)
+    with_want(
+        alloc,
+        arguments,
+        usual_options(arguments, rules, checkers),
+        err,
+    )
 }
 
 /// The options by these rules and so many checkers, that want all pieces.
