@@ -78,27 +78,10 @@ where
     R::File: Send,
 {
     match matches.subcommand() {
-        Some((name, arguments)) => play_named(rt, name, arguments, out, err),
-        None => Ok(WRONG_ARGUMENTS),
-    }
-}
-
-/// Plays the command of this name.
-fn play_named<'w, R: Runtime + AllocGlobal + Threads + Wait + Sync, O: Write, E: Write>(
-    rt: &R,
-    name: &str,
-    arguments: &ArgMatches<'w>,
-    out: &mut Device<O>,
-    err: &mut E,
-) -> Result<u8, Failure<'w>>
-where
-    R::File: Send,
-{
-    match name {
-        "info" => info(rt, arguments, out),
-        "run" => run(rt, arguments, out, err),
-        "script" => script(rt, out),
-        "serial" => serial(rt, arguments, out, err),
+        Some(("info", arguments)) => info(rt, arguments, out),
+        Some(("run", arguments)) => run(rt, arguments, out, err),
+        Some(("script", _)) => script(rt, out),
+        Some(("serial", arguments)) => serial(rt, arguments, out, err),
         _ => Ok(WRONG_ARGUMENTS),
     }
 }
@@ -380,7 +363,7 @@ fn usual_options(arguments: &ArgMatches<'_>, rules: Rules, checkers: u32) -> Opt
     }
 }
 
-/// The options with the pieces that are wanted, if that is asked for; none where that is told wrong, which is told.
+/// The options with the pieces of `--want`, where it is given; none where its value is wrong, which is told.
 fn with_want<E: Write>(
     alloc: Global,
     arguments: &ArgMatches<'_>,
