@@ -7,7 +7,7 @@ ghost use Rattle.std.specs.Int.{bit_at};
 ghost use Rattle.std.specs.List.{range_with_len};
 ghost use Rattle.bt_check.specs.Checked.{Fits, joined};
 ghost use Rattle.bt_meta.specs.Layout.{piece_count};
-ghost use Rattle.bt_board.specs.Seats.{Given, newcomer, seat_with};
+ghost use Rattle.bt_board.specs.Seats.{Given, IsSeat, newcomer, seat_with};
 ghost use Rattle.bt_board.specs.Steps.{Finds, Gives, GivesNone};
 ghost use Rattle.bt_board.specs.Story.{IsSet, Marked, Seen, StandsFor, both, load, mark, view, with_load, with_loads, with_mark, words_of};
 
@@ -24,10 +24,19 @@ use std::sync::Arc;
 /// The set of had pieces. Threads share it by reference, each with a seat of its own; no call waits for another.
 ///
 /// Contracts see which board it is, its torrent, and how many seats it was opened with.
-#[derive(Drop)]
 pub struct Board {
     table: Table<(), View, About, MarkedAlone, Global>,
     about: About,
+}
+
+/// The end of a board is one call for whoever owns one.
+impl Drop for Board {
+    fn drop(self) {
+        let Board {
+            table: _table,
+            about: _about,
+        } = self;
+    }
 }
 
 impl Model for Board {
@@ -45,10 +54,19 @@ impl Model for Board {
 /// Leave to read and mark a board, for one thread. It keeps which pieces its news has given.
 ///
 /// Contracts see of which board it is, what was marked and loaded with it, and what its news has given.
-#[derive(Drop)]
 pub struct BoardSeat {
     seat: Seat<(), View>,
     given: Vec<u64>,
+}
+
+/// The end of a seat is one call for whoever owns one.
+impl Drop for BoardSeat {
+    fn drop(self) {
+        let BoardSeat {
+            seat: _seat,
+            given: _given,
+        } = self;
+    }
 }
 
 impl Model for BoardSeat {
@@ -59,6 +77,17 @@ impl Model for BoardSeat {
     ghost view = { λ s. record { table = s.seat.table_id; view = s.seat.me.0; given = s.given.items } };
 
     ghost invariant = { λ s. IsSeat s.seat.table_id s.seat.me s.given.items };
+}
+
+impl BoardSeat {
+    /// The seat of the table, and the words of what its news has given.
+    fn into_parts(self) -> (Seat<(), View>, Vec<u64>)
+        ensures parts { self ≡ record { table = result.0.table_id; view = result.0.me.0; given = result.1.items } }
+        ensures seat { IsSeat result.0.table_id result.0.me result.1.items }
+    {
+        let BoardSeat { seat, given } = self;
+        (seat, given)
+    }
 }
 
 /// How many words have a bit for each piece.
@@ -209,7 +238,7 @@ impl Board {
         ensures view { result.view ≡ both one.view other.view }
         ensures given { (p : ℕ) → Given result p ↔ (Given one p ⊎ Given other p) }
     {
-        let BoardSeat { seat, given } = other;
+        let (seat, given) = other.into_parts();
         self.table.shared.join_seat::<Merge>(&mut one.seat, seat);
         unite(one.given.as_mut_slice(), given.as_slice());
         one
@@ -230,7 +259,7 @@ impl Board {
             return Err((self, seat));
         };
         let Board { table, about: _ } = self;
-        let BoardSeat { seat, given: _ } = seat;
+        let (seat, _) = seat.into_parts();
         let closed = table.close_with(seat);
         for piece in 0..count {
             if (closed.word(piece as usize / 64) >> (piece % 64)) & 1 == 1 {

@@ -18,7 +18,7 @@ ghost use Rattle.bt_shared.specs.Passes.{Enters, Notes};
 use crate::run_name::RunName;
 use crate::swarm_run::SwarmFault;
 use bt_board::{Board, BoardSeat};
-use bt_check::{Proven, Ticket, TicketPass, Tickets};
+use bt_check::{Proven, Ticket, TicketPass, Tickets, Verdict};
 use bt_meta::Torrent;
 use bt_picker::{Call, Reply};
 use bt_shared::{Book, Pass, SharedDesk};
@@ -208,10 +208,21 @@ impl<L: RunName> Commons<L> {
     ) -> Result<(), AllocError>
         ensures { MayCheck worker.old.pass piece worker.new.pass }
     {
-        let Some(job) = self.desk.job(rt, alloc, &mut worker.pass, piece)? else {
-            return Ok(());
-        };
-        let verdict = Arc::new(alloc, job.hash())?;
+        match self.desk.job(rt, alloc, &mut worker.pass, piece)? {
+            Some(job) => self.settle(rt, worker, Arc::new(alloc, job.hash())?),
+            None => Ok(()),
+        }
+    }
+
+    /// Settles the verdict, and marks its piece if that is had then.
+    fn settle<T: Wait>(
+        &self,
+        rt: &T,
+        worker: &mut Worker<L>,
+        verdict: Arc<Verdict>,
+    ) -> Result<(), AllocError>
+        ensures { MayCheck worker.old.pass verdict.value.piece worker.new.pass }
+    {
         let proven = Proven::of(verdict.clone()?, &self.torrent);
         let reply = self.call(rt, worker, Call::Settle(verdict))?;
         if let (Reply::Had, Ok(proven)) = (reply, proven) {

@@ -33,12 +33,23 @@ pub struct Joined<L: RunName, R, W> {
 }
 
 /// Room for the handles of a run's threads, and for what these give back.
-#[derive(Drop)]
 struct Rooms<L: RunName, R: Source, W: Sink> {
     checking: Vec<PromisedHandle<Checked<L>, CheckOf<L>>>,
     checked: Vec<Checked<L>>,
     playing: Vec<PromisedHandle<Played<L, R, W>, PlayOf<L, R, W>>>,
     played: Vec<Played<L, R, W>>,
+}
+
+/// The end of the rooms is one call for whoever owns them.
+impl<L: RunName, R: Source + Drop, W: Sink + Drop> Drop for Rooms<L, R, W> {
+    fn drop(self) {
+        let Rooms {
+            checking: _checking,
+            checked: _checked,
+            playing: _playing,
+            played: _played,
+        } = self;
+    }
 }
 
 impl<L: RunName, R: Source + Drop, W: Sink + Drop> Rooms<L, R, W> {
@@ -49,12 +60,48 @@ impl<L: RunName, R: Source + Drop, W: Sink + Drop> Rooms<L, R, W> {
         ensures playing { IfOk result (λ r. (r.playing.items ≡ []) × (sessions ≤ vec_capacity r.playing)) }
         ensures played { IfOk result (λ r. (r.played.items ≡ []) × (sessions ≤ vec_capacity r.played)) }
     {
-        Ok(Rooms {
-            checking: Vec::with_capacity(alloc, checkers)?,
-            checked: Vec::with_capacity(alloc, checkers)?,
-            playing: Vec::with_capacity(alloc, sessions)?,
-            played: Vec::with_capacity(alloc, sessions)?,
-        })
+        let mut rooms = Rooms {
+            checking: Vec::new(alloc),
+            checked: Vec::new(alloc),
+            playing: Vec::new(alloc),
+            played: Vec::new(alloc),
+        };
+        rooms.reserve(checkers, sessions)?;
+        Ok(rooms)
+    }
+
+    /// Makes room for so many checkers and sessions.
+    fn reserve(&mut self, checkers: usize, sessions: usize) -> Result<(), AllocError>
+        ensures checking { OnOk result ((self.new.checking.items ≡ self.old.checking.items) × (checkers ≤ vec_capacity self.new.checking)) }
+        ensures checked { OnOk result ((self.new.checked.items ≡ self.old.checked.items) × (checkers ≤ vec_capacity self.new.checked)) }
+        ensures playing { OnOk result ((self.new.playing.items ≡ self.old.playing.items) × (sessions ≤ vec_capacity self.new.playing)) }
+        ensures played { OnOk result ((self.new.played.items ≡ self.old.played.items) × (sessions ≤ vec_capacity self.new.played)) }
+    {
+        self.checking.reserve(checkers)?;
+        self.checked.reserve(checkers)?;
+        self.playing.reserve(sessions)?;
+        self.played.reserve(sessions)?;
+        Ok(())
+    }
+
+    /// The rooms, each by itself.
+    fn into_parts(
+        self,
+    ) -> (
+        Vec<PromisedHandle<Checked<L>, CheckOf<L>>>,
+        Vec<Checked<L>>,
+        Vec<PromisedHandle<Played<L, R, W>, PlayOf<L, R, W>>>,
+        Vec<Played<L, R, W>>,
+    )
+        ensures { self ≡ record { checking = result.0; checked = result.1; playing = result.2; played = result.3 } }
+    {
+        let Rooms {
+            checking,
+            checked,
+            playing,
+            played,
+        } = self;
+        (checking, checked, playing, played)
     }
 }
 
@@ -150,12 +197,8 @@ pub fn crew<
             ensures err { IfErr result IsRunFault }
         {
             let mut last = last;
-            let Rooms {
-                mut checking,
-                mut checked,
-                mut playing,
-                mut played,
-            } = Rooms::new(alloc, checkers.len(), streams.len())?;
+            let rooms = Rooms::new(alloc, checkers.len(), streams.len())?;
+            let (mut checking, mut checked, mut playing, mut played) = rooms.into_parts();
             let started = start_all(
                 rt,
                 alloc,

@@ -41,7 +41,8 @@ returns-clause-marked c =
     let about = c.self.inside.about in
     let torrent = (arc_value about.torrent).layout in
     let seats : about.seats ≡ c.args.self.seats = ap (λ (b : BoardState). b.seats) c.self.view_is in
-    let same : c.seat.inside.seat.me.0 ≡ c.args.seat.view = ap (λ (s : SeatState). s.view) c.seat.view_is in
+    let seat = c.into_parts-seat.result.0 in
+    let same : seat.me.0 ≡ c.args.seat.view = sym (ap (λ (s : SeatState). s.view) c.into_parts-seat.ensures.parts) in
     let words = slots_items c.close_with-closed.result.words in
     let last = c.close_with-closed.ensures.values.2 in
     let told : Story torrent about.seats last.0.words last.0.views
@@ -55,9 +56,9 @@ returns-clause-marked c =
     let copied : Copied words (piece_count torrent) (piece_count torrent) c.loop-piece.bits
     = subst (λ (n : ℕ). Copied words (piece_count torrent) n c.loop-piece.bits) all
     (subst (λ (n : ℕ). Copied words n c.loop-piece.piece c.loop-piece.bits) count c.loop-piece.invariant) in
-    let stands : (q : ℕ) → q < about.seats → StandsFor c.seat.inside.seat.me.0 q
+    let stands : (q : ℕ) → q < about.seats → StandsFor seat.me.0 q
     = λ q lt. subst (λ (v : View). StandsFor v q) (sym same) (c.requires.all q (subst (λ (n : ℕ). q < n) seats lt)) in
-    let closed = closes torrent about.seats words last.0.views c.seat.inside.seat.id c.seat.inside.seat.me.0 c.loop-piece.bits story last.1.1 stands
+    let closed = closes torrent about.seats words last.0.views seat.id seat.me.0 c.loop-piece.bits story last.1.1 stands
     copied in
     subst (λ (v : View). (p : ℕ) → (get_or c.loop-piece.bits p false ≡ true) ↔ Marked v p) same closed.0
 
@@ -66,7 +67,8 @@ returns-clause-seen c =
     let about = c.self.inside.about in
     let torrent = (arc_value about.torrent).layout in
     let seats : about.seats ≡ c.args.self.seats = ap (λ (b : BoardState). b.seats) c.self.view_is in
-    let same : c.seat.inside.seat.me.0 ≡ c.args.seat.view = ap (λ (s : SeatState). s.view) c.seat.view_is in
+    let seat = c.into_parts-seat.result.0 in
+    let same : seat.me.0 ≡ c.args.seat.view = sym (ap (λ (s : SeatState). s.view) c.into_parts-seat.ensures.parts) in
     let words = slots_items c.close_with-closed.result.words in
     let last = c.close_with-closed.ensures.values.2 in
     let told : Story torrent about.seats last.0.words last.0.views
@@ -80,9 +82,9 @@ returns-clause-seen c =
     let copied : Copied words (piece_count torrent) (piece_count torrent) c.loop-piece.bits
     = subst (λ (n : ℕ). Copied words (piece_count torrent) n c.loop-piece.bits) all
     (subst (λ (n : ℕ). Copied words n c.loop-piece.piece c.loop-piece.bits) count c.loop-piece.invariant) in
-    let stands : (q : ℕ) → q < about.seats → StandsFor c.seat.inside.seat.me.0 q
+    let stands : (q : ℕ) → q < about.seats → StandsFor seat.me.0 q
     = λ q lt. subst (λ (v : View). StandsFor v q) (sym same) (c.requires.all q (subst (λ (n : ℕ). q < n) seats lt)) in
-    let closed = closes torrent about.seats words last.0.views c.seat.inside.seat.id c.seat.inside.seat.me.0 c.loop-piece.bits story last.1.1 stands
+    let closed = closes torrent about.seats words last.0.views seat.id seat.me.0 c.loop-piece.bits story last.1.1 stands
     copied in
     subst (λ (v : View). (p : ℕ) → Seen v p → get_or c.loop-piece.bits p false ≡ true) same closed.1
 

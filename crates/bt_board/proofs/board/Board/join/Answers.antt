@@ -9,11 +9,11 @@ pub join_seat-requires : goal.join_seat-requires
 join_seat-requires c =
     let table = c.self.inside.table.shared in
     let one = c.one.inside.seat in
-    let other = c.other.inside.seat in
+    let other = c.into_parts-seat.result.0 in
     let here = sym (ap (λ (b : BoardState). b.table) c.self.view_is) in (
       ap (λ (s : SeatState). s.table) c.one.view_is ∙ c.requires.0 ∙ here,
-      ap (λ (s : SeatState). s.table) c.other.view_is ∙ c.requires.1 ∙ here,
-      c.other.invariant.bare,
+      sym (ap (λ (s : SeatState). s.table) c.into_parts-seat.ensures.parts) ∙ c.requires.1 ∙ here,
+      c.into_parts-seat.ensures.seat.bare,
       c.self.invariant.some,
       joins (arc_value table.key.torrent).layout table.key.seats one.id other.id one.me.0 other.me.0 c.one.invariant.stands,
     )
