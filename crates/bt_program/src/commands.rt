@@ -3,12 +3,10 @@
 ghost use Rattle.std.specs.Prelude.{◌≡◌, ◌≤◌, length, true, IfOk, IfSome};
 
 use crate::arguments::command;
-use crate::device::Device;
-use crate::failure::{Failure, WRONG_ARGUMENTS, conclude, worse};
-use crate::file::OutFile;
 use bt_cli::{
     Fault, MOST_DEPTH, Options, describe, play_script, play_streams, play_threads, read_hex, save,
 };
+use bt_files::{Device, Failure, OutFile, WRONG_ARGUMENTS, conclude, recorded, worse};
 use bt_meta::{FromRead, ToWrite};
 use bt_picker::{Desk, Rules};
 use bt_session::{MOST_CHECKERS, MOST_STREAMS, Stream};
@@ -412,30 +410,4 @@ fn save_to<'w, R: Runtime + AllocGlobal>(
         Some(error) => Err(Failure::of_file(path, error)),
         None => Ok(()),
     }
-}
-
-/// The streams that are named, each opened: one for each name, in their order. What is said to them is dropped.
-fn recorded<'w, R: Runtime + AllocGlobal>(
-    rt: &R,
-    names: &[&'w str],
-) -> Result<Vec<Stream<FromRead<R::File>, ToWrite<io::Sink>>>, Failure<'w>>
-    ensures { IfOk result (λ streams. length streams.items ≡ length names.now) }
-{
-    let mut streams = Vec::new(rt.alloc());
-    for name in names {
-        streams.push(opened(rt, name)?)?;
-    }
-    Ok(streams)
-}
-
-/// The stream of this file, opened.
-fn opened<'w, R: Runtime>(
-    rt: &R,
-    name: &'w str,
-) -> Result<Stream<FromRead<R::File>, ToWrite<io::Sink>>, Failure<'w>> {
-    let file = fs::open(rt, name).map_err(|e| Failure::of_file(name, e))?;
-    Ok(Stream {
-        reader: FromRead::new(file),
-        writer: ToWrite::new(io::sink()),
-    })
 }

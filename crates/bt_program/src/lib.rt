@@ -3,12 +3,7 @@
 
 mod arguments;
 mod commands;
-mod device;
-mod failure;
-mod file;
 mod help;
 
+pub use bt_files::{Device, Failure, OutFile, WRONG_ARGUMENTS, conclude, worse};
 pub use commands::obey;
-pub use device::Device;
-pub use failure::{Failure, WRONG_ARGUMENTS, conclude, worse};
-pub use file::OutFile;

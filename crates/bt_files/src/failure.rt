@@ -3,7 +3,7 @@
 ghost use Rattle.std.specs.Prelude.{◌≡◌, ◌≢◌, MatchResult, OnOk};
 ghost use Rattle.std.specs.IoError.{error_kind};
 ghost use Rattle.std.specs.declared.io.ErrorKind.TheVariants.{BrokenPipe, OutOfMemory};
-ghost use Rattle.bt_program.specs.Failures.{rank, status_of_failure, worse};
+ghost use Rattle.bt_files.specs.Failures.{rank, status_of_failure, worse};
 
 use bt_cli::Fault;
 use std::alloc::{AllocError, AllocFailed};

@@ -1,5 +1,5 @@
 use Rattle.std.proofs.Common.{◌≡◌, length}
-use Rattle.bt_program.proofs.commands.recorded.Given as goal
+use Rattle.bt_files.proofs.streams.recorded.Given as goal
 
 abbrev pub invariant-loop-name : goal.invariant-loop-name
 invariant-loop-name g l = length l.streams.items ≡ l.name-index

@@ -2,8 +2,8 @@
 use Rattle.std.specs.Prelude.{ℕ, Result, Ok, Err, nat_lt, if◌then◌else◌}
 use Rattle.bt_script.specs.declared.fault.Fault.TheVariants as faults
 use Rattle.bt_script.specs.Statuses.{status_of}
-use Rattle.bt_program.specs.declared.failure.Failure.{Failure}
-use Rattle.bt_program.specs.declared.failure.Failure.TheVariants.{Command, File, Closed}
+use Rattle.bt_files.specs.declared.failure.Failure.{Failure}
+use Rattle.bt_files.specs.declared.failure.Failure.TheVariants.{Command, File, Closed}
 
 -- the exit status
 abbrev pub status_of_failure : Failure → ℕ
