@@ -19,15 +19,14 @@ import time
 
 ROOT = os.path.dirname(os.path.dirname(os.path.abspath(__file__)))
 PROGRAM = os.path.join(ROOT, "crates/piecepick/out/piecepick")
-RUNS = os.path.join(ROOT, "crates/bt_runs/data")
-SAMPLES = os.path.join(ROOT, "crates/bt_samples/data")
+DATA = os.path.join(ROOT, "crates/bt_runs/data")
 RECORDINGS = [
-    (SAMPLES, "single-file.torrent", ["single-file-s0-transmission.bin", "single-file-s1-aria2.bin"]),
-    (SAMPLES, "multi-file.torrent", ["multi-file-s0-libtorrent-partial.bin", "multi-file-s1-libtorrent-partial.bin", "multi-file-s2-rtorrent.bin"]),
-    (RUNS, "one-piece.torrent", ["one-piece.stream"]),
-    (RUNS, "three-pieces.torrent", ["three-pieces-0.stream", "three-pieces-1.stream"]),
+    ("single-file.torrent", ["single-file-s0-transmission.bin", "single-file-s1-aria2.bin"]),
+    ("multi-file.torrent", ["multi-file-s0-libtorrent-partial.bin", "multi-file-s1-libtorrent-partial.bin", "multi-file-s2-rtorrent.bin"]),
+    ("one-piece.torrent", ["one-piece.stream"]),
+    ("three-pieces.torrent", ["three-pieces-0.stream", "three-pieces-1.stream"]),
 ]
-METAINFO = [(RUNS, "two-files.torrent"), (RUNS, "file-tree.torrent"), (SAMPLES, "single-file.torrent"), (SAMPLES, "multi-file.torrent")]
+METAINFO = ["two-files.torrent", "file-tree.torrent", "single-file.torrent", "multi-file.torrent"]
 EDGES = [0, 1, 2, 4, 5, 9, 13, 16383, 16384, 16385, 131072, 2**31 - 1, 2**31, 2**32 - 1]
 HELLO = 68
 
@@ -96,10 +95,10 @@ def mutate_bytes(rng, text):
 
 
 def recording(rng, folder):
-    where, metainfo, names = rng.choice(RECORDINGS)
-    words = [rng.choice(["serial", "run"]), os.path.join(where, metainfo)]
+    metainfo, names = rng.choice(RECORDINGS)
+    words = [rng.choice(["serial", "run"]), os.path.join(DATA, metainfo)]
     for i, name in enumerate(names):
-        stream = load(where, name)
+        stream = load(DATA, name)
         if rng.randrange(4):
             stream = rng.choice([mutate_frames, mutate_frames, mutate_bytes])(rng, stream)
         path = os.path.join(folder, f"stream-{i}")
@@ -113,10 +112,10 @@ def recording(rng, folder):
 
 
 def metainfo(rng, folder):
-    where, name = rng.choice(METAINFO)
+    name = rng.choice(METAINFO)
     path = os.path.join(folder, "metainfo")
     with open(path, "wb") as file:
-        file.write(mutate_bytes(rng, load(where, name)))
+        file.write(mutate_bytes(rng, load(DATA, name)))
     return ["info", path], b""
 
 

@@ -25,7 +25,6 @@ import tempfile
 ROOT = os.path.dirname(os.path.dirname(os.path.abspath(__file__)))
 PROGRAM = os.path.join(ROOT, "crates/piecepick/out/piecepick")
 DATA = os.path.join(ROOT, "crates/bt_runs/data")
-SAMPLES = os.path.join(ROOT, "crates/bt_samples/data")
 KINDS = ("alloc", "read", "write")
 TESTED = ("bt_parts_tests", "bt_board_tests", "bt_picker_tests", "bt_shared_tests")
 MOST_OF_A_TEST = 300
@@ -43,13 +42,9 @@ def data(*names):
     return [os.path.join(DATA, name) for name in names]
 
 
-def sample(*names):
-    return [os.path.join(SAMPLES, name) for name in names]
-
-
 ONE_PIECE = data("one-piece.torrent", "one-piece.stream")
 THREE_PIECES = data("three-pieces.torrent", "three-pieces-0.stream", "three-pieces-1.stream")
-SINGLE_FILE = sample("single-file.torrent", "single-file-s0-transmission.bin", "single-file-s1-aria2.bin")
+SINGLE_FILE = data("single-file.torrent", "single-file-s0-transmission.bin", "single-file-s1-aria2.bin")
 SCRIPT = os.path.join(ROOT, "crates/piecepick/stdin")
 
 

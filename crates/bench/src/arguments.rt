@@ -1,9 +1,15 @@
 //! The command line.
 
 use crate::swarm::Workload;
+use crate::threads::Crowd;
 use bt_picker::MOST_DEPTH;
 use clap::{Arg, ArgAction, ArgMatches, Command, value_parser};
 use std::alloc::{AllocError, Global};
+
+/// The most threads, and the most pairs of calls of each.
+const MOST_THREADS: i64 = 64;
+
+const MOST_PAIRS: i64 = 1_000_000;
 
 /// What the program is asked for.
 #[derive(Clone, Copy)]
@@ -15,11 +21,14 @@ pub struct Arguments<'a> {
     pub trace: Option<&'a str>,
     /// Each kind of call is timed alone.
     pub calls: bool,
+    /// The threads that share a desk, once all else is done.
+    pub crowd: Option<Crowd>,
 }
 
 /// The command with its arguments.
 pub fn command<'a>(alloc: Global) -> Result<Command<'a>, AllocError> {
-    with_timing(alloc, with_swarm(alloc, named(alloc))?)?.arg(pieces(alloc))
+    let timing = with_timing(alloc, with_swarm(alloc, named(alloc))?)?;
+    with_threads(alloc, timing)?.arg(pieces(alloc))
 }
 
 /// The command before it has any argument.
@@ -45,6 +54,11 @@ fn with_timing<'a>(alloc: Global, command: Command<'a>) -> Result<Command<'a>, A
         .arg(calls(alloc))
 }
 
+/// Adds the options that say which threads share a desk.
+fn with_threads<'a>(alloc: Global, command: Command<'a>) -> Result<Command<'a>, AllocError> {
+    command.arg(threads(alloc))?.arg(pairs(alloc))
+}
+
 /// What was asked for.
 pub fn read<'a>(matches: &ArgMatches<'a>) -> Arguments<'a> {
     Arguments {
@@ -57,7 +71,17 @@ pub fn read<'a>(matches: &ArgMatches<'a>) -> Arguments<'a> {
         runs: matches.get_one::<u32>("runs").unwrap_or(3),
         trace: matches.get_str("trace"),
         calls: matches.get_flag("calls"),
+        crowd: crowd(matches),
     }
+}
+
+/// The threads that were asked for, whose times are wanted if any are.
+fn crowd(matches: &ArgMatches<'_>) -> Option<Crowd> {
+    Some(Crowd {
+        threads: matches.get_one::<u32>("threads")?,
+        pairs: matches.get_one::<u32>("pairs").unwrap_or(20_000),
+        times: matches.get_one::<u32>("runs") != Some(0),
+    })
 }
 
 /// An option with a value of this name.
@@ -134,4 +158,25 @@ fn calls<'a>(alloc: Global) -> Arg<'a> {
         .long("calls")
         .help("Times each kind of call alone")
         .action(ArgAction::SetTrue)
+}
+
+fn threads<'a>(alloc: Global) -> Arg<'a> {
+    option(
+        alloc,
+        "threads",
+        "N",
+        "Has so many threads call one desk in the end, each for a peer of its own",
+    )
+    .value_parser(value_parser!(u32).range(1..=MOST_THREADS))
+}
+
+fn pairs<'a>(alloc: Global) -> Arg<'a> {
+    option(
+        alloc,
+        "pairs",
+        "N",
+        "Blocks that each of the threads asks for and brings",
+    )
+    .value_parser(value_parser!(u32).range(1..=MOST_PAIRS))
+    .default_value("20000")
 }

@@ -1,4 +1,5 @@
-//! A benchmark of the picker: a whole download from a swarm of 51 peers, asked block by block, or each kind of call alone.
+//! A benchmark of the picker: a whole download from a swarm of 51 peers, asked block by block, or each kind of call alone; and of the desk
+//! that threads share.
 #![tactic(auto)]
 
 mod arguments;
@@ -8,6 +9,7 @@ mod figures;
 mod mix;
 mod stretches;
 mod swarm;
+mod threads;
 
 use anyhow::Result;
 use arguments::{Arguments, command, read};
@@ -16,10 +18,13 @@ use download::{Counts, Download};
 use figures::{CountLine, TimeLine, Times, hash_time, peak_memory, play};
 use std::process::ExitCode;
 use std::rt::Runtime;
-use std::time::CpuClock;
+use std::sync::Wait;
+use std::thread::Threads;
+use std::time::{Clock, CpuClock};
 use std::{env, fs};
 use stretches::Stretches;
 use swarm::Workload;
+use threads::time_threads;
 
 /// The status where the arguments are wrong.
 const WRONG_ARGUMENTS: u8 = 2;
@@ -35,13 +40,18 @@ fn main(rt: HostRuntime) -> ExitCode {
 }
 
 /// Does what the command line says.
-fn obey<R: Runtime + AllocGlobal + CpuClock>(rt: &R) -> Result<ExitCode> {
+fn obey<R: Runtime + AllocGlobal + CpuClock + Clock + Threads + Wait + Sync>(
+    rt: &R,
+) -> Result<ExitCode> {
     let words: Vec<String> = env::args(rt)?.collect(rt.alloc())?;
     obey_words(rt, &words)
 }
 
 /// Does what these words say, the first of them being the program's name.
-fn obey_words<R: Runtime + AllocGlobal + CpuClock>(rt: &R, words: &[String]) -> Result<ExitCode> {
+fn obey_words<R: Runtime + AllocGlobal + CpuClock + Clock + Threads + Wait + Sync>(
+    rt: &R,
+    words: &[String],
+) -> Result<ExitCode> {
     match command(rt.alloc())?.try_get_matches_from(words) {
         Ok(matches) => time(rt, &read(&matches)),
         Err(error) => refuse(rt, &error),
@@ -49,7 +59,7 @@ fn obey_words<R: Runtime + AllocGlobal + CpuClock>(rt: &R, words: &[String]) -> 
 }
 
 /// Times what is asked for.
-fn time<R: Runtime + AllocGlobal + CpuClock>(
+fn time<R: Runtime + AllocGlobal + CpuClock + Clock + Threads + Wait + Sync>(
     rt: &R,
     arguments: &Arguments<'_>,
 ) -> Result<ExitCode> {
@@ -57,6 +67,9 @@ fn time<R: Runtime + AllocGlobal + CpuClock>(
         time_each_call(rt, arguments)?;
     } else {
         time_download(rt, arguments)?;
+    }
+    if let Some(crowd) = arguments.crowd {
+        time_threads(rt, crowd)?;
     }
     Ok(ExitCode::SUCCESS)
 }

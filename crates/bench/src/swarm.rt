@@ -40,20 +40,13 @@ pub struct Workload {
 }
 
 impl Workload {
-    /// So many pieces of zero bytes.
-    fn torrent(&self, alloc: Global) -> Result<Torrent> {
-        let hashes = vec![in alloc; PIECE_HASH; self.pieces as usize]?;
-        let total = u64::from(PIECE_LEN) * u64::from(self.pieces);
-        Ok(Torrent::of_parts(PIECE_LEN, total, hashes, [0; 20])?)
-    }
-
     /// The desk for so many workers, with no peer yet.
     fn desk(&self, alloc: Global, workers: u32) -> Result<Desk>
         requires { (1 ≤ workers) × (workers ≤ 1024) }
         ensures { IfOk result (λ desk. desk.setting.workers ≡ workers) }
     {
         ensure!(self.depth <= MOST_DEPTH, "a depth is at most {MOST_DEPTH}");
-        let torrent = self.torrent(alloc)?;
+        let torrent = torrent(alloc, self.pieces)?;
         let rules = Rules {
             depth: self.depth.max(1),
             random: torrent.piece_count().min(1),
@@ -86,6 +79,13 @@ impl Workload {
         }
         Ok(flags)
     }
+}
+
+/// So many pieces of zero bytes.
+pub fn torrent(alloc: Global, pieces: u32) -> Result<Torrent> {
+    let hashes = vec![in alloc; PIECE_HASH; pieces as usize]?;
+    let total = u64::from(PIECE_LEN) * u64::from(pieces);
+    Ok(Torrent::of_parts(PIECE_LEN, total, hashes, [0; 20])?)
 }
 
 /// A desk for so many workers, and the peers that come to it. What it is asked has no `ensures`: a caller knows of its answers alone, and its

@@ -1,15 +1,21 @@
 //! Whole command lines of the program, one after the other, with the files that they read and make.
 #![tactic(auto)]
 
+mod counts;
+mod decoding;
+
 use anyhow::{Context, Result};
 use bt_program::obey;
+use decoding::decode;
+use sha1::Sha1;
 use std::alloc::{AllocError, Global};
 use std::rt::Runtime;
 use std::sync::Wait;
 use std::thread::Threads;
 use std::{fs, io, str};
 
-/// The command lines, one a line: `show FILE` prints what a file holds, and `quietly ..` runs a command and prints its status alone.
+/// The command lines, one a line. Some aren't the program's: `show FILE` prints what a file holds, `digest FILE` its length and SHA-1,
+/// `decode META STREAM LEN,LEN..` the messages of a stream by type, and `quietly ..` runs a command and prints its status alone.
 const COMMANDS: &str = "commands";
 
 fn main(rt: HostRuntime) -> Result<()> {
@@ -17,11 +23,7 @@ fn main(rt: HostRuntime) -> Result<()> {
     for line in str::from_utf8(&commands)?.lines() {
         println!(rt; "$ {line}")?;
         let words = words(rt.alloc(), line)?;
-        match words.split_first() {
-            Some((first, rest)) if first.as_str() == "show" => show(&rt, rest)?,
-            Some((first, rest)) if first.as_str() == "quietly" => run_quietly(&rt, rest)?,
-            _ => run(&rt, &words)?,
-        }
+        follow(&rt, &words)?;
     }
     Ok(())
 }
@@ -34,17 +36,54 @@ fn words(alloc: Global, line: &str) -> Result<Vec<String>, AllocError> {
     Ok(words)
 }
 
+/// Does what a line says.
+fn follow<R: Runtime + AllocGlobal + Threads + Wait + Sync>(rt: &R, words: &[String]) -> Result<()>
+where
+    R::File: Send,
+{
+    let (first, rest) = words.split_first().context("a word")?;
+    match first.as_str() {
+        "show" => show(rt, rest),
+        "digest" => digest(rt, rest),
+        "decode" => decode(rt, rest),
+        "quietly" => run_quietly(rt, rest),
+        _ => run(rt, words),
+    }
+}
+
 /// Prints what a file holds, which is text, or that there is none.
 fn show<R: Runtime + AllocGlobal>(rt: &R, names: &[String]) -> Result<()> {
+    let Some(bytes) = held(rt, names)? else {
+        return say_none(rt);
+    };
+    let text = str::from_utf8(&bytes)?;
+    println!(rt; "{text}")?;
+    Ok(())
+}
+
+/// Prints how many bytes a file holds and their SHA-1, or that there is none.
+fn digest<R: Runtime + AllocGlobal>(rt: &R, names: &[String]) -> Result<()> {
+    let Some(bytes) = held(rt, names)? else {
+        return say_none(rt);
+    };
+    let len = bytes.len();
+    let digest = hex::encode(rt.alloc(), Sha1::digest(&bytes).as_slice())?;
+    println!(rt; "content bytes {len} sha1 {digest}")?;
+    Ok(())
+}
+
+/// What the file of this name holds, if there is one.
+fn held<R: Runtime + AllocGlobal>(rt: &R, names: &[String]) -> Result<Option<Vec<u8>>> {
     let name = names.first().context("a file's name")?;
     match fs::read(rt, name.as_str()) {
-        Ok(bytes) => {
-            let text = str::from_utf8(&bytes)?;
-            println!(rt; "{text}")?;
-        }
-        Err(error) if error.kind() == io::ErrorKind::NotFound => println!(rt; "(no such file)")?,
-        Err(error) => return Err(error.into()),
+        Ok(bytes) => Ok(Some(bytes)),
+        Err(error) if error.kind() == io::ErrorKind::NotFound => Ok(None),
+        Err(error) => Err(error.into()),
     }
+}
+
+fn say_none<R: Runtime + AllocGlobal>(rt: &R) -> Result<()> {
+    println!(rt; "(no such file)")?;
     Ok(())
 }
 

@@ -1,82 +1,49 @@
-//! A benchmark of the desk that threads share: each thread asks for a block and brings it, again and again.
-#![tactic(auto)]
+//! Threads that share a desk: each asks for a block and brings it, again and again.
 
 ghost use Rattle.std.specs.Prelude.{◌≡◌, All};
 
-mod arguments;
 mod hammer;
 
+use crate::figures::nanos;
 use anyhow::{Context, Result};
-use arguments::{Arguments, command, read};
 use bt_shared::{Pass, SharedDesk};
 use hammer::{Tally, hammer, open, pieces_for};
-use std::process::ExitCode;
 use std::rt::Runtime;
 use std::sync::Wait;
+use std::thread;
 use std::thread::Threads;
 use std::time::{Clock, Duration};
-use std::{env, thread};
 
-/// The status where the arguments are wrong.
-const WRONG_ARGUMENTS: u8 = 2;
-
-fn main(rt: HostRuntime) -> ExitCode {
-    match obey(&rt) {
-        Ok(status) => status,
-        Err(error) => {
-            let _ = rt.eprintln(format_args!("bench_shared: {error:#}"));
-            ExitCode::FAILURE
-        }
-    }
-}
-
-/// Does what the command line says.
-fn obey<R: Runtime + AllocGlobal + Clock + Threads + Wait + Sync>(rt: &R) -> Result<ExitCode> {
-    let words: Vec<String> = env::args(rt)?.collect(rt.alloc())?;
-    obey_words(rt, &words)
-}
-
-/// Does what these words say, the first of them being the program's name.
-fn obey_words<R: Runtime + AllocGlobal + Clock + Threads + Wait + Sync>(
-    rt: &R,
-    words: &[String],
-) -> Result<ExitCode> {
-    match command(rt.alloc())?.try_get_matches_from(words) {
-        Ok(matches) => time(rt, read(&matches)),
-        Err(error) => refuse(rt, &error),
-    }
-}
-
-/// Prints what is wrong with the command line, or the help that it asks for.
-fn refuse<R: Runtime>(rt: &R, error: &clap::Error) -> Result<ExitCode> {
-    if error.use_stderr() {
-        rt.eprint(error)?;
-        return Ok(ExitCode::from(WRONG_ARGUMENTS));
-    }
-    rt.print(error)?;
-    Ok(ExitCode::SUCCESS)
+/// The threads, and what they do.
+#[derive(Clone, Copy)]
+pub struct Crowd {
+    pub threads: u32,
+    /// How often each asks for a block and brings it.
+    pub pairs: u32,
+    /// The times are wanted too.
+    pub times: bool,
 }
 
 /// Lets the threads call, and prints what is wanted of it.
-fn time<R: Runtime + AllocGlobal + Clock + Threads + Wait + Sync>(
+pub fn time_threads<R: Runtime + AllocGlobal + Clock + Threads + Wait + Sync>(
     rt: &R,
-    arguments: Arguments,
-) -> Result<ExitCode> {
-    let (tally, took) = time_threads(rt, arguments)?;
-    let Arguments { threads, pairs, .. } = arguments;
+    crowd: Crowd,
+) -> Result<()> {
+    let (tally, took) = call_together(rt, crowd)?;
+    let Crowd { threads, pairs, .. } = crowd;
     rt.println(format_args!("threads {threads} pairs {pairs} calls {}", tally.calls))?;
-    if arguments.times {
+    if crowd.times {
         print_times(rt, tally, took)?;
     }
-    Ok(ExitCode::SUCCESS)
+    Ok(())
 }
 
-/// Lets so many threads call one desk, and tells their calls and how long all took together.
-fn time_threads<R: Runtime + AllocGlobal + Clock + Threads + Wait + Sync>(
+/// Lets the threads call one desk, and tells their calls and how long all took together.
+fn call_together<R: Runtime + AllocGlobal + Clock + Threads + Wait + Sync>(
     rt: &R,
-    arguments: Arguments,
+    crowd: Crowd,
 ) -> Result<(Tally, Duration)> {
-    let Arguments { threads, pairs, .. } = arguments;
+    let Crowd { threads, pairs, .. } = crowd;
     let pieces = pieces_for(threads, pairs)?;
     let (desk, passes) = open(rt.alloc(), threads, pieces)?;
     time_passes(rt, &desk, passes, pieces, pairs)
@@ -125,9 +92,4 @@ fn print_times<R: Runtime>(rt: &R, tally: Tally, took: Duration) -> Result<()> {
         nanos(tally.longest)
     ))?;
     Ok(())
-}
-
-/// The nanoseconds of a time.
-fn nanos(time: Duration) -> u64 {
-    u64::try_from(time.as_nanos()).unwrap_or(u64::MAX)
 }

@@ -1,5 +1,5 @@
 use Rattle.std.proofs.Common.{◌≡◌}
-use Rattle.bench_shared.proofs.hammer.ask_and_bring_each.Given as goal
+use Rattle.bench.proofs.threads.hammer.ask_and_bring_each.Given as goal
 
 abbrev pub invariant-pairs : goal.invariant-pairs
 invariant-pairs g l = l.pass.table ≡ l.desk.table

@@ -3,20 +3,14 @@
 ghost use Rattle.std.specs.Prelude.{◌≡◌, ◌≤◌, All, IfOk};
 ghost use Rattle.bt_shared.specs.Passes.{IsSame};
 
+use crate::swarm::{ZEROS, full, torrent};
 use anyhow::{Result, ensure};
-use bt_meta::{Bitfield, Torrent};
 use bt_picker::{Call, Reply, Rules};
 use bt_shared::{Pass, SharedDesk};
 use bytes::Bytes;
 use std::alloc::Global;
 use std::sync::{Arc, Wait};
 use std::time::{Clock, Duration};
-
-/// The bytes of a piece: sixteen blocks.
-const PIECE_LEN: u32 = 262_144;
-
-/// The bytes of each block. No piece is checked, so any do.
-static ZEROS: [u8; 16384] = [0; 16384];
 
 /// What calls took.
 #[derive(Clone, Copy, Default)]
@@ -41,9 +35,7 @@ pub fn open(alloc: Global, threads: u32, pieces: u32) -> Result<(SharedDesk, Vec
     ensures { IfOk result (λ opened. All (λ pass. pass.table ≡ opened.0.table) opened.1.items) }
 {
     ensure!(1 <= threads && threads <= 1024, "from 1 to 1,024 threads");
-    let hashes = vec![in alloc; [0; 20]; pieces as usize]?;
-    let total = u64::from(PIECE_LEN) * u64::from(pieces);
-    let torrent = Torrent::of_parts(PIECE_LEN, total, hashes, [0; 20])?;
+    let torrent = torrent(alloc, pieces)?;
     let rules = Rules {
         depth: 5,
         random: torrent.piece_count().min(1),
@@ -51,10 +43,10 @@ pub fn open(alloc: Global, threads: u32, pieces: u32) -> Result<(SharedDesk, Vec
     Ok(SharedDesk::open(alloc, Arc::new(alloc, torrent)?, threads, rules)?)
 }
 
-/// Pieces of more than so many blocks, a multiple of eight, so that their bitfield has no spare bit.
+/// Pieces of more blocks than so many threads ask for.
 pub fn pieces_for(threads: u32, pairs: u32) -> Result<u32> {
     let blocks = u64::from(threads) * u64::from(pairs);
-    Ok(u32::try_from((blocks / 128 + 2) * 8)?)
+    Ok(u32::try_from(blocks / 16 + 1)?)
 }
 
 /// A peer that has all pieces comes, and so many of its blocks are asked for, each brought at once. None where a call found no memory or
@@ -96,12 +88,6 @@ fn ask_and_bring_each<R: Wait + Clock>(
     Some(tally)
 }
 
-/// So many pieces, a multiple of eight.
-fn all_of(alloc: Global, pieces: u32) -> Option<Bitfield> {
-    let bytes = vec![in alloc; 0xff; pieces as usize / 8].ok()?;
-    Bitfield::from_wire(alloc, &bytes, pieces).ok()
-}
-
 /// A peer that has all pieces.
 fn come<R: Wait>(
     rt: &R,
@@ -113,7 +99,7 @@ fn come<R: Wait>(
     requires { pass.old.table ≡ desk.now.table }
     ensures { IsSame pass.old pass.new }
 {
-    let shown = all_of(alloc, pieces)?;
+    let shown = full(alloc, pieces).ok()?;
     desk.call(rt, pass, Call::Join).ok()?;
     desk.call(rt, pass, Call::Bits(shown)).ok()?;
     desk.call(rt, pass, Call::Unchoke).ok()?;
