@@ -1,5 +1,11 @@
-//! Commands over bytes and devices.
+//! Scripts and what they print, and commands over bytes and devices.
 
+mod examples;
+mod faults;
+mod picks;
+mod reports;
 mod saving;
+mod scripts;
 mod serial;
+mod settings;
 mod threads;

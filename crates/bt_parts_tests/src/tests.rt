@@ -1,6 +1,7 @@
 //! The crates that know nothing of a history, by worked examples.
 
 mod bencode;
+mod board;
 mod check;
 mod devices;
 mod geometry;

@@ -1,5 +1,5 @@
 use Rattle.std.proofs.Common.{rules, ◌≡◌, ◌<◌, ℕ}
-use Rattle.bt_board_tests.proofs.tests.closed.Goals as goal
+use Rattle.bt_parts_tests.proofs.tests.board.closed.Goals as goal
 
 -- what is closed once more is what was
 pub close-requires-in-Err-clause-all : goal.close-requires-in-Err-clause-all

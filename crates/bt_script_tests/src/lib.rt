@@ -1,5 +1,0 @@
-//! The tests of `bt_script`, in a crate of their own, so that they are checked without proving it again.
-#![tactic(auto)]
-
-#[cfg(test)]
-mod tests;
