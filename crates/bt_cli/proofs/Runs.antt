@@ -14,8 +14,8 @@ use Rattle.bt_history.specs.Legal.{IsLegal, IsAllowed}
 use Rattle.bt_history.specs.Setting.{Setting}
 use Rattle.bt_meta.specs.Layout.{Metainfo}
 use Rattle.bt_meta.specs.declared.fault.MetaFault.{MetaFault}
-use Rattle.bt_script.specs.declared.fault.Fault.{Fault}
-use Rattle.bt_script.specs.Statuses.{status_of}
+use Rattle.bt_text.specs.declared.fault.Fault.{Fault}
+use Rattle.bt_text.specs.Statuses.{status_of}
 use Rattle.bt_cli.specs.Runs.{IsEndStatus, IsRunFault, run_status}
 
 -- ---- a legal journal has no wrong entry

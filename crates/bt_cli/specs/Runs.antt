@@ -17,14 +17,14 @@ use Rattle.bt_peer.specs.declared.fault.SessionFault.{SessionFault}
 use Rattle.bt_peer.specs.declared.fault.SessionFault.TheVariants as sessions
 use Rattle.bt_peer.specs.Serial.{EachEnded, Finishes, StreamRecord, opening_of}
 use Rattle.bt_peer.specs.Terms.{terms_of}
-use Rattle.bt_script.specs.declared.fault.Fault.{Fault}
-use Rattle.bt_script.specs.declared.fault.Fault.TheVariants as faults
+use Rattle.bt_text.specs.declared.fault.Fault.{Fault}
+use Rattle.bt_text.specs.declared.fault.Fault.TheVariants as faults
 use Rattle.bt_cli.specs.declared.report.Judged.{Judged}
 use Rattle.bt_cli.specs.declared.report.Judged.TheVariants.{Sound, Unjudged}
 use Rattle.bt_cli.specs.declared.options.Options.{Options}
-use Rattle.bt_script.specs.Journals.{AreJournalLines}
+use Rattle.bt_text.specs.Journals.{AreJournalLines}
 use Rattle.bt_cli.specs.Reports.{report_text}
-use Rattle.bt_script.specs.Statuses.{of_metainfo, status_of}
+use Rattle.bt_text.specs.Statuses.{of_metainfo, status_of}
 
 -- the lines of the desk's journal
 pub record IsJournalOf (desk : DeskState) (text : List ℕ) : Type 0 where

@@ -12,11 +12,11 @@ use Rattle.bt_peer.specs.Serial.{StreamRecord}
 use Rattle.bt_session.specs.Swarms.{EachSwarmed, LeavesNone, MakesLastChecks}
 use Rattle.bt_peer.specs.Terms.{terms_of}
 use Rattle.bt_shared.specs.declared.gather.Book.{Book}
-use Rattle.bt_script.specs.declared.fault.Fault.{Fault}
-use Rattle.bt_script.specs.declared.fault.Fault.TheVariants as faults
+use Rattle.bt_text.specs.declared.fault.Fault.{Fault}
+use Rattle.bt_text.specs.declared.fault.Fault.TheVariants as faults
 use Rattle.bt_cli.specs.declared.options.Options.{Options}
 use Rattle.bt_cli.specs.Runs.{Ended, IsEndStatus}
-use Rattle.bt_script.specs.Statuses.{of_gather, of_metainfo, status_of}
+use Rattle.bt_text.specs.Statuses.{of_gather, of_metainfo, status_of}
 
 -- A run of these streams in threads came to this book: an end for each stream, each as its session's at its worker's log, which asked for
 -- blocks by the depth of the options; the checkers made checks alone, and the last worker the last ones; and it ended as `Ended` says.

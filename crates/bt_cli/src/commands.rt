@@ -7,7 +7,7 @@ ghost use Rattle.bt_history.specs.Legal.{IsLegal};
 ghost use Rattle.bt_history.specs.Setting.{setting_of};
 ghost use Rattle.bt_peer.specs.Serial.{stream_record};
 ghost use Rattle.bt_shared.specs.Gathering.{EachAgrees};
-ghost use Rattle.bt_script.specs.declared.fault.Fault.{Fault};
+ghost use Rattle.bt_text.specs.declared.fault.Fault.{Fault};
 ghost use Rattle.bt_cli.specs.Runs.{IsSerialStatus, Ran, run_status};
 ghost use Rattle.bt_cli.specs.ThreadRuns.{IsThreadsStatus, RanThreads};
 

@@ -1,7 +1,7 @@
 //! What a command that runs sessions is asked for.
 
 ghost use Rattle.std.specs.Prelude.{◌≡◌, ◌≤◌, ◌<◌, IfOk, IfErr, OnOk};
-ghost use Rattle.bt_script.specs.declared.fault.Fault.TheVariants.{Random};
+ghost use Rattle.bt_text.specs.declared.fault.Fault.TheVariants.{Random};
 ghost use Rattle.bt_cli.specs.Runs.{IsOptionFault, IsWant, IsWantFault, want_of};
 
 use bt_meta::Bitfield;

@@ -1,7 +1,7 @@
 -- How the program ends.
 use Rattle.std.specs.Prelude.{ℕ, Result, Ok, Err, nat_lt, if◌then◌else◌}
-use Rattle.bt_script.specs.declared.fault.Fault.TheVariants as faults
-use Rattle.bt_script.specs.Statuses.{status_of}
+use Rattle.bt_text.specs.declared.fault.Fault.TheVariants as faults
+use Rattle.bt_text.specs.Statuses.{status_of}
 use Rattle.bt_files.specs.declared.failure.Failure.{Failure}
 use Rattle.bt_files.specs.declared.failure.Failure.TheVariants.{Command, File, Closed}
 

@@ -1,7 +1,7 @@
 -- The lines of a script, one after the other.
 use Rattle.std.proofs.Common.{◌≡◌, ◌<◌, ◌≤◌, ◌+◌, ℕ, List, inl, inr, length, arith, subst, below_more}
-use Rattle.bt_script.specs.declared.fault.Fault.{Fault}
-use Rattle.bt_script.specs.declared.fault.Fault.TheVariants as faults
+use Rattle.bt_text.specs.declared.fault.Fault.{Fault}
+use Rattle.bt_text.specs.declared.fault.Fault.TheVariants as faults
 use Rattle.bt_script.specs.Scripts.{Passes, PassTo, Starts, AreScript, FailsLater, FailsToStart, LacksLines, StopsOpening, Blames, Explains}
 use Rattle.bt_script.specs.Scripts.{IsScript, lines_of, line_at}
 

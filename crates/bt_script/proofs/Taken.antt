@@ -4,8 +4,8 @@ use Rattle.std.proofs.Common.{ap, ◌∙◌, subst, append_assoc, append-nil, ar
 use Rattle.std.specs.Result.{IsErrAnd}
 use Rattle.std.proofs.lemmas.List.{take_more}
 use Rattle.bt_picker.specs.Positions.{DeskState}
-use Rattle.bt_script.specs.declared.fault.Fault.{Fault}
-use Rattle.bt_script.specs.declared.fault.Fault.TheVariants as faults
+use Rattle.bt_text.specs.declared.fault.Fault.{Fault}
+use Rattle.bt_text.specs.declared.fault.Fault.TheVariants as faults
 use Rattle.bt_script.specs.Scripts.{AreBlank, EndsAfter, IsPrintedBy, MaySetRules, SetsRules, StopsOpening, lines_of, line_at}
 use Rattle.bt_script.specs.Setups.{setup_in}
 use Rattle.bt_script.specs.Played.{IsDesk, IsPrintedOf, Stage, TakesFront, TakesLine, TakesLines, opened, playing, silent}

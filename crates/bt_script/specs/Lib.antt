@@ -1,10 +1,6 @@
-pub mod Statuses
-pub mod Texts
-pub mod Info
 pub mod Fields
 pub mod Lines
 pub mod Setups
 pub mod RulesLines
 pub mod Scripts
 pub mod Played
-pub mod Journals

@@ -9,7 +9,7 @@ use Rattle.bt_history.specs.declared.rules.Rules.{Rules}
 use Rattle.bt_history.specs.Setting.{setting_of, usual_rules}
 use Rattle.bt_picker.specs.Positions.{DeskState, Gains}
 use Rattle.bt_picker.specs.Checks.{SettlesNow}
-use Rattle.bt_script.specs.Texts.{reply_text}
+use Rattle.bt_text.specs.Texts.{reply_text}
 use Rattle.bt_script.specs.declared.script.setup.Setup.{Setup}
 use Rattle.bt_script.specs.Setups.{setup_in}
 use Rattle.bt_script.specs.Lines.{Order, OrderLine, join, choke, unchoke, leave, bits, have, settle, next, block, want, line_in}

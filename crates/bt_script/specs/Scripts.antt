@@ -8,8 +8,8 @@ use Rattle.bt_meta.specs.declared.fault.BitFault.{BitFault}
 use Rattle.bt_meta.specs.declared.fault.BitFault.TheVariants as bitfault
 use Rattle.bt_meta.specs.Layout.{piece_count}
 use Rattle.bt_meta.specs.WireBits.{HasSpareBit, wire_len}
-use Rattle.bt_script.specs.declared.fault.Fault.{Fault}
-use Rattle.bt_script.specs.declared.fault.Fault.TheVariants as faults
+use Rattle.bt_text.specs.declared.fault.Fault.{Fault}
+use Rattle.bt_text.specs.declared.fault.Fault.TheVariants as faults
 use Rattle.bt_script.specs.declared.script.fault.LineFault.{LineFault}
 use Rattle.bt_script.specs.declared.script.fault.LineFault.TheVariants.{NotAllowed, NoMemory}
 use Rattle.bt_script.specs.declared.script.setup.Setup.{Setup}
@@ -28,6 +28,11 @@ Judges (Err NoMemory) can = Unit {0}
 abbrev pub of_bits : BitFault → LineFault
 of_bits bitfault.NoMemory = NoMemory
 of_bits fault = NotAllowed
+
+-- a fault of line `index`, counted from 0, as one of the command
+abbrev pub of_line : LineFault → ℕ → Fault
+of_line NotAllowed index = faults.Line (index + 1)
+of_line NoMemory index = faults.Memory
 
 -- the bytes spell a set of so many pieces
 abbrev pub IsPayload : ℕ → List ℕ → Type 0

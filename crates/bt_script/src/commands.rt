@@ -2,13 +2,12 @@
 
 ghost use Rattle.std.specs.Prelude.{◌≡◌, MatchResult, OnOk};
 ghost use Rattle.bt_meta.specs.Reading.{torrent_of_file};
-ghost use Rattle.bt_script.specs.Info.{IsInfoStatus, PrintsInfo};
+ghost use Rattle.bt_text.specs.Info.{IsInfoStatus, PrintsInfo};
 ghost use Rattle.bt_script.specs.Scripts.{IsScriptStatus};
-ghost use Rattle.bt_script.specs.Statuses.{status_of};
+ghost use Rattle.bt_text.specs.Statuses.{status_of};
 
-use crate::fault::Fault;
-use crate::info::describe;
 use crate::script::play_script;
+use bt_text::{Fault, describe};
 use std::alloc::Global;
 use std::io::Write;
 

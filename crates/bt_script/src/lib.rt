@@ -1,17 +1,9 @@
-//! Scripts of calls, metainfo files described and journals as text: what the program's commands read and print, but for runs with peers.
+//! Scripts of calls, and the commands that need no peer, over bytes.
 #![tactic(auto)]
 
 mod commands;
-mod fault;
-mod info;
-mod journal;
-mod printing;
 mod script;
-mod text;
 
+pub use bt_text::{Fault, describe, print, print_entry, print_journal, print_number};
 pub use commands::{conclude, run_info, run_script, script_to};
-pub use fault::Fault;
-pub use info::describe;
-pub use journal::{print_entry, print_journal};
-pub use printing::{print, print_number};
 pub use script::{MOST_DEPTH, play_script, read_hex};

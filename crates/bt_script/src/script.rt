@@ -14,10 +14,9 @@ mod player;
 mod rules;
 mod setup;
 
-use crate::fault::Fault;
-use crate::text::ReplyText;
 pub use bt_picker::MOST_DEPTH;
 use bt_picker::{MOST_WORKERS, Rules};
+use bt_text::{Fault, ReplyText};
 pub use fault::LineFault;
 pub use fields::read_hex;
 pub use line::{Command, Line};

@@ -1,7 +1,7 @@
 //! Why a line of a script is refused.
 
-use crate::fault::Fault;
 use bt_meta::BitFault;
+use bt_text::Fault;
 use std::alloc::{AllocError, AllocFailed};
 
 /// Why a line of a script can't be done.
@@ -14,7 +14,7 @@ pub enum LineFault {
 
 impl LineFault {
     ghost use Rattle.std.specs.Prelude.{◌≡◌, ◌<◌, ◌+◌, ◌^◌};
-    ghost use Rattle.bt_script.specs.Statuses.{of_line};
+    ghost use Rattle.bt_script.specs.Scripts.{of_line};
 
     /// The fault of the command, where it came of line `index`, counted from 0.
     pub fn at(self, index: usize) -> Fault

@@ -1,4 +1,4 @@
-use Rattle.bt_script.proofs.Written.{more}
+use Rattle.bt_text.proofs.Written.{more}
 use Rattle.bt_cli.proofs.report.print_judged.Goals as goal
 
 pub returns-in_ok-print_number-in-Wrong-clause-ok : goal.returns-in_ok-print_number-in-Wrong-clause-ok

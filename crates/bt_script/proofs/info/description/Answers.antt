@@ -1,5 +1,0 @@
-use Rattle.bt_script.proofs.info.description.Goals as goal
-
-pub returns-clause-ok : goal.returns-clause-ok
-returns-clause-ok c =
-    rw c.in_ok-torrent.ensures.exact (c.in_ok-of.field-0, (c.in_ok-of.ensures, c.in_ok-text.ensures.ok))

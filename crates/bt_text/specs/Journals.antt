@@ -1,0 +1,38 @@
+-- Journals as text.
+use Rattle.std.specs.Prelude.{◌≡◌, ℕ, List, [], ◌∷◌, ◌++◌, codes, length}
+use Rattle.std.specs.Fmt.{decimal}
+use Rattle.hex.specs.Hex.{encode_lower}
+use Rattle.bt_meta.specs.WireBits.{IsSpelled}
+use Rattle.bt_history.specs.declared.event.Action.{Action}
+use Rattle.bt_history.specs.declared.event.Action.TheVariants.{Join, Bits, Have, Choke, Unchoke, Next, Arrived, Settle, Leave, Want}
+use Rattle.bt_history.specs.declared.event.Event.{Event}
+use Rattle.bt_text.specs.Texts.{reply_text}
+
+-- the text of a block that arrived: its piece, where it begins and its length
+abbrev pub arrived_text : ℕ → ℕ → ℕ → List ℕ
+arrived_text piece begin len = codes "block " ++ (decimal piece ++ (codes " " ++ (decimal begin ++ (codes " " ++ decimal len))))
+
+-- the text of a call
+abbrev pub IsCallText : Action → List ℕ → Type 0
+IsCallText Join text = text ≡ codes "join"
+IsCallText (Bits flags) text = (wire : List ℕ) × (IsSpelled flags wire × (text ≡ codes "bits " ++ encode_lower wire))
+IsCallText (Have p) text = text ≡ codes "have " ++ decimal p
+IsCallText Choke text = text ≡ codes "choke"
+IsCallText Unchoke text = text ≡ codes "unchoke"
+IsCallText (Next word) text = text ≡ codes "next"
+IsCallText (Arrived p begin bytes) text = text ≡ arrived_text p begin (length bytes)
+IsCallText (Settle p bytes) text = text ≡ codes "settle " ++ decimal p
+IsCallText Leave text = text ≡ codes "leave"
+IsCallText (Want flags) text = (wire : List ℕ) × (IsSpelled flags wire × (text ≡ codes "want " ++ encode_lower wire))
+
+-- the line of an entry: the worker, the call and the reply
+pub record IsJournalLine (e : Event) (text : List ℕ) : Type 0 where
+  pub call : List ℕ
+  pub is_call : IsCallText e.action call
+  pub line : text ≡ decimal e.worker ++ (codes " " ++ (call ++ (codes " = " ++ reply_text e.reply)))
+
+-- a line for each of these events, in order
+abbrev pub AreJournalLines : List Event → List ℕ → Type 0
+AreJournalLines [] text = text ≡ []
+AreJournalLines (e ∷ events) text =
+    (line : List ℕ) × ((rest : List ℕ) × (IsJournalLine e line × AreJournalLines events rest × (text ≡ (line ++ codes "\n") ++ rest)))

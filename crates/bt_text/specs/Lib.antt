@@ -1,0 +1,4 @@
+pub mod Statuses
+pub mod Texts
+pub mod Info
+pub mod Journals

@@ -1,0 +1,125 @@
+//! A journal as text.
+
+ghost use Rattle.std.specs.Prelude.{◌≡◌, ◌++◌, ◌∷◌, [], ℕ, List, codes, map, true, OnOk, OnErr};
+ghost use Rattle.std.specs.Io.KnownBytes.{Appends};
+ghost use Rattle.hex.specs.Hex.{encode_lower};
+ghost use Rattle.bt_meta.specs.WireBits.{IsSpelled};
+ghost use Rattle.bt_history.specs.Entries.{action_of, event_of};
+ghost use Rattle.bt_text.specs.Journals.{arrived_text, AreJournalLines, IsCallText, IsJournalLine};
+
+use crate::printing::{print, print_number, print_said};
+use crate::text::ReplyText;
+use bt_meta::{Bitfield, DeviceFault, Sink, write_all};
+use bt_picker::{Call, Entry};
+
+/// Prints the lines of a journal: of each entry the worker, the call as a script has it, and the reply. The word of `next` is left out, a
+/// block has its length in place of its bytes, and a bitfield is in lower case.
+pub fn print_journal<O: Sink>(out: &mut O, journal: &[Entry]) -> Result<(), DeviceFault>
+    ensures ok { OnOk result ((text : List ℕ) × AreJournalLines (map event_of journal.now) text
+        × Appends (O.written out.old) (O.written out.new) text) }
+    ensures err { OnErr result (O.failed out.new ≡ true) }
+{
+    for entry in journal {
+        print_entry(out, entry)?;
+    }
+    Ok(())
+}
+
+/// Prints the line of one entry.
+pub fn print_entry<O: Sink>(out: &mut O, entry: &Entry) -> Result<(), DeviceFault>
+    ensures ok { OnOk result ((line : List ℕ) × IsJournalLine (event_of entry.now) line
+        × Appends (O.written out.old) (O.written out.new) (line ++ codes "\n")) }
+    ensures err { OnErr result (O.failed out.new ≡ true) }
+{
+    print_number(out, u64::from(entry.worker))?;
+    print(out, " ")?;
+    print_call(out, &entry.call)?;
+    print(out, " = ")?;
+    print_said(out, ReplyText::new(entry.reply))?;
+    print(out, "\n")
+}
+
+/// The call of an entry, as a line of a script has it.
+fn print_call<O: Sink>(out: &mut O, call: &Call) -> Result<(), DeviceFault>
+    ensures ok { OnOk result ((text : List ℕ) × IsCallText (action_of call.now) text
+        × Appends (O.written out.old) (O.written out.new) text) }
+    ensures err { OnErr result (O.failed out.new ≡ true) }
+{
+    match call {
+        Call::Join => print(out, "join"),
+        Call::Bits(flags) => {
+            print(out, "bits ")?;
+            print_bits(out, flags)
+        }
+        Call::Have(piece) => {
+            print(out, "have ")?;
+            print_number(out, u64::from(*piece))
+        }
+        Call::Choke => print(out, "choke"),
+        Call::Unchoke => print(out, "unchoke"),
+        Call::Next(_) => print(out, "next"),
+        Call::Arrived {
+            piece,
+            begin,
+            bytes,
+        } => print_arrived(out, *piece, *begin, bytes.len()),
+        Call::Settle(verdict) => {
+            print(out, "settle ")?;
+            print_number(out, u64::from(verdict.piece()))
+        }
+        Call::Leave => print(out, "leave"),
+        Call::Want(flags) => {
+            print(out, "want ")?;
+            print_bits(out, flags)
+        }
+    }
+}
+
+/// An arrival, with its length in place of its bytes.
+fn print_arrived<O: Sink>(
+    out: &mut O,
+    piece: u32,
+    begin: u32,
+    len: usize,
+) -> Result<(), DeviceFault>
+    ensures ok { OnOk result (Appends (O.written out.old) (O.written out.new) (arrived_text piece begin len)) }
+    ensures err { OnErr result (O.failed out.new ≡ true) }
+{
+    print(out, "block ")?;
+    print_number(out, u64::from(piece))?;
+    print(out, " ")?;
+    print_number(out, u64::from(begin))?;
+    print(out, " ")?;
+    print_number(out, len as u64)
+}
+
+/// Prints a bitfield as its message spells it, in hexadecimal.
+fn print_bits<O: Sink>(out: &mut O, flags: &Bitfield) -> Result<(), DeviceFault>
+    ensures ok { OnOk result ((wire : List ℕ) × IsSpelled flags.now wire
+        × Appends (O.written out.old) (O.written out.new) (encode_lower wire)) }
+    ensures err { OnErr result (O.failed out.new ≡ true) }
+{
+    print_hexadecimal(out, flags.as_wire())
+}
+
+/// Bytes, two digits each.
+fn print_hexadecimal<O: Sink>(out: &mut O, bytes: &[u8]) -> Result<(), DeviceFault>
+    ensures ok { OnOk result (Appends (O.written out.old) (O.written out.new) (encode_lower bytes.now)) }
+    ensures err { OnErr result (O.failed out.new ≡ true) }
+{
+    for byte in bytes {
+        print_byte(out, *byte)?;
+    }
+    Ok(())
+}
+
+/// A byte, as two digits.
+fn print_byte<O: Sink>(out: &mut O, byte: u8) -> Result<(), DeviceFault>
+    ensures ok { OnOk result (Appends (O.written out.old) (O.written out.new) (encode_lower (byte ∷ []))) }
+    ensures err { OnErr result (O.failed out.new ≡ true) }
+{
+    let mut digits = [0; 2];
+    // It fails only where there is room for more or fewer digits.
+    let _ = hex::encode_to_slice([byte], &mut digits);
+    write_all(out, &digits)
+}
