@@ -1,13 +1,18 @@
-//! The desk, by worked examples, random calls and calls without memory.
+//! The desk, by worked examples, random calls and calls without memory; and the desk that threads share.
 
 mod audits;
 mod calls;
 mod content;
 mod examples;
+mod gathering;
 mod groups;
+mod logs;
+mod meeting;
 mod played;
 mod random;
 mod same;
+mod setting;
 mod shown;
 mod steps;
+mod threads;
 mod tickets;

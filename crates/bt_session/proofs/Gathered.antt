@@ -18,10 +18,13 @@ use Rattle.bt_peer.specs.Outcomes.{RunsTo}
 use Rattle.bt_peer.specs.Places.{PlaceRecord}
 use Rattle.bt_peer.specs.Serial.{StreamRecord}
 use Rattle.bt_peer.specs.Terms.{TermsState}
-use Rattle.bt_session.specs.Checking.{AreChecks, CheckersCheck, CheckersWork}
-use Rattle.bt_session.specs.Passes.{no_piece, pass_record, worker_record}
-use Rattle.bt_session.specs.Swarms.{ChecksLast, ChecksRise, EachPlays, EachSwarmed, MakesLastChecks, Plays, Swarmed}
-use Rattle.bt_session.specs.Workers.{AreFresh, IsFresh, StandInOrder, WorkerState, knows, tells}
+use Rattle.bt_session.specs.Checking.{CheckersCheck, CheckersWork}
+use Rattle.bt_worker.specs.Checking.{AreChecks}
+use Rattle.bt_worker.specs.Passes.{no_piece, pass_record, worker_record}
+use Rattle.bt_session.specs.Swarms.{EachPlays, EachSwarmed, MakesLastChecks, Swarmed}
+use Rattle.bt_worker.specs.Runs.{ChecksLast, ChecksRise, Plays}
+use Rattle.bt_session.specs.Beginnings.{AreFresh, IsFresh}
+use Rattle.bt_worker.specs.Workers.{StandInOrder, WorkerState, knows, tells}
 use Rattle.bt_shared.specs.Gathering.{EachFrom, log_of}
 use Rattle.bt_shared.specs.Passes.{PassState}
 

@@ -1,10 +1,6 @@
-pub mod Checking
+pub mod Beginnings
 pub mod Gathered
 pub mod Kept
-pub mod Noted
 pub mod Numbered
-pub mod Rising
 pub mod Rows
-pub mod Seats
-pub mod Told
 pub mod Worked

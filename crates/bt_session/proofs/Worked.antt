@@ -6,9 +6,11 @@ use Rattle.bt_peer.specs.declared.fault.SessionFault.{SessionFault}
 use Rattle.bt_peer.specs.Serial.{StreamRecord}
 use Rattle.bt_peer.specs.Terms.{TermsState}
 use Rattle.bt_session.proofs.Rows.{at_first, at_last, at_second}
-use Rattle.bt_session.specs.Checking.{CheckersWork, EachMakesChecks, MakesChecks}
-use Rattle.bt_session.specs.Swarms.{ChecksLast, EachPlays, Plays}
-use Rattle.bt_session.specs.Workers.{WorkerState}
+use Rattle.bt_session.specs.Checking.{CheckersWork, EachMakesChecks}
+use Rattle.bt_worker.specs.Checking.{MakesChecks}
+use Rattle.bt_session.specs.Swarms.{EachPlays}
+use Rattle.bt_worker.specs.Runs.{ChecksLast, Plays}
+use Rattle.bt_worker.specs.Workers.{WorkerState}
 
 -- how the workers were parted, and put together again
 pub record Parted (n m : ℕ) (all all' sessions checkers played checked : List WorkerState) (last last' : WorkerState) : Type 0 where

@@ -1,4 +1,3 @@
 pub mod Checking
-pub mod Passes
+pub mod Beginnings
 pub mod Swarms
-pub mod Workers

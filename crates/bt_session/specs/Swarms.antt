@@ -1,49 +1,19 @@
 -- Several streams' sessions in threads of their own: what each of them sees at the shared desk, how it ended, and the last checks.
-use Rattle.std.specs.Prelude.{◌≡◌, ◌≤◌, ◌<◌, ◌+◌, ℕ, Bool, true, false, List, [], ◌∷◌, length, slice_get, slice_index_or, Some, Result}
+use Rattle.std.specs.Prelude.{◌≡◌, ◌<◌, ℕ, Bool, true, false, List, [], length, slice_get, slice_index_or, Some, Result}
 use Rattle.std.specs.Global.{Vec}
-use Rattle.bt_history.specs.declared.mark.CallMark.TheVariants as marks
 use Rattle.bt_history.specs.declared.mark.Mark.{Mark}
 use Rattle.bt_history.specs.History.{History}
 use Rattle.bt_history.specs.Pieces.{had}
 use Rattle.bt_history.specs.Setting.{Setting}
-use Rattle.bt_picker.specs.Checks.{waits}
-use Rattle.bt_picker.specs.Positions.{DeskState}
-use Rattle.bt_shared.specs.Passes.{PassState}
-use Rattle.bt_shared.specs.Gathering.{IsNotMissing}
-use Rattle.bt_shared.specs.declared.gather.GatherFault.{GatherFault}
-use Rattle.bt_shared.specs.declared.gather.GatherFault.TheVariants as gathers
-use Rattle.bt_peer.specs.declared.fault.End.{End}
-use Rattle.bt_peer.specs.declared.fault.SessionFault.{SessionFault}
-use Rattle.bt_session.specs.declared.swarm_run.SwarmFault.{SwarmFault}
-use Rattle.bt_session.specs.declared.swarm_run.SwarmFault.TheVariants.{NoMemory, Gather}
 use Rattle.bt_peer.specs.Conduct.{generator_of}
 use Rattle.bt_peer.specs.Outcomes.{RunsTo}
-use Rattle.bt_session.specs.Passes.{no_piece, pass_record, worker_record}
-use Rattle.bt_session.specs.Workers.{WorkerState}
 use Rattle.bt_peer.specs.Serial.{StreamRecord}
 use Rattle.bt_peer.specs.Terms.{TermsState}
-
--- why a run comes to nothing whose desk isn't gathered
-abbrev pub swarm_fault : GatherFault → SwarmFault
-swarm_fault gathers.NoMemory = NoMemory
-swarm_fault fault = Gather fault
-
--- why a run may come to nothing: there was no memory, a thread couldn't be started, or its logs or its board aren't the journal's. No call is
--- missing
-abbrev pub IsRunFault : SwarmFault → Type 0
-IsRunFault (Gather fault) = IsNotMissing fault
-IsRunFault _ = Unit {0}
-
--- ---- sessions
-
--- A session ran at a worker's place, with the words of the generator of its number, made of the seed.
-pub record Plays (outcome : Result End SessionFault) (terms : TermsState) (setting : Setting) (seed : ℕ)
-    (worker : WorkerState) (old : StreamRecord) (worker' : WorkerState) (new : StreamRecord) : Type 0 where
-  -- a call found no memory
-  pub short : Bool
-  pub number : worker'.pass.worker ≡ worker.pass.worker
-  pub runs : RunsTo outcome terms worker.pass.worker (generator_of seed worker.pass.worker)
-      (worker_record setting worker false) old (worker_record setting worker' short) new
+use Rattle.bt_peer.specs.declared.fault.End.{End}
+use Rattle.bt_peer.specs.declared.fault.SessionFault.{SessionFault}
+use Rattle.bt_worker.specs.Passes.{no_piece, pass_record}
+use Rattle.bt_worker.specs.Runs.{ChecksRise, Plays}
+use Rattle.bt_worker.specs.Workers.{WorkerState}
 
 -- that of each stream, in order
 abbrev pub EachPlays : {X : Type 0} → (X → StreamRecord) → TermsState → Setting → ℕ →
@@ -76,25 +46,6 @@ EachSwarmed {X} record_of terms setting seed streams journal logs streams' ends 
 
 -- ---- the last checks
 
--- the marks are checks alone: of pieces from low on, each above those before it, and all below high
-abbrev pub ChecksRise : ℕ → List Mark → ℕ → Type 0
-ChecksRise low [] high = low ≤ high
-ChecksRise low (mark ∷ log) high = (piece : ℕ) × ((mark.call ≡ marks.Settle piece) × (low ≤ piece) × ChecksRise (piece + 1) log high)
-
 -- the log of this worker has checks alone, the least piece first, each piece once
 abbrev pub MakesLastChecks : ℕ → List (Vec Mark) → ℕ → Type 0
 MakesLastChecks worker logs pieces = (log : Vec Mark) → slice_get logs worker ≡ Some log → ChecksRise 0 log.items pieces
-
--- the worker saw to the last checks: it is the same, and where it had made no call its marks are checks of rising pieces
-pub record ChecksLast (old new : PassState) (pieces : ℕ) : Type 0 where
-  pub worker : new.worker ≡ old.worker
-  pub rise : old.log ≡ [] → ChecksRise 0 new.log pieces
-
--- it is told whether a piece still waits for a check
-pub record TellsWaiting (short : Bool) (desk : DeskState) : Type 0 where
-  pub none : short ≡ false → (piece : ℕ) → waits desk.setting desk.history piece ≡ false
-  pub still : short ≡ true → (piece : ℕ) × (waits desk.setting desk.history piece ≡ true)
-
--- a run that isn't short leaves no piece that waits for a check
-abbrev pub LeavesNone : Bool → DeskState → Type 0
-LeavesNone short desk = short ≡ false → (piece : ℕ) → waits desk.setting desk.history piece ≡ false

@@ -1,14 +1,11 @@
 //! Checkers in threads of their own.
 
 ghost use Rattle.std.specs.Prelude.{◌≡◌, ◌≤◌, [], map, length, vec_len, vec_capacity, IfOk, IfErr, OnOk};
-ghost use Rattle.bt_session.specs.Checking.{MakesChecks};
-ghost use Rattle.bt_session.specs.Swarms.{IsRunFault};
+ghost use Rattle.bt_worker.specs.Checking.{MakesChecks};
+ghost use Rattle.bt_worker.specs.Runs.{IsRunFault};
 
-use crate::checker::{Checked, check_pieces};
-use crate::commons::{Commons, Worker};
-use crate::run_name::RunName;
-use crate::swarm_run::SwarmFault;
 use bt_check::Ticket;
+use bt_worker::{Checked, Commons, RunName, SwarmFault, Worker, check_pieces};
 use std::alloc::Global;
 use std::snapshot::Snapshot;
 use std::sync::Wait;

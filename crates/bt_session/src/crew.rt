@@ -4,18 +4,15 @@ ghost use Rattle.std.specs.Prelude.{◌≡◌, ◌≤◌, [], All, map, length, 
 ghost use Rattle.bt_peer.specs.Serial.{stream_record};
 ghost use Rattle.bt_peer.specs.Terms.{terms_of};
 ghost use Rattle.bt_session.specs.Checking.{EachMakesChecks};
-ghost use Rattle.bt_session.specs.Swarms.{EachPlays, IsRunFault};
+ghost use Rattle.bt_session.specs.Swarms.{EachPlays};
+ghost use Rattle.bt_worker.specs.Runs.{IsRunFault};
 
 use crate::check_threads::{CheckOf, start_checkers, stop};
-use crate::checker::Checked;
-use crate::commons::{Commons, Worker};
-use crate::play::Played;
-use crate::run_name::RunName;
-use crate::swarm_run::SwarmFault;
 use crate::threads::{PlayOf, join_each, start_sessions};
 use bt_history::MOST_DEPTH;
 use bt_meta::{Sink, Source};
 use bt_peer::{Gate, Stream};
+use bt_worker::{Checked, Commons, Played, RunName, SwarmFault, Worker};
 use std::alloc::{AllocError, Global};
 use std::sync::Wait;
 use std::thread;

@@ -6,25 +6,23 @@ ghost use Rattle.bt_history.specs.Setting.{AreRules, setting_of};
 ghost use Rattle.bt_meta.specs.Layout.{piece_count};
 ghost use Rattle.bt_peer.specs.Serial.{stream_record};
 ghost use Rattle.bt_peer.specs.Terms.{terms_of};
-ghost use Rattle.bt_session.specs.declared.swarm_run.SwarmFault.TheVariants.{NoMemory};
 ghost use Rattle.bt_session.specs.Checking.{CheckersCheck};
-ghost use Rattle.bt_session.specs.Swarms.{EachSwarmed, IsRunFault, LeavesNone, MakesLastChecks, TellsWaiting, swarm_fault};
-ghost use Rattle.bt_session.specs.Workers.{AreFittings};
+ghost use Rattle.bt_session.specs.Beginnings.{AreFittings};
+ghost use Rattle.bt_session.specs.Swarms.{EachSwarmed, MakesLastChecks};
 ghost use Rattle.bt_shared.specs.Gathering.{EachAgrees};
+ghost use Rattle.bt_worker.specs.Runs.{IsRunFault, LeavesNone};
 
 use crate::fittings::{Fittings, fit_out, set_up};
-use crate::run_name::RunName;
-use crate::work::{Worked, work};
+use crate::work::work;
 use bt_history::Rules;
 use bt_meta::{Sink, Source, Torrent};
 use bt_peer::{End, Gate, MOST_STREAMS, SessionFault, Stream};
-use bt_picker::Desk;
-use bt_shared::{Book, GatherFault};
-use std::alloc::{AllocError, Global};
+use bt_shared::Book;
+use bt_worker::{RunName, SwarmFault, Worked, is_short};
+use std::alloc::Global;
 use std::marker::Brand;
 use std::sync::{Arc, Wait};
 use std::thread::Threads;
-use thiserror::Error;
 
 /// How many checkers a run may have.
 pub const MOST_CHECKERS: u32 = 8;
@@ -41,68 +39,6 @@ pub struct SwarmRun<R, W> {
     pub short: bool,
     /// The streams as the sessions left them, in order.
     pub streams: Vec<Stream<R, W>>,
-}
-
-/// Why a run in threads came to nothing. All its threads have ended.
-#[derive(Clone, Copy, Debug, PartialEq, Eq, Error)]
-pub enum SwarmFault {
-    #[error("memory")]
-    NoMemory,
-    #[error("gather fault {}", gather_number(.0))]
-    Gather(GatherFault),
-    /// A thread couldn't be started. Those that were have gone to their sessions' ends.
-    #[error("no thread")]
-    NoThread,
-}
-
-impl From<AllocError> for SwarmFault {
-    ghost from_gives = { λ _ fault. fault ≡ NoMemory };
-
-    fn from(_e: AllocError) -> SwarmFault {
-        SwarmFault::NoMemory
-    }
-}
-
-impl From<GatherFault> for SwarmFault {
-    ghost from_gives = { λ cause fault. fault ≡ swarm_fault cause };
-
-    fn from(fault: GatherFault) -> SwarmFault {
-        match fault {
-            GatherFault::NoMemory => SwarmFault::NoMemory,
-            _ => SwarmFault::Gather(fault),
-        }
-    }
-}
-
-/// The place of the fault in its enum, from 1.
-fn gather_number(fault: &GatherFault) -> u8 {
-    match fault {
-        GatherFault::PassMissing { .. } => 1,
-        GatherFault::LogsDiffer { .. } => 2,
-        GatherFault::BoardDiffers { .. } => 3,
-        GatherFault::NoMemory => 4,
-    }
-}
-
-/// Whether a piece still waits for a check.
-fn is_waiting(desk: &Desk, pieces: u32) -> bool
-    requires { piece_count desk.now.setting.torrent ≡ pieces }
-    ensures { TellsWaiting result desk.now }
-{
-    for piece in 0..pieces {
-        if desk.is_waiting(piece) {
-            return true;
-        }
-    }
-    false
-}
-
-/// Whether a run is short that came to this desk: something was given up, or a piece still waits for a check.
-fn is_short(desk: &Desk, pieces: u32, given_up: bool) -> bool
-    requires { piece_count desk.now.setting.torrent ≡ pieces }
-    ensures { LeavesNone result desk.now }
-{
-    given_up || is_waiting(desk, pieces)
 }
 
 /// The run, at the desk that `L` names.

@@ -3,16 +3,13 @@
 ghost use Rattle.std.specs.Prelude.{◌≡◌, ◌≤◌, [], All, map, length, vec_len, vec_capacity, IfOk, IfErr, OnOk};
 ghost use Rattle.std.specs.PromisedHandle.{KeepsEach};
 ghost use Rattle.bt_peer.specs.Serial.{stream_record};
-ghost use Rattle.bt_session.specs.Swarms.{IsRunFault, Plays};
 ghost use Rattle.bt_peer.specs.Terms.{terms_of};
+ghost use Rattle.bt_worker.specs.Runs.{IsRunFault, Plays};
 
-use crate::commons::{Commons, Worker};
-use crate::play::{Played, play};
-use crate::run_name::RunName;
-use crate::swarm_run::SwarmFault;
 use bt_history::MOST_DEPTH;
 use bt_meta::{Sink, Source, Torrent};
 use bt_peer::{Gate, Stream};
+use bt_worker::{Commons, Played, RunName, SwarmFault, Worker, play};
 use std::alloc::Global;
 use std::snapshot::Snapshot;
 use std::sync::{Arc, Wait};

@@ -1,7 +1,7 @@
 //! A session in a thread that tells of a finished piece while it runs.
 
+use super::made::{PEER, RULES, peer, torrent};
 use bt_meta::{DeviceFault, Sink, Source};
-use bt_peer_tests::{PEER, RULES, peer, torrent};
 use bt_session::{OpenGate, Stream, SwarmRun, swarm};
 use std::alloc::Global;
 use std::process::Abort;

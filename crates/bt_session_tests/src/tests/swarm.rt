@@ -1,9 +1,9 @@
 //! Sessions in threads of their own.
 ghost use Rattle.std.specs.Prelude.{◌≤◌, length};
 
+use super::made::{ABC, PEER, RULES, Recorded, peer, recorded, torrent, two_pieces};
 use bt_expect::same;
 use bt_meta::{FromRead, ToWrite, Torrent};
-use bt_peer_tests::{ABC, PEER, RULES, Recorded, peer, recorded, torrent, two_pieces};
 use bt_picker::{CallMark, Mark, Reply};
 use bt_session::{End, Gate, OpenGate, SessionFault, SwarmFault, SwarmRun, swarm};
 use bt_shared::GatherFault;

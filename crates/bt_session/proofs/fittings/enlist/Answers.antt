@@ -1,7 +1,7 @@
 use Rattle.std.proofs.Common.{◌≡◌, ◌+◌, [], ◌∷◌, length, length-append, Some, refl, ap, ◌∙◌, arith, rules}
 use Rattle.bt_session.proofs.Numbered.{first_is, none_numbered, one_more, rest_are, same_list}
-use Rattle.bt_session.proofs.Seats.{belongs, is_fresh}
-use Rattle.bt_session.specs.Workers.{IsFresh, IsNewPass, IsNewSeat}
+use Rattle.bt_session.proofs.Beginnings.{belongs, is_fresh}
+use Rattle.bt_session.specs.Beginnings.{IsFresh, IsNewPass, IsNewSeat}
 use Rattle.bt_session.proofs.fittings.enlist.Goals as goal
 
 pub loop-pass-init : goal.loop-pass-init

@@ -1,7 +1,7 @@
 use Rattle.std.proofs.Common.{◌≡◌, length, ap, arith, rules}
 use Rattle.bt_check.specs.Queues.{PassState as TicketState}
 use Rattle.bt_history.specs.Setting.{Setting, setting_of}
-use Rattle.bt_session.proofs.Seats.{are_new, are_new_passes, seats_count}
+use Rattle.bt_session.proofs.Beginnings.{are_new, are_new_passes, seats_count}
 use Rattle.bt_session.proofs.fittings.fit_out.Goals as goal
 
 pub returns : goal.returns

@@ -1,7 +1,7 @@
 use Rattle.std.proofs.Common.{◌≡◌, ◌<◌, rules, arith, length, vec_len, sym, ap, ◌∙◌}
 use Rattle.std.proofs.lemmas.List.{get_or-map, length-map}
-use Rattle.bt_session.specs.declared.checker.Checked.{Checked}
-use Rattle.bt_session.specs.declared.play.Played.{Played}
+use Rattle.bt_worker.specs.declared.checker.Checked.{Checked}
+use Rattle.bt_worker.specs.declared.played.Played.{Played}
 use Rattle.bt_peer.specs.Terms.{terms_of}
 use Rattle.bt_session.proofs.Kept.{part_at}
 use Rattle.bt_session.proofs.crew.fn.crew.scope.Goals as goal

@@ -1,0 +1,211 @@
+//! A session by itself.
+
+ghost use Rattle.std.specs.Prelude.{◌≡◌, ◌<◌, ◌≤◌};
+ghost use Rattle.bt_meta.specs.Layout.{piece_count};
+
+use super::made::{PEER, RULES, peer, torrent};
+use bt_expect::same;
+use bt_meta::{Bitfield, FromRead, Sink, Source, ToWrite, Torrent};
+use bt_peer::whole::session;
+use bt_peer::{DeskPlace, End, SessionFault};
+use bt_picker::{Call, Desk, Entry};
+use bt_wire::WireFault;
+use rand_pcg::Lcg64Xsh32;
+use std::alloc::{AllocError, Global};
+use std::fmt::Write;
+use std::io::Cursor;
+use std::process::Abort;
+use std::sync::Arc;
+use std::test::Fail;
+
+/// The word of a call.
+fn word(call: &Call) -> &'static str {
+    match call {
+        Call::Join => "join",
+        Call::Bits(_) => "bits",
+        Call::Have(_) => "have",
+        Call::Choke => "choke",
+        Call::Unchoke => "unchoke",
+        Call::Next(_) => "next",
+        Call::Arrived { .. } => "block",
+        Call::Settle(_) => "settle",
+        Call::Leave => "leave",
+        Call::Want(_) => "want",
+    }
+}
+
+/// An entry by its call and its reply, without words of Next, bytes and bitfields.
+pub fn tell(entry: &Entry, said: &mut String) -> Result<(), AllocError> {
+    said.push_str(word(&entry.call))?;
+    match &entry.call {
+        Call::Have(piece) => write!(said, " {piece}")?,
+        Call::Arrived { piece, begin, .. } => write!(said, " {piece} {begin}")?,
+        _ => {}
+    }
+    let reply = entry.reply;
+    write!(said, " = {reply:?}; ")
+}
+
+/// What came of it, the journal, and what was written.
+fn told(
+    alloc: Global,
+    stream: &[u8],
+) -> Result<(Result<End, SessionFault>, String, Vec<u8>), Fail> {
+    told_of(alloc, &mut FromRead::new(Cursor::new(stream)))
+}
+
+/// The same of a source, which is read to its end.
+pub fn told_of<R: Source>(
+    alloc: Global,
+    reader: &mut R,
+) -> Result<(Result<End, SessionFault>, String, Vec<u8>), Fail> {
+    let mut writer = ToWrite::new(Vec::new(alloc));
+    let (end, said) = played(alloc, 4, reader, &mut writer)?;
+    Ok((end, said, writer.into_inner()))
+}
+
+/// How a session of the last of so many workers with these devices ended, and its calls.
+pub fn played<R: Source, W: Sink>(
+    alloc: Global,
+    workers: u32,
+    reader: &mut R,
+    writer: &mut W,
+) -> Result<(Result<End, SessionFault>, String), Fail>
+    requires { (1 ≤ workers) × (workers ≤ 4) }
+{
+    let torrent = torrent(alloc)?;
+    let mut desk = Desk::new(alloc, torrent.clone()?, workers, RULES)?;
+    let end = play(alloc, torrent, &mut desk, workers - 1, reader, writer)?;
+    let said = calls_of(alloc, &desk)?;
+    Ok((end, said))
+}
+
+/// How the worker's session ended, at a desk of this torrent.
+fn play<R: Source, W: Sink>(
+    alloc: Global,
+    torrent: Arc<Torrent>,
+    desk: &mut Desk,
+    worker: u32,
+    reader: &mut R,
+    writer: &mut W,
+) -> Result<Result<End, SessionFault>, AllocError>
+    requires worker { worker < desk.old.setting.workers }
+    requires pieces { piece_count desk.old.setting.torrent ≡ piece_count torrent.value.layout }
+{
+    let mut told = Bitfield::empty(alloc, torrent.piece_count())?;
+    let mut rng = Lcg64Xsh32::new(0, u64::from(worker));
+    let mut place = DeskPlace::new(desk, worker, &mut told);
+    Ok(session(
+        alloc, torrent, worker, reader, writer, &mut place, &mut rng, 5,
+    ))
+}
+
+/// The desk's journal, entry by entry.
+pub fn calls_of(alloc: Global, desk: &Desk) -> Result<String, Fail> {
+    let mut said = String::new(alloc);
+    for entry in desk.journal() {
+        tell(entry, &mut said)?;
+    }
+    Ok(said)
+}
+
+/// The calls of a whole session with that peer.
+pub const WHOLE: &str = "join = Joined; bits = Noted(true); next = Choked; unchoke = Quiet; \
+    next = Request(Block { piece: 0, begin: 0, len: 3 }); next = Idle; \
+    block 0 0 = Completed; settle = Had; next = NothingLeft; leave = Quiet; ";
+
+#[test]
+fn a_whole_session(rt: HostRuntime) -> Result<(), Fail> {
+    let sent = peer(rt.alloc(), 1, &PEER)?;
+    is_whole(&rt, rt.alloc(), &sent)
+}
+
+/// The session of this stream is a whole one.
+fn is_whole(rt: &impl Abort, alloc: Global, sent: &[u8]) -> Result<(), Fail> {
+    let (end, calls, written) = told(alloc, sent)?;
+    assert!(rt; end == Ok(End { messages: 3 }));
+    same(calls.as_str(), WHOLE)?;
+    writes_all(alloc, &written)
+}
+
+/// These bytes are what a whole session with that peer writes.
+fn writes_all(alloc: Global, written: &[u8]) -> Result<(), Fail> {
+    let mut wanted = Vec::new(alloc);
+    add_whole(&mut wanted)?;
+    same(written, wanted.as_slice())
+}
+
+/// Adds what a whole session with that peer writes.
+fn add_whole(wanted: &mut Vec<u8>) -> Result<(), Fail> {
+    wanted.extend_from_slice(b"\x13BitTorrent protocol")?;
+    wanted.extend_from_slice(&[0; 8])?;
+    wanted.extend_from_slice(&[1; 20])?;
+    wanted.extend_from_slice(b"-PP0001-000000000003")?;
+    // interested, request, have, not interested
+    wanted.extend_from_slice(&[
+        0, 0, 0, 1, 2, 0, 0, 0, 13, 6, 0, 0, 0, 0, 0, 0, 0, 0, 0, 0, 0, 3, 0, 0, 0, 5, 4, 0, 0, 0,
+        0, 0, 0, 0, 1, 3,
+    ])?;
+    Ok(())
+}
+
+/// The calls of a session whose peer breaks off in the block.
+const BEGUN: &str = "join = Joined; bits = Noted(true); next = Choked; unchoke = Quiet; \
+    next = Request(Block { piece: 0, begin: 0, len: 3 }); next = Idle; leave = Quiet; ";
+
+/// Frames that are at fault, the fault, and the calls before it.
+const ROWS: &[(&[u8], SessionFault, &str)] = &[
+    (
+        &[0, 0, 0, 2, 5, 192],
+        SessionFault::BadBits,
+        "join = Joined; leave = Quiet; ",
+    ),
+    (
+        &[0, 16, 0, 1],
+        SessionFault::Wire(WireFault::TooLong),
+        "join = Joined; leave = Quiet; ",
+    ),
+];
+
+#[test]
+fn faults(rt: HostRuntime) -> Result<(), Fail> {
+    let alloc = rt.alloc();
+    peer_is_at_fault(&rt, alloc, 1, &PEER[..26], SessionFault::Truncated, BEGUN)?;
+    peer_is_at_fault(&rt, alloc, 2, &PEER, SessionFault::WrongInfohash, "")?;
+    for &(frames, fault, wanted) in ROWS {
+        peer_is_at_fault(&rt, alloc, 1, frames, fault, wanted)?;
+    }
+    ends_with_fault(
+        &rt,
+        rt.alloc(),
+        b"\x13BitTorrent",
+        SessionFault::Truncated,
+        "",
+    )
+}
+
+/// The session with a peer that sends these frames ends with this fault, after these calls.
+fn peer_is_at_fault(
+    rt: &impl Abort,
+    alloc: Global,
+    infohash: u8,
+    frames: &[u8],
+    fault: SessionFault,
+    wanted: &str,
+) -> Result<(), Fail> {
+    let sent = peer(alloc, infohash, frames)?;
+    ends_with_fault(rt, alloc, &sent, fault, wanted)
+}
+
+/// The session of this stream ends with this fault, after these calls.
+fn ends_with_fault(
+    rt: &impl Abort,
+    alloc: Global,
+    sent: &[u8],
+    fault: SessionFault,
+    wanted: &str,
+) -> Result<(), Fail> {
+    let (end, calls, _) = told(alloc, sent)?;
+    assert!(rt; end == Err(fault));
+    same(calls.as_str(), wanted)
+}

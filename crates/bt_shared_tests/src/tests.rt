@@ -1,7 +1,0 @@
-//! The desk that threads share.
-
-mod gathering;
-mod logs;
-mod meeting;
-mod setting;
-mod threads;

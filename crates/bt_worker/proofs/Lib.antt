@@ -1,0 +1,5 @@
+pub mod Checking
+pub mod Noted
+pub mod Rising
+pub mod Seats
+pub mod Told

@@ -1,0 +1,46 @@
+-- The tickets of a run in threads, and the workers that check pieces: what each of them calls at the shared desk.
+use Rattle.std.specs.Prelude.{◌≡◌, ◌⊎◌, ℕ, Bool, true, false, List, [], ◌∷◌}
+use Rattle.bt_check.specs.declared.ticket.Ticket.{Ticket}
+use Rattle.bt_check.specs.declared.ticket.Ticket.TheVariants.{Piece, Stop}
+use Rattle.bt_check.specs.Queues.{with_put, with_taken}
+use Rattle.bt_history.specs.declared.call.Reply.{Reply}
+use Rattle.bt_history.specs.declared.mark.CallMark.TheVariants.{Settle}
+use Rattle.bt_history.specs.declared.mark.Mark.{Mark}
+use Rattle.bt_worker.specs.Workers.{WorkerState, with_tickets}
+use Rattle.bt_shared.specs.Passes.{PassState, Notes}
+
+-- ---- tickets
+
+-- where it is told so the worker put the ticket, and else nothing
+abbrev pub PutsIf : Bool → Ticket → WorkerState → WorkerState → Type 0
+PutsIf true ticket old new = new ≡ with_tickets old (with_put old.tickets ticket)
+PutsIf false ticket old new = new ≡ old
+
+-- the worker took the ticket of this piece
+abbrev pub TakesPiece : WorkerState → ℕ → WorkerState → Type 0
+TakesPiece old piece new = new ≡ with_tickets old (with_taken old.tickets (Piece piece))
+
+-- it took Stop, or no ticket
+abbrev pub TakesNone : WorkerState → WorkerState → Type 0
+TakesNone old new = (new ≡ with_tickets old (with_taken old.tickets Stop)) ⊎ (new ≡ old)
+
+-- ---- checks
+
+-- the pass is the same worker's, and its log as it was
+pub record IsQuiet (old new : PassState) : Type 0 where
+  pub worker : new.worker ≡ old.worker
+  pub log : new.log ≡ old.log
+
+-- a worker's pass after it saw to a piece: the mark of a check of this piece, or nothing
+abbrev pub MayCheck : PassState → ℕ → PassState → Type 0
+MayCheck old piece new = IsQuiet old new ⊎ ((reply : Reply) × Notes old (Settle piece) reply new)
+
+-- the marks are checks alone
+abbrev pub AreChecks : List Mark → Type 0
+AreChecks [] = Unit {0}
+AreChecks (mark ∷ log) = ((piece : ℕ) × (mark.call ≡ Settle piece)) × AreChecks log
+
+-- a worker made checks alone
+pub record MakesChecks (old new : PassState) : Type 0 where
+  pub worker : new.worker ≡ old.worker
+  pub checks : AreChecks old.log → AreChecks new.log

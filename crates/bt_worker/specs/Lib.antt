@@ -1,0 +1,4 @@
+pub mod Checking
+pub mod Passes
+pub mod Runs
+pub mod Workers

@@ -1,0 +1,36 @@
+//! What the thread of a checker does.
+
+ghost use Rattle.bt_worker.specs.Checking.{MakesChecks};
+
+use crate::commons::{Commons, Worker};
+use crate::run_name::RunName;
+use std::alloc::Global;
+use std::sync::Wait;
+
+/// What the thread of a checker gives back.
+#[derive(Drop)]
+pub struct Checked<L: RunName> {
+    pub worker: Worker<L>,
+    /// A check was given up for want of memory.
+    pub short: bool,
+}
+
+/// Sees to the pieces of the tickets that it takes, until it is told to stop.
+pub fn check_pieces<L: RunName, T: Wait>(
+    rt: &T,
+    alloc: Global,
+    commons: &Commons<L>,
+    worker: Worker<L>,
+) -> Checked<L>
+    ensures { MakesChecks worker.pass result.worker.pass }
+{
+    let mut worker = worker;
+    let mut short = false;
+    for _ in rt.forever() {
+        let Some(piece) = commons.next_piece(rt, &mut worker) else {
+            break;
+        };
+        short |= commons.check(rt, alloc, &mut worker, piece).is_err();
+    }
+    Checked { worker, short }
+}
