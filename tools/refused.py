@@ -26,7 +26,7 @@ ROOT = os.path.dirname(os.path.dirname(os.path.abspath(__file__)))
 PROGRAM = os.path.join(ROOT, "crates/piecepick/out/piecepick")
 DATA = os.path.join(ROOT, "crates/bt_runs/data")
 KINDS = ("alloc", "read", "write")
-TESTED = ("bt_parts_tests", "bt_picker_tests", "bt_shared_tests")
+TESTED = ("bt_parts_tests", "bt_picker_tests")
 MOST_OF_A_TEST = 300
 # What a test says that ends by an error of its own, and not by an assertion.
 NO_MEMORY = re.compile(r"error: .*(NoMemory|AllocError|AllocFailed|OutOfMemory).*\nthe test failed: its result gives status 1\n")

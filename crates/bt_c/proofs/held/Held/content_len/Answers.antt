@@ -1,4 +1,4 @@
-use Rattle.std.proofs.Common.{◌≡◌, true, sym, ap, ◌∙◌, arith}
+use Rattle.std.proofs.Common.{◌≡◌, true, sym, ap, ◌∙◌, arith, rules}
 use Rattle.bt_meta.specs.Layout.{Layout, piece_len}
 use Rattle.bt_history.specs.Pieces.{had}
 use Rattle.bt_c.proofs.ContentLengths.{content_len}
@@ -13,3 +13,6 @@ returns c =
       c.piece_len.ensures.len ∙ (ap (λ (t : Layout). piece_len t p) c.torrent-2.ensures
           ∙ sym (content_len d.setting d.history p c.journal-legal.ensures.legal is)),
     )
+
+pub returns-then-not-had : goal.returns-then-not-had
+returns-then-not-had c = search rules

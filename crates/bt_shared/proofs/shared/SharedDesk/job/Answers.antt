@@ -17,3 +17,6 @@ invariant_of-pass g c =
 
 pub lock-desk-requires-clause-may : goal.lock-desk-requires-clause-may
 lock-desk-requires-clause-may g c = seat_may c.pass.inside.worker c.pass.inside.seat.me c.pass.invariant.0
+
+pub returns-clause-job : goal.returns-clause-job
+returns-clause-job g c = search rules

@@ -52,3 +52,6 @@ lock-desk-requires-clause-may g c =
           (among_left w c.second.inside.seat.me.0.part.workers c.split_seat-copy.result.me.0.part.workers
           (subst (IsAmong w) (sym c.second.invariant.0.alone) (inl refl)));
     }
+
+pub returns-clause-told : goal.returns-clause-told
+returns-clause-told g c = search rules

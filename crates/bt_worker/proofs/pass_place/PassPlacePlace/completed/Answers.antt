@@ -1,4 +1,4 @@
-use Rattle.std.proofs.Common.{[], refl, inl}
+use Rattle.std.proofs.Common.{[], refl, inl, rules}
 use Rattle.bt_worker.proofs.Told.{puts_gains}
 use Rattle.bt_worker.proofs.pass_place.PassPlacePlace.completed.Goals as goal
 
@@ -23,3 +23,9 @@ returns-else-not-puts-clause-ok g c =
             c.puts.ensures,
       ),
     )
+
+pub returns-else-not-puts-clause-puts : goal.returns-else-not-puts-clause-puts
+returns-else-not-puts-clause-puts g c = search rules
+
+pub returns-then-not-puts-clause-puts : goal.returns-then-not-puts-clause-puts
+returns-then-not-puts-clause-puts g c = search rules
