@@ -22,7 +22,7 @@ loop-place-preserved c =
     }
 
 pub returns-then-not-allows-clause-ok : goal.returns-then-not-allows-clause-ok
-returns-then-not-allows-clause-ok c = search rules
+returns-then-not-allows-clause-ok c = search rules fits 100
 
 pub returns-then-not-allows-clause-err : goal.returns-then-not-allows-clause-err
 returns-then-not-allows-clause-err c = grind (arith, common_steps)

@@ -14,4 +14,4 @@ returns-then-byte-ne0 c =
     c.loop-next.invariant (first_of_byte bytes c.loop-next.next _ here)
 
 pub loop-next-init : goal.loop-next-init
-loop-next-init c = search rules
+loop-next-init c = search rules fits 100

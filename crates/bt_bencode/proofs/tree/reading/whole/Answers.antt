@@ -4,12 +4,12 @@ use Rattle.bt_bencode.proofs.tree.reading.whole.Goals as goal
 
 pub returns-in_err-tree : goal.returns-in_err-tree
 unfolding tree_of
-returns-in_err-tree c = search rules
+returns-in_err-tree c = search rules fits 100
 
 pub returns-then-end-source : goal.returns-then-end-source
 unfolding tree_of
-returns-then-end-source c = search rules
+returns-then-end-source c = search rules fits 100
 
 pub returns : goal.returns
 unfolding tree_of
-returns c = search rules
+returns c = search rules fits 100

@@ -15,4 +15,4 @@ returns c =
     )
 
 pub returns-then-not-had : goal.returns-then-not-had
-returns-then-not-had c = search rules
+returns-then-not-had c = search rules fits 100

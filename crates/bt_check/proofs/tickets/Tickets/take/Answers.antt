@@ -6,7 +6,7 @@ pub recv_as-requires-clause-rule : goal.recv_as-requires-clause-rule
 recv_as-requires-clause-rule g c = (balanced_taken _ _, λ _ _ _ _. tt)
 
 pub returns-clause-some : goal.returns-clause-some
-returns-clause-some g c = search rules
+returns-clause-some g c = search rules fits 100
 
 pub returns-clause-none : goal.returns-clause-none
-returns-clause-none g c = search rules
+returns-clause-none g c = search rules fits 100

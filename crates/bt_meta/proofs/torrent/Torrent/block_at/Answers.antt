@@ -2,4 +2,4 @@ use Rattle.std.proofs.Common.{rules}
 use Rattle.bt_meta.proofs.torrent.Torrent.block_at.Goals as goal
 
 pub returns : goal.returns
-returns c = search rules
+returns c = search rules fits 100

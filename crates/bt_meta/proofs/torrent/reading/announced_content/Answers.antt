@@ -12,4 +12,4 @@ returns-in-None-Some c =
 
 pub returns-in-Some-Some : goal.returns-in-Some-Some
 unfolding content_in lengths_in
-returns-in-Some-Some c = search rules
+returns-in-Some-Some c = search rules fits 100

@@ -2,4 +2,4 @@ use Rattle.std.proofs.Common.{rules}
 use Rattle.bt_picker.proofs.peer.Peer.reset.Goals as goal
 
 pub returns : goal.returns
-returns c = search rules
+returns c = search rules fits 100

@@ -9,7 +9,7 @@ invariant_of-pass g c =
     let old : Sat = c.pass.inside.seat.me in
     let goes = knows_continue c.lock-desk.result.history old.0.part c.pass.inside.worker c.pass.invariant.0.alone c.lock-desk.ensures.found.0.part in
     let is = ap (λ (m : Sat). m.0.part.seen) c.unlock.ensures.freed in (
-      search rules,
+      search rules fits 100,
       search rules,
       search rules,
       agrees_call c.enter-made.result c.lock-desk.result c.enter-made.new.desk c.pass.inside.worker old.0.part.seen _ c.args.call

@@ -19,4 +19,4 @@ pub lock-desk-requires-clause-may : goal.lock-desk-requires-clause-may
 lock-desk-requires-clause-may g c = seat_may c.pass.inside.worker c.pass.inside.seat.me c.pass.invariant.0
 
 pub returns-clause-job : goal.returns-clause-job
-returns-clause-job g c = search rules
+returns-clause-job g c = search rules fits 100

@@ -54,4 +54,4 @@ lock-desk-requires-clause-may g c =
     }
 
 pub returns-clause-told : goal.returns-clause-told
-returns-clause-told g c = search rules
+returns-clause-told g c = search rules fits 100

@@ -13,7 +13,7 @@ returns-in-Ok-Some-clause-message c =
     (gives state front.message front.len left (rw (← c.as_slice.ensures) (rw front.field-0-is at front.ensures.found).1) c.advance.ensures)
 
 pub returns-in-Ok-None-clause-none : goal.returns-in-Ok-None-clause-none
-returns-in-Ok-None-clause-none c = search rules
+returns-in-Ok-None-clause-none c = search rules fits 100
 
 pub returns-in-Err : goal.returns-in-Err
-returns-in-Err c = search rules
+returns-in-Err c = search rules fits 100

@@ -25,7 +25,7 @@ returns-else-not-puts-clause-ok g c =
     )
 
 pub returns-else-not-puts-clause-puts : goal.returns-else-not-puts-clause-puts
-returns-else-not-puts-clause-puts g c = search rules
+returns-else-not-puts-clause-puts g c = search rules fits 100
 
 pub returns-then-not-puts-clause-puts : goal.returns-then-not-puts-clause-puts
-returns-then-not-puts-clause-puts g c = search rules
+returns-then-not-puts-clause-puts g c = search rules fits 100
