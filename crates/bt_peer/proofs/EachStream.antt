@@ -53,7 +53,7 @@ each_at record_of desk new seats streams i seat seat' stream stream' within with
     let kept' = get_or-set_other streams i j stream' x apart in
     let old = get_or seats j s in
     Keeps-same j _ _ _ _ refl (standing-same new _ _ _ _ kept (ap record_of kept'))
-    (others_stand i j desk new old.session old.told (record_of (get_or streams j x)) (answers_of old.rng) others apart)
+    (others_stand i j desk new old.session old.told (record_of (get_or streams j x)) old.short (answers_of old.rng) others apart)
 
 MayPlay-next : {X : Type 0} (desk new : DeskState) (seats seats' : List Seat) (streams streams' : List X) → MayPlay desk seats streams →
     length seats' ≡ length seats → length streams' ≡ length streams → new.setting ≡ desk.setting →

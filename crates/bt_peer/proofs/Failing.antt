@@ -42,14 +42,14 @@ wrote_nothing fault written = record { front = []; rest = []; parts = refl; wrot
 -- the greeting was cut off
 pub greeting_fails : (fault : SessionFault) (greeting : List ℕ) (interested : Bool) (old : Start) (source : SourceState) (past : PlaceRecord)
     (written written' : Option (List ℕ)) →
-    old.joined ≡ false → fault ≡ faults.WriteFault → WroteFront fault written greeting written' →
+    old.joined ≡ false → fault ≡ faults.WriteFault → WroteFront fault written greeting written' → source.left ≡ old.left →
     GreetingFails fault greeting interested old source past written past written'
-greeting_fails fault greeting interested old source past written written' first is wrote = record {
+greeting_fails fault greeting interested old source past written written' first is wrote unread = record {
   acts = [];
   gains = nothing_gained past;
   outside = refl;
   wrote = subst (λ (xs : List ℕ). WroteFront fault written xs written') (sym (append-nil greeting)) wrote;
-  cause = subst (λ (f : SessionFault). BreaksBy f old source []) (sym is) (inr (first, refl));
+  cause = subst (λ (f : SessionFault). BreaksBy f old source []) (sym is) (inr (first, refl, unread));
 }
 
 greeted_all : (fault : SessionFault) (greeting : List ℕ) (written written' : Option (List ℕ)) → Appends written written' greeting →

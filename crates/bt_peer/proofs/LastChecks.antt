@@ -156,7 +156,7 @@ begun_in terms seed worker setting desk seat stream layout same_setting uncalled
     inl (record { state = new.session; left = refl; gains = subst (Gains before []) same (Gains-none before); written = refl }) in
     record {
       stands = subst (λ (o : Option (Result End SessionFault)). StandsBy o terms worker (before_all setting worker stream) seat.session source
-          (λ short. around desk worker seat.told short stream)) (sym runs) running;
+          (around desk worker seat.told false stream) (around desk worker seat.told seat.short stream)) (sym runs) running;
       conduct = subst (λ (o : Option (Result End SessionFault)). ConductBy o (generator_of seed worker) [] (calls_in desk.history worker)
           (answers_of seat.rng)) (sym runs) conduct;
       devices = subst (λ (o : Option (Result End SessionFault)). DevicesBy o stream stream) (sym runs) (refl, refl);
@@ -178,21 +178,21 @@ checks_after (Err fault) generator left calls words = tt
 ended_so : (terms : TermsState) (seed worker : ℕ) (stream : StreamRecord) (now : Standing) (outcome : Result End SessionFault) →
     now.session.outcome ≡ Some outcome →
     Stands terms worker (generator_of seed worker) (before_all now.desk.setting worker stream) stream now →
-    Ended outcome terms seed worker stream now.desk now.stream
+    Ended outcome now.short terms seed worker stream now.desk now.stream
 ended_so terms seed worker stream now outcome is stands =
     let source = source_of now.stream now.session.reads in
-    let ends : StandsBy (Some outcome) terms worker (before_all now.desk.setting worker stream) now.session source
-    (λ short. around now.desk worker now.told short now.stream) =
+    let unlacking = around now.desk worker now.told false now.stream in
+    let here = around now.desk worker now.told now.short now.stream in
+    let ends : StandsBy (Some outcome) terms worker (before_all now.desk.setting worker stream) now.session source unlacking here =
     subst (λ (o : Option (Result End SessionFault)). StandsBy o terms worker (before_all now.desk.setting worker stream) now.session source
-    (λ short. around now.desk worker now.told short now.stream)) is stands.stands in
+    unlacking here) is stands.stands in
     let conduct : ConductBy (Some outcome) (generator_of seed worker) [] (calls_in now.desk.history worker) now.generator =
     subst (λ (o : Option (Result End SessionFault)). ConductBy o (generator_of seed worker) [] (calls_in now.desk.history worker) now.generator)
     is stands.conduct in
     record {
       told = now.told;
-      short = ends.0;
       reads = now.session.reads;
-      ends = ends.1;
+      ends = ends;
       words = words_after outcome (generator_of seed worker) now.generator (calls_in now.desk.history worker) conduct;
       checks = checks_after outcome (generator_of seed worker) now.generator (calls_in now.desk.history worker) conduct;
       devices = subst (λ (o : Option (Result End SessionFault)). DevicesBy o stream now.stream) is stands.devices;
@@ -220,8 +220,9 @@ pub each_ended : {X : Type 0} (record_of : X → StreamRecord) (terms : TermsSta
     first.setting.torrent ≡ terms.layout → IsFresh (length streams) first → AreNew terms seed seats → MayPlay first seats streams →
     Played record_of first seats streams mid seats' streams' → (worker : ℕ) → length streams ≤ worker → LeavesOthers worker mid last →
     map Some ends ≡ map (λ seat. seat.session.outcome) seats' → EachEnded record_of terms seed streams last streams' ends
+    (map (λ seat. seat.short) seats')
 each_ended record_of terms seed first mid last seats seats' streams streams' ends layout fresh new may played worker above left told =
-    λ i. λ stream. λ end. λ within.
+    λ i. λ stream. λ end. λ lack. λ within.
     let within_seats : i < length seats = omega (arith, may.seated) in
     let within_seats' : i < length seats' = omega (arith, played.may.seated, played.count) in
     let any = first_of seats i within_seats in
@@ -230,10 +231,12 @@ each_ended record_of terms seed first mid last seats seats' streams streams' end
     let old = record_of (get_or streams i stream) in
     let now = record_of (get_or streams' i stream) in
     let kept = Keeps-join i (standing first (get_or seats i any) old) (standing mid seat now) (standing last seat now)
-    (played.keeps i any stream within) (others_stand worker i mid last seat.session seat.told now (answers_of seat.rng) left apart) in
+    (played.keeps i any stream within) (others_stand worker i mid last seat.session seat.told now seat.short (answers_of seat.rng) left apart) in
     let setting : first.setting ≡ last.setting = sym (left.setting ∙ played.rest.setting) in
     let layout' : last.setting.torrent ≡ terms.layout = sym (ap (λ (s : Setting). s.torrent) setting) ∙ layout in
     let start = begun_in terms seed i last.setting first (get_or seats i any) old layout' setting (fresh.uncalled i within)
     fresh.none_had (new i any within_seats) in
-    ended_so terms seed i old (standing last seat now) (get_or ends i end) (end_at ends seats' i end any told within_seats')
-    (kept.still terms (generator_of seed i) (before_all last.setting i old) old start)
+    let short : Seat → Bool = λ s. s.short in
+    subst (λ (lacked : Bool). Ended (get_or ends i end) lacked terms seed i old last now) (sym (get_or-map short seats' i any lack within_seats'))
+    (ended_so terms seed i old (standing last seat now) (get_or ends i end) (end_at ends seats' i end any told within_seats')
+    (kept.still terms (generator_of seed i) (before_all last.setting i old) old start))

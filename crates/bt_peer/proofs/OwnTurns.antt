@@ -62,7 +62,7 @@ record SoFar (terms : TermsState) (worker : ℕ) (begun : Words) (out : Surround
 -- what stands of a session at a desk, by how it ended
 abbrev StandsAs : Option (Result End SessionFault) → TermsState → ℕ → Surroundings → Standing → Type 0
 StandsAs outcome terms worker out now = StandsBy outcome terms worker out now.session (source_of now.stream now.session.reads)
-    (λ short. around now.desk worker now.told short now.stream)
+    (around now.desk worker now.told false now.stream) (around now.desk worker now.told now.short now.stream)
 
 abbrev ConductAs : Option (Result End SessionFault) → ℕ → Words → Surroundings → Standing → Type 0
 ConductAs outcome worker begun out now = ConductBy outcome begun out.past.calls (calls_in now.desk.history worker) now.generator
@@ -101,11 +101,11 @@ left_at lent worker short now =
     record { session = now.session; place = desk_record lent now.desk worker now.told short; stream = now.stream; generator = now.generator }
 
 -- a turn of its own
-turn_stands : (result : Result (Option End) SessionFault) (lent lent' : List GName) (worker : ℕ) (short : Bool) (old new : Standing) →
-    old.session.outcome ≡ None → Turned result (left_at lent worker false old) (left_at lent' worker short new) → Keeps worker old new
-turn_stands (Ok None) lent lent' worker short old new runs turned =
+turn_stands : (result : Result (Option End) SessionFault) (lent lent' : List GName) (worker : ℕ) (old new : Standing) →
+    old.session.outcome ≡ None → Turned result (left_at lent worker false old) (left_at lent' worker new.short new) → Keeps worker old new
+turn_stands (Ok None) lent lent' worker old new runs turned =
     let from = around old.desk worker old.told false old.stream in
-    let go = own_goes_on old.session (around_turn (left_at lent worker false old)) new.session (around_turn (left_at lent' worker short new))
+    let go = own_goes_on old.session (around_turn (left_at lent worker false old)) new.session (around_turn (left_at lent' worker new.short new))
     turned.goes_on in
     let to = subst (λ (s : Bool). GoesOn old.session from new.session (around new.desk worker new.told s new.stream)) go.turn.gains.short go in
     record {
@@ -115,26 +115,26 @@ turn_stands (Ok None) lent lent' worker short old new runs turned =
           (Conducts-join so.conduct turned.conduct) (turned.sound.0 ∙ so.failed, turned.sound.1 ∙ so.writer_failed)
           (λ none. turned.counted (stands.counted none)) turned.most;
     }
-turn_stands (Ok (Some end)) lent lent' worker short old new runs turned =
+turn_stands (Ok (Some end)) lent lent' worker old new runs turned =
     let ends = own_ends end old.session (around_turn (left_at lent worker false old)) new.stream.ended new.session
-    (around_turn (left_at lent' worker short new)) (turned.ends runs) in
+    (around_turn (left_at lent' worker new.short new)) (turned.ends runs) in
     record {
       still = λ terms. λ begun. λ out. λ first. λ stands.
           let so = so_far terms worker begun out first old runs stands in
           stands_as terms worker begun out first (Some (Ok end)) new ends.outcome
-          (short, running_ends end terms worker out old.session _ new.stream.ended new.session _ so.running (λ none. ends))
+          (running_ends end terms worker out old.session _ new.stream.ended new.session _ so.running (λ none. ends))
           (Conducts-join so.conduct turned.conduct) (ends.leave.hears.ended, turned.sound.0 ∙ so.failed, turned.sound.1 ∙ so.writer_failed)
           (λ none. turned.counted (stands.counted none)) turned.most;
     }
-turn_stands (Err fault) lent lent' worker short old new runs turned =
+turn_stands (Err fault) lent lent' worker old new runs turned =
     let source = source_of new.stream new.session.reads in
     let fails = own_fails fault old.session (around_turn (left_at lent worker false old)) source new.session
-    (around_turn (left_at lent' worker short new)) (turned.fails runs) in
+    (around_turn (left_at lent' worker new.short new)) (turned.fails runs) in
     record {
       still = λ terms. λ begun. λ out. λ first. λ stands.
           let so = so_far terms worker begun out first old runs stands in
           stands_as terms worker begun out first (Some (Err fault)) new fails.outcome
-          (short, running_fails fault terms worker out old.session _ source new.session _ so.running (λ none. fails))
+          (running_fails fault terms worker out old.session _ source new.session _ so.running (λ none. fails))
           (DrawsWords-join so.conduct turned.words) (devices_of fault first new.stream (turned.failed runs))
           (λ none. turned.counted (stands.counted none)) turned.most;
     }
@@ -146,22 +146,22 @@ pub record TookTurn (lent lent' : List GName) (worker : ℕ) (old new : Standing
   pub others : LeavesOthers worker old.desk new.desk
 
 -- a turn at a place that was made for it
-pub turn_at_desk : (result : Result (Option End) SessionFault) (lent lent' : List GName) (worker worker' : ℕ) (short : Bool) (old new : Standing)
+pub turn_at_desk : (result : Result (Option End) SessionFault) (lent lent' : List GName) (worker worker' : ℕ) (old new : Standing)
     (place : PlaceRecord) →
     place ≡ desk_record lent old.desk worker old.told false → old.session.outcome ≡ None →
-    Turned result (record (left_at lent worker false old) { place = place }) (left_at lent' worker' short new) →
+    Turned result (record (left_at lent worker false old) { place = place }) (left_at lent' worker' new.short new) →
     TookTurn lent lent' worker old new
-turn_at_desk result lent lent' worker worker' short old new place is runs turned =
+turn_at_desk result lent lent' worker worker' old new place is runs turned =
     let first = left_at lent worker false old in
-    let fresh : Turned result first (left_at lent' worker' short new) =
-    subst (λ (p : PlaceRecord). Turned result (record first { place = p }) (left_at lent' worker' short new)) is turned in
-    let gained : (acts : List Act) × GainsUpTo first.place acts (desk_record lent' new.desk worker' new.told short) =
-    turn_gains result first (left_at lent' worker' short new) runs fresh in
-    let own = subst (λ (w : ℕ). Turned result first (left_at lent' w short new)) gained.1.worker fresh in
+    let fresh : Turned result first (left_at lent' worker' new.short new) =
+    subst (λ (p : PlaceRecord). Turned result (record first { place = p }) (left_at lent' worker' new.short new)) is turned in
+    let gained : (acts : List Act) × GainsUpTo first.place acts (desk_record lent' new.desk worker' new.told new.short) =
+    turn_gains result first (left_at lent' worker' new.short new) runs fresh in
+    let own = subst (λ (w : ℕ). Turned result first (left_at lent' w new.short new)) gained.1.worker fresh in
     record {
       same_lent = gained.1.lent;
-      keeps = turn_stands result lent lent' worker short old new runs own;
-      others = others_left lent lent' old.desk new.desk worker worker' old.told new.told false short gained.0 gained.1;
+      keeps = turn_stands result lent lent' worker old new runs own;
+      others = others_left lent lent' old.desk new.desk worker worker' old.told new.told false new.short gained.0 gained.1;
     }
 
 pub at_same_desk : (worker : ℕ) (old new : Standing) (desk : DeskState) → desk ≡ new.desk → Keeps worker old new →

@@ -132,20 +132,20 @@ ends_later (Err fault) terms worker out source old new later cut = record {
 }
 
 pub stands_later : (outcome : Option (Result End SessionFault)) (terms : TermsState) (worker : ℕ) (out : Surroundings) (now : SessionState)
-    (source : SourceState) (old new : Bool → Surroundings) → ((short : Bool) → HasIdled (old short) (new short)) →
-    StandsBy outcome terms worker out now source old → StandsBy outcome terms worker out now source new
-stands_later None terms worker out now source old new later stands =
+    (source : SourceState) (short : Bool) (old new : Bool → Surroundings) → ((short : Bool) → HasIdled (old short) (new short)) →
+    StandsBy outcome terms worker out now source (old false) (old short) → StandsBy outcome terms worker out now source (new false) (new short)
+stands_later None terms worker out now source short old new later stands =
     running_later terms worker out now (old false) (new false) (later false) stands
-stands_later (Some outcome) terms worker out now source old new later stands =
-    (stands.0, ends_later outcome terms worker out source (old stands.0) (new stands.0) (later stands.0) stands.1)
+stands_later (Some outcome) terms worker out now source short old new later stands =
+    ends_later outcome terms worker out source (old short) (new short) (later short) stands
 
 -- while another worker takes a turn
 pub others_stand : (worker other : ℕ) (old new : DeskState) (session : SessionState) (told : List Bool) (stream : StreamRecord)
-    (generator : Words) →
+    (short : Bool) (generator : Words) →
     LeavesOthers worker old new → other ≢ worker →
-    Keeps other (record { desk = old; session = session; told = told; stream = stream; generator = generator })
-    (record { desk = new; session = session; told = told; stream = stream; generator = generator })
-others_stand worker other old new session told stream generator left apart =
+    Keeps other (record { desk = old; session = session; told = told; stream = stream; short = short; generator = generator })
+    (record { desk = new; session = session; told = told; stream = stream; short = short; generator = generator })
+others_stand worker other old new session told stream short generator left apart =
     let later : (short : Bool) → HasIdled (around old other told short stream) (around new other told short stream) =
     λ short. record {
       left = refl;
@@ -166,7 +166,8 @@ others_stand worker other old new session told stream generator left apart =
     } in
     record {
       still = λ terms. λ begun. λ out. λ first. λ stands. record {
-        stands = stands_later session.outcome terms other out session (source_of stream session.reads) _ _ later stands.stands;
+        stands = stands_later session.outcome terms other out session (source_of stream session.reads) short
+            (λ short. around old other told short stream) (λ short. around new other told short stream) later stands.stands;
         conduct = subst (λ (calls : Calls). ConductBy session.outcome begun out.past.calls calls generator) (sym (left.calls other apart))
             stands.conduct;
         devices = stands.devices;

@@ -1,6 +1,7 @@
 -- Several streams' sessions at one desk: what each of them sees there, and how it ended.
 use Rattle.std.specs.Prelude.{◌≡◌, ◌≤◌, ◌<◌, ℕ, Bool, true, false, List, [], ◌∷◌, ◌&&◌, nat_lt, length, replicate, slice_index_or, Option, Some}
-use Rattle.std.specs.Prelude.{None, Result, Ok, Err}
+use Rattle.std.specs.Prelude.{None, Result, Ok, Err, ◌||◌}
+use Rattle.std.specs.List.{list_any}
 use Rattle.bt_meta.specs.declared.devices.Sink as sinks
 use Rattle.bt_meta.specs.declared.devices.Source as sources
 use Rattle.bt_meta.specs.Layout.{piece_count}
@@ -102,13 +103,12 @@ abbrev pub ChecksAfter : Result End SessionFault → Calls → Type 0
 ChecksAfter (Ok end) calls = all_checked calls ≡ true
 ChecksAfter (Err fault) calls = Unit {0}
 
--- A stream's session ended so: from the empty desk, and the stream as it was handed in, to this desk, and the stream as it was given back.
-pub record Ended (outcome : Result End SessionFault) (terms : TermsState) (seed worker : ℕ)
+-- A stream's session ended so, and a call of it found no memory or none did: from the empty desk, and the stream as it was handed in, to
+-- this desk, and the stream as it was given back.
+pub record Ended (outcome : Result End SessionFault) (short : Bool) (terms : TermsState) (seed worker : ℕ)
     (old : StreamRecord) (desk : DeskState) (new : StreamRecord) : Type 0 where
   -- the pieces that were told to the peer
   pub told : List Bool
-  -- whether a call found no memory; only `ends` needs it, where the session was cut short
-  pub short : Bool
   -- the reads that the session counted
   pub reads : ℕ
   pub ends : EndsAs outcome terms worker (before_all desk.setting worker old) (source_of new reads) (around desk worker told short new)
@@ -120,10 +120,14 @@ pub record Ended (outcome : Result End SessionFault) (terms : TermsState) (seed 
   pub counted : old.reads ≡ 0 → new.reads ≡ reads
   pub most : reads ≤ most_reads
 
--- the sessions of the streams, as they were handed in and as they were given back, ended so, in order
-abbrev pub EachEnded : {X : Type 0} → (X → StreamRecord) → TermsState → ℕ → List X → DeskState → List X → List (Result End SessionFault) → Type 0
-EachEnded {X} record_of terms seed streams desk streams' ends = (i : ℕ) (stream : X) (end : Result End SessionFault) → i < length streams →
-    Ended (slice_index_or ends i end) terms seed i (record_of (slice_index_or streams i stream)) desk (record_of (slice_index_or streams' i stream))
+-- the sessions of the streams, as they were handed in and as they were given back, ended so, in order; `lacks` has for each whether a call
+-- of it found no memory
+abbrev pub EachEnded : {X : Type 0} → (X → StreamRecord) → TermsState → ℕ → List X → DeskState → List X →
+    List (Result End SessionFault) → List Bool → Type 0
+EachEnded {X} record_of terms seed streams desk streams' ends lacks =
+    (i : ℕ) (stream : X) (end : Result End SessionFault) (lack : Bool) → i < length streams →
+    Ended (slice_index_or ends i end) (slice_index_or lacks i lack) terms seed i
+    (record_of (slice_index_or streams i stream)) desk (record_of (slice_index_or streams' i stream))
 
 -- the calls that the last worker makes before the first round: which pieces are wanted, if that is told
 abbrev pub opening_of : Option (List Bool) → Calls
@@ -139,3 +143,16 @@ pub record Finishes (worker : ℕ) (opening : Calls) (short : Bool) (desk : Desk
   pub finished : FinishedBelow before worker count desk
   pub all : short ≡ false → count ≡ piece_count desk.setting.torrent
   pub still : short ≡ true → waits desk.setting desk.history count ≡ true
+
+-- What several sessions in one thread came to. Each session ended so; one more worker told what is wanted and made the last checks; and the
+-- run is short just where memory lacked for these, or for a call of a session: its Leave after a fault, or one that the fault tells of.
+pub record RanInTurns {X : Type 0} (record_of : X → StreamRecord) (terms : TermsState) (seed : ℕ) (want : Option (List Bool))
+    (streams : List X) (short : Bool) (desk : DeskState) (streams' : List X) (ends : List (Result End SessionFault)) : Type 0 where
+  -- for each session, whether a call of it found no memory
+  pub lacks : List Bool
+  -- whether the last checks were given up
+  pub unfinished : Bool
+  pub count : length lacks ≡ length streams
+  pub sessions : EachEnded record_of terms seed streams desk streams' ends lacks
+  pub finishes : Finishes (length streams) (opening_of want) unfinished desk
+  pub short_is : short ≡ (unfinished || list_any (λ lacked. lacked) lacks)

@@ -24,19 +24,21 @@ pub record Standing : Type 0 where
   pub session : SessionState
   pub told : List Bool
   pub stream : StreamRecord
+  -- a call of its last turn found no memory
+  pub short : Bool
   -- all that its generator will answer
   pub generator : Words
 
 -- desk, seat and stream together
 abbrev pub standing : DeskState → Seat → StreamRecord → Standing
 standing desk seat stream =
-    record { desk = desk; session = seat.session; told = seat.told; stream = stream; generator = answers_of seat.rng }
+    record { desk = desk; session = seat.session; told = seat.told; stream = stream; short = seat.short; generator = answers_of seat.rng }
 
--- the session runs, or it ended so
-abbrev pub StandsBy : Option (Result End SessionFault) → TermsState → ℕ → Surroundings → SessionState → SourceState → (Bool → Surroundings) → Type 0
-StandsBy None terms worker out session source here = Running terms worker out session (here false)
-StandsBy (Some outcome) terms worker out session source here =
-    (short : Bool) × EndsAs outcome terms worker out source (here short)
+-- the session runs, in surroundings that lacked no memory, or it ended so in these
+abbrev pub StandsBy : Option (Result End SessionFault) → TermsState → ℕ → Surroundings → SessionState → SourceState →
+    Surroundings → Surroundings → Type 0
+StandsBy None terms worker out session source unlacking here = Running terms worker out session unlacking
+StandsBy (Some outcome) terms worker out session source unlacking here = EndsAs outcome terms worker out source here
 
 -- what the devices say of a session that runs, or that ended so
 abbrev pub DevicesBy : Option (Result End SessionFault) → StreamRecord → StreamRecord → Type 0
@@ -52,7 +54,7 @@ ConductBy (Some (Err fault)) generator old new left = DrawsWords generator old n
 -- a session that began in these surroundings, with that generator and that stream, stands so
 pub record Stands (terms : TermsState) (worker : ℕ) (generator : Words) (out : Surroundings) (first : StreamRecord) (now : Standing) : Type 0 where
   pub stands : StandsBy now.session.outcome terms worker out now.session (source_of now.stream now.session.reads)
-      (λ short. around now.desk worker now.told short now.stream)
+      (around now.desk worker now.told false now.stream) (around now.desk worker now.told now.short now.stream)
   pub conduct : ConductBy now.session.outcome generator out.past.calls (calls_in now.desk.history worker) now.generator
   pub devices : DevicesBy now.session.outcome first now.stream
   pub counted : first.reads ≡ 0 → now.stream.reads ≡ now.session.reads

@@ -156,7 +156,7 @@ BreaksBy (faults.Refused reason) old source acts =
     BreaksTurn old source (faults.Refused reason) acts ⊎ BreaksLeave old source reason acts
 -- a write failed, in the greeting or in a message's turn
 BreaksBy faults.WriteFault old source acts =
-    BreaksTurn old source faults.WriteFault acts ⊎ ((old.joined ≡ false) × (acts ≡ []))
+    BreaksTurn old source faults.WriteFault acts ⊎ ((old.joined ≡ false) × (acts ≡ []) × (source.left ≡ old.left))
 -- memory ran out, before or after a message was there
 BreaksBy faults.NoMemory old source acts = BreaksTurn old source faults.NoMemory acts ⊎ (acts ≡ [])
 

@@ -43,6 +43,13 @@ impl<'a> DeskPlace<'a> {
             short: false,
         }
     }
+
+    /// Whether a call has found no memory.
+    pub fn fell_short(&self) -> bool
+        ensures { result ≡ (⟦<DeskPlace<'a> as Place>⟧.past self.now).short }
+    {
+        self.short
+    }
 }
 
 impl<'a> Place for DeskPlace<'a> {

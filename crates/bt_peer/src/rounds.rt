@@ -1,14 +1,14 @@
 //! Several recorded peers at one desk, in one thread.
 
-ghost use Rattle.std.specs.Prelude.{◌≡◌, ◌≤◌, ◌<◌, ◌+◌, [], ℕ, length, map, Some, true, false, sum_by, All, IfOk, IfSome, OnErr, OnOk, vec_capacity};
-ghost use Rattle.std.specs.List.{HoldsAt};
+ghost use Rattle.std.specs.Prelude.{◌≡◌, ◌≤◌, ◌<◌, ◌+◌, [], ℕ, length, map, Some, true, false, sum_by, All, Bool, List, Option, IfOk, IfSome, OnErr, OnOk, vec_capacity};
+ghost use Rattle.std.specs.List.{HoldsAt, list_any};
 ghost use Rattle.bt_history.specs.Peers.{flag};
 ghost use Rattle.bt_history.specs.Pieces.{chosen};
 ghost use Rattle.bt_history.specs.Setting.{AreRules, setting_of};
 ghost use Rattle.bt_meta.specs.Layout.{piece_count};
 ghost use Rattle.bt_picker.specs.Checks.{waits};
 ghost use Rattle.bt_peer.specs.Desks.{calls_in};
-ghost use Rattle.bt_peer.specs.Serial.{EachEnded, Finishes, opening_of, stream_of, stream_record};
+ghost use Rattle.bt_peer.specs.Serial.{Finishes, RanInTurns, opening_of, stream_of, stream_record};
 ghost use Rattle.bt_peer.specs.Standing.{AreNew, HasEnded, HasOpened, IsFresh, IsNew, LeavesOthers, MayPlay, Played, left_of};
 ghost use Rattle.bt_peer.specs.Terms.{TermsState, terms_of};
 
@@ -39,6 +39,7 @@ fn new_seat(
         session: Session::new(alloc, torrent.clone()?, worker, depth),
         told,
         rng: Lcg64Xsh32::new(seed, u64::from(worker)),
+        short: false,
     })
 }
 
@@ -142,7 +143,14 @@ fn last_checks(alloc: Global, desk: &mut Desk, worker: u32) -> bool
     desk.finish(alloc, worker).is_err()
 }
 
-/// Rounds until all sessions have ended, how each ended, and the last checks. Answers whether these were given up for want of memory.
+/// Whether a call of some session found no memory.
+fn fell_short(seats: &[Seat]) -> bool
+    ensures { result ≡ list_any (λ lacked. lacked) (map (λ seat. seat.short) seats.now) }
+{
+    seats.iter().map(|seat| seat.short).any(|lacked| lacked)
+}
+
+/// Rounds until all sessions have ended, how each ended, and the last checks. Answers whether memory lacked for these or for a session's call.
 fn play_out<R: Source, W: Sink>(
     alloc: Global,
     desk: &mut Desk,
@@ -156,15 +164,16 @@ fn play_out<R: Source, W: Sink>(
     requires room { length streams.old ≤ vec_capacity ends.old }
     ensures setting { desk.new.setting ≡ desk.old.setting }
     ensures count { length ends.new.items ≡ length streams.old }
-    ensures sessions { (terms : TermsState) (seed : ℕ) → desk.old.setting.torrent ≡ terms.layout → AreNew terms seed seats.old →
-        EachEnded (stream_record R.left R.ended R.failed R.reads W.written W.failed)
-        terms seed streams.old desk.new streams.new ends.new.items }
-    ensures finishes { Finishes (length streams.old) (calls_in desk.old.history (length streams.old)) result desk.new }
+    ensures ran { (terms : TermsState) (seed : ℕ) (want : Option (List Bool)) → desk.old.setting.torrent ≡ terms.layout →
+        AreNew terms seed seats.old → calls_in desk.old.history (length streams.old) ≡ opening_of want →
+        RanInTurns (stream_record R.left R.ended R.failed R.reads W.written W.failed)
+        terms seed want streams.old result desk.new streams.new ends.new.items }
     ensures none_waits { result ≡ false → (piece : ℕ) → waits desk.new.setting desk.new.history piece ≡ false }
 {
     play(alloc, desk, seats, streams);
     tell_ends(seats, ends);
-    last_checks(alloc, desk, streams.len() as u32)
+    let unfinished = last_checks(alloc, desk, streams.len() as u32);
+    unfinished | fell_short(seats)
 }
 
 /// Tells at a new desk, as its first call, which pieces are wanted.
@@ -223,12 +232,10 @@ pub fn serial<R: Source, W: Sink>(
     requires want { IfSome want (λ flags. length flags ≡ piece_count torrent.value.layout) }
     ensures setting { IfOk result (λ run. run.desk.setting ≡ setting_of torrent.value.layout (length streams.old + 1) rules) }
     ensures ends { IfOk result (λ run. length run.ends.items ≡ length streams.old) }
-    // Each session ended as its stream says; what it saw of the desk is what the desk's journal has of its worker, and the words of its
-    // Next calls are those of the generator of the seed and its number.
-    ensures sessions { IfOk result (λ run. EachEnded (stream_record R.left R.ended R.failed R.reads W.written W.failed)
-        (terms_of torrent.value rules.depth) seed streams.old run.desk streams.new run.ends.items) }
-    // The last worker told what is wanted, if that was given, before the first round, and did nothing else but the last checks.
-    ensures finishes { IfOk result (λ run. Finishes (length streams.old) (opening_of want) run.short run.desk) }
+    // Each session ended as its stream says, after a fault with Leave; the last worker told what is wanted, if that was given, before the
+    // first round, and did nothing else but the last checks; and the run is short just where memory lacked for one of these calls.
+    ensures ran { IfOk result (λ run. RanInTurns (stream_record R.left R.ended R.failed R.reads W.written W.failed)
+        (terms_of torrent.value rules.depth) seed want streams.old run.short run.desk streams.new run.ends.items) }
     ensures none_waits { IfOk result (λ run. run.short ≡ false → (piece : ℕ) →
         waits run.desk.setting run.desk.history piece ≡ false) }
     ensures err { OnErr result (streams.new ≡ streams.old) }

@@ -21,6 +21,8 @@ pub struct Seat {
     pub told: Bitfield,
     /// It gives the words of Next.
     pub rng: Lcg64Xsh32,
+    /// A call of its last turn found no memory; no turn follows such a one.
+    pub short: bool,
 }
 
 /// A turn of a stream's session, at the desk of the run. The session itself keeps how it ended.
@@ -49,4 +51,5 @@ pub fn take_turn<R: Source, W: Sink>(
         &mut place,
         &mut seat.rng,
     );
+    seat.short = place.fell_short();
 }

@@ -20,6 +20,7 @@ pub struct SerialRun {
     pub ends: Vec<Result<End, SessionFault>>,
     /// The desk of the run. Worker `i` spoke for stream `i`, and one more worker made the last checks.
     pub desk: Desk,
-    /// The last checks were given up for want of memory.
+    /// The last checks were given up for want of memory, or a call of a session found none. A peer whose Leave found none is still joined
+    /// at the desk.
     pub short: bool,
 }

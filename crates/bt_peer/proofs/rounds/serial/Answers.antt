@@ -13,8 +13,8 @@ play_out-short-requires-clause-may g c =
     c.in_ok-seats.seats.items c.args.streams.now layout (omega (arith, workers)) (omega arith) (omega (arith, c.in_ok-seats.ensures.count))
     c.in_ok-seats.ensures.new)
 
-pub returns-clause-sessions : goal.returns-clause-sessions
-returns-clause-sessions g c =
+pub returns-clause-ran : goal.returns-clause-ran
+returns-clause-ran g c =
     let layout = ap (λ (s : Setting). s.torrent) c.in_ok-desk.ensures.setting in
-    c.play_out-short.ensures.sessions (terms_of c.args.torrent.value c.args.rules.depth) c.args.seed layout
-    (rw c.deref_mut.ensures.value c.in_ok-seats.ensures.new)
+    c.play_out-short.ensures.ran (terms_of c.args.torrent.value c.args.rules.depth) c.args.seed c.args.want layout
+    (rw c.deref_mut.ensures.value c.in_ok-seats.ensures.new) c.in_ok-desk.ensures.opened

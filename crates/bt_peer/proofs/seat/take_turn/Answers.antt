@@ -11,13 +11,13 @@ returns g c =
     let place = c.turn.new.place in
     let stream = stream_of g.R.Source g.W.Sink in
     let old = standing c.args.desk.now c.args.seat.now (stream c.args.stream.now) in
-    let new = standing place.desk.now (record { session = c.turn.new.self; told = place.told.now; rng = c.turn.new.rng })
+    let new = standing place.desk.now (record { session = c.turn.new.self; told = place.told.now; rng = c.turn.new.rng; short = place.short })
     (stream (record { reader = c.turn.new.reader; writer = c.turn.new.writer })) in
-    let took = turn_at_desk c.turn.result _ (place.desk.ghost_name ∷ (place.told.ghost_name ∷ [])) c.args.worker place.worker place.short old new _
+    let took = turn_at_desk c.turn.result _ (place.desk.ghost_name ∷ (place.told.ghost_name ∷ [])) c.args.worker place.worker old new _
     c.new-place.ensures c.requires.runs (search rules) in
     let name = first_name _ _ _ _ (sym took.same_lent) in
     record {
-      keeps = at_same_desk c.args.worker old new _ (search rules) took.keeps;
+      keeps = rw c.fell_short-seat.ensures (at_same_desk c.args.worker old new _ (search rules) took.keeps);
       others = others_left_at _ _ _ _ (search rules) took.others;
       told = search rules;
       shrinks = grind (arith, common_steps);

@@ -10,7 +10,7 @@ returns-in_err-write-clause-err g c =
     let p = err_from_is_err_and c.from_residual.result c.from_residual.ensures.1 in
     let old = start c.args.terms.now false c.args.heard.now.inbound (g.R.Source.left c.args.reader.now) in
     rw (p.1, p.2) (greeting_fails _ c.args.greeting.now c.args.said.now.interested old _ _ _ _ refl c.in_err-write.ensures.cause
-    c.in_err-write.ensures.err.wrote)
+    c.in_err-write.ensures.err.wrote refl)
 
 pub returns-in_err-message-clause-err : goal.returns-in_err-message-clause-err
 returns-in_err-message-clause-err g c =
