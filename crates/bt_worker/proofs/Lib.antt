@@ -1,5 +1,6 @@
 pub mod Checking
 pub mod Noted
+pub mod Passing
 pub mod Rising
 pub mod Seats
 pub mod Told

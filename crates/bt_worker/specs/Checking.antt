@@ -1,12 +1,15 @@
 -- The tickets of a run in threads, and the workers that check pieces: what each of them calls at the shared desk.
-use Rattle.std.specs.Prelude.{◌≡◌, ◌⊎◌, ℕ, Bool, true, false, List, [], ◌∷◌}
+use Rattle.std.specs.Prelude.{◌≡◌, ◌≢◌, ◌⊎◌, ℕ, Bool, true, false, List, [], ◌∷◌}
 use Rattle.bt_check.specs.declared.ticket.Ticket.{Ticket}
 use Rattle.bt_check.specs.declared.ticket.Ticket.TheVariants.{Piece, Stop}
 use Rattle.bt_check.specs.Queues.{with_put, with_taken}
 use Rattle.bt_history.specs.declared.call.Reply.{Reply}
+use Rattle.bt_history.specs.declared.call.Reply.TheVariants.{Had}
 use Rattle.bt_history.specs.declared.mark.CallMark.TheVariants.{Settle}
 use Rattle.bt_history.specs.declared.mark.Mark.{Mark}
-use Rattle.bt_worker.specs.Workers.{WorkerState, with_tickets}
+use Rattle.bt_history.specs.Setting.{Setting}
+use Rattle.bt_picker.specs.Checks.{waits}
+use Rattle.bt_worker.specs.Workers.{WorkerState, knows, with_tickets}
 use Rattle.bt_shared.specs.Passes.{PassState, Notes}
 
 -- ---- tickets
@@ -30,6 +33,28 @@ TakesNone old new = (new ≡ with_tickets old (with_taken old.tickets Stop)) ⊎
 pub record IsQuiet (old new : PassState) : Type 0 where
   pub worker : new.worker ≡ old.worker
   pub log : new.log ≡ old.log
+
+-- What came of a check that was made: its reply is noted, and a piece that is had then is one that the worker's seat knows to be finished. After
+-- another reply the seat is as it was.
+pub record MakesCheck (setting : Setting) (old : WorkerState) (piece : ℕ) (new : WorkerState) : Type 0 where
+  pub reply : Reply
+  pub notes : Notes old.pass (Settle piece) reply new.pass
+  pub marks : reply ≡ Had → knows setting new.seat piece ≡ true
+  pub unmarked : reply ≢ Had → new.seat ≡ old.seat
+
+-- nothing was noted, and the seat is as it was
+pub record IsIdle (old new : WorkerState) : Type 0 where
+  pub quiet : IsQuiet old.pass new.pass
+  pub seat : new.seat ≡ old.seat
+
+-- no check was due: in what the pass has then seen the piece doesn't wait for one
+pub record NeedsNone (setting : Setting) (old : WorkerState) (piece : ℕ) (new : WorkerState) : Type 0 where
+  pub idle : IsIdle old new
+  pub undue : waits setting new.pass.seen piece ≡ false
+
+-- the worker saw to the piece: it made the check, or none was due
+abbrev pub SeesTo : Setting → WorkerState → ℕ → WorkerState → Type 0
+SeesTo setting old piece new = MakesCheck setting old piece new ⊎ NeedsNone setting old piece new
 
 -- a worker's pass after it saw to a piece: the mark of a check of this piece, or nothing
 abbrev pub MayCheck : PassState → ℕ → PassState → Type 0

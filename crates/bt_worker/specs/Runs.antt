@@ -1,5 +1,5 @@
 -- Several streams' sessions in threads of their own: what each of them sees at the shared desk, how it ended, and the last checks.
-use Rattle.std.specs.Prelude.{◌≡◌, ◌≤◌, ◌+◌, ℕ, Bool, true, false, List, [], ◌∷◌, Result}
+use Rattle.std.specs.Prelude.{◌≡◌, ◌⊎◌, ◌≤◌, ◌+◌, ℕ, Bool, true, false, List, [], ◌∷◌, Result}
 use Rattle.bt_history.specs.declared.mark.CallMark.TheVariants as marks
 use Rattle.bt_history.specs.declared.mark.Mark.{Mark}
 use Rattle.bt_history.specs.Setting.{Setting}
@@ -33,14 +33,15 @@ IsRunFault _ = Unit {0}
 
 -- ---- sessions
 
--- A session ran at a worker's place, with the words of the generator of its number, made of the seed.
+-- A session ran at a worker's place, with the words of the generator of its number, made of the seed. It is short if a call found no memory.
 pub record Plays (outcome : Result End SessionFault) (terms : TermsState) (setting : Setting) (seed : ℕ)
-    (worker : WorkerState) (old : StreamRecord) (worker' : WorkerState) (new : StreamRecord) : Type 0 where
+    (worker : WorkerState) (old : StreamRecord) (worker' : WorkerState) (new : StreamRecord) (short : Bool) : Type 0 where
   -- a call found no memory
-  pub short : Bool
+  pub lacked : Bool
+  pub noted : lacked ≡ true → short ≡ true
   pub number : worker'.pass.worker ≡ worker.pass.worker
   pub runs : RunsTo outcome terms worker.pass.worker (generator_of seed worker.pass.worker)
-      (worker_record setting worker false) old (worker_record setting worker' short) new
+      (worker_record setting worker false) old (worker_record setting worker' lacked) new
 
 -- ---- the last checks
 
@@ -58,6 +59,11 @@ pub record ChecksLast (old new : PassState) (pieces : ℕ) : Type 0 where
 pub record TellsWaiting (short : Bool) (desk : DeskState) : Type 0 where
   pub none : short ≡ false → (piece : ℕ) → waits desk.setting desk.history piece ≡ false
   pub still : short ≡ true → (piece : ℕ) × (waits desk.setting desk.history piece ≡ true)
+
+-- a run is short only where something was given up, or a piece still waits for a check
+abbrev pub IsShortFor : Bool → Bool → DeskState → Type 0
+IsShortFor short given_up desk =
+    short ≡ true → (given_up ≡ true) ⊎ ((piece : ℕ) × (waits desk.setting desk.history piece ≡ true))
 
 -- a run that isn't short leaves no piece that waits for a check
 abbrev pub LeavesNone : Bool → DeskState → Type 0

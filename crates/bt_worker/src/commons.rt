@@ -1,7 +1,7 @@
 //! What the threads of a run share, and what each of them has of its own.
 
 ghost use Rattle.std.specs.Prelude.{◌≡◌, ◌≤◌, ℕ, [], Some, true, map, length, vec_capacity, vec_len, slice_index_or, IsTrue, IfOk, IfErr};
-ghost use Rattle.std.specs.Prelude.{IfSome, IfNone, OnErr};
+ghost use Rattle.std.specs.Prelude.{IfSome, IfNone, OnErr, OnOk};
 ghost use Rattle.std.specs.List.{All};
 ghost use Rattle.bt_board.specs.Story.{Seen};
 ghost use Rattle.bt_history.specs.Entries.{action_of, event};
@@ -9,7 +9,7 @@ ghost use Rattle.bt_history.specs.Legal.{IsLegal};
 ghost use Rattle.bt_history.specs.Logs.{answers, call_mark};
 ghost use Rattle.bt_history.specs.Pieces.{had};
 ghost use Rattle.bt_meta.specs.Layout.{piece_count};
-ghost use Rattle.bt_worker.specs.Checking.{IsQuiet, MayCheck, PutsIf, TakesNone, TakesPiece};
+ghost use Rattle.bt_worker.specs.Checking.{IsIdle, IsQuiet, MakesCheck, MayCheck, PutsIf, SeesTo, TakesNone, TakesPiece};
 ghost use Rattle.bt_worker.specs.Runs.{IsRunFault};
 ghost use Rattle.bt_worker.specs.Workers.{AreNamed, Belongs, Shares, StandInOrder, Takes, TellsNone, TellsOne, WorkerState, knows};
 ghost use Rattle.bt_shared.specs.Gathering.{EachAgrees, EachFrom};
@@ -163,6 +163,7 @@ impl<L: RunName> Commons<L> {
     ) -> Result<Reply, AllocError>
         ensures ok { IfOk result (λ reply. Enters (event worker.old.pass.worker call reply) worker.old.pass worker.new.pass) }
         ensures notes { IfOk result (λ reply. Notes worker.old.pass (call_mark (action_of call)) reply worker.new.pass) }
+        ensures legal { IsLegal L.setting worker.new.pass.seen }
         ensures fits { IfOk result (λ reply. IsTrue (answers (call_mark (action_of call)) reply)) }
         ensures rest { (worker.new.seat ≡ worker.old.seat) × (worker.new.tickets ≡ worker.old.tickets) }
         ensures err { OnErr result (IsQuiet worker.old.pass worker.new.pass) }
@@ -198,7 +199,7 @@ impl<L: RunName> Commons<L> {
     }
 
     /// Hashes the piece, if it waits for a check, while others have the desk, settles what came out, and marks a piece that is had then. The
-    /// piece may have got other bytes meanwhile, or have been checked: then the desk refuses the verdict.
+    /// piece may have got other bytes meanwhile, or have been checked: then the desk refuses the verdict. Without memory the check is given up.
     pub fn check<T: Wait>(
         &self,
         rt: &T,
@@ -206,7 +207,9 @@ impl<L: RunName> Commons<L> {
         worker: &mut Worker<L>,
         piece: u32,
     ) -> Result<(), AllocError>
-        ensures { MayCheck worker.old.pass piece worker.new.pass }
+        ensures may { MayCheck worker.old.pass piece worker.new.pass }
+        ensures ok { OnOk result (SeesTo L.setting worker.old piece worker.new) }
+        ensures err { OnErr result (IsIdle worker.old worker.new) }
     {
         match self.desk.job(rt, alloc, &mut worker.pass, piece)? {
             Some(job) => self.settle(rt, worker, Arc::new(alloc, job.hash())?),
@@ -221,11 +224,14 @@ impl<L: RunName> Commons<L> {
         worker: &mut Worker<L>,
         verdict: Arc<Verdict>,
     ) -> Result<(), AllocError>
-        ensures { MayCheck worker.old.pass verdict.value.piece worker.new.pass }
+        ensures ok { OnOk result (MakesCheck L.setting worker.old verdict.value.piece worker.new) }
+        ensures err { OnErr result (IsIdle worker.old worker.new) }
     {
         let proven = Proven::of(verdict.clone()?, &self.torrent);
         let reply = self.call(rt, worker, Call::Settle(verdict))?;
-        if let (Reply::Had, Ok(proven)) = (reply, proven) {
+        if let Reply::Had = reply {
+            // A piece is had by bytes with its hash alone.
+            let Ok(proven) = proven else { unreachable!() };
             self.board.mark(&mut worker.seat, proven);
         }
         Ok(())

@@ -56,6 +56,13 @@ impl<'a, L: RunName, T: Wait> PassPlace<'a, L, T> {
         self.given_up
     }
 
+    /// Whether a call has found no memory.
+    pub fn fell_short(&self) -> bool
+        ensures { result ≡ self.now.short }
+    {
+        self.short
+    }
+
     /// The worker, with the marks of all calls made here and the news told.
     pub fn into_worker(self) -> Worker<L>
         ensures { result ≡ self.entry.worker }

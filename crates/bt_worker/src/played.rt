@@ -22,7 +22,7 @@ pub struct Played<L: RunName, R, W> {
     pub end: Result<End, SessionFault>,
     pub worker: Worker<L>,
     pub stream: Stream<R, W>,
-    /// A ticket came back, and its piece was left to the last checks.
+    /// A ticket came back, and its piece was left to the last checks; or a call found no memory, the Leave after a fault perhaps.
     pub short: bool,
 }
 
@@ -41,7 +41,7 @@ pub fn play<L: RunName, R: Source, W: Sink, T: Wait, G: Gate>(
     requires { (1 ≤ depth) × (depth ≤ MOST_DEPTH) }
     ensures { Plays result.end (terms_of torrent.value depth) L.setting seed
         worker (stream_record R.left R.ended R.failed R.reads W.written W.failed stream)
-        result.worker (stream_record R.left R.ended R.failed R.reads W.written W.failed result.stream) }
+        result.worker (stream_record R.left R.ended R.failed R.reads W.written W.failed result.stream) result.short }
 {
     let number = worker.number();
     let mut rng = Lcg64Xsh32::new(seed, u64::from(number));
@@ -58,7 +58,7 @@ pub fn play<L: RunName, R: Source, W: Sink, T: Wait, G: Gate>(
         depth,
         gate,
     );
-    let short = place.gave_up();
+    let short = place.gave_up() | place.fell_short();
     Played {
         end,
         worker: place.into_worker(),

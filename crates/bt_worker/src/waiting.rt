@@ -1,8 +1,8 @@
 //! Whether the desk of a run that is over leaves a piece unchecked.
 
-ghost use Rattle.std.specs.Prelude.{◌≡◌};
+ghost use Rattle.std.specs.Prelude.{◌≡◌, true};
 ghost use Rattle.bt_meta.specs.Layout.{piece_count};
-ghost use Rattle.bt_worker.specs.Runs.{LeavesNone, TellsWaiting};
+ghost use Rattle.bt_worker.specs.Runs.{IsShortFor, LeavesNone, TellsWaiting};
 
 use bt_picker::Desk;
 
@@ -22,7 +22,9 @@ fn is_waiting(desk: &Desk, pieces: u32) -> bool
 /// Whether a run is short that came to this desk: something was given up, or a piece still waits for a check.
 pub fn is_short(desk: &Desk, pieces: u32, given_up: bool) -> bool
     requires { piece_count desk.now.setting.torrent ≡ pieces }
-    ensures { LeavesNone result desk.now }
+    ensures none { LeavesNone result desk.now }
+    ensures noted { given_up ≡ true → result ≡ true }
+    ensures cause { IsShortFor result given_up desk.now }
 {
     given_up || is_waiting(desk, pieces)
 }

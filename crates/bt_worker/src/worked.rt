@@ -1,6 +1,7 @@
 //! What came of a run's threads, and its last checks.
 
 ghost use Rattle.std.specs.Prelude.{◌≡◌, ◌≤◌, ◌+◌, ◌++◌, [], map, length, vec_capacity, IfOk};
+ghost use Rattle.std.specs.List.{list_any};
 ghost use Rattle.bt_meta.specs.Layout.{piece_count};
 ghost use Rattle.bt_worker.specs.Runs.{ChecksLast};
 
@@ -20,7 +21,7 @@ pub struct Worked<L: RunName, R, W> {
     /// All workers of the run, in order.
     pub workers: Vec<Worker<L>>,
     pub streams: Vec<Stream<R, W>>,
-    /// A check was given up, or a ticket came back.
+    /// A check was given up, a ticket came back, or a call of a session found no memory.
     pub given_up: bool,
 }
 
@@ -44,7 +45,7 @@ impl<L: RunName, R: Drop, W: Drop> Worked<L, R, W> {
     }
 }
 
-/// Puts what the sessions gave back into three lists. Whether a ticket came back.
+/// Puts what the sessions gave back into three lists. Whether one was short.
 pub fn part<L: RunName, R: Drop, W: Drop>(
     all: Vec<Played<L, R, W>>,
     ends: &mut Vec<Result<End, SessionFault>>,
@@ -58,6 +59,7 @@ pub fn part<L: RunName, R: Drop, W: Drop>(
     ensures workers { workers.new.items ≡ map (λ p. p.worker) all.items }
     ensures streams { streams.new.items ≡ map (λ p. p.stream) all.items }
     ensures room { vec_capacity workers.new ≡ vec_capacity workers.old }
+    ensures short { result ≡ list_any (λ p. p.short) all.items }
 {
     let mut given_up = false;
     for played in all {
@@ -80,6 +82,7 @@ pub fn part_checked<L: RunName>(all: Vec<Checked<L>>, workers: &mut Vec<Worker<L
     requires room { length workers.old.items + length all.items ≤ vec_capacity workers.old }
     ensures workers { workers.new.items ≡ workers.old.items ++ map (λ c. c.worker) all.items }
     ensures room { vec_capacity workers.new ≡ vec_capacity workers.old }
+    ensures short { result ≡ list_any (λ c. c.short) all.items }
 {
     let mut given_up = false;
     for checked in all {

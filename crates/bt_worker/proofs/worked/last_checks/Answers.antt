@@ -6,4 +6,4 @@ loop-piece-init g c = none_yet c.args.worker.now.pass
 
 pub loop-piece-preserved : goal.loop-piece-preserved
 loop-piece-preserved g c =
-    goes_on c.args.worker.now.pass c.loop-piece.worker.pass c.check.new.worker.pass c.loop-piece.piece c.loop-piece.invariant c.check.ensures
+    goes_on c.args.worker.now.pass c.loop-piece.worker.pass c.check.new.worker.pass c.loop-piece.piece c.loop-piece.invariant c.check.ensures.may

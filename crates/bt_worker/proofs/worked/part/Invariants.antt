@@ -1,4 +1,6 @@
 use Rattle.std.proofs.Common.{◌≡◌, ◌++◌, ◌+◌, ◌≤◌, map, vec_len, vec_capacity}
+use Rattle.std.specs.Prelude.{◌||◌}
+use Rattle.std.specs.List.{list_any}
 use Rattle.std.specs.Vec.Iter.{into_iter_items, into_iter_len}
 use Rattle.bt_worker.proofs.worked.part.Given as goal
 
@@ -11,4 +13,5 @@ invariant-loop-played g l = record {
   room_workers : vec_len l.workers + into_iter_len l.played-iterator ≤ vec_capacity l.workers;
   same : vec_capacity l.workers ≡ vec_capacity l.fn.workers;
   room_streams : vec_len l.streams + into_iter_len l.played-iterator ≤ vec_capacity l.streams;
+  short : (l.given_up || list_any (λ p. p.short) (into_iter_items l.played-iterator)) ≡ list_any (λ p. p.short) l.fn.all.items;
 }
