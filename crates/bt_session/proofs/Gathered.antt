@@ -19,6 +19,7 @@ use Rattle.bt_peer.specs.Places.{PlaceRecord}
 use Rattle.bt_peer.specs.Serial.{StreamRecord}
 use Rattle.bt_peer.specs.Terms.{TermsState}
 use Rattle.bt_session.specs.Checking.{CheckersCheck, CheckersWork}
+use Rattle.bt_session.proofs.Worked.{plays_short}
 use Rattle.bt_worker.specs.Checking.{AreChecks}
 use Rattle.bt_worker.specs.Passes.{no_piece, pass_record, worker_record}
 use Rattle.bt_session.specs.Swarms.{EachPlays, EachSwarmed, MakesLastChecks, Swarmed}
@@ -52,43 +53,44 @@ some_of (x ∷ xs) some = x
 
 -- a session from a fresh worker to what its worker has then
 swarmed_one : (journal : History) (outcome : Result End SessionFault) (terms : TermsState) (setting : Setting) (seed number : ℕ)
-    (worker worker' : WorkerState) (old new : StreamRecord) (log : List Mark) → IsFresh setting number worker →
-    Plays outcome terms setting seed worker old worker' new → worker'.pass.log ≡ log →
+    (worker worker' : WorkerState) (old new : StreamRecord) (log : List Mark) (short : Bool) → IsFresh setting number worker →
+    Plays outcome terms setting seed worker old worker' new short → worker'.pass.log ≡ log →
     ((piece : ℕ) → knows setting worker'.seat piece ≡ true → had journal piece ≡ true) →
-    Swarmed journal outcome terms setting seed number old log new
-swarmed_one journal outcome terms setting seed number worker worker' old new log fresh plays logged known =
+    Swarmed journal outcome terms setting seed number old log new short
+swarmed_one journal outcome terms setting seed number worker worker' old new log short fresh plays logged known =
     let begun : worker_record setting worker false ≡ pass_record setting number [] no_piece no_piece false =
     (λ i. pass_record setting (fresh.number_is i) (fresh.log i) (λ piece. fresh.seen piece i) (λ piece. fresh.told piece i) false) in
-    let ended : worker_record setting worker' plays.short ≡ pass_record setting number log (knows setting worker'.seat) (tells worker'.seat)
-    plays.short =
-    (λ i. pass_record setting ((plays.number ∙ fresh.number_is) i) (logged i) (knows setting worker'.seat) (tells worker'.seat) plays.short) in
+    let ended : worker_record setting worker' plays.lacked ≡ pass_record setting number log (knows setting worker'.seat) (tells worker'.seat)
+    plays.lacked =
+    (λ i. pass_record setting ((plays.number ∙ fresh.number_is) i) (logged i) (knows setting worker'.seat) (tells worker'.seat) plays.lacked) in
     let Runs : ℕ → PlaceRecord → PlaceRecord → Type 0 = λ w first after. RunsTo outcome terms w (generator_of seed w) first old after new in
     record {
       known = knows setting worker'.seat;
       told = tells worker'.seat;
-      short = plays.short;
+      lacked = plays.lacked;
+      noted = plays.noted;
       finished = known;
       runs = subst (Runs number (pass_record setting number [] no_piece no_piece false)) ended
-          (subst (λ (p : PlaceRecord). Runs number p (worker_record setting worker' plays.short)) begun
-          (subst (λ (w : ℕ). Runs w (worker_record setting worker false) (worker_record setting worker' plays.short)) fresh.number_is plays.runs));
+          (subst (λ (p : PlaceRecord). Runs number p (worker_record setting worker' plays.lacked)) begun
+          (subst (λ (w : ℕ). Runs w (worker_record setting worker false) (worker_record setting worker' plays.lacked)) fresh.number_is plays.runs));
     }
 
 -- The workers before and after the work of a run: they were fresh, those of the streams played, the checkers checked, and the last made the
 -- last checks
 pub record Ran {X : Type 0} (record_of : X → StreamRecord) (terms : TermsState) (setting : Setting) (seed n m pieces : ℕ)
-    (workers workers' : List WorkerState) (streams streams' : List X) (ends : List (Result End SessionFault)) : Type 0 where
+    (workers workers' : List WorkerState) (streams streams' : List X) (ends : List (Result End SessionFault)) (short : Bool) : Type 0 where
   pub some : 1 ≤ n
   pub fresh : AreFresh setting workers
   pub many : length workers ≡ n + m + 1
   pub many' : length workers' ≡ n + m + 1
   pub many_streams : length streams ≡ n
-  pub each : EachPlays record_of terms setting seed workers streams ends workers' streams'
+  pub each : EachPlays record_of terms setting seed workers streams ends workers' streams' short
   pub checks : CheckersWork n m workers workers'
   pub last : (any : WorkerState) → ChecksLast (get_or workers (n + m) any).pass (get_or workers' (n + m) any).pass pieces
 
 module _ {X : Type 0} {record_of : X → StreamRecord} {terms : TermsState} {setting : Setting} {seed n m pieces : ℕ}
-    {workers workers' : List WorkerState} {streams streams' : List X} {ends : List (Result End SessionFault)}
-    (ran : Ran record_of terms setting seed n m pieces workers workers' streams streams' ends) where
+    {workers workers' : List WorkerState} {streams streams' : List X} {ends : List (Result End SessionFault)} {short : Bool}
+    (ran : Ran record_of terms setting seed n m pieces workers workers' streams streams' ends short) where
   fresh_at : (i : ℕ) (any : WorkerState) → i < n + m + 1 → IsFresh setting i (get_or workers i any)
   fresh_at i any below = let zeroth : 0 + i ≡ i = omega arith in
       subst (λ (k : ℕ). IsFresh setting k (get_or workers i any)) zeroth (ran.fresh i any (omega (arith, below, ran.many)))
@@ -128,14 +130,16 @@ module _ {X : Type 0} {record_of : X → StreamRecord} {terms : TermsState} {set
         from w log at
         ∙ (ap (λ (v : ℕ). log_of v (map pass_of workers')) zeroth ∙ log_at workers' 0 in_order w any (omega (arith, below, ran.many')))
 
-    pub swarmed : EachSwarmed record_of terms setting seed streams journal logs streams' ends
-    swarmed i stream log end below =
+    -- whatever is short with the sessions
+    pub swarmed : (whole : Bool) → (short ≡ true → whole ≡ true) →
+        EachSwarmed record_of terms setting seed streams journal logs streams' ends whole
+    swarmed whole up i stream log end below =
         let less : i < n = omega (arith, below, ran.many_streams) in
         let any = some_of workers (omega (arith, ran.many)) in
         let at = slice_get-get_or logs i log (omega (arith, less, room)) in
         swarmed_one journal (get_or ends i end) terms setting seed i (get_or workers i any) (get_or workers' i any)
-        (record_of (get_or streams i stream)) (record_of (get_or streams' i stream)) (get_or logs i log).items
-        (fresh_at i any (omega (arith, less))) (ran.each i any stream end below)
+        (record_of (get_or streams i stream)) (record_of (get_or streams' i stream)) (get_or logs i log).items whole
+        (fresh_at i any (omega (arith, less))) (plays_short _ _ _ _ _ _ _ _ short whole up (ran.each i any stream end below))
         (sym (log_is i (get_or logs i log) any (omega (arith, less)) at)) (known i any (omega (arith, less, ran.many')))
 
     pub checkers_check : CheckersCheck n m logs

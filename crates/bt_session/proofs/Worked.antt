@@ -1,5 +1,5 @@
 -- The workers of a run before and after its work: those of its sessions, its checkers, and the last.
-use Rattle.std.proofs.Common.{◌≡◌, ◌<◌, ◌+◌, ℕ, List, [], ◌∷◌, ◌++◌, length, get_or, sym, subst, arith, Result}
+use Rattle.std.proofs.Common.{◌≡◌, ◌<◌, ◌+◌, ℕ, Bool, true, List, [], ◌∷◌, ◌++◌, length, get_or, sym, subst, arith, Result}
 use Rattle.bt_history.specs.Setting.{Setting}
 use Rattle.bt_peer.specs.declared.fault.End.{End}
 use Rattle.bt_peer.specs.declared.fault.SessionFault.{SessionFault}
@@ -21,19 +21,31 @@ pub record Parted (n m : ℕ) (all all' sessions checkers played checked : List 
   pub many_played : length played ≡ n
   pub many_checked : length checked ≡ m
 
+-- a session that is short is so in all that is
+pub plays_short : (outcome : Result End SessionFault) (terms : TermsState) (setting : Setting) (seed : ℕ) (worker worker' : WorkerState)
+    (old new : StreamRecord) (short more : Bool) → (short ≡ true → more ≡ true) → Plays outcome terms setting seed worker old worker' new short →
+    Plays outcome terms setting seed worker old worker' new more
+plays_short outcome terms setting seed worker worker' old new short more up plays = record {
+  lacked = plays.lacked;
+  noted = λ lacked. up (plays.noted lacked);
+  number = plays.number;
+  runs = plays.runs;
+}
+
 module _ {n m : ℕ} {all all' sessions checkers played checked : List WorkerState} {last last' : WorkerState}
     (parts : Parted n m all all' sessions checkers played checked last last') where
   pub all_play : {X : Type 0} (record_of : X → StreamRecord) (terms : TermsState) (setting : Setting) (seed : ℕ) (streams streams' : List X)
-      (ends : List (Result End SessionFault)) → length streams ≡ n → EachPlays record_of terms setting seed sessions streams ends played streams' →
-      EachPlays record_of terms setting seed all streams ends all' streams'
-  all_play record_of terms setting seed streams streams' ends many each i worker stream end below =
+      (ends : List (Result End SessionFault)) (short : Bool) → length streams ≡ n →
+      EachPlays record_of terms setting seed sessions streams ends played streams' short →
+      EachPlays record_of terms setting seed all streams ends all' streams' short
+  all_play record_of terms setting seed streams streams' ends short many each i worker stream end below =
       let less : i < n = omega (arith, below, many) in
       let outcome = get_or ends i end in
       let old = record_of (get_or streams i stream) in
       let new = record_of (get_or streams' i stream) in
-      subst (λ (w : WorkerState). Plays outcome terms setting seed w old (get_or all' i worker) new)
+      subst (λ (w : WorkerState). Plays outcome terms setting seed w old (get_or all' i worker) new short)
       (sym (at_first all sessions checkers last n m parts.before parts.many parts.many_checkers i worker less))
-      (subst (λ (w : WorkerState). Plays outcome terms setting seed (get_or sessions i worker) old w new)
+      (subst (λ (w : WorkerState). Plays outcome terms setting seed (get_or sessions i worker) old w new short)
       (sym (at_first all' played checked last' n m parts.after parts.many_played parts.many_checked i worker less))
       (each i worker stream end below))
 

@@ -15,34 +15,35 @@ use Rattle.bt_worker.specs.Passes.{no_piece, pass_record}
 use Rattle.bt_worker.specs.Runs.{ChecksRise, Plays}
 use Rattle.bt_worker.specs.Workers.{WorkerState}
 
--- that of each stream, in order
+-- that of each stream, in order; all together are short if one is
 abbrev pub EachPlays : {X : Type 0} → (X → StreamRecord) → TermsState → Setting → ℕ →
-    List WorkerState → List X → List (Result End SessionFault) → List WorkerState → List X → Type 0
-EachPlays {X} record_of terms setting seed workers streams ends workers' streams' =
+    List WorkerState → List X → List (Result End SessionFault) → List WorkerState → List X → Bool → Type 0
+EachPlays {X} record_of terms setting seed workers streams ends workers' streams' short =
     (i : ℕ) (worker : WorkerState) (stream : X) (end : Result End SessionFault) → i < length streams →
     Plays (slice_index_or ends i end) terms setting seed (slice_index_or workers i worker) (record_of (slice_index_or streams i stream))
-    (slice_index_or workers' i worker) (record_of (slice_index_or streams' i stream))
+    (slice_index_or workers' i worker) (record_of (slice_index_or streams' i stream)) short
 
 -- A session ran with the words of the generator of its number, made of the seed: from no call and nothing told to this log. Each piece that
--- it knew at its end to be finished, those that it told among them, is had in the journal.
+-- it knew at its end to be finished, those that it told among them, is had in the journal. Where a call of it found no memory the run is short.
 pub record Swarmed (journal : History) (outcome : Result End SessionFault) (terms : TermsState) (setting : Setting) (seed number : ℕ)
-    (old : StreamRecord) (log : List Mark) (new : StreamRecord) : Type 0 where
+    (old : StreamRecord) (log : List Mark) (new : StreamRecord) (short : Bool) : Type 0 where
   pub known : ℕ → Bool
   pub told : ℕ → Bool
   -- a call found no memory
-  pub short : Bool
+  pub lacked : Bool
+  pub noted : lacked ≡ true → short ≡ true
   pub finished : (piece : ℕ) → known piece ≡ true → had journal piece ≡ true
   pub runs : RunsTo outcome terms number (generator_of seed number)
       (pass_record setting number [] no_piece no_piece false) old
-      (pass_record setting number log known told short) new
+      (pass_record setting number log known told lacked) new
 
 -- Each stream's session ran so: from the stream as it was handed in, to its worker's log and the stream as it was given back, in order.
 abbrev pub EachSwarmed : {X : Type 0} → (X → StreamRecord) → TermsState → Setting → ℕ → List X →
-    History → List (Vec Mark) → List X → List (Result End SessionFault) → Type 0
-EachSwarmed {X} record_of terms setting seed streams journal logs streams' ends =
+    History → List (Vec Mark) → List X → List (Result End SessionFault) → Bool → Type 0
+EachSwarmed {X} record_of terms setting seed streams journal logs streams' ends short =
     (i : ℕ) (stream : X) (log : Vec Mark) (end : Result End SessionFault) → i < length streams →
     Swarmed journal (slice_index_or ends i end) terms setting seed i (record_of (slice_index_or streams i stream))
-    (slice_index_or logs i log).items (record_of (slice_index_or streams' i stream))
+    (slice_index_or logs i log).items (record_of (slice_index_or streams' i stream)) short
 
 -- ---- the last checks
 

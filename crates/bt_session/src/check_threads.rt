@@ -2,7 +2,7 @@
 
 ghost use Rattle.std.specs.Prelude.{◌≡◌, ◌≤◌, [], map, length, vec_len, vec_capacity, IfOk, IfErr, OnOk};
 ghost use Rattle.bt_worker.specs.Checking.{MakesChecks};
-ghost use Rattle.bt_worker.specs.Runs.{IsRunFault};
+ghost use Rattle.bt_worker.specs.declared.fault.SwarmFault.TheVariants.{NoThread};
 
 use bt_check::Ticket;
 use bt_worker::{Checked, Commons, RunName, SwarmFault, Worker, check_pieces};
@@ -31,7 +31,7 @@ fn start<'s, 'e, L: RunName + Send + Sync + 'e, T: Threads + Wait + Sync + 'e>(
     worker: Worker<L>,
 ) -> Result<PromisedHandle<Checked<L>, CheckOf<L>>, SwarmFault>
     ensures worker { IfOk result (λ h. h.promise.worker.value ≡ worker) }
-    ensures err { IfErr result IsRunFault }
+    ensures err { IfErr result (λ fault. fault ≡ NoThread) }
 {
     let promise = CheckOf {
         worker: Snapshot::of(&worker),
@@ -57,7 +57,7 @@ pub fn start_checkers<'s, 'e, L: RunName + Send + Sync + 'e, T: Threads + Wait +
     requires room { (handles.old.items ≡ []) × (length workers.items ≤ vec_capacity handles.old) }
     ensures few { length handles.new.items ≤ length workers.items }
     ensures workers { OnOk result (map (λ h. h.promise.worker.value) handles.new.items ≡ workers.items) }
-    ensures err { IfErr result IsRunFault }
+    ensures err { IfErr result (λ fault. fault ≡ NoThread) }
 {
     for worker in workers {
         let handle = start(rt, alloc, scope, commons, worker)?;

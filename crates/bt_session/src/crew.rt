@@ -1,6 +1,7 @@
 //! The threads of a run: its checkers, and its sessions.
 
 ghost use Rattle.std.specs.Prelude.{◌≡◌, ◌≤◌, [], All, map, length, vec_capacity, IfOk, IfErr, OnOk};
+ghost use Rattle.std.specs.List.{list_any};
 ghost use Rattle.bt_peer.specs.Serial.{stream_record};
 ghost use Rattle.bt_peer.specs.Terms.{terms_of};
 ghost use Rattle.bt_session.specs.Checking.{EachMakesChecks};
@@ -173,7 +174,8 @@ pub fn crew<
     ensures checkers { IfOk result (λ r. length r.checked.items ≡ length checkers.items) }
     ensures plays { IfOk result (λ r. EachPlays (stream_record R.left R.ended R.failed R.reads W.written W.failed)
         (terms_of commons.now depth) L.setting seed sessions.items streams.items
-        (map (λ p. p.end) r.played.items) (map (λ p. p.worker) r.played.items) (map (λ p. p.stream) r.played.items)) }
+        (map (λ p. p.end) r.played.items) (map (λ p. p.worker) r.played.items) (map (λ p. p.stream) r.played.items)
+        (list_any (λ p. p.short) r.played.items)) }
     ensures checks { IfOk result (λ r. EachMakesChecks checkers.items (map (λ c. c.worker) r.checked.items)) }
     ensures last { IfOk result (λ r. (r.last.pass ≡ last.pass) × (r.last.seat ≡ last.seat)) }
     ensures err { IfErr result IsRunFault }
@@ -188,7 +190,8 @@ pub fn crew<
             ensures checkers { IfOk result (λ r. length r.checked.items ≡ length checkers.items) }
             ensures plays { IfOk result (λ r. EachPlays (stream_record R.left R.ended R.failed R.reads W.written W.failed)
                 (terms_of commons.entry.now depth) L.setting seed sessions.items streams.items
-                (map (λ p. p.end) r.played.items) (map (λ p. p.worker) r.played.items) (map (λ p. p.stream) r.played.items)) }
+                (map (λ p. p.end) r.played.items) (map (λ p. p.worker) r.played.items) (map (λ p. p.stream) r.played.items)
+                (list_any (λ p. p.short) r.played.items)) }
             ensures checks { IfOk result (λ r. EachMakesChecks checkers.items (map (λ c. c.worker) r.checked.items)) }
             ensures last { IfOk result (λ r. (r.last.pass ≡ last.pass) × (r.last.seat ≡ last.seat)) }
             ensures err { IfErr result IsRunFault }

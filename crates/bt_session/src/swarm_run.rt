@@ -35,7 +35,8 @@ pub struct SwarmRun<R, W> {
     /// The desk of the run, and the log of each worker. Worker `i` spoke for stream `i`; behind these come the checkers, and one more
     /// worker made the last checks.
     pub book: Book,
-    /// A check was given up for want of memory, or a ticket came back; or a piece still waits for its check.
+    /// A check was given up for want of memory, a ticket came back, or a call of a session found no memory; or a piece still waits for its
+    /// check. A peer whose Leave found none is still joined at the desk.
     pub short: bool,
     /// The streams as the sessions left them, in order.
     pub streams: Vec<Stream<R, W>>,
@@ -76,7 +77,7 @@ fn run<
     ensures streams { IfOk result (λ run. length run.streams.items ≡ length streams.items) }
     ensures sessions { IfOk result (λ run. EachSwarmed (stream_record R.left R.ended R.failed R.reads W.written W.failed)
         (terms_of torrent.value rules.depth) L.setting seed
-        streams.items run.book.desk.history run.book.logs.items run.streams.items run.ends.items) }
+        streams.items run.book.desk.history run.book.logs.items run.streams.items run.ends.items run.short) }
     ensures checks { IfOk result (λ run. CheckersCheck (length streams.items) checkers run.book.logs.items) }
     ensures finishes { IfOk result (λ run.
         MakesLastChecks (length streams.items + checkers) run.book.logs.items (piece_count torrent.value.layout)) }
@@ -148,10 +149,10 @@ pub fn swarm<
     ensures ends { IfOk result (λ run. length run.ends.items ≡ length streams.items) }
     ensures streams { IfOk result (λ run. length run.streams.items ≡ length streams.items) }
     // Each session ran from the empty log and the stream as it was handed in to its worker's log and the stream as it was given back, with
-    // the words of the generator of the seed and its number.
+    // the words of the generator of the seed and its number. After a fault it made Leave, unless the run is short.
     ensures sessions { IfOk result (λ run. EachSwarmed (stream_record R.left R.ended R.failed R.reads W.written W.failed)
         (terms_of torrent.value rules.depth) (setting_of torrent.value.layout (length streams.items + checkers + 1) rules) seed
-        streams.items run.book.desk.history run.book.logs.items run.streams.items run.ends.items) }
+        streams.items run.book.desk.history run.book.logs.items run.streams.items run.ends.items run.short) }
     // The checkers made checks alone.
     ensures checks { IfOk result (λ run. CheckersCheck (length streams.items) checkers run.book.logs.items) }
     // The last worker made checks alone, the least piece first, and unless the run is short no piece still waits for one.

@@ -5,6 +5,7 @@ ghost use Rattle.std.specs.PromisedHandle.{KeepsEach};
 ghost use Rattle.bt_peer.specs.Serial.{stream_record};
 ghost use Rattle.bt_peer.specs.Terms.{terms_of};
 ghost use Rattle.bt_worker.specs.Runs.{IsRunFault, Plays};
+ghost use Rattle.bt_worker.specs.declared.fault.SwarmFault.TheVariants.{NoThread};
 
 use bt_history::MOST_DEPTH;
 use bt_meta::{Sink, Source, Torrent};
@@ -30,7 +31,7 @@ pub struct PlayOf<L: RunName, R, W> {
 impl<L: RunName, R: Source, W: Sink> Promise<Played<L, R, W>> for PlayOf<L, R, W> {
     ghost kept_by = { λ p r. Plays r.end (terms_of p.torrent.value.value p.depth) L.setting p.seed
         p.worker.value (stream_record R.left R.ended R.failed R.reads W.written W.failed p.stream.value)
-        r.worker (stream_record R.left R.ended R.failed R.reads W.written W.failed r.stream) };
+        r.worker (stream_record R.left R.ended R.failed R.reads W.written W.failed r.stream) r.short };
 }
 
 /// Starts the thread of a session.
@@ -59,7 +60,7 @@ fn start<
     ensures seed { IfOk result (λ h. h.promise.seed ≡ seed) }
     ensures worker { IfOk result (λ h. h.promise.worker.value ≡ worker) }
     ensures stream { IfOk result (λ h. h.promise.stream.value ≡ stream) }
-    ensures err { IfErr result IsRunFault }
+    ensures err { IfErr result (λ fault. fault ≡ NoThread) }
 {
     let promise = PlayOf {
         torrent: Snapshot::of(&torrent),
@@ -72,7 +73,7 @@ fn start<
         requires { (1 ≤ depth) × (depth ≤ MOST_DEPTH) }
         ensures { Plays result.end (terms_of torrent.value depth) L.setting seed
             worker (stream_record R.left R.ended R.failed R.reads W.written W.failed stream)
-            result.worker (stream_record R.left R.ended R.failed R.reads W.written W.failed result.stream) }
+            result.worker (stream_record R.left R.ended R.failed R.reads W.written W.failed result.stream) result.short }
     {
         play(
             rt, alloc, torrent, commons, worker, stream, seed, depth, gate,

@@ -43,7 +43,8 @@ pub fn work<
     ensures count { IfOk result (λ r. (length r.ends.items ≡ length streams.items) × (length r.streams.items ≡ length streams.items)
         × (length r.workers.items ≡ length workers.items)) }
     ensures plays { IfOk result (λ r. EachPlays (stream_record R.left R.ended R.failed R.reads W.written W.failed)
-        (terms_of commons.now depth) L.setting seed workers.items streams.items r.ends.items r.workers.items r.streams.items) }
+        (terms_of commons.now depth) L.setting seed workers.items streams.items r.ends.items r.workers.items r.streams.items
+        r.given_up) }
     ensures checks { IfOk result (λ r. CheckersWork (length streams.items) checkers workers.items r.workers.items) }
     ensures last { IfOk result (λ r. (any : WorkerState) →
         ChecksLast (slice_index_or workers.items (length streams.items + checkers) any).pass

@@ -17,7 +17,7 @@ gather-requires-clause-order g c =
     let many : length all ≡ n + m + 1 = search rules in
     let ran : Ran (stream_record g.R.Source.left g.R.Source.ended g.R.Source.failed g.R.Source.reads g.W.Sink.written g.W.Sink.failed)
     (terms_of layout c.args.rules.depth) g.L.RunName.setting c.args.seed n m (piece_count layout.layout)
-    all worked.workers.items c.args.streams.items worked.streams.items worked.ends.items = record {
+    all worked.workers.items c.args.streams.items worked.streams.items worked.ends.items worked.given_up = record {
       some = c.requires.streams.0;
       fresh = made.fresh;
       many = many;
@@ -41,7 +41,7 @@ returns-clause-sessions g c =
     let many : length all ≡ n + m + 1 = search rules in
     let ran : Ran (stream_record g.R.Source.left g.R.Source.ended g.R.Source.failed g.R.Source.reads g.W.Sink.written g.W.Sink.failed)
     (terms_of layout c.args.rules.depth) g.L.RunName.setting c.args.seed n m (piece_count layout.layout)
-    all worked.workers.items c.args.streams.items worked.streams.items worked.ends.items = record {
+    all worked.workers.items c.args.streams.items worked.streams.items worked.ends.items worked.given_up = record {
       some = c.requires.streams.0;
       fresh = made.fresh;
       many = many;
@@ -52,7 +52,7 @@ returns-clause-sessions g c =
       last = rw (← made.torrent) did.last;
     } in
     swarmed ran c.in_ok-book.book.logs.items c.in_ok-book.book.desk.history c.in_ok-book.ensures.logs
-    (c.in_ok-book.ensures.count ∙ (did.count.2 ∙ many)) c.in_ok-book.ensures.had
+    (c.in_ok-book.ensures.count ∙ (did.count.2 ∙ many)) c.in_ok-book.ensures.had c.is_short-short.result c.is_short-short.ensures.noted
 
 pub returns-clause-checks : goal.returns-clause-checks
 returns-clause-checks g c =
@@ -66,7 +66,7 @@ returns-clause-checks g c =
     let many : length all ≡ n + m + 1 = search rules in
     let ran : Ran (stream_record g.R.Source.left g.R.Source.ended g.R.Source.failed g.R.Source.reads g.W.Sink.written g.W.Sink.failed)
     (terms_of layout c.args.rules.depth) g.L.RunName.setting c.args.seed n m (piece_count layout.layout)
-    all worked.workers.items c.args.streams.items worked.streams.items worked.ends.items = record {
+    all worked.workers.items c.args.streams.items worked.streams.items worked.ends.items worked.given_up = record {
       some = c.requires.streams.0;
       fresh = made.fresh;
       many = many;
@@ -91,7 +91,7 @@ returns-clause-finishes g c =
     let many : length all ≡ n + m + 1 = search rules in
     let ran : Ran (stream_record g.R.Source.left g.R.Source.ended g.R.Source.failed g.R.Source.reads g.W.Sink.written g.W.Sink.failed)
     (terms_of layout c.args.rules.depth) g.L.RunName.setting c.args.seed n m (piece_count layout.layout)
-    all worked.workers.items c.args.streams.items worked.streams.items worked.ends.items = record {
+    all worked.workers.items c.args.streams.items worked.streams.items worked.ends.items worked.given_up = record {
       some = c.requires.streams.0;
       fresh = made.fresh;
       many = many;

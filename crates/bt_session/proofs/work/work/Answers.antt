@@ -1,9 +1,11 @@
-use Rattle.std.proofs.Common.{◌≡◌, List, [], ◌∷◌, ◌++◌, length, map, refl, sym, ap, subst, ◌∙◌, rules}
+use Rattle.std.proofs.Common.{◌≡◌, Bool, true, false, List, [], ◌∷◌, ◌++◌, length, map, refl, sym, ap, subst, ◌∙◌, rules}
+use Rattle.std.specs.Prelude.{◌||◌}
+use Rattle.std.specs.List.{list_any}
 use Rattle.std.proofs.lemmas.List.{length-map, take-append-drop}
 use Rattle.bt_meta.specs.Layout.{piece_count}
 use Rattle.bt_peer.specs.Serial.{stream_record}
 use Rattle.bt_peer.specs.Terms.{terms_of}
-use Rattle.bt_session.proofs.Worked.{Parted, all_check, all_play, last_check}
+use Rattle.bt_session.proofs.Worked.{Parted, all_check, all_play, last_check, plays_short}
 use Rattle.bt_worker.specs.Runs.{ChecksLast}
 use Rattle.bt_worker.specs.Workers.{WorkerState}
 use Rattle.bt_shared.specs.Passes.{PassState}
@@ -35,14 +37,21 @@ parted g c =
       many_checked = length-map c.in_ok-joined.joined.checked.items (λ p. p.worker) ∙ (c.in_ok-joined.ensures.checkers ∙ many_checkers);
     }
 
+or_second : (a b c d : Bool) → b ≡ true → (((a || b) || c) || d) ≡ true
+or_second true b c d is = refl
+or_second false true c d is = refl
+or_second false false c d is = absurd cc
+
 pub returns-clause-plays : goal.returns-clause-plays
 returns-clause-plays g c =
-    rw (c.part-came_back.ensures.ends, c.part-came_back.ensures.streams)
-    (all_play (parted g c)
-    (stream_record g.R.Source.left g.R.Source.ended g.R.Source.failed g.R.Source.reads g.W.Sink.written g.W.Sink.failed)
-    (terms_of c.args.commons.now c.args.depth) g.L.RunName.setting c.args.seed c.args.streams.items
-    (map (λ p. p.stream) c.in_ok-joined.joined.played.items) (map (λ p. p.end) c.in_ok-joined.joined.played.items) refl
-    c.in_ok-joined.ensures.plays)
+    let played = c.in_ok-joined.joined.played.items in
+    let short = list_any (λ p. p.short) played in
+    rw (c.part-came_back.ensures.ends, c.part-came_back.ensures.streams) (λ i worker stream end below.
+        plays_short _ _ _ _ _ _ _ _ short _ (λ is. or_second _ _ _ _ (c.part-came_back.ensures.short ∙ is))
+        (all_play (parted g c)
+        (stream_record g.R.Source.left g.R.Source.ended g.R.Source.failed g.R.Source.reads g.W.Sink.written g.W.Sink.failed)
+        (terms_of c.args.commons.now c.args.depth) g.L.RunName.setting c.args.seed c.args.streams.items
+        (map (λ p. p.stream) played) (map (λ p. p.end) played) short refl c.in_ok-joined.ensures.plays i worker stream end below))
 
 pub returns-clause-checks : goal.returns-clause-checks
 returns-clause-checks g c = all_check (parted g c) c.in_ok-joined.ensures.checks

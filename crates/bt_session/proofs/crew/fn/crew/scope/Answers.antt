@@ -1,9 +1,11 @@
-use Rattle.std.proofs.Common.{◌≡◌, ◌<◌, rules, arith, length, vec_len, sym, ap, ◌∙◌}
+use Rattle.std.proofs.Common.{◌≡◌, ◌<◌, rules, arith, get_or, length, vec_len, sym, ap, ◌∙◌}
+use Rattle.std.proofs.lemmas.List.Folds.{list_any_at}
 use Rattle.std.proofs.lemmas.List.{get_or-map, length-map}
 use Rattle.bt_worker.specs.declared.checker.Checked.{Checked}
 use Rattle.bt_worker.specs.declared.played.Played.{Played}
 use Rattle.bt_peer.specs.Terms.{terms_of}
 use Rattle.bt_session.proofs.Kept.{part_at}
+use Rattle.bt_session.proofs.Worked.{plays_short}
 use Rattle.bt_session.proofs.crew.fn.crew.scope.Goals as goal
 
 pub returns-in-Ok : goal.returns-in-Ok
@@ -32,7 +34,7 @@ returns-in-Ok g c =
           let terms : terms_of p.torrent.value.value p.depth ≡ terms_of c.captures.commons.now c.captures.depth =
           ap (λ h. terms_of h.promise.torrent.value.value h.promise.depth) k.handle_is ∙ parts.terms i k.handle there in
           let seed : p.seed ≡ c.captures.seed = ap (λ h. h.promise.seed) k.handle_is ∙ parts.seeds i k.handle there in
-          rw (
+          plays_short _ _ _ _ _ _ _ _ (get_or all i d).short _ (list_any_at (λ p. p.short) all i d back) (rw (
             sym terms,
             sym seed,
             part_at (λ h. h.promise.worker.value) hs _ parts.sessions i k.handle worker there k.handle_is,
@@ -40,7 +42,7 @@ returns-in-Ok g c =
             get_or-map (λ p. p.end) all i d end back,
             get_or-map (λ p. p.worker) all i d worker back,
             get_or-map (λ p. p.stream) all i d stream back,
-          ) k.kept;
+          ) k.kept);
       checks = λ i worker below.
           let d : Checked g.row.L.Denot = record { worker = worker; short = c.stop-told.result } in
           let there : i < length ks = omega (arith, below, many_checkers) in
