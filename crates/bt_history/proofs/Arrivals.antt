@@ -10,7 +10,7 @@ use Rattle.bt_history.specs.declared.call.Reason.TheVariants.{NotJoined, NoSuchP
 use Rattle.bt_history.specs.declared.call.Reply.{Reply}
 use Rattle.bt_history.specs.declared.call.Reply.TheVariants.{Stored, Completed, Dropped, Refused}
 use Rattle.bt_history.specs.declared.event.Action.{Action}
-use Rattle.bt_history.specs.declared.event.Action.TheVariants.{Join, Bits, Have, Choke, Unchoke, Next, Arrived, Settle, Leave, Want}
+use Rattle.bt_history.specs.declared.event.Action.TheVariants.{Arrived}
 use Rattle.bt_history.specs.declared.event.Event.{Event}
 use Rattle.bt_history.specs.Setting.{Setting, some_block_of, each_block_of}
 use Rattle.bt_history.specs.History.{History, stores, stored, bytes_for}

@@ -7,21 +7,21 @@ use Rattle.std.specs.Cmp.Lexicographic.{same_text}
 use Rattle.std.proofs.lemmas.Bool.{and_parts, and_left, and_right, or_from, or_cases, or_left, or_right, false≢true, true≢false, false_from_ne_true}
 use Rattle.sha1.specs.Sha1.{sha1}
 use Rattle.bt_meta.specs.declared.block.Block.{Block}
-use Rattle.bt_meta.specs.Layout.{block_count, block, hash_of}
+use Rattle.bt_meta.specs.Layout.{piece_count, block_count, block, hash_of}
 use Rattle.bt_history.specs.declared.call.Reply.{Reply}
-use Rattle.bt_history.specs.declared.call.Reply.TheVariants.{Had, Failed}
+use Rattle.bt_history.specs.declared.call.Reply.TheVariants.{Had, Failed, Request}
 use Rattle.bt_history.specs.declared.event.Event.{Event}
-use Rattle.bt_history.specs.Setting.{Setting}
+use Rattle.bt_history.specs.Setting.{Setting, is_block, each_block, each_block_of}
 use Rattle.bt_history.specs.History.{History, own_call, same_begin, stored, stores, bytes_for, failed, is_failed, is_had, settles, passed, requested}
 use Rattle.bt_history.specs.Peers.{asked, asks, resets, outstanding}
-use Rattle.bt_history.specs.Pieces.{kept, held, content, joined_below, full, had, asked_of_some, endgame, was_endgame}
+use Rattle.bt_history.specs.Pieces.{kept, held, content, joined_below, full, had, asked_of_some, held_or_asked, unasked, wanted, endgame, was_endgame}
 use Rattle.bt_history.specs.Legal.{IsLegal, IsAllowed, same_bytes}
 use Rattle.bt_history.proofs.Below.{any_fails, all_at, all_found}
 use Rattle.bt_history.proofs.SameBegin.{held_at}
 use Rattle.bt_history.proofs.Allowed.{request_facts, check_facts, passed_hash, had_reply, failed_reply, worker_below}
 use Rattle.bt_history.proofs.Arrivals.{stored_unheld}
 use Rattle.bt_history.proofs.Lines.{asked_outstanding}
-use Rattle.bt_history.proofs.LineLaws.{Asks, asks_or_none, place_resized}
+use Rattle.bt_history.proofs.LineLaws.{block_index, Asks, asks_or_none, place_resized}
 
 -- ---- what an entry leaves
 
@@ -208,3 +208,34 @@ doubles_after_endgame s (e ∷ h) q other b legal lq lo apart one two = ⊎_elim
     (λ (too : asked h other b ≡ true). or_right (endgame s h) (was_endgame s h) (doubles_after_endgame s h q other b legal.0 lq lo apart before too))
     (asked_cases h e other b two))
     (asked_cases h e q b one)
+
+-- ---- a second peer
+
+-- a block that is asked of a peer already is asked for again in endgame alone
+pub second_in_endgame : (s : Setting) (h : History) (e : Event) (other : ℕ) (b : Block) → IsLegal s h → IsAllowed s h e → e.reply ≡ Request b
+    → asked h other b ≡ true → endgame s h ≡ true
+second_in_endgame s h e other b legal allowed is two =
+    let facts = request_facts s h e b allowed is in
+    ⊎_elim
+    (λ (alone : asked_of_some s h b ≡ false).
+    absurd (true≢false (sym two ∙ any_fails s.workers (λ w. asked h w b) other alone (asked_below s h other b legal two))))
+    (λ (ending : endgame s h ≡ true). ending)
+    facts.alone
+
+-- in endgame each wanted block is held, or asked of somebody
+pub endgame_asks_all : (s : Setting) (h : History) (b : Block) → endgame s h ≡ true → is_block s.torrent b ≡ true → wanted s h b.piece ≡ true
+    → unasked s h b ≡ false
+endgame_asks_all s h b ending is want =
+    let asks_all = and_parts (each_block s.torrent (λ c. not (wanted s h c.piece) || held_or_asked s h c)) _ ending in
+    let place = block_index s.torrent b is in
+    let of_piece = all_at (piece_count s.torrent)
+    (λ p. each_block_of s.torrent p (λ c. not (wanted s h c.piece) || held_or_asked s h c)) b.piece asks_all.0 place.piece in
+    let here = all_at (block_count s.torrent b.piece)
+    (λ k. not (wanted s h (block s.torrent b.piece k).piece) || held_or_asked s h (block s.torrent b.piece k)) place.index of_piece place.within in
+    not_lacking (wanted s h b.piece) (held_or_asked s h b) want
+    (ap (λ (c : Block). not (wanted s h c.piece) || held_or_asked s h c) place.is ∙ here)
+  where
+    not_lacking : (x y : Bool) → x ≡ true → (not x || y) ≡ true → not y ≡ false
+    not_lacking true true want here = refl
+    not_lacking true false want here = absurd (cc here)
+    not_lacking false y want here = absurd (cc want)

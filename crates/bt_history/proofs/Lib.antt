@@ -11,3 +11,4 @@ pub mod HeldLaws
 pub mod Marks
 pub mod Journals
 pub mod HeldLengths
+pub mod Finished

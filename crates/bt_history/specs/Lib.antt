@@ -3,6 +3,7 @@ pub mod Setting
 pub mod History
 pub mod Peers
 pub mod Pieces
+pub mod Finished
 pub mod Next
 pub mod Legal
 pub mod Entries

@@ -2,7 +2,7 @@
 
 ghost use Rattle.std.specs.Prelude.{◌≡◌, ◌<◌, ◌≤◌, ◌+◌, ◌-◌, length, replicate, slice_set, IfOk};
 ghost use Rattle.std.specs.List.{range_with_len};
-ghost use Rattle.bt_order.specs.Orders.{at, AreInverse, Begins, ListsGroup, OrderState};
+ghost use Rattle.bt_order.specs.Orders.{at, AreInverse, Begins, ListsGroup, OrderState, TellsFirst};
 
 use std::alloc::{AllocError, Global};
 use std::marker::Model;
@@ -68,6 +68,14 @@ impl Order {
         let begin = begin_of(&self.ends, group);
         let end = self.ends[group as usize];
         &self.numbers[begin as usize..end as usize]
+    }
+
+    /// Whether each number is in group 0, in constant time.
+    pub fn are_all_first(&self) -> bool
+        requires { 0 < self.now.count }
+        ensures { TellsFirst self.now.group_of result }
+    {
+        self.ends[0] as usize == self.numbers.len()
     }
 
     /// Puts the number in this group. It takes a step for each border between its group and this one.

@@ -243,7 +243,7 @@ impl<'a> Position<'a> {
 
     /// How many pieces are had.
     #[tactic(auto, using(crate::proofs::Rows::had_rows))]
-    fn had_count(&self) -> u32
+    pub(crate) fn had_count(&self) -> u32
         ensures { result ≡ had_count self.now.setting self.now.history }
     {
         self.tables.had_count()

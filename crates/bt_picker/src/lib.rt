@@ -7,6 +7,7 @@ mod cell;
 mod choose;
 mod content;
 mod desk;
+mod finished;
 mod floors;
 mod jobs;
 mod peer;

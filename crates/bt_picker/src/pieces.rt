@@ -3,7 +3,7 @@
 ghost use Rattle.std.specs.Prelude.{◌≡◌, ◌<◌, ◌+◌, ◌^◌, true, false, length, IfOk, map};
 ghost use Rattle.std.specs.List.{count_by, sum_by};
 ghost use Rattle.bt_meta.specs.Layout.{block_count, piece_count};
-ghost use Rattle.bt_order.specs.Orders.{at, ListsGroup};
+ghost use Rattle.bt_order.specs.Orders.{at, ListsGroup, TellsFirst};
 ghost use Rattle.bt_order.specs.Risings.{IsRising};
 ghost use Rattle.bt_picker.specs.Standings.{apart, group_of_row, standing_of};
 ghost use Rattle.bt_history.specs.Counting.{table};
@@ -98,6 +98,13 @@ impl Pieces {
         ensures { ListsGroup (map group_of_row self.now) group result.now }
     {
         self.shelf.group(group)
+    }
+
+    /// Whether nothing is left to get of any piece.
+    pub fn are_all_resting(&self) -> bool
+        ensures { TellsFirst (map group_of_row self.now) result }
+    {
+        self.shelf.are_all_resting()
     }
 
     /// The begun pieces with an unasked block, the least first.

@@ -1,7 +1,7 @@
 //! How all pieces stand to each other: in groups, in the list of the open ones, and in sums.
 
 ghost use Rattle.std.specs.Prelude.{◌≡◌, ◌<◌, ◌≤◌, ◌+◌, ◌-◌, ◌^◌, length, replicate, slice_set, slice_index_or, IfOk};
-ghost use Rattle.bt_order.specs.Orders.{at, ListsGroup};
+ghost use Rattle.bt_order.specs.Orders.{at, ListsGroup, TellsFirst};
 ghost use Rattle.bt_order.specs.Risings.{IsRising};
 ghost use Rattle.bt_picker.specs.Standings.{IsFiled, ShelfState, lowered_group, raised_group};
 ghost use Rattle.bt_picker.specs.Tables.{one_if};
@@ -66,6 +66,13 @@ impl Shelf {
         ensures { ListsGroup self.now.groups group result.now }
     {
         self.order.group(group)
+    }
+
+    /// Whether each piece is in group 0.
+    pub fn are_all_resting(&self) -> bool
+        ensures { TellsFirst self.now.groups result }
+    {
+        self.order.are_all_first()
     }
 
     /// The begun pieces with an unasked block, the least first.

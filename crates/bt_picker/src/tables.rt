@@ -5,7 +5,7 @@ ghost use Rattle.std.specs.Prelude.{true, IfOk, IfSome, Some, IsTrue, EachIndex,
 ghost use Rattle.bt_meta.specs.Layout.{block_count, piece_count, block_size};
 ghost use Rattle.std.specs.Option.{option_copied};
 ghost use Rattle.std.specs.List.{count_by, sum_by};
-ghost use Rattle.bt_order.specs.Orders.{at, ListsGroup};
+ghost use Rattle.bt_order.specs.Orders.{at, ListsGroup, TellsFirst};
 ghost use Rattle.bt_order.specs.Risings.{IsRising};
 ghost use Rattle.bt_picker.specs.Showing.{dealings};
 ghost use Rattle.bt_picker.specs.Standings.{apart, group_of_row, standing_of};
@@ -156,6 +156,13 @@ impl Tables {
         ensures { ListsGroup (map group_of_row self.now.pieces) group result.now }
     {
         self.pieces.group(group)
+    }
+
+    /// Whether nothing is left to get of any piece.
+    pub fn are_all_resting(&self) -> bool
+        ensures { TellsFirst (map group_of_row self.now.pieces) result }
+    {
+        self.pieces.are_all_resting()
     }
 
     /// The begun pieces with an unasked block, the least first.
