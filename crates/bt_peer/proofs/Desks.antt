@@ -16,15 +16,16 @@ use Rattle.bt_history.specs.declared.mark.Mark.{Mark}
 use Rattle.bt_history.specs.History.{History, passed}
 use Rattle.bt_history.specs.Logs.{answers, call_mark, mark_of, marks_of}
 use Rattle.bt_history.specs.Pieces.{had}
+use Rattle.bt_history.specs.Finished.{finished, finished_by}
 use Rattle.bt_peer.specs.Acts.{Act, Called, News}
-use Rattle.bt_peer.specs.Places.{Gains}
+use Rattle.bt_peer.specs.Places.{Extends, Gains}
 use Rattle.bt_history.proofs.Allowed.{allowed_answers}
 use Rattle.bt_picker.specs.Checks.{waits, settling, SettlesIf, SettlesNow}
 use Rattle.bt_picker.specs.Positions.{DeskState, Gains as Enters}
 use Rattle.bt_peer.specs.Desks.{calls_of_marks, calls_in, desk_record}
 use Rattle.bt_history.specs.Setting.{Setting}
 use Rattle.bt_peer.specs.Turns.{ChecksAtMost}
-use Rattle.bt_peer.proofs.Stretches.{Gains-none}
+use Rattle.bt_peer.proofs.Stretches.{Extends-refl, Gains-none}
 
 -- an entry's own worker made one call more
 pub calls_in-own : (h : History) (e : Entry) (worker : ℕ) → (e.worker == worker) ≡ true →
@@ -71,6 +72,11 @@ others-kept h e worker other own =
 abbrev desk_of : Setting → History → DeskState
 desk_of setting history = record { setting = setting; history = history }
 
+-- an entry only adds to the finished pieces
+pub finished_on : (h : History) (e : Entry) → Extends (finished h) (finished (e ∷ h))
+unfolding finished
+finished_on h e = (finished_by e, refl)
+
 -- a call of the worker is entered
 pub called : (lent : List GName) (old new : DeskState) (worker : ℕ) (action : Action) (reply : Reply) (told : List Bool) (short : Bool) →
     Enters old new (record { worker = worker; action = action; reply = reply }) →
@@ -91,6 +97,7 @@ called lent old new worker action reply told short enters =
         calls = calls_in-own h e worker own;
         others = λ other. others-kept h e worker other own;
         had = λ piece. and-more (nat_lt piece (piece_count old.setting.torrent)) (had h piece) (had (e ∷ h) piece) (had-more h e piece);
+        in_order = finished_on h e;
         told = λ piece. refl;
         finished = tt;
       };
@@ -99,7 +106,7 @@ called lent old new worker action reply told short enters =
     subst (λ (desk : DeskState). Gains (desk_record lent old worker told short) (Called (call_mark action) reply ∷ [])
     (desk_record lent desk worker told short)) (sym is) gained
 
-told_by : (same : Bool) (piece other : ℕ) (told : List Bool) → (other == piece) ≡ same → piece < length told →
+pub told_by : (same : Bool) (piece other : ℕ) (told : List Bool) → (other == piece) ≡ same → piece < length told →
     slice_index_or (slice_set told piece true) other false ≡ (if other == piece then true else slice_index_or told other false)
 told_by true piece other told is within =
     let here : other ≡ piece = grind (arith, nat_tests) in
@@ -134,7 +141,7 @@ settled lent old new worker piece reply told short settles =
 pub told_one : (lent : List GName) (desk : DeskState) (worker piece : ℕ) (told : List Bool) (short : Bool) → piece < length told →
     (desk_record lent desk worker told short).had piece ≡ true → slice_index_or told piece false ≡ false →
     Gains (desk_record lent desk worker told short) (News piece ∷ []) (desk_record lent desk worker (slice_set told piece true) short)
-told_one lent desk worker piece told short within finished new =
+told_one lent desk worker piece told short within is_had new =
     record {
       up_to = record {
         lent = refl;
@@ -143,8 +150,9 @@ told_one lent desk worker piece told short within finished new =
         calls = sym (append-nil (calls_in desk.history worker));
         others = λ other. refl;
         had = λ other. λ is. is;
+        in_order = Extends-refl (finished desk.history);
         told = (new, λ other. told_by (other == piece) piece other told refl within);
-        finished = (finished, tt);
+        finished = (is_had, tt);
       };
       short = refl;
     }

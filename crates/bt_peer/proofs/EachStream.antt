@@ -17,7 +17,10 @@ use Rattle.bt_peer.specs.Conduct.{answers_of}
 use Rattle.bt_peer.specs.Serial.{StreamRecord}
 use Rattle.bt_peer.specs.Standing.{Standing, Keeps, LeavesOthers, HasEnded, IsNew, AreNew, MayPlay, NotesPieces, Played, left_of, standing}
 use Rattle.bt_peer.specs.Terms.{TermsState}
+use Rattle.bt_history.specs.Finished.{finished}
+use Rattle.bt_peer.proofs.News.{told_later}
 use Rattle.bt_peer.proofs.Standing.{Keeps-join, Keeps-refl, others_stand}
+use Rattle.bt_peer.specs.Places.{Extends}
 
 Keeps-same : (worker : ℕ) (old old' new new' : Standing) → old' ≡ old → new' ≡ new → Keeps worker old new → Keeps worker old' new'
 Keeps-same worker old old' new new' same same' keeps =
@@ -55,14 +58,22 @@ each_at record_of desk new seats streams i seat seat' stream stream' within with
     Keeps-same j _ _ _ _ refl (standing-same new _ _ _ _ kept (ap record_of kept'))
     (others_stand i j desk new old.session old.told (record_of (get_or streams j x)) old.short (answers_of old.rng) others apart)
 
+-- while others take their turns
+notes_later : (desk new : DeskState) (seat : Seat) → new.setting ≡ desk.setting → Extends (finished desk.history) (finished new.history) →
+    NotesPieces desk seat → NotesPieces new seat
+notes_later desk new seat setting more notes = record {
+  count = notes.count ∙ ap (λ (s : Setting). piece_count s.torrent) (sym setting);
+  told = told_later seat.told seat.seen (finished desk.history) (finished new.history) more notes.told;
+}
+
 MayPlay-next : {X : Type 0} (desk new : DeskState) (seats seats' : List Seat) (streams streams' : List X) → MayPlay desk seats streams →
     length seats' ≡ length seats → length streams' ≡ length streams → new.setting ≡ desk.setting →
-    All (NotesPieces desk) seats' → MayPlay new seats' streams'
+    All (NotesPieces new) seats' → MayPlay new seats' streams'
 MayPlay-next desk new seats seats' streams streams' may same same' setting fit = record {
   seated = same ∙ may.seated ∙ sym same';
   workers = subst (λ (s : Setting). length streams' < s.workers) (sym setting) (omega (arith, may.workers));
   few = omega (arith, may.few);
-  fit = λ i. λ any. λ within. fit i any within ∙ ap (λ (s : Setting). piece_count s.torrent) (sym setting);
+  fit = fit;
 }
 
 -- after one stream's turn
@@ -70,11 +81,13 @@ pub played_turn : {X : Type 0} (record_of : X → StreamRecord) (desk new : Desk
     (seat seat' : Seat) (stream stream' : X) →
     MayPlay desk seats streams → i < length streams →
     Keeps i (standing desk (get_or seats i seat) (record_of (get_or streams i stream))) (standing new seat' (record_of stream')) →
-    LeavesOthers i desk new → length seat'.told ≡ length (get_or seats i seat).told →
+    LeavesOthers i desk new → NotesPieces new seat' →
     Played record_of desk seats streams new (set seats i seat') (set streams i stream')
-played_turn record_of desk new seats streams i seat seat' stream stream' may within keeps others told =
+played_turn record_of desk new seats streams i seat seat' stream stream' may within keeps others notes =
     let seated : i < length seats = omega (arith, may.seated) in
-    let fit = All-set (NotesPieces desk) seats i seat' (told ∙ may.fit i seat seated) may.fit in
+    let later : All (NotesPieces new) seats =
+    λ j. λ any. λ below. notes_later desk new (get_or seats j any) others.setting others.in_order (may.fit j any below) in
+    let fit = All-set (NotesPieces new) seats i seat' notes later in
     record {
       count = length-set streams i stream';
       keeps = λ j. λ s. λ x. λ few.

@@ -8,6 +8,7 @@ use Rattle.bt_meta.specs.Layout.{Layout, piece_count}
 use Rattle.bt_history.specs.declared.event.Event.{Event as Entry}
 use Rattle.bt_history.specs.History.{History}
 use Rattle.bt_history.specs.Pieces.{had}
+use Rattle.bt_history.specs.Finished.{finished}
 use Rattle.bt_history.specs.Setting.{Setting}
 use Rattle.bt_picker.specs.Checks.{FinishedBelow, FinishesOne, GivesUp, settling, waits}
 use Rattle.bt_picker.specs.Positions.{DeskState, Gains as Enters}
@@ -26,9 +27,9 @@ use Rattle.bt_peer.specs.Standing.{Standing, Stands, StandsBy, ConductBy, Device
 use Rattle.bt_peer.specs.Standing.{MayPlay, Played, standing}
 use Rattle.bt_peer.proofs.Conduct.{Conducts-none, Conducts-draws}
 use Rattle.bt_peer.proofs.EachStream.{ends_count}
-use Rattle.bt_peer.proofs.Desks.{calls_in-other, and-more, had-more}
+use Rattle.bt_peer.proofs.Desks.{calls_in-other, and-more, finished_on, had-more}
 use Rattle.bt_peer.proofs.Standing.{Keeps-join, others_stand}
-use Rattle.bt_peer.proofs.Stretches.{Gains-none}
+use Rattle.bt_peer.proofs.Stretches.{Extends-join, Extends-refl, Gains-none}
 
 -- an entry of a worker leaves the others alone
 entered_leaves : (old new : DeskState) (e : Entry) → Enters old new e → LeavesOthers e.worker old new
@@ -44,17 +45,24 @@ entered_leaves old new e enters =
           let differs : (e.worker == other) ≡ false = grind (arith, nat_tests) in
           calls_in-other h e other differs;
       had = λ piece. and-more (nat_lt piece (piece_count old.setting.torrent)) (had h piece) (had (e ∷ h) piece) (had-more h e piece);
+      in_order = finished_on h e;
     } in
     subst (LeavesOthers e.worker old) (sym is) left
 
 LeavesOthers-refl : (worker : ℕ) (desk : DeskState) → LeavesOthers worker desk desk
-LeavesOthers-refl worker desk = record { setting = refl; calls = λ other. λ apart. refl; had = λ piece. λ is. is }
+LeavesOthers-refl worker desk = record {
+  setting = refl;
+  calls = λ other. λ apart. refl;
+  had = λ piece. λ is. is;
+  in_order = Extends-refl (finished desk.history);
+}
 
 LeavesOthers-join : (worker : ℕ) (a b c : DeskState) → LeavesOthers worker a b → LeavesOthers worker b c → LeavesOthers worker a c
 LeavesOthers-join worker a b c first then = record {
   setting = then.setting ∙ first.setting;
   calls = λ other. λ apart. then.calls other apart ∙ first.calls other apart;
   had = λ piece. λ is. then.had piece (first.had piece is);
+  in_order = Extends-join (finished a.history) (finished b.history) (finished c.history) first.in_order then.in_order;
 }
 
 one_leaves : (waiting : Bool) (desk : DeskState) (worker piece : ℕ) (new : DeskState) → FinishesOne waiting desk worker piece new →
@@ -125,6 +133,7 @@ own_fresh desk worker told uncalled none_had =
       calls = sym uncalled i;
       others = λ other. [];
       had = λ piece. nat_lt piece (piece_count desk.setting.torrent) && sym (none_had piece) i;
+      in_order = [];
       told = λ piece. slice_index_or told piece false;
       short = false;
     }

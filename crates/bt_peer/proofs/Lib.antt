@@ -7,6 +7,7 @@ pub mod Failing
 pub mod Heard
 pub mod LastChecks
 pub mod Leaving
+pub mod News
 pub mod Opened
 pub mod Opening
 pub mod Own

@@ -1,5 +1,5 @@
 -- The desk of a run before its first round.
-use Rattle.std.proofs.Common.{◌≡◌, ◌<◌, ◌≤◌, ℕ, Bool, false, not, List, [], ◌∷◌, length, refl, sym, ap, subst, ◌==◌, ◌∙◌, arith, eq-eqb}
+use Rattle.std.proofs.Common.{◌≡◌, ◌<◌, ◌≤◌, ℕ, Bool, false, not, List, [], ◌∷◌, length, get_or, refl, sym, ap, subst, ◌==◌, ◌∙◌, arith, eq-eqb}
 use Rattle.std.proofs.lemmas.Bool.Decides.{nat_tests}
 use Rattle.std.proofs.lemmas.List.{length-replicate}
 use Rattle.bt_meta.specs.Layout.{piece_count}
@@ -11,15 +11,18 @@ use Rattle.bt_history.specs.declared.event.Event.{Event as Entry}
 use Rattle.bt_history.specs.History.{History}
 use Rattle.bt_history.specs.Legal.{IsAllowed, Permits, answer, answer_unless, first_cause, refusal}
 use Rattle.bt_history.specs.Next.{Exactly}
+use Rattle.bt_history.specs.Finished.{finished}
 use Rattle.bt_history.specs.Pieces.{chosen, had}
 use Rattle.bt_history.specs.Setting.{Setting}
 use Rattle.bt_picker.specs.Positions.{DeskState, Gains as Enters}
 use Rattle.bt_peer.specs.Desks.{calls_in}
+use Rattle.bt_peer.specs.News.{AreTold}
 use Rattle.bt_peer.specs.declared.seat.Seat.{Seat}
 use Rattle.bt_peer.specs.declared.stream.TheConstants.{MOST_STREAMS}
 use Rattle.bt_peer.specs.Standing.{AreNew, IsFresh, HasOpened, MayPlay}
 use Rattle.bt_peer.specs.Terms.{TermsState, pieces_of}
 use Rattle.bt_peer.proofs.Desks.{calls_in-own, calls_in-other}
+use Rattle.bt_peer.proofs.News.{told_none_yet}
 
 -- the empty desk is fresh
 pub fresh_empty : (count : ℕ) (desk : DeskState) → desk.history ≡ [] → IsFresh count desk
@@ -76,5 +79,10 @@ AreNew-play terms seed desk seats streams layout workers few seated new = record
   workers = workers;
   few = few;
   fit = λ i. λ any. λ within.
-      ap length (new i any within).told ∙ (length-replicate {A = Bool} (pieces_of terms) false ∙ ap piece_count (sym layout));
+      let seat = get_or seats i any in
+      record {
+        count = ap length (new i any within).told ∙ (length-replicate {A = Bool} (pieces_of terms) false ∙ ap piece_count (sym layout));
+        told = subst (λ (n : ℕ). AreTold seat.told n (finished desk.history)) (sym (new i any within).seen)
+            (told_none_yet seat.told (finished desk.history));
+      };
 }

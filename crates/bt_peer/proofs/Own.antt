@@ -20,7 +20,7 @@ use Rattle.bt_peer.specs.Terms.{TermsState}
 use Rattle.bt_peer.specs.Steps.{Reading, Surroundings, TakesTurn, TellsNews, AsksForNews}
 
 abbrev pub own : PlaceRecord → PlaceRecord
-own place = record place { lent = []; others = λ other. [] }
+own place = record place { lent = []; others = λ other. []; in_order = [] }
 
 abbrev pub own_around : Surroundings → Surroundings
 own_around out = record out { past = own out.past }
@@ -33,6 +33,7 @@ own_up_to a b acts gains = record {
   calls = gains.calls;
   others = λ worker. refl;
   had = gains.had;
+  in_order = ([], refl);
   told = gains.told;
   finished = gains.finished;
 }
@@ -125,6 +126,7 @@ others_left lent lent' old new worker worker' told told' short short' acts gains
       ∙ gains.others other
       ∙ ap (λ (b : Bool). if b then nothing else calls_in old.history other) differs;
   had = gains.had;
+  in_order = gains.in_order;
 }
 
 -- two names that stand first

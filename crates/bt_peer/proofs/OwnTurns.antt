@@ -14,7 +14,8 @@ use Rattle.bt_peer.specs.Reader.{most_reads}
 use Rattle.bt_peer.specs.Places.{PlaceRecord, GainsUpTo}
 use Rattle.bt_peer.specs.Serial.{StreamRecord, DevicesAfter, around, source_of}
 use Rattle.bt_peer.specs.Sessions.{SessionState, GoesOn, Ends, FailsWith, Running}
-use Rattle.bt_peer.specs.Standing.{Standing, Stands, StandsBy, ConductBy, DevicesBy, Keeps, LeavesOthers}
+use Rattle.bt_peer.specs.Standing.{Standing, Stands, StandsBy, ConductBy, DevicesBy, Keeps, LeavesOthers, NotesPieces}
+use Rattle.bt_peer.specs.declared.seat.Seat.{Seat}
 use Rattle.bt_peer.specs.Terms.{TermsState}
 use Rattle.bt_peer.specs.Steps.{Surroundings}
 use Rattle.bt_peer.proofs.Conduct.{Conducts-join, DrawsWords-join}
@@ -168,3 +169,6 @@ pub at_same_desk : (worker : ℕ) (old new : Standing) (desk : DeskState) → de
     Keeps worker old (record new { desk = desk })
 at_same_desk worker old new desk same keeps =
     subst (λ (d : DeskState). Keeps worker old (record new { desk = d })) (sym same) keeps
+
+pub notes_at_same : (desk new : DeskState) (seat : Seat) → desk ≡ new → NotesPieces new seat → NotesPieces desk seat
+notes_at_same desk new seat same notes = subst (λ (d : DeskState). NotesPieces d seat) (sym same) notes

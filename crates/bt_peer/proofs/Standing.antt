@@ -157,6 +157,7 @@ others_stand worker other old new session told stream short generator left apart
           calls = left.calls other apart ∙ sym (append-nil _);
           others = λ j. refl;
           had = left.had;
+          in_order = ([], refl);
           told = λ piece. refl;
           finished = tt;
         };

@@ -10,7 +10,7 @@ use Rattle.bt_peer.specs.declared.fault.SessionFault.{SessionFault}
 use Rattle.bt_peer.specs.declared.fault.SessionFault.TheVariants as faults
 use Rattle.bt_peer.specs.Acts.{Act, Called, News, calls_of, news_of, is_refusal}
 use Rattle.bt_peer.specs.Writer.{says, answer, interest_by, interest_after}
-use Rattle.bt_peer.specs.Places.{PlaceRecord, Gains, GainsUpTo, AllHad, Tells}
+use Rattle.bt_peer.specs.Places.{PlaceRecord, Gains, GainsUpTo, AllHad, Extends, LacksMemory, Tells}
 use Rattle.bt_peer.specs.Outlets.{Outlet, Saying, Performs, PerformsUpTo, StopsCall, Writes, WritesUpTo, IsCut}
 use Rattle.bt_peer.specs.Parts.{CallStops}
 use Rattle.std.proofs.KnownBytes.{Appends-nil, Appends-trans}
@@ -61,6 +61,13 @@ AllHad-append : (had : ℕ → Bool) (ps qs : List ℕ) → AllHad had ps → Al
 AllHad-append had [] qs first second = second
 AllHad-append had (p ∷ ps) qs first second = (first.0, AllHad-append had ps qs first.1 second)
 
+pub Extends-refl : (xs : List ℕ) → Extends xs xs
+Extends-refl xs = ([], sym (append-nil xs))
+
+pub Extends-join : (xs ys zs : List ℕ) → Extends xs ys → Extends ys zs → Extends xs zs
+Extends-join xs ys zs one more =
+    (one.0 ++ more.0, more.1 ∙ ap (λ (l : List ℕ). l ++ more.0) one.1 ∙ append_assoc xs one.0 more.0)
+
 -- one stretch after another
 pub GainsUpTo-join : (a b c : PlaceRecord) (es fs : List Act) → GainsUpTo a es b → GainsUpTo b fs c → GainsUpTo a (es ++ fs) c
 GainsUpTo-join a b c es fs g h =
@@ -72,6 +79,7 @@ GainsUpTo-join a b c es fs g h =
           ∙ ap (λ (xs : List (CallMark × Reply)). a.calls ++ xs) (sym (calls_of-append es fs));
       others = λ other. h.others other ∙ g.others other;
       had = λ piece. λ before. h.had piece (g.had piece before);
+      in_order = Extends-join a.in_order b.in_order c.in_order g.in_order h.in_order;
       told = subst (λ (ps : List ℕ). Tells a.told ps c.told) (sym (news_of-append es fs))
           (Tells-join a.told b.told c.told (news_of es) (news_of fs) g.told h.told);
       finished = subst (AllHad c.had) (sym (news_of-append es fs))
@@ -87,6 +95,7 @@ Gains-none a = record {
     calls = sym (append-nil a.calls);
     others = λ worker. refl;
     had = λ piece. λ before. before;
+    in_order = Extends-refl a.in_order;
     told = λ piece. refl;
     finished = tt;
   };
@@ -177,5 +186,21 @@ call_cut a b call reply fault gains accepted cut wrote = record {
   performs = record {
     gains = up_to a.past b.past (Called call reply ∷ []) gains;
     writes = subst (λ (xs : List ℕ). WritesUpTo fault a.said xs b.said) (sym (append-nil (answer a.said.interested reply))) wrote;
+  };
+}
+
+-- a call that found no memory
+pub call_lacks : (past past' : PlaceRecord) (said : Saying) (call : CallMark) → LacksMemory past past' →
+    CallStops faults.NoMemory call (record { past = past; said = said }) (record { past = past'; said = said })
+call_lacks past past' said call lacks = record {
+  acts = [];
+  stops = (inr refl, inl refl);
+  performs = record {
+    gains = lacks.gains;
+    writes = record {
+      wrote = record { front = []; rest = []; parts = refl; wrote = Appends-nil said.written; all = inr refl };
+      failed = λ is. absurd (cc is);
+      same_sink = refl;
+    };
   };
 }

@@ -6,6 +6,7 @@ use Rattle.bt_history.specs.declared.mark.Mark.{Mark}
 use Rattle.bt_history.specs.History.{History}
 use Rattle.bt_history.specs.Logs.{marks_of}
 use Rattle.bt_history.specs.Pieces.{had}
+use Rattle.bt_history.specs.Finished.{finished}
 use Rattle.std.specs.Borrow.{GName}
 use Rattle.bt_picker.specs.Positions.{DeskState}
 use Rattle.bt_meta.specs.Layout.{piece_count}
@@ -28,6 +29,7 @@ desk_record lent desk worker told short = record {
   calls = calls_in desk.history worker;
   others = λ other. if other == worker then [] else calls_in desk.history other;
   had = λ piece. nat_lt piece (piece_count desk.setting.torrent) && had desk.history piece;
+  in_order = finished desk.history;
   told = λ piece. slice_index_or told piece false;
   short = short;
 }

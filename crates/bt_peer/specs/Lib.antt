@@ -14,3 +14,4 @@ pub mod Steps
 pub mod Terms
 pub mod Turns
 pub mod Writer
+pub mod News

@@ -16,6 +16,10 @@ abbrev pub AllHad : (ℕ → Bool) → List ℕ → Type 0
 AllHad had [] = Unit {0}
 AllHad had (piece ∷ pieces) = (had piece ≡ true) × AllHad had pieces
 
+-- the second list begins with the first
+abbrev pub Extends : List ℕ → List ℕ → Type 0
+Extends old new = (more : List ℕ) × (new ≡ old ++ more)
+
 -- what a place says of itself
 pub record PlaceRecord : Type 0 where
   -- the `&mut`s that it holds, by which their owner knows them again
@@ -30,6 +34,8 @@ pub record PlaceRecord : Type 0 where
   pub others : ℕ → List (CallMark × Reply)
   -- the pieces that are known to be finished
   pub had : ℕ → Bool
+  -- the same in the order in which they came to be finished, where the place keeps it
+  pub in_order : List ℕ
   -- the pieces that were told as news
   pub told : ℕ → Bool
   -- a call has found no memory
@@ -47,6 +53,7 @@ pub record GainsUpTo (old : PlaceRecord) (acts : List Act) (new : PlaceRecord) :
   pub calls : new.calls ≡ old.calls ++ calls_of acts
   pub others : (worker : ℕ) → new.others worker ≡ old.others worker
   pub had : (piece : ℕ) → old.had piece ≡ true → new.had piece ≡ true
+  pub in_order : Extends old.in_order new.in_order
   pub told : Tells old.told (news_of acts) new.told
   pub finished : AllHad new.had (news_of acts)
 

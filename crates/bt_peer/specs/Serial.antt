@@ -67,6 +67,7 @@ own_record desk worker told short = record {
   calls = calls_in desk.history worker;
   others = λ other. [];
   had = had_at desk;
+  in_order = [];
   told = λ piece. slice_index_or told piece false;
   short = short;
 }

@@ -4,6 +4,7 @@ use Rattle.std.specs.Prelude.{Result, Ok, Err}
 use Rattle.bt_meta.specs.Layout.{piece_count}
 use Rattle.bt_history.specs.Peers.{flag}
 use Rattle.bt_history.specs.Pieces.{chosen, had}
+use Rattle.bt_history.specs.Finished.{finished}
 use Rattle.bt_picker.specs.Positions.{DeskState}
 use Rattle.bt_peer.specs.declared.fault.End.{End}
 use Rattle.bt_peer.specs.declared.fault.SessionFault.{SessionFault}
@@ -12,6 +13,8 @@ use Rattle.bt_peer.specs.declared.stream.TheConstants.{MOST_STREAMS}
 use Rattle.rand_core.specs.Stream.{Stream as Words}
 use Rattle.bt_peer.specs.Conduct.{Calls, Conducts, DrawsWords, answers_of, generator_of}
 use Rattle.bt_peer.specs.Desks.{calls_in}
+use Rattle.bt_peer.specs.News.{AreTold}
+use Rattle.bt_peer.specs.Places.{Extends}
 use Rattle.bt_peer.specs.Reader.{SourceState, most_reads}
 use Rattle.bt_peer.specs.Serial.{StreamRecord, DevicesAfter, EndsAs, around, had_at, opening_of, source_of}
 use Rattle.bt_peer.specs.Sessions.{SessionState, Running, begun, to_hear}
@@ -70,6 +73,7 @@ pub record LeavesOthers (worker : ℕ) (old new : DeskState) : Type 0 where
   pub setting : new.setting ≡ old.setting
   pub calls : (other : ℕ) → other ≢ worker → calls_in new.history other ≡ calls_in old.history other
   pub had : (piece : ℕ) → had_at old piece ≡ true → had_at new piece ≡ true
+  pub in_order : Extends (finished old.history) (finished new.history)
 
 -- what may be left of a session: nothing once it has ended
 abbrev pub left_after : Option (Result End SessionFault) → ℕ → ℕ
@@ -91,9 +95,10 @@ pub record LeavesRest (count : ℕ) (old new : DeskState) : Type 0 where
   pub setting : new.setting ≡ old.setting
   pub calls : (other : ℕ) → count ≤ other → calls_in new.history other ≡ calls_in old.history other
 
--- a seat notes pieces of the desk's torrent
-abbrev pub NotesPieces : DeskState → Seat → Type 0
-NotesPieces desk seat = length seat.told ≡ piece_count desk.setting.torrent
+-- a seat notes pieces of the desk's torrent, and has told the first so many of those that came to be had
+pub record NotesPieces (desk : DeskState) (seat : Seat) : Type 0 where
+  pub count : length seat.told ≡ piece_count desk.setting.torrent
+  pub told : AreTold seat.told seat.seen (finished desk.history)
 
 -- a run may take turns: each stream has a seat and a worker, and there is one worker more
 pub record MayPlay {X : Type 0} (desk : DeskState) (seats : List Seat) (streams : List X) : Type 0 where
@@ -129,6 +134,7 @@ pub record HasOpened (worker : ℕ) (flags : List Bool) (desk : DeskState) : Typ
 pub record IsNew (terms : TermsState) (seed worker : ℕ) (seat : Seat) : Type 0 where
   pub session : seat.session ≡ begun terms worker
   pub told : seat.told ≡ replicate (pieces_of terms) false
+  pub seen : seat.seen ≡ 0
   pub generator : answers_of seat.rng ≡ generator_of seed worker
 
 -- that of each worker

@@ -2,12 +2,14 @@
 
 ghost use Rattle.std.specs.Prelude.{◌≡◌, ◌<◌, ◌∷◌, ℕ, List, [], length, OnOk, OnErr, true, false, slice_index_or, IfSome, IfNone};
 ghost use Rattle.bt_meta.specs.Layout.{piece_count};
+ghost use Rattle.bt_history.specs.Finished.{finished};
 ghost use Rattle.bt_history.specs.Pieces.{had};
 ghost use Rattle.bt_history.specs.declared.call.Reply.{Reply};
 ghost use Rattle.bt_picker.specs.Checks.{SettlesNow, waits};
 ghost use Rattle.bt_peer.specs.Conduct.{SettlesAtOnce};
 ghost use Rattle.bt_peer.specs.Desks.{desk_record};
 ghost use Rattle.bt_peer.specs.Acts.{Act, News};
+ghost use Rattle.bt_peer.specs.News.{AreTold, FindsUntold, IsLesser};
 ghost use Rattle.bt_peer.specs.Places.{AllTold, Gains, LacksMemory};
 ghost use Rattle.bt_peer.specs.Turns.{ChecksAtMost};
 
@@ -23,9 +25,12 @@ pub struct DeskPlace<'a> {
     worker: u32,
     /// The pieces that were told as news.
     told: &'a mut Bitfield,
+    /// So many of the pieces that the desk lists as finished were told, from the first on: news are behind these.
+    seen: usize,
     short: bool,
     ghost worker_is: { worker < desk.now.setting.workers },
     ghost pieces: { length told.now ≡ piece_count desk.now.setting.torrent },
+    ghost told_first: { AreTold told.now seen (finished desk.now.history) },
 }
 
 impl<'a> DeskPlace<'a> {
@@ -36,12 +41,36 @@ impl<'a> DeskPlace<'a> {
         ensures { ⟦<DeskPlace<'a> as Place>⟧.past result ≡ desk_record
             (desk.entry.ghost_name ∷ told.entry.ghost_name ∷ []) desk.old worker told.old false }
     {
+        DeskPlace::resume(desk, worker, told, 0)
+    }
+
+    /// The same, where so many of the pieces that the desk lists as finished are known to be told.
+    pub(crate) fn resume(
+        desk: &'a mut Desk,
+        worker: u32,
+        told: &'a mut Bitfield,
+        seen: usize,
+    ) -> DeskPlace<'a>
+        requires worker { worker < desk.old.setting.workers }
+        requires told { length told.old ≡ piece_count desk.old.setting.torrent }
+        requires seen { AreTold told.old seen (finished desk.old.history) }
+        ensures { ⟦<DeskPlace<'a> as Place>⟧.past result ≡ desk_record
+            (desk.entry.ghost_name ∷ told.entry.ghost_name ∷ []) desk.old worker told.old false }
+    {
         DeskPlace {
             desk,
             worker,
             told,
+            seen,
             short: false,
         }
+    }
+
+    /// How many of the pieces that the desk lists as finished are known to be told.
+    pub(crate) fn seen(&self) -> usize
+        ensures { AreTold self.now.told.now result (finished self.now.desk.now.history) }
+    {
+        self.seen
     }
 
     /// Whether a call has found no memory.
@@ -78,9 +107,12 @@ impl<'a> Place for DeskPlace<'a> {
         ensures least { IfSome result (λ piece. (other : ℕ) → other < piece → had self.old.desk.now.history other ≡ true →
             slice_index_or self.old.told.now other false ≡ true) }
     {
-        let piece = first_untold(self.desk, self.told)?;
-        self.told.set(piece);
-        Some(piece)
+        let untold = first_untold(self.desk, self.told, self.seen);
+        match untold {
+            Some(piece) => self.told.set(piece),
+            None => self.seen = self.desk.finished().len(),
+        }
+        untold
     }
 
     fn completed(&mut self, alloc: Global, piece: u32) -> Result<(), AllocError>
@@ -102,20 +134,28 @@ impl<'a> Place for DeskPlace<'a> {
     }
 }
 
-/// The least piece that is had and wasn't told.
-fn first_untold(desk: &Desk, told: &Bitfield) -> Option<u32>
-    requires { length told.now ≡ piece_count desk.now.setting.torrent }
-    ensures some { IfSome result (λ piece. (piece < length told.now)
-        × (had desk.now.history piece ≡ true) × (slice_index_or told.now piece false ≡ false)) }
-    ensures least { IfSome result (λ piece. (other : ℕ) → other < piece →
-        had desk.now.history other ≡ true → slice_index_or told.now other false ≡ true) }
-    ensures none { IfNone result ((piece : ℕ) → piece < length told.now →
-        had desk.now.history piece ≡ true → slice_index_or told.now piece false ≡ true) }
+/// The least of the finished pieces that wasn't told, where the first so many of them were. Goes over the others alone.
+fn first_untold(desk: &Desk, told: &Bitfield, seen: usize) -> Option<u32>
+    requires { AreTold told.now seen (finished desk.now.history) }
+    ensures { FindsUntold told.now (finished desk.now.history) (length (finished desk.now.history)) result }
 {
-    for piece in 0..told.count() {
-        if desk.had(piece) && !told.has(piece) {
-            return Some(piece);
-        }
+    let pieces = desk.finished();
+    let mut least = None;
+    for i in seen..pieces.len() {
+        least = lesser(told, least, pieces[i]);
     }
-    None
+    least
+}
+
+/// The piece where it wasn't told and is less than what was found before, and else that.
+fn lesser(told: &Bitfield, found: Option<u32>, piece: u32) -> Option<u32>
+    ensures { IsLesser told.now found piece result }
+{
+    if piece >= told.count() || told.has(piece) {
+        return found;
+    }
+    match found {
+        Some(least) if least <= piece => found,
+        _ => Some(piece),
+    }
 }

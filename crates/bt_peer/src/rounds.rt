@@ -38,6 +38,7 @@ fn new_seat(
     Ok(Seat {
         session: Session::new(alloc, torrent.clone()?, worker, depth),
         told,
+        seen: 0,
         rng: Lcg64Xsh32::new(seed, u64::from(worker)),
         short: false,
     })

@@ -1,9 +1,8 @@
 //! A stream's seat at the desk of a run.
 
-ghost use Rattle.std.specs.Prelude.{◌≡◌, ◌<◌, None, length};
-ghost use Rattle.bt_meta.specs.Layout.{piece_count};
+ghost use Rattle.std.specs.Prelude.{◌≡◌, ◌<◌, None};
 ghost use Rattle.bt_peer.specs.Serial.{stream_of};
-ghost use Rattle.bt_peer.specs.Standing.{Keeps, LeavesOthers, left_of, standing};
+ghost use Rattle.bt_peer.specs.Standing.{Keeps, LeavesOthers, NotesPieces, left_of, standing};
 
 use crate::desk_place::DeskPlace;
 use crate::session::Session;
@@ -19,6 +18,8 @@ pub struct Seat {
     pub session: Session,
     /// The pieces that were told to the peer.
     pub told: Bitfield,
+    /// So many of the pieces that the desk lists as finished were told, from the first on.
+    pub seen: usize,
     /// It gives the words of Next.
     pub rng: Lcg64Xsh32,
     /// A call of its last turn found no memory; no turn follows such a one.
@@ -34,16 +35,16 @@ pub fn take_turn<R: Source, W: Sink>(
     stream: &mut Stream<R, W>,
 )
     requires worker { worker < desk.old.setting.workers }
-    requires told { length seat.old.told ≡ piece_count desk.old.setting.torrent }
+    requires notes { NotesPieces desk.old seat.old }
     requires runs { seat.old.session.outcome ≡ None }
     ensures keeps { Keeps worker
         (standing desk.old seat.old (stream_of R.Source W.Sink stream.old))
         (standing desk.new seat.new (stream_of R.Source W.Sink stream.new)) }
     ensures others { LeavesOthers worker desk.old desk.new }
-    ensures told { length seat.new.told ≡ length seat.old.told }
+    ensures notes { NotesPieces desk.new seat.new }
     ensures shrinks { left_of seat.new < left_of seat.old }
 {
-    let mut place = DeskPlace::new(desk, worker, &mut seat.told);
+    let mut place = DeskPlace::resume(desk, worker, &mut seat.told, seat.seen);
     let _ = seat.session.turn(
         alloc,
         &mut stream.reader,
@@ -51,5 +52,6 @@ pub fn take_turn<R: Source, W: Sink>(
         &mut place,
         &mut seat.rng,
     );
+    seat.seen = place.seen();
     seat.short = place.fell_short();
 }

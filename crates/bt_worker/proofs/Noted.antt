@@ -28,6 +28,7 @@ module _ (setting : Setting) (old new : PassState) (had told : ℕ → Bool) (sh
       calls = ap calls_of_marks notes.log ∙ map-append (λ (m : Mark). (m.call, m.reply)) old.log (mark notes.place call reply ∷ []);
       others = λ worker. refl;
       had = λ piece is. is;
+      in_order = ([], refl);
       told = λ piece. refl;
       finished = tt;
     };

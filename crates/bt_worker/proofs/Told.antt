@@ -76,6 +76,7 @@ module _ (setting : Setting) (old new : WorkerState) (short : Bool) (same : new.
       calls = ap (λ (p : PassState). calls_of_marks p.log) same ∙ sym (append-nil (calls_of_marks old.pass.log));
       others = λ worker. refl;
       had = one.stays;
+      in_order = ([], refl);
       told = (one.untold, one.adds);
       finished = (one.finished, tt);
     };
@@ -93,6 +94,7 @@ module _ (setting : Setting) (old new : WorkerState) (short : Bool) (same : new.
         calls = ap (λ (p : PassState). calls_of_marks p.log) same ∙ sym (append-nil (calls_of_marks old.pass.log));
         others = λ worker. refl;
         had = nothing.stays;
+        in_order = ([], refl);
         told = nothing.same;
         finished = tt;
       };
@@ -112,6 +114,7 @@ gains_none setting worker short = record {
     calls = sym (append-nil (calls_of_marks worker.pass.log));
     others = λ worker. refl;
     had = λ piece is. is;
+    in_order = ([], refl);
     told = λ piece. refl;
     finished = tt;
   };

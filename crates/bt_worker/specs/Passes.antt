@@ -22,6 +22,7 @@ pass_record setting worker log had told short = record {
   calls = calls_of_marks log;
   others = λ other. [];
   had = had;
+  in_order = [];
   told = told;
   short = short;
 }

@@ -1,7 +1,7 @@
 use Rattle.std.proofs.Common.{◌≡◌, false, rules}
 use Rattle.std.proofs.lemmas.Result.{err_from_is_err_and}
-use Rattle.bt_peer.specs.Acts.{is_refusal}
-use Rattle.bt_peer.proofs.Stretches.{call_cut}
+use Rattle.bt_peer.specs.Acts.{is_refusal, mark_of_call}
+use Rattle.bt_peer.proofs.Stretches.{call_cut, call_lacks}
 use Rattle.bt_peer.proofs.calls.make_call.Goals as goal
 
 pub returns-in_err-tell : goal.returns-in_err-tell
@@ -15,3 +15,8 @@ returns-in_err-tell g c =
       err =
           call_cut _ _ _ _ _ c.in_ok-reply.ensures.ok accepted c.in_err-tell.ensures.cause c.in_err-tell.ensures.err;
     })
+
+pub returns-in_err-reply-clause-err : goal.returns-in_err-reply-clause-err
+returns-in_err-reply-clause-err g c =
+    let p = err_from_is_err_and c.from_residual.result c.from_residual.ensures.1 in
+    rw (p.1, p.2) (call_lacks _ _ _ (mark_of_call c.args.call) c.in_err-reply.ensures.err)

@@ -47,11 +47,11 @@ returns-clause-plays g c =
     let played = c.in_ok-joined.joined.played.items in
     let short = list_any (λ p. p.short) played in
     rw (c.part-came_back.ensures.ends, c.part-came_back.ensures.streams) (λ i worker stream end below.
-        plays_short _ _ _ _ _ _ _ _ short _ (λ is. or_second _ _ _ _ (c.part-came_back.ensures.short ∙ is))
-        (all_play (parted g c)
-        (stream_record g.R.Source.left g.R.Source.ended g.R.Source.failed g.R.Source.reads g.W.Sink.written g.W.Sink.failed)
-        (terms_of c.args.commons.now c.args.depth) g.L.RunName.setting c.args.seed c.args.streams.items
-        (map (λ p. p.stream) played) (map (λ p. p.end) played) short refl c.in_ok-joined.ensures.plays i worker stream end below))
+    plays_short _ _ _ _ _ _ _ _ short _ (λ is. or_second _ _ _ _ (c.part-came_back.ensures.short ∙ is))
+    (all_play (parted g c)
+    (stream_record g.R.Source.left g.R.Source.ended g.R.Source.failed g.R.Source.reads g.W.Sink.written g.W.Sink.failed)
+    (terms_of c.args.commons.now c.args.depth) g.L.RunName.setting c.args.seed c.args.streams.items
+    (map (λ p. p.stream) played) (map (λ p. p.end) played) short refl c.in_ok-joined.ensures.plays i worker stream end below))
 
 pub returns-clause-checks : goal.returns-clause-checks
 returns-clause-checks g c = all_check (parted g c) c.in_ok-joined.ensures.checks
