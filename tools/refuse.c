@@ -1,23 +1,24 @@
-/* Refuses one allocation, read or write of the program that it is preloaded into, for tools/refused.py.
+/* Refuses one allocation, read, write or thread of the program that it is preloaded into, for tools/refused.py.
  *
- * REFUSE is alloc:N, read:N or write:N, with N from 1: the Nth call of that kind fails, and no other. REFUSE_COUNT names a file of 24 bytes,
- * in which the calls of each kind are counted. Calls that the C library makes for itself are neither counted nor refused.
+ * REFUSE is alloc:N, read:N, write:N or thread:N, with N from 1: the Nth call of that kind fails, and no other. REFUSE_COUNT names a file of
+ * 32 bytes, in which the calls of each kind are counted. Calls that the C library makes for itself are neither counted nor refused.
  */
 #define _GNU_SOURCE
 #include <dlfcn.h>
 #include <errno.h>
 #include <fcntl.h>
 #include <link.h>
+#include <pthread.h>
 #include <stdint.h>
 #include <stdlib.h>
 #include <string.h>
 #include <sys/mman.h>
 #include <unistd.h>
 
-enum kind { ALLOC, READ, WRITE };
+enum kind { ALLOC, READ, WRITE, THREAD, KINDS };
 
-static const char *const NAMES[] = {"alloc:", "read:", "write:"};
-static uint64_t spare[3];
+static const char *const NAMES[] = {"alloc:", "read:", "write:", "thread:"};
+static uint64_t spare[KINDS];
 static uint64_t *counts = spare;
 static int refused_kind = -1;
 static uint64_t refused_call;
@@ -43,7 +44,7 @@ __attribute__((constructor)) static void begin(void) {
         if (at != MAP_FAILED) counts = at;
         close(file);
     }
-    for (int kind = 0; what && kind < 3; kind++)
+    for (int kind = 0; what && kind < KINDS; kind++)
         if (!strncmp(what, NAMES[kind], strlen(NAMES[kind]))) {
             refused_kind = kind;
             refused_call = strtoull(what + strlen(NAMES[kind]), 0, 10);
@@ -79,4 +80,8 @@ ssize_t write(int file, const void *bytes, size_t size) {
 
 ssize_t __write(int file, const void *bytes, size_t size) {
     return is_refused(WRITE, CALLER) ? (errno = EIO, -1) : NEXT(write)(file, bytes, size);
+}
+
+int pthread_create(pthread_t *thread, const pthread_attr_t *how, void *(*start)(void *), void *given) {
+    return is_refused(THREAD, CALLER) ? EAGAIN : NEXT(pthread_create)(thread, how, start, given);
 }

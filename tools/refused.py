@@ -1,19 +1,23 @@
 #!/usr/bin/env python3
-"""Runs the built program, or the built tests, with one allocation, read or write refused, each in turn until a run meets none.
+"""Runs the built program, or the built tests, with one allocation, read, write or thread refused, each in turn until a run meets none.
 
     tools/refused.py [RUNS]
     tools/refused.py tests [CRATE..]
 
-Each command line below is run as it stands, and then with the first, second, third .. allocation, read and write of the program refused
-(tools/refuse.c, which the system's `cc` builds). Each run has to end by a status of docs/NUMBERS.md, without a signal, and print what
-an undisturbed run prints, or whole lines of its front, or the report of a run whose journal was found sound. RUNS, 1 where it isn't said,
-is how often each command line of `run` is tried, since its threads come in another order each time.
+Each command line below is run as it stands, and then with the first, second, third .. allocation, read, write and thread of the program
+refused (tools/refuse.c, which the system's `cc` builds). Each run has to end within a minute, by a status of docs/NUMBERS.md and without a
+signal, and print what an undisturbed run prints, or whole lines of its front, or the report of a run whose journal was found sound. Where
+no session found memory lacking, such a report has all pieces that the undisturbed run has: a check that was given up is made by the last
+worker. Where a thread is refused, nothing is printed but `no thread`. RUNS, 1 where it isn't said, is how often each command line of `run`
+is tried, since its threads come in another order each time.
 
-With `tests` each test of these crates (those of TESTED where none is said) is run with its first, second .. allocation refused, 300 at
-most. It has to pass, or to end because there was no memory: no assertion fails, so that no answer changes in place of the refusal, and
+With `tests` each test of these crates (those of TESTED where none is said) is run with its first, second .. allocation refused, to the
+last. It has to pass, or to end because there was no memory: no assertion fails, so that no answer changes in place of the refusal, and
 a call that is made once more gives the answer that it would have had. `rt test` in a crate's folder leaves its tests built.
 """
 
+import concurrent.futures
+import hashlib
 import itertools
 import os
 import re
@@ -21,13 +25,13 @@ import struct
 import subprocess
 import sys
 import tempfile
+import threading
 
 ROOT = os.path.dirname(os.path.dirname(os.path.abspath(__file__)))
 PROGRAM = os.path.join(ROOT, "crates/piecepick/out/piecepick")
 DATA = os.path.join(ROOT, "crates/bt_runs/data")
-KINDS = ("alloc", "read", "write")
-TESTED = ("bt_parts_tests", "bt_picker_tests")
-MOST_OF_A_TEST = 300
+KINDS = ("alloc", "read", "write", "thread")
+TESTED = ("bt_parts_tests", "bt_picker_tests", "bt_session_tests", "bt_cli_tests")
 # What a test says that ends by an error of its own, and not by an assertion.
 NO_MEMORY = re.compile(r"error: .*(NoMemory|AllocError|AllocFailed|OutOfMemory).*\nthe test failed: its result gives status 1\n")
 LEFT_OUT = {
@@ -51,6 +55,22 @@ SINGLE_FILE = data("single-file.torrent", "single-file-s0-transmission.bin", "si
 SCRIPT = os.path.join(ROOT, "crates/piecepick/stdin")
 
 
+def many_pieces(folder, count):
+    """A torrent of so many pieces of one block of zeros, and a stream that brings them all: more than the queue of tickets holds."""
+    block = bytes(16384)
+    info = b"d6:lengthi%de4:name5:zeros12:piece lengthi16384e6:pieces%d:%se" % (
+        count * len(block), 20 * count, hashlib.sha1(block).digest() * count)
+    hello = b"\x13BitTorrent protocol" + bytes(8) + hashlib.sha1(info).digest() + b"-XX0001-000000000000"
+    pieces = [struct.pack(">IBII", 9 + len(block), 7, piece, 0) + block for piece in range(count)]
+    made = {"zeros.torrent": b"d4:info" + info + b"e", "zeros.stream": hello + b"".join(pieces)}
+    paths = []
+    for name, text in made.items():
+        paths.append(os.path.join(folder, name))
+        with open(paths[-1], "wb") as file:
+            file.write(text)
+    return paths
+
+
 def commands(folder):
     out = os.path.join(folder, "content")
     return [
@@ -61,6 +81,7 @@ def commands(folder):
         ("serial, three pieces", ["serial", *THREE_PIECES, "--journal"], None),
         ("run, one piece", ["run", *ONE_PIECE, "--out", out], None),
         ("run, three pieces", ["run", *THREE_PIECES, "--checkers", "2"], None),
+        ("run, forty pieces", ["run", *many_pieces(folder, 40)], None),
     ]
 
 
@@ -73,13 +94,14 @@ class Trial:
 
     def run(self, words, stdin, refuse, program=PROGRAM):
         """What the program did, and how many calls of each kind it made."""
-        with open(self.count, "wb") as file:
-            file.write(bytes(24))
-        env = {**os.environ, "LD_PRELOAD": self.shim, "REFUSE_COUNT": self.count, "REFUSE": refuse}
+        counted = f"{self.count}-{threading.get_ident()}"
+        with open(counted, "wb") as file:
+            file.write(bytes(8 * len(KINDS)))
+        env = {**os.environ, "LD_PRELOAD": self.shim, "REFUSE_COUNT": counted, "REFUSE": refuse}
         with open(stdin or os.devnull, "rb") as file:
             done = subprocess.run([program, *words], stdin=file, capture_output=True, env=env, timeout=60)
-        with open(self.count, "rb") as file:
-            return done, dict(zip(KINDS, struct.unpack("<3Q", file.read())))
+        with open(counted, "rb") as file:
+            return done, dict(zip(KINDS, struct.unpack(f"<{len(KINDS)}Q", file.read())))
 
 
 def is_report(text):
@@ -87,6 +109,13 @@ def is_report(text):
     lines = text.split("\n")
     faults = [line.split()[3] for line in lines if line.startswith("stream ") and " fault " in line]
     return "journal ok" in lines and text.endswith("\n") and set(faults) <= {"5", "7"}
+
+
+def has_all(text, whole):
+    """Whether a report tells of the same pieces as the undisturbed run's, if no session found memory lacking."""
+    told = [line for line in text.split("\n") if line.split(" ")[0] in ("pieces", "had", "missing", "complete")]
+    lacking = any(re.fullmatch(r"stream \d+ fault 7", line) for line in text.split("\n"))
+    return lacking or not told or all(line in whole.split("\n") for line in told)
 
 
 def is_front(text, whole):
@@ -101,7 +130,9 @@ def judge_memory(words, status, first, out, whole):
     if status == 5 and first == "memory":
         if is_run:
             # The last line is missing where there was no memory to judge the journal by.
-            return None if out == "" or is_report(out) or is_report(out + "journal ok\n") else "a report that isn't whole"
+            if out != "" and not is_report(out) and not is_report(out + "journal ok\n"):
+                return "a report that isn't whole"
+            return None if has_all(out, whole) else "a check that was given up is lacking"
         return None if is_front(out, whole) else "no front of the output"
     return f"status {status}, {first}"
 
@@ -112,6 +143,8 @@ def judge(kind, words, done, whole):
     first = err.split("\n")[0]
     if status < 0:
         return f"signal {-status}"
+    if kind == "thread":
+        return None if (status, out, err) == (5, "", "no thread\n") else f"status {status}, {first}"
     if kind == "alloc" and (status, err) == (whole.returncode, ""):
         # It did without, as where less room than was asked for would do.
         return None if out == whole.stdout.decode() else "another output"
@@ -160,7 +193,7 @@ def judge_test(done):
 def refuse_in_test(trial, program, test):
     """How many allocations were refused, and how many runs went wrong."""
     wrong = 0
-    for call in range(1, MOST_OF_A_TEST + 1):
+    for call in itertools.count(1):
         done, made = trial.run([test], None, f"alloc:{call}", program)
         if made["alloc"] < call:
             return call - 1, wrong
@@ -168,7 +201,6 @@ def refuse_in_test(trial, program, test):
         if fault:
             wrong += 1
             print(f"{test}, alloc {call}: {fault}")
-    return MOST_OF_A_TEST, wrong
 
 
 def try_tests(trial, crates):
@@ -178,7 +210,8 @@ def try_tests(trial, crates):
         program = os.path.join(ROOT, f"crates/{crate}/out/{crate}_tests")
         listed = subprocess.run([program, "--list"], capture_output=True, check=True).stdout.decode()
         tests = [test for test in re.findall(r"tests::[\w:]+\w", listed) if test not in LEFT_OUT]
-        tried = [refuse_in_test(trial, program, test) for test in tests]
+        with concurrent.futures.ThreadPoolExecutor(os.cpu_count()) as pool:
+            tried = list(pool.map(lambda test: refuse_in_test(trial, program, test), tests))
         print(f"{crate}: {len(tests)} tests, {sum(refused for refused, _ in tried):,} allocations refused")
         wrong += sum(faulty for _, faulty in tried)
     return wrong

@@ -4,6 +4,7 @@ ghost use Rattle.std.specs.Prelude.{◌≡◌, ◌≤◌, ℕ, [], Some, true, m
 ghost use Rattle.std.specs.Prelude.{IfSome, IfNone, OnErr, OnOk};
 ghost use Rattle.std.specs.List.{All};
 ghost use Rattle.bt_board.specs.Story.{Seen};
+ghost use Rattle.bt_check.specs.Checked.{Fits};
 ghost use Rattle.bt_history.specs.Entries.{action_of, event};
 ghost use Rattle.bt_history.specs.Legal.{IsLegal};
 ghost use Rattle.bt_history.specs.Logs.{answers, call_mark};
@@ -232,9 +233,19 @@ impl<L: RunName> Commons<L> {
         if let Reply::Had = reply {
             // A piece is had by bytes with its hash alone.
             let Ok(proven) = proven else { unreachable!() };
-            self.board.mark(&mut worker.seat, proven);
+            self.announce(worker, proven);
         }
         Ok(())
+    }
+
+    /// Marks a piece that is had, so that the sessions tell of it.
+    #[tactic(auto, using(crate::proofs::Passing::marked_known))]
+    fn announce(&self, worker: &mut Worker<L>, proven: Proven)
+        requires { Fits L.setting.torrent proven }
+        ensures known { knows L.setting worker.new.seat proven.piece ≡ true }
+        ensures rest { (worker.new.pass ≡ worker.old.pass) × (worker.new.tickets ≡ worker.old.tickets) }
+    {
+        self.board.mark(&mut worker.seat, proven);
     }
 
     /// The book of a run that is over: the desk and the workers' logs. Each piece that a worker's seat has seen is had there. Where there

@@ -1,7 +1,7 @@
 //! Streams that end early, readers that fail, and writers that take little or fail.
 
 use super::made::{PEER, peer};
-use super::whole::{WHOLE, played};
+use super::whole::{WHOLE, played, whole_written};
 use bt_expect::same;
 use bt_meta::{DeviceFault, FromRead, Sink, Source, ToWrite};
 use bt_peer::{End, SessionFault};
@@ -17,16 +17,6 @@ fn played_alone<W: Sink>(
     writer: &mut W,
 ) -> Result<(Result<End, SessionFault>, String), Fail> {
     played(alloc, 1, &mut FromRead::new(Cursor::new(sent)), writer)
-}
-
-/// The bytes that a whole session writes.
-fn whole_written(alloc: Global, sent: &[u8]) -> Result<Vec<u8>, Fail> {
-    let mut writer = ToWrite::new(Vec::new(alloc));
-    let (end, _) = played_alone(alloc, sent, &mut writer)?;
-    match end {
-        Ok(_) => Ok(writer.into_inner()),
-        Err(_) => Err(Fail::from("a whole session has no fault")),
-    }
 }
 
 /// A stream that ends between two messages ends well; one that ends in the handshake makes no call, and one in a message is a fault.
@@ -113,7 +103,7 @@ impl Source for Breaking<'_> {
 #[test]
 fn each_read_fails(rt: HostRuntime) -> Result<(), Fail> {
     let sent = peer(rt.alloc(), 1, &PEER)?;
-    let whole = whole_written(rt.alloc(), &sent)?;
+    let whole = whole_written(rt.alloc(), b'0')?;
     for left in 0..sent.len() {
         read_fails(&rt, rt.alloc(), &sent, &whole, left)?;
     }
@@ -174,7 +164,7 @@ impl Sink for Narrow {
 #[test]
 fn each_write_fails(rt: HostRuntime) -> Result<(), Fail> {
     let sent = peer(rt.alloc(), 1, &PEER)?;
-    let whole = whole_written(rt.alloc(), &sent)?;
+    let whole = whole_written(rt.alloc(), b'0')?;
     for room in 0..whole.len() {
         write_fails(&rt, rt.alloc(), &sent, &whole[..room])?;
     }

@@ -6,8 +6,6 @@ use bt_expect::same;
 use bt_meta::{Bitfield, Torrent};
 use bt_peer::{End, MOST_STREAMS, SerialRun, SessionFault, serial};
 use bt_picker::{Call, Rules};
-use rand_core::Rng;
-use rand_pcg::Lcg64Xsh32;
 use std::alloc::{AllocError, Global};
 use std::fmt::Write;
 use std::process::Abort;
@@ -244,9 +242,25 @@ fn has_two_faults(rt: &impl Abort, told: &Outcome) {
 fn words_come_from_the_seed(rt: HostRuntime) -> Result<(), Fail> {
     let sent = sent_by_two(rt.alloc())?;
     let run = run_of_two(rt.alloc(), &sent)?;
-    asks_by_the_seed(&rt, &run, 0)?;
-    asks_by_the_seed(&rt, &run, 1)
+    asks_by(&rt, &run, 0, &FIRST_WORDS)?;
+    asks_by(&rt, &run, 1, &SECOND_WORDS)
 }
+
+/// The first words of the generators 0 and 1 of the seed 5: PCG XSH RR 64/32 (O'Neill 2014), two of its outputs a word, the first one
+/// below, by another program.
+const FIRST_WORDS: [u64; 4] = [
+    0xfb55_ab28_0f5d_eba9,
+    0x7c7a_ff85_5980_a57f,
+    0xf2fe_585d_d5e4_88e8,
+    0xfaaa_ee30_9485_b6dc,
+];
+
+const SECOND_WORDS: [u64; 4] = [
+    0xb5bf_2b36_f239_3151,
+    0x6f62_eda3_52a2_08df,
+    0x6dc9_1f1a_9499_20e5,
+    0x9001_2453_e769_2c9b,
+];
 
 /// A run over two streams in which these bytes are sent.
 fn run_of_two(alloc: Global, sent: &[Vec<u8>]) -> Result<SerialRun, Fail> {
@@ -254,18 +268,21 @@ fn run_of_two(alloc: Global, sent: &[Vec<u8>]) -> Result<SerialRun, Fail> {
     run_by(alloc, two_pieces(alloc)?, &mut streams, 5, None, RULES)
 }
 
-/// The worker asks with the words that come from the seed.
-fn asks_by_the_seed(rt: &impl Abort, run: &SerialRun, worker: u32) -> Result<(), Fail> {
-    let mut rng = Lcg64Xsh32::new(5, u64::from(worker));
-    let mut asked = false;
+/// The worker asks with these words, and with no others.
+fn asks_by(
+    rt: &impl Abort,
+    run: &SerialRun,
+    worker: u32,
+    words: &[u64],
+) -> Result<(), Fail> {
+    let mut words = words.iter();
     for entry in run.desk.journal() {
         if entry.worker == worker {
             if let Call::Next(word) = &entry.call {
-                same(*word, rng.next_u64())?;
-                asked = true;
+                assert!(rt; words.next() == Some(word));
             }
         }
     }
-    assert!(rt; asked);
+    assert!(rt; words.next().is_none());
     Ok(())
 }

@@ -284,6 +284,7 @@ fn two_sessions_run(rt: HostRuntime) -> Result<(), Fail> {
     let gate = empty_gate();
     let torrent = two_pieces(rt.alloc())?;
     let run = run_of_two(&rt, rt.alloc(), torrent, [&hello, &hello], &gate)?;
+    assert!(rt; gate.first.load(Ordering::SeqCst) && gate.second.load(Ordering::SeqCst));
     assert!(rt; !gate.gave_up.load(Ordering::SeqCst));
     both_ended(&rt, &run, 0, 0);
     same(run.book.desk.journal().len(), 4)

@@ -130,23 +130,24 @@ fn is_whole(rt: &impl Abort, alloc: Global, sent: &[u8]) -> Result<(), Fail> {
 
 /// These bytes are what a whole session with that peer writes.
 fn writes_all(alloc: Global, written: &[u8]) -> Result<(), Fail> {
-    let mut wanted = Vec::new(alloc);
-    add_whole(&mut wanted)?;
+    let wanted = whole_written(alloc, b'3')?;
     same(written, wanted.as_slice())
 }
 
-/// Adds what a whole session with that peer writes.
-fn add_whole(wanted: &mut Vec<u8>) -> Result<(), Fail> {
+/// What a whole session of the worker with this digit writes to that peer (BEP 3).
+pub fn whole_written(alloc: Global, worker: u8) -> Result<Vec<u8>, Fail> {
+    let mut wanted = Vec::new(alloc);
     wanted.extend_from_slice(b"\x13BitTorrent protocol")?;
     wanted.extend_from_slice(&[0; 8])?;
     wanted.extend_from_slice(&[1; 20])?;
-    wanted.extend_from_slice(b"-PP0001-000000000003")?;
+    wanted.extend_from_slice(b"-PP0001-00000000000")?;
+    wanted.push(worker)?;
     // interested, request, have, not interested
     wanted.extend_from_slice(&[
         0, 0, 0, 1, 2, 0, 0, 0, 13, 6, 0, 0, 0, 0, 0, 0, 0, 0, 0, 0, 0, 3, 0, 0, 0, 5, 4, 0, 0, 0,
         0, 0, 0, 0, 1, 3,
     ])?;
-    Ok(())
+    Ok(wanted)
 }
 
 /// The calls of a session whose peer breaks off in the block.

@@ -1,15 +1,14 @@
-use Rattle.std.proofs.Common.{◌≡◌, ◌<◌, true, sym, subst, ◌∙◌}
-use Rattle.bt_check.specs.Checked.{Checked, joined}
+use Rattle.std.proofs.Common.{◌≡◌, true, sym, subst, ◌∙◌}
+use Rattle.bt_check.specs.Checked.{Checked}
 use Rattle.bt_history.specs.Entries.{event}
 use Rattle.bt_history.specs.Legal.{IsAllowed, IsLegal}
 use Rattle.bt_history.specs.declared.call.Call.TheVariants as calls
 use Rattle.bt_history.specs.declared.call.Reply.{Reply}
 use Rattle.bt_history.specs.declared.mark.CallMark.TheVariants.{Settle}
-use Rattle.bt_meta.specs.Layout.{piece_count}
-use Rattle.bt_shared.specs.Passes.{Notes}
-use Rattle.bt_worker.proofs.Passing.{marked_known, passed_fits}
+use Rattle.bt_shared.specs.Passes.{Notes, PassState}
+use Rattle.bt_worker.proofs.Passing.{passed_fits}
 use Rattle.bt_worker.proofs.commons.Commons.settle.Goals as goal
-use Rattle.bt_worker.specs.Workers.{WorkerState, knows}
+use Rattle.bt_worker.specs.Workers.{knows}
 
 pub unreachable-requires : goal.unreachable-requires
 unreachable-requires g c =
@@ -24,14 +23,13 @@ unreachable-requires g c =
 pub returns-in-Ok-clause-ok : goal.returns-in-Ok-clause-ok
 returns-in-Ok-clause-ok g c =
     let setting = g.L.RunName.setting in
-    let fits = c.in-Ok.ensures.ok in
-    let piece = c.in-Ok.proven.piece in
-    let bound : piece < piece_count setting.torrent = rw (fits.0, ← c.self.invariant.torrent_is, ← c.deref.ensures) fits.1.0 in
-    let known : knows setting c.mark.new.seat piece ≡ true = rw c.mark.ensures (marked_known setting c.worker.inside.seat piece (joined c.in-Ok.proven) bound) in
+    let old = c.args.worker.now.pass in
+    let new = c.announce.new.worker in
+    let piece = c.args.verdict.value.piece in
     record {
       reply = c.in_ok-reply.reply;
-      notes = subst (λ (w : WorkerState). Notes c.args.worker.now.pass (Settle c.args.verdict.value.piece) c.in_ok-reply.reply w.pass)
-          (sym c.worker.view_is) c.in_ok-reply.ensures.notes;
-      marks = λ had. subst (λ (v : Checked). knows setting c.mark.new.seat v.piece ≡ true) (fits.0 ∙ c.in_ok-clone.ensures.cases) known;
+      notes = subst (λ (p : PassState). Notes old (Settle piece) c.in_ok-reply.reply p) (sym c.announce.ensures.rest.0) c.in_ok-reply.ensures.notes;
+      marks = λ had. subst (λ (v : Checked). knows setting new.seat v.piece ≡ true) (c.in-Ok.ensures.ok.0 ∙ c.in_ok-clone.ensures.cases)
+          c.announce.ensures.known;
       unmarked = λ other. absurd (other c.in-Had.is);
     }
