@@ -15,7 +15,7 @@ use Rattle.bt_picker.specs.Positions.{DeskState}
 use Rattle.bt_peer.specs.declared.fault.End.{End}
 use Rattle.bt_peer.specs.declared.fault.SessionFault.{SessionFault}
 use Rattle.bt_peer.specs.declared.fault.SessionFault.TheVariants as sessions
-use Rattle.bt_peer.specs.Serial.{EachEnded, Finishes, StreamRecord, opening_of}
+use Rattle.bt_peer.specs.Serial.{RanInTurns, StreamRecord}
 use Rattle.bt_peer.specs.Terms.{terms_of}
 use Rattle.bt_text.specs.declared.fault.Fault.{Fault}
 use Rattle.bt_text.specs.declared.fault.Fault.TheVariants as faults
@@ -86,8 +86,8 @@ IsWant pieces (Some bytes) None = ⊥
 IsWant pieces (Some bytes) (Some flags) = (length flags ≡ pieces) × IsSpelled flags bytes
 
 -- A run of these streams came to this desk: an end for each stream, each as its session's, which asked for blocks by the depth of the
--- options; the last worker told the pieces that the options want, if any, and made the last checks, and nothing else; and it ended as
--- `Ended` says.
+-- options, and left after a fault, unless the run is short; the last worker told the pieces that the options want, if any, and made the last
+-- checks, and nothing else; and it ended as `Ended` says.
 pub record Ran {X : Type 0} (record_of : X → StreamRecord) (torrent : Metainfo) (options : Options) (streams : List X) (desk : DeskState)
     (streams' : List X) (ended : Result Bool Fault) (old new : Option (List ℕ)) (failed : Bool) : Type 0 where
   pub ends : List (Result End SessionFault)
@@ -95,8 +95,7 @@ pub record Ran {X : Type 0} (record_of : X → StreamRecord) (torrent : Metainfo
   pub want : Option (List Bool)
   pub is_want : IsWant (piece_count torrent.layout) (want_of options) want
   pub count : length ends ≡ length streams
-  pub sessions : EachEnded record_of (terms_of torrent options.rules.depth) options.seed streams desk streams' ends
-  pub finishes : Finishes (length streams) (opening_of want) short desk
+  pub ran : RanInTurns record_of (terms_of torrent options.rules.depth) options.seed want streams short desk streams' ends
   pub none_waits : short ≡ false → (piece : ℕ) → waits desk.setting desk.history piece ≡ false
   pub told : Ended short ends desk ended options.journal old new failed
 

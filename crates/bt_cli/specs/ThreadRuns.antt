@@ -32,7 +32,7 @@ pub record RanThreads {X : Type 0} (record_of : X → StreamRecord) (torrent : M
   pub logs : length book.logs.items ≡ length streams + options.checkers + 1
   pub sessions : EachSwarmed record_of (terms_of torrent options.rules.depth)
       (setting_of torrent.layout (length streams + options.checkers + 1) options.rules) options.seed streams book.desk.history book.logs.items left
-      ends
+      ends short
   pub checks : CheckersCheck (length streams) options.checkers book.logs.items
   pub finishes : MakesLastChecks (length streams + options.checkers) book.logs.items (piece_count torrent.layout)
   pub waiting : LeavesNone short book.desk

@@ -5,7 +5,7 @@ ghost use Rattle.bt_meta.specs.Layout.{Metainfo, piece_count};
 ghost use Rattle.bt_meta.specs.Reading.{torrent_of_file};
 ghost use Rattle.bt_history.specs.Setting.{AreRules, setting_of};
 ghost use Rattle.bt_picker.specs.Checks.{waits};
-ghost use Rattle.bt_peer.specs.Serial.{EachEnded, Finishes, opening_of, stream_record};
+ghost use Rattle.bt_peer.specs.Serial.{RanInTurns, stream_record};
 ghost use Rattle.bt_peer.specs.Terms.{terms_of};
 ghost use Rattle.bt_cli.specs.Runs.{IsStartFault, IsWant, Ran, run_status, want_of};
 
@@ -95,12 +95,12 @@ fn play<R: Source, W: Sink>(
     ensures rules { IfOk result (λ p. AreRules p.torrent.value.layout options.now.rules) }
     ensures setting { IfOk result (λ p.
         p.run.desk.setting ≡ setting_of p.torrent.value.layout (length streams.old + 1) options.now.rules) }
-    ensures sessions { IfOk result (λ p. EachEnded (stream_record R.left R.ended R.failed R.reads W.written W.failed)
-        (terms_of p.torrent.value options.now.rules.depth) options.now.seed streams.old p.run.desk streams.new p.run.ends.items) }
     ensures count { IfOk result (λ p. length p.run.ends.items ≡ length streams.old) }
-    ensures finishes { IfOk result (λ p. (want : Option (List Bool))
+    ensures ran { IfOk result (λ p. (want : Option (List Bool))
         × IsWant (piece_count p.torrent.value.layout) (want_of options.now) want
-        × Finishes (length streams.old) (opening_of want) p.run.short p.run.desk) }
+        × RanInTurns (stream_record R.left R.ended R.failed R.reads W.written W.failed)
+        (terms_of p.torrent.value options.now.rules.depth) options.now.seed want streams.old p.run.short p.run.desk streams.new
+        p.run.ends.items) }
     ensures none_waits { IfOk result (λ p. p.run.short ≡ false → (piece : ℕ) →
         waits p.run.desk.setting p.run.desk.history piece ≡ false) }
     ensures err { IfErr result (IsStartFault (torrent_of_file meta.now) options.now) }

@@ -119,7 +119,8 @@ fn play<T: Threads + Wait + AllocGlobal + Sync, R: Source + Send + Drop, W: Sink
     ensures sessions { IfOk result (λ p. EachSwarmed (stream_record R.left R.ended R.failed R.reads W.written W.failed)
         (terms_of p.torrent.value options.now.rules.depth)
         (setting_of p.torrent.value.layout (length streams.items + options.now.checkers + 1) options.now.rules) options.now.seed
-        streams.items p.run.book.desk.history p.run.book.logs.items p.run.streams.items p.run.ends.items) }
+        streams.items p.run.book.desk.history p.run.book.logs.items p.run.streams.items p.run.ends.items
+        p.run.short) }
     ensures checks { IfOk result (λ p. CheckersCheck (length streams.items) options.now.checkers p.run.book.logs.items) }
     ensures finishes { IfOk result (λ p.
         MakesLastChecks (length streams.items + options.now.checkers) p.run.book.logs.items (piece_count p.torrent.value.layout)) }

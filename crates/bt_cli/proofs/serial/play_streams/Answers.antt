@@ -9,11 +9,10 @@ returns-clause-ran g c = λ t. λ is.
     rw (← same) record {
       ends = run.ends.items;
       short = run.short;
-      want = made.finishes.0;
-      is_want = made.finishes.1;
+      want = made.ran.0;
+      is_want = made.ran.1;
       count = made.count;
-      sessions = made.sessions;
-      finishes = made.finishes.2;
+      ran = made.ran.2;
       none_waits = made.none_waits;
       told = rw c.deref.ensures.value at c.tell-ended.ensures;
     }
