@@ -3,19 +3,31 @@
 
 A stream is a peer's handshake and its messages (BEP 3): bitfield, unchoke, and pieces of one block each. The metainfo files of `info`
 are spelled out, with the fault that each has. The infohashes of those that have none are printed, as hashlib has them. Run it from the
-top of the repository after an edit.
+top of the repository after an edit. It also compares the toolchain that `--version` names with `rt version`.
 """
 
 import hashlib
 import os
+import subprocess
 
 DATA = "crates/bt_runs/data"
 
 
-def metainfo(total, contents):
+STDIN = "crates/bt_runs/stdin"
+ARGUMENTS = "crates/bt_program/src/arguments.rt"
+BLOCK = 16384
+
+
+def metainfo(total, contents, piece_length=3):
     pieces = b"".join(hashlib.sha1(content).digest() for content in contents)
-    info = b"d6:lengthi%de4:name1:s12:piece lengthi3e6:pieces%d:%se" % (total, len(pieces), pieces)
+    info = b"d6:lengthi%de4:name1:s12:piece lengthi%de6:pieces%d:%se" % (total, piece_length, len(pieces), pieces)
     return b"d4:info" + info + b"e", hashlib.sha1(info).digest()
+
+
+def long_script():
+    """A script of more than 64 KiB whose replies are more than 64 KiB too, and those replies: the peer shows its piece 8,000 times."""
+    first = "torrent 3 3 1 %s\n0 join\n" % hashlib.sha1(b"abc").hexdigest()
+    return first + "0 have 0\n" * 8000, "joined\n" + "noted yes\n" * 8000
 
 
 PIECES = b"".join(hashlib.sha1(content).digest() for content in (b"abc", b"abc", b"a"))
@@ -35,6 +47,7 @@ DESCRIBED = {
     "any-bytes.torrent": spelled(b"4:infod6:lengthi7e4:name8:a%~ \x00!\x7f\xff12:piece lengthi3e"),
     # Hybrid files have empty keys: one who drops them and writes the dictionary anew gets another infohash.
     "empty-key.torrent": spelled(b"4:infod0:3:abc6:lengthi7e4:name1:s12:piece lengthi3e"),
+    "long-name.torrent": spelled(b"4:infod6:lengthi7e4:name5000:" + b"n" * 5000 + b"12:piece lengthi3e"),
     "file-tree.torrent": spelled(b"4:infod9:file treed1:sd0:d6:lengthi7eeee6:lengthi7e4:name1:s12:piece lengthi3e"),
 }
 
@@ -89,6 +102,10 @@ def main():
     files["long-bits.stream"] = hello + message(5, b"\x80\x00")
     files["too-long.stream"] = hello + (0x100001).to_bytes(4, "big")
     files["first-wrong.stream"] = peer(three_hash, 0xE0, [(0, b"abd")])
+    # One piece of six blocks, and a peer that shows it, lets us ask, and sends nothing.
+    six, six_hash = metainfo(6 * BLOCK, [bytes(6 * BLOCK)], 6 * BLOCK)
+    files["six-blocks.torrent"] = six
+    files["six-blocks.stream"] = peer(six_hash, 0x80, [])
     files["all-three.stream"] = peer(three_hash, 0xE0, [(0, b"abc"), (1, b"abc"), (2, b"a")])
     files.update(DESCRIBED)
     files.update(FAULTY)
@@ -98,6 +115,13 @@ def main():
     for name, content in files.items():
         with open(os.path.join(DATA, name), "wb") as file:
             file.write(content)
+    script, replies = long_script()
+    with open(STDIN, "w") as file:
+        file.write(script)
+    print("replies", len(replies), hashlib.sha1(replies.encode()).hexdigest())
+    kit = subprocess.run(["rt", "version"], capture_output=True, text=True, check=True).stdout.strip()
+    if kit not in open(ARGUMENTS).read():
+        raise SystemExit(f"{ARGUMENTS} names another toolchain than {kit}")
 
 
 main()

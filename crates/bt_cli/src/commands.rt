@@ -52,7 +52,11 @@ pub fn run_serial<R: Source, W: Sink, O: Sink, E: Write>(
 {
     match play_streams(alloc, meta, streams, options, out) {
         Ok(run) => {
-            let Run { desk, ended } = run;
+            let Run {
+                desk,
+                ended,
+                ends: _,
+            } = run;
             (conclude_run(ended, err), Some(desk))
         }
         Err(fault) => (conclude(Err(fault), err), None),
@@ -98,7 +102,12 @@ pub fn run_threads<
 {
     match play_threads(rt, meta, streams, options, out) {
         Ok(run) => {
-            let ThreadsRun { book, ended } = run;
+            let ThreadsRun {
+                book,
+                ended,
+                ends: _,
+                streams: _,
+            } = run;
             (conclude_run(ended, err), Some(book))
         }
         Err(fault) => (conclude(Err(fault), err), None),

@@ -14,7 +14,7 @@ use crate::telling::{Outcome, run_status, tell};
 use bt_meta::{Sink, Source, Torrent};
 use bt_picker::Desk;
 use bt_script::{Fault, MOST_DEPTH};
-use bt_session::{MOST_STREAMS, SerialRun, Stream, serial};
+use bt_session::{End, MOST_STREAMS, SerialRun, SessionFault, Stream, serial};
 use std::alloc::Global;
 use std::sync::Arc;
 
@@ -25,6 +25,8 @@ pub struct Run {
     /// Whether all wanted pieces are had, or why the run can't be vouched for: `Fault::Memory` where something was given up for want of
     /// memory, though it was told as far as `out` took it; else `Fault::File` where `out` failed.
     pub ended: Result<bool, Fault>,
+    /// How each stream's session ended, in the order of the streams.
+    pub ends: Vec<Result<End, SessionFault>>,
 }
 
 impl Run {
@@ -56,6 +58,7 @@ pub fn play_streams<R: Source, W: Sink, O: Sink>(
         Ran (stream_record R.left R.ended R.failed R.reads W.written W.failed) t options.now streams.old run.desk streams.new
         run.ended (O.written out.old) (O.written out.new) (O.failed out.new)) }
     ensures err { IfErr result (IsStartFault (torrent_of_file meta.now) options.now) }
+    ensures ends { IfOk result (λ run. length run.ends.items ≡ length streams.old) }
     ensures unprinted { OnErr result (out.new ≡ out.old) }
 {
     let workers = streams.len() as u32 + 1;
@@ -68,11 +71,11 @@ pub fn play_streams<R: Source, W: Sink, O: Sink>(
     let ended = tell(alloc, &played.torrent, workers, options, outcome, out);
     let Played { torrent: _, run } = played;
     let SerialRun {
-        ends: _,
+        ends,
         desk,
         short: _,
     } = run;
-    Ok(Run { desk, ended })
+    Ok(Run { desk, ended, ends })
 }
 
 /// A run with recorded peers, and its torrent.

@@ -18,21 +18,27 @@ use crate::options::{Options, fit_random};
 use crate::telling::{Outcome, run_status, tell};
 use bt_meta::{Sink, Source, Torrent};
 use bt_script::{Fault, MOST_DEPTH};
-use bt_session::{MOST_CHECKERS, MOST_STREAMS, OpenGate, Stream, SwarmFault, SwarmRun, swarm};
+use bt_session::{
+    End, MOST_CHECKERS, MOST_STREAMS, OpenGate, SessionFault, Stream, SwarmFault, SwarmRun, swarm,
+};
 use bt_shared::Book;
 use std::sync::{Arc, Wait};
 use std::thread::Threads;
 
 /// A run in threads that came to its end.
 #[derive(Drop)]
-pub struct ThreadsRun {
+pub struct ThreadsRun<R, W> {
     /// The desk of the run, and the log of each worker.
     pub book: Book,
     /// Whether all wanted pieces are had, or why the run can't be vouched for, as in `Run`.
     pub ended: Result<bool, Fault>,
+    /// How each stream's session ended, in the order of the streams.
+    pub ends: Vec<Result<End, SessionFault>>,
+    /// The streams as the sessions left them.
+    pub streams: Vec<Stream<R, W>>,
 }
 
-impl ThreadsRun {
+impl<R, W> ThreadsRun<R, W> {
     /// The exit status: 0 where all wanted pieces are had, and 1 where one isn't; else the fault's.
     pub fn status(&self) -> u8
         ensures { result ≡ run_status self.now.ended }
@@ -57,7 +63,7 @@ pub fn play_threads<
     streams: Vec<Stream<R, W>>,
     options: &Options,
     out: &mut O,
-) -> Result<ThreadsRun, Fault>
+) -> Result<ThreadsRun<R, W>, Fault>
     requires streams { (1 ≤ length streams.items) × (length streams.items ≤ MOST_STREAMS) }
     requires depth { (1 ≤ options.now.rules.depth) × (options.now.rules.depth ≤ MOST_DEPTH) }
     requires checkers { (1 ≤ options.now.checkers) × (options.now.checkers ≤ MOST_CHECKERS) }
@@ -70,6 +76,7 @@ pub fn play_threads<
         RanThreads (stream_record R.left R.ended R.failed R.reads W.written W.failed) t options.now streams.items run.book
         run.ended (O.written out.old) (O.written out.new) (O.failed out.new)) }
     ensures err { IfErr result (IsThreadsFault (torrent_of_file meta.now) options.now) }
+    ensures ends { IfOk result (λ run. length run.ends.items ≡ length streams.items) }
     ensures unprinted { OnErr result (out.new ≡ out.old) }
 {
     let workers = streams.len() as u32 + options.checkers + 1;
@@ -82,12 +89,17 @@ pub fn play_threads<
     let ended = tell(rt.alloc(), &played.torrent, workers, options, outcome, out);
     let Played { torrent: _, run } = played;
     let SwarmRun {
-        ends: _,
+        ends,
         book,
         short: _,
-        streams: _,
+        streams,
     } = run;
-    Ok(ThreadsRun { book, ended })
+    Ok(ThreadsRun {
+        book,
+        ended,
+        ends,
+        streams,
+    })
 }
 
 /// A run with recorded peers in threads, and its torrent.

@@ -4,6 +4,7 @@ mod examples;
 mod faults;
 mod picks;
 mod reports;
+mod roads;
 mod saving;
 mod scripts;
 mod serial;

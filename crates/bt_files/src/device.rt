@@ -1,32 +1,34 @@
-//! Writers that remember why they failed.
+//! The output: a buffer before a writer, that remembers why it failed.
 
-ghost use Rattle.std.specs.Prelude.{◌≡◌, false, is_some, true, OnErr, OnOk};
+ghost use Rattle.std.specs.Prelude.{◌≡◌, [], false, is_some, true, OnErr, OnOk};
+ghost use Rattle.std.specs.Io.Buffered.{writer_buffer, writer_contents};
 ghost use Rattle.std.specs.Io.KnownBytes.{Keeps};
 
 use bt_meta::{DeviceFault, Sink};
 use std::io;
-use std::io::{ErrorKind, Write};
+use std::io::{BufWriter, ErrorKind, Write};
 
-/// A writer that remembers why it failed first.
-#[derive(Drop)]
-pub struct Device<W> {
-    inner: W,
+/// A buffer before a writer, that remembers why it failed first.
+pub struct Device<O: Write + Drop> {
+    inner: BufWriter<O>,
     error: Option<io::Error>,
 }
 
-impl<W: Write> Device<W> {
-    pub fn new(inner: W) -> Device<W>
-        ensures written { ⟦<Device<W> as Sink>⟧.written result ≡ W.contents inner }
-        ensures failed { ⟦<Device<W> as Sink>⟧.failed result ≡ false }
+impl<O: Write + Drop> Drop for Device<O> {
+    fn drop(self) {
+        let Device {
+            inner: _inner,
+            error: _,
+        } = self;
+    }
+}
+
+impl<O: Write + Drop> Device<O> {
+    pub fn new(inner: BufWriter<O>) -> Device<O>
+        ensures written { ⟦<Device<O> as Sink>⟧.written result ≡ writer_contents O.contents inner }
+        ensures failed { ⟦<Device<O> as Sink>⟧.failed result ≡ false }
     {
         Device { inner, error: None }
-    }
-
-    /// Why it failed first, if it has failed.
-    pub fn error(&self) -> Option<io::Error>
-        ensures { is_some result ≡ ⟦<Device<W> as Sink>⟧.failed self.now }
-    {
-        self.error
     }
 
     /// Keeps the first error.
@@ -39,11 +41,12 @@ impl<W: Write> Device<W> {
         }
     }
 
-    /// Writes what was held back, and says why the device failed first, if it has failed.
+    /// Writes what is held back, and says why the device failed first, if it has failed.
     pub fn finish(&mut self) -> io::Result<()>
-        ensures ok { OnOk result (⟦<Device<W> as Sink>⟧.failed self.new ≡ false) }
-        ensures err { OnErr result (⟦<Device<W> as Sink>⟧.failed self.new ≡ true) }
-        ensures kept { Keeps (⟦<Device<W> as Sink>⟧.written self.old) (⟦<Device<W> as Sink>⟧.written self.new) }
+        ensures ok { OnOk result (⟦<Device<O> as Sink>⟧.failed self.new ≡ false) }
+        ensures flushed { OnOk result (writer_buffer self.new.inner ≡ []) }
+        ensures err { OnErr result (⟦<Device<O> as Sink>⟧.failed self.new ≡ true) }
+        ensures kept { Keeps (⟦<Device<O> as Sink>⟧.written self.old) (⟦<Device<O> as Sink>⟧.written self.new) }
     {
         if let Err(error) = self.inner.flush() {
             self.note(error);
@@ -55,31 +58,8 @@ impl<W: Write> Device<W> {
     }
 }
 
-impl<W: Write> Write for Device<W> {
-    ghost contents = { λ device. W.contents device.inner };
-
-    fn write(&mut self, bytes: &[u8]) -> io::Result<usize> {
-        let written = self.inner.write(bytes);
-        match written {
-            Ok(0) if !bytes.is_empty() => self.note(io::Error::from(ErrorKind::WriteZero)),
-            Ok(_) => {}
-            Err(error) if error.kind() == ErrorKind::Interrupted => {}
-            Err(error) => self.note(error),
-        }
-        written
-    }
-
-    fn flush(&mut self) -> io::Result<()> {
-        let flushed = self.inner.flush();
-        if let Err(error) = flushed {
-            self.note(error);
-        }
-        flushed
-    }
-}
-
-impl<W: Write> Sink for Device<W> {
-    ghost written = { λ device. W.contents device.inner };
+impl<O: Write + Drop> Sink for Device<O> {
+    ghost written = { λ device. writer_contents O.contents device.inner };
 
     ghost failed = { λ device. is_some device.error };
 

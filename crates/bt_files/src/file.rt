@@ -1,7 +1,10 @@
 //! The file of `--out`.
 
 ghost use Rattle.std.specs.Prelude.{◌≡◌, None, false, is_some, true};
+ghost use Rattle.std.specs.Io.{WritesAtMost};
+ghost use Rattle.std.specs.Io.KnownBytes.{WriteAppends};
 
+use crate::target::Kept;
 use bt_cli::NewFile;
 use bt_meta::{DeviceFault, Sink};
 use std::fs::Files;
@@ -10,17 +13,17 @@ use std::{fs, io};
 
 /// A file that is made when it is asked for, and remembers why it failed first.
 #[derive(Drop)]
-pub struct OutFile<'a, R: Files> {
-    files: &'a R,
-    path: &'a str,
+pub struct OutFile<'f, 'w, R: Files> {
+    files: &'f R,
+    path: &'w str,
     made: Option<R::File>,
     error: Option<io::Error>,
 }
 
-impl<'a, R: Files> OutFile<'a, R> {
+impl<'f, 'w, R: Files> OutFile<'f, 'w, R> {
     /// No file yet, and so no failure yet: a command's caller takes a sink that has failed for the reason of `Fault::File`.
-    pub fn new(files: &'a R, path: &'a str) -> OutFile<'a, R>
-        ensures { ⟦<OutFile<'a, R> as Sink>⟧.failed result ≡ false }
+    pub fn new(files: &'f R, path: &'w str) -> OutFile<'f, 'w, R>
+        ensures { ⟦<OutFile<'f, 'w, R> as Sink>⟧.failed result ≡ false }
     {
         OutFile {
             files,
@@ -28,13 +31,6 @@ impl<'a, R: Files> OutFile<'a, R> {
             made: None,
             error: None,
         }
-    }
-
-    /// Why it failed first, if it has failed.
-    pub fn error(&self) -> Option<io::Error>
-        ensures { is_some result ≡ ⟦<OutFile<'a, R> as Sink>⟧.failed self.now }
-    {
-        self.error
     }
 
     /// Keeps the first error.
@@ -47,7 +43,16 @@ impl<'a, R: Files> OutFile<'a, R> {
     }
 }
 
-impl<R: Files> NewFile for OutFile<'_, R> {
+impl<R: Files> Kept for OutFile<'_, '_, R> {
+    fn reason(&self) -> io::Error {
+        match self.error {
+            Some(error) => error,
+            None => unreachable!(),
+        }
+    }
+}
+
+impl<R: Files> NewFile for OutFile<'_, '_, R> {
     ghost blank = { None };
 
     fn create(&mut self) -> Result<(), DeviceFault> {
@@ -64,14 +69,14 @@ impl<R: Files> NewFile for OutFile<'_, R> {
     }
 }
 
-impl<R: Files> Sink for OutFile<'_, R> {
+impl<R: Files> Sink for OutFile<'_, '_, R> {
     ghost written = { λ _. None };
 
     ghost failed = { λ file. is_some file.error };
 
     fn write(&mut self, bytes: &[u8]) -> Result<usize, DeviceFault> {
         let written = match &mut self.made {
-            Some(file) => file.write(bytes),
+            Some(file) => write_to(file, bytes),
             None => Err(io::Error::from(ErrorKind::NotFound)),
         };
         match written {
@@ -87,4 +92,12 @@ impl<R: Files> Sink for OutFile<'_, R> {
             }
         }
     }
+}
+
+/// Hands the bytes to the file, as they are.
+fn write_to<W: Write>(file: &mut W, bytes: &[u8]) -> io::Result<usize>
+    ensures bound { WritesAtMost result bytes.now }
+    ensures bytes { WriteAppends (W.contents file.old) (W.contents file.new) result bytes.now }
+{
+    file.write(bytes)
 }

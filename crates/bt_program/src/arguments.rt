@@ -6,7 +6,8 @@ use bt_session::{MOST_CHECKERS, MOST_STREAMS};
 use clap::{Arg, ArgAction, Command, value_parser};
 use std::alloc::{AllocError, Global};
 
-const VERSION: &str = "0.1.0";
+/// The program's version, and the toolchain that it is proved by, as `rt version` says it; `tools/runs.py` compares the two.
+const VERSION: &str = "0.1.0, proved by rattle-kit-13f logic dac8208d650f15bf";
 
 const STATUSES: &str = "\
 Status: 0 done; 1 a run after which a wanted piece is lacking; 2 wrong arguments, a script's `line N`, or a run's
@@ -65,7 +66,9 @@ fn meta<'a>(alloc: Global) -> Arg<'a> {
 /// The command `serial`.
 fn serial<'a>(alloc: Global) -> Result<Command<'a>, AllocError> {
     let command = with_rules(alloc, serial_with_seed(alloc)?.arg(want(alloc))?)?;
-    with_files(alloc, command.arg(journal(alloc))?)
+    let command = command.arg(journal(alloc))?;
+    // Found, so that who gives it is told where it belongs.
+    with_files(alloc, command.arg(of_run(alloc))?)
 }
 
 /// The command `serial` with its first option.
@@ -79,7 +82,10 @@ fn serial_with_seed<'a>(alloc: Global) -> Result<Command<'a>, AllocError> {
 /// The command `run`.
 fn run<'a>(alloc: Global) -> Result<Command<'a>, AllocError> {
     let command = with_rules(alloc, run_with_seed(alloc)?)?;
-    with_files(alloc, command.arg(checkers(alloc))?)
+    let command = command.arg(checkers(alloc))?;
+    // Found, so that who gives them is told where they belong.
+    let command = command.arg(want(alloc).hide(true))?;
+    with_files(alloc, command.arg(journal(alloc).hide(true))?)
 }
 
 /// The command `run` with its first option.
@@ -172,6 +178,13 @@ fn checkers<'a>(alloc: Global) -> Arg<'a> {
     .default_value("1")
 }
 
+/// The same, where it has no place: any value, and none where it isn't given.
+fn of_run<'a>(alloc: Global) -> Arg<'a> {
+    option(alloc, "checkers", "K", "")
+        .action(ArgAction::Set)
+        .hide(true)
+}
+
 /// The option `--journal`.
 fn journal<'a>(alloc: Global) -> Arg<'a> {
     Arg::new(alloc, "journal")
@@ -194,7 +207,7 @@ fn out<'a>(alloc: Global) -> Arg<'a> {
 /// The recorded streams, as many as a run takes.
 fn streams<'a>(alloc: Global) -> Arg<'a> {
     Arg::new(alloc, "STREAM")
-        .help("What a peer sent, from its handshake on")
+        .help("What a peer sent, from its handshake on; 1 to 64 of them")
         .required(true)
         .num_args(1..=MOST_STREAMS)
         .action(ArgAction::Append)

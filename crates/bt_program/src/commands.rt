@@ -1,18 +1,20 @@
-//! The commands.
+//! The commands: the files that a command line names are opened and read, and what they gave goes its road.
 
-ghost use Rattle.std.specs.Prelude.{◌≡◌, ◌≤◌, length, true, IfOk, IfSome};
+ghost use Rattle.std.specs.Prelude.{◌≡◌, ◌≤◌, is_some, length, IfOk, IfSome};
 
 use crate::arguments::command;
-use bt_cli::{
-    Fault, MOST_DEPTH, Options, describe, play_script, play_streams, play_threads, read_hex, save,
-};
-use bt_files::{Device, Failure, OutFile, WRONG_ARGUMENTS, conclude, recorded, worse};
-use bt_meta::{FromRead, ToWrite};
-use bt_picker::{Desk, Rules};
-use bt_session::{MOST_CHECKERS, MOST_STREAMS, Stream};
+use crate::asked::Asked;
+use crate::found::{asked, misplaced_in_run, misplaced_in_serial};
+use crate::road::{Done, info_of, script_of, serial_of, text_of, threads_of};
+use crate::telling::ends_in_words;
+use crate::wrong::{Wrong, refuse};
+use bt_cli::{Fault, MOST_DEPTH, Options, explain_line, print};
+use bt_files::{Device, Failure, OutFile, Target, conclude, is_input, recorded};
+use bt_meta::{Sink, ToWrite};
+use bt_session::{MOST_CHECKERS, MOST_STREAMS};
 use clap::ArgMatches;
 use clap::error::ErrorKind;
-use std::alloc::{AllocError, Global};
+use std::alloc::Global;
 use std::io::{BufReader, BufWriter, Read, Write};
 use std::rt::Runtime;
 use std::sync::Wait;
@@ -20,7 +22,7 @@ use std::thread::Threads;
 use std::{fs, io};
 
 /// Does what the command line says, its first word being the program's name, prints to `out`, tells a failure on `err`, and answers the exit
-/// status.
+/// status. Behind the line of a failure stands what there is more to say, in words.
 pub fn obey<R: Runtime + AllocGlobal + Threads + Wait + Sync, O: Write + Drop, E: Write>(
     rt: &R,
     words: &[String],
@@ -30,122 +32,129 @@ pub fn obey<R: Runtime + AllocGlobal + Threads + Wait + Sync, O: Write + Drop, E
 where
     R::File: Send,
 {
-    conclude(play(rt, words, out, err), err)
+    let mut err = ToWrite::new(err);
+    let mut more = None;
+    let done = match play(rt, words, out, &mut err, &mut more) {
+        Ok(done) => Ok(done.status()),
+        Err(failure) => Err(failure),
+    };
+    let status = conclude(rt.alloc(), done, &mut err);
+    if let Some(more) = more {
+        let _ = print(&mut err, &more);
+    }
+    status
 }
 
 /// Plays the command that the arguments say, with a buffer before its output.
-fn play<'w, R: Runtime + AllocGlobal + Threads + Wait + Sync, O: Write + Drop, E: Write>(
+fn play<'w, R: Runtime + AllocGlobal + Threads + Wait + Sync, O: Write + Drop, E: Sink>(
     rt: &R,
     words: &'w [String],
     out: O,
     err: &mut E,
-) -> Result<u8, Failure<'w>>
+    more: &mut Option<String>,
+) -> Result<Done, Failure<'w>>
 where
     R::File: Send,
 {
     match BufWriter::new(rt.alloc(), out) {
-        Ok(out) => play_to(rt, words, &mut Device::new(out), err),
+        Ok(out) => play_to(rt, words, &mut Device::new(out), err, more),
         Err(error) => Err(Failure::of_output(error)),
     }
 }
 
 /// Plays the command that the arguments say.
-fn play_to<'w, R: Runtime + AllocGlobal + Threads + Wait + Sync, O: Write, E: Write>(
+fn play_to<'w, R: Runtime + AllocGlobal + Threads + Wait + Sync, O: Write + Drop, E: Sink>(
     rt: &R,
     words: &'w [String],
     out: &mut Device<O>,
     err: &mut E,
-) -> Result<u8, Failure<'w>>
+    more: &mut Option<String>,
+) -> Result<Done, Failure<'w>>
 where
     R::File: Send,
 {
     match command(rt.alloc())?.try_get_matches_from(words) {
-        Ok(matches) => play_command(rt, &matches, out, err),
-        Err(error) => explain(&error, out, err),
+        Ok(matches) => play_command(rt, &matches, out, err, more),
+        Err(error) => explain(rt.alloc(), &error, out, err),
     }
 }
 
 /// Plays the command that was found.
-fn play_command<'w, R: Runtime + AllocGlobal + Threads + Wait + Sync, O: Write, E: Write>(
+fn play_command<'w, R: Runtime + AllocGlobal + Threads + Wait + Sync, O: Write + Drop, E: Sink>(
     rt: &R,
     matches: &ArgMatches<'w>,
     out: &mut Device<O>,
     err: &mut E,
-) -> Result<u8, Failure<'w>>
+    more: &mut Option<String>,
+) -> Result<Done, Failure<'w>>
 where
     R::File: Send,
 {
     match matches.subcommand() {
-        Some(("info", arguments)) => info(rt, arguments, out),
-        Some(("run", arguments)) => run(rt, arguments, out, err),
-        Some(("script", _)) => script(rt, out),
-        Some(("serial", arguments)) => serial(rt, arguments, out, err),
-        _ => Ok(WRONG_ARGUMENTS),
+        Some(("info", arguments)) => info(rt, arguments, out, err),
+        Some(("run", arguments)) => run(rt, arguments, out, err, more),
+        Some(("script", _)) => script(rt, out, more),
+        Some(("serial", arguments)) => serial(rt, arguments, out, err, more),
+        _ => Ok(refuse(Wrong::Lacking, err)),
     }
 }
 
 /// Prints the help or the version that was asked for, or tells what is wrong with the arguments.
-fn explain<'w, O: Write, E: Write>(
+fn explain<'w, O: Write + Drop, E: Sink>(
+    alloc: Global,
     error: &clap::Error,
     out: &mut Device<O>,
     err: &mut E,
-) -> Result<u8, Failure<'w>> {
+) -> Result<Done, Failure<'w>> {
     if error.kind() == ErrorKind::OutOfMemory {
         return Err(Failure::Command(Fault::Memory));
     }
+    let text = format!(in alloc; "{error}")?;
     if error.use_stderr() {
-        let _ = write!(err, "{error}");
-        return Ok(WRONG_ARGUMENTS);
+        let _ = print(err, &text);
+        return Ok(Done::wrong_arguments());
     }
-    let _ = write!(out, "{error}");
-    ended(Ok(0), out)
-}
-
-/// How a command ends that ended so, and whose output is written now.
-fn ended<'w, O: Write>(done: Result<u8, Fault>, out: &mut Device<O>) -> Result<u8, Failure<'w>> {
-    let printed = printed(out);
-    match done {
-        Ok(status) => worse(Ok(status), printed),
-        // It says no more than that the output has failed; the output says why.
-        Err(Fault::File) => Err(printed.err().unwrap_or(Failure::Command(Fault::File))),
-        Err(fault) => worse(Err(Failure::Command(fault)), printed),
-    }
-}
-
-/// What became of an output.
-fn printed<'w, O: Write>(out: &mut Device<O>) -> Result<(), Failure<'w>> {
-    match out.finish() {
-        Ok(()) => Ok(()),
-        Err(error) => Err(Failure::of_output(error)),
-    }
+    text_of(&text, out)
 }
 
 /// The command `info`.
-fn info<'w, R: Runtime + AllocGlobal, O: Write>(
+fn info<'w, R: Runtime + AllocGlobal, O: Write + Drop, E: Sink>(
     rt: &R,
     arguments: &ArgMatches<'w>,
     out: &mut Device<O>,
-) -> Result<u8, Failure<'w>> {
-    let Some(path) = arguments.get_str("META") else {
-        return Ok(WRONG_ARGUMENTS);
-    };
-    let meta = read(rt, path)?;
-    ended(describe(rt.alloc(), &meta, out).map(|_| 0), out)
+    err: &mut E,
+) -> Result<Done, Failure<'w>> {
+    match arguments.get_str("META") {
+        Some(path) => info_of(rt.alloc(), &read(rt, path)?, path, out),
+        None => Ok(refuse(Wrong::Lacking, err)),
+    }
 }
 
-/// The command `script`.
-fn script<'w, R: Runtime + AllocGlobal, O: Write>(
+/// The command `script`; of a line at fault there is more to tell than its number.
+fn script<'w, R: Runtime + AllocGlobal, O: Write + Drop>(
     rt: &R,
     out: &mut Device<O>,
-) -> Result<u8, Failure<'w>> {
+    more: &mut Option<String>,
+) -> Result<Done, Failure<'w>> {
     let input = read_input(rt).map_err(|e| Failure::of_file("standard input", e))?;
-    ended(play_script(rt.alloc(), &input, out).map(|_| 0), out)
+    let done = script_of(rt.alloc(), &input, out);
+    if let Err(Failure::Command(Fault::Line(number))) = done {
+        *more = explain_line(rt.alloc(), &input, number);
+    }
+    done
 }
 
 /// All of standard input.
 fn read_input<R: Runtime + AllocGlobal>(rt: &R) -> io::Result<Vec<u8>> {
-    let mut input = Vec::new(rt.alloc());
-    BufReader::new(rt.alloc(), rt.reader())?.read_to_end(&mut input)?;
+    all_of(rt.alloc(), BufReader::new(rt.alloc(), rt.reader())?)
+}
+
+/// All that a reader has left.
+fn all_of<R: Read + Drop>(alloc: Global, mut reader: R) -> io::Result<Vec<u8>>
+    ensures { IfSome (R.remaining reader) (λ left. IfOk result (λ input. input.items ≡ left)) }
+{
+    let mut input = Vec::new(alloc);
+    reader.read_to_end(&mut input)?;
     Ok(input)
 }
 
@@ -155,259 +164,138 @@ fn read<'w, R: Runtime + AllocGlobal>(rt: &R, path: &'w str) -> Result<Vec<u8>, 
 }
 
 /// The command `serial`.
-fn serial<'w, R: Runtime + AllocGlobal, O: Write, E: Write>(
+fn serial<'w, R: Runtime + AllocGlobal, O: Write + Drop, E: Sink>(
     rt: &R,
     arguments: &ArgMatches<'w>,
     out: &mut Device<O>,
     err: &mut E,
-) -> Result<u8, Failure<'w>> {
-    let Some(meta) = arguments.get_str("META") else {
-        return Ok(WRONG_ARGUMENTS);
+    more: &mut Option<String>,
+) -> Result<Done, Failure<'w>> {
+    if let Some(wrong) = misplaced_in_serial(arguments) {
+        return Ok(refuse(wrong, err));
+    }
+    let Some(asked) = asked(arguments) else {
+        return Ok(refuse(Wrong::Lacking, err));
     };
-    match options(rt.alloc(), arguments, err)? {
-        Some(options) => serial_by(rt, arguments, meta, &options, out, err),
-        None => Ok(WRONG_ARGUMENTS),
+    let streams = arguments.get_strs("STREAM").unwrap_or(&[]);
+    match judged(rt, &asked, streams)? {
+        Ok(options) => play_in_turns(rt, &asked, streams, &options, out, more),
+        Err(wrong) => Ok(refuse(wrong, err)),
     }
 }
 
-/// The command `serial` by these options.
-fn serial_by<'w, R: Runtime + AllocGlobal, O: Write, E: Write>(
+/// The options that fit, or what is wrong with them, before anything is read or written.
+fn judged<'w, R: Runtime + AllocGlobal>(
     rt: &R,
-    arguments: &ArgMatches<'w>,
-    meta: &'w str,
-    options: &Options,
-    out: &mut Device<O>,
-    err: &mut E,
-) -> Result<u8, Failure<'w>>
-    requires depth { (1 ≤ options.now.rules.depth) × (options.now.rules.depth ≤ MOST_DEPTH) }
+    asked: &Asked<'w>,
+    streams: &[&str],
+) -> Result<Result<Options, Wrong>, Failure<'w>>
+    ensures depth { IfOk result (λ judged. IfOk judged (λ options.
+        (1 ≤ options.rules.depth) × (options.rules.depth ≤ MOST_DEPTH))) }
+    ensures checkers { IfOk result (λ judged. IfOk judged (λ options.
+        (1 ≤ options.checkers) × (options.checkers ≤ MOST_CHECKERS))) }
+    ensures streams { IfOk result (λ judged. IfOk judged (λ _.
+        (1 ≤ length streams.now) × (length streams.now ≤ MOST_STREAMS))) }
+    ensures seed { IfOk result (λ judged. IfOk judged (λ options. options.seed ≡ asked.now.seed)) }
 {
-    let names = arguments.get_strs("STREAM").unwrap_or(&[]);
-    if !is_taken(names.len(), err) {
-        return Ok(WRONG_ARGUMENTS);
+    if let Err(wrong) = asked.fit(streams) {
+        return Ok(Err(wrong));
     }
-    play_in_turns(rt, meta, names, options, out, arguments.get_str("out"))
+    if let Some(out) = asked.out {
+        if is_input(rt, out, asked.meta, streams) {
+            return Ok(Err(Wrong::Output));
+        }
+    }
+    asked.options(rt.alloc())
 }
 
-/// Plays the streams with these names in one thread.
-fn play_in_turns<'w, R: Runtime + AllocGlobal, O: Write>(
-    rt: &R,
-    meta: &'w str,
-    names: &[&'w str],
-    options: &Options,
-    out: &mut Device<O>,
-    path: Option<&'w str>,
-) -> Result<u8, Failure<'w>>
-    requires count { (1 ≤ length names.now) × (length names.now ≤ MOST_STREAMS) }
-    requires depth { (1 ≤ options.now.rules.depth) × (options.now.rules.depth ≤ MOST_DEPTH) }
+/// The file of `--out`, where one is asked for; it isn't made yet.
+fn target_of<'f, 'w, R: Runtime>(
+    rt: &'f R,
+    out: Option<&'w str>,
+) -> Option<Target<'w, OutFile<'f, 'w, R>>>
+    ensures { is_some result ≡ is_some out.entry }
 {
-    let meta = read(rt, meta)?;
-    let mut streams = recorded(rt, names)?;
-    play_opened(rt, &meta, &mut streams, options, out, path)
+    match out {
+        Some(name) => Some(Target {
+            name,
+            file: OutFile::new(rt, name),
+        }),
+        None => None,
+    }
 }
 
-/// Plays these streams in one thread.
-fn play_opened<'w, R: Runtime + AllocGlobal, O: Write>(
+/// Plays the streams in one thread.
+fn play_in_turns<'w, R: Runtime + AllocGlobal, O: Write + Drop>(
     rt: &R,
-    meta: &[u8],
-    streams: &mut [Stream<FromRead<R::File>, ToWrite<io::Sink>>],
+    asked: &Asked<'w>,
+    streams: &[&'w str],
     options: &Options,
     out: &mut Device<O>,
-    path: Option<&'w str>,
-) -> Result<u8, Failure<'w>>
-    requires count { (1 ≤ length streams.old) × (length streams.old ≤ MOST_STREAMS) }
+    more: &mut Option<String>,
+) -> Result<Done, Failure<'w>>
+    requires streams { (1 ≤ length streams.now) × (length streams.now ≤ MOST_STREAMS) }
     requires depth { (1 ≤ options.now.rules.depth) × (options.now.rules.depth ≤ MOST_DEPTH) }
 {
-    let run = play_streams(rt.alloc(), meta, streams, options, out)?;
-    let told = run.ended.map(|_| run.status());
-    finish(rt, told, &run.desk, out, path)
+    let meta = read(rt, asked.meta)?;
+    let mut streams = recorded(rt, streams)?;
+    let mut target = target_of(rt, asked.out);
+    match serial_of(rt.alloc(), &meta, &mut streams, options, out, &mut target) {
+        Ok(came) => {
+            *more = ends_in_words(rt.alloc(), &streams, &came.ends);
+            came.done
+        }
+        Err(fault) => Err(Failure::of_command(fault, asked.meta)),
+    }
 }
 
 /// The command `run`.
-fn run<'w, R: Runtime + AllocGlobal + Threads + Wait + Sync, O: Write, E: Write>(
+fn run<'w, R: Runtime + AllocGlobal + Threads + Wait + Sync, O: Write + Drop, E: Sink>(
     rt: &R,
     arguments: &ArgMatches<'w>,
     out: &mut Device<O>,
     err: &mut E,
-) -> Result<u8, Failure<'w>>
+    more: &mut Option<String>,
+) -> Result<Done, Failure<'w>>
 where
     R::File: Send,
 {
-    let Some(meta) = arguments.get_str("META") else {
-        return Ok(WRONG_ARGUMENTS);
+    if let Some(wrong) = misplaced_in_run(arguments) {
+        return Ok(refuse(wrong, err));
+    }
+    let Some(asked) = asked(arguments) else {
+        return Ok(refuse(Wrong::Lacking, err));
     };
-    match options(rt.alloc(), arguments, err)? {
-        Some(options) => run_by(rt, arguments, meta, &options, out, err),
-        None => Ok(WRONG_ARGUMENTS),
+    let streams = arguments.get_strs("STREAM").unwrap_or(&[]);
+    match judged(rt, &asked, streams)? {
+        Ok(options) => play_at_once(rt, &asked, streams, &options, out, more),
+        Err(wrong) => Ok(refuse(wrong, err)),
     }
 }
 
-/// The command `run` by these options.
-fn run_by<'w, R: Runtime + AllocGlobal + Threads + Wait + Sync, O: Write, E: Write>(
+/// Plays the streams in threads.
+fn play_at_once<'w, R: Runtime + AllocGlobal + Threads + Wait + Sync, O: Write + Drop>(
     rt: &R,
-    arguments: &ArgMatches<'w>,
-    meta: &'w str,
+    asked: &Asked<'w>,
+    streams: &[&'w str],
     options: &Options,
     out: &mut Device<O>,
-    err: &mut E,
-) -> Result<u8, Failure<'w>>
+    more: &mut Option<String>,
+) -> Result<Done, Failure<'w>>
 where
     R::File: Send,
+    requires streams { (1 ≤ length streams.now) × (length streams.now ≤ MOST_STREAMS) }
     requires depth { (1 ≤ options.now.rules.depth) × (options.now.rules.depth ≤ MOST_DEPTH) }
     requires checkers { (1 ≤ options.now.checkers) × (options.now.checkers ≤ MOST_CHECKERS) }
 {
-    let names = arguments.get_strs("STREAM").unwrap_or(&[]);
-    if !is_taken(names.len(), err) {
-        return Ok(WRONG_ARGUMENTS);
-    }
-    play_at_once(rt, meta, names, options, out, arguments.get_str("out"))
-}
-
-/// Plays the streams with these names in threads.
-fn play_at_once<'w, R: Runtime + AllocGlobal + Threads + Wait + Sync, O: Write>(
-    rt: &R,
-    meta: &'w str,
-    names: &[&'w str],
-    options: &Options,
-    out: &mut Device<O>,
-    path: Option<&'w str>,
-) -> Result<u8, Failure<'w>>
-where
-    R::File: Send,
-    requires count { (1 ≤ length names.now) × (length names.now ≤ MOST_STREAMS) }
-    requires depth { (1 ≤ options.now.rules.depth) × (options.now.rules.depth ≤ MOST_DEPTH) }
-    requires checkers { (1 ≤ options.now.checkers) × (options.now.checkers ≤ MOST_CHECKERS) }
-{
-    let meta = read(rt, meta)?;
-    play_opened_at_once(rt, &meta, recorded(rt, names)?, options, out, path)
-}
-
-/// Plays these streams in threads.
-fn play_opened_at_once<'w, R: Runtime + AllocGlobal + Threads + Wait + Sync, O: Write>(
-    rt: &R,
-    meta: &[u8],
-    streams: Vec<Stream<FromRead<R::File>, ToWrite<io::Sink>>>,
-    options: &Options,
-    out: &mut Device<O>,
-    path: Option<&'w str>,
-) -> Result<u8, Failure<'w>>
-where
-    R::File: Send,
-    requires count { (1 ≤ length streams.items) × (length streams.items ≤ MOST_STREAMS) }
-    requires depth { (1 ≤ options.now.rules.depth) × (options.now.rules.depth ≤ MOST_DEPTH) }
-    requires checkers { (1 ≤ options.now.checkers) × (options.now.checkers ≤ MOST_CHECKERS) }
-{
-    let run = play_threads(rt, meta, streams, options, out)?;
-    let told = run.ended.map(|_| run.status());
-    finish(rt, told, &run.book.desk, out, path)
-}
-
-/// Whether a run takes so many streams; where it doesn't that is told.
-fn is_taken<E: Write>(count: usize, err: &mut E) -> bool
-    ensures { result ≡ true → (1 ≤ count) × (count ≤ MOST_STREAMS) }
-{
-    // `clap` refuses other numbers of them, but nothing here proves that of what it found.
-    if count < 1 || count > MOST_STREAMS {
-        let _ = writeln!(err, "error: a run takes 1 to {MOST_STREAMS} streams");
-        return false;
-    }
-    true
-}
-
-/// What a run is asked for; none where an argument is wrong, which is told.
-fn options<E: Write>(
-    alloc: Global,
-    arguments: &ArgMatches<'_>,
-    err: &mut E,
-) -> Result<Option<Options>, AllocError>
-    ensures depth { IfOk result (λ found. IfSome found (λ options.
-        (1 ≤ options.rules.depth) × (options.rules.depth ≤ MOST_DEPTH))) }
-    ensures checkers { IfOk result (λ found. IfSome found (λ options.
-        (1 ≤ options.checkers) × (options.checkers ≤ MOST_CHECKERS))) }
-{
-    let usual = Rules::usual();
-    let rules = Rules {
-        depth: arguments.get_one::<u32>("depth").unwrap_or(usual.depth),
-        random: arguments.get_one::<u32>("random").unwrap_or(usual.random),
-    };
-    let checkers = arguments.get_one::<u32>("checkers").unwrap_or(1);
-    // `clap` refuses other depths and numbers of checkers, but nothing here proves that of what it found.
-    if rules.depth < 1 || rules.depth > MOST_DEPTH {
-        let _ = writeln!(err, "error: a depth is 1 to {MOST_DEPTH}");
-        return Ok(None);
-    }
-    if checkers < 1 || checkers > MOST_CHECKERS {
-        let _ = writeln!(err, "error: a run takes 1 to {MOST_CHECKERS} checkers");
-        return Ok(None);
-    }
-    with_want(
-        alloc,
-        arguments,
-        usual_options(arguments, rules, checkers),
-        err,
-    )
-}
-
-/// The options by these rules and so many checkers, that want all pieces.
-fn usual_options(arguments: &ArgMatches<'_>, rules: Rules, checkers: u32) -> Options
-    ensures rules { result.rules ≡ rules }
-    ensures checkers { result.checkers ≡ checkers }
-{
-    Options {
-        seed: arguments.get_one::<u64>("seed").unwrap_or(0),
-        journal: arguments.get_flag("journal"),
-        want: None,
-        rules,
-        checkers,
-    }
-}
-
-/// The options with the pieces of `--want`, where it is given; none where its value is wrong, which is told.
-fn with_want<E: Write>(
-    alloc: Global,
-    arguments: &ArgMatches<'_>,
-    options: Options,
-    err: &mut E,
-) -> Result<Option<Options>, AllocError>
-    ensures rules { IfOk result (λ found. IfSome found (λ with. with.rules ≡ options.rules)) }
-    ensures checkers { IfOk result (λ found. IfSome found (λ with. with.checkers ≡ options.checkers)) }
-{
-    let Some(text) = arguments.get_str("want") else {
-        return Ok(Some(options));
-    };
-    let want = read_hex(alloc, text.as_bytes())?;
-    if want.is_none() {
-        let _ = writeln!(err, "error: the value of --want is not hexadecimal");
-        return Ok(None);
-    }
-    Ok(Some(Options { want, ..options }))
-}
-
-/// Saves the content of a run that ended so at this desk, where that is asked for and all pieces are had, and says how the program ends.
-fn finish<'w, R: Runtime + AllocGlobal, O: Write>(
-    rt: &R,
-    told: Result<u8, Fault>,
-    desk: &Desk,
-    out: &mut Device<O>,
-    path: Option<&'w str>,
-) -> Result<u8, Failure<'w>> {
-    let done = ended(told, out);
-    match path {
-        Some(path) => worse(done, save_to(rt, desk, path)),
-        None => done,
-    }
-}
-
-/// Writes the content to a file, if all pieces are had.
-fn save_to<'w, R: Runtime + AllocGlobal>(
-    rt: &R,
-    desk: &Desk,
-    path: &'w str,
-) -> Result<(), Failure<'w>> {
-    let mut file = OutFile::new(rt, path);
-    // What it says is what the file remembers.
-    let _ = save(desk, &mut file);
-    match file.error() {
-        Some(error) => Err(Failure::of_file(path, error)),
-        None => Ok(()),
+    let meta = read(rt, asked.meta)?;
+    let streams = recorded(rt, streams)?;
+    let mut target = target_of(rt, asked.out);
+    match threads_of(rt, &meta, streams, options, out, &mut target) {
+        Ok(came) => {
+            *more = ends_in_words(rt.alloc(), &came.streams, &came.ends);
+            came.done
+        }
+        Err(fault) => Err(Failure::of_command(fault, asked.meta)),
     }
 }

@@ -74,8 +74,10 @@ Prints, behind the journal:
   journal bad N     entry N isn't, counted from 0
 
 Status: 0 all wanted pieces are had; 1 not all; 2 wrong arguments, or one that isn't of META's torrent; 3 `metainfo
-fault N` (`piecepick info --help`); 4 `file fault`, META or a STREAM can't be read, or FILE or standard output can't be
-written; 5 `memory`, there wasn't enough. Not of META's torrent, the first of these:
+fault N` (`piecepick info --help`); 4 `file fault`, META can't be read, a STREAM can't be opened, or FILE or standard
+output can't be written; 5 `memory`, there wasn't enough. A STREAM that is open and can't be read ends its own session,
+and the status is 0 or 1 as ever. Standard error names the file of each stream that was ended by a fault, and why.
+There are 1 to 64 streams, and FILE is none of them and not META. Not of META's torrent, the first of these:
   want fault 1      HEX isn't a byte for each eight pieces
   want fault 2      a bit behind those of the pieces is set
   random fault      there are fewer pieces than --random says";
@@ -96,9 +98,11 @@ Prints:
   journal bad N     entry N isn't, counted from 0
 
 Status: 0 all pieces are had; 1 not all; 2 wrong arguments, or `random fault`, there are fewer pieces than --random
-says; 3 `metainfo fault N` (`piecepick info --help`); 4 `file fault`, META or a STREAM can't be read, or FILE or standard
-output can't be written; 5 `memory`, there wasn't enough, or `no thread`, one couldn't be started; 6 `gather fault N`,
-what the workers noted isn't what the journal has, and nothing is printed. The first of these:
+says; 3 `metainfo fault N` (`piecepick info --help`); 4 `file fault`, META can't be read, a STREAM can't be opened, or
+FILE or standard output can't be written; 5 `memory`, there wasn't enough, or `no thread`, one couldn't be started;
+6 `gather fault N`, what the workers noted isn't what the journal has, and nothing is printed. A STREAM that is open and
+can't be read ends its own session, and the status is 0 or 1 as ever. Standard error names the file of each stream that
+was ended by a fault, and why. There are 1 to 64 streams, and FILE is none of them and not META. The first of these:
   gather fault 1    they noted another number of calls
   gather fault 2    a worker's calls aren't those that the journal has of it
   gather fault 3    the pieces that were told as had aren't those of the journal";

@@ -2,8 +2,17 @@
 #![tactic(auto)]
 
 mod arguments;
+mod asked;
 mod commands;
+mod found;
 mod help;
+mod road;
+mod telling;
+mod wrong;
 
-pub use bt_files::{Device, Failure, OutFile, WRONG_ARGUMENTS, conclude, worse};
+pub use asked::{Asked, Judged};
+pub use bt_files::{Device, Failure, Kept, OutFile, Target, WRONG_ARGUMENTS, conclude};
+pub use bt_meta::ToWrite;
 pub use commands::obey;
+pub use road::{Came, CameTogether, Done, info_of, script_of, serial_of, text_of, threads_of};
+pub use wrong::{Wrong, refuse};

@@ -1,21 +1,26 @@
 //! Whole command lines of the program, one after the other, with the files that they read and make.
 #![tactic(auto)]
 
+mod closed;
 mod counts;
 mod decoding;
 
 use anyhow::{Context, Result};
 use bt_program::obey;
+use closed::Closed;
 use decoding::decode;
 use sha1::Sha1;
 use std::alloc::{AllocError, Global};
+use std::io::Write;
 use std::rt::Runtime;
 use std::sync::Wait;
 use std::thread::Threads;
 use std::{fs, io, str};
 
 /// The command lines, one a line. Some aren't the program's: `show FILE` prints what a file holds, `digest FILE` its length and SHA-1,
-/// `decode META STREAM LEN,LEN..` the messages of a stream by type, and `quietly ..` runs a command and prints its status alone.
+/// `decode META STREAM LEN,LEN..` the messages of a stream by type, and `quietly ..` runs a command and prints its status alone. `digested ..`
+/// prints the length and the SHA-1 of what a command prints in its place; `full ..` and `closed ..` run it with an output that is full, or that
+/// nobody reads.
 const COMMANDS: &str = "commands";
 
 fn main(rt: HostRuntime) -> Result<()> {
@@ -47,7 +52,10 @@ where
         "digest" => digest(rt, rest),
         "decode" => decode(rt, rest),
         "quietly" => run_quietly(rt, rest),
-        _ => run(rt, words),
+        "digested" => run_digested(rt, rest),
+        "full" => run_to(rt, rest, fs::create(rt, "/dev/full")?),
+        "closed" => run_to(rt, rest, Closed),
+        _ => run_to(rt, words, io::writer(rt)),
     }
 }
 
@@ -66,8 +74,12 @@ fn digest<R: Runtime + AllocGlobal>(rt: &R, names: &[String]) -> Result<()> {
     let Some(bytes) = held(rt, names)? else {
         return say_none(rt);
     };
+    say_digest(rt, &bytes)
+}
+
+fn say_digest<R: Runtime + AllocGlobal>(rt: &R, bytes: &[u8]) -> Result<()> {
     let len = bytes.len();
-    let digest = hex::encode(rt.alloc(), Sha1::digest(&bytes).as_slice())?;
+    let digest = hex::encode(rt.alloc(), Sha1::digest(bytes).as_slice())?;
     println!(rt; "content bytes {len} sha1 {digest}")?;
     Ok(())
 }
@@ -87,18 +99,35 @@ fn say_none<R: Runtime + AllocGlobal>(rt: &R) -> Result<()> {
     Ok(())
 }
 
-/// Runs a command, and prints what it tells on standard error too, and its status.
-fn run<R: Runtime + AllocGlobal + Threads + Wait + Sync>(rt: &R, words: &[String]) -> Result<()>
+/// Runs a command with this output, and prints what it tells on standard error, and its status.
+fn run_to<R: Runtime + AllocGlobal + Threads + Wait + Sync, O: Write + Drop>(
+    rt: &R,
+    words: &[String],
+    out: O,
+) -> Result<()>
 where
     R::File: Send,
 {
     let mut told = Vec::new(rt.alloc());
-    let status = obey(rt, words, io::writer(rt), &mut told);
+    let status = obey(rt, words, out, &mut told);
     for line in str::from_utf8(&told)?.lines() {
         println!(rt; "(error) {line}")?;
     }
     println!(rt; "(status) {status}")?;
     Ok(())
+}
+
+/// The same, and prints how many bytes the command printed, and their SHA-1.
+fn run_digested<R: Runtime + AllocGlobal + Threads + Wait + Sync>(
+    rt: &R,
+    words: &[String],
+) -> Result<()>
+where
+    R::File: Send,
+{
+    let mut printed = Vec::new(rt.alloc());
+    run_to(rt, words, &mut printed)?;
+    say_digest(rt, &printed)
 }
 
 fn run_quietly<R: Runtime + AllocGlobal + Threads + Wait + Sync>(

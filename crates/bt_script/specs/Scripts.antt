@@ -68,7 +68,7 @@ Blames (faults.Line n) number reason = (n ≡ number) × reason
 Blames (faults.Metainfo fault) number reason = ⊥
 Blames (faults.Want fault) number reason = ⊥
 Blames faults.Random number reason = ⊥
-Blames faults.File number reason = Unit {0}
+Blames faults.File number reason = ⊥
 Blames faults.Memory number reason = Unit {0}
 Blames faults.NoThread number reason = ⊥
 Blames (faults.Gather fault) number reason = ⊥
@@ -159,7 +159,7 @@ StopsOpening lines (faults.Line number) = LacksLines lines number ⊎ FailsToSta
 StopsOpening lines (faults.Metainfo fault) = ⊥
 StopsOpening lines (faults.Want fault) = ⊥
 StopsOpening lines faults.Random = ⊥
-StopsOpening lines faults.File = Unit {0}
+StopsOpening lines faults.File = ⊥
 StopsOpening lines faults.Memory = Unit {0}
 StopsOpening lines faults.NoThread = ⊥
 StopsOpening lines (faults.Gather fault) = ⊥
@@ -186,6 +186,17 @@ Explains input faults.File = Unit {0}
 Explains input faults.Memory = Unit {0}
 Explains input faults.NoThread = ⊥
 Explains input (faults.Gather fault) = ⊥
+
+-- with which fault playing a script may end before anything is printed: that of a line, or want of memory
+abbrev pub IsPlayFault : Fault → Type 0
+IsPlayFault (faults.Line number) = Unit {0}
+IsPlayFault (faults.Metainfo fault) = ⊥
+IsPlayFault (faults.Want fault) = ⊥
+IsPlayFault faults.Random = ⊥
+IsPlayFault faults.File = ⊥
+IsPlayFault faults.Memory = Unit {0}
+IsPlayFault faults.NoThread = ⊥
+IsPlayFault (faults.Gather fault) = ⊥
 
 -- so many lines were answered when the script came to this end
 abbrev pub EndsAfter : List ℕ → Result (Unit {0}) Fault → ℕ → Type 0

@@ -7,7 +7,8 @@ ghost use Rattle.bt_script.specs.Scripts.{IsScriptStatus};
 ghost use Rattle.bt_text.specs.Statuses.{status_of};
 
 use crate::script::play_script;
-use bt_text::{Fault, describe};
+use bt_meta::ToWrite;
+use bt_text::{Fault, describe, tell_fault};
 use std::alloc::Global;
 use std::io::Write;
 
@@ -47,9 +48,6 @@ pub fn conclude<E: Write>(done: Result<(), Fault>, err: &mut E) -> u8
 {
     match done {
         Ok(()) => 0,
-        Err(fault) => {
-            let _ = writeln!(err, "{fault}");
-            fault.status()
-        }
+        Err(fault) => tell_fault(fault, &mut ToWrite::new(err)),
     }
 }

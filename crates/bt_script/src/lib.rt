@@ -2,8 +2,13 @@
 #![tactic(auto)]
 
 mod commands;
+mod reason;
 mod script;
 
-pub use bt_text::{Fault, describe, print, print_entry, print_journal, print_number};
+pub use bt_text::{
+    Fault, describe, print, print_entry, print_fault, print_info, print_journal, print_number,
+    tell_fault,
+};
 pub use commands::{conclude, run_info, run_script, script_to};
-pub use script::{MOST_DEPTH, play_script, read_hex};
+pub use reason::explain_line;
+pub use script::{MOST_DEPTH, play_script, print_replies, read_hex};

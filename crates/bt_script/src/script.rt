@@ -1,11 +1,12 @@
 //! The command `script`.
 
-ghost use Rattle.std.specs.Prelude.{◌≡◌, ◌<◌, ◌≤◌, ◌+◌, ◌^◌, [], length, map, IfOk, IfErr, OnOk, None, Some};
+ghost use Rattle.std.specs.Prelude.{◌≡◌, ◌<◌, ◌≤◌, ◌+◌, ◌^◌, [], length, map, true, IfOk, IfErr, OnOk, Err, None, Some};
 ghost use Rattle.std.specs.String.{string_bytes};
+ghost use Rattle.bt_text.specs.declared.fault.Fault.TheVariants.{File};
 ghost use Rattle.bt_script.specs.Setups.{setup_in};
 ghost use Rattle.bt_script.specs.Played.{AnswersLine, TakesFront};
 ghost use Rattle.bt_script.specs.Scripts.{Blames, Explains, IsPrintedBy, IsScript, MaySetRules, Prints, IsFirstLine, Passes, Starts};
-ghost use Rattle.bt_script.specs.Scripts.{StopsOpening, line_at, lines_of};
+ghost use Rattle.bt_script.specs.Scripts.{IsPlayFault, StopsOpening, line_at, lines_of};
 
 mod fault;
 mod fields;
@@ -14,9 +15,10 @@ mod player;
 mod rules;
 mod setup;
 
+use bt_meta::{DeviceFault, Sink};
 pub use bt_picker::MOST_DEPTH;
 use bt_picker::{MOST_WORKERS, Rules};
-use bt_text::{Fault, ReplyText};
+use bt_text::{Fault, ReplyText, print};
 pub use fault::LineFault;
 pub use fields::read_hex;
 pub use line::{Command, Line};
@@ -41,11 +43,27 @@ pub fn play_script<W: Write>(alloc: Global, input: &[u8], out: &mut W) -> Result
     played
 }
 
+/// The same with a sink, which is not flushed.
+pub fn print_replies<O: Sink>(alloc: Global, input: &[u8], out: &mut O) -> Result<(), Fault>
+    ensures done { OnOk result (IsScript input.now) }
+    ensures fault { IfErr result (Explains input.now) }
+    ensures file { result ≡ Err File → O.failed out.new ≡ true }
+    ensures prints { Prints input.now result (O.written out.old) (O.written out.new) }
+{
+    let mut replies = String::new(alloc);
+    let done = play(alloc, input, &mut replies);
+    match print(out, &replies) {
+        Ok(()) => done,
+        Err(DeviceFault) => Err(Fault::File),
+    }
+}
+
 /// Plays a script on a desk of its own, and gathers the replies, a line each.
 fn play(alloc: Global, input: &[u8], text: &mut String) -> Result<(), Fault>
     requires { string_bytes text.old ≡ [] }
     ensures done { OnOk result (IsScript input.now) }
     ensures fault { IfErr result (Explains input.now) }
+    ensures unprinted { IfErr result IsPlayFault }
     ensures replies { IsPrintedBy input.now result (string_bytes text.new) }
 {
     let lines = lines(alloc, input)?;
@@ -58,14 +76,14 @@ fn play(alloc: Global, input: &[u8], text: &mut String) -> Result<(), Fault>
 }
 
 /// The parts between line feeds, and what is behind the last one.
-fn lines(alloc: Global, input: &[u8]) -> Result<Vec<&[u8]>, AllocError>
+pub fn lines(alloc: Global, input: &[u8]) -> Result<Vec<&[u8]>, AllocError>
     ensures { IfOk result (λ v. map (λ x. x.now) v.items ≡ lines_of input.now) }
 {
     input.split(|byte| *byte == b'\n').collect(alloc)
 }
 
 /// The line that isn't empty, the first one from `from` on.
-fn first_line(lines: &[&[u8]], from: usize) -> Option<usize>
+pub fn first_line(lines: &[&[u8]], from: usize) -> Option<usize>
     ensures { IsFirstLine (map (λ x. x.now) lines.now) from result }
 {
     for index in from..lines.len() {
@@ -77,7 +95,7 @@ fn first_line(lines: &[&[u8]], from: usize) -> Option<usize>
 }
 
 /// The line of this index, or an empty one.
-fn line_at<'a>(lines: &[&'a [u8]], index: usize) -> &'a [u8]
+pub fn line_at<'a>(lines: &[&'a [u8]], index: usize) -> &'a [u8]
     requires { index < length lines.now }
     ensures { result.now ≡ line_at (map (λ x. x.now) lines.now) index }
 {

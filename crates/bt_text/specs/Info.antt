@@ -41,6 +41,11 @@ abbrev pub PrintsInfo : Result Metainfo MetaFault → Option (List ℕ) → Opti
 PrintsInfo (Ok t) old new = (i : Info) × (Describes t i × Appends old new (info_lines i))
 PrintsInfo (Err fault) old new = ⊥
 
+-- why there is nothing to tell: what is wrong with the file, or want of memory
+abbrev pub IsReadFault : Result Metainfo MetaFault → Fault → Type 0
+IsReadFault (Ok t) given = given ≡ faults.Memory
+IsReadFault (Err fault) given = (given ≡ of_metainfo fault) ⊎ (given ≡ faults.Memory)
+
 -- with which fault `info` may end, by what reading the metainfo file gives: what is wrong with the file, or want of memory, or,
 -- where nothing is wrong, that the output failed
 abbrev pub IsInfoFault : Result Metainfo MetaFault → Fault → Type 0

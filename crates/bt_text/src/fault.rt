@@ -1,10 +1,12 @@
 //! How a command ends.
 
-ghost use Rattle.std.specs.Prelude.{◌≡◌, Some};
+ghost use Rattle.std.specs.Prelude.{◌≡◌, ◌⊎◌, ◌++◌, Some, codes, true, OnOk, OnErr};
+ghost use Rattle.std.specs.Io.KnownBytes.{Appends};
 ghost use Rattle.bt_text.specs.Statuses.{bit_fault_number, fault_text, gather_fault_number, of_gather, of_metainfo, of_want, status_of};
 ghost use Rattle.bt_text.specs.declared.fault.Fault.TheVariants.{Memory};
 
-use bt_meta::{BitFault, MetaFault};
+use crate::printing::{print, print_numbered};
+use bt_meta::{BitFault, DeviceFault, MetaFault, Sink};
 use bt_shared::GatherFault;
 use std::alloc::{AllocError, AllocFailed};
 use std::{fmt, io};
@@ -90,6 +92,50 @@ impl fmt::Display for Fault {
                 write!(f, "gather fault {number}")
             }
         }
+    }
+}
+
+/// Writes the line that tells the fault, with no memory.
+pub fn print_fault<E: Sink>(err: &mut E, fault: Fault) -> Result<(), DeviceFault>
+    ensures ok { OnOk result (Appends (E.written err.old) (E.written err.new) (fault_text fault ++ codes "\n")) }
+    ensures err { OnErr result (E.failed err.new ≡ true) }
+{
+    print_fault_text(err, fault)?;
+    print(err, "\n")
+}
+
+/// Writes the same without its end.
+fn print_fault_text<E: Sink>(err: &mut E, fault: Fault) -> Result<(), DeviceFault>
+    ensures ok { OnOk result (Appends (E.written err.old) (E.written err.new) (fault_text fault)) }
+    ensures err { OnErr result (E.failed err.new ≡ true) }
+{
+    match fault {
+        Fault::Line(number) => print_numbered(err, "line ", number),
+        Fault::Metainfo(fault) => {
+            print_numbered(err, "metainfo fault ", u64::from(fault.number()))
+        }
+        Fault::Want(fault) => {
+            print_numbered(err, "want fault ", u64::from(bit_fault_number(fault)))
+        }
+        Fault::Random => print(err, "random fault"),
+        Fault::File => print(err, "file fault"),
+        Fault::Memory => print(err, "memory"),
+        Fault::NoThread => print(err, "no thread"),
+        Fault::Gather(fault) => {
+            print_numbered(err, "gather fault ", u64::from(gather_fault_number(fault)))
+        }
+    }
+}
+
+/// Writes the fault's line, and answers the exit status. That the line can't be written changes nothing.
+pub fn tell_fault<E: Sink>(fault: Fault, err: &mut E) -> u8
+    ensures status { result ≡ status_of fault }
+    // It was told, or the writer has failed.
+    ensures told { (E.failed err.new ≡ true) ⊎ Appends (E.written err.old) (E.written err.new) (fault_text fault ++ codes "\n") }
+{
+    match print_fault(err, fault) {
+        Ok(()) => fault.status(),
+        Err(DeviceFault) => fault.status(),
     }
 }
 

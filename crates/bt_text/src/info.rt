@@ -1,15 +1,17 @@
 //! The command `info`.
 
-ghost use Rattle.std.specs.Prelude.{◌≡◌, Some, Ok, Err, IfOk, IfErr, IsOkAnd, OnOk};
+ghost use Rattle.std.specs.Prelude.{◌≡◌, Some, true, Ok, Err, IfOk, IfErr, IsOkAnd, OnOk};
 ghost use Rattle.std.specs.String.{string_bytes};
 ghost use Rattle.std.specs.Io.KnownBytes.{Appends};
 ghost use Rattle.bt_meta.specs.Reading.{torrent_of_file};
 ghost use Rattle.bt_text.specs.declared.info.Info.{Info};
-ghost use Rattle.bt_text.specs.Info.{info_lines, blocks_of, Describes, IsInfoFault, PrintsInfo};
+ghost use Rattle.bt_text.specs.declared.fault.Fault.TheVariants.{File};
+ghost use Rattle.bt_text.specs.Info.{info_lines, blocks_of, Describes, IsInfoFault, IsReadFault, PrintsInfo};
 
 use crate::fault::Fault;
+use crate::printing::print;
 use crate::text::Name;
-use bt_meta::Torrent;
+use bt_meta::{DeviceFault, Sink, Torrent};
 use std::alloc::{AllocError, Global};
 use std::fmt;
 use std::io::Write;
@@ -27,11 +29,24 @@ pub fn describe<W: Write>(alloc: Global, meta: &[u8], out: &mut W) -> Result<(),
     Ok(())
 }
 
+/// The same to a sink, which is not flushed.
+pub fn print_info<O: Sink>(alloc: Global, meta: &[u8], out: &mut O) -> Result<(), Fault>
+    ensures ok { OnOk result (PrintsInfo (torrent_of_file meta.now) (O.written out.old) (O.written out.new)) }
+    ensures err { IfErr result (IsInfoFault (torrent_of_file meta.now)) }
+    ensures file { result ≡ Err File → O.failed out.new ≡ true }
+{
+    let text = description(alloc, meta)?;
+    match print(out, &text) {
+        Ok(()) => Ok(()),
+        Err(DeviceFault) => Err(Fault::File),
+    }
+}
+
 /// What a metainfo file says of its content, a line each.
 fn description(alloc: Global, meta: &[u8]) -> Result<String, Fault>
     ensures ok { IfOk result (λ text. IsOkAnd (torrent_of_file meta.now) (λ t.
         (info : Info) × (Describes t info × (string_bytes text ≡ info_lines info)))) }
-    ensures err { IfErr result (IsInfoFault (torrent_of_file meta.now)) }
+    ensures err { IfErr result (IsReadFault (torrent_of_file meta.now)) }
 {
     let torrent = Torrent::read(alloc, meta)?;
     let text = Info::of(alloc, &torrent)?.to_string(alloc)?;

@@ -7,8 +7,8 @@ mod journal;
 mod printing;
 mod text;
 
-pub use fault::Fault;
-pub use info::describe;
+pub use fault::{Fault, print_fault, tell_fault};
+pub use info::{describe, print_info};
 pub use journal::{print_entry, print_journal};
 pub use printing::{print, print_number};
 pub use text::{ReplyText, Tail};

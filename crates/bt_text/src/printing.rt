@@ -1,6 +1,6 @@
 //! Text straight to a sink. It takes no memory, so that only the sink can fail.
 
-ghost use Rattle.std.specs.Prelude.{◌≡◌, true, OnOk, OnErr};
+ghost use Rattle.std.specs.Prelude.{◌≡◌, ◌++◌, true, OnOk, OnErr};
 ghost use Rattle.std.specs.Fmt.{decimal};
 ghost use Rattle.std.specs.Io.KnownBytes.{Appends};
 ghost use Rattle.bt_text.specs.Texts.{block_text, said_text, tail_text};
@@ -23,6 +23,15 @@ pub fn print_number<O: Sink>(out: &mut O, number: u64) -> Result<(), DeviceFault
     ensures err { OnErr result (O.failed out.new ≡ true) }
 {
     write_all(out, Buffer::new().format(number).as_bytes())
+}
+
+/// Writes the text, and then the number in base ten.
+pub fn print_numbered<O: Sink>(out: &mut O, text: &str, number: u64) -> Result<(), DeviceFault>
+    ensures ok { OnOk result (Appends (O.written out.old) (O.written out.new) (text.now ++ decimal number)) }
+    ensures err { OnErr result (O.failed out.new ≡ true) }
+{
+    print(out, text)?;
+    print_number(out, number)
 }
 
 /// Where a block stands: its piece, where it begins in it and its length, in bytes.

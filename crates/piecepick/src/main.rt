@@ -1,7 +1,7 @@
 //! The program `piecepick`: hands its command line and its standard streams to `bt_program`.
 #![tactic(auto)]
 
-use bt_program::{Failure, WRONG_ARGUMENTS, conclude, obey};
+use bt_program::{Failure, ToWrite, WRONG_ARGUMENTS, conclude, obey};
 use std::process::ExitCode;
 use std::rt::Runtime;
 use std::{env, io};
@@ -16,7 +16,8 @@ fn main(rt: HostRuntime) -> ExitCode {
         }
         Err(error) => {
             let failure = Failure::of_file("arguments", error);
-            return ExitCode::from(conclude(Err(failure), &mut err));
+            let mut err = ToWrite::new(err);
+            return ExitCode::from(conclude(rt.alloc(), Err(failure), &mut err));
         }
     };
     ExitCode::from(obey(&rt, &words, io::writer(&rt), &mut err))

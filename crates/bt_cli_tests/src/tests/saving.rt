@@ -8,13 +8,14 @@ use bt_expect::same;
 use bt_meta::{DeviceFault, Sink};
 use bt_picker::Desk;
 use std::alloc::Global;
-use std::io::Write;
+use std::io;
+use std::io::{ErrorKind, Write};
 use std::process::Abort;
 use std::test::*;
 
 /// A file in memory, with what it holds, once it is made; some can't be made.
 #[derive(Drop)]
-struct Kept {
+pub struct Kept {
     held: Vec<u8>,
     can_be_made: bool,
     made: bool,
@@ -22,13 +23,23 @@ struct Kept {
 }
 
 impl Kept {
-    fn new(alloc: Global, can_be_made: bool) -> Result<Kept, Fail> {
+    pub fn new(alloc: Global, can_be_made: bool) -> Result<Kept, Fail> {
         Ok(Kept {
             held: Vec::from_slice(alloc, b"older")?,
             can_be_made,
             made: false,
             failed: false,
         })
+    }
+
+    pub fn held(&self) -> &[u8] {
+        &self.held
+    }
+}
+
+impl bt_program::Kept for Kept {
+    fn reason(&self) -> io::Error {
+        io::Error::from(ErrorKind::Other)
     }
 }
 
