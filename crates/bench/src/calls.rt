@@ -87,6 +87,7 @@ impl Trial {
         self.come(rt)?;
         self.ask_for_nothing(rt)?;
         self.download(rt)?;
+        self.read(rt)?;
         self.ask_beyond(rt)?;
         self.tell_pieces(rt)?;
         self.choke(rt)?;
@@ -310,6 +311,38 @@ impl Trial {
     fn settle_by(&mut self, verdict: Verdict) -> Result<Reply> {
         let call = Call::Settle(Arc::new(self.alloc, verdict)?);
         self.swarm.call(NEWCOMER, call)
+    }
+
+    /// What the desk tells of the whole download, in its middle, after each of a hundred asks of a peer that chokes us.
+    fn read<C: CpuClock>(&mut self, rt: &C) -> Result<()> {
+        self.read_repeatedly(rt, Kind::IsComplete)?;
+        self.read_repeatedly(rt, Kind::HasWanted)?;
+        self.read_repeatedly(rt, Kind::Finished)
+    }
+
+    fn read_repeatedly<C: CpuClock>(&mut self, rt: &C, kind: Kind) -> Result<()> {
+        let before = self.told(kind);
+        let mut others = false;
+        let start = rt.thread_cpu_time()?;
+        for _ in 0..REPEATS {
+            self.swarm
+                .call(LATECOMER, Call::Next(self.words.next_word()))?;
+            others |= self.told(kind) != before;
+        }
+        let took = rt.thread_cpu_time()?.saturating_sub(start);
+        if others {
+            return Ok(());
+        }
+        self.table.note(kind, u64::from(REPEATS), took)
+    }
+
+    /// What the desk says to a question of this kind.
+    fn told(&self, kind: Kind) -> usize {
+        match kind {
+            Kind::IsComplete => usize::from(self.swarm.is_complete()),
+            Kind::HasWanted => usize::from(self.swarm.has_wanted()),
+            _ => self.swarm.finished(),
+        }
     }
 
     /// Asks of a peer whose pipe is full, and of one that shows a piece alone of which each block is asked of others.

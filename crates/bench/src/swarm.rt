@@ -133,6 +133,21 @@ impl<const WORKERS: u32> Swarm<WORKERS> {
         self.desk.group(shown_by)
     }
 
+    /// Whether all pieces are had.
+    pub fn is_complete(&self) -> bool {
+        self.desk.is_complete()
+    }
+
+    /// Whether all wanted pieces are had.
+    pub fn has_wanted(&self) -> bool {
+        self.desk.has_wanted()
+    }
+
+    /// How many pieces are listed as had.
+    pub fn finished(&self) -> usize {
+        self.desk.finished().len()
+    }
+
     /// A check of the piece, where it waits for one.
     pub fn job(&self, alloc: Global, piece: u32) -> Result<Option<Job>> {
         Ok(self.desk.job(alloc, piece)?)

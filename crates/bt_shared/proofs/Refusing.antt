@@ -1,5 +1,5 @@
 -- From the logs in their places to the logs of the passes.
-use Rattle.std.proofs.Common.{◌≡◌, ◌∙◌, ℕ, ◌<◌, Bool, List, Option, length, Some, slice_get, subst, sym, arith, ⊎_elim}
+use Rattle.std.proofs.Common.{◌≡◌, ◌∙◌, ℕ, ◌<◌, Bool, List, Option, length, Some, slice_get, subst, sym, arith, ⊎_elim, inl}
 use Rattle.std.specs.Global.{Vec}
 use Rattle.std.proofs.lemmas.Option.{slice_get_cases}
 use Rattle.bt_history.specs.declared.mark.Mark.{Mark}
@@ -9,6 +9,7 @@ use Rattle.bt_history.specs.Logs.{Agrees, marks_of}
 use Rattle.bt_history.specs.Setting.{Setting}
 use Rattle.bt_shared.specs.Gathering.{AreAlike, EachAgrees, EachFrom, IsCause, IsDifference, IsFirstDifference, IsFirstDiffering, IsFirstUnlike}
 use Rattle.bt_shared.specs.Gathering.{held_by, log_of}
+use Rattle.bt_shared.specs.Closing.{EachKnows}
 use Rattle.bt_shared.specs.Passes.{PassState}
 use Rattle.bt_shared.specs.declared.gather.GatherFault.{GatherFault}
 use Rattle.bt_shared.specs.declared.gather.GatherFault.TheVariants.{PassMissing, LogsDiffer, BoardDiffers, NoMemory}
@@ -37,9 +38,10 @@ module _ (passes : List PassState) (logs : List (Vec Mark)) (from : EachFrom pas
     }
 
     -- a difference of the logs in their places is one of the passes
-    pub cause : (held : ℕ) (bits : Option (List Bool)) (fault : GatherFault) → IsLegal s h → held ≡ held_by passes
+    pub cause : (held : ℕ) (bits : Option (List Bool)) (fault : GatherFault) → IsLegal s h → EachKnows h passes → held ≡ held_by passes
         → IsDifference h held logs bits fault → IsCause s passes bits fault
-    cause held bits (PassMissing found journal) legal counted is = (is.0 ∙ counted, λ same. is.2 (sym is.0 ∙ same))
-    cause held bits (LogsDiffer w index) legal counted is = (h, legal, sym counted ∙ is.0, unlike w index is.1)
-    cause held bits (BoardDiffers p) legal counted is = (h, legal, sym counted ∙ is.0, all_alike is.1, is.2)
-    cause held bits NoMemory legal counted is = absurd is
+    cause held bits (PassMissing found journal) legal knows counted is =
+        (is.0 ∙ counted, λ same. is.2 (sym is.0 ∙ same), inl (h, legal, knows, is.1))
+    cause held bits (LogsDiffer w index) legal knows counted is = (h, legal, sym counted ∙ is.0, unlike w index is.1)
+    cause held bits (BoardDiffers p) legal knows counted is = (h, legal, sym counted ∙ is.0, all_alike is.1, is.2)
+    cause held bits NoMemory legal knows counted is = absurd is

@@ -1,5 +1,5 @@
 -- What the workers' logs and a bitfield say of a desk, and why a desk isn't gathered.
-use Rattle.std.specs.Prelude.{◌≡◌, ◌≢◌, ◌==◌, ◌<◌, ◌-◌, ◌^◌, ◌∷◌, [], ℕ, Bool, false, List, Option, Some, length, min, take, slice_get}
+use Rattle.std.specs.Prelude.{◌≡◌, ◌≢◌, ◌==◌, ◌<◌, ◌+◌, ◌-◌, ◌%◌, ◌^◌, ◌⊎◌, ◌∷◌, [], ℕ, Bool, false, List, Option, Some, length, min, take, slice_get}
 use Rattle.std.specs.Prelude.{slice_index_or, sum_by, IsSomeAnd, if◌then◌else◌}
 use Rattle.std.specs.Global.{Vec}
 use Rattle.bt_history.specs.declared.mark.Mark.{Mark}
@@ -8,6 +8,7 @@ use Rattle.bt_history.specs.Legal.{IsLegal}
 use Rattle.bt_history.specs.Logs.{Agrees, marks_of}
 use Rattle.bt_history.specs.Pieces.{had}
 use Rattle.bt_history.specs.Setting.{Setting}
+use Rattle.bt_shared.specs.Closing.{EachKnows}
 use Rattle.bt_shared.specs.Passes.{PassState}
 use Rattle.bt_shared.specs.declared.gather.GatherFault.{GatherFault}
 use Rattle.bt_shared.specs.declared.gather.GatherFault.TheVariants.{PassMissing, LogsDiffer, BoardDiffers, NoMemory}
@@ -70,10 +71,19 @@ pub record IsFirstUnlike (s : Setting) (h : History) (passes : List PassState) (
 abbrev pub AreAlike : Setting → History → List PassState → Type 0
 AreAlike s h passes = (w : ℕ) → w < s.workers → Agrees h w (log_of w passes)
 
+-- a journal of so many entries is a legal one that begins with what each pass has seen, and has no entry of its worker but those there
+abbrev pub IsKnown : Setting → List PassState → ℕ → Type 0
+IsKnown s passes journal = (h : History) × IsLegal s h × EachKnows h passes × (journal ≡ length h)
+
+-- a pass that isn't there took the desk with it, in the middle of its call
+abbrev pub IsLost : ℕ → ℕ → Type 0
+IsLost held journal = journal ≡ (held + 1) % 2 ^ 64
+
 -- why a desk isn't gathered with these passes and this bitfield: the first cause that holds. The passes lack calls; then, their number
 -- being that of a legal history, a log differs from it; then, each log being right, the bitfield does
 abbrev pub IsCause : Setting → List PassState → Option (List Bool) → GatherFault → Type 0
-IsCause s passes bits (PassMissing held journal) = (held ≡ held_by passes) × (held ≢ journal)
+IsCause s passes bits (PassMissing held journal) =
+    (held ≡ held_by passes) × (held ≢ journal) × (IsKnown s passes journal ⊎ IsLost held journal)
 IsCause s passes bits (LogsDiffer w index) =
     (h : History) × IsLegal s h × (held_by passes ≡ length h) × IsFirstUnlike s h passes w index
 IsCause s passes bits (BoardDiffers p) =

@@ -29,6 +29,9 @@ pub enum Kind {
     Leave,
     In,
     InAndOut,
+    IsComplete,
+    HasWanted,
+    Finished,
 }
 
 impl Kind {
@@ -54,6 +57,9 @@ impl Kind {
             Kind::Leave => "Leave",
             Kind::In => "Join, Bits, Unchoke",
             Kind::InAndOut => "the same and Leave",
+            Kind::IsComplete => "Choked, is_complete",
+            Kind::HasWanted => "Choked, has_wanted",
+            Kind::Finished => "Choked, finished",
         }
     }
 }

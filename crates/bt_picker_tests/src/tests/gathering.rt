@@ -39,6 +39,32 @@ fn misses_a_pass(alloc: Global, seated: Seated) -> Result<(), Fail> {
     same(cause(seated.gather(alloc))?, Some(missing))
 }
 
+/// Of two workers that joined, the one that went on is lost.
+#[test]
+fn a_lost_pass_of_two_calls(rt: HostRuntime) -> Result<(), Fail> {
+    let mut seated = Seated::open(&rt, rt.alloc(), 2)?;
+    seated.says(&rt, 1, Call::Join, Reply::Joined)?;
+    join_and_lose_second(&rt, &mut seated)?;
+    misses_two_calls(rt.alloc(), seated)
+}
+
+/// The other worker joins, and then the second makes one more call and is lost.
+fn join_and_lose_second<R: Wait + Abort>(rt: &R, seated: &mut Seated) -> Result<(), Fail> {
+    seated.says(rt, 0, Call::Join, Reply::Joined)?;
+    seated.says(rt, 1, Call::Unchoke, Reply::Quiet)?;
+    seated.lose(rt, 1);
+    Ok(())
+}
+
+/// The desk isn't gathered, as the passes have one call, and the journal has three.
+fn misses_two_calls(alloc: Global, seated: Seated) -> Result<(), Fail> {
+    let missing = GatherFault::PassMissing {
+        held: 1,
+        journal: 3,
+    };
+    same(cause(seated.gather(alloc))?, Some(missing))
+}
+
 /// Of three workers the last two join. The idle one's pass is lost, which isn't noticed, and the last pass comes in its place: so in
 /// another order.
 #[test]

@@ -7,7 +7,7 @@ ghost use Rattle.bt_meta.specs.Layout.{piece_count};
 use super::same::same;
 use super::shown::{Shown, count, pieces, yes_or_no};
 use super::steps::{cut, entry_of, hashed, next_number, number, reply_of, torrent_of};
-use bt_meta::{Sink, Torrent};
+use bt_meta::{Block, Sink, Torrent};
 use bt_picker::*;
 use std::alloc::{AllocError, Global};
 use std::process::Abort;
@@ -33,6 +33,20 @@ fn is_answered(rt: &impl Abort, answer: Shown, wanted: &str, asked: &str) {
     match answer {
         Shown::Word(word) => same(rt, word, wanted, asked),
         Shown::Count(count) => same(rt, Some(count), wanted.parse::<u64>().ok(), asked),
+    }
+}
+
+/// The piece at this place of the list.
+fn piece_at(rt: &impl Abort, pieces: &[u32], place: usize) -> Shown {
+    assert!(rt; place < pieces.len());
+    Shown::Count(u64::from(pieces[place]))
+}
+
+/// The piece of the block, if there is one.
+fn piece_of(block: Option<&Block>) -> Shown {
+    match block {
+        Some(block) => Shown::Count(u64::from(block.piece)),
+        None => Shown::Word("none"),
     }
 }
 
@@ -169,6 +183,9 @@ impl Played {
             "shown-by" => self.group(rt, number),
             "outstanding" => Shown::Count(self.outstanding(rt, number) as u64),
             "availability" => Shown::Count(u64::from(self.availability(rt, number))),
+            "finished" => piece_at(rt, self.finished(), number as usize),
+            "oldest" => piece_of(self.line(rt, number).first()),
+            "newest" => piece_of(self.line(rt, number).last()),
             _ => panic!(rt; "no such question"),
         }
     }
@@ -181,6 +198,7 @@ impl Played {
             "wanted" => self.wanted(rt),
             "entries" => Shown::Count(self.entries() as u64),
             "unasked" => Shown::Count(self.unasked()),
+            "finished" => Shown::Count(self.finished().len() as u64),
             _ => panic!(rt; "no such question"),
         }
     }
@@ -263,9 +281,17 @@ impl Played {
         self.desk.availability(piece)
     }
 
-    fn outstanding(&self, rt: &impl Abort, worker: u32) -> usize {
+    fn line(&self, rt: &impl Abort, worker: u32) -> &[Block] {
         assert!(rt; worker < WORKERS);
-        self.desk.outstanding(worker).len()
+        self.desk.outstanding(worker)
+    }
+
+    fn outstanding(&self, rt: &impl Abort, worker: u32) -> usize {
+        self.line(rt, worker).len()
+    }
+
+    fn finished(&self) -> &[u32] {
+        self.desk.finished()
     }
 
     fn unbegun(&self, rt: &impl Abort, shown_by: u32) -> &[u32] {

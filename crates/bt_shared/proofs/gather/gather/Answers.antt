@@ -2,6 +2,7 @@ use Rattle.std.proofs.Common.{◌≡◌, List, length, option_copied, rules, sub
 use Rattle.std.specs.Global.{Vec}
 use Rattle.bt_history.specs.declared.mark.Mark.{Mark}
 use Rattle.bt_history.specs.Legal.{IsLegal}
+use Rattle.bt_shared.specs.Closing.{EachKnows}
 use Rattle.bt_shared.specs.Gathering.{IsDifference}
 use Rattle.bt_shared.proofs.Refusing.{cause}
 use Rattle.bt_shared.proofs.gather.gather.Goals as goal
@@ -18,4 +19,5 @@ returns-in-Some-difference-clause-err c =
     let count : length logs ≡ s.workers = search rules in
     let told : IsDifference h held logs bits fault =
     subst (λ (all : List (Vec Mark)). IsDifference h held all bits fault) c.deref.ensures.value c.in-Some-difference.ensures.some in
-    cause c.args.passes.items logs c.take_apart-held.ensures.logs s h count held bits fault legal c.take_apart-held.ensures.held told
+    let knows : EachKnows h c.args.passes.items = search rules in
+    cause c.args.passes.items logs c.take_apart-held.ensures.logs s h count held bits fault legal knows c.take_apart-held.ensures.held told

@@ -89,4 +89,8 @@ returns-clause-seen c =
     subst (λ (v : View). (p : ℕ) → Seen v p → get_or c.loop-piece.bits p false ≡ true) same closed.1
 
 pub loop-piece-init : goal.loop-piece-init
-loop-piece-init c = grind (arith, common_steps)
+loop-piece-init c = record {
+  long = grind (arith, common_steps);
+  done = λ p below. absurd (omega (arith, below));
+  rest = λ p _. grind (arith, common_steps);
+}
