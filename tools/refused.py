@@ -33,16 +33,7 @@ DATA = os.path.join(ROOT, "crates/bt_runs/data")
 KINDS = ("alloc", "read", "write", "thread")
 TESTED = ("bt_parts_tests", "bt_picker_tests", "bt_session_tests", "bt_cli_tests")
 # What a test says that ends by an error of its own, and not by an assertion.
-NO_MEMORY = re.compile(r"error: .*(NoMemory|AllocError|AllocFailed|OutOfMemory).*\nthe test failed: its result gives status 1\n")
-LEFT_OUT = {
-    # They take long under each refusal, and haven't been run to their end.
-    "tests::board::what_one_marks_the_other_sees",
-    "tests::board::each_piece_is_given_once",
-    # Of two threads one waits for what the other would do, which has ended for want of memory.
-    "tests::tickets::a_full_queue_waits_and_loses_nothing",
-    # A thread tells that a reply was another than it should be, also where there was none.
-    "tests::threads::two_threads_at_one_desk",
-}
+NO_MEMORY = re.compile(r"error: .*(NoMemory|AllocError|AllocFailed|OutOfMemory|\bMemory\b).*\nthe test failed: its result gives status 1\n")
 
 
 def data(*names):
@@ -209,7 +200,7 @@ def try_tests(trial, crates):
     for crate in crates:
         program = os.path.join(ROOT, f"crates/{crate}/out/{crate}_tests")
         listed = subprocess.run([program, "--list"], capture_output=True, check=True).stdout.decode()
-        tests = [test for test in re.findall(r"tests::[\w:]+\w", listed) if test not in LEFT_OUT]
+        tests = re.findall(r"tests::[\w:]+\w", listed)
         with concurrent.futures.ThreadPoolExecutor(os.cpu_count()) as pool:
             tried = list(pool.map(lambda test: refuse_in_test(trial, program, test), tests))
         print(f"{crate}: {len(tests)} tests, {sum(refused for refused, _ in tried):,} allocations refused")

@@ -1,6 +1,6 @@
 //! Bytes that are no script, with the line at fault and the replies to the lines before.
 
-use super::scripts::ran;
+use super::scripts::{in_memory, ran};
 use bt_expect::{same, same_for};
 use bt_meta::{BitFault, MetaFault};
 use bt_script::*;
@@ -144,10 +144,10 @@ const FIRST_LINES: &[(&[u8], u64)] = &[
 ];
 
 /// How a script is played, and what was printed.
-fn played(alloc: Global, script: &[u8]) -> (Result<(), Fault>, Vec<u8>) {
+fn played(alloc: Global, script: &[u8]) -> Result<(Result<(), Fault>, Vec<u8>), AllocError> {
     let mut out = Vec::new(alloc);
-    let done = play_script(alloc, script, &mut out);
-    (done, out)
+    let done = in_memory(play_script(alloc, script, &mut out))?;
+    Ok((done, out))
 }
 
 /// A script of the torrent line and what stands behind it.
@@ -165,7 +165,7 @@ fn plays(
     printed: &[u8],
     case: &[u8],
 ) -> Result<(), Fail> {
-    let (done, out) = played(alloc, script);
+    let (done, out) = played(alloc, script)?;
     same_for(done, wanted, case)?;
     same_for(out.as_slice(), printed, case)
 }
@@ -188,7 +188,7 @@ fn lines_behind_the_first(rt: HostRuntime) -> Result<(), Fail> {
 fn first_lines(rt: HostRuntime) -> Result<(), Fail> {
     for &(script, number) in FIRST_LINES {
         plays(rt.alloc(), script, Err(Fault::Line(number)), b"", script)?;
-        let (status, _) = ran(rt.alloc(), script);
+        let (status, _) = ran(rt.alloc(), script)?;
         same_for(status, 2, script)?;
     }
     Ok(())

@@ -4,9 +4,10 @@ ghost use Rattle.std.specs.Prelude.{◌≡◌};
 
 use super::saving::Kept;
 use super::serial::{FILE, FRAMES, INFOHASH, Recorded, recorded, stream, usual};
+use bt_cli::Fault;
 use bt_expect::same;
 use bt_program::*;
-use std::alloc::Global;
+use std::alloc::{AllocError, Global};
 use std::io::BufWriter;
 use std::test::*;
 
@@ -17,11 +18,12 @@ fn output(alloc: Global, printed: &mut Vec<u8>) -> Result<Output<'_>, Fail> {
     Ok(Device::new(BufWriter::new(alloc, printed)?))
 }
 
-/// The status, where the command was done.
-fn status_of(done: Result<Done, Failure<'_>>) -> Option<u8> {
+/// The status, where the command was done; want of memory ends a test as such.
+fn status_of(done: Result<Done, Failure<'_>>) -> Result<Option<u8>, AllocError> {
     match done {
-        Ok(done) => Some(done.status()),
-        Err(_) => None,
+        Ok(done) => Ok(Some(done.status())),
+        Err(Failure::Command(Fault::Memory)) => Err(AllocError),
+        Err(_) => Ok(None),
     }
 }
 
@@ -35,7 +37,7 @@ fn a_file_is_described(rt: HostRuntime) -> Result<(), Fail> {
     let mut printed = Vec::new(rt.alloc());
     let mut out = output(rt.alloc(), &mut printed)?;
     let done = info_of(rt.alloc(), FILE, "META", &mut out);
-    same(status_of(done), Some(0))?;
+    same(status_of(done)?, Some(0))?;
     drop(out);
     same(printed.as_slice(), DESCRIBED)
 }
@@ -46,7 +48,7 @@ fn a_script_is_played(rt: HostRuntime) -> Result<(), Fail> {
     let mut out = output(rt.alloc(), &mut printed)?;
     let script = b"torrent 3 3 1 a9993e364706816aba3e25717850c26c9cd0d89d\n0 join\n";
     let done = script_of(rt.alloc(), script, &mut out);
-    same(status_of(done), Some(0))?;
+    same(status_of(done)?, Some(0))?;
     drop(out);
     same(printed.as_slice(), b"joined\n".as_slice())
 }
@@ -55,7 +57,7 @@ fn a_script_is_played(rt: HostRuntime) -> Result<(), Fail> {
 fn help_is_printed(rt: HostRuntime) -> Result<(), Fail> {
     let mut printed = Vec::new(rt.alloc());
     let mut out = output(rt.alloc(), &mut printed)?;
-    same(status_of(text_of("help\n", &mut out)), Some(0))?;
+    same(status_of(text_of("help\n", &mut out))?, Some(0))?;
     drop(out);
     same(printed.as_slice(), b"help\n".as_slice())
 }
@@ -91,7 +93,7 @@ fn streams_are_played_in_turns(rt: HostRuntime) -> Result<(), Fail> {
         &mut out,
         &mut target,
     )?;
-    same(status_of(came.done), Some(0))?;
+    same(status_of(came.done)?, Some(0))?;
     drop(out);
     same(printed.as_slice(), REPORT)?;
     is_saved(&target)
@@ -105,7 +107,7 @@ fn streams_are_played_at_once(rt: HostRuntime) -> Result<(), Fail> {
     let sent = stream(rt.alloc(), INFOHASH, FRAMES)?;
     let streams = vec![in rt.alloc(); recorded(rt.alloc(), &sent)]?;
     let came = threads_of(&rt, FILE, streams, &usual(), &mut out, &mut target)?;
-    same(status_of(came.done), Some(0))?;
+    same(status_of(came.done)?, Some(0))?;
     drop(out);
     same(printed.as_slice(), REPORT)?;
     is_saved(&target)

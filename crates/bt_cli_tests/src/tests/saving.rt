@@ -7,7 +7,7 @@ use bt_cli::*;
 use bt_expect::same;
 use bt_meta::{DeviceFault, Sink};
 use bt_picker::Desk;
-use std::alloc::Global;
+use std::alloc::{AllocError, Global};
 use std::io;
 use std::io::{ErrorKind, Write};
 use std::process::Abort;
@@ -39,7 +39,12 @@ impl Kept {
 
 impl bt_program::Kept for Kept {
     fn reason(&self) -> io::Error {
-        io::Error::from(ErrorKind::Other)
+        // Once it is made it fails for want of memory alone.
+        io::Error::from(if self.made {
+            ErrorKind::OutOfMemory
+        } else {
+            ErrorKind::Other
+        })
     }
 }
 
@@ -91,8 +96,9 @@ fn saved(desk: &Desk, file: &mut Kept) -> Result<(), DeviceFault> {
 
 /// Checks that the piece is written to a file that can be made.
 fn is_written(rt: &impl Abort, desk: &Desk, file: &mut Kept) -> Result<(), Fail> {
-    assert!(rt; saved(desk, file) == Ok(()));
+    let done = saved(desk, file);
     assert!(rt; file.made);
+    done.map_err(|DeviceFault| AllocError)?;
     same(file.held.as_slice(), b"abc".as_slice())
 }
 

@@ -34,18 +34,35 @@ fn add_lines(lines: &str, script: &mut String, replies: &mut String) -> Result<(
     Ok(())
 }
 
+/// The status, unless it is that of want of memory, which ends a test as such.
+pub fn had_memory(status: u8) -> Result<u8, AllocError> {
+    if status == 5 {
+        Err(AllocError)
+    } else {
+        Ok(status)
+    }
+}
+
+/// What a script came to, unless memory was lacking.
+pub fn in_memory(done: Result<(), Fault>) -> Result<Result<(), Fault>, AllocError> {
+    match done {
+        Err(Fault::Memory) => Err(AllocError),
+        done => Ok(done),
+    }
+}
+
 /// The exit status of a script, and what was printed.
-pub fn ran(alloc: Global, script: &[u8]) -> (u8, Vec<u8>) {
+pub fn ran(alloc: Global, script: &[u8]) -> Result<(u8, Vec<u8>), AllocError> {
     let mut out = Vec::new(alloc);
-    let status = run_script(alloc, script, &mut out);
-    (status, out)
+    let status = had_memory(run_script(alloc, script, &mut out))?;
+    Ok((status, out))
 }
 
 /// Checks the replies of an example.
 fn has_its_replies(alloc: Global, example: &Example) -> Result<(), Fail> {
     let name = example.name;
     let (script, replies) = parts(alloc, example.torrent, example.lines)?;
-    let (status, out) = ran(alloc, script.as_bytes());
+    let (status, out) = ran(alloc, script.as_bytes())?;
     same_for(status, 0, name)?;
     same_for(out.as_slice(), replies.as_bytes(), name)
 }
@@ -60,7 +77,7 @@ fn worked_examples(rt: HostRuntime) -> Result<(), Fail> {
 
 /// Checks what a script without fault prints.
 fn prints(alloc: Global, script: &str, replies: &str) -> Result<(), Fail> {
-    let (status, out) = ran(alloc, script.as_bytes());
+    let (status, out) = ran(alloc, script.as_bytes())?;
     same(status, 0)?;
     same(out.as_slice(), replies.as_bytes())
 }
@@ -119,8 +136,13 @@ fn a_deep_pipe(rt: HostRuntime) -> Result<(), Fail> {
 }
 
 /// The exit status of a script. What it tells goes to `err`.
-fn status_of(alloc: Global, script: &[u8], out: &mut Vec<u8>, err: &mut Vec<u8>) -> u8 {
-    script_to(alloc, script, out, err)
+fn status_of(
+    alloc: Global,
+    script: &[u8],
+    out: &mut Vec<u8>,
+    err: &mut Vec<u8>,
+) -> Result<u8, AllocError> {
+    had_memory(script_to(alloc, script, out, err))
 }
 
 /// Checks the exit status of a script, what is printed, and what is told.
@@ -133,7 +155,7 @@ fn ends_with(
 ) -> Result<(), Fail> {
     let mut out = Vec::new(alloc);
     let mut err = Vec::new(alloc);
-    same(status_of(alloc, script, &mut out, &mut err), status)?;
+    same(status_of(alloc, script, &mut out, &mut err)?, status)?;
     same(out.as_slice(), text)?;
     same(err.as_slice(), told)
 }
@@ -169,13 +191,21 @@ fn statuses(rt: HostRuntime) -> Result<(), Fail> {
 }
 
 /// How a script is played whose output has this room.
-fn played_to(alloc: Global, script: &str, room: &mut [u8]) -> Result<(), Fault> {
-    play_script(alloc, script.as_bytes(), &mut Cursor::new(room))
+fn played_to(
+    alloc: Global,
+    script: &str,
+    room: &mut [u8],
+) -> Result<Result<(), Fault>, AllocError> {
+    in_memory(play_script(alloc, script.as_bytes(), &mut Cursor::new(room)))
 }
 
 /// How a metainfo file is described where the output has this room.
-fn described_to(alloc: Global, meta: &[u8], room: &mut [u8]) -> Result<(), Fault> {
-    describe(alloc, meta, &mut Cursor::new(room))
+fn described_to(
+    alloc: Global,
+    meta: &[u8],
+    room: &mut [u8],
+) -> Result<Result<(), Fault>, AllocError> {
+    in_memory(describe(alloc, meta, &mut Cursor::new(room)))
 }
 
 /// Outputs that take no more than so many bytes.
@@ -183,10 +213,10 @@ fn described_to(alloc: Global, meta: &[u8], room: &mut [u8]) -> Result<(), Fault
 fn full_outputs(rt: HostRuntime) -> Result<(), Fail> {
     let script = "torrent 3 3 1 a9993e364706816aba3e25717850c26c9cd0d89d\n0 join\n";
     let mut room = [0; 3];
-    same(played_to(rt.alloc(), script, &mut room), Err(Fault::File))?;
+    same(played_to(rt.alloc(), script, &mut room)?, Err(Fault::File))?;
     same(room.as_slice(), b"joi".as_slice())?;
     let meta =
         b"d4:infod6:lengthi3e4:name1:s12:piece lengthi3e6:pieces20:\xa9\x99\x3e\x36\x47\x06\x81\x6a\xba\x3e\x25\x71\x78\x50\xc2\x6c\x9c\xd0\xd8\x9dee";
-    same(described_to(rt.alloc(), meta, &mut room), Err(Fault::File))?;
+    same(described_to(rt.alloc(), meta, &mut room)?, Err(Fault::File))?;
     same(room.as_slice(), b"nam".as_slice())
 }

@@ -3,6 +3,7 @@
 
 ghost use Rattle.std.specs.Prelude.{◌≡◌, ◌≤◌};
 
+use super::scripts::had_memory;
 use bt_cli::*;
 use bt_expect::same;
 use bt_meta::{FromRead, ToWrite};
@@ -68,15 +69,24 @@ pub const INFOHASH_OF_THREE: &[u8; 20] =
 pub fn run(alloc: Global, meta: &[u8], sent: &[u8]) -> Result<Run, Fail> {
     let mut streams = [recorded(alloc, sent)];
     let mut out = ToWrite::new(Vec::new(alloc));
-    Ok(play_streams(alloc, meta, &mut streams, &usual(), &mut out)?)
+    let run = play_streams(alloc, meta, &mut streams, &usual(), &mut out)?;
+    match run.ended {
+        Err(Fault::Memory) => Err(AllocError)?,
+        _ => Ok(run),
+    }
 }
 
 /// The command with this output: its status, and whether there is a desk.
-fn command(alloc: Global, sent: &[u8], room: &mut [u8], err: &mut Vec<u8>) -> (u8, bool) {
+fn command(
+    alloc: Global,
+    sent: &[u8],
+    room: &mut [u8],
+    err: &mut Vec<u8>,
+) -> Result<(u8, bool), AllocError> {
     let mut streams = [recorded(alloc, sent)];
     let mut out = ToWrite::new(room);
     let (status, desk) = run_serial(alloc, FILE, &mut streams, &usual(), &mut out, err);
-    (status, desk.is_some())
+    Ok((had_memory(status)?, desk.is_some()))
 }
 
 /// An output that takes no more than so many bytes.
@@ -85,7 +95,7 @@ fn a_full_output(rt: HostRuntime) -> Result<(), Fail> {
     let sent = stream(rt.alloc(), INFOHASH, FRAMES)?;
     let mut room = [0; 20];
     let mut err = Vec::new(rt.alloc());
-    let (status, has_desk) = command(rt.alloc(), &sent, room.as_mut_slice(), &mut err);
+    let (status, has_desk) = command(rt.alloc(), &sent, room.as_mut_slice(), &mut err)?;
     same(status, 4)?;
     assert!(rt; has_desk);
     same(room.as_slice(), b"stream 0 end\npieces ".as_slice())?;

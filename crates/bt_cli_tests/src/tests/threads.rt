@@ -3,6 +3,7 @@
 
 ghost use Rattle.std.specs.Prelude.{◌≤◌, length};
 
+use super::scripts::had_memory;
 use super::serial::{
     FILE, FRAMES, INFOHASH, INFOHASH_OF_THREE, Recorded, THREE_PIECES, recorded, stream, usual,
 };
@@ -60,7 +61,7 @@ fn command<T: Threads + Wait + AllocGlobal + Sync>(
     let left = out.into_inner().len();
     taken.truncate(room.saturating_sub(left));
     Ok(Done {
-        status,
+        status: had_memory(status)?,
         out: taken,
         err,
         logs,

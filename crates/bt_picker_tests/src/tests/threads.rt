@@ -8,7 +8,7 @@ use bt_expect::same;
 use bt_meta::Torrent;
 use bt_picker::{Call, Reply, Rules, audit};
 use bt_shared::{Book, GatherFault, Pass, SharedDesk};
-use std::alloc::Global;
+use std::alloc::{AllocError, Global};
 use std::process::Abort;
 use std::sync::Wait;
 use std::sync::atomic::{AtomicBool, Ordering};
@@ -55,6 +55,28 @@ const CALLS: usize = 1000;
 /// The entries of both, with the two that join.
 const ENTRIES: usize = 2002;
 
+/// Asks once, and once more where there was no memory: such a call changed nothing.
+fn asked<R: Wait>(rt: &R, desk: &SharedDesk, pass: &mut Pass) -> Result<Reply, AllocError>
+    requires { pass.old.table ≡ desk.now.table }
+    ensures { IsSame pass.old pass.new }
+{
+    match called(rt, desk, pass, Call::Next(0)) {
+        Err(AllocError) => called(rt, desk, pass, Call::Next(0)),
+        made => made,
+    }
+}
+
+/// Joins, and once more where there was no memory.
+fn joined<R: Wait>(rt: &R, desk: &SharedDesk, pass: &mut Pass) -> Result<Reply, AllocError>
+    requires { pass.old.table ≡ desk.now.table }
+    ensures { IsSame pass.old pass.new }
+{
+    match called(rt, desk, pass, Call::Join) {
+        Err(AllocError) => called(rt, desk, pass, Call::Join),
+        made => made,
+    }
+}
+
 /// Asks again and again of a peer that chokes, which each reply has to say.
 fn asks<R: Wait>(rt: &R, desk: &SharedDesk, pass: &mut Pass) -> bool
     requires { pass.old.table ≡ desk.now.table }
@@ -62,7 +84,7 @@ fn asks<R: Wait>(rt: &R, desk: &SharedDesk, pass: &mut Pass) -> bool
 {
     let mut is_right = true;
     'calls: for _ in 0..CALLS {
-        is_right &= matches!(called(rt, desk, pass, Call::Next(0)), Ok(Reply::Choked));
+        is_right &= matches!(asked(rt, desk, pass), Ok(Reply::Choked));
     }
     is_right
 }
@@ -73,7 +95,7 @@ fn calls<R: Wait>(rt: &R, desk: &SharedDesk, meeting: &Meeting, mut pass: Pass) 
     ensures { IsOf desk.now result.0 }
 {
     let mut is_right = meeting.meets(pass.worker());
-    is_right &= matches!(called(rt, desk, &mut pass, Call::Join), Ok(Reply::Joined));
+    is_right &= matches!(joined(rt, desk, &mut pass), Ok(Reply::Joined));
     is_right &= asks(rt, desk, &mut pass);
     (pass, is_right)
 }

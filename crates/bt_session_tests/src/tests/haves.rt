@@ -1,6 +1,6 @@
 //! A session in a thread that tells of a finished piece while it runs.
 
-use super::made::{PEER, RULES, peer, torrent};
+use super::made::{PEER, RULES, had_memory, peer, torrent};
 use bt_meta::{DeviceFault, Sink, Source};
 use bt_session::{OpenGate, Stream, SwarmRun, swarm};
 use std::alloc::Global;
@@ -104,7 +104,9 @@ fn run<'a, T: Threads + Wait + Sync>(
     let writer = Listening { told };
     let torrent = torrent(alloc)?;
     let streams = Vec::from_array(alloc, [Stream { reader, writer }])?;
-    Ok(swarm(rt, alloc, torrent, streams, 0, RULES, 1, &OpenGate)?)
+    let run = swarm(rt, alloc, torrent, streams, 0, RULES, 1, &OpenGate)?;
+    had_memory(run.short, &run.ends)?;
+    Ok(run)
 }
 
 /// Checks that the session ended well, and that all is had.

@@ -1,7 +1,7 @@
 //! Small torrents, and what their peers send.
 
 use bt_meta::{FromRead, ToWrite, Torrent};
-use bt_peer::Stream;
+use bt_peer::{End, SessionFault, Stream};
 use bt_picker::Rules;
 use bt_wire::Hello;
 use std::alloc::{AllocError, Global};
@@ -61,6 +61,15 @@ pub fn peer(alloc: Global, infohash: u8, frames: &[u8]) -> Result<Vec<u8>, Fail>
 /// Two pieces of the three bytes `abc`.
 pub fn two_pieces(alloc: Global) -> Result<Arc<Torrent>, Fail> {
     torrent_of(alloc, 3, 6, 2)
+}
+
+/// Want of memory, of a run or of one of its sessions, ends a test as such.
+pub fn had_memory(short: bool, ends: &[Result<End, SessionFault>]) -> Result<(), AllocError> {
+    let lacked = |end: &Result<End, SessionFault>| matches!(end, Err(SessionFault::NoMemory));
+    if short || ends.iter().any(lacked) {
+        return Err(AllocError);
+    }
+    Ok(())
 }
 
 /// A stream of bytes that were recorded, and of those that are written.

@@ -1,6 +1,6 @@
 //! Several recorded peers at one desk, in one thread.
 
-use super::made::{PEER, RULES, Recorded, peer, recorded, torrent, two_pieces};
+use super::made::{PEER, RULES, Recorded, had_memory, peer, recorded, torrent, two_pieces};
 use super::whole::tell;
 use bt_expect::same;
 use bt_meta::{Bitfield, Torrent};
@@ -38,7 +38,9 @@ pub fn run_by(
     if want.as_ref().is_some_and(|flags| flags.count() != pieces) {
         return Err(Fail::from("flags of other pieces"));
     }
-    Ok(serial(alloc, torrent, streams, seed, want, rules)?)
+    let run = serial(alloc, torrent, streams, seed, want, rules)?;
+    had_memory(run.short, &run.ends)?;
+    Ok(run)
 }
 
 /// The journal: the worker, the call and the reply of each entry.
@@ -269,12 +271,7 @@ fn run_of_two(alloc: Global, sent: &[Vec<u8>]) -> Result<SerialRun, Fail> {
 }
 
 /// The worker asks with these words, and with no others.
-fn asks_by(
-    rt: &impl Abort,
-    run: &SerialRun,
-    worker: u32,
-    words: &[u64],
-) -> Result<(), Fail> {
+fn asks_by(rt: &impl Abort, run: &SerialRun, worker: u32, words: &[u64]) -> Result<(), Fail> {
     let mut words = words.iter();
     for entry in run.desk.journal() {
         if entry.worker == worker {

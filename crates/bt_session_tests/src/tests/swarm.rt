@@ -1,7 +1,7 @@
 //! Sessions in threads of their own.
 ghost use Rattle.std.specs.Prelude.{◌≤◌, length};
 
-use super::made::{ABC, PEER, RULES, Recorded, peer, recorded, torrent, two_pieces};
+use super::made::{ABC, PEER, RULES, Recorded, had_memory, peer, recorded, torrent, two_pieces};
 use bt_expect::same;
 use bt_meta::{FromRead, ToWrite, Torrent};
 use bt_picker::{CallMark, Mark, Reply};
@@ -32,7 +32,9 @@ fn run<'a, T: Threads + Wait + Sync, G: Gate + Sync>(
     requires streams { (1 ≤ length streams.items) × (length streams.items ≤ 64) }
     requires checkers { (1 ≤ checkers) × (checkers ≤ 8) }
 {
-    Ok(swarm(rt, alloc, torrent, streams, 0, RULES, checkers, gate)?)
+    let run = swarm(rt, alloc, torrent, streams, 0, RULES, checkers, gate)?;
+    had_memory(run.short, &run.ends)?;
+    Ok(run)
 }
 
 /// A run of one stream, whose peer sends this, at a gate that is open.

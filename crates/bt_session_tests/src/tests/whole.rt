@@ -95,9 +95,12 @@ fn play<R: Source, W: Sink>(
     let mut told = Bitfield::empty(alloc, torrent.piece_count())?;
     let mut rng = Lcg64Xsh32::new(0, u64::from(worker));
     let mut place = DeskPlace::new(desk, worker, &mut told);
-    Ok(session(
+    match session(
         alloc, torrent, worker, reader, writer, &mut place, &mut rng, 5,
-    ))
+    ) {
+        Err(SessionFault::NoMemory) => Err(AllocError),
+        end => Ok(end),
+    }
 }
 
 /// The desk's journal, entry by entry.
