@@ -72,12 +72,34 @@ fn takes<R: Wait + Abort>(rt: &R, tickets: &Tickets, pass: &mut TicketPass, tick
     );
 }
 
+/// Whether a ticket was put; one that is handed back, as where there is no memory to wait, is put once more.
+fn puts<R: Wait>(rt: &R, tickets: &Tickets, pass: &mut TicketPass, ticket: Ticket) -> bool
+    requires { pass.old.queue ≡ tickets.now }
+    ensures { pass.new.queue ≡ pass.old.queue }
+{
+    match tickets.put(rt, pass, ticket) {
+        Ok(()) => true,
+        Err(ticket) => tickets.put(rt, pass, ticket).is_ok(),
+    }
+}
+
+/// The next ticket, asked for once more where none is given.
+fn takes<R: Wait>(rt: &R, tickets: &Tickets, pass: &mut TicketPass) -> Option<Ticket>
+    requires { pass.old.queue ≡ tickets.now }
+    ensures { pass.new.queue ≡ pass.old.queue }
+{
+    match tickets.take(rt, pass) {
+        None => tickets.take(rt, pass),
+        taken => taken,
+    }
+}
+
 /// Puts a ticket for each of many pieces, and counts those that were put. Whether none was handed back.
 fn puts_many<R: Wait>(rt: &R, tickets: &Tickets, mut pass: TicketPass, count: &AtomicU32) -> bool
     requires { pass.queue ≡ tickets.now }
 {
     for piece in 0..MANY {
-        if tickets.put(rt, &mut pass, Ticket::Piece(piece)).is_err() {
+        if !puts(rt, tickets, &mut pass, Ticket::Piece(piece)) {
             return false;
         }
         count.store(piece + 1, Ordering::SeqCst);
@@ -105,7 +127,7 @@ fn takes_many<R: Wait>(rt: &R, tickets: &Tickets, mut pass: TicketPass, count: &
 {
     let mut is_right = stays_full(count);
     for piece in 0..MANY {
-        is_right &= tickets.take(rt, &mut pass) == Some(Ticket::Piece(piece));
+        is_right &= takes(rt, tickets, &mut pass) == Some(Ticket::Piece(piece));
     }
     is_right
 }
