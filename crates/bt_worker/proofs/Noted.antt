@@ -1,5 +1,5 @@
 -- What a place at a shared desk gains by its pass's marks.
-use Rattle.std.proofs.Common.{ℕ, Bool, [], ◌∷◌, length, Result, Ok, Err, refl, ap, ◌∙◌}
+use Rattle.std.proofs.Common.{ℕ, Bool, [], ◌∷◌, length, ◌≡◌, Result, Ok, Err, refl, sym, ap, subst, ◌∙◌}
 use Rattle.std.specs.Prelude.{IfOk, OnErr}
 use Rattle.std.proofs.lemmas.List.{map-append}
 use Rattle.bt_history.specs.declared.call.Call.{Call}
@@ -13,7 +13,9 @@ use Rattle.bt_shared.specs.Passes.{Enters, Notes, PassState, Rests, mark}
 use Rattle.bt_peer.specs.Desks.{calls_of_marks}
 use Rattle.bt_peer.specs.Acts.{Called}
 use Rattle.bt_worker.specs.Checking.{IsQuiet}
-use Rattle.bt_worker.specs.Passes.{pass_record}
+use Rattle.bt_board.specs.Seats.{SeatState}
+use Rattle.bt_worker.specs.Passes.{pass_record, worker_record}
+use Rattle.bt_worker.specs.Workers.{WorkerState, knows, tells}
 use Rattle.bt_peer.specs.Places.{Gains}
 
 module _ (setting : Setting) (old new : PassState) (had told : ℕ → Bool) (short : Bool) where
@@ -34,6 +36,14 @@ module _ (setting : Setting) (old new : PassState) (had told : ℕ → Bool) (sh
     };
     short = refl;
   }
+
+-- the same of a worker, whose seat is as it was
+pub noted_call : (setting : Setting) (old new : WorkerState) (short : Bool) (call : CallMark) (reply : Reply) → Notes old.pass call reply new.pass →
+    new.seat ≡ old.seat → Gains (worker_record setting old short) (Called call reply ∷ []) (worker_record setting new short)
+noted_call setting old new short call reply notes same =
+    subst (λ (seat : SeatState). Gains (worker_record setting old short) (Called call reply ∷ [])
+    (pass_record setting new.pass.worker new.pass.log (knows setting seat) (tells seat) short)) (sym same)
+    (noted setting old.pass new.pass (knows setting old.seat) (tells old.seat) short call reply notes)
 
 -- an entry is noted by its mark
 pub notes_entered : {E : Type 0} (result : Result Reply E) (worker : ℕ) (call : Call) (old new : PassState) →

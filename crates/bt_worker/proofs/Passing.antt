@@ -1,6 +1,6 @@
 -- Checks that pass: what was hashed has the hash of its piece, and a seat that marked a piece knows it.
-use Rattle.std.proofs.Common.{◌≡◌, ◌<◌, ℕ, Bool, true, false, List, [], ◌∷◌, refl, sym, ap, subst, ◌∙◌, inl, arith}
-use Rattle.std.specs.Prelude.{◌==◌, ◌&&◌}
+use Rattle.std.proofs.Common.{◌≡◌, ◌<◌, ℕ, true, List, [], ◌∷◌, refl, ap, ◌∙◌, inl, arith}
+use Rattle.std.specs.Prelude.{◌==◌}
 use Rattle.std.proofs.lemmas.Bool.{and_parts, eq-eqb, eqb-true}
 use Rattle.std.proofs.lemmas.Bool.Decides.{nat_tests}
 use Rattle.sha1.specs.Sha1.{sha1}
@@ -9,16 +9,16 @@ use Rattle.bt_board.proofs.Lists.{has_back}
 use Rattle.bt_board.specs.Seats.{SeatState, seat_with}
 use Rattle.bt_board.specs.Story.{mark, with_mark}
 use Rattle.bt_board.specs.declared.view.Mark.{Mark}
-use Rattle.bt_check.specs.Checked.{Checked, Fits, digest_of, joined}
+use Rattle.bt_check.specs.Checked.{Checked, Fits, joined}
 use Rattle.bt_history.proofs.Allowed.{CheckFacts, no_cause, passed_hash, settle_facts}
 use Rattle.bt_history.specs.declared.call.Reply.TheVariants.{Had}
 use Rattle.bt_history.specs.declared.event.Action.TheVariants.{Settle}
 use Rattle.bt_history.specs.declared.event.Event.{Event}
 use Rattle.bt_history.specs.History.{History}
-use Rattle.bt_history.specs.Legal.{IsAllowed, IsLegal, same_bytes}
+use Rattle.bt_history.specs.Legal.{IsAllowed, same_bytes}
 use Rattle.bt_history.specs.Pieces.{content}
 use Rattle.bt_history.specs.Setting.{Setting}
-use Rattle.bt_meta.specs.Layout.{hash_of, piece_count}
+use Rattle.bt_meta.specs.Layout.{piece_count}
 use Rattle.bt_worker.specs.Workers.{knows}
 
 -- bytes that pass for the same are

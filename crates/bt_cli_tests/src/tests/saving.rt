@@ -98,7 +98,7 @@ fn saved(desk: &Desk, file: &mut Kept) -> Result<(), DeviceFault> {
 fn is_written(rt: &impl Abort, desk: &Desk, file: &mut Kept) -> Result<(), Fail> {
     let done = saved(desk, file);
     assert!(rt; file.made);
-    done.map_err(|DeviceFault| AllocError)?;
+    done.map_err(|_| AllocError)?;
     same(file.held.as_slice(), b"abc".as_slice())
 }
 
