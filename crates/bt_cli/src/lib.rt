@@ -10,8 +10,8 @@ mod telling;
 mod threads;
 
 pub use bt_script::{
-    Fault, MOST_DEPTH, conclude, describe, explain_line, play_script, print, print_entry, print_fault, print_info,
-    print_replies, read_hex, run_info, run_script, script_to, tell_fault,
+    Fault, MOST_DEPTH, conclude, describe, explain_line, play_script, print, print_entry,
+    print_fault, print_info, print_replies, read_hex, run_info, run_script, script_to, tell_fault,
 };
 pub use commands::{run_serial, run_threads};
 pub use options::Options;
