@@ -10,7 +10,7 @@ use Rattle.bt_check.specs.declared.ticket.Ticket.{Ticket}
 use Rattle.bt_check.specs.Balance.{Balanced, account_put, account_taken, blank}
 
 -- an item put where it stands already
-set_same : {A : Type 0} (xs : List A) (i : ℕ) (x : A) → get_elem? xs i ≡ some x → set xs i x ≡ xs
+pub set_same : {A : Type 0} (xs : List A) (i : ℕ) (x : A) → get_elem? xs i ≡ some x → set xs i x ≡ xs
 set_same [] i x at = refl
 set_same (y ∷ ys) zero x at = ap (λ z. z ∷ ys) (sym (some-injective y x at))
 set_same (y ∷ ys) (suc i) x at = ap (λ zs. y ∷ zs) (set_same ys i x at)

@@ -10,13 +10,14 @@ pub struct Account {
     pub taken: LinkedList<Ticket>,
 }
 
-/// Each ticket that was put was taken or is left, as often as it was put, over all passes.
+/// Over all passes: each ticket that was put was taken or is left, as often as it was put; and the first that was put is the first that is
+/// taken.
 pub struct EachOnce;
 
 impl Protocol<Ticket, Account> for EachOnce {
-    ghost use Rattle.bt_check.specs.Balance.{Balanced, blank};
+    ghost use Rattle.bt_check.specs.Balance.{IsKept, blank};
 
-    ghost holds = { Balanced };
+    ghost holds = { IsKept };
 
     ghost first = { blank };
 }

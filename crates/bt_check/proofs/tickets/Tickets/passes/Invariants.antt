@@ -1,6 +1,5 @@
-use Rattle.std.proofs.Common.{◌≡◌, ◌+◌, ◌≤◌, length}
+use Rattle.std.proofs.Common.{◌≡◌, ◌+◌, length}
 use Rattle.std.specs.List.{All}
-use Rattle.std.specs.Prelude.{vec_capacity}
 use Rattle.bt_check.specs.Queues.{newcomer}
 use Rattle.bt_check.proofs.tickets.Tickets.passes.Given as goal
 

@@ -1,9 +1,9 @@
 use Rattle.std.proofs.Common.{rules}
-use Rattle.bt_check.proofs.Balancing.{balanced_taken}
+use Rattle.bt_check.proofs.Ordering.{kept_taken}
 use Rattle.bt_check.proofs.tickets.Tickets.take.Goals as goal
 
 pub recv_as-requires-clause-rule : goal.recv_as-requires-clause-rule
-recv_as-requires-clause-rule g c = (balanced_taken _ _, λ _ _ _ _. tt)
+recv_as-requires-clause-rule g c = (kept_taken _ _, λ _ _ _ _. tt)
 
 pub returns-clause-some : goal.returns-clause-some
 returns-clause-some g c = search rules fits 100
