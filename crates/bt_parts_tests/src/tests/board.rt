@@ -240,15 +240,16 @@ fn in_two_threads<R: Threads + Wait + Abort + Sync>(rt: &R, alloc: Global) -> Re
     assert_eq!(rt; seats.len(), 2);
     let second = seats.remove(1);
     let first = seats.remove(0);
-    let (marked, heard) = thread::join(
+    // Where the other thread can't be made, the second of these is done first, so that the first has something to hear.
+    let (heard, marked) = thread::join(
         rt,
+        || -> Result<(), Wrong>
+            requires { second.table ≡ board.table }
+        { hears_many(alloc, &board, second, noted.as_slice()) },
         || -> Result<(), Wrong>
             requires board { first.table ≡ board.table }
             requires torrent { board.torrent ≡ torrent.value.layout }
         { marks_many(alloc, &torrent, &board, first, noted.as_slice()) },
-        || -> Result<(), Wrong>
-            requires { second.table ≡ board.table }
-        { hears_many(alloc, &board, second, noted.as_slice()) },
     );
     marked?;
     heard?;

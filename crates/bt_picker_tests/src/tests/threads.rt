@@ -21,6 +21,8 @@ use std::thread::Threads;
 struct Meeting {
     first: AtomicBool,
     second: AtomicBool,
+    /// One has waited in vain: so there was no memory for another thread, and the one is done after the other.
+    is_missed: AtomicBool,
 }
 
 impl Meeting {
@@ -28,11 +30,12 @@ impl Meeting {
         Meeting {
             first: AtomicBool::new(false),
             second: AtomicBool::new(false),
+            is_missed: AtomicBool::new(false),
         }
     }
 
-    /// Whether the other came, before this one had yielded a million times.
-    fn meets(&self, worker: u32) -> bool {
+    /// Waits until the other comes, or this one has yielded a million times.
+    fn meets(&self, worker: u32) {
         let (mine, other) = if worker == 0 {
             (&self.first, &self.second)
         } else {
@@ -41,11 +44,15 @@ impl Meeting {
         mine.store(true, Ordering::SeqCst);
         for _ in 0..1_000_000 {
             if other.load(Ordering::SeqCst) {
-                return true;
+                return;
             }
             thread::yield_now();
         }
-        false
+        self.is_missed.store(true, Ordering::SeqCst);
+    }
+
+    fn is_missed(&self) -> bool {
+        self.is_missed.load(Ordering::SeqCst)
     }
 }
 
@@ -94,8 +101,8 @@ fn calls<R: Wait>(rt: &R, desk: &SharedDesk, meeting: &Meeting, mut pass: Pass) 
     requires { IsOf desk.now pass }
     ensures { IsOf desk.now result.0 }
 {
-    let mut is_right = meeting.meets(pass.worker());
-    is_right &= matches!(joined(rt, desk, &mut pass), Ok(Reply::Joined));
+    meeting.meets(pass.worker());
+    let mut is_right = matches!(joined(rt, desk, &mut pass), Ok(Reply::Joined));
     is_right &= asks(rt, desk, &mut pass);
     (pass, is_right)
 }
@@ -141,21 +148,25 @@ fn is_audited(alloc: Global, torrent: &Torrent, book: &Book) -> bool
     audit(alloc, torrent, 2, Rules::usual(), book.desk.journal()).is_ok()
 }
 
-/// The calls of the two workers of this desk, at once. Whether all replies were right.
+/// The calls of the two workers of this desk, at once. Whether all replies were right; an error where they weren't made at once.
 fn call_together<R: Wait + Threads + Abort + Sync>(
     rt: &R,
     seated: &mut Seated,
 ) -> Result<bool, Fail> {
     let second = seated.take(rt);
     let first = seated.take(rt);
+    let meeting = Meeting::new();
     let ((first, is_right), (second, is_right_too)) = together(
         rt,
         seated.desk(),
-        &Meeting::new(),
+        &meeting,
         first,
         second,
     );
     seated.give_two(first, second)?;
+    if meeting.is_missed() {
+        return Err(Fail::from(AllocError));
+    }
     Ok(is_right && is_right_too)
 }
 

@@ -3,10 +3,10 @@ ghost use Rattle.std.specs.Prelude.{◌≡◌, IfOk};
 
 use super::same::same;
 use bt_check::{Ticket, TicketPass, Tickets};
-use std::alloc::Global;
+use std::alloc::{AllocError, Global};
 use std::process::Abort;
 use std::sync::Wait;
-use std::sync::atomic::{AtomicU32, Ordering};
+use std::sync::atomic::{AtomicBool, AtomicU32, Ordering};
 use std::test::*;
 use std::thread;
 use std::thread::Threads;
@@ -49,7 +49,12 @@ fn puts<R: Wait + Abort>(rt: &R, tickets: &Tickets, pass: &mut TicketPass, ticke
     requires { pass.old.queue ≡ tickets.now }
     ensures { pass.new.queue ≡ pass.old.queue }
 {
-    same(rt, tickets.put(rt, pass, ticket), Ok(()), "a ticket is put");
+    same(
+        rt,
+        is_put(rt, tickets, pass, ticket),
+        true,
+        "a ticket is put",
+    );
 }
 
 fn takes_three<R: Wait + Abort>(rt: &R, tickets: &Tickets, pass: &mut TicketPass)
@@ -66,14 +71,57 @@ fn takes<R: Wait + Abort>(rt: &R, tickets: &Tickets, pass: &mut TicketPass, tick
 {
     same(
         rt,
-        tickets.take(rt, pass),
+        taken(rt, tickets, pass),
         Some(ticket),
         "a ticket is taken",
     );
 }
 
+/// What two threads tell each other.
+#[derive(Drop)]
+struct Between {
+    /// How many tickets were put.
+    count: AtomicU32,
+    /// Who takes has seen none put: so there was no memory for another thread, and the one is done after the other.
+    is_alone: AtomicBool,
+}
+
+impl Between {
+    fn new() -> Between {
+        Between {
+            count: AtomicU32::new(0),
+            is_alone: AtomicBool::new(false),
+        }
+    }
+
+    fn is_alone(&self) -> bool {
+        self.is_alone.load(Ordering::SeqCst)
+    }
+
+    /// Waits until so many tickets were put as a queue holds. Whether there are no more of them while this yields a thousand times.
+    fn stays_full(&self) -> bool {
+        for _ in 0..1_000_000 {
+            if self.count.load(Ordering::SeqCst) >= HELD {
+                break;
+            }
+            thread::yield_now();
+        }
+        for _ in 0..1_000 {
+            thread::yield_now();
+        }
+        self.count.load(Ordering::SeqCst) == HELD
+    }
+
+    /// Whether none was put until now, which is noted.
+    fn finds_none(&self) -> bool {
+        let finds_none = self.count.load(Ordering::SeqCst) == 0;
+        self.is_alone.store(finds_none, Ordering::SeqCst);
+        finds_none
+    }
+}
+
 /// Whether a ticket was put; one that is handed back, as where there is no memory to wait, is put once more.
-fn puts<R: Wait>(rt: &R, tickets: &Tickets, pass: &mut TicketPass, ticket: Ticket) -> bool
+fn is_put<R: Wait>(rt: &R, tickets: &Tickets, pass: &mut TicketPass, ticket: Ticket) -> bool
     requires { pass.old.queue ≡ tickets.now }
     ensures { pass.new.queue ≡ pass.old.queue }
 {
@@ -84,7 +132,7 @@ fn puts<R: Wait>(rt: &R, tickets: &Tickets, pass: &mut TicketPass, ticket: Ticke
 }
 
 /// The next ticket, asked for once more where none is given.
-fn takes<R: Wait>(rt: &R, tickets: &Tickets, pass: &mut TicketPass) -> Option<Ticket>
+fn taken<R: Wait>(rt: &R, tickets: &Tickets, pass: &mut TicketPass) -> Option<Ticket>
     requires { pass.old.queue ≡ tickets.now }
     ensures { pass.new.queue ≡ pass.old.queue }
 {
@@ -95,69 +143,62 @@ fn takes<R: Wait>(rt: &R, tickets: &Tickets, pass: &mut TicketPass) -> Option<Ti
 }
 
 /// Puts a ticket for each of many pieces, and counts those that were put. Whether none was handed back.
-fn puts_many<R: Wait>(rt: &R, tickets: &Tickets, mut pass: TicketPass, count: &AtomicU32) -> bool
+fn puts_many<R: Wait>(rt: &R, tickets: &Tickets, mut pass: TicketPass, between: &Between) -> bool
     requires { pass.queue ≡ tickets.now }
 {
     for piece in 0..MANY {
-        if !puts(rt, tickets, &mut pass, Ticket::Piece(piece)) {
+        if between.is_alone() || !is_put(rt, tickets, &mut pass, Ticket::Piece(piece)) {
             return false;
         }
-        count.store(piece + 1, Ordering::SeqCst);
+        between.count.store(piece + 1, Ordering::SeqCst);
     }
     true
 }
 
-/// Whether the count comes to the number of tickets that a queue holds, and stays there while this yields a thousand times.
-fn stays_full(count: &AtomicU32) -> bool {
-    for _ in 0..1_000_000 {
-        if count.load(Ordering::SeqCst) >= HELD {
-            break;
-        }
-        thread::yield_now();
-    }
-    for _ in 0..1_000 {
-        thread::yield_now();
-    }
-    count.load(Ordering::SeqCst) == HELD
-}
-
 /// Takes a ticket for each of many pieces, once the queue is full. Whether they came in order, and who put them waited.
-fn takes_many<R: Wait>(rt: &R, tickets: &Tickets, mut pass: TicketPass, count: &AtomicU32) -> bool
+fn takes_many<R: Wait>(rt: &R, tickets: &Tickets, mut pass: TicketPass, between: &Between) -> bool
     requires { pass.queue ≡ tickets.now }
 {
-    let mut is_right = stays_full(count);
+    let mut is_right = between.stays_full();
+    if between.finds_none() {
+        return false;
+    }
     for piece in 0..MANY {
-        is_right &= takes(rt, tickets, &mut pass) == Some(Ticket::Piece(piece));
+        is_right &= taken(rt, tickets, &mut pass) == Some(Ticket::Piece(piece));
     }
     is_right
 }
 
-/// One thread puts, and another one takes. Each finds what it should.
-fn put_and_take<R: Threads + Wait + Abort + Sync>(
+/// One thread puts, and another one takes. Whether each found what it should.
+fn put_and_take<R: Threads + Wait + Sync>(
     rt: &R,
     tickets: &Tickets,
-    count: &AtomicU32,
+    between: &Between,
     first: TicketPass,
     second: TicketPass,
-)
+) -> (bool, bool)
     requires first { first.queue ≡ tickets.now }
     requires second { second.queue ≡ tickets.now }
 {
-    let found = thread::join(
+    thread::join(
         rt,
         move || -> bool
             requires { first.queue ≡ tickets.now }
-        { puts_many(rt, tickets, first, count) },
+        { puts_many(rt, tickets, first, between) },
         move || -> bool
             requires { second.queue ≡ tickets.now }
-        { takes_many(rt, tickets, second, count) },
-    );
-    same(rt, found, (true, true), "put and taken");
+        { takes_many(rt, tickets, second, between) },
+    )
 }
 
 fn in_two_threads<R: Threads + Wait + Abort + Sync>(rt: &R, alloc: Global) -> Result<(), Fail> {
     let (tickets, first, second) = opened(rt, alloc)?;
-    put_and_take(rt, &tickets, &AtomicU32::new(0), first, second);
+    let between = Between::new();
+    let found = put_and_take(rt, &tickets, &between, first, second);
+    if between.is_alone() {
+        return Err(Fail::from(AllocError));
+    }
+    same(rt, found, (true, true), "put and taken");
     Ok(())
 }
 
