@@ -6,7 +6,7 @@ ghost use Rattle.bt_shared.specs.Passes.{IsOf, IsSame};
 use super::setting::*;
 use bt_expect::same;
 use bt_meta::Torrent;
-use bt_picker::{Call, Reply, Rules, audit};
+use bt_picker::{AuditFault, Call, Reply, Rules, audit};
 use bt_shared::{Book, GatherFault, Pass, SharedDesk};
 use std::alloc::{AllocError, Global};
 use std::process::Abort;
@@ -141,11 +141,11 @@ fn is_whole(rt: &impl Abort, book: &Book) -> Result<(), Fail> {
     same(log_of(rt, book, 1).len(), CALLS + 1)
 }
 
-/// Whether an audit finds no fault in the journal of two workers.
-fn is_audited(alloc: Global, torrent: &Torrent, book: &Book) -> bool
+/// An audit finds no fault in the journal of two workers.
+fn is_legal(alloc: Global, torrent: &Torrent, book: &Book) -> Result<(), AuditFault>
     requires { piece_count torrent.now.layout ≡ 3 }
 {
-    audit(alloc, torrent, 2, Rules::usual(), book.desk.journal()).is_ok()
+    audit(alloc, torrent, 2, Rules::usual(), book.desk.journal())
 }
 
 /// The calls of the two workers of this desk, at once. Whether all replies were right; an error where they weren't made at once.
@@ -191,5 +191,5 @@ fn gathers_all_calls(
 fn has_all_calls(rt: &impl Abort, alloc: Global, book: &Book) -> Result<(), Fail> {
     is_whole(rt, book)?;
     let torrent = three_pieces(rt, alloc)?;
-    same(is_audited(alloc, &torrent, book), true)
+    Ok(is_legal(alloc, &torrent, book)?)
 }
