@@ -32,8 +32,8 @@ PROGRAM = os.path.join(ROOT, "crates/piecepick/out/piecepick")
 DATA = os.path.join(ROOT, "crates/bt_runs/data")
 KINDS = ("alloc", "read", "write", "thread")
 TESTED = ("bt_parts_tests", "bt_picker_tests", "bt_session_tests", "bt_cli_tests")
-# What a test says that ends by an error of its own, and not by an assertion.
-NO_MEMORY = re.compile(r"error: .*(NoMemory|AllocError|AllocFailed|OutOfMemory|\bMemory\b).*\nthe test failed: its result gives status 1\n")
+# What a test says that ends by an error of its own, and not by an assertion; there was no memory for a thread either.
+NO_MEMORY = re.compile(r"error: .*(NoMemory|NoThread|AllocError|AllocFailed|OutOfMemory|\bMemory\b).*\nthe test failed: its result gives status 1\n")
 
 
 def data(*names):
