@@ -33,3 +33,4 @@ pub mod Completing
 pub mod Striped
 pub mod Showing
 pub mod Spelled
+pub mod Filing

@@ -10,3 +10,4 @@ pub mod Unbegun
 pub mod Apart
 pub mod Stripes
 pub mod Showing
+pub mod Noted

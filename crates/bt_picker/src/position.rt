@@ -1,4 +1,4 @@
-//! A journal with its tables: each question that the rules ask, answered by its definition.
+//! A history with its tables: each question that the rules ask, answered by its definition.
 ghost use Rattle.std.specs.Prelude.{◌≡◌, ◌<◌, ◌≤◌, ◌∷◌, [], ℕ, Bool, false, true, length, slice_index_or, IfSome, IfNone, Some, None};
 ghost use Rattle.std.specs.Prelude.{IsTrue, is_some, option_and_then};
 ghost use Rattle.bt_meta.specs.declared.block.Block.{Block};
@@ -18,41 +18,39 @@ ghost use Rattle.bt_picker.specs.Standings.{apart, cell_kept, groups_of};
 ghost use Rattle.bt_picker.specs.Tables.{AreTables, cell_of, peer_of, piece_of, stored_place};
 
 use crate::cell::Cell;
+use crate::past::Past;
 use crate::peer::Peer;
 use crate::piece::{GROUPS, Piece};
 use crate::tables::Tables;
-use bt_history::{Call, Entry};
+use bt_history::Call;
 use bt_meta::{Bitfield, Block, Torrent};
 use std::marker::Model;
 
-/// A journal and the tables that tell of it. Contracts see the setting and the history.
+/// A history and the tables that tell of it. Contracts see the setting and the history.
 #[derive(Drop)]
 pub struct Position<'a> {
     pub(crate) tables: &'a Tables,
-    pub(crate) journal: &'a [Entry],
+    pub(crate) past: &'a Past,
 }
 
 impl<'a> Model for Position<'a> {
-    ghost use Rattle.bt_history.specs.Entries.{history_of};
     ghost use Rattle.bt_picker.specs.Positions.{DeskState};
     ghost use Rattle.bt_picker.specs.Tables.{AreTables};
 
     ghost Value = { DeskState };
 
-    ghost view = { λ p. record { setting = p.tables.now.setting; history = history_of p.journal.now } };
+    ghost view = { λ p. record { setting = p.tables.now.setting; history = p.past.now.entries } };
 
-    ghost invariant = { λ p. AreTables p.tables.now (history_of p.journal.now) };
+    ghost invariant = { λ p. AreTables p.tables.now p.past.now.entries };
 }
 
 impl<'a> Position<'a> {
-    ghost use Rattle.bt_history.specs.Entries.{history_of};
-
-    pub fn new(tables: &'a Tables, journal: &'a [Entry]) -> Position<'a>
-        requires { AreTables tables.now (history_of journal.now) }
+    pub fn new(tables: &'a Tables, past: &'a Past) -> Position<'a>
+        requires { AreTables tables.now past.now.entries }
         ensures setting { result.setting ≡ tables.now.setting }
-        ensures history { result.history ≡ history_of journal.now }
+        ensures history { result.history ≡ past.now.entries }
     {
-        Position { tables, journal }
+        Position { tables, past }
     }
 
     /// Tells a proof what holds of each position: its history is legal, and its torrent has no empty piece. Nothing is done: that the

@@ -10,9 +10,10 @@ ghost use Rattle.bt_order.specs.Risings.{IsRising};
 ghost use Rattle.bt_picker.specs.Showing.{dealings};
 ghost use Rattle.bt_picker.specs.Standings.{apart, group_of_row, standing_of};
 ghost use Rattle.bt_history.specs.Setting.{setting_of};
-ghost use Rattle.bt_history.specs.Entries.{event, history_of};
+ghost use Rattle.bt_history.specs.Entries.{event};
 ghost use Rattle.bt_history.specs.Legal.{IsAllowed};
-ghost use Rattle.bt_history.specs.History.{stores};
+ghost use Rattle.bt_history.specs.History.{counts, stores};
+ghost use Rattle.bt_picker.specs.Checks.{arriving, settling};
 ghost use Rattle.bt_meta.specs.declared.block.Block.{Block};
 ghost use Rattle.bt_history.specs.Counting.{count_below, table};
 ghost use Rattle.bt_picker.specs.Floors.{IsFloor, IsRarestStart, TellsFloor, is_fresh};
@@ -20,15 +21,16 @@ ghost use Rattle.bt_picker.specs.Tables.{AreAskers, AreCounted, AreTables, asks_
 ghost use Rattle.bt_picker.specs.Tables.{PieceState, TablesState, after_arrival, after_check, after_next, announced, cancel_row, late_row};
 ghost use Rattle.bt_picker.specs.Tables.{edit, empty_cell, failed_row, entered_call, fresh_peer, fresh_piece, have_row, join_row};
 ghost use Rattle.bt_picker.specs.Tables.{choke_row, unchoke_row, less_available, lowered, lowered_by, more_available, peer_row, piece_row};
-ghost use Rattle.bt_picker.specs.Tables.{recounted, released, reshown, rewanted, wanted_by, with_block, with_peer, without_block};
+ghost use Rattle.bt_picker.specs.Tables.{place_after, recounted, released, reshown, rewanted, wanted_by, with_block, with_peer, without_block};
 
 use crate::floors::Floors;
+use crate::past::Past;
 use crate::peer::Peer;
 use crate::peers::Peers;
 use crate::piece::{Change, GROUPS, Piece, UNBEGUN};
 use crate::pieces::Pieces;
 use crate::sweep::{lower_all, recount, rewant};
-use bt_history::{Call, Entry, MOST_DEPTH, Reply, Rules};
+use bt_history::{Call, MOST_DEPTH, Reply, Rules};
 use bt_meta::{BLOCK_SIZE, Bitfield, Block, Torrent};
 use std::alloc::{AllocError, Global};
 use std::marker::Model;
@@ -255,12 +257,12 @@ impl Tables {
             && self.pieces.group_of(piece) >= UNBEGUN
     }
 
-    /// Enters one more entry: `older` is the journal before it.
-    pub fn enter(&mut self, older: &[Entry], worker: u32, call: &Call, reply: Reply)
-        requires short { length older.now < 2 ^ 32 }
-        requires are { AreTables self.old (history_of older.now) }
-        requires allowed { IsAllowed self.old.setting (history_of older.now) (event worker call.now reply) }
-        ensures are { AreTables self.new (event worker call.now reply ∷ history_of older.now) }
+    /// Enters one more entry: `past` has the entries before it, so many.
+    pub fn enter(&mut self, past: &Past, place: u32, worker: u32, call: &Call, reply: Reply)
+        requires place { place ≡ place_after past.now.entries }
+        requires are { AreTables self.old past.now.entries }
+        requires allowed { IsAllowed self.old.setting past.now.entries (event worker call.now reply) }
+        ensures are { AreTables self.new (event worker call.now reply ∷ past.now.entries) }
         ensures setting { self.new.setting ≡ self.old.setting }
     {
         if reply.is_refusal() {
@@ -280,12 +282,46 @@ impl Tables {
                 self.put_next(worker, reply);
             }
             Call::Arrived { piece, begin, .. } => {
-                self.put_arrival(worker, *piece, *begin, older.len() as u32, reply);
+                self.put_arrival(worker, *piece, *begin, place, reply);
             }
             Call::Settle(verdict) => self.put_check(verdict.piece(), reply),
             Call::Leave => self.leave(worker),
             Call::Want(flags) => self.put_want(flags),
         }
+    }
+
+    /// Enters the arrival of these bytes.
+    pub fn enter_arrival(
+        &mut self,
+        past: &Past,
+        place: u32,
+        worker: u32,
+        piece: u32,
+        begin: u32,
+        bytes: &[u8],
+        reply: Reply,
+    )
+        requires place { place ≡ place_after past.now.entries }
+        requires are { AreTables self.old past.now.entries }
+        requires allowed { IsAllowed self.old.setting past.now.entries (arriving worker piece begin bytes.now reply) }
+        ensures are { AreTables self.new (arriving worker piece begin bytes.now reply ∷ past.now.entries) }
+        ensures setting { self.new.setting ≡ self.old.setting }
+    {
+        if reply.is_refusal() {
+            return;
+        }
+        self.put_arrival(worker, piece, begin, place, reply);
+    }
+
+    /// Enters a check of what is held of the piece.
+    pub fn enter_check(&mut self, past: &Past, worker: u32, piece: u32, reply: Reply)
+        requires are { AreTables self.old past.now.entries }
+        requires allowed { IsAllowed self.old.setting past.now.entries (settling self.old.setting past.now.entries worker piece reply) }
+        requires counts { counts reply ≡ true }
+        ensures are { AreTables self.new (settling self.old.setting past.now.entries worker piece reply ∷ past.now.entries) }
+        ensures setting { self.new.setting ≡ self.old.setting }
+    {
+        self.put_check(piece, reply);
     }
 
     /// Frees what was asked of the worker's peer.

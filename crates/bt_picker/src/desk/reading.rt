@@ -17,7 +17,7 @@ impl Desk {
     pub fn torrent(&self) -> &Torrent
         ensures { result.now.layout ≡ self.now.setting.torrent }
     {
-        self.tables.torrent()
+        self.picker.torrent()
     }
 
     /// How many workers there are, 1 to 1,024: a worker's number is below it.
@@ -25,7 +25,7 @@ impl Desk {
         ensures count { result ≡ self.now.setting.workers }
         ensures bound { result ≤ MOST_WORKERS }
     {
-        self.tables.workers()
+        self.picker.workers()
     }
 
     /// The rules of the download.
@@ -33,7 +33,7 @@ impl Desk {
         ensures depth { result.depth ≡ self.now.setting.depth }
         ensures random { result.random ≡ self.now.setting.random }
     {
-        self.tables.rules()
+        self.picker.rules()
     }
 
     /// Writes the content of the piece, block by block as it is held, if it is had, wanted or not. Takes no memory.
@@ -50,7 +50,7 @@ impl Desk {
         if !self.had(piece) {
             return Err(ContentFault::Incomplete);
         }
-        match self.position().write_piece(writer, piece) {
+        match self.filed().write_piece(writer, piece) {
             Ok(()) => Ok(()),
             Err(DeviceFault) => Err(ContentFault::WriteFault),
         }

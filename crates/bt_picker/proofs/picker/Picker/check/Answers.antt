@@ -1,0 +1,27 @@
+use Rattle.std.proofs.Common.{◌≡◌, ◌≤◌, ◌∷◌, ◌∙◌, length, ap, subst, sym, arith}
+use Rattle.bt_meta.specs.Layout.{Layout}
+use Rattle.bt_history.specs.declared.event.Event.{Event}
+use Rattle.bt_history.specs.declared.rules.TheConstants.{MOST_WORKERS}
+use Rattle.bt_history.specs.History.{History}
+use Rattle.bt_history.specs.Setting.{Setting}
+use Rattle.bt_picker.specs.Checks.{settling}
+use Rattle.bt_picker.specs.Noted.{setting_with}
+use Rattle.bt_picker.specs.Tables.{AreTables}
+use Rattle.bt_picker.proofs.picker.Picker.check.Goals as goal
+
+pub invariant_of-self : goal.invariant_of-self
+invariant_of-self c =
+    let inside = c.self.inside in
+    let old = inside.past.entries in
+    let reply = c.settled-reply.result in
+    let same : settling (setting_with c.torrent.result.now.layout) old c.args.worker c.args.piece reply
+    ≡ settling inside.tables.setting old c.args.worker c.args.piece reply =
+    ap (λ (t : Layout). settling (setting_with t) old c.args.worker c.args.piece reply)
+    (c.torrent.ensures ∙ ap (λ (s : Setting). s.torrent) c.enter_check.ensures.setting) in
+    let entries : c.then-self-inside.result.entries ≡ settling inside.tables.setting old c.args.worker c.args.piece reply ∷ old =
+    c.then-self-inside.ensures ∙ ap (λ (e : Event). e ∷ old) same in
+    let long = ap (λ (h : History). length h) entries in (
+      subst (AreTables c.enter_check.new.self) (sym entries) c.enter_check.ensures.are,
+      subst (λ (s : Setting). s.workers ≤ MOST_WORKERS) (sym c.enter_check.ensures.setting) c.self.invariant.1,
+      omega (arith, c.self.invariant.2, long),
+    )

@@ -1,0 +1,288 @@
+//! The picker with no journal: its tables alone, and a history that only proofs read.
+ghost use Rattle.std.specs.Prelude.{◌≡◌, ◌<◌, ◌≤◌, ◌+◌, ◌^◌, [], ℕ, List, true, IfOk, IsTrue, OnErr, length};
+ghost use Rattle.bt_meta.specs.Layout.{IsLayout, piece_count};
+ghost use Rattle.bt_history.specs.declared.call.Reply.{Reply};
+ghost use Rattle.bt_history.specs.declared.event.Action.TheVariants.{Arrived};
+ghost use Rattle.bt_history.specs.Entries.{action_of, event};
+ghost use Rattle.bt_history.specs.Legal.{IsAllowed, IsLegal};
+ghost use Rattle.bt_history.specs.Logs.{answers, call_mark};
+ghost use Rattle.bt_history.specs.Peers.{outstanding};
+ghost use Rattle.bt_history.specs.Pieces.{availability, content, had, wanted};
+ghost use Rattle.bt_history.specs.Setting.{AreRules, setting_of};
+ghost use Rattle.bt_picker.specs.Checks.{IsCurrent, SettlesNow, arriving, settling, waits};
+ghost use Rattle.sha1.specs.Sha1.{sha1};
+ghost use Rattle.bt_picker.specs.Contents.{complete, has_wanted};
+ghost use Rattle.bt_picker.specs.Positions.{Gains};
+ghost use Rattle.bt_picker.specs.Tables.{AreTables};
+ghost use Rattle.bt_picker.specs.Unbegun.{ListsUnbegun, unasked_count};
+
+use crate::past::{Note, Past};
+use crate::piece::UNBEGUN;
+use crate::position::Position;
+use crate::tables::Tables;
+use bt_history::{Call, MOST_WORKERS, Reason, Reply, Rules};
+use bt_meta::{Block, Torrent};
+use std::alloc::{AllocError, Global};
+use std::marker::Model;
+use std::sync::Arc;
+
+/// The picker of one download: it answers each call of the peers' workers, and keeps what it answers from, no call and no byte of a block.
+/// Contracts see the setting, and the history of all calls with their replies: it stands in no memory.
+pub struct Picker {
+    tables: Tables,
+    past: Past,
+    calls: u32,
+}
+
+/// The end of a picker is one call for whoever owns one.
+impl Drop for Picker {
+    fn drop(self) {
+        let Picker {
+            tables: _tables,
+            past: _past,
+            calls: _,
+        } = self;
+    }
+}
+
+impl Model for Picker {
+    ghost use Rattle.bt_picker.specs.Positions.{DeskState};
+    ghost use Rattle.bt_history.specs.declared.rules.TheConstants.{MOST_WORKERS};
+    ghost use Rattle.bt_picker.specs.Tables.{AreTables, place_after};
+    ghost use Rattle.std.specs.Prelude.{◌≡◌, ◌≤◌};
+
+    ghost Value = { DeskState };
+
+    ghost view = { λ p. record { setting = p.tables.setting; history = p.past.entries } };
+
+    ghost invariant = { λ p. AreTables p.tables p.past.entries × (p.tables.setting.workers ≤ MOST_WORKERS)
+        × (p.calls ≡ place_after p.past.entries) };
+}
+
+impl Picker {
+    /// A picker with the empty history, for this many workers, 1 to `MOST_WORKERS`, by these rules: 1 to 64 blocks asked of one peer, and no
+    /// more pieces at random than there are.
+    pub fn new(
+        alloc: Global,
+        torrent: Arc<Torrent>,
+        workers: u32,
+        rules: Rules,
+    ) -> Result<Picker, AllocError>
+        requires workers { (1 ≤ workers) × (workers ≤ MOST_WORKERS) }
+        requires rules { AreRules torrent.value.layout rules }
+        ensures setting { IfOk result (λ p. p.setting ≡ setting_of torrent.value.layout workers rules) }
+        ensures history { IfOk result (λ p. p.history ≡ []) }
+    {
+        let tables = Tables::new(alloc, torrent, workers, rules)?;
+        Ok(Picker {
+            tables,
+            past: Past::new(),
+            calls: 0,
+        })
+    }
+
+    /// The history with its tables.
+    pub(crate) fn position(&self) -> Position<'_>
+        ensures { result ≡ self.now }
+    {
+        Position::new(&self.tables, &self.past)
+    }
+
+    /// Tells a proof what holds of each picker. Nothing is done.
+    pub fn attest(&self)
+        ensures legal { IsLegal self.now.setting self.now.history }
+        ensures layout { IsLayout self.now.setting.torrent }
+        ensures workers { self.now.setting.workers ≤ MOST_WORKERS }
+    {
+        let _tables = &self.tables;
+    }
+
+    /// The torrent of the download.
+    pub fn torrent(&self) -> &Torrent
+        ensures { result.now.layout ≡ self.now.setting.torrent }
+    {
+        self.tables.torrent()
+    }
+
+    /// How many workers there are, 1 to 1,024: a worker's number is below it.
+    pub fn workers(&self) -> u32
+        ensures count { result ≡ self.now.setting.workers }
+        ensures bound { result ≤ MOST_WORKERS }
+    {
+        self.tables.workers()
+    }
+
+    /// The rules of the download.
+    pub fn rules(&self) -> Rules
+        ensures depth { result.depth ≡ self.now.setting.depth }
+        ensures random { result.random ≡ self.now.setting.random }
+    {
+        self.tables.rules()
+    }
+
+    /// Whether the piece was checked, and had its hash.
+    pub fn had(&self, piece: u32) -> bool
+        requires { piece < piece_count self.now.setting.torrent }
+        ensures { result ≡ had self.now.history piece }
+    {
+        self.position().had(piece)
+    }
+
+    /// Whether the piece is to be downloaded: by the newest Want, whoever made it. Until there is one, each piece is.
+    pub fn wanted(&self, piece: u32) -> bool
+        requires { piece < piece_count self.now.setting.torrent }
+        ensures { result ≡ wanted self.now.setting self.now.history piece }
+    {
+        self.position().is_wanted(piece)
+    }
+
+    /// How many joined peers show the piece.
+    pub fn availability(&self, piece: u32) -> u32
+        requires { piece < piece_count self.now.setting.torrent }
+        ensures { result ≡ availability self.now.setting self.now.history piece }
+    {
+        self.position().availability(piece)
+    }
+
+    /// The wanted pieces that so many joined peers show and of which no block is held or asked, in no stated order.
+    pub fn group(&self, shown_by: u32) -> &[u32]
+        requires { shown_by ≤ self.now.setting.workers }
+        ensures { ListsUnbegun self.now.setting self.now.history shown_by result.now }
+    {
+        self.tables.group(UNBEGUN + shown_by)
+    }
+
+    /// How many blocks of wanted pieces are neither held nor asked of a peer.
+    pub fn unasked(&self) -> u64
+        ensures { result ≡ unasked_count self.now.setting self.now.history }
+    {
+        self.tables.unasked()
+    }
+
+    /// The blocks asked of the worker's peer, the oldest request first.
+    pub fn outstanding(&self, worker: u32) -> &[Block]
+        requires { worker < self.now.setting.workers }
+        ensures { result.now ≡ outstanding self.now.history worker }
+    {
+        self.tables.peer(worker).asked()
+    }
+
+    /// Whether the piece is full and isn't had, and so waits for a check. No piece beyond the last does.
+    pub fn is_waiting(&self, piece: u32) -> bool
+        ensures { result ≡ waits self.now.setting self.now.history piece }
+    {
+        self.position().is_waiting(piece)
+    }
+
+    /// Whether each piece is had, wanted or not.
+    pub fn is_complete(&self) -> bool
+        ensures { result ≡ complete self.now.setting self.now.history }
+    {
+        self.position().is_complete()
+    }
+
+    /// Whether each wanted piece is had: there is nothing left to download, though the content may not be complete.
+    pub fn has_wanted(&self) -> bool
+        ensures { result ≡ has_wanted self.now.setting self.now.history }
+    {
+        self.position().has_wanted()
+    }
+
+    /// A reply that the rules allow to the call. Of a verdict the caller says whether the bytes that were hashed are those held.
+    pub(crate) fn reply(&self, worker: u32, call: &Call, is_current: bool) -> Reply
+        requires worker { worker < self.now.setting.workers }
+        requires current { IsCurrent self.now.setting self.now.history (action_of call.now) is_current }
+        ensures { IsAllowed self.now.setting self.now.history (event worker call.now result) }
+    {
+        self.position().reply(worker, call, is_current)
+    }
+
+    /// Enters one more entry.
+    pub(crate) fn enter(&mut self, worker: u32, call: &Call, reply: Reply)
+        requires allowed { IsAllowed self.old.setting self.old.history (event worker call.now reply) }
+        ensures gains { Gains self.old self.new (event worker call.now reply) }
+        // Once its last block came, a piece waits for its check.
+        ensures completes { (piece begin : ℕ) (bytes : List ℕ) →
+            action_of call.now ≡ Arrived piece begin bytes → reply ≡ Reply.Completed →
+            waits self.new.setting self.new.history piece ≡ true }
+    {
+        self.tables
+            .enter(&self.past, self.calls, worker, call, reply);
+        self.past = self.past.then(&Note::Call(worker, call, reply));
+        self.calls = self.calls.wrapping_add(1);
+    }
+
+    /// Answers the worker's call by the rules, and takes no memory. Of a verdict the caller says whether the bytes that were hashed are those
+    /// held.
+    pub fn call(&mut self, worker: u32, call: &Call, is_current: bool) -> Reply
+        requires worker { worker < self.old.setting.workers }
+        requires current { IsCurrent self.old.setting self.old.history (action_of call.now) is_current }
+        ensures ok { Gains self.old self.new (event worker call.now result) }
+        ensures fits { IsTrue (answers (call_mark (action_of call.now)) result) }
+        // Once its last block came, a piece waits for its check.
+        ensures completes { (piece begin : ℕ) (bytes : List ℕ) →
+            action_of call.now ≡ Arrived piece begin bytes → result ≡ Reply.Completed →
+            waits self.new.setting self.new.history piece ≡ true }
+        ensures setting { self.new.setting ≡ self.old.setting }
+    {
+        let reply = self.reply(worker, call, is_current);
+        self.enter(worker, call, reply);
+        reply
+    }
+
+    /// A block came: `begin` bytes into the piece. No byte of it is read or kept.
+    pub fn arrived(&mut self, worker: u32, piece: u32, begin: u32, bytes: &[u8]) -> Reply
+        requires { worker < self.old.setting.workers }
+        ensures gains { Gains self.old self.new (arriving worker piece begin bytes.now result) }
+        // Once its last block came, a piece waits for its check.
+        ensures completes { result ≡ Reply.Completed → waits self.new.setting self.new.history piece ≡ true }
+    {
+        let reply = self.position().arrived(worker, piece, begin, bytes);
+        self.tables
+            .enter_arrival(&self.past, self.calls, worker, piece, begin, bytes, reply);
+        self.past = self.past.then(&Note::Arrived {
+            worker,
+            piece,
+            begin,
+            bytes,
+            reply,
+        });
+        self.calls = self.calls.wrapping_add(1);
+        reply
+    }
+
+    /// The caller hashed what it holds of the piece. One that doesn't wait for a check is refused with no entry.
+    pub fn settle(&mut self, worker: u32, piece: u32, digest: &[u8; 20]) -> Reply
+        requires worker { worker < self.old.setting.workers }
+        requires hashed { waits self.old.setting self.old.history piece ≡ true →
+            digest.now ≡ sha1 (content self.old.setting self.old.history piece) }
+        ensures { SettlesNow self.old self.new worker piece result }
+    {
+        if piece >= self.torrent().piece_count() {
+            return Reply::Refused(Reason::NoSuchPiece);
+        }
+        if !self.is_waiting(piece) {
+            return Reply::Refused(Reason::NotWaiting);
+        }
+        self.check(worker, piece, digest)
+    }
+
+    /// Settles a piece that waits for it.
+    fn check(&mut self, worker: u32, piece: u32, digest: &[u8; 20]) -> Reply
+        requires worker { worker < self.old.setting.workers }
+        requires waits { waits self.old.setting self.old.history piece ≡ true }
+        requires hashed { digest.now ≡ sha1 (content self.old.setting self.old.history piece) }
+        ensures { Gains self.old self.new (settling self.old.setting self.old.history worker piece result) }
+    {
+        let reply = self.position().settled(worker, piece, digest);
+        self.tables.enter_check(&self.past, worker, piece, reply);
+        self.past = self.past.then(&Note::Settled {
+            worker,
+            piece,
+            torrent: self.tables.torrent(),
+            reply,
+        });
+        self.calls = self.calls.wrapping_add(1);
+        reply
+    }
+}

@@ -1,0 +1,2 @@
+pub mod Stashing
+pub mod Rowed
