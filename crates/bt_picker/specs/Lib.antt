@@ -10,4 +10,5 @@ pub mod Unbegun
 pub mod Apart
 pub mod Stripes
 pub mod Showing
+pub mod Told
 pub mod Noted

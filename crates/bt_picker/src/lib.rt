@@ -25,6 +25,7 @@ mod shows;
 mod stripes;
 mod sweep;
 mod tables;
+mod told;
 mod unread;
 
 pub use auditing::{AuditFault, audit};
@@ -36,3 +37,4 @@ pub use bt_history::{
 pub use content::ContentFault;
 pub use desk::Desk;
 pub use picker::Picker;
+pub use told::Told;

@@ -3,7 +3,9 @@ ghost use Rattle.std.specs.Prelude.{◌≡◌, [], List};
 ghost use Rattle.std.specs.Borrow.{ftrue};
 ghost use Rattle.bt_history.specs.declared.event.Event.{Event};
 
-use bt_history::{Call, Reply};
+use crate::told::Told;
+use bt_check::Verdict;
+use bt_history::Reply;
 use bt_meta::Torrent;
 use std::marker::Model;
 
@@ -23,16 +25,10 @@ unsafe impl Send for Past {}
 /// One entry more.
 #[derive(Clone, Copy, Drop)]
 pub enum Note<'a> {
-    /// The worker's call with its reply.
-    Call(u32, &'a Call, Reply),
-    /// A block that came with these bytes.
-    Arrived {
-        worker: u32,
-        piece: u32,
-        begin: u32,
-        bytes: &'a [u8],
-        reply: Reply,
-    },
+    /// What the worker told, with its reply.
+    Told(u32, &'a Told<'a>, Reply),
+    /// The worker's check by a verdict, with its reply.
+    Checked(u32, &'a Verdict, Reply),
     /// A check of the bytes that are held of the piece.
     Settled {
         worker: u32,

@@ -1,15 +1,16 @@
 //! The picker with no journal: its tables alone, and a history that only proofs read.
-ghost use Rattle.std.specs.Prelude.{◌≡◌, ◌<◌, ◌≤◌, ◌+◌, ◌^◌, [], ℕ, List, true, IfOk, IsTrue, OnErr, length};
+ghost use Rattle.std.specs.Prelude.{◌≡◌, ◌<◌, ◌≤◌, [], ℕ, List, true, IfOk};
 ghost use Rattle.bt_meta.specs.Layout.{IsLayout, piece_count};
 ghost use Rattle.bt_history.specs.declared.call.Reply.{Reply};
-ghost use Rattle.bt_history.specs.declared.event.Action.TheVariants.{Arrived};
+ghost use Rattle.bt_history.specs.declared.event.Action.TheVariants.{Arrived, Settle};
 ghost use Rattle.bt_history.specs.Entries.{action_of, event};
-ghost use Rattle.bt_history.specs.Legal.{IsAllowed, IsLegal};
-ghost use Rattle.bt_history.specs.Logs.{answers, call_mark};
+ghost use Rattle.bt_history.specs.Legal.{IsLegal};
 ghost use Rattle.bt_history.specs.Peers.{outstanding};
 ghost use Rattle.bt_history.specs.Pieces.{availability, content, had, wanted};
 ghost use Rattle.bt_history.specs.Setting.{AreRules, setting_of};
-ghost use Rattle.bt_picker.specs.Checks.{IsCurrent, SettlesNow, arriving, settling, waits};
+ghost use Rattle.bt_picker.specs.Checks.{IsCurrent, settling, waits};
+ghost use Rattle.bt_picker.specs.Told.{Settles, Tells, action_told, checking, telling};
+ghost use Rattle.bt_check.specs.Checked as checked;
 ghost use Rattle.sha1.specs.Sha1.{sha1};
 ghost use Rattle.bt_picker.specs.Contents.{complete, has_wanted};
 ghost use Rattle.bt_picker.specs.Positions.{Gains};
@@ -20,6 +21,8 @@ use crate::past::{Note, Past};
 use crate::piece::UNBEGUN;
 use crate::position::Position;
 use crate::tables::Tables;
+use crate::told::{Lent, Told, lend};
+use bt_check::Verdict;
 use bt_history::{Call, MOST_WORKERS, Reason, Reply, Rules};
 use bt_meta::{Block, Torrent};
 use std::alloc::{AllocError, Global};
@@ -188,87 +191,72 @@ impl Picker {
         self.position().has_wanted()
     }
 
-    /// A reply that the rules allow to the call. Of a verdict the caller says whether the bytes that were hashed are those held.
-    pub(crate) fn reply(&self, worker: u32, call: &Call, is_current: bool) -> Reply
-        requires worker { worker < self.now.setting.workers }
-        requires current { IsCurrent self.now.setting self.now.history (action_of call.now) is_current }
-        ensures { IsAllowed self.now.setting self.now.history (event worker call.now result) }
-    {
-        self.position().reply(worker, call, is_current)
-    }
-
-    /// Enters one more entry.
-    pub(crate) fn enter(&mut self, worker: u32, call: &Call, reply: Reply)
-        requires allowed { IsAllowed self.old.setting self.old.history (event worker call.now reply) }
-        ensures gains { Gains self.old self.new (event worker call.now reply) }
+    /// Answers what a worker tells of its peer, by the rules. It takes no memory, and nothing that is lent is kept. A number that is no
+    /// worker's is refused, and leaves no entry.
+    pub fn tell(&mut self, worker: u32, told: Told<'_>) -> Reply
+        ensures tells { Tells self.old self.new (telling worker told.entry result) }
         // Once its last block came, a piece waits for its check.
         ensures completes { (piece begin : ℕ) (bytes : List ℕ) →
-            action_of call.now ≡ Arrived piece begin bytes → reply ≡ Reply.Completed →
+            action_told told.entry ≡ Arrived piece begin bytes → result ≡ Reply.Completed →
             waits self.new.setting self.new.history piece ≡ true }
     {
-        self.tables
-            .enter(&self.past, self.calls, worker, call, reply);
-        self.past = self.past.then(&Note::Call(worker, call, reply));
-        self.calls = self.calls.wrapping_add(1);
+        if worker >= self.workers() {
+            return Reply::Refused(Reason::NotJoined);
+        }
+        self.hear(worker, &told)
     }
 
-    /// Answers the worker's call by the rules, and takes no memory. Of a verdict the caller says whether the bytes that were hashed are those
-    /// held.
-    pub fn call(&mut self, worker: u32, call: &Call, is_current: bool) -> Reply
-        requires worker { worker < self.old.setting.workers }
-        requires current { IsCurrent self.old.setting self.old.history (action_of call.now) is_current }
-        ensures ok { Gains self.old self.new (event worker call.now result) }
-        ensures fits { IsTrue (answers (call_mark (action_of call.now)) result) }
-        // Once its last block came, a piece waits for its check.
-        ensures completes { (piece begin : ℕ) (bytes : List ℕ) →
-            action_of call.now ≡ Arrived piece begin bytes → result ≡ Reply.Completed →
-            waits self.new.setting self.new.history piece ≡ true }
-        ensures setting { self.new.setting ≡ self.old.setting }
-    {
-        let reply = self.reply(worker, call, is_current);
-        self.enter(worker, call, reply);
-        reply
-    }
-
-    /// A block came: `begin` bytes into the piece. No byte of it is read or kept.
-    pub fn arrived(&mut self, worker: u32, piece: u32, begin: u32, bytes: &[u8]) -> Reply
-        requires { worker < self.old.setting.workers }
-        ensures gains { Gains self.old self.new (arriving worker piece begin bytes.now result) }
-        // Once its last block came, a piece waits for its check.
-        ensures completes { result ≡ Reply.Completed → waits self.new.setting self.new.history piece ≡ true }
-    {
-        let reply = self.position().arrived(worker, piece, begin, bytes);
-        self.tables
-            .enter_arrival(&self.past, self.calls, worker, piece, begin, bytes, reply);
-        self.past = self.past.then(&Note::Arrived {
-            worker,
-            piece,
-            begin,
-            bytes,
-            reply,
-        });
-        self.calls = self.calls.wrapping_add(1);
-        reply
-    }
-
-    /// The caller hashed what it holds of the piece. One that doesn't wait for a check is refused with no entry.
+    /// The worker hashed what it holds of the piece: the picker believes it that this is the hash. A piece that doesn't wait for a check is
+    /// refused with no entry, and so is a number that is no worker's. It takes no memory.
     pub fn settle(&mut self, worker: u32, piece: u32, digest: &[u8; 20]) -> Reply
-        requires worker { worker < self.old.setting.workers }
-        requires hashed { waits self.old.setting self.old.history piece ≡ true →
+        requires { waits self.old.setting self.old.history piece ≡ true →
             digest.now ≡ sha1 (content self.old.setting self.old.history piece) }
-        ensures { SettlesNow self.old self.new worker piece result }
+        ensures { Settles self.old self.new worker piece result }
     {
+        if worker >= self.workers() {
+            return Reply::Refused(Reason::NotJoined);
+        }
         if piece >= self.torrent().piece_count() {
             return Reply::Refused(Reason::NoSuchPiece);
         }
         if !self.is_waiting(piece) {
             return Reply::Refused(Reason::NotWaiting);
         }
-        self.check(worker, piece, digest)
+        self.settle_waiting(worker, piece, digest)
+    }
+
+    /// Answers what the worker tells.
+    fn hear(&mut self, worker: u32, told: &Told<'_>) -> Reply
+        requires { worker < self.old.setting.workers }
+        ensures gains { Gains self.old self.new (telling worker told.now result) }
+        ensures completes { (piece begin : ℕ) (bytes : List ℕ) →
+            action_told told.now ≡ Arrived piece begin bytes → result ≡ Reply.Completed →
+            waits self.new.setting self.new.history piece ≡ true }
+    {
+        let reply = self.position().reply(worker, told);
+        self.tables
+            .enter(&self.past, self.calls, worker, told, reply);
+        self.past = self.past.then(&Note::Told(worker, told, reply));
+        self.calls = self.calls.wrapping_add(1);
+        reply
+    }
+
+    /// Answers the worker's verdict, of which the caller says whether the bytes that were hashed are those held.
+    fn check(&mut self, worker: u32, verdict: &Verdict, is_current: bool) -> Reply
+        requires worker { worker < self.old.setting.workers }
+        requires current { IsCurrent self.old.setting self.old.history (Settle verdict.now.piece (checked.joined verdict.now)) is_current }
+        ensures { Gains self.old self.new (checking worker verdict.now.piece (checked.joined verdict.now) result) }
+    {
+        let reply = self.position().checked(worker, verdict, is_current);
+        self.tables
+            .enter_verdict(&self.past, worker, verdict, reply);
+        self.past = self.past.then(&Note::Checked(worker, verdict, reply));
+        self.calls = self.calls.wrapping_add(1);
+        reply
     }
 
     /// Settles a piece that waits for it.
-    fn check(&mut self, worker: u32, piece: u32, digest: &[u8; 20]) -> Reply
+    fn settle_waiting(&mut self, worker: u32, piece: u32, digest: &[u8; 20]) -> Reply
         requires worker { worker < self.old.setting.workers }
         requires waits { waits self.old.setting self.old.history piece ≡ true }
         requires hashed { digest.now ≡ sha1 (content self.old.setting self.old.history piece) }
@@ -284,5 +272,20 @@ impl Picker {
         });
         self.calls = self.calls.wrapping_add(1);
         reply
+    }
+
+    /// Answers a desk's call. Of a verdict the caller says whether the bytes that were hashed are those held.
+    pub(crate) fn call(&mut self, worker: u32, call: &Call, is_current: bool) -> Reply
+        requires worker { worker < self.old.setting.workers }
+        requires current { IsCurrent self.old.setting self.old.history (action_of call.now) is_current }
+        ensures ok { Gains self.old self.new (event worker call.now result) }
+        ensures completes { (piece begin : ℕ) (bytes : List ℕ) →
+            action_of call.now ≡ Arrived piece begin bytes → result ≡ Reply.Completed →
+            waits self.new.setting self.new.history piece ≡ true }
+    {
+        match lend(call) {
+            Lent::Told(told) => self.hear(worker, &told),
+            Lent::Check(verdict) => self.check(worker, verdict, is_current),
+        }
     }
 }

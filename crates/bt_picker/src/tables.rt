@@ -10,10 +10,11 @@ ghost use Rattle.bt_order.specs.Risings.{IsRising};
 ghost use Rattle.bt_picker.specs.Showing.{dealings};
 ghost use Rattle.bt_picker.specs.Standings.{apart, group_of_row, standing_of};
 ghost use Rattle.bt_history.specs.Setting.{setting_of};
-ghost use Rattle.bt_history.specs.Entries.{event};
 ghost use Rattle.bt_history.specs.Legal.{IsAllowed};
 ghost use Rattle.bt_history.specs.History.{counts, stores};
-ghost use Rattle.bt_picker.specs.Checks.{arriving, settling};
+ghost use Rattle.bt_check.specs.Checked as checked;
+ghost use Rattle.bt_picker.specs.Checks.{settling};
+ghost use Rattle.bt_picker.specs.Told.{checking, telling};
 ghost use Rattle.bt_meta.specs.declared.block.Block.{Block};
 ghost use Rattle.bt_history.specs.Counting.{count_below, table};
 ghost use Rattle.bt_picker.specs.Floors.{IsFloor, IsRarestStart, TellsFloor, is_fresh};
@@ -30,7 +31,9 @@ use crate::peers::Peers;
 use crate::piece::{Change, GROUPS, Piece, UNBEGUN};
 use crate::pieces::Pieces;
 use crate::sweep::{lower_all, recount, rewant};
-use bt_history::{Call, MOST_DEPTH, Reply, Rules};
+use crate::told::Told;
+use bt_check::Verdict;
+use bt_history::{MOST_DEPTH, Reply, Rules};
 use bt_meta::{BLOCK_SIZE, Bitfield, Block, Torrent};
 use std::alloc::{AllocError, Global};
 use std::marker::Model;
@@ -257,63 +260,52 @@ impl Tables {
             && self.pieces.group_of(piece) >= UNBEGUN
     }
 
-    /// Enters one more entry: `past` has the entries before it, so many.
-    pub fn enter(&mut self, past: &Past, place: u32, worker: u32, call: &Call, reply: Reply)
+    /// Enters what the worker told, with its reply: `past` has the entries before it, so many.
+    pub fn enter(&mut self, past: &Past, place: u32, worker: u32, told: &Told<'_>, reply: Reply)
         requires place { place ≡ place_after past.now.entries }
         requires are { AreTables self.old past.now.entries }
-        requires allowed { IsAllowed self.old.setting past.now.entries (event worker call.now reply) }
-        ensures are { AreTables self.new (event worker call.now reply ∷ past.now.entries) }
+        requires allowed { IsAllowed self.old.setting past.now.entries (telling worker told.now reply) }
+        ensures are { AreTables self.new (telling worker told.now reply ∷ past.now.entries) }
         ensures setting { self.new.setting ≡ self.old.setting }
     {
         if reply.is_refusal() {
             return;
         }
-        match call {
-            Call::Join => self.join(worker),
-            Call::Bits(flags) => self.put_bits(worker, flags),
-            Call::Have(piece) => {
+        match told {
+            Told::Join => self.join(worker),
+            Told::Bits(flags) => self.put_bits(worker, flags),
+            Told::Have(piece) => {
                 self.put_have(worker, *piece);
                 self.note_interest(worker, reply);
             }
-            Call::Choke => self.choke(worker),
-            Call::Unchoke => self.unchoke(worker),
-            Call::Next(_) => {
+            Told::Choke => self.choke(worker),
+            Told::Unchoke => self.unchoke(worker),
+            Told::Next(_) => {
                 self.learn(worker, reply);
                 self.put_next(worker, reply);
             }
-            Call::Arrived { piece, begin, .. } => {
+            Told::Arrived { piece, begin, .. } => {
                 self.put_arrival(worker, *piece, *begin, place, reply);
             }
-            Call::Settle(verdict) => self.put_check(verdict.piece(), reply),
-            Call::Leave => self.leave(worker),
-            Call::Want(flags) => self.put_want(flags),
+            Told::Leave => self.leave(worker),
+            Told::Want(flags) => self.put_want(flags),
         }
     }
 
-    /// Enters the arrival of these bytes.
-    pub fn enter_arrival(
-        &mut self,
-        past: &Past,
-        place: u32,
-        worker: u32,
-        piece: u32,
-        begin: u32,
-        bytes: &[u8],
-        reply: Reply,
-    )
-        requires place { place ≡ place_after past.now.entries }
+    /// Enters the worker's verdict, with its reply.
+    pub fn enter_verdict(&mut self, past: &Past, worker: u32, verdict: &Verdict, reply: Reply)
         requires are { AreTables self.old past.now.entries }
-        requires allowed { IsAllowed self.old.setting past.now.entries (arriving worker piece begin bytes.now reply) }
-        ensures are { AreTables self.new (arriving worker piece begin bytes.now reply ∷ past.now.entries) }
+        requires allowed { IsAllowed self.old.setting past.now.entries (checking worker verdict.now.piece (checked.joined verdict.now) reply) }
+        ensures are { AreTables self.new (checking worker verdict.now.piece (checked.joined verdict.now) reply ∷ past.now.entries) }
         ensures setting { self.new.setting ≡ self.old.setting }
     {
         if reply.is_refusal() {
             return;
         }
-        self.put_arrival(worker, piece, begin, place, reply);
+        self.put_check(verdict.piece(), reply);
     }
 
-    /// Enters a check of what is held of the piece.
+    /// Enters the worker's check of what is held of the piece, with its reply.
     pub fn enter_check(&mut self, past: &Past, worker: u32, piece: u32, reply: Reply)
         requires are { AreTables self.old past.now.entries }
         requires allowed { IsAllowed self.old.setting past.now.entries (settling self.old.setting past.now.entries worker piece reply) }

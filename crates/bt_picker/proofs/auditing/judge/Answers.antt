@@ -23,9 +23,9 @@ loop-place-preserved c =
     let more = history_more c.args.entries.now c.loop-place.place c.index-entries-place.result c.loop-place-test.true c.index-entries-place.is in
     let step = ap (λ (h : History). event_of c.index-entries-place.result ∷ h) inv.past ∙ sym more in
     record {
-      setting = c.enter.ensures.setting ∙ inv.setting;
-      are = subst (AreTables c.enter.new.self) step c.enter.ensures.are;
-      past = c.then-past.ensures ∙ step;
+      setting = c.follow-past.ensures.setting ∙ inv.setting;
+      are = subst (AreTables c.follow-past.new.tables) (c.follow-past.ensures.past ∙ step) c.follow-past.ensures.are;
+      past = c.follow-past.ensures.past ∙ step;
     }
 
 pub returns-then-not-is_next-clause-ok : goal.returns-then-not-is_next-clause-ok

@@ -7,7 +7,7 @@ use Rattle.bt_history.specs.Setting.{Setting}
 use Rattle.bt_picker.specs.Checks.{settling}
 use Rattle.bt_picker.specs.Noted.{setting_with}
 use Rattle.bt_picker.specs.Tables.{AreTables}
-use Rattle.bt_picker.proofs.picker.Picker.check.Goals as goal
+use Rattle.bt_picker.proofs.picker.Picker.settle_waiting.Goals as goal
 
 pub invariant_of-self : goal.invariant_of-self
 invariant_of-self c =

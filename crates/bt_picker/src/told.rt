@@ -1,0 +1,70 @@
+//! What a worker tells a picker, with what it carries lent.
+
+ghost use Rattle.std.specs.Prelude.{◌≡◌};
+ghost use Rattle.bt_history.specs.Entries.{action_of};
+ghost use Rattle.bt_picker.specs.Told.{action_lent};
+
+use bt_check::Verdict;
+use bt_history::Call;
+use bt_meta::Bitfield;
+
+/// What a worker tells of its peer, or asks about it. A bitfield and a block's bytes are lent, so nothing is copied.
+#[derive(Clone, Copy, Drop)]
+pub enum Told<'a> {
+    /// The handshakes were exchanged.
+    Join,
+    /// The peer sent this bitfield.
+    Bits(&'a Bitfield),
+    /// The peer has this piece.
+    Have(u32),
+    /// The peer chokes us.
+    Choke,
+    /// The peer lets itself be asked.
+    Unchoke,
+    /// What to say to the peer next? The word, a random number, settles what the rules leave open.
+    Next(u64),
+    /// A block came, which begins so many bytes into the piece.
+    Arrived {
+        piece: u32,
+        begin: u32,
+        bytes: &'a [u8],
+    },
+    /// The peer is gone.
+    Leave,
+    /// Just these pieces are to be downloaded from now on.
+    Want(&'a Bitfield),
+}
+
+/// A call with what it carries lent: the check of a piece, or what is told of a peer.
+#[derive(Clone, Copy, Drop)]
+pub enum Lent<'a> {
+    Told(Told<'a>),
+    Check(&'a Verdict),
+}
+
+/// The call, lent.
+pub fn lend(call: &Call) -> Lent<'_>
+    ensures { action_lent result ≡ action_of call.now }
+{
+    let told = match call {
+        Call::Settle(verdict) => return Lent::Check(verdict),
+        Call::Join => Told::Join,
+        Call::Bits(flags) => Told::Bits(flags),
+        Call::Have(piece) => Told::Have(*piece),
+        Call::Choke => Told::Choke,
+        Call::Unchoke => Told::Unchoke,
+        Call::Next(word) => Told::Next(*word),
+        Call::Arrived {
+            piece,
+            begin,
+            bytes,
+        } => Told::Arrived {
+            piece: *piece,
+            begin: *begin,
+            bytes: bytes.as_slice(),
+        },
+        Call::Leave => Told::Leave,
+        Call::Want(flags) => Told::Want(flags),
+    };
+    Lent::Told(told)
+}
