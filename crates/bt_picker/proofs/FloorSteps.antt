@@ -128,13 +128,13 @@ raised_stale row i li =
     let here : get_or (edit row.blocks i one_more) i empty_cell ≡ one_more cell =
     ap (λ (cells : List CellState). get_or cells i empty_cell) (sym is) ∙ get_or-set_same row.blocks i (one_more cell) empty_cell li in
     touched_stale (changed_row (Raise i) row) i (omega (arith, li, ap length is, length-set row.blocks i (one_more cell)))
-    (ap is_touched here ∙ (ap (λ (x : Bool). is_some cell.stored_at || x) (lt-ltb 0 (cell.askers + 1) (omega arith)) ∙
-    or_right (is_some cell.stored_at) true refl))
+    (ap is_touched here ∙ (ap (λ (x : Bool). cell.held || x) (lt-ltb 0 (cell.askers + 1) (omega arith)) ∙
+    or_right (cell.held) true refl))
 
-pub stored_stale : (row : PieceState) (i entry : ℕ) → i < length row.blocks → is_fresh (stored_row i entry row) ≡ false
-stored_stale row i entry li =
-    let cell : CellState = record { stored_at = Some entry; askers = 0 } in
-    touched_stale (stored_row i entry row) i (omega (arith, li, length-set row.blocks i cell))
+pub stored_stale : (row : PieceState) (i : ℕ) → i < length row.blocks → is_fresh (stored_row i row) ≡ false
+stored_stale row i li =
+    let cell : CellState = record { held = true; askers = 0 } in
+    touched_stale (stored_row i row) i (omega (arith, li, length-set row.blocks i cell))
     (ap is_touched (get_or-set_same row.blocks i cell empty_cell li))
 
 -- ---- a peer's row as the calls change it

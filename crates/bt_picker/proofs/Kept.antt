@@ -11,7 +11,6 @@ use Rattle.std.proofs.lemmas.List.Sums.{sum_by-set, count_by-le-length, get_or-l
 use mathlib.Core.Logic.{dite}
 use native.Mathlib.Decide.{ℕ_discrete}
 use Rattle.bt_picker.specs.declared.cell.Cell.{Cell}
-use Rattle.bt_picker.specs.declared.cell.Cell.TheVariants.{Asked}
 use Rattle.bt_picker.specs.Tables.{CellState, empty_cell, one_if}
 use Rattle.bt_picker.specs.Standings.{AreCounts, AreTouched, cell_kept, is_held, is_touched}
 
@@ -86,11 +85,15 @@ still_touched n i cells cell lt so_far = by_test (is_touched (cell_kept cell)) r
 
 -- ---- the cells of a piece of which nothing is known
 
-pub said_fresh : (n : ℕ) → said (replicate n (Asked 0)) ≡ replicate n empty_cell
+-- that of a block that is neither held nor asked
+abbrev pub unasked_cell : Cell
+unasked_cell = record { word = 0 }
+
+pub said_fresh : (n : ℕ) → said (replicate n unasked_cell) ≡ replicate n empty_cell
 said_fresh zero = refl
 said_fresh (suc n) = ap (λ (cells : List CellState). empty_cell ∷ cells) (said_fresh n)
 
-pub fresh_counts : (n : ℕ) → n < 2 ^ 32 → AreCounts 0 0 (said (replicate n (Asked 0)))
+pub fresh_counts : (n : ℕ) → n < 2 ^ 32 → AreCounts 0 0 (said (replicate n unasked_cell))
 fresh_counts n few = rw (said_fresh n) (record {
   held_is = sym (sum_by-replicate (λ (cell : CellState). cond (is_held cell) 1 0) n empty_cell ∙ none n);
   touched_is = sym (sum_by-replicate (λ (cell : CellState). cond (is_touched cell) 1 0) n empty_cell ∙ none n);

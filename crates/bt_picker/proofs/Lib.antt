@@ -21,6 +21,7 @@ pub mod Unbegun
 pub mod Interest
 pub mod Learning
 pub mod Choices
+pub mod Placing
 pub mod Reading
 pub mod Arriving
 pub mod Answering

@@ -23,7 +23,7 @@ use Rattle.bt_picker.proofs.Tabled.{table_more, length_table, get_or_table}
 use Rattle.bt_picker.proofs.Scans.{finds_in_piece, none_in_pieces}
 use Rattle.bt_order.specs.Orders.{at, ListsGroup}
 use Rattle.bt_picker.specs.Search.{Finds, FindsOf, FindsLeast, rank_of}
-use Rattle.bt_picker.proofs.Cells.{place_kept, any_counted, asked_counted}
+use Rattle.bt_picker.proofs.Cells.{any_counted, asked_counted}
 
 -- ---- counts of tables
 
@@ -62,10 +62,10 @@ counted_none n test = by_count (count_below n test) refl where
 
 module _ (s : Setting) (h : History) (p : ℕ) where
   held_is : (k : ℕ) → is_held (cell_of s h (block s.torrent p k)) ≡ held h (block s.torrent p k)
-  held_is k = place_kept h (block s.torrent p k)
+  held_is k = refl
 
   touched_is : (k : ℕ) → is_touched (cell_of s h (block s.torrent p k)) ≡ held_or_asked s h (block s.torrent p k)
-  touched_is k = λ i. place_kept h (block s.torrent p k) i || sym (asked_counted s h (block s.torrent p k)) i
+  touched_is k = λ i. held h (block s.torrent p k) || sym (asked_counted s h (block s.torrent p k)) i
 
   pub held_counted : held_count (piece_of s h p).blocks ≡ count_below (block_count s.torrent p) (λ k. held h (block s.torrent p k))
   held_counted =

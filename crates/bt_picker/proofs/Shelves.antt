@@ -17,7 +17,7 @@ use Rattle.bt_picker.proofs.Tabled.{length_edit}
 pub same_length : (change : Change) (row : PieceState) → length (changed_row change row).blocks ≡ length row.blocks
 same_length (Raise index) row = length_edit row.blocks index one_more
 same_length (Lower index) row = length_edit row.blocks index one_less
-same_length (Store index entry) row = length-set row.blocks index (record { stored_at = Some entry; askers = 0 })
+same_length (Store index) row = length-set row.blocks index (record { held = true; askers = 0 })
 same_length Pass row = refl
 same_length Fail row = length-map row.blocks unheld
 same_length (Wanted wanted) row = refl

@@ -10,5 +10,6 @@ pub mod Unbegun
 pub mod Apart
 pub mod Stripes
 pub mod Showing
+pub mod Places
 pub mod Told
 pub mod Noted

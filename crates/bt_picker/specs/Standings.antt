@@ -3,7 +3,7 @@ use Rattle.std.specs.Prelude.{ℕ, ◌+◌, ◌-◌, ◌^◌, ◌≡◌, ◌<◌
 use Rattle.std.specs.Prelude.{map, min, is_some, nat_lt, true, slice_index_or, if◌then◌else◌}
 use Rattle.std.specs.List.{count_by, sum_by}
 use Rattle.bt_picker.specs.declared.cell.Cell.{Cell}
-use Rattle.bt_picker.specs.declared.cell.Cell.TheVariants.{Asked, Held}
+use Rattle.bt_picker.specs.declared.cell.TheConstants.{HELD}
 use Rattle.bt_picker.specs.declared.piece.Standing.{Standing}
 use Rattle.bt_picker.specs.declared.piece.TheConstants.{ASKED_OUT, CROWD, OPEN, RESTING, UNBEGUN}
 use Rattle.bt_picker.specs.Tables.{CellState, PieceState, empty_cell, one_if, piece_of}
@@ -15,18 +15,21 @@ use Rattle.bt_history.specs.Counting.{table}
 use Rattle.bt_order.specs.Orders.{at}
 use Rattle.bt_order.specs.Risings.{IsIn}
 
--- what a cell says: a block that is held is asked of nobody
+-- what the word of a cell says: a block that is held is asked of nobody
+abbrev pub word_kept : ℕ → CellState
+word_kept word = if word == HELD then record { held = true; askers = 0 } else record { held = false; askers = word }
+
+-- what a cell says
 abbrev pub cell_kept : Cell → CellState
-cell_kept (Held place) = record { stored_at = Some place; askers = 0 }
-cell_kept (Asked askers) = record { stored_at = None; askers = askers }
+cell_kept cell = word_kept cell.word
 
 -- the block is held
 abbrev pub is_held : CellState → Bool
-is_held cell = is_some cell.stored_at
+is_held cell = cell.held
 
 -- the block is held, or asked of somebody
 abbrev pub is_touched : CellState → Bool
-is_touched cell = is_some cell.stored_at || nat_lt 0 cell.askers
+is_touched cell = cell.held || nat_lt 0 cell.askers
 
 -- so many of the blocks are held
 abbrev pub held_count : List CellState → ℕ

@@ -1,5 +1,5 @@
 //! A picker beside the journal of its calls: the bytes of what is held.
-ghost use Rattle.std.specs.Prelude.{◌≡◌, ◌<◌, ◌≤◌, ◌^◌, true, length, slice_index_or};
+ghost use Rattle.std.specs.Prelude.{◌≡◌, ◌<◌, true, length, slice_index_or};
 ghost use Rattle.bt_meta.specs.Layout.{block, block_count, piece_count};
 ghost use Rattle.bt_check.specs.Checked as checked;
 ghost use Rattle.bt_history.specs.declared.call.Entry.{Entry};
@@ -9,6 +9,7 @@ ghost use Rattle.bt_history.specs.Pieces.{content, content_of_block};
 ghost use Rattle.bt_picker.specs.Checks.{IsCurrent};
 ghost use Rattle.bt_picker.specs.Search.{arrived_bytes};
 
+use crate::places::Places;
 use crate::position::Position;
 use crate::unread::Unread;
 use bt_check::Verdict;
@@ -20,29 +21,37 @@ use std::marker::Model;
 pub struct Filed<'a> {
     pub(crate) position: Position<'a>,
     pub(crate) journal: &'a [Entry],
+    pub(crate) places: &'a Places,
 }
 
 impl<'a> Model for Filed<'a> {
-    ghost use Rattle.std.specs.Prelude.{◌≡◌, ◌≤◌, ◌^◌, length};
+    ghost use Rattle.std.specs.Prelude.{◌≡◌};
     ghost use Rattle.bt_history.specs.Entries.{history_of};
+    ghost use Rattle.bt_picker.specs.Places.{ArePlaces};
     ghost use Rattle.bt_picker.specs.Positions.{DeskState};
 
     ghost Value = { DeskState };
 
     ghost view = { λ f. f.position };
 
-    ghost invariant = { λ f. (f.position.history ≡ history_of f.journal.now) × (length f.journal.now ≤ 2 ^ 32) };
+    ghost invariant = { λ f. (f.position.history ≡ history_of f.journal.now)
+        × ArePlaces f.position.setting f.position.history f.places.now };
 }
 
 impl<'a> Filed<'a> {
     ghost use Rattle.bt_history.specs.Entries.{history_of};
+    ghost use Rattle.bt_picker.specs.Places.{ArePlaces, stored_place};
 
-    pub fn new(position: Position<'a>, journal: &'a [Entry]) -> Filed<'a>
+    pub fn new(position: Position<'a>, journal: &'a [Entry], places: &'a Places) -> Filed<'a>
         requires history { position.history ≡ history_of journal.now }
-        requires few { length journal.now ≤ 2 ^ 32 }
+        requires places { ArePlaces position.setting position.history places.now }
         ensures { result ≡ position.entry }
     {
-        Filed { position, journal }
+        Filed {
+            position,
+            journal,
+            places,
+        }
     }
 
     pub fn piece_count(&self) -> u32
@@ -78,13 +87,26 @@ impl<'a> Filed<'a> {
         self.position.allows(worker, call, self.agrees(call), reply)
     }
 
+    /// The place in the journal of the entry that stored the block, if it is held.
+    pub fn place(&self, piece: u32, index: u32) -> Option<usize>
+        requires piece { piece < piece_count self.now.setting.torrent }
+        requires index { index < block_count self.now.setting.torrent piece }
+        ensures { result ≡ stored_place self.now.history (block self.now.setting.torrent piece index) }
+    {
+        if self.position.holds(piece, index) {
+            Some(self.places.of(piece, index) as usize)
+        } else {
+            None
+        }
+    }
+
     /// The bytes of the block, if it is held.
     pub fn held_bytes(&self, piece: u32, index: u32) -> &[u8]
         requires piece { piece < piece_count self.now.setting.torrent }
         requires index { index < block_count self.now.setting.torrent piece }
         ensures { result.now ≡ content_of_block self.now.history (block self.now.setting.torrent piece index) }
     {
-        match self.position.place(piece, index) {
+        match self.place(piece, index) {
             Some(place) => bytes_at(self.journal, place),
             None => &[],
         }

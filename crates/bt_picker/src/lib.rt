@@ -17,6 +17,7 @@ mod peers;
 mod picker;
 mod piece;
 mod pieces;
+mod places;
 mod position;
 mod refuse;
 mod ruling;

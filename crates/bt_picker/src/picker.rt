@@ -34,7 +34,6 @@ use std::sync::Arc;
 pub struct Picker {
     tables: Tables,
     past: Past,
-    calls: u32,
 }
 
 /// The end of a picker is one call for whoever owns one.
@@ -43,7 +42,6 @@ impl Drop for Picker {
         let Picker {
             tables: _tables,
             past: _past,
-            calls: _,
         } = self;
     }
 }
@@ -51,15 +49,14 @@ impl Drop for Picker {
 impl Model for Picker {
     ghost use Rattle.bt_picker.specs.Positions.{DeskState};
     ghost use Rattle.bt_history.specs.declared.rules.TheConstants.{MOST_WORKERS};
-    ghost use Rattle.bt_picker.specs.Tables.{AreTables, place_after};
-    ghost use Rattle.std.specs.Prelude.{◌≡◌, ◌≤◌};
+    ghost use Rattle.bt_picker.specs.Tables.{AreTables};
+    ghost use Rattle.std.specs.Prelude.{◌≤◌};
 
     ghost Value = { DeskState };
 
     ghost view = { λ p. record { setting = p.tables.setting; history = p.past.entries } };
 
-    ghost invariant = { λ p. AreTables p.tables p.past.entries × (p.tables.setting.workers ≤ MOST_WORKERS)
-        × (p.calls ≡ place_after p.past.entries) };
+    ghost invariant = { λ p. AreTables p.tables p.past.entries × (p.tables.setting.workers ≤ MOST_WORKERS) };
 }
 
 impl Picker {
@@ -80,7 +77,6 @@ impl Picker {
         Ok(Picker {
             tables,
             past: Past::new(),
-            calls: 0,
         })
     }
 
@@ -235,9 +231,8 @@ impl Picker {
     {
         let reply = self.position().reply(worker, told);
         self.tables
-            .enter(&self.past, self.calls, worker, told, reply);
+            .enter(&self.past, worker, told, reply);
         self.past = self.past.then(&Note::Told(worker, told, reply));
-        self.calls = self.calls.wrapping_add(1);
         reply
     }
 
@@ -251,7 +246,6 @@ impl Picker {
         self.tables
             .enter_verdict(&self.past, worker, verdict, reply);
         self.past = self.past.then(&Note::Checked(worker, verdict, reply));
-        self.calls = self.calls.wrapping_add(1);
         reply
     }
 
@@ -270,7 +264,6 @@ impl Picker {
             torrent: self.tables.torrent(),
             reply,
         });
-        self.calls = self.calls.wrapping_add(1);
         reply
     }
 

@@ -1,6 +1,6 @@
 //! The row of a piece, and what it amounts to.
 
-ghost use Rattle.std.specs.Prelude.{◌≡◌, ◌<◌, ◌≤◌, ◌+◌, ◌-◌, ◌^◌, ◌==◌, nat_lt, min, if◌then◌else◌, None, length, slice_index_or};
+ghost use Rattle.std.specs.Prelude.{◌≡◌, ◌<◌, ◌≤◌, ◌+◌, ◌-◌, ◌^◌, ◌==◌, nat_lt, min, if◌then◌else◌, length, slice_index_or};
 ghost use Rattle.std.specs.Prelude.{slice_set, IfOk, Bool, true, false, replicate};
 ghost use Rattle.bt_picker.specs.Tables.{HasRoomOf, PieceState, changed_row, edit, empty_cell, failed_row, fresh_piece, one_if, one_less};
 ghost use Rattle.bt_picker.specs.Tables.{one_more, stored_row};
@@ -8,7 +8,7 @@ ghost use Rattle.bt_picker.specs.Floors.{is_fresh};
 ghost use Rattle.bt_picker.specs.Standings.{AreTouched, cell_kept, is_held, is_touched, held_count, touched_count, group_of_row, shown_row};
 ghost use Rattle.bt_picker.specs.Standings.{standing_of};
 
-use crate::cell::Cell;
+use crate::cell::{Cell, HELD};
 use bt_history::MOST_WORKERS;
 use std::alloc::{AllocError, Global};
 use std::marker::Model;
@@ -20,8 +20,8 @@ pub enum Change {
     Raise(u32),
     /// One peer less is asked for the block, where the piece has so many.
     Lower(u32),
-    /// The block was stored by the entry at this place of the journal, so it is asked of nobody.
-    Store(u32, u32),
+    /// The block was stored, so it is asked of nobody.
+    Store(u32),
     /// A check found the right hash.
     Pass,
     /// A check found another hash: no block is held.
@@ -202,7 +202,7 @@ impl Piece {
         match change {
             Change::Raise(index) => self.raise(index),
             Change::Lower(index) => self.lower(index),
-            Change::Store(index, place) => self.store(index, place),
+            Change::Store(index) => self.store(index),
             Change::Pass => self.had = true,
             Change::Fail => self.fail(),
             Change::Wanted(wanted) => self.wanted = wanted,
@@ -219,19 +219,19 @@ impl Piece {
         }
     }
 
-    /// The block was stored by the entry at this place, so it is asked of nobody.
-    fn store(&mut self, index: u32, place: u32)
+    /// The block was stored, so it is asked of nobody.
+    fn store(&mut self, index: u32)
         requires { index < length self.old.blocks }
-        ensures { self.new ≡ stored_row index place self.old }
+        ensures { self.new ≡ stored_row index self.old }
     {
-        self.put(index, Cell::Held(place));
+        self.put(index, Cell::KEPT);
     }
 
     /// One peer more is asked for the block, which isn't held.
     fn raise(&mut self, index: u32)
         requires index { index < length self.old.blocks }
-        requires free { (slice_index_or self.old.blocks index empty_cell).stored_at ≡ None }
-        requires few { (slice_index_or self.old.blocks index empty_cell).askers + 1 < 2 ^ 32 }
+        requires free { (slice_index_or self.old.blocks index empty_cell).held ≡ false }
+        requires few { (slice_index_or self.old.blocks index empty_cell).askers + 1 < HELD }
         ensures { self.new ≡ record self.old { blocks = edit self.old.blocks index one_more } }
     {
         let cell = self.cell(index);

@@ -15,7 +15,7 @@ ghost use Rattle.bt_order.specs.Risings.{Rises};
 ghost use Rattle.bt_picker.specs.Floors.{NoneRarer};
 ghost use Rattle.bt_picker.specs.Showing.{dealings};
 ghost use Rattle.bt_picker.specs.Standings.{apart, cell_kept, groups_of};
-ghost use Rattle.bt_picker.specs.Tables.{AreTables, cell_of, peer_of, piece_of, stored_place};
+ghost use Rattle.bt_picker.specs.Tables.{AreTables, cell_of, peer_of, piece_of};
 
 use crate::cell::Cell;
 use crate::past::Past;
@@ -227,7 +227,6 @@ impl<'a> Position<'a> {
     }
 
     /// Whether the block is held.
-    #[tactic(auto, using(crate::proofs::Cells::place_kept))]
     pub fn holds(&self, piece: u32, index: u32) -> bool
         requires piece { piece < piece_count self.now.setting.torrent }
         requires index { index < block_count self.now.setting.torrent piece }
@@ -297,17 +296,6 @@ impl<'a> Position<'a> {
         ensures { result ≡ wanted self.now.setting self.now.history piece }
     {
         self.piece(piece).is_wanted()
-    }
-
-    /// The number of the block's entry in the journal, if the block is held.
-    pub fn place(&self, piece: u32, index: u32) -> Option<usize>
-        requires piece { piece < piece_count self.now.setting.torrent }
-        requires index { index < block_count self.now.setting.torrent piece }
-        ensures { result ≡ stored_place self.now.history (block self.now.setting.torrent piece index) }
-    {
-        self.cell(piece, index)
-            .stored_at()
-            .map(|place| place as usize)
     }
 }
 

@@ -22,8 +22,9 @@ ghost use Rattle.bt_picker.specs.Tables.{AreAskers, AreCounted, AreTables, asks_
 ghost use Rattle.bt_picker.specs.Tables.{PieceState, TablesState, after_arrival, after_check, after_next, announced, cancel_row, late_row};
 ghost use Rattle.bt_picker.specs.Tables.{edit, empty_cell, failed_row, entered_call, fresh_peer, fresh_piece, have_row, join_row};
 ghost use Rattle.bt_picker.specs.Tables.{choke_row, unchoke_row, less_available, lowered, lowered_by, more_available, peer_row, piece_row};
-ghost use Rattle.bt_picker.specs.Tables.{place_after, recounted, released, reshown, rewanted, wanted_by, with_block, with_peer, without_block};
+ghost use Rattle.bt_picker.specs.Tables.{recounted, released, reshown, rewanted, wanted_by, with_block, with_peer, without_block};
 
+use crate::cell::HELD;
 use crate::floors::Floors;
 use crate::past::Past;
 use crate::peer::Peer;
@@ -82,14 +83,15 @@ impl Model for Tables {
 }
 
 impl Tables {
-    /// The tables of an empty journal.
+    /// The tables of an empty history, of fewer workers than a block's cell can count.
     pub fn new(
         alloc: Global,
         torrent: Arc<Torrent>,
         workers: u32,
         rules: Rules,
     ) -> Result<Tables, AllocError>
-        requires { rules.depth ≤ MOST_DEPTH }
+        requires depth { rules.depth ≤ MOST_DEPTH }
+        requires workers { workers < HELD }
         ensures setting { IfOk result (λ t. t.setting ≡ setting_of torrent.value.layout workers rules) }
         ensures are { IfOk result (λ t. AreTables t []) }
     {
@@ -260,9 +262,8 @@ impl Tables {
             && self.pieces.group_of(piece) >= UNBEGUN
     }
 
-    /// Enters what the worker told, with its reply: `past` has the entries before it, so many.
-    pub fn enter(&mut self, past: &Past, place: u32, worker: u32, told: &Told<'_>, reply: Reply)
-        requires place { place ≡ place_after past.now.entries }
+    /// Enters what the worker told, with its reply: `past` has the entries before it.
+    pub fn enter(&mut self, past: &Past, worker: u32, told: &Told<'_>, reply: Reply)
         requires are { AreTables self.old past.now.entries }
         requires allowed { IsAllowed self.old.setting past.now.entries (telling worker told.now reply) }
         ensures are { AreTables self.new (telling worker told.now reply ∷ past.now.entries) }
@@ -285,7 +286,7 @@ impl Tables {
                 self.put_next(worker, reply);
             }
             Told::Arrived { piece, begin, .. } => {
-                self.put_arrival(worker, *piece, *begin, place, reply);
+                self.put_arrival(worker, *piece, *begin, reply);
             }
             Told::Leave => self.leave(worker),
             Told::Want(flags) => self.put_want(flags),
@@ -433,32 +434,32 @@ impl Tables {
         self.peers.cancel(worker, block);
     }
 
-    /// Block `index` of the piece is held now, stored by the entry that so many are older than.
-    fn put_block(&mut self, worker: u32, piece: u32, index: u32, older: u32)
+    /// Block `index` of the piece is held now, brought by the worker's peer.
+    fn put_block(&mut self, worker: u32, piece: u32, index: u32)
         requires worker { worker < length self.old.peers }
         requires stored { HasBlock self.old piece index }
         requires begin { block_size * index < 2 ^ 32 }
         requires askers { AreAskers self.old piece index }
         requires room { EachIndex self.old.peers
             (λ q. length (peer_row self.old.peers q).asked + length (peer_row self.old.peers q).due ≤ MOST_DEPTH) }
-        ensures { self.new ≡ with_block self.old worker piece index older }
+        ensures { self.new ≡ with_block self.old worker piece index }
     {
         let askers = self.pieces.row(piece).cell(index).askers();
         self.peers.forget(worker, piece, BLOCK_SIZE * index, askers);
-        self.pieces.apply(piece, Change::Store(index, older));
+        self.pieces.apply(piece, Change::Store(index));
     }
 
-    /// Puts an arrival in, where so many entries are older than it.
-    fn put_arrival(&mut self, worker: u32, piece: u32, begin: u32, older: u32, reply: Reply)
+    /// Puts an arrival in, by its reply.
+    fn put_arrival(&mut self, worker: u32, piece: u32, begin: u32, reply: Reply)
         requires worker { worker < length self.old.peers }
         requires stored { IsTrue (stores reply) → HasBlock self.old piece (begin / block_size) }
         requires askers { IsTrue (stores reply) → AreAskers self.old piece (begin / block_size) }
         requires room { EachIndex self.old.peers
             (λ q. length (peer_row self.old.peers q).asked + length (peer_row self.old.peers q).due ≤ MOST_DEPTH) }
-        ensures { self.new ≡ after_arrival self.old worker piece begin older reply }
+        ensures { self.new ≡ after_arrival self.old worker piece begin reply }
     {
         if reply.is_stored() {
-            self.put_block(worker, piece, begin / BLOCK_SIZE, older);
+            self.put_block(worker, piece, begin / BLOCK_SIZE);
         }
         self.note_arrival(worker);
     }

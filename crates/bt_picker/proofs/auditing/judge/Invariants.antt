@@ -4,4 +4,4 @@ use Rattle.bt_picker.proofs.Audited.{Audited}
 use Rattle.bt_picker.proofs.auditing.judge.Given as goal
 
 abbrev pub invariant-loop-place : goal.invariant-loop-place
-invariant-loop-place l = Audited l.initial.tables.setting l.tables l.past.entries (history_of (take l.place l.entries))
+invariant-loop-place l = Audited l.initial.tables.setting l.tables l.places l.past.entries (history_of (take l.place l.entries))

@@ -16,8 +16,8 @@ invariant_of-self c =
     let kept = same_shows o.floors o.peers (table n row) o.pieces c.self.invariant (length_table n row)
     (λ q lq. ap (λ (r : PeerState). r.shows) (get_or_table n row q (fresh_peer 0) lq)) in
     rw (c.forget.ensures, c.apply.ensures)
-    (edit_stale o.floors (table n row) o.pieces p (stored_row c.args.index c.args.older) kept at_place.has_piece
-    (stored_stale (piece_row o.pieces p) c.args.index c.args.older at_place.has_cell))
+    (edit_stale o.floors (table n row) o.pieces p (stored_row c.args.index) kept at_place.has_piece
+    (stored_stale (piece_row o.pieces p) c.args.index at_place.has_cell))
 
 pub returns : goal.returns
 returns c = rw (← c.self.view_is, c.forget.ensures, c.apply.ensures) refl
