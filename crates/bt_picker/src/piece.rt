@@ -106,6 +106,7 @@ impl Piece {
     }
 
     /// What the row amounts to, of a piece that so many peers show.
+    #[inline(always)]
     pub fn standing(&self, shown_by: u32) -> Standing
         ensures is { result ≡ standing_of (shown_row shown_by self.now) }
         ensures few { result.group < GROUPS }
@@ -124,6 +125,7 @@ impl Piece {
     }
 
     /// The group of a piece that so many peers show.
+    #[inline(always)]
     fn group(&self, shown_by: u32) -> u32
         ensures is { result ≡ group_of_row (shown_row shown_by self.now) }
         ensures few { result < GROUPS }
@@ -195,6 +197,7 @@ impl Piece {
     }
 
     /// Changes the row.
+    #[inline(always)]
     pub fn apply(&mut self, change: Change)
         requires { HasRoomOf change self.old }
         ensures { self.new ≡ changed_row change self.old }
@@ -249,6 +252,7 @@ impl Piece {
     }
 
     /// The block's cell is this now.
+    #[inline(always)]
     fn put(&mut self, index: u32, cell: Cell)
         requires { index < length self.old.blocks }
         ensures { self.new ≡ record self.old { blocks = slice_set self.old.blocks index (cell_kept cell) } }

@@ -145,6 +145,7 @@ impl Pieces {
     }
 
     /// Changes the row of the piece, and puts the piece where it stands then.
+    #[inline(always)]
     pub fn apply(&mut self, piece: u32, change: Change)
         requires piece { piece < length self.old }
         requires fits { HasRoomOf change (piece_row self.old piece) }

@@ -146,6 +146,7 @@ impl Shelf {
     }
 
     /// A piece that stood like this stands like that now.
+    #[inline(always)]
     pub fn put(&mut self, piece: u32, before: Standing, after: Standing)
         requires piece { piece < length self.old.groups }
         requires before { before.group ≡ at self.old.groups piece }
