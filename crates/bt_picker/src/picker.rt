@@ -189,6 +189,7 @@ impl Picker {
 
     /// Answers what a worker tells of its peer, by the rules. It takes no memory, and nothing that is lent is kept. A number that is no
     /// worker's is refused, and leaves no entry.
+    #[inline(always)]
     pub fn tell(&mut self, worker: u32, told: Told<'_>) -> Reply
         ensures tells { Tells self.old self.new (telling worker told.entry result) }
         // Once its last block came, a piece waits for its check.
@@ -222,6 +223,7 @@ impl Picker {
     }
 
     /// Answers what the worker tells.
+    #[inline(always)]
     fn hear(&mut self, worker: u32, told: &Told<'_>) -> Reply
         requires { worker < self.old.setting.workers }
         ensures gains { Gains self.old self.new (telling worker told.now result) }

@@ -263,6 +263,7 @@ impl Tables {
     }
 
     /// Enters what the worker told, with its reply: `past` has the entries before it.
+    #[inline(always)]
     pub fn enter(&mut self, past: &Past, worker: u32, told: &Told<'_>, reply: Reply)
         requires are { AreTables self.old past.now.entries }
         requires allowed { IsAllowed self.old.setting past.now.entries (telling worker told.now reply) }
