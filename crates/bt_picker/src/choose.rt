@@ -12,7 +12,7 @@ ghost use Rattle.bt_order.specs.Risings.{Rises};
 ghost use Rattle.bt_picker.specs.Standings.{FindsAmong, FindsListed, FindsRarest, groups_of, IsRarer};
 ghost use Rattle.bt_picker.specs.Search.{Finds, FindsLeast, FindsOf, IsRuling, rank_of};
 
-use crate::piece::{ASKED_OUT, CROWD, OPEN, UNBEGUN};
+use crate::piece::{ASKED_OUT, CROWD, OPEN, RESTING, UNBEGUN};
 use crate::position::Position;
 use crate::ruling::Ruling;
 use bt_history::Reply;
@@ -104,7 +104,7 @@ impl<'a> Position<'a> {
     }
 
     /// The candidate to begin where the rarest come first: of those that rank first the nearest from `first` on, which no contract says.
-    fn rarest(&self, worker: u32, first: u32) -> Option<u32>
+    pub(crate) fn rarest(&self, worker: u32, first: u32) -> Option<u32>
         requires worker { worker < self.now.setting.workers }
         requires first { first ≤ piece_count self.now.setting.torrent }
         ensures least { FindsLeast (is_candidate self.now.setting self.now.history worker)
@@ -211,6 +211,70 @@ impl<'a> Position<'a> {
         }
     }
 
+    /// The candidate to begin where any may be: the nearest from `first` on, which no contract says. While many pieces are unbegun a walk
+    /// soon meets one, and once few are their lists are short.
+    fn nearest(&self, worker: u32, first: u32) -> Option<u32>
+        requires worker { worker < self.now.setting.workers }
+        requires first { first ≤ piece_count self.now.setting.torrent }
+        ensures some { IfSome result (λ p. (p < piece_count self.now.setting.torrent)
+            × IsTrue (is_candidate self.now.setting self.now.history worker p)) }
+        ensures none { IfNone result ((p : ℕ) → p < piece_count self.now.setting.torrent →
+            is_candidate self.now.setting self.now.history worker p ≡ false) }
+    {
+        let steps = self.unbegun_count();
+        let ahead = steps.min(self.piece_count() - first);
+        if let Some(piece) = self.first_candidate(worker, first, first + ahead) {
+            return Some(piece);
+        }
+        if let Some(piece) = self.first_candidate(worker, 0, steps.min(first)) {
+            return Some(piece);
+        }
+        match self.rarest(worker, first) {
+            Some(piece) => Some(self.nearest_listed(worker, piece, first)),
+            None => None,
+        }
+    }
+
+    /// At least so many pieces are neither begun nor at rest: all but those in the first three groups.
+    fn unbegun_count(&self) -> u32 {
+        let begun = self.group(ASKED_OUT).len().saturating_add(self.group(OPEN).len());
+        let others = self.group(RESTING).len().saturating_add(begun);
+        (self.piece_count() as usize).saturating_sub(others) as u32
+    }
+
+    /// Of the unbegun pieces that the peer shows, and of this one, the first from `first` on, or else the first of all.
+    fn nearest_listed(&self, worker: u32, piece: u32, first: u32) -> u32
+        requires worker { worker < self.now.setting.workers }
+        requires within { piece < piece_count self.now.setting.torrent }
+        requires candidate { IsTrue (is_candidate self.now.setting self.now.history worker piece) }
+        ensures within { result < piece_count self.now.setting.torrent }
+        ensures candidate { IsTrue (is_candidate self.now.setting self.now.history worker result) }
+    {
+        let mut nearest = piece;
+        for shown_by in self.floor(worker)..self.workers().min(CROWD - 1) + 1 {
+            nearest = self.nearer_of(worker, nearest, self.group(UNBEGUN + shown_by), first);
+        }
+        nearest
+    }
+
+    /// Of these pieces that may be begun at the peer, and of the one found before, the first from `first` on, or else the first of all.
+    fn nearer_of(&self, worker: u32, found: u32, pieces: &[u32], first: u32) -> u32
+        requires worker { worker < self.now.setting.workers }
+        requires pieces { (i : ℕ) → i < length pieces.now → at pieces.now i < piece_count self.now.setting.torrent }
+        requires within { found < piece_count self.now.setting.torrent }
+        requires candidate { IsTrue (is_candidate self.now.setting self.now.history worker found) }
+        ensures within { result < piece_count self.now.setting.torrent }
+        ensures candidate { IsTrue (is_candidate self.now.setting self.now.history worker result) }
+    {
+        let mut nearest = found;
+        for piece in pieces {
+            if comes_before(*piece, nearest, first) && self.is_candidate(worker, *piece) {
+                nearest = *piece;
+            }
+        }
+        nearest
+    }
+
     /// Whether it is known that nothing may be begun at the peer: no piece is shown by as many peers as its floor says.
     fn shows_no_candidate(&self, worker: u32) -> bool
         requires { worker < self.now.setting.workers }
@@ -235,10 +299,7 @@ impl<'a> Position<'a> {
         if rare {
             return self.rarest(worker, first);
         }
-        if let Some(piece) = self.first_candidate(worker, first, count) {
-            return Some(piece);
-        }
-        self.first_candidate(worker, 0, first)
+        self.nearest(worker, first)
     }
 
     /// How many pieces are had.
