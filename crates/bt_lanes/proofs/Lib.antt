@@ -1,0 +1,2 @@
+pub mod RoundsLemmas
+pub mod VectorLemmas
