@@ -1,2 +1,3 @@
+pub mod HoldingLemmas
 pub mod RoundsLemmas
 pub mod VectorLemmas

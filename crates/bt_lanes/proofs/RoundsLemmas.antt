@@ -2,29 +2,25 @@
 use Rattle.std.proofs.Common.{◌≡◌, ℕ, ◌+◌, ◌∙◌, sym, List, slice_index, slice_index_or, [], arith, refl}
 use Rattle.sha1.specs.Sha1.{round_fn}
 use Rattle.sha1.proofs.Schedule.{IsRoundsAt_at}
-use Rattle.bt_lanes.specs.Lanes.{lane}
+use Rattle.bt_lanes.specs.Lanes.{lane, variables}
+use Rattle.bt_lanes.specs.declared.words.Variables.{Variables}
 use Rattle.bt_lanes.specs.Rounds.{TakesRounds}
 use Rattle.bt_lanes.proofs.VectorLemmas.{slice_index-lane}
 
--- the round function f of round t reads the lane's variables b, c and d
-pub round_fn-lane : (f : ℕ → ℕ → ℕ → ℕ) (j : ℕ) (v : List (List ℕ)) (t r : ℕ) → ((x y z : ℕ) → round_fn t x y z ≡ f x y z)
-    → r ≡ f (slice_index (slice_index_or v 1 []) j) (slice_index (slice_index_or v 2 []) j) (slice_index (slice_index_or v 3 []) j)
-    → r ≡ round_fn t (slice_index (lane j v) 1) (slice_index (lane j v) 2) (slice_index (lane j v) 3)
-round_fn-lane f j v t r same e =
-    e ∙ sym (same _ _ _) ∙ rw (slice_index-lane j v 1, slice_index-lane j v 2, slice_index-lane j v 3) refl
-
 -- no round
-pub TakesRounds_none : (w v : List (List ℕ)) (t : ℕ) → TakesRounds w v w v t t
+pub TakesRounds_none : (w : List (List ℕ)) (v : Variables) (t : ℕ) → TakesRounds w v w v t t
 TakesRounds_none w v t = λ j b h lt held. held
 
 -- rounds, and then further ones
-pub TakesRounds_then : (w v w1 v1 w2 v2 : List (List ℕ)) (s t t' u : ℕ) → TakesRounds w v w1 v1 s t → t ≡ t'
+pub TakesRounds_then : (w : List (List ℕ)) (v : Variables) (w1 : List (List ℕ)) (v1 : Variables) (w2 : List (List ℕ)) (v2 : Variables) (s t t' u : ℕ) → TakesRounds w v w1 v1 s t → t ≡ t'
     → TakesRounds w1 v1 w2 v2 t' u → TakesRounds w v w2 v2 s u
 TakesRounds_then w v w1 v1 w2 v2 s t t' u first e second = λ j b h lt held.
-    second j b h lt (IsRoundsAt_at b h (lane j w1) (lane j v1) t t' e (first j b h lt held))
+    second j b h lt (IsRoundsAt_at b h (lane j w1) (variables j v1) t t' e (first j b h lt held))
 
 -- five rounds more
-pub TakesRounds_five : (w v w0 v0 w1 v1 w2 v2 w3 v3 w4 v4 w5 v5 : List (List ℕ)) (s t u : ℕ) → TakesRounds w v w0 v0 s t
+pub TakesRounds_five : (w : List (List ℕ)) (v : Variables) (w0 : List (List ℕ)) (v0 : Variables) (w1 : List (List ℕ)) (v1 : Variables)
+    (w2 : List (List ℕ)) (v2 : Variables) (w3 : List (List ℕ)) (v3 : Variables) (w4 : List (List ℕ)) (v4 : Variables)
+    (w5 : List (List ℕ)) (v5 : Variables) (s t u : ℕ) → TakesRounds w v w0 v0 s t
     → TakesRounds w0 v0 w1 v1 t (t + 1) → TakesRounds w1 v1 w2 v2 (t + 1) (t + 1 + 1)
     → TakesRounds w2 v2 w3 v3 (t + 2) (t + 2 + 1) → TakesRounds w3 v3 w4 v4 (t + 3) (t + 3 + 1)
     → TakesRounds w4 v4 w5 v5 (t + 4) (t + 4 + 1) → t + 5 ≡ u → TakesRounds w v w5 v5 s u

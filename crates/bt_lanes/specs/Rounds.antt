@@ -1,10 +1,11 @@
 -- What a run of rounds does in each lane.
 use Rattle.std.specs.Prelude.{ℕ, List, ◌<◌}
 use Rattle.sha1.specs.Sha1.{IsRoundsAt}
-use Rattle.bt_lanes.specs.Lanes.{lane}
+use Rattle.bt_lanes.specs.Lanes.{lane, variables}
+use Rattle.bt_lanes.specs.declared.words.Variables.{Variables}
 
 -- in each lane the rounds from t on, up to u, lead from the window w and the variables v to w' and v',
 -- whatever the block and the hash value before it
-abbrev pub TakesRounds : List (List ℕ) → List (List ℕ) → List (List ℕ) → List (List ℕ) → ℕ → ℕ → Type 0
+abbrev pub TakesRounds : List (List ℕ) → Variables → List (List ℕ) → Variables → ℕ → ℕ → Type 0
 TakesRounds w v w' v' t u = (j : ℕ) (b h : List ℕ) → j < 4
-    → IsRoundsAt b h (lane j w) (lane j v) t → IsRoundsAt b h (lane j w') (lane j v') u
+    → IsRoundsAt b h (lane j w) (variables j v) t → IsRoundsAt b h (lane j w') (variables j v') u

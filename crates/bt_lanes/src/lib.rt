@@ -2,4 +2,8 @@
 #![tactic(auto)]
 
 mod compress;
+mod four;
+mod tails;
 mod words;
+
+pub use four::{FourDigests, hash_four};

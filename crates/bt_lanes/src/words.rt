@@ -3,9 +3,19 @@
 ghost use Rattle.std.specs.Prelude.{◌≡◌, ℕ, ◌+◌, ◌<◌, ◌≤◌, bit_xor, length, slice_index};
 ghost use Rattle.std.specs.Int.{w32, rotate_left};
 ghost use Rattle.sha1.specs.Sha1.{add32, add_state, ch, parity, maj, word_at, round};
-ghost use Rattle.bt_lanes.specs.Lanes.{lane, bytes_of};
+ghost use Rattle.bt_lanes.specs.Lanes.{variables, bytes_of};
 
 use std::simd::u32x4;
+
+/// The working variables of each lane, or its hash value.
+#[derive(Clone, Copy)]
+pub struct Variables {
+    pub a: u32x4,
+    pub b: u32x4,
+    pub c: u32x4,
+    pub d: u32x4,
+    pub e: u32x4,
+}
 
 #[inline(always)]
 fn add(x: u32x4, y: u32x4) -> u32x4
@@ -82,26 +92,30 @@ pub fn load(a: &[u8], b: &[u8], c: &[u8], d: &[u8], i: usize) -> u32x4
 
 /// One round, whose function gave `f`.
 #[inline(always)]
-pub fn round(v: [u32x4; 5], f: u32x4, k: u32, word: u32x4) -> [u32x4; 5]
+pub fn round(v: Variables, f: u32x4, k: u32, word: u32x4) -> Variables
     ensures { (j : ℕ) → j < 4
-        → lane j result ≡ round (lane j v) (slice_index f j) k (slice_index word j) }
+        → variables j result ≡ round (variables j v) (slice_index f j) k (slice_index word j) }
 {
-    let [a, b, c, d, e] = v;
-    let sum = add(add(rotate_left(a, 5), f), e);
-    let next = add(add(sum, u32x4::splat(k)), word);
-    [next, a, rotate_left(b, 30), c, d]
+    let sum = add(add(rotate_left(v.a, 5), f), v.e);
+    Variables {
+        a: add(add(sum, u32x4::splat(k)), word),
+        b: v.a,
+        c: rotate_left(v.b, 30),
+        d: v.c,
+        e: v.d,
+    }
 }
 
 /// The hash value with the rounds' result added to it.
 #[inline(always)]
-pub fn add_state(h: [u32x4; 5], v: [u32x4; 5]) -> [u32x4; 5]
-    ensures { (j : ℕ) → j < 4 → lane j result ≡ add_state (lane j h) (lane j v) }
+pub fn add_state(h: Variables, v: Variables) -> Variables
+    ensures { (j : ℕ) → j < 4 → variables j result ≡ add_state (variables j h) (variables j v) }
 {
-    [
-        add(h[0], v[0]),
-        add(h[1], v[1]),
-        add(h[2], v[2]),
-        add(h[3], v[3]),
-        add(h[4], v[4]),
-    ]
+    Variables {
+        a: add(h.a, v.a),
+        b: add(h.b, v.b),
+        c: add(h.c, v.c),
+        d: add(h.d, v.d),
+        e: add(h.e, v.e),
+    }
 }
