@@ -4,6 +4,8 @@
 mod compress;
 mod four;
 mod tails;
+#[cfg(test)]
+mod tests;
 mod words;
 
 pub use four::{FourDigests, hash_four};
