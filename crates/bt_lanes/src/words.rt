@@ -82,12 +82,7 @@ pub fn load(a: &[u8], b: &[u8], c: &[u8], d: &[u8], i: usize) -> u32x4
     ensures { (j : ℕ) → j < 4
         → slice_index result j ≡ word_at (bytes_of j a.now b.now c.now d.now) i }
 {
-    u32x4::from_array([
-        load_be(a, i),
-        load_be(b, i),
-        load_be(c, i),
-        load_be(d, i),
-    ])
+    u32x4::from_array([load_be(a, i), load_be(b, i), load_be(c, i), load_be(d, i)])
 }
 
 /// One round, whose function gave `f`.

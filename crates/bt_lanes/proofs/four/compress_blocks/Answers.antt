@@ -1,4 +1,4 @@
-use Rattle.std.proofs.Common.{◌≡◌, ◌+◌, ◌-◌, ◌*◌, ◌/◌, length, ◌∙◌, ap, refl, arith}
+use Rattle.std.proofs.Common.{◌≡◌, ◌+◌, ◌-◌, ◌*◌, ◌/◌, length, arith}
 use Rattle.sha1.proofs.Absorbing.{IsAbsorbed_block}
 use Rattle.bt_lanes.specs.Lanes.{bytes_of, variables}
 use Rattle.bt_lanes.proofs.HoldingLemmas.{bytes_of-block, length-bytes_of}

@@ -1,4 +1,4 @@
-use Rattle.std.proofs.Common.{rules, ◌≡◌, ◌*◌, sym, ◌∙◌, arith}
+use Rattle.std.proofs.Common.{rules, ◌≡◌, sym, ◌∙◌, arith}
 use Rattle.std.proofs.lemmas.List.{take_all}
 use Rattle.std.proofs.lemmas.Slice.{overwrites}
 use Rattle.sha1.specs.Sha1.{digest_bytes}

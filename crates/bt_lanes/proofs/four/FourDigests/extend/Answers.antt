@@ -1,4 +1,4 @@
-use Rattle.std.proofs.Common.{◌≡◌, ◌-◌, ◌*◌, ◌/◌, length, take, drop, refl, arith, length-drop}
+use Rattle.std.proofs.Common.{◌≡◌, ◌-◌, ◌*◌, ◌/◌, length, take, drop, refl, length-drop}
 use Rattle.std.proofs.lemmas.List.{take_rest}
 use Rattle.bt_lanes.specs.Lanes.{bytes_of, variables}
 use Rattle.bt_lanes.specs.Holding.{tail_of}

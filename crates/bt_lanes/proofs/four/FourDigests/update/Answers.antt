@@ -1,7 +1,7 @@
-use Rattle.std.proofs.Common.{◌≡◌, ◌+◌, ◌-◌, ◌%◌, ◌^◌, ◌≤◌, ◌++◌, length, take, drop, refl, ◌∙◌, arith, length-append}
+use Rattle.std.proofs.Common.{◌≡◌, ◌-◌, ◌%◌, ◌^◌, ◌≤◌, ◌++◌, length, take, refl, ◌∙◌, arith, length-append}
 use Rattle.std.proofs.lemmas.List.{length-take-le}
 use Rattle.bt_lanes.specs.Lanes.{bytes_of, variables}
-use Rattle.bt_lanes.specs.Holding.{tail_of, Absorbs}
+use Rattle.bt_lanes.specs.Holding.{tail_of}
 use Rattle.bt_lanes.proofs.HoldingLemmas.{IsAbsorbed_put, Holds_append, HoldsIn_append, append-parts, bytes_of-front, bytes_of-rest, length-bytes_of}
 use Rattle.bt_lanes.proofs.four.FourDigests.update.Goals as goal
 
