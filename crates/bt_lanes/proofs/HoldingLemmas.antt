@@ -1,5 +1,6 @@
 -- How the lanes follow four messages as they grow.
-use Rattle.std.proofs.Common.{◌≡◌, ℕ, ◌+◌, ◌-◌, ◌*◌, ◌/◌, ◌%◌, ◌^◌, ◌<◌, List, ◌∷◌, ◌++◌, length, take, drop, replicate, refl, sym, ap, ◌∙◌, arith, length-append, length-drop}
+use Rattle.std.proofs.Common.{◌≡◌, ℕ, ◌+◌, ◌-◌, ◌*◌, ◌/◌, ◌%◌, ◌^◌, ◌<◌, ◌≤◌, List, ◌∷◌, ◌++◌, length, take, drop, replicate}
+use Rattle.std.proofs.Common.{refl, sym, ap, ◌∙◌, arith, length-append, length-drop}
 use Rattle.std.proofs.lemmas.List.{append_assoc, take-append-drop, take_all, take_rest, length-take-le}
 use Rattle.std.specs.Int.{w64, to_be_bytes}
 use Rattle.sha1.specs.Sha1.{IsAbsorbed, padded_message, digest_bytes, compress, sha1}
@@ -7,28 +8,7 @@ use Rattle.sha1.proofs.Absorbing.{IsAbsorbed_short, IsAbsorbed_fill, total_appen
 use Rattle.bt_lanes.specs.Lanes.{bytes_of, variables}
 use Rattle.bt_lanes.specs.Holding.{Absorbs, HoldsIn, Holds}
 use Rattle.bt_lanes.specs.declared.four.FourDigests.{FourDigests}
-use Rattle.bt_lanes.proofs.VectorLemmas.{below_four}
-
--- pieces of one length
-pub length-bytes_of : (a b c d : List ℕ) → length b ≡ length a → length c ≡ length a → length d ≡ length a
-    → (j : ℕ) → j < 4 → length (bytes_of j a b c d) ≡ length a
-length-bytes_of a b c d = below_four (λ j. length (bytes_of j a b c d) ≡ length a) refl
-
--- n bytes of each lane
-pub bytes_of-block : (at n : ℕ) (a b c d : List ℕ) (j : ℕ) → j < 4
-    → bytes_of j (take n (drop at a)) (take n (drop at b)) (take n (drop at c)) (take n (drop at d)) ≡ take n (drop at (bytes_of j a b c d))
-bytes_of-block at n a b c d = below_four _ refl refl refl refl
-
--- the bytes of each lane from one on
-pub bytes_of-rest : (at : ℕ) (a b c d : List ℕ) (j : ℕ) → j < 4
-    → bytes_of j (take (length a - at) (drop at a)) (take (length b - at) (drop at b)) (take (length c - at) (drop at c)) (take (length d - at) (drop at d))
-    ≡ drop at (bytes_of j a b c d)
-bytes_of-rest at a b c d = below_four _ (take_rest a at) (take_rest b at) (take_rest c at) (take_rest d at)
-
--- the bytes of each lane up to one
-pub bytes_of-front : (at : ℕ) (a b c d : List ℕ) (j : ℕ) → j < 4
-    → bytes_of j (take at a) (take at b) (take at c) (take at d) ≡ take at (bytes_of j a b c d)
-bytes_of-front at a b c d = below_four _ refl refl refl refl
+use Rattle.bt_lanes.proofs.PieceLemmas.{bytes_of-front, bytes_of-rest, length-bytes_of, append-parts}
 
 -- bytes that leave the tail short of a block
 pub IsAbsorbed_put : (h b c m d : List ℕ) (at n : ℕ) → IsAbsorbed h b m → at ≡ length m % 64 → length d ≡ n → at + n < 64
@@ -44,32 +24,52 @@ IsAbsorbed_full h b c m d n held full long whole e =
     let all : take (64 - n + n) c ≡ c = take_all (64 - n + n) c (omega arith) in
     IsAbsorbed_fill h b c m d c held (omega arith) (rw at at (sym all ∙ e))
 
--- a message and two parts of a piece
-pub append-parts : (at : ℕ) (m d : List ℕ) → (m ++ take at d) ++ drop at d ≡ m ++ d
-append-parts at m d = append_assoc m (take at d) (drop at d) ∙ ap (λ x. m ++ x) (take-append-drop at d)
+-- the bytes behind the last whole block of a lane's piece
+module _ (a b c d : List ℕ) (j : ℕ) (lt : j < 4) (long : length (bytes_of j a b c d) ≡ length a) where
+  pub IsAbsorbed_rest : (h t t' m : List ℕ) (w : ℕ) → w ≡ 64 * (length a / 64) → length m % 64 ≡ 0
+      → IsAbsorbed h t (m ++ take w (bytes_of j a b c d))
+      → take (0 + length (take (length a - w) (drop w a))) t' ≡ take 0 t
+      ++ bytes_of j (take (length a - w) (drop w a)) (take (length b - w) (drop w b)) (take (length c - w) (drop w c)) (take (length d - w) (drop w d))
+      → IsAbsorbed h t' (m ++ bytes_of j a b c d)
+  IsAbsorbed_rest h t t' m w blocks edge held e =
+      let bytes = bytes_of j a b c d in
+      let front : length (m ++ take w bytes) ≡ length m + w = rw (length-append m (take w bytes), length-take-le w bytes (omega arith)) refl in
+      let left : length (drop w bytes) ≡ length (take (length a - w) (drop w a)) = rw (take_rest a w, length-drop w bytes, length-drop w a, long) refl in
+      rw (← append-parts w m bytes)
+      (IsAbsorbed_put h t t' (m ++ take w bytes) (drop w bytes) 0 _ held (omega arith) left (omega (arith, length-drop w bytes))
+      (rw (← bytes_of-rest w a b c d j lt) e))
 
--- the bytes behind the last whole block
-pub IsAbsorbed_rest : (h b c m d : List ℕ) (w n : ℕ) → IsAbsorbed h b (m ++ take w d) → length m % 64 ≡ 0 → w ≡ 64 * (length d / 64)
-    → length (drop w d) ≡ n → take (0 + n) c ≡ take 0 b ++ drop w d → IsAbsorbed h c (m ++ d)
-IsAbsorbed_rest h b c m d w n held edge blocks long e =
-    let front : length (m ++ take w d) ≡ length m + w = length-append m (take w d) ∙ ap (λ k. length m + k) (length-take-le w d (omega arith)) in
-    rw (← append-parts w m d) (IsAbsorbed_put h b c (m ++ take w d) (drop w d) 0 n held (omega arith) long (omega (arith, length-drop w d)) e)
+  -- a message that a first part of the piece brings to whole blocks
+  pub edge-front : (m : List ℕ) (at : ℕ) → at ≤ length a → (length m + at) % 64 ≡ 0
+      → length (m ++ bytes_of j (take at a) (take at b) (take at c) (take at d)) % 64 ≡ 0
+  edge-front m at fits edge =
+      rw (bytes_of-front at a b c d j lt, length-append m (take at (bytes_of j a b c d)), length-take-le at (bytes_of j a b c d) (omega arith)) edge
 
--- what holds in each lane holds of the four
-pub Holds_append : (s s' : FourDigests) (a b c d : List ℕ)
-    → ((j : ℕ) (m : List ℕ) → j < 4 → HoldsIn s j m → HoldsIn s' j (m ++ bytes_of j a b c d))
+  -- a piece in two parts
+  pub Absorbs_parts : (s : FourDigests) (m : List ℕ) (at : ℕ)
+      → Absorbs s j ((m ++ bytes_of j (take at a) (take at b) (take at c) (take at d))
+      ++ bytes_of j (take (length a - at) (drop at a)) (take (length b - at) (drop at b)) (take (length c - at) (drop at c)) (take (length d - at) (drop at d)))
+      → Absorbs s j (m ++ bytes_of j a b c d)
+  Absorbs_parts s m at held =
+      rw (bytes_of-front at a b c d j lt, bytes_of-rest at a b c d j lt, append-parts at m (bytes_of j a b c d)) at held
+
+-- four messages that grow by pieces of one length
+pub Holds_append : (s s' : FourDigests) (a b c d : List ℕ) → length b ≡ length a → length c ≡ length a → length d ≡ length a
+    → s'.total ≡ (s.total + length a) % 2 ^ 64
+    → ((j : ℕ) (m : List ℕ) → j < 4 → length (bytes_of j a b c d) ≡ length a → s.total % 64 ≡ length m % 64 → Absorbs s j m
+    → Absorbs s' j (m ++ bytes_of j a b c d))
     → (k l m n : List ℕ) → Holds s k l m n → Holds s' (k ++ a) (l ++ b) (m ++ c) (n ++ d)
 unfolding Holds
-Holds_append s s' a b c d each k l m n held =
-    (each 0 k (omega arith) held.0, each 1 l (omega arith) held.1, each 2 m (omega arith) held.2, each 3 n (omega arith) held.3)
-
--- the count and the lane of a longer message
-pub HoldsIn_append : (s s' : FourDigests) (j t : ℕ) (m d : List ℕ) → HoldsIn s j m → length d ≡ t
-    → s'.total ≡ (s.total + t) % 2 ^ 64 → Absorbs s' j (m ++ d) → HoldsIn s' j (m ++ d)
-HoldsIn_append s s' j t m d held long total absorbed = (total_append s.total s'.total m d held.0 (rw long total), absorbed)
+Holds_append s s' a b c d lb lc ld total each k l m n held =
+    let lane : (j : ℕ) (x : List ℕ) → j < 4 → HoldsIn s j x → HoldsIn s' j (x ++ bytes_of j a b c d) =
+    λ j x lt before.
+        let long = length-bytes_of a b c d lb lc ld j lt in
+        let count : s.total ≡ length x % 2 ^ 64 = before.0 in
+        (total_append s.total s'.total x (bytes_of j a b c d) count (rw long total), each j x lt long (omega arith) before.1) in
+    (lane 0 k (omega arith) held.0, lane 1 l (omega arith) held.1, lane 2 m (omega arith) held.2, lane 3 n (omega arith) held.3)
 
 -- the digest of a lane, once its message was padded
-pub HoldsIn_digest : (s s' : FourDigests) (j : ℕ) (m p b : List ℕ) → HoldsIn s j m → HoldsIn s' j ((m ++ p) ++ b)
+HoldsIn_digest : (s s' : FourDigests) (j : ℕ) (m p b : List ℕ) → HoldsIn s j m → HoldsIn s' j ((m ++ p) ++ b)
     → p ≡ 0x80 ∷ replicate ((119 - s.total % 64) % 64) 0 → b ≡ to_be_bytes w64 (s.total * 8 % 2 ^ 64)
     → digest_bytes (variables j s'.hashes) 5 ≡ sha1 m
 unfolding sha1

@@ -1,7 +1,7 @@
 use Rattle.std.proofs.Common.{◌≡◌, ◌+◌, ◌-◌, ◌*◌, ◌/◌, length, arith}
 use Rattle.sha1.proofs.Absorbing.{IsAbsorbed_block}
 use Rattle.bt_lanes.specs.Lanes.{bytes_of, variables}
-use Rattle.bt_lanes.proofs.HoldingLemmas.{bytes_of-block, length-bytes_of}
+use Rattle.bt_lanes.proofs.PieceLemmas.{bytes_of-block, length-bytes_of}
 use Rattle.bt_lanes.proofs.four.compress_blocks.Goals as goal
 
 pub loop-i-preserved : goal.loop-i-preserved

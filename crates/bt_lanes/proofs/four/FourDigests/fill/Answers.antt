@@ -2,7 +2,8 @@ use Rattle.std.proofs.Common.{rules, ◌≡◌, length}
 use Rattle.bt_lanes.specs.Lanes.{bytes_of, variables}
 use Rattle.bt_lanes.specs.Holding.{tail_of}
 use Rattle.bt_lanes.proofs.VectorLemmas.{below_four}
-use Rattle.bt_lanes.proofs.HoldingLemmas.{IsAbsorbed_full, length-bytes_of}
+use Rattle.bt_lanes.proofs.HoldingLemmas.{IsAbsorbed_full}
+use Rattle.bt_lanes.proofs.PieceLemmas.{length-bytes_of}
 use Rattle.bt_lanes.proofs.four.FourDigests.fill.Goals as goal
 
 pub returns-clause-lanes : goal.returns-clause-lanes
