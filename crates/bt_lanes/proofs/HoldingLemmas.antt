@@ -1,7 +1,7 @@
 -- How the lanes follow four messages as they grow.
 use Rattle.std.proofs.Common.{◌≡◌, ℕ, ◌+◌, ◌-◌, ◌*◌, ◌/◌, ◌%◌, ◌^◌, ◌<◌, ◌≤◌, List, ◌∷◌, ◌++◌, length, take, drop, replicate}
 use Rattle.std.proofs.Common.{refl, sym, ap, ◌∙◌, arith, length-append, length-drop}
-use Rattle.std.proofs.lemmas.List.{append_assoc, take-append-drop, take_all, take_rest, length-take-le}
+use Rattle.std.proofs.lemmas.List.{append_assoc, take_all, take_rest, length-take-le}
 use Rattle.std.specs.Int.{w64, to_be_bytes}
 use Rattle.sha1.specs.Sha1.{IsAbsorbed, padded_message, digest_bytes, compress, sha1}
 use Rattle.sha1.proofs.Absorbing.{IsAbsorbed_short, IsAbsorbed_fill, total_append}
@@ -29,12 +29,14 @@ module _ (a b c d : List ℕ) (j : ℕ) (lt : j < 4) (long : length (bytes_of j 
   pub IsAbsorbed_rest : (h t t' m : List ℕ) (w : ℕ) → w ≡ 64 * (length a / 64) → length m % 64 ≡ 0
       → IsAbsorbed h t (m ++ take w (bytes_of j a b c d))
       → take (0 + length (take (length a - w) (drop w a))) t' ≡ take 0 t
-      ++ bytes_of j (take (length a - w) (drop w a)) (take (length b - w) (drop w b)) (take (length c - w) (drop w c)) (take (length d - w) (drop w d))
+      ++ bytes_of j (take (length a - w) (drop w a)) (take (length b - w) (drop w b)) (take (length c - w) (drop w c))
+      (take (length d - w) (drop w d))
       → IsAbsorbed h t' (m ++ bytes_of j a b c d)
   IsAbsorbed_rest h t t' m w blocks edge held e =
       let bytes = bytes_of j a b c d in
       let front : length (m ++ take w bytes) ≡ length m + w = rw (length-append m (take w bytes), length-take-le w bytes (omega arith)) refl in
-      let left : length (drop w bytes) ≡ length (take (length a - w) (drop w a)) = rw (take_rest a w, length-drop w bytes, length-drop w a, long) refl in
+      let left : length (drop w bytes) ≡ length (take (length a - w) (drop w a)) =
+      rw (take_rest a w, length-drop w bytes, length-drop w a, long) refl in
       rw (← append-parts w m bytes)
       (IsAbsorbed_put h t t' (m ++ take w bytes) (drop w bytes) 0 _ held (omega arith) left (omega (arith, length-drop w bytes))
       (rw (← bytes_of-rest w a b c d j lt) e))
@@ -48,7 +50,8 @@ module _ (a b c d : List ℕ) (j : ℕ) (lt : j < 4) (long : length (bytes_of j 
   -- a piece in two parts
   pub Absorbs_parts : (s : FourDigests) (m : List ℕ) (at : ℕ)
       → Absorbs s j ((m ++ bytes_of j (take at a) (take at b) (take at c) (take at d))
-      ++ bytes_of j (take (length a - at) (drop at a)) (take (length b - at) (drop at b)) (take (length c - at) (drop at c)) (take (length d - at) (drop at d)))
+      ++ bytes_of j (take (length a - at) (drop at a)) (take (length b - at) (drop at b)) (take (length c - at) (drop at c))
+      (take (length d - at) (drop at d)))
       → Absorbs s j (m ++ bytes_of j a b c d)
   Absorbs_parts s m at held =
       rw (bytes_of-front at a b c d j lt, bytes_of-rest at a b c d j lt, append-parts at m (bytes_of j a b c d)) at held
@@ -63,9 +66,9 @@ unfolding Holds
 Holds_append s s' a b c d lb lc ld total each k l m n held =
     let lane : (j : ℕ) (x : List ℕ) → j < 4 → HoldsIn s j x → HoldsIn s' j (x ++ bytes_of j a b c d) =
     λ j x lt before.
-        let long = length-bytes_of a b c d lb lc ld j lt in
-        let count : s.total ≡ length x % 2 ^ 64 = before.0 in
-        (total_append s.total s'.total x (bytes_of j a b c d) count (rw long total), each j x lt long (omega arith) before.1) in
+    let long = length-bytes_of a b c d lb lc ld j lt in
+    let count : s.total ≡ length x % 2 ^ 64 = before.0 in
+    (total_append s.total s'.total x (bytes_of j a b c d) count (rw long total), each j x lt long (omega arith) before.1) in
     (lane 0 k (omega arith) held.0, lane 1 l (omega arith) held.1, lane 2 m (omega arith) held.2, lane 3 n (omega arith) held.3)
 
 -- the digest of a lane, once its message was padded

@@ -21,7 +21,8 @@ bytes_of-front at a b c d = below_four _ refl refl refl refl
 
 -- the bytes of each lane from one on
 pub bytes_of-rest : (at : ℕ) (a b c d : List ℕ) (j : ℕ) → j < 4
-    → bytes_of j (take (length a - at) (drop at a)) (take (length b - at) (drop at b)) (take (length c - at) (drop at c)) (take (length d - at) (drop at d))
+    → bytes_of j (take (length a - at) (drop at a)) (take (length b - at) (drop at b)) (take (length c - at) (drop at c))
+    (take (length d - at) (drop at d))
     ≡ drop at (bytes_of j a b c d)
 bytes_of-rest at a b c d = below_four _ (take_rest a at) (take_rest b at) (take_rest c at) (take_rest d at)
 

@@ -1,5 +1,6 @@
 -- What an operator on vectors of four words does in each lane.
-use Rattle.std.proofs.Common.{◌≡◌, ℕ, zero, suc, ◌<◌, ◌-◌, ◌*◌, ◌/◌, ◌%◌, ◌^◌, List, [], ◌∷◌, length, map, slice_index, slice_index_or, slice_set, bit_and, bit_or, bit_xor, arith, refl}
+use Rattle.std.proofs.Common.{◌≡◌, ℕ, zero, suc, ◌<◌, ◌-◌, ◌*◌, ◌/◌, ◌%◌, ◌^◌, List, [], ◌∷◌, length}
+use Rattle.std.proofs.Common.{map, slice_index, slice_index_or, slice_set, bit_and, bit_or, bit_xor, arith, refl}
 use Rattle.std.specs.Int.{w32, bit_not, rotate_left}
 use Rattle.std.specs.Simd.Lanes.{zip2}
 use Rattle.std.proofs.lemmas.List.{map-set, length-map}
