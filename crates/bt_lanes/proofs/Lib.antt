@@ -1,0 +1,4 @@
+pub mod HoldingLemmas
+pub mod PieceLemmas
+pub mod RoundsLemmas
+pub mod VectorLemmas
