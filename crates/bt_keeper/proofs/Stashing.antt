@@ -1,7 +1,7 @@
 -- What is kept of pieces that aren't had yet stays what is held of them, entry by entry.
-use Rattle.std.proofs.Common.{◌≡◌, ◌≢◌, ◌⊎◌, ◌==◌, ℕ, zero, suc, ◌+◌, ◌*◌, ◌/◌, ◌<◌, ◌≤◌, Bool, true, false, ◌||◌, ◌&&◌, List, [], ◌∷◌, Option, None, Some}
+use Rattle.std.proofs.Common.{◌≡◌, ◌≢◌, ◌==◌, ℕ, zero, suc, ◌*◌, ◌/◌, ◌<◌, ◌≤◌, Bool, true, false, ◌||◌, ◌&&◌, List, [], ◌∷◌, Option, None, Some}
 use Rattle.std.proofs.Common.{length, replicate, get_or, set, refl, ap, sym, ◌∙◌, subst, arith, ⊎_elim, length-set}
-use Rattle.std.specs.Prelude.{is_some, if◌then◌else◌, unwrap_or, slice_index_or}
+use Rattle.std.specs.Prelude.{if◌then◌else◌, slice_index_or}
 use Rattle.std.proofs.lemmas.Bool.{cases_eq, cases_lt, eq-eqb, ne_eqb, false≢true}
 use Rattle.std.proofs.lemmas.List.{get_or-replicate, get_or-set_other, get_or-set_same, length-replicate}
 use Rattle.std.proofs.Math.ListN.{get_or-eq_default}
@@ -9,11 +9,11 @@ use Rattle.bt_meta.specs.declared.block.Block.{Block}
 use Rattle.bt_meta.specs.Layout.{block, block_count, block_size, piece_count}
 use Rattle.bt_history.specs.declared.call.Reason.{Reason}
 use Rattle.bt_history.specs.declared.call.Reply.{Reply}
-use Rattle.bt_history.specs.declared.call.Reply.TheVariants.{Completed, Failed, Had, Refused, Stored}
+use Rattle.bt_history.specs.declared.call.Reply.TheVariants.{Completed, Refused, Stored}
 use Rattle.bt_history.specs.declared.event.Action.{Action}
 use Rattle.bt_history.specs.declared.event.Action.TheVariants.{Arrived, Bits, Choke, Have, Join, Leave, Next, Settle, Unchoke, Want}
 use Rattle.bt_history.specs.declared.event.Event.{Event}
-use Rattle.bt_history.specs.History.{History, bytes_for, failed, is_failed, is_had, passed, settles, stored, stores}
+use Rattle.bt_history.specs.History.{History, bytes_for, failed, is_failed, is_had, settles, stored, stores}
 use Rattle.bt_history.specs.Legal.{IsAllowed}
 use Rattle.bt_history.specs.Pieces.{content_of_block, had, kept}
 use Rattle.bt_history.specs.Setting.{Setting}
@@ -21,45 +21,8 @@ use Rattle.bt_history.proofs.Allowed.{no_cause}
 use Rattle.bt_history.proofs.Arrivals.{ArrivalFacts, arrival_facts}
 use Rattle.bt_picker.specs.Tables.{edit}
 use Rattle.bt_picker.proofs.Tabled.{get_or_edit_other, get_or_edit_same, length_edit}
+use Rattle.bt_keeper.proofs.BlockBytes.{lost_after, not_had, not_passed, same_after, stored_after}
 use Rattle.bt_keeper.specs.Stashes.{IsStash, Rows, restashed, stashed, with_room}
-
--- ---- what an entry makes of a block's bytes
-
--- where it neither stored the block nor failed its piece
-same_after : (h : History) (e : Event) (b : Block) → failed e b.piece ≡ false → stored e b ≡ None → content_of_block (e ∷ h) b ≡ content_of_block h b
-unfolding kept
-same_after h e b lasts none =
-    ap (λ (x : Bool). unwrap_or (if x then None else if is_some (stored e b) then stored e b else kept h b) []) lasts
-    ∙ ap (λ (o : Option (List ℕ)). unwrap_or (if is_some o then o else kept h b) []) none
-
--- where it stored the block
-stored_after : (h : History) (e : Event) (b : Block) (bytes : List ℕ) → failed e b.piece ≡ false → stored e b ≡ Some bytes
-    → content_of_block (e ∷ h) b ≡ bytes
-unfolding kept
-stored_after h e b bytes lasts some =
-    ap (λ (x : Bool). unwrap_or (if x then None else if is_some (stored e b) then stored e b else kept h b) []) lasts
-    ∙ ap (λ (o : Option (List ℕ)). unwrap_or (if is_some o then o else kept h b) []) some
-
--- where it failed the piece
-lost_after : (h : History) (e : Event) (b : Block) → failed e b.piece ≡ true → content_of_block (e ∷ h) b ≡ []
-unfolding kept
-lost_after h e b fails =
-    ap (λ (x : Bool). unwrap_or (if x then None else if is_some (stored e b) then stored e b else kept h b) []) fails
-
--- a piece that isn't had now was not had before
-not_had : (h : History) (e : Event) (p : ℕ) → had (e ∷ h) p ≡ false → had h p ≡ false
-unfolding had
-not_had h e p is = second (passed e p) (had h p) is where
-  second : (a b : Bool) → (a || b) ≡ false → b ≡ false
-  second true b is = absurd (false≢true (sym is))
-  second false b is = is
-
-not_passed : (h : History) (e : Event) (p : ℕ) → had (e ∷ h) p ≡ false → passed e p ≡ false
-unfolding had
-not_passed h e p is = first (passed e p) (had h p) is where
-  first : (a b : Bool) → (a || b) ≡ false → a ≡ false
-  first true b is = absurd (false≢true (sym is))
-  first false b is = refl
 
 -- ---- the rows
 

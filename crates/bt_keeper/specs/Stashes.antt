@@ -1,6 +1,6 @@
 -- The bytes that are kept of pieces that aren't had yet, beside a history. No public clause cites this module.
-use Rattle.std.specs.Prelude.{ℕ, ◌≡◌, ◌<◌, ◌/◌, ◌⊎◌, ◌||◌, Bool, false, List, [], ◌∷◌, length, replicate, slice_index_or, slice_set, if◌then◌else◌, ⊤}
-use Rattle.bt_meta.specs.Layout.{Layout, block, block_count, block_size, piece_count}
+use Rattle.std.specs.Prelude.{ℕ, ◌≡◌, ◌<◌, ◌/◌, ◌||◌, false, List, [], ◌∷◌, length, replicate, slice_index_or, slice_set, if◌then◌else◌}
+use Rattle.bt_meta.specs.Layout.{block, block_count, block_size, piece_count}
 use Rattle.bt_history.specs.declared.call.Reply.{Reply}
 use Rattle.bt_history.specs.declared.event.Action.{Action}
 use Rattle.bt_history.specs.declared.event.Action.TheVariants.{Arrived, Settle}
@@ -18,14 +18,14 @@ Rows = List (List (List ℕ))
 abbrev pub stashed : Rows → ℕ → ℕ → List ℕ
 stashed rows p k = slice_index_or (slice_index_or rows p []) k []
 
+-- the row, or this room where it is empty
+abbrev pub roomed : List (List ℕ) → List (List ℕ) → List (List ℕ)
+roomed [] room = room
+roomed (x ∷ xs) room = x ∷ xs
+
 -- the row, with room for n blocks
 abbrev pub with_room : ℕ → List (List ℕ) → List (List ℕ)
-with_room n [] = replicate n []
-with_room n (x ∷ xs) = x ∷ xs
-
--- the rows with room for the blocks of piece p
-abbrev pub roomy : Layout → Rows → ℕ → Rows
-roomy t rows p = edit rows p (with_room (block_count t p))
+with_room n row = roomed row (replicate n [])
 
 -- what is kept is what is held, of each piece that isn't had
 pub record IsStash (s : Setting) (h : History) (rows : Rows) : Type 0 where
@@ -44,9 +44,3 @@ restashed_by s rows reply action = rows
 -- the rows after one more entry
 abbrev pub restashed : Setting → Rows → Event → Rows
 restashed s rows e = restashed_by s rows e.reply e.action
-
--- the call brings no block and tells no check
-abbrev pub IsPlain : Action → Type 0
-IsPlain (Arrived p begin bytes) = ⊥
-IsPlain (Settle p bytes) = ⊥
-IsPlain action = ⊤

@@ -1,8 +1,12 @@
-//! A picker that keeps the bytes of held blocks in memory until their piece is had (a spike).
+//! A picker that holds the bytes of pieces begun, has them hashed, and hands out the blocks of each piece that is had.
 #![tactic(auto)]
 
 mod keeper;
+mod settled;
 mod stash;
 
+pub use bt_check::{Job, Verdict};
+pub use bt_history::{MOST_WORKERS, Reason, Reply, Rules};
+pub use bt_picker::Told;
 pub use keeper::Keeper;
-pub use stash::Stash;
+pub use settled::Settled;

@@ -1,15 +1,16 @@
-//! The bytes of the blocks that are held of pieces under way.
-ghost use Rattle.std.specs.Prelude.{◌≡◌, ◌<◌, [], length, replicate, slice_index_or, slice_set, IfOk, OnOk, OnErr};
+//! The bytes of the blocks that are held of pieces begun.
+ghost use Rattle.std.specs.Prelude.{◌≡◌, ◌<◌, [], length, replicate, slice_index_or, slice_set, IfOk};
+ghost use Rattle.bt_meta.specs.Layout.{block_count, piece_count};
 ghost use Rattle.bt_picker.specs.Tables.{edit};
-ghost use Rattle.bt_meta.specs.Layout.{piece_count};
-ghost use Rattle.bt_keeper.specs.Stashes.{roomy, stashed};
+ghost use Rattle.bt_keeper.specs.Stashes.{roomed, stashed};
 
 use bt_meta::Torrent;
 use bytes::Bytes;
 use std::alloc::{AllocError, Global};
 use std::marker::Model;
 
-/// For each piece the bytes of its blocks, or no list where none is kept.
+/// A row for each piece, in the order of the torrent, since a call names its piece. It has the bytes of each block, or none where the
+/// block isn't held. A piece of which nothing is held has an empty row, and so has each piece that is had.
 #[derive(Drop)]
 pub struct Stash {
     rows: Vec<Vec<Bytes>>,
@@ -24,11 +25,11 @@ impl Model for Stash {
 }
 
 impl Stash {
-    /// Nothing of so many pieces.
+    /// Empty rows for so many pieces.
     pub fn new(alloc: Global, pieces: u32) -> Result<Stash, AllocError>
         ensures { IfOk result (λ s. s ≡ replicate pieces []) }
     {
-        let mut rows = Vec::new(alloc);
+        let mut rows = Vec::with_capacity(alloc, pieces as usize)?;
         for piece in 0..pieces {
             let _piece = piece;
             rows.push(Vec::new(alloc))?;
@@ -36,72 +37,77 @@ impl Stash {
         Ok(Stash { rows })
     }
 
-    /// What is kept of the block.
-    pub fn bytes(&self, piece: u32, index: u32) -> &[u8]
-        ensures { result.now ≡ stashed self.now piece index }
+    /// The piece's row.
+    pub fn row(&self, piece: u32) -> &[Bytes]
+        ensures { result.now ≡ slice_index_or self.now piece [] }
     {
         match self.rows.get(piece as usize) {
-            Some(row) => block_of(row, index),
+            Some(row) => row.as_slice(),
             None => &[],
         }
     }
 
-    /// Makes room for the piece's blocks, where there is such a piece and no room.
-    pub fn make_room(
-        &mut self,
+    /// What is kept of the block.
+    pub fn bytes(&self, piece: u32, index: u32) -> &[u8]
+        ensures { result.now ≡ stashed self.now piece index }
+    {
+        match self.row(piece).get(index as usize) {
+            Some(bytes) => bytes.as_slice(),
+            None => &[],
+        }
+    }
+
+    /// Room for the piece's blocks, where there is such a piece and its row is empty. Nothing is changed.
+    pub fn room(
+        &self,
         alloc: Global,
         torrent: &Torrent,
         piece: u32,
-    ) -> Result<(), AllocError>
-        requires { length self.old ≡ piece_count torrent.now.layout }
-        ensures ok { OnOk result (self.new ≡ roomy torrent.now.layout self.old piece) }
-        ensures err { OnErr result (self.new ≡ self.old) }
+    ) -> Result<Vec<Bytes>, AllocError>
+        ensures { IfOk result (λ room. piece < piece_count torrent.now.layout → slice_index_or self.now piece [] ≡ []
+            → room.items ≡ replicate (block_count torrent.now.layout piece) []) }
     {
-        if piece >= torrent.piece_count() {
-            return Ok(());
+        if piece < torrent.piece_count() && self.row(piece).is_empty() {
+            Vec::from_elem(alloc, Bytes::new(), torrent.block_count(piece) as usize)
+        } else {
+            Ok(Vec::new(alloc))
         }
-        if self.rows[piece as usize].is_empty() {
-            self.rows[piece as usize] = empty_row(alloc, torrent.block_count(piece))?;
-        }
-        Ok(())
     }
 
-    /// Keeps the block's bytes.
-    pub fn put(&mut self, piece: u32, index: u32, bytes: Bytes)
+    /// Keeps the block's bytes. Where the piece's row is empty, this room becomes its row.
+    pub fn put(&mut self, piece: u32, room: Vec<Bytes>, index: u32, bytes: Bytes)
         requires piece { piece < length self.old }
-        requires index { index < length (slice_index_or self.old piece []) }
-        ensures { self.new ≡ edit self.old piece (λ row. slice_set row index bytes) }
+        requires index { index < length (roomed (slice_index_or self.old piece []) room.items) }
+        ensures { self.new ≡ edit self.old piece (λ row. slice_set (roomed row room.items) index bytes) }
     {
-        self.rows[piece as usize][index as usize] = bytes;
+        put_in(&mut self.rows[piece as usize], room, index, bytes);
     }
 
-    /// Keeps nothing more of the piece.
-    pub fn clear(&mut self, piece: u32)
+    /// Takes the piece's row, and leaves an empty one.
+    pub fn take(&mut self, piece: u32) -> Vec<Bytes>
         requires { piece < length self.old }
-        ensures { self.new ≡ edit self.old piece (λ row. []) }
+        ensures row { result.items ≡ slice_index_or self.old piece [] }
+        ensures left { self.new ≡ edit self.old piece (λ row. []) }
     {
-        self.rows[piece as usize].clear();
+        let none = self.none();
+        std::mem::replace(&mut self.rows[piece as usize], none)
+    }
+
+    /// No blocks. Takes no memory.
+    pub fn none(&self) -> Vec<Bytes>
+        ensures { result.items ≡ [] }
+    {
+        Vec::new(*self.rows.allocator())
     }
 }
 
-/// The block at this place, or no bytes.
-fn block_of(row: &[Bytes], index: u32) -> &[u8]
-    ensures { result.now ≡ slice_index_or row.now index [] }
+/// Keeps the block's bytes in this row, or in this room where the row is empty.
+fn put_in(row: &mut Vec<Bytes>, room: Vec<Bytes>, index: u32, bytes: Bytes)
+    requires { index < length (roomed row.old.items room.items) }
+    ensures { row.new.items ≡ slice_set (roomed row.old.items room.items) index bytes }
 {
-    match row.get(index as usize) {
-        Some(bytes) => bytes.as_slice(),
-        None => &[],
+    if row.is_empty() {
+        *row = room;
     }
-}
-
-/// So many blocks of no bytes.
-fn empty_row(alloc: Global, blocks: u32) -> Result<Vec<Bytes>, AllocError>
-    ensures { IfOk result (λ row. row.items ≡ replicate blocks []) }
-{
-    let mut row = Vec::new(alloc);
-    for block in 0..blocks {
-        let _block = block;
-        row.push(Bytes::new())?;
-    }
-    Ok(row)
+    row[index as usize] = bytes;
 }

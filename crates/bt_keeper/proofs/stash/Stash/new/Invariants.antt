@@ -1,4 +1,4 @@
-use Rattle.std.proofs.Common.{◌≡◌, ◌∷◌, [], map, replicate, List, ℕ}
+use Rattle.std.proofs.Common.{◌≡◌, [], map, replicate}
 use Rattle.bt_keeper.proofs.stash.Stash.new.Given as goal
 
 abbrev pub invariant-loop-piece : goal.invariant-loop-piece
