@@ -1,8 +1,10 @@
 -- After each call, refused or not, what is kept is what is held.
 use Rattle.std.proofs.Common.{◌≡◌, ◌≢◌, ◌<◌, ◌/◌, ℕ, Bool, true, false, ◌||◌, List, [], ◌∷◌, length, get_or, set, refl, ap, sym, ◌∙◌, subst, arith}
 use Rattle.std.specs.Prelude.{if◌then◌else◌, nat_lt, replicate}
-use Rattle.std.proofs.lemmas.Bool.{false≢true}
-use Rattle.bt_meta.specs.Layout.{block_count, block_size, piece_count}
+use Rattle.std.proofs.lemmas.Bool.{eq-eqb, false≢true}
+use Rattle.std.specs.Cmp.Lexicographic.{same_text}
+use Rattle.sha1.specs.Sha1.{sha1}
+use Rattle.bt_meta.specs.Layout.{block_count, block_size, hash_of, piece_count}
 use Rattle.bt_history.specs.declared.call.Reason.{Reason}
 use Rattle.bt_history.specs.declared.call.Reason.TheVariants.{NotJoined}
 use Rattle.bt_history.specs.declared.call.Reply.{Reply}
@@ -12,9 +14,9 @@ use Rattle.bt_history.specs.declared.event.Action.TheVariants.{Arrived, Settle}
 use Rattle.bt_history.specs.declared.event.Event.{Event}
 use Rattle.bt_history.specs.History.{is_failed, is_had, stores}
 use Rattle.bt_history.specs.Pieces.{content}
-use Rattle.bt_history.proofs.Allowed.{no_cause}
+use Rattle.bt_history.proofs.Allowed.{no_cause, passed_hash}
 use Rattle.bt_history.proofs.Arrivals.{ArrivalFacts, arrival_facts}
-use Rattle.bt_picker.specs.Checks.{SettlesIf, arriving, waits}
+use Rattle.bt_picker.specs.Checks.{SettlesIf, arriving, settling, waits}
 use Rattle.bt_picker.specs.Positions.{DeskState, Gains}
 use Rattle.bt_picker.specs.Tables.{edit}
 use Rattle.bt_picker.specs.Told.{Settles, SettlesAs, Tells, TellsIf, action_told, telling}
@@ -169,3 +171,16 @@ pub tells_none : (r : Reply) → r ≢ Had → r ≢ Failed → tells_hash r ≡
 tells_none Had had failed = absurd (had refl)
 tells_none Failed had failed = absurd (failed refl)
 tells_none r had failed = refl
+
+-- the content of a piece that came to be had has its hash
+pub had_hash : (old new : DeskState) (w p : ℕ) → Settles old new w p Had
+    → sha1 (content old.setting old.history p) ≡ hash_of old.setting.torrent p
+had_hash old new w p settles = by_number (nat_lt w old.setting.workers) settles where
+  by_state : (x : Bool) → SettlesIf x old new w p Had → sha1 (content old.setting old.history p) ≡ hash_of old.setting.torrent p
+  by_state true gains =
+      same_text _ _ (sym (passed_hash old.setting old.history (settling old.setting old.history w p Had) p gains.allowed refl (eq-eqb p p refl)))
+  by_state false refused = absurd (cc refused.1)
+
+  by_number : (x : Bool) → SettlesAs x old new w p Had → sha1 (content old.setting old.history p) ≡ hash_of old.setting.torrent p
+  by_number true now = by_state (waits old.setting old.history p) now
+  by_number false refused = absurd (cc refused.1)

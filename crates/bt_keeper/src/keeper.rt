@@ -2,7 +2,7 @@
 ghost use Rattle.std.specs.Prelude.{◌≡◌, ◌<◌, ◌≤◌, [], ℕ, List, None, Ok, true, false, IfOk, IsOk, OnErr};
 ghost use Rattle.std.specs.List.{concat};
 ghost use Rattle.sha1.specs.Sha1.{sha1};
-ghost use Rattle.bt_meta.specs.Layout.{block, block_count, piece_count};
+ghost use Rattle.bt_meta.specs.Layout.{block, block_count, hash_of, piece_count};
 ghost use Rattle.bt_history.specs.declared.call.Reply.{Reply};
 ghost use Rattle.bt_history.specs.declared.event.Action.TheVariants.{Arrived};
 ghost use Rattle.bt_history.specs.Peers.{outstanding};
@@ -141,6 +141,7 @@ impl Keeper {
     pub fn settle(&mut self, worker: u32, verdict: &Verdict) -> Settled
         ensures settles { SettlesBy self.old self.new worker verdict.now result.reply }
         ensures blocks { HandsOut self.old verdict.now.piece result.reply result.blocks.items }
+        ensures hashed { result.reply ≡ Reply.Had → sha1 (concat result.blocks.items) ≡ hash_of self.old.setting.torrent verdict.now.piece }
     {
         if self.is_stale(verdict) {
             return self.without_blocks(Reply::Refused(Reason::Stale));
@@ -153,6 +154,7 @@ impl Keeper {
     pub fn settle_now(&mut self, worker: u32, piece: u32) -> Settled
         ensures settles { Settles self.old self.new worker piece result.reply }
         ensures blocks { HandsOut self.old piece result.reply result.blocks.items }
+        ensures hashed { result.reply ≡ Reply.Had → sha1 (concat result.blocks.items) ≡ hash_of self.old.setting.torrent piece }
     {
         let digest = if self.is_waiting(piece) {
             hash(self.waiting(piece))
@@ -168,6 +170,7 @@ impl Keeper {
             digest.now ≡ sha1 (content self.old.setting self.old.history piece) }
         ensures settles { Settles self.old self.new worker piece result.reply }
         ensures blocks { HandsOut self.old piece result.reply result.blocks.items }
+        ensures hashed { result.reply ≡ Reply.Had → sha1 (concat result.blocks.items) ≡ hash_of self.old.setting.torrent piece }
     {
         self.picker.attest();
         let reply = self.picker.settle(worker, piece, digest);

@@ -10,3 +10,6 @@ pub use bt_history::{MOST_WORKERS, Reason, Reply, Rules};
 pub use bt_picker::Told;
 pub use keeper::Keeper;
 pub use settled::Settled;
+
+#[cfg(test)]
+mod tests;
