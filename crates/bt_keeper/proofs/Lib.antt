@@ -1,0 +1,5 @@
+pub mod BlockBytes
+pub mod Stashing
+pub mod Rowed
+pub mod Calls
+pub mod Waiting

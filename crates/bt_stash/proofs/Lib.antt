@@ -1,2 +1,0 @@
-pub mod Stashing
-pub mod Rowed
