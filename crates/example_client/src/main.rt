@@ -1,15 +1,18 @@
-//! The loop of a client round the picker: the desk is told what came from a peer, and says what to ask of it. The peer here is one that
-//! answers from memory.
+//! The loop of a client round the picker, with storage of its own: the keeper is told what came from a peer, says what to ask of it, and
+//! hands out the blocks of each piece that is had, to be stored. The peer here answers from memory, and the storage is memory too.
 #![tactic(auto)]
 
-ghost use Rattle.std.specs.Prelude.{◌≡◌, ◌<◌, ◌≤◌, IfOk};
+ghost use Rattle.std.specs.Prelude.{◌≤◌, IfOk};
 ghost use Rattle.bt_meta.specs.Layout.{piece_count};
 
 mod peer;
+mod store;
 
 use anyhow::Result;
-use bt_meta::{Bitfield, ToWrite, Torrent};
-use bt_picker::{Call, Desk, Reply, Rules};
+use bt_keeper::Keeper;
+use bt_meta::{Bitfield, Block, Torrent};
+use bt_picker::{Reply, Rules, Told};
+use bytes::Bytes;
 use peer::Peer;
 use rand_core::Rng;
 use rand_pcg::Lcg64Xsh32;
@@ -17,6 +20,7 @@ use sha1::Sha1;
 use std::alloc::Global;
 use std::rt::Runtime;
 use std::sync::Arc;
+use store::Store;
 
 /// The bytes of a piece.
 const PIECE_LEN: u32 = 32_768;
@@ -33,10 +37,14 @@ const MOST_ASKS: u32 = 11;
 fn main(rt: HostRuntime) -> Result<()> {
     let alloc = rt.alloc();
     let mut peer = Peer::new(alloc, vec![in alloc; b'a'; 49_152]?);
-    let torrent = torrent_of(alloc, peer.content())?;
-    let mut desk = Desk::new(alloc, Arc::new(alloc, torrent)?, 1, Rules::usual())?;
-    download(alloc, &mut desk, 0, &mut peer)?;
-    tell(&rt, &desk, peer.asked())
+    let torrent = Arc::new(alloc, torrent_of(alloc, peer.content())?)?;
+    let mut store = Store::new(alloc, &torrent)?;
+    let mut keeper = Keeper::new(alloc, torrent.clone()?, 1, Rules::usual())?;
+    download(alloc, &mut keeper, 0, &mut peer, &mut store)?;
+    tell(&rt, &keeper, &peer, &store)?;
+    let mut keeper = Keeper::new(alloc, torrent.clone()?, 1, Rules::usual())?;
+    resume(alloc, &mut keeper, 0, &torrent, &store)?;
+    tell(&rt, &keeper, &peer, &store)
 }
 
 /// What a metainfo file would tell of this content.
@@ -50,66 +58,99 @@ fn torrent_of(alloc: Global, content: &[u8]) -> Result<Torrent>
     Ok(Torrent::of_parts(PIECE_LEN, content.len() as u64, hashes, [0; 20])?)
 }
 
-/// Prints how the download went, and the hash of what came.
-fn tell<R: Runtime + AllocGlobal>(rt: &R, desk: &Desk, asked: u64) -> Result<()> {
-    let complete = desk.is_complete();
+/// Prints how the download stands, and the hash of what is stored.
+fn tell<R: Runtime + AllocGlobal>(
+    rt: &R,
+    keeper: &Keeper,
+    peer: &Peer,
+    store: &Store,
+) -> Result<()> {
+    let asked = peer.asked();
+    let complete = keeper.is_complete();
     println!(rt; "asked for {asked} blocks, complete: {complete}")?;
-    let mut content = ToWrite::new(Vec::new(rt.alloc()));
-    desk.write_content(&mut content)?;
-    let digest = hex::encode(rt.alloc(), Sha1::digest(&content.into_inner()).as_slice())?;
+    let digest = hex::encode(rt.alloc(), Sha1::digest(store.content()).as_slice())?;
     println!(rt; "sha1 {digest}")?;
     Ok(())
 }
 
 /// All that a worker does for its peer, from the handshakes to the end of the connection.
-fn download(alloc: Global, desk: &mut Desk, worker: u32, peer: &mut Peer) -> Result<()>
-    requires { worker < desk.old.setting.workers }
-{
+fn download(
+    alloc: Global,
+    keeper: &mut Keeper,
+    worker: u32,
+    peer: &mut Peer,
+    store: &mut Store,
+) -> Result<()> {
     let mut words = Lcg64Xsh32::new(0, u64::from(worker));
-    desk.call(worker, Call::Join)?;
-    desk.call(worker, Call::Bits(Bitfield::from_wire(alloc, &SHOWN, 2)?))?;
-    hear(alloc, desk, worker, Call::Unchoke, &mut words, peer)?;
+    let shown = Bitfield::from_wire(alloc, &SHOWN, 2)?;
+    keeper.tell(alloc, worker, Told::Join)?;
+    keeper.tell(alloc, worker, Told::Bits(&shown))?;
+    keeper.tell(alloc, worker, Told::Unchoke)?;
+    ask(alloc, keeper, worker, &mut words, peer)?;
     'answers: for _ in 0..MOST_ANSWERS {
         let Some((block, bytes)) = peer.answer()? else {
             break;
         };
-        let arrived = Call::Arrived {
-            piece: block.piece,
-            begin: block.begin,
-            bytes,
-        };
-        hear(alloc, desk, worker, arrived, &mut words, peer)?;
+        receive(alloc, keeper, worker, block, bytes, store)?;
+        ask(alloc, keeper, worker, &mut words, peer)?;
     }
-    desk.call(worker, Call::Leave)?;
+    keeper.tell(alloc, worker, Told::Leave)?;
     Ok(())
 }
 
-/// Tells the desk what came from a worker's peer, has a piece checked that it completes, and asks for more.
-fn hear(
+/// Tells the keeper of a block that came, has the piece checked that it completes, and stores a piece that is had.
+fn receive(
     alloc: Global,
-    desk: &mut Desk,
+    keeper: &mut Keeper,
     worker: u32,
-    call: Call,
+    block: Block,
+    bytes: Bytes,
+    store: &mut Store,
+) -> Result<()> {
+    let reply = keeper.arrived(alloc, worker, block.piece, block.begin, bytes)?;
+    if reply == Reply::Completed {
+        let settled = keeper.settle_now(worker, block.piece);
+        store.write(block.piece, &settled.blocks);
+    }
+    Ok(())
+}
+
+/// Asks the peer for what the keeper says, and takes back what it says.
+fn ask(
+    alloc: Global,
+    keeper: &mut Keeper,
+    worker: u32,
     words: &mut Lcg64Xsh32,
     peer: &mut Peer,
-) -> Result<()>
-    requires { worker < desk.old.setting.workers }
-    ensures { desk.new.setting ≡ desk.old.setting }
-{
-    let arrived = match &call {
-        Call::Arrived { piece, .. } => Some(*piece),
-        _ => None,
-    };
-    let reply = desk.call(worker, call)?;
-    if let (Some(piece), Reply::Completed) = (arrived, reply) {
-        desk.settle_now(alloc, worker, piece)?;
-    }
+) -> Result<()> {
     'asks: for _ in 0..MOST_ASKS {
-        match desk.call(worker, Call::Next(words.next_u64()))? {
+        match keeper.tell(alloc, worker, Told::Next(words.next_u64()))? {
             Reply::Request(block) => peer.request(block)?,
             Reply::Cancel(block) => peer.cancel(block),
             _ => break,
         }
     }
+    Ok(())
+}
+
+/// Tells a new keeper what is stored, as a peer that shows nothing would bring it.
+fn resume(
+    alloc: Global,
+    keeper: &mut Keeper,
+    worker: u32,
+    torrent: &Torrent,
+    store: &Store,
+) -> Result<()> {
+    keeper.tell(alloc, worker, Told::Join)?;
+    for piece in 0..torrent.piece_count() {
+        for index in 0..torrent.block_count(piece) {
+            let block = torrent.block(piece, index);
+            let bytes = store.read(&block);
+            let begin = block.begin;
+            keeper.tell(alloc, worker, Told::Arrived { piece, begin, bytes })?;
+        }
+        let _settled = keeper.settle_now(worker, piece);
+    }
+    keeper.tell(alloc, worker, Told::Leave)?;
     Ok(())
 }
