@@ -8,7 +8,8 @@ use Rattle.bt_history.specs.History.{History, failed, passed, stored}
 use Rattle.bt_history.specs.Pieces.{content_of_block, had, kept}
 
 -- where it neither stored the block nor failed its piece
-pub same_after : (h : History) (e : Event) (b : Block) → failed e b.piece ≡ false → stored e b ≡ None → content_of_block (e ∷ h) b ≡ content_of_block h b
+pub same_after : (h : History) (e : Event) (b : Block) → failed e b.piece ≡ false → stored e b ≡ None
+    → content_of_block (e ∷ h) b ≡ content_of_block h b
 unfolding kept
 same_after h e b lasts none =
     ap (λ (x : Bool). unwrap_or (if x then None else if is_some (stored e b) then stored e b else kept h b) []) lasts

@@ -14,6 +14,7 @@ use Rattle.bt_history.specs.declared.event.Action.TheVariants.{Arrived, Settle}
 use Rattle.bt_history.specs.declared.event.Event.{Event}
 use Rattle.bt_history.specs.History.{is_failed, is_had, stores}
 use Rattle.bt_history.specs.Pieces.{content}
+use Rattle.bt_history.specs.Setting.{Setting}
 use Rattle.bt_history.proofs.Allowed.{no_cause, passed_hash}
 use Rattle.bt_history.proofs.Arrivals.{ArrivalFacts, arrival_facts}
 use Rattle.bt_picker.specs.Checks.{SettlesIf, arriving, settling, waits}
@@ -31,7 +32,7 @@ abbrev entry : ℕ → Action → Reply → Event
 entry w a reply = record { worker = w; action = a; reply = reply }
 
 -- a refusal leaves the rows
-unstashed : (s : _) (rows : Rows) (reason : Reason) (a : Action) → restashed_by s rows (Refused reason) a ≡ rows
+unstashed : (s : Setting) (rows : Rows) (reason : Reason) (a : Action) → restashed_by s rows (Refused reason) a ≡ rows
 unstashed s rows reason (Arrived p begin bytes) = refl
 unstashed s rows reason (Settle p bytes) = refl
 unstashed s rows reason a = refl
@@ -64,7 +65,8 @@ pub plain_stash : (old new : DeskState) (rows : Rows) (w : ℕ) (told : Told) (r
 plain_stash old new rows w told reply plain is tells =
     subst (IsStash new.setting new.history) (left told plain) (told_stash old new rows w (action_told told) reply is tells)
   where
-    left : (t : Told) → ((piece begin : ℕ) (bytes : _) → t ≢ kinds.Arrived piece begin bytes) → restashed_by old.setting rows reply (action_told t) ≡ rows
+    left : (t : Told) → ((piece begin : ℕ) (bytes : _) → t ≢ kinds.Arrived piece begin bytes)
+        → restashed_by old.setting rows reply (action_told t) ≡ rows
     left (kinds.Arrived piece begin bytes) plain = absurd (plain piece begin bytes refl)
     left kinds.Join plain = refl
     left (kinds.Bits flags) plain = refl
@@ -84,6 +86,10 @@ told_gains old new e counts tells = by_number (nat_lt e.worker old.setting.worke
 
 -- ---- a block that came
 
+-- the row, with room, and with these bytes in it
+abbrev kept_by : Setting → ℕ → ℕ → List ℕ → List (List ℕ) → List (List ℕ)
+kept_by s p begin came row = set (with_room (block_count s.torrent p) row) (begin / block_size) came
+
 module _ (old new : DeskState) (rows : Rows) (w p begin : ℕ) (came : List ℕ) (reply : Reply) (room : List (List ℕ))
     (is : IsStash old.setting old.history rows) (tells : Tells old new (arriving w p begin came reply)) (storing : stores reply ≡ true)
     (makes : p < piece_count old.setting.torrent → get_or rows p [] ≡ [] → room ≡ replicate (block_count old.setting.torrent p) []) where
@@ -91,7 +97,8 @@ module _ (old new : DeskState) (rows : Rows) (w p begin : ℕ) (came : List ℕ)
   facts =
       let counts = storing_counts reply storing in
       arrival_facts old.setting old.history w p begin came
-      (no_cause old.setting old.history (arriving w p begin came reply) counts (told_gains old new (arriving w p begin came reply) counts tells).allowed)
+      (no_cause old.setting old.history (arriving w p begin came reply) counts
+      (told_gains old new (arriving w p begin came reply) counts tells).allowed)
 
   -- its piece has a row
   pub arrived_piece : p < length rows
@@ -116,8 +123,8 @@ module _ (old new : DeskState) (rows : Rows) (w p begin : ℕ) (came : List ℕ)
   pub arrived_stash : IsStash new.setting new.history (edit rows p (λ row. set (roomed row room) (begin / block_size) came))
   arrived_stash =
       subst (IsStash new.setting new.history)
-      (ap (λ (x : Bool). if x then edit rows p (λ row. set (with_room (block_count old.setting.torrent p) row) (begin / block_size) came) else rows) storing
-      ∙ edit_same rows p (λ row. set (with_room (block_count old.setting.torrent p) row) (begin / block_size) came)
+      (ap (λ (x : Bool). if x then edit rows p (kept_by old.setting p begin came) else rows) storing
+      ∙ edit_same rows p (kept_by old.setting p begin came)
       (λ row. set (roomed row room) (begin / block_size) came) [] arrived_piece
       (ap (λ (row : List (List ℕ)). set row (begin / block_size) came) (sym roomed_is)))
       (told_stash old new rows w (Arrived p begin came) reply is tells)
@@ -127,7 +134,7 @@ pub dropped_stash : (old new : DeskState) (rows : Rows) (w p begin : ℕ) (came 
     → Tells old new (arriving w p begin came reply) → stores reply ≡ false → IsStash new.setting new.history rows
 dropped_stash old new rows w p begin came reply is tells dropping =
     subst (IsStash new.setting new.history)
-    (ap (λ (x : Bool). if x then edit rows p (λ row. set (with_room (block_count old.setting.torrent p) row) (begin / block_size) came) else rows) dropping)
+    (ap (λ (x : Bool). if x then edit rows p (kept_by old.setting p begin came) else rows) dropping)
     (told_stash old new rows w (Arrived p begin came) reply is tells)
 
 -- ---- a check

@@ -1,5 +1,5 @@
 -- What is kept of pieces that aren't had yet stays what is held of them, entry by entry.
-use Rattle.std.proofs.Common.{◌≡◌, ◌≢◌, ◌==◌, ℕ, zero, suc, ◌*◌, ◌/◌, ◌<◌, ◌≤◌, Bool, true, false, ◌||◌, ◌&&◌, List, [], ◌∷◌, Option, None, Some}
+use Rattle.std.proofs.Common.{◌≡◌, ◌≢◌, ◌==◌, ℕ, ◌*◌, ◌/◌, ◌<◌, ◌≤◌, Bool, true, false, ◌||◌, ◌&&◌, List, [], ◌∷◌, Option, None, Some}
 use Rattle.std.proofs.Common.{length, replicate, get_or, set, refl, ap, sym, ◌∙◌, subst, arith, ⊎_elim, length-set}
 use Rattle.std.specs.Prelude.{if◌then◌else◌, slice_index_or}
 use Rattle.std.proofs.lemmas.Bool.{cases_eq, cases_lt, eq-eqb, ne_eqb, false≢true}
@@ -9,7 +9,7 @@ use Rattle.bt_meta.specs.declared.block.Block.{Block}
 use Rattle.bt_meta.specs.Layout.{block, block_count, block_size, piece_count}
 use Rattle.bt_history.specs.declared.call.Reason.{Reason}
 use Rattle.bt_history.specs.declared.call.Reply.{Reply}
-use Rattle.bt_history.specs.declared.call.Reply.TheVariants.{Completed, Refused, Stored}
+use Rattle.bt_history.specs.declared.call.Reply.TheVariants.{Refused}
 use Rattle.bt_history.specs.declared.event.Action.{Action}
 use Rattle.bt_history.specs.declared.event.Action.TheVariants.{Arrived, Bits, Choke, Have, Join, Leave, Next, Settle, Unchoke, Want}
 use Rattle.bt_history.specs.declared.event.Event.{Event}
@@ -30,18 +30,12 @@ pub read_room : (n k : ℕ) (row : List (List ℕ)) → k < n → slice_index_or
 read_room n k [] lk = get_or-replicate n k [] [] lk ∙ sym (get_or-eq_default [] [] {n = k} (omega arith))
 read_room n k (x ∷ xs) lk = refl
 
+-- the row has a place for each block of piece p, once it has room
+abbrev IsWide : Setting → ℕ → List (List ℕ) → Type 0
+IsWide s p row = length (with_room (block_count s.torrent p) row) ≡ block_count s.torrent p
+
 pub wide_empty : (n : ℕ) → length (with_room n []) ≡ n
 wide_empty n = length-replicate n []
-
-pub with_room_twice : (n : ℕ) (row : List (List ℕ)) → with_room n (with_room n row) ≡ with_room n row
-with_room_twice zero [] = refl
-with_room_twice (suc n) [] = refl
-with_room_twice n (x ∷ xs) = refl
-
-storing_lasts : (r : Reply) → stores r ≡ true → is_failed r ≡ false
-storing_lasts Stored is = refl
-storing_lasts Completed is = refl
-storing_lasts r is = absurd (cc is)
 
 pub storing_counts : (r : Reply) → stores r ≡ true → (reason : Reason) → r ≢ Refused reason
 storing_counts r is reason refused = absurd (cc (is, refused))
@@ -78,7 +72,8 @@ module _ (s : Setting) (h : History) (rows : Rows) (w : ℕ) (is : IsStash s h r
   entry action reply = record { worker = w; action = action; reply = reply }
 
   -- a block came, and is held now
-  module _ (p0 begin : ℕ) (came : List ℕ) (reply : Reply) (allowed : IsAllowed s h (entry (Arrived p0 begin came) reply)) (storing : stores reply ≡ true) where
+  module _ (p0 begin : ℕ) (came : List ℕ) (reply : Reply) (allowed : IsAllowed s h (entry (Arrived p0 begin came) reply))
+      (storing : stores reply ≡ true) where
     abbrev e : Event
     e = entry (Arrived p0 begin came) reply
 
@@ -157,10 +152,11 @@ module _ (s : Setting) (h : History) (rows : Rows) (w : ℕ) (is : IsStash s h r
     stashes = record {
       len = length_edit rows p0 put ∙ is.len;
       wide = λ p. ⊎_elim
-          (λ (same : p ≡ p0). subst (λ (q : ℕ). length (with_room (block_count s.torrent q) (get_or (edit rows p0 put) q [])) ≡ block_count s.torrent q) (sym same)
+          (λ (same : p ≡ p0). subst (λ (q : ℕ). IsWide s q (get_or (edit rows p0 put) q [])) (sym same)
           (ap (λ (row : List (List ℕ)). length (with_room n row)) own_row
           ∙ wide_own (put old_row) (length-set (with_room n old_row) (begin / block_size) came ∙ is.wide p0)))
-          (λ (apart : p ≡ p0 → ⊥). ap (λ (row : List (List ℕ)). length (with_room (block_count s.torrent p) row)) (get_or_edit_other rows p0 p put [] apart)
+          (λ (apart : p ≡ p0 → ⊥).
+          ap (λ (row : List (List ℕ)). length (with_room (block_count s.torrent p) row)) (get_or_edit_other rows p0 p put [] apart)
           ∙ is.wide p)
           (cases_eq p p0);
       bytes = λ p k lp lk lacking. ⊎_elim
@@ -195,14 +191,15 @@ module _ (s : Setting) (h : History) (rows : Rows) (w : ℕ) (is : IsStash s h r
       len = length_edit rows p0 gone ∙ is.len;
       wide = λ p. ⊎_elim
           (λ (same : p ≡ p0). ⊎_elim
-          (λ (lt : p0 < length rows). subst (λ (q : ℕ). length (with_room (block_count s.torrent q) (get_or (edit rows p0 gone) q [])) ≡ block_count s.torrent q) (sym same)
+          (λ (lt : p0 < length rows). subst (λ (q : ℕ). IsWide s q (get_or (edit rows p0 gone) q [])) (sym same)
           (ap (λ (row : List (List ℕ)). length (with_room (block_count s.torrent p0) row)) (get_or_edit_same rows p0 gone [] lt)
           ∙ wide_empty (block_count s.torrent p0)))
           (λ (ge : length rows ≤ p0). ap (λ (row : List (List ℕ)). length (with_room (block_count s.torrent p) row))
           (get_or-eq_default (edit rows p0 gone) [] (let long = length_edit rows p0 gone in omega (arith, ge, long, same)))
           ∙ wide_empty (block_count s.torrent p))
           (cases_lt p0 (length rows)))
-          (λ (apart : p ≡ p0 → ⊥). ap (λ (row : List (List ℕ)). length (with_room (block_count s.torrent p) row)) (get_or_edit_other rows p0 p gone [] apart)
+          (λ (apart : p ≡ p0 → ⊥).
+          ap (λ (row : List (List ℕ)). length (with_room (block_count s.torrent p) row)) (get_or_edit_other rows p0 p gone [] apart)
           ∙ is.wide p)
           (cases_eq p p0);
       bytes = λ p k lp lk lacking. ⊎_elim
@@ -242,7 +239,8 @@ module _ (s : Setting) (h : History) (rows : Rows) (w : ℕ) (is : IsStash s h r
     by_reply : (x : Bool) → (is_had reply || is_failed reply) ≡ x → IsStash s (entry (Settle p bytes) reply ∷ h)
         (if x then edit rows p (λ row. []) else rows)
     by_reply true told = checked p bytes reply told
-    by_reply false told = unchanged s h rows (entry (Settle p bytes) reply) (λ b. off_left (is_failed reply) (p == b.piece) (second (is_had reply) (is_failed reply) told))
+    by_reply false told = unchanged s h rows (entry (Settle p bytes) reply)
+        (λ b. off_left (is_failed reply) (p == b.piece) (second (is_had reply) (is_failed reply) told))
         (λ b. nothing_if (stores reply)) is
       where
         second : (a b : Bool) → (a || b) ≡ false → b ≡ false
