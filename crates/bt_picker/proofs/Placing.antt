@@ -1,7 +1,7 @@
 -- Where in a journal the entry stands that stored a held block.
-use Rattle.std.proofs.Common.{◌≡◌, ◌≢◌, ◌==◌, ℕ, zero, suc, ◌+◌, ◌-◌, ◌*◌, ◌/◌, ◌<◌, ◌≤◌, Bool, true, false, ◌&&◌, List, [], ◌∷◌, Option, None, Some}
+use Rattle.std.proofs.Common.{◌≡◌, ◌≢◌, ◌==◌, ℕ, suc, ◌+◌, ◌-◌, ◌*◌, ◌/◌, ◌<◌, ◌≤◌, Bool, true, false, ◌&&◌, List, [], ◌∷◌, Option, None, Some}
 use Rattle.std.proofs.Common.{length, length-set, set, refl, ap, subst, sym, ◌∙◌, arith, ⊎_elim}
-use Rattle.std.specs.Prelude.{is_some, if◌then◌else◌, min, slice_index_or}
+use Rattle.std.specs.Prelude.{is_some, if◌then◌else◌, slice_index_or}
 use Rattle.std.proofs.Math.Nat.{le-div_iff_mul-le, le-min, one-mul, min-le_left, min-le_right, mul-le-mul_right, suc-mul, zero-mul}
 use Rattle.std.proofs.lemmas.Bool.{cases_lt, eq-eqb, eqb-true, false≢true, ne_eqb}
 use Rattle.std.proofs.lemmas.List.{get_or-set_other, get_or-set_same, length-replicate}
@@ -12,7 +12,7 @@ use Rattle.bt_history.specs.declared.event.Action.{Action}
 use Rattle.bt_history.specs.declared.event.Action.TheVariants.{Join, Bits, Have, Choke, Unchoke, Next, Arrived, Settle, Leave, Want}
 use Rattle.bt_history.specs.declared.event.Event.{Event}
 use Rattle.bt_history.specs.Setting.{Setting}
-use Rattle.bt_history.specs.History.{History, bytes_for, counts, failed, is_failed, settles, stored, stores}
+use Rattle.bt_history.specs.History.{History, bytes_for, failed, settles, stored, stores}
 use Rattle.bt_history.specs.Pieces.{kept, held}
 use Rattle.bt_history.specs.Legal.{IsAllowed}
 use Rattle.bt_history.proofs.Arrivals.{ArrivalFacts, arrival_facts}

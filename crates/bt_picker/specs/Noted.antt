@@ -1,5 +1,5 @@
 -- What an entry more makes of a history that only proofs read.
-use Rattle.std.specs.Prelude.{ℕ, List, ◌∷◌}
+use Rattle.std.specs.Prelude.{◌∷◌}
 use Rattle.bt_check.specs.Checked.{joined}
 use Rattle.bt_meta.specs.Layout.{Layout}
 use Rattle.bt_history.specs.History.{History}

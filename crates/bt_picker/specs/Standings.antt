@@ -1,6 +1,6 @@
 -- What a row of a piece amounts to among the others: its group, and what is counted of it. No public clause cites this module.
 use Rattle.std.specs.Prelude.{ℕ, ◌+◌, ◌-◌, ◌^◌, ◌≡◌, ◌<◌, ◌≤◌, ◌==◌, ◌||◌, ◌⊎◌, Bool, false, not, IsTrue, Option, None, Some, List, [], ◌∷◌, length}
-use Rattle.std.specs.Prelude.{map, min, is_some, nat_lt, true, slice_index_or, if◌then◌else◌}
+use Rattle.std.specs.Prelude.{map, min, nat_lt, true, slice_index_or, if◌then◌else◌}
 use Rattle.std.specs.List.{count_by, sum_by}
 use Rattle.bt_picker.specs.declared.cell.Cell.{Cell}
 use Rattle.bt_picker.specs.declared.cell.TheConstants.{HELD}

@@ -237,7 +237,10 @@ impl<'a> Position<'a> {
 
     /// At least so many pieces are neither begun nor at rest: all but those in the first three groups.
     fn unbegun_count(&self) -> u32 {
-        let begun = self.group(ASKED_OUT).len().saturating_add(self.group(OPEN).len());
+        let begun = self
+            .group(ASKED_OUT)
+            .len()
+            .saturating_add(self.group(OPEN).len());
         let others = self.group(RESTING).len().saturating_add(begun);
         (self.piece_count() as usize).saturating_sub(others) as u32
     }

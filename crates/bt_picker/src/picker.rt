@@ -232,8 +232,7 @@ impl Picker {
             waits self.new.setting self.new.history piece ≡ true }
     {
         let reply = self.position().reply(worker, told);
-        self.tables
-            .enter(&self.past, worker, told, reply);
+        self.tables.enter(&self.past, worker, told, reply);
         self.past = self.past.then(&Note::Told(worker, told, reply));
         reply
     }

@@ -147,7 +147,15 @@ fn resume(
             let block = torrent.block(piece, index);
             let bytes = store.read(&block);
             let begin = block.begin;
-            keeper.tell(alloc, worker, Told::Arrived { piece, begin, bytes })?;
+            keeper.tell(
+                alloc,
+                worker,
+                Told::Arrived {
+                    piece,
+                    begin,
+                    bytes,
+                },
+            )?;
         }
         let _settled = keeper.settle_now(worker, piece);
     }

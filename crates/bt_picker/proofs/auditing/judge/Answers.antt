@@ -38,8 +38,8 @@ loop-place-preserved c =
     let front = take c.loop-place.place c.args.entries.now in
     let long : c.loop-place.place ≡ length c.loop-place.past.entries =
     (let counted = length-take c.loop-place.place c.args.entries.now in
-      let told = ap (λ (h : History). length h) inv.past ∙ history_length front in
-      omega (arith, counted, told, c.loop-place-test.true)) in
+    let told = ap (λ (h : History). length h) inv.past ∙ history_length front in
+    omega (arith, counted, told, c.loop-place-test.true)) in
     let noted = places_more c.loop-place.tables.setting c.loop-place.past.entries c.loop-place.places e.worker (action_of e.call) e.reply inv.places
     (c.is_next.ensures.yes c.if-not-is_next.false) in
     record {

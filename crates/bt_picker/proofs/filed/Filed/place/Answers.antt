@@ -2,7 +2,7 @@ use Rattle.std.proofs.Common.{◌<◌, ◌∙◌, Some, ap, subst, sym}
 use Rattle.bt_meta.specs.Layout.{block, block_count, piece_count}
 use Rattle.bt_picker.specs.Places.{stored_place}
 use Rattle.bt_picker.specs.Positions.{DeskState}
-use Rattle.bt_picker.proofs.Placing.{place_found, place_lacks, slot_within}
+use Rattle.bt_picker.proofs.Placing.{place_found, place_lacks}
 use Rattle.bt_picker.proofs.filed.Filed.place.Goals as goal
 
 pub returns-then-holds : goal.returns-then-holds

@@ -1,4 +1,3 @@
-use Rattle.std.proofs.Common.{arith}
 use Rattle.bt_picker.proofs.Placing.{some_piece}
 use Rattle.bt_picker.proofs.places.Places.new.Goals as goal
 

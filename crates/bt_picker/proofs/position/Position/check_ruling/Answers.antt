@@ -1,9 +1,8 @@
-use Rattle.std.proofs.Common.{◌≡◌, ◌∙◌, Option, ap, sym}
+use Rattle.std.proofs.Common.{◌∙◌, Option, ap, sym}
 use Rattle.bt_check.specs.Checked.{joined}
 use Rattle.bt_history.specs.declared.call.Reason.{Reason}
-use Rattle.bt_history.specs.declared.event.Action.{Action}
 use Rattle.bt_history.specs.declared.event.Action.TheVariants.{Settle}
-use Rattle.bt_history.specs.Legal.{answer, answer_unless, refusal}
+use Rattle.bt_history.specs.Legal.{answer, answer_unless}
 use Rattle.bt_history.proofs.Allowed.{settle_facts}
 use Rattle.bt_picker.proofs.Answering.{answer_check, refuse_check}
 use Rattle.bt_picker.proofs.Entered.{settle_piece}

@@ -1,4 +1,4 @@
-use Rattle.std.proofs.Common.{◌≡◌, ◌∙◌, Bool, ap, List, ℕ, map, subst}
+use Rattle.std.proofs.Common.{◌≡◌, ◌∙◌, ap, List, ℕ, map, subst}
 use Rattle.bt_order.specs.Orders.{TellsFirst}
 use Rattle.bt_picker.specs.Positions.{DeskState}
 use Rattle.bt_picker.specs.Standings.{group_of_row, groups_of}

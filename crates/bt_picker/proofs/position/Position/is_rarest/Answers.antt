@@ -1,7 +1,6 @@
-use Rattle.std.proofs.Common.{◌≡◌, ◌∙◌, ap, arith, false, sym}
+use Rattle.std.proofs.Common.{◌∙◌, arith, sym}
 use Rattle.std.specs.Prelude.{nat_le}
 use Rattle.std.proofs.lemmas.Bool.{false≢true}
-use Rattle.bt_history.specs.Pieces.{availability}
 use Rattle.bt_picker.proofs.Allowing.{rarest_by}
 use Rattle.bt_picker.proofs.Scans.{least_is_rarest}
 use Rattle.bt_picker.proofs.position.Position.is_rarest.Goals as goal

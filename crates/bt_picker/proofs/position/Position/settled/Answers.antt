@@ -1,4 +1,4 @@
-use Rattle.std.proofs.Common.{◌≡◌, ◌∙◌, List, ℕ, ap, true, false}
+use Rattle.std.proofs.Common.{◌≡◌, ◌∙◌, ap, true, false}
 use Rattle.bt_meta.specs.Layout.{Layout, hash_of}
 use Rattle.bt_history.specs.Legal.{same_bytes}
 use Rattle.bt_picker.proofs.Checking.{settled_allowed}
