@@ -2,10 +2,16 @@
 """Tells what a peer's message costs the built program, by torrents of more and more pieces.
 
     tools/messages.py [RUNS]
+    tools/messages.py haves [RUNS]
 
 Plays a peer that sends a handshake and then so many messages of one kind, by `serial` and by `run`, and tells the processor time above
-that of the handshake alone: for each message, and for each byte that the peer sent. Each figure is the least of RUNS runs, 3 where it
-isn't said. `./piecepick --version` builds the program.
+that of the handshake alone: for each message, and for each byte that the peer sent.
+
+A have that its peer has sent before changes nothing, and a peer of 1,000 pieces has no more than 1,000 new ones to tell of. So with
+`haves` 64 peers, the most of a run, send 1,000 haves each by `serial`, all of pieces that are new to their peer: as many on each
+torrent. They tell of the same 1,000 pieces, or of as many different ones as there are. The time is that above 64 handshakes alone.
+
+Each figure is the least of RUNS runs, 3 where it isn't said. `./piecepick --version` builds the program.
 """
 
 import hashlib
@@ -20,6 +26,9 @@ ROOT = os.path.dirname(os.path.dirname(os.path.abspath(__file__)))
 PROGRAM = os.path.join(ROOT, "crates/piecepick/out/piecepick")
 PIECES = (1_000, 100_000, 1_000_000)
 COUNT = 20_000
+PIECES_OF_HAVES = (1_000, 10_000, 100_000)
+PEERS = 64
+EACH = 1_000
 
 
 def metainfo(pieces):
@@ -29,11 +38,11 @@ def metainfo(pieces):
     return b"d4:info" + info + b"e", hashlib.sha1(info).digest()
 
 
-def messages(pieces):
+def messages():
     """By kind: so many messages that a peer may send however often it likes."""
     return {
         "keepalive": bytes(4) * COUNT,
-        "have": b"".join(struct.pack(">IBI", 5, 4, 7919 * i % pieces) for i in range(COUNT)),
+        "have of one piece": struct.pack(">IBI", 5, 4, 0) * COUNT,
         "choke, unchoke": bytes.fromhex("00000001000000000101") * (COUNT // 2),
         "not interested": bytes.fromhex("0000000103") * COUNT,
     }
@@ -58,11 +67,15 @@ def write(folder, name, text):
     return path
 
 
-def time_torrent(folder, pieces, runs):
+def write_torrent(folder, pieces):
+    """The path of such a torrent, and what a peer of it sends first."""
     meta, infohash = metainfo(pieces)
-    torrent = write(folder, "torrent", meta)
-    hello = b"\x13BitTorrent protocol" + bytes(8) + infohash + b"-XX0001-000000000000"
-    streams = {kind: (write(folder, "stream-" + kind[:4], hello + sent), len(sent)) for kind, sent in messages(pieces).items()}
+    return write(folder, "torrent", meta), b"\x13BitTorrent protocol" + bytes(8) + infohash + b"-XX0001-000000000000"
+
+
+def time_torrent(folder, pieces, runs):
+    torrent, hello = write_torrent(folder, pieces)
+    streams = {kind: (write(folder, "stream-" + kind[:4], hello + sent), len(sent)) for kind, sent in messages().items()}
     alone = write(folder, "alone", hello)
     for command in ("serial", "run"):
         start = least([command, torrent, alone], runs)
@@ -71,12 +84,44 @@ def time_torrent(folder, pieces, runs):
             print(f"| {pieces:,} | `{command}` | {kind} | {1e9 * taken / COUNT:,.0f} | {1e9 * taken / size:,.0f} |", flush=True)
 
 
-def main():
-    runs = int(sys.argv[1]) if len(sys.argv) > 1 else 3
+def tell_messages(folder, runs):
     print("| Pieces | Command | Message | ns a message | ns a byte |\n|---|---|---|---|---|")
+    for pieces in PIECES:
+        time_torrent(folder, pieces, runs)
+
+
+def haves(pieces, first):
+    """So many haves of pieces that all differ, from one end of the torrent to the other."""
+    return b"".join(struct.pack(">IBI", 5, 4, 7919 * (first + i) % pieces) for i in range(EACH))
+
+
+def time_haves(folder, pieces, runs):
+    torrent, hello = write_torrent(folder, pieces)
+    alone = [write(folder, "alone", hello)] * PEERS
+    streams = [write(folder, f"stream-{i}", hello + haves(pieces, EACH * i)) for i in range(PEERS)]
+    told = {EACH: streams[:1] * PEERS, min(pieces, EACH * PEERS): streams}
+    start = least(["serial", torrent, *alone], runs)
+    for count, paths in told.items():
+        taken = least(["serial", torrent, *paths], runs) - start
+        print(f"| {pieces:,} | {count:,} | {1e9 * taken / (EACH * PEERS):,.0f} |", flush=True)
+
+
+def tell_haves(folder, runs):
+    print("| Pieces | Of these told | ns a have |\n|---|---|---|")
+    for pieces in PIECES_OF_HAVES:
+        time_haves(folder, pieces, runs)
+
+
+def main():
+    words = sys.argv[1:]
+    of_haves = words[:1] == ["haves"]
+    rest = words[1:] if of_haves else words
+    runs = int(rest[0]) if rest else 3
     with tempfile.TemporaryDirectory() as folder:
-        for pieces in PIECES:
-            time_torrent(folder, pieces, runs)
+        if of_haves:
+            tell_haves(folder, runs)
+        else:
+            tell_messages(folder, runs)
 
 
 if __name__ == "__main__":

@@ -1,6 +1,6 @@
 //! Bytes that are no script, with the line at fault and the replies to the lines before.
 
-use super::scripts::{in_memory, ran};
+use super::scripts::{in_memory, page, ran};
 use bt_expect::{same, same_for};
 use bt_meta::{BitFault, MetaFault};
 use bt_script::*;
@@ -145,7 +145,7 @@ const FIRST_LINES: &[(&[u8], u64)] = &[
 
 /// How a script is played, and what was printed.
 fn played(alloc: Global, script: &[u8]) -> Result<(Result<(), Fault>, Vec<u8>), AllocError> {
-    let mut out = Vec::new(alloc);
+    let mut out = page(alloc)?;
     let done = in_memory(play_script(alloc, script, &mut out))?;
     Ok((done, out))
 }

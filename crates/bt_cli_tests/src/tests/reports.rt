@@ -1,20 +1,19 @@
 //! Journal lines. What is printed goes through a function without a contract, so that a test knows of what it gives alone.
 
+use super::scripts::page;
 use bt_expect::same;
-use bt_meta::{BitFault, Bitfield, Block, DeviceFault, ToWrite};
+use bt_meta::{BitFault, Bitfield, Block, ToWrite};
 use bt_picker::{Call, Entry, Reason, Reply};
 use bt_script::print_entry;
 use bytes::Bytes;
-use std::alloc::{AllocError, Global};
+use std::alloc::Global;
 use std::test::*;
 
-/// The line of an entry. An output in memory fails for want of it alone.
-fn line_of(alloc: Global, entry: &Entry) -> Result<Vec<u8>, AllocError> {
-    let mut out = ToWrite::new(Vec::new(alloc));
-    match print_entry(&mut out, entry) {
-        Ok(()) => Ok(out.into_inner()),
-        Err(DeviceFault) => Err(AllocError),
-    }
+/// The line of an entry.
+fn line_of(alloc: Global, entry: &Entry) -> Result<Vec<u8>, Fail> {
+    let mut out = ToWrite::new(page(alloc)?);
+    print_entry(&mut out, entry)?;
+    Ok(out.into_inner())
 }
 
 /// Checks the line of a call of worker 7.

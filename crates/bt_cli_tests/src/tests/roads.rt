@@ -84,7 +84,7 @@ fn streams_are_played_in_turns(rt: HostRuntime) -> Result<(), Fail> {
     let mut out = output(rt.alloc(), &mut printed)?;
     let mut target = target(rt.alloc())?;
     let sent = stream(rt.alloc(), INFOHASH, FRAMES)?;
-    let mut streams: [Recorded<'_>; 1] = [recorded(rt.alloc(), &sent)];
+    let mut streams: [Recorded<'_>; 1] = [recorded(rt.alloc(), &sent)?];
     let came = serial_of(
         rt.alloc(),
         FILE,
@@ -105,7 +105,7 @@ fn streams_are_played_at_once(rt: HostRuntime) -> Result<(), Fail> {
     let mut out = output(rt.alloc(), &mut printed)?;
     let mut target = target(rt.alloc())?;
     let sent = stream(rt.alloc(), INFOHASH, FRAMES)?;
-    let streams = vec![in rt.alloc(); recorded(rt.alloc(), &sent)]?;
+    let streams = vec![in rt.alloc(); recorded(rt.alloc(), &sent)?]?;
     let came = threads_of(&rt, FILE, streams, &usual(), &mut out, &mut target)?;
     same(status_of(came.done)?, Some(0))?;
     drop(out);

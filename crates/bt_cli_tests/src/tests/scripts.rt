@@ -51,9 +51,14 @@ pub fn in_memory(done: Result<(), Fault>) -> Result<Result<(), Fault>, AllocErro
     }
 }
 
+/// An output in memory. Its room is taken at once, and is more than any test here prints: so no write lacks memory.
+pub fn page(alloc: Global) -> Result<Vec<u8>, AllocError> {
+    Vec::with_capacity(alloc, 4096)
+}
+
 /// The exit status of a script, and what was printed.
 pub fn ran(alloc: Global, script: &[u8]) -> Result<(u8, Vec<u8>), AllocError> {
-    let mut out = Vec::new(alloc);
+    let mut out = page(alloc)?;
     let status = had_memory(run_script(alloc, script, &mut out))?;
     Ok((status, out))
 }
@@ -153,8 +158,8 @@ fn ends_with(
     text: &[u8],
     told: &[u8],
 ) -> Result<(), Fail> {
-    let mut out = Vec::new(alloc);
-    let mut err = Vec::new(alloc);
+    let mut out = page(alloc)?;
+    let mut err = page(alloc)?;
     same(status_of(alloc, script, &mut out, &mut err)?, status)?;
     same(out.as_slice(), text)?;
     same(err.as_slice(), told)

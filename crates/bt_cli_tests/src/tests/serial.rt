@@ -3,7 +3,7 @@
 
 ghost use Rattle.std.specs.Prelude.{◌≡◌, ◌≤◌};
 
-use super::scripts::had_memory;
+use super::scripts::{had_memory, page};
 use bt_cli::*;
 use bt_expect::same;
 use bt_meta::{FromRead, ToWrite};
@@ -36,11 +36,11 @@ pub fn stream(alloc: Global, infohash: &[u8; 20], frames: &[u8]) -> Result<Vec<u
     Ok(bytes)
 }
 
-pub fn recorded(alloc: Global, sent: &[u8]) -> Recorded<'_> {
-    Stream {
+pub fn recorded(alloc: Global, sent: &[u8]) -> Result<Recorded<'_>, AllocError> {
+    Ok(Stream {
         reader: FromRead::new(Cursor::new(sent)),
-        writer: ToWrite::new(Vec::new(alloc)),
-    }
+        writer: ToWrite::new(page(alloc)?),
+    })
 }
 
 /// Options of all pieces by the usual rules, without the journal, with one checker.
@@ -67,8 +67,8 @@ pub const INFOHASH_OF_THREE: &[u8; 20] =
 
 /// A run of one stream.
 pub fn run(alloc: Global, meta: &[u8], sent: &[u8]) -> Result<Run, Fail> {
-    let mut streams = [recorded(alloc, sent)];
-    let mut out = ToWrite::new(Vec::new(alloc));
+    let mut streams = [recorded(alloc, sent)?];
+    let mut out = ToWrite::new(page(alloc)?);
     let run = play_streams(alloc, meta, &mut streams, &usual(), &mut out)?;
     match run.ended {
         Err(Fault::Memory) => Err(AllocError)?,
@@ -83,7 +83,7 @@ fn command(
     room: &mut [u8],
     err: &mut Vec<u8>,
 ) -> Result<(u8, bool), AllocError> {
-    let mut streams = [recorded(alloc, sent)];
+    let mut streams = [recorded(alloc, sent)?];
     let mut out = ToWrite::new(room);
     let (status, desk) = run_serial(alloc, FILE, &mut streams, &usual(), &mut out, err);
     Ok((had_memory(status)?, desk.is_some()))
@@ -94,7 +94,7 @@ fn command(
 fn a_full_output(rt: HostRuntime) -> Result<(), Fail> {
     let sent = stream(rt.alloc(), INFOHASH, FRAMES)?;
     let mut room = [0; 20];
-    let mut err = Vec::new(rt.alloc());
+    let mut err = page(rt.alloc())?;
     let (status, has_desk) = command(rt.alloc(), &sent, room.as_mut_slice(), &mut err)?;
     same(status, 4)?;
     assert!(rt; has_desk);

@@ -3,7 +3,7 @@
 
 ghost use Rattle.std.specs.Prelude.{◌≤◌, length};
 
-use super::scripts::had_memory;
+use super::scripts::{had_memory, page};
 use super::serial::{
     FILE, FRAMES, INFOHASH, INFOHASH_OF_THREE, Recorded, THREE_PIECES, recorded, stream, usual,
 };
@@ -56,7 +56,7 @@ fn command<T: Threads + Wait + AllocGlobal + Sync>(
 {
     let mut taken = vec![in rt.alloc(); 0_u8; room]?;
     let mut out = ToWrite::new(taken.as_mut_slice());
-    let mut err = Vec::new(rt.alloc());
+    let mut err = page(rt.alloc())?;
     let (status, logs) = played(rt, meta, streams, options, &mut out, &mut err);
     let left = out.into_inner().len();
     taken.truncate(room.saturating_sub(left));
@@ -78,7 +78,7 @@ fn run_of_two<T: Threads + Wait + AllocGlobal + Sync>(
     options.want = Some(Vec::from_slice(rt.alloc(), b"\0\0")?);
     let streams = Vec::from_array(
         rt.alloc(),
-        [recorded(rt.alloc(), first), recorded(rt.alloc(), second)],
+        [recorded(rt.alloc(), first)?, recorded(rt.alloc(), second)?],
     )?;
     command(rt, THREE_PIECES, streams, &options, 1000)
 }
@@ -114,7 +114,7 @@ fn three_pieces_of_two_peers(rt: HostRuntime) -> Result<(), Fail> {
 
 /// A run of one peer that sends this, with an output that takes 20 bytes.
 fn run_of_one<T: Threads + Wait + AllocGlobal + Sync>(rt: &T, sent: &[u8]) -> Result<Done, Fail> {
-    let streams = Vec::from_array(rt.alloc(), [recorded(rt.alloc(), sent)])?;
+    let streams = Vec::from_array(rt.alloc(), [recorded(rt.alloc(), sent)?])?;
     command(rt, FILE, streams, &usual(), 20)
 }
 

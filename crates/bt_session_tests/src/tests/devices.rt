@@ -1,9 +1,9 @@
 //! Streams that end early, readers that fail, and writers that take little or fail.
 
-use super::made::{PEER, peer};
+use super::made::{PEER, output, peer};
 use super::whole::{WHOLE, played, whole_written};
 use bt_expect::same;
-use bt_meta::{DeviceFault, FromRead, Sink, Source, ToWrite};
+use bt_meta::{DeviceFault, FromRead, Sink, Source};
 use bt_peer::{End, SessionFault};
 use std::alloc::Global;
 use std::io::Cursor;
@@ -31,7 +31,7 @@ fn each_front_of_a_stream(rt: HostRuntime) -> Result<(), Fail> {
 
 /// How this front of a stream ends.
 fn play_front(rt: &impl Abort, alloc: Global, front: &[u8]) -> Result<(), Fail> {
-    let mut writer = ToWrite::new(Vec::new(alloc));
+    let mut writer = output(alloc)?;
     let (end, calls) = played_alone(alloc, front, &mut writer)?;
     front_ends(rt, front.len(), end, calls.as_str())
 }
@@ -118,7 +118,7 @@ fn read_fails(
     whole: &[u8],
     left: usize,
 ) -> Result<(), Fail> {
-    let mut writer = ToWrite::new(Vec::new(alloc));
+    let mut writer = output(alloc)?;
     let mut reader = Breaking {
         rest: sent,
         left,
@@ -132,7 +132,7 @@ fn read_fails(
     Ok(())
 }
 
-/// A sink that takes a byte at a time, and fails where it has no room.
+/// A sink that takes a byte at a time, and fails where it has no room. What it has taken has its memory from the start.
 #[derive(Drop)]
 struct Narrow {
     kept: Vec<u8>,
@@ -186,7 +186,7 @@ fn write_front(
     front: &[u8],
 ) -> Result<(Result<End, SessionFault>, String), Fail> {
     let mut writer = Narrow {
-        kept: Vec::new(alloc),
+        kept: Vec::with_capacity(alloc, front.len())?,
         room: front.len(),
         failed: false,
     };

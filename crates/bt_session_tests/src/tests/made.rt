@@ -72,13 +72,18 @@ pub fn had_memory(short: bool, ends: &[Result<End, SessionFault>]) -> Result<(),
     Ok(())
 }
 
+/// An output in memory. Its room is taken at once, and is more than any session here writes: so no write lacks memory.
+pub fn output(alloc: Global) -> Result<ToWrite<Vec<u8>>, AllocError> {
+    Ok(ToWrite::new(Vec::with_capacity(alloc, 4096)?))
+}
+
 /// A stream of bytes that were recorded, and of those that are written.
 pub type Recorded<'a> = Stream<FromRead<Cursor<&'a [u8]>>, ToWrite<Vec<u8>>>;
 
 /// The stream of a peer that sends these bytes.
-pub fn recorded(alloc: Global, sent: &[u8]) -> Recorded<'_> {
-    Stream {
+pub fn recorded(alloc: Global, sent: &[u8]) -> Result<Recorded<'_>, AllocError> {
+    Ok(Stream {
         reader: FromRead::new(Cursor::new(sent)),
-        writer: ToWrite::new(Vec::new(alloc)),
-    }
+        writer: output(alloc)?,
+    })
 }

@@ -96,7 +96,7 @@ fn outcome_of(alloc: Global, run: SerialRun, streams: Vec<Recorded<'_>>) -> Resu
 fn streams_of(alloc: Global, sent: &[Vec<u8>]) -> Result<Vec<Recorded<'_>>, Fail> {
     let mut streams = Vec::new(alloc);
     for bytes in sent {
-        streams.push(recorded(alloc, bytes))?;
+        streams.push(recorded(alloc, bytes)?)?;
     }
     Ok(streams)
 }

@@ -24,7 +24,7 @@ fn run(
     rules: Rules,
 ) -> Result<SerialRun, Fail> {
     let sent = peer(alloc, 1, frames)?;
-    let mut streams = [recorded(alloc, &sent)];
+    let mut streams = [recorded(alloc, &sent)?];
     run_by(alloc, torrent, &mut streams, 0, want, rules)
 }
 

@@ -47,7 +47,7 @@ fn run_of_one<'a, T: Threads + Wait + Sync>(
 ) -> Result<Run<'a>, Fail>
     requires checkers { (1 ≤ checkers) × (checkers ≤ 8) }
 {
-    let streams = Vec::from_array(alloc, [recorded(alloc, sent)])?;
+    let streams = Vec::from_array(alloc, [recorded(alloc, sent)?])?;
     run(rt, alloc, torrent, streams, checkers, &OpenGate)
 }
 
@@ -60,7 +60,7 @@ fn run_of_two<'a, T: Threads + Wait + Sync, G: Gate + Sync>(
     gate: &G,
 ) -> Result<Run<'a>, Fail> {
     let [first, second] = sent;
-    let streams = Vec::from_array(alloc, [recorded(alloc, first), recorded(alloc, second)])?;
+    let streams = Vec::from_array(alloc, [recorded(alloc, first)?, recorded(alloc, second)?])?;
     run(rt, alloc, torrent, streams, 1, gate)
 }
 
@@ -185,9 +185,9 @@ fn run_of_three<'a, T: Threads + Wait + Sync>(
     let streams = Vec::from_array(
         alloc,
         [
-            recorded(alloc, first),
-            recorded(alloc, second),
-            recorded(alloc, third),
+            recorded(alloc, first)?,
+            recorded(alloc, second)?,
+            recorded(alloc, third)?,
         ],
     )?;
     run(rt, alloc, two_pieces(alloc)?, streams, 8, &OpenGate)

@@ -3,9 +3,9 @@
 ghost use Rattle.std.specs.Prelude.{◌≡◌, ◌<◌, ◌≤◌};
 ghost use Rattle.bt_meta.specs.Layout.{piece_count};
 
-use super::made::{PEER, RULES, peer, torrent};
+use super::made::{PEER, RULES, had_memory, output, peer, torrent};
 use bt_expect::same;
-use bt_meta::{Bitfield, FromRead, Sink, Source, ToWrite, Torrent};
+use bt_meta::{Bitfield, FromRead, Sink, Source, Torrent};
 use bt_peer::whole::session;
 use bt_peer::{DeskPlace, End, SessionFault};
 use bt_picker::{Call, Desk, Entry};
@@ -59,7 +59,7 @@ pub fn told_of<R: Source>(
     alloc: Global,
     reader: &mut R,
 ) -> Result<(Result<End, SessionFault>, String, Vec<u8>), Fail> {
-    let mut writer = ToWrite::new(Vec::new(alloc));
+    let mut writer = output(alloc)?;
     let (end, said) = played(alloc, 4, reader, &mut writer)?;
     Ok((end, said, writer.into_inner()))
 }
@@ -80,7 +80,7 @@ pub fn played<R: Source, W: Sink>(
     Ok((end, said))
 }
 
-/// How the worker's session ended, at a desk of this torrent.
+/// How the worker's session ended, at a desk of this torrent, unless memory was lacking for a call or for something else.
 fn play<R: Source, W: Sink>(
     alloc: Global,
     torrent: Arc<Torrent>,
@@ -95,12 +95,11 @@ fn play<R: Source, W: Sink>(
     let mut told = Bitfield::empty(alloc, torrent.piece_count())?;
     let mut rng = Lcg64Xsh32::new(0, u64::from(worker));
     let mut place = DeskPlace::new(desk, worker, &mut told);
-    match session(
+    let end = session(
         alloc, torrent, worker, reader, writer, &mut place, &mut rng, 5,
-    ) {
-        Err(SessionFault::NoMemory) => Err(AllocError),
-        end => Ok(end),
-    }
+    );
+    had_memory(place.fell_short(), &[end])?;
+    Ok(end)
 }
 
 /// The desk's journal, entry by entry.
