@@ -141,7 +141,9 @@ impl Keeper {
     pub fn settle(&mut self, worker: u32, verdict: &Verdict) -> Settled
         ensures settles { SettlesBy self.old self.new worker verdict.now result.reply }
         ensures blocks { HandsOut self.old verdict.now.piece result.reply result.blocks.items }
-        ensures hashed { result.reply ≡ Reply.Had → sha1 (concat result.blocks.items) ≡ hash_of self.old.setting.torrent verdict.now.piece }
+        // What is handed out has the hash that the metainfo gives for the piece.
+        ensures hashed { result.reply ≡ Reply.Had →
+            sha1 (concat result.blocks.items) ≡ hash_of self.old.setting.torrent verdict.now.piece }
     {
         if self.is_stale(verdict) {
             return self.without_blocks(Reply::Refused(Reason::Stale));
@@ -154,7 +156,9 @@ impl Keeper {
     pub fn settle_now(&mut self, worker: u32, piece: u32) -> Settled
         ensures settles { Settles self.old self.new worker piece result.reply }
         ensures blocks { HandsOut self.old piece result.reply result.blocks.items }
-        ensures hashed { result.reply ≡ Reply.Had → sha1 (concat result.blocks.items) ≡ hash_of self.old.setting.torrent piece }
+        // What is handed out has the hash that the metainfo gives for the piece.
+        ensures hashed { result.reply ≡ Reply.Had →
+            sha1 (concat result.blocks.items) ≡ hash_of self.old.setting.torrent piece }
     {
         let digest = if self.is_waiting(piece) {
             hash(self.waiting(piece))
@@ -170,7 +174,9 @@ impl Keeper {
             digest.now ≡ sha1 (content self.old.setting self.old.history piece) }
         ensures settles { Settles self.old self.new worker piece result.reply }
         ensures blocks { HandsOut self.old piece result.reply result.blocks.items }
-        ensures hashed { result.reply ≡ Reply.Had → sha1 (concat result.blocks.items) ≡ hash_of self.old.setting.torrent piece }
+        // What is handed out has the hash that the metainfo gives for the piece.
+        ensures hashed { result.reply ≡ Reply.Had →
+            sha1 (concat result.blocks.items) ≡ hash_of self.old.setting.torrent piece }
     {
         self.picker.attest();
         let reply = self.picker.settle(worker, piece, digest);
