@@ -1,4 +1,4 @@
-//! All rows, and what each entry of the journal makes of them.
+//! All rows, and what each entry of a history makes of them.
 
 ghost use Rattle.std.specs.Prelude.{◌≡◌, ◌<◌, ◌≤◌, ◌+◌, ◌^◌, ◌*◌, ◌/◌, ◌==◌, ◌∷◌, [], ℕ, Bool, false, length, map, slice_index_or, not};
 ghost use Rattle.std.specs.Prelude.{true, IfOk, IfSome, Some, IsTrue, EachIndex, unwrap_or};
@@ -40,9 +40,8 @@ use std::alloc::{AllocError, Global};
 use std::marker::Model;
 use std::sync::Arc;
 
-/// A row for each worker's peer, by the worker's number, and the rows of all pieces: what the picker answers from, so that it never reads
-/// the journal but for the bytes of held blocks. Beside the journal that they tell of the tables make a `Position`, which answers by the
-/// definitions.
+/// A row for each worker's peer, by the worker's number, and the rows of all pieces: what the picker answers from, so that no history is
+/// read, and none need be kept. Beside the history that they tell of the tables make a `Position`, which answers by the definitions.
 pub struct Tables {
     torrent: Arc<Torrent>,
     workers: u32,
