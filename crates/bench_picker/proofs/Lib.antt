@@ -1,0 +1,2 @@
+pub mod ZeroContent
+pub mod ZeroSteps

@@ -1,0 +1,188 @@
+//! The peers of the swarm, and the rounds of a download from them.
+
+use crate::mix::Mix;
+use crate::zeros::Zeros;
+use anyhow::Result;
+use bt_meta::{Bitfield, Block};
+use bt_picker::Reply;
+use std::alloc::{AllocError, Global};
+
+/// The peers of the swarm; the last one is a seed.
+const PEERS: u32 = 51;
+
+/// So many blocks are asked of a peer at a time.
+const DEPTH: u32 = 5;
+
+/// Asks of one turn: more cancels than these are never due at a peer.
+const MOST_ASKS: u32 = 65;
+
+/// Where the words of the bitfields begin, and those of the asks.
+const SHOWN_SEED: u64 = 1;
+
+const ASK_SEED: u64 = 2;
+
+/// Whether a peer is still asked, and whether the last ask gave no block.
+#[derive(Clone, Copy)]
+struct Peer {
+    active: bool,
+    dry: bool,
+}
+
+/// What was counted.
+#[derive(Clone, Copy)]
+pub struct Counts {
+    pub asks: u64,
+    pub requests: u64,
+    pub had: u32,
+    /// A hash of all requests, in order (FNV-1a over worker, piece and block).
+    pub picks: u64,
+}
+
+/// The picker and the peers that come to it.
+#[derive(Drop)]
+pub struct Swarm {
+    zeros: Zeros,
+    words: Mix,
+    peers: Vec<Peer>,
+    counts: Counts,
+    pieces: u32,
+}
+
+impl Swarm {
+    /// With no peer yet.
+    pub fn new(alloc: Global, pieces: u32) -> Result<Swarm> {
+        let fresh = Peer {
+            active: true,
+            dry: false,
+        };
+        Ok(Swarm {
+            zeros: Zeros::new(alloc, pieces, PEERS, DEPTH)?,
+            words: Mix::new(ASK_SEED),
+            peers: vec![in alloc; fresh; PEERS as usize]?,
+            counts: Counts {
+                asks: 0,
+                requests: 0,
+                had: 0,
+                picks: 0,
+            },
+            pieces,
+        })
+    }
+
+    /// What was counted so far.
+    pub fn counts(&self) -> Counts {
+        self.counts
+    }
+
+    /// All peers come, with the last bitfield for the last peer.
+    pub fn come(&mut self, mut shown: Vec<Bitfield>) {
+        for back in 0..PEERS {
+            if let Some(flags) = shown.pop() {
+                self.zeros.come(PEERS - 1 - back, &flags);
+            }
+        }
+    }
+
+    /// Rounds until each piece is had.
+    pub fn run(&mut self) {
+        'rounds: for _ in 0..u64::MAX {
+            if self.counts.had >= self.pieces {
+                return;
+            }
+            self.round();
+        }
+    }
+
+    /// A turn of each peer.
+    fn round(&mut self) {
+        for worker in 0..PEERS {
+            self.turn(worker);
+        }
+    }
+
+    /// The peer's oldest block arrives where it has as many as it may, or the last ask gave none; then it is asked.
+    #[inline(always)]
+    fn turn(&mut self, worker: u32) {
+        let Some(peer) = self.peers.get(worker as usize).copied() else {
+            return;
+        };
+        if !peer.active || self.counts.had >= self.pieces {
+            return;
+        }
+        let least = if peer.dry { 0 } else { DEPTH };
+        if let Some(block) = self.zeros.oldest(worker, least as usize) {
+            self.arrive(worker, &block);
+        }
+        let reply = self.ask(worker);
+        if let Reply::Request(block) = reply {
+            self.count(worker, &block);
+        }
+        if let Some(peer) = self.peers.get_mut(worker as usize) {
+            peer.dry = !matches!(reply, Reply::Request(_));
+            peer.active = reply != Reply::NothingLeft;
+        }
+    }
+
+    /// A request more.
+    #[inline(always)]
+    fn count(&mut self, worker: u32, block: &Block) {
+        let named = (u64::from(worker) << 48)
+            ^ (u64::from(block.piece) << 16)
+            ^ u64::from(block.begin >> 14);
+        self.counts.requests = self.counts.requests.wrapping_add(1);
+        self.counts.picks = (self.counts.picks ^ named).wrapping_mul(0x0000_0100_0000_01B3);
+    }
+
+    /// The block came; a piece that it completes was hashed elsewhere.
+    #[inline(always)]
+    fn arrive(&mut self, worker: u32, block: &Block) {
+        if self.zeros.arrive(worker, block) == Reply::Completed
+            && self.zeros.settle(worker, block.piece) == Reply::Had
+        {
+            self.counts.had = self.counts.had.wrapping_add(1);
+        }
+    }
+
+    /// Asks until the reply is no cancel.
+    #[inline(always)]
+    fn ask(&mut self, worker: u32) -> Reply {
+        for _ in 0..MOST_ASKS {
+            self.counts.asks = self.counts.asks.wrapping_add(1);
+            let reply = self.zeros.next(worker, self.words.next_word());
+            if !matches!(reply, Reply::Cancel(_)) {
+                return reply;
+            }
+        }
+        Reply::NothingLeft
+    }
+}
+
+/// What each peer shows, by their numbers: 64 pieces to a word, its low bit first, and the seed all.
+pub fn bitfields(alloc: Global, pieces: u32) -> Result<Vec<Bitfield>, AllocError> {
+    let mut words = Mix::new(SHOWN_SEED);
+    let mut shown = Vec::new(alloc);
+    for peer in 0..PEERS {
+        shown.push(bitfield(alloc, pieces, peer + 1 == PEERS, &mut words)?)?;
+    }
+    Ok(shown)
+}
+
+/// A peer's pieces.
+fn bitfield(
+    alloc: Global,
+    pieces: u32,
+    is_seed: bool,
+    words: &mut Mix,
+) -> Result<Bitfield, AllocError> {
+    let mut flags = Bitfield::empty(alloc, pieces)?;
+    let mut word = u64::MAX;
+    for piece in 0..pieces {
+        if piece % 64 == 0 && !is_seed {
+            word = words.next_word();
+        }
+        if piece < flags.count() && (word >> (piece % 64)) & 1 == 1 {
+            flags.set(piece);
+        }
+    }
+    Ok(flags)
+}

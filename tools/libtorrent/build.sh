@@ -1,0 +1,17 @@
+#!/bin/sh
+# Builds bench_libtorrent: libtorrent-rasterbar 2.0.11's picker alone, on the workload of crates/bench_picker/README.md. Takes Debian's source package of the
+# suite trixie and boost's headers by a private apt folder, so that the machine's own settings stay; about half a minute after the download.
+# usage: build.sh FOLDER
+set -eu
+here=$(cd "$(dirname "$0")" && pwd)
+mkdir -p "$1" && cd "$1"
+mkdir -p apt/lists/partial apt/parts obj
+sed 's/^Types:.*/Types: deb-src/; s/bookworm/trixie/g' /etc/apt/sources.list.d/debian.sources >apt/parts/source.sources
+options="-o Dir::Etc::sourcelist=/dev/null -o Dir::Etc::sourceparts=$PWD/apt/parts -o Dir::State::lists=$PWD/apt/lists"
+[ -d lt ] || { apt-get $options -qq update; apt-get $options -qq source --download-only libtorrent-rasterbar; dpkg-source -x libtorrent-rasterbar_2.0.11*.dsc lt; }
+[ -d boost ] || { apt-get -qq update; apt-get -qq download libboost1.74-dev; dpkg-deb -x libboost1.74-dev*.deb boost; }
+flags="-std=c++17 -O2 -DNDEBUG -ffunction-sections -fdata-sections -Ilt/include -Ilt/deps/try_signal -isystem boost/usr/include"
+for f in piece_picker random performance_counters bitfield error_code; do [ -f obj/$f.o ] || g++ $flags -c lt/src/$f.cpp -o obj/$f.o; done
+g++ $flags -c "$here/bench_libtorrent.cpp" -o obj/bench.o
+g++ -Wl,--gc-sections obj/*.o -o bench_libtorrent -lpthread
+echo "$PWD/bench_libtorrent 10000 --opts strict --depth 5"
