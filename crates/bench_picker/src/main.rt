@@ -22,7 +22,7 @@ fn main(rt: HostRuntime) -> Result<()> {
 fn obey<R: Runtime + AllocGlobal + CpuClock>(rt: &R) -> Result<()> {
     let words: Vec<String> = env::args(rt)?.collect(rt.alloc())?;
     let pieces = match words.get(1) {
-        Some(word) => word.as_str().parse::<u32>().unwrap_or(USUAL_PIECES),
+        Some(word) => word.as_str().parse::<u32>()?,
         None => USUAL_PIECES,
     };
     let is_timed = words.iter().any(|word| word.as_str() == "times");
