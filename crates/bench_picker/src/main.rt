@@ -5,7 +5,7 @@ mod mix;
 mod swarm;
 mod zeros;
 
-use anyhow::Result;
+use anyhow::{Result, bail};
 use std::env;
 use std::rt::Runtime;
 use std::time::CpuClock;
@@ -18,20 +18,31 @@ fn main(rt: HostRuntime) -> Result<()> {
     obey(&rt)
 }
 
-/// Plays the download of so many pieces, and prints its counts; with the word `times` behind the number, the time of an ask too.
+/// Plays the download of so many pieces, and prints its counts. The words are the number of pieces, how often the pieces that a peer shows
+/// are halved, and `times`, with which the time of an ask is printed too.
 fn obey<R: Runtime + AllocGlobal + CpuClock>(rt: &R) -> Result<()> {
     let words: Vec<String> = env::args(rt)?.collect(rt.alloc())?;
-    let pieces = match words.get(1) {
-        Some(word) => word.as_str().parse::<u32>()?,
-        None => USUAL_PIECES,
+    let pieces = number(words.get(1), USUAL_PIECES)?;
+    let halvings = number(words.get(2), 0)?;
+    let is_timed = match words.get(3) {
+        Some(word) if word.as_str() == "times" => true,
+        Some(_) => bail!("behind the numbers there is nothing but `times`"),
+        None => false,
     };
-    let is_timed = words.iter().any(|word| word.as_str() == "times");
     let mut swarm = Swarm::new(rt.alloc(), pieces)?;
-    swarm.come(bitfields(rt.alloc(), pieces)?);
+    swarm.come(bitfields(rt.alloc(), pieces, halvings)?);
     let start = rt.thread_cpu_time()?;
     swarm.run();
     let took = rt.thread_cpu_time()?.saturating_sub(start).as_nanos();
     tell(rt, pieces, &swarm, is_timed.then_some(took))
+}
+
+/// The number that a word says, or the usual one where there is no word.
+fn number(word: Option<&String>, usual: u32) -> Result<u32> {
+    match word {
+        Some(word) => Ok(word.as_str().parse::<u32>()?),
+        None => Ok(usual),
+    }
 }
 
 /// Prints the counts, and the time of an ask with its arrival where it is given.

@@ -157,20 +157,31 @@ impl Swarm {
     }
 }
 
-/// What each peer shows, by their numbers: 64 pieces to a word, its low bit first, and the seed all.
-pub fn bitfields(alloc: Global, pieces: u32) -> Result<Vec<Bitfield>, AllocError> {
+/// What each peer shows, by their numbers: 64 pieces to a word, its low bit first, and the seed all. A peer shows half of the pieces, and
+/// half as many again for each halving.
+pub fn bitfields(alloc: Global, pieces: u32, halvings: u32) -> Result<Vec<Bitfield>, AllocError> {
     let mut words = Mix::new(SHOWN_SEED);
     let mut shown = Vec::new(alloc);
     for peer in 0..PEERS {
-        shown.push(bitfield(alloc, pieces, peer + 1 == PEERS, &mut words)?)?;
+        shown.push(bitfield(alloc, pieces, halvings, peer + 1 == PEERS, &mut words)?)?;
     }
     Ok(shown)
+}
+
+/// Which of 64 pieces are shown: those whose bit is set in so many words more too.
+fn sparse_word(words: &mut Mix, halvings: u32) -> u64 {
+    let mut word = words.next_word();
+    for _ in 0..halvings {
+        word &= words.next_word();
+    }
+    word
 }
 
 /// A peer's pieces.
 fn bitfield(
     alloc: Global,
     pieces: u32,
+    halvings: u32,
     is_seed: bool,
     words: &mut Mix,
 ) -> Result<Bitfield, AllocError> {
@@ -178,7 +189,7 @@ fn bitfield(
     let mut word = u64::MAX;
     for piece in 0..pieces {
         if piece % 64 == 0 && !is_seed {
-            word = words.next_word();
+            word = sparse_word(words, halvings);
         }
         if piece < flags.count() && (word >> (piece % 64)) & 1 == 1 {
             flags.set(piece);
