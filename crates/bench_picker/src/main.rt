@@ -9,7 +9,7 @@ use anyhow::{Result, bail};
 use std::env;
 use std::rt::Runtime;
 use std::time::CpuClock;
-use swarm::{Swarm, bitfields};
+use swarm::Swarm;
 
 /// So many pieces are downloaded where the command line says nothing.
 const USUAL_PIECES: u32 = 1_000;
@@ -30,7 +30,7 @@ fn obey<R: Runtime + AllocGlobal + CpuClock>(rt: &R) -> Result<()> {
         None => false,
     };
     let mut swarm = Swarm::new(rt.alloc(), pieces)?;
-    swarm.come(bitfields(rt.alloc(), pieces, halvings)?);
+    swarm.come(rt.alloc(), halvings)?;
     let start = rt.thread_cpu_time()?;
     swarm.run();
     let took = rt.thread_cpu_time()?.saturating_sub(start).as_nanos();

@@ -74,13 +74,16 @@ impl Swarm {
         self.counts
     }
 
-    /// All peers come, with the last bitfield for the last peer.
-    pub fn come(&mut self, mut shown: Vec<Bitfield>) {
-        for back in 0..PEERS {
-            if let Some(flags) = shown.pop() {
-                self.zeros.come(PEERS - 1 - back, &flags);
-            }
+    /// All peers come, one after the other, each with a bitfield of its own: 64 pieces to a word, its low bit first, and the seed's all. A
+    /// peer shows half of the pieces, and half as many again for each halving.
+    pub fn come(&mut self, alloc: Global, halvings: u32) -> Result<(), AllocError> {
+        let mut words = Mix::new(SHOWN_SEED);
+        for worker in 0..PEERS {
+            let is_seed = worker + 1 == PEERS;
+            let shown = bitfield(alloc, self.pieces, halvings, is_seed, &mut words)?;
+            self.zeros.come(worker, &shown);
         }
+        Ok(())
     }
 
     /// Rounds until each piece is had.
@@ -155,17 +158,6 @@ impl Swarm {
         }
         Reply::NothingLeft
     }
-}
-
-/// What each peer shows, by their numbers: 64 pieces to a word, its low bit first, and the seed all. A peer shows half of the pieces, and
-/// half as many again for each halving.
-pub fn bitfields(alloc: Global, pieces: u32, halvings: u32) -> Result<Vec<Bitfield>, AllocError> {
-    let mut words = Mix::new(SHOWN_SEED);
-    let mut shown = Vec::new(alloc);
-    for peer in 0..PEERS {
-        shown.push(bitfield(alloc, pieces, halvings, peer + 1 == PEERS, &mut words)?)?;
-    }
-    Ok(shown)
 }
 
 /// Which of 64 pieces are shown: those whose bit is set in so many words more too.

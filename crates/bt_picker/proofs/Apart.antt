@@ -14,7 +14,7 @@ use Rattle.bt_picker.specs.Standings.{AreShelved, ShelfState, apart, group_of_ro
 use Rattle.bt_picker.specs.Standings.{touched_count, whole_rows}
 use Rattle.bt_picker.specs.Apart.{AreApart}
 use Rattle.bt_picker.proofs.Shelves.{can_file, files}
-use Rattle.bt_picker.proofs.Tabled.{edit_set, get_or_table, length_table, table_from}
+use Rattle.bt_picker.proofs.Tabled.{edit_set, get_or_edit_same, get_or_table, length_table, table_from}
 
 -- ---- the rows with the counts
 
@@ -121,6 +121,10 @@ next_room false false false n few = omega arith
 
 -- ---- what is read
 
+-- the row of a piece is one that it can be read as
+pub own_row : (rows : List PieceState) (p : ℕ) → p < length rows → piece_row rows p ≡ get_or rows p (piece_row rows p)
+own_row rows p lp = get_or_default rows p (fresh_piece 0) (piece_row rows p) lp
+
 -- a row is that of the piece but for the count
 pub read_row : (rows : List PieceState) (shown : List ℕ) (p : ℕ) (row : PieceState) → length shown ≡ length rows → AreApart rows → p < length rows
     → row ≡ get_or rows p row → row ≡ apart (piece_row (whole_rows rows shown) p)
@@ -130,6 +134,20 @@ read_row rows shown p row len are lp read =
     let whole : apart (piece_row (whole_rows rows shown) p) ≡ apart row =
     ap apart (whole_at rows shown p (fresh_piece 0) row 0 len lp) ∙ ap apart (sym read) in
     (λ i. record { had = row.had; wanted = row.wanted; availability = none i; blocks = row.blocks }) ∙ sym whole
+
+pub lent_row : (rows : List PieceState) (shown : List ℕ) (p : ℕ) (row : PieceState) → length shown ≡ length rows → AreApart rows → p < length rows
+    → row ≡ piece_row rows p → row ≡ apart (piece_row (whole_rows rows shown) p)
+lent_row rows shown p row len are lp is =
+    is ∙ read_row rows shown p (piece_row rows p) len are lp (own_row rows p lp)
+
+-- the rows once the row of the piece is changed, and what that row is then
+pub edited_rows : (rows : List PieceState) (p : ℕ) (change : Change) → p < length rows
+    → edit rows p (changed_row change) ≡ set rows p (changed_row change (piece_row rows p))
+edited_rows rows p change lp = sym (edit_set rows p (changed_row change) (piece_row rows p) lp (own_row rows p lp))
+
+pub edited_row : (rows : List PieceState) (p : ℕ) (change : Change) → p < length rows
+    → piece_row (edit rows p (changed_row change)) p ≡ changed_row change (piece_row rows p)
+edited_row rows p change lp = get_or_edit_same rows p (changed_row change) (fresh_piece 0) lp
 
 pub still_apart : (rows : List PieceState) (p : ℕ) (row : PieceState) → AreApart rows → row.availability ≡ 0 → AreApart (set rows p row)
 still_apart rows p row are none q =

@@ -23,7 +23,7 @@ use Rattle.bt_order.specs.Orders.{at, ListsGroup}
 use Rattle.bt_picker.specs.Search.{Finds, FindsOf}
 use Rattle.bt_picker.proofs.Scans.{finds_in_piece, none_in_pieces}
 use Rattle.bt_picker.proofs.Tabled.{length_table, get_or_table, table_more}
-use Rattle.bt_picker.proofs.Rows.{group_is, wanted_chosen, full_row, all_touched_row, cells_long, counted_all, held_counted}
+use Rattle.bt_picker.proofs.Telling.{group_is, wanted_chosen, full_row, all_touched_row, cells_long, counted_all, held_counted}
 
 -- ---- in endgame a piece with a block to ask again has all its lacking blocks asked
 

@@ -17,7 +17,7 @@ use Rattle.bt_picker.specs.Search.{FindsLeast, rank_of}
 use Rattle.bt_picker.specs.Standings.{FindsListed, group_of_row, groups_of, shown_group}
 use Rattle.bt_picker.specs.Tables.{piece_of}
 use Rattle.bt_picker.proofs.Endings.{group_within}
-use Rattle.bt_picker.proofs.Rows.{group_is, wanted_chosen}
+use Rattle.bt_picker.proofs.Telling.{group_is, wanted_chosen}
 use Rattle.bt_picker.proofs.Scans.{lacks_found, lacks_none}
 use Rattle.bt_picker.proofs.Tabled.{get_or_table, length_table}
 

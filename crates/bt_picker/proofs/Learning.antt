@@ -28,7 +28,7 @@ use Rattle.bt_picker.specs.Standings.{group_of_row, shown_group}
 use Rattle.std.specs.List.{count_by}
 use Rattle.bt_picker.specs.Tables.{AreTables, PeerState, PieceState, TablesState, announced, edit, fresh_peer, fresh_piece, have_row}
 use Rattle.bt_picker.specs.Tables.{less_available, more_available, peer_of, peer_row, piece_of, piece_row}
-use Rattle.bt_picker.proofs.Rows.{group_is, had_rows, untouched_row, wanted_chosen}
+use Rattle.bt_picker.proofs.Telling.{group_is, had_rows, untouched_row, wanted_chosen}
 use Rattle.bt_picker.proofs.Scans.{candidate_usable, first_block, lacks_found}
 use Rattle.bt_picker.proofs.Tabled.{edit_read, get_or_is_table, get_or_table, length_edit}
 

@@ -161,3 +161,9 @@ rows_edit ys n i g f change d is lt at =
     let within : i < length ys = omega (arith, lt, length_is_table ys n (upto i g f) is) in
     sym (edit_read ys i change (get_or ys i d) d within refl)
     ∙ rows_more ys n i g f (change (get_or ys i d)) is lt (ap change (rows_read ys n i g f d is lt) ∙ at)
+
+-- a change that leaves the element as it is
+pub edit_unmoved : {A : Type 0} (xs : List A) (i : ℕ) (f : A → A) (d : A) → i < length xs → f (get_or xs i d) ≡ get_or xs i d → edit xs i f ≡ xs
+edit_unmoved [] i f d lt same = absurd (omega arith)
+edit_unmoved (x ∷ xs) zero f d lt same = ap (λ y. y ∷ xs) same
+edit_unmoved (x ∷ xs) (suc i) f d lt same = ap (λ ys. x ∷ ys) (edit_unmoved xs i f d (omega arith) same)

@@ -16,7 +16,7 @@ use Rattle.bt_order.specs.Orders.{at, ListsGroup}
 use Rattle.bt_picker.specs.Tables.{AreTables, PieceState, TablesState, piece_of}
 use Rattle.bt_picker.specs.Standings.{group_of_row, groups_of, standing_of, touched_count}
 use Rattle.bt_picker.specs.Unbegun.{is_unbegun_at, ListsUnbegun, unasked_count}
-use Rattle.bt_picker.proofs.Rows.{cells_long, group_unbegun, touched_counted, unbegun_group, uncrowded, wanted_chosen}
+use Rattle.bt_picker.proofs.Telling.{cells_long, group_unbegun, touched_counted, unbegun_group, uncrowded, wanted_chosen}
 use Rattle.bt_picker.proofs.Tabled.{get_or_table, length_table, map_table, table_more}
 
 module _ (s : Setting) (h : History) (n : ℕ) (pieces : List ℕ) (layout : IsLayout s.torrent) (under : n < 1025)

@@ -1,5 +1,6 @@
 pub mod Tables
 pub mod Standings
+pub mod Rows
 pub mod Floors
 pub mod Search
 pub mod Positions

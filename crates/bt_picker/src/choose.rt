@@ -306,7 +306,7 @@ impl<'a> Position<'a> {
     }
 
     /// How many pieces are had.
-    #[tactic(auto, using(crate::proofs::Rows::had_rows))]
+    #[tactic(auto, using(crate::proofs::Telling::had_rows))]
     pub(crate) fn had_count(&self) -> u32
         ensures { result ≡ had_count self.now.setting self.now.history }
     {

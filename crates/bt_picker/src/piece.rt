@@ -1,4 +1,4 @@
-//! The row of a piece, and what it amounts to.
+//! The row of a piece as it is lent, and what it amounts to.
 
 ghost use Rattle.std.specs.Prelude.{◌≡◌, ◌<◌, ◌≤◌, ◌+◌, ◌-◌, ◌^◌, ◌==◌, nat_lt, min, if◌then◌else◌, length, slice_index_or};
 ghost use Rattle.std.specs.Prelude.{slice_set, IfOk, Bool, true, false, replicate};
@@ -7,10 +7,11 @@ ghost use Rattle.bt_picker.specs.Tables.{one_more, stored_row};
 ghost use Rattle.bt_picker.specs.Floors.{is_fresh};
 ghost use Rattle.bt_picker.specs.Standings.{AreTouched, cell_kept, is_held, is_touched, held_count, touched_count, group_of_row, shown_row};
 ghost use Rattle.bt_picker.specs.Standings.{standing_of};
+ghost use Rattle.bt_picker.specs.Rows.{Keeps, row_of, said};
 
-use crate::cell::{Cell, HELD};
+use crate::cell::Cell;
+use crate::counts::Counts;
 use bt_history::MOST_WORKERS;
-use std::alloc::{AllocError, Global};
 use std::marker::Model;
 
 /// A change of what is kept of a piece. Blocks are counted from the front of the piece.
@@ -63,46 +64,38 @@ pub const CROWD: u32 = MOST_WORKERS + 1;
 /// So many groups there are.
 pub const GROUPS: u32 = UNBEGUN + CROWD + 1;
 
-/// What is kept of a piece: whether it is had and wanted, and a cell for each of its blocks, by the block's index. How many peers show it
-/// stands apart (`Pieces`): contracts see a row that nobody shows. Of the blocks it counts those that are held, and those that are held or
-/// asked, so that whether the piece is full or begun is one look; and it knows up to which block each is held or asked, since the next one
-/// is looked for behind it. The rows stand by the piece's number.
+/// What is kept of a piece, as its rows lend it: what is counted of its blocks, and a cell for each of them, by the block's index. How many
+/// peers show the piece stands apart (`Pieces`): contracts see a row that nobody shows.
 #[derive(Drop)]
-pub struct Piece {
-    had: bool,
-    wanted: bool,
-    held: u32,
-    touched: u32,
-    first: u32,
-    blocks: Vec<Cell>,
+pub struct Piece<'a> {
+    counts: &'a Counts,
+    cells: &'a [Cell],
 }
 
-impl Model for Piece {
+impl<'a> Model for Piece<'a> {
+    ghost use Rattle.bt_picker.specs.Rows.{Keeps, row_of, said};
     ghost use Rattle.bt_picker.specs.Tables.{PieceState};
-    ghost use Rattle.bt_picker.specs.Standings.{AreCounts, AreTouched, cell_kept};
-    ghost use Rattle.std.specs.Prelude.{map};
 
     ghost Value = { PieceState };
 
-    ghost view = { λ p. record { had = p.had; wanted = p.wanted; availability = 0; blocks = map cell_kept p.blocks.items } };
+    ghost view = { λ p. row_of p.counts.now (said p.cells.now) };
 
-    ghost invariant = { λ p. AreCounts p.held p.touched (map cell_kept p.blocks.items)
-        × AreTouched p.first (map cell_kept p.blocks.items) };
+    ghost invariant = { λ p. Keeps p.counts.now (said p.cells.now) };
 }
 
-impl Piece {
-    /// A wanted piece of so many blocks, none held or asked, that nobody shows.
-    pub fn new(alloc: Global, blocks: u32) -> Result<Piece, AllocError>
-        ensures { IfOk result (λ piece. piece ≡ fresh_piece blocks) }
+impl<'a> Piece<'a> {
+    pub fn new(counts: &'a Counts, cells: &'a [Cell]) -> Piece<'a>
+        requires { Keeps counts.now (said cells.now) }
+        ensures { result ≡ row_of counts.now (said cells.now) }
     {
-        Ok(Piece {
-            had: false,
-            wanted: true,
-            held: 0,
-            touched: 0,
-            first: 0,
-            blocks: vec![in alloc; Cell::EMPTY; blocks as usize]?,
-        })
+        Piece { counts, cells }
+    }
+
+    /// How many blocks the piece has.
+    pub fn len(&self) -> u32
+        ensures { result ≡ length self.now.blocks }
+    {
+        self.cells.len() as u32
     }
 
     /// What the row amounts to, of a piece that so many peers show.
@@ -111,16 +104,12 @@ impl Piece {
         ensures is { result ≡ standing_of (shown_row shown_by self.now) }
         ensures few { result.group < GROUPS }
     {
-        let blocks = if self.wanted {
-            self.blocks.len() as u32
-        } else {
-            0
-        };
+        let blocks = if self.counts.wanted { self.len() } else { 0 };
         Standing {
             group: self.group(shown_by),
-            unasked: blocks.saturating_sub(self.touched),
-            unheld: blocks.saturating_sub(self.held),
-            had: self.had,
+            unasked: blocks.saturating_sub(self.counts.touched),
+            unheld: blocks.saturating_sub(self.counts.held),
+            had: self.counts.had,
         }
     }
 
@@ -130,11 +119,11 @@ impl Piece {
         ensures is { result ≡ group_of_row (shown_row shown_by self.now) }
         ensures few { result < GROUPS }
     {
-        if self.had || !self.wanted {
+        if self.counts.had || !self.counts.wanted {
             RESTING
-        } else if self.touched == 0 {
+        } else if self.counts.touched == 0 {
             UNBEGUN + shown_by.min(CROWD)
-        } else if self.touched == self.blocks.len() as u32 {
+        } else if self.counts.touched == self.len() {
             ASKED_OUT
         } else {
             OPEN
@@ -145,40 +134,40 @@ impl Piece {
     pub fn is_full(&self) -> bool
         ensures { result ≡ (held_count self.now.blocks == length self.now.blocks) }
     {
-        self.held == self.blocks.len() as u32
+        self.counts.held == self.len()
     }
 
     /// Whether each block but one is held.
     pub fn lacks_one(&self) -> bool
         ensures { result ≡ (held_count self.now.blocks + 1 == length self.now.blocks) }
     {
-        self.blocks.len() as u32 - self.held == 1
+        self.len() - self.counts.held == 1
     }
 
     /// Whether some block is held or asked.
     pub fn is_touched(&self) -> bool
         ensures { result ≡ nat_lt 0 (touched_count self.now.blocks) }
     {
-        self.touched > 0
+        self.counts.touched > 0
     }
 
     /// Whether the piece is wanted and unbegun.
     pub fn is_fresh(&self) -> bool
         ensures { result ≡ is_fresh self.now }
     {
-        !(self.had || !self.wanted) && self.touched == 0
+        !(self.counts.had || !self.counts.wanted) && self.counts.touched == 0
     }
 
     pub fn is_had(&self) -> bool
         ensures { result ≡ self.now.had }
     {
-        self.had
+        self.counts.had
     }
 
     pub fn is_wanted(&self) -> bool
         ensures { result ≡ self.now.wanted }
     {
-        self.wanted
+        self.counts.wanted
     }
 
     /// What is kept of the block.
@@ -186,108 +175,13 @@ impl Piece {
         requires { index < length self.now.blocks }
         ensures { cell_kept result ≡ slice_index_or self.now.blocks index empty_cell }
     {
-        self.blocks[index as usize]
+        self.cells[index as usize]
     }
 
     /// Each block before this one is held or asked.
     pub fn first(&self) -> u32
         ensures { AreTouched result self.now.blocks }
     {
-        self.first
-    }
-
-    /// Changes the row.
-    #[inline(always)]
-    pub fn apply(&mut self, change: Change)
-        requires { HasRoomOf change self.old }
-        ensures { self.new ≡ changed_row change self.old }
-    {
-        match change {
-            Change::Raise(index) => self.raise(index),
-            Change::Lower(index) => self.lower(index),
-            Change::Store(index) => self.store(index),
-            Change::Pass => self.had = true,
-            Change::Fail => self.fail(),
-            Change::Wanted(wanted) => self.wanted = wanted,
-        }
-    }
-
-    /// A check found another hash: no block is held.
-    fn fail(&mut self)
-        ensures { self.new ≡ failed_row self.old }
-    {
-        for index in 0..self.blocks.len() as u32 {
-            let cell = self.blocks[index as usize];
-            self.put(index, cell.released());
-        }
-    }
-
-    /// The block was stored, so it is asked of nobody.
-    fn store(&mut self, index: u32)
-        requires { index < length self.old.blocks }
-        ensures { self.new ≡ stored_row index self.old }
-    {
-        self.put(index, Cell::KEPT);
-    }
-
-    /// One peer more is asked for the block, which isn't held.
-    fn raise(&mut self, index: u32)
-        requires index { index < length self.old.blocks }
-        requires free { (slice_index_or self.old.blocks index empty_cell).held ≡ false }
-        requires few { (slice_index_or self.old.blocks index empty_cell).askers + 1 < HELD }
-        ensures { self.new ≡ record self.old { blocks = edit self.old.blocks index one_more } }
-    {
-        let cell = self.cell(index);
-        self.put(index, cell.raised());
-    }
-
-    /// One peer less is asked for the block, where the piece has so many.
-    fn lower(&mut self, index: u32)
-        ensures { self.new ≡ record self.old { blocks = edit self.old.blocks index one_less } }
-    {
-        if (index as usize) < self.blocks.len() {
-            let cell = self.cell(index);
-            self.put(index, cell.lowered());
-        }
-    }
-
-    /// The block's cell is this now.
-    #[inline(always)]
-    fn put(&mut self, index: u32, cell: Cell)
-        requires { index < length self.old.blocks }
-        ensures { self.new ≡ record self.old { blocks = slice_set self.old.blocks index (cell_kept cell) } }
-    {
-        let old = self.blocks[index as usize];
-        self.held = moved(self.held, old.is_held(), cell.is_held());
-        self.touched = moved(self.touched, old.is_touched(), cell.is_touched());
-        self.first = passed(self.first, index, cell.is_touched());
-        self.blocks[index as usize] = cell;
-    }
-}
-
-/// A count once what was counted, or wasn't, is counted, or isn't.
-fn moved(count: u32, before: bool, after: bool) -> u32
-    requires some { one_if before ≤ count }
-    requires room { count + one_if after < 2 ^ 32 + one_if before }
-    ensures { result + one_if before ≡ count + one_if after }
-{
-    match (before, after) {
-        (true, false) => count - 1,
-        (false, true) => count + 1,
-        _ => count,
-    }
-}
-
-/// Up to which block each is held or asked, once the one at this index is, or isn't.
-fn passed(first: u32, index: u32, touched: bool) -> u32
-    requires { index + 1 < 2 ^ 32 }
-    ensures { result ≡ (if touched then (if index == first then first + 1 else first) else min first index) }
-{
-    if !touched {
-        first.min(index)
-    } else if index == first {
-        first + 1
-    } else {
-        first
+        self.counts.first
     }
 }

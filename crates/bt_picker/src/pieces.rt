@@ -10,6 +10,7 @@ ghost use Rattle.bt_history.specs.Counting.{table};
 ghost use Rattle.bt_picker.specs.Tables.{HasRoomOf, changed_row, edit, fresh_piece, less_available, more_available, piece_row};
 
 use crate::piece::{Change, GROUPS, Piece, Standing};
+use crate::rows::Rows;
 use crate::shelf::Shelf;
 use bt_meta::Torrent;
 use std::alloc::{AllocError, Global};
@@ -18,7 +19,7 @@ use std::marker::Model;
 /// The rows of all pieces, how many joined peers show each, and what they amount to together. Contracts see the rows with these counts in
 /// them. They stand apart since a bitfield that comes or goes changes a count of each piece in it, and nothing else of its row.
 pub struct Pieces {
-    rows: Vec<Piece>,
+    rows: Rows,
     shown_by: Vec<u32>,
     shelf: Shelf,
 }
@@ -42,11 +43,11 @@ impl Model for Pieces {
 
     ghost Value = { List PieceState };
 
-    ghost view = { λ p. whole_rows p.rows.items p.shown_by.items };
+    ghost view = { λ p. whole_rows p.rows p.shown_by.items };
 
-    ghost invariant = { λ p. AreShelved p.shelf (whole_rows p.rows.items p.shown_by.items)
-        × (length p.shown_by.items ≡ length p.rows.items)
-        × AreApart p.rows.items };
+    ghost invariant = { λ p. AreShelved p.shelf (whole_rows p.rows p.shown_by.items)
+        × (length p.shown_by.items ≡ length p.rows)
+        × AreApart p.rows };
 }
 
 impl Pieces {
@@ -55,12 +56,11 @@ impl Pieces {
         ensures { IfOk result (λ pieces. pieces
             ≡ table (piece_count torrent.now.layout) (λ p. fresh_piece (block_count torrent.now.layout p))) }
     {
-        let mut rows = Vec::new(alloc);
+        let rows = Rows::new(alloc, torrent)?;
         let mut shelf = Shelf::new(alloc, torrent.piece_count())?;
         for piece in 0..torrent.piece_count() {
-            let row = Piece::new(alloc, torrent.block_count(piece))?;
-            shelf.put(piece, Standing::NONE, row.standing(0));
-            rows.push(row)?;
+            let standing = rows.row(piece).standing(0);
+            shelf.put(piece, Standing::NONE, standing);
         }
         Ok(Pieces {
             rows,
@@ -77,11 +77,12 @@ impl Pieces {
     }
 
     /// The row of the piece.
-    pub fn row(&self, piece: u32) -> &Piece
+    #[inline(always)]
+    pub fn row(&self, piece: u32) -> Piece<'_>
         requires { piece < length self.now }
-        ensures { result.now ≡ apart (piece_row self.now piece) }
+        ensures { result ≡ apart (piece_row self.now piece) }
     {
-        &self.rows[piece as usize]
+        self.rows.row(piece)
     }
 
     /// How many joined peers show the piece.
@@ -152,10 +153,9 @@ impl Pieces {
         ensures { self.new ≡ edit self.old piece (changed_row change) }
     {
         let shown_by = self.shown_by[piece as usize];
-        let row = &mut self.rows[piece as usize];
-        let before = row.standing(shown_by);
-        row.apply(change);
-        let after = row.standing(shown_by);
+        let before = self.rows.row(piece).standing(shown_by);
+        self.rows.apply(piece, change);
+        let after = self.rows.row(piece).standing(shown_by);
         self.shelf.put(piece, before, after);
     }
 

@@ -118,9 +118,9 @@ impl<'a> Position<'a> {
     }
 
     /// The row of the piece.
-    pub(crate) fn piece(&self, piece: u32) -> &Piece
+    pub(crate) fn piece(&self, piece: u32) -> Piece<'_>
         requires { piece < piece_count self.now.setting.torrent }
-        ensures { result.now ≡ apart (piece_of self.now.setting self.now.history piece) }
+        ensures { result ≡ apart (piece_of self.now.setting self.now.history piece) }
     {
         self.tables.piece(piece)
     }

@@ -141,9 +141,9 @@ impl Tables {
     }
 
     /// The row of the piece.
-    pub fn piece(&self, piece: u32) -> &Piece
+    pub fn piece(&self, piece: u32) -> Piece<'_>
         requires { piece < length self.now.pieces }
-        ensures { result.now ≡ apart (piece_row self.now.pieces piece) }
+        ensures { result ≡ apart (piece_row self.now.pieces piece) }
     {
         self.pieces.row(piece)
     }
@@ -386,7 +386,7 @@ impl Tables {
         let is_new = !self.peers.shows(worker, piece);
         self.pieces.announce(piece, is_new);
         let shown_by = self.pieces.availability(piece);
-        let floor = floor_with(self.floors.of(worker), self.pieces.row(piece), shown_by);
+        let floor = floor_with(self.floors.of(worker), &self.pieces.row(piece), shown_by);
         self.floors.put(worker, floor);
         self.peers.put_have(worker, piece);
     }
@@ -502,7 +502,7 @@ impl Tables {
 }
 
 /// The floor of a peer that shows the piece too, which so many show.
-fn floor_with(floor: u32, row: &Piece, shown_by: u32) -> u32
+fn floor_with(floor: u32, row: &Piece<'_>, shown_by: u32) -> u32
     ensures most { result ≤ floor }
     ensures shown { is_fresh row.now ≡ true → result ≤ shown_by }
 {

@@ -5,9 +5,9 @@ use Rattle.bt_picker.proofs.pieces.Pieces.len.Goals as goal
 pub returns-clause-is : goal.returns-clause-is
 returns-clause-is c =
     let o = c.self.inside in
-    omega (arith, o.rows.ok.0, ap length c.self.view_is, length_whole o.rows.items o.shown_by.items c.self.invariant.1)
+    omega (arith, c.len.ensures, ap length c.self.view_is, length_whole o.rows o.shown_by.items c.self.invariant.1)
 
 pub returns-clause-short : goal.returns-clause-short
 returns-clause-short c =
     let o = c.self.inside in
-    omega (arith, o.rows.ok.0, c.self.invariant.0.short, length_whole o.rows.items o.shown_by.items c.self.invariant.1)
+    omega (arith, c.len.ensures, c.self.invariant.0.short, length_whole o.rows o.shown_by.items c.self.invariant.1)

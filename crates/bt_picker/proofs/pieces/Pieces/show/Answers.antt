@@ -6,41 +6,41 @@ use Rattle.bt_picker.proofs.pieces.Pieces.show.Goals as goal
 pub index-requires : goal.index-requires
 index-requires c =
     let o = c.self.inside in
-    let kept = kept_piece o.shelf o.rows.items o.shown_by.items _ c.args.piece c.self.invariant.0 c.self.invariant.1 c.self.view_is c.requires.piece
+    let kept = kept_piece o.shelf o.rows o.shown_by.items _ c.args.piece c.self.invariant.0 c.self.invariant.1 c.self.view_is c.requires.piece
     in
     omega (arith, o.shown_by.ok.0, kept.len, kept.within)
 
 pub overflow_add-shown_by : goal.overflow_add-shown_by
 overflow_add-shown_by c =
     let o = c.self.inside in
-    let kept = kept_piece o.shelf o.rows.items o.shown_by.items _ c.args.piece c.self.invariant.0 c.self.invariant.1 c.self.view_is c.requires.piece
+    let kept = kept_piece o.shelf o.rows o.shown_by.items _ c.args.piece c.self.invariant.0 c.self.invariant.1 c.self.view_is c.requires.piece
     in
     let read = c.index.ensures ∙ get_or_default o.shown_by.items c.args.piece c.index.result.now 0 (omega (arith, kept.len, kept.within)) in
     let few = rw (← c.self.view_is) at c.requires.few in
-    omega (arith, few, read, count_is o.shelf o.rows.items o.shown_by.items c.args.piece kept)
+    omega (arith, few, read, count_is o.shelf o.rows o.shown_by.items c.args.piece kept)
 
 pub index_mut-requires : goal.index_mut-requires
 index_mut-requires c =
     let o = c.self.inside in
-    let kept = kept_piece o.shelf o.rows.items o.shown_by.items _ c.args.piece c.self.invariant.0 c.self.invariant.1 c.self.view_is c.requires.piece
+    let kept = kept_piece o.shelf o.rows o.shown_by.items _ c.args.piece c.self.invariant.0 c.self.invariant.1 c.self.view_is c.requires.piece
     in
     omega (arith, o.shown_by.ok.0, kept.len, kept.within)
 
 pub raise-requires-clause-next : goal.raise-requires-clause-next
 raise-requires-clause-next c =
     let o = c.self.inside in
-    let kept = kept_piece o.shelf o.rows.items o.shown_by.items _ c.args.piece c.self.invariant.0 c.self.invariant.1 c.self.view_is c.requires.piece
+    let kept = kept_piece o.shelf o.rows o.shown_by.items _ c.args.piece c.self.invariant.0 c.self.invariant.1 c.self.view_is c.requires.piece
     in
     let read = c.index.ensures ∙ get_or_default o.shown_by.items c.args.piece c.index.result.now 0 (omega (arith, kept.len, kept.within)) in
-    has_next o.shelf o.rows.items o.shown_by.items c.args.piece kept (c.index.result.now + 1) (omega (arith, read))
+    has_next o.shelf o.rows o.shown_by.items c.args.piece kept (c.index.result.now + 1) (omega (arith, read))
 
 pub invariant_of-self : goal.invariant_of-self
 invariant_of-self c =
     let o = c.self.inside in
-    let kept = kept_piece o.shelf o.rows.items o.shown_by.items _ c.args.piece c.self.invariant.0 c.self.invariant.1 c.self.view_is c.requires.piece
+    let kept = kept_piece o.shelf o.rows o.shown_by.items _ c.args.piece c.self.invariant.0 c.self.invariant.1 c.self.view_is c.requires.piece
     in
     let read = c.index.ensures ∙ get_or_default o.shown_by.items c.args.piece c.index.result.now 0 (omega (arith, kept.len, kept.within)) in (
-      shown_more o.shelf o.rows.items o.shown_by.items c.args.piece kept c.raise.new.self (c.index.result.now + 1) (omega (arith, read))
+      shown_more o.shelf o.rows o.shown_by.items c.args.piece kept c.raise.new.self (c.index.result.now + 1) (omega (arith, read))
           c.raise.ensures,
       length-set o.shown_by.items c.args.piece (c.index.result.now + 1) ∙ c.self.invariant.1,
       c.self.invariant.2,
@@ -49,8 +49,8 @@ invariant_of-self c =
 pub returns : goal.returns
 returns c =
     let o = c.self.inside in
-    let kept = kept_piece o.shelf o.rows.items o.shown_by.items _ c.args.piece c.self.invariant.0 c.self.invariant.1 c.self.view_is c.requires.piece
+    let kept = kept_piece o.shelf o.rows o.shown_by.items _ c.args.piece c.self.invariant.0 c.self.invariant.1 c.self.view_is c.requires.piece
     in
     let read = c.index.ensures ∙ get_or_default o.shown_by.items c.args.piece c.index.result.now 0 (omega (arith, kept.len, kept.within)) in
     rw (← c.self.view_is)
-    (counted_more o.shelf o.rows.items o.shown_by.items c.args.piece kept (c.index.result.now + 1) (omega (arith, read)))
+    (counted_more o.shelf o.rows o.shown_by.items c.args.piece kept (c.index.result.now + 1) (omega (arith, read)))

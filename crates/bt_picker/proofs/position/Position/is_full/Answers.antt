@@ -1,7 +1,7 @@
 use Rattle.std.proofs.Common.{◌∙◌, ◌==◌, ap, length}
 use Rattle.bt_picker.specs.Tables.{PieceState}
 use Rattle.bt_picker.specs.Standings.{held_count}
-use Rattle.bt_picker.proofs.Rows.{full_row}
+use Rattle.bt_picker.proofs.Telling.{full_row}
 use Rattle.bt_picker.proofs.position.Position.is_full.Goals as goal
 
 pub returns : goal.returns

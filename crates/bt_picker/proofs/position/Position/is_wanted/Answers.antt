@@ -1,6 +1,6 @@
 use Rattle.std.proofs.Common.{◌∙◌, ap, sym}
 use Rattle.bt_picker.specs.Tables.{PieceState}
-use Rattle.bt_picker.proofs.Rows.{wanted_chosen}
+use Rattle.bt_picker.proofs.Telling.{wanted_chosen}
 use Rattle.bt_picker.proofs.position.Position.is_wanted.Goals as goal
 
 pub returns : goal.returns

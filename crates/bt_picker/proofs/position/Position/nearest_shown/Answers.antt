@@ -1,7 +1,7 @@
 use Rattle.std.proofs.Common.{refl}
 use Rattle.bt_history.specs.Peers.{shows}
 use Rattle.bt_order.specs.Orders.{at}
-use Rattle.bt_picker.proofs.Rows.{listed_step}
+use Rattle.bt_picker.proofs.Telling.{listed_step}
 use Rattle.bt_picker.proofs.position.Position.nearest_shown.Goals as goal
 
 pub loop-piece-preserved : goal.loop-piece-preserved

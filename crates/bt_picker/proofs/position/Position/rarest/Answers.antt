@@ -3,7 +3,7 @@ use Rattle.std.specs.Prelude.{min}
 use Rattle.std.proofs.Math.Nat.{min-eq_left, min-eq_right}
 use Rattle.std.proofs.lemmas.Bool.{cases_lt}
 use Rattle.bt_picker.proofs.Endings.{group_within}
-use Rattle.bt_picker.proofs.Rows.{rarest_found, rarest_more, crowd_found}
+use Rattle.bt_picker.proofs.Telling.{rarest_found, rarest_more, crowd_found}
 use Rattle.bt_picker.proofs.position.Position.rarest.Goals as goal
 
 under_crowd : (workers n : ℕ) → n < min workers 1024 + 1 → n < 1025

@@ -1,7 +1,7 @@
 use Rattle.std.proofs.Common.{refl}
 use Rattle.bt_history.specs.Peers.{shows}
 use Rattle.bt_history.specs.Pieces.{availability}
-use Rattle.bt_picker.proofs.Rows.{rarer_step}
+use Rattle.bt_picker.proofs.Telling.{rarer_step}
 use Rattle.bt_picker.proofs.position.Position.rarest_of.Goals as goal
 
 pub loop-piece-preserved : goal.loop-piece-preserved

@@ -13,6 +13,6 @@ loop-index-init c k lk inside =
     let count = block_count d.setting.torrent c.args.piece in
     let is = ap (λ (r : PieceState). r.blocks) c.piece.ensures in
     let long = ap length is ∙ length_table count cells in
-    let here = get_or_is_table c.piece.result.now.blocks count cells k empty_cell is inside in
+    let here = get_or_is_table c.piece.result.blocks count cells k empty_cell is inside in
     sym (touched_is d.setting d.history (block d.setting.torrent c.args.piece k))
     ∙ (ap is_touched (sym here) ∙ c.first-index.ensures k lk (omega (arith, inside, long)))

@@ -34,7 +34,7 @@ invariant_of-self c =
     let old = peer_row o.peers w in
     let grown = edit_piece o.floors o.peers o.pieces p f c.self.invariant lp
     (λ fresh. (fresh, no_less (piece_row o.pieces p).availability (not c.shows-is_new.result))) in
-    let row : c.row.result.now ≡ apart (piece_row (edit o.pieces p f) p) =
+    let row : c.row.result ≡ apart (piece_row (edit o.pieces p f) p) =
     c.row.ensures ∙ ap (λ (rows : List PieceState). apart (piece_row rows p)) c.announce.ensures in
     let shown_by : c.availability-shown_by.result ≡ (piece_row (edit o.pieces p f) p).availability =
     c.availability-shown_by.ensures ∙ ap (λ (rows : List PieceState). (piece_row rows p).availability) c.announce.ensures in
