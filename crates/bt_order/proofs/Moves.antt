@@ -306,7 +306,7 @@ fresh_inverse bound =
       forth = λ p lp. ap (at (range_with_len 0 bound)) (read p (omega arith)) ∙ read p (omega arith);
     }
 
-pub fresh_split : (bound count : ℕ) → 0 < count → bound < 2 ^ 32 → count < 2 ^ 32
+pub fresh_split : (bound count : ℕ) → 0 < count → bound < 2 ^ 32 → count < 2 ^ 16
     → AreSplit (replicate bound 0) (range_with_len 0 bound) (replicate count bound)
 fresh_split bound count some short few =
     let len : length (range_with_len 0 bound) ≡ bound = length-range_with_len 0 bound in

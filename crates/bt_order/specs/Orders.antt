@@ -39,7 +39,7 @@ Side groups places ends p n = ((at groups p ≤ n) × (at places p < at ends n))
 -- the ends of the groups part the numbers by their groups
 pub record AreSplit (groups places ends : List ℕ) : Type 0 where
   pub same : length groups ≡ length places
-  pub few : (length places < 2 ^ 32) × (length ends < 2 ^ 32)
+  pub few : (length places < 2 ^ 32) × (length ends < 2 ^ 16)
   pub within : (n : ℕ) → n < length ends → at ends n ≤ length places
   pub known : (p : ℕ) → p < length places → at groups p < length ends
   pub side : (p n : ℕ) → p < length places → n < length ends → Side groups places ends p n

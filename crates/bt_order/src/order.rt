@@ -22,7 +22,7 @@ pub struct Order {
     /// Where each number stands in `numbers`.
     places: Vec<u32>,
     /// The group of each number.
-    groups: Vec<u32>,
+    groups: Vec<u16>,
     /// Where each group ends in `numbers`, and so the next one begins.
     ends: Vec<u32>,
 }
@@ -40,7 +40,7 @@ impl Model for Order {
 
 impl Order {
     /// The numbers below `bound`, all in group 0 of this many.
-    pub fn new(alloc: Global, bound: u32, count: u32) -> Result<Order, AllocError>
+    pub fn new(alloc: Global, bound: u32, count: u16) -> Result<Order, AllocError>
         requires { 0 < count }
         ensures { IfOk result (λ order. order ≡ record { count = count; group_of = replicate bound 0 }) }
     {
@@ -57,7 +57,7 @@ impl Order {
         requires { number < length self.now.group_of }
         ensures is { result ≡ at self.now.group_of number }
     {
-        self.groups[number as usize]
+        u32::from(self.groups[number as usize])
     }
 
     /// The numbers of the group.

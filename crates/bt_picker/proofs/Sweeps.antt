@@ -106,7 +106,7 @@ hidden_then_shown rows before after =
 -- there is room for one more that shows a piece of the set
 pub has_room : (rows now : List PieceState) (flags : List Bool) (i p : ℕ) → AreCounted (shown_rows flags rows)
     → now ≡ table (length rows) (upto i (λ k. more_available (slice_index_or flags k false) (piece_row rows k)) (piece_row rows))
-    → i ≤ p → slice_index_or flags p false ≡ true → p < length now → (piece_row now p).availability + 1 < 2 ^ 32
+    → i ≤ p → slice_index_or flags p false ≡ true → p < length now → (piece_row now p).availability + 1 < 2 ^ 16
 has_room rows now flags i p counted is from shown within =
     let n = length rows in
     let g : ℕ → PieceState = λ k. more_available (slice_index_or flags k false) (piece_row rows k) in

@@ -62,7 +62,7 @@ pub const UNBEGUN: u32 = 3;
 /// Unbegun pieces that so many peers show, or more, are one group: a desk has fewer workers, but a journal of more can be audited.
 pub const CROWD: u32 = MOST_WORKERS + 1;
 /// So many groups there are.
-pub const GROUPS: u32 = UNBEGUN + CROWD + 1;
+pub const GROUPS: u16 = (UNBEGUN + CROWD + 1) as u16;
 
 /// What is kept of a piece, as its rows lend it: what is counted of its blocks, and a cell for each of them, by the block's index. How many
 /// peers show the piece stands apart (`Pieces`): contracts see a row that nobody shows.

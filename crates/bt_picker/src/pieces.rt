@@ -20,7 +20,7 @@ use std::marker::Model;
 /// them. They stand apart since a bitfield that comes or goes changes a count of each piece in it, and nothing else of its row.
 pub struct Pieces {
     rows: Rows,
-    shown_by: Vec<u32>,
+    shown_by: Vec<u16>,
     shelf: Shelf,
 }
 
@@ -90,7 +90,7 @@ impl Pieces {
         requires { piece < length self.now }
         ensures { result ≡ (piece_row self.now piece).availability }
     {
-        self.shown_by[piece as usize]
+        u32::from(self.shown_by[piece as usize])
     }
 
     /// The pieces of the group.
@@ -152,7 +152,7 @@ impl Pieces {
         requires fits { HasRoomOf change (piece_row self.old piece) }
         ensures { self.new ≡ edit self.old piece (changed_row change) }
     {
-        let shown_by = self.shown_by[piece as usize];
+        let shown_by = u32::from(self.shown_by[piece as usize]);
         let before = self.rows.row(piece).standing(shown_by);
         self.rows.apply(piece, change);
         let after = self.rows.row(piece).standing(shown_by);
@@ -163,12 +163,12 @@ impl Pieces {
     #[inline(always)]
     pub fn show(&mut self, piece: u32)
         requires piece { piece < length self.old }
-        requires few { (piece_row self.old piece).availability + 1 < 2 ^ 32 }
+        requires few { (piece_row self.old piece).availability + 1 < 2 ^ 16 }
         ensures { self.new ≡ edit self.old piece (more_available true) }
     {
         let shown_by = self.shown_by[piece as usize] + 1;
         self.shown_by[piece as usize] = shown_by;
-        self.shelf.raise(piece, shown_by);
+        self.shelf.raise(piece, u32::from(shown_by));
     }
 
     /// One peer less shows the piece, where so many do.
@@ -179,13 +179,13 @@ impl Pieces {
     {
         let shown_by = self.shown_by[piece as usize];
         self.shown_by[piece as usize] = shown_by.saturating_sub(1);
-        self.shelf.lower(piece, shown_by);
+        self.shelf.lower(piece, u32::from(shown_by));
     }
 
     /// A peer tells that it has the piece, which it did not show before, or did.
     pub fn announce(&mut self, piece: u32, is_new: bool)
         requires piece { piece < length self.old }
-        requires few { (more_available is_new (less_available false (piece_row self.old piece))).availability < 2 ^ 32 }
+        requires few { (more_available is_new (less_available false (piece_row self.old piece))).availability < 2 ^ 16 }
         ensures { self.new ≡ edit self.old piece (λ row. more_available is_new (less_available false row)) }
     {
         if is_new {

@@ -71,7 +71,7 @@ fn hide(pieces: &mut Pieces, piece: u32)
 /// One peer more shows the piece, if there is such a piece.
 #[inline(always)]
 fn show(pieces: &mut Pieces, piece: u32)
-    requires { piece < length pieces.old → (piece_row pieces.old piece).availability + 1 < 2 ^ 32 }
+    requires { piece < length pieces.old → (piece_row pieces.old piece).availability + 1 < 2 ^ 16 }
     ensures { pieces.new ≡ edit pieces.old piece (more_available true) }
 {
     if (piece as usize) < pieces.len() {

@@ -10,8 +10,8 @@ use Rattle.bt_picker.proofs.Shelves.{can_file, files, same_length}
 use Rattle.bt_picker.proofs.Tabled.{length_edit}
 use Rattle.bt_picker.proofs.pieces.Pieces.apply.Goals as goal
 
-pub index-shown_by-requires : goal.index-shown_by-requires
-index-shown_by-requires c =
+pub index-requires : goal.index-requires
+index-requires c =
     let o = c.self.inside in
     let p = c.args.piece in
     let kept = kept_piece o.shelf o.rows o.shown_by.items _ p c.self.invariant.0 c.self.invariant.1 c.self.view_is c.requires.piece in
@@ -61,8 +61,9 @@ put-requires-clause-before c =
     let p = c.args.piece in
     let kept = kept_piece o.shelf o.rows o.shown_by.items _ p c.self.invariant.0 c.self.invariant.1 c.self.view_is c.requires.piece in
     let row = piece_row o.rows p in
-    let m = c.index-shown_by.result.now in
-    let read = c.index-shown_by.ensures ∙ get_or_default o.shown_by.items p m 0 (omega (arith, kept.len, kept.within)) in
+    let m = c.from-shown_by.result in
+    let read = c.from-shown_by.ensures ∙ (c.index.ensures
+    ∙ get_or_default o.shown_by.items p c.index.result.now 0 (omega (arith, kept.len, kept.within))) in
     ap (λ (s : Standing). s.group) (c.standing-before.ensures.is ∙ ap (λ (r : PieceState). standing_of (shown_row m r)) c.row.ensures)
     ∙ stands_in o.shelf o.rows o.shown_by.items p kept row m (own_row o.rows p kept.within) read
 
@@ -72,8 +73,9 @@ put-requires-clause-fits c =
     let p = c.args.piece in
     let kept = kept_piece o.shelf o.rows o.shown_by.items _ p c.self.invariant.0 c.self.invariant.1 c.self.view_is c.requires.piece in
     let row = piece_row o.rows p in
-    let m = c.index-shown_by.result.now in
-    let read = c.index-shown_by.ensures ∙ get_or_default o.shown_by.items p m 0 (omega (arith, kept.len, kept.within)) in
+    let m = c.from-shown_by.result in
+    let read = c.from-shown_by.ensures ∙ (c.index.ensures
+    ∙ get_or_default o.shown_by.items p c.index.result.now 0 (omega (arith, kept.len, kept.within))) in
     let new = changed_row c.args.change row in
     let before : c.standing-before.result ≡ standing_of (shown_row m row) =
     c.standing-before.ensures.is ∙ ap (λ (r : PieceState). standing_of (shown_row m r)) c.row.ensures in
@@ -92,8 +94,9 @@ invariant_of-self c =
     let p = c.args.piece in
     let kept = kept_piece o.shelf o.rows o.shown_by.items _ p c.self.invariant.0 c.self.invariant.1 c.self.view_is c.requires.piece in
     let row = piece_row o.rows p in
-    let m = c.index-shown_by.result.now in
-    let read = c.index-shown_by.ensures ∙ get_or_default o.shown_by.items p m 0 (omega (arith, kept.len, kept.within)) in
+    let m = c.from-shown_by.result in
+    let read = c.from-shown_by.ensures ∙ (c.index.ensures
+    ∙ get_or_default o.shown_by.items p c.index.result.now 0 (omega (arith, kept.len, kept.within))) in
     let new = changed_row c.args.change row in
     let before : c.standing-before.result ≡ standing_of (shown_row m row) =
     c.standing-before.ensures.is ∙ ap (λ (r : PieceState). standing_of (shown_row m r)) c.row.ensures in
@@ -118,8 +121,9 @@ returns c =
     let p = c.args.piece in
     let kept = kept_piece o.shelf o.rows o.shown_by.items _ p c.self.invariant.0 c.self.invariant.1 c.self.view_is c.requires.piece in
     let row = piece_row o.rows p in
-    let m = c.index-shown_by.result.now in
-    let read = c.index-shown_by.ensures ∙ get_or_default o.shown_by.items p m 0 (omega (arith, kept.len, kept.within)) in
+    let m = c.from-shown_by.result in
+    let read = c.from-shown_by.ensures ∙ (c.index.ensures
+    ∙ get_or_default o.shown_by.items p c.index.result.now 0 (omega (arith, kept.len, kept.within))) in
     let new = changed_row c.args.change row in
     rw (← c.self.view_is, c.apply.ensures ∙ edited_rows o.rows p c.args.change kept.within)
     (edit_is o.shelf o.rows o.shown_by.items p kept c.args.change row new m (own_row o.rows p kept.within) read refl)

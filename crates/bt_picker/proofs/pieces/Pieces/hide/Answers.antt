@@ -22,7 +22,7 @@ invariant_of-self c =
     let read = c.index-shown_by.ensures ∙ get_or_default o.shown_by.items c.args.piece c.index-shown_by.result.now 0
     (omega (arith, kept.len, kept.within)) in (
       shown_less o.shelf o.rows o.shown_by.items c.args.piece kept c.lower.new.self c.index-shown_by.result.now _ read (omega arith)
-          c.lower.ensures,
+          (rw c.from.ensures at c.lower.ensures),
       length-set o.shown_by.items c.args.piece _ ∙ c.self.invariant.1,
       c.self.invariant.2,
     )

@@ -32,7 +32,7 @@ raise-requires-clause-next c =
     let kept = kept_piece o.shelf o.rows o.shown_by.items _ c.args.piece c.self.invariant.0 c.self.invariant.1 c.self.view_is c.requires.piece
     in
     let read = c.index.ensures ∙ get_or_default o.shown_by.items c.args.piece c.index.result.now 0 (omega (arith, kept.len, kept.within)) in
-    has_next o.shelf o.rows o.shown_by.items c.args.piece kept (c.index.result.now + 1) (omega (arith, read))
+    has_next o.shelf o.rows o.shown_by.items c.args.piece kept c.from.result (omega (arith, read, c.from.ensures))
 
 pub invariant_of-self : goal.invariant_of-self
 invariant_of-self c =
@@ -41,7 +41,7 @@ invariant_of-self c =
     in
     let read = c.index.ensures ∙ get_or_default o.shown_by.items c.args.piece c.index.result.now 0 (omega (arith, kept.len, kept.within)) in (
       shown_more o.shelf o.rows o.shown_by.items c.args.piece kept c.raise.new.self (c.index.result.now + 1) (omega (arith, read))
-          c.raise.ensures,
+          (rw c.from.ensures at c.raise.ensures),
       length-set o.shown_by.items c.args.piece (c.index.result.now + 1) ∙ c.self.invariant.1,
       c.self.invariant.2,
     )

@@ -51,7 +51,7 @@ announce-requires-clause-few c =
     let lp = rw (← c.self.view_is) at c.requires.piece in
     let few = rw (← c.self.view_is) at c.requires.few in
     let is_new = not (slice_index_or (peer_row o.peers c.args.worker).shows p false) in
-    subst (λ (x : Bool). (more_available x (less_available false (piece_row o.pieces p))).availability < 2 ^ 32) (sym (ap not c.shows-is_new.ensures))
+    subst (λ (x : Bool). (more_available x (less_available false (piece_row o.pieces p))).availability < 2 ^ 16) (sym (ap not c.shows-is_new.ensures))
     (edited_counted o.pieces p (λ r. more_available is_new (less_available false r)) lp few)
 
 pub returns : goal.returns
