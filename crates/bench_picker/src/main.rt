@@ -1,40 +1,90 @@
-//! Times the picker that keeps no content: a whole download from a swarm of 51 peers, asked block by block, with nothing hashed between.
+//! Times the picker that keeps no content: a whole download from a swarm, asked block by block, with nothing hashed between.
 #![tactic(auto)]
 
+mod bitfields;
 mod mix;
 mod swarm;
 mod zeros;
 
 use anyhow::{Result, bail};
+use bitfields::Bitfields;
 use std::env;
 use std::rt::Runtime;
-use std::time::CpuClock;
+use std::time::{CpuClock, Duration};
 use swarm::Swarm;
 
 /// So many pieces are downloaded where the command line says nothing.
 const USUAL_PIECES: u32 = 1_000;
 
+/// So many peers come where it says nothing.
+const USUAL_PEERS: u32 = 51;
+
+/// So many asks that give nothing are timed in the end.
+const DRY_ASKS: u32 = 1_000_000;
+
+/// What the command line asks for.
+#[derive(Clone, Copy)]
+struct Plan {
+    pieces: u32,
+    halvings: u32,
+    peers: u32,
+    is_timed: bool,
+}
+
+/// Processor time in nanoseconds: of a peer's way in, of an ask with its arrival, and of an ask that gives nothing.
+#[derive(Clone, Copy)]
+struct Times {
+    come: u128,
+    ask: u128,
+    dry: u128,
+}
+
 fn main(rt: HostRuntime) -> Result<()> {
     obey(&rt)
 }
 
-/// Plays the download of so many pieces, and prints its counts. The words are the number of pieces, how often the pieces that a peer shows
-/// are halved, and `times`, with which the time of an ask is printed too.
+/// Plays the download, and prints its counts.
 fn obey<R: Runtime + AllocGlobal + CpuClock>(rt: &R) -> Result<()> {
-    let words: Vec<String> = env::args(rt)?.collect(rt.alloc())?;
-    let pieces = number(words.get(1), USUAL_PIECES)?;
-    let halvings = number(words.get(2), 0)?;
-    let is_timed = match words.get(3) {
-        Some(word) if word.as_str() == "times" => true,
-        Some(_) => bail!("behind the numbers there is nothing but `times`"),
-        None => false,
-    };
-    let mut swarm = Swarm::new(rt.alloc(), pieces)?;
-    swarm.come(rt.alloc(), halvings)?;
+    let plan = asked(rt)?;
+    let mut swarm = Swarm::new(rt.alloc(), plan.pieces, plan.peers)?;
+    let come = come(rt, &plan, &mut swarm)?;
     let start = rt.thread_cpu_time()?;
     swarm.run();
-    let took = rt.thread_cpu_time()?.saturating_sub(start).as_nanos();
-    tell(rt, pieces, &swarm, is_timed.then_some(took))
+    let ran = since(rt, start)?;
+    tell(rt, &plan, &swarm)?;
+    if plan.is_timed {
+        let times = Times {
+            come: each(come, u64::from(plan.peers)),
+            ask: each(ran, swarm.counts().asks),
+            dry: dry(rt, &mut swarm)?,
+        };
+        println!(rt;
+            "come_ns {} ask_ns {} dry_ns {}",
+            times.come, times.ask, times.dry
+        )?;
+    }
+    Ok(())
+}
+
+/// The words are the number of pieces, how often the pieces that a peer shows are halved, the number of peers, and `times`, with which times
+/// are printed too. Each of them may be left out.
+fn asked<R: Runtime + AllocGlobal>(rt: &R) -> Result<Plan> {
+    let words: Vec<String> = env::args(rt)?.collect(rt.alloc())?;
+    let is_timed = match words.last() {
+        Some(word) => word.as_str() == "times",
+        None => false,
+    };
+    let count = words.len() - usize::from(is_timed);
+    if count > 4 {
+        bail!("there are three numbers at most, and `times` behind them");
+    }
+    let numbers = &words[..count];
+    Ok(Plan {
+        pieces: number(numbers.get(1), USUAL_PIECES)?,
+        halvings: number(numbers.get(2), 0)?,
+        peers: number(numbers.get(3), USUAL_PEERS)?,
+        is_timed,
+    })
 }
 
 /// The number that a word says, or the usual one where there is no word.
@@ -45,16 +95,48 @@ fn number(word: Option<&String>, usual: u32) -> Result<u32> {
     }
 }
 
-/// Prints the counts, and the time of an ask with its arrival where it is given.
-fn tell<R: Runtime>(rt: &R, pieces: u32, swarm: &Swarm, took: Option<u128>) -> Result<()> {
+/// All peers come, one after the other, each with a bitfield of its own. Gives the time that the picker took.
+fn come<R: Runtime + AllocGlobal + CpuClock>(
+    rt: &R,
+    plan: &Plan,
+    swarm: &mut Swarm,
+) -> Result<u128> {
+    let mut words = Bitfields::new(plan.pieces, plan.halvings);
+    let mut took = 0;
+    for worker in 0..plan.peers {
+        let shown = words.next(rt.alloc(), worker + 1 == plan.peers)?;
+        let start = rt.thread_cpu_time()?;
+        swarm.come(worker, &shown);
+        took = since(rt, start)?.saturating_add(took);
+    }
+    Ok(took)
+}
+
+/// How long an ask takes when each piece is had.
+fn dry<R: Runtime + CpuClock>(rt: &R, swarm: &mut Swarm) -> Result<u128> {
+    let start = rt.thread_cpu_time()?;
+    for _ in 0..DRY_ASKS {
+        swarm.ask_in_vain();
+    }
+    Ok(each(since(rt, start)?, u64::from(DRY_ASKS)))
+}
+
+/// The processor time since then, in nanoseconds.
+fn since<R: Runtime + CpuClock>(rt: &R, start: Duration) -> Result<u128> {
+    Ok(rt.thread_cpu_time()?.saturating_sub(start).as_nanos())
+}
+
+/// The part of each of so many.
+fn each(took: u128, count: u64) -> u128 {
+    took.checked_div(u128::from(count)).unwrap_or(0)
+}
+
+/// Prints the counts.
+fn tell<R: Runtime>(rt: &R, plan: &Plan, swarm: &Swarm) -> Result<()> {
     let counts = swarm.counts();
     println!(rt;
-        "pieces {pieces}: asks {} requests {} had {} picks {:016x}",
-        counts.asks, counts.requests, counts.had, counts.picks
+        "pieces {}: asks {} requests {} had {} picks {:016x}",
+        plan.pieces, counts.asks, counts.requests, counts.had, counts.picks
     )?;
-    if let Some(took) = took {
-        let each = took.checked_div(u128::from(counts.asks)).unwrap_or(0);
-        println!(rt; "ask_ns {each}")?;
-    }
     Ok(())
 }

@@ -7,18 +7,13 @@ use bt_meta::{Bitfield, Block};
 use bt_picker::Reply;
 use std::alloc::{AllocError, Global};
 
-/// The peers of the swarm; the last one is a seed.
-const PEERS: u32 = 51;
-
 /// So many blocks are asked of a peer at a time.
 const DEPTH: u32 = 5;
 
 /// Asks of one turn: more cancels than these are never due at a peer.
 const MOST_ASKS: u32 = 65;
 
-/// Where the words of the bitfields begin, and those of the asks.
-const SHOWN_SEED: u64 = 1;
-
+/// Where the words of the asks begin.
 const ASK_SEED: u64 = 2;
 
 /// Whether a peer is still asked, and whether the last ask gave no block.
@@ -49,16 +44,16 @@ pub struct Swarm {
 }
 
 impl Swarm {
-    /// With no peer yet.
-    pub fn new(alloc: Global, pieces: u32) -> Result<Swarm> {
+    /// With no peer yet, of so many.
+    pub fn new(alloc: Global, pieces: u32, peers: u32) -> Result<Swarm> {
         let fresh = Peer {
             active: true,
             dry: false,
         };
         Ok(Swarm {
-            zeros: Zeros::new(alloc, pieces, PEERS, DEPTH)?,
+            zeros: Zeros::new(alloc, pieces, peers, DEPTH)?,
             words: Mix::new(ASK_SEED),
-            peers: vec![in alloc; fresh; PEERS as usize]?,
+            peers: vec![in alloc; fresh; peers as usize]?,
             counts: Counts {
                 asks: 0,
                 requests: 0,
@@ -74,16 +69,15 @@ impl Swarm {
         self.counts
     }
 
-    /// All peers come, one after the other, each with a bitfield of its own: 64 pieces to a word, its low bit first, and the seed's all. A
-    /// peer shows half of the pieces, and half as many again for each halving.
-    pub fn come(&mut self, alloc: Global, halvings: u32) -> Result<(), AllocError> {
-        let mut words = Mix::new(SHOWN_SEED);
-        for worker in 0..PEERS {
-            let is_seed = worker + 1 == PEERS;
-            let shown = bitfield(alloc, self.pieces, halvings, is_seed, &mut words)?;
-            self.zeros.come(worker, &shown);
-        }
-        Ok(())
+    /// A peer comes, and shows these pieces.
+    pub fn come(&mut self, worker: u32, shown: &Bitfield) {
+        self.zeros.come(worker, shown);
+    }
+
+    /// Asks what to say to the first peer, and does nothing of it.
+    #[inline(always)]
+    pub fn ask_in_vain(&mut self) {
+        let _nothing = self.zeros.next(0, self.words.next_word());
     }
 
     /// Rounds until each piece is had.
@@ -98,7 +92,7 @@ impl Swarm {
 
     /// A turn of each peer.
     fn round(&mut self) {
-        for worker in 0..PEERS {
+        for worker in 0..self.zeros.workers() {
             self.turn(worker);
         }
     }
@@ -158,34 +152,4 @@ impl Swarm {
         }
         Reply::NothingLeft
     }
-}
-
-/// Which of 64 pieces are shown: those whose bit is set in so many words more too.
-fn sparse_word(words: &mut Mix, halvings: u32) -> u64 {
-    let mut word = words.next_word();
-    for _ in 0..halvings {
-        word &= words.next_word();
-    }
-    word
-}
-
-/// A peer's pieces.
-fn bitfield(
-    alloc: Global,
-    pieces: u32,
-    halvings: u32,
-    is_seed: bool,
-    words: &mut Mix,
-) -> Result<Bitfield, AllocError> {
-    let mut flags = Bitfield::empty(alloc, pieces)?;
-    let mut word = u64::MAX;
-    for piece in 0..pieces {
-        if piece % 64 == 0 && !is_seed {
-            word = sparse_word(words, halvings);
-        }
-        if piece < flags.count() && (word >> (piece % 64)) & 1 == 1 {
-            flags.set(piece);
-        }
-    }
-    Ok(flags)
 }

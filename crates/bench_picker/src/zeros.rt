@@ -81,6 +81,11 @@ impl Zeros {
         })
     }
 
+    /// How many peers may come.
+    pub fn workers(&self) -> u32 {
+        self.picker.workers()
+    }
+
     /// Tells what brings no block, or one of zeros.
     pub fn tell(&mut self, worker: u32, told: Told<'_>) -> Reply
         requires { BringsZeros (action_told told) }
