@@ -16,13 +16,13 @@ use Rattle.bt_history.specs.Legal.{IsLegal}
 use Rattle.bt_history.specs.Next.{doubles}
 use Rattle.bt_history.proofs.Below.{any_found, any_none, any_witness, all_found, all_at, any_same, count_at}
 use Rattle.bt_history.proofs.HeldLaws.{had_full}
-use Rattle.bt_picker.specs.Tables.{one_if, AreTables, TablesState, PieceState, piece_of}
-use Rattle.bt_picker.specs.Standings.{shown_group, group_of_row, groups_of, is_held, is_touched, standing_of, held_count, touched_count, FindsAmong}
-use Rattle.bt_picker.specs.Standings.{FindsListed}
+use Rattle.bt_tables.specs.Tables.{one_if, TablesState, PieceState}
+use Rattle.bt_picker.specs.Tables.{AreTables, piece_of, groups_of}
+use Rattle.bt_tables.specs.Standings.{shown_group, group_of_row, is_held, is_touched, standing_of, held_count, touched_count}
+use Rattle.bt_picker.specs.Search.{FindsAmong, FindsListed, Finds, FindsOf}
 use Rattle.bt_order.specs.Orders.{at, ListsGroup}
-use Rattle.bt_picker.specs.Search.{Finds, FindsOf}
 use Rattle.bt_picker.proofs.Scans.{finds_in_piece, none_in_pieces}
-use Rattle.bt_picker.proofs.Tabled.{length_table, get_or_table, table_more}
+use Rattle.bt_tables.proofs.Tabled.{length_table, get_or_table, table_more}
 use Rattle.bt_picker.proofs.Telling.{group_is, wanted_chosen, full_row, all_touched_row, cells_long, counted_all, held_counted}
 
 -- ---- in endgame a piece with a block to ask again has all its lacking blocks asked

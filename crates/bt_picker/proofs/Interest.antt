@@ -13,13 +13,13 @@ use Rattle.bt_history.specs.Legal.{interesting_after}
 use Rattle.bt_history.specs.Next.{is_candidate}
 use Rattle.bt_history.proofs.Below.{any_same}
 use Rattle.bt_order.specs.Orders.{at, ListsGroup}
-use Rattle.bt_picker.specs.Search.{FindsLeast, rank_of}
-use Rattle.bt_picker.specs.Standings.{FindsListed, group_of_row, groups_of, shown_group}
-use Rattle.bt_picker.specs.Tables.{piece_of}
+use Rattle.bt_picker.specs.Search.{FindsLeast, rank_of, FindsListed}
+use Rattle.bt_tables.specs.Standings.{group_of_row, shown_group}
+use Rattle.bt_picker.specs.Tables.{groups_of, piece_of}
 use Rattle.bt_picker.proofs.Endings.{group_within}
 use Rattle.bt_picker.proofs.Telling.{group_is, wanted_chosen}
 use Rattle.bt_picker.proofs.Scans.{lacks_found, lacks_none}
-use Rattle.bt_picker.proofs.Tabled.{get_or_table, length_table}
+use Rattle.bt_tables.proofs.Tabled.{get_or_table, length_table}
 
 group_at : (s : Setting) (h : History) (p : ℕ) → p < piece_count s.torrent → at (groups_of s h) p ≡ group_of_row (piece_of s h p)
 group_at s h p lp = get_or_table (piece_count s.torrent) (λ r. group_of_row (piece_of s h r)) p 0 lp

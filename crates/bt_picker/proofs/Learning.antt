@@ -23,14 +23,16 @@ use Rattle.bt_history.proofs.Allowed.{answered, no_cause}
 use Rattle.bt_history.proofs.Below.{all_at, count_most}
 use Rattle.bt_history.proofs.LineLaws.{block_is_block, some_found}
 use Rattle.bt_history.proofs.NextCases.{next_cases, next_is, next_request}
-use Rattle.bt_picker.specs.Floors.{IsFloor, NoneRarer, TellsFloor, is_fresh}
-use Rattle.bt_picker.specs.Standings.{group_of_row, shown_group}
+use Rattle.bt_tables.specs.Floors.{IsFloor, TellsFloor, is_fresh}
+use Rattle.bt_picker.specs.Search.{NoneRarer}
+use Rattle.bt_tables.specs.Standings.{group_of_row, shown_group}
 use Rattle.std.specs.List.{count_by}
-use Rattle.bt_picker.specs.Tables.{AreTables, PeerState, PieceState, TablesState, announced, edit, fresh_peer, fresh_piece, have_row}
-use Rattle.bt_picker.specs.Tables.{less_available, more_available, peer_of, peer_row, piece_of, piece_row}
+use Rattle.bt_picker.specs.Tables.{AreTables, peer_of, piece_of}
+use Rattle.bt_tables.specs.Tables.{PeerState, PieceState, TablesState, announced, edit, fresh_peer, fresh_piece, have_row, less_available}
+use Rattle.bt_tables.specs.Tables.{more_available, peer_row, piece_row}
 use Rattle.bt_picker.proofs.Telling.{group_is, had_rows, untouched_row, wanted_chosen}
 use Rattle.bt_picker.proofs.Scans.{candidate_usable, first_block, lacks_found}
-use Rattle.bt_picker.proofs.Tabled.{edit_read, get_or_is_table, get_or_table, length_edit}
+use Rattle.bt_tables.proofs.Tabled.{edit_read, get_or_is_table, get_or_table, length_edit}
 
 -- ---- a fresh piece that the peer shows is a candidate, and there are no others
 

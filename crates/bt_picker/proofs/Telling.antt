@@ -15,14 +15,12 @@ use Rattle.bt_history.specs.Peers.{joined, shows}
 use Rattle.bt_history.specs.Pieces.{had, held, full, held_or_asked, begun, availability, chosen, wanted, had_count}
 use Rattle.bt_history.specs.Next.{continues, is_candidate}
 use Rattle.bt_history.proofs.Below.{any_fails, any_witness, all_found, all_fails, count_most, count_same}
-use Rattle.bt_picker.specs.Tables.{piece_of, cell_of}
-use Rattle.bt_picker.specs.Floors.{NoneRarer}
-use Rattle.bt_picker.specs.Standings.{is_held, is_touched, held_count, touched_count, shown_group, group_of_row, groups_of, FindsListed}
-use Rattle.bt_picker.specs.Standings.{FindsRarest, IsRarer}
-use Rattle.bt_picker.proofs.Tabled.{table_more, length_table, get_or_table}
+use Rattle.bt_picker.specs.Tables.{piece_of, cell_of, groups_of}
+use Rattle.bt_picker.specs.Search.{NoneRarer, FindsListed, FindsRarest, IsRarer, Finds, FindsOf, FindsLeast, rank_of}
+use Rattle.bt_tables.specs.Standings.{is_held, is_touched, held_count, touched_count, shown_group, group_of_row}
+use Rattle.bt_tables.proofs.Tabled.{table_more, length_table, get_or_table}
 use Rattle.bt_picker.proofs.Scans.{finds_in_piece, none_in_pieces}
 use Rattle.bt_order.specs.Orders.{at, ListsGroup}
-use Rattle.bt_picker.specs.Search.{Finds, FindsOf, FindsLeast, rank_of}
 use Rattle.bt_picker.proofs.Cells.{any_counted, asked_counted}
 
 -- ---- counts of tables

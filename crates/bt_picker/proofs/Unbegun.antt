@@ -13,11 +13,12 @@ use Rattle.bt_history.specs.History.{History}
 use Rattle.bt_history.specs.Pieces.{availability, chosen, had, held_or_asked, unasked, unbegun, wanted}
 use Rattle.bt_history.proofs.Below.{count_none, count_same, sum_same}
 use Rattle.bt_order.specs.Orders.{at, ListsGroup}
-use Rattle.bt_picker.specs.Tables.{AreTables, PieceState, TablesState, piece_of}
-use Rattle.bt_picker.specs.Standings.{group_of_row, groups_of, standing_of, touched_count}
+use Rattle.bt_picker.specs.Tables.{AreTables, piece_of, groups_of}
+use Rattle.bt_tables.specs.Tables.{PieceState, TablesState}
+use Rattle.bt_tables.specs.Standings.{group_of_row, standing_of, touched_count}
 use Rattle.bt_picker.specs.Unbegun.{is_unbegun_at, ListsUnbegun, unasked_count}
 use Rattle.bt_picker.proofs.Telling.{cells_long, group_unbegun, touched_counted, unbegun_group, uncrowded, wanted_chosen}
-use Rattle.bt_picker.proofs.Tabled.{get_or_table, length_table, map_table, table_more}
+use Rattle.bt_tables.proofs.Tabled.{get_or_table, length_table, map_table, table_more}
 
 module _ (s : Setting) (h : History) (n : ℕ) (pieces : List ℕ) (layout : IsLayout s.torrent) (under : n < 1025)
     (lists : ListsGroup (groups_of s h) (3 + n) pieces) where

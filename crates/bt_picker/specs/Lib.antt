@@ -1,16 +1,10 @@
 pub mod Tables
-pub mod Standings
-pub mod Rows
-pub mod Floors
 pub mod Search
 pub mod Positions
 pub mod Checks
 pub mod Audits
 pub mod Contents
 pub mod Unbegun
-pub mod Apart
-pub mod Stripes
-pub mod Showing
 pub mod Places
 pub mod Told
 pub mod Noted

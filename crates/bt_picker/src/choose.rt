@@ -9,14 +9,14 @@ ghost use Rattle.bt_history.specs.Pieces.{availability, endgame, had_count, held
 ghost use Rattle.bt_history.specs.Next.{continues, doubles, is_candidate, next_answer, starts, usable};
 ghost use Rattle.bt_order.specs.Orders.{at, ListsGroup};
 ghost use Rattle.bt_order.specs.Risings.{Rises};
-ghost use Rattle.bt_picker.specs.Standings.{FindsAmong, FindsListed, FindsRarest, groups_of, IsRarer};
-ghost use Rattle.bt_picker.specs.Search.{Finds, FindsLeast, FindsOf, IsRuling, rank_of};
+ghost use Rattle.bt_picker.specs.Search.{FindsAmong, FindsListed, FindsRarest, IsRarer, Finds, FindsLeast, FindsOf, IsRuling, rank_of};
+ghost use Rattle.bt_picker.specs.Tables.{groups_of};
 
-use crate::piece::{ASKED_OUT, CROWD, OPEN, RESTING, UNBEGUN};
 use crate::position::Position;
 use crate::ruling::Ruling;
 use bt_history::Reply;
 use bt_meta::Block;
+use bt_tables::{ASKED_OUT, CROWD, OPEN, RESTING, UNBEGUN};
 
 /// A walk goes over at most so many pieces for each piece of the group: a step costs far less than a listed piece.
 const WALK: usize = 1;

@@ -1,33 +1,24 @@
 //! The piece picker: which block to request next, and from which peer.
+//!
+//! It keeps the tables of `bt_tables` beside the history that they tell of, and a desk keeps that history as a journal. It may never
+//! change tables but by an entry that the rules allow (`entries`), and no answer reads the history: that stands in proofs alone.
 #![tactic(auto)]
 
 mod allow;
 mod auditing;
-mod cell;
 mod choose;
 mod content;
-mod counts;
 mod desk;
+mod entries;
 mod filed;
 mod finished;
-mod floors;
 mod jobs;
 mod past;
-mod peer;
-mod peers;
 mod picker;
-mod piece;
-mod pieces;
 mod places;
 mod position;
 mod refuse;
-mod rows;
 mod ruling;
-mod shelf;
-mod shows;
-mod stripes;
-mod sweep;
-mod tables;
 mod told;
 mod unread;
 

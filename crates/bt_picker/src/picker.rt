@@ -17,14 +17,14 @@ ghost use Rattle.bt_picker.specs.Positions.{Gains};
 ghost use Rattle.bt_picker.specs.Tables.{AreTables};
 ghost use Rattle.bt_picker.specs.Unbegun.{ListsUnbegun, unasked_count};
 
+use crate::entries::{enter, enter_check, enter_verdict, new_tables};
 use crate::past::{Note, Past};
-use crate::piece::UNBEGUN;
 use crate::position::Position;
-use crate::tables::Tables;
 use crate::told::{Lent, Told, lend};
 use bt_check::Verdict;
 use bt_history::{Call, MOST_WORKERS, Reason, Reply, Rules};
 use bt_meta::{Block, Torrent};
+use bt_tables::{Tables, UNBEGUN};
 use std::alloc::{AllocError, Global};
 use std::marker::Model;
 use std::sync::Arc;
@@ -73,7 +73,7 @@ impl Picker {
         ensures setting { IfOk result (λ p. p.setting ≡ setting_of torrent.value.layout workers rules) }
         ensures history { IfOk result (λ p. p.history ≡ []) }
     {
-        let tables = Tables::new(alloc, torrent, workers, rules)?;
+        let tables = new_tables(alloc, torrent, workers, rules)?;
         Ok(Picker {
             tables,
             past: Past::new(),
@@ -232,7 +232,7 @@ impl Picker {
             waits self.new.setting self.new.history piece ≡ true }
     {
         let reply = self.position().reply(worker, told);
-        self.tables.enter(&self.past, worker, told, reply);
+        enter(&mut self.tables, &self.past, worker, told, reply);
         self.past = self.past.then(&Note::Told(worker, told, reply));
         reply
     }
@@ -244,8 +244,7 @@ impl Picker {
         ensures { Gains self.old self.new (checking worker verdict.now.piece (checked.joined verdict.now) result) }
     {
         let reply = self.position().checked(worker, verdict, is_current);
-        self.tables
-            .enter_verdict(&self.past, worker, verdict, reply);
+        enter_verdict(&mut self.tables, &self.past, worker, verdict, reply);
         self.past = self.past.then(&Note::Checked(worker, verdict, reply));
         reply
     }
@@ -258,7 +257,7 @@ impl Picker {
         ensures { Gains self.old self.new (settling self.old.setting self.old.history worker piece result) }
     {
         let reply = self.position().settled(worker, piece, digest);
-        self.tables.enter_check(&self.past, worker, piece, reply);
+        enter_check(&mut self.tables, &self.past, worker, piece, reply);
         self.past = self.past.then(&Note::Settled {
             worker,
             piece,

@@ -12,18 +12,15 @@ ghost use Rattle.bt_history.specs.Pieces.{availability, asked_of_some, begun, fu
 ghost use Rattle.bt_history.specs.Pieces.{unbegun, wanted};
 ghost use Rattle.bt_order.specs.Orders.{at, ListsGroup};
 ghost use Rattle.bt_order.specs.Risings.{Rises};
-ghost use Rattle.bt_picker.specs.Floors.{NoneRarer};
-ghost use Rattle.bt_picker.specs.Showing.{dealings};
-ghost use Rattle.bt_picker.specs.Standings.{apart, cell_kept, groups_of};
-ghost use Rattle.bt_picker.specs.Tables.{AreTables, cell_of, peer_of, piece_of};
+ghost use Rattle.bt_picker.specs.Search.{NoneRarer};
+ghost use Rattle.bt_tables.specs.Showing.{dealings};
+ghost use Rattle.bt_tables.specs.Standings.{apart, cell_kept};
+ghost use Rattle.bt_picker.specs.Tables.{groups_of, AreTables, cell_of, peer_of, piece_of};
 
-use crate::cell::Cell;
 use crate::past::Past;
-use crate::peer::Peer;
-use crate::piece::{GROUPS, Piece};
-use crate::tables::Tables;
 use bt_history::Call;
 use bt_meta::{Bitfield, Block, Torrent};
+use bt_tables::{Cell, GROUPS, Peer, Piece, Tables};
 use std::marker::Model;
 
 /// A history and the tables that tell of it. Contracts see the setting and the history.

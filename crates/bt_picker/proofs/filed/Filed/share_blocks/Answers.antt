@@ -1,4 +1,4 @@
-use Rattle.bt_picker.proofs.Tabled.{table_more}
+use Rattle.bt_tables.proofs.Tabled.{table_more}
 use Rattle.bt_picker.proofs.filed.Filed.share_blocks.Goals as goal
 
 pub loop-index-preserved : goal.loop-index-preserved

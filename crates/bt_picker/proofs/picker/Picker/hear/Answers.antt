@@ -19,5 +19,5 @@ returns-clause-completes c =
     let allowed = subst (λ (n : DeskState). IsAllowed n.setting n.history e) is c.reply-reply.ensures in
     let waiting : waits inside.tables.setting (e ∷ old) piece ≡ true =
     completed_waits inside.tables.setting old e piece begin bytes c.self.invariant.0.legal allowed call completed in
-    ap (λ (h : History). waits c.enter.new.self.setting h piece) c.then-self-inside.ensures
+    ap (λ (h : History). waits c.enter.new.tables.setting h piece) c.then-self-inside.ensures
     ∙ (ap (λ (s : Setting). waits s (e ∷ old) piece) c.enter.ensures.setting ∙ waiting)

@@ -1,5 +1,5 @@
 use Rattle.std.proofs.Common.{◌∙◌, ap}
-use Rattle.bt_picker.specs.Showing.{Dealings, dealings}
+use Rattle.bt_tables.specs.Showing.{Dealings, dealings}
 use Rattle.bt_picker.proofs.Entering.{peer_row_is}
 use Rattle.bt_picker.proofs.picker.Picker.outstanding.Goals as goal
 

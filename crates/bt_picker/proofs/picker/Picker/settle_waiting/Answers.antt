@@ -19,6 +19,6 @@ invariant_of-self c =
     (c.torrent.ensures ∙ ap (λ (s : Setting). s.torrent) c.enter_check.ensures.setting) in
     let entries : c.then-self-inside.result.entries ≡ settling inside.tables.setting old c.args.worker c.args.piece reply ∷ old =
     c.then-self-inside.ensures ∙ ap (λ (e : Event). e ∷ old) same in (
-      subst (AreTables c.enter_check.new.self) (sym entries) c.enter_check.ensures.are,
+      subst (AreTables c.enter_check.new.tables) (sym entries) c.enter_check.ensures.are,
       subst (λ (s : Setting). s.workers ≤ MOST_WORKERS) (sym c.enter_check.ensures.setting) c.self.invariant.1,
     )

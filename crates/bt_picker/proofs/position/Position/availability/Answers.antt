@@ -1,5 +1,5 @@
 use Rattle.std.proofs.Common.{◌∙◌, ap}
-use Rattle.bt_picker.specs.Tables.{PieceState}
+use Rattle.bt_tables.specs.Tables.{PieceState}
 use Rattle.bt_picker.proofs.Entered.{piece_row_is}
 use Rattle.bt_picker.proofs.position.Position.availability.Goals as goal
 

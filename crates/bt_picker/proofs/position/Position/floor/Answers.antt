@@ -1,5 +1,5 @@
 use Rattle.std.proofs.Common.{subst}
-use Rattle.bt_picker.specs.Floors.{NoneRarer}
+use Rattle.bt_picker.specs.Search.{NoneRarer}
 use Rattle.bt_picker.specs.Positions.{DeskState}
 use Rattle.bt_picker.proofs.Learning.{floor_rarer}
 use Rattle.bt_picker.proofs.position.Position.floor.Goals as goal

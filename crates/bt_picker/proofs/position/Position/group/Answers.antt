@@ -1,8 +1,9 @@
 use Rattle.std.proofs.Common.{◌≡◌, ◌∙◌, ap, List, ℕ, map, subst}
 use Rattle.bt_order.specs.Orders.{ListsGroup}
 use Rattle.bt_picker.specs.Positions.{DeskState}
-use Rattle.bt_picker.specs.Standings.{group_of_row, groups_of}
-use Rattle.bt_picker.proofs.Tabled.{map_table}
+use Rattle.bt_tables.specs.Standings.{group_of_row}
+use Rattle.bt_picker.specs.Tables.{groups_of}
+use Rattle.bt_tables.proofs.Tabled.{map_table}
 use Rattle.bt_picker.proofs.position.Position.group.Goals as goal
 
 pub returns : goal.returns

@@ -1,9 +1,10 @@
 use Rattle.std.proofs.Common.{◌≡◌, ◌∙◌, ap, List, ℕ, map, subst}
 use Rattle.bt_order.specs.Orders.{TellsFirst}
 use Rattle.bt_picker.specs.Positions.{DeskState}
-use Rattle.bt_picker.specs.Standings.{group_of_row, groups_of}
+use Rattle.bt_tables.specs.Standings.{group_of_row}
+use Rattle.bt_picker.specs.Tables.{groups_of}
 use Rattle.bt_picker.proofs.Contents.{resting_wanted}
-use Rattle.bt_picker.proofs.Tabled.{map_table}
+use Rattle.bt_tables.proofs.Tabled.{map_table}
 use Rattle.bt_picker.proofs.position.Position.has_wanted.Goals as goal
 
 pub returns : goal.returns

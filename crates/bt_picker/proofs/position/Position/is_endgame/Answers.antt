@@ -2,7 +2,7 @@ use Rattle.std.proofs.Common.{◌≡◌, ◌∙◌, ◌==◌, ◌&&◌, Bool, �
 use Rattle.std.specs.Prelude.{nat_lt}
 use Rattle.std.specs.List.{sum_by}
 use Rattle.std.proofs.lemmas.Bool.{eq-eqb, ne_eqb}
-use Rattle.bt_picker.specs.Standings.{standing_of}
+use Rattle.bt_tables.specs.Standings.{standing_of}
 use Rattle.bt_history.specs.Pieces.{endgame}
 use Rattle.bt_picker.specs.Positions.{DeskState}
 use Rattle.bt_picker.proofs.Endings.{endgame_rows}

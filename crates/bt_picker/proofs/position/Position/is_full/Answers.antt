@@ -1,6 +1,6 @@
 use Rattle.std.proofs.Common.{◌∙◌, ◌==◌, ap, length}
-use Rattle.bt_picker.specs.Tables.{PieceState}
-use Rattle.bt_picker.specs.Standings.{held_count}
+use Rattle.bt_tables.specs.Tables.{PieceState}
+use Rattle.bt_tables.specs.Standings.{held_count}
 use Rattle.bt_picker.proofs.Telling.{full_row}
 use Rattle.bt_picker.proofs.position.Position.is_full.Goals as goal
 

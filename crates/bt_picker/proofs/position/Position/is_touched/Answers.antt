@@ -1,7 +1,7 @@
 use Rattle.std.proofs.Common.{◌∙◌, ap}
 use Rattle.std.specs.Prelude.{nat_lt}
-use Rattle.bt_picker.specs.Tables.{PieceState}
-use Rattle.bt_picker.specs.Standings.{touched_count}
+use Rattle.bt_tables.specs.Tables.{PieceState}
+use Rattle.bt_tables.specs.Standings.{touched_count}
 use Rattle.bt_picker.proofs.Telling.{touched_row}
 use Rattle.bt_picker.proofs.position.Position.is_touched.Goals as goal
 

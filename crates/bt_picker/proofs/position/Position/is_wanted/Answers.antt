@@ -1,5 +1,5 @@
 use Rattle.std.proofs.Common.{◌∙◌, ap, sym}
-use Rattle.bt_picker.specs.Tables.{PieceState}
+use Rattle.bt_tables.specs.Tables.{PieceState}
 use Rattle.bt_picker.proofs.Telling.{wanted_chosen}
 use Rattle.bt_picker.proofs.position.Position.is_wanted.Goals as goal
 

@@ -1,4 +1,4 @@
-use Rattle.bt_picker.specs.Floors.{NoneRarer}
+use Rattle.bt_picker.specs.Search.{NoneRarer}
 use Rattle.bt_picker.proofs.position.Position.rarest.Given as goal
 
 abbrev pub invariant-loop-shown_by : goal.invariant-loop-shown_by

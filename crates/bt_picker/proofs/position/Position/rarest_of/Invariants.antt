@@ -3,7 +3,7 @@ use Rattle.bt_history.specs.Pieces.{availability}
 use Rattle.bt_meta.specs.Layout.{piece_count}
 use Rattle.std.proofs.Common.{◌<◌}
 use Rattle.std.specs.Prelude.{IfSome}
-use Rattle.bt_picker.specs.Standings.{FindsRarest}
+use Rattle.bt_picker.specs.Search.{FindsRarest}
 use Rattle.bt_picker.proofs.position.Position.rarest_of.Given as goal
 
 abbrev pub invariant-loop-piece : goal.invariant-loop-piece

@@ -1,6 +1,6 @@
 use Rattle.std.proofs.Common.{None}
 use Rattle.bt_history.specs.Peers.{shows}
-use Rattle.bt_picker.specs.Standings.{FindsListed}
+use Rattle.bt_picker.specs.Search.{FindsListed}
 use Rattle.bt_picker.proofs.position.Position.some_shown.Given as goal
 
 abbrev pub invariant-loop-piece : goal.invariant-loop-piece

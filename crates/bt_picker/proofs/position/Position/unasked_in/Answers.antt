@@ -1,9 +1,10 @@
 use Rattle.std.proofs.Common.{◌∙◌, ap, sym, arith, length, ℕ}
 use Rattle.bt_meta.specs.Layout.{block, block_count}
-use Rattle.bt_picker.specs.Tables.{CellState, PieceState, cell_of, empty_cell}
-use Rattle.bt_picker.specs.Standings.{is_touched}
+use Rattle.bt_tables.specs.Tables.{CellState, PieceState, empty_cell}
+use Rattle.bt_picker.specs.Tables.{cell_of}
+use Rattle.bt_tables.specs.Standings.{is_touched}
 use Rattle.bt_picker.proofs.Cells.{touched_is}
-use Rattle.bt_picker.proofs.Tabled.{get_or_is_table, length_table}
+use Rattle.bt_tables.proofs.Tabled.{get_or_is_table, length_table}
 use Rattle.bt_picker.proofs.position.Position.unasked_in.Goals as goal
 
 pub loop-index-init : goal.loop-index-init

@@ -1,7 +1,0 @@
-use Rattle.std.proofs.Common.{get_or, ◌≡◌}
-use Rattle.bt_picker.specs.Tables.{edit}
-use Rattle.bt_picker.proofs.Striped.{written}
-use Rattle.bt_picker.proofs.stripes.Stripes.write.Given as goal
-
-abbrev pub invariant-loop-place : goal.invariant-loop-place
-invariant-loop-place l = l.self ≡ edit l.initial.self l.row (written l.place (λ k. get_or l.bytes k 0))

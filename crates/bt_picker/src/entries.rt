@@ -1,0 +1,90 @@
+//! What each entry of a history makes of its tables: the one place where tables change, each time with the entry that they then tell of.
+
+ghost use Rattle.std.specs.Prelude.{◌≡◌, ◌<◌, ◌≤◌, ◌∷◌, [], true, IfOk};
+ghost use Rattle.bt_history.specs.Setting.{setting_of};
+ghost use Rattle.bt_history.specs.Legal.{IsAllowed};
+ghost use Rattle.bt_history.specs.History.{counts};
+ghost use Rattle.bt_check.specs.Checked as checked;
+ghost use Rattle.bt_picker.specs.Checks.{settling};
+ghost use Rattle.bt_picker.specs.Told.{checking, telling};
+ghost use Rattle.bt_picker.specs.Tables.{AreTables};
+
+use crate::past::Past;
+use crate::told::Told;
+use bt_check::Verdict;
+use bt_history::{MOST_DEPTH, Reply, Rules};
+use bt_meta::Torrent;
+use bt_tables::{HELD, Tables};
+use std::alloc::{AllocError, Global};
+use std::sync::Arc;
+
+/// The tables of an empty history, of fewer workers than a block's cell can count.
+pub fn new_tables(
+    alloc: Global,
+    torrent: Arc<Torrent>,
+    workers: u32,
+    rules: Rules,
+) -> Result<Tables, AllocError>
+    requires depth { rules.depth ≤ MOST_DEPTH }
+    requires workers { workers < HELD }
+    ensures setting { IfOk result (λ t. t.setting ≡ setting_of torrent.value.layout workers rules) }
+    ensures are { IfOk result (λ t. AreTables t []) }
+{
+    Tables::new(alloc, torrent, workers, rules)
+}
+
+/// Enters what the worker told, with its reply: `past` has the entries before it.
+#[inline(always)]
+pub fn enter(tables: &mut Tables, past: &Past, worker: u32, told: &Told<'_>, reply: Reply)
+    requires are { AreTables tables.old past.now.entries }
+    requires allowed { IsAllowed tables.old.setting past.now.entries (telling worker told.now reply) }
+    ensures are { AreTables tables.new (telling worker told.now reply ∷ past.now.entries) }
+    ensures setting { tables.new.setting ≡ tables.old.setting }
+{
+    if reply.is_refusal() {
+        return;
+    }
+    match told {
+        Told::Join => tables.join(worker),
+        Told::Bits(flags) => tables.put_bits(worker, flags),
+        Told::Have(piece) => {
+            tables.put_have(worker, *piece);
+            tables.note_interest(worker, reply);
+        }
+        Told::Choke => tables.choke(worker),
+        Told::Unchoke => tables.unchoke(worker),
+        Told::Next(_) => {
+            tables.learn(worker, reply);
+            tables.put_next(worker, reply);
+        }
+        Told::Arrived { piece, begin, .. } => {
+            tables.put_arrival(worker, *piece, *begin, reply);
+        }
+        Told::Leave => tables.leave(worker),
+        Told::Want(flags) => tables.put_want(flags),
+    }
+}
+
+/// Enters the worker's verdict, with its reply.
+pub fn enter_verdict(tables: &mut Tables, past: &Past, worker: u32, verdict: &Verdict, reply: Reply)
+    requires are { AreTables tables.old past.now.entries }
+    requires allowed { IsAllowed tables.old.setting past.now.entries (checking worker verdict.now.piece (checked.joined verdict.now) reply) }
+    ensures are { AreTables tables.new (checking worker verdict.now.piece (checked.joined verdict.now) reply ∷ past.now.entries) }
+    ensures setting { tables.new.setting ≡ tables.old.setting }
+{
+    if reply.is_refusal() {
+        return;
+    }
+    tables.put_check(verdict.piece(), reply);
+}
+
+/// Enters the worker's check of what is held of the piece, with its reply.
+pub fn enter_check(tables: &mut Tables, past: &Past, worker: u32, piece: u32, reply: Reply)
+    requires are { AreTables tables.old past.now.entries }
+    requires allowed { IsAllowed tables.old.setting past.now.entries (settling tables.old.setting past.now.entries worker piece reply) }
+    requires counts { counts reply ≡ true }
+    ensures are { AreTables tables.new (settling tables.old.setting past.now.entries worker piece reply ∷ past.now.entries) }
+    ensures setting { tables.new.setting ≡ tables.old.setting }
+{
+    tables.put_check(piece, reply);
+}

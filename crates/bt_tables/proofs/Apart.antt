@@ -1,0 +1,297 @@
+-- Rows beside how many peers show each piece: what is read of both, and what a change of one leaves of the rows with these counts in them.
+use Rattle.std.proofs.Common.{◌≡◌, ℕ, zero, suc, ◌+◌, ◌-◌, ◌<◌, ◌≤◌, Bool, true, false, List, [], ◌∷◌, length, get_or, set, replicate, min, refl}
+use Rattle.std.proofs.Common.{ap, sym, ◌∙◌, arith, inl, inr, subst, ◌==◌, ⊎_elim}
+use Rattle.std.specs.Prelude.{nat_lt, if◌then◌else◌}
+use Rattle.std.proofs.lemmas.Bool.{cases_eq, cases_lt, lt-ltb, le-ltb}
+use Rattle.std.proofs.lemmas.List.{set-get_or, get_or-map, get_or-set_same, get_or-set_other, get_or_past, set_past, length-map, get_or_default}
+use Rattle.std.proofs.lemmas.List.{get_or-replicate, length-replicate}
+use Rattle.bt_history.specs.Counting.{table}
+use Rattle.bt_order.specs.Orders.{at}
+use Rattle.bt_tables.specs.declared.piece.Change.{Change}
+use Rattle.bt_tables.specs.declared.piece.Change.TheVariants.{Raise, Lower, Store, Pass, Fail, Wanted}
+use Rattle.bt_tables.specs.Tables.{HasRoomOf, PieceState, changed_row, edit, fresh_piece, less_available, more_available, one_if, piece_row}
+use Rattle.bt_tables.specs.Standings.{AreShelved, ShelfState, apart, group_of_row, is_resting, lowered_group, raised_group, shown_row, standing_of}
+use Rattle.bt_tables.specs.Standings.{touched_count, whole_rows}
+use Rattle.bt_tables.specs.Apart.{AreApart}
+use Rattle.bt_tables.proofs.Shelves.{can_file, files}
+use Rattle.bt_tables.proofs.Tabled.{edit_set, get_or_edit_same, get_or_table, length_table, table_from}
+
+-- ---- the rows with the counts
+
+pub length_whole : (rows : List PieceState) (shown : List ℕ) → length shown ≡ length rows → length (whole_rows rows shown) ≡ length rows
+length_whole [] shown len = refl
+length_whole (row ∷ rows) [] len = absurd (omega arith)
+length_whole (row ∷ rows) (n ∷ shown) len = ap suc (length_whole rows shown (omega arith))
+
+pub whole_at : (rows : List PieceState) (shown : List ℕ) (p : ℕ) (d r : PieceState) (e : ℕ) → length shown ≡ length rows → p < length rows
+    → get_or (whole_rows rows shown) p d ≡ shown_row (get_or shown p e) (get_or rows p r)
+whole_at [] shown p d r e len lp = absurd (omega arith)
+whole_at (row ∷ rows) [] p d r e len lp = absurd (omega arith)
+whole_at (row ∷ rows) (n ∷ shown) zero d r e len lp = refl
+whole_at (row ∷ rows) (n ∷ shown) (suc p) d r e len lp = whole_at rows shown p d r e (omega arith) (omega arith)
+
+pub whole_set : (rows : List PieceState) (shown : List ℕ) (p n : ℕ) (row : PieceState) → length shown ≡ length rows
+    → whole_rows (set rows p row) (set shown p n) ≡ set (whole_rows rows shown) p (shown_row n row)
+whole_set [] shown p n row len = refl
+whole_set (r ∷ rows) [] p n row len = absurd (omega arith)
+whole_set (r ∷ rows) (m ∷ shown) zero n row len = refl
+whole_set (r ∷ rows) (m ∷ shown) (suc p) n row len = ap (λ l. shown_row m r ∷ l) (whole_set rows shown p n row (omega arith))
+
+-- a row alone changes, and a count alone
+pub whole_row : (rows : List PieceState) (shown : List ℕ) (p : ℕ) (row : PieceState) → length shown ≡ length rows
+    → whole_rows (set rows p row) shown ≡ set (whole_rows rows shown) p (shown_row (at shown p) row)
+whole_row rows shown p row len =
+    ap (whole_rows (set rows p row)) (sym (set-get_or shown p 0)) ∙ whole_set rows shown p (at shown p) row len
+
+pub whole_count : (rows : List PieceState) (shown : List ℕ) (p n : ℕ) → length shown ≡ length rows
+    → whole_rows rows (set shown p n) ≡ set (whole_rows rows shown) p (shown_row n (piece_row rows p))
+whole_count rows shown p n len =
+    ap (λ (l : List PieceState). whole_rows l (set shown p n)) (sym (set-get_or rows p (fresh_piece 0))) ∙
+    whole_set rows shown p n (piece_row rows p) len
+
+-- no peer shows a piece of a torrent of which nothing is known
+pub whole_fresh : (n : ℕ) (blocks : ℕ → ℕ) (rows : List PieceState) → rows ≡ table n (λ p. fresh_piece (blocks p))
+    → whole_rows rows (replicate n 0) ≡ table n (λ p. fresh_piece (blocks p))
+whole_fresh n blocks rows is =
+    let fresh = table n (λ p. fresh_piece (blocks p)) in
+    let long : length fresh ≡ n = length_table n (λ p. fresh_piece (blocks p)) in
+    let same : length (replicate n 0) ≡ length fresh = length-replicate {A = ℕ} n 0 ∙ sym long in
+    ap (λ (l : List PieceState). whole_rows l (replicate n 0)) is
+    ∙ table_from n (λ p. fresh_piece (blocks p)) (whole_rows fresh (replicate n 0)) (length_whole fresh (replicate n 0) same ∙ long)
+    (λ k d lt. whole_at fresh (replicate n 0) k d (fresh_piece 0) 0 same (omega (arith, long, lt))
+    ∙ (ap (λ (m : ℕ). shown_row m (get_or fresh k (fresh_piece 0))) (get_or-replicate n k 0 0 lt)
+    ∙ ap (shown_row 0) (get_or_table n (λ p. fresh_piece (blocks p)) k (fresh_piece 0) lt)))
+
+-- ---- a change that leaves the count
+
+pub same_room : (change : Change) (n : ℕ) (row : PieceState) → HasRoomOf change (shown_row n row) → HasRoomOf change (apart row)
+same_room (Raise index) n row room = room
+same_room (Lower index) n row room = room
+same_room (Store index) n row room = room
+same_room Pass n row room = room
+same_room Fail n row room = room
+same_room (Wanted wanted) n row room = room
+
+pub changed_apart : (change : Change) (n : ℕ) (row : PieceState) → shown_row n (changed_row change row) ≡ changed_row change (shown_row n row)
+changed_apart (Raise index) n row = refl
+changed_apart (Lower index) n row = refl
+changed_apart (Store index) n row = refl
+changed_apart Pass n row = refl
+changed_apart Fail n row = refl
+changed_apart (Wanted wanted) n row = refl
+
+-- ---- a count that changes: the group of the piece goes with it, and no sum
+
+either : (b : Bool) (n : ℕ) → n ≡ (if b then n else n)
+either true n = refl
+either false n = refl
+
+raised_by : (resting unbegun asked : Bool) (n : ℕ) → (if resting then 0 else if unbegun then 3 + min (n + 1) 1025 else if asked then 1 else 2)
+    ≡ raised_group (n + 1) (if resting then 0 else if unbegun then 3 + min n 1025 else if asked then 1 else 2)
+raised_by true unbegun asked n = either (nat_lt 1025 (n + 1)) 0
+raised_by false false true n = either (nat_lt 1025 (n + 1)) 1
+raised_by false false false n = either (nat_lt 1025 (n + 1)) 2
+raised_by false true asked n =
+    elim (cases_lt 1025 (n + 1)) [
+      | inl crowd ↦ rw (lt-ltb 1025 (n + 1) crowd) (omega arith)
+      | inr few ↦ rw (le-ltb 1025 (n + 1) few, le-ltb (3 + min n 1025) 3 (omega arith)) (omega arith)
+    ]
+
+lowered_by : (resting unbegun asked : Bool) (n : ℕ) → (if resting then 0 else if unbegun then 3 + min (n - 1) 1025 else if asked then 1 else 2)
+    ≡ lowered_group n (if resting then 0 else if unbegun then 3 + min n 1025 else if asked then 1 else 2)
+lowered_by true unbegun asked n = either (nat_lt 1025 n) 0
+lowered_by false false true n = either (nat_lt 1025 n) 1
+lowered_by false false false n = either (nat_lt 1025 n) 2
+lowered_by false true asked n =
+    elim (cases_lt 1025 n) [
+      | inl crowd ↦ rw (lt-ltb 1025 n crowd) (omega arith)
+      | inr few ↦ elim (cases_lt 3 (3 + min n 1025)) [
+        | inl some ↦ rw (le-ltb 1025 n few, lt-ltb 3 (3 + min n 1025) some) (omega arith)
+        | inr none ↦ rw (le-ltb 1025 n few, le-ltb 3 (3 + min n 1025) none) (omega arith)
+      ]
+    ]
+
+-- where one peer more may be counted (up to CROWD, 1025), the group behind a row's is a group too (below GROUPS, 1029)
+next_room : (resting unbegun asked : Bool) (n : ℕ) → n + 1 ≤ 1025 →
+    (if resting then 0 else if unbegun then 3 + min n 1025 else if asked then 1 else 2) + 1 < 1029
+next_room true unbegun asked n few = omega arith
+next_room false true asked n few = omega arith
+next_room false false true n few = omega arith
+next_room false false false n few = omega arith
+
+-- ---- what is read
+
+-- the row of a piece is one that it can be read as
+pub own_row : (rows : List PieceState) (p : ℕ) → p < length rows → piece_row rows p ≡ get_or rows p (piece_row rows p)
+own_row rows p lp = get_or_default rows p (fresh_piece 0) (piece_row rows p) lp
+
+-- a row is that of the piece but for the count
+pub read_row : (rows : List PieceState) (shown : List ℕ) (p : ℕ) (row : PieceState) → length shown ≡ length rows → AreApart rows → p < length rows
+    → row ≡ get_or rows p row → row ≡ apart (piece_row (whole_rows rows shown) p)
+read_row rows shown p row len are lp read =
+    let is : row ≡ piece_row rows p = read ∙ get_or_default rows p row (fresh_piece 0) lp in
+    let none : row.availability ≡ 0 = ap (λ (r : PieceState). r.availability) is ∙ are p in
+    let whole : apart (piece_row (whole_rows rows shown) p) ≡ apart row =
+    ap apart (whole_at rows shown p (fresh_piece 0) row 0 len lp) ∙ ap apart (sym read) in
+    (λ i. record { had = row.had; wanted = row.wanted; availability = none i; blocks = row.blocks }) ∙ sym whole
+
+pub lent_row : (rows : List PieceState) (shown : List ℕ) (p : ℕ) (row : PieceState) → length shown ≡ length rows → AreApart rows → p < length rows
+    → row ≡ piece_row rows p → row ≡ apart (piece_row (whole_rows rows shown) p)
+lent_row rows shown p row len are lp is =
+    is ∙ read_row rows shown p (piece_row rows p) len are lp (own_row rows p lp)
+
+-- the rows once the row of the piece is changed, and what that row is then
+pub edited_rows : (rows : List PieceState) (p : ℕ) (change : Change) → p < length rows
+    → edit rows p (changed_row change) ≡ set rows p (changed_row change (piece_row rows p))
+edited_rows rows p change lp = sym (edit_set rows p (changed_row change) (piece_row rows p) lp (own_row rows p lp))
+
+pub edited_row : (rows : List PieceState) (p : ℕ) (change : Change) → p < length rows
+    → piece_row (edit rows p (changed_row change)) p ≡ changed_row change (piece_row rows p)
+edited_row rows p change lp = get_or_edit_same rows p (changed_row change) (fresh_piece 0) lp
+
+pub still_apart : (rows : List PieceState) (p : ℕ) (row : PieceState) → AreApart rows → row.availability ≡ 0 → AreApart (set rows p row)
+still_apart rows p row are none q =
+    elim (cases_lt p (length rows)) [
+      | inl within ↦ ⊎_elim
+          (λ (same : q ≡ p). ap (λ (k : ℕ). (piece_row (set rows p row) k).availability) same
+          ∙ (ap (λ (r : PieceState). r.availability) (get_or-set_same rows p row (fresh_piece 0) within) ∙ none))
+          (λ (other : q ≡ p → ⊥). ap (λ (r : PieceState). r.availability) (get_or-set_other rows p q row (fresh_piece 0) other) ∙ are q)
+          (cases_eq q p)
+      | inr past ↦ ap (λ (l : List PieceState). (piece_row l q).availability) (set_past rows p row past) ∙ are q
+    ]
+
+pub fresh_apart : (n : ℕ) (blocks : ℕ → ℕ) → AreApart (table n (λ p. fresh_piece (blocks p)))
+fresh_apart n blocks p =
+    elim (cases_lt p n) [
+      | inl within ↦ ap (λ (r : PieceState). r.availability) (get_or_table n (λ k. fresh_piece (blocks k)) p (fresh_piece 0) within)
+      | inr past ↦ ap (λ (r : PieceState). r.availability)
+          (get_or_past (table n (λ k. fresh_piece (blocks k))) p (fresh_piece 0) (omega (arith, length_table n (λ k. fresh_piece (blocks k)))))
+    ]
+
+same_count : (change : Change) (row : PieceState) → (changed_row change row).availability ≡ row.availability
+same_count (Raise index) row = refl
+same_count (Lower index) row = refl
+same_count (Store index) row = refl
+same_count Pass row = refl
+same_count Fail row = refl
+same_count (Wanted wanted) row = refl
+
+-- ---- one piece of all
+
+-- the rows beside the counts, what is kept of both, and one piece of theirs
+pub record IsKept (shelf : ShelfState) (rows : List PieceState) (shown : List ℕ) (p : ℕ) : Type 0 where
+  pub are : AreShelved shelf (whole_rows rows shown)
+  pub len : length shown ≡ length rows
+  pub within : p < length rows
+
+pub kept_piece : (shelf : ShelfState) (rows : List PieceState) (shown : List ℕ) (now : List PieceState) (p : ℕ) →
+    AreShelved shelf (whole_rows rows shown)
+    → length shown ≡ length rows → whole_rows rows shown ≡ now → p < length now → IsKept shelf rows shown p
+kept_piece shelf rows shown now p are len is lp = record {
+  are = are;
+  len = len;
+  within = omega (arith, lp, ap length is, length_whole rows shown len);
+}
+
+module _ (shelf : ShelfState) (rows : List PieceState) (shown : List ℕ) (p : ℕ) (kept : IsKept shelf rows shown p) where
+  abbrev whole : List PieceState
+  whole = whole_rows rows shown
+
+  -- the row of the piece, with the count
+  abbrev old : PieceState
+  old = shown_row (at shown p) (piece_row rows p)
+
+  pub in_whole : p < length whole
+  in_whole = omega (arith, length_whole rows shown kept.len, kept.within)
+
+  old_is : old ≡ get_or whole p old
+  old_is = sym (whole_at rows shown p old (fresh_piece 0) 0 kept.len kept.within)
+
+  pub count_is : (piece_row whole p).availability ≡ at shown p
+  count_is = ap (λ (r : PieceState). r.availability) (whole_at rows shown p (fresh_piece 0) (fresh_piece 0) 0 kept.len kept.within)
+
+  pub in_groups : p < length shelf.groups
+  in_groups = omega (arith, in_whole, ap (λ (s : ShelfState). length s.groups) kept.are.is, length-map whole group_of_row)
+
+  group_is : at shelf.groups p ≡ group_of_row old
+  group_is =
+      ap (λ (s : ShelfState). at s.groups p) kept.are.is
+      ∙ (get_or-map group_of_row whole p old 0 in_whole ∙ ap group_of_row (sym old_is))
+
+  -- the row alone changes
+  pub row_is : (row : PieceState) (m : ℕ) → row ≡ get_or rows p row → m ≡ at shown p → shown_row m row ≡ get_or whole p (shown_row m row)
+  row_is row m read count = (λ i. shown_row (count i) (read i)) ∙ sym (whole_at rows shown p (shown_row m row) row 0 kept.len kept.within)
+
+  pub set_is : (row : PieceState) (m : ℕ) → m ≡ at shown p → whole_rows (set rows p row) shown ≡ set whole p (shown_row m row)
+  set_is row m count = whole_row rows shown p row kept.len ∙ ap (λ (n : ℕ). set whole p (shown_row n row)) (sym count)
+
+  pub edit_is : (change : Change) (row new : PieceState) (m : ℕ) → row ≡ get_or rows p row → m ≡ at shown p → new ≡ changed_row change row
+      → whole_rows (set rows p new) shown ≡ edit whole p (changed_row change)
+  edit_is change row new m read count is =
+      set_is new m count
+      ∙ (ap (set whole p) (ap (shown_row m) is ∙ changed_apart change m row) ∙
+      edit_set whole p (changed_row change) (shown_row m row) in_whole (row_is row m read count))
+
+  pub changed_counts : AreApart rows → (change : Change) (row new : PieceState) → row ≡ get_or rows p row → new ≡ changed_row change row →
+      AreApart (set rows p new)
+  changed_counts apart_are change row new read is =
+      let here : row ≡ piece_row rows p = read ∙ get_or_default rows p row (fresh_piece 0) kept.within in
+      still_apart rows p new apart_are
+      (ap (λ (r : PieceState). r.availability) is ∙ (same_count change row ∙ (ap (λ (r : PieceState). r.availability) here ∙ apart_are p)))
+
+  -- the group that the row tells is the one in which its piece stands
+  pub stands_in : (row : PieceState) (m : ℕ) → row ≡ get_or rows p row → m ≡ at shown p → group_of_row (shown_row m row) ≡ at shelf.groups p
+  stands_in row m read count =
+      let here : row ≡ piece_row rows p = read ∙ get_or_default rows p row (fresh_piece 0) kept.within in
+      (λ i. group_of_row (shown_row (count i) (here i))) ∙ sym group_is
+
+  regrouped : (now : ShelfState) (n : ℕ) → now ≡ record shelf { groups = set shelf.groups p (group_of_row (shown_row n old)) }
+      → AreShelved now (whole_rows rows (set shown p n))
+  regrouped now n is =
+      let new = shown_row n old in
+      let filed = can_file shelf whole p old new (standing_of old) (standing_of new) kept.are in_whole old_is refl refl refl in
+      let unasked : shelf.unasked ≡ shelf.unasked - (standing_of old).unasked + (standing_of new).unasked = omega (arith, filed.unasked) in
+      let unheld : shelf.unheld ≡ shelf.unheld - (standing_of old).unheld + (standing_of new).unheld = omega (arith, filed.unheld) in
+      let had : shelf.had ≡ shelf.had - one_if (standing_of old).had + one_if (standing_of new).had = omega (arith, filed.had) in
+      subst (AreShelved now) (sym (whole_count rows shown p n kept.len))
+      (files shelf now whole p old new (standing_of old) (standing_of new) kept.are in_whole old_is refl refl refl
+      (is ∙ (λ i. record { groups = set shelf.groups p (group_of_row new); unasked = unasked i; unheld = unheld i; had = had i })))
+
+  -- one peer more shows the piece
+  pub has_next : (n : ℕ) → n ≡ at shown p + 1 → n ≤ 1025 → at shelf.groups p + 1 < 1029
+  has_next n is few =
+      let room = next_room (is_resting old) (touched_count old.blocks == 0) (touched_count old.blocks == length old.blocks) (at shown p)
+      (omega (arith, is, few)) in
+      omega (arith, group_is, room)
+
+  pub shown_more : (now : ShelfState) (n : ℕ) → n ≡ at shown p + 1 →
+      now ≡ record shelf { groups = set shelf.groups p (raised_group n (at shelf.groups p)) }
+      → AreShelved now (whole_rows rows (set shown p n))
+  shown_more now n more is =
+      let by = raised_by (is_resting old) (touched_count old.blocks == 0) (touched_count old.blocks == length old.blocks) (at shown p) in
+      let group : raised_group n (at shelf.groups p) ≡ group_of_row (shown_row n old) =
+      ap (raised_group n) group_is ∙ (ap (λ (m : ℕ). raised_group m (group_of_row old)) more ∙
+      (sym by ∙ ap (λ (m : ℕ). group_of_row (shown_row m old)) (sym more))) in
+      regrouped now n (is ∙ ap (λ (g : ℕ). record shelf { groups = set shelf.groups p g }) group)
+
+  pub counted_more : (n : ℕ) → n ≡ at shown p + 1 → whole_rows rows (set shown p n) ≡ edit whole p (more_available true)
+  counted_more n more =
+      whole_count rows shown p n kept.len
+      ∙ (ap (λ (m : ℕ). set whole p (shown_row m old)) more ∙ edit_set whole p (more_available true) old in_whole old_is)
+
+  -- one peer less shows it
+  pub shown_less : (now : ShelfState) (m n : ℕ) → m ≡ at shown p → n ≡ m - 1 →
+      now ≡ record shelf { groups = set shelf.groups p (lowered_group m (at shelf.groups p)) }
+      → AreShelved now (whole_rows rows (set shown p n))
+  shown_less now m n many less is =
+      let by = lowered_by (is_resting old) (touched_count old.blocks == 0) (touched_count old.blocks == length old.blocks) (at shown p) in
+      let fewer : n ≡ at shown p - 1 = omega arith in
+      let group : lowered_group m (at shelf.groups p) ≡ group_of_row (shown_row n old) =
+      ap (lowered_group m) group_is ∙ (ap (λ (k : ℕ). lowered_group k (group_of_row old)) many ∙
+      (sym by ∙ ap (λ (k : ℕ). group_of_row (shown_row k old)) (sym fewer))) in
+      regrouped now n (is ∙ ap (λ (g : ℕ). record shelf { groups = set shelf.groups p g }) group)
+
+  pub counted_less : (n : ℕ) → n ≡ at shown p - 1 → whole_rows rows (set shown p n) ≡ edit whole p (less_available true)
+  counted_less n less =
+      whole_count rows shown p n kept.len
+      ∙ (ap (λ (m : ℕ). set whole p (shown_row m old)) less ∙ edit_set whole p (less_available true) old in_whole old_is)

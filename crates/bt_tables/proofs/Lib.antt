@@ -1,0 +1,14 @@
+pub mod Tabled
+pub mod Changes
+pub mod Forgetting
+pub mod Counted
+pub mod Rowed
+pub mod Blank
+pub mod Shelves
+pub mod Apart
+pub mod Sweeps
+pub mod Opened
+pub mod FloorSteps
+pub mod Striped
+pub mod Showing
+pub mod Spelled

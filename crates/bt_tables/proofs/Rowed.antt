@@ -1,0 +1,117 @@
+-- Rows as they are kept: what is read of one, and what a change of its counts and its cells makes of all.
+use Rattle.std.proofs.Common.{◌≡◌, ◌≢◌, ◌<◌, ◌≤◌, ◌+◌, ◌*◌, ◌-◌, ◌∙◌, ℕ, zero, suc, List, [], ◌∷◌, length, get_or, set, take, drop, map, min, ap, arith}
+use Rattle.std.proofs.Common.{refl, subst, sym, length-set, ⊎_elim}
+use Rattle.std.proofs.Math.Nat.{min-le_left, min-le_right, mul-le-mul_right, suc-mul, zero-mul}
+use Rattle.std.proofs.Math.Seq.{take-set-lt}
+use Rattle.std.proofs.lemmas.Bool.{cases_eq, cases_lt}
+use Rattle.std.proofs.lemmas.List.{drop-drop, drop-set-add, drop-set-lt, get_or-drop, get_or-map, get_or-set_other, get_or-set_same, get_or-take}
+use Rattle.std.proofs.lemmas.List.{length-drop, length-map, length-take, map-set, take-set-le, take_all}
+use Rattle.bt_tables.specs.declared.cell.Cell.{Cell}
+use Rattle.bt_tables.specs.declared.counts.Counts.{Counts}
+use Rattle.bt_tables.specs.Rows.{AreKept, Keeps, counts_at, no_counts, row_of, rows_of, said}
+use Rattle.bt_tables.specs.Standings.{cell_kept}
+use Rattle.bt_tables.specs.Tables.{CellState, PieceState, fresh_piece, piece_row}
+
+-- the cells of piece p
+abbrev pub cells_at : ℕ → List Cell → ℕ → List CellState
+cells_at w xs p = said (take w (drop (p * w) xs))
+
+-- the first place of the next piece
+next_place : (p w k : ℕ) → suc p * w + k ≡ w + (p * w + k)
+next_place p w k = let next = suc-mul p w in omega (arith, next)
+
+next_start : (p w : ℕ) → w + p * w ≡ suc p * w
+next_start p w = let next = suc-mul p w in omega (arith, next)
+
+pub rows_length : (w : ℕ) (cs : List Counts) (xs : List Cell) → length (rows_of w cs xs) ≡ length cs
+rows_length w [] xs = refl
+rows_length w (c ∷ cs) xs = ap suc (rows_length w cs (drop w xs))
+
+next_cells : (w : ℕ) (xs : List Cell) (p : ℕ) → cells_at w (drop w xs) p ≡ cells_at w xs (suc p)
+next_cells w xs p = ap (λ (l : List Cell). said (take w l)) (drop-drop (p * w) w xs ∙ ap (λ (n : ℕ). drop n xs) (next_start p w))
+
+first_cells : (w : ℕ) (xs : List Cell) → said (take w xs) ≡ cells_at w xs 0
+first_cells w xs = ap (λ (n : ℕ). said (take w (drop n xs))) (sym (zero-mul w))
+
+pub row_is : (w : ℕ) (cs : List Counts) (xs : List Cell) (p : ℕ) (d : PieceState) → p < length cs
+    → get_or (rows_of w cs xs) p d ≡ row_of (counts_at cs p) (cells_at w xs p)
+row_is w [] xs p d lp = absurd (omega (arith, lp))
+row_is w (c ∷ cs) xs zero d lp = ap (row_of c) (first_cells w xs)
+row_is w (c ∷ cs) xs (suc p) d lp = row_is w cs (drop w xs) p d (omega (arith, lp)) ∙ ap (row_of (counts_at cs p)) (next_cells w xs p)
+
+-- ---- places
+
+pub cells_long : (w : ℕ) (xs : List Cell) (p : ℕ) → length (cells_at w xs p) ≡ min w (length xs - p * w)
+cells_long w xs p = length-map (take w (drop (p * w) xs)) cell_kept ∙ length-take w (drop (p * w) xs) ∙ ap (min w) (length-drop (p * w) xs)
+
+pub in_width : (w : ℕ) (xs : List Cell) (p k : ℕ) → k < length (cells_at w xs p) → k < w
+in_width w xs p k lk = omega (arith, cells_long w xs p, min-le_left w (length xs - p * w), lk)
+
+pub in_cells : (w : ℕ) (xs : List Cell) (p k : ℕ) → k < length (cells_at w xs p) → p * w + k < length xs
+in_cells w xs p k lk = omega (arith, cells_long w xs p, min-le_right w (length xs - p * w), lk)
+
+-- a piece begins among the cells
+pub row_begins : (n w m p : ℕ) → n * w ≤ m + w → p < n → p * w ≤ m
+row_begins n w m p filled lp = omega (arith, filled, suc-mul p w, mul-le-mul_right w (next p n lp)) where
+  next : (p n : ℕ) → p < n → suc p ≤ n
+  next p n lt = omega (arith, lt)
+
+pub cell_is : (w : ℕ) (xs : List Cell) (p k : ℕ) (cell : Cell) (d : CellState) → k < length (cells_at w xs p) → cell ≡ get_or xs (p * w + k) cell
+    → get_or (cells_at w xs p) k d ≡ cell_kept cell
+cell_is w xs p k cell d lk read =
+    get_or-map cell_kept (take w (drop (p * w) xs)) k cell d (omega (arith, lk, length-map (take w (drop (p * w) xs)) cell_kept))
+    ∙ ap cell_kept (get_or-take w (drop (p * w) xs) k cell (in_width w xs p k lk) ∙ get_or-drop (p * w) xs k cell ∙ sym read)
+
+-- a slice that ends where the cells do
+pub lent : (w : ℕ) (xs : List Cell) (start end : ℕ) → end ≡ min (length xs) (start + w) → start ≤ length xs
+    → take (end - start) (drop start xs) ≡ take w (drop start xs)
+lent w xs start end is within =
+    ⊎_elim (λ (less : start + w < length xs). ap (λ (n : ℕ). take n (drop start xs)) (omega (arith, is, less)))
+    (λ (most : length xs ≤ start + w).
+    take_all (end - start) (drop start xs) (omega (arith, is, most, within, length-drop start xs))
+    ∙ sym (take_all w (drop start xs) (omega (arith, most, length-drop start xs))))
+    (cases_lt (start + w) (length xs))
+
+-- ---- changes
+
+pub rows_set : (w : ℕ) (cs : List Counts) (xs : List Cell) (p k : ℕ) (c : Counts) (v : Cell) → p < length cs → k < w
+    → rows_of w (set cs p c) (set xs (p * w + k) v) ≡ set (rows_of w cs xs) p (row_of c (set (cells_at w xs p) k (cell_kept v)))
+rows_set w [] xs p k c v lp lk = absurd (omega (arith, lp))
+rows_set w (b ∷ cs) xs zero k c v lp lk =
+    let here : 0 * w + k ≡ k = (let none = zero-mul w in omega (arith, none)) in
+    let cells : said (take w (set xs (0 * w + k) v)) ≡ set (cells_at w xs 0) k (cell_kept v) =
+    ap (λ (i : ℕ). said (take w (set xs i v))) here ∙ (ap said (take-set-lt w xs k v lk) ∙ (map-set cell_kept (take w xs) k v
+    ∙ ap (λ (l : List CellState). set l k (cell_kept v)) (first_cells w xs))) in
+    let rest : drop w (set xs (0 * w + k) v) ≡ drop w xs = ap (λ (i : ℕ). drop w (set xs i v)) here ∙ drop-set-lt w xs k v lk in
+    λ i. row_of c (cells i) ∷ rows_of w cs (rest i)
+rows_set w (b ∷ cs) xs (suc p) k c v lp lk =
+    let place = next_place p w k in
+    let first : take w (set xs (suc p * w + k) v) ≡ take w xs =
+    ap (λ (i : ℕ). take w (set xs i v)) place ∙ take-set-le w xs (w + (p * w + k)) v (omega arith) in
+    let rest : drop w (set xs (suc p * w + k) v) ≡ set (drop w xs) (p * w + k) v =
+    ap (λ (i : ℕ). drop w (set xs i v)) place ∙ drop-set-add w xs (p * w + k) v in
+    let others = ap (rows_of w (set cs p c)) rest ∙ (rows_set w cs (drop w xs) p k c v (omega (arith, lp)) lk
+    ∙ ap (λ (l : List CellState). set (rows_of w cs (drop w xs)) p (row_of c (set l k (cell_kept v)))) (next_cells w xs p)) in
+    λ i. row_of b (said (first i)) ∷ others i
+
+pub rows_counted : (w : ℕ) (cs : List Counts) (xs : List Cell) (p : ℕ) (c : Counts) → p < length cs
+    → rows_of w (set cs p c) xs ≡ set (rows_of w cs xs) p (row_of c (cells_at w xs p))
+rows_counted w [] xs p c lp = absurd (omega (arith, lp))
+rows_counted w (b ∷ cs) xs zero c lp = ap (λ (l : List CellState). row_of c l ∷ rows_of w cs (drop w xs)) (first_cells w xs)
+rows_counted w (b ∷ cs) xs (suc p) c lp =
+    ap (λ (l : List PieceState). row_of b (said (take w xs)) ∷ l)
+    (rows_counted w cs (drop w xs) p c (omega (arith, lp)) ∙ ap (λ (l : List CellState). set (rows_of w cs (drop w xs)) p (row_of c l)) (next_cells w xs p))
+
+-- one row changes, with its counts
+pub kept_on : (w : ℕ) (cs : List Counts) (xs ys : List Cell) (p : ℕ) (c : Counts) (row : PieceState) → AreKept w cs xs → p < length cs
+    → length ys ≡ length xs → rows_of w (set cs p c) ys ≡ set (rows_of w cs xs) p row → Keeps c row.blocks → AreKept w (set cs p c) ys
+kept_on w cs xs ys p c row kept lp long is keeps = record {
+  filled = rw (length-set cs p c, long) kept.filled;
+  each = λ q lq. ⊎_elim
+      (λ (same : q ≡ p). subst (λ (k : ℕ). Keeps (counts_at (set cs p c) k) (piece_row (rows_of w (set cs p c) ys) k).blocks) (sym same)
+      (rw (get_or-set_same cs p c no_counts lp, is, get_or-set_same (rows_of w cs xs) p row (fresh_piece 0) (omega (arith, lp, rows_length w cs xs)))
+      keeps))
+      (λ (other : q ≡ p → ⊥). rw (get_or-set_other cs p q c no_counts other, is, get_or-set_other (rows_of w cs xs) p q row (fresh_piece 0) other)
+      (kept.each q (omega (arith, lq, length-set cs p c))))
+      (cases_eq q p);
+}

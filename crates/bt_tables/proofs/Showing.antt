@@ -1,0 +1,72 @@
+-- The rows of the peers beside the pieces that they show: what is read of both, and what a change of one leaves of the other.
+use Rattle.std.proofs.Common.{◌≡◌, ℕ, zero, suc, ◌<◌, Bool, false, List, [], ◌∷◌, length, get_or, set, replicate, refl, ap, sym, ◌∙◌, arith}
+use Rattle.bt_history.specs.Counting.{table}
+use Rattle.bt_tables.specs.Showing.{Dealings, dealings, flags_at, showing, showing_rows}
+use Rattle.bt_tables.specs.Tables.{PeerState, edit, fresh_peer, peer_row}
+use Rattle.bt_tables.proofs.Tabled.{edit_none, get_or_table, length_table, table_from}
+
+pub length_showing : (rows : List Dealings) (shows : List (List Bool)) → length shows ≡ length rows
+    → length (showing_rows rows shows) ≡ length shows
+length_showing [] [] len = refl
+length_showing [] (flags ∷ shows) len = absurd (omega arith)
+length_showing (row ∷ rows) [] len = refl
+length_showing (row ∷ rows) (flags ∷ shows) len = ap suc (length_showing rows shows (omega arith))
+
+pub showing_at : (rows : List Dealings) (shows : List (List Bool)) (w : ℕ) (d : Dealings) (e : PeerState) → length shows ≡ length rows
+    → w < length rows → get_or (showing_rows rows shows) w e ≡ showing (flags_at shows w) (get_or rows w d)
+showing_at [] shows w d e len lw = absurd (omega arith)
+showing_at (row ∷ rows) [] w d e len lw = absurd (omega arith)
+showing_at (row ∷ rows) (flags ∷ shows) zero d e len lw = refl
+showing_at (row ∷ rows) (flags ∷ shows) (suc w) d e len lw = showing_at rows shows w d e (omega arith) (omega arith)
+
+-- a row as it is read
+pub row_of : (rows : List Dealings) (shows : List (List Bool)) (w : ℕ) (row : Dealings) → length shows ≡ length rows → w < length rows
+    → row ≡ get_or rows w row → row ≡ dealings (peer_row (showing_rows rows shows) w)
+row_of rows shows w row len lw read = read ∙ sym (ap dealings (showing_at rows shows w row (fresh_peer 0) len lw))
+
+-- the pieces that the peer shows
+pub flags_of_row : (rows : List Dealings) (shows : List (List Bool)) (w : ℕ) → length shows ≡ length rows → w < length rows
+    → (peer_row (showing_rows rows shows) w).shows ≡ flags_at shows w
+flags_of_row rows shows w len lw =
+    ap (λ (row : PeerState). row.shows) (showing_at rows shows w (dealings (fresh_peer 0)) (fresh_peer 0) len lw)
+
+-- a row and its flags change
+pub showing_edit : (rows : List Dealings) (shows : List (List Bool)) (w : ℕ) (row : Dealings) (g : Dealings → Dealings)
+    (f : List Bool → List Bool) (change : PeerState → PeerState) → length shows ≡ length rows → w < length rows → row ≡ get_or rows w row
+    → ((flags : List Bool) (r : Dealings) → showing (f flags) (g r) ≡ change (showing flags r))
+    → showing_rows (set rows w (g row)) (edit shows w f) ≡ edit (showing_rows rows shows) w change
+showing_edit [] shows w row g f change len lw read is = absurd (omega arith)
+showing_edit (r ∷ rows) [] w row g f change len lw read is = absurd (omega arith)
+showing_edit (r ∷ rows) (flags ∷ shows) zero row g f change len lw read is =
+    ap (λ (x : Dealings). showing (f flags) (g x) ∷ showing_rows rows shows) read
+    ∙ ap (λ (x : PeerState). x ∷ showing_rows rows shows) (is flags r)
+showing_edit (r ∷ rows) (flags ∷ shows) (suc w) row g f change len lw read is =
+    ap (λ (l : List PeerState). showing flags r ∷ l) (showing_edit rows shows w row g f change (omega arith) (omega arith) read is)
+
+-- a row alone changes
+pub showing_set : (rows : List Dealings) (shows : List (List Bool)) (w : ℕ) (row : Dealings) (g : Dealings → Dealings)
+    (change : PeerState → PeerState) → length shows ≡ length rows → w < length rows → row ≡ get_or rows w row
+    → ((flags : List Bool) (r : Dealings) → showing flags (g r) ≡ change (showing flags r))
+    → showing_rows (set rows w (g row)) shows ≡ edit (showing_rows rows shows) w change
+showing_set rows shows w row g change len lw read is =
+    ap (showing_rows (set rows w (g row))) (sym (edit_none shows w (λ flags. flags) (λ flags. refl)))
+    ∙ showing_edit rows shows w row g (λ flags. flags) change len lw read is
+
+-- peers that told nothing
+pub showing_fresh : (n pieces : ℕ) (rows : List Dealings) (shows : List (List Bool)) → rows ≡ table n (λ w. dealings (fresh_peer 0))
+    → shows ≡ table n (λ w. replicate pieces false) → showing_rows rows shows ≡ table n (λ w. fresh_peer pieces)
+showing_fresh n pieces rows shows is are =
+    let long : length rows ≡ n = ap length is ∙ length_table n (λ w. dealings (fresh_peer 0)) in
+    let wide : length shows ≡ n = ap length are ∙ length_table n (λ w. replicate pieces false) in
+    let same : length shows ≡ length rows = wide ∙ sym long in
+    table_from n (λ w. fresh_peer pieces) (showing_rows rows shows) (length_showing rows shows same ∙ wide) (λ k d lt.
+    showing_at rows shows k (dealings (fresh_peer 0)) d same (omega (arith, long, lt))
+    ∙ (ap (λ (l : List Dealings). showing (flags_at shows k) (get_or l k (dealings (fresh_peer 0)))) is
+    ∙ ap (λ (r : Dealings). showing (flags_at shows k) r) (get_or_table n (λ w. dealings (fresh_peer 0)) k (dealings (fresh_peer 0)) lt)
+    ∙ ap (λ (l : List (List Bool)). showing (flags_at l k) (dealings (fresh_peer 0))) are
+    ∙ ap (λ (flags : List Bool). showing flags (dealings (fresh_peer 0))) (get_or_table n (λ w. replicate pieces false) k [] lt)))
+
+-- what a call that names a worker knows
+pub worker_within : (rows : List Dealings) (shows : List (List Bool)) (peers : List PeerState) (w : ℕ) → showing_rows rows shows ≡ peers
+    → length shows ≡ length rows → w < length peers → w < length rows
+worker_within rows shows peers w is len lw = omega (arith, lw, len, ap length is, length_showing rows shows len)

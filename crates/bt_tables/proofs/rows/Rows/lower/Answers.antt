@@ -1,0 +1,30 @@
+use Rattle.std.proofs.Common.{List, get_or, ap, arith, length, ◌≡◌, ◌<◌, ◌≤◌, ◌∙◌, set, sym}
+use Rattle.bt_tables.specs.Tables.{CellState, PieceState, edit, empty_cell, fresh_piece, one_less, piece_row}
+use Rattle.bt_tables.specs.Standings.{cell_kept}
+use Rattle.bt_tables.proofs.Tabled.{edit_past, edit_read, edit_same, edit_unmoved}
+use Rattle.bt_tables.proofs.rows.Rows.lower.Goals as goal
+
+pub returns-then-index-len : goal.returns-then-index-len
+returns-then-index-len c =
+    let rows = c.args.self.now in
+    let p = c.args.piece in
+    let k = c.args.index in
+    let row = piece_row rows p in
+    let lk : k < length row.blocks = omega (arith, c.if-index-len.true, c.len.ensures, ap (λ (r : PieceState). length r.blocks) c.row.ensures) in
+    let read = c.cell-cell.ensures ∙ ap (λ (r : PieceState). get_or r.blocks k empty_cell) c.row-then-index-len.ensures in
+    c.put.ensures
+    ∙ edit_same rows p (λ r. record r { blocks = set r.blocks k (cell_kept c.lowered.result) }) (λ r. record r { blocks = edit r.blocks k one_less })
+    (fresh_piece 0) c.requires
+    (ap (λ (cells : List CellState). record row { blocks = cells })
+    (ap (λ (cell : CellState). set row.blocks k cell) c.lowered.ensures
+    ∙ edit_read row.blocks k one_less (cell_kept c.cell-cell.result) empty_cell lk read))
+
+pub returns-else-index-len : goal.returns-else-index-len
+returns-else-index-len c =
+    let rows = c.args.self.now in
+    let p = c.args.piece in
+    let k = c.args.index in
+    let row = piece_row rows p in
+    let le : length row.blocks ≤ k = omega (arith, c.if-index-len.false, c.len.ensures, ap (λ (r : PieceState). length r.blocks) c.row.ensures) in
+    sym (edit_unmoved rows p (λ r. record r { blocks = edit r.blocks k one_less }) (fresh_piece 0) c.requires
+    (ap (λ (cells : List CellState). record row { blocks = cells }) (edit_past row.blocks k one_less le)))

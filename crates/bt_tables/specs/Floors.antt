@@ -1,0 +1,51 @@
+-- From how few peers on the search for a rarest piece has to look. No public clause of the picker cites this module.
+use Rattle.std.specs.Prelude.{ℕ, ◌≡◌, ◌≢◌, ◌<◌, ◌≤◌, ◌==◌, ◌&&◌, ⊤, Bool, true, false, not, List, length, slice_index_or}
+use Rattle.bt_order.specs.Orders.{at}
+use Rattle.std.specs.List.{count_by}
+use Rattle.bt_history.specs.declared.call.Reply.{Reply}
+use Rattle.bt_history.specs.declared.call.Reply.TheVariants.{Idle, NothingLeft, Request}
+use Rattle.bt_tables.specs.Tables.{PeerState, PieceState, TablesState, peer_row, piece_row}
+use Rattle.bt_tables.specs.Standings.{group_of_row, is_resting, touched_count}
+
+-- the piece is wanted and unbegun
+abbrev pub is_fresh : PieceState → Bool
+is_fresh row = not (is_resting row) && (touched_count row.blocks == 0)
+
+-- each unbegun wanted piece that the peer shows is shown by so many peers, or more
+abbrev pub IsFloor : List PieceState → PeerState → ℕ → Type 0
+IsFloor rows peer n = (p : ℕ) → p < length rows → slice_index_or peer.shows p false ≡ true → is_fresh (piece_row rows p) ≡ true
+    → n ≤ (piece_row rows p).availability
+
+-- there is such a number for each peer
+pub record AreFloors (floors : List ℕ) (peers : List PeerState) (rows : List PieceState) : Type 0 where
+  pub len : length floors ≡ length peers
+  pub each : (q : ℕ) → q < length peers → IsFloor rows (peer_row peers q) (at floors q)
+
+-- the same, but for one piece, of which nothing is said
+abbrev pub IsFloorBeside : ℕ → List PieceState → PeerState → ℕ → Type 0
+IsFloorBeside piece rows peer n = (p : ℕ) → p ≢ piece → p < length rows → slice_index_or peer.shows p false ≡ true
+    → is_fresh (piece_row rows p) ≡ true → n ≤ (piece_row rows p).availability
+
+-- there is such a number for each peer
+pub record AreFloorsBeside (piece : ℕ) (floors : List ℕ) (peers : List PeerState) (rows : List PieceState) : Type 0 where
+  pub len : length floors ≡ length peers
+  pub each : (q : ℕ) → q < length peers → IsFloorBeside piece rows (peer_row peers q) (at floors q)
+
+-- no floor is higher than before, and of those of the first k peers that show the piece none is higher than n
+pub record AreLowered (before after : List ℕ) (peers : List PeerState) (k piece n : ℕ) : Type 0 where
+  pub len : length after ≡ length before
+  pub most : (q : ℕ) → at after q ≤ at before q
+  pub shown : (q : ℕ) → q < k → slice_index_or (peer_row peers q).shows piece false ≡ true → at after q ≤ n
+
+-- the piece is unbegun and wanted, and enough pieces are had for it to begin as a rarest one
+pub record IsRarestStart (t : TablesState) (piece : ℕ) : Type 0 where
+  pub settled : t.setting.random ≤ count_by (λ row. row.had) t.pieces
+  pub within : piece < length t.pieces
+  pub unbegun : 3 ≤ group_of_row (piece_row t.pieces piece)
+
+-- the reply to Next tells this floor: by the rarest piece that begins, or since nothing may begin
+abbrev pub TellsFloor : TablesState → Reply → ℕ → Type 0
+TellsFloor t (Request b) n = IsRarestStart t b.piece × (n ≡ (piece_row t.pieces b.piece).availability)
+TellsFloor t Idle n = ⊤
+TellsFloor t NothingLeft n = ⊤
+TellsFloor t reply n = ⊥

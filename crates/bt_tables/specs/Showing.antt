@@ -1,0 +1,47 @@
+-- What is kept of the peers, with the pieces that they show in a table of their own. No public clause of the picker cites this module.
+use Rattle.std.specs.Prelude.{ℕ, ◌<◌, Bool, List, [], ◌∷◌, length, map, slice_index_or}
+use Rattle.bt_meta.specs.declared.block.Block.{Block}
+use Rattle.bt_meta.specs.WireBits.{IsPayload, flags_of}
+use Rattle.bt_tables.specs.Stripes.{stripe}
+use Rattle.bt_tables.specs.Tables.{PeerState}
+
+-- what is kept of a peer beside the pieces that it shows
+pub record Dealings : Type 0 where
+  pub joined : Bool
+  pub late : Bool
+  pub is_open : Bool
+  pub asked : List Block
+  pub due : List Block
+
+-- the row without the pieces that the peer shows
+abbrev pub dealings : PeerState → Dealings
+dealings row = record { joined = row.joined; late = row.late; is_open = row.is_open; asked = row.asked; due = row.due }
+
+-- the row of a peer that shows these pieces
+abbrev pub showing : List Bool → Dealings → PeerState
+showing flags row = record {
+  joined = row.joined;
+  late = row.late;
+  is_open = row.is_open;
+  shows = flags;
+  asked = row.asked;
+  due = row.due;
+}
+
+-- the rows of all peers, each with the pieces that it shows
+abbrev pub showing_rows : List Dealings → List (List Bool) → List PeerState
+showing_rows [] shows = []
+showing_rows (row ∷ rows) [] = []
+showing_rows (row ∷ rows) (flags ∷ shows) = showing flags row ∷ showing_rows rows shows
+
+-- the pieces that the worker's peer shows
+abbrev pub flags_at : List (List Bool) → ℕ → List Bool
+flags_at shows worker = slice_index_or shows worker []
+
+-- the pieces that rows of bytes spell, a bit each, for so many pieces
+abbrev pub spelled_rows : ℕ → List (List ℕ) → List (List Bool)
+spelled_rows pieces rows = map (flags_of pieces) rows
+
+-- each row is the payload of a bitfield for so many pieces
+abbrev pub ArePayloads : ℕ → List (List ℕ) → Type 0
+ArePayloads pieces rows = (worker : ℕ) → worker < length rows → IsPayload pieces (stripe rows worker)

@@ -1,0 +1,134 @@
+-- What a row of a piece amounts to among the others: its group, and what is counted of it. No public clause of the picker cites this module.
+use Rattle.std.specs.Prelude.{ℕ, ◌+◌, ◌-◌, ◌^◌, ◌≡◌, ◌<◌, ◌≤◌, ◌==◌, ◌||◌, Bool, false, not, List, [], ◌∷◌, length, map, min, nat_lt, true}
+use Rattle.std.specs.Prelude.{slice_index_or, if◌then◌else◌}
+use Rattle.std.specs.List.{count_by, sum_by}
+use Rattle.bt_tables.specs.declared.cell.Cell.{Cell}
+use Rattle.bt_tables.specs.declared.cell.TheConstants.{HELD}
+use Rattle.bt_tables.specs.declared.piece.Standing.{Standing}
+use Rattle.bt_tables.specs.declared.piece.TheConstants.{ASKED_OUT, CROWD, OPEN, RESTING, UNBEGUN}
+use Rattle.bt_tables.specs.Tables.{CellState, PieceState, empty_cell, one_if}
+use Rattle.bt_order.specs.Orders.{at}
+use Rattle.bt_order.specs.Risings.{IsIn}
+
+-- what the word of a cell says: a block that is held is asked of nobody
+abbrev pub word_kept : ℕ → CellState
+word_kept word = if word == HELD then record { held = true; askers = 0 } else record { held = false; askers = word }
+
+-- what a cell says
+abbrev pub cell_kept : Cell → CellState
+cell_kept cell = word_kept cell.word
+
+-- the block is held
+abbrev pub is_held : CellState → Bool
+is_held cell = cell.held
+
+-- the block is held, or asked of somebody
+abbrev pub is_touched : CellState → Bool
+is_touched cell = cell.held || nat_lt 0 cell.askers
+
+-- so many of the blocks are held
+abbrev pub held_count : List CellState → ℕ
+held_count cells = count_by is_held cells
+
+-- so many of them are held or asked
+abbrev pub touched_count : List CellState → ℕ
+touched_count cells = count_by is_touched cells
+
+-- the counts of a piece are those of its cells
+pub record AreCounts (held touched : ℕ) (cells : List CellState) : Type 0 where
+  pub held_is : held ≡ held_count cells
+  pub touched_is : touched ≡ touched_count cells
+  pub short : length cells < 2 ^ 32
+
+-- each of the first n blocks is held or asked
+abbrev pub AreTouched : ℕ → List CellState → Type 0
+AreTouched n cells = (i : ℕ) → i < n → i < length cells → is_touched (slice_index_or cells i empty_cell) ≡ true
+
+-- the row without how many peers show the piece, which is kept apart, and the row with it
+abbrev pub apart : PieceState → PieceState
+apart row = record row { availability = 0 }
+
+-- the row of a piece that so many peers show
+abbrev pub shown_row : ℕ → PieceState → PieceState
+shown_row n row = record row { availability = n }
+
+-- the rows, each with how many peers show its piece
+abbrev pub whole_rows : List PieceState → List ℕ → List PieceState
+whole_rows [] shown = []
+whole_rows (row ∷ rows) [] = []
+whole_rows (row ∷ rows) (n ∷ shown) = shown_row n row ∷ whole_rows rows shown
+
+-- the group of an unbegun piece that so many peers show
+abbrev pub shown_group : ℕ → ℕ
+shown_group n = UNBEGUN + min n CROWD
+
+-- nothing is left to get of the piece: it is had, or not wanted
+abbrev pub is_resting : PieceState → Bool
+is_resting row = row.had || not row.wanted
+
+-- a resting piece's, that of one whose lacking blocks are all asked (a full one, too), that of another begun one, and for an unbegun one by
+-- its availability
+abbrev pub group_of_row : PieceState → ℕ
+group_of_row row =
+    if is_resting row then RESTING
+    else if touched_count row.blocks == 0 then shown_group row.availability
+    else if touched_count row.blocks == length row.blocks then ASKED_OUT
+    else OPEN
+
+-- the group of a piece of group g once one peer more shows it, n in all, and once one less of n does
+abbrev pub raised_group : ℕ → ℕ → ℕ
+raised_group n g = if nat_lt CROWD n then g else if nat_lt g UNBEGUN then g else g + 1
+
+-- the group of a piece of group g once one peer less shows it, n before
+abbrev pub lowered_group : ℕ → ℕ → ℕ
+lowered_group n g = if nat_lt CROWD n then g else if nat_lt UNBEGUN g then g - 1 else g
+
+-- so many blocks are to be had of the piece
+abbrev pub wanted_length : PieceState → ℕ
+wanted_length row = if row.wanted then length row.blocks else 0
+
+-- what the row of a piece amounts to
+abbrev pub standing_of : PieceState → Standing
+standing_of row = record {
+  group = group_of_row row;
+  unasked = wanted_length row - touched_count row.blocks;
+  unheld = wanted_length row - held_count row.blocks;
+  had = row.had;
+}
+
+-- what is kept of all rows
+pub record ShelfState : Type 0 where
+  pub groups : List ℕ
+  pub unasked : ℕ
+  pub unheld : ℕ
+  pub had : ℕ
+
+-- what the rows amount to together
+abbrev pub shelf_of : List PieceState → ShelfState
+shelf_of rows = record {
+  groups = map group_of_row rows;
+  unasked = sum_by (λ row. (standing_of row).unasked) rows;
+  unheld = sum_by (λ row. (standing_of row).unheld) rows;
+  had = count_by (λ row. row.had) rows;
+}
+
+-- the numbers are those of the begun pieces with an unasked block
+pub record AreOpen (groups : List ℕ) (bound : ℕ) (numbers : List ℕ) : Type 0 where
+  pub bound_is : bound ≡ length groups
+  pub each : (p : ℕ) → IsIn numbers p → (p < length groups) × (at groups p ≡ 2)
+  pub all : (p : ℕ) → p < length groups → at groups p ≡ 2 → IsIn numbers p
+
+-- a row's part is in the sums, and there is room for the new one
+pub record IsFiled (shelf : ShelfState) (before after : Standing) : Type 0 where
+  pub unasked : before.unasked ≤ shelf.unasked
+  pub unheld : before.unheld ≤ shelf.unheld
+  pub had : one_if before.had ≤ shelf.had
+  pub unasked_fits : shelf.unasked - before.unasked + after.unasked < 2 ^ 64
+  pub unheld_fits : shelf.unheld - before.unheld + after.unheld < 2 ^ 64
+  pub had_fits : shelf.had - one_if before.had + one_if after.had < 2 ^ 32
+
+-- what is kept is what the rows amount to, and the sums fit
+pub record AreShelved (shelf : ShelfState) (rows : List PieceState) : Type 0 where
+  pub is : shelf ≡ shelf_of rows
+  pub short : length rows < 2 ^ 32
+  pub fit : sum_by (λ row. length row.blocks) rows < 2 ^ 64

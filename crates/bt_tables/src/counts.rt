@@ -1,0 +1,77 @@
+//! What is counted of the blocks of a piece.
+
+ghost use Rattle.std.specs.Prelude.{◌≡◌, ◌<◌, ◌≤◌, ◌+◌, ◌^◌};
+ghost use Rattle.bt_tables.specs.Tables.{one_if};
+ghost use Rattle.bt_tables.specs.Rows.{passed_to};
+ghost use Rattle.bt_tables.specs.Standings.{cell_kept, is_held, is_touched};
+
+use crate::cell::Cell;
+
+/// What is kept of a piece beside the cells of its blocks, in sixteen bytes: whether it is had and wanted, how many of its blocks are held,
+/// how many are held or asked, and up to which one each is. So whether the piece is full or begun is one look, and the next block is looked
+/// for behind those that are known to be held or asked.
+#[derive(Clone, Copy)]
+pub struct Counts {
+    pub had: bool,
+    pub wanted: bool,
+    pub held: u32,
+    pub touched: u32,
+    pub first: u32,
+}
+
+impl Counts {
+    /// Those of a wanted piece of which no block is held or asked.
+    pub const FRESH: Counts = Counts {
+        had: false,
+        wanted: true,
+        held: 0,
+        touched: 0,
+        first: 0,
+    };
+
+    /// The block's cell was `old`, and is `new` from now on.
+    #[inline(always)]
+    pub fn note(&mut self, index: u32, old: Cell, new: Cell)
+        requires held { one_if (is_held (cell_kept old)) ≤ self.old.held }
+        requires held_room { self.old.held + one_if (is_held (cell_kept new)) < 2 ^ 32 + one_if (is_held (cell_kept old)) }
+        requires touched { one_if (is_touched (cell_kept old)) ≤ self.old.touched }
+        requires touched_room { self.old.touched + one_if (is_touched (cell_kept new)) < 2 ^ 32 + one_if (is_touched (cell_kept old)) }
+        requires index { index + 1 < 2 ^ 32 }
+        ensures had { self.new.had ≡ self.old.had }
+        ensures wanted { self.new.wanted ≡ self.old.wanted }
+        ensures held { self.new.held + one_if (is_held (cell_kept old)) ≡ self.old.held + one_if (is_held (cell_kept new)) }
+        ensures touched { self.new.touched + one_if (is_touched (cell_kept old)) ≡ self.old.touched + one_if (is_touched (cell_kept new)) }
+        ensures first { self.new.first ≡ passed_to self.old.first index (is_touched (cell_kept new)) }
+    {
+        self.held = moved(self.held, old.is_held(), new.is_held());
+        self.touched = moved(self.touched, old.is_touched(), new.is_touched());
+        self.first = passed(self.first, index, new.is_touched());
+    }
+}
+
+/// A count once what was counted, or wasn't, is counted, or isn't.
+fn moved(count: u32, before: bool, after: bool) -> u32
+    requires some { one_if before ≤ count }
+    requires room { count + one_if after < 2 ^ 32 + one_if before }
+    ensures { result + one_if before ≡ count + one_if after }
+{
+    match (before, after) {
+        (true, false) => count - 1,
+        (false, true) => count + 1,
+        _ => count,
+    }
+}
+
+/// Up to which block each is held or asked, once the one at this index is, or isn't.
+fn passed(first: u32, index: u32, touched: bool) -> u32
+    requires { index + 1 < 2 ^ 32 }
+    ensures { result ≡ passed_to first index touched }
+{
+    if !touched {
+        first.min(index)
+    } else if index == first {
+        first + 1
+    } else {
+        first
+    }
+}

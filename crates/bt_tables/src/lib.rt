@@ -1,0 +1,24 @@
+//! What a piece picker answers from: a row for each peer and for each piece, the groups that the pieces stand in, their sums, and floors.
+//!
+//! It keeps what the calls make of these rows, and answers what is read of them. It may never touch a byte of a block, a journal or a
+//! history: neither its code nor its contracts name one. Which call may change what is for the crate above to know.
+#![tactic(auto)]
+
+mod cell;
+mod counts;
+mod floors;
+mod peer;
+mod peers;
+mod piece;
+mod pieces;
+mod rows;
+mod shelf;
+mod shows;
+mod stripes;
+mod sweep;
+mod tables;
+
+pub use cell::{Cell, HELD};
+pub use peer::Peer;
+pub use piece::{ASKED_OUT, CROWD, GROUPS, OPEN, Piece, RESTING, UNBEGUN};
+pub use tables::Tables;

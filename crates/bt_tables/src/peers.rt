@@ -1,0 +1,220 @@
+//! The rows of all peers.
+
+ghost use Rattle.std.specs.Prelude.{◌≡◌, ◌<◌, ◌≤◌, ◌+◌, ◌==◌, ℕ, false, length, slice_index_or, IfOk, EachIndex};
+ghost use Rattle.bt_meta.specs.WireBits.{FindsFirst};
+ghost use Rattle.bt_history.specs.Counting.{count_below, table};
+ghost use Rattle.bt_tables.specs.Showing.{dealings};
+ghost use Rattle.bt_tables.specs.Tables.{asks_at, bits_row, cancel_row, choke_row, edit, fresh_peer, have_row, join_row, late_row, leave_row};
+ghost use Rattle.bt_tables.specs.Tables.{peer_row, request_row, unchoke_row, without_block};
+
+use crate::peer::Peer;
+use crate::shows::Shows;
+use bt_history::MOST_DEPTH;
+use bt_meta::{Bitfield, Block};
+use std::alloc::{AllocError, Global};
+use std::marker::Model;
+
+/// A row for each worker's peer, by the worker's number, and the pieces that each shows, which stand in a table of their own. Contracts
+/// see the rows with these pieces in them.
+pub struct Peers {
+    rows: Vec<Peer>,
+    shows: Shows,
+}
+
+/// The end of all rows is one call for whoever owns them.
+impl Drop for Peers {
+    fn drop(self) {
+        let Peers {
+            rows: _rows,
+            shows: _shows,
+        } = self;
+    }
+}
+
+impl Model for Peers {
+    ghost use Rattle.std.specs.Prelude.{List, ◌≡◌, length};
+    ghost use Rattle.bt_tables.specs.Showing.{showing_rows};
+    ghost use Rattle.bt_tables.specs.Tables.{PeerState};
+
+    ghost Value = { List PeerState };
+
+    ghost view = { λ p. showing_rows p.rows.items p.shows };
+
+    ghost invariant = { λ p. length p.shows ≡ length p.rows.items };
+}
+
+impl Peers {
+    /// The rows of so many peers that told nothing, of a torrent of so many pieces.
+    pub fn new(alloc: Global, workers: u32, pieces: u32) -> Result<Peers, AllocError>
+        ensures { IfOk result (λ peers. peers ≡ table workers (λ worker. fresh_peer pieces)) }
+    {
+        Ok(Peers {
+            rows: new_rows(alloc, workers)?,
+            shows: Shows::new(alloc, workers, pieces)?,
+        })
+    }
+
+    pub fn len(&self) -> u32
+        ensures { result ≡ length self.now }
+    {
+        self.shows.len()
+    }
+
+    /// The row of the worker's peer, beside the pieces that it shows.
+    pub fn row(&self, worker: u32) -> &Peer
+        requires { worker < length self.now }
+        ensures { result.now ≡ dealings (peer_row self.now worker) }
+    {
+        &self.rows[worker as usize]
+    }
+
+    /// The number of pieces that the torrent has.
+    pub fn pieces(&self) -> u32
+        ensures { (worker : ℕ) → worker < length self.now → length (peer_row self.now worker).shows ≡ result }
+    {
+        self.shows.pieces()
+    }
+
+    /// Whether the worker's peer shows the piece.
+    #[inline]
+    pub fn shows(&self, worker: u32, piece: u32) -> bool
+        requires worker { worker < length self.now }
+        requires piece { piece < length (peer_row self.now worker).shows }
+        ensures { result ≡ slice_index_or (peer_row self.now worker).shows piece false }
+    {
+        self.shows.has(worker, piece)
+    }
+
+    /// The first piece from this one on that the worker's peer shows.
+    #[inline]
+    pub fn first_shown(&self, worker: u32, piece: u32) -> Option<u32>
+        requires { worker < length self.now }
+        ensures { FindsFirst (λ p. slice_index_or (peer_row self.now worker).shows p false) piece result }
+    {
+        self.shows.first_from(worker, piece)
+    }
+
+    /// The peer joins: what an earlier one told or was asked is gone.
+    pub fn join(&mut self, worker: u32)
+        requires { worker < length self.old }
+        ensures { self.new ≡ edit self.old worker join_row }
+    {
+        self.rows[worker as usize].join();
+        self.shows.clear(worker);
+    }
+
+    /// The peer leaves.
+    pub fn leave(&mut self, worker: u32)
+        requires { worker < length self.old }
+        ensures { self.new ≡ edit self.old worker leave_row }
+    {
+        self.rows[worker as usize].leave();
+        self.shows.clear(worker); // what is gone shows nothing
+    }
+
+    /// The peer chokes, which frees what was asked of it.
+    pub fn choke(&mut self, worker: u32)
+        requires { worker < length self.old }
+        ensures { self.new ≡ edit self.old worker choke_row }
+    {
+        self.rows[worker as usize].choke();
+    }
+
+    /// The peer lets itself be asked.
+    pub fn unchoke(&mut self, worker: u32)
+        requires { worker < length self.old }
+        ensures { self.new ≡ edit self.old worker unchoke_row }
+    {
+        self.rows[worker as usize].unchoke();
+    }
+
+    /// The peer told its bitfield.
+    pub fn put_bits(&mut self, worker: u32, flags: &Bitfield)
+        requires worker { worker < length self.old }
+        requires flags { length flags.now ≡ length (peer_row self.old worker).shows }
+        ensures { self.new ≡ edit self.old worker (bits_row flags.now) }
+    {
+        self.rows[worker as usize].note_message();
+        self.shows.put(worker, flags);
+    }
+
+    /// The peer told of one more piece.
+    pub fn put_have(&mut self, worker: u32, piece: u32)
+        requires worker { worker < length self.old }
+        requires piece { piece < length (peer_row self.old worker).shows }
+        ensures { self.new ≡ edit self.old worker (have_row piece) }
+    {
+        self.rows[worker as usize].note_message();
+        self.shows.set(worker, piece);
+    }
+
+    /// The peer brought a block.
+    pub fn note_arrival(&mut self, worker: u32)
+        requires { worker < length self.old }
+        ensures { self.new ≡ edit self.old worker late_row }
+    {
+        self.rows[worker as usize].note_message();
+    }
+
+    /// The block is asked of the peer now.
+    pub fn ask(&mut self, worker: u32, block: Block)
+        requires worker { worker < length self.old }
+        requires room { length (peer_row self.old worker).asked < MOST_DEPTH }
+        ensures { self.new ≡ edit self.old worker (request_row block) }
+    {
+        self.rows[worker as usize].ask(block);
+    }
+
+    /// The cancel of the block that begins there is told.
+    pub fn cancel(&mut self, worker: u32, block: Block)
+        requires { worker < length self.old }
+        ensures { self.new ≡ edit self.old worker (cancel_row block) }
+    {
+        self.rows[worker as usize].cancel(block);
+    }
+
+    /// The block that begins there was stored, brought by this peer or by another.
+    fn forget_at(&mut self, worker: u32, piece: u32, begin: u32, own: bool)
+        requires worker { worker < length self.old }
+        requires room { length (peer_row self.old worker).asked + length (peer_row self.old worker).due ≤ MOST_DEPTH }
+        ensures { self.new ≡ edit self.old worker (without_block piece begin own) }
+    {
+        self.rows[worker as usize].forget(piece, begin, own);
+    }
+
+    /// The block that begins there was stored, brought by the worker's own peer, where so many peers are asked for it: the own row alone
+    /// is told, where no other peer is.
+    pub fn forget(&mut self, worker: u32, piece: u32, begin: u32, askers: u32)
+        requires worker { worker < length self.old }
+        requires askers { askers ≡ count_below (length self.old) (λ q. asks_at piece begin (peer_row self.old q)) }
+        requires room { EachIndex self.old (λ q. length (peer_row self.old q).asked + length (peer_row self.old q).due ≤ MOST_DEPTH) }
+        ensures { self.new ≡ table (length self.old) (λ q. without_block piece begin (worker == q) (peer_row self.old q)) }
+    {
+        if askers > u32::from(self.row(worker).asks(piece, begin)) {
+            self.forget_everywhere(worker, piece, begin);
+        } else {
+            self.forget_at(worker, piece, begin, true);
+        }
+    }
+
+    /// Tells each peer's row that the block that begins there was stored, brought by the worker's own peer.
+    fn forget_everywhere(&mut self, worker: u32, piece: u32, begin: u32)
+        requires { EachIndex self.old (λ q. length (peer_row self.old q).asked + length (peer_row self.old q).due ≤ MOST_DEPTH) }
+        ensures { self.new ≡ table (length self.old) (λ q. without_block piece begin (worker == q) (peer_row self.old q)) }
+    {
+        for index in 0..self.len() {
+            self.forget_at(index, piece, begin, worker == index);
+        }
+    }
+}
+
+/// The rows of so many peers that told nothing.
+fn new_rows(alloc: Global, workers: u32) -> Result<Vec<Peer>, AllocError>
+    ensures { IfOk result (λ rows. rows.items ≡ table workers (λ worker. dealings (fresh_peer 0))) }
+{
+    let mut rows = Vec::new(alloc);
+    for _worker in 0..workers {
+        rows.push(Peer::new(alloc)?)?;
+    }
+    Ok(rows)
+}

@@ -1,0 +1,195 @@
+//! The rows of all pieces.
+
+ghost use Rattle.std.specs.Prelude.{◌≡◌, ◌<◌, ◌+◌, ◌^◌, true, false, length, IfOk, map};
+ghost use Rattle.std.specs.List.{count_by, sum_by};
+ghost use Rattle.bt_meta.specs.Layout.{block_count, piece_count};
+ghost use Rattle.bt_order.specs.Orders.{at, ListsGroup, TellsFirst};
+ghost use Rattle.bt_order.specs.Risings.{IsRising};
+ghost use Rattle.bt_tables.specs.Standings.{apart, group_of_row, standing_of};
+ghost use Rattle.bt_history.specs.Counting.{table};
+ghost use Rattle.bt_tables.specs.Tables.{HasRoomOf, changed_row, edit, fresh_piece, less_available, more_available, piece_row};
+
+use crate::piece::{Change, GROUPS, Piece, Standing};
+use crate::rows::Rows;
+use crate::shelf::Shelf;
+use bt_meta::Torrent;
+use std::alloc::{AllocError, Global};
+use std::marker::Model;
+
+/// The rows of all pieces, how many joined peers show each, and what they amount to together. Contracts see the rows with these counts in
+/// them. They stand apart since a bitfield that comes or goes changes a count of each piece in it, and nothing else of its row.
+pub struct Pieces {
+    rows: Rows,
+    shown_by: Vec<u16>,
+    shelf: Shelf,
+}
+
+/// The end of all rows is one call for whoever owns them.
+impl Drop for Pieces {
+    fn drop(self) {
+        let Pieces {
+            rows: _rows,
+            shown_by: _shown_by,
+            shelf: _shelf,
+        } = self;
+    }
+}
+
+impl Model for Pieces {
+    ghost use Rattle.std.specs.Prelude.{List, ◌≡◌, length};
+    ghost use Rattle.bt_tables.specs.Apart.{AreApart};
+    ghost use Rattle.bt_tables.specs.Standings.{AreShelved, whole_rows};
+    ghost use Rattle.bt_tables.specs.Tables.{PieceState};
+
+    ghost Value = { List PieceState };
+
+    ghost view = { λ p. whole_rows p.rows p.shown_by.items };
+
+    ghost invariant = { λ p. AreShelved p.shelf (whole_rows p.rows p.shown_by.items)
+        × (length p.shown_by.items ≡ length p.rows)
+        × AreApart p.rows };
+}
+
+impl Pieces {
+    /// The rows of a torrent of which nothing is known.
+    pub fn new(alloc: Global, torrent: &Torrent) -> Result<Pieces, AllocError>
+        ensures { IfOk result (λ pieces. pieces
+            ≡ table (piece_count torrent.now.layout) (λ p. fresh_piece (block_count torrent.now.layout p))) }
+    {
+        let rows = Rows::new(alloc, torrent)?;
+        let mut shelf = Shelf::new(alloc, torrent.piece_count())?;
+        for piece in 0..torrent.piece_count() {
+            let standing = rows.row(piece).standing(0);
+            shelf.put(piece, Standing::NONE, standing);
+        }
+        Ok(Pieces {
+            rows,
+            shown_by: vec![in alloc; 0; torrent.piece_count() as usize]?,
+            shelf,
+        })
+    }
+
+    pub fn len(&self) -> usize
+        ensures is { result ≡ length self.now }
+        ensures short { result < 2 ^ 32 }
+    {
+        self.rows.len()
+    }
+
+    /// The row of the piece.
+    #[inline(always)]
+    pub fn row(&self, piece: u32) -> Piece<'_>
+        requires { piece < length self.now }
+        ensures { result ≡ apart (piece_row self.now piece) }
+    {
+        self.rows.row(piece)
+    }
+
+    /// How many joined peers show the piece.
+    pub fn availability(&self, piece: u32) -> u32
+        requires { piece < length self.now }
+        ensures { result ≡ (piece_row self.now piece).availability }
+    {
+        u32::from(self.shown_by[piece as usize])
+    }
+
+    /// The pieces of the group.
+    pub fn group(&self, group: u32) -> &[u32]
+        requires { group < GROUPS }
+        ensures { ListsGroup (map group_of_row self.now) group result.now }
+    {
+        self.shelf.group(group)
+    }
+
+    /// Whether nothing is left to get of any piece.
+    pub fn are_all_resting(&self) -> bool
+        ensures { TellsFirst (map group_of_row self.now) result }
+    {
+        self.shelf.are_all_resting()
+    }
+
+    /// The begun pieces with an unasked block, the least first.
+    pub fn open_pieces(&self) -> &[u32]
+        ensures lists { ListsGroup (map group_of_row self.now) 2 result.now }
+        ensures rise { IsRising (length self.now) result.now }
+    {
+        self.shelf.open_pieces()
+    }
+
+    /// The group of the piece.
+    pub fn group_of(&self, piece: u32) -> u32
+        requires { piece < length self.now }
+        ensures { result ≡ at (map group_of_row self.now) piece }
+    {
+        self.shelf.group_of(piece)
+    }
+
+    /// How many blocks are unasked.
+    pub fn unasked(&self) -> u64
+        ensures { result ≡ sum_by (λ row. (standing_of row).unasked) self.now }
+    {
+        self.shelf.unasked()
+    }
+
+    /// How many blocks aren't held.
+    pub fn unheld(&self) -> u64
+        ensures { result ≡ sum_by (λ row. (standing_of row).unheld) self.now }
+    {
+        self.shelf.unheld()
+    }
+
+    /// How many pieces are had.
+    pub fn had(&self) -> u32
+        ensures { result ≡ count_by (λ row. row.had) self.now }
+    {
+        self.shelf.had()
+    }
+
+    /// Changes the row of the piece, and puts the piece where it stands then.
+    #[inline(always)]
+    pub fn apply(&mut self, piece: u32, change: Change)
+        requires piece { piece < length self.old }
+        requires fits { HasRoomOf change (piece_row self.old piece) }
+        ensures { self.new ≡ edit self.old piece (changed_row change) }
+    {
+        let shown_by = u32::from(self.shown_by[piece as usize]);
+        let before = self.rows.row(piece).standing(shown_by);
+        self.rows.apply(piece, change);
+        let after = self.rows.row(piece).standing(shown_by);
+        self.shelf.put(piece, before, after);
+    }
+
+    /// One peer more shows the piece.
+    #[inline(always)]
+    pub fn show(&mut self, piece: u32)
+        requires piece { piece < length self.old }
+        requires few { (piece_row self.old piece).availability + 1 < 2 ^ 16 }
+        ensures { self.new ≡ edit self.old piece (more_available true) }
+    {
+        let shown_by = self.shown_by[piece as usize] + 1;
+        self.shown_by[piece as usize] = shown_by;
+        self.shelf.raise(piece, u32::from(shown_by));
+    }
+
+    /// One peer less shows the piece, where so many do.
+    #[inline(always)]
+    pub fn hide(&mut self, piece: u32)
+        requires { piece < length self.old }
+        ensures { self.new ≡ edit self.old piece (less_available true) }
+    {
+        let shown_by = self.shown_by[piece as usize];
+        self.shown_by[piece as usize] = shown_by.saturating_sub(1);
+        self.shelf.lower(piece, u32::from(shown_by));
+    }
+
+    /// A peer tells that it has the piece, which it did not show before, or did.
+    pub fn announce(&mut self, piece: u32, is_new: bool)
+        requires piece { piece < length self.old }
+        requires few { (more_available is_new (less_available false (piece_row self.old piece))).availability < 2 ^ 16 }
+        ensures { self.new ≡ edit self.old piece (λ row. more_available is_new (less_available false row)) }
+    {
+        if is_new {
+            self.show(piece);
+        }
+    }
+}

@@ -1,0 +1,163 @@
+//! The rows of all pieces, and the cells of all blocks.
+
+ghost use Rattle.std.specs.Prelude.{◌≡◌, ◌<◌, ◌+◌, ◌^◌, false, true, length, slice_index_or, slice_set, IfOk};
+ghost use Rattle.bt_meta.specs.Layout.{block_count, piece_count};
+ghost use Rattle.bt_history.specs.Counting.{table};
+ghost use Rattle.bt_tables.specs.Standings.{cell_kept};
+ghost use Rattle.bt_tables.specs.Tables.{HasRoomOf, changed_row, edit, empty_cell, failed_row, fresh_piece, had_row, one_less, one_more, piece_row};
+ghost use Rattle.bt_tables.specs.Tables.{stored_row, want_row};
+
+use crate::cell::{Cell, HELD};
+use crate::counts::Counts;
+use crate::piece::{Change, Piece};
+use bt_meta::Torrent;
+use std::alloc::{AllocError, Global};
+use std::marker::Model;
+
+/// What is kept of all pieces, by the piece's number. The cells of their blocks stand in one array, one piece behind the other: each piece
+/// has so many, but for the last, which has what is left. Contracts see the rows.
+pub struct Rows {
+    width: u32,
+    counts: Vec<Counts>,
+    cells: Vec<Cell>,
+}
+
+/// The end of all rows is one call for whoever owns them.
+impl Drop for Rows {
+    fn drop(self) {
+        let Rows {
+            width: _,
+            counts: _counts,
+            cells: _cells,
+        } = self;
+    }
+}
+
+impl Model for Rows {
+    ghost use Rattle.std.specs.Prelude.{List};
+    ghost use Rattle.bt_tables.specs.Rows.{AreKept, rows_of};
+    ghost use Rattle.bt_tables.specs.Tables.{PieceState};
+
+    ghost Value = { List PieceState };
+
+    ghost view = { λ r. rows_of r.width r.counts.items r.cells.items };
+
+    ghost invariant = { λ r. AreKept r.width r.counts.items r.cells.items };
+}
+
+impl Rows {
+    /// The rows of a torrent of which nothing is known.
+    pub fn new(alloc: Global, torrent: &Torrent) -> Result<Rows, AllocError>
+        ensures { IfOk result (λ rows. rows
+            ≡ table (piece_count torrent.now.layout) (λ p. fresh_piece (block_count torrent.now.layout p))) }
+    {
+        let pieces = torrent.piece_count();
+        let width = torrent.block_count(0);
+        let last = torrent.block_count(pieces - 1);
+        let blocks = (pieces as usize - 1) * width as usize + last as usize;
+        Ok(Rows {
+            width,
+            counts: vec![in alloc; Counts::FRESH; pieces as usize]?,
+            cells: vec![in alloc; Cell::EMPTY; blocks]?,
+        })
+    }
+
+    pub fn len(&self) -> usize
+        ensures { result ≡ length self.now }
+    {
+        self.counts.len()
+    }
+
+    /// The row of the piece.
+    #[inline(always)]
+    pub fn row(&self, piece: u32) -> Piece<'_>
+        requires { piece < length self.now }
+        ensures { result ≡ piece_row self.now piece }
+    {
+        let start = piece as usize * self.width as usize;
+        let end = self.cells.len().min(start + self.width as usize);
+        Piece::new(&self.counts[piece as usize], &self.cells[start..end])
+    }
+
+    /// Changes the row of the piece.
+    #[inline(always)]
+    pub fn apply(&mut self, piece: u32, change: Change)
+        requires piece { piece < length self.old }
+        requires fits { HasRoomOf change (piece_row self.old piece) }
+        ensures { self.new ≡ edit self.old piece (changed_row change) }
+    {
+        match change {
+            Change::Raise(index) => self.raise(piece, index),
+            Change::Lower(index) => self.lower(piece, index),
+            Change::Store(index) => self.put(piece, index, Cell::KEPT),
+            Change::Pass => self.pass(piece),
+            Change::Fail => self.fail(piece),
+            Change::Wanted(wanted) => self.want(piece, wanted),
+        }
+    }
+
+    /// A check found the right hash.
+    fn pass(&mut self, piece: u32)
+        requires { piece < length self.old }
+        ensures { self.new ≡ edit self.old piece had_row }
+    {
+        self.counts[piece as usize].had = true;
+    }
+
+    /// The piece is wanted from now on, or isn't.
+    fn want(&mut self, piece: u32, wanted: bool)
+        requires { piece < length self.old }
+        ensures { self.new ≡ edit self.old piece (want_row wanted) }
+    {
+        self.counts[piece as usize].wanted = wanted;
+    }
+
+    /// A check found another hash: no block is held.
+    fn fail(&mut self, piece: u32)
+        requires { piece < length self.old }
+        ensures { self.new ≡ edit self.old piece failed_row }
+    {
+        for index in 0..self.row(piece).len() {
+            let cell = self.row(piece).cell(index);
+            self.put(piece, index, cell.released());
+        }
+    }
+
+    /// One peer more is asked for the block, which isn't held.
+    #[inline(always)]
+    fn raise(&mut self, piece: u32, index: u32)
+        requires piece { piece < length self.old }
+        requires index { index < length (piece_row self.old piece).blocks }
+        requires free { (slice_index_or (piece_row self.old piece).blocks index empty_cell).held ≡ false }
+        requires few { (slice_index_or (piece_row self.old piece).blocks index empty_cell).askers + 1 < HELD }
+        ensures { self.new ≡ edit self.old piece (λ row. record row { blocks = edit row.blocks index one_more }) }
+    {
+        let cell = self.row(piece).cell(index);
+        self.put(piece, index, cell.raised());
+    }
+
+    /// One peer less is asked for the block, where the piece has so many.
+    #[inline(always)]
+    fn lower(&mut self, piece: u32, index: u32)
+        requires { piece < length self.old }
+        ensures { self.new ≡ edit self.old piece (λ row. record row { blocks = edit row.blocks index one_less }) }
+    {
+        if index < self.row(piece).len() {
+            let cell = self.row(piece).cell(index);
+            self.put(piece, index, cell.lowered());
+        }
+    }
+
+    /// The block's cell is this now.
+    #[inline(always)]
+    fn put(&mut self, piece: u32, index: u32, cell: Cell)
+        requires piece { piece < length self.old }
+        requires index { index < length (piece_row self.old piece).blocks }
+        ensures { self.new ≡ edit self.old piece (λ row. record row { blocks = slice_set row.blocks index (cell_kept cell) }) }
+    {
+        let place = piece as usize * self.width as usize + index as usize;
+        let old = self.cells[place];
+        self.counts[piece as usize].note(index, old, cell);
+        self.cells[place] = cell;
+    }
+}

@@ -1,0 +1,185 @@
+//! How all pieces stand to each other: in groups, in the list of the open ones, and in sums.
+
+ghost use Rattle.std.specs.Prelude.{◌≡◌, ◌<◌, ◌≤◌, ◌+◌, ◌-◌, ◌^◌, length, replicate, slice_set, slice_index_or, IfOk};
+ghost use Rattle.bt_order.specs.Orders.{at, ListsGroup, TellsFirst};
+ghost use Rattle.bt_order.specs.Risings.{IsRising};
+ghost use Rattle.bt_tables.specs.Standings.{IsFiled, ShelfState, lowered_group, raised_group};
+ghost use Rattle.bt_tables.specs.Tables.{one_if};
+
+use crate::piece::{CROWD, GROUPS, OPEN, Standing, UNBEGUN};
+use bt_order::{Order, Rising};
+use std::alloc::{AllocError, Global};
+use std::marker::Model;
+
+/// What the rows of the pieces amount to together: the pieces by group, those of group OPEN in rising order too, since strict priority
+/// takes the least that a peer shows; the numbers of unasked blocks and of those that aren't held, and how many pieces are had.
+pub struct Shelf {
+    order: Order,
+    open_pieces: Rising,
+    unasked: u64,
+    unheld: u64,
+    had: u32,
+}
+
+/// The end of a shelf is one call for whoever owns one.
+impl Drop for Shelf {
+    fn drop(self) {
+        let Shelf {
+            order: _order,
+            open_pieces: _open_pieces,
+            unasked: _,
+            unheld: _,
+            had: _,
+        } = self;
+    }
+}
+
+impl Model for Shelf {
+    ghost use Rattle.std.specs.Prelude.{◌≡◌};
+    ghost use Rattle.bt_tables.specs.Standings.{AreOpen, ShelfState};
+    ghost use Rattle.bt_tables.specs.declared.piece.TheConstants.{GROUPS};
+
+    ghost Value = { ShelfState };
+
+    ghost view = { λ s. record { groups = s.order.group_of; unasked = s.unasked; unheld = s.unheld; had = s.had } };
+
+    ghost invariant = { λ s. (s.order.count ≡ GROUPS) × AreOpen s.order.group_of s.open_pieces.bound s.open_pieces.numbers };
+}
+
+impl Shelf {
+    /// So many pieces of group 0, of which nothing is unasked.
+    pub fn new(alloc: Global, pieces: u32) -> Result<Shelf, AllocError>
+        ensures { IfOk result (λ shelf. shelf ≡ record { groups = replicate pieces 0; unasked = 0; unheld = 0; had = 0 }) }
+    {
+        Ok(Shelf {
+            order: Order::new(alloc, pieces, GROUPS)?,
+            open_pieces: Rising::new(alloc, pieces)?,
+            unasked: 0,
+            unheld: 0,
+            had: 0,
+        })
+    }
+
+    /// The pieces of the group.
+    pub fn group(&self, group: u32) -> &[u32]
+        requires { group < GROUPS }
+        ensures { ListsGroup self.now.groups group result.now }
+    {
+        self.order.group(group)
+    }
+
+    /// Whether each piece is in group 0.
+    pub fn are_all_resting(&self) -> bool
+        ensures { TellsFirst self.now.groups result }
+    {
+        self.order.are_all_first()
+    }
+
+    /// The begun pieces with an unasked block, the least first.
+    pub fn open_pieces(&self) -> &[u32]
+        ensures lists { ListsGroup self.now.groups 2 result.now }
+        ensures rise { IsRising (length self.now.groups) result.now }
+    {
+        self.open_pieces.as_slice()
+    }
+
+    /// The group of the piece.
+    pub fn group_of(&self, piece: u32) -> u32
+        requires { piece < length self.now.groups }
+        ensures { result ≡ at self.now.groups piece }
+    {
+        self.order.group_of(piece)
+    }
+
+    /// How many blocks are unasked.
+    pub fn unasked(&self) -> u64
+        ensures { result ≡ self.now.unasked }
+    {
+        self.unasked
+    }
+
+    /// How many blocks aren't held.
+    pub fn unheld(&self) -> u64
+        ensures { result ≡ self.now.unheld }
+    {
+        self.unheld
+    }
+
+    /// How many pieces are had.
+    pub fn had(&self) -> u32
+        ensures { result ≡ self.now.had }
+    {
+        self.had
+    }
+
+    /// One peer more shows the piece, so many in all: an unbegun one moves to the next group.
+    #[inline(always)]
+    pub fn raise(&mut self, piece: u32, shown_by: u32)
+        requires piece { piece < length self.old.groups }
+        requires next { shown_by ≤ CROWD → at self.old.groups piece + 1 < GROUPS }
+        ensures { self.new ≡ record self.old {
+          groups = slice_set self.old.groups piece (raised_group shown_by (at self.old.groups piece));
+        } }
+    {
+        if shown_by > CROWD {
+            return;
+        }
+        if self.group_of(piece) >= UNBEGUN {
+            self.order.raise(piece);
+        }
+    }
+
+    /// One peer less shows the piece, which so many did: an unbegun one moves to the group before its own.
+    #[inline(always)]
+    pub fn lower(&mut self, piece: u32, shown_by: u32)
+        requires { piece < length self.old.groups }
+        ensures { self.new ≡ record self.old {
+          groups = slice_set self.old.groups piece (lowered_group shown_by (at self.old.groups piece));
+        } }
+    {
+        if shown_by > CROWD {
+            return;
+        }
+        if self.group_of(piece) > UNBEGUN {
+            self.order.lower(piece);
+        }
+    }
+
+    /// A piece that stood like this stands like that now.
+    #[inline(always)]
+    pub fn put(&mut self, piece: u32, before: Standing, after: Standing)
+        requires piece { piece < length self.old.groups }
+        requires before { before.group ≡ at self.old.groups piece }
+        requires group { after.group < GROUPS }
+        requires fits { IsFiled self.old before after }
+        ensures { self.new ≡ record {
+          groups = slice_set self.old.groups piece after.group;
+          unasked = self.old.unasked - before.unasked + after.unasked;
+          unheld = self.old.unheld - before.unheld + after.unheld;
+          had = self.old.had - one_if before.had + one_if after.had;
+        } }
+    {
+        self.put_in(piece, before.group, after.group);
+        self.unasked = self.unasked - u64::from(before.unasked) + u64::from(after.unasked);
+        self.unheld = self.unheld - u64::from(before.unheld) + u64::from(after.unheld);
+        self.had = self.had - u32::from(before.had) + u32::from(after.had);
+    }
+
+    /// Moves the piece from the one group to the other.
+    #[inline(always)]
+    fn put_in(&mut self, piece: u32, before: u32, after: u32)
+        requires piece { piece < length self.old.groups }
+        requires before { before ≡ at self.old.groups piece }
+        requires after { after < GROUPS }
+        ensures { self.new ≡ record self.old { groups = slice_set self.old.groups piece after } }
+    {
+        if before == after {
+            return;
+        }
+        let opens = after == OPEN;
+        if (before == OPEN) != opens {
+            self.open_pieces.put(piece, opens);
+        }
+        self.order.put(piece, after);
+    }
+}

@@ -1,0 +1,151 @@
+//! The pieces that each peer shows.
+
+ghost use Rattle.std.specs.Prelude.{◌≡◌, ◌<◌, ◌+◌, ◌-◌, ◌*◌, ◌%◌, ◌^◌, ◌==◌, ℕ, true, false, length, replicate, slice_index_or, slice_set, IfOk};
+ghost use Rattle.std.specs.Int.{bit_at};
+ghost use Rattle.bt_meta.specs.WireBits.{FindsFirst, wire_bit};
+ghost use Rattle.bt_history.specs.Counting.{table};
+ghost use Rattle.bt_tables.specs.Showing.{flags_at};
+ghost use Rattle.bt_tables.specs.Stripes.{stripe};
+ghost use Rattle.bt_tables.specs.Tables.{edit};
+
+use crate::stripes::Stripes;
+use bt_meta::Bitfield;
+use std::alloc::{AllocError, Global};
+use std::marker::Model;
+
+/// The pieces that each worker's peer shows, a bit each, as the payload of a `bitfield` message spells them (BEP 3). What all peers show
+/// of eight pieces stands side by side: of a piece that was just begun each peer is asked next whether it shows it. Contracts see a list
+/// of flags for each worker.
+#[derive(Drop)]
+pub struct Shows {
+    pieces: u32,
+    stripes: Stripes,
+}
+
+impl Model for Shows {
+    ghost use Rattle.std.specs.Prelude.{List, Bool, ◌<◌, ◌^◌};
+    ghost use Rattle.bt_tables.specs.Showing.{ArePayloads, spelled_rows};
+
+    ghost Value = { List (List Bool) };
+
+    ghost view = { λ s. spelled_rows s.pieces s.stripes };
+
+    ghost invariant = { λ s. ArePayloads s.pieces s.stripes };
+}
+
+impl Shows {
+    /// So many peers that show none of so many pieces.
+    pub fn new(alloc: Global, workers: u32, pieces: u32) -> Result<Shows, AllocError>
+        ensures { IfOk result (λ shows. shows ≡ table workers (λ worker. replicate pieces false)) }
+    {
+        Ok(Shows {
+            pieces,
+            stripes: Stripes::new(alloc, workers, pieces.div_ceil(8) as usize)?,
+        })
+    }
+
+    /// The number of peers.
+    pub fn len(&self) -> u32
+        ensures { result ≡ length self.now }
+    {
+        self.stripes.len()
+    }
+
+    /// The number of pieces that the torrent has.
+    pub fn pieces(&self) -> u32
+        ensures { (worker : ℕ) → worker < length self.now → length (flags_at self.now worker) ≡ result }
+    {
+        self.pieces
+    }
+
+    /// Whether the worker's peer shows the piece.
+    #[inline]
+    pub fn has(&self, worker: u32, piece: u32) -> bool
+        requires worker { worker < length self.now }
+        requires piece { piece < length (flags_at self.now worker) }
+        ensures { result ≡ slice_index_or (flags_at self.now worker) piece false }
+    {
+        bit(self.stripes.byte(worker, piece as usize / 8), piece)
+    }
+
+    /// The worker's peer shows the piece too.
+    pub fn set(&mut self, worker: u32, piece: u32)
+        requires worker { worker < length self.old }
+        requires piece { piece < length (flags_at self.old worker) }
+        ensures { self.new ≡ edit self.old worker (λ flags. slice_set flags piece true) }
+    {
+        let byte = self.stripes.byte(worker, piece as usize / 8);
+        self.stripes
+            .put(worker, piece as usize / 8, byte | 1 << (7 - piece % 8));
+    }
+
+    /// The worker's peer shows nothing.
+    pub fn clear(&mut self, worker: u32)
+        requires { worker < length self.old }
+        ensures { self.new ≡ edit self.old worker (λ flags. replicate (length flags) false) }
+    {
+        self.stripes.clear(worker);
+    }
+
+    /// The worker's peer shows just these pieces.
+    pub fn put(&mut self, worker: u32, flags: &Bitfield)
+        requires worker { worker < length self.old }
+        requires flags { length flags.now ≡ length (flags_at self.old worker) }
+        ensures { self.new ≡ edit self.old worker (λ old. flags.now) }
+    {
+        self.stripes.write(worker, flags.as_wire());
+    }
+
+    /// The first piece from this one on that the worker's peer shows.
+    #[inline]
+    pub fn first_from(&self, worker: u32, piece: u32) -> Option<u32>
+        requires { worker < length self.now }
+        ensures { FindsFirst (λ p. slice_index_or (flags_at self.now worker) p false) piece result }
+    {
+        if piece >= self.pieces {
+            return None;
+        }
+        match first_bit(&self.stripes, worker, piece as usize) {
+            Some(place) => Some(place as u32),
+            None => None,
+        }
+    }
+}
+
+/// The bit of the piece in the byte that has it.
+fn bit(byte: u8, piece: u32) -> bool
+    ensures { result ≡ (bit_at byte (7 - piece % 8) == 1) }
+{
+    (byte >> (7 - piece % 8)) & 1 == 1
+}
+
+/// The place of the first bit of the row that is set from this place on.
+#[inline]
+fn first_bit(stripes: &Stripes, row: u32, place: usize) -> Option<usize>
+    requires row { row < length stripes.now }
+    requires place { place < 8 * length (stripe stripes.now row) }
+    requires few { 8 * length (stripe stripes.now row) < 2 ^ 64 }
+    ensures { FindsFirst (wire_bit (stripe stripes.now row)) place result }
+{
+    let rest = stripes.byte(row, place / 8) << (place % 8) as u32;
+    if rest != 0 {
+        return Some(place + rest.leading_zeros() as usize);
+    }
+    first_bit_behind(stripes, row, place / 8)
+}
+
+/// The place of the first bit that is set in the bytes of the row behind this one.
+fn first_bit_behind(stripes: &Stripes, row: u32, index: usize) -> Option<usize>
+    requires row { row < length stripes.now }
+    requires index { index < length (stripe stripes.now row) }
+    requires few { 8 * length (stripe stripes.now row) < 2 ^ 64 }
+    ensures { FindsFirst (wire_bit (stripe stripes.now row)) (8 * (index + 1)) result }
+{
+    for next in index + 1..stripes.width() {
+        let byte = stripes.byte(row, next);
+        if byte != 0 {
+            return Some(8 * next + byte.leading_zeros() as usize);
+        }
+    }
+    None
+}

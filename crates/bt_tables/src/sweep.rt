@@ -1,0 +1,119 @@
+//! What goes over all pieces of a bitfield that comes or goes, or over all blocks of a line.
+
+ghost use Rattle.std.specs.Prelude.{◌≡◌, ◌<◌, ◌+◌, ◌^◌, [], false, true, length, slice_index_or, unwrap_or};
+ghost use Rattle.std.specs.Option.{option_copied};
+ghost use Rattle.bt_tables.specs.Floors.{AreFloors};
+ghost use Rattle.bt_tables.specs.Tables.{AreCounted, edit, hidden_rows, less_available, lowered, lowered_by, more_available, peer_row, piece_row};
+ghost use Rattle.bt_tables.specs.Tables.{recounted, shown_rows, wanted_by};
+
+use crate::floors::Floors;
+use crate::peers::Peers;
+use crate::piece::Change;
+use crate::pieces::Pieces;
+use bt_meta::{BLOCK_SIZE, Bitfield, Block};
+
+/// The worker's peer shows the pieces of `after` in place of those that it showed, or none.
+pub fn recount(pieces: &mut Pieces, peers: &Peers, worker: u32, after: Option<&Bitfield>)
+    requires worker { worker < length peers.now }
+    requires few { AreCounted (recounted pieces.old (peer_row peers.now worker).shows (unwrap_or (option_copied after) [])) }
+    ensures { pieces.new ≡ recounted pieces.old (peer_row peers.now worker).shows (unwrap_or (option_copied after.entry) []) }
+{
+    hide_all(pieces, peers, worker);
+    if let Some(flags) = after {
+        show_all(pieces, flags);
+    }
+}
+
+/// The worker's peer shows its pieces no more.
+fn hide_all(pieces: &mut Pieces, peers: &Peers, worker: u32)
+    requires { worker < length peers.now }
+    ensures { pieces.new ≡ hidden_rows (peer_row peers.now worker).shows pieces.old }
+{
+    let mut from = 0;
+    while from < peers.pieces() {
+        match peers.first_shown(worker, from) {
+            Some(piece) => {
+                hide(pieces, piece);
+                from = piece + 1;
+            }
+            None => return,
+        }
+    }
+}
+
+/// A peer that showed nothing shows the pieces of the set.
+fn show_all(pieces: &mut Pieces, flags: &Bitfield)
+    requires { AreCounted (shown_rows flags.now pieces.old) }
+    ensures { pieces.new ≡ shown_rows flags.now pieces.old }
+{
+    let mut from = 0;
+    while from < flags.count() {
+        match flags.first_from(from) {
+            Some(piece) => {
+                show(pieces, piece);
+                from = piece + 1;
+            }
+            None => return,
+        }
+    }
+}
+
+/// One peer less shows the piece, if there is such a piece.
+#[inline(always)]
+fn hide(pieces: &mut Pieces, piece: u32)
+    ensures { pieces.new ≡ edit pieces.old piece (less_available true) }
+{
+    if (piece as usize) < pieces.len() {
+        pieces.hide(piece);
+    }
+}
+
+/// One peer more shows the piece, if there is such a piece.
+#[inline(always)]
+fn show(pieces: &mut Pieces, piece: u32)
+    requires { piece < length pieces.old → (piece_row pieces.old piece).availability + 1 < 2 ^ 16 }
+    ensures { pieces.new ≡ edit pieces.old piece (more_available true) }
+{
+    if (piece as usize) < pieces.len() {
+        pieces.show(piece);
+    }
+}
+
+/// Just the pieces with their flag set are wanted.
+pub fn rewant(pieces: &mut Pieces, flags: &Bitfield)
+    ensures { pieces.new ≡ wanted_by flags.now pieces.old }
+{
+    for piece in 0..pieces.len() as u32 {
+        pieces.apply(piece, Change::Wanted(has(flags, piece)));
+    }
+}
+
+/// Whether there is such a piece and it is in the set.
+fn has(flags: &Bitfield, piece: u32) -> bool
+    ensures { result ≡ slice_index_or flags.now piece false }
+{
+    piece < flags.count() && flags.has(piece)
+}
+
+/// Frees the blocks of the line: one peer less is asked for each.
+pub fn lower_all(pieces: &mut Pieces, floors: &mut Floors, peers: &Peers, line: &[Block])
+    requires { AreFloors floors.old peers.now pieces.old }
+    ensures pieces { pieces.new ≡ lowered_by line.now pieces.old }
+    ensures floors { AreFloors floors.new peers.now pieces.new }
+{
+    for block in line {
+        lower(pieces, floors, peers, *block);
+    }
+}
+
+/// One peer less is asked for the block, whose piece may be unbegun again.
+fn lower(pieces: &mut Pieces, floors: &mut Floors, peers: &Peers, block: Block)
+    requires { AreFloors floors.old peers.now pieces.old }
+    ensures pieces { pieces.new ≡ lowered block pieces.old }
+    ensures floors { AreFloors floors.new peers.now pieces.new }
+{
+    if (block.piece as usize) < pieces.len() {
+        pieces.apply(block.piece, Change::Lower(block.begin / BLOCK_SIZE));
+        floors.admit(peers, pieces, block.piece);
+    }
+}

@@ -1,0 +1,449 @@
+//! All rows, and what each call makes of them.
+
+ghost use Rattle.std.specs.Prelude.{◌≡◌, ◌<◌, ◌≤◌, ◌+◌, ◌^◌, ◌*◌, ◌/◌, [], ℕ, false, length, map, slice_index_or, true, IfOk, IfSome, Some, IsTrue};
+ghost use Rattle.std.specs.Prelude.{EachIndex, unwrap_or};
+ghost use Rattle.bt_meta.specs.Layout.{IsLayout, block_count, piece_count, block_size};
+ghost use Rattle.std.specs.Option.{option_copied};
+ghost use Rattle.std.specs.List.{count_by, sum_by};
+ghost use Rattle.bt_order.specs.Orders.{at, ListsGroup, TellsFirst};
+ghost use Rattle.bt_order.specs.Risings.{IsRising};
+ghost use Rattle.bt_tables.specs.Showing.{dealings};
+ghost use Rattle.bt_tables.specs.Standings.{apart, group_of_row, standing_of};
+ghost use Rattle.bt_history.specs.Setting.{setting_of};
+ghost use Rattle.bt_history.specs.History.{stores};
+ghost use Rattle.bt_meta.specs.declared.block.Block.{Block};
+ghost use Rattle.bt_history.specs.Counting.{table};
+ghost use Rattle.bt_tables.specs.Floors.{IsFloor, IsRarestStart, TellsFloor, is_fresh};
+ghost use Rattle.bt_tables.specs.Tables.{AreAskers, AreCounted, HasBlock, HasRoomFor, bits_row, leave_row, TablesState, after_arrival, after_check};
+ghost use Rattle.bt_tables.specs.Tables.{after_next, announced, cancel_row, late_row, edit, failed_row, fresh_peer, fresh_piece, join_row, choke_row};
+ghost use Rattle.bt_tables.specs.Tables.{unchoke_row, peer_row, piece_row, released, reshown, rewanted, with_block, with_peer};
+
+use crate::floors::Floors;
+use crate::peer::Peer;
+use crate::peers::Peers;
+use crate::piece::{Change, GROUPS, Piece, UNBEGUN};
+use crate::pieces::Pieces;
+use crate::sweep::{lower_all, recount, rewant};
+use bt_history::{MOST_DEPTH, Reply, Rules};
+use bt_meta::{BLOCK_SIZE, Bitfield, Block, Torrent};
+use std::alloc::{AllocError, Global};
+use std::marker::Model;
+use std::sync::Arc;
+
+/// A row for each worker's peer, by the worker's number, and the rows of all pieces: what the picker answers from, so that no history is
+/// read, and none need be kept. The picker knows which history they tell of; no row does.
+pub struct Tables {
+    torrent: Arc<Torrent>,
+    workers: u32,
+    rules: Rules,
+    peers: Peers,
+    pieces: Pieces,
+    floors: Floors,
+}
+
+/// The end of all tables is one call for whoever owns them.
+impl Drop for Tables {
+    fn drop(self) {
+        let Tables {
+            torrent: _torrent,
+            workers: _,
+            rules: _,
+            peers: _peers,
+            pieces: _pieces,
+            floors: _floors,
+        } = self;
+    }
+}
+
+impl Model for Tables {
+    ghost use Rattle.bt_tables.specs.Floors.{AreFloors};
+    ghost use Rattle.bt_history.specs.Setting.{setting_of};
+    ghost use Rattle.bt_tables.specs.Tables.{TablesState};
+
+    ghost Value = { TablesState };
+
+    ghost view = { λ t. record {
+      setting = setting_of t.torrent.value.layout t.workers t.rules;
+      peers = t.peers;
+      pieces = t.pieces;
+    } };
+
+    ghost invariant = { λ t. AreFloors t.floors t.peers t.pieces };
+}
+
+impl Tables {
+    /// Tables of so many peers that told nothing, and of the torrent's pieces, none of them begun.
+    pub fn new(
+        alloc: Global,
+        torrent: Arc<Torrent>,
+        workers: u32,
+        rules: Rules,
+    ) -> Result<Tables, AllocError>
+        ensures setting { IfOk result (λ t. t.setting ≡ setting_of torrent.value.layout workers rules) }
+        ensures layout { IfOk result (λ t. IsLayout t.setting.torrent) }
+        ensures peers { IfOk result (λ t. t.peers ≡ table workers (λ worker. fresh_peer (piece_count torrent.value.layout))) }
+        ensures pieces { IfOk result (λ t. t.pieces
+            ≡ table (piece_count torrent.value.layout) (λ p. fresh_piece (block_count torrent.value.layout p))) }
+    {
+        Ok(Tables {
+            peers: Peers::new(alloc, workers, torrent.piece_count())?,
+            pieces: Pieces::new(alloc, &torrent)?,
+            floors: Floors::new(alloc, workers)?,
+            torrent,
+            workers,
+            rules,
+        })
+    }
+
+    pub fn workers(&self) -> u32
+        ensures { result ≡ self.now.setting.workers }
+    {
+        self.workers
+    }
+
+    pub fn rules(&self) -> Rules
+        ensures depth { result.depth ≡ self.now.setting.depth }
+        ensures random { result.random ≡ self.now.setting.random }
+    {
+        self.rules
+    }
+
+    pub fn torrent(&self) -> &Torrent
+        ensures { result.now.layout ≡ self.now.setting.torrent }
+    {
+        &self.torrent
+    }
+
+    /// The row of the worker's peer, beside the pieces that it shows.
+    pub fn peer(&self, worker: u32) -> &Peer
+        requires { worker < length self.now.peers }
+        ensures { result.now ≡ dealings (peer_row self.now.peers worker) }
+    {
+        self.peers.row(worker)
+    }
+
+    /// Whether the worker's peer shows the piece.
+    pub fn shows(&self, worker: u32, piece: u32) -> bool
+        requires worker { worker < length self.now.peers }
+        requires piece { piece < length (peer_row self.now.peers worker).shows }
+        ensures { result ≡ slice_index_or (peer_row self.now.peers worker).shows piece false }
+    {
+        self.peers.shows(worker, piece)
+    }
+
+    /// The row of the piece.
+    pub fn piece(&self, piece: u32) -> Piece<'_>
+        requires { piece < length self.now.pieces }
+        ensures { result ≡ apart (piece_row self.now.pieces piece) }
+    {
+        self.pieces.row(piece)
+    }
+
+    /// How many joined peers show the piece.
+    pub fn availability(&self, piece: u32) -> u32
+        requires { piece < length self.now.pieces }
+        ensures { result ≡ (piece_row self.now.pieces piece).availability }
+    {
+        self.pieces.availability(piece)
+    }
+
+    /// The pieces of the group.
+    pub fn group(&self, group: u32) -> &[u32]
+        requires { group < GROUPS }
+        ensures { ListsGroup (map group_of_row self.now.pieces) group result.now }
+    {
+        self.pieces.group(group)
+    }
+
+    /// Whether nothing is left to get of any piece.
+    pub fn are_all_resting(&self) -> bool
+        ensures { TellsFirst (map group_of_row self.now.pieces) result }
+    {
+        self.pieces.are_all_resting()
+    }
+
+    /// The begun pieces with an unasked block, the least first.
+    pub fn open_pieces(&self) -> &[u32]
+        ensures lists { ListsGroup (map group_of_row self.now.pieces) 2 result.now }
+        ensures rise { IsRising (length self.now.pieces) result.now }
+    {
+        self.pieces.open_pieces()
+    }
+
+    /// The group of the piece.
+    pub fn group_of(&self, piece: u32) -> u32
+        requires { piece < length self.now.pieces }
+        ensures { result ≡ at (map group_of_row self.now.pieces) piece }
+    {
+        self.pieces.group_of(piece)
+    }
+
+    /// How many blocks are unasked.
+    pub fn unasked(&self) -> u64
+        ensures { result ≡ sum_by (λ row. (standing_of row).unasked) self.now.pieces }
+    {
+        self.pieces.unasked()
+    }
+
+    /// How many blocks aren't held.
+    pub fn unheld(&self) -> u64
+        ensures { result ≡ sum_by (λ row. (standing_of row).unheld) self.now.pieces }
+    {
+        self.pieces.unheld()
+    }
+
+    /// How many pieces are had.
+    pub fn had_count(&self) -> u32
+        ensures { result ≡ count_by (λ row. row.had) self.now.pieces }
+    {
+        self.pieces.had()
+    }
+
+    /// The worker's peer shows no unbegun wanted piece that fewer peers than this show.
+    pub fn floor(&self, worker: u32) -> u32
+        requires { worker < length self.now.peers }
+        ensures { IsFloor self.now.pieces (peer_row self.now.peers worker) result }
+    {
+        self.floors.of(worker)
+    }
+
+    /// The floor that a reply to Next tells: once enough pieces are had, a piece that begins is a rarest one; and where nothing is to be
+    /// asked, the peer shows no unbegun wanted piece.
+    fn floor_told(&self, reply: Reply) -> Option<u32>
+        ensures { IfSome result (λ n. TellsFloor self.now reply n) }
+    {
+        match reply {
+            Reply::Request(block) if self.begins(block.piece) => {
+                Some(self.pieces.availability(block.piece))
+            }
+            Reply::Idle | Reply::NothingLeft => Some(u32::MAX),
+            _ => None,
+        }
+    }
+
+    /// Notes that the worker's peer shows no unbegun wanted piece, where the reply to Have is that nothing interests.
+    pub fn note_interest(&mut self, worker: u32, reply: Reply)
+        requires worker { worker < length self.old.peers }
+        requires none { reply ≡ Reply.Noted false → (n : ℕ) → IsFloor self.old.pieces (peer_row self.old.peers worker) n }
+        ensures { self.new ≡ self.old }
+    {
+        if let Reply::Noted(false) = reply {
+            self.floors.put(worker, u32::MAX);
+        }
+    }
+
+    /// Notes the floor that the reply to Next tells.
+    pub fn learn(&mut self, worker: u32, reply: Reply)
+        requires worker { worker < length self.old.peers }
+        requires told { (n : ℕ) → TellsFloor self.old reply n → IsFloor self.old.pieces (peer_row self.old.peers worker) n }
+        ensures { self.new ≡ self.old }
+    {
+        if let Some(floor) = self.floor_told(reply) {
+            self.floors.put(worker, floor);
+        }
+    }
+
+    /// Whether the piece begins as a rarest one, if one of its blocks is asked for.
+    fn begins(&self, piece: u32) -> bool
+        ensures { result ≡ true → IsRarestStart self.now piece }
+    {
+        self.pieces.had() >= self.rules.random
+            && (piece as usize) < self.pieces.len()
+            && self.pieces.group_of(piece) >= UNBEGUN
+    }
+
+    /// Frees what was asked of the worker's peer.
+    fn release(&mut self, worker: u32)
+        requires { worker < length self.old.peers }
+        ensures { self.new ≡ released self.old worker }
+    {
+        let line = self.peers.row(worker).asked();
+        lower_all(&mut self.pieces, &mut self.floors, &self.peers, line);
+    }
+
+    /// The worker's peer shows these pieces in place of those that it showed, or none.
+    fn reshow(&mut self, worker: u32, flags: Option<&Bitfield>)
+        requires worker { worker < length self.old.peers }
+        requires few { AreCounted (reshown self.old worker (unwrap_or (option_copied flags) [])).pieces }
+        ensures { self.new ≡ reshown self.old worker (unwrap_or (option_copied flags.entry) []) }
+    {
+        recount(&mut self.pieces, &self.peers, worker, flags);
+        self.floors.ease(); // one peer less may show a piece
+    }
+
+    /// Join: what was asked of an earlier peer of the worker is freed.
+    pub fn join(&mut self, worker: u32)
+        requires { worker < length self.old.peers }
+        ensures { self.new ≡ with_peer (released self.old worker) worker join_row }
+    {
+        self.release(worker);
+        self.peers.join(worker);
+        self.floors.put(worker, u32::MAX); // it shows nothing yet
+    }
+
+    /// Choke: what was asked of the peer is freed.
+    pub fn choke(&mut self, worker: u32)
+        requires { worker < length self.old.peers }
+        ensures { self.new ≡ with_peer (released self.old worker) worker choke_row }
+    {
+        self.release(worker);
+        self.peers.choke(worker);
+    }
+
+    /// Unchoke.
+    pub fn unchoke(&mut self, worker: u32)
+        requires { worker < length self.old.peers }
+        ensures { self.new ≡ with_peer self.old worker unchoke_row }
+    {
+        self.peers.unchoke(worker);
+    }
+
+    /// Bits.
+    pub fn put_bits(&mut self, worker: u32, flags: &Bitfield)
+        requires worker { worker < length self.old.peers }
+        requires flags { length flags.now ≡ length (peer_row self.old.peers worker).shows }
+        requires few { AreCounted (reshown self.old worker flags.now).pieces }
+        ensures { self.new ≡ with_peer (reshown self.old worker flags.now) worker (bits_row flags.now) }
+    {
+        self.reshow(worker, Some(flags));
+        self.floors.put(worker, 0);
+        self.peers.put_bits(worker, flags);
+    }
+
+    /// Have.
+    pub fn put_have(&mut self, worker: u32, piece: u32)
+        requires worker { worker < length self.old.peers }
+        requires piece { piece < length self.old.pieces }
+        requires shown { piece < length (peer_row self.old.peers worker).shows }
+        requires few { AreCounted (announced self.old worker piece).pieces }
+        ensures { self.new ≡ announced self.old worker piece }
+    {
+        let is_new = !self.peers.shows(worker, piece);
+        self.pieces.announce(piece, is_new);
+        let shown_by = self.pieces.availability(piece);
+        let floor = floor_with(self.floors.of(worker), &self.pieces.row(piece), shown_by);
+        self.floors.put(worker, floor);
+        self.peers.put_have(worker, piece);
+    }
+
+    /// Leave: what was asked of the peer is freed, and it shows nothing.
+    pub fn leave(&mut self, worker: u32)
+        requires worker { worker < length self.old.peers }
+        requires few { AreCounted (reshown (released self.old worker) worker []).pieces }
+        ensures { self.new ≡ with_peer (reshown (released self.old worker) worker []) worker leave_row }
+    {
+        self.release(worker);
+        self.reshow(worker, None);
+        self.peers.leave(worker);
+    }
+
+    /// Next, by its reply.
+    pub fn put_next(&mut self, worker: u32, reply: Reply)
+        requires worker { worker < length self.old.peers }
+        requires request { (b : Block) → reply ≡ Reply.Request b → HasRoomFor self.old worker b }
+        ensures { self.new ≡ after_next self.old worker reply }
+    {
+        match reply {
+            Reply::Request(block) => self.ask(worker, block),
+            Reply::Cancel(block) => self.cancel(worker, block),
+            _ => {}
+        }
+    }
+
+    /// The block is asked of the peer.
+    fn ask(&mut self, worker: u32, block: Block)
+        requires worker { worker < length self.old.peers }
+        requires room { HasRoomFor self.old worker block }
+        ensures { self.new ≡ after_next self.old worker (Reply.Request block) }
+    {
+        self.peers.ask(worker, block);
+        self.pieces
+            .apply(block.piece, Change::Raise(block.begin / BLOCK_SIZE));
+    }
+
+    /// The cancel of the block is told.
+    fn cancel(&mut self, worker: u32, block: Block)
+        requires { worker < length self.old.peers }
+        ensures { self.new ≡ with_peer self.old worker (cancel_row block) }
+    {
+        self.peers.cancel(worker, block);
+    }
+
+    /// Block `index` of the piece is held now, brought by the worker's peer.
+    fn put_block(&mut self, worker: u32, piece: u32, index: u32)
+        requires worker { worker < length self.old.peers }
+        requires stored { HasBlock self.old piece index }
+        requires begin { block_size * index < 2 ^ 32 }
+        requires askers { AreAskers self.old piece index }
+        requires room { EachIndex self.old.peers
+            (λ q. length (peer_row self.old.peers q).asked + length (peer_row self.old.peers q).due ≤ MOST_DEPTH) }
+        ensures { self.new ≡ with_block self.old worker piece index }
+    {
+        let askers = self.pieces.row(piece).cell(index).askers();
+        self.peers.forget(worker, piece, BLOCK_SIZE * index, askers);
+        self.pieces.apply(piece, Change::Store(index));
+    }
+
+    /// Puts an arrival in, by its reply.
+    pub fn put_arrival(&mut self, worker: u32, piece: u32, begin: u32, reply: Reply)
+        requires worker { worker < length self.old.peers }
+        requires stored { IsTrue (stores reply) → HasBlock self.old piece (begin / block_size) }
+        requires askers { IsTrue (stores reply) → AreAskers self.old piece (begin / block_size) }
+        requires room { EachIndex self.old.peers
+            (λ q. length (peer_row self.old.peers q).asked + length (peer_row self.old.peers q).due ≤ MOST_DEPTH) }
+        ensures { self.new ≡ after_arrival self.old worker piece begin reply }
+    {
+        if reply.is_stored() {
+            self.put_block(worker, piece, begin / BLOCK_SIZE);
+        }
+        self.note_arrival(worker);
+    }
+
+    /// The peer told something, so that a bitfield of it would come too late.
+    fn note_arrival(&mut self, worker: u32)
+        requires { worker < length self.old.peers }
+        ensures { self.new ≡ with_peer self.old worker late_row }
+    {
+        self.peers.note_arrival(worker);
+    }
+
+    /// A check of the piece, by its reply.
+    pub fn put_check(&mut self, piece: u32, reply: Reply)
+        requires { piece < length self.old.pieces }
+        ensures { self.new ≡ after_check self.old piece reply }
+    {
+        match reply {
+            Reply::Had => self.pieces.apply(piece, Change::Pass),
+            _ => self.fail(piece),
+        }
+    }
+
+    /// A check of the piece found another hash.
+    fn fail(&mut self, piece: u32)
+        requires { piece < length self.old.pieces }
+        ensures { self.new ≡ record self.old { pieces = edit self.old.pieces piece failed_row } }
+    {
+        self.pieces.apply(piece, Change::Fail);
+        self.floors.admit(&self.peers, &self.pieces, piece);
+    }
+
+    /// Want.
+    pub fn put_want(&mut self, flags: &Bitfield)
+        ensures { self.new ≡ rewanted self.old flags.now }
+    {
+        rewant(&mut self.pieces, flags);
+        self.floors.clear(); // more may be wanted
+    }
+}
+
+/// The floor of a peer that shows the piece too, which so many show.
+fn floor_with(floor: u32, row: &Piece<'_>, shown_by: u32) -> u32
+    ensures most { result ≤ floor }
+    ensures shown { is_fresh row.now ≡ true → result ≤ shown_by }
+{
+    if row.is_fresh() {
+        floor.min(shown_by)
+    } else {
+        floor
+    }
+}
