@@ -1,5 +1,5 @@
 -- What a check of a piece looked at.
-use Rattle.std.specs.Prelude.{◌≡◌, ◌<◌, ℕ, List}
+use Rattle.std.specs.Prelude.{◌≡◌, ◌<◌, ℕ, List, length, map}
 use Rattle.std.specs.List.{concat}
 use Rattle.sha1.specs.Sha1.{sha1}
 use Rattle.bt_meta.specs.Layout.{Layout, hash_of, piece_count}
@@ -8,6 +8,10 @@ use Rattle.bt_meta.specs.Layout.{Layout, hash_of, piece_count}
 pub record Checked : Type 0 where
   pub piece : ℕ
   pub blocks : List (List ℕ)
+
+-- how long each of the blocks is
+abbrev pub lengths : List (List ℕ) → List ℕ
+lengths blocks = map (λ block. length block) blocks
 
 -- the bytes that were hashed
 abbrev pub joined : Checked → List ℕ

@@ -3,6 +3,7 @@
 #![tactic(auto)]
 
 mod job;
+mod lanes;
 mod proven;
 mod rule;
 mod ticket;

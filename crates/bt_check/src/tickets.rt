@@ -130,4 +130,16 @@ impl Tickets {
             Err(_) => None,
         }
     }
+
+    /// Takes the ticket at the front, if there is one at this moment. It waits for none, and may overlook one that is just being put.
+    pub fn try_take<R: Wait>(&self, rt: &R, pass: &mut TicketPass) -> Option<Ticket>
+        requires { pass.old.queue ≡ self.now }
+        ensures some { IfSome result (λ ticket. pass.new ≡ with_taken pass.old ticket) }
+        ensures none { IfNone result (pass.new ≡ pass.old) }
+    {
+        match self.receiver.try_recv_as::<Take, R>(rt, &mut pass.pass) {
+            Ok(found) => Some(found),
+            Err(_) => None,
+        }
+    }
 }

@@ -1,0 +1,30 @@
+-- Lists of blocks that are equally long, block by block.
+use Rattle.std.proofs.Common.{◌≡◌, ℕ, ◌+◌, ◌<◌, List, ◌∷◌, [], ◌++◌, length, get_or, take, ap, ◌∙◌, sym, arith}
+use Rattle.std.proofs.lemmas.List.{map_more, get_or-map, length-map}
+use Rattle.bt_check.specs.Checked.{lengths}
+
+-- they are equally many
+pub alike_many : (a b : List (List ℕ)) → lengths b ≡ lengths a → length b ≡ length a
+alike_many a b same =
+    sym (length-map b (λ block. length block)) ∙ ap (λ (xs : List ℕ). length xs) same ∙ length-map a (λ block. length block)
+
+-- the blocks at one place are equally long
+pub alike_at : (a b : List (List ℕ)) (i : ℕ) (x y : List ℕ) → lengths b ≡ lengths a → i < length a → x ≡ get_or a i x → y ≡ get_or b i y →
+    length y ≡ length x
+alike_at a b i x y same lt is_x is_y =
+    let many = alike_many a b same in
+    ap (λ (block : List ℕ). length block) is_y
+    ∙ sym (get_or-map (λ block. length block) b i y 0 (omega (arith, many, lt)))
+    ∙ ap (λ (xs : List ℕ). get_or xs i 0) same
+    ∙ get_or-map (λ block. length block) a i x 0 lt
+    ∙ ap (λ (block : List ℕ). length block) (sym is_x)
+
+-- the first i + 1 blocks are, where the first i are and the next
+pub alike_more : (a b : List (List ℕ)) (i : ℕ) (x y : List ℕ) → lengths (take i b) ≡ lengths (take i a) → i < length a → i < length b →
+    x ≡ get_or a i x → y ≡ get_or b i y → length x ≡ length y → lengths (take (i + 1) b) ≡ lengths (take (i + 1) a)
+alike_more a b i x y same lt lt' is_x is_y long =
+    map_more (λ block. length block) b i y lt'
+    ∙ ap (λ (xs : List ℕ). xs ++ length (get_or b i y) ∷ []) same
+    ∙ ap (λ (n : ℕ). lengths (take i a) ++ n ∷ [])
+    (ap (λ (block : List ℕ). length block) (sym is_y) ∙ sym long ∙ ap (λ (block : List ℕ). length block) is_x)
+    ∙ sym (map_more (λ block. length block) a i x lt)
