@@ -137,6 +137,12 @@ uint32_t piecepick_read(piecepick_desk *desk, uint32_t piece, uint8_t *room, siz
 /* Goes over the journal of all calls by the picker's rules. No journal fails it: SHUT, MEMORY. */
 uint32_t piecepick_audit(piecepick_desk *desk);
 
+/* The SHA-1 of each of four messages, one digest behind the other, into a room of 80 bytes; ROOM where it has another length: then nothing
+   is written. The lengths may be any; four of one length are hashed side by side, at more than twice the speed. It needs no desk, takes no
+   memory, and may be called by several threads at once. */
+uint32_t piecepick_hash4(const uint8_t *first, size_t first_len, const uint8_t *second, size_t second_len, const uint8_t *third,
+                         size_t third_len, const uint8_t *fourth, size_t fourth_len, uint8_t *digests, size_t digests_len);
+
 #ifdef __cplusplus
 }
 #endif

@@ -1,4 +1,5 @@
-/* What only a caller in C can try: each allocation refused in turn, four threads at one desk, and a round of misuses.
+/* What only a caller in C can try: each allocation refused in turn, four threads at one desk, four pieces hashed at once, and a round of
+   misuses.
 
    usage: tests FILE.torrent CONTENT        linked with -Wl,--wrap=malloc,--wrap=realloc */
 #include "piecepick.h"
@@ -245,7 +246,33 @@ static void misuses(void)
     piecepick_job_close(&job);
     piecepick_close(&desk);
     piecepick_close(&desk);
-    puts("15 misuses: the statuses that the header says");
+    IS(piecepick_hash4(none, 0, none, 0, none, 0, none, 0, spare, 79), PIECEPICK_ROOM);
+    puts("16 misuses: the statuses that the header says");
+}
+
+/* Four pieces from this one on, against the digests that the metainfo file has. */
+static void hash_pieces(const uint8_t *digests, size_t piece, size_t piece_length)
+{
+    uint8_t found[81];
+    const uint8_t *at = content + piece * piece_length;
+    size_t last = content_len - (piece + 3) * piece_length;
+    memset(found, 7, sizeof found);
+    uint32_t status = piecepick_hash4(at, piece_length, at + piece_length, piece_length, at + 2 * piece_length, piece_length,
+                                      at + 3 * piece_length, last < piece_length ? last : piece_length, found, 80);
+    if (status != PIECEPICK_OK) fail("hash4", status);
+    if (memcmp(found, digests + 20 * piece, 80) != 0 || found[80] != 7) fail("four digests", (uint32_t)piece);
+}
+
+/* Four pieces of one length, and four of which the last is shorter. */
+static void four_at_once(void)
+{
+    static const char key[] = "6:pieces";
+    size_t at = 0, piece_length = 32768, pieces = (content_len + piece_length - 1) / piece_length;
+    while (memcmp(metainfo + at, key, sizeof key - 1) != 0) at++;
+    while (metainfo[at + sizeof key - 1] != ':') at++;
+    hash_pieces(metainfo + at + sizeof key, 0, piece_length);
+    hash_pieces(metainfo + at + sizeof key, pieces - 4, piece_length);
+    puts("8 pieces hashed four at a time: the digests of the metainfo file");
 }
 
 int main(int argc, char **argv)
@@ -260,6 +287,7 @@ int main(int argc, char **argv)
     content_len = fread(content, 1, sizeof content, file);
     fclose(file);
     misuses();
+    four_at_once();
     refuse_each();
     by_threads();
     return 0;

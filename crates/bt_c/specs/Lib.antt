@@ -7,3 +7,4 @@ pub mod Calling
 pub mod Asking
 pub mod Jobs
 pub mod Rooms
+pub mod Digests
