@@ -27,6 +27,22 @@ TakesPiece old piece new = new ≡ with_tickets old (with_taken old.tickets (Pie
 abbrev pub TakesNone : WorkerState → WorkerState → Type 0
 TakesNone old new = (new ≡ with_tickets old (with_taken old.tickets Stop)) ⊎ (new ≡ old)
 
+-- the worker took the tickets of these pieces, in this order
+abbrev pub TakesPieces : WorkerState → List ℕ → WorkerState → Type 0
+TakesPieces old [] new = new ≡ old
+TakesPieces old (piece ∷ pieces) new = TakesPieces (with_tickets old (with_taken old.tickets (Piece piece))) pieces new
+
+-- it took nothing behind them, or, where that is told, Stop or no ticket for which it waited
+abbrev pub EndsRound : WorkerState → Bool → WorkerState → Type 0
+EndsRound old true new = TakesNone old new
+EndsRound old false new = new ≡ old
+
+-- the worker took the tickets of these pieces, and it is told whether no further ticket is for it
+pub record TakesRound (old : WorkerState) (pieces : List ℕ) (is_last : Bool) (new : WorkerState) : Type 0 where
+  pub between : WorkerState
+  pub takes : TakesPieces old pieces between
+  pub ends : EndsRound between is_last new
+
 -- ---- checks
 
 -- the pass is the same worker's, and its log as it was
@@ -55,6 +71,22 @@ pub record NeedsNone (setting : Setting) (old : WorkerState) (piece : ℕ) (new 
 -- the worker saw to the piece: it made the check, or none was due
 abbrev pub SeesTo : Setting → WorkerState → ℕ → WorkerState → Type 0
 SeesTo setting old piece new = MakesCheck setting old piece new ⊎ NeedsNone setting old piece new
+
+-- the worker saw to the piece, or gave it up, which it tells
+abbrev pub SeesOrGivesUp : Setting → WorkerState → ℕ → Bool → WorkerState → Type 0
+SeesOrGivesUp setting old piece given_up new = SeesTo setting old piece new ⊎ (IsIdle old new × (given_up ≡ true))
+
+-- the worker saw to the piece, or gave it up, and then did the rest
+pub record GoesOn (setting : Setting) (old : WorkerState) (piece : ℕ) (given_up : Bool) (Rest : WorkerState → Type 0) : Type 0 where
+  pub between : WorkerState
+  pub sees : SeesOrGivesUp setting old piece given_up between
+  pub rest : Rest between
+
+-- The worker went through these pieces, one after the other: it saw to each of them, or gave it up, which it tells. It noted nothing else
+abbrev pub GoesThrough : Setting → WorkerState → List ℕ → Bool → WorkerState → Type 0
+GoesThrough setting old [] given_up new = IsIdle old new
+GoesThrough setting old (piece ∷ pieces) given_up new =
+    GoesOn setting old piece given_up (λ between. GoesThrough setting between pieces given_up new)
 
 -- a worker's pass after it saw to a piece: the mark of a check of this piece, or nothing
 abbrev pub MayCheck : PassState → ℕ → PassState → Type 0

@@ -27,10 +27,11 @@ pub fn check_pieces<L: RunName, T: Wait>(
     let mut worker = worker;
     let mut short = false;
     for _ in rt.forever() {
-        let Some(piece) = commons.next_piece(rt, &mut worker) else {
+        let round = commons.next_round(rt, &mut worker);
+        short |= commons.check_all(rt, alloc, &mut worker, round.pieces.as_slice());
+        if round.is_last {
             break;
-        };
-        short |= commons.check(rt, alloc, &mut worker, piece).is_err();
+        }
     }
     Checked { worker, short }
 }

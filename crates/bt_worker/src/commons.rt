@@ -5,6 +5,7 @@ ghost use Rattle.std.specs.Prelude.{IfSome, IfNone, OnErr, OnOk};
 ghost use Rattle.std.specs.List.{All};
 ghost use Rattle.bt_board.specs.Story.{Seen};
 ghost use Rattle.bt_check.specs.Checked.{Fits};
+ghost use Rattle.bt_check.specs.Queues.{with_taken};
 ghost use Rattle.bt_history.specs.Entries.{action_of, event};
 ghost use Rattle.bt_history.specs.Legal.{IsLegal};
 ghost use Rattle.bt_history.specs.Logs.{answers, call_mark};
@@ -12,14 +13,14 @@ ghost use Rattle.bt_history.specs.Pieces.{had};
 ghost use Rattle.bt_meta.specs.Layout.{piece_count};
 ghost use Rattle.bt_worker.specs.Checking.{IsIdle, IsQuiet, MakesCheck, MayCheck, PutsIf, SeesTo, TakesNone, TakesPiece};
 ghost use Rattle.bt_worker.specs.Runs.{IsRunFault};
-ghost use Rattle.bt_worker.specs.Workers.{AreNamed, Belongs, Shares, StandInOrder, Takes, TellsNone, TellsOne, WorkerState, knows};
+ghost use Rattle.bt_worker.specs.Workers.{AreNamed, Belongs, Shares, StandInOrder, Takes, TellsNone, TellsOne, WorkerState, knows, with_tickets};
 ghost use Rattle.bt_shared.specs.Gathering.{EachAgrees, EachFrom};
 ghost use Rattle.bt_shared.specs.Passes.{Enters, Notes};
 
 use crate::fault::SwarmFault;
 use crate::run_name::RunName;
 use bt_board::{Board, BoardSeat};
-use bt_check::{Proven, Ticket, TicketPass, Tickets, Verdict};
+use bt_check::{Job, Proven, Ticket, TicketPass, Tickets, Verdict};
 use bt_meta::Torrent;
 use bt_picker::{Call, Reply};
 use bt_shared::{Book, Pass, SharedDesk};
@@ -199,6 +200,31 @@ impl<L: RunName> Commons<L> {
         }
     }
 
+    /// The ticket at the front, if there is one at this moment. Waits for none.
+    pub fn ticket_at_hand<T: Wait>(&self, rt: &T, worker: &mut Worker<L>) -> Option<Ticket>
+        ensures some { IfSome result (λ ticket. worker.new ≡ with_tickets worker.old (with_taken worker.old.tickets ticket)) }
+        ensures none { IfNone result (worker.new ≡ worker.old) }
+    {
+        self.queue.try_take(rt, &mut worker.tickets)
+    }
+
+    /// The piece's job, if it waits for a check and there is memory for the job.
+    pub(crate) fn job<T: Wait>(
+        &self,
+        rt: &T,
+        alloc: Global,
+        worker: &mut Worker<L>,
+        piece: u32,
+    ) -> Option<Job>
+        ensures idle { IsIdle worker.old worker.new }
+        ensures piece { IfSome result (λ job. job.piece ≡ piece) }
+    {
+        match self.desk.job(rt, alloc, &mut worker.pass, piece) {
+            Ok(job) => job,
+            Err(_) => None,
+        }
+    }
+
     /// Hashes the piece, if it waits for a check, while others have the desk, settles what came out, and marks a piece that is had then. The
     /// piece may have got other bytes meanwhile, or have been checked: then the desk refuses the verdict. Without memory the check is given up.
     pub fn check<T: Wait>(
@@ -219,7 +245,7 @@ impl<L: RunName> Commons<L> {
     }
 
     /// Settles the verdict, and marks its piece if that is had then.
-    fn settle<T: Wait>(
+    pub fn settle<T: Wait>(
         &self,
         rt: &T,
         worker: &mut Worker<L>,

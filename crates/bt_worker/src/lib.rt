@@ -4,8 +4,10 @@
 mod checker;
 mod commons;
 mod fault;
+mod four;
 mod pass_place;
 mod played;
+mod round;
 mod run_name;
 mod waiting;
 mod worked;

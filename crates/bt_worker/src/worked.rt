@@ -1,6 +1,6 @@
 //! What came of a run's threads, and its last checks.
 
-ghost use Rattle.std.specs.Prelude.{◌≡◌, ◌≤◌, ◌+◌, ◌++◌, [], map, length, vec_capacity, IfOk};
+ghost use Rattle.std.specs.Prelude.{◌≡◌, ◌≤◌, ◌+◌, ◌*◌, ◌/◌, ◌++◌, [], map, length, vec_capacity, IfOk};
 ghost use Rattle.std.specs.List.{list_any};
 ghost use Rattle.bt_meta.specs.Layout.{piece_count};
 ghost use Rattle.bt_worker.specs.Runs.{ChecksLast};
@@ -102,9 +102,27 @@ pub fn last_checks<L: RunName, T: Wait>(
 ) -> bool
     ensures { ChecksLast worker.old.pass worker.new.pass (piece_count commons.now.layout) }
 {
-    let mut given_up = false;
-    for piece in 0..commons.piece_count() {
+    let mut given_up = last_fours(rt, alloc, commons, worker);
+    for piece in commons.piece_count() / 4 * 4..commons.piece_count() {
         given_up |= commons.check(rt, alloc, worker, piece).is_err();
+    }
+    given_up
+}
+
+/// The last checks of the pieces but for the last few, four of them at a time. Whether one was given up.
+fn last_fours<L: RunName, T: Wait>(
+    rt: &T,
+    alloc: Global,
+    commons: &Commons<L>,
+    worker: &mut Worker<L>,
+) -> bool
+    ensures { ChecksLast worker.old.pass worker.new.pass (piece_count commons.now.layout / 4 * 4) }
+{
+    let mut given_up = false;
+    for four in 0..commons.piece_count() / 4 {
+        let first = four * 4;
+        let pieces = [first, first + 1, first + 2, first + 3];
+        given_up |= commons.check_all(rt, alloc, worker, &pieces);
     }
     given_up
 }

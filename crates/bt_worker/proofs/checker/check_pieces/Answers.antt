@@ -1,11 +1,25 @@
-use Rattle.bt_worker.proofs.Checking.{checks_none, checks_on, checks_same}
+use Rattle.std.proofs.Common.{sym, subst}
+use Rattle.bt_worker.specs.Checking.{MakesChecks}
+use Rattle.bt_worker.specs.Workers.{WorkerState}
+use Rattle.bt_worker.proofs.Checking.{checks_none}
+use Rattle.bt_worker.proofs.Through.{checks_after}
 use Rattle.bt_worker.proofs.checker.check_pieces.Goals as goal
+use Rattle.bt_worker.proofs.checker.check_pieces.Goals.{in-None, in-Some+then-round}
 
 pub loop-init : goal.loop-init
 loop-init g c = checks_none c.args.worker.pass
 
 pub loop-preserved : goal.loop-preserved
 loop-preserved g c =
-    checks_on c.args.worker.pass c.next_piece.new.worker.pass c.check.new.worker.pass c.in-Some-next_piece.piece
-    (checks_same c.args.worker.pass c.loop.worker c.next_piece.new.worker c.in-Some-next_piece.piece
-    c.loop.invariant c.in-Some-next_piece.ensures.some) c.check.ensures.may
+    checks_after g.L.RunName.setting c.args.worker.pass c.loop.worker c.next_round-round.new.worker c.check_all-short.new.worker _ _ _ _
+    c.loop.invariant c.next_round-round.ensures c.check_all-short.ensures
+
+pub returns : goal.returns
+returns g c =
+    let first = c.args.worker.pass in
+    elim c.match-next.branch [
+      | in-None w ↦ subst (λ (x : WorkerState). MakesChecks first x.pass) (sym w.worker-is) c.loop.invariant
+      | in-Some+then-round w ↦ subst (λ (x : WorkerState). MakesChecks first x.pass) (sym w.worker-is)
+          (checks_after g.L.RunName.setting first c.loop.worker w.next_round-round.new.worker w.check_all-short.new.worker _ _ _ _
+          c.loop.invariant w.next_round-round.ensures w.check_all-short.ensures)
+    ]

@@ -1,8 +1,8 @@
-use Rattle.bt_worker.proofs.Rising.{none_yet, goes_on}
+use Rattle.bt_worker.proofs.Rising.{goes_on}
 use Rattle.bt_worker.proofs.worked.last_checks.Goals as goal
 
 pub loop-piece-init : goal.loop-piece-init
-loop-piece-init g c = none_yet c.args.worker.now.pass
+loop-piece-init g c = rw c.piece_count.ensures c.last_fours-given_up.ensures
 
 pub loop-piece-preserved : goal.loop-piece-preserved
 loop-piece-preserved g c =
