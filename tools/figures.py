@@ -1,0 +1,98 @@
+#!/usr/bin/env python3
+"""Takes the picker's figures in one sitting: picker, desk and libtorrent's picker on one workload, by turns, each in a fresh process.
+
+    (cd crates/bench_picker && rt run)
+    (cd crates/bench && rt run)                          # for the desk's column; it may be left out
+    tools/libtorrent/build.sh FOLDER                     # for libtorrent's; it may be left out
+    tools/figures.py [--libtorrent FOLDER] [--halvings N] [--runs N] [PIECES ..]
+
+Prints a table, a row for each number of pieces: 1,000, 10,000 and 100,000 where none is given. Each figure is the least of so many runs, 3
+where it isn't said. Times are processor time, of an ask with its arrival but for the columns that say otherwise. Memory is the most that a
+process held. The desk's run hashes each piece between the asks, so the caches are colder there; its hashing isn't in its time. The picks of
+picker and desk are compared by their counts of asks and requests.
+"""
+
+import argparse
+import os
+import re
+import subprocess
+import sys
+
+ROOT = os.path.dirname(os.path.dirname(os.path.abspath(__file__)))
+PICKER = os.path.join(ROOT, "crates/bench_picker/out/bench_picker")
+DESK = os.path.join(ROOT, "crates/bench/out/bench")
+TIME = "/usr/bin/time"
+
+
+def output(words):
+    """What the program prints."""
+    ran = subprocess.run(words, stdout=subprocess.PIPE, text=True)
+    if ran.returncode != 0:
+        sys.exit(f"{' '.join(words)} ended with status {ran.returncode}")
+    return ran.stdout
+
+
+def measured(words):
+    """What the program prints, and the most memory that it held, in megabytes. This process is larger, so a small one starts it."""
+    if not os.path.exists(TIME):
+        sys.exit(f"there is no {TIME}, which tells the memory of a process: Debian has it in the package time")
+    ran = subprocess.run([TIME, "-f", "%M", *words], stdout=subprocess.PIPE, stderr=subprocess.PIPE, text=True)
+    if ran.returncode != 0:
+        sys.exit(f"{' '.join(words)} ended with status {ran.returncode}: {ran.stderr}")
+    return ran.stdout, int(ran.stderr.split()[-1]) * 1024 / 1e6
+
+
+def numbers(text):
+    """The figures of a program's output: each word with the number behind it."""
+    return {name: float(value) for name, value in re.findall(r"([a-z_]+)[ =]([0-9]+(?:\.[0-9]+)?)(?![0-9a-f])", text)}
+
+
+def least(rows, name):
+    return min(row[name] for row in rows)
+
+
+def time_of(nanoseconds):
+    return f"{nanoseconds:.0f} ns" if nanoseconds < 1000 else f"{nanoseconds / 1000:.1f} µs"
+
+
+def row(pieces, options):
+    """A line of the table, of runs by turns."""
+    picker, desk, other = [], [], []
+    for _ in range(options.runs):
+        text, memory = measured([PICKER, str(pieces), str(options.halvings), "51", "times"])
+        picker.append({**numbers(text), "memory": memory})
+        if os.path.exists(DESK):
+            desk.append(numbers(output([DESK, str(pieces), "--density", str(options.halvings + 1), "--runs", "1"])))
+        if options.libtorrent:
+            program = os.path.join(options.libtorrent, "bench_libtorrent")
+            words = [program, str(pieces), "--opts", "strict", "--depth", "5", "--density", str(options.halvings + 1)]
+            other.append(float(re.search(r"ns/ask\+arrival=([0-9.]+)", output(words)).group(1)))
+    for found in desk:
+        for count in ("asks", "requests"):
+            if found[count] != picker[0][count]:
+                sys.exit(f"{pieces} pieces: the desk has {found[count]:.0f} {count}, and the picker {picker[0][count]:.0f}")
+    ask = least(picker, "ask_ns")
+    cells = [f"{pieces:,}", time_of(ask)]
+    cells += [time_of(least(desk, "ask_ns"))] if desk else ["-"]
+    cells += [time_of(min(other)), f"{ask / min(other):.2f}"] if other else ["-", "-"]
+    cells += [time_of(least(picker, "dry_ns")), time_of(least(picker, "come_ns")), f"{least(picker, 'memory'):.1f} MB"]
+    return "| " + " | ".join(cells) + " |"
+
+
+def main():
+    options = argparse.ArgumentParser(description=__doc__.split("\n")[0])
+    options.add_argument("--libtorrent", metavar="FOLDER", help="where tools/libtorrent/build.sh built its program")
+    options.add_argument("--halvings", type=int, default=0, help="how often the pieces of each peer are halved")
+    options.add_argument("--runs", type=int, default=3)
+    options.add_argument("pieces", type=int, nargs="*")
+    options = options.parse_args()
+    if not os.path.exists(PICKER):
+        sys.exit("crates/bench_picker isn't built: (cd crates/bench_picker && rt run)")
+    print("| Pieces | Picker | Desk | libtorrent | Picker by libtorrent | An ask that gives nothing | A peer's way in | Memory of the picker |")
+    print("|---|---|---|---|---|---|---|---|")
+    for pieces in options.pieces or (1_000, 10_000, 100_000):
+        print(row(pieces, options), flush=True)
+
+
+if __name__ == "__main__":
+    main()
