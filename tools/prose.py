@@ -1,0 +1,84 @@
+#!/usr/bin/env python3
+"""Tells how long the sentences of the pages are: the mean and the longest of each page, and the longest of all.
+
+    tools/prose.py [--worst N] [--limit WORDS] [FILE ..]
+
+Goes over README.md, docs, clients and each crate's README where no file is given. Code, drawings, links' targets and the lines of a table are
+no sentences, but each cell of a table is read as one. With a limit the status is 1 where a sentence is longer.
+"""
+
+import argparse
+import re
+import subprocess
+import sys
+from pathlib import Path
+
+ROOT = Path(__file__).resolve().parent.parent
+END = re.compile(r"(?<=[.!?:;])\s+(?=[A-Z`*\"(]|$)")
+
+
+def paragraphs(text):
+    """The paragraphs of a page, the items of its lists and the cells of its tables, each on one line."""
+    text = re.sub(r"^```.*?^```", "", text, flags=re.S | re.M)
+    block = []
+    for line in text.split("\n") + [""]:
+        bare = line.strip()
+        if line.startswith(("    ", "\t")) and not block:
+            continue
+        if bare.startswith("|"):
+            yield from (cell.strip() for cell in bare.strip("|").split(" | ") if not re.fullmatch(r"[-: |]*", cell))
+        elif not bare or bare.startswith("#"):
+            if block:
+                yield " ".join(block)
+            block = []
+        else:
+            if re.match(r"[-*] |\d+\. ", bare) and block:
+                yield " ".join(block)
+                block = []
+            block.append(re.sub(r"^([-*]|\d+\.) ", "", bare))
+
+
+def sentences(text):
+    """The sentences of a page: a name or a piece of code counts as one word."""
+    for paragraph in paragraphs(text):
+        plain = re.sub(r"`[^`]*`", lambda code: "x" + ("." if code.group().endswith(".`") else ""), paragraph)
+        plain = re.sub(r"\]\([^)]*\)", "]", plain)
+        pieces, shown = END.split(plain), paragraph
+        for piece in pieces:
+            words = [word for word in piece.split() if re.search(r"\w", word)]
+            if len(words) > 2:
+                yield len(words), piece, shown
+
+
+def pages(names):
+    if names:
+        return [Path(name).resolve() for name in names]
+    listed = subprocess.run(["git", "ls-files", "*.md"], cwd=ROOT, capture_output=True, text=True, check=True).stdout.split()
+    return [ROOT / name for name in listed]
+
+
+def main():
+    options = argparse.ArgumentParser(description=__doc__.split("\n")[0])
+    options.add_argument("--worst", type=int, default=10, help="so many of the longest sentences are shown")
+    options.add_argument("--limit", type=int, help="a sentence of more words is too long")
+    options.add_argument("files", nargs="*")
+    options = options.parse_args()
+    everything = []
+    for page in pages(options.files):
+        found = list(sentences(page.read_text(encoding="utf-8")))
+        if not found:
+            continue
+        lengths = [count for count, _, _ in found]
+        name = page.relative_to(ROOT) if page.is_relative_to(ROOT) else page
+        print(f"{name}: {len(found)} sentences, mean {sum(lengths) / len(lengths):.1f}, longest {max(lengths)}")
+        everything += [(count, name, piece) for count, piece, _ in found]
+    lengths = [count for count, _, _ in everything]
+    print(f"all: {len(lengths)} sentences, mean {sum(lengths) / len(lengths):.1f}, over 30: {sum(n > 30 for n in lengths)}, over 40: {sum(n > 40 for n in lengths)}")
+    for count, name, piece in sorted(everything, key=lambda found: -found[0])[: options.worst]:
+        print(f"{count} {name}: {piece[:150]}")
+    if options.limit and max(lengths) > options.limit:
+        sys.exit(1)
+
+
+if __name__ == "__main__":
+    main()
