@@ -56,6 +56,8 @@ static void download(piecepick_desk *desk, uint32_t worker, const uint8_t *conte
     uint64_t word = 1;
     for (;;) {
         check("next", piecepick_next(desk, worker, word++, &answer));
+        if (answer.kind == PIECEPICK_CANCEL)
+            continue; /* the block came from another peer: a client sends a cancel, and asks on */
         if (answer.kind != PIECEPICK_REQUEST)
             return;
         uint32_t piece = answer.piece, begin = answer.begin, length = answer.len;
