@@ -1,22 +1,24 @@
 #!/usr/bin/env python3
-"""Takes the picker's figures in one sitting: picker, desk and libtorrent's picker on one workload, by turns, each in a fresh process.
+"""Takes the picker's figures in one sitting: picker, desk, libtorrent's picker and the same rule in plain C++, on one workload, by turns.
 
     (cd crates/bench_picker && rt run)
     (cd crates/bench && rt run)                          # for the desk's column; it may be left out
     tools/libtorrent/build.sh FOLDER                     # for libtorrent's; it may be left out
     tools/figures.py [--libtorrent FOLDER] [--halvings N] [--runs N] [PIECES ..]
 
-Prints a table, a row for each number of pieces: 1,000, 10,000 and 100,000 where none is given. Each figure is the least of so many runs, 3
-where it isn't said. Times are processor time, of an ask with its arrival but for the columns that say otherwise. Memory is the most that a
-process held. The desk's run hashes each piece between the asks, so the caches are colder there; its hashing isn't in its time. The picks of
-picker and desk are compared by their counts of asks and requests.
+Prints a table, a row for each number of pieces: 1,000, 10,000 and 100,000 where none is given. Each figure is the least of so many runs in
+fresh processes, 3 where it isn't said. The plain C++ (tools/plain) is built by the machine's g++, where there is one. Times are processor time, of an ask with its arrival but for the columns that say otherwise. Memory is the most that a
+process held. The desk's run hashes each piece between the asks, so the caches are colder there; its hashing isn't in its time. The requests of
+picker and plain C++ have to be the same, in order; those of the desk are compared by their counts.
 """
 
 import argparse
 import os
 import re
+import shutil
 import subprocess
 import sys
+import tempfile
 
 ROOT = os.path.dirname(os.path.dirname(os.path.abspath(__file__)))
 PICKER = os.path.join(ROOT, "crates/bench_picker/out/bench_picker")
@@ -47,6 +49,16 @@ def numbers(text):
     return {name: float(value) for name, value in re.findall(r"([a-z_]+)[ =]([0-9]+(?:\.[0-9]+)?)(?![0-9a-f])", text)}
 
 
+def built(folder):
+    """The plain C++, built into the folder; None where there is no compiler."""
+    compiler = shutil.which("g++")
+    if not compiler:
+        return None
+    program = os.path.join(folder, "bench_plain")
+    subprocess.run([compiler, "-std=c++17", "-O2", "-march=x86-64-v2", "-o", program, os.path.join(ROOT, "tools/plain/bench_plain.cpp")], check=True)
+    return program
+
+
 def least(rows, name):
     return min(row[name] for row in rows)
 
@@ -55,12 +67,17 @@ def time_of(nanoseconds):
     return f"{nanoseconds:.0f} ns" if nanoseconds < 1000 else f"{nanoseconds / 1000:.1f} µs"
 
 
-def row(pieces, options):
+def row(pieces, plain_program, options):
     """A line of the table, of runs by turns."""
-    picker, desk, other = [], [], []
+    picker, desk, other, plain = [], [], [], []
     for _ in range(options.runs):
         text, memory = measured([PICKER, str(pieces), str(options.halvings), "51", "times"])
         picker.append({**numbers(text), "memory": memory})
+        if plain_program:
+            told = output([plain_program, str(pieces), str(options.halvings), "51"])
+            if told.splitlines()[0] != text.splitlines()[0]:
+                sys.exit(f"{pieces} pieces: the plain C++ makes other requests than the picker")
+            plain.append(numbers(told))
         if os.path.exists(DESK):
             desk.append(numbers(output([DESK, str(pieces), "--density", str(options.halvings + 1), "--runs", "1"])))
         if options.libtorrent:
@@ -74,6 +91,7 @@ def row(pieces, options):
     ask = least(picker, "ask_ns")
     cells = [f"{pieces:,}", time_of(ask)]
     cells += [time_of(least(desk, "ask_ns"))] if desk else ["-"]
+    cells += [time_of(least(plain, "ask_ns"))] if plain else ["-"]
     cells += [time_of(min(other)), f"{ask / min(other):.2f}"] if other else ["-", "-"]
     cells += [time_of(least(picker, "dry_ns")), time_of(least(picker, "come_ns")), f"{least(picker, 'memory'):.1f} MB"]
     return "| " + " | ".join(cells) + " |"
@@ -88,10 +106,12 @@ def main():
     options = options.parse_args()
     if not os.path.exists(PICKER):
         sys.exit("crates/bench_picker isn't built: (cd crates/bench_picker && rt run)")
-    print("| Pieces | Picker | Desk | libtorrent | Picker by libtorrent | An ask that gives nothing | A peer's way in | Memory of the picker |")
-    print("|---|---|---|---|---|---|---|---|")
-    for pieces in options.pieces or (1_000, 10_000, 100_000):
-        print(row(pieces, options), flush=True)
+    print("| Pieces | Picker | Desk | Plain C++ | libtorrent | Picker by libtorrent | An ask that gives nothing | A peer's way in | Memory of the picker |")
+    print("|---|---|---|---|---|---|---|---|---|")
+    with tempfile.TemporaryDirectory() as folder:
+        program = built(folder)
+        for pieces in options.pieces or (1_000, 10_000, 100_000):
+            print(row(pieces, program, options), flush=True)
 
 
 if __name__ == "__main__":
