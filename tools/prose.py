@@ -41,7 +41,7 @@ def paragraphs(text):
 def sentences(text):
     """The sentences of a page: a name or a piece of code counts as one word."""
     for paragraph in paragraphs(text):
-        plain = re.sub(r"`[^`]*`", lambda code: "x" + ("." if code.group().endswith(".`") else ""), paragraph)
+        plain = re.sub(r"`[^`]*`", lambda code: "X" + ("." if code.group().endswith(".`") else ""), paragraph)
         plain = re.sub(r"\]\([^)]*\)", "]", plain)
         pieces, shown = END.split(plain), paragraph
         for piece in pieces:
