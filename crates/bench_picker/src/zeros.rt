@@ -87,6 +87,7 @@ impl Zeros {
     }
 
     /// Tells what brings no block, or one of zeros.
+    #[inline(always)]
     pub fn tell(&mut self, worker: u32, told: Told<'_>) -> Reply
         requires { BringsZeros (action_told told) }
     {
