@@ -14,7 +14,7 @@ import sys
 from pathlib import Path
 
 ROOT = Path(__file__).resolve().parent.parent
-END = re.compile(r"(?<=[.!?:;])\s+(?=[A-Z`*\"(]|$)")
+END = re.compile(r"(?<=[.!?:;])\s+(?=[A-Z0-9`*\"(\[]|$)")
 
 
 def paragraphs(text):
