@@ -3,6 +3,7 @@
 set -eu
 here=$(cd "$(dirname "$0")" && pwd)
 heap=${PIECEPICK_HEAP:-$(dirname "$(readlink -f "$(command -v rt)")")/../c/liblibc_c.a}
+"$here/../tools/build.py" bt_c
 (cd "$here/../crates/bt_c" && rt lib)
 mkdir -p "$here/out"
 # The archive alone lacks the functions by which Rattle calls malloc: they come along.

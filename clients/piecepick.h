@@ -80,7 +80,9 @@ enum {
 enum {
     PIECEPICK_NOT_JOINED = 1, PIECEPICK_ALREADY_JOINED = 2, PIECEPICK_LATE_BITS = 3, PIECEPICK_WRONG_COUNT = 4,
     PIECEPICK_NO_SUCH_PIECE = 5, PIECEPICK_NO_SUCH_BLOCK = 6, PIECEPICK_WRONG_LENGTH = 7, PIECEPICK_REASON_NOT_WAITING = 8,
-    PIECEPICK_STALE = 9         /* the bytes that were hashed are no longer those held */
+    PIECEPICK_STALE = 9,        /* the bytes that were hashed are no longer those held */
+    PIECEPICK_NOT_ASKED = 10,   /* the block isn't asked of the peer */
+    PIECEPICK_WRONG_DEPTH = 11  /* a depth of 0, or beyond 64 */
 };
 
 uint32_t piecepick_abi(void);
@@ -104,6 +106,16 @@ uint32_t piecepick_bits(piecepick_desk *desk, uint32_t worker, const uint8_t *pa
 /* Copies the block. */
 uint32_t piecepick_arrived(piecepick_desk *desk, uint32_t worker, uint32_t piece, uint32_t begin, const uint8_t *bytes, size_t bytes_len,
                            piecepick_answer *answer);
+/* The peer has these pieces too, at any time, spelled as in a `bitfield` message: a second `bitfield` came, or `have all` or `have none`
+   (BEP 6). What it had before stays. NOTED, or REFUSED by NOT_JOINED. SHUT, WORKER, BITS_LENGTH, SPARE_BITS, MEMORY. */
+uint32_t piecepick_haves(piecepick_desk *desk, uint32_t worker, const uint8_t *flags, size_t flags_len, piecepick_answer *answer);
+/* The block that begins `begin` bytes into the piece is asked of the peer no more: the peer rejected it (BEP 6), it took too long, or the
+   request was not sent. Any peer may be asked for it again, and it is kept if it comes after all. QUIET, or REFUSED by NOT_JOINED or
+   NOT_ASKED. SHUT, WORKER, MEMORY. */
+uint32_t piecepick_release(piecepick_desk *desk, uint32_t worker, uint32_t piece, uint32_t begin, piecepick_answer *answer);
+/* From now on `depth` blocks, 1 to 64, may be asked of the peer at a time, until another number is told or the worker's next peer joins;
+   what is asked stays asked. QUIET, or REFUSED by NOT_JOINED or WRONG_DEPTH. SHUT, WORKER, MEMORY. */
+uint32_t piecepick_depth(piecepick_desk *desk, uint32_t worker, uint32_t depth, piecepick_answer *answer);
 /* What to say to the peer next: ask until the answer is neither CANCEL nor REQUEST. The word is the caller's randomness. */
 uint32_t piecepick_next(piecepick_desk *desk, uint32_t worker, uint64_t word, piecepick_answer *answer);
 /* From now on just these pieces are to be downloaded, for all peers; spelled as in a `bitfield` message. */
@@ -129,7 +141,7 @@ uint32_t piecepick_wanted(piecepick_desk *desk, uint32_t piece, uint32_t *number
 uint32_t piecepick_availability(piecepick_desk *desk, uint32_t piece, uint32_t *number); /* joined peers that show it */
 uint32_t piecepick_piece_length(piecepick_desk *desk, uint32_t piece, uint32_t *number); /* in bytes */
 uint32_t piecepick_blocks(piecepick_desk *desk, uint32_t piece, uint32_t *number);
-/* How many blocks are asked of the worker's peer (`depth` at most), and each by its place from 0, told as a REQUEST. SHUT, WORKER, PLACE. */
+/* How many blocks are asked of the worker's peer (at most its greatest depth since it joined or choked), and each by its place from 0, told as a REQUEST. SHUT, WORKER, PLACE. */
 uint32_t piecepick_outstanding(piecepick_desk *desk, uint32_t worker, uint32_t *number);
 uint32_t piecepick_outstanding_at(piecepick_desk *desk, uint32_t worker, uint32_t place, piecepick_answer *answer);
 /* Writes a had piece into a room of just its length, and takes no memory. SHUT, PIECE, NOT_HAD, ROOM: then nothing is written. */

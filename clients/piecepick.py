@@ -91,6 +91,8 @@ class Reason(IntEnum):
     WRONG_LENGTH = 7
     NOT_WAITING = 8
     STALE = 9
+    NOT_ASKED = 10
+    WRONG_DEPTH = 11
 
 
 class Fault(Exception):
@@ -155,6 +157,9 @@ _CALLS: dict[str, list[Any]] = {
     "have": [_D, c_uint32, c_uint32, _A],
     "bits": [_D, c_uint32, *_BYTES, _A],
     "want": [_D, c_uint32, *_BYTES, _A],
+    "haves": [_D, c_uint32, *_BYTES, _A],
+    "depth": [_D, c_uint32, c_uint32, _A],
+    "release": [_D, c_uint32, c_uint32, c_uint32, _A],
     "arrived": [_D, c_uint32, c_uint32, c_uint32, *_BYTES, _A],
     "next": [_D, c_uint32, c_uint64, _A],
     "settle_now": [_D, c_uint32, c_uint32, _A],
@@ -314,6 +319,19 @@ class Desk:
         """From now on just these pieces are to be downloaded, spelled as in a `bitfield` message."""
         data, length = _buffer(flags)
         return self._answer("want", worker, data, length)
+
+    def haves(self, worker: int, flags: BytesLike) -> Answer:
+        """The peer has these pieces too, at any time: a second `bitfield` came, or `have all` or `have none` (BEP 6)."""
+        data, length = _buffer(flags)
+        return self._answer("haves", worker, data, length)
+
+    def depth(self, worker: int, depth: int) -> Answer:
+        """From now on so many blocks, 1 to 64, may be asked of the peer at a time; REFUSED by WRONG_DEPTH for another number."""
+        return self._answer("depth", worker, depth)
+
+    def release(self, worker: int, piece: int, begin: int) -> Answer:
+        """The block that begins there, in bytes, is asked of the peer no more; REFUSED by NOT_ASKED where it wasn't."""
+        return self._answer("release", worker, piece, begin)
 
     def arrived(self, worker: int, piece: int, begin: int, block: BytesLike) -> Answer:
         """A `piece` message came. The desk keeps a copy of the block."""

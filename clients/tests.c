@@ -237,6 +237,9 @@ static void misuses(void)
     IS(piecepick_bits(&desk, 0, none, 0, &answer), PIECEPICK_BITS_LENGTH);
     memset(spare, 255, sizeof spare);
     IS(piecepick_bits(&desk, 0, spare, (pieces + 7) / 8, &answer), pieces % 8 ? (uint32_t)PIECEPICK_SPARE_BITS : (uint32_t)PIECEPICK_OK);
+    IS(piecepick_haves(&desk, 0, none, 0, &answer), PIECEPICK_BITS_LENGTH);
+    IS(piecepick_depth(&desk, 1, 5, &answer), PIECEPICK_WORKER);
+    IS(piecepick_release(&desk, 1, 0, 0, &answer), PIECEPICK_WORKER);
     IS(piecepick_read(&desk, 0, room, 1), PIECEPICK_NOT_HAD);
     IS(piecepick_job(&desk, 0, &job), PIECEPICK_NOT_WAITING);
     IS(piecepick_job_hash(&job), PIECEPICK_NO_JOB);
@@ -247,7 +250,39 @@ static void misuses(void)
     piecepick_close(&desk);
     piecepick_close(&desk);
     IS(piecepick_hash4(none, 0, none, 0, none, 0, none, 0, spare, 79), PIECEPICK_ROOM);
-    puts("16 misuses: the statuses that the header says");
+    puts("19 misuses: the statuses that the header says");
+}
+
+#define GETS(call, wanted, told) do { \
+    IS(call, PIECEPICK_OK); \
+    if (answer.kind != (wanted) || answer.detail != (told)) fail(#call, answer.kind); \
+} while (0)
+
+/* More pieces of a peer, a depth of its own, and a block that it is asked for no more. */
+static void told_beside_the_wire(void)
+{
+    piecepick_desk desk = PIECEPICK_NONE;
+    piecepick_answer answer;
+    uint8_t flags[1 << 12];
+    uint32_t pieces;
+    IS(piecepick_open(&desk, metainfo, metainfo_len, 1, 5, 1), PIECEPICK_OK);
+    IS(piecepick_pieces(&desk, &pieces), PIECEPICK_OK);
+    all_flags(flags, pieces);
+    GETS(piecepick_depth(&desk, 0, 1, &answer), PIECEPICK_REFUSED, PIECEPICK_NOT_JOINED);
+    GETS(piecepick_join(&desk, 0, &answer), PIECEPICK_JOINED, 0);
+    GETS(piecepick_unchoke(&desk, 0, &answer), PIECEPICK_QUIET, 0);
+    GETS(piecepick_haves(&desk, 0, flags, (pieces + 7) / 8, &answer), PIECEPICK_NOTED, 1);
+    GETS(piecepick_depth(&desk, 0, 1, &answer), PIECEPICK_QUIET, 0);
+    GETS(piecepick_depth(&desk, 0, 65, &answer), PIECEPICK_REFUSED, PIECEPICK_WRONG_DEPTH);
+    GETS(piecepick_next(&desk, 0, 0, &answer), PIECEPICK_REQUEST, 0);
+    uint32_t piece = answer.piece, begin = answer.begin;
+    GETS(piecepick_next(&desk, 0, 0, &answer), PIECEPICK_PIPE_FULL, 0);
+    GETS(piecepick_release(&desk, 0, piece, begin + 1, &answer), PIECEPICK_REFUSED, PIECEPICK_NOT_ASKED);
+    GETS(piecepick_release(&desk, 0, piece, begin, &answer), PIECEPICK_QUIET, 0);
+    GETS(piecepick_next(&desk, 0, 0, &answer), PIECEPICK_REQUEST, 0);
+    IS(piecepick_audit(&desk), PIECEPICK_OK);
+    piecepick_close(&desk);
+    puts("11 answers to haves, depths and releases, and to what comes between: those of the rules");
 }
 
 /* Four pieces from this one on, against the digests that the metainfo file has. */
@@ -287,6 +322,7 @@ int main(int argc, char **argv)
     content_len = fread(content, 1, sizeof content, file);
     fclose(file);
     misuses();
+    told_beside_the_wire();
     four_at_once();
     refuse_each();
     by_threads();

@@ -23,6 +23,7 @@ TORRENTS = {  # name: piece length, total, hashes
 }
 
 USUAL = (5, 1)  # depth, random
+MOST_WORKERS, MOST_DEPTH = 1024, 64  # in endgame any number of peers for a block, and no depth told beyond 64: the usual rules
 
 
 def enters(worker, bits):
@@ -39,17 +40,23 @@ def blocks_asked(count):
 
 FULL_PIPE = blocks_asked(5) + ["0 next 0 = pipefull"]
 ENDGAME = enters(0, "80") + enters(1, "80") + ["0 next 0 = request 0 0 3", "1 next 0 = request 0 0 3"]
+TWO_ASKED = ["0 next 0 = request 0 0 16384", "0 next 0 = request 0 16384 16384", "0 next 0 = pipefull"]
 
 RARE_FIRST = enters(0, "e0") + ["1 join = joined", "1 bits c0 = noted yes", "0 next 1 = request 2 0 1"]
 RAREST_FIRST = ["0 join = joined", "0 bits e0 = noted yes", "1 join = joined", "1 bits 40 = noted yes", "0 unchoke = quiet",
                 "0 next 2 = request 2 0 1"] + checked(0, 2, "61")
 
-RULES = {  # of the examples that don't go by the usual ones: depth, random
+RULES = {  # of the examples that don't go by the usual ones: depth, random, and where they matter askers, deepest
     "depth_two": (2, 1),
     "deep_pipe": (64, 1),
     "rarest_from_the_start": (5, 0),
     "second_piece_at_random": (5, 2),
     "rarest_after_two_pieces": (5, 2),
+    "one_asker": (5, 1, 1, 64),
+    "two_askers": (5, 1, 2, 64),
+    "no_depth_may_be_told": (5, 1, 1024, 0),
+    "greatest_depth": (5, 1, 1024, 9999),
+    "haves_are_counted": (5, 0),
 }
 
 EXAMPLES = {  # name: torrent, workers, lines
@@ -117,6 +124,54 @@ EXAMPLES = {  # name: torrent, workers, lines
     "asked_stays_asked": ("two_pieces", 2, enters(0, "c0") + enters(1, "c0") + [
         "0 next 0 = request 0 0 3", "0 want 40 = quiet", "0 next 0 = request 1 0 3", "0 want c0 = quiet", "1 next 0 = request 0 0 3",
         "0 block 0 0 616263 = completed", "1 next 0 = cancel 0 0 3"]),
+    "released_is_asked_elsewhere": ("two_pieces", 2, enters(0, "c0") + enters(1, "80") + [
+        "0 next 0 = request 0 0 3", "1 next 0 = idle", "0 release 0 0 = quiet", "1 next 0 = request 0 0 3", "0 next 0 = request 1 0 3"]),
+    "released_in_endgame": ("one_piece", 2, ENDGAME + [
+        "0 release 0 0 = quiet", "1 next 0 = idle", "1 block 0 0 616263 = completed", "0 next 0 = idle", "1 settle 0 616263 = had",
+        "0 next 0 = nothing"]),
+    "released_piece_is_unbegun": ("two_blocks", 1, enters(0, "c0") + [
+        "0 next 0 = request 0 0 16384", "0 release 0 0 = quiet", "0 next 1 = request 1 0 16384", "0 next 0 = request 1 16384 16384",
+        "0 next 0 = request 0 0 16384"]),
+    "released_is_asked_again": ("one_piece", 1, enters(0, "80") + [
+        "0 next 0 = request 0 0 3", "0 next 0 = idle", "0 release 0 0 = quiet", "0 next 0 = request 0 0 3"]),
+    "released_arrives_after_all": ("two_blocks", 1, enters(0, "c0") + [
+        "0 next 0 = request 0 0 16384", "0 release 0 0 = quiet", "0 block 0 0 X = stored", "0 next 0 = request 0 16384 16384"]),
+    "depth_of_one": ("many_blocks", 1, enters(0, "80") + [
+        "0 depth 1 = quiet", "0 next 0 = request 0 0 16384", "0 next 0 = pipefull"]),
+    "deepened": ("many_blocks", 1, FULL_PIPE + [
+        "0 depth 7 = quiet", "0 next 0 = request 0 81920 16384", "0 next 0 = request 0 98304 16384", "0 next 0 = pipefull"]),
+    "depth_outlasts_a_choke": ("many_blocks", 1, enters(0, "80") + ["0 depth 2 = quiet"] + TWO_ASKED + [
+        "0 choke = quiet", "0 unchoke = quiet"] + TWO_ASKED),
+    "depth_goes_with_its_peer": ("many_blocks", 1, enters(0, "80") + [
+        "0 depth 1 = quiet", "0 next 0 = request 0 0 16384", "0 next 0 = pipefull", "0 leave = quiet"] + enters(0, "80") + [
+        "0 next 0 = request 0 0 16384", "0 next 0 = request 0 16384 16384"]),
+    "smaller_depth": ("many_blocks", 1, blocks_asked(3) + [
+        "0 depth 2 = quiet", "0 next 0 = pipefull", "0 block 0 0 X = stored", "0 next 0 = pipefull", "0 block 0 16384 X = stored",
+        "0 next 0 = request 0 49152 16384", "0 next 0 = pipefull"]),
+    "one_asker": ("one_piece", 2, enters(0, "80") + enters(1, "80") + [
+        "0 next 0 = request 0 0 3", "1 next 0 = idle", "0 release 0 0 = quiet", "1 next 0 = request 0 0 3", "0 next 0 = idle"]),
+    "two_askers": ("one_piece", 3, ENDGAME + enters(2, "80") + [
+        "2 next 0 = idle", "1 choke = quiet", "2 next 0 = request 0 0 3"]),
+    "no_depth_may_be_told": ("short_last", 1, ["0 join = joined", "0 depth 1 = refused WrongDepth"]),
+    "greatest_depth": ("short_last", 1, ["0 join = joined", "0 depth 4097 = refused WrongDepth", "0 depth 4096 = quiet"]),
+    "refusals_of_release_and_depth": ("short_last", 2, [
+        "0 release 0 0 = refused NotJoined", "0 depth 3 = refused NotJoined", "0 join = joined", "0 bits e0 = noted yes",
+        "0 unchoke = quiet", "0 release 0 0 = refused NotAsked", "0 next 0 = request 0 0 3"] + enters(1, "80") + [
+        "1 release 0 0 = refused NotAsked", "0 release 0 1 = refused NotAsked", "0 release 9 0 = refused NotAsked",
+        "0 depth 0 = refused WrongDepth", "0 depth 65 = refused WrongDepth", "0 depth 64 = quiet", "0 release 0 0 = quiet",
+        "0 release 0 0 = refused NotAsked"]),
+    "haves_after_a_bitfield": ("short_last", 1, [
+        "0 join = joined", "0 bits 80 = noted yes", "0 haves 40 = noted yes", "0 unchoke = quiet", "0 next 0 = request 1 0 3"]
+        + checked(0, 1, "616263") + ["0 next 0 = request 0 0 3", "0 next 0 = idle"]),
+    "haves_after_a_have": ("short_last", 1, [
+        "0 join = joined", "0 have 2 = noted yes", "0 haves 80 = noted yes", "0 bits e0 = refused LateBits", "0 unchoke = quiet",
+        "0 next 0 = request 2 0 1", "0 next 0 = request 0 0 3", "0 next 0 = idle"]),
+    "haves_of_none": ("short_last", 2, [
+        "0 haves e0 = refused NotJoined", "0 join = joined", "0 shown 0000 = refused WrongCount", "0 haves 00 = noted no",
+        "0 bits e0 = refused LateBits", "0 unchoke = quiet", "0 next 0 = nothing", "1 join = joined", "1 bits 80 = noted yes",
+        "1 haves 00 = noted yes", "1 unchoke = quiet", "1 next 0 = request 0 0 3"]),
+    "haves_are_counted": ("short_last", 2, enters(0, "e0") + [
+        "1 join = joined", "1 bits 80 = noted yes", "1 haves 20 = noted yes", "0 next 0 = request 1 0 3"]),
 }
 
 WRONG = {  # name: example, how many entries of it came before, the wrong entry
@@ -151,13 +206,42 @@ WRONG = {  # name: example, how many entries of it came before, the wrong entry
     "unwanted_block_keeps_endgame_off": ("endgame_of_the_wanted", 8, "1 next 0 = idle"),
     "bits_late_by_a_want": ("want_before_the_bits", 2, "0 bits e0 = refused LateBits"),
     "unwanted_block_freed": ("asked_stays_asked", 10, "0 next 0 = request 0 0 3"),
+    "idle_though_another_peer_released": ("released_is_asked_elsewhere", 9, "1 next 0 = idle"),
+    "cancel_of_what_another_peer_released": ("released_in_endgame", 9, "1 next 0 = cancel 0 0 3"),
+    "cancel_of_a_released_block": ("released_in_endgame", 11, "0 next 0 = cancel 0 0 3"),
+    "released_piece_continued": ("released_piece_is_unbegun", 6, "0 next 0 = request 0 16384 16384"),
+    "idle_though_released": ("released_is_asked_again", 6, "0 next 0 = idle"),
+    "released_block_dropped": ("released_arrives_after_all", 5, "0 block 0 0 X = dropped"),
+    "second_request_at_a_depth_of_one": ("depth_of_one", 5, "0 next 0 = request 0 16384 16384"),
+    "pipe_full_though_deepened": ("deepened", 10, "0 next 0 = pipefull"),
+    "depth_forgotten_at_a_choke": ("depth_outlasts_a_choke", 11, "0 next 0 = request 0 32768 16384"),
+    "depth_outlasts_its_peer": ("depth_goes_with_its_peer", 11, "0 next 0 = pipefull"),
+    "request_beyond_a_smaller_depth": ("smaller_depth", 7, "0 next 0 = request 0 49152 16384"),
+    "pipe_full_though_enough_came": ("smaller_depth", 11, "0 next 0 = pipefull"),
+    "second_asker_of_one": ("one_asker", 7, "1 next 0 = request 0 0 3"),
+    "third_asker_of_two": ("two_askers", 11, "2 next 0 = request 0 0 3"),
+    "second_asker_of_two_idle": ("two_askers", 7, "1 next 0 = idle"),
+    "depth_told_though_none_may_be": ("no_depth_may_be_told", 1, "0 depth 1 = quiet"),
+    "depth_beyond_any": ("greatest_depth", 1, "0 depth 4097 = quiet"),
+    "unasked_block_released": ("refusals_of_release_and_depth", 5, "0 release 0 0 = quiet"),
+    "block_of_another_peer_released": ("refusals_of_release_and_depth", 10, "1 release 0 0 = quiet"),
+    "depth_of_none_told": ("refusals_of_release_and_depth", 13, "0 depth 0 = quiet"),
+    "depth_beyond_the_rules_told": ("refusals_of_release_and_depth", 14, "0 depth 65 = quiet"),
+    "block_released_twice": ("refusals_of_release_and_depth", 17, "0 release 0 0 = quiet"),
+    "idle_though_the_bitfield_shows_more": ("haves_after_a_bitfield", 5, "0 next 0 = idle"),
+    "nothing_left_though_the_bitfield_shows_more": ("haves_after_a_bitfield", 7, "0 next 0 = nothing"),
+    "bits_after_haves_noted": ("haves_after_a_have", 3, "0 bits e0 = noted yes"),
+    "haves_noted_without_the_bits": ("haves_of_none", 9, "1 haves 00 = noted no"),
+    "availability_without_the_haves": ("haves_are_counted", 6, "0 next 0 = request 2 0 1"),
 }
 
 WHERE_BLOCKS_MAY_BE_NAMED = {  # wrong entries in whose place the rules allow a request or a cancel; elsewhere they allow one reply alone
     "idle_though_a_block_is_usable", "second_piece_started_while_a_begun_one_has_a_usable_block", "availability_counts_a_peer_that_left",
     "commoner_piece_started", "idle_though_a_cancel_is_due", "pipe_full_after_four", "pipe_full_at_depth_two_after_one",
     "pipe_full_at_five_though_deep", "first_piece_at_random_though_none_is", "third_piece_at_random",
-    "unwanted_block_keeps_endgame_off",
+    "unwanted_block_keeps_endgame_off", "idle_though_another_peer_released", "released_piece_continued", "idle_though_released",
+    "pipe_full_though_deepened", "depth_outlasts_its_peer", "pipe_full_though_enough_came", "second_asker_of_two_idle",
+    "idle_though_the_bitfield_shows_more", "nothing_left_though_the_bitfield_shows_more", "availability_without_the_haves",
 }
 
 WRONG_IN_AUDITS = {  # example: how many entries of it came before, the wrong entry; for the examples that have none above
@@ -176,8 +260,14 @@ WRONG_IN_AUDITS = {  # example: how many entries of it came before, the wrong en
 def setting(name):
     """The setting of an example, by the definitions."""
     torrent, workers, _ = EXAMPLES[name]
-    rules = "(rules {} {})".format(*RULES[name]) if name in RULES else "usual_rules"
-    return f"(setting_of torrent_{torrent} {workers} {rules})"
+    return f"(setting_of torrent_{torrent} {workers} {rules(name)})"
+
+
+def rules(name):
+    """The rules of an example, by the definitions."""
+    chosen = RULES.get(name, ())
+    function = {0: "usual_rules", 2: "rules", 4: "bounded_rules"}[len(chosen)]
+    return f"({' '.join([function, *map(str, chosen)])})" if chosen else function
 
 
 def items(xs):
@@ -205,7 +295,11 @@ def action(words, pieces):
         case ["flags", text]: return f"(Bits {flags(text, len(text))})"
         case ["want", text]: return f"(Want {flags(text, pieces)})"
         case ["wants", text]: return f"(Want {flags(text, len(text))})"
+        case ["haves", text]: return f"(Haves {flags(text, pieces)})"
+        case ["shown", text]: return f"(Haves {flags(text, len(text))})"
         case ["have", piece]: return f"(Have {piece})"
+        case ["depth", depth]: return f"(Depth {depth})"
+        case ["release", piece, begin]: return f"(Release {piece} {begin})"
         case ["next", word]: return f"(Next {word})"
         case ["block", piece, begin, text]: return f"(Arrived {piece} {begin} {in_bytes(text)})"
         case ["settle", piece, text]: return f"(Settle {piece} {in_bytes(text)})"
@@ -233,16 +327,48 @@ def evidence(line):
     return "allowed"
 
 
-def clause(text):
-    return text + "\n"
+def imports(line, width):
+    """The import as lines that are not too long: of a list of names, so many on each."""
+    if len(line) <= width:
+        return line
+    path, names = line.rstrip("};").split("{")
+    end = line[len(line.rstrip("};")):]
+    lines, row = [], []
+    for name in names.split(", "):
+        if row and len(path) + len(", ".join([*row, name])) + 1 + len(end) > width:
+            lines.append(row)
+            row = []
+        row.append(name)
+    return "\n".join(f"{path}{{{', '.join(row)}{end}" for row in [*lines, row])
+
+
+def laid_out(text, width):
+    """The text with no import of a list that is too long."""
+    return "\n".join(imports(line, width) if line.startswith(("use ", "ghost use ")) and line.rstrip(";").endswith("}") else line for line in text.split("\n"))
+
+
+def folded(line):
+    """A line of words, the next lines of it behind a margin."""
+    lines = [""]
+    for word in line.split(" "):
+        if len(lines[-1]) + len(word) > 155:
+            lines.append("   ")
+        lines[-1] += f" {word}" if lines[-1] else word
+    return "\n".join(lines)
+
+
+def digest(hexadecimal):
+    """A digest in two rows."""
+    rows = [" ∷ ".join(f"0x{hexadecimal[i:i + 2]}" for i in range(start, start + 20, 2)) for start in (0, 20)]
+    return f"({rows[0]}\n          ∷ {rows[1]} ∷ [])"
 
 
 def main():
     spec = open("tools/examples_head.antt.txt").read()
     for name, (piece_length, total, hashes) in TORRENTS.items():
-        digests = items(["(" + items([f"0x{h[i:i + 2]}" for i in range(0, 40, 2)]) + ")" for h in hashes])
-        spec += (f"abbrev pub torrent_{name} : Layout\ntorrent_{name} =\n    record {{ piece_length = {piece_length}; total = {total};"
-                 f" hashes = {digests} }}\n\n")
+        digests = "\n        ∷ ".join([*map(digest, hashes), "[]"])
+        spec += (f"abbrev pub torrent_{name} : Layout\ntorrent_{name} =\n    record {{\n      piece_length = {piece_length};\n"
+                 f"      total = {total};\n      hashes = {digests};\n    }}\n\n")
     proofs = open("tools/example_proofs_head.antt.txt").read()
     for name, (torrent, workers, lines) in EXAMPLES.items():
         spec += f"abbrev pub {name} : List Event\n{name} =\n    " + "\n    ∷ ".join(entry(line, torrent) for line in lines) + "\n    ∷ []\n\n"
@@ -258,11 +384,11 @@ def main():
         spec += f"abbrev pub {name} : Event\n{name} = {entry(line, torrent)}\n\n"
         proofs += (f"pub {name}_wrong :\n    ¬ IsAllowed {setting(example)} (reverse (take {before} {example})) {name}\nUNFOLDING\n"
                    f"{name}_wrong h = {wrong(name, torrent, line)}\n\n")
-    unfolding = open("tools/example_unfolding.txt").read().strip()
-    names = ["entry", "rules", "block_of", *(f"torrent_{name}" for name in TORRENTS), *EXAMPLES, *WRONG]
-    open("crates/bt_history/specs/Examples.antt", "w").write(spec.rstrip() + "\n")
+    unfolding = folded(open("tools/example_unfolding.txt").read().strip())
+    names = ["entry", "rules", "bounded_rules", "block_of", *(f"torrent_{name}" for name in TORRENTS), *EXAMPLES, *WRONG]
+    open("crates/bt_history/specs/Examples.antt", "w").write(laid_out(spec.rstrip(), 150) + "\n")
     proofs = proofs.replace("UNFOLDING", unfolding).replace("NAMES", ", ".join(names))
-    open("crates/bt_history/proofs/ExampleProofs.antt", "w").write(proofs.rstrip() + "\n")
+    open("crates/bt_history/proofs/ExampleProofs.antt", "w").write(laid_out(proofs.rstrip(), 150) + "\n")
     rust()
 
 
@@ -297,14 +423,14 @@ def rust():
     text += "{\n}\n"
     names = [*(f"torrent_{name}" for name in TORRENTS), *EXAMPLES, *WRONG]
     text = text.replace("NAMES", ", ".join(names))
-    open("crates/bt_history/src/examples.rt", "w").write(text)
+    open("crates/bt_history/src/examples.rt", "w").write(laid_out(text, 140))
     for function, suffix, group in (("worked_examples", "legal", EXAMPLES), ("wrong_replies", "wrong", WRONG)):
         folder = f"crates/bt_history/proofs/examples/{function}"
         os.makedirs(folder, exist_ok=True)
         answers = f"use Rattle.bt_history.proofs.ExampleProofs.{{{', '.join(f'{name}_{suffix}' for name in group)}}}\n"
         answers += f"use Rattle.bt_history.proofs.examples.{function}.Goals as goal\n\npub returns : goal.returns\nreturns c = record {{\n"
         answers += "".join(f"  {name} = {name}_{suffix};\n" for name in group) + "}\n"
-        open(f"{folder}/Answers.antt", "w").write(answers)
+        open(f"{folder}/Answers.antt", "w").write(laid_out(answers, 150))
 
 
 def plain(text):
@@ -318,6 +444,7 @@ def plain_line(line):
     match call.split():
         case [worker, "flags", text]: call = f"{worker} no-bits-of {len(text)}"
         case [worker, "wants", text]: call = f"{worker} want-none-of {len(text)}"
+        case [worker, "shown", text]: call = f"{worker} haves-none-of {len(text)}"
         case [*words, "block", piece, begin, text]: call = " ".join([*words, "block", piece, begin, plain(text)])
         case [*words, "settle", piece, text]: call = " ".join([*words, "settle", piece, plain(text)])
     return f"{call} = {reply}"
@@ -330,11 +457,11 @@ def audits():
         wrongs = [(before, line) for example, before, line in WRONG.values() if example == name]
         wrongs += [WRONG_IN_AUDITS[name]] if name in WRONG_IN_AUDITS else []
         contents = " ".join({ABC: "abc", A: "a", MILLION: "million"}[h] for h in hashes)
-        depth, random = RULES.get(name, USUAL)
+        depth, random, askers, deepest = (*RULES.get(name, USUAL), MOST_WORKERS, MOST_DEPTH)[:4]
         texts.append("\n".join([
             name.replace("_", " "),
             f"{piece_length} {total} {contents}",
-            f"{workers} {depth} {random}",
+            f"{workers} {depth} {random} {askers} {deepest}",
             *(plain_line(line) for line in lines),
             "but",
             *(f"{before} {plain_line(line)}" for before, line in wrongs),

@@ -3,7 +3,7 @@
 
     tools/fuzz.py [INPUTS [SEED]]
 
-10,000 inputs and the seed 1 where they aren't said. Each run has to end by a status of its command's list (docs/NUMBERS.md), without a
+10,000 inputs and the seed 1 where they aren't said. Each run has to end by a status of its command's list (docs/ERRORS.md), without a
 signal, and a run of recordings has to find its journal sound. An input that goes wrong is kept in the folder that is printed.
 """
 
@@ -131,6 +131,9 @@ def line(rng):
         lambda: "have " + number(rng), lambda: "next " + str(rng.randrange(2**64)), lambda: "next " + number(rng),
         lambda: f"block {number(rng)} {number(rng)} " + rng.choice(["616263", "616263", "61", "616264", "", "6"]),
         lambda: "settle " + number(rng), lambda: "want " + rng.choice(["e0", "40", "00", "c0", "e1"]),
+        lambda: "haves " + rng.choice(["e0", "40", "00", "20", "e1", "e000", ""]),
+        lambda: f"depth {rng.choice([0, 1, 1, 2, 3, 64, 65])}", lambda: "depth " + number(rng),
+        lambda: f"release {rng.randrange(4)} 0", lambda: f"release {number(rng)} {number(rng)}",
     ])()
 
 

@@ -5,7 +5,7 @@ ghost use Rattle.std.specs.Prelude.{◌≡◌, ◌<◌, ◌≤◌, IfOk};
 use crate::mix::Mix;
 use anyhow::{Result, ensure};
 use bt_meta::{Bitfield, Block, Torrent};
-use bt_picker::{Call, Desk, Job, MOST_DEPTH, Reply, Rules};
+use bt_picker::{Call, Desk, Job, MOST_DEPTH, MOST_WORKERS, Reply, Rules};
 use std::alloc::Global;
 use std::sync::Arc;
 
@@ -50,6 +50,8 @@ impl Workload {
         let rules = Rules {
             depth: self.depth.max(1),
             random: torrent.piece_count().min(1),
+            askers: MOST_WORKERS,
+            deepest: MOST_DEPTH,
         };
         Ok(Desk::new(alloc, Arc::new(alloc, torrent)?, workers, rules)?)
     }

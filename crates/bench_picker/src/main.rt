@@ -8,6 +8,7 @@ mod zeros;
 
 use anyhow::{Result, bail};
 use bitfields::Bitfields;
+use bt_picker::MOST_WORKERS;
 use std::env;
 use std::rt::Runtime;
 use std::time::{CpuClock, Duration};
@@ -19,6 +20,9 @@ const USUAL_PIECES: u32 = 1_000;
 /// So many peers come where it says nothing.
 const USUAL_PEERS: u32 = 51;
 
+/// So many blocks are asked of a peer at a time where it says nothing.
+const USUAL_DEPTH: u32 = 5;
+
 /// So many asks that give nothing are timed in the end.
 const DRY_ASKS: u32 = 1_000_000;
 
@@ -28,6 +32,8 @@ struct Plan {
     pieces: u32,
     halvings: u32,
     peers: u32,
+    depth: u32,
+    askers: u32,
     is_timed: bool,
 }
 
@@ -46,7 +52,7 @@ fn main(rt: HostRuntime) -> Result<()> {
 /// Plays the download, and prints its counts.
 fn obey<R: Runtime + AllocGlobal + CpuClock>(rt: &R) -> Result<()> {
     let plan = asked(rt)?;
-    let mut swarm = Swarm::new(rt.alloc(), plan.pieces, plan.peers)?;
+    let mut swarm = Swarm::new(rt.alloc(), plan.pieces, plan.peers, plan.depth, plan.askers)?;
     let come = come(rt, &plan, &mut swarm)?;
     let start = rt.thread_cpu_time()?;
     swarm.run();
@@ -66,8 +72,8 @@ fn obey<R: Runtime + AllocGlobal + CpuClock>(rt: &R) -> Result<()> {
     Ok(())
 }
 
-/// The words are the number of pieces, how often the pieces that a peer shows are halved, the number of peers, and `times`, with which times
-/// are printed too. Each of them may be left out.
+/// The words are the number of pieces, how often the pieces that a peer shows are halved, the number of peers, how many blocks are asked of
+/// each at a time, of how many peers one block is asked in endgame, and `times`, with which times are printed too. Each may be left out.
 fn asked<R: Runtime + AllocGlobal>(rt: &R) -> Result<Plan> {
     let words: Vec<String> = env::args(rt)?.collect(rt.alloc())?;
     let is_timed = match words.last() {
@@ -75,14 +81,16 @@ fn asked<R: Runtime + AllocGlobal>(rt: &R) -> Result<Plan> {
         None => false,
     };
     let count = words.len() - usize::from(is_timed);
-    if count > 4 {
-        bail!("there are three numbers at most, and `times` behind them");
+    if count > 6 {
+        bail!("there are five numbers at most, and `times` behind them");
     }
     let numbers = &words[..count];
     Ok(Plan {
         pieces: number(numbers.get(1), USUAL_PIECES)?,
         halvings: number(numbers.get(2), 0)?,
         peers: number(numbers.get(3), USUAL_PEERS)?,
+        depth: number(numbers.get(4), USUAL_DEPTH)?,
+        askers: number(numbers.get(5), MOST_WORKERS)?,
         is_timed,
     })
 }

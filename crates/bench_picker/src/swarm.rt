@@ -7,12 +7,6 @@ use bt_meta::{Bitfield, Block};
 use bt_picker::Reply;
 use std::alloc::{AllocError, Global};
 
-/// So many blocks are asked of a peer at a time.
-const DEPTH: u32 = 5;
-
-/// Asks of one turn: more cancels than these are never due at a peer.
-const MOST_ASKS: u32 = 65;
-
 /// Where the words of the asks begin.
 const ASK_SEED: u64 = 2;
 
@@ -41,17 +35,18 @@ pub struct Swarm {
     peers: Vec<Peer>,
     counts: Counts,
     pieces: u32,
+    depth: u32,
 }
 
 impl Swarm {
-    /// With no peer yet, of so many.
-    pub fn new(alloc: Global, pieces: u32, peers: u32) -> Result<Swarm> {
+    /// With no peer yet, of so many. At most `depth` blocks are asked of each at a time, and one block of at most `askers` in endgame.
+    pub fn new(alloc: Global, pieces: u32, peers: u32, depth: u32, askers: u32) -> Result<Swarm> {
         let fresh = Peer {
             active: true,
             dry: false,
         };
         Ok(Swarm {
-            zeros: Zeros::new(alloc, pieces, peers, DEPTH)?,
+            zeros: Zeros::new(alloc, pieces, peers, depth, askers)?,
             words: Mix::new(ASK_SEED),
             peers: vec![in alloc; fresh; peers as usize]?,
             counts: Counts {
@@ -61,6 +56,7 @@ impl Swarm {
                 picks: 0,
             },
             pieces,
+            depth,
         })
     }
 
@@ -72,6 +68,7 @@ impl Swarm {
     /// A peer comes, and shows these pieces.
     pub fn come(&mut self, worker: u32, shown: &Bitfield) {
         self.zeros.come(worker, shown);
+        self.zeros.deepen(worker, self.depth);
     }
 
     /// Asks what to say to the first peer, and does nothing of it.
@@ -106,7 +103,7 @@ impl Swarm {
         if !peer.active || self.counts.had >= self.pieces {
             return;
         }
-        let least = if peer.dry { 0 } else { DEPTH };
+        let least = if peer.dry { 0 } else { self.depth };
         if let Some(block) = self.zeros.oldest(worker, least as usize) {
             self.arrive(worker, &block);
         }
@@ -140,10 +137,10 @@ impl Swarm {
         }
     }
 
-    /// Asks until the reply is no cancel.
+    /// Asks until the reply is no cancel: no more cancels are due at a peer than blocks may be asked of it.
     #[inline(always)]
     fn ask(&mut self, worker: u32) -> Reply {
-        for _ in 0..MOST_ASKS {
+        for _ in 0..=self.depth {
             self.counts.asks = self.counts.asks.wrapping_add(1);
             let reply = self.zeros.next(worker, self.words.next_word());
             if !matches!(reply, Reply::Cancel(_)) {

@@ -7,7 +7,7 @@ ghost use Rattle.sha1.specs.Sha1.{sha1};
 
 use anyhow::{Result, bail};
 use bt_meta::{BLOCK_SIZE, Bitfield, Block, Torrent};
-use bt_picker::{Picker, Reply, Rules, Told};
+use bt_picker::{MOST_DEPTH, MOST_TOLD_DEPTH, Picker, Reply, Rules, Told};
 use sha1::Sha1;
 use std::alloc::Global;
 use std::marker::Model;
@@ -55,7 +55,7 @@ impl Model for Zeros {
 
 impl Zeros {
     /// With no peer yet.
-    pub fn new(alloc: Global, pieces: u32, workers: u32, depth: u32) -> Result<Zeros> {
+    pub fn new(alloc: Global, pieces: u32, workers: u32, depth: u32, askers: u32) -> Result<Zeros> {
         let digest = digest_of(alloc, PIECE_LEN)?;
         let hashes = vec![in alloc; digest; pieces as usize]?;
         let total = PIECE_BYTES * u64::from(pieces);
@@ -65,8 +65,8 @@ impl Zeros {
         {
             bail!("a torrent of other pieces");
         }
-        if workers == 0 || workers > 1_024 || depth == 0 || depth > 64 {
-            bail!("there are 1 to 1,024 workers, and 1 to 64 blocks are asked of each");
+        if workers == 0 || workers > 1_024 || depth == 0 || depth > MOST_TOLD_DEPTH {
+            bail!("there are 1 to 1,024 workers, and 1 to 4,096 blocks are asked of each");
         }
         let random = torrent.piece_count().min(1);
         Ok(Zeros {
@@ -74,7 +74,12 @@ impl Zeros {
                 alloc,
                 Arc::new(alloc, torrent)?,
                 workers,
-                Rules { depth, random },
+                Rules {
+                    depth: depth.min(MOST_DEPTH),
+                    random,
+                    askers,
+                    deepest: depth,
+                },
             )?,
             block: zero_bytes(alloc, BLOCK_SIZE)?,
             digest,
@@ -99,6 +104,13 @@ impl Zeros {
         let _joined = self.tell(worker, Told::Join);
         let _noted = self.tell(worker, Told::Bits(shown));
         let _quiet = self.tell(worker, Told::Unchoke);
+    }
+
+    /// So many blocks may be asked of the peer at a time, where that is more than the rules' own number can be.
+    pub fn deepen(&mut self, worker: u32, depth: u32) {
+        if depth > MOST_DEPTH {
+            let _quiet = self.tell(worker, Told::Depth(depth));
+        }
     }
 
     /// What to say to the peer.

@@ -5,7 +5,7 @@ use Rattle.std.specs.declared.result.Result.TheVariants.{Ok, Err}
 use Rattle.bt_meta.specs.declared.block.Block.{Block}
 use Rattle.bt_meta.specs.Layout.{block_count, piece_count, piece_len}
 use Rattle.bt_history.specs.Legal.{IsLegal}
-use Rattle.bt_history.specs.Peers.{outstanding}
+use Rattle.bt_history.specs.Peers.{outstanding, depth_so_far}
 use Rattle.bt_history.specs.Pieces.{availability, content, had, wanted}
 use Rattle.bt_picker.specs.Contents.{complete, has_wanted}
 use Rattle.bt_picker.specs.Positions.{DeskState}
@@ -52,9 +52,9 @@ SaysOfPiece d p n (Ok x) = IsPiece d p × (x ≡ n)
 SaysOfPiece d p n (Err Piece) = IsPiece d p → ⊥
 SaysOfPiece d p n (Err f) = ⊥
 
--- how many blocks are asked of worker w's peer, which are no more than the depth
+-- how many blocks are asked of worker w's peer, which are no more than the greatest depth that it had since nothing was asked of it
 abbrev pub CountsOutstanding : DeskState → ℕ → Result ℕ Fault → Type 0
-CountsOutstanding d w (Ok x) = IsWorker d w × (x ≡ count_of_peer d w) × (x ≤ d.setting.depth)
+CountsOutstanding d w (Ok x) = IsWorker d w × (x ≡ count_of_peer d w) × (x ≤ depth_so_far d.setting d.history w)
 CountsOutstanding d w (Err Worker) = IsWorker d w → ⊥
 CountsOutstanding d w (Err f) = ⊥
 

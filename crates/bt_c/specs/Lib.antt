@@ -2,6 +2,7 @@ pub mod Handles
 pub mod Answers
 pub mod Statuses
 pub mod Outcomes
+pub mod Rules
 pub mod Opening
 pub mod Calling
 pub mod Asking

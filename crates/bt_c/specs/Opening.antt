@@ -18,10 +18,6 @@ use Rattle.bt_c.specs.Outcomes.{Done, status_of}
 abbrev pub AreWorkers : ℕ → Type 0
 AreWorkers w = (1 ≤ w) × (w ≤ MOST_WORKERS)
 
--- the choices that a download may make of the rules
-abbrev pub rules : ℕ → ℕ → Choice
-rules depth random = record { depth = depth; random = random }
-
 -- digests of 20 bytes, one behind the other
 abbrev pub digests_in : List ℕ → List (List ℕ)
 digests_in bytes = first_chunks 20 (length bytes / 20) bytes

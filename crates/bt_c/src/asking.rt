@@ -74,7 +74,7 @@ impl Held {
         if worker >= self.desk.workers() {
             return Err(Fault::Worker);
         }
-        // They fit, since in a legal journal they are no more than the depth.
+        // They fit, since in a legal journal they are no more than the greatest depth that can be told.
         let _legal = self.desk.journal();
         Ok(self.desk.outstanding(worker).len() as u32)
     }

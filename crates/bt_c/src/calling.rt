@@ -76,6 +76,19 @@ impl Held {
         }
     }
 
+    /// Tells which pieces the peer has too, spelled as a `bitfield` message spells them.
+    pub fn haves(&mut self, alloc: Global, worker: u32, bytes: &[u8]) -> Result<Reply, Fault>
+        ensures { MakesFlags self.old.desk self.new.desk worker bytes.now actions.Haves result }
+    {
+        if worker >= self.desk.workers() {
+            return Err(Fault::Worker);
+        }
+        match flags_of(alloc, bytes, self.desk.torrent().piece_count()) {
+            Ok(flags) => self.call(worker, Call::Haves(flags)),
+            Err(fault) => Err(fault),
+        }
+    }
+
     /// Brings a block, of which it keeps a copy.
     pub fn arrived(
         &mut self,

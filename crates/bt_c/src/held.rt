@@ -1,6 +1,7 @@
 //! The desk that stands behind a handle.
 
 ghost use Rattle.bt_history.specs.Setting.{AreRules};
+ghost use Rattle.bt_c.specs.Rules.{rules_of_setting};
 
 use bt_picker::Desk;
 
@@ -8,5 +9,5 @@ use bt_picker::Desk;
 #[derive(Drop)]
 pub struct Held {
     pub desk: Desk,
-    ghost are_rules: { AreRules desk.setting.torrent (record { depth = desk.setting.depth; random = desk.setting.random }) },
+    ghost are_rules: { AreRules desk.setting.torrent (rules_of_setting desk.setting) },
 }

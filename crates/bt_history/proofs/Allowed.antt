@@ -1,7 +1,7 @@
 -- What an entry that is allowed shows of the history before it.
 use Rattle.std.proofs.Common.{◌≡◌, ◌≢◌, ◌⊎◌, ℕ, ◌==◌, ◌<◌, Bool, true, false, not, ◌&&◌, ◌||◌, List, [], ◌∷◌, Option, None, Some, refl, ap, sym}
 use Rattle.std.proofs.Common.{◌∙◌, subst, inl, inr, ⊎_elim}
-use Rattle.std.specs.Prelude.{if◌then◌else◌, nat_le}
+use Rattle.std.specs.Prelude.{if◌then◌else◌, nat_le, nat_lt}
 use Rattle.std.proofs.lemmas.Bool.{and_parts, not-true, not-false, or_parts, leb-false, eqb-true}
 use Rattle.bt_meta.specs.declared.block.Block.{Block}
 use Rattle.bt_meta.specs.Layout.{Layout, piece_count, hash_of}
@@ -12,12 +12,12 @@ use Rattle.bt_history.specs.declared.call.Reply.{Reply}
 use Rattle.bt_history.specs.declared.call.Reply.TheVariants.{Joined, Quiet, Cancel, Request, Choked, PipeFull, Idle, NothingLeft, Stored}
 use Rattle.bt_history.specs.declared.call.Reply.TheVariants.{Completed, Dropped, Had, Failed, Refused}
 use Rattle.bt_history.specs.declared.event.Action.{Action}
-use Rattle.bt_history.specs.declared.event.Action.TheVariants.{Join, Bits, Have, Choke, Unchoke, Next, Arrived, Settle, Leave, Want}
+use Rattle.bt_history.specs.declared.event.Action.TheVariants.{Join, Bits, Have, Choke, Unchoke, Next, Arrived, Settle, Leave, Want, Haves, Depth, Release}
 use Rattle.bt_history.specs.declared.event.Event.{Event}
 use Rattle.bt_history.specs.Setting.{Setting, some_block, some_block_of, each_block_of, is_block}
 use Rattle.bt_history.specs.History.{History, settles, is_had, is_failed}
-use Rattle.bt_history.specs.Peers.{asked, asked_count, due}
-use Rattle.bt_history.specs.Pieces.{held, full, content, had, asked_of_some, unasked, wanted, endgame, begun}
+use Rattle.bt_history.specs.Peers.{asked, asked_count, due, depth_of}
+use Rattle.bt_history.specs.Pieces.{held, full, content, had, asked_of_some, asker_count, unasked, wanted, endgame, begun}
 use Rattle.bt_history.specs.Next.{Answer, Exactly, usable, continues, starts, doubles, next_answer}
 use Rattle.bt_history.specs.Legal.{same_bytes, first_cause, refusal, answer, answer_unless, arrived_answer, settled_answer, Permits, IsAllowed}
 use Rattle.bt_history.specs.Logs.{answers, answers_next, answers_arrived, call_mark}
@@ -89,6 +89,9 @@ allowed_answers s h e allowed = by_call e.action allowed.1 where
     settled_fits false is = exactly s.torrent (refusal s h e.worker (Settle p bytes)) Failed e.reply (Settle p bytes) refl is
   by_call Leave is = exactly s.torrent (refusal s h e.worker Leave) Quiet e.reply Leave refl is
   by_call (Want flags) is = exactly s.torrent (refusal s h e.worker (Want flags)) Quiet e.reply (Want flags) refl is
+  by_call (Haves flags) is = exactly s.torrent (refusal s h e.worker (Haves flags)) _ e.reply (Haves flags) refl is
+  by_call (Depth n) is = exactly s.torrent (refusal s h e.worker (Depth n)) Quiet e.reply (Depth n) refl is
+  by_call (Release p begin) is = exactly s.torrent (refusal s h e.worker (Release p begin)) Quiet e.reply (Release p begin) refl is
 
 -- ---- refusals
 
@@ -122,8 +125,9 @@ pub record RequestFacts (s : Setting) (h : History) (w : ℕ) (b : Block) : Type
   pub not_asked : asked h w b ≡ false
   pub not_held : held h b ≡ false
   pub none_due : some_block s.torrent (due h w) ≡ false
-  pub room : asked_count s h w < s.depth
+  pub room : asked_count s h w < depth_of s h w
   pub alone : (asked_of_some s h b ≡ false) ⊎ (endgame s h ≡ true)
+  pub few : (asked_of_some s h b ≡ false) ⊎ (nat_lt (asker_count s h b) s.askers ≡ true)
 
 unasked_facts : (s : Setting) (h : History) (b : Block) → unasked s h b ≡ true → (held h b ≡ false) × (asked_of_some s h b ≡ false)
 unasked_facts s h b is = or_parts (held h b) (asked_of_some s h b) (not-true _ is)
@@ -132,20 +136,24 @@ request_kind : (s : Setting) (h : History) (w : ℕ) (b : Block) → w < s.worke
     → (continues s h w b ≡ true) ⊎ ((starts s h w b ≡ true) ⊎
     (((endgame s h && some_block s.torrent (doubles s h w)) ≡ true) × (doubles s h w b ≡ true)))
     → (asked h w b ≡ false) × (held h b ≡ false) × ((asked_of_some s h b ≡ false) ⊎ (endgame s h ≡ true))
+    × ((asked_of_some s h b ≡ false) ⊎ (nat_lt (asker_count s h b) s.askers ≡ true))
 request_kind s h w b lt kind = ⊎_elim
     (λ (on : continues s h w b ≡ true). from_usable (and_parts (usable s h w b) (begun s h b.piece) on).0)
     (λ rest. ⊎_elim
     (λ (first : starts s h w b ≡ true). from_usable (and_parts (usable s h w b) _ first).0)
     (λ (both : ((endgame s h && some_block s.torrent (doubles s h w)) ≡ true) × (doubles s h w b ≡ true)).
     let ending = (and_parts (endgame s h) _ both.0).0 in
-    let lacking = (and_parts (not (held h b)) (not (asked h w b)) (and_parts _ _ (and_parts (wanted s h b.piece) _ both.1).1).1) in
-    (not-true (asked h w b) lacking.1, not-true (held h b) lacking.0, inr ending))
+    let lacking = and_parts (not (held h b)) (nat_lt (asker_count s h b) s.askers && not (asked h w b))
+    (and_parts _ _ (and_parts (wanted s h b.piece) _ both.1).1).1 in
+    let free = and_parts (nat_lt (asker_count s h b) s.askers) (not (asked h w b)) lacking.1 in
+    (not-true (asked h w b) free.1, not-true (held h b) lacking.0, inr ending, inr free.0))
     rest)
     kind where
       from_usable : usable s h w b ≡ true → (asked h w b ≡ false) × (held h b ≡ false) × ((asked_of_some s h b ≡ false) ⊎ (endgame s h ≡ true))
+          × ((asked_of_some s h b ≡ false) ⊎ (nat_lt (asker_count s h b) s.askers ≡ true))
       from_usable is =
           let free = unasked_facts s h b (and_parts (unasked s h b) _ is).0 in
-          (any_fails s.workers (λ q. asked h q b) w free.1 lt, free.0, inl free.1)
+          (any_fails s.workers (λ q. asked h q b) w free.1 lt, free.0, inl free.1, inl free.1)
 
 next_facts : (s : Setting) (h : History) (w : ℕ) (b : Block) → w < s.workers → Permits s.torrent (next_answer s h w) (Request b) →
     RequestFacts s h w b
@@ -157,8 +165,9 @@ next_facts s h w b lt is =
       not_asked = kind.0;
       not_held = kind.1;
       none_due = facts.none_due;
-      room = leb-false s.depth (asked_count s h w) facts.room;
+      room = leb-false (depth_of s h w) (asked_count s h w) facts.room;
       alone = kind.2;
+      few = kind.3;
     }
 
 -- only Next is replied by a request

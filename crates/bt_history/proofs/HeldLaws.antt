@@ -13,7 +13,7 @@ use Rattle.bt_history.specs.declared.call.Reply.TheVariants.{Had, Failed, Reques
 use Rattle.bt_history.specs.declared.event.Event.{Event}
 use Rattle.bt_history.specs.Setting.{Setting, is_block, each_block, each_block_of}
 use Rattle.bt_history.specs.History.{History, own_call, same_begin, stored, stores, bytes_for, failed, is_failed, is_had, settles, passed, requested}
-use Rattle.bt_history.specs.Peers.{asked, asks, resets, outstanding}
+use Rattle.bt_history.specs.Peers.{asked, asks, resets, lasts, outstanding}
 use Rattle.bt_history.specs.Pieces.{kept, held, content, joined_below, full, had, asked_of_some, held_or_asked, unasked, wanted, endgame, was_endgame}
 use Rattle.bt_history.specs.Legal.{IsLegal, IsAllowed, same_bytes}
 use Rattle.bt_history.proofs.Below.{any_fails, all_at, all_found}
@@ -26,7 +26,7 @@ use Rattle.bt_history.proofs.LineLaws.{block_index, Asks, asks_or_none, place_re
 -- ---- what an entry leaves
 
 -- the entry stored nothing for b, or something
-stored_cases : (e : Event) (b : Block) → (stored e b ≡ None) ⊎ (is_some (stored e b) ≡ true)
+pub stored_cases : (e : Event) (b : Block) → (stored e b ≡ None) ⊎ (is_some (stored e b) ≡ true)
 stored_cases e b = either (stored e b) where
   either : (o : Option (List ℕ)) → (o ≡ None) ⊎ (is_some o ≡ true)
   either None = inl refl
@@ -52,12 +52,12 @@ held_unasked s [] q b legal is = refl
 held_unasked s (e ∷ h) q b legal is = ⊎_elim
     (λ (none : stored e b ≡ None).
     let before : held h b ≡ true = was_held (failed e b.piece) (sym (ap is_some (kept_unstored h e b none)) ∙ is) in
-    and_right (not (resets (own_call q e))) _ (or_from (is_none (stored e b) && asked h q b) (asks q e b)
-    (and_right (is_none (stored e b)) (asked h q b) (held_unasked s h q b legal.0 before))
+    and_right (not (resets (own_call q e))) _ (or_from (lasts q e b && asked h q b) (asks q e b)
+    (and_right (lasts q e b) (asked h q b) (held_unasked s h q b legal.0 before))
     (not_asked_now before)))
     (λ (some : is_some (stored e b) ≡ true).
-    and_right (not (resets (own_call q e))) _ (or_from (is_none (stored e b) && asked h q b) (asks q e b)
-    (and_left (is_none (stored e b)) (asked h q b) (opposite (stored e b) some))
+    and_right (not (resets (own_call q e))) _ (or_from (lasts q e b && asked h q b) (asks q e b)
+    (and_left (lasts q e b) (asked h q b) (and_left (is_none (stored e b)) _ (opposite (stored e b) some)))
     (ap (list_any (λ a. same_begin a b)) (storing_asks_nothing q e b some))))
     (stored_cases e b)
   where
@@ -102,7 +102,7 @@ pub record HadFacts (s : Setting) (h : History) (p : ℕ) : Type 0 where
   pub is_full : full s h p ≡ true
   pub hash : same_bytes (sha1 (content s h p)) (hash_of s.torrent p) ≡ true
 
-joined_same : (n : ℕ) (f g : ℕ → List ℕ) → ((k : ℕ) → k < n → f k ≡ g k) → joined_below n f ≡ joined_below n g
+pub joined_same : (n : ℕ) (f g : ℕ → List ℕ) → ((k : ℕ) → k < n → f k ≡ g k) → joined_below n f ≡ joined_below n g
 joined_same zero f g h = refl
 joined_same (suc n) f g h =
     ap (λ (xs : List ℕ). xs ++ f n) (joined_same n f g (λ k lk. h k (omega arith))) ∙ ap (λ (xs : List ℕ). joined_below n g ++ xs) (h n (omega arith))
@@ -145,15 +145,15 @@ had_hash s h p legal is = same_text (sha1 (content s h p)) (hash_of s.torrent p)
 -- ---- a block asked of two peers
 
 -- a block is asked of q after an entry that just asked it, or was asked before
-asked_cases : (h : History) (e : Event) (q : ℕ) (b : Block) → asked (e ∷ h) q b ≡ true → (asks q e b ≡ true) ⊎ (asked h q b ≡ true)
+pub asked_cases : (h : History) (e : Event) (q : ℕ) (b : Block) → asked (e ∷ h) q b ≡ true → (asks q e b ≡ true) ⊎ (asked h q b ≡ true)
 unfolding asked
 asked_cases h e q b is =
-    ⊎_elim (λ (before : (is_none (stored e b) && asked h q b) ≡ true). inr (and_parts (is_none (stored e b)) (asked h q b) before).1)
+    ⊎_elim (λ (before : (lasts q e b && asked h q b) ≡ true). inr (and_parts (lasts q e b) (asked h q b) before).1)
     (λ (now : asks q e b ≡ true). inl now)
-    (or_cases (is_none (stored e b) && asked h q b) (asks q e b) (and_parts (not (resets (own_call q e))) _ is).1)
+    (or_cases (lasts q e b && asked h q b) (asks q e b) (and_parts (not (resets (own_call q e))) _ is).1)
 
 -- what asked b of q is a request by q of a block at its place
-asking : (q : ℕ) (e : Event) (b : Block) → asks q e b ≡ true → (c : Block) × Asks q e c × (same_begin c b ≡ true)
+pub asking : (q : ℕ) (e : Event) (b : Block) → asks q e b ≡ true → (c : Block) × Asks q e c × (same_begin c b ≡ true)
 asking q e b is = ⊎_elim
     (λ (named : (c : Block) × Asks q e c). (
       named.0,
@@ -167,7 +167,7 @@ asking q e b is = ⊎_elim
     only true h = refl
     only false h = absurd (cc h)
 
-asked_at : (h : History) (q : ℕ) (a b : Block) → same_begin a b ≡ true → asked h q b ≡ asked h q a
+pub asked_at : (h : History) (q : ℕ) (a b : Block) → same_begin a b ≡ true → asked h q b ≡ asked h q a
 asked_at h q a b same = asked_outstanding h q b ∙ (place_resized (outstanding h q) a b same ∙ sym (asked_outstanding h q a))
 
 -- where the newest entry asked b of one peer while it was asked of another, that was in endgame

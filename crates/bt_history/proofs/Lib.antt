@@ -12,3 +12,8 @@ pub mod Marks
 pub mod Journals
 pub mod HeldLengths
 pub mod Finished
+pub mod Before
+pub mod Askers
+pub mod Depths
+pub mod Idling
+pub mod Sending

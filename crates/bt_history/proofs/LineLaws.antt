@@ -1,11 +1,12 @@
 -- The lines of a peer in a legal history: blocks of the torrent, none twice, and together no more than the depth.
 use Rattle.std.proofs.Common.{◌≡◌, ◌⊎◌, ℕ, ◌==◌, ◌+◌, ◌*◌, ◌<◌, ◌≤◌, Bool, true, false, not, ◌&&◌, ◌||◌, List, [], ◌∷◌, ◌++◌, Option, None, Some}
 use Rattle.std.proofs.Common.{length, refl, ap, sym, ◌∙◌, subst, arith, ⊎_elim, inl, inr, suc}
-use Rattle.std.specs.Prelude.{is_some, is_none, if◌then◌else◌, nat_lt}
+use Rattle.std.specs.Prelude.{is_some, is_none, if◌then◌else◌, max, nat_lt, unwrap_or}
 use Rattle.std.specs.List.{filter}
 use Rattle.std.proofs.lemmas.Bool.{and_parts, and_from, and_left, and_right, or_parts, or_from, or_left, eq-eqb, eqb-true, ne_eqb, cases_eq}
 use Rattle.std.proofs.lemmas.Bool.{cases_Bool, ltb-true, lt-ltb, false≢true}
 use Rattle.std.proofs.lemmas.List.{length-append}
+use Rattle.std.proofs.Math.Nat.{le-max_left, le-max_right}
 use Rattle.std.proofs.lemmas.List.Filters.{length-filter_both}
 use Rattle.bt_meta.specs.declared.block.Block.{Block}
 use Rattle.bt_meta.specs.Layout.{Layout, piece_count, block_count, block, block_size}
@@ -16,7 +17,7 @@ use Rattle.bt_history.specs.declared.event.Event.{Event}
 use Rattle.bt_history.specs.Counting.{count_below}
 use Rattle.bt_history.specs.Setting.{Setting, some_block, some_block_of, is_block, count_blocks}
 use Rattle.bt_history.specs.History.{History, own_call, same_begin, stored, requested, requested_by, cancelled}
-use Rattle.bt_history.specs.Peers.{asked, asked_count, outstanding, has_place, AreApart, due, due_count, dues, resets}
+use Rattle.bt_history.specs.Peers.{asked, asked_count, outstanding, has_place, AreApart, due, due_count, dues, resets, releases, lasts, told_depth, told_after, depth_of, depth_so_far}
 use Rattle.bt_history.specs.Legal.{IsLegal}
 use Rattle.bt_history.proofs.Below.{any_found, any_witness, count_at, count_same, count_none, sum_at, sum_same, sum_none, one_if}
 use Rattle.bt_history.proofs.SameBegin.{same_begin_self, same_begin_sym, same_but_len}
@@ -90,7 +91,7 @@ place_filter test b (c ∷ bs) none =
       either true first rest = or_from (same_begin c b) (has_place b (filter test bs)) first rest
       either false first rest = rest
 
-apart_filter : (test : Block → Bool) (bs : List Block) → AreApart bs → AreApart (filter test bs)
+pub apart_filter : (test : Block → Bool) (bs : List Block) → AreApart bs → AreApart (filter test bs)
 unfolding AreApart
 apart_filter test [] are = tt
 apart_filter test (b ∷ bs) are = either (test b) (apart_filter test bs are.1) where
@@ -103,7 +104,7 @@ other_place a b is = ⊎_elim (λ (same : same_begin b a ≡ true). absurd (fals
     (λ (apart : same_begin b a ≡ false). apart) (cases_Bool (same_begin b a))
 
 -- one more block at the end, whose place the list lacks
-apart_push : (bs : List Block) (b : Block) → AreApart bs → has_place b bs ≡ false → AreApart (bs ++ b ∷ [])
+pub apart_push : (bs : List Block) (b : Block) → AreApart bs → has_place b bs ≡ false → AreApart (bs ++ b ∷ [])
 unfolding AreApart
 apart_push [] b are none = (refl, tt)
 apart_push (c ∷ bs) b are none =
@@ -173,8 +174,8 @@ unfolding outstanding AreBlocks
 outstanding_blocks s [] q legal = tt
 outstanding_blocks s (e ∷ h) q legal =
     blocks_either s.torrent (resets (own_call q e)) _
-    (blocks_append s.torrent (filter (λ b. is_none (stored e b)) (outstanding h q)) (requested q e)
-    (blocks_filter s.torrent (λ b. is_none (stored e b)) (outstanding h q) (outstanding_blocks s h q legal.0))
+    (blocks_append s.torrent (filter (lasts q e) (outstanding h q)) (requested q e)
+    (blocks_filter s.torrent (lasts q e) (outstanding h q) (outstanding_blocks s h q legal.0))
     (⊎_elim
     (λ (asking : (b : Block) × Asks q e b). subst (AreBlocks s.torrent) (sym asking.1.only)
     ((request_facts s h e asking.0 legal.1 asking.1.reply).block, tt))
@@ -186,15 +187,15 @@ pub outstanding_apart : (s : Setting) (h : History) (q : ℕ) → IsLegal s h �
 unfolding outstanding AreApart
 outstanding_apart s [] q legal = tt
 outstanding_apart s (e ∷ h) q legal =
-    let lasting : List Block = filter (λ b. is_none (stored e b)) (outstanding h q) in
-    let older : AreApart lasting = apart_filter (λ b. is_none (stored e b)) (outstanding h q) (outstanding_apart s h q legal.0) in
+    let lasting : List Block = filter (lasts q e) (outstanding h q) in
+    let older : AreApart lasting = apart_filter (lasts q e) (outstanding h q) (outstanding_apart s h q legal.0) in
     apart_either (resets (own_call q e)) (lasting ++ requested q e)
     (⊎_elim
     (λ (asking : (b : Block) × Asks q e b).
     let b = asking.0 in
     let free : asked h q b ≡ false = ap (λ (w : ℕ). asked h w b) (sym asking.1.worker) ∙ (request_facts s h e b legal.1 asking.1.reply).not_asked in
     subst (λ (bs : List Block). AreApart (lasting ++ bs)) (sym asking.1.only)
-    (apart_push lasting b older (place_filter (λ c. is_none (stored e c)) b (outstanding h q) (sym (asked_outstanding h q b) ∙ free))))
+    (apart_push lasting b older (place_filter (lasts q e) b (outstanding h q) (sym (asked_outstanding h q b) ∙ free))))
     (λ (none : requested q e ≡ []). subst (λ (bs : List Block). AreApart (lasting ++ bs)) (sym none) (apart_nil lasting older))
     (asks_or_none q e))
   where
@@ -273,13 +274,34 @@ dues_empty s h q legal none = by_line (dues h q) refl where
         first_is_block : AreBlocks s.torrent (b ∷ bs) → is_block s.torrent b ≡ true
         first_is_block are = are.0
 
--- the lines of a peer have room: together they are no longer than the depth
-pub lines_room : (s : Setting) (h : History) (q : ℕ) → IsLegal s h → length (outstanding h q) + length (dues h q) ≤ s.depth
-unfolding outstanding dues
+-- fewer pass two tests than one
+fewer_both : (f g : Block → Bool) (bs : List Block) → length (filter (λ b. f b && g b) bs) ≤ length (filter f bs)
+fewer_both f g [] = omega arith
+fewer_both f g (b ∷ bs) = either (f b) (g b) (fewer_both f g bs) where
+  either : (x y : Bool) → length (filter (λ c. f c && g c) bs) ≤ length (filter f bs)
+      → length (if x && y then b ∷ filter (λ c. f c && g c) bs else filter (λ c. f c && g c) bs) ≤ length (if x then b ∷ filter f bs else filter f bs)
+  either true true rest = omega (arith, rest)
+  either true false rest = omega (arith, rest)
+  either false y rest = rest
+
+-- the depth that holds is no greater than the greatest one
+pub depth_holds : (s : Setting) (h : History) (q : ℕ) → depth_of s h q ≤ depth_so_far s h q
+unfolding told_depth depth_so_far
+depth_holds s [] q = omega arith
+depth_holds s (e ∷ h) q = by_reset (resets (own_call q e)) where
+  by_reset : (x : Bool) → unwrap_or (told_after (own_call q e) (told_depth h q)) s.depth ≤ (if x then unwrap_or
+      (told_after (own_call q e) (told_depth h q)) s.depth else max (unwrap_or (told_after (own_call q e) (told_depth h q)) s.depth)
+      (depth_so_far s h q))
+  by_reset true = omega arith
+  by_reset false = le-max_left _ _
+
+-- the lines of a peer have room: together they are no longer than the greatest depth
+pub lines_room : (s : Setting) (h : History) (q : ℕ) → IsLegal s h → length (outstanding h q) + length (dues h q) ≤ depth_so_far s h q
+unfolding outstanding dues depth_so_far
 lines_room s [] q legal = omega arith
 lines_room s (e ∷ h) q legal = by_reset (resets (own_call q e)) (asks_or_none q e) (lines_room s h q legal.0) where
   old : List Block
-  old = filter (λ b. is_none (stored e b)) (outstanding h q)
+  old = filter (lasts q e) (outstanding h q)
 
   new : List Block
   new = filter (λ b. is_some (stored e b)) (outstanding h q)
@@ -287,11 +309,15 @@ lines_room s (e ∷ h) q legal = by_reset (resets (own_call q e)) (asks_or_none 
   still : List Block
   still = filter (λ b. not (cancelled q e b)) (dues h q)
 
-  split : length old + length new ≡ length (outstanding h q)
-  split = length-filter_both (λ b. is_none (stored e b)) (λ b. is_some (stored e b)) (λ b. opposite (stored e b)) (outstanding h q) where
-    opposite : (o : Option (List ℕ)) → is_some o ≡ not (is_none o)
-    opposite None = refl
-    opposite (Some x) = refl
+  split : length old + length new ≤ length (outstanding h q)
+  split =
+      let both = length-filter_both (λ b. is_none (stored e b)) (λ b. is_some (stored e b)) (λ b. opposite (stored e b)) (outstanding h q) in
+      let less = fewer_both (λ b. is_none (stored e b)) (λ b. not (releases (own_call q e) b)) (outstanding h q) in
+      omega (arith, both, less)
+    where
+      opposite : (o : Option (List ℕ)) → is_some o ≡ not (is_none o)
+      opposite None = refl
+      opposite (Some x) = refl
 
   fewer : (test : Block → Bool) (bs : List Block) → length (filter test bs) ≤ length bs
   fewer test bs = let both = length-filter_both test (λ b. not (test b)) (λ b. refl) bs in omega arith
@@ -300,27 +326,34 @@ lines_room s (e ∷ h) q legal = by_reset (resets (own_call q e)) (asks_or_none 
   of_others true = omega arith
   of_others false = omega arith
 
-  by_reset : (x : Bool) → ((b : Block) × Asks q e b) ⊎ (requested q e ≡ []) → length (outstanding h q) + length (dues h q) ≤ s.depth
-      → length (if x then [] else old ++ requested q e) + length (if x then [] else still ++ (if e.worker == q then [] else new)) ≤ s.depth
-  by_reset true asking room = omega arith
+  zero_least : (n : ℕ) → 0 + 0 ≤ n
+  zero_least n = omega arith
+
+  by_reset : (x : Bool) → ((b : Block) × Asks q e b) ⊎ (requested q e ≡ []) → length (outstanding h q) + length (dues h q) ≤ depth_so_far s h q
+      → length (if x then [] else old ++ requested q e) + length (if x then [] else still ++ (if e.worker == q then [] else new))
+      ≤ (if x then depth_of s (e ∷ h) q else max (depth_of s (e ∷ h) q) (depth_so_far s h q))
+  by_reset true asking room = zero_least (depth_of s (e ∷ h) q)
   by_reset false asking room = ⊎_elim
       (λ (named : (b : Block) × Asks q e b).
       let facts = request_facts s h e named.0 legal.1 named.1.reply in
       let none : dues h q ≡ [] = dues_empty s h q legal.0 (ap (λ (w : ℕ). some_block s.torrent (due h w)) (sym named.1.worker) ∙ facts.none_due) in
-      let count : length (outstanding h q) < s.depth = subst (λ (n : ℕ). n < s.depth)
-      (ap (asked_count s h) named.1.worker ∙ asked_count_is s h q legal.0) facts.room in
+      let count : length (outstanding h q) < depth_of s h q = subst (λ (n : ℕ). n < depth_of s h q)
+      (asked_count_is s h q legal.0) (subst (λ (w : ℕ). asked_count s h w < depth_of s h w) named.1.worker facts.room) in
+      let deep = depth_holds s h q in
+      let most = le-max_right (depth_of s (e ∷ h) q) (depth_so_far s h q) in
       let own : (e.worker == q) ≡ true = eq-eqb e.worker q named.1.worker in
       let no_new : length (if◌then◌else◌ {A = List Block} (e.worker == q) [] new) ≡ 0 =
       ap (λ (x : Bool). length (if◌then◌else◌ {A = List Block} x [] new)) own in
       let no_still : length still ≤ 0 = subst (λ (bs : List Block). length still ≤ length bs) none (fewer (λ b. not (cancelled q e b)) (dues h q)) in
       let one : length (requested q e) ≡ 1 = ap length named.1.only in
-      let short = fewer (λ b. is_none (stored e b)) (outstanding h q) in
-      omega (arith, length-append old (requested q e), length-append still (if e.worker == q then [] else new), count, no_new, no_still, one, short))
+      let short = fewer (lasts q e) (outstanding h q) in
+      omega (arith, length-append old (requested q e), length-append still (if e.worker == q then [] else new), count, deep, most, no_new, no_still, one, short))
       (λ (nothing : requested q e ≡ []).
       let zero : length (requested q e) ≡ 0 = ap length nothing in
       let others = of_others (e.worker == q) in
+      let most = le-max_right (depth_of s (e ∷ h) q) (depth_so_far s h q) in
       let short = fewer (λ b. not (cancelled q e b)) (dues h q) in
-      omega (arith, length-append old (requested q e), length-append still (if e.worker == q then [] else new), zero, split, others, short, room))
+      omega (arith, length-append old (requested q e), length-append still (if e.worker == q then [] else new), zero, split, others, short, room, most))
       asking
 
 pub place_resized : (bs : List Block) (a b : Block) → same_begin a b ≡ true → has_place b bs ≡ has_place a bs
@@ -351,7 +384,7 @@ count_listed_most t (x ∷ bs) are = ⊎_elim
     one_of b false apart again = refl
 
 -- asked blocks and due cancels of a peer, counted together, stay within the depth
-pub asked_and_due : (s : Setting) (h : History) (q : ℕ) → IsLegal s h → asked_count s h q + due_count s h q ≤ s.depth
+pub asked_and_due : (s : Setting) (h : History) (q : ℕ) → IsLegal s h → asked_count s h q + due_count s h q ≤ depth_so_far s h q
 asked_and_due s h q legal =
     let due_most : due_count s h q ≤ length (dues h q) =
     subst (λ (n : ℕ). n ≤ length (dues h q)) (sym (count_blocks_same s.torrent (due h q) (λ b. has_place b (dues h q)) (due_dues h q)))

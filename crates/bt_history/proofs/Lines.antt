@@ -1,6 +1,6 @@
 -- A peer's line of asked blocks and its line of due cancels hold just the blocks that are asked and due.
 use Rattle.std.proofs.Common.{◌≡◌, ℕ, ◌==◌, Bool, true, false, not, ◌&&◌, ◌||◌, List, [], ◌∷◌, ◌++◌, refl, ap, sym, ◌∙◌}
-use Rattle.std.specs.Prelude.{is_none, is_some, if◌then◌else◌, None}
+use Rattle.std.specs.Prelude.{is_none, is_some, if◌then◌else◌, Option, None, Some}
 use Rattle.std.specs.List.{filter, list_any}
 use Rattle.std.proofs.lemmas.Bool.{and_parts}
 use Rattle.std.proofs.lemmas.Map.Views.{any-filter_same}
@@ -9,10 +9,12 @@ use Rattle.bt_meta.specs.declared.block.Block.{Block}
 use Rattle.bt_history.specs.declared.call.Reply.{Reply}
 use Rattle.bt_history.specs.declared.call.Reply.TheVariants.{Joined, Noted, Quiet, Cancel, Request, Choked, PipeFull, Idle, NothingLeft, Stored}
 use Rattle.bt_history.specs.declared.call.Reply.TheVariants.{Completed, Dropped, Had, Failed, Refused}
+use Rattle.bt_history.specs.declared.event.Action.{Action}
+use Rattle.bt_history.specs.declared.event.Action.TheVariants.{Release}
 use Rattle.bt_history.specs.declared.event.Event.{Event}
 use Rattle.bt_history.specs.History.{History, own_call, same_begin, stored, stores, requested, cancelled, cancelled_by, bytes_for}
-use Rattle.bt_history.specs.Peers.{asked, asks, outstanding, has_place, due, dues, resets}
-use Rattle.bt_history.proofs.SameBegin.{stored_at, same_but_len}
+use Rattle.bt_history.specs.Peers.{asked, asks, outstanding, has_place, due, dues, resets, releases, lasts}
+use Rattle.bt_history.proofs.SameBegin.{resized, stored_at, same_but_len}
 
 pub any_append : {A : Type 0} (test : A → Bool) (xs ys : List A) → list_any test (xs ++ ys) ≡ (list_any test xs || list_any test ys)
 any_append test [] ys = refl
@@ -23,15 +25,26 @@ any_either : (resetting : Bool) (test : Block → Bool) (xs : List Block) →
 any_either true test xs = refl
 any_either false test xs = refl
 
+releases_resized : (call : Option Action) (b : Block) (n : ℕ) → releases call (resized b n) ≡ releases call b
+releases_resized (Some (Release p begin)) b n = refl
+releases_resized _ b n = refl
+
+-- whether a block stays asked depends on where it begins alone
+lasts_at : (q : ℕ) (e : Event) (a b : Block) → same_begin a b ≡ true → lasts q e a ≡ lasts q e b
+lasts_at q e a b same =
+    let released : releases (own_call q e) b ≡ releases (own_call q e) a =
+    ap (releases (own_call q e)) (same_but_len a b same) ∙ releases_resized (own_call q e) a b.len in
+    λ i. is_none (sym (stored_at e a b same) i) && not (sym released i)
+
 -- the blocks asked of a peer are those in its line
 pub asked_outstanding : (h : History) (q : ℕ) (b : Block) → asked h q b ≡ has_place b (outstanding h q)
 unfolding asked outstanding
 asked_outstanding [] q b = refl
 asked_outstanding (e ∷ h) q b =
-    let lasting : Block → Bool = λ a. is_none (stored e a) in
-    let older : (is_none (stored e b) && asked h q b) ≡ has_place b (filter lasting (outstanding h q)) =
-    ap (λ (x : Bool). is_none (stored e b) && x) (asked_outstanding h q b)
-    ∙ sym (any-filter_same (λ (a : Block). same_begin a b) lasting (is_none (stored e b)) (λ a same. ap is_none (sym (stored_at e a b same)))
+    let lasting : Block → Bool = lasts q e in
+    let older : (lasts q e b && asked h q b) ≡ has_place b (filter lasting (outstanding h q)) =
+    ap (λ (x : Bool). lasts q e b && x) (asked_outstanding h q b)
+    ∙ sym (any-filter_same (λ (a : Block). same_begin a b) lasting (lasts q e b) (λ a same. lasts_at q e a b same)
     (outstanding h q)) in
     sym (any_either (resets (own_call q e)) (λ (a : Block). same_begin a b) (filter lasting (outstanding h q) ++ requested q e)
     ∙ ap (λ (x : Bool). not (resets (own_call q e)) && x)

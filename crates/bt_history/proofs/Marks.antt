@@ -5,12 +5,12 @@ use Rattle.bt_meta.specs.declared.block.Block.{Block}
 use Rattle.bt_meta.specs.contracts.block.BlockPartialEq.TheImpl as blocks
 use Rattle.bt_history.specs.declared.call.Reason.{Reason}
 use Rattle.bt_history.specs.declared.call.Reason.TheVariants.{NotJoined, AlreadyJoined, LateBits, WrongCount, NoSuchPiece, NoSuchBlock, WrongLength}
-use Rattle.bt_history.specs.declared.call.Reason.TheVariants.{NotWaiting, Stale}
+use Rattle.bt_history.specs.declared.call.Reason.TheVariants.{NotWaiting, Stale, NotAsked, WrongDepth}
 use Rattle.bt_history.specs.declared.call.Reply.{Reply}
 use Rattle.bt_history.specs.declared.call.Reply.TheVariants.{Joined, Noted, Quiet, Cancel, Request, Choked, PipeFull, Idle, NothingLeft, Stored}
 use Rattle.bt_history.specs.declared.call.Reply.TheVariants.{Completed, Dropped, Had, Failed, Refused}
 use Rattle.bt_history.specs.declared.mark.CallMark.{CallMark}
-use Rattle.bt_history.specs.declared.mark.CallMark.TheVariants.{Join, Bits, Have, Choke, Unchoke, Next, Arrived, Settle, Leave, Want}
+use Rattle.bt_history.specs.declared.mark.CallMark.TheVariants.{Join, Bits, Have, Choke, Unchoke, Next, Arrived, Settle, Leave, Want, Haves, Depth, Release}
 use Rattle.bt_history.specs.declared.mark.Mark.{Mark}
 use Rattle.bt_history.specs.contracts.call.ReasonPartialEq.TheImpl as reasons
 use Rattle.bt_history.specs.contracts.call.ReplyPartialEq.TheImpl as replies
@@ -27,6 +27,8 @@ same_reason NoSuchBlock NoSuchBlock is = refl
 same_reason WrongLength WrongLength is = refl
 same_reason NotWaiting NotWaiting is = refl
 same_reason Stale Stale is = refl
+same_reason NotAsked NotAsked is = refl
+same_reason WrongDepth WrongDepth is = refl
 same_reason a b is = absurd (false≢true is)
 
 same_block : (a b : Block) → blocks.ghosts.eq a b ≡ true → a ≡ b
@@ -74,6 +76,13 @@ same_call (Arrived p begin len) (Arrived q start size) is =
 same_call (Settle p) (Settle q) is = ap Settle (eqb-true p q is)
 same_call Leave Leave is = refl
 same_call Want Want is = refl
+same_call Haves Haves is = refl
+same_call (Depth m) (Depth n) is = ap Depth (eqb-true m n is)
+same_call (Release p begin) (Release q start) is =
+    let parts = and_parts (p == q) (begin == start) is in
+    let piece = eqb-true p q parts.0 in
+    let place = eqb-true begin start parts.1 in
+    λ i. Release (piece i) (place i)
 same_call a b is = absurd (false≢true is)
 
 pub same_mark : (a b : Mark) → marks.ghosts.eq a b ≡ true → a ≡ b

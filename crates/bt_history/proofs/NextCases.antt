@@ -7,7 +7,7 @@ use Rattle.bt_history.specs.declared.call.Reply.{Reply}
 use Rattle.bt_history.specs.declared.call.Reply.TheVariants.{Request, Choked, PipeFull, Idle, NothingLeft}
 use Rattle.bt_history.specs.Setting.{Setting, some_block, is_block}
 use Rattle.bt_history.specs.History.{History}
-use Rattle.bt_history.specs.Peers.{is_open, asked_count, due}
+use Rattle.bt_history.specs.Peers.{is_open, asked_count, due, depth_of}
 use Rattle.bt_history.specs.Pieces.{endgame, interesting}
 use Rattle.bt_history.specs.Next.{Answer, Exactly, CancelOf, RequestOf, usable, continues, starts, doubles, next_answer}
 use Rattle.bt_history.specs.Legal.{Permits}
@@ -27,7 +27,7 @@ next_cases has_due opened full goes_on starts_one doubles_one waits cancels ons 
     else Exactly NothingLeft
 
 pub next_is : (s : Setting) (h : History) (q : ℕ) → next_answer s h q
-    ≡ next_cases (some_block s.torrent (due h q)) (is_open h q) (nat_le s.depth (asked_count s h q))
+    ≡ next_cases (some_block s.torrent (due h q)) (is_open h q) (nat_le (depth_of s h q) (asked_count s h q))
     (some_block s.torrent (continues s h q)) (some_block s.torrent (usable s h q))
     (endgame s h && some_block s.torrent (doubles s h q)) (interesting s h q)
     (due h q) (continues s h q) (starts s h q) (doubles s h q)

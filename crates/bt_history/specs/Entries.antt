@@ -6,7 +6,7 @@ use Rattle.bt_history.specs.declared.call.Call.TheVariants as calls
 use Rattle.bt_history.specs.declared.call.Entry.{Entry}
 use Rattle.bt_history.specs.declared.call.Reply.{Reply}
 use Rattle.bt_history.specs.declared.event.Action.{Action}
-use Rattle.bt_history.specs.declared.event.Action.TheVariants.{Join, Bits, Have, Choke, Unchoke, Next, Arrived, Settle, Leave, Want}
+use Rattle.bt_history.specs.declared.event.Action.TheVariants.{Join, Bits, Have, Choke, Unchoke, Next, Arrived, Settle, Leave, Want, Haves, Depth, Release}
 use Rattle.bt_history.specs.declared.event.Event.{Event}
 use Rattle.bt_history.specs.History.{History}
 
@@ -22,10 +22,17 @@ action_of (calls.Arrived p begin bytes) = Arrived p begin bytes
 action_of (calls.Settle verdict) = Settle verdict.value.piece (joined verdict.value)
 action_of calls.Leave = Leave
 action_of (calls.Want flags) = Want flags
+action_of (calls.Haves flags) = Haves flags
+action_of (calls.Depth n) = Depth n
+action_of (calls.Release p begin) = Release p begin
 
 -- the entry that this worker's call with this reply makes
 abbrev pub event : ℕ → Call → Reply → Event
 event w call reply = record { worker = w; action = action_of call; reply = reply }
+
+-- the block that begins there is given up at w
+abbrev pub giving_up : ℕ → ℕ → ℕ → Reply → Event
+giving_up w p begin reply = record { worker = w; action = Release p begin; reply = reply }
 
 -- what contracts see of an entry
 abbrev pub event_of : Entry → Event

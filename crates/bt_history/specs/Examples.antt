@@ -3,20 +3,25 @@ use Rattle.std.specs.Prelude.{ℕ, List, [], ◌∷◌, true, false, replicate}
 use Rattle.bt_meta.specs.declared.block.Block.{Block}
 use Rattle.bt_meta.specs.Layout.{Layout}
 use Rattle.bt_history.specs.declared.call.Reason.TheVariants.{NotJoined, AlreadyJoined, LateBits, WrongCount, NoSuchPiece, NoSuchBlock, WrongLength}
-use Rattle.bt_history.specs.declared.call.Reason.TheVariants.{NotWaiting, Stale}
+use Rattle.bt_history.specs.declared.call.Reason.TheVariants.{NotWaiting, Stale, NotAsked, WrongDepth}
 use Rattle.bt_history.specs.declared.call.Reply.{Reply}
 use Rattle.bt_history.specs.declared.call.Reply.TheVariants.{Joined, Noted, Quiet, Cancel, Request, Choked, PipeFull, Idle, NothingLeft, Stored}
 use Rattle.bt_history.specs.declared.call.Reply.TheVariants.{Completed, Dropped, Had, Failed, Refused}
 use Rattle.bt_history.specs.declared.event.Action.{Action}
-use Rattle.bt_history.specs.declared.event.Action.TheVariants.{Join, Bits, Have, Choke, Unchoke, Next, Arrived, Settle, Leave, Want}
+use Rattle.bt_history.specs.declared.event.Action.TheVariants.{Join, Bits, Have, Choke, Unchoke, Next, Arrived, Settle, Leave, Want, Haves, Depth}
+use Rattle.bt_history.specs.declared.event.Action.TheVariants.{Release}
 use Rattle.bt_history.specs.declared.event.Event.{Event}
 use Rattle.bt_history.specs.declared.rules.Rules.{Rules}
+use Rattle.bt_history.specs.declared.rules.TheConstants.{MOST_DEPTH, MOST_WORKERS}
 
 abbrev pub entry : ℕ → Action → Reply → Event
 entry w call reply = record { worker = w; action = call; reply = reply }
 
 abbrev pub rules : ℕ → ℕ → Rules
-rules depth random = record { depth = depth; random = random }
+rules depth random = record { depth = depth; random = random; askers = MOST_WORKERS; deepest = MOST_DEPTH }
+
+abbrev pub bounded_rules : ℕ → ℕ → ℕ → ℕ → Rules
+bounded_rules depth random askers deepest = record { depth = depth; random = random; askers = askers; deepest = deepest }
 
 abbrev pub block_of : ℕ → ℕ → ℕ → Block
 block_of piece begin len = record { piece = piece; begin = begin; len = len }
@@ -26,11 +31,13 @@ torrent_short_last =
     record {
       piece_length = 3;
       total = 7;
-      hashes = (0xa9 ∷ 0x99 ∷ 0x3e ∷ 0x36 ∷ 0x47 ∷ 0x06 ∷ 0x81 ∷ 0x6a ∷ 0xba ∷ 0x3e ∷ 0x25 ∷ 0x71 ∷ 0x78 ∷ 0x50 ∷
-          0xc2 ∷ 0x6c ∷ 0x9c ∷ 0xd0 ∷ 0xd8 ∷ 0x9d ∷ []) ∷ (0xa9 ∷ 0x99 ∷ 0x3e ∷ 0x36 ∷ 0x47 ∷ 0x06 ∷ 0x81 ∷ 0x6a ∷ 0xba ∷ 0x3e ∷ 0x25 ∷ 0x71 ∷ 0x78 ∷
-          0x50 ∷ 0xc2 ∷ 0x6c ∷ 0x9c ∷ 0xd0 ∷ 0xd8 ∷ 0x9d ∷ []) ∷
-          (0x86 ∷ 0xf7 ∷ 0xe4 ∷ 0x37 ∷ 0xfa ∷ 0xa5 ∷ 0xa7 ∷ 0xfc ∷ 0xe1 ∷ 0x5d ∷ 0x1d ∷ 0xdc ∷ 0xb9 ∷ 0xea ∷ 0xea ∷ 0xea ∷ 0x37 ∷ 0x76 ∷ 0x67 ∷ 0xb8 ∷
-          []) ∷ [];
+      hashes = (0xa9 ∷ 0x99 ∷ 0x3e ∷ 0x36 ∷ 0x47 ∷ 0x06 ∷ 0x81 ∷ 0x6a ∷ 0xba ∷ 0x3e
+          ∷ 0x25 ∷ 0x71 ∷ 0x78 ∷ 0x50 ∷ 0xc2 ∷ 0x6c ∷ 0x9c ∷ 0xd0 ∷ 0xd8 ∷ 0x9d ∷ [])
+          ∷ (0xa9 ∷ 0x99 ∷ 0x3e ∷ 0x36 ∷ 0x47 ∷ 0x06 ∷ 0x81 ∷ 0x6a ∷ 0xba ∷ 0x3e
+          ∷ 0x25 ∷ 0x71 ∷ 0x78 ∷ 0x50 ∷ 0xc2 ∷ 0x6c ∷ 0x9c ∷ 0xd0 ∷ 0xd8 ∷ 0x9d ∷ [])
+          ∷ (0x86 ∷ 0xf7 ∷ 0xe4 ∷ 0x37 ∷ 0xfa ∷ 0xa5 ∷ 0xa7 ∷ 0xfc ∷ 0xe1 ∷ 0x5d
+          ∷ 0x1d ∷ 0xdc ∷ 0xb9 ∷ 0xea ∷ 0xea ∷ 0xea ∷ 0x37 ∷ 0x76 ∷ 0x67 ∷ 0xb8 ∷ [])
+          ∷ [];
     }
 
 abbrev pub torrent_one_piece : Layout
@@ -38,8 +45,9 @@ torrent_one_piece =
     record {
       piece_length = 3;
       total = 3;
-      hashes = (0xa9 ∷ 0x99 ∷ 0x3e ∷ 0x36 ∷ 0x47 ∷ 0x06 ∷ 0x81 ∷ 0x6a ∷ 0xba ∷ 0x3e ∷ 0x25 ∷ 0x71 ∷ 0x78 ∷ 0x50 ∷
-          0xc2 ∷ 0x6c ∷ 0x9c ∷ 0xd0 ∷ 0xd8 ∷ 0x9d ∷ []) ∷ [];
+      hashes = (0xa9 ∷ 0x99 ∷ 0x3e ∷ 0x36 ∷ 0x47 ∷ 0x06 ∷ 0x81 ∷ 0x6a ∷ 0xba ∷ 0x3e
+          ∷ 0x25 ∷ 0x71 ∷ 0x78 ∷ 0x50 ∷ 0xc2 ∷ 0x6c ∷ 0x9c ∷ 0xd0 ∷ 0xd8 ∷ 0x9d ∷ [])
+          ∷ [];
     }
 
 abbrev pub torrent_two_pieces : Layout
@@ -47,9 +55,11 @@ torrent_two_pieces =
     record {
       piece_length = 3;
       total = 6;
-      hashes = (0xa9 ∷ 0x99 ∷ 0x3e ∷ 0x36 ∷ 0x47 ∷ 0x06 ∷ 0x81 ∷ 0x6a ∷ 0xba ∷ 0x3e ∷ 0x25 ∷ 0x71 ∷ 0x78 ∷ 0x50 ∷
-          0xc2 ∷ 0x6c ∷ 0x9c ∷ 0xd0 ∷ 0xd8 ∷ 0x9d ∷ []) ∷ (0xa9 ∷ 0x99 ∷ 0x3e ∷ 0x36 ∷ 0x47 ∷ 0x06 ∷ 0x81 ∷ 0x6a ∷ 0xba ∷ 0x3e ∷ 0x25 ∷ 0x71 ∷ 0x78 ∷
-          0x50 ∷ 0xc2 ∷ 0x6c ∷ 0x9c ∷ 0xd0 ∷ 0xd8 ∷ 0x9d ∷ []) ∷ [];
+      hashes = (0xa9 ∷ 0x99 ∷ 0x3e ∷ 0x36 ∷ 0x47 ∷ 0x06 ∷ 0x81 ∷ 0x6a ∷ 0xba ∷ 0x3e
+          ∷ 0x25 ∷ 0x71 ∷ 0x78 ∷ 0x50 ∷ 0xc2 ∷ 0x6c ∷ 0x9c ∷ 0xd0 ∷ 0xd8 ∷ 0x9d ∷ [])
+          ∷ (0xa9 ∷ 0x99 ∷ 0x3e ∷ 0x36 ∷ 0x47 ∷ 0x06 ∷ 0x81 ∷ 0x6a ∷ 0xba ∷ 0x3e
+          ∷ 0x25 ∷ 0x71 ∷ 0x78 ∷ 0x50 ∷ 0xc2 ∷ 0x6c ∷ 0x9c ∷ 0xd0 ∷ 0xd8 ∷ 0x9d ∷ [])
+          ∷ [];
     }
 
 abbrev pub torrent_two_blocks : Layout
@@ -57,10 +67,11 @@ torrent_two_blocks =
     record {
       piece_length = 32768;
       total = 65536;
-      hashes = (0xa9 ∷ 0x99 ∷ 0x3e ∷ 0x36 ∷ 0x47 ∷ 0x06 ∷ 0x81 ∷ 0x6a ∷ 0xba ∷ 0x3e ∷ 0x25 ∷ 0x71 ∷ 0x78 ∷
-          0x50 ∷ 0xc2 ∷ 0x6c ∷ 0x9c ∷ 0xd0 ∷ 0xd8 ∷ 0x9d ∷ []) ∷
-          (0xa9 ∷ 0x99 ∷ 0x3e ∷ 0x36 ∷ 0x47 ∷ 0x06 ∷ 0x81 ∷ 0x6a ∷ 0xba ∷ 0x3e ∷ 0x25 ∷ 0x71 ∷ 0x78 ∷ 0x50 ∷ 0xc2 ∷ 0x6c ∷ 0x9c ∷ 0xd0 ∷ 0xd8 ∷ 0x9d ∷
-          []) ∷ [];
+      hashes = (0xa9 ∷ 0x99 ∷ 0x3e ∷ 0x36 ∷ 0x47 ∷ 0x06 ∷ 0x81 ∷ 0x6a ∷ 0xba ∷ 0x3e
+          ∷ 0x25 ∷ 0x71 ∷ 0x78 ∷ 0x50 ∷ 0xc2 ∷ 0x6c ∷ 0x9c ∷ 0xd0 ∷ 0xd8 ∷ 0x9d ∷ [])
+          ∷ (0xa9 ∷ 0x99 ∷ 0x3e ∷ 0x36 ∷ 0x47 ∷ 0x06 ∷ 0x81 ∷ 0x6a ∷ 0xba ∷ 0x3e
+          ∷ 0x25 ∷ 0x71 ∷ 0x78 ∷ 0x50 ∷ 0xc2 ∷ 0x6c ∷ 0x9c ∷ 0xd0 ∷ 0xd8 ∷ 0x9d ∷ [])
+          ∷ [];
     }
 
 abbrev pub torrent_many_blocks : Layout
@@ -68,9 +79,9 @@ torrent_many_blocks =
     record {
       piece_length = 1000000;
       total = 1000000;
-      hashes =
-          (0x34 ∷ 0xaa ∷ 0x97 ∷ 0x3c ∷ 0xd4 ∷ 0xc4 ∷ 0xda ∷ 0xa4 ∷ 0xf6 ∷ 0x1e ∷ 0xeb ∷ 0x2b ∷ 0xdb ∷ 0xad ∷ 0x27 ∷ 0x31 ∷ 0x65 ∷ 0x34 ∷ 0x01 ∷ 0x6f ∷
-          []) ∷ [];
+      hashes = (0x34 ∷ 0xaa ∷ 0x97 ∷ 0x3c ∷ 0xd4 ∷ 0xc4 ∷ 0xda ∷ 0xa4 ∷ 0xf6 ∷ 0x1e
+          ∷ 0xeb ∷ 0x2b ∷ 0xdb ∷ 0xad ∷ 0x27 ∷ 0x31 ∷ 0x65 ∷ 0x34 ∷ 0x01 ∷ 0x6f ∷ [])
+          ∷ [];
     }
 
 abbrev pub torrent_four_pieces : Layout
@@ -78,12 +89,15 @@ torrent_four_pieces =
     record {
       piece_length = 3;
       total = 12;
-      hashes = (0xa9 ∷ 0x99 ∷ 0x3e ∷ 0x36 ∷ 0x47 ∷ 0x06 ∷ 0x81 ∷ 0x6a ∷ 0xba ∷ 0x3e ∷ 0x25 ∷ 0x71 ∷ 0x78 ∷ 0x50 ∷
-          0xc2 ∷ 0x6c ∷ 0x9c ∷ 0xd0 ∷ 0xd8 ∷ 0x9d ∷ []) ∷ (0xa9 ∷ 0x99 ∷ 0x3e ∷ 0x36 ∷ 0x47 ∷ 0x06 ∷ 0x81 ∷ 0x6a ∷ 0xba ∷ 0x3e ∷ 0x25 ∷ 0x71 ∷ 0x78 ∷
-          0x50 ∷ 0xc2 ∷ 0x6c ∷ 0x9c ∷ 0xd0 ∷ 0xd8 ∷ 0x9d ∷ []) ∷
-          (0xa9 ∷ 0x99 ∷ 0x3e ∷ 0x36 ∷ 0x47 ∷ 0x06 ∷ 0x81 ∷ 0x6a ∷ 0xba ∷ 0x3e ∷ 0x25 ∷ 0x71 ∷ 0x78 ∷ 0x50 ∷ 0xc2 ∷ 0x6c ∷ 0x9c ∷ 0xd0 ∷ 0xd8 ∷ 0x9d ∷
-          []) ∷ (0xa9 ∷ 0x99 ∷ 0x3e ∷ 0x36 ∷ 0x47 ∷ 0x06 ∷ 0x81 ∷ 0x6a ∷ 0xba ∷ 0x3e ∷ 0x25 ∷ 0x71 ∷ 0x78 ∷ 0x50 ∷ 0xc2 ∷ 0x6c ∷ 0x9c ∷ 0xd0 ∷ 0xd8 ∷
-          0x9d ∷ []) ∷ [];
+      hashes = (0xa9 ∷ 0x99 ∷ 0x3e ∷ 0x36 ∷ 0x47 ∷ 0x06 ∷ 0x81 ∷ 0x6a ∷ 0xba ∷ 0x3e
+          ∷ 0x25 ∷ 0x71 ∷ 0x78 ∷ 0x50 ∷ 0xc2 ∷ 0x6c ∷ 0x9c ∷ 0xd0 ∷ 0xd8 ∷ 0x9d ∷ [])
+          ∷ (0xa9 ∷ 0x99 ∷ 0x3e ∷ 0x36 ∷ 0x47 ∷ 0x06 ∷ 0x81 ∷ 0x6a ∷ 0xba ∷ 0x3e
+          ∷ 0x25 ∷ 0x71 ∷ 0x78 ∷ 0x50 ∷ 0xc2 ∷ 0x6c ∷ 0x9c ∷ 0xd0 ∷ 0xd8 ∷ 0x9d ∷ [])
+          ∷ (0xa9 ∷ 0x99 ∷ 0x3e ∷ 0x36 ∷ 0x47 ∷ 0x06 ∷ 0x81 ∷ 0x6a ∷ 0xba ∷ 0x3e
+          ∷ 0x25 ∷ 0x71 ∷ 0x78 ∷ 0x50 ∷ 0xc2 ∷ 0x6c ∷ 0x9c ∷ 0xd0 ∷ 0xd8 ∷ 0x9d ∷ [])
+          ∷ (0xa9 ∷ 0x99 ∷ 0x3e ∷ 0x36 ∷ 0x47 ∷ 0x06 ∷ 0x81 ∷ 0x6a ∷ 0xba ∷ 0x3e
+          ∷ 0x25 ∷ 0x71 ∷ 0x78 ∷ 0x50 ∷ 0xc2 ∷ 0x6c ∷ 0x9c ∷ 0xd0 ∷ 0xd8 ∷ 0x9d ∷ [])
+          ∷ [];
     }
 
 abbrev pub first_request : List Event
@@ -493,6 +507,269 @@ asked_stays_asked =
     ∷ entry 1 (Next 0) (Cancel (block_of 0 0 3))
     ∷ []
 
+abbrev pub released_is_asked_elsewhere : List Event
+released_is_asked_elsewhere =
+    entry 0 Join Joined
+    ∷ entry 0 (Bits (true ∷ true ∷ [])) (Noted true)
+    ∷ entry 0 Unchoke Quiet
+    ∷ entry 1 Join Joined
+    ∷ entry 1 (Bits (true ∷ false ∷ [])) (Noted true)
+    ∷ entry 1 Unchoke Quiet
+    ∷ entry 0 (Next 0) (Request (block_of 0 0 3))
+    ∷ entry 1 (Next 0) Idle
+    ∷ entry 0 (Release 0 0) Quiet
+    ∷ entry 1 (Next 0) (Request (block_of 0 0 3))
+    ∷ entry 0 (Next 0) (Request (block_of 1 0 3))
+    ∷ []
+
+abbrev pub released_in_endgame : List Event
+released_in_endgame =
+    entry 0 Join Joined
+    ∷ entry 0 (Bits (true ∷ [])) (Noted true)
+    ∷ entry 0 Unchoke Quiet
+    ∷ entry 1 Join Joined
+    ∷ entry 1 (Bits (true ∷ [])) (Noted true)
+    ∷ entry 1 Unchoke Quiet
+    ∷ entry 0 (Next 0) (Request (block_of 0 0 3))
+    ∷ entry 1 (Next 0) (Request (block_of 0 0 3))
+    ∷ entry 0 (Release 0 0) Quiet
+    ∷ entry 1 (Next 0) Idle
+    ∷ entry 1 (Arrived 0 0 (97 ∷ 98 ∷ 99 ∷ [])) Completed
+    ∷ entry 0 (Next 0) Idle
+    ∷ entry 1 (Settle 0 (97 ∷ 98 ∷ 99 ∷ [])) Had
+    ∷ entry 0 (Next 0) NothingLeft
+    ∷ []
+
+abbrev pub released_piece_is_unbegun : List Event
+released_piece_is_unbegun =
+    entry 0 Join Joined
+    ∷ entry 0 (Bits (true ∷ true ∷ [])) (Noted true)
+    ∷ entry 0 Unchoke Quiet
+    ∷ entry 0 (Next 0) (Request (block_of 0 0 16384))
+    ∷ entry 0 (Release 0 0) Quiet
+    ∷ entry 0 (Next 1) (Request (block_of 1 0 16384))
+    ∷ entry 0 (Next 0) (Request (block_of 1 16384 16384))
+    ∷ entry 0 (Next 0) (Request (block_of 0 0 16384))
+    ∷ []
+
+abbrev pub released_is_asked_again : List Event
+released_is_asked_again =
+    entry 0 Join Joined
+    ∷ entry 0 (Bits (true ∷ [])) (Noted true)
+    ∷ entry 0 Unchoke Quiet
+    ∷ entry 0 (Next 0) (Request (block_of 0 0 3))
+    ∷ entry 0 (Next 0) Idle
+    ∷ entry 0 (Release 0 0) Quiet
+    ∷ entry 0 (Next 0) (Request (block_of 0 0 3))
+    ∷ []
+
+abbrev pub released_arrives_after_all : List Event
+released_arrives_after_all =
+    entry 0 Join Joined
+    ∷ entry 0 (Bits (true ∷ true ∷ [])) (Noted true)
+    ∷ entry 0 Unchoke Quiet
+    ∷ entry 0 (Next 0) (Request (block_of 0 0 16384))
+    ∷ entry 0 (Release 0 0) Quiet
+    ∷ entry 0 (Arrived 0 0 (replicate 16384 97)) Stored
+    ∷ entry 0 (Next 0) (Request (block_of 0 16384 16384))
+    ∷ []
+
+abbrev pub depth_of_one : List Event
+depth_of_one =
+    entry 0 Join Joined
+    ∷ entry 0 (Bits (true ∷ [])) (Noted true)
+    ∷ entry 0 Unchoke Quiet
+    ∷ entry 0 (Depth 1) Quiet
+    ∷ entry 0 (Next 0) (Request (block_of 0 0 16384))
+    ∷ entry 0 (Next 0) PipeFull
+    ∷ []
+
+abbrev pub deepened : List Event
+deepened =
+    entry 0 Join Joined
+    ∷ entry 0 (Bits (true ∷ [])) (Noted true)
+    ∷ entry 0 Unchoke Quiet
+    ∷ entry 0 (Next 0) (Request (block_of 0 0 16384))
+    ∷ entry 0 (Next 0) (Request (block_of 0 16384 16384))
+    ∷ entry 0 (Next 0) (Request (block_of 0 32768 16384))
+    ∷ entry 0 (Next 0) (Request (block_of 0 49152 16384))
+    ∷ entry 0 (Next 0) (Request (block_of 0 65536 16384))
+    ∷ entry 0 (Next 0) PipeFull
+    ∷ entry 0 (Depth 7) Quiet
+    ∷ entry 0 (Next 0) (Request (block_of 0 81920 16384))
+    ∷ entry 0 (Next 0) (Request (block_of 0 98304 16384))
+    ∷ entry 0 (Next 0) PipeFull
+    ∷ []
+
+abbrev pub depth_outlasts_a_choke : List Event
+depth_outlasts_a_choke =
+    entry 0 Join Joined
+    ∷ entry 0 (Bits (true ∷ [])) (Noted true)
+    ∷ entry 0 Unchoke Quiet
+    ∷ entry 0 (Depth 2) Quiet
+    ∷ entry 0 (Next 0) (Request (block_of 0 0 16384))
+    ∷ entry 0 (Next 0) (Request (block_of 0 16384 16384))
+    ∷ entry 0 (Next 0) PipeFull
+    ∷ entry 0 Choke Quiet
+    ∷ entry 0 Unchoke Quiet
+    ∷ entry 0 (Next 0) (Request (block_of 0 0 16384))
+    ∷ entry 0 (Next 0) (Request (block_of 0 16384 16384))
+    ∷ entry 0 (Next 0) PipeFull
+    ∷ []
+
+abbrev pub depth_goes_with_its_peer : List Event
+depth_goes_with_its_peer =
+    entry 0 Join Joined
+    ∷ entry 0 (Bits (true ∷ [])) (Noted true)
+    ∷ entry 0 Unchoke Quiet
+    ∷ entry 0 (Depth 1) Quiet
+    ∷ entry 0 (Next 0) (Request (block_of 0 0 16384))
+    ∷ entry 0 (Next 0) PipeFull
+    ∷ entry 0 Leave Quiet
+    ∷ entry 0 Join Joined
+    ∷ entry 0 (Bits (true ∷ [])) (Noted true)
+    ∷ entry 0 Unchoke Quiet
+    ∷ entry 0 (Next 0) (Request (block_of 0 0 16384))
+    ∷ entry 0 (Next 0) (Request (block_of 0 16384 16384))
+    ∷ []
+
+abbrev pub smaller_depth : List Event
+smaller_depth =
+    entry 0 Join Joined
+    ∷ entry 0 (Bits (true ∷ [])) (Noted true)
+    ∷ entry 0 Unchoke Quiet
+    ∷ entry 0 (Next 0) (Request (block_of 0 0 16384))
+    ∷ entry 0 (Next 0) (Request (block_of 0 16384 16384))
+    ∷ entry 0 (Next 0) (Request (block_of 0 32768 16384))
+    ∷ entry 0 (Depth 2) Quiet
+    ∷ entry 0 (Next 0) PipeFull
+    ∷ entry 0 (Arrived 0 0 (replicate 16384 97)) Stored
+    ∷ entry 0 (Next 0) PipeFull
+    ∷ entry 0 (Arrived 0 16384 (replicate 16384 97)) Stored
+    ∷ entry 0 (Next 0) (Request (block_of 0 49152 16384))
+    ∷ entry 0 (Next 0) PipeFull
+    ∷ []
+
+abbrev pub one_asker : List Event
+one_asker =
+    entry 0 Join Joined
+    ∷ entry 0 (Bits (true ∷ [])) (Noted true)
+    ∷ entry 0 Unchoke Quiet
+    ∷ entry 1 Join Joined
+    ∷ entry 1 (Bits (true ∷ [])) (Noted true)
+    ∷ entry 1 Unchoke Quiet
+    ∷ entry 0 (Next 0) (Request (block_of 0 0 3))
+    ∷ entry 1 (Next 0) Idle
+    ∷ entry 0 (Release 0 0) Quiet
+    ∷ entry 1 (Next 0) (Request (block_of 0 0 3))
+    ∷ entry 0 (Next 0) Idle
+    ∷ []
+
+abbrev pub two_askers : List Event
+two_askers =
+    entry 0 Join Joined
+    ∷ entry 0 (Bits (true ∷ [])) (Noted true)
+    ∷ entry 0 Unchoke Quiet
+    ∷ entry 1 Join Joined
+    ∷ entry 1 (Bits (true ∷ [])) (Noted true)
+    ∷ entry 1 Unchoke Quiet
+    ∷ entry 0 (Next 0) (Request (block_of 0 0 3))
+    ∷ entry 1 (Next 0) (Request (block_of 0 0 3))
+    ∷ entry 2 Join Joined
+    ∷ entry 2 (Bits (true ∷ [])) (Noted true)
+    ∷ entry 2 Unchoke Quiet
+    ∷ entry 2 (Next 0) Idle
+    ∷ entry 1 Choke Quiet
+    ∷ entry 2 (Next 0) (Request (block_of 0 0 3))
+    ∷ []
+
+abbrev pub no_depth_may_be_told : List Event
+no_depth_may_be_told =
+    entry 0 Join Joined
+    ∷ entry 0 (Depth 1) (Refused WrongDepth)
+    ∷ []
+
+abbrev pub greatest_depth : List Event
+greatest_depth =
+    entry 0 Join Joined
+    ∷ entry 0 (Depth 4097) (Refused WrongDepth)
+    ∷ entry 0 (Depth 4096) Quiet
+    ∷ []
+
+abbrev pub refusals_of_release_and_depth : List Event
+refusals_of_release_and_depth =
+    entry 0 (Release 0 0) (Refused NotJoined)
+    ∷ entry 0 (Depth 3) (Refused NotJoined)
+    ∷ entry 0 Join Joined
+    ∷ entry 0 (Bits (true ∷ true ∷ true ∷ [])) (Noted true)
+    ∷ entry 0 Unchoke Quiet
+    ∷ entry 0 (Release 0 0) (Refused NotAsked)
+    ∷ entry 0 (Next 0) (Request (block_of 0 0 3))
+    ∷ entry 1 Join Joined
+    ∷ entry 1 (Bits (true ∷ false ∷ false ∷ [])) (Noted true)
+    ∷ entry 1 Unchoke Quiet
+    ∷ entry 1 (Release 0 0) (Refused NotAsked)
+    ∷ entry 0 (Release 0 1) (Refused NotAsked)
+    ∷ entry 0 (Release 9 0) (Refused NotAsked)
+    ∷ entry 0 (Depth 0) (Refused WrongDepth)
+    ∷ entry 0 (Depth 65) (Refused WrongDepth)
+    ∷ entry 0 (Depth 64) Quiet
+    ∷ entry 0 (Release 0 0) Quiet
+    ∷ entry 0 (Release 0 0) (Refused NotAsked)
+    ∷ []
+
+abbrev pub haves_after_a_bitfield : List Event
+haves_after_a_bitfield =
+    entry 0 Join Joined
+    ∷ entry 0 (Bits (true ∷ false ∷ false ∷ [])) (Noted true)
+    ∷ entry 0 (Haves (false ∷ true ∷ false ∷ [])) (Noted true)
+    ∷ entry 0 Unchoke Quiet
+    ∷ entry 0 (Next 0) (Request (block_of 1 0 3))
+    ∷ entry 0 (Arrived 1 0 (97 ∷ 98 ∷ 99 ∷ [])) Completed
+    ∷ entry 0 (Settle 1 (97 ∷ 98 ∷ 99 ∷ [])) Had
+    ∷ entry 0 (Next 0) (Request (block_of 0 0 3))
+    ∷ entry 0 (Next 0) Idle
+    ∷ []
+
+abbrev pub haves_after_a_have : List Event
+haves_after_a_have =
+    entry 0 Join Joined
+    ∷ entry 0 (Have 2) (Noted true)
+    ∷ entry 0 (Haves (true ∷ false ∷ false ∷ [])) (Noted true)
+    ∷ entry 0 (Bits (true ∷ true ∷ true ∷ [])) (Refused LateBits)
+    ∷ entry 0 Unchoke Quiet
+    ∷ entry 0 (Next 0) (Request (block_of 2 0 1))
+    ∷ entry 0 (Next 0) (Request (block_of 0 0 3))
+    ∷ entry 0 (Next 0) Idle
+    ∷ []
+
+abbrev pub haves_of_none : List Event
+haves_of_none =
+    entry 0 (Haves (true ∷ true ∷ true ∷ [])) (Refused NotJoined)
+    ∷ entry 0 Join Joined
+    ∷ entry 0 (Haves (false ∷ false ∷ false ∷ false ∷ [])) (Refused WrongCount)
+    ∷ entry 0 (Haves (false ∷ false ∷ false ∷ [])) (Noted false)
+    ∷ entry 0 (Bits (true ∷ true ∷ true ∷ [])) (Refused LateBits)
+    ∷ entry 0 Unchoke Quiet
+    ∷ entry 0 (Next 0) NothingLeft
+    ∷ entry 1 Join Joined
+    ∷ entry 1 (Bits (true ∷ false ∷ false ∷ [])) (Noted true)
+    ∷ entry 1 (Haves (false ∷ false ∷ false ∷ [])) (Noted true)
+    ∷ entry 1 Unchoke Quiet
+    ∷ entry 1 (Next 0) (Request (block_of 0 0 3))
+    ∷ []
+
+abbrev pub haves_are_counted : List Event
+haves_are_counted =
+    entry 0 Join Joined
+    ∷ entry 0 (Bits (true ∷ true ∷ true ∷ [])) (Noted true)
+    ∷ entry 0 Unchoke Quiet
+    ∷ entry 1 Join Joined
+    ∷ entry 1 (Bits (true ∷ false ∷ false ∷ [])) (Noted true)
+    ∷ entry 1 (Haves (false ∷ false ∷ true ∷ [])) (Noted true)
+    ∷ entry 0 (Next 0) (Request (block_of 1 0 3))
+    ∷ []
+
 abbrev pub idle_though_a_block_is_usable : Event
 idle_though_a_block_is_usable = entry 0 (Next 5) Idle
 
@@ -585,3 +862,84 @@ bits_late_by_a_want = entry 0 (Bits (true ∷ true ∷ true ∷ [])) (Refused La
 
 abbrev pub unwanted_block_freed : Event
 unwanted_block_freed = entry 0 (Next 0) (Request (block_of 0 0 3))
+
+abbrev pub idle_though_another_peer_released : Event
+idle_though_another_peer_released = entry 1 (Next 0) Idle
+
+abbrev pub cancel_of_what_another_peer_released : Event
+cancel_of_what_another_peer_released = entry 1 (Next 0) (Cancel (block_of 0 0 3))
+
+abbrev pub cancel_of_a_released_block : Event
+cancel_of_a_released_block = entry 0 (Next 0) (Cancel (block_of 0 0 3))
+
+abbrev pub released_piece_continued : Event
+released_piece_continued = entry 0 (Next 0) (Request (block_of 0 16384 16384))
+
+abbrev pub idle_though_released : Event
+idle_though_released = entry 0 (Next 0) Idle
+
+abbrev pub released_block_dropped : Event
+released_block_dropped = entry 0 (Arrived 0 0 (replicate 16384 97)) Dropped
+
+abbrev pub second_request_at_a_depth_of_one : Event
+second_request_at_a_depth_of_one = entry 0 (Next 0) (Request (block_of 0 16384 16384))
+
+abbrev pub pipe_full_though_deepened : Event
+pipe_full_though_deepened = entry 0 (Next 0) PipeFull
+
+abbrev pub depth_forgotten_at_a_choke : Event
+depth_forgotten_at_a_choke = entry 0 (Next 0) (Request (block_of 0 32768 16384))
+
+abbrev pub depth_outlasts_its_peer : Event
+depth_outlasts_its_peer = entry 0 (Next 0) PipeFull
+
+abbrev pub request_beyond_a_smaller_depth : Event
+request_beyond_a_smaller_depth = entry 0 (Next 0) (Request (block_of 0 49152 16384))
+
+abbrev pub pipe_full_though_enough_came : Event
+pipe_full_though_enough_came = entry 0 (Next 0) PipeFull
+
+abbrev pub second_asker_of_one : Event
+second_asker_of_one = entry 1 (Next 0) (Request (block_of 0 0 3))
+
+abbrev pub third_asker_of_two : Event
+third_asker_of_two = entry 2 (Next 0) (Request (block_of 0 0 3))
+
+abbrev pub second_asker_of_two_idle : Event
+second_asker_of_two_idle = entry 1 (Next 0) Idle
+
+abbrev pub depth_told_though_none_may_be : Event
+depth_told_though_none_may_be = entry 0 (Depth 1) Quiet
+
+abbrev pub depth_beyond_any : Event
+depth_beyond_any = entry 0 (Depth 4097) Quiet
+
+abbrev pub unasked_block_released : Event
+unasked_block_released = entry 0 (Release 0 0) Quiet
+
+abbrev pub block_of_another_peer_released : Event
+block_of_another_peer_released = entry 1 (Release 0 0) Quiet
+
+abbrev pub depth_of_none_told : Event
+depth_of_none_told = entry 0 (Depth 0) Quiet
+
+abbrev pub depth_beyond_the_rules_told : Event
+depth_beyond_the_rules_told = entry 0 (Depth 65) Quiet
+
+abbrev pub block_released_twice : Event
+block_released_twice = entry 0 (Release 0 0) Quiet
+
+abbrev pub idle_though_the_bitfield_shows_more : Event
+idle_though_the_bitfield_shows_more = entry 0 (Next 0) Idle
+
+abbrev pub nothing_left_though_the_bitfield_shows_more : Event
+nothing_left_though_the_bitfield_shows_more = entry 0 (Next 0) NothingLeft
+
+abbrev pub bits_after_haves_noted : Event
+bits_after_haves_noted = entry 0 (Bits (true ∷ true ∷ true ∷ [])) (Noted true)
+
+abbrev pub haves_noted_without_the_bits : Event
+haves_noted_without_the_bits = entry 1 (Haves (false ∷ false ∷ false ∷ [])) (Noted false)
+
+abbrev pub availability_without_the_haves : Event
+availability_without_the_haves = entry 0 (Next 0) (Request (block_of 2 0 1))

@@ -1,20 +1,20 @@
 -- Which reply is allowed after a history, and which histories are legal.
-use Rattle.std.specs.Prelude.{ℕ, ◌<◌, ◌≡◌, IsTrue, ◌==◌, nat_le, Bool, not, ◌&&◌, ◌||◌, List, [], ◌∷◌, Option, Some, None, length, if◌then◌else◌}
+use Rattle.std.specs.Prelude.{ℕ, ◌<◌, ◌≡◌, IsTrue, ◌==◌, nat_le, nat_lt, Bool, not, ◌&&◌, ◌||◌, List, [], ◌∷◌, Option, Some, None, length, if◌then◌else◌}
 use lib.Pointwise.{pointwise}
 use Rattle.sha1.specs.Sha1.{sha1}
 use Rattle.bt_meta.specs.declared.block.Block.{Block}
 use Rattle.bt_meta.specs.Layout.{Layout, piece_count, hash_of}
 use Rattle.bt_history.specs.declared.call.Reason.{Reason}
 use Rattle.bt_history.specs.declared.call.Reason.TheVariants.{NotJoined, AlreadyJoined, LateBits, WrongCount, NoSuchPiece, NoSuchBlock, WrongLength}
-use Rattle.bt_history.specs.declared.call.Reason.TheVariants.{NotWaiting, Stale}
+use Rattle.bt_history.specs.declared.call.Reason.TheVariants.{NotWaiting, Stale, NotAsked, WrongDepth}
 use Rattle.bt_history.specs.declared.call.Reply.{Reply}
 use Rattle.bt_history.specs.declared.call.Reply.TheVariants.{Joined, Noted, Quiet, Cancel, Request, Stored, Completed, Dropped, Had, Failed, Refused}
 use Rattle.bt_history.specs.declared.event.Action.{Action}
-use Rattle.bt_history.specs.declared.event.Action.TheVariants.{Join, Bits, Have, Choke, Unchoke, Next, Arrived, Settle, Leave, Want}
+use Rattle.bt_history.specs.declared.event.Action.TheVariants.{Join, Bits, Have, Choke, Unchoke, Next, Arrived, Settle, Leave, Want, Haves, Depth, Release}
 use Rattle.bt_history.specs.declared.event.Event.{Event}
-use Rattle.bt_history.specs.Setting.{Setting, some_block_of, each_block_of, is_block}
+use Rattle.bt_history.specs.Setting.{Setting, deepest_told, some_block_of, each_block_of, is_block}
 use Rattle.bt_history.specs.History.{History}
-use Rattle.bt_history.specs.Peers.{joined, late, shows, shows_after}
+use Rattle.bt_history.specs.Peers.{joined, late, shows, shows_after, asked}
 use Rattle.bt_history.specs.Pieces.{held, full, content, had, lacks}
 use Rattle.bt_history.specs.Next.{Answer, Exactly, CancelOf, RequestOf, next_answer}
 
@@ -41,6 +41,10 @@ no_count s flags = (not (length flags == piece_count s.torrent), WrongCount)
 abbrev pub no_piece : Setting → ℕ → Bool × Reason
 no_piece s p = (nat_le (piece_count s.torrent) p, NoSuchPiece)
 
+-- the block that begins there, of no length: what is asked for goes by where it begins
+abbrev pub place_at : ℕ → ℕ → Block
+place_at p begin = record { piece = p; begin = begin; len = 0 }
+
 -- why the call is refused, if it is: the causes are tried in order
 unfoldable pub refusal : Setting → History → ℕ → Action → Option Reason
 refusal s h w Join = first_cause ((joined h w, AlreadyJoined) ∷ [])
@@ -58,6 +62,9 @@ refusal s h w (Settle p bytes) = first_cause (
     no_piece s p ∷ (not (full s h p) || had h p, NotWaiting) ∷ (not (same_bytes bytes (content s h p)), Stale) ∷ [])
 refusal s h w Leave = first_cause (no_peer h w ∷ [])
 refusal s h w (Want flags) = first_cause (no_count s flags ∷ [])
+refusal s h w (Haves flags) = first_cause (no_peer h w ∷ no_count s flags ∷ [])
+refusal s h w (Depth n) = first_cause (no_peer h w ∷ (nat_lt n 1 || nat_lt (deepest_told s) n, WrongDepth) ∷ [])
+refusal s h w (Release p begin) = first_cause (no_peer h w ∷ (not (asked h w (place_at p begin)), NotAsked) ∷ [])
 
 -- ---- answers
 
@@ -89,6 +96,9 @@ answer s h w (Arrived p begin bytes) = arrived_answer s h p begin
 answer s h w (Settle p bytes) = settled_answer s h p
 answer s h w Leave = Exactly Quiet
 answer s h w (Want flags) = Exactly Quiet
+answer s h w (Haves flags) = Exactly (Noted (interesting_after s h w (Haves flags)))
+answer s h w (Depth n) = Exactly Quiet
+answer s h w (Release p begin) = Exactly Quiet
 
 -- a refusal for this reason, if there is one, else the answer
 abbrev pub answer_unless : Option Reason → Answer → Answer

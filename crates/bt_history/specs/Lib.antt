@@ -9,3 +9,5 @@ pub mod Legal
 pub mod Entries
 pub mod Logs
 pub mod Examples
+pub mod Before
+pub mod Epochs

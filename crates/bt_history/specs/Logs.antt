@@ -7,7 +7,7 @@ use Rattle.bt_history.specs.declared.event.Action.{Action}
 use Rattle.bt_history.specs.declared.event.Action.TheVariants as actions
 use Rattle.bt_history.specs.declared.event.Event.{Event}
 use Rattle.bt_history.specs.declared.mark.CallMark.{CallMark}
-use Rattle.bt_history.specs.declared.mark.CallMark.TheVariants.{Join, Bits, Have, Choke, Unchoke, Next, Arrived, Settle, Leave, Want}
+use Rattle.bt_history.specs.declared.mark.CallMark.TheVariants.{Join, Bits, Have, Choke, Unchoke, Next, Arrived, Settle, Leave, Want, Haves, Depth, Release}
 use Rattle.bt_history.specs.declared.mark.Mark.{Mark}
 use Rattle.bt_history.specs.History.{History}
 
@@ -23,6 +23,9 @@ call_mark (actions.Arrived p begin bytes) = Arrived p begin (length bytes)
 call_mark (actions.Settle p bytes) = Settle p
 call_mark actions.Leave = Leave
 call_mark (actions.Want flags) = Want
+call_mark (actions.Haves flags) = Haves
+call_mark (actions.Depth n) = Depth n
+call_mark (actions.Release p begin) = Release p begin
 
 -- the mark of an entry that so many entries are older than
 abbrev pub mark_of : ℕ → Event → Mark
@@ -64,6 +67,9 @@ answers Choke Quiet = true
 answers Unchoke Quiet = true
 answers Leave Quiet = true
 answers Want Quiet = true
+answers Haves (Noted shown) = true
+answers (Depth n) Quiet = true
+answers (Release p begin) Quiet = true
 answers (Next word) reply = answers_next reply
 answers (Arrived p begin len) reply = answers_arrived reply
 answers (Settle p) Had = true

@@ -7,8 +7,8 @@ use Rattle.bt_history.specs.declared.call.Reply.TheVariants.{Choked, PipeFull, I
 use Rattle.bt_history.specs.Counting.{all_below}
 use Rattle.bt_history.specs.Setting.{Setting, some_block}
 use Rattle.bt_history.specs.History.{History}
-use Rattle.bt_history.specs.Peers.{shows, is_open, asked, asked_count, due}
-use Rattle.bt_history.specs.Pieces.{held, unasked, begun, unbegun, availability, wanted, endgame, interesting, had_count}
+use Rattle.bt_history.specs.Peers.{shows, is_open, asked, asked_count, due, depth_of}
+use Rattle.bt_history.specs.Pieces.{held, asker_count, unasked, begun, unbegun, availability, wanted, endgame, interesting, had_count}
 
 -- just this reply, or a Cancel or a Request of any block that passes the test
 pub data Answer : Type 0 where
@@ -39,16 +39,18 @@ starts s h q b =
     usable s h q b && (unbegun s h b.piece
     && (nat_lt (had_count s h) s.random || is_rarest s h q b.piece))
 
--- a wanted block that is lacking, which q could give and isn't asked for
+-- a wanted block that is lacking, which q could give and isn't asked for, nor are as many others as may be
 abbrev pub doubles : Setting → History → ℕ → Block → Bool
-doubles s h q b = wanted s h b.piece && (shows h q b.piece && (not (held h b) && not (asked h q b)))
+doubles s h q b =
+    wanted s h b.piece && (shows h q b.piece
+    && (not (held h b) && (nat_lt (asker_count s h b) s.askers && not (asked h q b))))
 
 -- the answer to Next of q: the first case that applies
 unfoldable pub next_answer : Setting → History → ℕ → Answer
 next_answer s h q =
     if some_block s.torrent (due h q) then CancelOf (due h q)
     else if not (is_open h q) then Exactly Choked
-    else if nat_le s.depth (asked_count s h q) then Exactly PipeFull
+    else if nat_le (depth_of s h q) (asked_count s h q) then Exactly PipeFull
     else if some_block s.torrent (continues s h q) then RequestOf (continues s h q)
     else if some_block s.torrent (usable s h q) then RequestOf (starts s h q)
     else if endgame s h && some_block s.torrent (doubles s h q) then RequestOf (doubles s h q)

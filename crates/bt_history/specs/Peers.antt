@@ -1,10 +1,10 @@
 -- What a history says of a peer. It goes by the number q of its worker.
 use Rattle.std.specs.Prelude.{◌≡◌, ℕ, ◌==◌, Bool, true, false, not, ◌&&◌, ◌||◌, List, [], ◌∷◌, ◌++◌, All, length, if◌then◌else◌}
-use Rattle.std.specs.Prelude.{Option, Some, is_some, is_none, slice_index_or}
+use Rattle.std.specs.Prelude.{Option, None, Some, is_some, is_none, slice_index_or, unwrap_or, max}
 use Rattle.std.specs.List.{filter, list_any}
 use Rattle.bt_meta.specs.declared.block.Block.{Block}
 use Rattle.bt_history.specs.declared.event.Action.{Action}
-use Rattle.bt_history.specs.declared.event.Action.TheVariants.{Join, Bits, Have, Choke, Unchoke, Arrived, Leave}
+use Rattle.bt_history.specs.declared.event.Action.TheVariants.{Join, Bits, Have, Choke, Unchoke, Arrived, Leave, Haves, Depth, Release}
 use Rattle.bt_history.specs.declared.event.Event.{Event}
 use Rattle.bt_history.specs.History.{History, own_call, same_begin, stored, requested, cancelled}
 use Rattle.bt_history.specs.Setting.{Setting, count_blocks, is_block}
@@ -25,6 +25,7 @@ abbrev pub late_after : Option Action → Bool → Bool
 late_after (Some Join) before = false
 late_after (Some (Bits flags)) before = true
 late_after (Some (Have p)) before = true
+late_after (Some (Haves flags)) before = true
 late_after (Some Choke) before = true
 late_after (Some Unchoke) before = true
 late_after (Some (Arrived piece begin bytes)) before = true
@@ -45,6 +46,7 @@ shows_after (Some Join) p before = false
 shows_after (Some Leave) p before = false
 shows_after (Some (Bits flags)) p before = flag flags p
 shows_after (Some (Have piece)) p before = (piece == p) || before
+shows_after (Some (Haves flags)) p before = flag flags p || before
 shows_after call p before = before
 
 -- q told that it has piece p
@@ -72,15 +74,24 @@ resets (Some Join) = true
 resets (Some Leave) = true
 resets call = false
 
+-- the call gives up block b at its peer
+abbrev pub releases : Option Action → Block → Bool
+releases (Some (Release piece begin)) b = (piece == b.piece) && (begin == b.begin)
+releases call b = false
+
+-- block b stays asked of q, if it was: the entry neither stored it, from anybody, nor gave it up at q
+abbrev pub lasts : ℕ → Event → Block → Bool
+lasts q e b = is_none (stored e b) && not (releases (own_call q e) b)
+
 -- the entry asked block b of q
 abbrev pub asks : ℕ → Event → Block → Bool
 asks q e b = list_any (λ a. same_begin a b) (requested q e)
 
--- block b is asked of q: requested, and since then neither stored from anybody nor freed
+-- block b is asked of q: requested, and since then neither stored from anybody, nor freed, nor given up at q
 unfoldable pub asked : History → ℕ → Block → Bool
 asked [] q b = false
 asked (e ∷ h) q b =
-    not (resets (own_call q e)) && ((is_none (stored e b) && asked h q b) || asks q e b)
+    not (resets (own_call q e)) && ((lasts q e b && asked h q b) || asks q e b)
 
 -- how many blocks are asked of q
 abbrev pub asked_count : Setting → History → ℕ → ℕ
@@ -91,7 +102,7 @@ unfoldable pub outstanding : History → ℕ → List Block
 outstanding [] q = []
 outstanding (e ∷ h) q =
     if resets (own_call q e) then []
-    else filter (λ b. is_none (stored e b)) (outstanding h q) ++ requested q e
+    else filter (lasts q e) (outstanding h q) ++ requested q e
 
 -- a block of the list begins where b does
 abbrev pub has_place : Block → List Block → Bool
@@ -131,3 +142,26 @@ dues (e ∷ h) q =
 -- how many cancels are due at q
 abbrev pub due_count : Setting → History → ℕ → ℕ
 due_count s h q = count_blocks s.torrent (due h q)
+
+-- ---- how deep the pipe of a peer is
+
+-- the depth that was told of a peer then, if one was: a peer that joins begins with none
+abbrev pub told_after : Option Action → Option ℕ → Option ℕ
+told_after (Some (Depth n)) before = Some n
+told_after (Some Join) before = None
+told_after call before = before
+
+-- the depth that was told of q since it joined, if one was
+unfoldable pub told_depth : History → ℕ → Option ℕ
+told_depth [] q = None
+told_depth (e ∷ h) q = told_after (own_call q e) (told_depth h q)
+
+-- so many blocks may be asked of q at a time: as many as were told, or else as the rules say
+abbrev pub depth_of : Setting → History → ℕ → ℕ
+depth_of s h q = unwrap_or (told_depth h q) s.depth
+
+-- the greatest depth of q since nothing was asked of it: of its peer, since that joined or choked us
+unfoldable pub depth_so_far : Setting → History → ℕ → ℕ
+depth_so_far s [] q = s.depth
+depth_so_far s (e ∷ h) q =
+    if resets (own_call q e) then depth_of s (e ∷ h) q else max (depth_of s (e ∷ h) q) (depth_so_far s h q)

@@ -20,6 +20,12 @@ kept (e ∷ h) b =
 abbrev pub held : History → Block → Bool
 held h b = is_some (kept h b)
 
+-- the worker whose peer brought block b, if it is held
+unfoldable pub sender : History → Block → Option ℕ
+sender [] b = None
+sender (e ∷ h) b =
+    if failed e b.piece then None else if is_some (stored e b) then Some e.worker else sender h b
+
 -- the bytes of block b, or none
 abbrev pub content_of_block : History → Block → List ℕ
 content_of_block h b = unwrap_or (kept h b) []
@@ -45,6 +51,10 @@ had (e ∷ h) p = passed e p || had h p
 -- block b is asked of some peer
 abbrev pub asked_of_some : Setting → History → Block → Bool
 asked_of_some s h b = any_below s.workers (λ q. asked h q b)
+
+-- of how many peers block b is asked
+abbrev pub asker_count : Setting → History → Block → ℕ
+asker_count s h b = count_below s.workers (λ q. asked h q b)
 
 -- block b is held, or asked of some peer
 abbrev pub held_or_asked : Setting → History → Block → Bool

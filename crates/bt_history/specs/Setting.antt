@@ -1,26 +1,43 @@
 -- What a history is judged by, and tests over the blocks of its torrent.
-use Rattle.std.specs.Prelude.{ℕ, ◌≤◌, Bool, ◌&&◌, ◌==◌, nat_lt}
+use Rattle.std.specs.Prelude.{ℕ, ◌≤◌, Bool, ◌&&◌, ◌==◌, nat_lt, min, max}
 use Rattle.bt_meta.specs.declared.block.Block.{Block}
 use Rattle.bt_meta.specs.Layout.{Layout, piece_count, block_count, block}
 use Rattle.bt_history.specs.declared.rules.Rules.{Rules}
-use Rattle.bt_history.specs.declared.rules.TheConstants.{MOST_DEPTH}
+use Rattle.bt_history.specs.declared.rules.TheConstants.{MOST_DEPTH, MOST_TOLD_DEPTH, MOST_WORKERS}
 use Rattle.bt_history.specs.Counting.{any_below, all_below, count_below, sum_below}
 
--- the torrent, how many workers there are, how many blocks may be asked of one peer,
--- and how many pieces are picked at random before the rarest come first
+-- the torrent, how many workers there are, how many blocks may be asked of one peer, how many pieces are picked at random before the
+-- rarest come first, of how many peers one block may be asked in endgame, and which depth may be told of a peer at most
 pub record Setting : Type 0 where
   pub torrent : Layout
   pub workers : ℕ
   pub depth : ℕ
   pub random : ℕ
+  pub askers : ℕ
+  pub deepest : ℕ
 
 -- the torrent with so many workers, by these rules
 abbrev pub setting_of : Layout → ℕ → Rules → Setting
-setting_of t n rules = record { torrent = t; workers = n; depth = rules.depth; random = rules.random }
+setting_of t n rules = record {
+  torrent = t;
+  workers = n;
+  depth = rules.depth;
+  random = rules.random;
+  askers = rules.askers;
+  deepest = rules.deepest;
+}
 
--- the usual rules: five blocks in a peer's pipe, and the first piece at random
+-- the greatest depth that may be told of a peer
+abbrev pub deepest_told : Setting → ℕ
+deepest_told s = min s.deepest MOST_TOLD_DEPTH
+
+-- so many blocks at most are asked of one peer, whatever is told
+abbrev pub deepest_line : Setting → ℕ
+deepest_line s = max s.depth (deepest_told s)
+
+-- the usual rules: five blocks in a peer's pipe, the first piece at random, any number of peers for a block in endgame
 abbrev pub usual_rules : Rules
-usual_rules = record { depth = 5; random = 1 }
+usual_rules = record { depth = 5; random = 1; askers = MOST_WORKERS; deepest = MOST_DEPTH }
 
 -- a picker of this torrent may go by these rules
 pub record AreRules (t : Layout) (rules : Rules) : Type 0 where

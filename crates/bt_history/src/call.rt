@@ -10,8 +10,8 @@ use bt_meta::{Bitfield, Block};
 use bytes::Bytes;
 use std::sync::Arc;
 
-/// What a peer's worker tells the picker of its peer, or asks of it. All but `Next`, `Settle` and `Want` tell
-/// what came on the wire (BEP 3).
+/// What a peer's worker tells the picker of its peer, or asks of it. All but `Next`, `Settle`, `Want`, `Depth` and `Release` tell what came
+/// on the wire (BEP 3, BEP 6).
 #[derive(Drop)]
 pub enum Call {
     /// The handshakes were exchanged.
@@ -39,6 +39,18 @@ pub enum Call {
     /// From now on just the pieces with their flag set are to be downloaded. Any worker may tell this, and the newest holds for all.
     /// Until there is one, each piece is. What was asked before stays asked.
     Want(Bitfield),
+    /// The peer has these pieces too, at any time: a `have` for each of them. A second `bitfield`, which some clients send, and
+    /// `have all` and `have none` (BEP 6) are told so.
+    Haves(Bitfield),
+    /// From now on so many blocks may be asked of this peer at a time, until another number is told or the worker's next peer joins. What
+    /// is asked stays asked: where more is asked than the new number, nothing is asked until enough came.
+    Depth(u32),
+    /// The block that begins there, `begin` bytes into the piece, is asked of the peer no more: the peer rejected it (BEP 6), it took too
+    /// long, or the request was not sent. Of other peers it stays asked, no cancel comes due, and any peer may be asked for it again.
+    Release {
+        piece: u32,
+        begin: u32,
+    },
 }
 
 /// Why a call was refused.
@@ -58,6 +70,10 @@ pub enum Reason {
     NotWaiting,
     /// The bytes that were hashed are no longer those held.
     Stale,
+    /// The block isn't asked of the peer.
+    NotAsked,
+    /// A depth of 0, or a greater one than the rules let be told.
+    WrongDepth,
 }
 
 /// What the picker answers to a call.
@@ -116,11 +132,18 @@ impl Call {
             Call::Settle(verdict) => CallMark::Settle(verdict.piece()),
             Call::Leave => CallMark::Leave,
             Call::Want(_) => CallMark::Want,
+            Call::Haves(_) => CallMark::Haves,
+            Call::Depth(depth) => CallMark::Depth(*depth),
+            Call::Release { piece, begin } => CallMark::Release {
+                piece: *piece,
+                begin: *begin,
+            },
         }
     }
 }
 
 impl Reply {
+    ghost use Rattle.bt_history.specs.Epochs.{is_request};
     ghost use Rattle.bt_history.specs.History.{counts, stores};
 
     /// Whether the call was refused, and so changed nothing but the journal.
@@ -128,6 +151,13 @@ impl Reply {
         ensures { result ≡ not (counts self) }
     {
         matches!(self, Reply::Refused(_))
+    }
+
+    /// Whether a block is to be asked for.
+    pub fn is_request(self) -> bool
+        ensures { result ≡ is_request self }
+    {
+        matches!(self, Reply::Request(_))
     }
 
     /// Whether the block that arrived was stored.

@@ -22,6 +22,12 @@ pub enum Action {
     },
     Leave,
     Want(LinkedList<bool>),
+    Haves(LinkedList<bool>),
+    Depth(u32),
+    Release {
+        piece: u32,
+        begin: u32,
+    },
 }
 
 /// An entry by its plain values.

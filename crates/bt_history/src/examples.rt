@@ -2,15 +2,20 @@
 ghost use Rattle.std.specs.Prelude.{reverse, take};
 ghost use Rattle.bt_history.specs.Setting.{setting_of, usual_rules};
 ghost use Rattle.bt_history.specs.Legal.{IsLegal, IsAllowed};
-ghost use Rattle.bt_history.specs.Examples.{rules, torrent_short_last, torrent_one_piece, torrent_two_pieces, torrent_two_blocks};
-ghost use Rattle.bt_history.specs.Examples.{torrent_many_blocks, torrent_four_pieces, first_request, another_first_request};
-ghost use Rattle.bt_history.specs.Examples.{one_peer_to_the_end, rarest_first, full_pipe, choke_frees, cancel_in_endgame};
-ghost use Rattle.bt_history.specs.Examples.{no_double_before_endgame, double_outlasts_endgame, failed_check, failed_check_in_endgame};
-ghost use Rattle.bt_history.specs.Examples.{held_block_dropped, block_by_block, refusals, wrong_count, stale_verdict, random_first_piece};
-ghost use Rattle.bt_history.specs.Examples.{rare_first_piece_too, strict_priority, gone_peer_not_counted, rejoin_in_endgame, depth_two};
-ghost use Rattle.bt_history.specs.Examples.{deep_pipe, rarest_from_the_start, second_piece_at_random, rarest_after_two_pieces, wants};
-ghost use Rattle.bt_history.specs.Examples.{endgame_of_the_wanted, want_before_the_bits, asked_stays_asked, idle_though_a_block_is_usable};
-ghost use Rattle.bt_history.specs.Examples.{second_piece_started_while_a_begun_one_has_a_usable_block};
+ghost use Rattle.bt_history.specs.Examples.{rules, bounded_rules, torrent_short_last, torrent_one_piece, torrent_two_pieces};
+ghost use Rattle.bt_history.specs.Examples.{torrent_two_blocks, torrent_many_blocks, torrent_four_pieces, first_request};
+ghost use Rattle.bt_history.specs.Examples.{another_first_request, one_peer_to_the_end, rarest_first, full_pipe, choke_frees};
+ghost use Rattle.bt_history.specs.Examples.{cancel_in_endgame, no_double_before_endgame, double_outlasts_endgame, failed_check};
+ghost use Rattle.bt_history.specs.Examples.{failed_check_in_endgame, held_block_dropped, block_by_block, refusals, wrong_count};
+ghost use Rattle.bt_history.specs.Examples.{stale_verdict, random_first_piece, rare_first_piece_too, strict_priority};
+ghost use Rattle.bt_history.specs.Examples.{gone_peer_not_counted, rejoin_in_endgame, depth_two, deep_pipe, rarest_from_the_start};
+ghost use Rattle.bt_history.specs.Examples.{second_piece_at_random, rarest_after_two_pieces, wants, endgame_of_the_wanted};
+ghost use Rattle.bt_history.specs.Examples.{want_before_the_bits, asked_stays_asked, released_is_asked_elsewhere, released_in_endgame};
+ghost use Rattle.bt_history.specs.Examples.{released_piece_is_unbegun, released_is_asked_again, released_arrives_after_all, depth_of_one};
+ghost use Rattle.bt_history.specs.Examples.{deepened, depth_outlasts_a_choke, depth_goes_with_its_peer, smaller_depth, one_asker};
+ghost use Rattle.bt_history.specs.Examples.{two_askers, no_depth_may_be_told, greatest_depth, refusals_of_release_and_depth};
+ghost use Rattle.bt_history.specs.Examples.{haves_after_a_bitfield, haves_after_a_have, haves_of_none, haves_are_counted};
+ghost use Rattle.bt_history.specs.Examples.{idle_though_a_block_is_usable, second_piece_started_while_a_begun_one_has_a_usable_block};
 ghost use Rattle.bt_history.specs.Examples.{availability_counts_a_peer_that_left, commoner_piece_started};
 ghost use Rattle.bt_history.specs.Examples.{second_peer_asked_while_a_block_is_unasked, second_peer_asked_before_endgame};
 ghost use Rattle.bt_history.specs.Examples.{had_with_another_hash, replaced_bytes_settled, replaced_bytes_failed};
@@ -21,7 +26,16 @@ ghost use Rattle.bt_history.specs.Examples.{pipe_full_at_depth_two_after_one, pi
 ghost use Rattle.bt_history.specs.Examples.{first_piece_at_random_though_none_is, third_piece_at_random, unwanted_block_asked};
 ghost use Rattle.bt_history.specs.Examples.{older_want_still_counts, idle_though_nothing_is_wanted, unwanted_piece_noted};
 ghost use Rattle.bt_history.specs.Examples.{want_of_a_stranger_refused, want_of_a_wrong_count_taken, unwanted_block_keeps_endgame_off};
-ghost use Rattle.bt_history.specs.Examples.{bits_late_by_a_want, unwanted_block_freed};
+ghost use Rattle.bt_history.specs.Examples.{bits_late_by_a_want, unwanted_block_freed, idle_though_another_peer_released};
+ghost use Rattle.bt_history.specs.Examples.{cancel_of_what_another_peer_released, cancel_of_a_released_block, released_piece_continued};
+ghost use Rattle.bt_history.specs.Examples.{idle_though_released, released_block_dropped, second_request_at_a_depth_of_one};
+ghost use Rattle.bt_history.specs.Examples.{pipe_full_though_deepened, depth_forgotten_at_a_choke, depth_outlasts_its_peer};
+ghost use Rattle.bt_history.specs.Examples.{request_beyond_a_smaller_depth, pipe_full_though_enough_came, second_asker_of_one};
+ghost use Rattle.bt_history.specs.Examples.{third_asker_of_two, second_asker_of_two_idle, depth_told_though_none_may_be, depth_beyond_any};
+ghost use Rattle.bt_history.specs.Examples.{unasked_block_released, block_of_another_peer_released, depth_of_none_told};
+ghost use Rattle.bt_history.specs.Examples.{depth_beyond_the_rules_told, block_released_twice, idle_though_the_bitfield_shows_more};
+ghost use Rattle.bt_history.specs.Examples.{nothing_left_though_the_bitfield_shows_more, bits_after_haves_noted};
+ghost use Rattle.bt_history.specs.Examples.{haves_noted_without_the_bits, availability_without_the_haves};
 
 /// The worked examples are legal histories.
 pub fn worked_examples()
@@ -55,6 +69,25 @@ pub fn worked_examples()
     ensures endgame_of_the_wanted { IsLegal (setting_of torrent_two_pieces 2 usual_rules) (reverse endgame_of_the_wanted) }
     ensures want_before_the_bits { IsLegal (setting_of torrent_short_last 1 usual_rules) (reverse want_before_the_bits) }
     ensures asked_stays_asked { IsLegal (setting_of torrent_two_pieces 2 usual_rules) (reverse asked_stays_asked) }
+    ensures released_is_asked_elsewhere { IsLegal (setting_of torrent_two_pieces 2 usual_rules) (reverse released_is_asked_elsewhere) }
+    ensures released_in_endgame { IsLegal (setting_of torrent_one_piece 2 usual_rules) (reverse released_in_endgame) }
+    ensures released_piece_is_unbegun { IsLegal (setting_of torrent_two_blocks 1 usual_rules) (reverse released_piece_is_unbegun) }
+    ensures released_is_asked_again { IsLegal (setting_of torrent_one_piece 1 usual_rules) (reverse released_is_asked_again) }
+    ensures released_arrives_after_all { IsLegal (setting_of torrent_two_blocks 1 usual_rules) (reverse released_arrives_after_all) }
+    ensures depth_of_one { IsLegal (setting_of torrent_many_blocks 1 usual_rules) (reverse depth_of_one) }
+    ensures deepened { IsLegal (setting_of torrent_many_blocks 1 usual_rules) (reverse deepened) }
+    ensures depth_outlasts_a_choke { IsLegal (setting_of torrent_many_blocks 1 usual_rules) (reverse depth_outlasts_a_choke) }
+    ensures depth_goes_with_its_peer { IsLegal (setting_of torrent_many_blocks 1 usual_rules) (reverse depth_goes_with_its_peer) }
+    ensures smaller_depth { IsLegal (setting_of torrent_many_blocks 1 usual_rules) (reverse smaller_depth) }
+    ensures one_asker { IsLegal (setting_of torrent_one_piece 2 (bounded_rules 5 1 1 64)) (reverse one_asker) }
+    ensures two_askers { IsLegal (setting_of torrent_one_piece 3 (bounded_rules 5 1 2 64)) (reverse two_askers) }
+    ensures no_depth_may_be_told { IsLegal (setting_of torrent_short_last 1 (bounded_rules 5 1 1024 0)) (reverse no_depth_may_be_told) }
+    ensures greatest_depth { IsLegal (setting_of torrent_short_last 1 (bounded_rules 5 1 1024 9999)) (reverse greatest_depth) }
+    ensures refusals_of_release_and_depth { IsLegal (setting_of torrent_short_last 2 usual_rules) (reverse refusals_of_release_and_depth) }
+    ensures haves_after_a_bitfield { IsLegal (setting_of torrent_short_last 1 usual_rules) (reverse haves_after_a_bitfield) }
+    ensures haves_after_a_have { IsLegal (setting_of torrent_short_last 1 usual_rules) (reverse haves_after_a_have) }
+    ensures haves_of_none { IsLegal (setting_of torrent_short_last 2 usual_rules) (reverse haves_of_none) }
+    ensures haves_are_counted { IsLegal (setting_of torrent_short_last 2 (rules 5 0)) (reverse haves_are_counted) }
 {}
 
 /// One wrong reply to the next call of a worked example isn't allowed, for each way to go wrong.
@@ -121,4 +154,58 @@ pub fn wrong_replies()
         (reverse (take 2 want_before_the_bits)) bits_late_by_a_want }
     ensures unwanted_block_freed { ¬ IsAllowed (setting_of torrent_two_pieces 2 usual_rules)
         (reverse (take 10 asked_stays_asked)) unwanted_block_freed }
+    ensures idle_though_another_peer_released { ¬ IsAllowed (setting_of torrent_two_pieces 2 usual_rules)
+        (reverse (take 9 released_is_asked_elsewhere)) idle_though_another_peer_released }
+    ensures cancel_of_what_another_peer_released { ¬ IsAllowed (setting_of torrent_one_piece 2 usual_rules)
+        (reverse (take 9 released_in_endgame)) cancel_of_what_another_peer_released }
+    ensures cancel_of_a_released_block { ¬ IsAllowed (setting_of torrent_one_piece 2 usual_rules)
+        (reverse (take 11 released_in_endgame)) cancel_of_a_released_block }
+    ensures released_piece_continued { ¬ IsAllowed (setting_of torrent_two_blocks 1 usual_rules)
+        (reverse (take 6 released_piece_is_unbegun)) released_piece_continued }
+    ensures idle_though_released { ¬ IsAllowed (setting_of torrent_one_piece 1 usual_rules)
+        (reverse (take 6 released_is_asked_again)) idle_though_released }
+    ensures released_block_dropped { ¬ IsAllowed (setting_of torrent_two_blocks 1 usual_rules)
+        (reverse (take 5 released_arrives_after_all)) released_block_dropped }
+    ensures second_request_at_a_depth_of_one { ¬ IsAllowed (setting_of torrent_many_blocks 1 usual_rules)
+        (reverse (take 5 depth_of_one)) second_request_at_a_depth_of_one }
+    ensures pipe_full_though_deepened { ¬ IsAllowed (setting_of torrent_many_blocks 1 usual_rules)
+        (reverse (take 10 deepened)) pipe_full_though_deepened }
+    ensures depth_forgotten_at_a_choke { ¬ IsAllowed (setting_of torrent_many_blocks 1 usual_rules)
+        (reverse (take 11 depth_outlasts_a_choke)) depth_forgotten_at_a_choke }
+    ensures depth_outlasts_its_peer { ¬ IsAllowed (setting_of torrent_many_blocks 1 usual_rules)
+        (reverse (take 11 depth_goes_with_its_peer)) depth_outlasts_its_peer }
+    ensures request_beyond_a_smaller_depth { ¬ IsAllowed (setting_of torrent_many_blocks 1 usual_rules)
+        (reverse (take 7 smaller_depth)) request_beyond_a_smaller_depth }
+    ensures pipe_full_though_enough_came { ¬ IsAllowed (setting_of torrent_many_blocks 1 usual_rules)
+        (reverse (take 11 smaller_depth)) pipe_full_though_enough_came }
+    ensures second_asker_of_one { ¬ IsAllowed (setting_of torrent_one_piece 2 (bounded_rules 5 1 1 64))
+        (reverse (take 7 one_asker)) second_asker_of_one }
+    ensures third_asker_of_two { ¬ IsAllowed (setting_of torrent_one_piece 3 (bounded_rules 5 1 2 64))
+        (reverse (take 11 two_askers)) third_asker_of_two }
+    ensures second_asker_of_two_idle { ¬ IsAllowed (setting_of torrent_one_piece 3 (bounded_rules 5 1 2 64))
+        (reverse (take 7 two_askers)) second_asker_of_two_idle }
+    ensures depth_told_though_none_may_be { ¬ IsAllowed (setting_of torrent_short_last 1 (bounded_rules 5 1 1024 0))
+        (reverse (take 1 no_depth_may_be_told)) depth_told_though_none_may_be }
+    ensures depth_beyond_any { ¬ IsAllowed (setting_of torrent_short_last 1 (bounded_rules 5 1 1024 9999))
+        (reverse (take 1 greatest_depth)) depth_beyond_any }
+    ensures unasked_block_released { ¬ IsAllowed (setting_of torrent_short_last 2 usual_rules)
+        (reverse (take 5 refusals_of_release_and_depth)) unasked_block_released }
+    ensures block_of_another_peer_released { ¬ IsAllowed (setting_of torrent_short_last 2 usual_rules)
+        (reverse (take 10 refusals_of_release_and_depth)) block_of_another_peer_released }
+    ensures depth_of_none_told { ¬ IsAllowed (setting_of torrent_short_last 2 usual_rules)
+        (reverse (take 13 refusals_of_release_and_depth)) depth_of_none_told }
+    ensures depth_beyond_the_rules_told { ¬ IsAllowed (setting_of torrent_short_last 2 usual_rules)
+        (reverse (take 14 refusals_of_release_and_depth)) depth_beyond_the_rules_told }
+    ensures block_released_twice { ¬ IsAllowed (setting_of torrent_short_last 2 usual_rules)
+        (reverse (take 17 refusals_of_release_and_depth)) block_released_twice }
+    ensures idle_though_the_bitfield_shows_more { ¬ IsAllowed (setting_of torrent_short_last 1 usual_rules)
+        (reverse (take 5 haves_after_a_bitfield)) idle_though_the_bitfield_shows_more }
+    ensures nothing_left_though_the_bitfield_shows_more { ¬ IsAllowed (setting_of torrent_short_last 1 usual_rules)
+        (reverse (take 7 haves_after_a_bitfield)) nothing_left_though_the_bitfield_shows_more }
+    ensures bits_after_haves_noted { ¬ IsAllowed (setting_of torrent_short_last 1 usual_rules)
+        (reverse (take 3 haves_after_a_have)) bits_after_haves_noted }
+    ensures haves_noted_without_the_bits { ¬ IsAllowed (setting_of torrent_short_last 2 usual_rules)
+        (reverse (take 9 haves_of_none)) haves_noted_without_the_bits }
+    ensures availability_without_the_haves { ¬ IsAllowed (setting_of torrent_short_last 2 (rules 5 0))
+        (reverse (take 6 haves_are_counted)) availability_without_the_haves }
 {}

@@ -1,17 +1,21 @@
 //! What holds after every legal history, whoever made it: laws of the definitions alone. Each is a function with an empty body
 //! whose contract is the law; a journal that a desk keeps, or that `audit` accepts, meets what they require.
-ghost use Rattle.std.specs.Prelude.{◌≡◌, ◌≢◌, ◌≤◌, ◌+◌, ◌∷◌, IsTrue, false};
+ghost use Rattle.std.specs.Prelude.{is_some, ◌≡◌, ◌≢◌, ◌≤◌, ◌<◌, ◌+◌, ◌∷◌, ◌++◌, ◌==◌, ◌&&◌, not, IsTrue, false};
 ghost use Rattle.sha1.specs.Sha1.{sha1};
 ghost use Rattle.bt_meta.specs.declared.block.Block.{Block};
 ghost use Rattle.bt_meta.specs.Layout.{hash_of};
 ghost use Rattle.bt_history.specs.declared.call.Reply.{Reply};
-ghost use Rattle.bt_history.specs.Setting.{is_block, setting_of};
-ghost use Rattle.bt_history.specs.Entries.{event_of, history_of};
-ghost use Rattle.bt_history.specs.Peers.{asked, asked_count, due_count, ListsAsked};
-ghost use Rattle.bt_history.specs.Pieces.{held, full, content, had, endgame, unasked, wanted, was_endgame};
-ghost use Rattle.bt_history.specs.Legal.{IsLegal};
+ghost use Rattle.bt_history.specs.Setting.{deepest_line, is_block, setting_of};
+ghost use Rattle.bt_history.specs.Entries.{event_of, giving_up, history_of};
+ghost use Rattle.bt_history.specs.Before.{asked_before, doubles_before, late_before, never_adds, never_deepens, never_releases, outstanding_before, shows_before};
+ghost use Rattle.bt_history.specs.History.{same_begin};
+ghost use Rattle.bt_history.specs.Epochs.{epoch, is_idle, pass_by};
+ghost use Rattle.bt_history.specs.Next.{Exactly, doubles, next_answer};
+ghost use Rattle.bt_history.specs.Peers.{asked, asked_count, depth_of, depth_so_far, due, due_count, late, ListsAsked, outstanding, shows};
+ghost use Rattle.bt_history.specs.Pieces.{asker_count, held, full, content, had, endgame, unasked, wanted, was_endgame, sender};
+ghost use Rattle.bt_history.specs.Legal.{IsLegal, place_at};
 
-use crate::call::Entry;
+use crate::call::{Entry, Reply};
 use crate::rules::Rules;
 use bt_meta::{Block, Torrent};
 
@@ -29,7 +33,7 @@ pub fn held_is_asked_of_nobody(
     ensures { asked (history_of journal.now) worker block ≡ false }
 {}
 
-/// Asked blocks and due cancels of a peer, counted together, are never more than the depth of the rules.
+/// Asked blocks and due cancels of a peer, counted together, are never more than the greatest depth since it joined or choked us.
 pub fn asked_and_due_are_few(
     torrent: &Torrent,
     workers: u32,
@@ -39,7 +43,8 @@ pub fn asked_and_due_are_few(
 )
     requires { IsLegal (setting_of torrent.now.layout workers rules) (history_of journal.now) }
     ensures { asked_count (setting_of torrent.now.layout workers rules) (history_of journal.now) worker
-        + due_count (setting_of torrent.now.layout workers rules) (history_of journal.now) worker ≤ rules.depth }
+        + due_count (setting_of torrent.now.layout workers rules) (history_of journal.now) worker
+        ≤ depth_so_far (setting_of torrent.now.layout workers rules) (history_of journal.now) worker }
 {}
 
 /// The blocks outstanding at a peer are exactly those asked of it, each listed once.
@@ -104,4 +109,113 @@ pub fn second_peers_wait_for_endgame(
     ensures none { (lacking : Block) → IsTrue (is_block torrent.now.layout lacking)
         → IsTrue (wanted (setting_of torrent.now.layout workers rules) (history_of older.now) lacking.piece)
         → unasked (setting_of torrent.now.layout workers rules) (history_of older.now) lacking ≡ false }
+{}
+
+/// A block is asked of no more peers than the rules say.
+pub fn askers_are_few(
+    torrent: &Torrent,
+    workers: u32,
+    rules: Rules,
+    journal: &[Entry],
+    block: Block,
+)
+    requires legal { IsLegal (setting_of torrent.now.layout workers rules) (history_of journal.now) }
+    requires some { 1 ≤ rules.askers }
+    ensures { asker_count (setting_of torrent.now.layout workers rules) (history_of journal.now) block ≤ rules.askers }
+{}
+
+/// A bound on askers that is no less than the workers is none: endgame asks what it asked before there was a bound.
+pub fn wide_is_as_before(
+    torrent: &Torrent,
+    workers: u32,
+    rules: Rules,
+    journal: &[Entry],
+    worker: u32,
+    block: Block,
+)
+    requires worker { worker < workers }
+    requires wide { workers ≤ rules.askers }
+    ensures { doubles (setting_of torrent.now.layout workers rules) (history_of journal.now) worker block
+        ≡ doubles_before (setting_of torrent.now.layout workers rules) (history_of journal.now) worker block }
+{}
+
+/// A block that is released is asked of this peer no more, and all else is as it was: what is asked, which cancels are due, what is held.
+pub fn release_frees_one(
+    journal: &[Entry],
+    worker: u32,
+    piece: u32,
+    begin: u32,
+    other: u32,
+    block: Block,
+)
+    ensures asked { asked (giving_up worker piece begin Reply.Quiet ∷ history_of journal.now) other block
+        ≡ (not ((worker == other) && same_begin (place_at piece begin) block) && asked (history_of journal.now) other block) }
+    ensures due { due (giving_up worker piece begin Reply.Quiet ∷ history_of journal.now) other block
+        ≡ due (history_of journal.now) other block }
+    ensures held { held (giving_up worker piece begin Reply.Quiet ∷ history_of journal.now) block ≡ held (history_of journal.now) block }
+{}
+
+/// Where no block was released, what is asked is what it was before there was a release, and so are the lines of all peers.
+pub fn unreleased_is_as_before(journal: &[Entry], worker: u32, block: Block)
+    requires { IsTrue (never_releases (history_of journal.now)) }
+    ensures asked { asked (history_of journal.now) worker block ≡ asked_before (history_of journal.now) worker block }
+    ensures line { outstanding (history_of journal.now) worker ≡ outstanding_before (history_of journal.now) worker }
+{}
+
+/// Where no depth was told, that of the rules holds, and no other ever held.
+pub fn undeepened_is_as_before(
+    torrent: &Torrent,
+    workers: u32,
+    rules: Rules,
+    journal: &[Entry],
+    worker: u32,
+)
+    requires { IsTrue (never_deepens (history_of journal.now)) }
+    ensures depth { depth_of (setting_of torrent.now.layout workers rules) (history_of journal.now) worker ≡ rules.depth }
+    ensures so_far { depth_so_far (setting_of torrent.now.layout workers rules) (history_of journal.now) worker ≡ rules.depth }
+{}
+
+/// No depth is beyond both that of the rules and the deepest that they let be told.
+pub fn depths_are_bounded(
+    torrent: &Torrent,
+    workers: u32,
+    rules: Rules,
+    journal: &[Entry],
+    worker: u32,
+)
+    requires { IsLegal (setting_of torrent.now.layout workers rules) (history_of journal.now) }
+    ensures { depth_so_far (setting_of torrent.now.layout workers rules) (history_of journal.now) worker
+        ≤ deepest_line (setting_of torrent.now.layout workers rules) }
+{}
+
+/// Where no entry added to what a peer shows, each peer shows what it showed before that could be, and a bitfield comes too late when it did.
+pub fn unadded_is_as_before(journal: &[Entry], worker: u32, piece: u32)
+    requires { IsTrue (never_adds (history_of journal.now)) }
+    ensures shows { shows (history_of journal.now) worker piece ≡ shows_before (history_of journal.now) worker piece }
+    ensures late { late (history_of journal.now) worker ≡ late_before (history_of journal.now) worker }
+{}
+
+/// A peer that has nothing to be asked for has the same answer while the epoch doesn't rise, and its own worker tells nothing of it.
+pub fn idle_until_the_epoch_rises(
+    torrent: &Torrent,
+    workers: u32,
+    rules: Rules,
+    older: &[Entry],
+    newer: &[Entry],
+    worker: u32,
+    answer: Reply,
+)
+    requires legal { IsLegal (setting_of torrent.now.layout workers rules) (history_of newer.now ++ history_of older.now) }
+    requires worker { worker < workers }
+    requires idle { IsTrue (is_idle answer) }
+    requires answered { next_answer (setting_of torrent.now.layout workers rules) (history_of older.now) worker ≡ Exactly answer }
+    requires others { IsTrue (pass_by worker (history_of newer.now)) }
+    requires same { epoch (setting_of torrent.now.layout workers rules) (history_of newer.now ++ history_of older.now)
+        ≡ epoch (setting_of torrent.now.layout workers rules) (history_of older.now) }
+    ensures { next_answer (setting_of torrent.now.layout workers rules) (history_of newer.now ++ history_of older.now) worker ≡ Exactly answer }
+{}
+
+/// Each held block has a worker whose peer brought it, and no other block has.
+pub fn held_has_a_sender(journal: &[Entry], block: Block)
+    ensures { is_some (sender (history_of journal.now) block) ≡ held (history_of journal.now) block }
 {}

@@ -15,6 +15,9 @@ pub enum CallMark {
     Settle(u32),
     Leave,
     Want,
+    Haves,
+    Depth(u32),
+    Release { piece: u32, begin: u32 },
 }
 
 /// What a worker's log keeps of an entry: its place in the journal (the number of older entries), its call and its reply.

@@ -1,16 +1,20 @@
 //! What a download may choose of the rules, and within which limits.
 
-ghost use Rattle.std.specs.Prelude.{◌≡◌};
+ghost use Rattle.std.specs.Prelude.{◌≡◌, max, min};
 ghost use Rattle.bt_history.specs.Setting.{usual_rules};
 
-/// The deepest depth that a picker takes: blocks asked of one peer.
+/// The greatest depth of the rules: blocks asked of one peer.
 pub const MOST_DEPTH: u32 = 64;
+
+/// The greatest depth that can be told of one peer.
+pub const MOST_TOLD_DEPTH: u32 = 4096;
 
 /// The most workers, and so peers at a time, of one picker.
 pub const MOST_WORKERS: u32 = 1024;
 
-/// What a download may choose of the rules: how many blocks may be asked of one peer at a time, the cancels due at it included, and how
-/// many pieces are picked at random before the rarest come first (Cohen 2003, "Pipelining" and "Random first piece").
+/// What a download may choose of the rules: how many blocks may be asked of one peer at a time, the cancels due at it included, how many
+/// pieces are picked at random before the rarest come first, and of how many peers one block is asked at the end (Cohen 2003, "Pipelining",
+/// "Random first piece" and "Endgame mode").
 ///
 /// A depth of five keeps a slow line busy; a fast and distant peer wants more: five blocks of 16 KiB on a line with a round trip of
 /// 100 ms are 800 KB a second, 64 are 10 MB. A picker takes depths of 1 to [`MOST_DEPTH`].
@@ -20,16 +24,37 @@ pub struct Rules {
     pub depth: u32,
     /// Pieces had before the rarest come first: none, where the rarest come first from the start.
     pub random: u32,
+    /// In endgame one block is asked of so many peers at most, but always of one; with [`MOST_WORKERS`] or more, of as many as show it.
+    pub askers: u32,
+    /// The greatest depth that may be told of one peer ([`Call::Depth`]), up to [`MOST_TOLD_DEPTH`]; more counts as that, and with 0 none
+    /// may be told. A picker takes the memory for lines so long when it is made: 24 bytes a peer for each block of depth.
+    pub deepest: u32,
 }
 
 impl Rules {
-    /// Five blocks, and the first piece at random.
+    /// Five blocks, the first piece at random, in endgame any number of peers for a block, and no depth beyond 64.
     pub fn usual() -> Rules
         ensures { result ≡ usual_rules }
     {
         Rules {
             depth: 5,
             random: 1,
+            askers: MOST_WORKERS,
+            deepest: MOST_DEPTH,
         }
+    }
+
+    /// The greatest depth that may be told of a peer.
+    pub fn deepest_told(self) -> u32
+        ensures { result ≡ min self.deepest MOST_TOLD_DEPTH }
+    {
+        self.deepest.min(MOST_TOLD_DEPTH)
+    }
+
+    /// So many blocks at most are asked of one peer, whatever is told.
+    pub fn deepest_line(self) -> u32
+        ensures { result ≡ max self.depth (min self.deepest MOST_TOLD_DEPTH) }
+    {
+        self.depth.max(self.deepest_told())
     }
 }

@@ -76,6 +76,9 @@ plain_stash old new rows w told reply plain is tells =
     left (kinds.Next word) plain = refl
     left kinds.Leave plain = refl
     left (kinds.Want flags) plain = refl
+    left (kinds.Haves flags) plain = refl
+    left (kinds.Depth n) plain = refl
+    left (kinds.Release piece begin) plain = refl
 
 -- what is no refusal has an entry
 told_gains : (old new : DeskState) (e : Event) → ((reason : Reason) → e.reply ≢ Refused reason) → Tells old new e → Gains old new e

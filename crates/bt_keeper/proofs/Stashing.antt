@@ -11,7 +11,7 @@ use Rattle.bt_history.specs.declared.call.Reason.{Reason}
 use Rattle.bt_history.specs.declared.call.Reply.{Reply}
 use Rattle.bt_history.specs.declared.call.Reply.TheVariants.{Refused}
 use Rattle.bt_history.specs.declared.event.Action.{Action}
-use Rattle.bt_history.specs.declared.event.Action.TheVariants.{Arrived, Bits, Choke, Have, Join, Leave, Next, Settle, Unchoke, Want}
+use Rattle.bt_history.specs.declared.event.Action.TheVariants.{Arrived, Bits, Choke, Depth, Have, Haves, Join, Leave, Next, Release, Settle, Unchoke, Want}
 use Rattle.bt_history.specs.declared.event.Event.{Event}
 use Rattle.bt_history.specs.History.{History, bytes_for, failed, is_failed, is_had, settles, stored, stores}
 use Rattle.bt_history.specs.Legal.{IsAllowed}
@@ -254,6 +254,9 @@ module _ (s : Setting) (h : History) (rows : Rows) (w : ℕ) (is : IsStash s h r
   restash (Next word) reply allowed = quiet (Next word) reply (λ b. refl) (λ p. refl)
   restash Leave reply allowed = quiet Leave reply (λ b. refl) (λ p. refl)
   restash (Want flags) reply allowed = quiet (Want flags) reply (λ b. refl) (λ p. refl)
+  restash (Haves flags) reply allowed = quiet (Haves flags) reply (λ b. refl) (λ p. refl)
+  restash (Depth n) reply allowed = quiet (Depth n) reply (λ b. refl) (λ p. refl)
+  restash (Release p begin) reply allowed = quiet (Release p begin) reply (λ b. refl) (λ q. refl)
 
 abbrev no_blocks : List (List ℕ)
 no_blocks = []

@@ -1,12 +1,13 @@
 //! A picker, and beside it the bytes of the pieces that are begun.
-ghost use Rattle.std.specs.Prelude.{◌≡◌, ◌<◌, ◌≤◌, [], ℕ, List, None, Ok, true, false, IfOk, IsOk, OnErr};
+ghost use Rattle.std.specs.Prelude.{◌≡◌, ◌<◌, ◌≤◌, ◌%◌, ◌^◌, [], ℕ, List, None, Ok, true, false, IfOk, IsOk, OnErr};
 ghost use Rattle.std.specs.List.{concat};
 ghost use Rattle.sha1.specs.Sha1.{sha1};
 ghost use Rattle.bt_meta.specs.Layout.{block, block_count, hash_of, piece_count};
 ghost use Rattle.bt_history.specs.declared.call.Reply.{Reply};
 ghost use Rattle.bt_history.specs.declared.event.Action.TheVariants.{Arrived};
+ghost use Rattle.bt_history.specs.Epochs.{epoch};
 ghost use Rattle.bt_history.specs.Peers.{outstanding};
-ghost use Rattle.bt_history.specs.Pieces.{availability, content, content_of_block, had, wanted};
+ghost use Rattle.bt_history.specs.Pieces.{availability, content, content_of_block, had, sender, wanted};
 ghost use Rattle.bt_history.specs.Setting.{AreRules, setting_of};
 ghost use Rattle.bt_picker.specs.Checks.{IsJobOf, arriving, blocks_of, waits};
 ghost use Rattle.bt_picker.specs.Contents.{complete, has_wanted};
@@ -251,8 +252,26 @@ impl Keeper {
     pub fn rules(&self) -> Rules
         ensures depth { result.depth ≡ self.now.setting.depth }
         ensures random { result.random ≡ self.now.setting.random }
+        ensures askers { result.askers ≡ self.now.setting.askers }
+        ensures deepest { result.deepest ≡ self.now.setting.deepest }
     {
         self.picker.rules()
+    }
+
+    /// A number that rises when a peer that had nothing to be asked for may have another answer, as [`Picker::epoch`] says.
+    pub fn epoch(&self) -> u64
+        ensures { result ≡ epoch self.now.setting self.now.history % 2 ^ 64 }
+    {
+        self.picker.epoch()
+    }
+
+    /// The worker whose peer brought block `index` of the piece, counted from its front, if the block is held.
+    pub fn sender(&self, piece: u32, index: u32) -> Option<u32>
+        requires piece { piece < piece_count self.now.setting.torrent }
+        requires index { index < block_count self.now.setting.torrent piece }
+        ensures { result ≡ sender self.now.history (block self.now.setting.torrent piece index) }
+    {
+        self.picker.sender(piece, index)
     }
 
     /// Whether the piece was checked, and had its hash.

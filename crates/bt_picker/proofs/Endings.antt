@@ -11,7 +11,7 @@ use Rattle.bt_history.specs.Counting.{any_below, all_below, count_below, table}
 use Rattle.bt_history.specs.Setting.{Setting, is_block, some_block, some_block_of, each_block, each_block_of}
 use Rattle.bt_history.specs.History.{History}
 use Rattle.bt_history.specs.Peers.{shows, asked}
-use Rattle.bt_history.specs.Pieces.{had, held, held_or_asked, availability, chosen, wanted, endgame}
+use Rattle.bt_history.specs.Pieces.{had, asker_count, held, held_or_asked, availability, chosen, wanted, endgame}
 use Rattle.bt_history.specs.Legal.{IsLegal}
 use Rattle.bt_history.specs.Next.{doubles}
 use Rattle.bt_history.proofs.Below.{any_found, any_none, any_witness, all_found, all_at, any_same, count_at}
@@ -31,7 +31,7 @@ implied : (w x : Bool) → (not w || x) ≡ true → w ≡ true → x ≡ true
 implied true x is wt = is
 implied false x is wt = absurd (cc wt)
 
-double_parts : (w v a d : Bool) → (w && (v && (not a && not d))) ≡ true → (v ≡ true) × (a ≡ false) × (w ≡ true)
+double_parts : (w v a d : Bool) → (w && (v && (not a && d))) ≡ true → (v ≡ true) × (a ≡ false) × (w ≡ true)
 double_parts false v a d is = absurd (cc is)
 double_parts true false a d is = absurd (cc is)
 double_parts true true true d is = absurd (cc is)
@@ -44,7 +44,7 @@ doubles_group s h q p legal lp ending some =
     let found = any_witness (block_count s.torrent p) (λ k. doubles s h q (block s.torrent p k)) some in
     let k = found.0 in
     let b = block s.torrent p k in
-    let parts = double_parts (wanted s h p) (shows h q p) (held h b) (asked h q b) found.2 in
+    let parts = double_parts (wanted s h p) (shows h q p) (held h b) (nat_lt (asker_count s h b) s.askers && not (asked h q b)) found.2 in
     let all = (and_parts (each_block s.torrent (λ c. not (wanted s h c.piece) || held_or_asked s h c))
     (some_block s.torrent (λ c. wanted s h c.piece && not (held h c))) ending).0 in
     let mine = all_at (piece_count s.torrent) (λ r. each_block_of s.torrent r (λ c. not (wanted s h c.piece) || held_or_asked s h c)) p all lp in

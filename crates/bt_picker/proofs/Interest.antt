@@ -6,12 +6,12 @@ use Rattle.std.proofs.lemmas.Bool.{and_from, and_parts, and_right, cases_eq, eq-
 use Rattle.bt_meta.specs.Layout.{piece_count}
 use Rattle.bt_history.specs.Setting.{Setting, each_block_of, some_block_of}
 use Rattle.bt_history.specs.History.{History}
-use Rattle.bt_history.specs.Peers.{shows}
-use Rattle.bt_history.specs.Pieces.{availability, chosen, had, held_or_asked, interesting, wanted}
-use Rattle.bt_history.specs.declared.event.Action.TheVariants.{Have}
+use Rattle.bt_history.specs.Peers.{flag, shows}
+use Rattle.bt_history.specs.Pieces.{availability, chosen, had, held_or_asked, interesting, lacks, wanted}
+use Rattle.bt_history.specs.declared.event.Action.TheVariants.{Have, Haves}
 use Rattle.bt_history.specs.Legal.{interesting_after}
 use Rattle.bt_history.specs.Next.{is_candidate}
-use Rattle.bt_history.proofs.Below.{any_same}
+use Rattle.bt_history.proofs.Below.{any_fails, any_found, any_same, any_witness}
 use Rattle.bt_order.specs.Orders.{at, ListsGroup}
 use Rattle.bt_picker.specs.Search.{FindsLeast, rank_of, FindsListed}
 use Rattle.bt_tables.specs.Standings.{group_of_row, shown_group}
@@ -124,6 +124,33 @@ pub have_interests : (s : Setting) (h : History) (q p : ℕ) → p < piece_count
 have_interests s h q p lp is =
     let parts = and_parts (wanted s h p) (not (had h p)) is in
     lacks_found s h (λ r. (p == r) || shows h q r) p parts.0 (or_left (p == p) (shows h q p) (eq-eqb p p refl)) (not-true (had h p) parts.1) lp
+
+pub haves_interest : (s : Setting) (h : History) (q : ℕ) (flags : List Bool) → lacks s h (flag flags) ≡ true →
+    interesting_after s h q (Haves flags) ≡ true
+haves_interest s h q flags is =
+    let found = any_witness (piece_count s.torrent) (λ r. wanted s h r && (flag flags r && not (had h r))) is in
+    let p = found.0 in
+    any_found (piece_count s.torrent) (λ r. wanted s h r && ((flag flags r || shows h q r) && not (had h r))) p found.1
+    (by_flag (wanted s h p) (flag flags p) (shows h q p) (not (had h p)) found.2)
+  where
+    by_flag : (w f v x : Bool) → (w && (f && x)) ≡ true → (w && ((f || v) && x)) ≡ true
+    by_flag true true v x is = is
+    by_flag true false v x is = absurd (false≢true is)
+    by_flag false f v x is = absurd (false≢true is)
+
+pub haves_change_nothing : (s : Setting) (h : History) (q : ℕ) (flags : List Bool) → lacks s h (flag flags) ≡ false →
+    interesting s h q ≡ interesting_after s h q (Haves flags)
+haves_change_nothing s h q flags none =
+    any_same (piece_count s.torrent) (λ r. wanted s h r && (shows h q r && not (had h r)))
+    (λ r. wanted s h r && ((flag flags r || shows h q r) && not (had h r)))
+    (λ r lr. by_flag (wanted s h r) (flag flags r) (shows h q r) (not (had h r))
+    (any_fails (piece_count s.torrent) (λ p. wanted s h p && (flag flags p && not (had h p))) r none lr))
+  where
+    by_flag : (w f v x : Bool) → (w && (f && x)) ≡ false → (w && (v && x)) ≡ (w && ((f || v) && x))
+    by_flag true true true x fails = refl
+    by_flag true true false x fails = sym fails
+    by_flag true false v x fails = refl
+    by_flag false f v x fails = refl
 
 pub have_changes_nothing : (s : Setting) (h : History) (q p : ℕ) → (wanted s h p && not (had h p)) ≡ false →
     interesting s h q ≡ interesting_after s h q (Have p)

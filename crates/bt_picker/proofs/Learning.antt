@@ -73,7 +73,7 @@ module _ (t : TablesState) (h : History) (w : ℕ) (are : AreTables t h) (lw : w
 
   flag_is : (p : ℕ) → p < piece_count t.setting.torrent → slice_index_or (peer_row t.peers w).shows p false ≡ shows h w p
   flag_is p lp =
-      ap (λ (r : _). slice_index_or r.shows p false) (get_or_is_table t.peers t.setting.workers (peer_of t.setting h) w (fresh_peer 0) are.peers_are
+      ap (λ (r : _). slice_index_or r.shows p false) (get_or_is_table t.peers t.setting.workers (peer_of t.setting h) w (fresh_peer 0 0) are.peers_are
       lw)
       ∙ get_or_table (piece_count t.setting.torrent) (shows h w) p false lp
 
@@ -261,8 +261,8 @@ unnoted_floor t h w p n are allowed lw lp r lr shown fresh = absurd (false≢tru
 
   own : peer_row (edit t.peers w (have_row p)) w ≡ have_row p (peer_row t.peers w)
   own =
-      ap (λ (l : List PeerState). peer_row l w) (sym (edit_read t.peers w (have_row p) (peer_row t.peers w) (fresh_peer 0) in_peers refl))
-      ∙ get_or-set_same t.peers w (have_row p (peer_row t.peers w)) (fresh_peer 0) in_peers
+      ap (λ (l : List PeerState). peer_row l w) (sym (edit_read t.peers w (have_row p) (peer_row t.peers w) (fresh_peer 0 0) in_peers refl))
+      ∙ get_or-set_same t.peers w (have_row p (peer_row t.peers w)) (fresh_peer 0 0) in_peers
 
   flagged : slice_index_or (set (peer_row t.peers w).shows p true) r false ≡ true
   flagged = ap (λ (row : PeerState). slice_index_or row.shows r false) (sym own) ∙ shown

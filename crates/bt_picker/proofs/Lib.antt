@@ -24,3 +24,6 @@ pub mod Finishing
 pub mod Contents
 pub mod Completing
 pub mod Filing
+pub mod Releasing
+pub mod Restoring
+pub mod Epochs

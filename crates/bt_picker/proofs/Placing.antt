@@ -9,7 +9,7 @@ use Rattle.bt_meta.specs.declared.block.Block.{Block}
 use Rattle.bt_meta.specs.Layout.{IsLayout, Layout, block, block_count, block_size, piece_count, piece_len}
 use Rattle.bt_history.specs.declared.call.Reply.{Reply}
 use Rattle.bt_history.specs.declared.event.Action.{Action}
-use Rattle.bt_history.specs.declared.event.Action.TheVariants.{Join, Bits, Have, Choke, Unchoke, Next, Arrived, Settle, Leave, Want}
+use Rattle.bt_history.specs.declared.event.Action.TheVariants.{Join, Bits, Have, Choke, Unchoke, Next, Arrived, Settle, Leave, Want, Haves, Depth, Release}
 use Rattle.bt_history.specs.declared.event.Event.{Event}
 use Rattle.bt_history.specs.Setting.{Setting}
 use Rattle.bt_history.specs.History.{History, bytes_for, failed, settles, stored, stores}
@@ -245,6 +245,9 @@ places_more s h x w (Next word) reply are allowed = still s h x are _ (λ b. no_
 places_more s h x w (Settle p bytes) reply are allowed = still s h x are _ (λ b. no_bytes (stores reply) None refl)
 places_more s h x w Leave reply are allowed = still s h x are _ (λ b. no_bytes (stores reply) None refl)
 places_more s h x w (Want flags) reply are allowed = still s h x are _ (λ b. no_bytes (stores reply) None refl)
+places_more s h x w (Haves flags) reply are allowed = still s h x are _ (λ b. no_bytes (stores reply) None refl)
+places_more s h x w (Depth n) reply are allowed = still s h x are _ (λ b. no_bytes (stores reply) None refl)
+places_more s h x w (Release p begin) reply are allowed = still s h x are _ (λ b. no_bytes (stores reply) None refl)
 places_more s h x w (Arrived p begin bytes) reply are allowed = by_reply (stores reply) refl where
   e : ℕ → Event
   e n = record { worker = w; action = Arrived p n bytes; reply = reply }

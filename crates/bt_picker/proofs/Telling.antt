@@ -15,6 +15,7 @@ use Rattle.bt_history.specs.Peers.{joined, shows}
 use Rattle.bt_history.specs.Pieces.{had, held, full, held_or_asked, begun, availability, chosen, wanted, had_count}
 use Rattle.bt_history.specs.Next.{continues, is_candidate}
 use Rattle.bt_history.proofs.Below.{any_fails, any_witness, all_found, all_fails, count_most, count_same}
+use Rattle.bt_history.proofs.Sending.{sender_held}
 use Rattle.bt_picker.specs.Tables.{piece_of, cell_of, groups_of}
 use Rattle.bt_picker.specs.Search.{NoneRarer, FindsListed, FindsRarest, IsRarer, Finds, FindsOf, FindsLeast, rank_of}
 use Rattle.bt_tables.specs.Standings.{is_held, is_touched, held_count, touched_count, shown_group, group_of_row}
@@ -60,10 +61,10 @@ counted_none n test = by_count (count_below n test) refl where
 
 module _ (s : Setting) (h : History) (p : ℕ) where
   held_is : (k : ℕ) → is_held (cell_of s h (block s.torrent p k)) ≡ held h (block s.torrent p k)
-  held_is k = refl
+  held_is k = sender_held h (block s.torrent p k)
 
   touched_is : (k : ℕ) → is_touched (cell_of s h (block s.torrent p k)) ≡ held_or_asked s h (block s.torrent p k)
-  touched_is k = λ i. held h (block s.torrent p k) || sym (asked_counted s h (block s.torrent p k)) i
+  touched_is k = λ i. sender_held h (block s.torrent p k) i || sym (asked_counted s h (block s.torrent p k)) i
 
   pub held_counted : held_count (piece_of s h p).blocks ≡ count_below (block_count s.torrent p) (λ k. held h (block s.torrent p k))
   held_counted =

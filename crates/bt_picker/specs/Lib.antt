@@ -8,3 +8,4 @@ pub mod Unbegun
 pub mod Places
 pub mod Told
 pub mod Noted
+pub mod Restores

@@ -12,7 +12,7 @@ use Rattle.bt_picker.specs.Positions.{DeskState, Gains}
 use Rattle.bt_picker.specs.declared.told.Lent.{Lent}
 use Rattle.bt_picker.specs.declared.told.Lent.TheVariants as lent
 use Rattle.bt_picker.specs.declared.told.Told.{Told}
-use Rattle.bt_picker.specs.declared.told.Told.TheVariants.{Join, Bits, Have, Choke, Unchoke, Next, Arrived, Leave, Want}
+use Rattle.bt_picker.specs.declared.told.Told.TheVariants.{Join, Bits, Have, Choke, Unchoke, Next, Arrived, Leave, Want, Haves, Depth, Release}
 
 -- what is told, as a call
 abbrev pub action_told : Told → Action
@@ -25,6 +25,9 @@ action_told (Next word) = actions.Next word
 action_told (Arrived piece begin bytes) = actions.Arrived piece begin bytes.now
 action_told Leave = actions.Leave
 action_told (Want flags) = actions.Want flags.now
+action_told (Haves flags) = actions.Haves flags.now
+action_told (Depth n) = actions.Depth n
+action_told (Release piece begin) = actions.Release piece begin
 
 -- a call that is lent
 abbrev pub action_lent : Lent → Action

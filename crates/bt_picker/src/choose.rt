@@ -4,8 +4,8 @@ ghost use Rattle.std.specs.Prelude.{None, nat_le, nat_lt, Option};
 ghost use Rattle.bt_meta.specs.declared.block.Block.{Block};
 ghost use Rattle.bt_meta.specs.Layout.{piece_count, block_count, block};
 ghost use Rattle.bt_history.specs.Setting.{each_block, each_block_of, is_block, some_block, some_block_of};
-ghost use Rattle.bt_history.specs.Peers.{asked, asked_count, due, is_open, shows};
-ghost use Rattle.bt_history.specs.Pieces.{availability, endgame, had_count, held, held_or_asked, interesting, unasked, wanted};
+ghost use Rattle.bt_history.specs.Peers.{asked, asked_count, depth_of, due, is_open, shows};
+ghost use Rattle.bt_history.specs.Pieces.{asker_count, availability, endgame, had_count, held, held_or_asked, interesting, unasked, wanted};
 ghost use Rattle.bt_history.specs.Next.{continues, doubles, is_candidate, next_answer, starts, usable};
 ghost use Rattle.bt_order.specs.Orders.{at, ListsGroup};
 ghost use Rattle.bt_order.specs.Risings.{Rises};
@@ -359,17 +359,21 @@ impl<'a> Position<'a> {
         }
     }
 
-    /// A block of the piece that is lacking and not asked of the peer.
+    /// A block of the piece that is lacking and not asked of the peer, nor of as many others as may be.
     #[tactic(auto, using(crate::proofs::Scans::lacking_none))]
     fn lacking_in(&self, worker: u32, piece: u32) -> Option<Block>
         requires worker { worker < self.now.setting.workers }
         requires piece { piece < piece_count self.now.setting.torrent }
         ensures { FindsOf self.now.setting.torrent piece
-            (λ b. not (held self.now.history b) && not (asked self.now.history worker b)) result }
+            (λ b. not (held self.now.history b) && (nat_lt (asker_count self.now.setting self.now.history b) self.now.setting.askers
+            && not (asked self.now.history worker b))) result }
     {
         for index in 0..self.block_count(piece) {
             let block = self.block(piece, index);
-            if !self.holds(piece, index) && !self.asks(worker, &block) {
+            if !self.holds(piece, index)
+                && self.has_few_askers(piece, index)
+                && !self.asks(worker, &block)
+            {
                 return Some(block);
             }
         }
@@ -420,7 +424,7 @@ impl<'a> Position<'a> {
     }
 
     /// Whether each lacking block of a wanted piece is asked for, and there is one.
-    fn is_endgame(&self) -> bool
+    pub fn is_endgame(&self) -> bool
         ensures { result ≡ endgame self.now.setting self.now.history }
     {
         self.tables.unasked() == 0 && self.tables.unheld() > 0
@@ -478,7 +482,7 @@ impl<'a> Position<'a> {
         requires worker { worker < self.now.setting.workers }
         requires none_due { some_block self.now.setting.torrent (due self.now.history worker) ≡ false }
         requires opened { IsTrue (is_open self.now.history worker) }
-        requires room { nat_le self.now.setting.depth (asked_count self.now.setting self.now.history worker) ≡ false }
+        requires room { nat_le (depth_of self.now.setting self.now.history worker) (asked_count self.now.setting self.now.history worker) ≡ false }
         ensures { IsRuling self.now.setting self.now.history worker (next_answer self.now.setting self.now.history worker) result }
     {
         if let Some(block) = self.continuing(worker) {
@@ -509,10 +513,10 @@ impl<'a> Position<'a> {
     /// Whether as many blocks are asked of the peer as may be.
     fn is_pipe_full(&self, worker: u32) -> bool
         requires { worker < self.now.setting.workers }
-        ensures { result ≡ nat_le self.now.setting.depth (asked_count self.now.setting self.now.history worker) }
+        ensures { result ≡ nat_le (depth_of self.now.setting self.now.history worker) (asked_count self.now.setting self.now.history worker) }
     {
         self.attest();
-        self.depth() as usize <= self.outstanding(worker).len()
+        self.depth(worker) as usize <= self.outstanding(worker).len()
     }
 
     /// Which rule answers Next. The word settles what the rules leave open.

@@ -12,7 +12,7 @@ ghost use Rattle.bt_picker.specs.Tables.{AreTables};
 use crate::past::Past;
 use crate::told::Told;
 use bt_check::Verdict;
-use bt_history::{MOST_DEPTH, Reply, Rules};
+use bt_history::{Reply, Rules};
 use bt_meta::Torrent;
 use bt_tables::{HELD, Tables};
 use std::alloc::{AllocError, Global};
@@ -25,7 +25,6 @@ pub fn new_tables(
     workers: u32,
     rules: Rules,
 ) -> Result<Tables, AllocError>
-    requires depth { rules.depth ≤ MOST_DEPTH }
     requires workers { workers < HELD }
     ensures setting { IfOk result (λ t. t.setting ≡ setting_of torrent.value.layout workers rules) }
     ensures are { IfOk result (λ t. AreTables t []) }
@@ -62,6 +61,9 @@ pub fn enter(tables: &mut Tables, past: &Past, worker: u32, told: &Told<'_>, rep
         }
         Told::Leave => tables.leave(worker),
         Told::Want(flags) => tables.put_want(flags),
+        Told::Haves(flags) => tables.put_haves(worker, flags),
+        Told::Depth(depth) => tables.put_depth(worker, *depth),
+        Told::Release { piece, begin } => tables.put_release(worker, *piece, *begin),
     }
 }
 

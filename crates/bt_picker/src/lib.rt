@@ -19,16 +19,17 @@ mod places;
 mod position;
 mod refuse;
 mod ruling;
+mod stirring;
 mod told;
 mod unread;
 
 pub use auditing::{AuditFault, audit};
 pub use bt_check::{Job, Verdict};
 pub use bt_history::{
-    Action, Call, CallMark, Entry, Event, MOST_DEPTH, MOST_WORKERS, Mark, Reason, Reply, Rules,
-    laws,
+    Action, Call, CallMark, Entry, Event, MOST_DEPTH, MOST_TOLD_DEPTH, MOST_WORKERS, Mark, Reason,
+    Reply, Rules, laws,
 };
 pub use content::ContentFault;
 pub use desk::Desk;
-pub use picker::Picker;
+pub use picker::{Picker, Restored};
 pub use told::Told;

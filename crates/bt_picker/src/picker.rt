@@ -1,12 +1,13 @@
 //! The picker with no journal: its tables alone, and a history that only proofs read.
-ghost use Rattle.std.specs.Prelude.{◌≡◌, ◌<◌, ◌≤◌, [], ℕ, List, true, IfOk};
-ghost use Rattle.bt_meta.specs.Layout.{IsLayout, piece_count};
+ghost use Rattle.std.specs.Prelude.{◌≡◌, ◌<◌, ◌≤◌, ◌+◌, ◌%◌, ◌^◌, ◌&&◌, not, [], ℕ, List, true, IfOk, if◌then◌else◌};
+ghost use Rattle.bt_meta.specs.Layout.{IsLayout, block, block_count, piece_count};
 ghost use Rattle.bt_history.specs.declared.call.Reply.{Reply};
 ghost use Rattle.bt_history.specs.declared.event.Action.TheVariants.{Arrived, Settle};
 ghost use Rattle.bt_history.specs.Entries.{action_of, event};
+ghost use Rattle.bt_history.specs.Epochs.{epoch, is_request};
 ghost use Rattle.bt_history.specs.Legal.{IsLegal};
 ghost use Rattle.bt_history.specs.Peers.{outstanding};
-ghost use Rattle.bt_history.specs.Pieces.{availability, content, had, wanted};
+ghost use Rattle.bt_history.specs.Pieces.{availability, content, had, sender, wanted};
 ghost use Rattle.bt_history.specs.Setting.{AreRules, setting_of};
 ghost use Rattle.bt_picker.specs.Checks.{IsCurrent, settling, waits};
 ghost use Rattle.bt_picker.specs.Told.{Settles, Tells, action_told, checking, telling};
@@ -17,6 +18,8 @@ ghost use Rattle.bt_picker.specs.Positions.{Gains};
 ghost use Rattle.bt_picker.specs.Tables.{AreTables};
 ghost use Rattle.bt_picker.specs.Unbegun.{ListsUnbegun, unasked_count};
 
+mod restoring;
+
 use crate::entries::{enter, enter_check, enter_verdict, new_tables};
 use crate::past::{Note, Past};
 use crate::position::Position;
@@ -25,6 +28,7 @@ use bt_check::Verdict;
 use bt_history::{Call, MOST_WORKERS, Reason, Reply, Rules};
 use bt_meta::{Block, Torrent};
 use bt_tables::{Tables, UNBEGUN};
+pub use restoring::Restored;
 use std::alloc::{AllocError, Global};
 use std::marker::Model;
 use std::sync::Arc;
@@ -34,6 +38,7 @@ use std::sync::Arc;
 pub struct Picker {
     tables: Tables,
     past: Past,
+    stirred: u64,
 }
 
 /// The end of a picker is one call for whoever owns one.
@@ -42,6 +47,7 @@ impl Drop for Picker {
         let Picker {
             tables: _tables,
             past: _past,
+            stirred: _,
         } = self;
     }
 }
@@ -50,13 +56,15 @@ impl Model for Picker {
     ghost use Rattle.bt_picker.specs.Positions.{DeskState};
     ghost use Rattle.bt_history.specs.declared.rules.TheConstants.{MOST_WORKERS};
     ghost use Rattle.bt_picker.specs.Tables.{AreTables};
-    ghost use Rattle.std.specs.Prelude.{◌≤◌};
+    ghost use Rattle.std.specs.Prelude.{◌≡◌, ◌≤◌, ◌%◌, ◌^◌};
+    ghost use Rattle.bt_history.specs.Epochs.{epoch};
 
     ghost Value = { DeskState };
 
     ghost view = { λ p. record { setting = p.tables.setting; history = p.past.entries } };
 
-    ghost invariant = { λ p. AreTables p.tables p.past.entries × (p.tables.setting.workers ≤ MOST_WORKERS) };
+    ghost invariant = { λ p. AreTables p.tables p.past.entries × (p.tables.setting.workers ≤ MOST_WORKERS)
+        × (p.stirred ≡ epoch p.tables.setting p.past.entries % 2 ^ 64) };
 }
 
 impl Picker {
@@ -77,6 +85,7 @@ impl Picker {
         Ok(Picker {
             tables,
             past: Past::new(),
+            stirred: 0,
         })
     }
 
@@ -115,6 +124,8 @@ impl Picker {
     pub fn rules(&self) -> Rules
         ensures depth { result.depth ≡ self.now.setting.depth }
         ensures random { result.random ≡ self.now.setting.random }
+        ensures askers { result.askers ≡ self.now.setting.askers }
+        ensures deepest { result.deepest ≡ self.now.setting.deepest }
     {
         self.tables.rules()
     }
@@ -158,6 +169,16 @@ impl Picker {
         self.tables.unasked()
     }
 
+    /// The worker whose peer brought block `index` of the piece, counted from its front, if the block is held. So a client that hashed a full
+    /// piece and found another hash knows who sent what, before it settles the piece; afterwards its blocks are held no more.
+    pub fn sender(&self, piece: u32, index: u32) -> Option<u32>
+        requires piece { piece < piece_count self.now.setting.torrent }
+        requires index { index < block_count self.now.setting.torrent piece }
+        ensures { result ≡ sender self.now.history (block self.now.setting.torrent piece index) }
+    {
+        self.position().sender(piece, index)
+    }
+
     /// The blocks asked of the worker's peer, the oldest request first.
     pub fn outstanding(&self, worker: u32) -> &[Block]
         requires { worker < self.now.setting.workers }
@@ -171,6 +192,16 @@ impl Picker {
         ensures { result ≡ waits self.now.setting self.now.history piece }
     {
         self.position().is_waiting(piece)
+    }
+
+    /// A number that rises when a peer that had nothing to be asked for (`Idle`, `NothingLeft`) may have another answer, though its own worker
+    /// told nothing: a peer joined, choked us or left, a block was released, other pieces are wanted, a piece was settled, a block was stored of
+    /// which not its own peer alone was asked, or endgame began. While it is the same, another Next has the same answer, so a client need not
+    /// poll its idle peers. It counts modulo 2^64.
+    pub fn epoch(&self) -> u64
+        ensures { result ≡ epoch self.now.setting self.now.history % 2 ^ 64 }
+    {
+        self.stirred
     }
 
     /// Whether each piece is had, wanted or not.
@@ -231,9 +262,15 @@ impl Picker {
             action_told told.now ≡ Arrived piece begin bytes → result ≡ Reply.Completed →
             waits self.new.setting self.new.history piece ≡ true }
     {
-        let reply = self.position().reply(worker, told);
+        let before = self.position();
+        let reply = before.reply(worker, told);
+        let stirs = before.stirs(worker, told, reply);
+        let was_endgame = before.is_endgame();
         enter(&mut self.tables, &self.past, worker, told, reply);
         self.past = self.past.then(&Note::Told(worker, told, reply));
+        let is_endgame = Position::new(&self.tables, &self.past).is_endgame();
+        let stirs = stirs | begins_endgame(reply, was_endgame, is_endgame);
+        self.stirred = risen(self.stirred, stirs);
         reply
     }
 
@@ -246,6 +283,7 @@ impl Picker {
         let reply = self.position().checked(worker, verdict, is_current);
         enter_verdict(&mut self.tables, &self.past, worker, verdict, reply);
         self.past = self.past.then(&Note::Checked(worker, verdict, reply));
+        self.stirred = risen(self.stirred, !reply.is_refusal());
         reply
     }
 
@@ -264,6 +302,7 @@ impl Picker {
             torrent: self.tables.torrent(),
             reply,
         });
+        self.stirred = risen(self.stirred, !reply.is_refusal());
         reply
     }
 
@@ -280,5 +319,23 @@ impl Picker {
             Lent::Told(told) => self.hear(worker, &told),
             Lent::Check(verdict) => self.check(worker, verdict, is_current),
         }
+    }
+}
+
+/// Whether an endgame begins with this reply: a block is asked for, and there is an endgame that wasn't before.
+fn begins_endgame(reply: Reply, before: bool, after: bool) -> bool
+    ensures { result ≡ (is_request reply && (not before && after)) }
+{
+    reply.is_request() && !before && after
+}
+
+/// The number, one more where something stirs.
+fn risen(number: u64, stirs: bool) -> u64
+    ensures { result ≡ (number + (if stirs then 1 else 0)) % 2 ^ 64 }
+{
+    if stirs {
+        number.wrapping_add(1)
+    } else {
+        number
     }
 }

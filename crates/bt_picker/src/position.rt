@@ -1,15 +1,15 @@
 //! A history with its tables: each question that the rules ask, answered by its definition.
 ghost use Rattle.std.specs.Prelude.{◌≡◌, ◌<◌, ◌≤◌, ◌∷◌, [], ℕ, Bool, false, true, length, slice_index_or, IfSome, IfNone, Some, None};
-ghost use Rattle.std.specs.Prelude.{IsTrue, is_some, option_and_then};
+ghost use Rattle.std.specs.Prelude.{IsTrue, is_some, nat_lt, option_and_then};
 ghost use Rattle.bt_meta.specs.declared.block.Block.{Block};
 ghost use Rattle.bt_meta.specs.Layout.{IsLayout, piece_count, block_count, block};
 ghost use Rattle.std.specs.List.{list_any};
-ghost use Rattle.bt_history.specs.Setting.{is_block, some_block_of};
+ghost use Rattle.bt_history.specs.Setting.{deepest_told, is_block, some_block_of};
 ghost use Rattle.bt_history.specs.History.{same_begin};
 ghost use Rattle.bt_history.specs.Legal.{IsLegal};
-ghost use Rattle.bt_history.specs.Peers.{joined, late, shows, is_open, outstanding, asked, due, dues, flag};
-ghost use Rattle.bt_history.specs.Pieces.{availability, asked_of_some, begun, full, had, held, held_or_asked, interesting, kept, lacks};
-ghost use Rattle.bt_history.specs.Pieces.{unbegun, wanted};
+ghost use Rattle.bt_history.specs.Peers.{depth_of, joined, late, shows, is_open, outstanding, asked, due, dues, flag};
+ghost use Rattle.bt_history.specs.Pieces.{asker_count, availability, asked_of_some, begun, full, had, held, held_or_asked, interesting, kept, lacks};
+ghost use Rattle.bt_history.specs.Pieces.{sender, unbegun, wanted};
 ghost use Rattle.bt_order.specs.Orders.{at, ListsGroup};
 ghost use Rattle.bt_order.specs.Risings.{Rises};
 ghost use Rattle.bt_picker.specs.Search.{NoneRarer};
@@ -71,11 +71,21 @@ impl<'a> Position<'a> {
         self.tables.workers()
     }
 
-    /// At most so many blocks are asked of one peer.
-    pub fn depth(&self) -> u32
-        ensures { result ≡ self.now.setting.depth }
+    /// At most so many blocks are asked of the worker's peer at a time.
+    pub fn depth(&self, worker: u32) -> u32
+        requires { worker < self.now.setting.workers }
+        ensures { result ≡ depth_of self.now.setting self.now.history worker }
     {
-        self.tables.rules().depth
+        self.peer(worker)
+            .told()
+            .unwrap_or(self.tables.rules().depth)
+    }
+
+    /// The greatest depth that may be told of a peer.
+    pub fn deepest_told(&self) -> u32
+        ensures { result ≡ deepest_told self.now.setting }
+    {
+        self.tables.rules().deepest_told()
     }
 
     /// While fewer pieces are had than so many, any may be begun.
@@ -83,6 +93,13 @@ impl<'a> Position<'a> {
         ensures { result ≡ self.now.setting.random }
     {
         self.tables.rules().random
+    }
+
+    /// In endgame one block is asked of so many peers at most, but always of one.
+    pub fn askers(&self) -> u32
+        ensures { result ≡ self.now.setting.askers }
+    {
+        self.tables.rules().askers
     }
 
     pub fn piece_count(&self) -> u32
@@ -232,6 +249,15 @@ impl<'a> Position<'a> {
         self.cell(piece, index).is_held()
     }
 
+    /// The worker whose peer brought the block, if it is held.
+    pub fn sender(&self, piece: u32, index: u32) -> Option<u32>
+        requires piece { piece < piece_count self.now.setting.torrent }
+        requires index { index < block_count self.now.setting.torrent piece }
+        ensures { result ≡ sender self.now.history (block self.now.setting.torrent piece index) }
+    {
+        self.cell(piece, index).sender()
+    }
+
     /// Whether the block is held, or asked of some peer.
     pub fn is_held_or_asked(&self, piece: u32, index: u32) -> bool
         requires piece { piece < piece_count self.now.setting.torrent }
@@ -239,6 +265,25 @@ impl<'a> Position<'a> {
         ensures { result ≡ held_or_asked self.now.setting self.now.history (block self.now.setting.torrent piece index) }
     {
         self.cell(piece, index).is_touched()
+    }
+
+    /// Of how many peers the block is asked.
+    pub fn asker_count(&self, piece: u32, index: u32) -> u32
+        requires piece { piece < piece_count self.now.setting.torrent }
+        requires index { index < block_count self.now.setting.torrent piece }
+        ensures { result ≡ asker_count self.now.setting self.now.history (block self.now.setting.torrent piece index) }
+    {
+        self.cell(piece, index).askers()
+    }
+
+    /// Whether the block may be asked of one peer more.
+    pub fn has_few_askers(&self, piece: u32, index: u32) -> bool
+        requires piece { piece < piece_count self.now.setting.torrent }
+        requires index { index < block_count self.now.setting.torrent piece }
+        ensures { result ≡ nat_lt (asker_count self.now.setting self.now.history (block self.now.setting.torrent piece index))
+            self.now.setting.askers }
+    {
+        self.asker_count(piece, index) < self.askers()
     }
 
     /// Whether the block is asked of the worker's peer.

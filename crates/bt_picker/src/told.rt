@@ -33,6 +33,15 @@ pub enum Told<'a> {
     Leave,
     /// Just these pieces are to be downloaded from now on.
     Want(&'a Bitfield),
+    /// The peer has these pieces too.
+    Haves(&'a Bitfield),
+    /// From now on so many blocks may be asked of the peer at a time.
+    Depth(u32),
+    /// The block that begins so many bytes into the piece is asked of the peer no more.
+    Release {
+        piece: u32,
+        begin: u32,
+    },
 }
 
 /// A call with what it carries lent: the check of a piece, or what is told of a peer.
@@ -65,6 +74,12 @@ pub fn lend(call: &Call) -> Lent<'_>
         },
         Call::Leave => Told::Leave,
         Call::Want(flags) => Told::Want(flags),
+        Call::Haves(flags) => Told::Haves(flags),
+        Call::Depth(depth) => Told::Depth(*depth),
+        Call::Release { piece, begin } => Told::Release {
+            piece: *piece,
+            begin: *begin,
+        },
     };
     Lent::Told(told)
 }

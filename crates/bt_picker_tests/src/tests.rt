@@ -12,6 +12,7 @@ mod logs;
 mod meeting;
 mod played;
 mod random;
+mod restored;
 mod same;
 mod setting;
 mod shown;

@@ -6,7 +6,7 @@ ghost use Rattle.bt_program.specs.Asks.{IsWanted};
 use crate::wrong::Wrong;
 use bt_cli::{MOST_DEPTH, Options, read_hex};
 use bt_files::Failure;
-use bt_picker::Rules;
+use bt_picker::{MOST_WORKERS, Rules};
 use bt_session::{MOST_CHECKERS, MOST_STREAMS};
 use std::alloc::Global;
 
@@ -35,6 +35,8 @@ impl<'w> Asked<'w> {
             IsWanted (option_map (λ text. text.now) self.now.want) (option_map (λ bytes. bytes.items) options.want))) }
         ensures depth { IfOk result (λ judged. IfOk judged (λ options. options.rules.depth ≡ self.now.depth)) }
         ensures random { IfOk result (λ judged. IfOk judged (λ options. options.rules.random ≡ self.now.random)) }
+        ensures askers { IfOk result (λ judged. IfOk judged (λ options. options.rules.askers ≡ MOST_WORKERS)) }
+        ensures deepest { IfOk result (λ judged. IfOk judged (λ options. options.rules.deepest ≡ MOST_DEPTH)) }
         ensures checkers { IfOk result (λ judged. IfOk judged (λ options. options.checkers ≡ self.now.checkers)) }
     {
         let want = match self.want {
@@ -51,6 +53,8 @@ impl<'w> Asked<'w> {
             rules: Rules {
                 depth: self.depth,
                 random: self.random,
+                askers: MOST_WORKERS,
+                deepest: MOST_DEPTH,
             },
             checkers: self.checkers,
         }))

@@ -14,6 +14,9 @@ Lines:
   W settle P                               checks piece P
   W want HEX                               the pieces of this bitfield are to be downloaded, until another such line;
                                            until the first one, all are
+  W haves HEX                              it has the pieces of this bitfield too, whenever it says so
+  W depth N                                from now on it may be asked for N blocks at a time, 1 to 64
+  W release P BEGIN                        it is asked no more for the block of piece P that begins at byte BEGIN
   Numbers are in base ten; workers count from 0, and there are 1 to 1024. An empty line says nothing.
 
 Replies, a line each:
@@ -21,7 +24,7 @@ Replies, a line each:
   noted yes | noted no                     noted; the peer shows a wanted piece that is lacking, or none
   cancel P BEGIN LEN                       tell the peer that this block is no longer wanted
   request P BEGIN LEN                      ask the peer for this block
-  choked | pipefull                        the peer chokes us | is asked for DEPTH blocks
+  choked | pipefull                        the peer chokes us | is asked for all it may be
   idle | nothing                           nothing to ask now | the peer shows nothing wanted that is lacking
   stored | completed | dropped             the block is kept | is the last of its piece | was there before
   had | failed                             the piece has its hash | hasn't, and is to be fetched again
@@ -31,6 +34,7 @@ Replies, a line each:
     5 there is no such piece               6 no block begins there
     7 the block has another length         8 the piece doesn't wait for a check
     9 the piece has changed since it was hashed
+    10 the block isn't asked of the peer   11 the depth is 0, or more than may be told
 
 Status: 0 the whole script was played; 2 `line N`, the first line at fault, counted from 1 (another form, a number
 out of range, no such worker, a torrent or a bitfield that can't be, rules that stand elsewhere); 4 `file fault`,

@@ -2,13 +2,7 @@
 use Rattle.std.proofs.Common.{◌≡◌, ◌<◌, ◌≤◌, ℕ, List, [], ◌∷◌, length, None, refl, arith}
 use Rattle.bt_script.specs.Lines.{command_in, line_of_fields}
 
--- only a word with no argument, with one or with three says something
-pub command_in-two : (word : List ℕ) (arguments : List (List ℕ)) → length arguments ≡ 2 → command_in word arguments ≡ None
-command_in-two word [] e = absurd (omega arith)
-command_in-two word (a ∷ []) e = absurd (omega arith)
-command_in-two word (a ∷ b ∷ []) e = refl
-command_in-two word (a ∷ b ∷ d ∷ more) e = absurd (omega arith)
-
+-- only a word with at most three arguments says something
 pub command_in-many : (word : List ℕ) (arguments : List (List ℕ)) → 4 ≤ length arguments → command_in word arguments ≡ None
 command_in-many word [] h = absurd (omega arith)
 command_in-many word (a ∷ []) h = absurd (omega arith)

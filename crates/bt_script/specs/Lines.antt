@@ -9,10 +9,11 @@ use Rattle.bt_script.specs.Fields.{fields_of, number_in, small_number_in, bytes_
 -- what a worker does, by plain values
 pub data Order : Type 0 where
   join choke unchoke leave : Order
-  bits want : List ℕ → Order
-  have settle : ℕ → Order
+  bits want haves : List ℕ → Order
+  have settle depth : ℕ → Order
   next : ℕ → Order
   block : ℕ → ℕ → List ℕ → Order
+  release : ℕ → ℕ → Order
 
 -- who does what
 pub record OrderLine : Type 0 where
@@ -31,6 +32,9 @@ seen_command (commands.Block piece begin bytes) = block piece begin bytes.items
 seen_command (commands.Settle piece) = settle piece
 seen_command commands.Leave = leave
 seen_command (commands.Want bytes) = want bytes.items
+seen_command (commands.Haves bytes) = haves bytes.items
+seen_command (commands.Depth n) = depth n
+seen_command (commands.Release piece begin) = release piece begin
 
 -- a line that was read, as an order of a worker
 abbrev pub seen_line : Line → OrderLine
@@ -53,7 +57,19 @@ short_command word argument =
     else (if bytes_eq word (codes "next") then option_map next (number_in argument)
     else (if bytes_eq word (codes "settle") then option_map settle (small_number_in argument)
     else (if bytes_eq word (codes "want") then option_map want (bytes_in argument)
-    else None))))
+    else (if bytes_eq word (codes "haves") then option_map haves (bytes_in argument)
+    else (if bytes_eq word (codes "depth") then option_map depth (small_number_in argument)
+    else None))))))
+
+-- what is given up: the piece, and where the block begins in it
+abbrev pub release_of : Option ℕ → Option ℕ → Option Order
+release_of (Some piece) (Some begin) = Some (release piece begin)
+release_of piece begin = None
+
+-- a word and two arguments
+abbrev pub pair_command : List ℕ → List ℕ → List ℕ → Option Order
+pair_command word piece begin =
+    if bytes_eq word (codes "release") then release_of (small_number_in piece) (small_number_in begin) else None
 
 -- a block: its piece, where it begins in it, and its bytes
 abbrev pub block_of : Option ℕ → Option ℕ → Option (List ℕ) → Option Order
@@ -69,6 +85,7 @@ block_command word piece begin hex =
 abbrev pub command_in : List ℕ → List (List ℕ) → Option Order
 command_in word [] = bare_command word
 command_in word (argument ∷ []) = short_command word argument
+command_in word (piece ∷ begin ∷ []) = pair_command word piece begin
 command_in word (piece ∷ begin ∷ hex ∷ []) = block_command word piece begin hex
 command_in word arguments = None
 

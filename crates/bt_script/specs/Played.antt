@@ -12,7 +12,8 @@ use Rattle.bt_picker.specs.Checks.{SettlesNow}
 use Rattle.bt_text.specs.Texts.{reply_text}
 use Rattle.bt_script.specs.declared.script.setup.Setup.{Setup}
 use Rattle.bt_script.specs.Setups.{setup_in}
-use Rattle.bt_script.specs.Lines.{Order, OrderLine, join, choke, unchoke, leave, bits, have, settle, next, block, want, line_in}
+use Rattle.bt_script.specs.Lines.{Order, OrderLine, join, choke, unchoke, leave, bits, have, settle, next, block, want, haves, depth, release}
+use Rattle.bt_script.specs.Lines.{line_in}
 use Rattle.bt_script.specs.RulesLines.{rules_in}
 
 -- the order is this call of a torrent of so many pieces
@@ -26,6 +27,9 @@ IsCall pieces (next word) action = action ≡ actions.Next word
 IsCall pieces (block p begin bytes) action = action ≡ actions.Arrived p begin bytes
 IsCall pieces (bits bytes) action = (flags : List Bool) × (action ≡ actions.Bits flags) × (length flags ≡ pieces) × IsSpelled flags bytes
 IsCall pieces (want bytes) action = (flags : List Bool) × (action ≡ actions.Want flags) × (length flags ≡ pieces) × IsSpelled flags bytes
+IsCall pieces (haves bytes) action = (flags : List Bool) × (action ≡ actions.Haves flags) × (length flags ≡ pieces) × IsSpelled flags bytes
+IsCall pieces (depth n) action = action ≡ actions.Depth n
+IsCall pieces (release p begin) action = action ≡ actions.Release p begin
 IsCall pieces (settle p) action = ⊥
 
 -- the desk made the call and gained its entry

@@ -2,7 +2,7 @@
 use Rattle.std.specs.Prelude.{ℕ, ◌&&◌, nat_le, List, [], ◌∷◌, Option, Some, None, option_and_then, codes, if◌then◌else◌}
 use Rattle.std.specs.Str.{bytes_eq}
 use Rattle.bt_history.specs.declared.rules.Rules.{Rules}
-use Rattle.bt_history.specs.declared.rules.TheConstants.{MOST_DEPTH}
+use Rattle.bt_history.specs.declared.rules.TheConstants.{MOST_DEPTH, MOST_WORKERS}
 use Rattle.bt_script.specs.Fields.{fields_of, small_number_in}
 
 -- a depth that a picker takes
@@ -21,9 +21,9 @@ random_within pieces n = if nat_le n pieces then Some n else None
 abbrev pub random_in : ℕ → List ℕ → Option ℕ
 random_in pieces text = option_and_then (random_within pieces) (small_number_in text)
 
--- depth and number together, if both can be read
+-- depth and number together, if both can be read; how many peers a block is asked of, and the greatest depth that may be told, are as usual
 abbrev pub rules_of : Option ℕ → Option ℕ → Option Rules
-rules_of (Some depth) (Some random) = Some (record { depth = depth; random = random })
+rules_of (Some depth) (Some random) = Some (record { depth = depth; random = random; askers = MOST_WORKERS; deepest = MOST_DEPTH })
 rules_of depth random = None
 
 -- the rules that these fields say

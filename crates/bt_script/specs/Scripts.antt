@@ -13,7 +13,7 @@ use Rattle.bt_text.specs.declared.fault.Fault.TheVariants as faults
 use Rattle.bt_script.specs.declared.script.fault.LineFault.{LineFault}
 use Rattle.bt_script.specs.declared.script.fault.LineFault.TheVariants.{NotAllowed, NoMemory}
 use Rattle.bt_script.specs.declared.script.setup.Setup.{Setup}
-use Rattle.bt_script.specs.Lines.{Order, OrderLine, bits, want, line_in}
+use Rattle.bt_script.specs.Lines.{Order, OrderLine, bits, want, haves, line_in}
 use Rattle.bt_script.specs.RulesLines.{rules_in}
 use Rattle.bt_script.specs.Setups.{setup_in}
 use Rattle.bt_script.specs.Played.{IsPrintedOf}
@@ -42,6 +42,7 @@ IsPayload pieces bytes = (length bytes ≡ wire_len pieces) × ¬ (HasSpareBit b
 abbrev pub IsOfTorrent : ℕ → Order → Type 0
 IsOfTorrent pieces (bits bytes) = IsPayload pieces bytes
 IsOfTorrent pieces (want bytes) = IsPayload pieces bytes
+IsOfTorrent pieces (haves bytes) = IsPayload pieces bytes
 IsOfTorrent pieces order = Unit {0}
 
 -- the text is a line, its worker one of so many and its set of pieces one of the torrent

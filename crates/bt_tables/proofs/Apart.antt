@@ -67,7 +67,7 @@ whole_fresh n blocks rows is =
 pub same_room : (change : Change) (n : ℕ) (row : PieceState) → HasRoomOf change (shown_row n row) → HasRoomOf change (apart row)
 same_room (Raise index) n row room = room
 same_room (Lower index) n row room = room
-same_room (Store index) n row room = room
+same_room (Store index sender) n row room = room
 same_room Pass n row room = room
 same_room Fail n row room = room
 same_room (Wanted wanted) n row room = room
@@ -75,7 +75,7 @@ same_room (Wanted wanted) n row room = room
 pub changed_apart : (change : Change) (n : ℕ) (row : PieceState) → shown_row n (changed_row change row) ≡ changed_row change (shown_row n row)
 changed_apart (Raise index) n row = refl
 changed_apart (Lower index) n row = refl
-changed_apart (Store index) n row = refl
+changed_apart (Store index sender) n row = refl
 changed_apart Pass n row = refl
 changed_apart Fail n row = refl
 changed_apart (Wanted wanted) n row = refl
@@ -171,7 +171,7 @@ fresh_apart n blocks p =
 same_count : (change : Change) (row : PieceState) → (changed_row change row).availability ≡ row.availability
 same_count (Raise index) row = refl
 same_count (Lower index) row = refl
-same_count (Store index) row = refl
+same_count (Store index sender) row = refl
 same_count Pass row = refl
 same_count Fail row = refl
 same_count (Wanted wanted) row = refl

@@ -1,5 +1,5 @@
 -- The floors of all peers, as a row of a peer or of a piece changes.
-use Rattle.std.proofs.Common.{◌≡◌, ◌≢◌, ℕ, zero, suc, ◌+◌, ◌<◌, ◌≤◌, ◌&&◌, ◌||◌, Bool, true, false, not, List, length, get_or, set, replicate, refl, ap}
+use Rattle.std.proofs.Common.{Some, is_some, ◌≡◌, ◌≢◌, ℕ, zero, suc, ◌+◌, ◌<◌, ◌≤◌, ◌&&◌, ◌||◌, Bool, true, false, not, List, length, get_or, set, replicate, refl, ap}
 use Rattle.std.proofs.Common.{sym, ◌∙◌, subst, arith, length-set, cond, ◌-◌}
 use Rattle.std.specs.Prelude.{slice_index_or}
 use Rattle.std.proofs.lemmas.Bool.{false≢true, ne_eqb, lt-ltb, and_right, or_right}
@@ -36,9 +36,9 @@ new_floor floors peers rows w n change are lw here = record {
   len = length-set floors w n ∙ (are.len ∙ sym (length_edit peers w change));
   each = λ q lq. (let within : q < length peers = omega (arith, lq, length_edit peers w change) in dite (ℕ_discrete q w)
       (λ same. subst (λ (m : ℕ). IsFloor rows (peer_row (edit peers w change) m) (at (set floors w n) m)) (sym same)
-      (subst (λ (r : PeerState). IsFloor rows r (at (set floors w n) w)) (sym (get_or_edit_same peers w change (fresh_peer 0) lw))
+      (subst (λ (r : PeerState). IsFloor rows r (at (set floors w n) w)) (sym (get_or_edit_same peers w change (fresh_peer 0 0) lw))
       (subst (IsFloor rows (change (peer_row peers w))) (sym (get_or-set_same floors w n 0 (omega (arith, are.len, lw)))) here)))
-      (λ other. subst (λ (r : PeerState). IsFloor rows r (at (set floors w n) q)) (sym (get_or_edit_other peers w q change (fresh_peer 0) other))
+      (λ other. subst (λ (r : PeerState). IsFloor rows r (at (set floors w n) q)) (sym (get_or_edit_other peers w q change (fresh_peer 0 0) other))
       (subst (IsFloor rows (peer_row peers q)) (sym (get_or-set_other floors w q n 0 other)) (are.each q within))));
 }
 
@@ -128,13 +128,13 @@ raised_stale row i li =
     let here : get_or (edit row.blocks i one_more) i empty_cell ≡ one_more cell =
     ap (λ (cells : List CellState). get_or cells i empty_cell) (sym is) ∙ get_or-set_same row.blocks i (one_more cell) empty_cell li in
     touched_stale (changed_row (Raise i) row) i (omega (arith, li, ap length is, length-set row.blocks i (one_more cell)))
-    (ap is_touched here ∙ (ap (λ (x : Bool). cell.held || x) (lt-ltb 0 (cell.askers + 1) (omega arith)) ∙
-    or_right (cell.held) true refl))
+    (ap is_touched here ∙ (ap (λ (x : Bool). is_some cell.sender || x) (lt-ltb 0 (cell.askers + 1) (omega arith)) ∙
+    or_right (is_some cell.sender) true refl))
 
-pub stored_stale : (row : PieceState) (i : ℕ) → i < length row.blocks → is_fresh (stored_row i row) ≡ false
-stored_stale row i li =
-    let cell : CellState = record { held = true; askers = 0 } in
-    touched_stale (stored_row i row) i (omega (arith, li, length-set row.blocks i cell))
+pub stored_stale : (row : PieceState) (sender i : ℕ) → i < length row.blocks → is_fresh (stored_row sender i row) ≡ false
+stored_stale row sender i li =
+    let cell : CellState = record { sender = Some sender; askers = 0 } in
+    touched_stale (stored_row sender i row) i (omega (arith, li, length-set row.blocks i cell))
     (ap is_touched (get_or-set_same row.blocks i cell empty_cell li))
 
 -- ---- a peer's row as the calls change it

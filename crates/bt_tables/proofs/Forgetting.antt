@@ -1,12 +1,14 @@
 -- A stored block leaves the rows of the peers that it wasn't asked of as they are.
-use Rattle.std.proofs.Common.{◌≡◌, ◌≢◌, ℕ, zero, suc, ◌==◌, ◌+◌, ◌<◌, ◌≤◌, Bool, true, false, not, ◌&&◌, ◌||◌, List, [], ◌∷◌, ◌++◌, length, get_or}
+use Rattle.std.proofs.Common.{◌≡◌, ◌≢◌, ℕ, zero, suc, ◌==◌, ◌+◌, ◌<◌, ◌≤◌, Bool, true, false, not, ◌&&◌, ◌||◌, List, [], ◌∷◌, ◌++◌, length, get_or, take}
 use Rattle.std.proofs.Common.{refl, ap, sym, ◌∙◌, arith, ⊎_elim}
-use Rattle.std.specs.Prelude.{if◌then◌else◌}
-use Rattle.std.specs.List.{filter, list_any}
-use Rattle.std.proofs.lemmas.Bool.{cases_eq, eq-eqb, ne_eqb}
+use Rattle.std.specs.Prelude.{IfNone, IfSome, None, Option, Some, if◌then◌else◌, is_some, slice_index_or}
+use Rattle.std.specs.List.{filter, list_any, remove}
+use Rattle.std.proofs.lemmas.Bool.{and_from, and_parts, cases_Bool, cases_eq, eq-eqb, eqb-true, false≢true, ne_eqb, or_from, or_parts, or_right}
 use Rattle.std.proofs.lemmas.List.{append-nil, get_or_default}
 use Rattle.bt_meta.specs.declared.block.Block.{Block}
 use Rattle.bt_history.specs.Counting.{count_below, table}
+use Rattle.bt_history.specs.History.{same_begin}
+use Rattle.bt_history.specs.Peers.{AreApart, has_place}
 use Rattle.bt_tables.specs.Tables.{one_if, PeerState, asks_at, edit, fresh_peer, peer_row, without_block}
 use Rattle.bt_tables.proofs.Tabled.{get_or_edit_other, get_or_edit_same, length_edit, table_from}
 
@@ -80,11 +82,88 @@ forgotten peers w piece begin askers lw counted few =
     table_from (length peers) f (edit peers w change) (length_edit peers w change) (λ k d lt. ⊎_elim
     (λ (here : k ≡ w).
     ap (λ (j : ℕ). get_or (edit peers w change) j d) here ∙ (get_or_edit_same peers w change d lw
-    ∙ (ap change (get_or_default peers w d (fresh_peer 0) lw)
+    ∙ (ap change (get_or_default peers w d (fresh_peer 0 0) lw)
     ∙ (ap (λ (x : Bool). without_block piece begin x (peer_row peers w)) (sym (eq-eqb w w refl)) ∙ ap f (sym here)))))
     (λ (apart : k ≡ w → ⊥).
     let none = count_alone (length peers) (λ q. asks_at piece begin (peer_row peers q)) w k lw most lt apart in
-    get_or_edit_other peers w k change d apart ∙ (get_or_default peers k d (fresh_peer 0) lt
+    get_or_edit_other peers w k change d apart ∙ (get_or_default peers k d (fresh_peer 0 0) lt
     ∙ (sym (unasked_row piece begin (peer_row peers k) none)
     ∙ ap (λ (x : Bool). without_block piece begin x (peer_row peers k)) (sym (ne_eqb w k (λ e. apart (sym e)))))))
     (cases_eq k w))
+
+-- ---- the one block of a line that begins at a place
+
+-- what is said of the place of the first block of a line that begins there
+pub record IsPlaceIn (piece begin : ℕ) (line : List Block) (found : Option ℕ) : Type 0 where
+  pub some : IfSome found (λ i. (i < length line)
+      × (list_any (λ b. (piece == b.piece) && (begin == b.begin)) (take i line) ≡ false)
+      × ((d : Block) → ((piece == (slice_index_or line i d).piece) && (begin == (slice_index_or line i d).begin)) ≡ true))
+  pub none : IfNone found (list_any (λ b. (piece == b.piece) && (begin == b.begin)) line ≡ false)
+
+module _ (piece begin : ℕ) where
+  abbrev pub begins : Block → Bool
+  begins b = (piece == b.piece) && (begin == b.begin)
+
+  both_begin : (b c : Block) → begins b ≡ true → begins c ≡ true → same_begin c b ≡ true
+  both_begin b c here there =
+      let first = and_parts (piece == b.piece) (begin == b.begin) here in
+      let second = and_parts (piece == c.piece) (begin == c.begin) there in
+      and_from (c.piece == b.piece) (c.begin == b.begin)
+      (eq-eqb c.piece b.piece (sym (eqb-true piece c.piece second.0) ∙ eqb-true piece b.piece first.0))
+      (eq-eqb c.begin b.begin (sym (eqb-true begin c.begin second.1) ∙ eqb-true begin b.begin first.1))
+
+  -- no other block of a line begins where this one does
+  no_other : (b : Block) (bs : List Block) → begins b ≡ true → has_place b bs ≡ false → list_any begins bs ≡ false
+  no_other b [] here none = refl
+  no_other b (c ∷ bs) here none =
+      let parts = or_parts (same_begin c b) (has_place b bs) none in
+      or_from (begins c) (list_any begins bs)
+      (⊎_elim (λ (there : begins c ≡ true). absurd (false≢true (sym parts.0 ∙ both_begin b c here there))) (λ (apart : begins c ≡ false). apart)
+      (cases_Bool (begins c)))
+      (no_other b bs here parts.1)
+
+  -- without the blocks that begin there, the line is without that one
+  pub without_place : (bs : List Block) (i : ℕ) (d : Block) → AreApart bs → i < length bs → list_any begins (take i bs) ≡ false
+      → begins (get_or bs i d) ≡ true → filter (λ b. not (begins b)) bs ≡ remove bs i
+  unfolding AreApart
+  without_place [] i d are lt none here = absurd (omega (arith, lt))
+  without_place (b ∷ bs) zero d are lt none here =
+      ap (λ (x : Bool). if not x then b ∷ filter (λ c. not (begins c)) bs else filter (λ c. not (begins c)) bs) here
+      ∙ filter_all begins bs (no_other b bs here are.0)
+  without_place (b ∷ bs) (suc i) d are lt none here =
+      let parts = or_parts (begins b) (list_any begins (take i bs)) none in
+      ap (λ (x : Bool). if not x then b ∷ filter (λ c. not (begins c)) bs else filter (λ c. not (begins c)) bs) parts.0
+      ∙ ap (λ (l : List Block). b ∷ l) (without_place bs i d are.1 (omega (arith, lt)) parts.1 here)
+
+  -- and that one is all that begins there
+  pub at_place : (bs : List Block) (i : ℕ) (d : Block) → AreApart bs → i < length bs → list_any begins (take i bs) ≡ false
+      → begins (get_or bs i d) ≡ true → filter begins bs ≡ get_or bs i d ∷ []
+  unfolding AreApart
+  at_place [] i d are lt none here = absurd (omega (arith, lt))
+  at_place (b ∷ bs) zero d are lt none here =
+      ap (λ (x : Bool). if x then b ∷ filter begins bs else filter begins bs) here
+      ∙ ap (λ (l : List Block). b ∷ l) (filter_none begins bs (no_other b bs here are.0))
+  at_place (b ∷ bs) (suc i) d are lt none here =
+      let parts = or_parts (begins b) (list_any begins (take i bs)) none in
+      ap (λ (x : Bool). if x then b ∷ filter begins bs else filter begins bs) parts.0 ∙ at_place bs i d are.1 (omega (arith, lt)) parts.1 here
+
+  -- where none begins there, the line stays
+  pub no_place : (bs : List Block) → list_any begins bs ≡ false → filter (λ b. not (begins b)) bs ≡ bs
+  no_place bs none = filter_all begins bs none
+
+  pub none_at_place : (bs : List Block) → list_any begins bs ≡ false → filter begins bs ≡ []
+  none_at_place bs none = filter_none begins bs none
+
+-- whether a place was found in the line is whether a block begins there
+pub place_there : (piece begin : ℕ) (line : List Block) (found : Option ℕ) → IsPlaceIn piece begin line found
+    → list_any (begins piece begin) line ≡ is_some found
+place_there piece begin line None is = is.none
+place_there piece begin line (Some i) is = any_at (begins piece begin) line i is.some.0 is.some.2 where
+  any_at : (test : Block → Bool) (bs : List Block) (i : ℕ) → i < length bs → ((d : Block) → test (get_or bs i d) ≡ true) → list_any test bs ≡ true
+  any_at test [] i lt at = absurd (omega (arith, lt))
+  any_at test (b ∷ bs) zero lt at = ap (λ (x : Bool). x || list_any test bs) (at b)
+  any_at test (b ∷ bs) (suc i) lt at = or_right (test b) (list_any test bs) (any_at test bs i (omega (arith, lt)) at)
+
+pub apart_none : AreApart []
+unfolding AreApart
+apart_none = tt

@@ -1,4 +1,5 @@
 pub mod Tabled
+pub mod Added
 pub mod Changes
 pub mod Forgetting
 pub mod Counted

@@ -1,5 +1,5 @@
 -- What the rows of all pieces amount to, as one row changes.
-use Rattle.std.proofs.Common.{◌≡◌, ℕ, zero, suc, ◌+◌, ◌-◌, ◌<◌, ◌≤◌, ◌^◌, ◌++◌, Bool, true, false, List, [], ◌∷◌, length, get_or, set, map}
+use Rattle.std.proofs.Common.{Some, ◌≡◌, ℕ, zero, suc, ◌+◌, ◌-◌, ◌<◌, ◌≤◌, ◌^◌, ◌++◌, Bool, true, false, List, [], ◌∷◌, length, get_or, set, map}
 use Rattle.std.proofs.Common.{replicate, refl, ap, sym, ◌∙◌, arith, length-set}
 use Rattle.std.specs.Prelude.{if◌then◌else◌}
 use Rattle.std.specs.List.{sum_by, count_by}
@@ -17,7 +17,7 @@ use Rattle.bt_tables.proofs.Tabled.{length_edit}
 pub same_length : (change : Change) (row : PieceState) → length (changed_row change row).blocks ≡ length row.blocks
 same_length (Raise index) row = length_edit row.blocks index one_more
 same_length (Lower index) row = length_edit row.blocks index one_less
-same_length (Store index) row = length-set row.blocks index (record { held = true; askers = 0 })
+same_length (Store index sender) row = length-set row.blocks index (record { sender = Some sender; askers = 0 })
 same_length Pass row = refl
 same_length Fail row = length-map row.blocks unheld
 same_length (Wanted wanted) row = refl

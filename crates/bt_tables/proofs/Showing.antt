@@ -22,13 +22,13 @@ showing_at (row ∷ rows) (flags ∷ shows) (suc w) d e len lw = showing_at rows
 -- a row as it is read
 pub row_of : (rows : List Dealings) (shows : List (List Bool)) (w : ℕ) (row : Dealings) → length shows ≡ length rows → w < length rows
     → row ≡ get_or rows w row → row ≡ dealings (peer_row (showing_rows rows shows) w)
-row_of rows shows w row len lw read = read ∙ sym (ap dealings (showing_at rows shows w row (fresh_peer 0) len lw))
+row_of rows shows w row len lw read = read ∙ sym (ap dealings (showing_at rows shows w row (fresh_peer 0 0) len lw))
 
 -- the pieces that the peer shows
 pub flags_of_row : (rows : List Dealings) (shows : List (List Bool)) (w : ℕ) → length shows ≡ length rows → w < length rows
     → (peer_row (showing_rows rows shows) w).shows ≡ flags_at shows w
 flags_of_row rows shows w len lw =
-    ap (λ (row : PeerState). row.shows) (showing_at rows shows w (dealings (fresh_peer 0)) (fresh_peer 0) len lw)
+    ap (λ (row : PeerState). row.shows) (showing_at rows shows w (dealings (fresh_peer 0 0)) (fresh_peer 0 0) len lw)
 
 -- a row and its flags change
 pub showing_edit : (rows : List Dealings) (shows : List (List Bool)) (w : ℕ) (row : Dealings) (g : Dealings → Dealings)
@@ -53,18 +53,18 @@ showing_set rows shows w row g change len lw read is =
     ∙ showing_edit rows shows w row g (λ flags. flags) change len lw read is
 
 -- peers that told nothing
-pub showing_fresh : (n pieces : ℕ) (rows : List Dealings) (shows : List (List Bool)) → rows ≡ table n (λ w. dealings (fresh_peer 0))
-    → shows ≡ table n (λ w. replicate pieces false) → showing_rows rows shows ≡ table n (λ w. fresh_peer pieces)
-showing_fresh n pieces rows shows is are =
-    let long : length rows ≡ n = ap length is ∙ length_table n (λ w. dealings (fresh_peer 0)) in
+pub showing_fresh : (n room pieces : ℕ) (rows : List Dealings) (shows : List (List Bool)) → rows ≡ table n (λ w. dealings (fresh_peer room 0))
+    → shows ≡ table n (λ w. replicate pieces false) → showing_rows rows shows ≡ table n (λ w. fresh_peer room pieces)
+showing_fresh n room pieces rows shows is are =
+    let long : length rows ≡ n = ap length is ∙ length_table n (λ w. dealings (fresh_peer room 0)) in
     let wide : length shows ≡ n = ap length are ∙ length_table n (λ w. replicate pieces false) in
     let same : length shows ≡ length rows = wide ∙ sym long in
-    table_from n (λ w. fresh_peer pieces) (showing_rows rows shows) (length_showing rows shows same ∙ wide) (λ k d lt.
-    showing_at rows shows k (dealings (fresh_peer 0)) d same (omega (arith, long, lt))
-    ∙ (ap (λ (l : List Dealings). showing (flags_at shows k) (get_or l k (dealings (fresh_peer 0)))) is
-    ∙ ap (λ (r : Dealings). showing (flags_at shows k) r) (get_or_table n (λ w. dealings (fresh_peer 0)) k (dealings (fresh_peer 0)) lt)
-    ∙ ap (λ (l : List (List Bool)). showing (flags_at l k) (dealings (fresh_peer 0))) are
-    ∙ ap (λ (flags : List Bool). showing flags (dealings (fresh_peer 0))) (get_or_table n (λ w. replicate pieces false) k [] lt)))
+    table_from n (λ w. fresh_peer room pieces) (showing_rows rows shows) (length_showing rows shows same ∙ wide) (λ k d lt.
+    showing_at rows shows k (dealings (fresh_peer room 0)) d same (omega (arith, long, lt))
+    ∙ (ap (λ (l : List Dealings). showing (flags_at shows k) (get_or l k (dealings (fresh_peer room 0)))) is
+    ∙ ap (λ (r : Dealings). showing (flags_at shows k) r) (get_or_table n (λ w. dealings (fresh_peer room 0)) k (dealings (fresh_peer room 0)) lt)
+    ∙ ap (λ (l : List (List Bool)). showing (flags_at l k) (dealings (fresh_peer room 0))) are
+    ∙ ap (λ (flags : List Bool). showing flags (dealings (fresh_peer room 0))) (get_or_table n (λ w. replicate pieces false) k [] lt)))
 
 -- what a call that names a worker knows
 pub worker_within : (rows : List Dealings) (shows : List (List Bool)) (peers : List PeerState) (w : ℕ) → showing_rows rows shows ≡ peers

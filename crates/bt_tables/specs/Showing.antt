@@ -1,5 +1,5 @@
 -- What is kept of the peers, with the pieces that they show in a table of their own. No public clause of the picker cites this module.
-use Rattle.std.specs.Prelude.{ℕ, ◌<◌, Bool, List, [], ◌∷◌, length, map, slice_index_or}
+use Rattle.std.specs.Prelude.{Option, ℕ, ◌<◌, Bool, List, [], ◌∷◌, length, map, slice_index_or}
 use Rattle.bt_meta.specs.declared.block.Block.{Block}
 use Rattle.bt_meta.specs.WireBits.{IsPayload, flags_of}
 use Rattle.bt_tables.specs.Stripes.{stripe}
@@ -7,21 +7,33 @@ use Rattle.bt_tables.specs.Tables.{PeerState}
 
 -- what is kept of a peer beside the pieces that it shows
 pub record Dealings : Type 0 where
+  pub room : ℕ
   pub joined : Bool
   pub late : Bool
+  pub told : Option ℕ
   pub is_open : Bool
   pub asked : List Block
   pub due : List Block
 
 -- the row without the pieces that the peer shows
 abbrev pub dealings : PeerState → Dealings
-dealings row = record { joined = row.joined; late = row.late; is_open = row.is_open; asked = row.asked; due = row.due }
+dealings row = record {
+  room = row.room;
+  joined = row.joined;
+  late = row.late;
+  told = row.told;
+  is_open = row.is_open;
+  asked = row.asked;
+  due = row.due;
+}
 
 -- the row of a peer that shows these pieces
 abbrev pub showing : List Bool → Dealings → PeerState
 showing flags row = record {
+  room = row.room;
   joined = row.joined;
   late = row.late;
+  told = row.told;
   is_open = row.is_open;
   shows = flags;
   asked = row.asked;

@@ -1,6 +1,6 @@
 -- What a row of a piece amounts to among the others: its group, and what is counted of it. No public clause of the picker cites this module.
 use Rattle.std.specs.Prelude.{ℕ, ◌+◌, ◌-◌, ◌^◌, ◌≡◌, ◌<◌, ◌≤◌, ◌==◌, ◌||◌, Bool, false, not, List, [], ◌∷◌, length, map, min, nat_lt, true}
-use Rattle.std.specs.Prelude.{slice_index_or, if◌then◌else◌}
+use Rattle.std.specs.Prelude.{None, Some, is_some, slice_index_or, if◌then◌else◌}
 use Rattle.std.specs.List.{count_by, sum_by}
 use Rattle.bt_tables.specs.declared.cell.Cell.{Cell}
 use Rattle.bt_tables.specs.declared.cell.TheConstants.{HELD}
@@ -10,9 +10,10 @@ use Rattle.bt_tables.specs.Tables.{CellState, PieceState, empty_cell, one_if}
 use Rattle.bt_order.specs.Orders.{at}
 use Rattle.bt_order.specs.Risings.{IsIn}
 
--- what the word of a cell says: a block that is held is asked of nobody
+-- what the word of a cell says: a block that is held is asked of nobody, and the word says who brought it
 abbrev pub word_kept : ℕ → CellState
-word_kept word = if word == HELD then record { held = true; askers = 0 } else record { held = false; askers = word }
+word_kept word =
+    if nat_lt word HELD then record { sender = None; askers = word } else record { sender = Some (word - HELD); askers = 0 }
 
 -- what a cell says
 abbrev pub cell_kept : Cell → CellState
@@ -20,11 +21,11 @@ cell_kept cell = word_kept cell.word
 
 -- the block is held
 abbrev pub is_held : CellState → Bool
-is_held cell = cell.held
+is_held cell = is_some cell.sender
 
 -- the block is held, or asked of somebody
 abbrev pub is_touched : CellState → Bool
-is_touched cell = cell.held || nat_lt 0 cell.askers
+is_touched cell = is_some cell.sender || nat_lt 0 cell.askers
 
 -- so many of the blocks are held
 abbrev pub held_count : List CellState → ℕ

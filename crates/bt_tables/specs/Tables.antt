@@ -1,15 +1,16 @@
 -- The rows of the peers and of the pieces, and what each call makes of them. Nothing here knows a history.
-use Rattle.std.specs.Prelude.{ℕ, zero, suc, ◌+◌, ◌-◌, ◌*◌, ◌/◌, ◌^◌, ◌≡◌, ◌<◌, ◌==◌, ◌&&◌, Bool, true, false, not, List, [], ◌∷◌, ◌++◌, map, length}
-use Rattle.std.specs.Prelude.{if◌then◌else◌, replicate, slice_index_or, slice_set, EachIndex, ⊤}
+use Rattle.std.specs.Prelude.{ℕ, zero, suc, ◌+◌, ◌-◌, ◌*◌, ◌/◌, ◌^◌, ◌≡◌, ◌<◌, ◌≤◌, ◌==◌, ◌&&◌, ◌||◌, Bool, true, false, not, List, [], ◌∷◌, ◌++◌, map, length}
+use Rattle.std.specs.Prelude.{Option, None, Some, is_some, if◌then◌else◌, replicate, slice_index_or, slice_set, EachIndex, ⊤}
 use Rattle.std.specs.List.{filter, list_any}
 use Rattle.bt_meta.specs.declared.block.Block.{Block}
 use Rattle.bt_meta.specs.Layout.{block_size}
 use Rattle.bt_history.specs.declared.call.Reply.{Reply}
 use Rattle.bt_history.specs.declared.call.Reply.TheVariants.{Request, Cancel}
 use Rattle.bt_history.specs.Counting.{count_below, table}
-use Rattle.bt_history.specs.declared.rules.TheConstants.{MOST_DEPTH}
 use Rattle.bt_history.specs.Setting.{Setting}
 use Rattle.bt_history.specs.History.{stores, is_had, same_begin}
+use Rattle.bt_history.specs.Legal.{place_at}
+use Rattle.bt_history.specs.Peers.{has_place}
 use Rattle.bt_tables.specs.declared.cell.TheConstants.{HELD}
 use Rattle.bt_tables.specs.declared.piece.Change.{Change}
 use Rattle.bt_tables.specs.declared.piece.Change.TheVariants.{Raise, Lower, Store, Pass, Fail, Wanted}
@@ -20,24 +21,36 @@ one_if b = if b then 1 else 0
 
 -- ---- a peer's row
 
--- what is kept of a peer
+-- what is kept of a peer; for so many blocks each of its two lines has room
 pub record PeerState : Type 0 where
+  pub room : ℕ
   pub joined : Bool
   pub late : Bool
+  pub told : Option ℕ
   pub is_open : Bool
   pub shows : List Bool
   pub asked : List Block
   pub due : List Block
 
 -- the row of a peer that told nothing
-abbrev pub fresh_peer : ℕ → PeerState
-fresh_peer pieces = record { joined = false; late = false; is_open = false; shows = replicate pieces false; asked = []; due = [] }
+abbrev pub fresh_peer : ℕ → ℕ → PeerState
+fresh_peer room pieces = record {
+  room = room;
+  joined = false;
+  late = false;
+  told = None;
+  is_open = false;
+  shows = replicate pieces false;
+  asked = [];
+  due = [];
+}
 
 -- what each call makes of the row of its peer: after Join
 abbrev pub join_row : PeerState → PeerState
 join_row row = record row {
   joined = true;
   late = false;
+  told = None;
   is_open = false;
   shows = replicate (length row.shows) false;
   asked = [];
@@ -59,6 +72,10 @@ choke_row row = record row { late = true; is_open = false; asked = []; due = [] 
 -- after Unchoke
 abbrev pub unchoke_row : PeerState → PeerState
 unchoke_row row = record row { late = true; is_open = true }
+
+-- after Depth
+abbrev pub depth_row : ℕ → PeerState → PeerState
+depth_row n row = record row { told = Some n }
 
 -- after Next, where block b is asked for
 abbrev pub request_row : Block → PeerState → PeerState
@@ -91,9 +108,9 @@ without_block piece begin own row = record row {
 
 -- ---- a piece's row
 
--- what is kept of a block: whether it is held, and of how many peers it is asked
+-- what is kept of a block: the worker whose peer brought it, if it is held, and of how many peers it is asked
 pub record CellState : Type 0 where
-  pub held : Bool
+  pub sender : Option ℕ
   pub askers : ℕ
 
 -- what is kept of a piece
@@ -105,19 +122,19 @@ pub record PieceState : Type 0 where
 
 -- the cell of a block that is neither held nor asked
 abbrev pub empty_cell : CellState
-empty_cell = record { held = false; askers = 0 }
+empty_cell = record { sender = None; askers = 0 }
 
 -- the cell with one peer more asked for its block
 abbrev pub one_more : CellState → CellState
-one_more cell = record { held = cell.held; askers = cell.askers + 1 }
+one_more cell = record { sender = cell.sender; askers = cell.askers + 1 }
 
 -- with one peer less
 abbrev pub one_less : CellState → CellState
-one_less cell = record { held = cell.held; askers = cell.askers - 1 }
+one_less cell = record { sender = cell.sender; askers = cell.askers - 1 }
 
 -- no longer held
 abbrev pub unheld : CellState → CellState
-unheld cell = record { held = false; askers = cell.askers }
+unheld cell = record { sender = None; askers = cell.askers }
 
 -- the row of a piece of which nothing is known
 abbrev pub fresh_piece : ℕ → PieceState
@@ -129,7 +146,7 @@ piece_row rows p = slice_index_or rows p (fresh_piece 0)
 
 -- the row of the list at place q, or an empty one
 abbrev pub peer_row : List PeerState → ℕ → PeerState
-peer_row rows q = slice_index_or rows q (fresh_peer 0)
+peer_row rows q = slice_index_or rows q (fresh_peer 0 0)
 
 -- one peer less shows the piece, if the flag is set
 abbrev pub less_available : Bool → PieceState → PieceState
@@ -145,13 +162,17 @@ edit [] i f = []
 edit (x ∷ xs) zero f = f x ∷ xs
 edit (x ∷ xs) (suc i) f = x ∷ edit xs i f
 
+-- the lines of the peer have room for all that is asked and due
+abbrev pub HasShortLines : PeerState → Type 0
+HasShortLines row = length row.asked + length row.due ≤ row.room
+
 -- the block at this place has one peer more asked for it
 abbrev pub raised : Block → List PieceState → List PieceState
 raised b rows = edit rows b.piece (λ row. record row { blocks = edit row.blocks (b.begin / block_size) one_more })
 
--- the block was stored, so it is asked of nobody
-abbrev pub stored_row : ℕ → PieceState → PieceState
-stored_row index row = record row { blocks = slice_set row.blocks index (record { held = true; askers = 0 }) }
+-- the block was stored, brought by this worker's peer, so it is asked of nobody
+abbrev pub stored_row : ℕ → ℕ → PieceState → PieceState
+stored_row sender index row = record row { blocks = slice_set row.blocks index (record { sender = Some sender; askers = 0 }) }
 
 -- the check of the piece passed
 abbrev pub had_row : PieceState → PieceState
@@ -169,7 +190,7 @@ want_row wanted row = record row { wanted = wanted }
 abbrev pub changed_row : Change → PieceState → PieceState
 changed_row (Raise index) row = record row { blocks = edit row.blocks index one_more }
 changed_row (Lower index) row = record row { blocks = edit row.blocks index one_less }
-changed_row (Store index) row = stored_row index row
+changed_row (Store index sender) row = stored_row sender index row
 changed_row Pass row = had_row row
 changed_row Fail row = failed_row row
 changed_row (Wanted wanted) row = want_row wanted row
@@ -178,9 +199,9 @@ changed_row (Wanted wanted) row = want_row wanted row
 abbrev pub HasRoomOf : Change → PieceState → Type 0
 HasRoomOf (Raise index) row =
     (index < length row.blocks)
-    × ((slice_index_or row.blocks index empty_cell).held ≡ false)
+    × (is_some (slice_index_or row.blocks index empty_cell).sender ≡ false)
     × ((slice_index_or row.blocks index empty_cell).askers + 1 < HELD)
-HasRoomOf (Store index) row = index < length row.blocks
+HasRoomOf (Store index sender) row = (index < length row.blocks) × (sender < HELD)
 HasRoomOf change row = ⊤
 
 -- one peer less is asked for the block at this place
@@ -210,9 +231,10 @@ pub record HasBlock (t : TablesState) (piece index : ℕ) : Type 0 where
 -- the worker's peer can be asked for block b
 pub record HasRoomFor (t : TablesState) (w : ℕ) (b : Block) : Type 0 where
   pub cell : HasBlock t b.piece (b.begin / block_size)
-  pub free : (slice_index_or (piece_row t.pieces b.piece).blocks (b.begin / block_size) empty_cell).held ≡ false
+  pub free : is_some (slice_index_or (piece_row t.pieces b.piece).blocks (b.begin / block_size) empty_cell).sender ≡ false
   pub few : (slice_index_or (piece_row t.pieces b.piece).blocks (b.begin / block_size) empty_cell).askers + 1 < HELD
-  pub room : length (peer_row t.peers w).asked < MOST_DEPTH
+  pub room : length (peer_row t.peers w).asked < (peer_row t.peers w).room
+  pub new : has_place b (peer_row t.peers w).asked ≡ false
 
 -- the row of the worker's peer is changed
 abbrev pub with_peer : TablesState → ℕ → (PeerState → PeerState) → TablesState
@@ -222,10 +244,19 @@ with_peer t w change = record t { peers = edit t.peers w change }
 abbrev pub released : TablesState → ℕ → TablesState
 released t w = record t { pieces = lowered_by (peer_row t.peers w).asked t.pieces }
 
+-- the block that begins there is asked of the worker's peer no more, and no cancel comes due
+abbrev pub given_up : TablesState → ℕ → ℕ → ℕ → TablesState
+given_up t w piece begin =
+    with_peer (record t { pieces = lowered (place_at piece begin) t.pieces }) w (without_block piece begin true)
+
 -- a peer that showed the pieces of the one list shows those of the other in their place
 abbrev pub recounted : List PieceState → List Bool → List Bool → List PieceState
 recounted rows before after = table (length rows) (λ p.
     more_available (slice_index_or after p false) (less_available (slice_index_or before p false) (piece_row rows p)))
+
+-- the pieces of the one list and those of the other
+abbrev pub joint : List Bool → List Bool → List Bool
+joint flags shows = table (length shows) (λ p. slice_index_or flags p false || slice_index_or shows p false)
 
 -- a peer shows the pieces of the list no more
 abbrev pub hidden_rows : List Bool → List PieceState → List PieceState
@@ -255,7 +286,7 @@ announced t w piece =
 abbrev pub with_block : TablesState → ℕ → ℕ → ℕ → TablesState
 with_block t w piece index = record t {
   peers = table (length t.peers) (λ q. without_block piece (block_size * index) (w == q) (peer_row t.peers q));
-  pieces = edit t.pieces piece (stored_row index);
+  pieces = edit t.pieces piece (stored_row w index);
 }
 
 -- what Next's reply makes of the tables

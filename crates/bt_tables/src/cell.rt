@@ -1,13 +1,14 @@
 //! What is kept of a block.
 
-ghost use Rattle.std.specs.Prelude.{◌≡◌, ◌<◌, ◌+◌, false};
+ghost use Rattle.std.specs.Prelude.{◌≡◌, ◌<◌, ◌+◌, Some, false};
 ghost use Rattle.bt_tables.specs.Tables.{CellState, one_less, one_more, unheld};
 ghost use Rattle.bt_tables.specs.Standings.{cell_kept, is_held, is_touched};
 
-/// The word of a block that is held. Of one that isn't fewer peers than this are asked.
-pub const HELD: u16 = u16::MAX;
+/// The least word of a block that is held: above it stands the number of the worker whose peer brought it. Of a block that isn't held fewer
+/// peers than this are asked.
+pub const HELD: u16 = 0x8000;
 
-/// What is kept of a block, in two bytes: that it is held, or how many peers are asked for it. So whether it is unasked is one look. Which
+/// What is kept of a block, in two bytes: that it is held and who brought it, or how many peers are asked for it. So whether it is unasked is one look. Which
 /// peers these are say their lines. A block that is held is asked of nobody.
 #[derive(Clone, Copy)]
 pub struct Cell {
@@ -18,17 +19,35 @@ impl Cell {
     /// That of a block that is neither held nor asked.
     pub const EMPTY: Cell = Cell { word: 0 };
 
-    /// That of a block that is held.
-    pub const KEPT: Cell = Cell { word: HELD };
+    /// That of a block that is held, brought by this worker's peer.
+    pub fn kept_by(sender: u32) -> Cell
+        requires { sender < HELD }
+        ensures { cell_kept result ≡ record { sender = Some sender; askers = 0 } }
+    {
+        Cell {
+            word: HELD + sender as u16,
+        }
+    }
+
+    /// The worker whose peer brought the block, if it is held.
+    pub fn sender(self) -> Option<u32>
+        ensures { result ≡ (cell_kept self).sender }
+    {
+        if self.word < HELD {
+            None
+        } else {
+            Some(u32::from(self.word - HELD))
+        }
+    }
 
     /// How many peers are asked for the block.
     pub fn askers(self) -> u32
         ensures { result ≡ (cell_kept self).askers }
     {
-        if self.word == HELD {
-            0
-        } else {
+        if self.word < HELD {
             u32::from(self.word)
+        } else {
+            0
         }
     }
 
@@ -36,7 +55,7 @@ impl Cell {
     pub fn is_held(self) -> bool
         ensures { result ≡ is_held (cell_kept self) }
     {
-        self.word == HELD
+        self.word >= HELD
     }
 
     /// Whether the block is held, or asked of somebody.
@@ -48,7 +67,7 @@ impl Cell {
 
     /// With one peer more that is asked for the block, which isn't held.
     pub fn raised(self) -> Cell
-        requires free { (cell_kept self).held ≡ false }
+        requires free { is_held (cell_kept self) ≡ false }
         requires few { (cell_kept self).askers + 1 < HELD }
         ensures { cell_kept result ≡ one_more (cell_kept self) }
     {
@@ -61,7 +80,7 @@ impl Cell {
     pub fn lowered(self) -> Cell
         ensures { cell_kept result ≡ one_less (cell_kept self) }
     {
-        if self.word == HELD || self.word == 0 {
+        if self.word >= HELD || self.word == 0 {
             self
         } else {
             Cell {
@@ -74,6 +93,6 @@ impl Cell {
     pub fn released(self) -> Cell
         ensures { cell_kept result ≡ unheld (cell_kept self) }
     {
-        if self.word == HELD { Cell::EMPTY } else { self }
+        if self.word < HELD { self } else { Cell::EMPTY }
     }
 }

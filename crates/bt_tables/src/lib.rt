@@ -7,6 +7,7 @@
 mod cell;
 mod counts;
 mod floors;
+mod haves;
 mod peer;
 mod peers;
 mod piece;

@@ -1,31 +1,33 @@
 //! The row of a peer, beside the pieces that it shows.
 
-ghost use Rattle.std.specs.Prelude.{◌≡◌, ◌<◌, ◌≤◌, ◌+◌, ◌==◌, ◌&&◌, ◌∷◌, ◌++◌, [], true, false, not, length, vec_capacity, IfOk};
+ghost use Rattle.std.specs.Prelude.{◌≡◌, ◌<◌, ◌≤◌, ◌+◌, ◌==◌, ◌&&◌, ◌∷◌, ◌++◌, [], true, false, not, length, slice_index_or, take, vec_capacity, IfNone, IfOk, IfSome, None, Some};
+ghost use Rattle.bt_meta.specs.declared.block.Block.{Block};
 ghost use Rattle.std.specs.Prelude.{if◌then◌else◌};
 ghost use Rattle.std.specs.List.{filter, list_any};
 ghost use Rattle.bt_history.specs.History.{same_begin};
+ghost use Rattle.bt_history.specs.Peers.{AreApart, has_place};
 ghost use Rattle.bt_tables.specs.Showing.{Dealings, dealings};
 ghost use Rattle.bt_tables.specs.Tables.{fresh_peer};
 
-use bt_history::MOST_DEPTH;
 use bt_meta::Block;
 use std::alloc::{AllocError, Global};
 use std::marker::Model;
-
-/// At most so many blocks are asked of one peer, whatever the rules: room for the deepest line, 768 bytes, is taken with the row, so
-/// that a call takes no memory. It stands apart from the row, which so is little more than a cache line.
-const MOST_ASKED: usize = MOST_DEPTH as usize;
 
 /// What is kept of a peer: the newest that it told of itself, and two lines of blocks. The pieces that it shows stand apart (`Shows`).
 ///
 /// `asked` has the blocks asked of the peer, the oldest request first, since that is the order in which they will come. `due` has those
 /// whose cancel is due at it, the one that came due first in front, since that one is sent first. A block that another peer brings moves from
-/// the one to the other, so together they never hold more than the depth of the rules. In neither is a block that the peer itself
-/// brought, that it was never asked for, or that a choke or a departure freed. The rows stand by the worker's number, also those of
-/// peers that never joined.
+/// the one to the other, so together they never hold more than the greatest depth that held. In neither is a block that the peer itself
+/// brought, that it was never asked for, or that a choke, a departure or a release freed. The rows stand by the worker's number, also those
+/// of peers that never joined.
+///
+/// Room for two lines of the greatest depth that can hold is taken with the row, 24 bytes for each block of it, so that no call takes
+/// memory. It stands apart from the row, which so is little more than a cache line.
 pub struct Peer {
+    room: u32,
     joined: bool,
     late: bool,
+    told: Option<u32>,
     unchoked: bool,
     asked: Vec<Block>,
     due: Vec<Block>,
@@ -35,8 +37,10 @@ pub struct Peer {
 impl Drop for Peer {
     fn drop(self) {
         let Peer {
+            room: _,
             joined: _,
             late: _,
+            told: _,
             unchoked: _,
             asked: _asked,
             due: _due,
@@ -46,33 +50,37 @@ impl Drop for Peer {
 
 impl Model for Peer {
     ghost use Rattle.std.specs.Prelude.{◌≤◌, vec_capacity};
+    ghost use Rattle.bt_history.specs.Peers.{AreApart};
     ghost use Rattle.bt_tables.specs.Showing.{Dealings};
-    ghost use Rattle.bt_tables.specs.declared.peer.TheConstants.{MOST_ASKED};
 
     ghost Value = { Dealings };
 
     ghost view = { λ p. record {
+      room = p.room;
       joined = p.joined;
       late = p.late;
+      told = p.told;
       is_open = p.unchoked;
       asked = p.asked.items;
       due = p.due.items;
     } };
 
-    ghost invariant = { λ p. (MOST_ASKED ≤ vec_capacity p.asked) × (MOST_ASKED ≤ vec_capacity p.due) };
+    ghost invariant = { λ p. (p.room ≤ vec_capacity p.asked) × (p.room ≤ vec_capacity p.due) × AreApart p.asked.items };
 }
 
 impl Peer {
-    /// A peer that told nothing yet.
-    pub fn new(alloc: Global) -> Result<Peer, AllocError>
-        ensures { IfOk result (λ peer. peer ≡ dealings (fresh_peer 0)) }
+    /// A peer that told nothing yet, with room for lines of so many blocks.
+    pub fn new(alloc: Global, room: u32) -> Result<Peer, AllocError>
+        ensures { IfOk result (λ peer. peer ≡ dealings (fresh_peer room 0)) }
     {
         Ok(Peer {
+            room,
             joined: false,
             late: false,
+            told: None,
             unchoked: false,
-            asked: Vec::with_capacity(alloc, MOST_ASKED)?,
-            due: Vec::with_capacity(alloc, MOST_ASKED)?,
+            asked: Vec::with_capacity(alloc, room as usize)?,
+            due: Vec::with_capacity(alloc, room as usize)?,
         })
     }
 
@@ -87,6 +95,13 @@ impl Peer {
         ensures { result ≡ self.now.late }
     {
         self.late
+    }
+
+    /// The depth that was told of the peer, if one was.
+    pub fn told(&self) -> Option<u32>
+        ensures { result ≡ self.now.told }
+    {
+        self.told
     }
 
     pub fn is_open(&self) -> bool
@@ -111,15 +126,16 @@ impl Peer {
     pub fn asks(&self, piece: u32, begin: u32) -> bool
         ensures { result ≡ list_any (λ b. (piece == b.piece) && (begin == b.begin)) self.now.asked }
     {
-        lists_place(&self.asked, piece, begin)
+        place_in(&self.asked, piece, begin).is_some()
     }
 
     /// The peer joins: what an earlier one told or was asked is gone.
     pub fn join(&mut self)
-        ensures { self.new ≡ record self.old { joined = true; late = false; is_open = false; asked = []; due = [] } }
+        ensures { self.new ≡ record self.old { joined = true; late = false; told = None; is_open = false; asked = []; due = [] } }
     {
         self.joined = true;
         self.late = false;
+        self.told = None;
         self.reset();
     }
 
@@ -156,6 +172,13 @@ impl Peer {
         self.unchoked = true;
     }
 
+    /// From now on so many blocks may be asked of the peer at a time.
+    pub fn deepen(&mut self, depth: u32)
+        ensures { self.new ≡ record self.old { told = Some depth } }
+    {
+        self.told = Some(depth);
+    }
+
     /// The peer told something, so that a bitfield of it would come too late.
     pub fn note_message(&mut self)
         ensures { self.new ≡ record self.old { late = true } }
@@ -165,7 +188,8 @@ impl Peer {
 
     /// The block is asked of the peer now.
     pub fn ask(&mut self, block: Block)
-        requires { length self.old.asked < MOST_ASKED }
+        requires room { length self.old.asked < self.old.room }
+        requires new { has_place block self.old.asked ≡ false }
         ensures { self.new ≡ record self.old { asked = self.old.asked ++ block ∷ [] } }
     {
         self.asked.push_reserved(block);
@@ -179,44 +203,36 @@ impl Peer {
             .retain(|b| !(block.piece == b.piece && block.begin == b.begin));
     }
 
-    /// The block that begins there was stored, brought by this peer or by another: it is asked of the peer no more, and where another
-    /// brought it, a cancel comes due.
+    /// The block that begins there was stored, brought by this peer or by another, or was released: it is asked of the peer no more, and
+    /// where another brought it, a cancel comes due.
     pub fn forget(&mut self, piece: u32, begin: u32, own: bool)
-        requires { length self.old.asked + length self.old.due ≤ MOST_ASKED }
+        requires { length self.old.asked + length self.old.due ≤ self.old.room }
         ensures { self.new ≡ record self.old {
           asked = filter (λ b. not ((piece == b.piece) && (begin == b.begin))) self.old.asked;
           due = self.old.due ++ (if own then [] else filter (λ b. (piece == b.piece) && (begin == b.begin)) self.old.asked);
         } }
     {
+        let Some(index) = place_in(&self.asked, piece, begin) else {
+            return;
+        };
+        let block = self.asked.remove(index); // most often the first, as blocks come in the order of their requests
         if !own {
-            copy_at(&self.asked, &mut self.due, piece, begin);
+            self.due.push_reserved(block);
         }
-        self.asked
-            .retain(|b| !(piece == b.piece && begin == b.begin));
     }
 }
 
-/// Whether a block of the line begins there.
-fn lists_place(line: &[Block], piece: u32, begin: u32) -> bool
-    ensures { result ≡ list_any (λ b. (piece == b.piece) && (begin == b.begin)) line.now }
+/// Where in the line the first block stands that begins there, if one does.
+fn place_in(line: &[Block], piece: u32, begin: u32) -> Option<usize>
+    ensures some { IfSome result (λ i. (i < length line.now)
+        × (list_any (λ b. (piece == b.piece) && (begin == b.begin)) (take i line.now) ≡ false)
+        × ((d : Block) → ((piece == (slice_index_or line.now i d).piece) && (begin == (slice_index_or line.now i d).begin)) ≡ true)) }
+    ensures none { IfNone result (list_any (λ b. (piece == b.piece) && (begin == b.begin)) line.now ≡ false) }
 {
-    for block in line {
+    for (index, block) in line.iter().enumerate() {
         if piece == block.piece && begin == block.begin {
-            return true;
+            return Some(index);
         }
     }
-    false
-}
-
-/// Puts the blocks of the line that begin there behind the others.
-fn copy_at(line: &[Block], others: &mut Vec<Block>, piece: u32, begin: u32)
-    requires room { length line.now + length others.old.items ≤ vec_capacity others.old }
-    ensures room { vec_capacity others.new ≡ vec_capacity others.old }
-    ensures items { others.new.items ≡ others.old.items ++ filter (λ b. (piece == b.piece) && (begin == b.begin)) line.now }
-{
-    for block in line {
-        if piece == block.piece && begin == block.begin {
-            others.push_reserved(*block);
-        }
-    }
+    None
 }

@@ -3,13 +3,13 @@
 ghost use Rattle.std.specs.Prelude.{◌≡◌, ◌<◌, ◌≤◌, ◌+◌, ◌==◌, ℕ, false, length, slice_index_or, IfOk, EachIndex};
 ghost use Rattle.bt_meta.specs.WireBits.{FindsFirst};
 ghost use Rattle.bt_history.specs.Counting.{count_below, table};
+ghost use Rattle.bt_history.specs.Peers.{has_place};
 ghost use Rattle.bt_tables.specs.Showing.{dealings};
-ghost use Rattle.bt_tables.specs.Tables.{asks_at, bits_row, cancel_row, choke_row, edit, fresh_peer, have_row, join_row, late_row, leave_row};
-ghost use Rattle.bt_tables.specs.Tables.{peer_row, request_row, unchoke_row, without_block};
+ghost use Rattle.bt_tables.specs.Tables.{asks_at, bits_row, cancel_row, choke_row, depth_row, edit, fresh_peer, have_row, join_row, late_row, leave_row};
+ghost use Rattle.bt_tables.specs.Tables.{HasShortLines, peer_row, request_row, unchoke_row, without_block};
 
 use crate::peer::Peer;
 use crate::shows::Shows;
-use bt_history::MOST_DEPTH;
 use bt_meta::{Bitfield, Block};
 use std::alloc::{AllocError, Global};
 use std::marker::Model;
@@ -44,12 +44,12 @@ impl Model for Peers {
 }
 
 impl Peers {
-    /// The rows of so many peers that told nothing, of a torrent of so many pieces.
-    pub fn new(alloc: Global, workers: u32, pieces: u32) -> Result<Peers, AllocError>
-        ensures { IfOk result (λ peers. peers ≡ table workers (λ worker. fresh_peer pieces)) }
+    /// The rows of so many peers that told nothing, of a torrent of so many pieces, each with room for lines of so many blocks.
+    pub fn new(alloc: Global, workers: u32, pieces: u32, room: u32) -> Result<Peers, AllocError>
+        ensures { IfOk result (λ peers. peers ≡ table workers (λ worker. fresh_peer room pieces)) }
     {
         Ok(Peers {
-            rows: new_rows(alloc, workers)?,
+            rows: new_rows(alloc, workers, room)?,
             shows: Shows::new(alloc, workers, pieces)?,
         })
     }
@@ -128,6 +128,14 @@ impl Peers {
         self.rows[worker as usize].unchoke();
     }
 
+    /// From now on so many blocks may be asked of the peer at a time.
+    pub fn deepen(&mut self, worker: u32, depth: u32)
+        requires { worker < length self.old }
+        ensures { self.new ≡ edit self.old worker (depth_row depth) }
+    {
+        self.rows[worker as usize].deepen(depth);
+    }
+
     /// The peer told its bitfield.
     pub fn put_bits(&mut self, worker: u32, flags: &Bitfield)
         requires worker { worker < length self.old }
@@ -159,7 +167,8 @@ impl Peers {
     /// The block is asked of the peer now.
     pub fn ask(&mut self, worker: u32, block: Block)
         requires worker { worker < length self.old }
-        requires room { length (peer_row self.old worker).asked < MOST_DEPTH }
+        requires room { length (peer_row self.old worker).asked < (peer_row self.old worker).room }
+        requires new { has_place block (peer_row self.old worker).asked ≡ false }
         ensures { self.new ≡ edit self.old worker (request_row block) }
     {
         self.rows[worker as usize].ask(block);
@@ -173,10 +182,10 @@ impl Peers {
         self.rows[worker as usize].cancel(block);
     }
 
-    /// The block that begins there was stored, brought by this peer or by another.
-    fn forget_at(&mut self, worker: u32, piece: u32, begin: u32, own: bool)
+    /// The block that begins there was stored, brought by this peer or by another; with `own` it is as well one that is given up.
+    pub fn forget_at(&mut self, worker: u32, piece: u32, begin: u32, own: bool)
         requires worker { worker < length self.old }
-        requires room { length (peer_row self.old worker).asked + length (peer_row self.old worker).due ≤ MOST_DEPTH }
+        requires room { HasShortLines (peer_row self.old worker) }
         ensures { self.new ≡ edit self.old worker (without_block piece begin own) }
     {
         self.rows[worker as usize].forget(piece, begin, own);
@@ -187,7 +196,7 @@ impl Peers {
     pub fn forget(&mut self, worker: u32, piece: u32, begin: u32, askers: u32)
         requires worker { worker < length self.old }
         requires askers { askers ≡ count_below (length self.old) (λ q. asks_at piece begin (peer_row self.old q)) }
-        requires room { EachIndex self.old (λ q. length (peer_row self.old q).asked + length (peer_row self.old q).due ≤ MOST_DEPTH) }
+        requires room { EachIndex self.old (λ q. HasShortLines (peer_row self.old q)) }
         ensures { self.new ≡ table (length self.old) (λ q. without_block piece begin (worker == q) (peer_row self.old q)) }
     {
         if askers > u32::from(self.row(worker).asks(piece, begin)) {
@@ -199,7 +208,7 @@ impl Peers {
 
     /// Tells each peer's row that the block that begins there was stored, brought by the worker's own peer.
     fn forget_everywhere(&mut self, worker: u32, piece: u32, begin: u32)
-        requires { EachIndex self.old (λ q. length (peer_row self.old q).asked + length (peer_row self.old q).due ≤ MOST_DEPTH) }
+        requires { EachIndex self.old (λ q. HasShortLines (peer_row self.old q)) }
         ensures { self.new ≡ table (length self.old) (λ q. without_block piece begin (worker == q) (peer_row self.old q)) }
     {
         for index in 0..self.len() {
@@ -209,12 +218,12 @@ impl Peers {
 }
 
 /// The rows of so many peers that told nothing.
-fn new_rows(alloc: Global, workers: u32) -> Result<Vec<Peer>, AllocError>
-    ensures { IfOk result (λ rows. rows.items ≡ table workers (λ worker. dealings (fresh_peer 0))) }
+fn new_rows(alloc: Global, workers: u32, room: u32) -> Result<Vec<Peer>, AllocError>
+    ensures { IfOk result (λ rows. rows.items ≡ table workers (λ worker. dealings (fresh_peer room 0))) }
 {
     let mut rows = Vec::new(alloc);
     for _worker in 0..workers {
-        rows.push(Peer::new(alloc)?)?;
+        rows.push(Peer::new(alloc, room)?)?;
     }
     Ok(rows)
 }

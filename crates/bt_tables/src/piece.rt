@@ -21,8 +21,8 @@ pub enum Change {
     Raise(u32),
     /// One peer less is asked for the block, where the piece has so many.
     Lower(u32),
-    /// The block was stored, so it is asked of nobody.
-    Store(u32),
+    /// The block was stored, brought by this worker's peer, so it is asked of nobody.
+    Store { index: u32, sender: u32 },
     /// A check found the right hash.
     Pass,
     /// A check found another hash: no block is held.

@@ -3,7 +3,7 @@
 ghost use Rattle.std.specs.Prelude.{◌≡◌, ◌<◌, ◌+◌, ◌^◌, false, true, length, slice_index_or, slice_set, IfOk};
 ghost use Rattle.bt_meta.specs.Layout.{block_count, piece_count};
 ghost use Rattle.bt_history.specs.Counting.{table};
-ghost use Rattle.bt_tables.specs.Standings.{cell_kept};
+ghost use Rattle.bt_tables.specs.Standings.{is_held, cell_kept};
 ghost use Rattle.bt_tables.specs.Tables.{HasRoomOf, changed_row, edit, empty_cell, failed_row, fresh_piece, had_row, one_less, one_more, piece_row};
 ghost use Rattle.bt_tables.specs.Tables.{stored_row, want_row};
 
@@ -89,7 +89,7 @@ impl Rows {
         match change {
             Change::Raise(index) => self.raise(piece, index),
             Change::Lower(index) => self.lower(piece, index),
-            Change::Store(index) => self.put(piece, index, Cell::KEPT),
+            Change::Store { index, sender } => self.put(piece, index, Cell::kept_by(sender)),
             Change::Pass => self.pass(piece),
             Change::Fail => self.fail(piece),
             Change::Wanted(wanted) => self.want(piece, wanted),
@@ -128,7 +128,7 @@ impl Rows {
     fn raise(&mut self, piece: u32, index: u32)
         requires piece { piece < length self.old }
         requires index { index < length (piece_row self.old piece).blocks }
-        requires free { (slice_index_or (piece_row self.old piece).blocks index empty_cell).held ≡ false }
+        requires free { is_held (slice_index_or (piece_row self.old piece).blocks index empty_cell) ≡ false }
         requires few { (slice_index_or (piece_row self.old piece).blocks index empty_cell).askers + 1 < HELD }
         ensures { self.new ≡ edit self.old piece (λ row. record row { blocks = edit row.blocks index one_more }) }
     {

@@ -107,7 +107,7 @@ pub fn lower_all(pieces: &mut Pieces, floors: &mut Floors, peers: &Peers, line: 
 }
 
 /// One peer less is asked for the block, whose piece may be unbegun again.
-fn lower(pieces: &mut Pieces, floors: &mut Floors, peers: &Peers, block: Block)
+pub fn lower(pieces: &mut Pieces, floors: &mut Floors, peers: &Peers, block: Block)
     requires { AreFloors floors.old peers.now pieces.old }
     ensures pieces { pieces.new ≡ lowered block pieces.old }
     ensures floors { AreFloors floors.new peers.now pieces.new }

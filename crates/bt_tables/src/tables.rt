@@ -9,22 +9,24 @@ ghost use Rattle.bt_order.specs.Orders.{at, ListsGroup, TellsFirst};
 ghost use Rattle.bt_order.specs.Risings.{IsRising};
 ghost use Rattle.bt_tables.specs.Showing.{dealings};
 ghost use Rattle.bt_tables.specs.Standings.{apart, group_of_row, standing_of};
-ghost use Rattle.bt_history.specs.Setting.{setting_of};
+ghost use Rattle.bt_history.specs.Setting.{deepest_line, setting_of};
 ghost use Rattle.bt_history.specs.History.{stores};
 ghost use Rattle.bt_meta.specs.declared.block.Block.{Block};
 ghost use Rattle.bt_history.specs.Counting.{table};
 ghost use Rattle.bt_tables.specs.Floors.{IsFloor, IsRarestStart, TellsFloor, is_fresh};
-ghost use Rattle.bt_tables.specs.Tables.{AreAskers, AreCounted, HasBlock, HasRoomFor, bits_row, leave_row, TablesState, after_arrival, after_check};
-ghost use Rattle.bt_tables.specs.Tables.{after_next, announced, cancel_row, late_row, edit, failed_row, fresh_peer, fresh_piece, join_row, choke_row};
-ghost use Rattle.bt_tables.specs.Tables.{unchoke_row, peer_row, piece_row, released, reshown, rewanted, with_block, with_peer};
+ghost use Rattle.bt_tables.specs.Tables.{AreAskers, AreCounted, HasBlock, HasRoomFor, HasShortLines, bits_row, leave_row, TablesState, after_arrival, after_check};
+ghost use Rattle.bt_tables.specs.Tables.{after_next, announced, cancel_row, depth_row, given_up, late_row, edit, failed_row, fresh_peer, fresh_piece, join_row, choke_row};
+ghost use Rattle.bt_tables.specs.Tables.{unchoke_row, joint, peer_row, piece_row, released, reshown, rewanted, with_block, with_peer};
 
+use crate::cell::HELD;
 use crate::floors::Floors;
+use crate::haves::announce_all;
 use crate::peer::Peer;
 use crate::peers::Peers;
 use crate::piece::{Change, GROUPS, Piece, UNBEGUN};
 use crate::pieces::Pieces;
-use crate::sweep::{lower_all, recount, rewant};
-use bt_history::{MOST_DEPTH, Reply, Rules};
+use crate::sweep::{lower, lower_all, recount, rewant};
+use bt_history::{Reply, Rules};
 use bt_meta::{BLOCK_SIZE, Bitfield, Block, Torrent};
 use std::alloc::{AllocError, Global};
 use std::marker::Model;
@@ -81,12 +83,13 @@ impl Tables {
     ) -> Result<Tables, AllocError>
         ensures setting { IfOk result (λ t. t.setting ≡ setting_of torrent.value.layout workers rules) }
         ensures layout { IfOk result (λ t. IsLayout t.setting.torrent) }
-        ensures peers { IfOk result (λ t. t.peers ≡ table workers (λ worker. fresh_peer (piece_count torrent.value.layout))) }
+        ensures peers { IfOk result (λ t. t.peers ≡ table workers
+            (λ worker. fresh_peer (deepest_line (setting_of torrent.value.layout workers rules)) (piece_count torrent.value.layout))) }
         ensures pieces { IfOk result (λ t. t.pieces
             ≡ table (piece_count torrent.value.layout) (λ p. fresh_piece (block_count torrent.value.layout p))) }
     {
         Ok(Tables {
-            peers: Peers::new(alloc, workers, torrent.piece_count())?,
+            peers: Peers::new(alloc, workers, torrent.piece_count(), rules.deepest_line())?,
             pieces: Pieces::new(alloc, &torrent)?,
             floors: Floors::new(alloc, workers)?,
             torrent,
@@ -104,6 +107,8 @@ impl Tables {
     pub fn rules(&self) -> Rules
         ensures depth { result.depth ≡ self.now.setting.depth }
         ensures random { result.random ≡ self.now.setting.random }
+        ensures askers { result.askers ≡ self.now.setting.askers }
+        ensures deepest { result.deepest ≡ self.now.setting.deepest }
     {
         self.rules
     }
@@ -298,6 +303,29 @@ impl Tables {
         self.peers.unchoke(worker);
     }
 
+    /// Depth.
+    pub fn put_depth(&mut self, worker: u32, depth: u32)
+        requires { worker < length self.old.peers }
+        ensures { self.new ≡ with_peer self.old worker (depth_row depth) }
+    {
+        self.peers.deepen(worker, depth);
+    }
+
+    /// Release: the block that begins there, which is asked of the peer, is asked of it no more.
+    pub fn put_release(&mut self, worker: u32, piece: u32, begin: u32)
+        requires worker { worker < length self.old.peers }
+        requires room { HasShortLines (peer_row self.old.peers worker) }
+        ensures { self.new ≡ given_up self.old worker piece begin }
+    {
+        let block = Block {
+            piece,
+            begin,
+            len: 0,
+        };
+        lower(&mut self.pieces, &mut self.floors, &self.peers, block);
+        self.peers.forget_at(worker, piece, begin, true);
+    }
+
     /// Bits.
     pub fn put_bits(&mut self, worker: u32, flags: &Bitfield)
         requires worker { worker < length self.old.peers }
@@ -374,14 +402,21 @@ impl Tables {
         requires worker { worker < length self.old.peers }
         requires stored { HasBlock self.old piece index }
         requires begin { block_size * index < 2 ^ 32 }
+        requires sender { worker < HELD }
         requires askers { AreAskers self.old piece index }
         requires room { EachIndex self.old.peers
-            (λ q. length (peer_row self.old.peers q).asked + length (peer_row self.old.peers q).due ≤ MOST_DEPTH) }
+            (λ q. HasShortLines (peer_row self.old.peers q)) }
         ensures { self.new ≡ with_block self.old worker piece index }
     {
         let askers = self.pieces.row(piece).cell(index).askers();
         self.peers.forget(worker, piece, BLOCK_SIZE * index, askers);
-        self.pieces.apply(piece, Change::Store(index));
+        self.pieces.apply(
+            piece,
+            Change::Store {
+                index,
+                sender: worker,
+            },
+        );
     }
 
     /// Puts an arrival in, by its reply.
@@ -389,8 +424,9 @@ impl Tables {
         requires worker { worker < length self.old.peers }
         requires stored { IsTrue (stores reply) → HasBlock self.old piece (begin / block_size) }
         requires askers { IsTrue (stores reply) → AreAskers self.old piece (begin / block_size) }
+        requires sender { worker < HELD }
         requires room { EachIndex self.old.peers
-            (λ q. length (peer_row self.old.peers q).asked + length (peer_row self.old.peers q).due ≤ MOST_DEPTH) }
+            (λ q. HasShortLines (peer_row self.old.peers q)) }
         ensures { self.new ≡ after_arrival self.old worker piece begin reply }
     {
         if reply.is_stored() {
@@ -433,6 +469,21 @@ impl Tables {
     {
         rewant(&mut self.pieces, flags);
         self.floors.clear(); // more may be wanted
+    }
+
+    /// Haves: the peer shows these pieces too, a have for each.
+    pub fn put_haves(&mut self, worker: u32, flags: &Bitfield)
+        requires worker { worker < length self.old.peers }
+        requires flags { length flags.now ≡ length (peer_row self.old.peers worker).shows }
+        requires pieces { length (peer_row self.old.peers worker).shows ≡ length self.old.pieces }
+        requires few { EachIndex self.old.pieces (λ p. (piece_row self.old.pieces p).availability + 1 < 2 ^ 16) }
+        requires counted { (p : ℕ) → p < length self.old.pieces → slice_index_or (peer_row self.old.peers worker).shows p false ≡ true
+            → 1 ≤ (piece_row self.old.pieces p).availability }
+        ensures { self.new ≡ with_peer (reshown self.old worker (joint flags.now (peer_row self.old.peers worker).shows)) worker
+            (bits_row (joint flags.now (peer_row self.old.peers worker).shows)) }
+    {
+        announce_all(&mut self.pieces, &mut self.peers, worker, flags);
+        self.floors.put(worker, 0);
     }
 }
 

@@ -4,13 +4,17 @@ use Rattle.std.specs.Fmt.{decimal}
 use Rattle.hex.specs.Hex.{encode_lower}
 use Rattle.bt_meta.specs.WireBits.{IsSpelled}
 use Rattle.bt_history.specs.declared.event.Action.{Action}
-use Rattle.bt_history.specs.declared.event.Action.TheVariants.{Join, Bits, Have, Choke, Unchoke, Next, Arrived, Settle, Leave, Want}
+use Rattle.bt_history.specs.declared.event.Action.TheVariants.{Join, Bits, Have, Choke, Unchoke, Next, Arrived, Settle, Leave, Want, Haves, Depth, Release}
 use Rattle.bt_history.specs.declared.event.Event.{Event}
 use Rattle.bt_text.specs.Texts.{reply_text}
 
 -- the text of a block that arrived: its piece, where it begins and its length
 abbrev pub arrived_text : ℕ → ℕ → ℕ → List ℕ
 arrived_text piece begin len = codes "block " ++ (decimal piece ++ (codes " " ++ (decimal begin ++ (codes " " ++ decimal len))))
+
+-- the text of a block that is given up: its piece, and where it begins
+abbrev pub released_text : ℕ → ℕ → List ℕ
+released_text piece begin = codes "release " ++ (decimal piece ++ (codes " " ++ decimal begin))
 
 -- the text of a call
 abbrev pub IsCallText : Action → List ℕ → Type 0
@@ -24,6 +28,9 @@ IsCallText (Arrived p begin bytes) text = text ≡ arrived_text p begin (length 
 IsCallText (Settle p bytes) text = text ≡ codes "settle " ++ decimal p
 IsCallText Leave text = text ≡ codes "leave"
 IsCallText (Want flags) text = (wire : List ℕ) × (IsSpelled flags wire × (text ≡ codes "want " ++ encode_lower wire))
+IsCallText (Haves flags) text = (wire : List ℕ) × (IsSpelled flags wire × (text ≡ codes "haves " ++ encode_lower wire))
+IsCallText (Depth n) text = text ≡ codes "depth " ++ decimal n
+IsCallText (Release p begin) text = text ≡ released_text p begin
 
 -- the line of an entry: the worker, the call and the reply
 pub record IsJournalLine (e : Event) (text : List ℕ) : Type 0 where

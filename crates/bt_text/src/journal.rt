@@ -5,7 +5,7 @@ ghost use Rattle.std.specs.Io.KnownBytes.{Appends};
 ghost use Rattle.hex.specs.Hex.{encode_lower};
 ghost use Rattle.bt_meta.specs.WireBits.{IsSpelled};
 ghost use Rattle.bt_history.specs.Entries.{action_of, event_of};
-ghost use Rattle.bt_text.specs.Journals.{arrived_text, AreJournalLines, IsCallText, IsJournalLine};
+ghost use Rattle.bt_text.specs.Journals.{arrived_text, released_text, AreJournalLines, IsCallText, IsJournalLine};
 
 use crate::printing::{print, print_number, print_said};
 use crate::text::ReplyText;
@@ -72,7 +72,27 @@ fn print_call<O: Sink>(out: &mut O, call: &Call) -> Result<(), DeviceFault>
             print(out, "want ")?;
             print_bits(out, flags)
         }
+        Call::Haves(flags) => {
+            print(out, "haves ")?;
+            print_bits(out, flags)
+        }
+        Call::Depth(depth) => {
+            print(out, "depth ")?;
+            print_number(out, u64::from(*depth))
+        }
+        Call::Release { piece, begin } => print_released(out, *piece, *begin),
     }
+}
+
+/// What is asked of the peer no more: the piece, and where the block begins.
+fn print_released<O: Sink>(out: &mut O, piece: u32, begin: u32) -> Result<(), DeviceFault>
+    ensures ok { OnOk result (Appends (O.written out.old) (O.written out.new) (released_text piece begin)) }
+    ensures err { OnErr result (O.failed out.new ≡ true) }
+{
+    print(out, "release ")?;
+    print_number(out, u64::from(piece))?;
+    print(out, " ")?;
+    print_number(out, u64::from(begin))
 }
 
 /// An arrival, with its length in place of its bytes.

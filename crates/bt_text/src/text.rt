@@ -63,6 +63,8 @@ pub fn reason_number(reason: Reason) -> u8
         Reason::WrongLength => 7,
         Reason::NotWaiting => 8,
         Reason::Stale => 9,
+        Reason::NotAsked => 10,
+        Reason::WrongDepth => 11,
     }
 }
 

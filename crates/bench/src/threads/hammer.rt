@@ -5,7 +5,7 @@ ghost use Rattle.bt_shared.specs.Passes.{IsSame};
 
 use crate::swarm::{ZEROS, full, torrent};
 use anyhow::{Result, ensure};
-use bt_picker::{Call, Reply, Rules};
+use bt_picker::{Call, MOST_DEPTH, MOST_WORKERS, Reply, Rules};
 use bt_shared::{Pass, SharedDesk};
 use bytes::Bytes;
 use std::alloc::Global;
@@ -39,6 +39,8 @@ pub fn open(alloc: Global, threads: u32, pieces: u32) -> Result<(SharedDesk, Vec
     let rules = Rules {
         depth: 5,
         random: torrent.piece_count().min(1),
+        askers: MOST_WORKERS,
+        deepest: MOST_DEPTH,
     };
     Ok(SharedDesk::open(alloc, Arc::new(alloc, torrent)?, threads, rules)?)
 }

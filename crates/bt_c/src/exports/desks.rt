@@ -2,15 +2,16 @@
 ghost use Rattle.std.specs.Prelude.{◌≡◌, None};
 ghost use Rattle.bt_meta.specs.Reading.{torrent_of_file};
 ghost use Rattle.bt_c.specs.Asking.{Audits};
-ghost use Rattle.bt_c.specs.Opening.{Opens, rules, torrent_of_parts};
+ghost use Rattle.bt_c.specs.Opening.{Opens, torrent_of_parts};
 ghost use Rattle.bt_c.specs.Outcomes.{AtOpen, TellsDone};
+ghost use Rattle.bt_c.specs.Rules.{rules};
 
 use super::tell::tell_done;
 use crate::desk_handle::DeskHandle;
 use crate::fault::Fault;
 use crate::held::Held;
 use crate::opening::fill;
-use bt_picker::Rules;
+use bt_picker::{MOST_DEPTH, MOST_WORKERS, Rules};
 use std::alloc::Global;
 
 /// The number of this interface. It rises with each change that a caller compiled against an older one can't bear.
@@ -22,6 +23,19 @@ pub extern "C" fn piecepick_abi() -> u32
     ensures { result ≡ 2 }
 {
     ABI
+}
+
+/// The rules of so many blocks asked of one peer, and so many pieces at random: in endgame any number of peers for a block, and no depth
+/// beyond 64 that may be told.
+fn rules_of(depth: u32, random: u32) -> Rules
+    ensures { result ≡ rules depth random }
+{
+    Rules {
+        depth,
+        random,
+        askers: MOST_WORKERS,
+        deepest: MOST_DEPTH,
+    }
 }
 
 /// Puts a desk for the torrent of a metainfo file (BEP 3) into an empty handle: for this many workers, so many blocks asked of one peer,
@@ -37,7 +51,7 @@ pub extern "C" fn piecepick_open(
 ) -> u32
     ensures { Opens (torrent_of_file metainfo.now) workers (rules depth random) desk.old.desk desk.new.desk result }
 {
-    let rules = Rules { depth, random };
+    let rules = rules_of(depth, random);
     let opened = Held::open(alloc, metainfo, workers, rules);
     tell_done(fill(alloc, desk, opened))
 }
@@ -57,7 +71,7 @@ pub extern "C" fn piecepick_open_parts(
     ensures { Opens (torrent_of_parts piece_length total digests.now) workers (rules depth random)
         desk.old.desk desk.new.desk result }
 {
-    let rules = Rules { depth, random };
+    let rules = rules_of(depth, random);
     let opened = Held::open_parts(alloc, piece_length, total, digests, workers, rules);
     tell_done(fill(alloc, desk, opened))
 }

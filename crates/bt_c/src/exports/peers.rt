@@ -48,6 +48,18 @@ fn want(alloc: Global, desk: &mut DeskHandle, worker: u32, bytes: &[u8]) -> Resu
     outcome
 }
 
+/// Haves, with the payload of a bitfield.
+fn haves(alloc: Global, desk: &mut DeskHandle, worker: u32, bytes: &[u8]) -> Result<Reply, Fault>
+    ensures { AtHandle (λ d e o. MakesFlags d e worker bytes.now actions.Haves o) desk.old.desk desk.new.desk result }
+{
+    let Some(mut held) = desk.take(alloc) else {
+        return Err(Fault::Shut);
+    };
+    let outcome = held.haves(alloc, worker, bytes);
+    *desk = DeskHandle::of(held);
+    outcome
+}
+
 /// Arrived, with a copy of the bytes.
 fn arrived(
     alloc: Global,
@@ -179,6 +191,58 @@ pub extern "C" fn piecepick_bits(
         desk.old.desk desk.new.desk result answer.new }
 {
     tell(bits(alloc, desk, worker, payload), answer)
+}
+
+/// The peer has these pieces too, at any time: a second `bitfield` message came, or `have all` or `have none` (BEP 6). Spelled as in a
+/// `bitfield` message.
+#[unsafe(no_mangle)]
+pub extern "C" fn piecepick_haves(
+    alloc: Global,
+    desk: &mut DeskHandle,
+    worker: u32,
+    flags: &[u8],
+    answer: &mut Answer,
+) -> u32
+    ensures { Tells (λ d e o. MakesFlags d e worker flags.now actions.Haves o)
+        desk.old.desk desk.new.desk result answer.new }
+{
+    tell(haves(alloc, desk, worker, flags), answer)
+}
+
+/// From now on so many blocks may be asked of the peer at a time, until another number is told or the worker's next peer
+/// joins: 1 to 64.
+#[unsafe(no_mangle)]
+pub extern "C" fn piecepick_depth(
+    alloc: Global,
+    desk: &mut DeskHandle,
+    worker: u32,
+    depth: u32,
+    answer: &mut Answer,
+) -> u32
+    ensures { Tells (λ d e o. Makes d e worker (actions.Depth depth) o)
+        desk.old.desk desk.new.desk result answer.new }
+{
+    tell(call(alloc, desk, worker, Call::Depth(depth)), answer)
+}
+
+/// The block that begins `begin` bytes into the piece is asked of the peer no more: the peer rejected it (BEP 6), it took too long, or the
+/// request was not sent.
+#[unsafe(no_mangle)]
+pub extern "C" fn piecepick_release(
+    alloc: Global,
+    desk: &mut DeskHandle,
+    worker: u32,
+    piece: u32,
+    begin: u32,
+    answer: &mut Answer,
+) -> u32
+    ensures { Tells (λ d e o. Makes d e worker (actions.Release piece begin) o)
+        desk.old.desk desk.new.desk result answer.new }
+{
+    tell(
+        call(alloc, desk, worker, Call::Release { piece, begin }),
+        answer,
+    )
 }
 
 /// From now on just these pieces are to be downloaded, spelled as in a `bitfield` message.

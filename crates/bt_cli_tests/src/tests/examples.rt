@@ -241,6 +241,64 @@ pub const EXAMPLES: &[Example] = &[
             0 settle 2 = failed",
     },
     Example {
+        name: "a block that is given up",
+        torrent: "torrent 3 6 2 a9993e364706816aba3e25717850c26c9cd0d89d a9993e364706816aba3e25717850c26c9cd0d89d",
+        lines: "0 join = joined\n\
+            0 bits c0 = noted yes\n\
+            0 unchoke = quiet\n\
+            1 join = joined\n\
+            1 bits 80 = noted yes\n\
+            1 unchoke = quiet\n\
+            0 next 0 = request 0 0 3\n\
+            1 next 0 = idle\n\
+            1 release 0 0 = refused 10\n\
+            0 release 0 0 = quiet\n\
+            1 next 0 = request 0 0 3\n\
+            0 release 0 0 = refused 10\n\
+            0 block 0 0 616263 = completed\n\
+            1 next 0 = cancel 0 0 3",
+    },
+    Example {
+        name: "a depth of one peer",
+        torrent: "torrent 1000000 1000000 2 34aa973cd4c4daa4f61eeb2bdbad27316534016f",
+        lines: "0 depth 2 = refused 1\n\
+            0 join = joined\n\
+            0 bits 80 = noted yes\n\
+            0 unchoke = quiet\n\
+            0 depth 2 = quiet\n\
+            0 next 0 = request 0 0 16384\n\
+            0 next 0 = request 0 16384 16384\n\
+            0 next 0 = pipefull\n\
+            0 depth 3 = quiet\n\
+            0 next 0 = request 0 32768 16384\n\
+            0 next 0 = pipefull\n\
+            0 depth 1 = quiet\n\
+            0 release 0 0 = quiet\n\
+            0 release 0 32768 = quiet\n\
+            0 next 0 = pipefull\n\
+            0 release 0 16384 = quiet\n\
+            0 next 0 = request 0 0 16384\n\
+            0 depth 0 = refused 11\n\
+            0 depth 65 = refused 11\n\
+            0 depth 64 = quiet",
+    },
+    Example {
+        name: "more pieces at any time",
+        torrent: "torrent 3 7 1 a9993e364706816aba3e25717850c26c9cd0d89d a9993e364706816aba3e25717850c26c9cd0d89d 86f7e437faa5a7fce15d1ddcb9eaeaea377667b8",
+        lines: "0 haves 80 = refused 1\n\
+            0 join = joined\n\
+            0 haves 00 = noted no\n\
+            0 bits e0 = refused 3\n\
+            0 unchoke = quiet\n\
+            0 next 0 = nothing\n\
+            0 haves 80 = noted yes\n\
+            0 next 0 = request 0 0 3\n\
+            0 haves 40 = noted yes\n\
+            0 next 0 = request 1 0 3\n\
+            0 haves 00 = noted yes\n\
+            0 next 0 = idle",
+    },
+    Example {
         name: "the last of the most workers",
         torrent: "torrent 3 3 1024 a9993e364706816aba3e25717850c26c9cd0d89d",
         lines: "1023 join = joined",

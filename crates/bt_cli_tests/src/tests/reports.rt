@@ -39,7 +39,21 @@ fn lines_of_bits(alloc: Global) -> Result<(), Fail> {
     let reply = Reply::Refused(Reason::WrongCount);
     is_line(alloc, call, reply, b"7 bits 0fa580 = refused 4\n")?;
     let call = Call::Want(bits(alloc, b"\x40", 3)?);
-    is_line(alloc, call, Reply::Quiet, b"7 want 40 = quiet\n")
+    is_line(alloc, call, Reply::Quiet, b"7 want 40 = quiet\n")?;
+    let call = Call::Haves(bits(alloc, b"\x20", 3)?);
+    is_line(alloc, call, Reply::Noted(true), b"7 haves 20 = noted yes\n")
+}
+
+/// Checks the line of a block that is given up, and that of a depth.
+fn lines_of_what_is_asked(alloc: Global) -> Result<(), Fail> {
+    let call = Call::Release {
+        piece: 2,
+        begin: 16384,
+    };
+    let reply = Reply::Refused(Reason::NotAsked);
+    is_line(alloc, call, reply, b"7 release 2 16384 = refused 10\n")?;
+    let reply = Reply::Refused(Reason::WrongDepth);
+    is_line(alloc, Call::Depth(65), reply, b"7 depth 65 = refused 11\n")
 }
 
 /// Checks the line of a block that came.
@@ -98,5 +112,6 @@ fn journal_lines(rt: HostRuntime) -> Result<(), Fail> {
     short_lines(rt.alloc())?;
     lines_of_bits(rt.alloc())?;
     lines_of_next(rt.alloc())?;
+    lines_of_what_is_asked(rt.alloc())?;
     line_of_a_block(rt.alloc())
 }

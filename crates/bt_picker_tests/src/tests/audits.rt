@@ -54,9 +54,13 @@ fn judge(rt: &impl Abort, alloc: Global, text: &'static str) -> Result<(), Fail>
 fn terms_of(rt: &impl Abort, terms: &str) -> (u32, Rules) {
     let mut terms = terms.split(' ');
     let workers = next_number(rt, &mut terms);
-    let depth = next_number(rt, &mut terms);
-    let random = next_number(rt, &mut terms);
-    (workers, Rules { depth, random })
+    let rules = Rules {
+        depth: next_number(rt, &mut terms),
+        random: next_number(rt, &mut terms),
+        askers: next_number(rt, &mut terms),
+        deepest: next_number(rt, &mut terms),
+    };
+    (workers, rules)
 }
 
 /// The same, with the torrent and by the rules of the example.

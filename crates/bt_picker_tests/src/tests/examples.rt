@@ -1,15 +1,15 @@
 //! Written anew by each run of tools/examples.py: the worked examples of the rules as texts, each with replies that would be wrong in it.
 //!
-//! An example's first line is its name, the next ones are its torrent and how many workers it has, its depth and how many pieces it picks at
-//! random; then come its lines, and behind `but`, each behind the number of lines that come before, those that mustn't come. Between two
-//! examples stands an empty line.
+//! An example's first line is its name, the next ones are its torrent and how many workers it has, its depth, how many pieces it picks at
+//! random, of how many peers a block is asked in endgame, and which depth may be told at most; then come its lines, and behind `but`, each
+//! behind the number of lines that come before, those that mustn't come. Between two examples stands an empty line.
 
-pub const COUNT: u32 = 30;
+pub const COUNT: u32 = 49;
 
 pub const EXAMPLES: &str = "\
 first request
 3 7 abc abc a
-1 5 1
+1 5 1 1024 64
 0 join = joined
 0 bits e0 = noted yes
 0 unchoke = quiet
@@ -20,7 +20,7 @@ but
 
 another first request
 3 7 abc abc a
-1 5 1
+1 5 1 1024 64
 0 join = joined
 0 bits e0 = noted yes
 0 unchoke = quiet
@@ -30,7 +30,7 @@ but
 
 one peer to the end
 3 7 abc abc a
-1 5 1
+1 5 1 1024 64
 0 join = joined
 0 bits e0 = noted yes
 0 unchoke = quiet
@@ -50,7 +50,7 @@ but
 
 rarest first
 3 7 abc abc a
-2 5 1
+2 5 1 1024 64
 0 join = joined
 0 bits e0 = noted yes
 1 join = joined
@@ -65,7 +65,7 @@ but
 
 full pipe
 1000000 1000000 million
-2 5 1
+2 5 1 1024 64
 0 join = joined
 0 bits 80 = noted yes
 0 unchoke = quiet
@@ -81,7 +81,7 @@ but
 
 choke frees
 1000000 1000000 million
-2 5 1
+2 5 1 1024 64
 0 join = joined
 0 bits 80 = noted yes
 0 unchoke = quiet
@@ -102,7 +102,7 @@ but
 
 cancel in endgame
 3 3 abc
-2 5 1
+2 5 1 1024 64
 0 join = joined
 0 bits 80 = noted yes
 0 unchoke = quiet
@@ -122,7 +122,7 @@ but
 
 no double before endgame
 3 6 abc abc
-2 5 1
+2 5 1 1024 64
 0 join = joined
 0 bits c0 = noted yes
 0 unchoke = quiet
@@ -136,7 +136,7 @@ but
 
 double outlasts endgame
 3 6 abc abc
-4 5 1
+4 5 1 1024 64
 0 join = joined
 0 bits 80 = noted yes
 0 unchoke = quiet
@@ -161,7 +161,7 @@ but
 
 failed check
 3 7 abc abc a
-1 5 1
+1 5 1 1024 64
 0 join = joined
 0 bits e0 = noted yes
 0 unchoke = quiet
@@ -175,7 +175,7 @@ but
 
 failed check in endgame
 3 3 abc
-2 5 1
+2 5 1 1024 64
 0 join = joined
 0 bits 80 = noted yes
 0 unchoke = quiet
@@ -194,7 +194,7 @@ but
 
 held block dropped
 3 7 abc abc a
-1 5 1
+1 5 1 1024 64
 0 join = joined
 0 block 2 0 a = completed
 0 block 2 0 a = dropped
@@ -204,7 +204,7 @@ but
 
 block by block
 32768 65536 abc abc
-1 5 1
+1 5 1 1024 64
 0 join = joined
 0 block 0 0 whole = stored
 0 block 0 0 whole = dropped
@@ -214,7 +214,7 @@ but
 
 refusals
 3 7 abc abc a
-2 5 1
+2 5 1 1024 64
 0 leave = refused NotJoined
 1 block 9 9 a = refused NotJoined
 0 join = joined
@@ -239,7 +239,7 @@ but
 
 wrong count
 3 7 abc abc a
-1 5 1
+1 5 1 1024 64
 0 join = joined
 0 no-bits-of 4 = refused WrongCount
 0 bits e0 = noted yes
@@ -248,7 +248,7 @@ but
 
 stale verdict
 3 7 abc abc a
-1 5 1
+1 5 1 1024 64
 0 join = joined
 0 block 0 0 abd = completed
 0 settle 0 abd = failed
@@ -264,7 +264,7 @@ but
 
 random first piece
 3 7 abc abc a
-2 5 1
+2 5 1 1024 64
 0 join = joined
 0 bits e0 = noted yes
 0 unchoke = quiet
@@ -276,7 +276,7 @@ but
 
 rare first piece too
 3 7 abc abc a
-2 5 1
+2 5 1 1024 64
 0 join = joined
 0 bits e0 = noted yes
 0 unchoke = quiet
@@ -288,7 +288,7 @@ but
 
 strict priority
 32768 65536 abc abc
-1 5 1
+1 5 1 1024 64
 0 join = joined
 0 bits c0 = noted yes
 0 unchoke = quiet
@@ -300,7 +300,7 @@ but
 
 gone peer not counted
 3 7 abc abc a
-3 5 1
+3 5 1 1024 64
 0 join = joined
 0 bits e0 = noted yes
 1 join = joined
@@ -318,7 +318,7 @@ but
 
 rejoin in endgame
 3 3 abc
-2 5 1
+2 5 1 1024 64
 0 join = joined
 0 bits 80 = noted yes
 0 unchoke = quiet
@@ -340,7 +340,7 @@ but
 
 depth two
 1000000 1000000 million
-1 2 1
+1 2 1 1024 64
 0 join = joined
 0 bits 80 = noted yes
 0 unchoke = quiet
@@ -353,7 +353,7 @@ but
 
 deep pipe
 1000000 1000000 million
-1 64 1
+1 64 1 1024 64
 0 join = joined
 0 bits 80 = noted yes
 0 unchoke = quiet
@@ -370,7 +370,7 @@ but
 
 rarest from the start
 3 7 abc abc a
-2 5 0
+2 5 0 1024 64
 0 join = joined
 0 bits e0 = noted yes
 0 unchoke = quiet
@@ -382,7 +382,7 @@ but
 
 second piece at random
 3 7 abc abc a
-2 5 2
+2 5 2 1024 64
 0 join = joined
 0 bits e0 = noted yes
 1 join = joined
@@ -397,7 +397,7 @@ but
 
 rarest after two pieces
 3 12 abc abc abc abc
-2 5 2
+2 5 2 1024 64
 0 join = joined
 0 bits f0 = noted yes
 0 unchoke = quiet
@@ -415,7 +415,7 @@ but
 
 wants
 3 7 abc abc a
-2 5 1
+2 5 1 1024 64
 1 want 40 = quiet
 0 join = joined
 0 bits e0 = noted yes
@@ -441,7 +441,7 @@ but
 
 endgame of the wanted
 3 6 abc abc
-2 5 1
+2 5 1 1024 64
 0 join = joined
 0 bits c0 = noted yes
 0 unchoke = quiet
@@ -458,7 +458,7 @@ but
 
 want before the bits
 3 7 abc abc a
-1 5 1
+1 5 1 1024 64
 0 join = joined
 0 want 40 = quiet
 0 bits e0 = noted yes
@@ -467,7 +467,7 @@ but
 
 asked stays asked
 3 6 abc abc
-2 5 1
+2 5 1 1024 64
 0 join = joined
 0 bits c0 = noted yes
 0 unchoke = quiet
@@ -482,4 +482,313 @@ asked stays asked
 0 block 0 0 abc = completed
 1 next 0 = cancel 0 0 3
 but
-10 0 next 0 = request 0 0 3";
+10 0 next 0 = request 0 0 3
+
+released is asked elsewhere
+3 6 abc abc
+2 5 1 1024 64
+0 join = joined
+0 bits c0 = noted yes
+0 unchoke = quiet
+1 join = joined
+1 bits 80 = noted yes
+1 unchoke = quiet
+0 next 0 = request 0 0 3
+1 next 0 = idle
+0 release 0 0 = quiet
+1 next 0 = request 0 0 3
+0 next 0 = request 1 0 3
+but
+9 1 next 0 = idle
+
+released in endgame
+3 3 abc
+2 5 1 1024 64
+0 join = joined
+0 bits 80 = noted yes
+0 unchoke = quiet
+1 join = joined
+1 bits 80 = noted yes
+1 unchoke = quiet
+0 next 0 = request 0 0 3
+1 next 0 = request 0 0 3
+0 release 0 0 = quiet
+1 next 0 = idle
+1 block 0 0 abc = completed
+0 next 0 = idle
+1 settle 0 abc = had
+0 next 0 = nothing
+but
+9 1 next 0 = cancel 0 0 3
+11 0 next 0 = cancel 0 0 3
+
+released piece is unbegun
+32768 65536 abc abc
+1 5 1 1024 64
+0 join = joined
+0 bits c0 = noted yes
+0 unchoke = quiet
+0 next 0 = request 0 0 16384
+0 release 0 0 = quiet
+0 next 1 = request 1 0 16384
+0 next 0 = request 1 16384 16384
+0 next 0 = request 0 0 16384
+but
+6 0 next 0 = request 0 16384 16384
+
+released is asked again
+3 3 abc
+1 5 1 1024 64
+0 join = joined
+0 bits 80 = noted yes
+0 unchoke = quiet
+0 next 0 = request 0 0 3
+0 next 0 = idle
+0 release 0 0 = quiet
+0 next 0 = request 0 0 3
+but
+6 0 next 0 = idle
+
+released arrives after all
+32768 65536 abc abc
+1 5 1 1024 64
+0 join = joined
+0 bits c0 = noted yes
+0 unchoke = quiet
+0 next 0 = request 0 0 16384
+0 release 0 0 = quiet
+0 block 0 0 whole = stored
+0 next 0 = request 0 16384 16384
+but
+5 0 block 0 0 whole = dropped
+
+depth of one
+1000000 1000000 million
+1 5 1 1024 64
+0 join = joined
+0 bits 80 = noted yes
+0 unchoke = quiet
+0 depth 1 = quiet
+0 next 0 = request 0 0 16384
+0 next 0 = pipefull
+but
+5 0 next 0 = request 0 16384 16384
+
+deepened
+1000000 1000000 million
+1 5 1 1024 64
+0 join = joined
+0 bits 80 = noted yes
+0 unchoke = quiet
+0 next 0 = request 0 0 16384
+0 next 0 = request 0 16384 16384
+0 next 0 = request 0 32768 16384
+0 next 0 = request 0 49152 16384
+0 next 0 = request 0 65536 16384
+0 next 0 = pipefull
+0 depth 7 = quiet
+0 next 0 = request 0 81920 16384
+0 next 0 = request 0 98304 16384
+0 next 0 = pipefull
+but
+10 0 next 0 = pipefull
+
+depth outlasts a choke
+1000000 1000000 million
+1 5 1 1024 64
+0 join = joined
+0 bits 80 = noted yes
+0 unchoke = quiet
+0 depth 2 = quiet
+0 next 0 = request 0 0 16384
+0 next 0 = request 0 16384 16384
+0 next 0 = pipefull
+0 choke = quiet
+0 unchoke = quiet
+0 next 0 = request 0 0 16384
+0 next 0 = request 0 16384 16384
+0 next 0 = pipefull
+but
+11 0 next 0 = request 0 32768 16384
+
+depth goes with its peer
+1000000 1000000 million
+1 5 1 1024 64
+0 join = joined
+0 bits 80 = noted yes
+0 unchoke = quiet
+0 depth 1 = quiet
+0 next 0 = request 0 0 16384
+0 next 0 = pipefull
+0 leave = quiet
+0 join = joined
+0 bits 80 = noted yes
+0 unchoke = quiet
+0 next 0 = request 0 0 16384
+0 next 0 = request 0 16384 16384
+but
+11 0 next 0 = pipefull
+
+smaller depth
+1000000 1000000 million
+1 5 1 1024 64
+0 join = joined
+0 bits 80 = noted yes
+0 unchoke = quiet
+0 next 0 = request 0 0 16384
+0 next 0 = request 0 16384 16384
+0 next 0 = request 0 32768 16384
+0 depth 2 = quiet
+0 next 0 = pipefull
+0 block 0 0 whole = stored
+0 next 0 = pipefull
+0 block 0 16384 whole = stored
+0 next 0 = request 0 49152 16384
+0 next 0 = pipefull
+but
+7 0 next 0 = request 0 49152 16384
+11 0 next 0 = pipefull
+
+one asker
+3 3 abc
+2 5 1 1 64
+0 join = joined
+0 bits 80 = noted yes
+0 unchoke = quiet
+1 join = joined
+1 bits 80 = noted yes
+1 unchoke = quiet
+0 next 0 = request 0 0 3
+1 next 0 = idle
+0 release 0 0 = quiet
+1 next 0 = request 0 0 3
+0 next 0 = idle
+but
+7 1 next 0 = request 0 0 3
+
+two askers
+3 3 abc
+3 5 1 2 64
+0 join = joined
+0 bits 80 = noted yes
+0 unchoke = quiet
+1 join = joined
+1 bits 80 = noted yes
+1 unchoke = quiet
+0 next 0 = request 0 0 3
+1 next 0 = request 0 0 3
+2 join = joined
+2 bits 80 = noted yes
+2 unchoke = quiet
+2 next 0 = idle
+1 choke = quiet
+2 next 0 = request 0 0 3
+but
+11 2 next 0 = request 0 0 3
+7 1 next 0 = idle
+
+no depth may be told
+3 7 abc abc a
+1 5 1 1024 0
+0 join = joined
+0 depth 1 = refused WrongDepth
+but
+1 0 depth 1 = quiet
+
+greatest depth
+3 7 abc abc a
+1 5 1 1024 9999
+0 join = joined
+0 depth 4097 = refused WrongDepth
+0 depth 4096 = quiet
+but
+1 0 depth 4097 = quiet
+
+refusals of release and depth
+3 7 abc abc a
+2 5 1 1024 64
+0 release 0 0 = refused NotJoined
+0 depth 3 = refused NotJoined
+0 join = joined
+0 bits e0 = noted yes
+0 unchoke = quiet
+0 release 0 0 = refused NotAsked
+0 next 0 = request 0 0 3
+1 join = joined
+1 bits 80 = noted yes
+1 unchoke = quiet
+1 release 0 0 = refused NotAsked
+0 release 0 1 = refused NotAsked
+0 release 9 0 = refused NotAsked
+0 depth 0 = refused WrongDepth
+0 depth 65 = refused WrongDepth
+0 depth 64 = quiet
+0 release 0 0 = quiet
+0 release 0 0 = refused NotAsked
+but
+5 0 release 0 0 = quiet
+10 1 release 0 0 = quiet
+13 0 depth 0 = quiet
+14 0 depth 65 = quiet
+17 0 release 0 0 = quiet
+
+haves after a bitfield
+3 7 abc abc a
+1 5 1 1024 64
+0 join = joined
+0 bits 80 = noted yes
+0 haves 40 = noted yes
+0 unchoke = quiet
+0 next 0 = request 1 0 3
+0 block 1 0 abc = completed
+0 settle 1 abc = had
+0 next 0 = request 0 0 3
+0 next 0 = idle
+but
+5 0 next 0 = idle
+7 0 next 0 = nothing
+
+haves after a have
+3 7 abc abc a
+1 5 1 1024 64
+0 join = joined
+0 have 2 = noted yes
+0 haves 80 = noted yes
+0 bits e0 = refused LateBits
+0 unchoke = quiet
+0 next 0 = request 2 0 1
+0 next 0 = request 0 0 3
+0 next 0 = idle
+but
+3 0 bits e0 = noted yes
+
+haves of none
+3 7 abc abc a
+2 5 1 1024 64
+0 haves e0 = refused NotJoined
+0 join = joined
+0 haves-none-of 4 = refused WrongCount
+0 haves 00 = noted no
+0 bits e0 = refused LateBits
+0 unchoke = quiet
+0 next 0 = nothing
+1 join = joined
+1 bits 80 = noted yes
+1 haves 00 = noted yes
+1 unchoke = quiet
+1 next 0 = request 0 0 3
+but
+9 1 haves 00 = noted no
+
+haves are counted
+3 7 abc abc a
+2 5 0 1024 64
+0 join = joined
+0 bits e0 = noted yes
+0 unchoke = quiet
+1 join = joined
+1 bits 80 = noted yes
+1 haves 20 = noted yes
+0 next 0 = request 1 0 3
+but
+6 0 next 0 = request 2 0 1";

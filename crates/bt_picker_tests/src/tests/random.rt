@@ -59,16 +59,19 @@ fn one_of(rng: &mut Lcg64Xsh32, cases: u32) -> u32
     rng.next_u32() % cases
 }
 
-/// Rules for that torrent: every other time such that a pipe fills soon.
+/// Rules for that torrent: every other time such that a pipe fills soon, with a bound on the peers of a block or none, and with depths that
+/// may be told or none.
 fn any_rules(rng: &mut Lcg64Xsh32) -> Rules
     ensures shallow { 1 ≤ result.depth }
     ensures deep { result.depth ≤ 64 }
     ensures random { result.random ≤ 4 }
 {
-    let deepest = [4, 64][one_of(rng, 2) as usize];
+    let most = [4, 64][one_of(rng, 2) as usize];
     Rules {
-        depth: 1 + one_of(rng, deepest),
+        depth: 1 + one_of(rng, most),
         random: one_of(rng, 5),
+        askers: [1, 2, MOST_WORKERS][one_of(rng, 3) as usize],
+        deepest: [0, 3, MOST_DEPTH][one_of(rng, 3) as usize],
     }
 }
 
@@ -92,16 +95,18 @@ fn any_block(rng: &mut Lcg64Xsh32) -> Block {
     }
 }
 
-/// What the peer sends next, given what is asked of it.
+/// What the peer sends or its worker tells next, given what is asked of it.
 fn from_wire(alloc: Global, rng: &mut Lcg64Xsh32, asked: &[Block]) -> Result<Call, Fail> {
-    match one_of(rng, 64) {
+    match one_of(rng, 74) {
         6..=10 => Ok(Call::Bits(any_flags(alloc, rng)?)),
         11 => Ok(Call::Bits(Bitfield::empty(alloc, 3)?)),
+        36..=38 => Ok(Call::Haves(any_flags(alloc, rng)?)),
+        39 => Ok(Call::Haves(Bitfield::empty(alloc, 3)?)),
         case => Ok(plain_call(rng, asked, case)),
     }
 }
 
-/// What the peer sends in a case in which that is no bitfield.
+/// What that is in a case in which it is no bitfield.
 fn plain_call(rng: &mut Lcg64Xsh32, asked: &[Block], case: u32) -> Call {
     match case {
         0..=4 => Call::Join,
@@ -111,6 +116,9 @@ fn plain_call(rng: &mut Lcg64Xsh32, asked: &[Block], case: u32) -> Call {
         16..=21 => Call::Unchoke,
         22..=29 => any_arrival(rng),
         30..=35 => last_arrival(rng, asked),
+        40..=42 => first_release(asked),
+        43 => any_release(rng),
+        44..=45 => Call::Depth([0, 1, 3, 7, 65][one_of(rng, 5) as usize]),
         _ => Call::Next(rng.next_u64()),
     }
 }
@@ -125,6 +133,25 @@ fn last_arrival(rng: &mut Lcg64Xsh32, asked: &[Block]) -> Call {
     match asked.last() {
         Some(block) => arrival(rng, *block),
         None => Call::Unchoke,
+    }
+}
+
+/// The block that was asked first is asked of the peer no more.
+fn first_release(asked: &[Block]) -> Call {
+    match asked.first() {
+        Some(block) => release(*block),
+        None => Call::Release { piece: 0, begin: 0 },
+    }
+}
+
+fn any_release(rng: &mut Lcg64Xsh32) -> Call {
+    release(any_block(rng))
+}
+
+fn release(block: Block) -> Call {
+    Call::Release {
+        piece: block.piece,
+        begin: block.begin,
     }
 }
 
@@ -250,7 +277,7 @@ impl Run {
         &mut self,
         alloc: Global,
         rng: &mut Lcg64Xsh32,
-        counts: &mut [u64; 24],
+        counts: &mut [u64; 26],
     ) -> Result<(), Fail> {
         for _ in 0..500 {
             count(counts, self.step(alloc, rng)?);
@@ -266,7 +293,7 @@ impl Run {
         alloc: Global,
         rules: Rules,
         rng: &mut Lcg64Xsh32,
-        counts: &mut [u64; 24],
+        counts: &mut [u64; 26],
     ) -> Result<(), Fail> {
         self.steps(alloc, rng, counts)?;
         self.judge(rt, alloc, rules)
@@ -288,7 +315,7 @@ impl Run {
 
 /// Each kind of reply has a place, each reason its own.
 fn kind(reply: Reply) -> usize
-    ensures { result < 24 }
+    ensures { result < 26 }
 {
     match reply {
         Reply::Joined => 0,
@@ -311,7 +338,7 @@ fn kind(reply: Reply) -> usize
 }
 
 /// Counts a reply by its kind.
-fn count(counts: &mut [u64; 24], reply: Reply) {
+fn count(counts: &mut [u64; 26], reply: Reply) {
     let place = kind(reply);
     counts[place] = counts[place].saturating_add(1);
 }
@@ -321,7 +348,7 @@ fn one_journal(
     rt: &impl Abort,
     alloc: Global,
     seed: u64,
-    counts: &mut [u64; 24],
+    counts: &mut [u64; 26],
 ) -> Result<(), Fail> {
     let mut rng = Lcg64Xsh32::new(seed, 1);
     let rules = any_rules(&mut rng);
@@ -334,7 +361,7 @@ fn journals(
     rt: &impl Abort,
     alloc: Global,
     seeds: u64,
-    counts: &mut [u64; 24],
+    counts: &mut [u64; 26],
 ) -> Result<(), Fail> {
     for seed in 0..seeds {
         one_journal(rt, alloc, seed, counts)?;
@@ -344,7 +371,7 @@ fn journals(
 
 #[test]
 fn journals_of_random_calls(rt: HostRuntime) -> Result<(), Fail> {
-    let mut counts = [0_u64; 24];
+    let mut counts = [0_u64; 26];
     journals(&rt, rt.alloc(), 40, &mut counts)?;
     assert!(rt; !counts.contains(&0));
     Ok(())

@@ -108,7 +108,11 @@ fn flags_of(
     words: &mut Split<'static, char>,
 ) -> Result<Bitfield, Fail> {
     match name {
-        "bits" | "want" => Ok(Bitfield::from_wire(alloc, &[next_byte(rt, words)], pieces)?),
+        "bits" | "want" | "haves" => Ok(Bitfield::from_wire(
+            alloc,
+            &[next_byte(rt, words)],
+            pieces,
+        )?),
         _ => Ok(Bitfield::empty(alloc, next_number(rt, words))?),
     }
 }
@@ -131,12 +135,15 @@ fn call_of(
         name @ ("want" | "want-none-of") => {
             Ok(Call::Want(flags_of(rt, alloc, pieces, name, words)?))
         }
+        name @ ("haves" | "haves-none-of") => {
+            Ok(Call::Haves(flags_of(rt, alloc, pieces, name, words)?))
+        }
         "settle" => settle_of(rt, alloc, words),
         name => Ok(plain_call(rt, name, words)),
     }
 }
 
-/// A call without a bitfield or a verdict. The number of `next` is any, others are of a piece.
+/// A call without a bitfield or a verdict.
 fn plain_call(rt: &impl Abort, name: &str, words: &mut Split<'static, char>) -> Call {
     match name {
         "join" => Call::Join,
@@ -145,6 +152,11 @@ fn plain_call(rt: &impl Abort, name: &str, words: &mut Split<'static, char>) -> 
         "leave" => Call::Leave,
         "have" => Call::Have(next_number(rt, words)),
         "next" => Call::Next(u64::from(next_number(rt, words))),
+        "depth" => Call::Depth(next_number(rt, words)),
+        "release" => Call::Release {
+            piece: next_number(rt, words),
+            begin: next_number(rt, words),
+        },
         "block" => arrival_of(rt, words),
         _ => panic!(rt; "no such call"),
     }
@@ -200,6 +212,8 @@ const REPLIES: &[(&str, Reply)] = &[
     ("refused WrongLength", Reply::Refused(Reason::WrongLength)),
     ("refused NotWaiting", Reply::Refused(Reason::NotWaiting)),
     ("refused Stale", Reply::Refused(Reason::Stale)),
+    ("refused NotAsked", Reply::Refused(Reason::NotAsked)),
+    ("refused WrongDepth", Reply::Refused(Reason::WrongDepth)),
 ];
 
 /// The reply that the text tells.
@@ -241,7 +255,8 @@ fn block_of(rt: &impl Abort, words: &mut Split<'_, char>) -> Block {
 pub struct Example {
     /// As `torrent_of` reads it.
     pub torrent: &'static str,
-    /// How many workers there are, the depth, and how many pieces are picked at random.
+    /// How many workers there are, the depth, how many pieces are picked at random, how many peers a block is asked of in endgame, and
+    /// the greatest depth that may be told.
     pub terms: &'static str,
     pub lines: &'static str,
     /// What mustn't come, each behind how many of the lines come before.

@@ -2,7 +2,8 @@
 
 ghost use Rattle.std.specs.Prelude.{map};
 ghost use Rattle.bt_script.specs.Fields.{Reads};
-ghost use Rattle.bt_script.specs.Lines.{line_in, seen_line, seen_command, bare_command, short_command, block_command, command_in};
+ghost use Rattle.bt_script.specs.Lines.{line_in, seen_line, seen_command, bare_command, short_command, pair_command, block_command};
+ghost use Rattle.bt_script.specs.Lines.{command_in};
 
 use super::LineFault;
 use super::fields::{fields, hex_bytes, is, number, small_number};
@@ -27,6 +28,15 @@ pub enum Command {
     Leave,
     /// The pieces that are to be downloaded, as the payload of a `bitfield` message spells them.
     Want(Vec<u8>),
+    /// The pieces that the peer has too, spelled so.
+    Haves(Vec<u8>),
+    /// So many blocks may be asked of the peer at a time.
+    Depth(u32),
+    /// A block that is asked of the peer no more.
+    Release {
+        piece: u32,
+        begin: u32,
+    },
 }
 
 #[derive(Drop)]
@@ -58,6 +68,7 @@ fn read_command(alloc: Global, word: &[u8], arguments: &[&[u8]]) -> Result<Comma
     match arguments {
         [] => bare_command(word),
         [argument] => short_command(alloc, word, argument),
+        [piece, begin] => pair_command(word, piece, begin),
         [piece, begin, hex] => block_command(alloc, word, piece, begin, hex),
         _ => Err(LineFault::NotAllowed),
     }
@@ -94,9 +105,26 @@ fn short_command(alloc: Global, word: &[u8], argument: &[u8]) -> Result<Command,
         Ok(Command::Settle(small_number(argument)?))
     } else if is(word, "want") {
         Ok(Command::Want(hex_bytes(alloc, argument)?))
+    } else if is(word, "haves") {
+        Ok(Command::Haves(hex_bytes(alloc, argument)?))
+    } else if is(word, "depth") {
+        Ok(Command::Depth(small_number(argument)?))
     } else {
         Err(LineFault::NotAllowed)
     }
+}
+
+/// What `release` says, the only word with two arguments.
+fn pair_command(word: &[u8], piece: &[u8], begin: &[u8]) -> Result<Command, LineFault>
+    ensures { Reads seen_command result (pair_command word.now piece.now begin.now) }
+{
+    if !is(word, "release") {
+        return Err(LineFault::NotAllowed);
+    }
+    Ok(Command::Release {
+        piece: small_number(piece)?,
+        begin: small_number(begin)?,
+    })
 }
 
 /// What `block` says, the only word with three arguments.

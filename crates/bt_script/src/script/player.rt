@@ -113,6 +113,12 @@ impl Player {
                 let flags = Bitfield::from_wire(alloc, &bytes, self.pieces)?;
                 self.make(worker, Call::Want(flags))
             }
+            Command::Haves(bytes) => {
+                let flags = Bitfield::from_wire(alloc, &bytes, self.pieces)?;
+                self.make(worker, Call::Haves(flags))
+            }
+            Command::Depth(depth) => self.make(worker, Call::Depth(depth)),
+            Command::Release { piece, begin } => self.make(worker, Call::Release { piece, begin }),
         }
     }
 

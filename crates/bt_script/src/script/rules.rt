@@ -6,10 +6,11 @@ ghost use Rattle.bt_script.specs.RulesLines.{depth_in, random_in, rules_in, rule
 
 use super::LineFault;
 use super::fields::{fields, is, small_number};
-use bt_picker::{MOST_DEPTH, Rules};
+use bt_picker::{MOST_DEPTH, MOST_WORKERS, Rules};
 use std::alloc::Global;
 
-/// The rules that this text says for a torrent of so many pieces: `rules`, the depth, and the number of pieces at random.
+/// The rules that this text says for a torrent of so many pieces: `rules`, the depth, and the number of pieces at random. The bound on the
+/// peers of one block and the greatest depth that may be told are the usual ones.
 pub fn read_rules(alloc: Global, text: &[u8], pieces: u32) -> Result<Rules, LineFault>
     ensures reads { Reads (λ rules. rules) result (rules_in pieces text.now) }
     ensures shallow { IfOk result (λ rules. 1 ≤ rules.depth) }
@@ -36,6 +37,8 @@ fn rules_of(fields: &[&[u8]], pieces: u32) -> Result<Rules, LineFault>
     Ok(Rules {
         depth: depth_of(depth)?,
         random: random_of(random, pieces)?,
+        askers: MOST_WORKERS,
+        deepest: MOST_DEPTH,
     })
 }
 

@@ -2,7 +2,7 @@
 
 use bt_meta::{FromRead, ToWrite, Torrent};
 use bt_peer::{End, SessionFault, Stream};
-use bt_picker::Rules;
+use bt_picker::{MOST_DEPTH, MOST_WORKERS, Rules};
 use bt_wire::Hello;
 use std::alloc::{AllocError, Global};
 use std::io::Cursor;
@@ -35,10 +35,12 @@ pub fn torrent(alloc: Global) -> Result<Arc<Torrent>, Fail> {
     torrent_of(alloc, 3, 3, 1)
 }
 
-/// Five blocks at a time, and no piece at random: these suit each torrent.
+/// Five blocks at a time, and no piece at random, else the usual rules: these suit each torrent.
 pub const RULES: Rules = Rules {
     depth: 5,
     random: 0,
+    askers: MOST_WORKERS,
+    deepest: MOST_DEPTH,
 };
 
 /// What a peer of one piece sends, after its handshake: its bitfield, unchoke, and the piece.

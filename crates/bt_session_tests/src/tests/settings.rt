@@ -5,7 +5,7 @@ use super::serial::{journal, run_by};
 use bt_expect::same;
 use bt_meta::{Bitfield, Torrent};
 use bt_peer::SerialRun;
-use bt_picker::Rules;
+use bt_picker::{MOST_DEPTH, MOST_WORKERS, Rules};
 use std::alloc::Global;
 use std::sync::Arc;
 use std::test::Fail;
@@ -64,7 +64,12 @@ fn blocks(alloc: Global, count: u32) -> Result<Arc<Torrent>, Fail> {
 
 /// The replies to Next of the unchoke's turn: so many requests, and then this one.
 fn asked(alloc: Global, depth: u32, count: u32) -> Result<(usize, String), Fail> {
-    let rules = Rules { depth, random: 1 };
+    let rules = Rules {
+        depth,
+        random: 1,
+        askers: MOST_WORKERS,
+        deepest: MOST_DEPTH,
+    };
     let said = calls(alloc, blocks(alloc, count)?, &ONE, None, rules)?;
     let mut last = String::new(alloc);
     keep_last(said.as_str(), &mut last)?;

@@ -31,6 +31,9 @@ fn word(call: &Call) -> &'static str {
         Call::Settle(_) => "settle",
         Call::Leave => "leave",
         Call::Want(_) => "want",
+        Call::Haves(_) => "haves",
+        Call::Depth(_) => "depth",
+        Call::Release { .. } => "release",
     }
 }
 
@@ -39,7 +42,10 @@ pub fn tell(entry: &Entry, said: &mut String) -> Result<(), AllocError> {
     said.push_str(word(&entry.call))?;
     match &entry.call {
         Call::Have(piece) => write!(said, " {piece}")?,
-        Call::Arrived { piece, begin, .. } => write!(said, " {piece} {begin}")?,
+        Call::Arrived { piece, begin, .. } | Call::Release { piece, begin } => {
+            write!(said, " {piece} {begin}")?;
+        }
+        Call::Depth(depth) => write!(said, " {depth}")?,
         _ => {}
     }
     let reply = entry.reply;

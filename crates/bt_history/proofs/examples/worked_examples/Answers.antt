@@ -2,10 +2,15 @@ use Rattle.bt_history.proofs.ExampleProofs.{first_request_legal, another_first_r
 use Rattle.bt_history.proofs.ExampleProofs.{full_pipe_legal, choke_frees_legal, cancel_in_endgame_legal, no_double_before_endgame_legal}
 use Rattle.bt_history.proofs.ExampleProofs.{double_outlasts_endgame_legal, failed_check_legal, failed_check_in_endgame_legal}
 use Rattle.bt_history.proofs.ExampleProofs.{held_block_dropped_legal, block_by_block_legal, refusals_legal, wrong_count_legal, stale_verdict_legal}
-use Rattle.bt_history.proofs.ExampleProofs.{random_first_piece_legal, rare_first_piece_too_legal, strict_priority_legal}
-use Rattle.bt_history.proofs.ExampleProofs.{gone_peer_not_counted_legal, rejoin_in_endgame_legal, depth_two_legal, deep_pipe_legal}
-use Rattle.bt_history.proofs.ExampleProofs.{rarest_from_the_start_legal, second_piece_at_random_legal, rarest_after_two_pieces_legal, wants_legal}
-use Rattle.bt_history.proofs.ExampleProofs.{endgame_of_the_wanted_legal, want_before_the_bits_legal, asked_stays_asked_legal}
+use Rattle.bt_history.proofs.ExampleProofs.{random_first_piece_legal, rare_first_piece_too_legal, strict_priority_legal, gone_peer_not_counted_legal}
+use Rattle.bt_history.proofs.ExampleProofs.{rejoin_in_endgame_legal, depth_two_legal, deep_pipe_legal, rarest_from_the_start_legal}
+use Rattle.bt_history.proofs.ExampleProofs.{second_piece_at_random_legal, rarest_after_two_pieces_legal, wants_legal, endgame_of_the_wanted_legal}
+use Rattle.bt_history.proofs.ExampleProofs.{want_before_the_bits_legal, asked_stays_asked_legal, released_is_asked_elsewhere_legal}
+use Rattle.bt_history.proofs.ExampleProofs.{released_in_endgame_legal, released_piece_is_unbegun_legal, released_is_asked_again_legal}
+use Rattle.bt_history.proofs.ExampleProofs.{released_arrives_after_all_legal, depth_of_one_legal, deepened_legal, depth_outlasts_a_choke_legal}
+use Rattle.bt_history.proofs.ExampleProofs.{depth_goes_with_its_peer_legal, smaller_depth_legal, one_asker_legal, two_askers_legal}
+use Rattle.bt_history.proofs.ExampleProofs.{no_depth_may_be_told_legal, greatest_depth_legal, refusals_of_release_and_depth_legal}
+use Rattle.bt_history.proofs.ExampleProofs.{haves_after_a_bitfield_legal, haves_after_a_have_legal, haves_of_none_legal, haves_are_counted_legal}
 use Rattle.bt_history.proofs.examples.worked_examples.Goals as goal
 
 pub returns : goal.returns
@@ -40,4 +45,23 @@ returns c = record {
   endgame_of_the_wanted = endgame_of_the_wanted_legal;
   want_before_the_bits = want_before_the_bits_legal;
   asked_stays_asked = asked_stays_asked_legal;
+  released_is_asked_elsewhere = released_is_asked_elsewhere_legal;
+  released_in_endgame = released_in_endgame_legal;
+  released_piece_is_unbegun = released_piece_is_unbegun_legal;
+  released_is_asked_again = released_is_asked_again_legal;
+  released_arrives_after_all = released_arrives_after_all_legal;
+  depth_of_one = depth_of_one_legal;
+  deepened = deepened_legal;
+  depth_outlasts_a_choke = depth_outlasts_a_choke_legal;
+  depth_goes_with_its_peer = depth_goes_with_its_peer_legal;
+  smaller_depth = smaller_depth_legal;
+  one_asker = one_asker_legal;
+  two_askers = two_askers_legal;
+  no_depth_may_be_told = no_depth_may_be_told_legal;
+  greatest_depth = greatest_depth_legal;
+  refusals_of_release_and_depth = refusals_of_release_and_depth_legal;
+  haves_after_a_bitfield = haves_after_a_bitfield_legal;
+  haves_after_a_have = haves_after_a_have_legal;
+  haves_of_none = haves_of_none_legal;
+  haves_are_counted = haves_are_counted_legal;
 }

@@ -10,6 +10,16 @@ use Rattle.bt_history.proofs.ExampleProofs.{first_piece_at_random_though_none_is
 use Rattle.bt_history.proofs.ExampleProofs.{older_want_still_counts_wrong, idle_though_nothing_is_wanted_wrong, unwanted_piece_noted_wrong}
 use Rattle.bt_history.proofs.ExampleProofs.{want_of_a_stranger_refused_wrong, want_of_a_wrong_count_taken_wrong}
 use Rattle.bt_history.proofs.ExampleProofs.{unwanted_block_keeps_endgame_off_wrong, bits_late_by_a_want_wrong, unwanted_block_freed_wrong}
+use Rattle.bt_history.proofs.ExampleProofs.{idle_though_another_peer_released_wrong, cancel_of_what_another_peer_released_wrong}
+use Rattle.bt_history.proofs.ExampleProofs.{cancel_of_a_released_block_wrong, released_piece_continued_wrong, idle_though_released_wrong}
+use Rattle.bt_history.proofs.ExampleProofs.{released_block_dropped_wrong, second_request_at_a_depth_of_one_wrong, pipe_full_though_deepened_wrong}
+use Rattle.bt_history.proofs.ExampleProofs.{depth_forgotten_at_a_choke_wrong, depth_outlasts_its_peer_wrong, request_beyond_a_smaller_depth_wrong}
+use Rattle.bt_history.proofs.ExampleProofs.{pipe_full_though_enough_came_wrong, second_asker_of_one_wrong, third_asker_of_two_wrong}
+use Rattle.bt_history.proofs.ExampleProofs.{second_asker_of_two_idle_wrong, depth_told_though_none_may_be_wrong, depth_beyond_any_wrong}
+use Rattle.bt_history.proofs.ExampleProofs.{unasked_block_released_wrong, block_of_another_peer_released_wrong, depth_of_none_told_wrong}
+use Rattle.bt_history.proofs.ExampleProofs.{depth_beyond_the_rules_told_wrong, block_released_twice_wrong, idle_though_the_bitfield_shows_more_wrong}
+use Rattle.bt_history.proofs.ExampleProofs.{nothing_left_though_the_bitfield_shows_more_wrong, bits_after_haves_noted_wrong}
+use Rattle.bt_history.proofs.ExampleProofs.{haves_noted_without_the_bits_wrong, availability_without_the_haves_wrong}
 use Rattle.bt_history.proofs.examples.wrong_replies.Goals as goal
 
 pub returns : goal.returns
@@ -45,4 +55,31 @@ returns c = record {
   unwanted_block_keeps_endgame_off = unwanted_block_keeps_endgame_off_wrong;
   bits_late_by_a_want = bits_late_by_a_want_wrong;
   unwanted_block_freed = unwanted_block_freed_wrong;
+  idle_though_another_peer_released = idle_though_another_peer_released_wrong;
+  cancel_of_what_another_peer_released = cancel_of_what_another_peer_released_wrong;
+  cancel_of_a_released_block = cancel_of_a_released_block_wrong;
+  released_piece_continued = released_piece_continued_wrong;
+  idle_though_released = idle_though_released_wrong;
+  released_block_dropped = released_block_dropped_wrong;
+  second_request_at_a_depth_of_one = second_request_at_a_depth_of_one_wrong;
+  pipe_full_though_deepened = pipe_full_though_deepened_wrong;
+  depth_forgotten_at_a_choke = depth_forgotten_at_a_choke_wrong;
+  depth_outlasts_its_peer = depth_outlasts_its_peer_wrong;
+  request_beyond_a_smaller_depth = request_beyond_a_smaller_depth_wrong;
+  pipe_full_though_enough_came = pipe_full_though_enough_came_wrong;
+  second_asker_of_one = second_asker_of_one_wrong;
+  third_asker_of_two = third_asker_of_two_wrong;
+  second_asker_of_two_idle = second_asker_of_two_idle_wrong;
+  depth_told_though_none_may_be = depth_told_though_none_may_be_wrong;
+  depth_beyond_any = depth_beyond_any_wrong;
+  unasked_block_released = unasked_block_released_wrong;
+  block_of_another_peer_released = block_of_another_peer_released_wrong;
+  depth_of_none_told = depth_of_none_told_wrong;
+  depth_beyond_the_rules_told = depth_beyond_the_rules_told_wrong;
+  block_released_twice = block_released_twice_wrong;
+  idle_though_the_bitfield_shows_more = idle_though_the_bitfield_shows_more_wrong;
+  nothing_left_though_the_bitfield_shows_more = nothing_left_though_the_bitfield_shows_more_wrong;
+  bits_after_haves_noted = bits_after_haves_noted_wrong;
+  haves_noted_without_the_bits = haves_noted_without_the_bits_wrong;
+  availability_without_the_haves = availability_without_the_haves_wrong;
 }

@@ -1,6 +1,6 @@
 use Rattle.std.proofs.Common.{◌≡◌, ◌∙◌, Bool, true, false, not, length, sym, ap, arith}
 use Rattle.std.proofs.lemmas.Bool.{not-true, not-false}
-use Rattle.bt_history.specs.declared.event.Action.TheVariants.{Bits, Have, Arrived}
+use Rattle.bt_history.specs.declared.event.Action.TheVariants.{Bits, Have, Haves, Arrived}
 use Rattle.bt_picker.specs.Told.{action_told}
 use Rattle.bt_history.proofs.Allowed.{worker_below}
 use Rattle.bt_tables.specs.Tables.{PeerState, TablesState, have_row}
@@ -8,8 +8,8 @@ use Rattle.bt_tables.proofs.Tabled.{length_edit}
 use Rattle.bt_picker.proofs.Entering.{peer_row_is}
 use Rattle.bt_picker.proofs.PeerSteps.{shows_length}
 use Rattle.bt_picker.proofs.Entered.{entered_refusal, enter_join, enter_bits, enter_have, enter_choke, enter_unchoke, enter_next, enter_arrival}
-use Rattle.bt_picker.proofs.Entered.{enter_leave, enter_want, cause_none, bits_facts, have_facts, lines_short}
-use Rattle.bt_picker.proofs.Entered.{pieces_few, arrival_askers, arrival_block, has_room}
+use Rattle.bt_picker.proofs.Entered.{enter_leave, enter_want, enter_haves, enter_depth, enter_release, cause_none, bits_facts, have_facts, haves_facts, lines_short}
+use Rattle.bt_picker.proofs.Entered.{pieces_few, pieces_short, shown_counted, arrival_askers, arrival_block, has_room}
 use Rattle.bt_picker.proofs.Learning.{told_floor, unnoted_floor}
 use Rattle.bt_picker.proofs.entries.enter.Goals as goal
 
@@ -198,3 +198,66 @@ returns-in-Arrived-clause-are c =
     rw (c.in-Arrived.is, c.put_arrival.ensures)
     (enter_arrival _ _ c.args.worker c.requires.are _ _ _ c.args.reply (rw c.in-Arrived.is at c.requires.allowed)
     (counts_if _ _ c.is_refusal.ensures c.if-is_refusal.false))
+
+pub put_release-requires-clause-worker : goal.put_release-requires-clause-worker
+put_release-requires-clause-worker c =
+    let lw = worker_below _ _ _ c.requires.allowed in omega (arith, lw, c.requires.are.peers_len)
+
+pub put_release-requires-clause-room : goal.put_release-requires-clause-room
+put_release-requires-clause-room c =
+    let lw = worker_below _ _ _ c.requires.allowed in
+    lines_short _ _ c.requires.are c.args.worker (omega (arith, lw, c.requires.are.peers_len))
+
+pub returns-in-Release-clause-are : goal.returns-in-Release-clause-are
+returns-in-Release-clause-are c =
+    rw (c.in-Release.is, c.put_release.ensures)
+    (enter_release _ _ c.args.worker c.requires.are _ _ c.args.reply (rw c.in-Release.is at c.requires.allowed)
+    (counts_if _ _ c.is_refusal.ensures c.if-is_refusal.false))
+
+pub put_depth-requires : goal.put_depth-requires
+put_depth-requires c =
+    let lw = worker_below _ _ _ c.requires.allowed in omega (arith, lw, c.requires.are.peers_len)
+
+pub returns-in-Depth-clause-are : goal.returns-in-Depth-clause-are
+returns-in-Depth-clause-are c =
+    rw (c.in-Depth.is, c.put_depth.ensures)
+    (enter_depth _ _ c.args.worker c.requires.are _ c.args.reply (rw c.in-Depth.is at c.requires.allowed)
+    (counts_if _ _ c.is_refusal.ensures c.if-is_refusal.false))
+
+pub put_haves-requires-clause-worker : goal.put_haves-requires-clause-worker
+put_haves-requires-clause-worker c =
+    let lw = worker_below _ _ _ c.requires.allowed in omega (arith, lw, c.requires.are.peers_len)
+
+pub put_haves-requires-clause-flags : goal.put_haves-requires-clause-flags
+put_haves-requires-clause-flags c =
+    let cause = cause_none _ _ c.args.worker (Haves c.in-Haves.flags.now) c.args.reply (rw c.in-Haves.is at c.requires.allowed)
+    (counts_if _ _ c.is_refusal.ensures c.if-is_refusal.false) in
+    let row = peer_row_is _ _ c.args.worker c.requires.are (worker_below _ _ _ c.requires.allowed) in
+    (haves_facts _ _ c.args.worker c.in-Haves.flags.now cause).1
+    ∙ sym (ap (λ (r : PeerState). length r.shows) row ∙ shows_length c.args.tables.now.setting c.args.past.now.entries c.args.worker)
+
+pub put_haves-requires-clause-pieces : goal.put_haves-requires-clause-pieces
+put_haves-requires-clause-pieces c =
+    let row = peer_row_is _ _ c.args.worker c.requires.are (worker_below _ _ _ c.requires.allowed) in
+    ap (λ (r : PeerState). length r.shows) row ∙ (shows_length c.args.tables.now.setting c.args.past.now.entries c.args.worker
+    ∙ sym c.requires.are.pieces_len)
+
+pub put_haves-requires-clause-few : goal.put_haves-requires-clause-few
+put_haves-requires-clause-few c = pieces_short _ _ c.requires.are
+
+pub returns-in-Haves-clause-are : goal.returns-in-Haves-clause-are
+returns-in-Haves-clause-are c =
+    rw (c.in-Haves.is, c.put_haves.ensures)
+    (enter_haves _ _ c.args.worker c.requires.are _ c.args.reply (rw c.in-Haves.is at c.requires.allowed)
+    (counts_if _ _ c.is_refusal.ensures c.if-is_refusal.false))
+
+pub put_haves-requires-clause-counted : goal.put_haves-requires-clause-counted
+put_haves-requires-clause-counted c =
+    let cause = cause_none _ _ c.args.worker (Haves c.in-Haves.flags.now) c.args.reply (rw c.in-Haves.is at c.requires.allowed)
+    (counts_if _ _ c.is_refusal.ensures c.if-is_refusal.false) in
+    shown_counted _ _ c.requires.are c.args.worker (worker_below _ _ _ c.requires.allowed)
+    (haves_facts _ _ c.args.worker c.in-Haves.flags.now cause).0
+
+pub put_arrival-requires-clause-sender : goal.put_arrival-requires-clause-sender
+put_arrival-requires-clause-sender c =
+    let lw = worker_below _ _ _ c.requires.allowed in omega (arith, lw, c.requires.are.few)

@@ -27,3 +27,14 @@ returns-in_ok-print-in-Want-clause-ok g c =
     let flags = c.in-Want.flags in
     more_known (IsCallText (action_of c.args.call.now)) (IsSpelled flags) encode_lower c.print_bits-in-Want.result _ _ _ _
     (λ wire is. rw c.in-Want.is (wire, (is, refl))) c.in_ok-print-in-Want.ensures.ok c.print_bits-in-Want.ensures.ok
+
+pub returns-in_ok-print-in-Haves-clause-ok : goal.returns-in_ok-print-in-Haves-clause-ok
+returns-in_ok-print-in-Haves-clause-ok g c =
+    let flags = c.in-Haves.flags in
+    more_known (IsCallText (action_of c.args.call.now)) (IsSpelled flags) encode_lower c.print_bits-in-Haves.result _ _ _ _
+    (λ wire is. rw c.in-Haves.is (wire, (is, refl))) c.in_ok-print-in-Haves.ensures.ok c.print_bits-in-Haves.ensures.ok
+
+pub returns-in_ok-print-in-Depth-clause-ok : goal.returns-in_ok-print-in-Depth-clause-ok
+returns-in_ok-print-in-Depth-clause-ok g c =
+    more_that (IsCallText (action_of c.args.call.now)) c.print_number-in-Depth.result _ _ _ _ _ (rw (c.in-Depth.is, c.from-in-Depth.ensures) refl)
+    c.in_ok-print-in-Depth.ensures.ok c.print_number-in-Depth.ensures.ok

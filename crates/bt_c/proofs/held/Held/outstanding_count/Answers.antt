@@ -1,5 +1,9 @@
-use Rattle.std.proofs.Common.{ap, length, List, arith}
+use Rattle.std.proofs.Common.{◌≤◌, ap, length, List, arith}
+use Rattle.std.proofs.Math.Nat.{le_trans, max-le, min-le_right}
 use Rattle.bt_meta.specs.declared.block.Block.{Block}
+use Rattle.bt_history.specs.Setting.{deepest_line}
+use Rattle.bt_history.specs.declared.rules.TheConstants.{MOST_DEPTH, MOST_TOLD_DEPTH}
+use Rattle.bt_history.proofs.Depths.{so_far_bounded}
 use Rattle.bt_history.proofs.LineLaws.{lines_room}
 use Rattle.bt_c.proofs.held.Held.outstanding_count.Goals as goal
 
@@ -7,7 +11,11 @@ pub overflow_cast-result : goal.overflow_cast-result
 overflow_cast-result c =
     let held = c.args.self.now in let d = held.desk in
     let room = lines_room d.setting d.history c.args.worker c.journal-legal.ensures.legal in
-    omega (arith, room, held.are_rules.deep, ap (λ (bs : List Block). length bs) c.outstanding.ensures)
+    let bounded = so_far_bounded d.setting d.history c.args.worker c.journal-legal.ensures.legal in
+    let told : MOST_DEPTH ≤ MOST_TOLD_DEPTH = omega arith in
+    let most : deepest_line d.setting ≤ MOST_TOLD_DEPTH =
+    max-le (le_trans held.are_rules.deep told) (min-le_right d.setting.deepest MOST_TOLD_DEPTH) in
+    omega (arith, room, bounded, most, ap (λ (bs : List Block). length bs) c.outstanding.ensures)
 
 pub returns : goal.returns
 returns c =

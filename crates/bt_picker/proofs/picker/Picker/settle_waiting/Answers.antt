@@ -1,4 +1,4 @@
-use Rattle.std.proofs.Common.{◌≡◌, ◌≤◌, ◌∷◌, ◌∙◌, ap, subst, sym}
+use Rattle.std.proofs.Common.{◌≡◌, ◌≤◌, ◌∷◌, ◌∙◌, ◌%◌, ◌^◌, ap, not, refl, subst, sym}
 use Rattle.bt_meta.specs.Layout.{Layout}
 use Rattle.bt_history.specs.declared.event.Event.{Event}
 use Rattle.bt_history.specs.declared.rules.TheConstants.{MOST_WORKERS}
@@ -6,6 +6,8 @@ use Rattle.bt_history.specs.Setting.{Setting}
 use Rattle.bt_picker.specs.Checks.{settling}
 use Rattle.bt_picker.specs.Noted.{setting_with}
 use Rattle.bt_picker.specs.Tables.{AreTables}
+use Rattle.bt_history.specs.Epochs.{epoch}
+use Rattle.bt_picker.proofs.Epochs.{epoch_settled}
 use Rattle.bt_picker.proofs.picker.Picker.settle_waiting.Goals as goal
 
 pub invariant_of-self : goal.invariant_of-self
@@ -21,4 +23,8 @@ invariant_of-self c =
     c.then-self-inside.ensures ∙ ap (λ (e : Event). e ∷ old) same in (
       subst (AreTables c.enter_check.new.tables) (sym entries) c.enter_check.ensures.are,
       subst (λ (s : Setting). s.workers ≤ MOST_WORKERS) (sym c.enter_check.ensures.setting) c.self.invariant.1,
+      c.risen-self-inside.ensures
+          ∙ (epoch_settled inside.tables.setting old (settling inside.tables.setting old c.args.worker c.args.piece reply) inside.stirred
+          (not c.is_refusal.result) c.self.invariant.2 refl (ap not c.is_refusal.ensures)
+          ∙ (λ i. epoch (sym c.enter_check.ensures.setting i) (sym entries i) % 2 ^ 64)),
     )

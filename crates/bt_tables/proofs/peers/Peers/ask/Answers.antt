@@ -15,8 +15,9 @@ ask-requires c =
     let o = c.self.inside in
     let lw = worker_within o.rows.items o.shows _ c.args.worker c.self.view_is c.self.invariant c.requires.worker in
     let room = rw (← c.self.view_is) at c.requires.room in
+    let new = rw (← c.self.view_is) at c.requires.new in
     let row = row_of o.rows.items o.shows c.args.worker c.index_mut.result.now c.self.invariant lw c.index_mut.ensures.value in
-    rw row room
+    rw row (record { room = room; new = new })
 
 pub invariant_of-self : goal.invariant_of-self
 invariant_of-self c =

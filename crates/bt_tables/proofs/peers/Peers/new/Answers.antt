@@ -9,4 +9,4 @@ invariant_of-result c =
 
 pub returns : goal.returns
 returns c =
-    showing_fresh c.args.workers c.args.pieces _ _ c.in_ok-new_rows.ensures c.in_ok-new.ensures
+    showing_fresh c.args.workers c.args.room c.args.pieces _ _ c.in_ok-new_rows.ensures c.in_ok-new.ensures

@@ -28,3 +28,6 @@ apply-requires-clause-fits c =
 
 pub returns : goal.returns
 returns c = rw (← c.self.view_is, c.apply.ensures, c.ask.ensures) refl
+
+pub ask-requires-clause-new : goal.ask-requires-clause-new
+ask-requires-clause-new c = (rw (← c.self.view_is) at c.requires.room).new

@@ -14,10 +14,10 @@ invariant_of-self c =
     let n = length o.peers in
     let at_place = rw (← c.self.view_is) at c.requires.stored in
     let kept = same_shows o.floors o.peers (table n row) o.pieces c.self.invariant (length_table n row)
-    (λ q lq. ap (λ (r : PeerState). r.shows) (get_or_table n row q (fresh_peer 0) lq)) in
+    (λ q lq. ap (λ (r : PeerState). r.shows) (get_or_table n row q (fresh_peer 0 0) lq)) in
     rw (c.forget.ensures, c.apply.ensures)
-    (edit_stale o.floors (table n row) o.pieces p (stored_row c.args.index) kept at_place.has_piece
-    (stored_stale (piece_row o.pieces p) c.args.index at_place.has_cell))
+    (edit_stale o.floors (table n row) o.pieces p (stored_row c.args.worker c.args.index) kept at_place.has_piece
+    (stored_stale (piece_row o.pieces p) c.args.worker c.args.index at_place.has_cell))
 
 pub returns : goal.returns
 returns c = rw (← c.self.view_is, c.forget.ensures, c.apply.ensures) refl

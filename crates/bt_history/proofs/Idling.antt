@@ -1,0 +1,597 @@
+-- A peer that has nothing to be asked for stays so until the epoch rises.
+use Rattle.std.proofs.Common.{◌≡◌, ◌≢◌, ◌⊎◌, ℕ, zero, suc, ◌==◌, ◌+◌, ◌<◌, ◌≤◌, Bool, true, false, not, ◌&&◌, ◌||◌, List, [], ◌∷◌, ◌++◌, Option, None, Some}
+use Rattle.std.proofs.Common.{refl, ap, sym, ◌∙◌, arith, ⊎_elim, inl, inr, subst}
+use Rattle.std.specs.Prelude.{if◌then◌else◌, is_none, is_some, nat_lt, nat_le, unwrap_or}
+use Rattle.std.specs.List.{list_any}
+use Rattle.std.proofs.lemmas.Bool.{and_parts, and_from, and_left, and_right, or_parts, or_from, or_cases, or_left, or_right, not-true, not-false, cases_Bool}
+use Rattle.std.proofs.lemmas.Bool.{eq-eqb, eqb-true, ne_eqb, cases_eq, false≢true, ltb-true, lt-ltb}
+use Rattle.bt_meta.specs.declared.block.Block.{Block}
+use Rattle.bt_meta.specs.Layout.{Layout, piece_count, block_count, block}
+use Rattle.bt_history.specs.declared.call.Reply.{Reply}
+use Rattle.bt_history.specs.declared.call.Reply.TheVariants.{Request, Idle, NothingLeft, Refused}
+use Rattle.bt_history.specs.declared.event.Action.{Action}
+use Rattle.bt_history.specs.declared.event.Action.TheVariants.{Join, Choke, Next, Arrived, Settle, Leave, Want, Release}
+use Rattle.bt_history.specs.declared.event.Event.{Event}
+use Rattle.bt_history.specs.Counting.{any_below, count_below}
+use Rattle.bt_history.specs.Setting.{Setting, some_block, some_block_of, each_block, each_block_of, count_blocks}
+use Rattle.bt_history.specs.History.{History, counts, counted_call, own_call, same_begin, stores, stored, bytes_for, requested, requested_by, cancelled, cancelled_by}
+use Rattle.bt_history.specs.History.{failed, passed, is_failed, is_had, settles}
+use Rattle.bt_history.specs.Peers.{asked, asks, asked_count, resets, releases, lasts, shows, shows_after, is_open, is_open_after, told_depth, told_after, depth_of, due}
+use Rattle.bt_history.specs.Pieces.{kept, held, had, chosen, chosen_after, wanted, lacks, interesting, asked_of_some, asker_count, held_or_asked, unasked, endgame, begun}
+use Rattle.bt_history.specs.Next.{Answer, Exactly, usable, continues, starts, doubles, next_answer}
+use Rattle.bt_history.specs.Legal.{IsLegal, IsAllowed, place_at}
+use Rattle.bt_history.specs.Logs.{answers, call_mark}
+use Rattle.bt_history.specs.Epochs.{asked_alone, begins_endgame, epoch, is_idle, is_request, pass_by, passes_by, stirs, stores_beyond, unsettles}
+use Rattle.bt_history.proofs.Below.{any_fails, any_found, any_none, any_same, any_witness, all_at, all_found, count_at, count_short, one_if}
+use Rattle.bt_history.proofs.Allowed.{allowed_answers, worker_below}
+use Rattle.bt_history.proofs.Askers.{count_less}
+use Rattle.bt_history.proofs.HeldLaws.{asked_at, asking, stored_cases}
+use Rattle.bt_history.proofs.LineLaws.{Asks, asks_or_none}
+use Rattle.bt_history.proofs.SameBegin.{held_at}
+use Rattle.bt_history.proofs.NextCases.{next_cases, next_is}
+
+-- ---- an entry that doesn't stir
+
+-- what such an entry leaves alone
+record Calm (s : Setting) (h : History) (e : Event) : Type 0 where
+  pub resets_none : (q : ℕ) → resets (own_call q e) ≡ false
+  pub releases_none : (q : ℕ) (b : Block) → releases (own_call q e) b ≡ false
+  pub fails_none : (p : ℕ) → failed e p ≡ false
+  pub passes_none : (p : ℕ) → passed e p ≡ false
+  pub wants_same : (p : ℕ) (before : Bool) → chosen_after (counted_call e) p before ≡ before
+  pub stores_awaited : (b : Block) → is_some (stored e b) ≡ true → (asked h e.worker b ≡ true) × (asker_count s h b ≡ 1)
+  pub begins_none : (b : Block) → e.reply ≡ Request b → (not (endgame s h) && endgame s (e ∷ h)) ≡ false
+
+calm_resets : (call : Action) (x : Bool) → unsettles call ≡ false → resets (if x then Some call else None) ≡ false
+calm_resets call false is = refl
+calm_resets Join true is = absurd (cc is)
+calm_resets Choke true is = absurd (cc is)
+calm_resets Leave true is = absurd (cc is)
+calm_resets call true is = refl
+
+calm_releases : (call : Action) (x : Bool) (b : Block) → unsettles call ≡ false → releases (if x then Some call else None) b ≡ false
+calm_releases call false b is = refl
+calm_releases (Release p begin) true b is = absurd (cc is)
+calm_releases call true b is = refl
+
+calm_settles : (call : Action) (p : ℕ) → unsettles call ≡ false → settles call p ≡ false
+calm_settles (Settle r bytes) p is = absurd (cc is)
+calm_settles call p is = refl
+
+calm_wants : (call : Action) (x : Bool) (p : ℕ) (before : Bool) → unsettles call ≡ false
+    → chosen_after (if x then Some call else None) p before ≡ before
+calm_wants call false p before is = refl
+calm_wants (Want flags) true p before is = absurd (cc is)
+calm_wants call true p before is = refl
+
+-- the place of a block, whatever its length
+at_place : (p begin : ℕ) (b : Block) → ((p == b.piece) && (begin == b.begin)) ≡ true → same_begin (place_at p begin) b ≡ true
+at_place p begin b is = is
+
+-- a refused entry changes nothing
+refused_calm : (s : Setting) (h : History) (e : Event) → counts e.reply ≡ false → Calm s h e
+refused_calm s h e refused = record {
+  resets_none = λ q. ap (λ (x : Bool). resets (if x && (e.worker == q) then Some e.action else None)) refused;
+  releases_none = λ q b. ap (λ (x : Bool). releases (if x && (e.worker == q) then Some e.action else None) b) refused;
+  fails_none = λ p. and_left (is_failed e.reply) _ (none_failed e.reply refused);
+  passes_none = λ p. and_left (is_had e.reply) _ (none_had e.reply refused);
+  wants_same = λ p before. ap (λ (x : Bool). chosen_after (if x then Some e.action else None) p before) refused;
+  stores_awaited = λ b is. absurd (false≢true (sym (ap (λ (x : Bool). is_some (if x then bytes_for b e.action else None)) (none_stored e.reply refused)) ∙ is));
+  begins_none = λ b is. absurd (false≢true (sym refused ∙ ap counts is));
+} where
+  none_failed : (r : Reply) → counts r ≡ false → is_failed r ≡ false
+  none_failed (Refused reason) is = refl
+  none_failed r is = absurd (cc is)
+
+  none_had : (r : Reply) → counts r ≡ false → is_had r ≡ false
+  none_had (Refused reason) is = refl
+  none_had r is = absurd (cc is)
+
+  none_stored : (r : Reply) → counts r ≡ false → stores r ≡ false
+  none_stored (Refused reason) is = refl
+  none_stored r is = absurd (cc is)
+
+-- a stored block that its own peer alone was asked for
+awaited : (s : Setting) (h : History) (e : Event) (b : Block) (call : Action) → stores_beyond s h e call ≡ false
+    → is_some (if stores e.reply then bytes_for b call else None) ≡ true → (asked h e.worker b ≡ true) × (asker_count s h b ≡ 1)
+awaited s h e b (Arrived p begin bytes) within is = by_reply (stores e.reply) within is where
+  by_place : (x : Bool) → ((p == b.piece) && (begin == b.begin)) ≡ x → asked_alone s h e.worker p begin ≡ true
+      → is_some (if x then Some bytes else None) ≡ true → (asked h e.worker b ≡ true) × (asker_count s h b ≡ 1)
+  by_place false here alone some = absurd (cc some)
+  by_place true here alone some =
+      let parts = and_parts (asked h e.worker (place_at p begin)) (asker_count s h (place_at p begin) == 1) alone in
+      let same : (q : ℕ) → asked h q b ≡ asked h q (place_at p begin) = λ q. asked_at h q (place_at p begin) b here in
+      (same e.worker ∙ parts.0, (λ i. count_below s.workers (λ q. same q i)) ∙ eqb-true (asker_count s h (place_at p begin)) 1 parts.1)
+
+  by_reply : (x : Bool) → (x && not (asked_alone s h e.worker p begin)) ≡ false
+      → is_some (if x then bytes_for b (Arrived p begin bytes) else None) ≡ true → (asked h e.worker b ≡ true) × (asker_count s h b ≡ 1)
+  by_reply false none some = absurd (cc some)
+  by_reply true none some = by_place ((p == b.piece) && (begin == b.begin)) refl (not-false (asked_alone s h e.worker p begin) none) some
+awaited s h e b call within is = absurd (false≢true (sym (nothing (stores e.reply)) ∙ is)) where
+  nothing : (x : Bool) → is_some (if x then bytes_for b call else None) ≡ false
+  nothing true = refl
+  nothing false = refl
+
+still_calm : (s : Setting) (h : History) (e : Event) → unsettles e.action ≡ false → begins_endgame s h e ≡ false
+    → stores_beyond s h e e.action ≡ false → Calm s h e
+still_calm s h e settled begun_none within = record {
+  resets_none = λ q. calm_resets e.action (counts e.reply && (e.worker == q)) settled;
+  releases_none = λ q b. calm_releases e.action (counts e.reply && (e.worker == q)) b settled;
+  fails_none = λ p. and_right (is_failed e.reply) (settles e.action p) (calm_settles e.action p settled);
+  passes_none = λ p. and_right (is_had e.reply) (settles e.action p) (calm_settles e.action p settled);
+  wants_same = λ p before. calm_wants e.action (counts e.reply) p before settled;
+  stores_awaited = λ b is. awaited s h e b e.action within is;
+  begins_none = λ b is. sym (ap (λ (r : Reply). is_request r && (not (endgame s h) && endgame s (e ∷ h))) is) ∙ begun_none;
+}
+
+calm : (s : Setting) (h : History) (e : Event) → stirs s h e ≡ false → Calm s h e
+calm s h e quiet = by_reply (counts e.reply) refl quiet where
+  by_reply : (x : Bool) → counts e.reply ≡ x → (x && (unsettles e.action || (begins_endgame s h e || stores_beyond s h e e.action))) ≡ false
+      → Calm s h e
+  by_reply false refused none = refused_calm s h e refused
+  by_reply true counted none =
+      let parts = or_parts (unsettles e.action) (begins_endgame s h e || stores_beyond s h e e.action) none in
+      let rest = or_parts (begins_endgame s h e) (stores_beyond s h e e.action) parts.1 in
+      still_calm s h e parts.0 rest.0 rest.1
+
+-- ---- tests over all blocks
+
+some_weaker : (t : Layout) (f g : Block → Bool) → ((b : Block) → f b ≡ true → g b ≡ true) → some_block t f ≡ true → some_block t g ≡ true
+some_weaker t f g weaker is =
+    let piece = any_witness (piece_count t) (λ p. some_block_of t p f) is in
+    let at = any_witness (block_count t piece.0) (λ k. f (block t piece.0 k)) piece.2 in
+    any_found (piece_count t) (λ p. some_block_of t p g) piece.0 piece.1
+    (any_found (block_count t piece.0) (λ k. g (block t piece.0 k)) at.0 at.1 (weaker (block t piece.0 at.0) at.2))
+
+each_stronger : (t : Layout) (f g : Block → Bool) → ((b : Block) → f b ≡ true → g b ≡ true) → each_block t f ≡ true → each_block t g ≡ true
+each_stronger t f g stronger is =
+    all_found (piece_count t) (λ p. each_block_of t p g) (λ p lp.
+    all_found (block_count t p) (λ k. g (block t p k)) (λ k lk.
+    stronger (block t p k) (all_at (block_count t p) (λ j. f (block t p j)) k (all_at (piece_count t) (λ r. each_block_of t r f) p is lp) lk)))
+
+none_stronger : (t : Layout) (f g : Block → Bool) → ((b : Block) → g b ≡ true → f b ≡ true) → some_block t f ≡ false → some_block t g ≡ false
+none_stronger t f g stronger none = by_test (some_block t g) refl where
+  by_test : (x : Bool) → some_block t g ≡ x → x ≡ false
+  by_test false is = refl
+  by_test true is = absurd (false≢true (sym none ∙ some_weaker t g f stronger is))
+
+-- ---- what an allowed entry that doesn't stir leaves
+
+second : (x y : Bool) → x ≡ false → (x || y) ≡ true → y ≡ true
+second true y fails is = absurd (cc fails)
+second false y fails is = is
+
+none_is : (o : Option (List ℕ)) → is_some o ≡ false → is_none o ≡ true
+none_is None is = refl
+none_is (Some x) is = absurd (cc is)
+
+module _ (s : Setting) (h : History) (e : Event) (allowed : IsAllowed s h e) (still : Calm s h e) where
+  -- what was held is held
+  held_on : (b : Block) → held h b ≡ true → held (e ∷ h) b ≡ true
+  unfolding kept
+  held_on b is = by_test (stored e b) (failed e b.piece) (still.fails_none b.piece) where
+    by_test : (o : Option (List ℕ)) (x : Bool) → x ≡ false → is_some (if x then None else if is_some o then o else kept h b) ≡ true
+    by_test o true fails = absurd (cc fails)
+    by_test None false fails = is
+    by_test (Some bytes) false fails = refl
+
+  -- what is stored is held
+  stored_held : (b : Block) → is_some (stored e b) ≡ true → held (e ∷ h) b ≡ true
+  unfolding kept
+  stored_held b is = by_test (stored e b) (failed e b.piece) is (still.fails_none b.piece) where
+    by_test : (o : Option (List ℕ)) (x : Bool) → is_some o ≡ true → x ≡ false → is_some (if x then None else if is_some o then o else kept h b) ≡ true
+    by_test o true some fails = absurd (cc fails)
+    by_test None false some fails = absurd (cc some)
+    by_test (Some bytes) false some fails = refl
+
+  -- what isn't held now wasn't, and isn't stored
+  unheld_before : (b : Block) → held (e ∷ h) b ≡ false → held h b ≡ false
+  unheld_before b is = by_test (held h b) refl where
+    by_test : (x : Bool) → held h b ≡ x → x ≡ false
+    by_test true before = absurd (false≢true (sym is ∙ held_on b before))
+    by_test false before = refl
+
+  unstored_now : (b : Block) → held (e ∷ h) b ≡ false → is_some (stored e b) ≡ false
+  unstored_now b is = by_test (is_some (stored e b)) refl where
+    by_test : (x : Bool) → is_some (stored e b) ≡ x → x ≡ false
+    by_test true some = absurd (false≢true (sym is ∙ stored_held b some))
+    by_test false some = refl
+
+  -- what is asked of a peer, by the entry
+  asked_now : (q : ℕ) (b : Block) → asked (e ∷ h) q b ≡ ((is_none (stored e b) && asked h q b) || asks q e b)
+  unfolding asked
+  asked_now q b =
+      ap (λ (x : Bool). not x && ((lasts q e b && asked h q b) || asks q e b)) (still.resets_none q)
+      ∙ ap (λ (x : Bool). ((is_none (stored e b) && not x) && asked h q b) || asks q e b) (still.releases_none q b)
+      ∙ ap (λ (x : Bool). (x && asked h q b) || asks q e b) (and_true (is_none (stored e b)))
+    where
+      and_true : (x : Bool) → (x && true) ≡ x
+      and_true true = refl
+      and_true false = refl
+
+  -- what was asked is asked, if it isn't held now
+  asked_on : (q : ℕ) (b : Block) → held (e ∷ h) b ≡ false → asked h q b ≡ true → asked (e ∷ h) q b ≡ true
+  asked_on q b lacking is =
+      asked_now q b ∙ or_left (is_none (stored e b) && asked h q b) (asks q e b)
+      (and_from (is_none (stored e b)) (asked h q b) (none_is (stored e b) (unstored_now b lacking)) is)
+
+  -- a block is asked of no fewer peers, if it isn't held now
+  askers_on : (b : Block) → held (e ∷ h) b ≡ false → asker_count s h b ≤ asker_count s (e ∷ h) b
+  askers_on b lacking = count_less s.workers (λ q. asked h q b) (λ q. asked (e ∷ h) q b) (λ q lq is. asked_on q b lacking is)
+
+  wanted_same : (p : ℕ) → wanted s (e ∷ h) p ≡ wanted s h p
+  unfolding chosen
+  wanted_same p = ap (λ (x : Bool). nat_lt p (piece_count s.torrent) && x) (still.wants_same p (chosen h p))
+
+  had_same : (p : ℕ) → had (e ∷ h) p ≡ had h p
+  unfolding had
+  had_same p = ap (λ (x : Bool). x || had h p) (still.passes_none p)
+
+  -- what was held or asked is so
+  touched_on : (b : Block) → held_or_asked s h b ≡ true → held_or_asked s (e ∷ h) b ≡ true
+  touched_on b is = by_held (held (e ∷ h) b) refl where
+    by_held : (x : Bool) → held (e ∷ h) b ≡ x → held_or_asked s (e ∷ h) b ≡ true
+    by_held true now = or_left (held (e ∷ h) b) (asked_of_some s (e ∷ h) b) now
+    by_held false now =
+        let some : asked_of_some s h b ≡ true = second (held h b) (asked_of_some s h b) (unheld_before b now) is in
+        let found = any_witness s.workers (λ q. asked h q b) some in
+        or_right (held (e ∷ h) b) (asked_of_some s (e ∷ h) b)
+        (any_found s.workers (λ q. asked (e ∷ h) q b) found.0 found.1 (asked_on found.0 b now found.2))
+
+  -- what is held now and wasn't is stored
+  newly_held : (b : Block) → held h b ≡ false → held (e ∷ h) b ≡ true → is_some (stored e b) ≡ true
+  unfolding kept
+  newly_held b lacking holds = by_test (stored e b) (failed e b.piece) holds where
+    by_test : (o : Option (List ℕ)) (x : Bool) → is_some (if x then None else if is_some o then o else kept h b) ≡ true → is_some o ≡ true
+    by_test o true none = absurd (cc none)
+    by_test None false some = absurd (false≢true (sym lacking ∙ some))
+    by_test (Some bytes) false some = refl
+
+  -- a block that nobody was asked for is not held now
+  fresh_held : (b : Block) → held_or_asked s h b ≡ false → held (e ∷ h) b ≡ true → ⊥
+  fresh_held b none holds =
+      let parts = or_parts (held h b) (asked_of_some s h b) none in
+      let asked_one = (still.stores_awaited b (newly_held b parts.0 holds)).0 in
+      false≢true (sym (any_fails s.workers (λ w. asked h w b) e.worker parts.1 (worker_below s h e allowed)) ∙ asked_one)
+
+  -- nor is it asked of somebody, where an endgame came that wasn't: the entry would have begun it
+  fresh_asked : endgame s (e ∷ h) ≡ true → endgame s h ≡ false → (b : Block) → held_or_asked s h b ≡ false → asked_of_some s (e ∷ h) b ≡ true → ⊥
+  fresh_asked now older b none some =
+      let parts = or_parts (held h b) (asked_of_some s h b) none in
+      let found = any_witness s.workers (λ q. asked (e ∷ h) q b) some in
+      let q = found.0 in
+      let before : asked h q b ≡ false = any_fails s.workers (λ w. asked h w b) q parts.1 found.1 in
+      let asks_it : asks q e b ≡ true =
+      second (is_none (stored e b) && asked h q b) (asks q e b) (and_right (is_none (stored e b)) (asked h q b) before) (sym (asked_now q b) ∙ found.2) in
+      let request = asking q e b asks_it in
+      false≢true (sym (still.begins_none request.0 request.1.reply) ∙ and_from (not (endgame s h)) (endgame s (e ∷ h)) (ap not older) now)
+
+  -- what is held or asked in such an endgame was so
+  touched_before : endgame s (e ∷ h) ≡ true → endgame s h ≡ false → (b : Block) → held_or_asked s (e ∷ h) b ≡ true → held_or_asked s h b ≡ true
+  touched_before now older b touched = by_before (held_or_asked s h b) refl where
+    by_before : (y : Bool) → held_or_asked s h b ≡ y → y ≡ true
+    by_before true before = refl
+    by_before false before = absurd (⊎_elim
+        (λ (holds : held (e ∷ h) b ≡ true). fresh_held b before holds)
+        (λ (some : asked_of_some s (e ∷ h) b ≡ true). fresh_asked now older b before some)
+        (or_cases (held (e ∷ h) b) (asked_of_some s (e ∷ h) b) touched))
+
+  lacking_before : (b : Block) → (wanted s (e ∷ h) b.piece && not (held (e ∷ h) b)) ≡ true → (wanted s h b.piece && not (held h b)) ≡ true
+  lacking_before b is =
+      let both = and_parts (wanted s (e ∷ h) b.piece) (not (held (e ∷ h) b)) is in
+      and_from (wanted s h b.piece) (not (held h b)) (sym (wanted_same b.piece) ∙ both.0)
+      (ap not (unheld_before b (not-true (held (e ∷ h) b) both.1)))
+
+  each_before : endgame s (e ∷ h) ≡ true → endgame s h ≡ false → (b : Block) → (not (wanted s (e ∷ h) b.piece) || held_or_asked s (e ∷ h) b) ≡ true
+      → (not (wanted s h b.piece) || held_or_asked s h b) ≡ true
+  each_before now older b is =
+      by_wanted (wanted s h b.piece) (sym (ap (λ (x : Bool). not x || held_or_asked s (e ∷ h) b) (wanted_same b.piece)) ∙ is) where
+        by_wanted : (x : Bool) → (not x || held_or_asked s (e ∷ h) b) ≡ true → (not x || held_or_asked s h b) ≡ true
+        by_wanted false touched = refl
+        by_wanted true touched = touched_before now older b touched
+
+  -- an endgame now was one before
+  endgame_before : endgame s (e ∷ h) ≡ true → endgame s h ≡ true
+  endgame_before now = by_before (endgame s h) refl where
+    parts : (each_block s.torrent (λ b. not (wanted s (e ∷ h) b.piece) || held_or_asked s (e ∷ h) b) ≡ true)
+        × (some_block s.torrent (λ b. wanted s (e ∷ h) b.piece && not (held (e ∷ h) b)) ≡ true)
+    parts = and_parts (each_block s.torrent (λ b. not (wanted s (e ∷ h) b.piece) || held_or_asked s (e ∷ h) b))
+        (some_block s.torrent (λ b. wanted s (e ∷ h) b.piece && not (held (e ∷ h) b))) now
+
+    by_before : (x : Bool) → endgame s h ≡ x → x ≡ true
+    by_before true older = refl
+    by_before false older =
+        sym older ∙ and_from (each_block s.torrent (λ b. not (wanted s h b.piece) || held_or_asked s h b))
+        (some_block s.torrent (λ b. wanted s h b.piece && not (held h b)))
+        (each_stronger s.torrent (λ b. not (wanted s (e ∷ h) b.piece) || held_or_asked s (e ∷ h) b)
+        (λ b. not (wanted s h b.piece) || held_or_asked s h b) (each_before now older) parts.0)
+        (some_weaker s.torrent (λ b. wanted s (e ∷ h) b.piece && not (held (e ∷ h) b)) (λ b. wanted s h b.piece && not (held h b)) lacking_before
+        parts.1)
+
+-- ---- a peer that the entry tells nothing of
+
+-- only Next is answered so
+idle_next : (call : Action) (r : Reply) → is_idle r ≡ true → answers (call_mark call) r ≡ true → (word : ℕ) × (call ≡ Next word)
+idle_next call Idle is fits = by_call call fits where
+  by_call : (a : Action) → answers (call_mark a) Idle ≡ true → (word : ℕ) × (a ≡ Next word)
+  by_call (Next word) fits = (word, refl)
+  by_call _ fits = absurd (cc fits)
+idle_next call NothingLeft is fits = by_call call fits where
+  by_call : (a : Action) → answers (call_mark a) NothingLeft ≡ true → (word : ℕ) × (a ≡ Next word)
+  by_call (Next word) fits = (word, refl)
+  by_call _ fits = absurd (cc fits)
+idle_next call r is fits = absurd (cc is)
+
+-- it asked nothing, cancelled nothing and stored nothing
+idle_asks : (r : Reply) → is_idle r ≡ true → requested_by r ≡ []
+idle_asks Idle is = refl
+idle_asks NothingLeft is = refl
+idle_asks r is = absurd (cc is)
+
+idle_cancels : (r : Reply) (b : Block) → is_idle r ≡ true → cancelled_by r b ≡ false
+idle_cancels Idle b is = refl
+idle_cancels NothingLeft b is = refl
+idle_cancels r b is = absurd (cc is)
+
+idle_stores : (r : Reply) → is_idle r ≡ true → stores r ≡ false
+idle_stores Idle is = refl
+idle_stores NothingLeft is = refl
+idle_stores r is = absurd (cc is)
+
+refused_asks : (r : Reply) → counts r ≡ false → requested_by r ≡ []
+refused_asks (Refused reason) is = refl
+refused_asks r is = absurd (cc is)
+
+refused_cancels : (r : Reply) (b : Block) → counts r ≡ false → cancelled_by r b ≡ false
+refused_cancels (Refused reason) b is = refl
+refused_cancels r b is = absurd (cc is)
+
+refused_stores : (r : Reply) → counts r ≡ false → stores r ≡ false
+refused_stores (Refused reason) is = refl
+refused_stores r is = absurd (cc is)
+
+-- what the entry leaves of q
+record Silent (h : History) (e : Event) (q : ℕ) : Type 0 where
+  pub call : (own_call q e ≡ None) ⊎ ((word : ℕ) × (own_call q e ≡ Some (Next word)))
+  pub asks_none : requested q e ≡ []
+  pub cancels_none : (b : Block) → cancelled q e b ≡ false
+  pub stores_none : (b : Block) → is_some (stored e b) ≡ true → asked h q b ≡ false
+
+both : (n : ℕ) (f : ℕ → Bool) → count_below n f + count_below n (λ j. not (f j)) ≡ n
+both zero f = refl
+both (suc n) f = by_last (f n) (both n f) where
+  by_last : (x : Bool) → count_below n f + count_below n (λ j. not (f j)) ≡ n
+      → count_below n f + (if x then 1 else 0) + (count_below n (λ j. not (f j)) + (if not x then 1 else 0)) ≡ suc n
+  by_last true rest = omega (arith, rest)
+  by_last false rest = omega (arith, rest)
+
+none_left : (n : ℕ) (f : ℕ → Bool) → count_below n f ≡ 0 → (k : ℕ) → k < n → f k ≡ false
+none_left n f none k lk = by_value (f k) refl where
+  by_value : (x : Bool) → f k ≡ x → x ≡ false
+  by_value false is = refl
+  by_value true is = absurd (let short = count_short n (λ j. not (f j)) k lk (ap not is) in
+      let whole = both n f in omega (arith, short, none, whole))
+
+-- where just one number passes a test, no other does
+one_alone : (n : ℕ) (test : ℕ → Bool) (w q : ℕ) → w < n → q < n → q ≢ w → test w ≡ true → count_below n test ≡ 1 → test q ≡ false
+one_alone n test w q lw lq apart here one = by_test (test q) refl where
+  without : ℕ → Bool
+  without k = if k == w then false else test k
+
+  by_test : (x : Bool) → test q ≡ x → x ≡ false
+  by_test false is = refl
+  by_test true is =
+      let at = count_at n test without w lw (λ k lk other. sym (ap (λ (x : Bool). if x then false else test k) (ne_eqb k w other))) in
+      let zero_w : without w ≡ false = ap (λ (x : Bool). if x then false else test w) (eq-eqb w w refl) in
+      let one_q : without q ≡ true = ap (λ (x : Bool). if x then false else test q) (ne_eqb q w apart) ∙ is in
+      absurd (false≢true (sym (none_left n without (omega (arith, at, one, ap one_if here, ap one_if zero_w)) q lq) ∙ one_q))
+
+silent : (s : Setting) (h : History) (e : Event) (q : ℕ) → IsAllowed s h e → Calm s h e → q < s.workers → passes_by q e ≡ true → Silent h e q
+silent s h e q allowed still lq is = ⊎_elim
+    (λ (refused : not (counts e.reply) ≡ true).
+    let none = not-true (counts e.reply) refused in record {
+      call = inl (ap (λ (x : Bool). if x && (e.worker == q) then Some e.action else None) none);
+      asks_none = nothing (e.worker == q) (requested_by e.reply) (refused_asks e.reply none);
+      cancels_none = λ b. and_right (e.worker == q) (cancelled_by e.reply b) (refused_cancels e.reply b none);
+      stores_none = λ b some. absurd (false≢true (sym (unstored e b (refused_stores e.reply none)) ∙ some));
+    })
+    (λ rest. ⊎_elim
+    (λ (other : not (e.worker == q) ≡ true).
+    let apart = not-true (e.worker == q) other in record {
+      call = inl (ap (λ (x : Bool). if x then Some e.action else None) (and_right (counts e.reply) (e.worker == q) apart));
+      asks_none = ap (λ (x : Bool). if x then requested_by e.reply else []) apart;
+      cancels_none = λ b. and_left (e.worker == q) (cancelled_by e.reply b) apart;
+      stores_none = λ b some.
+          let awaited_by = still.stores_awaited b some in
+          one_alone s.workers (λ w. asked h w b) e.worker q (worker_below s h e allowed) lq
+          (λ same. false≢true (sym apart ∙ eq-eqb e.worker q (sym same))) awaited_by.0 awaited_by.1;
+    })
+    (λ (nothing_to_ask : is_idle e.reply ≡ true).
+    let next = idle_next e.action e.reply nothing_to_ask (allowed_answers s h e allowed) in record {
+      call = by_own (counts e.reply && (e.worker == q)) e.action next.0 next.1;
+      asks_none = nothing (e.worker == q) (requested_by e.reply) (idle_asks e.reply nothing_to_ask);
+      cancels_none = λ b. and_right (e.worker == q) (cancelled_by e.reply b) (idle_cancels e.reply b nothing_to_ask);
+      stores_none = λ b some. absurd (false≢true (sym (unstored e b (idle_stores e.reply nothing_to_ask)) ∙ some));
+    })
+    (or_cases (not (e.worker == q)) (is_idle e.reply) rest))
+    (or_cases (not (counts e.reply)) (not (e.worker == q) || is_idle e.reply) is)
+  where
+    nothing : (x : Bool) (bs : List Block) → bs ≡ [] → (if x then bs else []) ≡ []
+    nothing true bs none = none
+    nothing false bs none = refl
+
+    unstored : (e : Event) (b : Block) → stores e.reply ≡ false → is_some (stored e b) ≡ false
+    unstored e b none = ap (λ (x : Bool). is_some (if x then bytes_for b e.action else None)) none
+
+    by_own : (x : Bool) (call : Action) (word : ℕ) → call ≡ Next word
+        → ((if x then Some call else None) ≡ None) ⊎ ((v : ℕ) × ((if x then Some call else None) ≡ Some (Next v)))
+    by_own false call word is = inl refl
+    by_own true call word is = inr (word, ap Some is)
+
+-- ---- the answer stays
+
+after_call : (call : Option Action) → (call ≡ None) ⊎ ((word : ℕ) × (call ≡ Some (Next word))) → (p : ℕ) (before : Bool)
+    → shows_after call p before ≡ before
+after_call call which p before = ⊎_elim
+    (λ (none : call ≡ None). ap (λ (c : Option Action). shows_after c p before) none)
+    (λ (next : (word : ℕ) × (call ≡ Some (Next word))). ap (λ (c : Option Action). shows_after c p before) next.1)
+    which
+
+open_after : (call : Option Action) → (call ≡ None) ⊎ ((word : ℕ) × (call ≡ Some (Next word))) → (before : Bool) → is_open_after call before ≡ before
+open_after call which before = ⊎_elim
+    (λ (none : call ≡ None). ap (λ (c : Option Action). is_open_after c before) none)
+    (λ (next : (word : ℕ) × (call ≡ Some (Next word))). ap (λ (c : Option Action). is_open_after c before) next.1)
+    which
+
+depth_after : (call : Option Action) → (call ≡ None) ⊎ ((word : ℕ) × (call ≡ Some (Next word))) → (before : Option ℕ) → told_after call before ≡ before
+depth_after call which before = ⊎_elim
+    (λ (none : call ≡ None). ap (λ (c : Option Action). told_after c before) none)
+    (λ (next : (word : ℕ) × (call ≡ Some (Next word))). ap (λ (c : Option Action). told_after c before) next.1)
+    which
+
+-- what an answer that there is nothing shows of the tests
+record NothingToAsk (has_due is_in full goes_on starts_one doubles_one waits : Bool) (reply : Reply) : Type 0 where
+  pub due : has_due ≡ false
+  pub opened : is_in ≡ true
+  pub room : full ≡ false
+  pub on : goes_on ≡ false
+  pub first : starts_one ≡ false
+  pub again : doubles_one ≡ false
+  pub says : (if waits then Idle else NothingLeft) ≡ reply
+
+nothing_to_ask : (has_due opened full goes_on starts_one doubles_one waits : Bool) (cancels ons firsts seconds : Block → Bool) (reply : Reply)
+    → is_idle reply ≡ true → next_cases has_due opened full goes_on starts_one doubles_one waits cancels ons firsts seconds ≡ Exactly reply
+    → NothingToAsk has_due opened full goes_on starts_one doubles_one waits reply
+unfolding next_cases
+nothing_to_ask true _ _ _ _ _ _ cancels ons firsts seconds reply idle is = absurd (cc is)
+nothing_to_ask false false _ _ _ _ _ cancels ons firsts seconds reply idle is = absurd (cc (is, idle))
+nothing_to_ask false true true _ _ _ _ cancels ons firsts seconds reply idle is = absurd (cc (is, idle))
+nothing_to_ask false true false true _ _ _ cancels ons firsts seconds reply idle is = absurd (cc is)
+nothing_to_ask false true false false true _ _ cancels ons firsts seconds reply idle is = absurd (cc is)
+nothing_to_ask false true false false false true _ cancels ons firsts seconds reply idle is = absurd (cc is)
+nothing_to_ask false true false false false false true cancels ons firsts seconds reply idle is =
+    record { due = refl; opened = refl; room = refl; on = refl; first = refl; again = refl; says = cc is }
+nothing_to_ask false true false false false false false cancels ons firsts seconds reply idle is =
+    record { due = refl; opened = refl; room = refl; on = refl; first = refl; again = refl; says = cc is }
+
+module _ (s : Setting) (h : History) (e : Event) (q : ℕ) (allowed : IsAllowed s h e) (still : Calm s h e) (quiet : Silent h e q) where
+  asked_same : (b : Block) → asked (e ∷ h) q b ≡ asked h q b
+  asked_same b =
+      asked_now s h e allowed still q b
+      ∙ ap (λ (bs : List Block). (is_none (stored e b) && asked h q b) || list_any (λ a. same_begin a b) bs) quiet.asks_none
+      ∙ by_stored (stored e b) (asked h q b) (quiet.stores_none b)
+    where
+      by_stored : (o : Option (List ℕ)) (x : Bool) → (is_some o ≡ true → x ≡ false) → ((is_none o && x) || false) ≡ x
+      by_stored None true none = refl
+      by_stored None false none = refl
+      by_stored (Some bytes) x none = sym (none refl)
+
+  due_same : (b : Block) → due (e ∷ h) q b ≡ due h q b
+  unfolding due
+  due_same b =
+      (λ i. not (still.resets_none q i) && (not (quiet.cancels_none b i) && (due h q b || (is_some (stored e b) && (not (e.worker == q) && asked h q b)))))
+      ∙ by_stored (due h q b) (stored e b) (not (e.worker == q)) (asked h q b) (quiet.stores_none b)
+    where
+      by_stored : (d : Bool) (o : Option (List ℕ)) (w x : Bool) → (is_some o ≡ true → x ≡ false) → (d || (is_some o && (w && x))) ≡ d
+      by_stored true o w x none = refl
+      by_stored false None w x none = refl
+      by_stored false (Some bytes) w x none = and_right w x (none refl)
+
+  shows_same : (p : ℕ) → shows (e ∷ h) q p ≡ shows h q p
+  unfolding shows
+  shows_same p = after_call (own_call q e) quiet.call p (shows h q p)
+
+  open_same : is_open (e ∷ h) q ≡ is_open h q
+  unfolding is_open
+  open_same = open_after (own_call q e) quiet.call (is_open h q)
+
+  depth_same : depth_of s (e ∷ h) q ≡ depth_of s h q
+  unfolding told_depth
+  depth_same = ap (λ (o : Option ℕ). unwrap_or o s.depth) (depth_after (own_call q e) quiet.call (told_depth h q))
+
+  usable_before : (b : Block) → usable s (e ∷ h) q b ≡ true → usable s h q b ≡ true
+  usable_before b is =
+      let parts = and_parts (unasked s (e ∷ h) b) (wanted s (e ∷ h) b.piece && shows (e ∷ h) q b.piece) is in
+      and_from (unasked s h b) (wanted s h b.piece && shows h q b.piece)
+      (by_touched (held_or_asked s h b) refl (not-true (held_or_asked s (e ∷ h) b) parts.0))
+      (sym (λ i. wanted_same s h e allowed still b.piece i && shows_same b.piece i) ∙ parts.1)
+    where
+      by_touched : (x : Bool) → held_or_asked s h b ≡ x → held_or_asked s (e ∷ h) b ≡ false → not x ≡ true
+      by_touched true was none = absurd (false≢true (sym none ∙ touched_on s h e allowed still b was))
+      by_touched false was none = refl
+
+  doubles_before : (b : Block) → doubles s (e ∷ h) q b ≡ true → doubles s h q b ≡ true
+  doubles_before b is =
+      let wants = and_parts (wanted s (e ∷ h) b.piece) _ is in
+      let shown = and_parts (shows (e ∷ h) q b.piece) _ wants.1 in
+      let lacking = and_parts (not (held (e ∷ h) b)) _ shown.1 in
+      let few = and_parts (nat_lt (asker_count s (e ∷ h) b) s.askers) (not (asked (e ∷ h) q b)) lacking.1 in
+      let unheld = not-true (held (e ∷ h) b) lacking.0 in
+      let less = ltb-true (asker_count s (e ∷ h) b) s.askers few.0 in
+      let most = askers_on s h e allowed still b unheld in
+      and_from (wanted s h b.piece) _ (sym (wanted_same s h e allowed still b.piece) ∙ wants.0)
+      (and_from (shows h q b.piece) _ (sym (shows_same b.piece) ∙ shown.0)
+      (and_from (not (held h b)) _ (ap not (unheld_before s h e allowed still b unheld))
+      (and_from (nat_lt (asker_count s h b) s.askers) (not (asked h q b)) (lt-ltb (asker_count s h b) s.askers (omega (arith, less, most)))
+      (ap not (sym (asked_same b)) ∙ few.1))))
+
+  idle_step : (reply : Reply) → is_idle reply ≡ true → next_answer s h q ≡ Exactly reply → next_answer s (e ∷ h) q ≡ Exactly reply
+  unfolding next_cases
+  idle_step reply idle is =
+      let facts = nothing_to_ask _ _ _ _ _ _ _ (due h q) (continues s h q) (starts s h q) (doubles s h q) reply idle (sym (next_is s h q) ∙ is) in
+      let none_due : some_block s.torrent (due (e ∷ h) q) ≡ false = (λ i. some_block s.torrent (λ b. due_same b i)) ∙ facts.due in
+      let room : nat_le (depth_of s (e ∷ h) q) (asked_count s (e ∷ h) q) ≡ false =
+      (λ i. nat_le (depth_same i) (count_blocks s.torrent (λ b. asked_same b i))) ∙ facts.room in
+      let first : some_block s.torrent (usable s (e ∷ h) q) ≡ false =
+      none_stronger s.torrent (usable s h q) (usable s (e ∷ h) q) usable_before facts.first in
+      let on : some_block s.torrent (continues s (e ∷ h) q) ≡ false =
+      none_stronger s.torrent (usable s (e ∷ h) q) (continues s (e ∷ h) q)
+      (λ b both. (and_parts (usable s (e ∷ h) q b) (begun s (e ∷ h) b.piece) both).0) first in
+      let again : (endgame s (e ∷ h) && some_block s.torrent (doubles s (e ∷ h) q)) ≡ false = none_again facts.again in
+      let waits : interesting s (e ∷ h) q ≡ interesting s h q =
+      λ i. any_below (piece_count s.torrent) (λ p. wanted_same s h e allowed still p i && (shows_same p i && not (had_same s h e allowed still p i))) in
+      rw (next_is s (e ∷ h) q, none_due, open_same ∙ facts.opened, room, on, first, again, waits) (by_waits (interesting s h q) facts.says)
+    where
+      none_again : (endgame s h && some_block s.torrent (doubles s h q)) ≡ false
+          → (endgame s (e ∷ h) && some_block s.torrent (doubles s (e ∷ h) q)) ≡ false
+      none_again none = by_test (endgame s (e ∷ h)) refl where
+        by_test : (x : Bool) → endgame s (e ∷ h) ≡ x → (x && some_block s.torrent (doubles s (e ∷ h) q)) ≡ false
+        by_test false now = refl
+        by_test true now =
+            none_stronger s.torrent (doubles s h q) (doubles s (e ∷ h) q) doubles_before
+            (sym (ap (λ (x : Bool). x && some_block s.torrent (doubles s h q)) (endgame_before s h e allowed still now)) ∙ none)
+
+      by_waits : (x : Bool) → (if x then Idle else NothingLeft) ≡ reply → (if x then Exactly Idle else Exactly NothingLeft) ≡ Exactly reply
+      by_waits true says = ap Exactly says
+      by_waits false says = ap Exactly says
+
+-- ---- over entries
+
+-- an entry that doesn't raise the epoch, and tells nothing of q, leaves the answer that there is nothing to ask of q
+pub idle_stays : (s : Setting) (h : History) (e : Event) (q : ℕ) (reply : Reply) → IsAllowed s h e → q < s.workers → is_idle reply ≡ true
+    → passes_by q e ≡ true → stirs s h e ≡ false → next_answer s h q ≡ Exactly reply → next_answer s (e ∷ h) q ≡ Exactly reply
+idle_stays s h e q reply allowed lq idle by quiet is =
+    let still = calm s h e quiet in
+    idle_step s h e q allowed still (silent s h e q allowed still lq by) reply idle is
+
+-- the epoch never falls
+epoch_rises : (s : Setting) (newer h : History) → epoch s h ≤ epoch s (newer ++ h)
+unfolding epoch
+epoch_rises s [] h = omega arith
+epoch_rises s (e ∷ newer) h = (let rest = epoch_rises s newer h in omega (arith, rest))
+
+-- nor do these entries, however many
+pub idle_lasts : (s : Setting) (newer h : History) (q : ℕ) (reply : Reply) → IsLegal s (newer ++ h) → q < s.workers → is_idle reply ≡ true
+    → pass_by q newer ≡ true → epoch s (newer ++ h) ≡ epoch s h → next_answer s h q ≡ Exactly reply → next_answer s (newer ++ h) q ≡ Exactly reply
+unfolding epoch pass_by
+idle_lasts s [] h q reply legal lq idle by same is = is
+idle_lasts s (e ∷ newer) h q reply legal lq idle by same is =
+    let parts = and_parts (passes_by q e) (pass_by q newer) by in
+    let rises = epoch_rises s newer h in
+    let step = by_test (stirs s (newer ++ h) e) same rises in
+    idle_stays s (newer ++ h) e q reply legal.1 lq idle parts.0 step.0 (idle_lasts s newer h q reply legal.0 lq idle parts.1 step.1 is)
+  where
+    by_test : (x : Bool) → epoch s (newer ++ h) + (if x then 1 else 0) ≡ epoch s h → epoch s h ≤ epoch s (newer ++ h)
+        → (x ≡ false) × (epoch s (newer ++ h) ≡ epoch s h)
+    by_test false same rises = (refl, omega (arith, same))
+    by_test true same rises = absurd (omega (arith, same, rises))

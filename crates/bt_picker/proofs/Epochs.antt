@@ -1,0 +1,75 @@
+-- The epoch after one entry more.
+use Rattle.std.proofs.Common.{◌≡◌, ℕ, ◌==◌, ◌+◌, ◌%◌, ◌^◌, Bool, true, false, not, ◌&&◌, ◌||◌, List, [], ◌∷◌, refl, ap, sym, ◌∙◌}
+use Rattle.std.specs.Prelude.{if◌then◌else◌}
+use Rattle.std.proofs.Math.Nat.{mod-add-mod}
+use Rattle.bt_history.specs.declared.call.Reply.{Reply}
+use Rattle.bt_history.specs.declared.call.Reply.TheVariants.{Request}
+use Rattle.bt_history.specs.declared.event.Event.{Event}
+use Rattle.bt_history.specs.Epochs.{asked_alone, begins_endgame, epoch, is_request, stirs, stores_beyond, unsettles}
+use Rattle.bt_meta.specs.declared.block.Block.{Block}
+use Rattle.bt_history.specs.Counting.{count_below}
+use Rattle.bt_history.specs.History.{History, counts, same_begin}
+use Rattle.bt_history.specs.Legal.{place_at}
+use Rattle.bt_history.specs.Peers.{asked}
+use Rattle.bt_history.specs.Pieces.{asker_count, endgame}
+use Rattle.bt_history.specs.Setting.{Setting}
+use Rattle.bt_history.proofs.HeldLaws.{asked_at}
+
+pub epoch_more : (s : Setting) (h : History) (e : Event) (x : Bool) → x ≡ stirs s h e
+    → (epoch s h % 2 ^ 64 + (if x then 1 else 0)) % 2 ^ 64 ≡ epoch s (e ∷ h) % 2 ^ 64
+unfolding epoch
+epoch_more s h e x is =
+    mod-add-mod (epoch s h) (2 ^ 64) (if x then 1 else 0) ∙ ap (λ (y : Bool). (epoch s h + (if y then 1 else 0)) % 2 ^ 64) is
+
+-- the parts that a picker tells apart
+pub stirs_parts : (s : Setting) (h : History) (e : Event) → ((counts e.reply && (unsettles e.action || stores_beyond s h e e.action))
+    || begins_endgame s h e) ≡ stirs s h e
+stirs_parts s h e = by_cases (counts e.reply) (is_request e.reply) (unsettles e.action) (stores_beyond s h e e.action) (not (endgame s h) && endgame s (e ∷ h))
+    (counted e.reply) where
+      counted : (r : Reply) → is_request r ≡ true → counts r ≡ true
+      counted (Request b) is = refl
+      counted r is = absurd (cc is)
+
+      by_cases : (c r u b g : Bool) → (r ≡ true → c ≡ true) → ((c && (u || b)) || (r && g)) ≡ (c && (u || ((r && g) || b)))
+      by_cases true r true b g both = refl
+      by_cases true true false true true both = refl
+      by_cases true true false true false both = refl
+      by_cases true true false false true both = refl
+      by_cases true true false false false both = refl
+      by_cases true false false true g both = refl
+      by_cases true false false false g both = refl
+      by_cases false true u b g both = absurd (cc (both refl))
+      by_cases false false u b g both = refl
+
+-- a block is asked of its peer alone where its place is
+pub alone_at : (s : Setting) (h : History) (w p begin : ℕ) (b : Block) → same_begin (place_at p begin) b ≡ true
+    → asked_alone s h w p begin ≡ (asked h w b && (asker_count s h b == 1))
+alone_at s h w p begin b at =
+    let same : (q : ℕ) → asked h q (place_at p begin) ≡ asked h q b = λ q. sym (asked_at h q (place_at p begin) b at) in
+    λ i. same w i && (count_below s.workers (λ q. same q i) == 1)
+
+-- after a check the number rises, where it counts
+pub epoch_settled : (s : Setting) (h : History) (e : Event) (number : ℕ) (x : Bool) → number ≡ epoch s h % 2 ^ 64 → unsettles e.action ≡ true
+    → x ≡ not (not (counts e.reply)) → (number + (if x then 1 else 0)) % 2 ^ 64 ≡ epoch s (e ∷ h) % 2 ^ 64
+epoch_settled s h e number x is settles counted =
+    ap (λ (n : ℕ). (n + (if x then 1 else 0)) % 2 ^ 64) is
+    ∙ epoch_more s h e x (counted ∙ (not-not (counts e.reply) ∙ sym (ap (λ (y : Bool). counts e.reply && (y || (begins_endgame s h e || stores_beyond s h e e.action))) settles
+    ∙ and_one (counts e.reply))))
+  where
+    not-not : (y : Bool) → not (not y) ≡ y
+    not-not true = refl
+    not-not false = refl
+
+    and_one : (y : Bool) → (y && true) ≡ y
+    and_one true = refl
+    and_one false = refl
+
+-- after what a worker told it rises, where that stirs
+pub epoch_told : (s : Setting) (h : History) (e : Event) (number : ℕ) (x : Bool) → number ≡ epoch s h % 2 ^ 64 → x ≡ stirs s h e
+    → (number + (if x then 1 else 0)) % 2 ^ 64 ≡ epoch s (e ∷ h) % 2 ^ 64
+epoch_told s h e number x is stirred = ap (λ (n : ℕ). (n + (if x then 1 else 0)) % 2 ^ 64) is ∙ epoch_more s h e x stirred
+
+-- it begins at 0
+pub epoch_none : (s : Setting) → 0 ≡ epoch s [] % 2 ^ 64
+unfolding epoch
+epoch_none s = refl

@@ -1,0 +1,51 @@
+//! Whether an entry may change what is answered to a peer that had nothing to be asked for.
+
+ghost use Rattle.std.specs.Prelude.{◌≡◌, ◌<◌, ◌==◌, ◌&&◌, ◌||◌, true};
+ghost use Rattle.bt_meta.specs.Layout.{piece_count};
+ghost use Rattle.bt_history.specs.Epochs.{asked_alone, stores_beyond, unsettles};
+ghost use Rattle.bt_history.specs.History.{counts};
+ghost use Rattle.bt_history.specs.Legal.{IsAllowed};
+ghost use Rattle.bt_history.specs.Setting.{some_block_of};
+ghost use Rattle.bt_picker.specs.Told.{action_told, telling};
+
+use crate::position::Position;
+use crate::told::Told;
+use bt_history::Reply;
+
+impl<'a> Position<'a> {
+    /// Whether the block that begins there is asked of the worker's peer, and of no other.
+    fn is_asked_alone(&self, worker: u32, piece: u32, begin: u32) -> bool
+        requires worker { worker < self.now.setting.workers }
+        requires piece { piece < piece_count self.now.setting.torrent }
+        requires begin { some_block_of self.now.setting.torrent piece (λ b. b.begin == begin) ≡ true }
+        ensures { result ≡ asked_alone self.now.setting self.now.history worker piece begin }
+    {
+        let index = self.index_at(piece, begin);
+        self.asks(worker, &self.block(piece, index)) && self.asker_count(piece, index) == 1
+    }
+
+    /// Whether what is told, with this reply, frees blocks, changes what is wanted, or stores a block of which not its own peer alone was asked.
+    #[inline(always)]
+    pub fn stirs(&self, worker: u32, told: &Told<'_>, reply: Reply) -> bool
+        requires worker { worker < self.now.setting.workers }
+        requires allowed { IsAllowed self.now.setting self.now.history (telling worker told.now reply) }
+        ensures { result ≡ (counts reply && (unsettles (action_told told.now)
+            || stores_beyond self.now.setting self.now.history (telling worker told.now reply) (action_told told.now))) }
+    {
+        if reply.is_refusal() {
+            return false;
+        }
+        match told {
+            Told::Join | Told::Choke | Told::Leave | Told::Want(_) | Told::Release { .. } => true,
+            Told::Arrived { piece, begin, .. } => {
+                reply.is_stored() && !self.is_asked_alone(worker, *piece, *begin)
+            }
+            Told::Bits(_)
+            | Told::Have(_)
+            | Told::Haves(_)
+            | Told::Unchoke
+            | Told::Depth(_)
+            | Told::Next(_) => false,
+        }
+    }
+}
