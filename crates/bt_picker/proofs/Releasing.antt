@@ -1,5 +1,5 @@
 -- The tables after a block is given up are those of the history with that.
-use Rattle.std.proofs.Common.{◌≡◌, ℕ, ◌==◌, ◌+◌, ◌-◌, ◌<◌, Bool, true, false, not, ◌&&◌, ◌||◌, List, [], ◌∷◌, refl, ap, sym, ◌∙◌, arith, ⊎_elim}
+use Rattle.std.proofs.Common.{◌≡◌, ℕ, ◌+◌, ◌-◌, ◌<◌, Bool, true, false, not, ◌&&◌, List, [], ◌∷◌, refl, ap, sym, ◌∙◌, arith, ⊎_elim}
 use Rattle.std.proofs.lemmas.Bool.{or_cases, false≢true}
 use Rattle.bt_meta.specs.declared.block.Block.{Block}
 use Rattle.bt_meta.specs.Layout.{Layout, piece_count}
@@ -7,7 +7,7 @@ use Rattle.bt_history.specs.declared.call.Reply.TheVariants.{Quiet}
 use Rattle.bt_history.specs.declared.event.Action.TheVariants.{Release}
 use Rattle.bt_history.specs.declared.event.Event.{Event}
 use Rattle.bt_history.specs.Counting.{table}
-use Rattle.bt_history.specs.Setting.{Setting, is_block}
+use Rattle.bt_history.specs.Setting.{is_block}
 use Rattle.bt_history.specs.History.{History, same_begin}
 use Rattle.bt_history.specs.Peers.{asked, outstanding, has_place}
 use Rattle.bt_history.specs.Pieces.{availability}
@@ -15,8 +15,8 @@ use Rattle.bt_history.specs.Legal.{IsAllowed, place_at}
 use Rattle.bt_history.proofs.SameBegin.{same_but_len}
 use Rattle.bt_history.proofs.Lines.{asked_outstanding}
 use Rattle.bt_history.proofs.LineLaws.{AreBlocks, outstanding_blocks, place_resized}
-use Rattle.bt_tables.specs.Tables.{one_if, edit, given_up, lowered, PeerState, PieceState, TablesState, without_block}
-use Rattle.bt_picker.specs.Tables.{askers, peer_of, piece_of, AreTables}
+use Rattle.bt_tables.specs.Tables.{one_if, edit, given_up, lowered, PeerState, TablesState, without_block}
+use Rattle.bt_picker.specs.Tables.{askers, piece_of, AreTables}
 use Rattle.bt_picker.proofs.PeerSteps.{release_step}
 use Rattle.bt_picker.proofs.PieceSteps.{row_shows, lowered_table}
 use Rattle.bt_picker.proofs.Entering.{tables_from, one_peer, askers_change, availability_stays, counted}

@@ -1,29 +1,26 @@
 -- A piece that a worker's peer brings whole waits for its check, with these bytes.
-use Rattle.std.proofs.Common.{◌≡◌, ◌≢◌, ◌⊎◌, ℕ, zero, suc, ◌+◌, ◌-◌, ◌*◌, ◌/◌, ◌<◌, ◌≤◌, ◌==◌, Bool, true, false, not, ◌&&◌, ◌||◌, List, [], ◌∷◌, ◌++◌, Option}
+use Rattle.std.proofs.Common.{◌≡◌, ◌≢◌, ℕ, zero, suc, ◌+◌, ◌-◌, ◌*◌, ◌/◌, ◌<◌, ◌≤◌, ◌==◌, Bool, true, false, not, ◌&&◌, ◌||◌, List, [], ◌∷◌, ◌++◌, Option}
 use Rattle.std.proofs.Common.{None, Some, length, take, drop, refl, ap, sym, ◌∙◌, arith, subst, ⊎_elim}
 use Rattle.std.specs.Prelude.{is_some, if◌then◌else◌, min, nat_lt, unwrap_or}
-use Rattle.std.proofs.lemmas.Bool.{and_parts, and_right, or_parts, not-true, cases_eq, eq-eqb, ne_eqb, lt-ltb, false≢true}
+use Rattle.std.proofs.lemmas.Bool.{and_parts, and_right, or_parts, not-true, cases_eq, eq-eqb, ne_eqb, lt-ltb}
 use Rattle.std.proofs.lemmas.List.{length-drop, length-take, take_all}
 use Rattle.std.proofs.Math.Seq.{take-add}
-use Rattle.bt_meta.specs.declared.block.Block.{Block}
 use Rattle.bt_meta.specs.Layout.{Layout, block, block_count, block_size, piece_count, piece_len}
 use Rattle.bt_history.specs.declared.call.Reply.{Reply}
 use Rattle.bt_history.specs.declared.call.Reply.TheVariants.{Stored, Completed, Dropped}
-use Rattle.bt_history.specs.declared.event.Action.{Action}
 use Rattle.bt_history.specs.declared.event.Action.TheVariants.{Arrived}
 use Rattle.bt_history.specs.declared.event.Event.{Event}
 use Rattle.bt_history.specs.Setting.{Setting, each_block_of, some_block_of}
-use Rattle.bt_history.specs.History.{History, bytes_for, counts, failed, is_failed, is_had, own_call, passed, settles, stored, stores}
+use Rattle.bt_history.specs.History.{History, bytes_for, counts, failed, is_failed, is_had, stored, stores}
 use Rattle.bt_history.specs.Peers.{joined, joined_after}
 use Rattle.bt_history.specs.Pieces.{asked_of_some, content, full, had, held, held_or_asked, joined_below, kept, unbegun}
-use Rattle.bt_history.specs.Next.{Answer, Exactly}
+use Rattle.bt_history.specs.Next.{Exactly}
 use Rattle.bt_history.specs.Legal.{IsAllowed, Permits, answer, answer_unless, arrived_answer, refusal}
 use Rattle.bt_history.proofs.Below.{all_found, any_fails}
 use Rattle.bt_history.proofs.HeldLaws.{joined_same}
 use Rattle.bt_picker.specs.Checks.{arriving, waits}
 use Rattle.bt_picker.specs.Positions.{DeskState, Gains}
 use Rattle.bt_picker.specs.Restores.{Brings, part}
-use Rattle.bt_picker.proofs.Answering.{refuse_arrival}
 use Rattle.bt_picker.proofs.Arriving.{arrival_causes, only_there}
 
 -- ---- one block

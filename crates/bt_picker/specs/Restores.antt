@@ -29,7 +29,8 @@ pub record BringsWhole (old new : DeskState) (w p : ℕ) (bytes : List ℕ) (rep
   pub content : content full.setting full.history p ≡ bytes
   pub settles : Gains full new (settling full.setting full.history w p reply)
 
--- why nothing is done, if it isn't: there is no such peer or piece, the bytes are of another length, or the piece was begun
+-- why nothing is done, if it isn't: there is no such peer or piece, the bytes are of another length, or the piece isn't unbegun. Begun
+-- covers both kinds: a piece of which a block is held or asked, and one that is had already
 abbrev pub restore_fault : DeskState → ℕ → ℕ → ℕ → Option Restored
 restore_fault d w p len =
     if nat_le d.setting.workers w || not (joined d.history w) then Some (Refused NotJoined)

@@ -1,15 +1,15 @@
-//! What to say to a peer next: strict priority, rarest first, random first piece and endgame (Cohen 2003, "Piece selection"; BEP 3).
-ghost use Rattle.std.specs.Prelude.{◌≡◌, ◌<◌, ◌≤◌, ◌+◌, ◌&&◌, ◌||◌, ◌⊎◌, ℕ, Bool, true, false, not, length, IfSome, IfNone, IsTrue, Some};
-ghost use Rattle.std.specs.Prelude.{None, nat_le, nat_lt, Option};
+//! What to say to a peer next: strict priority, rarest first and random first piece (Cohen 2003, "Piece selection"; BEP 3).
+ghost use Rattle.std.specs.Prelude.{◌≡◌, ◌<◌, ◌≤◌, ◌&&◌, ◌⊎◌, ℕ, true, false, length, IfSome, IfNone, IsTrue, Some};
+ghost use Rattle.std.specs.Prelude.{None, nat_le, nat_lt};
 ghost use Rattle.bt_meta.specs.declared.block.Block.{Block};
 ghost use Rattle.bt_meta.specs.Layout.{piece_count, block_count, block};
-ghost use Rattle.bt_history.specs.Setting.{each_block, each_block_of, is_block, some_block, some_block_of};
-ghost use Rattle.bt_history.specs.Peers.{asked, asked_count, depth_of, due, is_open, shows};
-ghost use Rattle.bt_history.specs.Pieces.{asker_count, availability, endgame, had_count, held, held_or_asked, interesting, unasked, wanted};
-ghost use Rattle.bt_history.specs.Next.{continues, doubles, is_candidate, next_answer, starts, usable};
+ghost use Rattle.bt_history.specs.Setting.{is_block, some_block};
+ghost use Rattle.bt_history.specs.Peers.{asked_count, depth_of, due, is_open, shows};
+ghost use Rattle.bt_history.specs.Pieces.{availability, had_count, interesting, unasked, wanted};
+ghost use Rattle.bt_history.specs.Next.{continues, is_candidate, next_answer, starts, usable};
 ghost use Rattle.bt_order.specs.Orders.{at, ListsGroup};
 ghost use Rattle.bt_order.specs.Risings.{Rises};
-ghost use Rattle.bt_picker.specs.Search.{FindsAmong, FindsListed, FindsRarest, IsRarer, Finds, FindsLeast, FindsOf, IsRuling, rank_of};
+ghost use Rattle.bt_picker.specs.Search.{FindsListed, FindsRarest, IsRarer, Finds, FindsLeast, FindsOf, IsRuling, rank_of};
 ghost use Rattle.bt_picker.specs.Tables.{groups_of};
 
 use crate::position::Position;
@@ -343,108 +343,6 @@ impl<'a> Position<'a> {
         ensures { result ≡ (wanted self.now.setting self.now.history piece && shows self.now.history worker piece) }
     {
         self.is_wanted(piece) && self.shows(worker, piece)
-    }
-
-    /// A block of the piece that is lacking and not asked of the peer, if the peer shows the piece.
-    #[tactic(auto, using(crate::proofs::Scans::doubling_found, crate::proofs::Scans::doubling_not))]
-    fn doubling_in(&self, worker: u32, piece: u32) -> Option<Block>
-        requires worker { worker < self.now.setting.workers }
-        requires piece { piece < piece_count self.now.setting.torrent }
-        ensures { FindsOf self.now.setting.torrent piece (doubles self.now.setting self.now.history worker) result }
-    {
-        if self.is_wanted_of(worker, piece) {
-            self.lacking_in(worker, piece)
-        } else {
-            None
-        }
-    }
-
-    /// A block of the piece that is lacking and not asked of the peer, nor of as many others as may be.
-    #[tactic(auto, using(crate::proofs::Scans::lacking_none))]
-    fn lacking_in(&self, worker: u32, piece: u32) -> Option<Block>
-        requires worker { worker < self.now.setting.workers }
-        requires piece { piece < piece_count self.now.setting.torrent }
-        ensures { FindsOf self.now.setting.torrent piece
-            (λ b. not (held self.now.history b) && (nat_lt (asker_count self.now.setting self.now.history b) self.now.setting.askers
-            && not (asked self.now.history worker b))) result }
-    {
-        for index in 0..self.block_count(piece) {
-            let block = self.block(piece, index);
-            if !self.holds(piece, index)
-                && self.has_few_askers(piece, index)
-                && !self.asks(worker, &block)
-            {
-                return Some(block);
-            }
-        }
-        None
-    }
-
-    /// The block found in the piece, where the piece comes before the block found before, or else that one.
-    fn lesser_doubling(&self, worker: u32, found: Option<Block>, piece: u32) -> Option<Block>
-        requires worker { worker < self.now.setting.workers }
-        requires piece { piece < piece_count self.now.setting.torrent }
-        requires found { IfSome found (λ b. IsTrue (is_block self.now.setting.torrent b)
-            × IsTrue (doubles self.now.setting self.now.history worker b)) }
-        ensures some { IfSome result (λ b. IsTrue (is_block self.now.setting.torrent b)
-            × IsTrue (doubles self.now.setting self.now.history worker b)) }
-        ensures none { IfNone result ((found ≡ None)
-            × (some_block_of self.now.setting.torrent piece (doubles self.now.setting self.now.history worker) ≡ false)) }
-    {
-        match found {
-            Some(least) if least.piece <= piece => found,
-            _ => match self.doubling_in(worker, piece) {
-                Some(block) => Some(block),
-                None => found,
-            },
-        }
-    }
-
-    /// A block to ask of the peer too, though another may have been asked for it.
-    fn doubling(&self, worker: u32) -> Option<Block>
-        requires worker { worker < self.now.setting.workers }
-        requires endgame { IsTrue (endgame self.now.setting self.now.history) }
-        ensures { Finds self.now.setting.torrent (doubles self.now.setting self.now.history worker) result }
-    {
-        self.attest();
-        self.least_doubling(worker, self.group(ASKED_OUT))
-    }
-
-    /// A block of these pieces to ask of the peer too: of the least such piece.
-    fn least_doubling(&self, worker: u32, pieces: &[u32]) -> Option<Block>
-        requires worker { worker < self.now.setting.workers }
-        requires pieces { (i : ℕ) → i < length pieces.now → at pieces.now i < piece_count self.now.setting.torrent }
-        ensures { FindsAmong self.now.setting.torrent (doubles self.now.setting self.now.history worker) pieces.now (length pieces.now) result }
-    {
-        let mut least = None;
-        for piece in pieces {
-            least = self.lesser_doubling(worker, least, *piece);
-        }
-        least
-    }
-
-    /// Whether each lacking block of a wanted piece is asked for, and there is one.
-    pub fn is_endgame(&self) -> bool
-        ensures { result ≡ endgame self.now.setting self.now.history }
-    {
-        self.tables.unasked() == 0 && self.tables.unheld() > 0
-    }
-
-    /// In endgame, a block to ask of the peer too.
-    fn asking_again(&self, worker: u32) -> Option<Block>
-        requires { worker < self.now.setting.workers }
-        ensures some { IfSome result (λ b.
-            IsTrue (endgame self.now.setting self.now.history
-            && some_block self.now.setting.torrent (doubles self.now.setting self.now.history worker))
-            × IsTrue (is_block self.now.setting.torrent b) × IsTrue (doubles self.now.setting self.now.history worker b)) }
-        ensures none { IfNone result ((endgame self.now.setting self.now.history
-            && some_block self.now.setting.torrent (doubles self.now.setting self.now.history worker)) ≡ false) }
-    {
-        if self.is_endgame() {
-            self.doubling(worker)
-        } else {
-            None
-        }
     }
 
     /// One of these pieces that the peer shows.

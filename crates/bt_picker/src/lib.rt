@@ -9,6 +9,7 @@ mod auditing;
 mod choose;
 mod content;
 mod desk;
+mod endgame;
 mod entries;
 mod filed;
 mod finished;

@@ -1,4 +1,4 @@
-use Rattle.std.proofs.Common.{◌≡◌, ◌≤◌, ◌∙◌, ◌%◌, ◌^◌, arith, subst, sym}
+use Rattle.std.proofs.Common.{◌≤◌, ◌∙◌, ◌%◌, ◌^◌, subst, sym}
 use Rattle.bt_history.specs.declared.rules.TheConstants.{MOST_WORKERS}
 use Rattle.bt_history.specs.Epochs.{epoch}
 use Rattle.bt_history.specs.Setting.{Setting}
