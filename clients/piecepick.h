@@ -82,7 +82,8 @@ enum {
     PIECEPICK_NO_SUCH_PIECE = 5, PIECEPICK_NO_SUCH_BLOCK = 6, PIECEPICK_WRONG_LENGTH = 7, PIECEPICK_REASON_NOT_WAITING = 8,
     PIECEPICK_STALE = 9,        /* the bytes that were hashed are no longer those held */
     PIECEPICK_NOT_ASKED = 10,   /* the block isn't asked of the peer */
-    PIECEPICK_WRONG_DEPTH = 11  /* a depth of 0, or beyond 64 */
+    PIECEPICK_WRONG_DEPTH = 11, /* a depth of 0, or beyond 64 */
+    PIECEPICK_WRONG_LEVEL = 12  /* a level above 7 */
 };
 
 uint32_t piecepick_abi(void);
@@ -118,8 +119,17 @@ uint32_t piecepick_release(piecepick_desk *desk, uint32_t worker, uint32_t piece
 uint32_t piecepick_depth(piecepick_desk *desk, uint32_t worker, uint32_t depth, piecepick_answer *answer);
 /* What to say to the peer next: ask until the answer is neither CANCEL nor REQUEST. The word is the caller's randomness. */
 uint32_t piecepick_next(piecepick_desk *desk, uint32_t worker, uint64_t word, piecepick_answer *answer);
-/* From now on just these pieces are to be downloaded, for all peers; spelled as in a `bitfield` message. */
+/* From now on just these pieces are to be downloaded, for all peers; spelled as in a `bitfield` message. They have level 4 then. */
 uint32_t piecepick_want(piecepick_desk *desk, uint32_t worker, const uint8_t *flags, size_t flags_len, piecepick_answer *answer);
+/* From now on the piece has this level, for all peers: 0 isn't downloaded, and of 1 to 7 a higher one comes before a lower one. Each piece has
+   level 4 until another is told. What is asked stays asked. QUIET, or REFUSED by NO_SUCH_PIECE or WRONG_LEVEL. SHUT, WORKER, MEMORY. */
+uint32_t piecepick_level(piecepick_desk *desk, uint32_t worker, uint32_t piece, uint32_t level, piecepick_answer *answer);
+/* The same for each piece, a byte each, that of the first piece first. It copies the bytes. QUIET, or REFUSED by WRONG_COUNT or WRONG_LEVEL.
+   SHUT, WORKER, MEMORY. */
+uint32_t piecepick_levels(piecepick_desk *desk, uint32_t worker, const uint8_t *levels, size_t levels_len, piecepick_answer *answer);
+/* From now on the pieces of one level come in rising order, for all peers; or, where `rising` is 0, the rarest first, as they do until this
+   is told. QUIET. SHUT, WORKER, MEMORY. */
+uint32_t piecepick_in_order(piecepick_desk *desk, uint32_t worker, uint32_t rising, piecepick_answer *answer);
 /* Hashes a piece that waits for its check, here and now: HAD or FAILED, or REFUSED with no entry in the journal. */
 uint32_t piecepick_settle_now(piecepick_desk *desk, uint32_t worker, uint32_t piece, piecepick_answer *answer);
 

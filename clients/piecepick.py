@@ -93,6 +93,7 @@ class Reason(IntEnum):
     STALE = 9
     NOT_ASKED = 10
     WRONG_DEPTH = 11
+    WRONG_LEVEL = 12
 
 
 class Fault(Exception):
@@ -160,6 +161,9 @@ _CALLS: dict[str, list[Any]] = {
     "haves": [_D, c_uint32, *_BYTES, _A],
     "depth": [_D, c_uint32, c_uint32, _A],
     "release": [_D, c_uint32, c_uint32, c_uint32, _A],
+    "level": [_D, c_uint32, c_uint32, c_uint32, _A],
+    "levels": [_D, c_uint32, *_BYTES, _A],
+    "in_order": [_D, c_uint32, c_uint32, _A],
     "arrived": [_D, c_uint32, c_uint32, c_uint32, *_BYTES, _A],
     "next": [_D, c_uint32, c_uint64, _A],
     "settle_now": [_D, c_uint32, c_uint32, _A],
@@ -332,6 +336,19 @@ class Desk:
     def release(self, worker: int, piece: int, begin: int) -> Answer:
         """The block that begins there, in bytes, is asked of the peer no more; REFUSED by NOT_ASKED where it wasn't."""
         return self._answer("release", worker, piece, begin)
+
+    def level(self, worker: int, piece: int, level: int) -> Answer:
+        """From now on the piece has this level, 0 to 7: 0 isn't downloaded, and a higher one comes first. REFUSED by WRONG_LEVEL above 7."""
+        return self._answer("level", worker, piece, level)
+
+    def levels(self, worker: int, levels: BytesLike) -> Answer:
+        """From now on each piece has the level of its byte, that of the first piece first."""
+        data, length = _buffer(levels)
+        return self._answer("levels", worker, data, length)
+
+    def in_order(self, worker: int, rising: bool = True) -> Answer:
+        """From now on the pieces of one level come in rising order, or the rarest first again."""
+        return self._answer("in_order", worker, int(rising))
 
     def arrived(self, worker: int, piece: int, begin: int, block: BytesLike) -> Answer:
         """A `piece` message came. The desk keeps a copy of the block."""

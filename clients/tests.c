@@ -110,13 +110,17 @@ static void run(void)
 {
     piecepick_desk desk = PIECEPICK_NONE;
     piecepick_answer answer, request;
-    uint8_t flags[1 << 12];
+    uint8_t flags[1 << 12], levels[1 << 12];
     uint32_t pieces, piece_length, idle = 0;
     AGAIN(piecepick_open(&desk, metainfo, metainfo_len, 2, 5, 1));
     AGAIN(piecepick_pieces(&desk, &pieces));
     AGAIN(piecepick_piece_length(&desk, 0, &piece_length));
     all_flags(flags, pieces);
     AGAIN(piecepick_want(&desk, 0, flags, (pieces + 7) / 8, &answer));
+    memset(levels, 4, sizeof levels);
+    AGAIN(piecepick_levels(&desk, 0, levels, pieces, &answer));
+    AGAIN(piecepick_level(&desk, 0, 0, 7, &answer));
+    AGAIN(piecepick_in_order(&desk, 0, 1, &answer));
     for (uint32_t worker = 0; worker < 2; worker++) {
         AGAIN(piecepick_join(&desk, worker, &answer));
         AGAIN(piecepick_bits(&desk, worker, flags, (pieces + 7) / 8, &answer));
@@ -240,6 +244,8 @@ static void misuses(void)
     IS(piecepick_haves(&desk, 0, none, 0, &answer), PIECEPICK_BITS_LENGTH);
     IS(piecepick_depth(&desk, 1, 5, &answer), PIECEPICK_WORKER);
     IS(piecepick_release(&desk, 1, 0, 0, &answer), PIECEPICK_WORKER);
+    IS(piecepick_levels(&desk, 1, spare, pieces, &answer), PIECEPICK_WORKER);
+    IS(piecepick_in_order(&desk, 1, 1, &answer), PIECEPICK_WORKER);
     IS(piecepick_read(&desk, 0, room, 1), PIECEPICK_NOT_HAD);
     IS(piecepick_job(&desk, 0, &job), PIECEPICK_NOT_WAITING);
     IS(piecepick_job_hash(&job), PIECEPICK_NO_JOB);
@@ -250,7 +256,7 @@ static void misuses(void)
     piecepick_close(&desk);
     piecepick_close(&desk);
     IS(piecepick_hash4(none, 0, none, 0, none, 0, none, 0, spare, 79), PIECEPICK_ROOM);
-    puts("19 misuses: the statuses that the header says");
+    puts("21 misuses: the statuses that the header says");
 }
 
 #define GETS(call, wanted, told) do { \
@@ -283,6 +289,51 @@ static void told_beside_the_wire(void)
     IS(piecepick_audit(&desk), PIECEPICK_OK);
     piecepick_close(&desk);
     puts("11 answers to haves, depths and releases, and to what comes between: those of the rules");
+}
+
+/* The peer of worker 0 is asked for this block next. */
+static void asks_next(piecepick_desk *desk, uint32_t piece, uint32_t begin)
+{
+    piecepick_answer answer;
+    IS(piecepick_next(desk, 0, 0, &answer), PIECEPICK_OK);
+    if (answer.kind != PIECEPICK_REQUEST || answer.piece != piece || answer.begin != begin) fail("what comes first", answer.piece);
+}
+
+/* Levels, and the order of pieces of one level, told by a worker with no peer. */
+static void told_of_what_comes_first(void)
+{
+    piecepick_desk desk = PIECEPICK_NONE;
+    piecepick_answer answer;
+    uint8_t flags[1 << 12], levels[1 << 12];
+    uint32_t pieces, number;
+    IS(piecepick_open(&desk, metainfo, metainfo_len, 2, 5, 1), PIECEPICK_OK);
+    IS(piecepick_pieces(&desk, &pieces), PIECEPICK_OK);
+    all_flags(flags, pieces);
+    memset(levels, 4, sizeof levels);
+    levels[2] = 7;
+    GETS(piecepick_levels(&desk, 1, levels, pieces, &answer), PIECEPICK_QUIET, 0);
+    GETS(piecepick_levels(&desk, 1, levels, pieces - 1, &answer), PIECEPICK_REFUSED, PIECEPICK_WRONG_COUNT);
+    GETS(piecepick_level(&desk, 1, 0, 0, &answer), PIECEPICK_QUIET, 0);
+    GETS(piecepick_level(&desk, 1, 0, 8, &answer), PIECEPICK_REFUSED, PIECEPICK_WRONG_LEVEL);
+    GETS(piecepick_level(&desk, 1, 0, 260, &answer), PIECEPICK_REFUSED, PIECEPICK_WRONG_LEVEL);
+    GETS(piecepick_level(&desk, 1, pieces, 4, &answer), PIECEPICK_REFUSED, PIECEPICK_NO_SUCH_PIECE);
+    GETS(piecepick_in_order(&desk, 1, 1, &answer), PIECEPICK_QUIET, 0);
+    IS(piecepick_wanted(&desk, 0, &number), PIECEPICK_OK);
+    if (number != 0) fail("a piece of level 0", number);
+    GETS(piecepick_join(&desk, 0, &answer), PIECEPICK_JOINED, 0);
+    GETS(piecepick_unchoke(&desk, 0, &answer), PIECEPICK_QUIET, 0);
+    GETS(piecepick_haves(&desk, 0, flags, (pieces + 7) / 8, &answer), PIECEPICK_NOTED, 1);
+    asks_next(&desk, 2, 0);
+    asks_next(&desk, 2, 16384);
+    asks_next(&desk, 1, 0);
+    GETS(piecepick_level(&desk, 0, 0, 4, &answer), PIECEPICK_QUIET, 0);
+    asks_next(&desk, 0, 0);
+    GETS(piecepick_in_order(&desk, 0, 0, &answer), PIECEPICK_QUIET, 0);
+    IS(piecepick_next(&desk, 0, 0, &answer), PIECEPICK_OK);
+    if (answer.kind != PIECEPICK_REQUEST || answer.begin != 16384) fail("strict priority", answer.begin);
+    IS(piecepick_audit(&desk), PIECEPICK_OK);
+    piecepick_close(&desk);
+    puts("17 answers to levels and orders, and to what comes between: those of the rules");
 }
 
 /* Four pieces from this one on, against the digests that the metainfo file has. */
@@ -323,6 +374,7 @@ int main(int argc, char **argv)
     fclose(file);
     misuses();
     told_beside_the_wire();
+    told_of_what_comes_first();
     four_at_once();
     refuse_each();
     by_threads();

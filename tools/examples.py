@@ -57,6 +57,9 @@ RULES = {  # of the examples that don't go by the usual ones: depth, random, and
     "no_depth_may_be_told": (5, 1, 1024, 0),
     "greatest_depth": (5, 1, 1024, 9999),
     "haves_are_counted": (5, 0),
+    "two_levels": (5, 0),
+    "in_order_told_off": (5, 0),
+    "want_after_levels": (5, 0),
 }
 
 EXAMPLES = {  # name: torrent, workers, lines
@@ -172,6 +175,46 @@ EXAMPLES = {  # name: torrent, workers, lines
         "1 haves 00 = noted yes", "1 unchoke = quiet", "1 next 0 = request 0 0 3"]),
     "haves_are_counted": ("short_last", 2, enters(0, "e0") + [
         "1 join = joined", "1 bits 80 = noted yes", "1 haves 20 = noted yes", "0 next 0 = request 1 0 3"]),
+    "two_levels": ("four_pieces", 3, ["2 levels 2772 = quiet"] + enters(0, "f0") + enters(1, "c0") + enters(2, "70") + [
+        "0 next 0 = request 2 0 3", "1 next 0 = request 1 0 3", "2 next 0 = request 3 0 3", "0 next 0 = request 0 0 3",
+        "1 next 0 = request 0 0 3"]),
+    "raised_in_mid_download": ("two_blocks", 1, enters(0, "c0") + [
+        "0 next 0 = request 0 0 16384", "0 level 1 5 = quiet", "0 next 0 = request 1 0 16384", "0 next 0 = request 1 16384 16384",
+        "0 next 0 = request 0 16384 16384"]),
+    "streaming": ("four_pieces", 1, enters(0, "f0") + [
+        "0 inorder yes = quiet", "0 level 2 5 = quiet", "0 next 0 = request 2 0 3", "0 next 0 = request 0 0 3",
+        "0 level 2 4 = quiet", "0 level 3 5 = quiet", "0 next 0 = request 3 0 3", "0 next 0 = request 1 0 3"]),
+    "earlier_piece_in_order": ("two_blocks", 1, enters(0, "40") + [
+        "0 next 0 = request 1 0 16384", "0 inorder yes = quiet", "0 have 0 = noted yes", "0 next 0 = request 0 0 16384",
+        "0 next 0 = request 0 16384 16384", "0 next 0 = request 1 16384 16384"]),
+    "in_order_told_off": ("four_pieces", 2, enters(0, "f0") + [
+        "1 join = joined", "1 bits c0 = noted yes", "0 inorder yes = quiet", "0 next 0 = request 0 0 3", "1 inorder no = quiet",
+        "0 next 0 = request 2 0 3"]),
+    "peer_of_low_levels": ("four_pieces", 2, ["1 levels 7711 = quiet"] + enters(0, "f0") + enters(1, "30") + [
+        "1 next 0 = request 2 0 3", "0 next 0 = request 0 0 3", "1 next 0 = request 3 0 3", "0 next 0 = request 1 0 3",
+        "1 next 0 = idle"]),
+    "unwanted_by_level": ("two_pieces", 1, enters(0, "c0") + [
+        "0 level 0 0 = quiet", "0 next 0 = request 1 0 3", "0 next 0 = idle", "0 level 0 4 = quiet", "0 next 0 = request 0 0 3",
+        "0 levels 00 = quiet", "0 next 0 = nothing"]),
+    "levels_of_none": ("short_last", 1, [
+        "0 levels 000 = quiet", "0 join = joined", "0 bits e0 = noted no", "0 unchoke = quiet", "0 next 0 = nothing",
+        "0 level 2 1 = quiet", "0 next 0 = request 2 0 1", "0 next 0 = idle"]),
+    "want_after_levels": ("four_pieces", 2, ["0 levels 7115 = quiet"] + enters(0, "f0") + [
+        "1 join = joined", "1 bits 10 = noted yes", "0 want 70 = quiet", "0 next 0 = request 1 0 3", "0 next 0 = request 2 0 3",
+        "0 level 0 3 = quiet", "0 next 0 = request 3 0 3", "0 next 0 = request 0 0 3"]),
+    "level_before_the_bits": ("two_pieces", 1, [
+        "0 join = joined", "0 level 1 7 = quiet", "0 bits c0 = noted yes", "0 unchoke = quiet", "0 next 0 = request 1 0 3",
+        "0 next 0 = request 0 0 3"]),
+    "endgame_of_all_levels": ("two_pieces", 3, ["2 levels 71 = quiet"] + enters(0, "c0") + enters(1, "c0") + enters(2, "c0") + [
+        "0 next 0 = request 0 0 3", "1 next 0 = request 1 0 3", "2 next 0 = request 1 0 3", "2 next 0 = request 0 0 3"]),
+    "asked_outlasts_its_level": ("two_pieces", 1, enters(0, "c0") + ["0 next 0 = request 0 0 3", "0 level 0 0 = quiet"]
+        + checked(0, 0, "616263") + ["0 next 0 = request 1 0 3"]),
+    "refusals_of_levels": ("short_last", 2, [
+        "0 level 3 4 = refused NoSuchPiece", "0 level 0 8 = refused WrongLevel", "0 level 9 9 = refused NoSuchPiece",
+        "1 levels 44 = refused WrongCount", "1 levels 4444 = refused WrongCount", "1 levels 484 = refused WrongLevel",
+        "1 levels 88 = refused WrongCount", "1 levels 470 = quiet", "1 level 2 7 = quiet", "0 inorder yes = quiet",
+        "0 inorder no = quiet"] + enters(0, "e0") + [
+        "0 next 0 = request 2 0 1", "0 next 0 = request 1 0 3", "0 next 0 = request 0 0 3"]),
 }
 
 WRONG = {  # name: example, how many entries of it came before, the wrong entry
@@ -233,6 +276,35 @@ WRONG = {  # name: example, how many entries of it came before, the wrong entry
     "bits_after_haves_noted": ("haves_after_a_have", 3, "0 bits e0 = noted yes"),
     "haves_noted_without_the_bits": ("haves_of_none", 9, "1 haves 00 = noted no"),
     "availability_without_the_haves": ("haves_are_counted", 6, "0 next 0 = request 2 0 1"),
+    "low_level_asked_first": ("two_levels", 10, "0 next 0 = request 0 0 3"),
+    "commoner_piece_of_the_level_started": ("two_levels", 10, "0 next 0 = request 1 0 3"),
+    "rarer_piece_of_a_lower_level_started": ("two_levels", 11, "1 next 0 = request 0 0 3"),
+    "second_peer_asked_though_a_low_level_is_unasked": ("two_levels", 12, "2 next 0 = request 2 0 3"),
+    "begun_piece_of_a_lower_level_continued": ("raised_in_mid_download", 5, "0 next 0 = request 0 16384 16384"),
+    "in_order_before_levels": ("streaming", 5, "0 next 0 = request 0 0 3"),
+    "in_order_by_the_wrong_end": ("streaming", 6, "0 next 0 = request 3 0 3"),
+    "moved_head_passed_over": ("streaming", 9, "0 next 0 = request 1 0 3"),
+    "begun_piece_continued_though_in_order": ("earlier_piece_in_order", 6, "0 next 0 = request 1 16384 16384"),
+    "rarest_though_in_order": ("in_order_told_off", 6, "0 next 0 = request 2 0 3"),
+    "in_order_though_told_off": ("in_order_told_off", 8, "0 next 0 = request 1 0 3"),
+    "idle_though_a_low_level_is_usable": ("peer_of_low_levels", 7, "1 next 0 = idle"),
+    "piece_of_level_0_asked": ("unwanted_by_level", 4, "0 next 0 = request 0 0 3"),
+    "idle_though_wanted_again": ("unwanted_by_level", 7, "0 next 0 = idle"),
+    "bits_noted_though_of_level_0": ("levels_of_none", 2, "0 bits e0 = noted yes"),
+    "nothing_left_though_a_level_rose": ("levels_of_none", 6, "0 next 0 = nothing"),
+    "older_level_outlasts_a_want": ("want_after_levels", 7, "0 next 0 = request 3 0 3"),
+    "level_below_the_usual_asked_first": ("want_after_levels", 10, "0 next 0 = request 0 0 3"),
+    "bits_late_by_a_level": ("level_before_the_bits", 2, "0 bits c0 = refused LateBits"),
+    "level_from_before_the_bits_forgotten": ("level_before_the_bits", 4, "0 next 0 = request 0 0 3"),
+    "endgame_though_a_low_level_is_unasked": ("endgame_of_all_levels", 11, "1 next 0 = request 0 0 3"),
+    "asked_block_of_level_0_dropped": ("asked_outlasts_its_level", 5, "0 block 0 0 616263 = dropped"),
+    "level_of_no_piece_taken": ("refusals_of_levels", 0, "0 level 3 4 = quiet"),
+    "level_8_taken": ("refusals_of_levels", 1, "0 level 0 8 = quiet"),
+    "levels_of_a_wrong_count_taken": ("refusals_of_levels", 3, "1 levels 44 = quiet"),
+    "levels_with_an_8_taken": ("refusals_of_levels", 5, "1 levels 484 = quiet"),
+    "levels_refused_for_a_later_cause": ("refusals_of_levels", 6, "1 levels 88 = refused WrongLevel"),
+    "level_of_a_stranger_refused": ("refusals_of_levels", 8, "1 level 2 7 = refused NotJoined"),
+    "order_of_a_stranger_refused": ("refusals_of_levels", 9, "0 inorder yes = refused NotJoined"),
 }
 
 WHERE_BLOCKS_MAY_BE_NAMED = {  # wrong entries in whose place the rules allow a request or a cancel; elsewhere they allow one reply alone
@@ -242,6 +314,12 @@ WHERE_BLOCKS_MAY_BE_NAMED = {  # wrong entries in whose place the rules allow a 
     "unwanted_block_keeps_endgame_off", "idle_though_another_peer_released", "released_piece_continued", "idle_though_released",
     "pipe_full_though_deepened", "depth_outlasts_its_peer", "pipe_full_though_enough_came", "second_asker_of_two_idle",
     "idle_though_the_bitfield_shows_more", "nothing_left_though_the_bitfield_shows_more", "availability_without_the_haves",
+    "low_level_asked_first", "commoner_piece_of_the_level_started", "rarer_piece_of_a_lower_level_started",
+    "second_peer_asked_though_a_low_level_is_unasked", "begun_piece_of_a_lower_level_continued", "in_order_before_levels",
+    "in_order_by_the_wrong_end", "moved_head_passed_over", "begun_piece_continued_though_in_order", "rarest_though_in_order",
+    "in_order_though_told_off", "idle_though_a_low_level_is_usable", "piece_of_level_0_asked", "idle_though_wanted_again",
+    "nothing_left_though_a_level_rose", "older_level_outlasts_a_want", "level_below_the_usual_asked_first",
+    "level_from_before_the_bits_forgotten", "endgame_though_a_low_level_is_unasked",
 }
 
 WRONG_IN_AUDITS = {  # example: how many entries of it came before, the wrong entry; for the examples that have none above
@@ -300,6 +378,9 @@ def action(words, pieces):
         case ["have", piece]: return f"(Have {piece})"
         case ["depth", depth]: return f"(Depth {depth})"
         case ["release", piece, begin]: return f"(Release {piece} {begin})"
+        case ["level", piece, level]: return f"(Level {piece} {level})"
+        case ["levels", digits]: return f"(Levels ({items(digits)}))"
+        case ["inorder", answer]: return f"(InOrder {'true' if answer == 'yes' else 'false'})"
         case ["next", word]: return f"(Next {word})"
         case ["block", piece, begin, text]: return f"(Arrived {piece} {begin} {in_bytes(text)})"
         case ["settle", piece, text]: return f"(Settle {piece} {in_bytes(text)})"

@@ -12,7 +12,7 @@ use bt_picker::MOST_WORKERS;
 use std::env;
 use std::rt::Runtime;
 use std::time::{CpuClock, Duration};
-use swarm::Swarm;
+use swarm::{Manner, Swarm};
 
 /// So many pieces are downloaded where the command line says nothing.
 const USUAL_PIECES: u32 = 1_000;
@@ -34,6 +34,7 @@ struct Plan {
     peers: u32,
     depth: u32,
     askers: u32,
+    manner: Manner,
     is_timed: bool,
 }
 
@@ -53,6 +54,7 @@ fn main(rt: HostRuntime) -> Result<()> {
 fn obey<R: Runtime + AllocGlobal + CpuClock>(rt: &R) -> Result<()> {
     let plan = asked(rt)?;
     let mut swarm = Swarm::new(rt.alloc(), plan.pieces, plan.peers, plan.depth, plan.askers)?;
+    swarm.order(plan.manner);
     let come = come(rt, &plan, &mut swarm)?;
     let start = rt.thread_cpu_time()?;
     swarm.run();
@@ -73,26 +75,42 @@ fn obey<R: Runtime + AllocGlobal + CpuClock>(rt: &R) -> Result<()> {
 }
 
 /// The words are the number of pieces, how often the pieces that a peer shows are halved, the number of peers, how many blocks are asked of
-/// each at a time, of how many peers one block is asked in endgame, and `times`, with which times are printed too. Each may be left out.
+/// each at a time, and of how many peers one block is asked in endgame. Behind them stand the order, `levels`, `order` or `stream`, and
+/// `times`, with which times are printed too. Each may be left out.
 fn asked<R: Runtime + AllocGlobal>(rt: &R) -> Result<Plan> {
     let words: Vec<String> = env::args(rt)?.collect(rt.alloc())?;
     let is_timed = match words.last() {
         Some(word) => word.as_str() == "times",
         None => false,
     };
-    let count = words.len() - usize::from(is_timed);
-    if count > 6 {
-        bail!("there are five numbers at most, and `times` behind them");
+    let rest = &words[..words.len() - usize::from(is_timed)];
+    let manner = match rest.last() {
+        Some(word) => manner_of(word),
+        None => Manner::Rarest,
+    };
+    let numbers = &rest[..rest.len() - usize::from(manner != Manner::Rarest)];
+    if numbers.len() > 6 {
+        bail!("there are five numbers at most, an order and `times` behind them");
     }
-    let numbers = &words[..count];
     Ok(Plan {
         pieces: number(numbers.get(1), USUAL_PIECES)?,
         halvings: number(numbers.get(2), 0)?,
         peers: number(numbers.get(3), USUAL_PEERS)?,
         depth: number(numbers.get(4), USUAL_DEPTH)?,
         askers: number(numbers.get(5), MOST_WORKERS)?,
+        manner,
         is_timed,
     })
+}
+
+/// The order that a word names: the usual one, where it names none.
+fn manner_of(word: &String) -> Manner {
+    match word.as_str() {
+        "levels" => Manner::Levelled,
+        "order" => Manner::InOrder,
+        "stream" => Manner::Streamed,
+        _ => Manner::Rarest,
+    }
 }
 
 /// The number that a word says, or the usual one where there is no word.

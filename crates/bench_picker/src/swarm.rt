@@ -4,11 +4,27 @@ use crate::mix::Mix;
 use crate::zeros::Zeros;
 use anyhow::Result;
 use bt_meta::{Bitfield, Block};
-use bt_picker::Reply;
+use bt_picker::{Reply, USUAL_LEVEL};
 use std::alloc::{AllocError, Global};
 
 /// Where the words of the asks begin.
 const ASK_SEED: u64 = 2;
+
+/// One level above the usual one.
+const RAISED: u8 = USUAL_LEVEL + 1;
+
+/// In which order pieces are asked for.
+#[derive(Clone, Copy, PartialEq, Eq)]
+pub enum Manner {
+    /// The rarest first, all pieces at one level.
+    Rarest,
+    /// The rarest first, every other piece one level up.
+    Levelled,
+    /// In rising order.
+    InOrder,
+    /// In rising order, the first piece that isn't had one level up: a reader waits for it.
+    Streamed,
+}
 
 /// Whether a peer is still asked, and whether the last ask gave no block.
 #[derive(Clone, Copy)]
@@ -36,6 +52,8 @@ pub struct Swarm {
     counts: Counts,
     pieces: u32,
     depth: u32,
+    manner: Manner,
+    head: u32,
 }
 
 impl Swarm {
@@ -57,7 +75,42 @@ impl Swarm {
             },
             pieces,
             depth,
+            manner: Manner::Rarest,
+            head: 0,
         })
+    }
+
+    /// From now on pieces are asked for in this order.
+    pub fn order(&mut self, manner: Manner) {
+        self.manner = manner;
+        match manner {
+            Manner::Rarest => {}
+            Manner::Levelled => self.raise_every_other(),
+            Manner::InOrder => self.zeros.put_in_order(),
+            Manner::Streamed => {
+                self.zeros.put_in_order();
+                self.zeros.put_level(0, RAISED);
+            }
+        }
+    }
+
+    /// Every other piece is one level up.
+    fn raise_every_other(&mut self) {
+        for piece in 0..self.pieces {
+            if piece % 2 == 1 {
+                self.zeros.put_level(piece, RAISED);
+            }
+        }
+    }
+
+    /// The reader goes on to the first piece that isn't had, if there is one.
+    fn read_on(&mut self) {
+        if let Some(piece) = self.zeros.first_lacking(self.head) {
+            if piece != self.head {
+                self.zeros.put_level(piece, RAISED);
+            }
+            self.head = piece;
+        }
     }
 
     /// What was counted so far.
@@ -134,6 +187,9 @@ impl Swarm {
             && self.zeros.settle(worker, block.piece) == Reply::Had
         {
             self.counts.had = self.counts.had.wrapping_add(1);
+            if self.manner == Manner::Streamed {
+                self.read_on();
+            }
         }
     }
 

@@ -113,6 +113,26 @@ impl Zeros {
         }
     }
 
+    /// From now on pieces of one level come in rising order.
+    pub fn put_in_order(&mut self) {
+        let _quiet = self.tell(0, Told::InOrder(true));
+    }
+
+    /// The piece has this level from now on.
+    pub fn put_level(&mut self, piece: u32, level: u8) {
+        let _quiet = self.tell(0, Told::Level { piece, level });
+    }
+
+    /// The first piece from this one on that isn't had.
+    pub fn first_lacking(&self, from: u32) -> Option<u32> {
+        for piece in from..self.picker.torrent().piece_count() {
+            if !self.picker.had(piece) {
+                return Some(piece);
+            }
+        }
+        None
+    }
+
     /// What to say to the peer.
     #[inline(always)]
     pub fn next(&mut self, worker: u32, word: u64) -> Reply {

@@ -89,6 +89,19 @@ impl Held {
         }
     }
 
+    /// Tells the level of each piece, and keeps a copy of the bytes.
+    pub fn levels(&mut self, alloc: Global, worker: u32, levels: &[u8]) -> Result<Reply, Fault>
+        ensures { Makes self.old.desk self.new.desk worker (actions.Levels levels.now) result }
+    {
+        if worker >= self.desk.workers() {
+            return Err(Fault::Worker);
+        }
+        match Bytes::copy_from_slice(alloc, levels) {
+            Ok(levels) => self.call(worker, Call::Levels(levels)),
+            Err(_) => Err(Fault::NoMemory),
+        }
+    }
+
     /// Brings a block, of which it keeps a copy.
     pub fn arrived(
         &mut self,

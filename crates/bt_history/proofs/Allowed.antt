@@ -13,12 +13,13 @@ use Rattle.bt_history.specs.declared.call.Reply.TheVariants.{Joined, Quiet, Canc
 use Rattle.bt_history.specs.declared.call.Reply.TheVariants.{Completed, Dropped, Had, Failed, Refused}
 use Rattle.bt_history.specs.declared.event.Action.{Action}
 use Rattle.bt_history.specs.declared.event.Action.TheVariants.{Join, Bits, Have, Choke, Unchoke, Next, Arrived, Settle, Leave, Want, Haves, Depth, Release}
+use Rattle.bt_history.specs.declared.event.Action.TheVariants.{Level, Levels, InOrder}
 use Rattle.bt_history.specs.declared.event.Event.{Event}
 use Rattle.bt_history.specs.Setting.{Setting, some_block, some_block_of, each_block_of, is_block}
 use Rattle.bt_history.specs.History.{History, settles, is_had, is_failed}
 use Rattle.bt_history.specs.Peers.{asked, asked_count, due, depth_of}
 use Rattle.bt_history.specs.Pieces.{held, full, content, had, asked_of_some, asker_count, unasked, wanted, endgame, begun}
-use Rattle.bt_history.specs.Next.{Answer, Exactly, usable, continues, starts, doubles, next_answer}
+use Rattle.bt_history.specs.Next.{Answer, Exactly, usable, tops, continues, starts, rises, doubles, next_answer}
 use Rattle.bt_history.specs.Legal.{same_bytes, first_cause, refusal, answer, answer_unless, arrived_answer, settled_answer, Permits, IsAllowed}
 use Rattle.bt_history.specs.Logs.{answers, answers_next, answers_arrived, call_mark}
 use Rattle.bt_history.proofs.Below.{any_fails}
@@ -46,7 +47,7 @@ exactly t (Some reason) only reply call fits h = ap (answers (call_mark call)) h
 
 next_fits : (t : Layout) (cause : Option Reason) (s : Setting) (h : History) (w word : ℕ) (reply : Reply)
     → Permits t (answer_unless cause (next_answer s h w)) reply → answers (call_mark (Next word)) reply ≡ true
-next_fits t None s h w word reply is = fits reply (next_answers t _ _ _ _ _ _ _ _ _ _ _ reply
+next_fits t None s h w word reply is = fits reply (next_answers t _ _ _ _ _ _ _ _ _ _ _ _ _ reply
     (subst (λ (a : Answer). Permits t a reply) (next_is s h w) is)) where
       fits : (r : Reply) → answers_next r ≡ true → answers (call_mark (Next word)) r ≡ true
       fits (Cancel b) h = refl
@@ -92,6 +93,9 @@ allowed_answers s h e allowed = by_call e.action allowed.1 where
   by_call (Haves flags) is = exactly s.torrent (refusal s h e.worker (Haves flags)) _ e.reply (Haves flags) refl is
   by_call (Depth n) is = exactly s.torrent (refusal s h e.worker (Depth n)) Quiet e.reply (Depth n) refl is
   by_call (Release p begin) is = exactly s.torrent (refusal s h e.worker (Release p begin)) Quiet e.reply (Release p begin) refl is
+  by_call (Level p n) is = exactly s.torrent (refusal s h e.worker (Level p n)) Quiet e.reply (Level p n) refl is
+  by_call (Levels levels) is = exactly s.torrent (refusal s h e.worker (Levels levels)) Quiet e.reply (Levels levels) refl is
+  by_call (InOrder rising) is = exactly s.torrent (refusal s h e.worker (InOrder rising)) Quiet e.reply (InOrder rising) refl is
 
 -- ---- refusals
 
@@ -132,15 +136,21 @@ pub record RequestFacts (s : Setting) (h : History) (w : ℕ) (b : Block) : Type
 unasked_facts : (s : Setting) (h : History) (b : Block) → unasked s h b ≡ true → (held h b ≡ false) × (asked_of_some s h b ≡ false)
 unasked_facts s h b is = or_parts (held h b) (asked_of_some s h b) (not-true _ is)
 
+-- a block that tops is usable
+pub top_usable : (s : Setting) (h : History) (w : ℕ) (b : Block) → tops s h w b ≡ true → usable s h w b ≡ true
+top_usable s h w b is = (and_parts (usable s h w b) _ is).0
+
 request_kind : (s : Setting) (h : History) (w : ℕ) (b : Block) → w < s.workers
-    → (continues s h w b ≡ true) ⊎ ((starts s h w b ≡ true) ⊎
-    (((endgame s h && some_block s.torrent (doubles s h w)) ≡ true) × (doubles s h w b ≡ true)))
+    → (rises s h w b ≡ true) ⊎ ((continues s h w b ≡ true) ⊎ ((starts s h w b ≡ true) ⊎
+    (((endgame s h && some_block s.torrent (doubles s h w)) ≡ true) × (doubles s h w b ≡ true))))
     → (asked h w b ≡ false) × (held h b ≡ false) × ((asked_of_some s h b ≡ false) ⊎ (endgame s h ≡ true))
     × ((asked_of_some s h b ≡ false) ⊎ (nat_lt (asker_count s h b) s.askers ≡ true))
 request_kind s h w b lt kind = ⊎_elim
-    (λ (on : continues s h w b ≡ true). from_usable (and_parts (usable s h w b) (begun s h b.piece) on).0)
+    (λ (up : rises s h w b ≡ true). from_top (and_parts (tops s h w b) _ up).0)
+    (λ others. ⊎_elim
+    (λ (on : continues s h w b ≡ true). from_top (and_parts (tops s h w b) (begun s h b.piece) on).0)
     (λ rest. ⊎_elim
-    (λ (first : starts s h w b ≡ true). from_usable (and_parts (usable s h w b) _ first).0)
+    (λ (first : starts s h w b ≡ true). from_top (and_parts (tops s h w b) _ first).0)
     (λ (both : ((endgame s h && some_block s.torrent (doubles s h w)) ≡ true) × (doubles s h w b ≡ true)).
     let ending = (and_parts (endgame s h) _ both.0).0 in
     let lacking = and_parts (not (held h b)) (nat_lt (asker_count s h b) s.askers && not (asked h w b))
@@ -148,17 +158,18 @@ request_kind s h w b lt kind = ⊎_elim
     let free = and_parts (nat_lt (asker_count s h b) s.askers) (not (asked h w b)) lacking.1 in
     (not-true (asked h w b) free.1, not-true (held h b) lacking.0, inr ending, inr free.0))
     rest)
+    others)
     kind where
-      from_usable : usable s h w b ≡ true → (asked h w b ≡ false) × (held h b ≡ false) × ((asked_of_some s h b ≡ false) ⊎ (endgame s h ≡ true))
+      from_top : tops s h w b ≡ true → (asked h w b ≡ false) × (held h b ≡ false) × ((asked_of_some s h b ≡ false) ⊎ (endgame s h ≡ true))
           × ((asked_of_some s h b ≡ false) ⊎ (nat_lt (asker_count s h b) s.askers ≡ true))
-      from_usable is =
-          let free = unasked_facts s h b (and_parts (unasked s h b) _ is).0 in
+      from_top is =
+          let free = unasked_facts s h b (and_parts (unasked s h b) _ (top_usable s h w b is)).0 in
           (any_fails s.workers (λ q. asked h q b) w free.1 lt, free.0, inl free.1, inl free.1)
 
 next_facts : (s : Setting) (h : History) (w : ℕ) (b : Block) → w < s.workers → Permits s.torrent (next_answer s h w) (Request b) →
     RequestFacts s h w b
 next_facts s h w b lt is =
-    let facts = next_request s.torrent _ _ _ _ _ _ _ _ _ _ _ b (subst (λ (a : Answer). Permits s.torrent a (Request b)) (next_is s h w) is) in
+    let facts = next_request s.torrent _ _ _ _ _ _ _ _ _ _ _ _ _ b (subst (λ (a : Answer). Permits s.torrent a (Request b)) (next_is s h w) is) in
     let kind = request_kind s h w b lt facts.kind in
     record {
       block = facts.block;
@@ -175,14 +186,18 @@ next_alone : (call : Action) (b : Block) → answers (call_mark call) (Request b
 next_alone (Next word) b is = (word, refl)
 next_alone _ b is = absurd (cc is)
 
-pub request_facts : (s : Setting) (h : History) (e : Event) (b : Block) → IsAllowed s h e → e.reply ≡ Request b → RequestFacts s h e.worker b
+-- a request is one that the rules for Next permit
+pub request_next : (s : Setting) (h : History) (e : Event) (b : Block) → IsAllowed s h e → e.reply ≡ Request b
+    → Permits s.torrent (next_answer s h e.worker) (Request b)
 unfolding answer
-request_facts s h e b allowed is =
+request_next s h e b allowed is =
     let call = next_alone e.action b (subst (λ (r : Reply). answers (call_mark e.action) r ≡ true) is (allowed_answers s h e allowed)) in
     let permitted = answered s h e (no_cause s h e (λ reason refused. absurd (cc (refused, is))) allowed) allowed in
-    next_facts s h e.worker b (worker_below s h e allowed)
-    (subst (λ (r : Reply). Permits s.torrent (next_answer s h e.worker) r) is
-    (subst (λ (c : Action). Permits s.torrent (answer s h e.worker c) e.reply) call.1 permitted))
+    subst (λ (r : Reply). Permits s.torrent (next_answer s h e.worker) r) is
+    (subst (λ (c : Action). Permits s.torrent (answer s h e.worker c) e.reply) call.1 permitted)
+
+pub request_facts : (s : Setting) (h : History) (e : Event) (b : Block) → IsAllowed s h e → e.reply ≡ Request b → RequestFacts s h e.worker b
+request_facts s h e b allowed is = next_facts s h e.worker b (worker_below s h e allowed) (request_next s h e b allowed is)
 
 -- ---- checks
 

@@ -1,6 +1,6 @@
 -- Histories without the later calls are judged as they were before there were these.
-use Rattle.std.proofs.Common.{◌≡◌, ℕ, ◌==◌, ◌<◌, ◌≤◌, Bool, true, false, not, ◌&&◌, ◌||◌, List, [], ◌∷◌, ◌++◌, Option, None, Some, refl, ap, sym, ◌∙◌, arith}
-use Rattle.std.specs.Prelude.{is_none, is_some, if◌then◌else◌, nat_lt}
+use Rattle.std.proofs.Common.{◌≡◌, ℕ, ◌==◌, ◌<◌, ◌≤◌, Bool, true, false, not, ◌&&◌, ◌||◌, List, [], ◌∷◌, ◌++◌, None, Some, refl, ap, ◌∙◌, arith}
+use Rattle.std.specs.Prelude.{is_none, if◌then◌else◌, nat_lt}
 use Rattle.std.specs.List.{filter, list_any}
 use Rattle.std.proofs.lemmas.Bool.{and_parts, not-true, lt-ltb}
 use Rattle.bt_meta.specs.declared.block.Block.{Block}

@@ -1,9 +1,9 @@
 -- What holds of the depth of a peer.
-use Rattle.std.proofs.Common.{◌≡◌, ◌⊎◌, ℕ, ◌==◌, ◌<◌, ◌≤◌, Bool, true, false, not, ◌&&◌, ◌||◌, List, [], ◌∷◌, Option, None, Some, refl, ap, sym, ◌∙◌, arith}
-use Rattle.std.proofs.Common.{⊎_elim, subst}
+use Rattle.std.proofs.Common.{◌≡◌, ℕ, ◌==◌, ◌<◌, ◌≤◌, Bool, true, false, not, ◌&&◌, ◌||◌, [], ◌∷◌, Option, None, Some, refl, ap, sym, ◌∙◌}
+use Rattle.std.proofs.Common.{⊎_elim}
 use Rattle.std.specs.Prelude.{if◌then◌else◌, nat_lt, unwrap_or, max}
 use Rattle.std.proofs.Math.Nat.{le_refl, le-max_left, le-max_right, le_trans, max-eq_left, max-le}
-use Rattle.std.proofs.lemmas.Bool.{and_parts, not-true, or_parts, lt-ltb, cases_lt, false≢true}
+use Rattle.std.proofs.lemmas.Bool.{and_parts, not-true, lt-ltb, cases_lt, false≢true}
 use Rattle.bt_history.specs.declared.call.Reason.TheVariants.{NotJoined, WrongDepth}
 use Rattle.bt_history.specs.declared.call.Reply.{Reply}
 use Rattle.bt_history.specs.declared.call.Reply.TheVariants.{Refused}

@@ -1,33 +1,31 @@
 -- A peer that has nothing to be asked for stays so until the epoch rises.
 use Rattle.std.proofs.Common.{◌≡◌, ◌≢◌, ◌⊎◌, ℕ, zero, suc, ◌==◌, ◌+◌, ◌<◌, ◌≤◌, Bool, true, false, not, ◌&&◌, ◌||◌, List, [], ◌∷◌, ◌++◌, Option, None, Some}
-use Rattle.std.proofs.Common.{refl, ap, sym, ◌∙◌, arith, ⊎_elim, inl, inr, subst}
+use Rattle.std.proofs.Common.{refl, ap, sym, ◌∙◌, arith, ⊎_elim, inl, inr}
 use Rattle.std.specs.Prelude.{if◌then◌else◌, is_none, is_some, nat_lt, nat_le, unwrap_or}
 use Rattle.std.specs.List.{list_any}
-use Rattle.std.proofs.lemmas.Bool.{and_parts, and_from, and_left, and_right, or_parts, or_from, or_cases, or_left, or_right, not-true, not-false, cases_Bool}
-use Rattle.std.proofs.lemmas.Bool.{eq-eqb, eqb-true, ne_eqb, cases_eq, false≢true, ltb-true, lt-ltb}
+use Rattle.std.proofs.lemmas.Bool.{and_parts, and_from, and_left, and_right, or_parts, or_cases, or_left, or_right, not-true, not-false}
+use Rattle.std.proofs.lemmas.Bool.{eq-eqb, eqb-true, ne_eqb, false≢true, ltb-true, lt-ltb}
 use Rattle.bt_meta.specs.declared.block.Block.{Block}
 use Rattle.bt_meta.specs.Layout.{Layout, piece_count, block_count, block}
 use Rattle.bt_history.specs.declared.call.Reply.{Reply}
 use Rattle.bt_history.specs.declared.call.Reply.TheVariants.{Request, Idle, NothingLeft, Refused}
 use Rattle.bt_history.specs.declared.event.Action.{Action}
-use Rattle.bt_history.specs.declared.event.Action.TheVariants.{Join, Choke, Next, Arrived, Settle, Leave, Want, Release}
+use Rattle.bt_history.specs.declared.event.Action.TheVariants.{Join, Choke, Next, Arrived, Settle, Leave, Want, Release, Level, Levels}
 use Rattle.bt_history.specs.declared.event.Event.{Event}
 use Rattle.bt_history.specs.Counting.{any_below, count_below}
 use Rattle.bt_history.specs.Setting.{Setting, some_block, some_block_of, each_block, each_block_of, count_blocks}
 use Rattle.bt_history.specs.History.{History, counts, counted_call, own_call, same_begin, stores, stored, bytes_for, requested, requested_by, cancelled, cancelled_by}
 use Rattle.bt_history.specs.History.{failed, passed, is_failed, is_had, settles}
 use Rattle.bt_history.specs.Peers.{asked, asks, asked_count, resets, releases, lasts, shows, shows_after, is_open, is_open_after, told_depth, told_after, depth_of, due}
-use Rattle.bt_history.specs.Pieces.{kept, held, had, chosen, chosen_after, wanted, lacks, interesting, asked_of_some, asker_count, held_or_asked, unasked, endgame, begun}
-use Rattle.bt_history.specs.Next.{Answer, Exactly, usable, continues, starts, doubles, next_answer}
+use Rattle.bt_history.specs.Pieces.{kept, held, had, in_order, level, level_after, wanted, interesting, asked_of_some, asker_count, held_or_asked, unasked, endgame, begun}
+use Rattle.bt_history.specs.Next.{Exactly, usable, tops, continues, starts, rises, doubles, next_answer}
 use Rattle.bt_history.specs.Legal.{IsLegal, IsAllowed, place_at}
 use Rattle.bt_history.specs.Logs.{answers, call_mark}
 use Rattle.bt_history.specs.Epochs.{asked_alone, begins_endgame, epoch, is_idle, is_request, pass_by, passes_by, stirs, stores_beyond, unsettles}
-use Rattle.bt_history.proofs.Below.{any_fails, any_found, any_none, any_same, any_witness, all_at, all_found, count_at, count_short, one_if}
-use Rattle.bt_history.proofs.Allowed.{allowed_answers, worker_below}
+use Rattle.bt_history.proofs.Below.{any_fails, any_found, any_witness, all_at, all_found, count_at, count_short, one_if}
+use Rattle.bt_history.proofs.Allowed.{allowed_answers, top_usable, worker_below}
 use Rattle.bt_history.proofs.Askers.{count_less}
-use Rattle.bt_history.proofs.HeldLaws.{asked_at, asking, stored_cases}
-use Rattle.bt_history.proofs.LineLaws.{Asks, asks_or_none}
-use Rattle.bt_history.proofs.SameBegin.{held_at}
+use Rattle.bt_history.proofs.HeldLaws.{asked_at, asking}
 use Rattle.bt_history.proofs.NextCases.{next_cases, next_is}
 
 -- ---- an entry that doesn't stir
@@ -38,7 +36,7 @@ record Calm (s : Setting) (h : History) (e : Event) : Type 0 where
   pub releases_none : (q : ℕ) (b : Block) → releases (own_call q e) b ≡ false
   pub fails_none : (p : ℕ) → failed e p ≡ false
   pub passes_none : (p : ℕ) → passed e p ≡ false
-  pub wants_same : (p : ℕ) (before : Bool) → chosen_after (counted_call e) p before ≡ before
+  pub levels_same : (p before : ℕ) → level_after (counted_call e) p before ≡ before
   pub stores_awaited : (b : Block) → is_some (stored e b) ≡ true → (asked h e.worker b ≡ true) × (asker_count s h b ≡ 1)
   pub begins_none : (b : Block) → e.reply ≡ Request b → (not (endgame s h) && endgame s (e ∷ h)) ≡ false
 
@@ -58,11 +56,13 @@ calm_settles : (call : Action) (p : ℕ) → unsettles call ≡ false → settle
 calm_settles (Settle r bytes) p is = absurd (cc is)
 calm_settles call p is = refl
 
-calm_wants : (call : Action) (x : Bool) (p : ℕ) (before : Bool) → unsettles call ≡ false
-    → chosen_after (if x then Some call else None) p before ≡ before
-calm_wants call false p before is = refl
-calm_wants (Want flags) true p before is = absurd (cc is)
-calm_wants call true p before is = refl
+calm_levels : (call : Action) (x : Bool) (p before : ℕ) → unsettles call ≡ false
+    → level_after (if x then Some call else None) p before ≡ before
+calm_levels call false p before is = refl
+calm_levels (Want flags) true p before is = absurd (cc is)
+calm_levels (Levels levels) true p before is = absurd (cc is)
+calm_levels (Level piece n) true p before is = absurd (cc is)
+calm_levels call true p before is = refl
 
 -- the place of a block, whatever its length
 at_place : (p begin : ℕ) (b : Block) → ((p == b.piece) && (begin == b.begin)) ≡ true → same_begin (place_at p begin) b ≡ true
@@ -75,7 +75,7 @@ refused_calm s h e refused = record {
   releases_none = λ q b. ap (λ (x : Bool). releases (if x && (e.worker == q) then Some e.action else None) b) refused;
   fails_none = λ p. and_left (is_failed e.reply) _ (none_failed e.reply refused);
   passes_none = λ p. and_left (is_had e.reply) _ (none_had e.reply refused);
-  wants_same = λ p before. ap (λ (x : Bool). chosen_after (if x then Some e.action else None) p before) refused;
+  levels_same = λ p before. ap (λ (x : Bool). level_after (if x then Some e.action else None) p before) refused;
   stores_awaited = λ b is. absurd (false≢true (sym (ap (λ (x : Bool). is_some (if x then bytes_for b e.action else None)) (none_stored e.reply refused)) ∙ is));
   begins_none = λ b is. absurd (false≢true (sym refused ∙ ap counts is));
 } where
@@ -119,7 +119,7 @@ still_calm s h e settled begun_none within = record {
   releases_none = λ q b. calm_releases e.action (counts e.reply && (e.worker == q)) b settled;
   fails_none = λ p. and_right (is_failed e.reply) (settles e.action p) (calm_settles e.action p settled);
   passes_none = λ p. and_right (is_had e.reply) (settles e.action p) (calm_settles e.action p settled);
-  wants_same = λ p before. calm_wants e.action (counts e.reply) p before settled;
+  levels_same = λ p before. calm_levels e.action (counts e.reply) p before settled;
   stores_awaited = λ b is. awaited s h e b e.action within is;
   begins_none = λ b is. sym (ap (λ (r : Reply). is_request r && (not (endgame s h) && endgame s (e ∷ h))) is) ∙ begun_none;
 }
@@ -220,8 +220,8 @@ module _ (s : Setting) (h : History) (e : Event) (allowed : IsAllowed s h e) (st
   askers_on b lacking = count_less s.workers (λ q. asked h q b) (λ q. asked (e ∷ h) q b) (λ q lq is. asked_on q b lacking is)
 
   wanted_same : (p : ℕ) → wanted s (e ∷ h) p ≡ wanted s h p
-  unfolding chosen
-  wanted_same p = ap (λ (x : Bool). nat_lt p (piece_count s.torrent) && x) (still.wants_same p (chosen h p))
+  unfolding level
+  wanted_same p = ap (λ (n : ℕ). nat_lt p (piece_count s.torrent) && nat_lt 0 n) (still.levels_same p (level h p))
 
   had_same : (p : ℕ) → had (e ∷ h) p ≡ had h p
   unfolding had
@@ -450,29 +450,30 @@ depth_after call which before = ⊎_elim
     which
 
 -- what an answer that there is nothing shows of the tests
-record NothingToAsk (has_due is_in full goes_on starts_one doubles_one waits : Bool) (reply : Reply) : Type 0 where
+record NothingToAsk (has_due is_in full starts_one doubles_one waits : Bool) (reply : Reply) : Type 0 where
   pub due : has_due ≡ false
   pub opened : is_in ≡ true
   pub room : full ≡ false
-  pub on : goes_on ≡ false
   pub first : starts_one ≡ false
   pub again : doubles_one ≡ false
   pub says : (if waits then Idle else NothingLeft) ≡ reply
 
-nothing_to_ask : (has_due opened full goes_on starts_one doubles_one waits : Bool) (cancels ons firsts seconds : Block → Bool) (reply : Reply)
-    → is_idle reply ≡ true → next_cases has_due opened full goes_on starts_one doubles_one waits cancels ons firsts seconds ≡ Exactly reply
-    → NothingToAsk has_due opened full goes_on starts_one doubles_one waits reply
+nothing_to_ask : (has_due opened full rises_one goes_on starts_one doubles_one waits : Bool) (cancels risings ons firsts seconds : Block → Bool)
+    (reply : Reply) → is_idle reply ≡ true
+    → next_cases has_due opened full rises_one goes_on starts_one doubles_one waits cancels risings ons firsts seconds ≡ Exactly reply
+    → NothingToAsk has_due opened full starts_one doubles_one waits reply
 unfolding next_cases
-nothing_to_ask true _ _ _ _ _ _ cancels ons firsts seconds reply idle is = absurd (cc is)
-nothing_to_ask false false _ _ _ _ _ cancels ons firsts seconds reply idle is = absurd (cc (is, idle))
-nothing_to_ask false true true _ _ _ _ cancels ons firsts seconds reply idle is = absurd (cc (is, idle))
-nothing_to_ask false true false true _ _ _ cancels ons firsts seconds reply idle is = absurd (cc is)
-nothing_to_ask false true false false true _ _ cancels ons firsts seconds reply idle is = absurd (cc is)
-nothing_to_ask false true false false false true _ cancels ons firsts seconds reply idle is = absurd (cc is)
-nothing_to_ask false true false false false false true cancels ons firsts seconds reply idle is =
-    record { due = refl; opened = refl; room = refl; on = refl; first = refl; again = refl; says = cc is }
-nothing_to_ask false true false false false false false cancels ons firsts seconds reply idle is =
-    record { due = refl; opened = refl; room = refl; on = refl; first = refl; again = refl; says = cc is }
+nothing_to_ask true _ _ _ _ _ _ _ cancels risings ons firsts seconds reply idle is = absurd (cc is)
+nothing_to_ask false false _ _ _ _ _ _ cancels risings ons firsts seconds reply idle is = absurd (cc (is, idle))
+nothing_to_ask false true true _ _ _ _ _ cancels risings ons firsts seconds reply idle is = absurd (cc (is, idle))
+nothing_to_ask false true false true _ _ _ _ cancels risings ons firsts seconds reply idle is = absurd (cc is)
+nothing_to_ask false true false false true _ _ _ cancels risings ons firsts seconds reply idle is = absurd (cc is)
+nothing_to_ask false true false false false true _ _ cancels risings ons firsts seconds reply idle is = absurd (cc is)
+nothing_to_ask false true false false false false true _ cancels risings ons firsts seconds reply idle is = absurd (cc is)
+nothing_to_ask false true false false false false false true cancels risings ons firsts seconds reply idle is =
+    record { due = refl; opened = refl; room = refl; first = refl; again = refl; says = cc is }
+nothing_to_ask false true false false false false false false cancels risings ons firsts seconds reply idle is =
+    record { due = refl; opened = refl; room = refl; first = refl; again = refl; says = cc is }
 
 module _ (s : Setting) (h : History) (e : Event) (q : ℕ) (allowed : IsAllowed s h e) (still : Calm s h e) (quiet : Silent h e q) where
   asked_same : (b : Block) → asked (e ∷ h) q b ≡ asked h q b
@@ -538,7 +539,8 @@ module _ (s : Setting) (h : History) (e : Event) (q : ℕ) (allowed : IsAllowed 
   idle_step : (reply : Reply) → is_idle reply ≡ true → next_answer s h q ≡ Exactly reply → next_answer s (e ∷ h) q ≡ Exactly reply
   unfolding next_cases
   idle_step reply idle is =
-      let facts = nothing_to_ask _ _ _ _ _ _ _ (due h q) (continues s h q) (starts s h q) (doubles s h q) reply idle (sym (next_is s h q) ∙ is) in
+      let facts = nothing_to_ask _ _ _ _ _ _ _ _ (due h q) (rises s h q) (continues s h q) (starts s h q) (doubles s h q) reply idle
+      (sym (next_is s h q) ∙ is) in
       let none_due : some_block s.torrent (due (e ∷ h) q) ≡ false = (λ i. some_block s.torrent (λ b. due_same b i)) ∙ facts.due in
       let room : nat_le (depth_of s (e ∷ h) q) (asked_count s (e ∷ h) q) ≡ false =
       (λ i. nat_le (depth_same i) (count_blocks s.torrent (λ b. asked_same b i))) ∙ facts.room in
@@ -546,11 +548,13 @@ module _ (s : Setting) (h : History) (e : Event) (q : ℕ) (allowed : IsAllowed 
       none_stronger s.torrent (usable s h q) (usable s (e ∷ h) q) usable_before facts.first in
       let on : some_block s.torrent (continues s (e ∷ h) q) ≡ false =
       none_stronger s.torrent (usable s (e ∷ h) q) (continues s (e ∷ h) q)
-      (λ b both. (and_parts (usable s (e ∷ h) q b) (begun s (e ∷ h) b.piece) both).0) first in
+      (λ b both. top_usable s (e ∷ h) q b (and_parts (tops s (e ∷ h) q b) (begun s (e ∷ h) b.piece) both).0) first in
+      let up : (in_order (e ∷ h) && some_block s.torrent (usable s (e ∷ h) q)) ≡ false =
+      and_right (in_order (e ∷ h)) (some_block s.torrent (usable s (e ∷ h) q)) first in
       let again : (endgame s (e ∷ h) && some_block s.torrent (doubles s (e ∷ h) q)) ≡ false = none_again facts.again in
       let waits : interesting s (e ∷ h) q ≡ interesting s h q =
       λ i. any_below (piece_count s.torrent) (λ p. wanted_same s h e allowed still p i && (shows_same p i && not (had_same s h e allowed still p i))) in
-      rw (next_is s (e ∷ h) q, none_due, open_same ∙ facts.opened, room, on, first, again, waits) (by_waits (interesting s h q) facts.says)
+      rw (next_is s (e ∷ h) q, none_due, open_same ∙ facts.opened, room, up, on, first, again, waits) (by_waits (interesting s h q) facts.says)
     where
       none_again : (endgame s h && some_block s.torrent (doubles s h q)) ≡ false
           → (endgame s (e ∷ h) && some_block s.torrent (doubles s (e ∷ h) q)) ≡ false

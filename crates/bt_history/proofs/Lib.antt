@@ -17,3 +17,5 @@ pub mod Askers
 pub mod Depths
 pub mod Idling
 pub mod Sending
+pub mod Levels
+pub mod Flat

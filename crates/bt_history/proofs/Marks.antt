@@ -5,12 +5,13 @@ use Rattle.bt_meta.specs.declared.block.Block.{Block}
 use Rattle.bt_meta.specs.contracts.block.BlockPartialEq.TheImpl as blocks
 use Rattle.bt_history.specs.declared.call.Reason.{Reason}
 use Rattle.bt_history.specs.declared.call.Reason.TheVariants.{NotJoined, AlreadyJoined, LateBits, WrongCount, NoSuchPiece, NoSuchBlock, WrongLength}
-use Rattle.bt_history.specs.declared.call.Reason.TheVariants.{NotWaiting, Stale, NotAsked, WrongDepth}
+use Rattle.bt_history.specs.declared.call.Reason.TheVariants.{NotWaiting, Stale, NotAsked, WrongDepth, WrongLevel}
 use Rattle.bt_history.specs.declared.call.Reply.{Reply}
 use Rattle.bt_history.specs.declared.call.Reply.TheVariants.{Joined, Noted, Quiet, Cancel, Request, Choked, PipeFull, Idle, NothingLeft, Stored}
 use Rattle.bt_history.specs.declared.call.Reply.TheVariants.{Completed, Dropped, Had, Failed, Refused}
 use Rattle.bt_history.specs.declared.mark.CallMark.{CallMark}
 use Rattle.bt_history.specs.declared.mark.CallMark.TheVariants.{Join, Bits, Have, Choke, Unchoke, Next, Arrived, Settle, Leave, Want, Haves, Depth, Release}
+use Rattle.bt_history.specs.declared.mark.CallMark.TheVariants.{Level, Levels, InOrder}
 use Rattle.bt_history.specs.declared.mark.Mark.{Mark}
 use Rattle.bt_history.specs.contracts.call.ReasonPartialEq.TheImpl as reasons
 use Rattle.bt_history.specs.contracts.call.ReplyPartialEq.TheImpl as replies
@@ -29,6 +30,7 @@ same_reason NotWaiting NotWaiting is = refl
 same_reason Stale Stale is = refl
 same_reason NotAsked NotAsked is = refl
 same_reason WrongDepth WrongDepth is = refl
+same_reason WrongLevel WrongLevel is = refl
 same_reason a b is = absurd (false≢true is)
 
 same_block : (a b : Block) → blocks.ghosts.eq a b ≡ true → a ≡ b
@@ -83,6 +85,14 @@ same_call (Release p begin) (Release q start) is =
     let piece = eqb-true p q parts.0 in
     let place = eqb-true begin start parts.1 in
     λ i. Release (piece i) (place i)
+same_call (Level p m) (Level q n) is =
+    let parts = and_parts (p == q) (m == n) is in
+    let piece = eqb-true p q parts.0 in
+    let level = eqb-true m n parts.1 in
+    λ i. Level (piece i) (level i)
+same_call Levels Levels is = refl
+same_call (InOrder true) (InOrder true) is = refl
+same_call (InOrder false) (InOrder false) is = refl
 same_call a b is = absurd (false≢true is)
 
 pub same_mark : (a b : Mark) → marks.ghosts.eq a b ≡ true → a ≡ b

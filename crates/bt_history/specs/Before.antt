@@ -1,14 +1,18 @@
--- The rules as they were before a block could be released, its askers were bounded, a depth could be told of a peer, and pieces could be
--- added to what a peer shows: what the laws compare them with.
-use Rattle.std.specs.Prelude.{ℕ, Bool, true, false, not, ◌==◌, ◌&&◌, ◌||◌, List, [], ◌∷◌, ◌++◌, Option, Some, is_none, if◌then◌else◌}
+-- The rules as they were before there were later calls: what the laws compare them with. The later calls release a block, bound its
+-- askers, tell the depth of a peer, add to what it shows, and give pieces levels and an order.
+use Rattle.std.specs.Prelude.{ℕ, Bool, true, false, not, ◌==◌, ◌&&◌, ◌||◌, List, [], ◌∷◌, ◌++◌, Option, Some, is_none, nat_lt, nat_le, if◌then◌else◌}
 use Rattle.std.specs.List.{filter}
 use Rattle.bt_meta.specs.declared.block.Block.{Block}
+use Rattle.bt_meta.specs.Layout.{piece_count}
+use Rattle.bt_history.specs.declared.call.Reply.TheVariants.{Choked, PipeFull, Idle, NothingLeft}
 use Rattle.bt_history.specs.declared.event.Action.{Action}
-use Rattle.bt_history.specs.declared.event.Action.TheVariants.{Join, Bits, Have, Choke, Unchoke, Arrived, Leave, Haves, Depth, Release}
-use Rattle.bt_history.specs.Setting.{Setting}
-use Rattle.bt_history.specs.History.{History, own_call, stored, requested}
-use Rattle.bt_history.specs.Peers.{flag, shows, asks, asked, resets}
-use Rattle.bt_history.specs.Pieces.{held, wanted}
+use Rattle.bt_history.specs.declared.event.Action.TheVariants.{Join, Bits, Have, Choke, Unchoke, Arrived, Leave, Want, Haves, Depth, Release, Level, Levels, InOrder}
+use Rattle.bt_history.specs.Counting.{all_below}
+use Rattle.bt_history.specs.Setting.{Setting, some_block}
+use Rattle.bt_history.specs.History.{History, counted_call, own_call, stored, requested}
+use Rattle.bt_history.specs.Peers.{flag, shows, is_open, asks, asked, asked_count, due, depth_of, resets}
+use Rattle.bt_history.specs.Pieces.{held, wanted, begun, unbegun, availability, endgame, interesting, had_count}
+use Rattle.bt_history.specs.Next.{Answer, Exactly, CancelOf, RequestOf, usable, is_candidate, doubles}
 
 -- block b is asked of q: requested, and since then neither stored from anybody nor freed
 unfoldable pub asked_before : History → ℕ → Block → Bool
@@ -84,3 +88,52 @@ is_haves call = false
 unfoldable pub never_adds : History → Bool
 never_adds [] = true
 never_adds (e ∷ h) = not (is_haves e.action) && never_adds h
+
+-- whether piece p is chosen then
+abbrev pub chosen_then : Option Action → ℕ → Bool → Bool
+chosen_then (Some (Want flags)) p before = flag flags p
+chosen_then call p before = before
+
+-- the newest Want, whoever made it, has piece p; until there is one, each piece is chosen
+unfoldable pub chosen_before : History → ℕ → Bool
+chosen_before [] p = true
+chosen_before (e ∷ h) p = chosen_then (counted_call e) p (chosen_before h p)
+
+-- strict priority: a usable block whose piece has begun
+abbrev pub continues_before : Setting → History → ℕ → Block → Bool
+continues_before s h q b = usable s h q b && begun s h b.piece
+
+-- rarest first: no candidate has less availability than p
+abbrev pub is_rarest_before : Setting → History → ℕ → ℕ → Bool
+is_rarest_before s h q p =
+    all_below (piece_count s.torrent) (λ r. not (is_candidate s h q r) || nat_le (availability s h p) (availability s h r))
+
+-- a usable block that begins a piece: a rarest one, but the first pieces may be any
+abbrev pub starts_before : Setting → History → ℕ → Block → Bool
+starts_before s h q b =
+    usable s h q b && (unbegun s h b.piece
+    && (nat_lt (had_count s h) s.random || is_rarest_before s h q b.piece))
+
+-- the answer to Next of q: the first case that applies
+unfoldable pub next_before : Setting → History → ℕ → Answer
+next_before s h q =
+    if some_block s.torrent (due h q) then CancelOf (due h q)
+    else if not (is_open h q) then Exactly Choked
+    else if nat_le (depth_of s h q) (asked_count s h q) then Exactly PipeFull
+    else if some_block s.torrent (continues_before s h q) then RequestOf (continues_before s h q)
+    else if some_block s.torrent (usable s h q) then RequestOf (starts_before s h q)
+    else if endgame s h && some_block s.torrent (doubles s h q) then RequestOf (doubles s h q)
+    else if interesting s h q then Exactly Idle
+    else Exactly NothingLeft
+
+-- the call gives pieces a level or an order
+abbrev pub is_levelling : Action → Bool
+is_levelling (Level p n) = true
+is_levelling (Levels levels) = true
+is_levelling (InOrder rising) = true
+is_levelling call = false
+
+-- no entry gives pieces a level or an order
+unfoldable pub never_levels : History → Bool
+never_levels [] = true
+never_levels (e ∷ h) = not (is_levelling e.action) && never_levels h

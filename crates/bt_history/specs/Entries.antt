@@ -7,6 +7,7 @@ use Rattle.bt_history.specs.declared.call.Entry.{Entry}
 use Rattle.bt_history.specs.declared.call.Reply.{Reply}
 use Rattle.bt_history.specs.declared.event.Action.{Action}
 use Rattle.bt_history.specs.declared.event.Action.TheVariants.{Join, Bits, Have, Choke, Unchoke, Next, Arrived, Settle, Leave, Want, Haves, Depth, Release}
+use Rattle.bt_history.specs.declared.event.Action.TheVariants.{Level, Levels, InOrder}
 use Rattle.bt_history.specs.declared.event.Event.{Event}
 use Rattle.bt_history.specs.History.{History}
 
@@ -25,6 +26,9 @@ action_of (calls.Want flags) = Want flags
 action_of (calls.Haves flags) = Haves flags
 action_of (calls.Depth n) = Depth n
 action_of (calls.Release p begin) = Release p begin
+action_of (calls.Level p n) = Level p n
+action_of (calls.Levels levels) = Levels levels
+action_of (calls.InOrder rising) = InOrder rising
 
 -- the entry that this worker's call with this reply makes
 abbrev pub event : ℕ → Call → Reply → Event

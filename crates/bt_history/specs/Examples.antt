@@ -3,13 +3,13 @@ use Rattle.std.specs.Prelude.{ℕ, List, [], ◌∷◌, true, false, replicate}
 use Rattle.bt_meta.specs.declared.block.Block.{Block}
 use Rattle.bt_meta.specs.Layout.{Layout}
 use Rattle.bt_history.specs.declared.call.Reason.TheVariants.{NotJoined, AlreadyJoined, LateBits, WrongCount, NoSuchPiece, NoSuchBlock, WrongLength}
-use Rattle.bt_history.specs.declared.call.Reason.TheVariants.{NotWaiting, Stale, NotAsked, WrongDepth}
+use Rattle.bt_history.specs.declared.call.Reason.TheVariants.{NotWaiting, Stale, NotAsked, WrongDepth, WrongLevel}
 use Rattle.bt_history.specs.declared.call.Reply.{Reply}
 use Rattle.bt_history.specs.declared.call.Reply.TheVariants.{Joined, Noted, Quiet, Cancel, Request, Choked, PipeFull, Idle, NothingLeft, Stored}
 use Rattle.bt_history.specs.declared.call.Reply.TheVariants.{Completed, Dropped, Had, Failed, Refused}
 use Rattle.bt_history.specs.declared.event.Action.{Action}
 use Rattle.bt_history.specs.declared.event.Action.TheVariants.{Join, Bits, Have, Choke, Unchoke, Next, Arrived, Settle, Leave, Want, Haves, Depth}
-use Rattle.bt_history.specs.declared.event.Action.TheVariants.{Release}
+use Rattle.bt_history.specs.declared.event.Action.TheVariants.{Release, Level, Levels, InOrder}
 use Rattle.bt_history.specs.declared.event.Event.{Event}
 use Rattle.bt_history.specs.declared.rules.Rules.{Rules}
 use Rattle.bt_history.specs.declared.rules.TheConstants.{MOST_DEPTH, MOST_WORKERS}
@@ -770,6 +770,197 @@ haves_are_counted =
     ∷ entry 0 (Next 0) (Request (block_of 1 0 3))
     ∷ []
 
+abbrev pub two_levels : List Event
+two_levels =
+    entry 2 (Levels (2 ∷ 7 ∷ 7 ∷ 2 ∷ [])) Quiet
+    ∷ entry 0 Join Joined
+    ∷ entry 0 (Bits (true ∷ true ∷ true ∷ true ∷ [])) (Noted true)
+    ∷ entry 0 Unchoke Quiet
+    ∷ entry 1 Join Joined
+    ∷ entry 1 (Bits (true ∷ true ∷ false ∷ false ∷ [])) (Noted true)
+    ∷ entry 1 Unchoke Quiet
+    ∷ entry 2 Join Joined
+    ∷ entry 2 (Bits (false ∷ true ∷ true ∷ true ∷ [])) (Noted true)
+    ∷ entry 2 Unchoke Quiet
+    ∷ entry 0 (Next 0) (Request (block_of 2 0 3))
+    ∷ entry 1 (Next 0) (Request (block_of 1 0 3))
+    ∷ entry 2 (Next 0) (Request (block_of 3 0 3))
+    ∷ entry 0 (Next 0) (Request (block_of 0 0 3))
+    ∷ entry 1 (Next 0) (Request (block_of 0 0 3))
+    ∷ []
+
+abbrev pub raised_in_mid_download : List Event
+raised_in_mid_download =
+    entry 0 Join Joined
+    ∷ entry 0 (Bits (true ∷ true ∷ [])) (Noted true)
+    ∷ entry 0 Unchoke Quiet
+    ∷ entry 0 (Next 0) (Request (block_of 0 0 16384))
+    ∷ entry 0 (Level 1 5) Quiet
+    ∷ entry 0 (Next 0) (Request (block_of 1 0 16384))
+    ∷ entry 0 (Next 0) (Request (block_of 1 16384 16384))
+    ∷ entry 0 (Next 0) (Request (block_of 0 16384 16384))
+    ∷ []
+
+abbrev pub streaming : List Event
+streaming =
+    entry 0 Join Joined
+    ∷ entry 0 (Bits (true ∷ true ∷ true ∷ true ∷ [])) (Noted true)
+    ∷ entry 0 Unchoke Quiet
+    ∷ entry 0 (InOrder true) Quiet
+    ∷ entry 0 (Level 2 5) Quiet
+    ∷ entry 0 (Next 0) (Request (block_of 2 0 3))
+    ∷ entry 0 (Next 0) (Request (block_of 0 0 3))
+    ∷ entry 0 (Level 2 4) Quiet
+    ∷ entry 0 (Level 3 5) Quiet
+    ∷ entry 0 (Next 0) (Request (block_of 3 0 3))
+    ∷ entry 0 (Next 0) (Request (block_of 1 0 3))
+    ∷ []
+
+abbrev pub earlier_piece_in_order : List Event
+earlier_piece_in_order =
+    entry 0 Join Joined
+    ∷ entry 0 (Bits (false ∷ true ∷ [])) (Noted true)
+    ∷ entry 0 Unchoke Quiet
+    ∷ entry 0 (Next 0) (Request (block_of 1 0 16384))
+    ∷ entry 0 (InOrder true) Quiet
+    ∷ entry 0 (Have 0) (Noted true)
+    ∷ entry 0 (Next 0) (Request (block_of 0 0 16384))
+    ∷ entry 0 (Next 0) (Request (block_of 0 16384 16384))
+    ∷ entry 0 (Next 0) (Request (block_of 1 16384 16384))
+    ∷ []
+
+abbrev pub in_order_told_off : List Event
+in_order_told_off =
+    entry 0 Join Joined
+    ∷ entry 0 (Bits (true ∷ true ∷ true ∷ true ∷ [])) (Noted true)
+    ∷ entry 0 Unchoke Quiet
+    ∷ entry 1 Join Joined
+    ∷ entry 1 (Bits (true ∷ true ∷ false ∷ false ∷ [])) (Noted true)
+    ∷ entry 0 (InOrder true) Quiet
+    ∷ entry 0 (Next 0) (Request (block_of 0 0 3))
+    ∷ entry 1 (InOrder false) Quiet
+    ∷ entry 0 (Next 0) (Request (block_of 2 0 3))
+    ∷ []
+
+abbrev pub peer_of_low_levels : List Event
+peer_of_low_levels =
+    entry 1 (Levels (7 ∷ 7 ∷ 1 ∷ 1 ∷ [])) Quiet
+    ∷ entry 0 Join Joined
+    ∷ entry 0 (Bits (true ∷ true ∷ true ∷ true ∷ [])) (Noted true)
+    ∷ entry 0 Unchoke Quiet
+    ∷ entry 1 Join Joined
+    ∷ entry 1 (Bits (false ∷ false ∷ true ∷ true ∷ [])) (Noted true)
+    ∷ entry 1 Unchoke Quiet
+    ∷ entry 1 (Next 0) (Request (block_of 2 0 3))
+    ∷ entry 0 (Next 0) (Request (block_of 0 0 3))
+    ∷ entry 1 (Next 0) (Request (block_of 3 0 3))
+    ∷ entry 0 (Next 0) (Request (block_of 1 0 3))
+    ∷ entry 1 (Next 0) Idle
+    ∷ []
+
+abbrev pub unwanted_by_level : List Event
+unwanted_by_level =
+    entry 0 Join Joined
+    ∷ entry 0 (Bits (true ∷ true ∷ [])) (Noted true)
+    ∷ entry 0 Unchoke Quiet
+    ∷ entry 0 (Level 0 0) Quiet
+    ∷ entry 0 (Next 0) (Request (block_of 1 0 3))
+    ∷ entry 0 (Next 0) Idle
+    ∷ entry 0 (Level 0 4) Quiet
+    ∷ entry 0 (Next 0) (Request (block_of 0 0 3))
+    ∷ entry 0 (Levels (0 ∷ 0 ∷ [])) Quiet
+    ∷ entry 0 (Next 0) NothingLeft
+    ∷ []
+
+abbrev pub levels_of_none : List Event
+levels_of_none =
+    entry 0 (Levels (0 ∷ 0 ∷ 0 ∷ [])) Quiet
+    ∷ entry 0 Join Joined
+    ∷ entry 0 (Bits (true ∷ true ∷ true ∷ [])) (Noted false)
+    ∷ entry 0 Unchoke Quiet
+    ∷ entry 0 (Next 0) NothingLeft
+    ∷ entry 0 (Level 2 1) Quiet
+    ∷ entry 0 (Next 0) (Request (block_of 2 0 1))
+    ∷ entry 0 (Next 0) Idle
+    ∷ []
+
+abbrev pub want_after_levels : List Event
+want_after_levels =
+    entry 0 (Levels (7 ∷ 1 ∷ 1 ∷ 5 ∷ [])) Quiet
+    ∷ entry 0 Join Joined
+    ∷ entry 0 (Bits (true ∷ true ∷ true ∷ true ∷ [])) (Noted true)
+    ∷ entry 0 Unchoke Quiet
+    ∷ entry 1 Join Joined
+    ∷ entry 1 (Bits (false ∷ false ∷ false ∷ true ∷ [])) (Noted true)
+    ∷ entry 0 (Want (false ∷ true ∷ true ∷ true ∷ [])) Quiet
+    ∷ entry 0 (Next 0) (Request (block_of 1 0 3))
+    ∷ entry 0 (Next 0) (Request (block_of 2 0 3))
+    ∷ entry 0 (Level 0 3) Quiet
+    ∷ entry 0 (Next 0) (Request (block_of 3 0 3))
+    ∷ entry 0 (Next 0) (Request (block_of 0 0 3))
+    ∷ []
+
+abbrev pub level_before_the_bits : List Event
+level_before_the_bits =
+    entry 0 Join Joined
+    ∷ entry 0 (Level 1 7) Quiet
+    ∷ entry 0 (Bits (true ∷ true ∷ [])) (Noted true)
+    ∷ entry 0 Unchoke Quiet
+    ∷ entry 0 (Next 0) (Request (block_of 1 0 3))
+    ∷ entry 0 (Next 0) (Request (block_of 0 0 3))
+    ∷ []
+
+abbrev pub endgame_of_all_levels : List Event
+endgame_of_all_levels =
+    entry 2 (Levels (7 ∷ 1 ∷ [])) Quiet
+    ∷ entry 0 Join Joined
+    ∷ entry 0 (Bits (true ∷ true ∷ [])) (Noted true)
+    ∷ entry 0 Unchoke Quiet
+    ∷ entry 1 Join Joined
+    ∷ entry 1 (Bits (true ∷ true ∷ [])) (Noted true)
+    ∷ entry 1 Unchoke Quiet
+    ∷ entry 2 Join Joined
+    ∷ entry 2 (Bits (true ∷ true ∷ [])) (Noted true)
+    ∷ entry 2 Unchoke Quiet
+    ∷ entry 0 (Next 0) (Request (block_of 0 0 3))
+    ∷ entry 1 (Next 0) (Request (block_of 1 0 3))
+    ∷ entry 2 (Next 0) (Request (block_of 1 0 3))
+    ∷ entry 2 (Next 0) (Request (block_of 0 0 3))
+    ∷ []
+
+abbrev pub asked_outlasts_its_level : List Event
+asked_outlasts_its_level =
+    entry 0 Join Joined
+    ∷ entry 0 (Bits (true ∷ true ∷ [])) (Noted true)
+    ∷ entry 0 Unchoke Quiet
+    ∷ entry 0 (Next 0) (Request (block_of 0 0 3))
+    ∷ entry 0 (Level 0 0) Quiet
+    ∷ entry 0 (Arrived 0 0 (97 ∷ 98 ∷ 99 ∷ [])) Completed
+    ∷ entry 0 (Settle 0 (97 ∷ 98 ∷ 99 ∷ [])) Had
+    ∷ entry 0 (Next 0) (Request (block_of 1 0 3))
+    ∷ []
+
+abbrev pub refusals_of_levels : List Event
+refusals_of_levels =
+    entry 0 (Level 3 4) (Refused NoSuchPiece)
+    ∷ entry 0 (Level 0 8) (Refused WrongLevel)
+    ∷ entry 0 (Level 9 9) (Refused NoSuchPiece)
+    ∷ entry 1 (Levels (4 ∷ 4 ∷ [])) (Refused WrongCount)
+    ∷ entry 1 (Levels (4 ∷ 4 ∷ 4 ∷ 4 ∷ [])) (Refused WrongCount)
+    ∷ entry 1 (Levels (4 ∷ 8 ∷ 4 ∷ [])) (Refused WrongLevel)
+    ∷ entry 1 (Levels (8 ∷ 8 ∷ [])) (Refused WrongCount)
+    ∷ entry 1 (Levels (4 ∷ 7 ∷ 0 ∷ [])) Quiet
+    ∷ entry 1 (Level 2 7) Quiet
+    ∷ entry 0 (InOrder true) Quiet
+    ∷ entry 0 (InOrder false) Quiet
+    ∷ entry 0 Join Joined
+    ∷ entry 0 (Bits (true ∷ true ∷ true ∷ [])) (Noted true)
+    ∷ entry 0 Unchoke Quiet
+    ∷ entry 0 (Next 0) (Request (block_of 2 0 1))
+    ∷ entry 0 (Next 0) (Request (block_of 1 0 3))
+    ∷ entry 0 (Next 0) (Request (block_of 0 0 3))
+    ∷ []
+
 abbrev pub idle_though_a_block_is_usable : Event
 idle_though_a_block_is_usable = entry 0 (Next 5) Idle
 
@@ -943,3 +1134,90 @@ haves_noted_without_the_bits = entry 1 (Haves (false ∷ false ∷ false ∷ [])
 
 abbrev pub availability_without_the_haves : Event
 availability_without_the_haves = entry 0 (Next 0) (Request (block_of 2 0 1))
+
+abbrev pub low_level_asked_first : Event
+low_level_asked_first = entry 0 (Next 0) (Request (block_of 0 0 3))
+
+abbrev pub commoner_piece_of_the_level_started : Event
+commoner_piece_of_the_level_started = entry 0 (Next 0) (Request (block_of 1 0 3))
+
+abbrev pub rarer_piece_of_a_lower_level_started : Event
+rarer_piece_of_a_lower_level_started = entry 1 (Next 0) (Request (block_of 0 0 3))
+
+abbrev pub second_peer_asked_though_a_low_level_is_unasked : Event
+second_peer_asked_though_a_low_level_is_unasked = entry 2 (Next 0) (Request (block_of 2 0 3))
+
+abbrev pub begun_piece_of_a_lower_level_continued : Event
+begun_piece_of_a_lower_level_continued = entry 0 (Next 0) (Request (block_of 0 16384 16384))
+
+abbrev pub in_order_before_levels : Event
+in_order_before_levels = entry 0 (Next 0) (Request (block_of 0 0 3))
+
+abbrev pub in_order_by_the_wrong_end : Event
+in_order_by_the_wrong_end = entry 0 (Next 0) (Request (block_of 3 0 3))
+
+abbrev pub moved_head_passed_over : Event
+moved_head_passed_over = entry 0 (Next 0) (Request (block_of 1 0 3))
+
+abbrev pub begun_piece_continued_though_in_order : Event
+begun_piece_continued_though_in_order = entry 0 (Next 0) (Request (block_of 1 16384 16384))
+
+abbrev pub rarest_though_in_order : Event
+rarest_though_in_order = entry 0 (Next 0) (Request (block_of 2 0 3))
+
+abbrev pub in_order_though_told_off : Event
+in_order_though_told_off = entry 0 (Next 0) (Request (block_of 1 0 3))
+
+abbrev pub idle_though_a_low_level_is_usable : Event
+idle_though_a_low_level_is_usable = entry 1 (Next 0) Idle
+
+abbrev pub piece_of_level_0_asked : Event
+piece_of_level_0_asked = entry 0 (Next 0) (Request (block_of 0 0 3))
+
+abbrev pub idle_though_wanted_again : Event
+idle_though_wanted_again = entry 0 (Next 0) Idle
+
+abbrev pub bits_noted_though_of_level_0 : Event
+bits_noted_though_of_level_0 = entry 0 (Bits (true ∷ true ∷ true ∷ [])) (Noted true)
+
+abbrev pub nothing_left_though_a_level_rose : Event
+nothing_left_though_a_level_rose = entry 0 (Next 0) NothingLeft
+
+abbrev pub older_level_outlasts_a_want : Event
+older_level_outlasts_a_want = entry 0 (Next 0) (Request (block_of 3 0 3))
+
+abbrev pub level_below_the_usual_asked_first : Event
+level_below_the_usual_asked_first = entry 0 (Next 0) (Request (block_of 0 0 3))
+
+abbrev pub bits_late_by_a_level : Event
+bits_late_by_a_level = entry 0 (Bits (true ∷ true ∷ [])) (Refused LateBits)
+
+abbrev pub level_from_before_the_bits_forgotten : Event
+level_from_before_the_bits_forgotten = entry 0 (Next 0) (Request (block_of 0 0 3))
+
+abbrev pub endgame_though_a_low_level_is_unasked : Event
+endgame_though_a_low_level_is_unasked = entry 1 (Next 0) (Request (block_of 0 0 3))
+
+abbrev pub asked_block_of_level_0_dropped : Event
+asked_block_of_level_0_dropped = entry 0 (Arrived 0 0 (97 ∷ 98 ∷ 99 ∷ [])) Dropped
+
+abbrev pub level_of_no_piece_taken : Event
+level_of_no_piece_taken = entry 0 (Level 3 4) Quiet
+
+abbrev pub level_8_taken : Event
+level_8_taken = entry 0 (Level 0 8) Quiet
+
+abbrev pub levels_of_a_wrong_count_taken : Event
+levels_of_a_wrong_count_taken = entry 1 (Levels (4 ∷ 4 ∷ [])) Quiet
+
+abbrev pub levels_with_an_8_taken : Event
+levels_with_an_8_taken = entry 1 (Levels (4 ∷ 8 ∷ 4 ∷ [])) Quiet
+
+abbrev pub levels_refused_for_a_later_cause : Event
+levels_refused_for_a_later_cause = entry 1 (Levels (8 ∷ 8 ∷ [])) (Refused WrongLevel)
+
+abbrev pub level_of_a_stranger_refused : Event
+level_of_a_stranger_refused = entry 1 (Level 2 7) (Refused NotJoined)
+
+abbrev pub order_of_a_stranger_refused : Event
+order_of_a_stranger_refused = entry 0 (InOrder true) (Refused NotJoined)

@@ -1,16 +1,19 @@
 -- Which reply is allowed after a history, and which histories are legal.
 use Rattle.std.specs.Prelude.{ℕ, ◌<◌, ◌≡◌, IsTrue, ◌==◌, nat_le, nat_lt, Bool, not, ◌&&◌, ◌||◌, List, [], ◌∷◌, Option, Some, None, length, if◌then◌else◌}
+use Rattle.std.specs.List.{list_any}
 use lib.Pointwise.{pointwise}
 use Rattle.sha1.specs.Sha1.{sha1}
 use Rattle.bt_meta.specs.declared.block.Block.{Block}
 use Rattle.bt_meta.specs.Layout.{Layout, piece_count, hash_of}
 use Rattle.bt_history.specs.declared.call.Reason.{Reason}
 use Rattle.bt_history.specs.declared.call.Reason.TheVariants.{NotJoined, AlreadyJoined, LateBits, WrongCount, NoSuchPiece, NoSuchBlock, WrongLength}
-use Rattle.bt_history.specs.declared.call.Reason.TheVariants.{NotWaiting, Stale, NotAsked, WrongDepth}
+use Rattle.bt_history.specs.declared.call.Reason.TheVariants.{NotWaiting, Stale, NotAsked, WrongDepth, WrongLevel}
 use Rattle.bt_history.specs.declared.call.Reply.{Reply}
 use Rattle.bt_history.specs.declared.call.Reply.TheVariants.{Joined, Noted, Quiet, Cancel, Request, Stored, Completed, Dropped, Had, Failed, Refused}
 use Rattle.bt_history.specs.declared.event.Action.{Action}
 use Rattle.bt_history.specs.declared.event.Action.TheVariants.{Join, Bits, Have, Choke, Unchoke, Next, Arrived, Settle, Leave, Want, Haves, Depth, Release}
+use Rattle.bt_history.specs.declared.event.Action.TheVariants.{Level, Levels, InOrder}
+use Rattle.bt_history.specs.declared.rules.TheConstants.{MOST_LEVEL}
 use Rattle.bt_history.specs.declared.event.Event.{Event}
 use Rattle.bt_history.specs.Setting.{Setting, deepest_told, some_block_of, each_block_of, is_block}
 use Rattle.bt_history.specs.History.{History}
@@ -33,13 +36,21 @@ first_cause (cause ∷ causes) = if cause.0 then Some cause.1 else first_cause c
 abbrev pub no_peer : History → ℕ → Bool × Reason
 no_peer h w = (not (joined h w), NotJoined)
 
--- the flags are more or fewer than the pieces
-abbrev pub no_count : Setting → List Bool → Bool × Reason
+-- the flags, or levels, are more or fewer than the pieces
+abbrev pub no_count : {A : Type 0} → Setting → List A → Bool × Reason
 no_count s flags = (not (length flags == piece_count s.torrent), WrongCount)
 
 -- there is no such piece
 abbrev pub no_piece : Setting → ℕ → Bool × Reason
 no_piece s p = (nat_le (piece_count s.torrent) p, NoSuchPiece)
+
+-- a level is higher than there are
+abbrev pub no_level : ℕ → Bool × Reason
+no_level n = (nat_lt MOST_LEVEL n, WrongLevel)
+
+-- one of the levels is
+abbrev pub no_levels : List ℕ → Bool × Reason
+no_levels levels = (list_any (λ n. nat_lt MOST_LEVEL n) levels, WrongLevel)
 
 -- the block that begins there, of no length: what is asked for goes by where it begins
 abbrev pub place_at : ℕ → ℕ → Block
@@ -65,6 +76,9 @@ refusal s h w (Want flags) = first_cause (no_count s flags ∷ [])
 refusal s h w (Haves flags) = first_cause (no_peer h w ∷ no_count s flags ∷ [])
 refusal s h w (Depth n) = first_cause (no_peer h w ∷ (nat_lt n 1 || nat_lt (deepest_told s) n, WrongDepth) ∷ [])
 refusal s h w (Release p begin) = first_cause (no_peer h w ∷ (not (asked h w (place_at p begin)), NotAsked) ∷ [])
+refusal s h w (Level p n) = first_cause (no_piece s p ∷ no_level n ∷ [])
+refusal s h w (Levels levels) = first_cause (no_count s levels ∷ no_levels levels ∷ [])
+refusal s h w (InOrder rising) = None
 
 -- ---- answers
 
@@ -99,6 +113,9 @@ answer s h w (Want flags) = Exactly Quiet
 answer s h w (Haves flags) = Exactly (Noted (interesting_after s h w (Haves flags)))
 answer s h w (Depth n) = Exactly Quiet
 answer s h w (Release p begin) = Exactly Quiet
+answer s h w (Level p n) = Exactly Quiet
+answer s h w (Levels levels) = Exactly Quiet
+answer s h w (InOrder rising) = Exactly Quiet
 
 -- a refusal for this reason, if there is one, else the answer
 abbrev pub answer_unless : Option Reason → Answer → Answer

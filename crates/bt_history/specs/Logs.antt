@@ -8,10 +8,11 @@ use Rattle.bt_history.specs.declared.event.Action.TheVariants as actions
 use Rattle.bt_history.specs.declared.event.Event.{Event}
 use Rattle.bt_history.specs.declared.mark.CallMark.{CallMark}
 use Rattle.bt_history.specs.declared.mark.CallMark.TheVariants.{Join, Bits, Have, Choke, Unchoke, Next, Arrived, Settle, Leave, Want, Haves, Depth, Release}
+use Rattle.bt_history.specs.declared.mark.CallMark.TheVariants.{Level, Levels, InOrder}
 use Rattle.bt_history.specs.declared.mark.Mark.{Mark}
 use Rattle.bt_history.specs.History.{History}
 
--- a call without its bytes and its bitfield
+-- a call without its bytes, its bitfield and its levels
 abbrev pub call_mark : Action → CallMark
 call_mark actions.Join = Join
 call_mark (actions.Bits flags) = Bits
@@ -26,6 +27,9 @@ call_mark (actions.Want flags) = Want
 call_mark (actions.Haves flags) = Haves
 call_mark (actions.Depth n) = Depth n
 call_mark (actions.Release p begin) = Release p begin
+call_mark (actions.Level p n) = Level p n
+call_mark (actions.Levels levels) = Levels
+call_mark (actions.InOrder rising) = InOrder rising
 
 -- the mark of an entry that so many entries are older than
 abbrev pub mark_of : ℕ → Event → Mark
@@ -70,6 +74,9 @@ answers Want Quiet = true
 answers Haves (Noted shown) = true
 answers (Depth n) Quiet = true
 answers (Release p begin) Quiet = true
+answers (Level p n) Quiet = true
+answers Levels Quiet = true
+answers (InOrder rising) Quiet = true
 answers (Next word) reply = answers_next reply
 answers (Arrived p begin len) reply = answers_arrived reply
 answers (Settle p) Had = true

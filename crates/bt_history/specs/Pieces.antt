@@ -1,10 +1,11 @@
 -- What a history says of blocks and pieces.
-use Rattle.std.specs.Prelude.{ℕ, zero, suc, Bool, true, false, not, ◌&&◌, ◌||◌, List, [], ◌∷◌, ◌++◌, Option, None, Some, is_some, unwrap_or, nat_lt}
-use Rattle.std.specs.Prelude.{if◌then◌else◌}
+use Rattle.std.specs.Prelude.{ℕ, zero, suc, Bool, false, not, ◌&&◌, ◌||◌, List, [], ◌∷◌, ◌++◌, Option, None, Some, is_some, unwrap_or, nat_lt}
+use Rattle.std.specs.Prelude.{if◌then◌else◌, ◌==◌, slice_index_or}
 use Rattle.bt_meta.specs.declared.block.Block.{Block}
 use Rattle.bt_meta.specs.Layout.{piece_count, block_count, block}
 use Rattle.bt_history.specs.declared.event.Action.{Action}
-use Rattle.bt_history.specs.declared.event.Action.TheVariants.{Want}
+use Rattle.bt_history.specs.declared.event.Action.TheVariants.{Want, Level, Levels, InOrder}
+use Rattle.bt_history.specs.declared.rules.TheConstants.{USUAL_LEVEL}
 use Rattle.bt_history.specs.Counting.{any_below, count_below}
 use Rattle.bt_history.specs.Setting.{Setting, some_block_of, each_block_of, some_block, each_block}
 use Rattle.bt_history.specs.History.{History, counted_call, stored, failed, passed}
@@ -76,19 +77,39 @@ unbegun s h p = not (had h p) && not (some_block_of s.torrent p (held_or_asked s
 abbrev pub availability : Setting → History → ℕ → ℕ
 availability s h p = count_below s.workers (λ q. joined h q && shows h q p)
 
--- whether piece p is wanted after the newest call, from what it was before
-abbrev pub chosen_after : Option Action → ℕ → Bool → Bool
-chosen_after (Some (Want flags)) p before = flag flags p
-chosen_after call p before = before
+-- the level of a piece that is chosen, or isn't
+abbrev pub level_if : Bool → ℕ
+level_if chosen = if chosen then USUAL_LEVEL else 0
 
--- the newest Want, whoever made it, has piece p; until there is one, each piece is chosen
-unfoldable pub chosen : History → ℕ → Bool
-chosen [] p = true
-chosen (e ∷ h) p = chosen_after (counted_call e) p (chosen h p)
+-- the level of piece p after the newest call, from what it was before
+abbrev pub level_after : Option Action → ℕ → ℕ → ℕ
+level_after (Some (Want flags)) p before = level_if (flag flags p)
+level_after (Some (Levels levels)) p before = slice_index_or levels p 0
+level_after (Some (Level piece n)) p before = if piece == p then n else before
+level_after call p before = before
+
+-- the level of piece p: the newest that was told of it, whoever told it; until there is one, the usual
+unfoldable pub level : History → ℕ → ℕ
+level [] p = USUAL_LEVEL
+level (e ∷ h) p = level_after (counted_call e) p (level h p)
+
+-- piece p is chosen: its level isn't 0
+abbrev pub chosen : History → ℕ → Bool
+chosen h p = nat_lt 0 (level h p)
 
 -- piece p is to be downloaded: a chosen piece of the torrent
 abbrev pub wanted : Setting → History → ℕ → Bool
 wanted s h p = nat_lt p (piece_count s.torrent) && chosen h p
+
+-- whether pieces come in order after the newest call, from what it was before
+abbrev pub in_order_after : Option Action → Bool → Bool
+in_order_after (Some (InOrder rising)) before = rising
+in_order_after call before = before
+
+-- the newest InOrder, whoever made it, has pieces in rising order; until there is one, the rarest come first
+unfoldable pub in_order : History → Bool
+in_order [] = false
+in_order (e ∷ h) = in_order_after (counted_call e) (in_order h)
 
 -- endgame: every wanted block that is lacking is asked of somebody, and there is one that is lacking
 abbrev pub endgame : Setting → History → Bool

@@ -10,8 +10,8 @@ use bt_meta::{Bitfield, Block};
 use bytes::Bytes;
 use std::sync::Arc;
 
-/// What a peer's worker tells the picker of its peer, or asks of it. All but `Next`, `Settle`, `Want`, `Depth` and `Release` tell what came
-/// on the wire (BEP 3, BEP 6).
+/// What a peer's worker tells the picker of its peer, or asks of it. All but `Next`, `Settle`, `Want`, `Depth`, `Release`, `Level`, `Levels`
+/// and `InOrder` tell what came on the wire (BEP 3, BEP 6).
 #[derive(Drop)]
 pub enum Call {
     /// The handshakes were exchanged.
@@ -36,8 +36,8 @@ pub enum Call {
     Settle(Arc<Verdict>),
     /// The connection is gone.
     Leave,
-    /// From now on just the pieces with their flag set are to be downloaded. Any worker may tell this, and the newest holds for all.
-    /// Until there is one, each piece is. What was asked before stays asked.
+    /// From now on just the pieces with their flag set are to be downloaded, all of them at [`USUAL_LEVEL`](crate::USUAL_LEVEL). Any worker
+    /// may tell this, and the newest holds for all. Until there is one, each piece is. What was asked before stays asked.
     Want(Bitfield),
     /// The peer has these pieces too, at any time: a `have` for each of them. A second `bitfield`, which some clients send, and
     /// `have all` and `have none` (BEP 6) are told so.
@@ -51,6 +51,16 @@ pub enum Call {
         piece: u32,
         begin: u32,
     },
+    /// From now on the piece has this level: 0 isn't downloaded, and pieces of a higher level come before those of a lower one. Any worker
+    /// may tell this, and the newest holds for all. What was asked before stays asked.
+    Level {
+        piece: u32,
+        level: u8,
+    },
+    /// From now on each piece has the level of its byte, the first piece's first.
+    Levels(Bytes),
+    /// From now on pieces of one level come in rising order, or else the rarest first, as they do until this is told. Any worker may tell it.
+    InOrder(bool),
 }
 
 /// Why a call was refused.
@@ -60,7 +70,7 @@ pub enum Reason {
     AlreadyJoined,
     /// A bitfield after another one, or after a have, choke, unchoke or block, since the peer joined.
     LateBits,
-    /// A bitfield, or the flags of the wanted pieces, of another number of pieces than the torrent has.
+    /// A bitfield, the flags of the wanted pieces, or the levels, of another number of pieces than the torrent has.
     WrongCount,
     NoSuchPiece,
     /// No block begins there.
@@ -74,6 +84,8 @@ pub enum Reason {
     NotAsked,
     /// A depth of 0, or a greater one than the rules let be told.
     WrongDepth,
+    /// A level above 7.
+    WrongLevel,
 }
 
 /// What the picker answers to a call.
@@ -138,6 +150,12 @@ impl Call {
                 piece: *piece,
                 begin: *begin,
             },
+            Call::Level { piece, level } => CallMark::Level {
+                piece: *piece,
+                level: *level,
+            },
+            Call::Levels(_) => CallMark::Levels,
+            Call::InOrder(rising) => CallMark::InOrder(*rising),
         }
     }
 }

@@ -28,6 +28,12 @@ pub enum Action {
         piece: u32,
         begin: u32,
     },
+    Level {
+        piece: u32,
+        level: u8,
+    },
+    Levels(LinkedList<u8>),
+    InOrder(bool),
 }
 
 /// An entry by its plain values.

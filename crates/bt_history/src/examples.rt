@@ -14,7 +14,10 @@ ghost use Rattle.bt_history.specs.Examples.{want_before_the_bits, asked_stays_as
 ghost use Rattle.bt_history.specs.Examples.{released_piece_is_unbegun, released_is_asked_again, released_arrives_after_all, depth_of_one};
 ghost use Rattle.bt_history.specs.Examples.{deepened, depth_outlasts_a_choke, depth_goes_with_its_peer, smaller_depth, one_asker};
 ghost use Rattle.bt_history.specs.Examples.{two_askers, no_depth_may_be_told, greatest_depth, refusals_of_release_and_depth};
-ghost use Rattle.bt_history.specs.Examples.{haves_after_a_bitfield, haves_after_a_have, haves_of_none, haves_are_counted};
+ghost use Rattle.bt_history.specs.Examples.{haves_after_a_bitfield, haves_after_a_have, haves_of_none, haves_are_counted, two_levels};
+ghost use Rattle.bt_history.specs.Examples.{raised_in_mid_download, streaming, earlier_piece_in_order, in_order_told_off};
+ghost use Rattle.bt_history.specs.Examples.{peer_of_low_levels, unwanted_by_level, levels_of_none, want_after_levels};
+ghost use Rattle.bt_history.specs.Examples.{level_before_the_bits, endgame_of_all_levels, asked_outlasts_its_level, refusals_of_levels};
 ghost use Rattle.bt_history.specs.Examples.{idle_though_a_block_is_usable, second_piece_started_while_a_begun_one_has_a_usable_block};
 ghost use Rattle.bt_history.specs.Examples.{availability_counts_a_peer_that_left, commoner_piece_started};
 ghost use Rattle.bt_history.specs.Examples.{second_peer_asked_while_a_block_is_unasked, second_peer_asked_before_endgame};
@@ -35,7 +38,17 @@ ghost use Rattle.bt_history.specs.Examples.{third_asker_of_two, second_asker_of_
 ghost use Rattle.bt_history.specs.Examples.{unasked_block_released, block_of_another_peer_released, depth_of_none_told};
 ghost use Rattle.bt_history.specs.Examples.{depth_beyond_the_rules_told, block_released_twice, idle_though_the_bitfield_shows_more};
 ghost use Rattle.bt_history.specs.Examples.{nothing_left_though_the_bitfield_shows_more, bits_after_haves_noted};
-ghost use Rattle.bt_history.specs.Examples.{haves_noted_without_the_bits, availability_without_the_haves};
+ghost use Rattle.bt_history.specs.Examples.{haves_noted_without_the_bits, availability_without_the_haves, low_level_asked_first};
+ghost use Rattle.bt_history.specs.Examples.{commoner_piece_of_the_level_started, rarer_piece_of_a_lower_level_started};
+ghost use Rattle.bt_history.specs.Examples.{second_peer_asked_though_a_low_level_is_unasked, begun_piece_of_a_lower_level_continued};
+ghost use Rattle.bt_history.specs.Examples.{in_order_before_levels, in_order_by_the_wrong_end, moved_head_passed_over};
+ghost use Rattle.bt_history.specs.Examples.{begun_piece_continued_though_in_order, rarest_though_in_order, in_order_though_told_off};
+ghost use Rattle.bt_history.specs.Examples.{idle_though_a_low_level_is_usable, piece_of_level_0_asked, idle_though_wanted_again};
+ghost use Rattle.bt_history.specs.Examples.{bits_noted_though_of_level_0, nothing_left_though_a_level_rose, older_level_outlasts_a_want};
+ghost use Rattle.bt_history.specs.Examples.{level_below_the_usual_asked_first, bits_late_by_a_level, level_from_before_the_bits_forgotten};
+ghost use Rattle.bt_history.specs.Examples.{endgame_though_a_low_level_is_unasked, asked_block_of_level_0_dropped, level_of_no_piece_taken};
+ghost use Rattle.bt_history.specs.Examples.{level_8_taken, levels_of_a_wrong_count_taken, levels_with_an_8_taken};
+ghost use Rattle.bt_history.specs.Examples.{levels_refused_for_a_later_cause, level_of_a_stranger_refused, order_of_a_stranger_refused};
 
 /// The worked examples are legal histories.
 pub fn worked_examples()
@@ -88,6 +101,19 @@ pub fn worked_examples()
     ensures haves_after_a_have { IsLegal (setting_of torrent_short_last 1 usual_rules) (reverse haves_after_a_have) }
     ensures haves_of_none { IsLegal (setting_of torrent_short_last 2 usual_rules) (reverse haves_of_none) }
     ensures haves_are_counted { IsLegal (setting_of torrent_short_last 2 (rules 5 0)) (reverse haves_are_counted) }
+    ensures two_levels { IsLegal (setting_of torrent_four_pieces 3 (rules 5 0)) (reverse two_levels) }
+    ensures raised_in_mid_download { IsLegal (setting_of torrent_two_blocks 1 usual_rules) (reverse raised_in_mid_download) }
+    ensures streaming { IsLegal (setting_of torrent_four_pieces 1 usual_rules) (reverse streaming) }
+    ensures earlier_piece_in_order { IsLegal (setting_of torrent_two_blocks 1 usual_rules) (reverse earlier_piece_in_order) }
+    ensures in_order_told_off { IsLegal (setting_of torrent_four_pieces 2 (rules 5 0)) (reverse in_order_told_off) }
+    ensures peer_of_low_levels { IsLegal (setting_of torrent_four_pieces 2 usual_rules) (reverse peer_of_low_levels) }
+    ensures unwanted_by_level { IsLegal (setting_of torrent_two_pieces 1 usual_rules) (reverse unwanted_by_level) }
+    ensures levels_of_none { IsLegal (setting_of torrent_short_last 1 usual_rules) (reverse levels_of_none) }
+    ensures want_after_levels { IsLegal (setting_of torrent_four_pieces 2 (rules 5 0)) (reverse want_after_levels) }
+    ensures level_before_the_bits { IsLegal (setting_of torrent_two_pieces 1 usual_rules) (reverse level_before_the_bits) }
+    ensures endgame_of_all_levels { IsLegal (setting_of torrent_two_pieces 3 usual_rules) (reverse endgame_of_all_levels) }
+    ensures asked_outlasts_its_level { IsLegal (setting_of torrent_two_pieces 1 usual_rules) (reverse asked_outlasts_its_level) }
+    ensures refusals_of_levels { IsLegal (setting_of torrent_short_last 2 usual_rules) (reverse refusals_of_levels) }
 {}
 
 /// One wrong reply to the next call of a worked example isn't allowed, for each way to go wrong.
@@ -208,4 +234,62 @@ pub fn wrong_replies()
         (reverse (take 9 haves_of_none)) haves_noted_without_the_bits }
     ensures availability_without_the_haves { ¬ IsAllowed (setting_of torrent_short_last 2 (rules 5 0))
         (reverse (take 6 haves_are_counted)) availability_without_the_haves }
+    ensures low_level_asked_first { ¬ IsAllowed (setting_of torrent_four_pieces 3 (rules 5 0))
+        (reverse (take 10 two_levels)) low_level_asked_first }
+    ensures commoner_piece_of_the_level_started { ¬ IsAllowed (setting_of torrent_four_pieces 3 (rules 5 0))
+        (reverse (take 10 two_levels)) commoner_piece_of_the_level_started }
+    ensures rarer_piece_of_a_lower_level_started { ¬ IsAllowed (setting_of torrent_four_pieces 3 (rules 5 0))
+        (reverse (take 11 two_levels)) rarer_piece_of_a_lower_level_started }
+    ensures second_peer_asked_though_a_low_level_is_unasked { ¬ IsAllowed (setting_of torrent_four_pieces 3 (rules 5 0))
+        (reverse (take 12 two_levels)) second_peer_asked_though_a_low_level_is_unasked }
+    ensures begun_piece_of_a_lower_level_continued { ¬ IsAllowed (setting_of torrent_two_blocks 1 usual_rules)
+        (reverse (take 5 raised_in_mid_download)) begun_piece_of_a_lower_level_continued }
+    ensures in_order_before_levels { ¬ IsAllowed (setting_of torrent_four_pieces 1 usual_rules)
+        (reverse (take 5 streaming)) in_order_before_levels }
+    ensures in_order_by_the_wrong_end { ¬ IsAllowed (setting_of torrent_four_pieces 1 usual_rules)
+        (reverse (take 6 streaming)) in_order_by_the_wrong_end }
+    ensures moved_head_passed_over { ¬ IsAllowed (setting_of torrent_four_pieces 1 usual_rules)
+        (reverse (take 9 streaming)) moved_head_passed_over }
+    ensures begun_piece_continued_though_in_order { ¬ IsAllowed (setting_of torrent_two_blocks 1 usual_rules)
+        (reverse (take 6 earlier_piece_in_order)) begun_piece_continued_though_in_order }
+    ensures rarest_though_in_order { ¬ IsAllowed (setting_of torrent_four_pieces 2 (rules 5 0))
+        (reverse (take 6 in_order_told_off)) rarest_though_in_order }
+    ensures in_order_though_told_off { ¬ IsAllowed (setting_of torrent_four_pieces 2 (rules 5 0))
+        (reverse (take 8 in_order_told_off)) in_order_though_told_off }
+    ensures idle_though_a_low_level_is_usable { ¬ IsAllowed (setting_of torrent_four_pieces 2 usual_rules)
+        (reverse (take 7 peer_of_low_levels)) idle_though_a_low_level_is_usable }
+    ensures piece_of_level_0_asked { ¬ IsAllowed (setting_of torrent_two_pieces 1 usual_rules)
+        (reverse (take 4 unwanted_by_level)) piece_of_level_0_asked }
+    ensures idle_though_wanted_again { ¬ IsAllowed (setting_of torrent_two_pieces 1 usual_rules)
+        (reverse (take 7 unwanted_by_level)) idle_though_wanted_again }
+    ensures bits_noted_though_of_level_0 { ¬ IsAllowed (setting_of torrent_short_last 1 usual_rules)
+        (reverse (take 2 levels_of_none)) bits_noted_though_of_level_0 }
+    ensures nothing_left_though_a_level_rose { ¬ IsAllowed (setting_of torrent_short_last 1 usual_rules)
+        (reverse (take 6 levels_of_none)) nothing_left_though_a_level_rose }
+    ensures older_level_outlasts_a_want { ¬ IsAllowed (setting_of torrent_four_pieces 2 (rules 5 0))
+        (reverse (take 7 want_after_levels)) older_level_outlasts_a_want }
+    ensures level_below_the_usual_asked_first { ¬ IsAllowed (setting_of torrent_four_pieces 2 (rules 5 0))
+        (reverse (take 10 want_after_levels)) level_below_the_usual_asked_first }
+    ensures bits_late_by_a_level { ¬ IsAllowed (setting_of torrent_two_pieces 1 usual_rules)
+        (reverse (take 2 level_before_the_bits)) bits_late_by_a_level }
+    ensures level_from_before_the_bits_forgotten { ¬ IsAllowed (setting_of torrent_two_pieces 1 usual_rules)
+        (reverse (take 4 level_before_the_bits)) level_from_before_the_bits_forgotten }
+    ensures endgame_though_a_low_level_is_unasked { ¬ IsAllowed (setting_of torrent_two_pieces 3 usual_rules)
+        (reverse (take 11 endgame_of_all_levels)) endgame_though_a_low_level_is_unasked }
+    ensures asked_block_of_level_0_dropped { ¬ IsAllowed (setting_of torrent_two_pieces 1 usual_rules)
+        (reverse (take 5 asked_outlasts_its_level)) asked_block_of_level_0_dropped }
+    ensures level_of_no_piece_taken { ¬ IsAllowed (setting_of torrent_short_last 2 usual_rules)
+        (reverse (take 0 refusals_of_levels)) level_of_no_piece_taken }
+    ensures level_8_taken { ¬ IsAllowed (setting_of torrent_short_last 2 usual_rules)
+        (reverse (take 1 refusals_of_levels)) level_8_taken }
+    ensures levels_of_a_wrong_count_taken { ¬ IsAllowed (setting_of torrent_short_last 2 usual_rules)
+        (reverse (take 3 refusals_of_levels)) levels_of_a_wrong_count_taken }
+    ensures levels_with_an_8_taken { ¬ IsAllowed (setting_of torrent_short_last 2 usual_rules)
+        (reverse (take 5 refusals_of_levels)) levels_with_an_8_taken }
+    ensures levels_refused_for_a_later_cause { ¬ IsAllowed (setting_of torrent_short_last 2 usual_rules)
+        (reverse (take 6 refusals_of_levels)) levels_refused_for_a_later_cause }
+    ensures level_of_a_stranger_refused { ¬ IsAllowed (setting_of torrent_short_last 2 usual_rules)
+        (reverse (take 8 refusals_of_levels)) level_of_a_stranger_refused }
+    ensures order_of_a_stranger_refused { ¬ IsAllowed (setting_of torrent_short_last 2 usual_rules)
+        (reverse (take 9 refusals_of_levels)) order_of_a_stranger_refused }
 {}

@@ -5,14 +5,16 @@ ghost use Rattle.sha1.specs.Sha1.{sha1};
 ghost use Rattle.bt_meta.specs.declared.block.Block.{Block};
 ghost use Rattle.bt_meta.specs.Layout.{hash_of};
 ghost use Rattle.bt_history.specs.declared.call.Reply.{Reply};
+ghost use Rattle.bt_history.specs.declared.rules.TheConstants.{MOST_LEVEL};
 ghost use Rattle.bt_history.specs.Setting.{deepest_line, is_block, setting_of};
 ghost use Rattle.bt_history.specs.Entries.{event_of, giving_up, history_of};
-ghost use Rattle.bt_history.specs.Before.{asked_before, doubles_before, late_before, never_adds, never_deepens, never_releases, outstanding_before, shows_before};
+ghost use Rattle.bt_history.specs.Before.{asked_before, chosen_before, doubles_before, late_before, next_before, outstanding_before, shows_before};
+ghost use Rattle.bt_history.specs.Before.{never_adds, never_deepens, never_levels, never_releases};
 ghost use Rattle.bt_history.specs.History.{same_begin};
 ghost use Rattle.bt_history.specs.Epochs.{epoch, is_idle, pass_by};
-ghost use Rattle.bt_history.specs.Next.{Exactly, doubles, next_answer};
+ghost use Rattle.bt_history.specs.Next.{Exactly, doubles, next_answer, usable};
 ghost use Rattle.bt_history.specs.Peers.{asked, asked_count, depth_of, depth_so_far, due, due_count, late, ListsAsked, outstanding, shows};
-ghost use Rattle.bt_history.specs.Pieces.{asker_count, held, full, content, had, endgame, unasked, wanted, was_endgame, sender};
+ghost use Rattle.bt_history.specs.Pieces.{asker_count, held, full, content, had, endgame, unasked, wanted, was_endgame, sender, chosen, in_order, level};
 ghost use Rattle.bt_history.specs.Legal.{IsLegal, place_at};
 
 use crate::call::{Entry, Reply};
@@ -218,4 +220,59 @@ pub fn idle_until_the_epoch_rises(
 /// Each held block has a worker whose peer brought it, and no other block has.
 pub fn held_has_a_sender(journal: &[Entry], block: Block)
     ensures { is_some (sender (history_of journal.now) block) ≡ held (history_of journal.now) block }
+{}
+
+/// The level of a piece is never above the highest.
+pub fn levels_are_few(torrent: &Torrent, workers: u32, rules: Rules, journal: &[Entry], piece: u32)
+    requires { IsLegal (setting_of torrent.now.layout workers rules) (history_of journal.now) }
+    ensures { level (history_of journal.now) piece ≤ MOST_LEVEL }
+{}
+
+/// No block is asked of a peer while an unasked one of a higher level could be, whether its piece is begun or not. So a level that is raised
+/// waits for no begun piece of a lower one. In endgame no block is unasked, and all levels are alike.
+pub fn higher_levels_first(
+    torrent: &Torrent,
+    workers: u32,
+    rules: Rules,
+    older: &[Entry],
+    entry: &Entry,
+    block: Block,
+)
+    requires legal { IsLegal (setting_of torrent.now.layout workers rules) (event_of entry.now ∷ history_of older.now) }
+    requires request { entry.now.reply ≡ Reply.Request block }
+    ensures { (other : Block) → IsTrue (is_block torrent.now.layout other)
+        → IsTrue (usable (setting_of torrent.now.layout workers rules) (history_of older.now) entry.now.worker other)
+        → level (history_of older.now) other.piece ≤ level (history_of older.now) block.piece }
+{}
+
+/// In order, no block is asked of a peer while an unasked one of an earlier piece of its level could be, whether that piece is begun or not.
+pub fn rising_order(
+    torrent: &Torrent,
+    workers: u32,
+    rules: Rules,
+    older: &[Entry],
+    entry: &Entry,
+    block: Block,
+)
+    requires legal { IsLegal (setting_of torrent.now.layout workers rules) (event_of entry.now ∷ history_of older.now) }
+    requires request { entry.now.reply ≡ Reply.Request block }
+    requires in_order { IsTrue (in_order (history_of older.now)) }
+    ensures { (other : Block) → IsTrue (is_block torrent.now.layout other)
+        → IsTrue (usable (setting_of torrent.now.layout workers rules) (history_of older.now) entry.now.worker other)
+        → level (history_of older.now) other.piece ≡ level (history_of older.now) block.piece → block.piece ≤ other.piece }
+{}
+
+/// Where no entry gave pieces a level or an order, the same pieces are chosen as before that could be, and the answers to Next are the same.
+pub fn flat_is_as_before(
+    torrent: &Torrent,
+    workers: u32,
+    rules: Rules,
+    journal: &[Entry],
+    worker: u32,
+    piece: u32,
+)
+    requires { IsTrue (never_levels (history_of journal.now)) }
+    ensures chosen { chosen (history_of journal.now) piece ≡ chosen_before (history_of journal.now) piece }
+    ensures answer { next_answer (setting_of torrent.now.layout workers rules) (history_of journal.now) worker
+        ≡ next_before (setting_of torrent.now.layout workers rules) (history_of journal.now) worker }
 {}

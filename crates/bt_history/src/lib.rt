@@ -12,4 +12,4 @@ pub use call::{Call, Entry, Reason, Reply};
 pub use event::{Action, Event};
 pub use examples::{worked_examples, wrong_replies};
 pub use mark::{CallMark, Mark};
-pub use rules::{MOST_DEPTH, MOST_TOLD_DEPTH, MOST_WORKERS, Rules};
+pub use rules::{MOST_DEPTH, MOST_LEVEL, MOST_TOLD_DEPTH, MOST_WORKERS, Rules, USUAL_LEVEL};

@@ -2,7 +2,7 @@
 
 use crate::call::Reply;
 
-/// A call without its bytes and its bitfield.
+/// A call without its bytes, its bitfield and its levels.
 #[derive(Clone, Copy, Debug, PartialEq, Eq)]
 pub enum CallMark {
     Join,
@@ -18,6 +18,9 @@ pub enum CallMark {
     Haves,
     Depth(u32),
     Release { piece: u32, begin: u32 },
+    Level { piece: u32, level: u8 },
+    Levels,
+    InOrder(bool),
 }
 
 /// What a worker's log keeps of an entry: its place in the journal (the number of older entries), its call and its reply.

@@ -12,6 +12,12 @@ pub const MOST_TOLD_DEPTH: u32 = 4096;
 /// The most workers, and so peers at a time, of one picker.
 pub const MOST_WORKERS: u32 = 1024;
 
+/// The highest level of a piece; a piece of level 0 isn't downloaded.
+pub const MOST_LEVEL: u8 = 7;
+
+/// The level of each piece until another one is told.
+pub const USUAL_LEVEL: u8 = 4;
+
 /// What a download may choose of the rules: how many blocks may be asked of one peer at a time, the cancels due at it included, how many
 /// pieces are picked at random before the rarest come first, and of how many peers one block is asked at the end (Cohen 2003, "Pipelining",
 /// "Random first piece" and "Endgame mode").

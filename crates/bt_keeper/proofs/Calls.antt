@@ -79,6 +79,9 @@ plain_stash old new rows w told reply plain is tells =
     left (kinds.Haves flags) plain = refl
     left (kinds.Depth n) plain = refl
     left (kinds.Release piece begin) plain = refl
+    left (kinds.Level piece n) plain = refl
+    left (kinds.Levels levels) plain = refl
+    left (kinds.InOrder rising) plain = refl
 
 -- what is no refusal has an entry
 told_gains : (old new : DeskState) (e : Event) → ((reason : Reason) → e.reply ≢ Refused reason) → Tells old new e → Gains old new e

@@ -11,7 +11,7 @@ use Rattle.bt_history.specs.declared.call.Reason.{Reason}
 use Rattle.bt_history.specs.declared.call.Reply.{Reply}
 use Rattle.bt_history.specs.declared.call.Reply.TheVariants.{Refused}
 use Rattle.bt_history.specs.declared.event.Action.{Action}
-use Rattle.bt_history.specs.declared.event.Action.TheVariants.{Arrived, Bits, Choke, Depth, Have, Haves, Join, Leave, Next, Release, Settle, Unchoke, Want}
+use Rattle.bt_history.specs.declared.event.Action.TheVariants.{Arrived, Bits, Choke, Depth, Have, Haves, InOrder, Join, Leave, Level, Levels, Next, Release, Settle, Unchoke, Want}
 use Rattle.bt_history.specs.declared.event.Event.{Event}
 use Rattle.bt_history.specs.History.{History, bytes_for, failed, is_failed, is_had, settles, stored, stores}
 use Rattle.bt_history.specs.Legal.{IsAllowed}
@@ -256,6 +256,9 @@ module _ (s : Setting) (h : History) (rows : Rows) (w : ℕ) (is : IsStash s h r
   restash (Want flags) reply allowed = quiet (Want flags) reply (λ b. refl) (λ p. refl)
   restash (Haves flags) reply allowed = quiet (Haves flags) reply (λ b. refl) (λ p. refl)
   restash (Depth n) reply allowed = quiet (Depth n) reply (λ b. refl) (λ p. refl)
+  restash (Level p n) reply allowed = quiet (Level p n) reply (λ b. refl) (λ p. refl)
+  restash (Levels levels) reply allowed = quiet (Levels levels) reply (λ b. refl) (λ p. refl)
+  restash (InOrder rising) reply allowed = quiet (InOrder rising) reply (λ b. refl) (λ p. refl)
   restash (Release p begin) reply allowed = quiet (Release p begin) reply (λ b. refl) (λ q. refl)
 
 abbrev no_blocks : List (List ℕ)

@@ -7,7 +7,7 @@ ghost use Rattle.bt_history.specs.declared.call.Reply.{Reply};
 ghost use Rattle.bt_history.specs.declared.event.Action.TheVariants.{Arrived};
 ghost use Rattle.bt_history.specs.Epochs.{epoch};
 ghost use Rattle.bt_history.specs.Peers.{outstanding};
-ghost use Rattle.bt_history.specs.Pieces.{availability, content, content_of_block, had, sender, wanted};
+ghost use Rattle.bt_history.specs.Pieces.{availability, content, content_of_block, had, in_order, level, sender, wanted};
 ghost use Rattle.bt_history.specs.Setting.{AreRules, setting_of};
 ghost use Rattle.bt_picker.specs.Checks.{IsJobOf, arriving, blocks_of, waits};
 ghost use Rattle.bt_picker.specs.Contents.{complete, has_wanted};
@@ -282,12 +282,27 @@ impl Keeper {
         self.picker.had(piece)
     }
 
-    /// Whether the piece is to be downloaded: by the newest Want, whoever made it. Until there is one, each piece is.
+    /// Whether the piece is to be downloaded: its level isn't 0.
     pub fn wanted(&self, piece: u32) -> bool
         requires { piece < piece_count self.now.setting.torrent }
         ensures { result ≡ wanted self.now.setting self.now.history piece }
     {
         self.picker.wanted(piece)
+    }
+
+    /// The level of the piece, 0 to 7: the usual one until another is told, and 0 where it isn't wanted.
+    pub fn level(&self, piece: u32) -> u8
+        requires { piece < piece_count self.now.setting.torrent }
+        ensures { result ≡ level self.now.history piece }
+    {
+        self.picker.level(piece)
+    }
+
+    /// Whether pieces of one level come in rising order, or else the rarest first.
+    pub fn is_in_order(&self) -> bool
+        ensures { result ≡ in_order self.now.history }
+    {
+        self.picker.is_in_order()
     }
 
     /// How many joined peers show the piece.

@@ -1,6 +1,6 @@
 //! Numbers in groups: each group is listed, and a number moves between groups next to one another.
 
-ghost use Rattle.std.specs.Prelude.{◌≡◌, ◌<◌, ◌≤◌, ◌+◌, ◌-◌, length, replicate, slice_set, IfOk};
+ghost use Rattle.std.specs.Prelude.{◌≡◌, ◌<◌, ◌≤◌, ◌+◌, ◌-◌, ℕ, true, length, replicate, slice_set, IfOk};
 ghost use Rattle.std.specs.List.{range_with_len};
 ghost use Rattle.bt_order.specs.Orders.{at, AreInverse, Begins, ListsGroup, OrderState, TellsFirst};
 
@@ -68,6 +68,16 @@ impl Order {
         let begin = begin_of(&self.ends, group);
         let end = self.ends[group as usize];
         &self.numbers[begin as usize..end as usize]
+    }
+
+    /// Whether no number is in the groups from `low` up to `high`, in constant time.
+    #[inline(always)]
+    pub fn has_none(&self, low: u32, high: u32) -> bool
+        requires low { low < high }
+        requires high { high ≤ self.now.count }
+        ensures { result ≡ true → (p : ℕ) → p < length self.now.group_of → low ≤ at self.now.group_of p → high ≤ at self.now.group_of p }
+    {
+        begin_of(&self.ends, low) == self.ends[high as usize - 1]
     }
 
     /// Whether each number is in group 0, in constant time.

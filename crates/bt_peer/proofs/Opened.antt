@@ -1,5 +1,5 @@
 -- The desk of a run before its first round.
-use Rattle.std.proofs.Common.{◌≡◌, ◌<◌, ◌≤◌, ℕ, Bool, false, not, List, [], ◌∷◌, length, get_or, refl, sym, ap, subst, ◌==◌, ◌∙◌, arith, eq-eqb}
+use Rattle.std.proofs.Common.{◌≡◌, ◌<◌, ◌≤◌, ℕ, Bool, false, true, not, nat_lt, List, [], ◌∷◌, length, get_or, refl, sym, ap, subst, ◌==◌, ◌∙◌, arith, eq-eqb}
 use Rattle.std.proofs.lemmas.Bool.Decides.{nat_tests}
 use Rattle.std.proofs.lemmas.List.{length-replicate}
 use Rattle.bt_meta.specs.Layout.{piece_count}
@@ -12,7 +12,8 @@ use Rattle.bt_history.specs.History.{History}
 use Rattle.bt_history.specs.Legal.{IsAllowed, Permits, answer, answer_unless, first_cause, refusal}
 use Rattle.bt_history.specs.Next.{Exactly}
 use Rattle.bt_history.specs.Finished.{finished}
-use Rattle.bt_history.specs.Pieces.{chosen, had}
+use Rattle.bt_history.specs.Peers.{flag}
+use Rattle.bt_history.specs.Pieces.{had, level, level_if}
 use Rattle.bt_history.specs.Setting.{Setting}
 use Rattle.bt_picker.specs.Positions.{DeskState, Gains as Enters}
 use Rattle.bt_peer.specs.Desks.{calls_in}
@@ -40,10 +41,15 @@ want_quiet s h worker flags reply same allowed =
     subst (λ (b : Bool). Permits s.torrent (answer_unless (first_cause ((not b, WrongCount) ∷ [])) (Exactly Quiet)) reply)
     (eq-eqb (length flags) (piece_count s.torrent) same) allowed.1
 
+-- a piece is chosen just where its level is that of a chosen one
+above_none : (is_chosen : Bool) → nat_lt 0 (level_if is_chosen) ≡ is_chosen
+above_none true = refl
+above_none false = refl
+
 -- a Want as the first call of all
 first_want : (setting : Setting) (worker : ℕ) (flags : List Bool) →
     HasOpened worker flags (record { setting = setting; history = record { worker = worker; action = Want flags; reply = Quiet } ∷ [] })
-unfolding had chosen
+unfolding had level
 first_want setting worker flags =
     let e : Entry = record { worker = worker; action = Want flags; reply = Quiet } in
     record {
@@ -54,7 +60,7 @@ first_want setting worker flags =
         none_had = λ piece. refl;
       };
       opened = calls_in-own [] e worker (eq-eqb worker worker refl);
-      chosen = λ piece. refl;
+      chosen = λ piece. above_none (flag flags piece);
     }
 
 pub opened_by : (old new : DeskState) (worker : ℕ) (flags : List Bool) (reply : Reply) → old.history ≡ [] →

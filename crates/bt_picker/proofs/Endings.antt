@@ -3,7 +3,7 @@ use Rattle.std.proofs.Common.{◌≡◌, ℕ, zero, suc, ◌+◌, ◌-◌, ◌*�
 use Rattle.std.proofs.Common.{◌∷◌, ◌++◌, length, refl, ap, sym, ◌∙◌, subst, arith, ⊎_elim}
 use Rattle.std.specs.Prelude.{IfSome, IfNone, nat_lt, if◌then◌else◌}
 use Rattle.std.specs.List.{sum_by}
-use Rattle.std.proofs.lemmas.Bool.{cases_eq, eq-eqb, ne_eqb, lt-ltb, false≢true, and_left, and_parts}
+use Rattle.std.proofs.lemmas.Bool.{cases_eq, cases_lt, eq-eqb, ne_eqb, le-ltb, lt-ltb, false≢true, false_from_ne_true, and_left, and_parts}
 use Rattle.std.proofs.lemmas.List.Sums.{sum_by_push, count_by-le-length}
 use Rattle.bt_meta.specs.declared.block.Block.{Block}
 use Rattle.bt_meta.specs.Layout.{piece_count, block_count, block, block_size}
@@ -11,19 +11,21 @@ use Rattle.bt_history.specs.Counting.{any_below, all_below, count_below, table}
 use Rattle.bt_history.specs.Setting.{Setting, is_block, some_block, some_block_of, each_block, each_block_of}
 use Rattle.bt_history.specs.History.{History}
 use Rattle.bt_history.specs.Peers.{shows, asked}
-use Rattle.bt_history.specs.Pieces.{had, asker_count, held, held_or_asked, availability, chosen, wanted, endgame}
+use Rattle.bt_history.specs.Pieces.{had, asker_count, held, held_or_asked, chosen, level, wanted, endgame}
 use Rattle.bt_history.specs.Legal.{IsLegal}
 use Rattle.bt_history.specs.Next.{doubles}
 use Rattle.bt_history.proofs.Below.{any_found, any_none, any_witness, all_found, all_at, any_same, count_at}
 use Rattle.bt_history.proofs.HeldLaws.{had_full}
 use Rattle.bt_tables.specs.Tables.{one_if, TablesState, PieceState}
 use Rattle.bt_picker.specs.Tables.{AreTables, piece_of, groups_of}
-use Rattle.bt_tables.specs.Standings.{shown_group, group_of_row, is_held, is_touched, standing_of, held_count, touched_count}
-use Rattle.bt_picker.specs.Search.{FindsAmong, FindsListed, Finds, FindsOf}
+use Rattle.bt_tables.specs.Standings.{first_group, group_of_row, stage_of_row, is_held, is_touched, standing_of, held_count, touched_count}
+use Rattle.bt_picker.proofs.Levelled.{Covers}
+use Rattle.bt_picker.proofs.Stages.{begun_stage, place_listed}
+use Rattle.bt_picker.specs.Search.{DoublesNone, FindsAmong, FindsListed, FindsOf}
 use Rattle.bt_order.specs.Orders.{at, ListsGroup}
 use Rattle.bt_picker.proofs.Scans.{finds_in_piece, none_in_pieces}
-use Rattle.bt_tables.proofs.Tabled.{length_table, get_or_table, table_more}
-use Rattle.bt_picker.proofs.Telling.{group_is, wanted_chosen, full_row, all_touched_row, cells_long, counted_all, held_counted}
+use Rattle.bt_tables.proofs.Tabled.{length_table, table_more}
+use Rattle.bt_picker.proofs.Telling.{unchosen, wanted_chosen, full_row, all_touched_row, cells_long, counted_all, held_counted}
 
 -- ---- in endgame a piece with a block to ask again has all its lacking blocks asked
 
@@ -37,10 +39,10 @@ double_parts true false a d is = absurd (cc is)
 double_parts true true true d is = absurd (cc is)
 double_parts true true false d is = (refl, refl, refl)
 
-pub doubles_group : (s : Setting) (h : History) (q p : ℕ) → IsLegal s h → p < piece_count s.torrent → endgame s h ≡ true →
+pub doubles_stage : (s : Setting) (h : History) (q p : ℕ) → IsLegal s h → p < piece_count s.torrent → endgame s h ≡ true →
     some_block_of s.torrent p (doubles s h q) ≡ true
-    → (shows h q p ≡ true) × (group_of_row (piece_of s h p) ≡ 1)
-doubles_group s h q p legal lp ending some =
+    → (shows h q p ≡ true) × (stage_of_row (piece_of s h p) ≡ 1)
+doubles_stage s h q p legal lp ending some =
     let found = any_witness (block_count s.torrent p) (λ k. doubles s h q (block s.torrent p k)) some in
     let k = found.0 in
     let b = block s.torrent p k in
@@ -56,8 +58,7 @@ doubles_group s h q p legal lp ending some =
     let not_had = never (had h p) refl (λ was. false≢true (sym parts.1 ∙ had_full s h p k legal was found.1)) in
     let picked = sym (wanted_chosen s h p lp) ∙ parts.2 in (
       parts.0,
-      group_is s h p ∙ (λ i. if not_had i || not (picked i) then 0 else if not (touched i) then shown_group (availability s h p) else if
-          all_touched i then 1 else 2),
+      begun_stage s h p true not_had picked touched all_touched,
     )
   where
     never : (x : Bool) → had h p ≡ x → (had h p ≡ true → ⊥) → had h p ≡ false
@@ -83,24 +84,24 @@ pub among_some : (t : _) (test : Block → Bool) (pieces : List ℕ) (n : ℕ) (
 among_some t test pieces n None so_far = tt
 among_some t test pieces n (Some b) so_far = so_far
 
-pub group_within : (s : Setting) (h : History) (n : ℕ) (pieces : List ℕ) → ListsGroup (groups_of s h) n pieces → (i : ℕ) → i < length pieces →
-    at pieces i < piece_count s.torrent
-group_within s h n pieces lists i li = omega (arith, lists.known i li, length_table (piece_count s.torrent) (λ p. group_of_row (piece_of s h p)))
+-- where nothing was found among the pieces of the level whose lacking blocks are all asked, no piece of the level has a block to ask again
+pub doubles_none : (s : Setting) (h : History) (q n : ℕ) (pieces : List ℕ) → IsLegal s h → endgame s h ≡ true →
+    ListsGroup (groups_of s h) (first_group n + 1) pieces
+    → FindsAmong s.torrent (doubles s h q) pieces (length pieces) None → DoublesNone s h q n
+doubles_none s h q n pieces legal ending lists none p lp same = false_from_ne_true (some_block_of s.torrent p (doubles s h q)) (λ is.
+    let stage = doubles_stage s h q p legal lp ending is in
+    let listed = place_listed s h n 1 p pieces lists lp same stage.1 in
+    false≢true (sym (none listed.0 listed.1) ∙ (ap (λ (r : ℕ). some_block_of s.torrent r (doubles s h q)) listed.2 ∙ is)))
 
-pub doubling_all : (s : Setting) (h : History) (q : ℕ) (pieces : List ℕ) (found : Option Block) → IsLegal s h → endgame s h ≡ true →
-    ListsGroup (groups_of s h) 1 pieces
-    → FindsAmong s.torrent (doubles s h q) pieces (length pieces) found → Finds s.torrent (doubles s h q) found
-doubling_all s h q pieces (Some b) legal ending lists some = some
-doubling_all s h q pieces None legal ending lists none = none_in_pieces s.torrent (doubles s h q)
-    (λ p lp. by_cases p lp (some_block_of s.torrent p (doubles s h q)) refl) where
-      by_cases : (p : ℕ) → p < piece_count s.torrent → (x : Bool) → some_block_of s.torrent p (doubles s h q) ≡ x → x ≡ false
-      by_cases p lp false is = refl
-      by_cases p lp true is =
-          let long = length_table (piece_count s.torrent) (λ r. group_of_row (piece_of s h r)) in
-          let one : at (groups_of s h) p ≡ 1 = get_or_table (piece_count s.torrent) (λ r. group_of_row (piece_of s h r)) p 0 lp ∙
-          (doubles_group s h q p legal lp ending is).1 in
-          let listed = lists.all p (omega (arith, long, lp)) one in
-          absurd (false≢true (sym (none listed.0 listed.1) ∙ (ap (λ (r : ℕ). some_block_of s.torrent r (doubles s h q)) listed.2 ∙ is)))
+-- so where no level has one there is none
+pub doubling_none : (s : Setting) (h : History) (q slot : ℕ) → Covers s h slot
+    → ((p : ℕ) → p < piece_count s.torrent → 7 - slot < level h p → some_block_of s.torrent p (doubles s h q) ≡ false)
+    → some_block s.torrent (doubles s h q) ≡ false
+doubling_none s h q slot covers above = none_in_pieces s.torrent (doubles s h q) (λ p lp. ⊎_elim
+    (λ (some : 0 < level h p). above p lp (covers p lp some))
+    (λ (none : level h p ≤ 0). any_none (block_count s.torrent p) (λ k. doubles s h q (block s.torrent p k)) (λ k lk.
+    and_left (wanted s h p) _ (wanted_chosen s h p lp ∙ le-ltb 0 (level h p) none)))
+    (cases_lt 0 (level h p)))
 
 -- ---- sums over a table
 
@@ -153,14 +154,14 @@ unasked_none s h p lp = by_choice (chosen h p) refl where
   by_choice : (x : Bool) → chosen h p ≡ x
       → ((standing_of (piece_of s h p)).unasked == 0) ≡ each_block_of s.torrent p (λ b. not (wanted s h b.piece) || held_or_asked s h b)
   by_choice true is =
-      (λ i. (if is i then length row.blocks else 0) - touched_count row.blocks == 0)
+      (λ i. (if (unchosen s h p ∙ ap not is) i then 0 else length row.blocks) - touched_count row.blocks == 0)
       ∙ (left_none (length row.blocks) (touched_count row.blocks) (touched_most s h p)
       ∙ (all_touched_row s h p
       ∙ all_same (block_count s.torrent p) (λ k. held_or_asked s h (block s.torrent p k))
       (λ k. not (wanted s h p) || held_or_asked s h (block s.torrent p k)) (λ k lk.
       ap (λ (x : Bool). not x || held_or_asked s h (block s.torrent p k)) (sym (wanted_chosen s h p lp ∙ is)))))
   by_choice false is =
-      (λ i. (if is i then length row.blocks else 0) - touched_count row.blocks == 0)
+      (λ i. (if (unchosen s h p ∙ ap not is) i then 0 else length row.blocks) - touched_count row.blocks == 0)
       ∙ (nothing (touched_count row.blocks)
       ∙ sym (all_found (block_count s.torrent p) (λ k. not (wanted s h p) || held_or_asked s h (block s.torrent p k)) (λ k lk.
       ap (λ (x : Bool). not x || held_or_asked s h (block s.torrent p k)) (wanted_chosen s h p lp ∙ is))))
@@ -178,14 +179,14 @@ unheld_some s h p lp = by_choice (chosen h p) refl where
   by_choice : (x : Bool) → chosen h p ≡ x
       → not ((standing_of (piece_of s h p)).unheld == 0) ≡ some_block_of s.torrent p (λ b. wanted s h b.piece && not (held h b))
   by_choice true is =
-      (λ i. not ((if is i then length row.blocks else 0) - held_count row.blocks == 0))
+      (λ i. not ((if (unchosen s h p ∙ ap not is) i then 0 else length row.blocks) - held_count row.blocks == 0))
       ∙ (ap not (left_none (length row.blocks) (held_count row.blocks) (held_most s h p) ∙ full_row s h p)
       ∙ (not_all (block_count s.torrent p) (λ k. held h (block s.torrent p k))
       ∙ any_same (block_count s.torrent p) (λ k. not (held h (block s.torrent p k))) (λ k. wanted s h p && not (held h (block s.torrent p k)))
       (λ k lk.
       ap (λ (x : Bool). x && not (held h (block s.torrent p k))) (sym (wanted_chosen s h p lp ∙ is)))))
   by_choice false is =
-      (λ i. not ((if is i then length row.blocks else 0) - held_count row.blocks == 0))
+      (λ i. not ((if (unchosen s h p ∙ ap not is) i then 0 else length row.blocks) - held_count row.blocks == 0))
       ∙ (nothing (held_count row.blocks)
       ∙ sym (any_none (block_count s.torrent p) (λ k. wanted s h p && not (held h (block s.torrent p k))) (λ k lk.
       ap (λ (x : Bool). x && not (held h (block s.torrent p k))) (wanted_chosen s h p lp ∙ is))))

@@ -1,8 +1,8 @@
--- Floors by the history: no candidate is shown by fewer peers; and what a reply tells of it.
-use Rattle.std.proofs.Common.{◌==◌, ◌≡◌, ◌⊎◌, ℕ, ◌<◌, ◌≤◌, Bool, true, false, not, ◌&&◌, ◌||◌, refl, ap, sym, ◌∙◌, subst, inl, inr, ⊎_elim, arith}
+-- Floors by the history: no candidate ranks before; and what a reply tells of it.
+use Rattle.std.proofs.Common.{◌==◌, ◌≡◌, ◌⊎◌, ℕ, ◌+◌, ◌-◌, ◌*◌, ◌<◌, ◌≤◌, Bool, true, false, not, ◌&&◌, ◌||◌, refl, ap, sym, ◌∙◌, subst, inl, inr, ⊎_elim, arith}
 use Rattle.std.proofs.Common.{List, length, set}
 use Rattle.std.specs.Prelude.{nat_le, nat_lt, slice_index_or, if◌then◌else◌}
-use Rattle.std.proofs.lemmas.Bool.{and_from, and_parts, eq-eqb, false_from_ne_true, false≢true, leb-true, le-ltb, or_left, or_right}
+use Rattle.std.proofs.lemmas.Bool.{and_from, and_left, and_parts, cases_eq, eq-eqb, false_from_ne_true, false≢true, leb-true, le-ltb, or_left, or_right}
 use Rattle.std.proofs.lemmas.List.{get_or-set_other, get_or-set_same}
 use mathlib.Core.Logic.{dite}
 use native.Mathlib.Decide.{ℕ_discrete}
@@ -12,25 +12,27 @@ use Rattle.bt_history.specs.declared.call.Reply.{Reply}
 use Rattle.bt_history.specs.declared.call.Reply.TheVariants.{Request, Idle, NothingLeft}
 use Rattle.bt_history.specs.declared.event.Action.TheVariants.{Have, Next}
 use Rattle.bt_history.specs.declared.event.Event.{Event}
-use Rattle.bt_history.specs.Setting.{Setting, each_block_of, some_block, some_block_of}
+use Rattle.bt_history.specs.Setting.{Setting, each_block_of, is_block, some_block, some_block_of}
 use Rattle.bt_history.specs.History.{History}
 use Rattle.bt_history.specs.Peers.{joined, shows}
-use Rattle.bt_history.specs.Pieces.{availability, begun, chosen, had, had_count, held_or_asked, unbegun, wanted}
+use Rattle.bt_history.specs.Pieces.{availability, begun, chosen, had, had_count, held_or_asked, in_order, level, unbegun, wanted}
 use Rattle.bt_history.specs.declared.call.Reply.TheVariants as said
-use Rattle.bt_history.specs.Legal.{IsAllowed, Permits, answer, interesting_after}
-use Rattle.bt_history.specs.Next.{continues, is_candidate, is_rarest, starts, usable}
+use Rattle.bt_history.specs.Legal.{IsAllowed, IsLegal, Permits, answer, interesting_after}
+use Rattle.bt_history.specs.Next.{continues, is_candidate, is_rarest, starts, tops, usable}
+use Rattle.bt_history.proofs.Levels.{implied, level_bounded, top_above}
 use Rattle.bt_history.proofs.Allowed.{answered, no_cause}
 use Rattle.bt_history.proofs.Below.{all_at, count_most}
 use Rattle.bt_history.proofs.LineLaws.{block_is_block, some_found}
 use Rattle.bt_history.proofs.NextCases.{next_cases, next_is, next_request}
-use Rattle.bt_tables.specs.Floors.{IsFloor, TellsFloor, is_fresh}
-use Rattle.bt_picker.specs.Search.{NoneRarer}
-use Rattle.bt_tables.specs.Standings.{group_of_row, shown_group}
+use Rattle.bt_tables.specs.Floors.{IsFloor, NoneFresh, TellsFloor, is_fresh, rank_of_row}
+use Rattle.bt_picker.specs.Search.{NoneBefore, NoneBegins, rank_at}
+use Rattle.bt_tables.specs.Standings.{shown_stage, stage_of_row}
 use Rattle.std.specs.List.{count_by}
 use Rattle.bt_picker.specs.Tables.{AreTables, peer_of, piece_of}
 use Rattle.bt_tables.specs.Tables.{PeerState, PieceState, TablesState, announced, edit, fresh_peer, fresh_piece, have_row, less_available}
 use Rattle.bt_tables.specs.Tables.{more_available, peer_row, piece_row}
-use Rattle.bt_picker.proofs.Telling.{group_is, had_rows, untouched_row, wanted_chosen}
+use Rattle.bt_picker.proofs.Stages.{candidate_parts}
+use Rattle.bt_picker.proofs.Telling.{had_rows, stage_is, unchosen, untouched_row, wanted_chosen}
 use Rattle.bt_picker.proofs.Scans.{candidate_usable, first_block, lacks_found}
 use Rattle.bt_tables.proofs.Tabled.{edit_read, get_or_is_table, get_or_table, length_edit}
 
@@ -38,7 +40,7 @@ use Rattle.bt_tables.proofs.Tabled.{edit_read, get_or_is_table, get_or_table, le
 
 fresh_is : (s : Setting) (h : History) (p : ℕ) → is_fresh (piece_of s h p)
     ≡ (not (had h p || not (chosen h p)) && not (some_block_of s.torrent p (held_or_asked s h)))
-fresh_is s h p = ap (λ (x : Bool). not (had h p || not (chosen h p)) && x) (untouched_row s h p)
+fresh_is s h p = λ i. not (had h p || unchosen s h p i) && untouched_row s h p i
 
 fresh_parts : (d c t : Bool) → (not (d || not c) && not t) ≡ true → (d ≡ false) × (c ≡ true) × (t ≡ false)
 fresh_parts true c t is = absurd (cc is)
@@ -53,17 +55,10 @@ fresh_candidate s h q p lp shown fresh =
     and_from (wanted s h p) _ (wanted_chosen s h p lp ∙ parts.1)
     (and_from (shows h q p) _ shown (and_from (not (had h p)) _ (ap not parts.0) (ap not parts.2)))
 
-candidate_split : (w v d t : Bool) → (w && (v && (not d && not t))) ≡ true → (w ≡ true) × (v ≡ true) × (d ≡ false) × (t ≡ false)
-candidate_split false v d t is = absurd (cc is)
-candidate_split true false d t is = absurd (cc is)
-candidate_split true true true t is = absurd (cc is)
-candidate_split true true false true is = absurd (cc is)
-candidate_split true true false false is = (refl, refl, refl, refl)
-
 candidate_fresh : (s : Setting) (h : History) (q p : ℕ) → p < piece_count s.torrent → is_candidate s h q p ≡ true →
     (shows h q p ≡ true) × (is_fresh (piece_of s h p) ≡ true)
 candidate_fresh s h q p lp is =
-    let parts = candidate_split (wanted s h p) (shows h q p) (had h p) (some_block_of s.torrent p (held_or_asked s h)) is in
+    let parts = candidate_parts s h q p is in
     let picked : chosen h p ≡ true = sym (wanted_chosen s h p lp) ∙ parts.0 in
     (parts.1, fresh_is s h p ∙ (λ i. not (parts.2 i || not (picked i)) && not (parts.3 i)))
 
@@ -77,87 +72,117 @@ module _ (t : TablesState) (h : History) (w : ℕ) (are : AreTables t h) (lw : w
       lw)
       ∙ get_or_table (piece_count t.setting.torrent) (shows h w) p false lp
 
-  pub floor_rarer : (n : ℕ) → IsFloor t.pieces (peer_row t.peers w) n → NoneRarer t.setting h w n
-  floor_rarer n floor p lp fits =
+  pub floor_before : (n : ℕ) → IsFloor t.pieces (peer_row t.peers w) n → NoneBefore t.setting h w n
+  floor_before n floor p lp fits =
       let known = candidate_fresh t.setting h w p lp fits in
       let row = row_is p lp in
       let low = floor p (subst (λ (m : ℕ). p < m) (sym are.pieces_len) lp) (flag_is p lp ∙ known.0) (ap is_fresh row ∙ known.1) in
-      subst (λ (r : _). n ≤ r.availability) row low
+      subst (λ (r : PieceState). n ≤ rank_of_row r) row low
 
-  pub rarer_floor : (n : ℕ) → NoneRarer t.setting h w n → IsFloor t.pieces (peer_row t.peers w) n
-  rarer_floor n none p lp shown fresh =
+  pub before_floor : (n : ℕ) → NoneBefore t.setting h w n → IsFloor t.pieces (peer_row t.peers w) n
+  before_floor n none p lp shown fresh =
       let within : p < piece_count t.setting.torrent = subst (λ (m : ℕ). p < m) are.pieces_len lp in
       let row = row_is p within in
       let fits = fresh_candidate t.setting h w p within (sym (flag_is p within) ∙ shown) (ap is_fresh (sym row) ∙ fresh) in
-      subst (λ (r : _). n ≤ r.availability) (sym row) (none p within fits)
+      subst (λ (r : PieceState). n ≤ rank_of_row r) (sym row) (none p within fits)
+
+-- before the front no piece may be begun
+pub front_begins : (t : TablesState) (h : History) (n : ℕ) → AreTables t h → NoneFresh n t.pieces → NoneBegins t.setting h n
+front_begins t h n are none q p before lp = false_from_ne_true (is_candidate t.setting h q p) (λ may.
+    let row = get_or_is_table t.pieces (piece_count t.setting.torrent) (piece_of t.setting h) p (fresh_piece 0) are.pieces_are lp in
+    false≢true (sym (none p before (subst (λ (m : ℕ). p < m) (sym are.pieces_len) lp))
+    ∙ (ap is_fresh row ∙ (candidate_fresh t.setting h q p lp may).1)))
 
 -- ---- what a reply to Next tells
 
 -- without a usable block there is no candidate
-pub none_usable : (s : Setting) (h : History) (w n : ℕ) → IsLayout s.torrent → some_block s.torrent (usable s h w) ≡ false → NoneRarer s h w n
+pub none_usable : (s : Setting) (h : History) (w n : ℕ) → IsLayout s.torrent → some_block s.torrent (usable s h w) ≡ false → NoneBefore s h w n
 none_usable s h w n layout none p lp fits =
     let some = first_block s.torrent p layout lp in
     absurd (false≢true (sym none ∙ some_found s.torrent (usable s h w) (block s.torrent p 0) (block_is_block s.torrent p 0 lp some)
     (candidate_usable s h w p lp some fits)))
 
 -- where nothing is to be asked nothing is usable
-idle_cases : (t : Layout) (has_due opened full goes_on starts_one doubles_one waits : Bool)
-    (cancels ons firsts seconds : Block → Bool) (reply : Reply) → (reply ≡ Idle) ⊎ (reply ≡ NothingLeft)
-    → Permits t (next_cases has_due opened full goes_on starts_one doubles_one waits cancels ons firsts seconds) reply
+idle_cases : (t : Layout) (has_due opened full rises_one goes_on starts_one doubles_one waits : Bool)
+    (cancels risings ons firsts seconds : Block → Bool) (reply : Reply) → (reply ≡ Idle) ⊎ (reply ≡ NothingLeft)
+    → Permits t (next_cases has_due opened full rises_one goes_on starts_one doubles_one waits cancels risings ons firsts seconds) reply
     → starts_one ≡ false
 unfolding next_cases
-idle_cases t true _ _ _ _ _ _ cancels ons firsts seconds reply (inl is) h = absurd (cc (is, h.1))
-idle_cases t true _ _ _ _ _ _ cancels ons firsts seconds reply (inr is) h = absurd (cc (is, h.1))
-idle_cases t false false _ _ _ _ _ cancels ons firsts seconds reply (inl is) h = absurd (cc (is, h))
-idle_cases t false false _ _ _ _ _ cancels ons firsts seconds reply (inr is) h = absurd (cc (is, h))
-idle_cases t false true true _ _ _ _ cancels ons firsts seconds reply (inl is) h = absurd (cc (is, h))
-idle_cases t false true true _ _ _ _ cancels ons firsts seconds reply (inr is) h = absurd (cc (is, h))
-idle_cases t false true false true _ _ _ cancels ons firsts seconds reply (inl is) h = absurd (cc (is, h.1))
-idle_cases t false true false true _ _ _ cancels ons firsts seconds reply (inr is) h = absurd (cc (is, h.1))
-idle_cases t false true false false true _ _ cancels ons firsts seconds reply (inl is) h = absurd (cc (is, h.1))
-idle_cases t false true false false true _ _ cancels ons firsts seconds reply (inr is) h = absurd (cc (is, h.1))
-idle_cases t false true false false false _ _ cancels ons firsts seconds reply why h = refl
+idle_cases t true _ _ _ _ _ _ _ cancels risings ons firsts seconds reply (inl is) h = absurd (cc (is, h.1))
+idle_cases t true _ _ _ _ _ _ _ cancels risings ons firsts seconds reply (inr is) h = absurd (cc (is, h.1))
+idle_cases t false false _ _ _ _ _ _ cancels risings ons firsts seconds reply (inl is) h = absurd (cc (is, h))
+idle_cases t false false _ _ _ _ _ _ cancels risings ons firsts seconds reply (inr is) h = absurd (cc (is, h))
+idle_cases t false true true _ _ _ _ _ cancels risings ons firsts seconds reply (inl is) h = absurd (cc (is, h))
+idle_cases t false true true _ _ _ _ _ cancels risings ons firsts seconds reply (inr is) h = absurd (cc (is, h))
+idle_cases t false true false true _ _ _ _ cancels risings ons firsts seconds reply (inl is) h = absurd (cc (is, h.1))
+idle_cases t false true false true _ _ _ _ cancels risings ons firsts seconds reply (inr is) h = absurd (cc (is, h.1))
+idle_cases t false true false false true _ _ _ cancels risings ons firsts seconds reply (inl is) h = absurd (cc (is, h.1))
+idle_cases t false true false false true _ _ _ cancels risings ons firsts seconds reply (inr is) h = absurd (cc (is, h.1))
+idle_cases t false true false false false true _ _ cancels risings ons firsts seconds reply (inl is) h = absurd (cc (is, h.1))
+idle_cases t false true false false false true _ _ cancels risings ons firsts seconds reply (inr is) h = absurd (cc (is, h.1))
+idle_cases t false true false false false false _ _ cancels risings ons firsts seconds reply why h = refl
 
-begins : (s : Setting) (h : History) (w p : ℕ) → (nat_lt (had_count s h) s.random || is_rarest s h w p) ≡ true →
-    nat_lt (had_count s h) s.random ≡ false
-    → NoneRarer s h w (availability s h p)
-begins s h w p is settled r lr fits =
-    let least = all_at (piece_count s.torrent) (λ m. not (is_candidate s h w m) || nat_le (availability s h p) (availability s h m)) r
-    (subst (λ (x : Bool). (x || is_rarest s h w p) ≡ true) settled is) lr in
-    leb-true (availability s h p) (availability s h r) (subst (λ (x : Bool). (not x || nat_le (availability s h p) (availability s h r)) ≡ true) fits
-    least)
+-- a candidate's first block is usable
+candidate_block : (s : Setting) (h : History) (w p : ℕ) → IsLayout s.torrent → p < piece_count s.torrent → is_candidate s h w p ≡ true
+    → (is_block s.torrent (block s.torrent p 0) ≡ true) × (usable s h w (block s.torrent p 0) ≡ true)
+candidate_block s h w p layout lp fits =
+    let some = first_block s.torrent p layout lp in
+    (block_is_block s.torrent p 0 lp some, candidate_usable s h w p lp some fits)
+
+-- a rarest one of the highest level that has a candidate ranks before all others
+begins_first : (s : Setting) (h : History) (w : ℕ) (b : Block) → IsLegal s h → IsLayout s.torrent → s.workers < 65536 → starts s h w b ≡ true
+    → nat_lt (had_count s h) s.random ≡ false → NoneBefore s h w (rank_at s h b.piece)
+begins_first s h w b legal layout few first settled r lr fits =
+    let parts = and_parts (tops s h w b) _ first in
+    let rare = (and_parts (unbegun s h b.piece) _ parts.1).1 in
+    let least = all_at (piece_count s.torrent)
+    (λ m. not (is_candidate s h w m && (level h m == level h b.piece)) || nat_le (availability s h b.piece) (availability s h m)) r
+    (subst (λ (x : Bool). (x || is_rarest s h w b.piece) ≡ true) settled rare) lr in
+    let own = candidate_block s h w r layout lr fits in
+    let low = top_above s h w b (block s.torrent r 0) parts.0 own.0 own.1 in
+    let most = count_most s.workers (λ q. joined h q && shows h q b.piece) in
+    let bound = level_bounded s h b.piece legal in
+    ⊎_elim
+    (λ (same : level h r ≡ level h b.piece).
+    let at_it = and_from (is_candidate s h w r) (level h r == level h b.piece) fits (eq-eqb (level h r) (level h b.piece) same) in
+    let less = leb-true (availability s h b.piece) (availability s h r) (implied (is_candidate s h w r && (level h r == level h b.piece)) _ least at_it) in
+    let slot : (7 - level h r) * 65536 ≡ (7 - level h b.piece) * 65536 = ap (λ (m : ℕ). (7 - m) * 65536) same in
+    omega (arith, slot, less))
+    (λ (apart : level h r ≡ level h b.piece → ⊥). omega (arith, low, apart, most, bound, few))
+    (cases_eq (level h r) (level h b.piece))
 
 never_both : (d t : Bool) → (not d && t) ≡ true → (not d && not t) ≡ true → ⊥
 never_both true t is other = cc is
 never_both false true is other = cc other
 never_both false false is other = cc is
 
-module _ (s : Setting) (h : History) (w word : ℕ) (layout : IsLayout s.torrent) where
-  -- once enough pieces are had, a piece that begins is a rarest one
-  pub begun_rarer : (b : Block) → IsAllowed s h (record { worker = w; action = Next word; reply = Request b }) →
-      nat_lt (had_count s h) s.random ≡ false
-      → unbegun s h b.piece ≡ true → NoneRarer s h w (availability s h b.piece)
+module _ (s : Setting) (h : History) (w word : ℕ) (legal : IsLegal s h) (layout : IsLayout s.torrent) (few : s.workers < 65536) where
+  -- once enough pieces are had, and while pieces don't come in order, a piece that begins ranks first
+  pub begun_first : (b : Block) → IsAllowed s h (record { worker = w; action = Next word; reply = Request b }) →
+      in_order h ≡ false → nat_lt (had_count s h) s.random ≡ false
+      → unbegun s h b.piece ≡ true → NoneBefore s h w (rank_at s h b.piece)
   unfolding answer
-  begun_rarer b allowed settled fresh =
+  begun_first b allowed unordered settled fresh =
       let e : Event = record { worker = w; action = Next word; reply = Request b } in
       let permitted = answered s h e (no_cause s h e (λ reason refused. absurd (cc refused)) allowed) allowed in
       ⊎_elim
       (λ (on : continues s h w b ≡ true). absurd (never_both (had h b.piece) (some_block_of s.torrent b.piece (held_or_asked s h))
-      (and_parts (usable s h w b) (begun s h b.piece) on).1 fresh))
+      (and_parts (tops s h w b) (begun s h b.piece) on).1 fresh))
       (λ rest. ⊎_elim
-      (λ (first : starts s h w b ≡ true). begins s h w b.piece (and_parts (unbegun s h b.piece) _ (and_parts (usable s h w b) _ first).1).1 settled)
-      (λ (none : some_block s.torrent (usable s h w) ≡ false). none_usable s h w (availability s h b.piece) layout none)
+      (λ (first : starts s h w b ≡ true). begins_first s h w b legal layout few first settled)
+      (λ (none : some_block s.torrent (usable s h w) ≡ false). none_usable s h w (rank_at s h b.piece) layout none)
       rest)
-      (next_request s.torrent _ _ _ _ _ _ _ _ _ _ _ b (subst (λ (a : _). Permits s.torrent a (Request b)) (next_is s h w) permitted)).usable
+      ((next_request s.torrent _ _ _ _ _ _ _ _ _ _ _ _ _ b (subst (λ (a : _). Permits s.torrent a (Request b)) (next_is s h w) permitted)).unordered
+      (and_left (in_order h) _ unordered))
 
   -- where nothing is to be asked there is no candidate
-  pub idle_rarer : (n : ℕ) (reply : Reply) → (reply ≡ Idle) ⊎ (reply ≡ NothingLeft) →
-      IsAllowed s h (record { worker = w; action = Next word; reply = reply }) → NoneRarer s h w n
+  pub idle_before : (n : ℕ) (reply : Reply) → (reply ≡ Idle) ⊎ (reply ≡ NothingLeft) →
+      IsAllowed s h (record { worker = w; action = Next word; reply = reply }) → NoneBefore s h w n
   unfolding answer
-  idle_rarer n reply why allowed =
+  idle_before n reply why allowed =
       let e : Event = record { worker = w; action = Next word; reply = reply } in
       let permitted = answered s h e (no_cause s h e (λ reason refused. unrefused reply reason why refused) allowed) allowed in
-      none_usable s h w n layout (idle_cases s.torrent _ _ _ _ _ _ _ _ _ _ _ reply why
+      none_usable s h w n layout (idle_cases s.torrent _ _ _ _ _ _ _ _ _ _ _ _ _ reply why
       (subst (λ (a : _). Permits s.torrent a reply) (next_is s h w) permitted))
     where
       unrefused : (r : Reply) (reason : _) → (r ≡ Idle) ⊎ (r ≡ NothingLeft) → r ≡ said.Refused reason → ⊥
@@ -166,11 +191,11 @@ module _ (s : Setting) (h : History) (w word : ℕ) (layout : IsLayout s.torrent
 
 -- ---- the tables before an entry
 
--- a piece of the groups from 3 on is unbegun
-group_fresh : (s : Setting) (h : History) (p : ℕ) → 3 ≤ group_of_row (piece_of s h p) → unbegun s h p ≡ true
-group_fresh s h p high =
+-- a piece of the stages from 3 on is unbegun
+stage_fresh : (s : Setting) (h : History) (p : ℕ) → 3 ≤ stage_of_row (piece_of s h p) → unbegun s h p ≡ true
+stage_fresh s h p high =
     by_test (had h p) (chosen h p) (some_block_of s.torrent p (held_or_asked s h)) (each_block_of s.torrent p (held_or_asked s h))
-    (shown_group (availability s h p)) (subst (λ (n : ℕ). 3 ≤ n) (group_is s h p) high)
+    (shown_stage (availability s h p)) (subst (λ (n : ℕ). 3 ≤ n) (stage_is s h p) high)
   where
     by_test : (d c t u : Bool) (n : ℕ) → 3 ≤ (if d || not c then 0 else if not t then n else if u then 1 else 2) → (not d && not t) ≡ true
     by_test true c t u n le = absurd (omega (arith, le))
@@ -178,6 +203,9 @@ group_fresh s h p high =
     by_test false true false u n le = refl
     by_test false true true true n le = absurd (omega (arith, le))
     by_test false true true false n le = absurd (omega (arith, le))
+
+fewer : (t : TablesState) (h : History) → AreTables t h → t.setting.workers < 65536
+fewer t h are = omega (arith, are.few)
 
 -- what a reply to Next tells is a floor
 pub told_floor : (t : TablesState) (h : History) (w word n : ℕ) (reply : Reply) → AreTables t h →
@@ -187,15 +215,17 @@ told_floor t h w word n (Request b) are allowed lw told =
     let s = t.setting in
     let lp : b.piece < piece_count s.torrent = subst (λ (m : ℕ). b.piece < m) are.pieces_len told.0.within in
     let row = row_is t h w are lw b.piece lp in
-    let fresh = group_fresh s h b.piece (subst (λ (r : PieceState). 3 ≤ group_of_row r) row told.0.unbegun) in
+    let fresh = stage_fresh s h b.piece (subst (λ (r : PieceState). 3 ≤ stage_of_row r) row told.0.unbegun) in
+    let unordered = sym are.in_order_is ∙ told.0.unordered in
     let had = ap (count_by (λ (r : PieceState). r.had)) are.pieces_are ∙ had_rows s h in
     let settled = le-ltb (had_count s h) s.random (subst (λ (m : ℕ). s.random ≤ m) had told.0.settled) in
-    let rarer = begun_rarer s h w word are.layout b allowed settled fresh in
-    let is : n ≡ availability s h b.piece = told.1 ∙ ap (λ (r : PieceState). r.availability) row in
-    rarer_floor t h w are lw n (subst (NoneRarer s h w) (sym is) rarer)
-told_floor t h w word n Idle are allowed lw told = rarer_floor t h w are lw n (idle_rarer t.setting h w word are.layout n Idle (inl refl) allowed)
-told_floor t h w word n NothingLeft are allowed lw told = rarer_floor t h w are lw n
-    (idle_rarer t.setting h w word are.layout n NothingLeft (inr refl) allowed)
+    let first = begun_first s h w word are.legal are.layout (fewer t h are) b allowed unordered settled fresh in
+    let is : n ≡ rank_at s h b.piece = told.1 ∙ ap rank_of_row row in
+    before_floor t h w are lw n (subst (NoneBefore s h w) (sym is) first)
+told_floor t h w word n Idle are allowed lw told = before_floor t h w are lw n
+    (idle_before t.setting h w word are.legal are.layout (fewer t h are) n Idle (inl refl) allowed)
+told_floor t h w word n NothingLeft are allowed lw told = before_floor t h w are lw n
+    (idle_before t.setting h w word are.legal are.layout (fewer t h are) n NothingLeft (inr refl) allowed)
 told_floor t h w word n said.Joined are allowed lw told = absurd told
 told_floor t h w word n (said.Noted x) are allowed lw told = absurd told
 told_floor t h w word n said.Quiet are allowed lw told = absurd told
@@ -275,9 +305,3 @@ unnoted_floor t h w p n are allowed lw lp r lr shown fresh = absurd (false≢tru
 
   interested : interesting_after s h w (Have p) ≡ true
   interested = lacks_found s h (λ m. (p == m) || shows h w m) r (wanted_chosen s h r within ∙ parts.1) shows_it parts.0 within
-
--- no piece is shown by more peers than there are
-pub above_all : (s : Setting) (h : History) (q n : ℕ) → NoneRarer s h q n → s.workers < n → (p : ℕ) → p < piece_count s.torrent →
-    is_candidate s h q p ≡ false
-above_all s h q n none many p lp = false_from_ne_true (is_candidate s h q p)
-    (λ fits. (let low = none p lp fits in let most = count_most s.workers (λ r. joined h r && shows h r p) in omega (arith, low, most, many)))

@@ -8,6 +8,9 @@ pub mod Entered
 pub mod Cells
 pub mod Scans
 pub mod Telling
+pub mod Stages
+pub mod Rarest
+pub mod Levelled
 pub mod Endings
 pub mod Unbegun
 pub mod Interest

@@ -10,6 +10,7 @@ use Rattle.bt_meta.specs.Layout.{IsLayout, Layout, block, block_count, block_siz
 use Rattle.bt_history.specs.declared.call.Reply.{Reply}
 use Rattle.bt_history.specs.declared.event.Action.{Action}
 use Rattle.bt_history.specs.declared.event.Action.TheVariants.{Join, Bits, Have, Choke, Unchoke, Next, Arrived, Settle, Leave, Want, Haves, Depth, Release}
+use Rattle.bt_history.specs.declared.event.Action.TheVariants.{Level, Levels, InOrder}
 use Rattle.bt_history.specs.declared.event.Event.{Event}
 use Rattle.bt_history.specs.Setting.{Setting}
 use Rattle.bt_history.specs.History.{History, bytes_for, failed, settles, stored, stores}
@@ -247,6 +248,9 @@ places_more s h x w Leave reply are allowed = still s h x are _ (λ b. no_bytes 
 places_more s h x w (Want flags) reply are allowed = still s h x are _ (λ b. no_bytes (stores reply) None refl)
 places_more s h x w (Haves flags) reply are allowed = still s h x are _ (λ b. no_bytes (stores reply) None refl)
 places_more s h x w (Depth n) reply are allowed = still s h x are _ (λ b. no_bytes (stores reply) None refl)
+places_more s h x w (Level p n) reply are allowed = still s h x are _ (λ b. no_bytes (stores reply) None refl)
+places_more s h x w (Levels levels) reply are allowed = still s h x are _ (λ b. no_bytes (stores reply) None refl)
+places_more s h x w (InOrder rising) reply are allowed = still s h x are _ (λ b. no_bytes (stores reply) None refl)
 places_more s h x w (Release p begin) reply are allowed = still s h x are _ (λ b. no_bytes (stores reply) None refl)
 places_more s h x w (Arrived p begin bytes) reply are allowed = by_reply (stores reply) refl where
   e : ℕ → Event

@@ -54,7 +54,7 @@ entered_release t h w p begin are allowed lt is =
     let found = listed_block s.torrent line b (outstanding_blocks s h w are.legal) listed in
     let c = found.0 in
     let resized = same_but_len c b found.2 in
-    tables_from t h e (edit t.peers w (without_block p begin true)) (lowered b t.pieces) are allowed
+    tables_from t h e (edit t.peers w (without_block p begin true)) (lowered b t.pieces) are allowed refl
     (one_peer t h e (without_block p begin true) are lt refl row)
     (ap (lowered b) are.pieces_are
     ∙ (ap (λ (x : Block). lowered x (table (piece_count s.torrent) (piece_of s h))) resized

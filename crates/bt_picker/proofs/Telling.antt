@@ -12,13 +12,13 @@ use Rattle.bt_history.specs.Counting.{any_below, all_below, count_below, table}
 use Rattle.bt_history.specs.Setting.{Setting, some_block, some_block_of, each_block_of}
 use Rattle.bt_history.specs.History.{History}
 use Rattle.bt_history.specs.Peers.{joined, shows}
-use Rattle.bt_history.specs.Pieces.{had, held, full, held_or_asked, begun, availability, chosen, wanted, had_count}
+use Rattle.bt_history.specs.Pieces.{had, held, full, held_or_asked, availability, chosen, level, wanted, had_count}
 use Rattle.bt_history.specs.Next.{continues, is_candidate}
 use Rattle.bt_history.proofs.Below.{any_fails, any_witness, all_found, all_fails, count_most, count_same}
 use Rattle.bt_history.proofs.Sending.{sender_held}
 use Rattle.bt_picker.specs.Tables.{piece_of, cell_of, groups_of}
 use Rattle.bt_picker.specs.Search.{NoneRarer, FindsListed, FindsRarest, IsRarer, Finds, FindsOf, FindsLeast, rank_of}
-use Rattle.bt_tables.specs.Standings.{is_held, is_touched, held_count, touched_count, shown_group, group_of_row}
+use Rattle.bt_tables.specs.Standings.{is_held, is_touched, held_count, touched_count, shown_stage, stage_of_row}
 use Rattle.bt_tables.proofs.Tabled.{table_more, length_table, get_or_table}
 use Rattle.bt_picker.proofs.Scans.{finds_in_piece, none_in_pieces}
 use Rattle.bt_order.specs.Orders.{at, ListsGroup}
@@ -57,6 +57,11 @@ counted_none n test = by_count (count_below n test) refl where
   by_count (suc m) is = ne_eqb (suc m) 0 (λ same. omega (arith, same)) ∙
       ap not (sym (any_counted n test ∙ (ap (nat_lt 0) is ∙ lt-ltb 0 (suc m) (omega arith))))
 
+-- a number is 0, or more
+none_or_more : (n : ℕ) → (n == 0) ≡ not (nat_lt 0 n)
+none_or_more zero = refl
+none_or_more (suc n) = ne_eqb (suc n) 0 (λ same. omega (arith, same)) ∙ ap not (sym (lt-ltb 0 (suc n) (omega arith)))
+
 -- ---- the counts of a piece
 
 module _ (s : Setting) (h : History) (p : ℕ) where
@@ -91,11 +96,15 @@ module _ (s : Setting) (h : History) (p : ℕ) where
   pub all_touched_row : (touched_count (piece_of s h p).blocks == length (piece_of s h p).blocks) ≡ each_block_of s.torrent p (held_or_asked s h)
   all_touched_row = (λ i. touched_counted i == cells_long i) ∙ counted_all (block_count s.torrent p) (λ k. held_or_asked s h (block s.torrent p k))
 
-  -- the group of a piece, by the definitions
-  pub group_is : group_of_row (piece_of s h p)
-      ≡ (if had h p || not (chosen h p) then 0 else if not (some_block_of s.torrent p (held_or_asked s h)) then shown_group (availability s h p)
+  -- a piece that isn't chosen has level 0
+  pub unchosen : (level h p == 0) ≡ not (chosen h p)
+  unchosen = none_or_more (level h p)
+
+  -- the stage of a piece, by the definitions
+  pub stage_is : stage_of_row (piece_of s h p)
+      ≡ (if had h p || not (chosen h p) then 0 else if not (some_block_of s.torrent p (held_or_asked s h)) then shown_stage (availability s h p)
       else if each_block_of s.torrent p (held_or_asked s h) then 1 else 2)
-  group_is = λ i. if had h p || not (chosen h p) then 0 else if untouched_row i then shown_group (availability s h p) else if all_touched_row i then
+  stage_is = λ i. if had h p || unchosen i then 0 else if untouched_row i then shown_stage (availability s h p) else if all_touched_row i then
       1 else 2
 
   -- a piece of the torrent is wanted where it is chosen
@@ -106,71 +115,7 @@ module _ (s : Setting) (h : History) (p : ℕ) where
 pub had_rows : (s : Setting) (h : History) → count_by (λ row. row.had) (table (piece_count s.torrent) (piece_of s h)) ≡ had_count s h
 had_rows s h = count_table (piece_count s.torrent) (piece_of s h) (λ row. row.had)
 
--- ---- group 2: the begun pieces with an unasked block
-
-group_two : (a w t u : Bool) (n : ℕ) → (if a || not w then 0 else if not t then 3 + n else if u then 1 else 2) ≡ 2
-    → (a ≡ false) × (w ≡ true) × (t ≡ true) × (u ≡ false)
-group_two true w t u n is = absurd (omega (arith, is))
-group_two false false t u n is = absurd (omega (arith, is))
-group_two false true false u n is = absurd (omega (arith, is))
-group_two false true true true n is = absurd (omega (arith, is))
-group_two false true true false n is = (refl, refl, refl, refl)
-
-pub open_continues : (s : Setting) (h : History) (q p : ℕ) → p < piece_count s.torrent → shows h q p ≡ true → group_of_row (piece_of s h p) ≡ 2
-    → some_block_of s.torrent p (continues s h q) ≡ true
-open_continues s h q p lp shown is = by_cases (some_block_of s.torrent p (continues s h q)) refl where
-  parts : (had h p ≡ false) × (chosen h p ≡ true) × (some_block_of s.torrent p (held_or_asked s h) ≡ true) ×
-      (each_block_of s.torrent p (held_or_asked s h) ≡ false)
-  parts =
-      group_two (had h p) (chosen h p) (some_block_of s.torrent p (held_or_asked s h)) (each_block_of s.torrent p (held_or_asked s h))
-      (min (availability s h p) 1025)
-      (sym (group_is s h p) ∙ is)
-
-  asked_then : (a w v b : Bool) → w ≡ true → v ≡ true → b ≡ true → ((not a && (w && v)) && b) ≡ false → a ≡ true
-  asked_then true w v b wt vt bt fails = refl
-  asked_then false true true true wt vt bt fails = absurd (cc fails)
-  asked_then false false v b wt vt bt fails = absurd (cc wt)
-  asked_then false true false b wt vt bt fails = absurd (cc vt)
-  asked_then false true true false wt vt bt fails = absurd (cc bt)
-
-  by_cases : (x : Bool) → some_block_of s.torrent p (continues s h q) ≡ x → x ≡ true
-  by_cases true none = refl
-  by_cases false none = absurd (false≢true (sym parts.3 ∙ all_found (block_count s.torrent p) (λ k. held_or_asked s h (block s.torrent p k)) (λ k lk.
-      asked_then (held_or_asked s h (block s.torrent p k)) (wanted s h p) (shows h q p) (begun s h p)
-      (wanted_chosen s h p lp ∙ parts.1) shown (and_from (not (had h p)) _ (ap not parts.0) parts.2)
-      (any_fails (block_count s.torrent p) (λ j. continues s h q (block s.torrent p j)) k none lk))))
-
--- a piece that goes on is shown, and in that group
-pub continues_open : (s : Setting) (h : History) (q p : ℕ) → some_block_of s.torrent p (continues s h q) ≡ true
-    → (shows h q p ≡ true) × (group_of_row (piece_of s h p) ≡ 2)
-continues_open s h q p some =
-    let found = any_witness (block_count s.torrent p) (λ k. continues s h q (block s.torrent p k)) some in
-    let k = found.0 in
-    let b = block s.torrent p k in
-    let parts = split (held h b) (held_or_asked s h b) (wanted s h p) (shows h q p) (had h p) (some_block_of s.torrent p (held_or_asked s h)) found.2
-    (or_left_false (held h b) _) in
-    let some_free : each_block_of s.torrent p (held_or_asked s h) ≡ false =
-    all_fails (block_count s.torrent p) (λ j. held_or_asked s h (block s.torrent p j)) k found.1 parts.3 in
-    let picked : chosen h p ≡ true = (and_parts (nat_lt p (piece_count s.torrent)) (chosen h p) parts.5).1 in (
-      parts.0,
-      group_is s h p ∙ (λ i. if parts.1 i || not (picked i) then 0 else if not (parts.2 i) then shown_group (availability s h p) else if
-          some_free i then 1 else 2),
-    )
-  where
-    or_left_false : (a b : Bool) → (a || b) ≡ false → a ≡ false
-    or_left_false false b is = refl
-    or_left_false true b is = absurd (cc is)
-
-    split : (a ha w v d t : Bool) → ((not ha && (w && v)) && (not d && t)) ≡ true → (ha ≡ false → a ≡ false)
-        → (v ≡ true) × (d ≡ false) × (t ≡ true) × (ha ≡ false) × (a ≡ false) × (w ≡ true)
-    split a true w v d t is less = absurd (cc is)
-    split a false false v d t is less = absurd (cc is)
-    split a false true false d t is less = absurd (cc is)
-    split a false true true true t is less = absurd (cc is)
-    split a false true true false false is less = absurd (cc is)
-    split a false true true false true is less = (refl, refl, refl, refl, less refl, refl)
-
--- ---- the search among the pieces of that group
+-- ---- the search among listed pieces
 
 pub listed_step : (test : ℕ → Bool) (pieces : List ℕ) (n piece : ℕ) (found next : Option ℕ) → piece ≡ at pieces n → FindsListed test pieces n found
     → ((next ≡ Some piece) × (test piece ≡ true)) ⊎ ((next ≡ found) × (found ≡ None → test piece ≡ false)) → FindsListed test pieces (n + 1) next
@@ -186,125 +131,7 @@ listed_step test pieces n piece found next here so_far step = ⊎_elim
         (cases_eq i n)
     kept (Some p) some fails = (some.0, (some.1.0, omega (arith, some.1.1), some.1.2))
 
-module _ (s : Setting) (h : History) (q : ℕ) (pieces : List ℕ) (lists : ListsGroup (groups_of s h) 2 pieces) where
-  groups_long : length (groups_of s h) ≡ piece_count s.torrent
-  groups_long = length_table (piece_count s.torrent) (λ p. group_of_row (piece_of s h p))
-
-  pub listed_within : (i : ℕ) → i < length pieces → at pieces i < piece_count s.torrent
-  listed_within i li = omega (arith, lists.known i li, groups_long)
-
-  pub found_within : (p : ℕ) → FindsListed (shows h q) pieces (length pieces) (Some p) → p < piece_count s.torrent
-  found_within p listed = subst (λ (m : ℕ). m < piece_count s.torrent) listed.1.2 (listed_within listed.1.0 listed.1.1)
-
-  pub continuing_found : (p : ℕ) (found : Option Block) → FindsListed (shows h q) pieces (length pieces) (Some p) →
-      FindsOf s.torrent p (continues s h q) found
-      → Finds s.torrent (continues s h q) found
-  continuing_found p None listed none =
-      let i = listed.1.0 in
-      let lp : p < piece_count s.torrent = subst (λ (m : ℕ). m < piece_count s.torrent) listed.1.2 (listed_within i listed.1.1) in
-      let two : group_of_row (piece_of s h p) ≡ 2 =
-      sym (get_or_table (piece_count s.torrent) (λ r. group_of_row (piece_of s h r)) p 0 lp) ∙
-      (ap (at (groups_of s h)) (sym listed.1.2) ∙ lists.each i listed.1.1) in
-      absurd (false≢true (sym none ∙ open_continues s h q p lp listed.0 two))
-  continuing_found p (Some b) listed found =
-      finds_in_piece s.torrent (continues s h q) p b found (subst (λ (m : ℕ). m < piece_count s.torrent) listed.1.2
-      (listed_within listed.1.0 listed.1.1))
-
-  pub continuing_none : FindsListed (shows h q) pieces (length pieces) None → some_block s.torrent (continues s h q) ≡ false
-  continuing_none none = none_in_pieces s.torrent (continues s h q) (λ p lp. by_cases p lp (some_block_of s.torrent p (continues s h q)) refl) where
-    by_cases : (p : ℕ) → p < piece_count s.torrent → (x : Bool) → some_block_of s.torrent p (continues s h q) ≡ x → x ≡ false
-    by_cases p lp false is = refl
-    by_cases p lp true is =
-        let on = continues_open s h q p is in
-        let two : at (groups_of s h) p ≡ 2 = get_or_table (piece_count s.torrent) (λ r. group_of_row (piece_of s h r)) p 0 lp ∙ on.1 in
-        let listed = lists.all p (omega (arith, groups_long, lp)) two in
-        absurd (false≢true (sym (none listed.0 listed.1) ∙ (ap (shows h q) listed.2 ∙ on.0)))
-
--- ---- groups 3 and on: the unbegun pieces
-
-group_from : (a w t u : Bool) (v n : ℕ) → (if a || not w then 0 else if not t then 3 + v else if u then 1 else 2) ≡ 3 + n
-    → (a ≡ false) × (w ≡ true) × (t ≡ false) × (v ≡ n)
-group_from true w t u v n is = absurd (omega (arith, is))
-group_from false false t u v n is = absurd (omega (arith, is))
-group_from false true false u v n is = (refl, refl, refl, omega (arith, is))
-group_from false true true true v n is = absurd (omega (arith, is))
-group_from false true true false v n is = absurd (omega (arith, is))
-
--- below the crowd the group of an unbegun piece tells its availability
-pub uncrowded : (v n : ℕ) → n < 1025 → min v 1025 ≡ n → v ≡ n
-uncrowded v n lt is = ⊎_elim
-    (λ (below : v < 1025). (let same : min v 1025 ≡ v = min-eq_left (omega (arith, below)) in omega (arith, same, is)))
-    (λ (past : 1025 ≤ v). (let same : min v 1025 ≡ 1025 = min-eq_right past in absurd (omega (arith, same, is, lt))))
-    (cases_lt v 1025)
-
-pub group_unbegun : (s : Setting) (h : History) (p n : ℕ) → group_of_row (piece_of s h p) ≡ 3 + n
-    → (had h p ≡ false) × (chosen h p ≡ true) × (some_block_of s.torrent p (held_or_asked s h) ≡ false) × (min (availability s h p) 1025 ≡ n)
-group_unbegun s h p n is =
-    group_from (had h p) (chosen h p) (some_block_of s.torrent p (held_or_asked s h)) (each_block_of s.torrent p (held_or_asked s h))
-    (min (availability s h p) 1025) n
-    (sym (group_is s h p) ∙ is)
-
-pub unbegun_group : (s : Setting) (h : History) (p : ℕ) → chosen h p ≡ true → had h p ≡ false → some_block_of s.torrent p (held_or_asked s h) ≡ false
-    → group_of_row (piece_of s h p) ≡ shown_group (availability s h p)
-unbegun_group s h p picked not_had untouched =
-    group_is s h p
-    ∙ (λ i. if not_had i || not (picked i) then 0 else if not (untouched i) then shown_group (availability s h p) else if each_block_of s.torrent p
-    (held_or_asked s h) then 1 else 2)
-
-pub group_candidate : (s : Setting) (h : History) (q p n : ℕ) → p < piece_count s.torrent → shows h q p ≡ true → group_of_row (piece_of s h p) ≡ 3 + n
-    → (is_candidate s h q p ≡ true) × (min (availability s h p) 1025 ≡ n)
-group_candidate s h q p n lp shown is =
-    let parts = group_unbegun s h p n is in (
-      and_from (wanted s h p) _ (wanted_chosen s h p lp ∙ parts.1)
-          (and_from (shows h q p) _ shown (and_from (not (had h p)) _ (ap not parts.0) (ap not parts.2))),
-      parts.3,
-    )
-
-candidate_parts : (w v d t : Bool) → (w && (v && (not d && not t))) ≡ true → (v ≡ true) × (d ≡ false) × (t ≡ false) × (w ≡ true)
-candidate_parts false v d t is = absurd (cc is)
-candidate_parts true false d t is = absurd (cc is)
-candidate_parts true true true t is = absurd (cc is)
-candidate_parts true true false true is = absurd (cc is)
-candidate_parts true true false false is = (refl, refl, refl, refl)
-
-pub candidate_group : (s : Setting) (h : History) (q p : ℕ) → is_candidate s h q p ≡ true
-    → (shows h q p ≡ true) × (group_of_row (piece_of s h p) ≡ shown_group (availability s h p))
-candidate_group s h q p is =
-    let parts = candidate_parts (wanted s h p) (shows h q p) (had h p) (some_block_of s.torrent p (held_or_asked s h)) is in
-    let picked : chosen h p ≡ true = (and_parts (nat_lt p (piece_count s.torrent)) (chosen h p) parts.3).1 in
-    (parts.0, unbegun_group s h p picked parts.1 parts.2)
-
-module _ (s : Setting) (h : History) (q n : ℕ) (pieces : List ℕ) (layout : IsLayout s.torrent) (under : n < 1025)
-    (lists : ListsGroup (groups_of s h) (3 + n) pieces) (so_far : NoneRarer s h q n) where
-  long : length (groups_of s h) ≡ piece_count s.torrent
-  long = length_table (piece_count s.torrent) (λ p. group_of_row (piece_of s h p))
-
-  pub rarest_found : (p : ℕ) → FindsListed (shows h q) pieces (length pieces) (Some p)
-      → (FindsLeast (is_candidate s h q) (rank_of s h true) 0 (piece_count s.torrent) (Some p)) × (p < piece_count s.torrent)
-  rarest_found p listed =
-      let i = listed.1.0 in
-      let within : at pieces i < piece_count s.torrent = omega (arith, lists.known i listed.1.1, long) in
-      let lp : p < piece_count s.torrent = subst (λ (m : ℕ). m < piece_count s.torrent) listed.1.2 within in
-      let group : group_of_row (piece_of s h p) ≡ 3 + n =
-      sym (get_or_table (piece_count s.torrent) (λ r. group_of_row (piece_of s h r)) p 0 lp) ∙
-      (ap (at (groups_of s h)) (sym listed.1.2) ∙ lists.each i listed.1.1) in
-      let known = group_candidate s h q p n lp listed.0 group in
-      let shown = uncrowded (availability s h p) n under known.1 in
-      ((known.0, λ r low high fits. (let more = so_far r high fits in omega (arith, more, shown))), lp)
-
-  pub rarest_more : FindsListed (shows h q) pieces (length pieces) None → NoneRarer s h q (n + 1)
-  rarest_more none p lp fits = ⊎_elim
-      (λ (same : availability s h p ≡ n).
-      let known = candidate_group s h q p fits in
-      let exact : min (availability s h p) 1025 ≡ n = min-eq_left (omega (arith, same, under)) ∙ same in
-      let group : at (groups_of s h) p ≡ 3 + n =
-      get_or_table (piece_count s.torrent) (λ r. group_of_row (piece_of s h r)) p 0 lp ∙ (known.1 ∙ ap (λ (m : ℕ). 3 + m) exact) in
-      let listed = lists.all p (omega (arith, long, lp)) group in
-      absurd (false≢true (sym (none listed.0 listed.1) ∙ (ap (shows h q) listed.2 ∙ known.0))))
-      (λ (apart : availability s h p ≡ n → ⊥). (let low = so_far p lp fits in omega (arith, low, apart)))
-      (cases_eq (availability s h p) n)
-
--- ---- the crowd: the unbegun pieces that 1,025 peers or more show
+-- ---- the search for one that ranks first
 
 pub rarer_step : (test : ℕ → Bool) (rank : ℕ → ℕ) (pieces : List ℕ) (n piece : ℕ) (found next : Option ℕ) → piece ≡ at pieces n →
     FindsRarest test rank pieces n found
@@ -357,52 +184,3 @@ rarer_step test rank pieces n piece found next here so_far step = ⊎_elim
         last : (test piece ≡ false) ⊎ ((b : ℕ) × (Some p ≡ Some b) × (rank b ≤ rank piece)) → test piece ≡ true → rank p ≤ rank piece
         last (inl fails) passes = absurd (false≢true (sym fails ∙ passes))
         last (inr other) passes = subst (λ (m : ℕ). rank m ≤ rank piece) (sym (some_same p other.0 other.1)) other.2
-
-module _ (s : Setting) (h : History) (q n : ℕ) (pieces : List ℕ) (layout : IsLayout s.torrent) (all : (s.workers < n) ⊎ (1025 ≤ n))
-    (lists : ListsGroup (groups_of s h) (3 + 1025) pieces) (so_far : NoneRarer s h q n) where
-  crowd_long : length (groups_of s h) ≡ piece_count s.torrent
-  crowd_long = length_table (piece_count s.torrent) (λ p. group_of_row (piece_of s h p))
-
-  -- a candidate that is left is in the crowd
-  crowded : (p : ℕ) → p < piece_count s.torrent → is_candidate s h q p ≡ true →
-      (shows h q p ≡ true) × ((i : ℕ) × (i < length pieces) × (at pieces i ≡ p))
-  crowded p lp fits =
-      let low = so_far p lp fits in
-      let most = count_most s.workers (λ r. joined h r && shows h r p) in
-      let many : 1025 ≤ availability s h p = ⊎_elim
-      (λ (over : s.workers < n). absurd (omega (arith, most, low, over)))
-      (λ (past : 1025 ≤ n). (omega (arith, low, past)))
-      all in
-      let known = candidate_group s h q p fits in
-      let capped : min (availability s h p) 1025 ≡ 1025 = min-eq_right many in
-      let group : at (groups_of s h) p ≡ 3 + 1025 =
-      get_or_table (piece_count s.torrent) (λ r. group_of_row (piece_of s h r)) p 0 lp ∙ (known.1 ∙ ap (λ (m : ℕ). 3 + m) capped) in
-      (known.0, lists.all p (omega (arith, crowd_long, lp)) group)
-
-  pub crowd_found : (found : Option ℕ) → FindsRarest (shows h q) (availability s h) pieces (length pieces) found
-      → (FindsLeast (is_candidate s h q) (rank_of s h true) 0 (piece_count s.torrent) found) × IfSome found (λ p. p < piece_count s.torrent)
-  crowd_found None none = (
-    λ p low lp. by_cases p lp (is_candidate s h q p) refl,
-    tt,
-  ) where
-    by_cases : (p : ℕ) → p < piece_count s.torrent → (x : Bool) → is_candidate s h q p ≡ x → x ≡ false
-    by_cases p lp false is = refl
-    by_cases p lp true is = (let listed = crowded p lp is in
-        absurd (false≢true (sym (none listed.1.0 listed.1.1) ∙ (ap (shows h q) listed.1.2 ∙ listed.0))))
-  crowd_found (Some p) some =
-      let i = some.1.0 in
-      let within : at pieces i < piece_count s.torrent = omega (arith, lists.known i some.1.1, crowd_long) in
-      let lp : p < piece_count s.torrent = subst (λ (m : ℕ). m < piece_count s.torrent) some.1.2 within in
-      let group : group_of_row (piece_of s h p) ≡ 3 + 1025 =
-      sym (get_or_table (piece_count s.torrent) (λ r. group_of_row (piece_of s h r)) p 0 lp) ∙
-      (ap (at (groups_of s h)) (sym some.1.2) ∙ lists.each i some.1.1) in
-      let known = group_candidate s h q p 1025 lp some.0 group in (
-        (
-          known.0,
-          λ r low high fits.
-              let listed = crowded r high fits in
-              subst (λ (m : ℕ). availability s h p ≤ availability s h m) listed.1.2
-              (some.2 listed.1.0 listed.1.1 (ap (shows h q) listed.1.2 ∙ listed.0)),
-        ),
-        lp,
-      )

@@ -6,59 +6,59 @@ use Rattle.std.specs.List.{sum_by}
 use Rattle.std.proofs.Math.Nat.{min-eq_left}
 use Rattle.std.proofs.lemmas.Bool.{eq-eqb, eqb-true, ltb-true, and_from, and_parts, not-true}
 use Rattle.std.proofs.lemmas.List.Sums.{sum_by_push}
-use Rattle.bt_meta.specs.Layout.{IsLayout, piece_count, block_count, block}
+use Rattle.bt_meta.specs.Layout.{piece_count, block_count, block}
 use Rattle.bt_history.specs.Counting.{count_below, sum_below, table}
 use Rattle.bt_history.specs.Setting.{Setting, some_block_of}
 use Rattle.bt_history.specs.History.{History}
-use Rattle.bt_history.specs.Pieces.{availability, chosen, had, held_or_asked, unasked, unbegun, wanted}
+use Rattle.bt_history.specs.Legal.{IsLegal}
+use Rattle.bt_history.specs.Pieces.{availability, chosen, had, held_or_asked, level, unasked, unbegun, wanted}
 use Rattle.bt_history.proofs.Below.{count_none, count_same, sum_same}
 use Rattle.bt_order.specs.Orders.{at, ListsGroup}
 use Rattle.bt_picker.specs.Tables.{AreTables, piece_of, groups_of}
 use Rattle.bt_tables.specs.Tables.{PieceState, TablesState}
-use Rattle.bt_tables.specs.Standings.{group_of_row, standing_of, touched_count}
+use Rattle.bt_tables.specs.Standings.{first_group, group_of_row, standing_of, touched_count}
 use Rattle.bt_picker.specs.Unbegun.{is_unbegun_at, ListsUnbegun, unasked_count}
-use Rattle.bt_picker.proofs.Telling.{cells_long, group_unbegun, touched_counted, unbegun_group, uncrowded, wanted_chosen}
-use Rattle.bt_tables.proofs.Tabled.{get_or_table, length_table, map_table, table_more}
+use Rattle.bt_picker.specs.Search.{IsLevel}
+use Rattle.bt_picker.proofs.Rarest.{uncrowded}
+use Rattle.bt_picker.proofs.Stages.{listed_place, place_listed, stage_unbegun, unbegun_stage}
+use Rattle.bt_picker.proofs.Telling.{cells_long, touched_counted, unchosen, wanted_chosen}
+use Rattle.bt_tables.proofs.Tabled.{map_table, table_more}
 
-module _ (s : Setting) (h : History) (n : ℕ) (pieces : List ℕ) (layout : IsLayout s.torrent) (under : n < 1025)
-    (lists : ListsGroup (groups_of s h) (3 + n) pieces) where
-  long : length (groups_of s h) ≡ piece_count s.torrent
-  long = length_table (piece_count s.torrent) (λ p. group_of_row (piece_of s h p))
-
-  listed : (i : ℕ) → i < length pieces → is_unbegun_at s h n (at pieces i) ≡ true
+module _ (s : Setting) (h : History) (l n : ℕ) (pieces : List ℕ) (legal : IsLegal s h) (is : IsLevel l) (under : n < 1025)
+    (lists : ListsGroup (groups_of s h) (first_group l + (3 + n)) pieces) where
+  listed : (i : ℕ) → i < length pieces → is_unbegun_at s h l n (at pieces i) ≡ true
   listed i li =
       let p = at pieces i in
-      let lp : p < piece_count s.torrent = omega (arith, lists.known i li, long) in
-      let group : group_of_row (piece_of s h p) ≡ 3 + n = sym (get_or_table (piece_count s.torrent) (λ r. group_of_row (piece_of s h r)) p 0 lp) ∙
-      lists.each i li in
-      let parts = group_unbegun s h p n group in
+      let place = listed_place s h l (3 + n) pieces legal is (omega arith) (omega (arith, under)) lists i li in
+      let parts = stage_unbegun s h p n place.2 in
       let shown = uncrowded (availability s h p) n under parts.3 in
-      and_from (wanted s h p) _ (wanted_chosen s h p lp ∙ parts.1)
+      and_from (wanted s h p && (level h p == l)) _
+      (and_from (wanted s h p) (level h p == l) (wanted_chosen s h p place.0 ∙ parts.1) (eq-eqb (level h p) l place.1))
       (and_from (unbegun s h p) _ (and_from (not (had h p)) _ (ap not parts.0) (ap not parts.2)) (eq-eqb (availability s h p) n shown))
 
-  all_listed : (p : ℕ) → is_unbegun_at s h n p ≡ true → (i : ℕ) × (i < length pieces) × (at pieces i ≡ p)
-  all_listed p is =
-      let wants = and_parts (wanted s h p) (unbegun s h p && (availability s h p == n)) is in
+  all_listed : (p : ℕ) → is_unbegun_at s h l n p ≡ true → (i : ℕ) × (i < length pieces) × (at pieces i ≡ p)
+  all_listed p known =
+      let both = and_parts (wanted s h p && (level h p == l)) (unbegun s h p && (availability s h p == n)) known in
+      let wants = and_parts (wanted s h p) (level h p == l) both.0 in
       let picks = and_parts (nat_lt p (piece_count s.torrent)) (chosen h p) wants.0 in
       let lp : p < piece_count s.torrent = ltb-true p (piece_count s.torrent) picks.0 in
-      let rest = and_parts (unbegun s h p) (availability s h p == n) wants.1 in
+      let rest = and_parts (unbegun s h p) (availability s h p == n) both.1 in
       let begins = and_parts (not (had h p)) (not (some_block_of s.torrent p (held_or_asked s h))) rest.0 in
       let shown = eqb-true (availability s h p) n rest.1 in
       let exact : min (availability s h p) 1025 ≡ n = min-eq_left (omega (arith, shown, under)) ∙ shown in
-      let group = unbegun_group s h p picks.1 (not-true (had h p) begins.0) (not-true (some_block_of s.torrent p (held_or_asked s h)) begins.1) in
-      lists.all p (omega (arith, long, lp))
-      (get_or_table (piece_count s.torrent) (λ r. group_of_row (piece_of s h r)) p 0 lp ∙ (group ∙ ap (λ (m : ℕ). 3 + m) exact))
+      let stage = unbegun_stage s h p (not-true (had h p) begins.0) picks.1 (not-true (some_block_of s.torrent p (held_or_asked s h)) begins.1) in
+      place_listed s h l (3 + n) p pieces lists lp (eqb-true (level h p) l wants.1) (stage ∙ ap (λ (m : ℕ). 3 + m) exact)
 
-  pub lists_unbegun : ListsUnbegun s h n pieces
+  pub lists_unbegun : ListsUnbegun s h l n pieces
   lists_unbegun = record { each = listed; all = all_listed; once = lists.once }
 
 -- the pieces of a group of tables that are those of the history
-pub group_unbegun_of : (t : TablesState) (h : History) (n : ℕ) (pieces : List ℕ) → AreTables t h → n < 1025 →
-    ListsGroup (map group_of_row t.pieces) (3 + n) pieces → ListsUnbegun t.setting h n pieces
-group_unbegun_of t h n pieces are under lists =
+pub group_unbegun_of : (t : TablesState) (h : History) (l n : ℕ) (pieces : List ℕ) → AreTables t h → IsLevel l → n < 1025 →
+    ListsGroup (map group_of_row t.pieces) (first_group l + (3 + n)) pieces → ListsUnbegun t.setting h l n pieces
+group_unbegun_of t h l n pieces are is under lists =
     let rows : map group_of_row t.pieces ≡ groups_of t.setting h =
     ap (map group_of_row) are.pieces_are ∙ map_table group_of_row (piece_count t.setting.torrent) (piece_of t.setting h) in
-    lists_unbegun t.setting h n pieces are.layout under (subst (λ (groups : List ℕ). ListsGroup groups (3 + n) pieces) rows lists)
+    lists_unbegun t.setting h l n pieces are.legal is under (subst (λ (groups : List ℕ). ListsGroup groups (first_group l + (3 + n)) pieces) rows lists)
 
 -- ---- the sum of unasked blocks
 
@@ -96,11 +96,11 @@ unasked_row s h p lp = by_choice (chosen h p) refl where
       let rest = count_rest m touched in
       let left : length row.blocks - touched_count row.blocks ≡ count_below m (λ k. not (touched k)) =
       omega (arith, rest, touched_counted s h p, cells_long s h p) in
-      (λ i. (if is i then length row.blocks else 0) - touched_count row.blocks)
+      (λ i. (if (unchosen s h p ∙ ap not is) i then 0 else length row.blocks) - touched_count row.blocks)
       ∙ (left ∙ count_same m (λ k. not (touched k)) (λ k. wanted s h p && not (touched k))
       (λ k lk. ap (λ (x : Bool). x && not (touched k)) (sym (wanted_chosen s h p lp ∙ is))))
   by_choice false is =
-      (λ i. (if is i then length row.blocks else 0) - touched_count row.blocks)
+      (λ i. (if (unchosen s h p ∙ ap not is) i then 0 else length row.blocks) - touched_count row.blocks)
       ∙ (nothing (touched_count row.blocks)
       ∙ sym (count_none m (λ k. wanted s h p && not (touched k)) (λ k lk. ap (λ (x : Bool). x && not (touched k)) (wanted_chosen s h p lp ∙ is))))
     where

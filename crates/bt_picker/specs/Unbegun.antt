@@ -2,16 +2,16 @@
 use Rattle.std.specs.Prelude.{ℕ, ◌≡◌, ◌<◌, ◌&&◌, ◌==◌, Bool, true, List, length, slice_index_or}
 use Rattle.bt_history.specs.Setting.{Setting, count_blocks}
 use Rattle.bt_history.specs.History.{History}
-use Rattle.bt_history.specs.Pieces.{availability, unasked, unbegun, wanted}
+use Rattle.bt_history.specs.Pieces.{availability, level, unasked, unbegun, wanted}
 
--- piece p is wanted and yet to be begun, and n joined peers show it
-abbrev pub is_unbegun_at : Setting → History → ℕ → ℕ → Bool
-is_unbegun_at s h n p = wanted s h p && (unbegun s h p && (availability s h p == n))
+-- piece p is wanted and yet to be begun, its level is l, and n joined peers show it
+abbrev pub is_unbegun_at : Setting → History → ℕ → ℕ → ℕ → Bool
+is_unbegun_at s h l n p = (wanted s h p && (level h p == l)) && (unbegun s h p && (availability s h p == n))
 
 -- the list has each such piece once, and no other
-pub record ListsUnbegun (s : Setting) (h : History) (n : ℕ) (pieces : List ℕ) : Type 0 where
-  pub each : (i : ℕ) → i < length pieces → is_unbegun_at s h n (slice_index_or pieces i 0) ≡ true
-  pub all : (p : ℕ) → is_unbegun_at s h n p ≡ true → (i : ℕ) × (i < length pieces) × (slice_index_or pieces i 0 ≡ p)
+pub record ListsUnbegun (s : Setting) (h : History) (l n : ℕ) (pieces : List ℕ) : Type 0 where
+  pub each : (i : ℕ) → i < length pieces → is_unbegun_at s h l n (slice_index_or pieces i 0) ≡ true
+  pub all : (p : ℕ) → is_unbegun_at s h l n p ≡ true → (i : ℕ) × (i < length pieces) × (slice_index_or pieces i 0 ≡ p)
   pub once : (i j : ℕ) → i < j → j < length pieces → slice_index_or pieces i 0 ≡ slice_index_or pieces j 0 → ⊥
 
 -- how many blocks of wanted pieces are neither held nor asked of a peer

@@ -8,11 +8,12 @@ ghost use Rattle.bt_history.specs.Peers.{asked, has_place};
 ghost use Rattle.bt_history.specs.Pieces.{asker_count, endgame, held};
 ghost use Rattle.bt_history.specs.Next.{doubles};
 ghost use Rattle.bt_order.specs.Orders.{at};
-ghost use Rattle.bt_picker.specs.Search.{Finds, FindsAmong, FindsFirst, FindsOf, has_room, has_room_for};
+ghost use Rattle.bt_picker.specs.Search.{DoublesNone, Finds, FindsAmong, FindsFirst, FindsOf, IsLevel, has_room, has_room_for};
 
 use crate::position::Position;
+use bt_history::MOST_LEVEL;
 use bt_meta::{BLOCK_SIZE, Block};
-use bt_tables::ASKED_OUT;
+use bt_tables::{ASKED_OUT, first_group};
 
 /// So many blocks of a piece are looked at together: all those of a piece of one mebibyte.
 const WINDOW: u32 = 64;
@@ -134,7 +135,25 @@ impl<'a> Position<'a> {
         ensures { Finds self.now.setting.torrent (doubles self.now.setting self.now.history worker) result }
     {
         self.attest();
-        self.least_doubling(worker, self.group(ASKED_OUT))
+        for slot in self.first_slot()..self.last_slot() {
+            if let Some(block) = self.doubling_at(worker, MOST_LEVEL - slot) {
+                return Some(block);
+            }
+        }
+        None
+    }
+
+    /// A block of a piece of this level to ask of the peer too.
+    fn doubling_at(&self, worker: u32, level: u8) -> Option<Block>
+        requires worker { worker < self.now.setting.workers }
+        requires level { IsLevel level }
+        requires endgame { IsTrue (endgame self.now.setting self.now.history) }
+        ensures some { IfSome result (λ b. IsTrue (is_block self.now.setting.torrent b)
+            × IsTrue (doubles self.now.setting self.now.history worker b)) }
+        ensures none { IfNone result (DoublesNone self.now.setting self.now.history worker level) }
+    {
+        self.attest();
+        self.least_doubling(worker, self.group(first_group(level) + ASKED_OUT))
     }
 
     /// A block of these pieces to ask of the peer too: of the least such piece.

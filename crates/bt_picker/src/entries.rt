@@ -64,6 +64,9 @@ pub fn enter(tables: &mut Tables, past: &Past, worker: u32, told: &Told<'_>, rep
         Told::Haves(flags) => tables.put_haves(worker, flags),
         Told::Depth(depth) => tables.put_depth(worker, *depth),
         Told::Release { piece, begin } => tables.put_release(worker, *piece, *begin),
+        Told::Level { piece, level } => tables.put_level(*piece, *level),
+        Told::Levels(levels) => tables.put_levels(levels),
+        Told::InOrder(rising) => tables.put_order(*rising),
     }
 }
 

@@ -7,7 +7,8 @@ ghost use Rattle.bt_history.specs.Entries.{action_of, event};
 ghost use Rattle.bt_history.specs.Epochs.{epoch, is_request};
 ghost use Rattle.bt_history.specs.Legal.{IsLegal};
 ghost use Rattle.bt_history.specs.Peers.{outstanding};
-ghost use Rattle.bt_history.specs.Pieces.{availability, content, had, sender, wanted};
+ghost use Rattle.bt_history.specs.Pieces.{availability, content, had, in_order, level, sender, wanted};
+ghost use Rattle.bt_picker.specs.Search.{IsLevel};
 ghost use Rattle.bt_history.specs.Setting.{AreRules, setting_of};
 ghost use Rattle.bt_picker.specs.Checks.{IsCurrent, settling, waits};
 ghost use Rattle.bt_picker.specs.Told.{Settles, Tells, action_told, checking, telling};
@@ -25,9 +26,9 @@ use crate::past::{Note, Past};
 use crate::position::Position;
 use crate::told::{Lent, Told, lend};
 use bt_check::Verdict;
-use bt_history::{Call, MOST_WORKERS, Reason, Reply, Rules};
+use bt_history::{Call, MOST_WORKERS, Reason, Reply, Rules, USUAL_LEVEL};
 use bt_meta::{Block, Torrent};
-use bt_tables::{Tables, UNBEGUN};
+use bt_tables::{Tables, UNBEGUN, first_group};
 pub use restoring::Restored;
 use std::alloc::{AllocError, Global};
 use std::marker::Model;
@@ -138,7 +139,7 @@ impl Picker {
         self.position().had(piece)
     }
 
-    /// Whether the piece is to be downloaded: by the newest Want, whoever made it. Until there is one, each piece is.
+    /// Whether the piece is to be downloaded: its level isn't 0.
     pub fn wanted(&self, piece: u32) -> bool
         requires { piece < piece_count self.now.setting.torrent }
         ensures { result ≡ wanted self.now.setting self.now.history piece }
@@ -154,12 +155,37 @@ impl Picker {
         self.position().availability(piece)
     }
 
-    /// The wanted pieces that so many joined peers show and of which no block is held or asked, in no stated order.
+    /// The pieces of the usual level that so many joined peers show and of which no block is held or asked, in no stated order: all wanted
+    /// ones, until other levels are told.
     pub fn group(&self, shown_by: u32) -> &[u32]
         requires { shown_by ≤ self.now.setting.workers }
-        ensures { ListsUnbegun self.now.setting self.now.history shown_by result.now }
+        ensures { ListsUnbegun self.now.setting self.now.history USUAL_LEVEL shown_by result.now }
     {
-        self.tables.group(UNBEGUN + shown_by)
+        self.group_at(USUAL_LEVEL, shown_by)
+    }
+
+    /// The pieces of this level, 1 to 7, that so many joined peers show and of which no block is held or asked, in no stated order.
+    pub fn group_at(&self, level: u8, shown_by: u32) -> &[u32]
+        requires level { IsLevel level }
+        requires shown_by { shown_by ≤ self.now.setting.workers }
+        ensures { ListsUnbegun self.now.setting self.now.history level shown_by result.now }
+    {
+        self.tables.group(first_group(level) + UNBEGUN + shown_by)
+    }
+
+    /// The level of the piece, 0 to 7: the usual one until another is told, and 0 where it isn't wanted.
+    pub fn level(&self, piece: u32) -> u8
+        requires { piece < piece_count self.now.setting.torrent }
+        ensures { result ≡ level self.now.history piece }
+    {
+        self.position().level(piece)
+    }
+
+    /// Whether pieces of one level come in rising order, or else the rarest first.
+    pub fn is_in_order(&self) -> bool
+        ensures { result ≡ in_order self.now.history }
+    {
+        self.position().is_in_order()
     }
 
     /// How many blocks of wanted pieces are neither held nor asked of a peer.

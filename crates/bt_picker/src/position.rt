@@ -9,12 +9,12 @@ ghost use Rattle.bt_history.specs.History.{same_begin};
 ghost use Rattle.bt_history.specs.Legal.{IsLegal};
 ghost use Rattle.bt_history.specs.Peers.{depth_of, joined, late, shows, is_open, outstanding, asked, due, dues, flag};
 ghost use Rattle.bt_history.specs.Pieces.{asker_count, availability, asked_of_some, begun, full, had, held, held_or_asked, interesting, kept, lacks};
-ghost use Rattle.bt_history.specs.Pieces.{sender, unbegun, wanted};
+ghost use Rattle.bt_history.specs.Pieces.{in_order, level, sender, unbegun, wanted};
 ghost use Rattle.bt_order.specs.Orders.{at, ListsGroup};
 ghost use Rattle.bt_order.specs.Risings.{Rises};
-ghost use Rattle.bt_picker.specs.Search.{NoneRarer};
+ghost use Rattle.bt_picker.specs.Search.{NoneBefore, NoneBegins};
 ghost use Rattle.bt_tables.specs.Showing.{dealings};
-ghost use Rattle.bt_tables.specs.Standings.{apart, cell_kept};
+ghost use Rattle.bt_tables.specs.Standings.{ListsOpen, apart, cell_kept, group_of_row};
 ghost use Rattle.bt_picker.specs.Tables.{groups_of, AreTables, cell_of, peer_of, piece_of};
 
 use crate::past::Past;
@@ -147,9 +147,21 @@ impl<'a> Position<'a> {
         self.tables.group(group)
     }
 
+    /// Whether no piece is in the groups from `low` up to `high`.
+    #[inline(always)]
+    pub(crate) fn has_none(&self, low: u32, high: u32) -> bool
+        requires low { low < high }
+        requires high { high ≤ GROUPS }
+        ensures { result ≡ true → (p : ℕ) → p < piece_count self.now.setting.torrent
+            → low ≤ group_of_row (piece_of self.now.setting self.now.history p)
+            → high ≤ group_of_row (piece_of self.now.setting self.now.history p) }
+    {
+        self.tables.has_none(low, high)
+    }
+
     /// The begun pieces with an unasked block, the least first.
     pub(crate) fn open_pieces(&self) -> &[u32]
-        ensures lists { ListsGroup (groups_of self.now.setting self.now.history) 2 result.now }
+        ensures lists { ListsOpen (groups_of self.now.setting self.now.history) result.now }
         ensures rise { (i j : ℕ) → Rises result.now i j }
     {
         self.tables.open_pieces()
@@ -163,12 +175,19 @@ impl<'a> Position<'a> {
         self.tables.group_of(piece)
     }
 
-    /// No piece that may be begun at the worker's peer is shown by fewer peers than this.
+    /// No piece that may be begun at the worker's peer ranks before this.
     pub(crate) fn floor(&self, worker: u32) -> u32
         requires { worker < self.now.setting.workers }
-        ensures { NoneRarer self.now.setting self.now.history worker result }
+        ensures { NoneBefore self.now.setting self.now.history worker result }
     {
         self.tables.floor(worker)
+    }
+
+    /// No piece before this one may be begun.
+    pub(crate) fn front(&self) -> u32
+        ensures { NoneBegins self.now.setting self.now.history result }
+    {
+        self.tables.front()
     }
 
     /// The cell of the block.
@@ -332,12 +351,29 @@ impl<'a> Position<'a> {
         !self.had(piece) && !self.is_touched(piece)
     }
 
-    /// Whether the piece is to be downloaded: by the newest Want, whoever made it.
+    /// The level of the piece.
+    #[inline(always)]
+    pub fn level(&self, piece: u32) -> u8
+        requires { piece < piece_count self.now.setting.torrent }
+        ensures { result ≡ level self.now.history piece }
+    {
+        self.piece(piece).level()
+    }
+
+    /// Whether the piece is to be downloaded: its level isn't 0.
+    #[inline(always)]
     pub fn is_wanted(&self, piece: u32) -> bool
         requires { piece < piece_count self.now.setting.torrent }
         ensures { result ≡ wanted self.now.setting self.now.history piece }
     {
-        self.piece(piece).is_wanted()
+        self.level(piece) > 0
+    }
+
+    /// Whether pieces of one level come in rising order.
+    pub fn is_in_order(&self) -> bool
+        ensures { result ≡ in_order self.now.history }
+    {
+        self.tables.is_in_order()
     }
 }
 

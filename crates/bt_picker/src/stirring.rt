@@ -36,7 +36,13 @@ impl<'a> Position<'a> {
             return false;
         }
         match told {
-            Told::Join | Told::Choke | Told::Leave | Told::Want(_) | Told::Release { .. } => true,
+            Told::Join
+            | Told::Choke
+            | Told::Leave
+            | Told::Want(_)
+            | Told::Release { .. }
+            | Told::Level { .. }
+            | Told::Levels(_) => true,
             Told::Arrived { piece, begin, .. } => {
                 reply.is_stored() && !self.is_asked_alone(worker, *piece, *begin)
             }
@@ -45,6 +51,7 @@ impl<'a> Position<'a> {
             | Told::Haves(_)
             | Told::Unchoke
             | Told::Depth(_)
+            | Told::InOrder(_)
             | Told::Next(_) => false,
         }
     }

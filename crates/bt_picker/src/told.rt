@@ -42,6 +42,15 @@ pub enum Told<'a> {
         piece: u32,
         begin: u32,
     },
+    /// The piece has this level from now on, 0 to 7.
+    Level {
+        piece: u32,
+        level: u8,
+    },
+    /// Each piece has the level of its place in the list from now on.
+    Levels(&'a [u8]),
+    /// From now on pieces of one level come in rising order, or the rarest first.
+    InOrder(bool),
 }
 
 /// A call with what it carries lent: the check of a piece, or what is told of a peer.
@@ -80,6 +89,12 @@ pub fn lend(call: &Call) -> Lent<'_>
             piece: *piece,
             begin: *begin,
         },
+        Call::Level { piece, level } => Told::Level {
+            piece: *piece,
+            level: *level,
+        },
+        Call::Levels(levels) => Told::Levels(levels.as_slice()),
+        Call::InOrder(rising) => Told::InOrder(*rising),
     };
     Lent::Told(told)
 }

@@ -12,11 +12,14 @@ Lines:
   W next WORD                              what to say to it next; WORD settles what is left to chance
   W block P BEGIN HEX                      a block of piece P came, which begins at byte BEGIN of it
   W settle P                               checks piece P
-  W want HEX                               the pieces of this bitfield are to be downloaded, until another such line;
-                                           until the first one, all are
+  W want HEX                               just the pieces of this bitfield are to be downloaded, and have level 4;
+                                           until such a line, or one of levels, all are
   W haves HEX                              it has the pieces of this bitfield too, whenever it says so
   W depth N                                from now on it may be asked for N blocks at a time, 1 to 64
   W release P BEGIN                        it is asked no more for the block of piece P that begins at byte BEGIN
+  W level P L                              piece P has level L, 0 to 7: 0 isn't downloaded, and a higher level comes first
+  W levels DIGITS                          each piece has the level of its digit, that of the first piece first
+  W inorder yes | W inorder no             pieces of one level come in rising order | the rarest first, as at the start
   Numbers are in base ten; workers count from 0, and there are 1 to 1024. An empty line says nothing.
 
 Replies, a line each:
@@ -30,11 +33,12 @@ Replies, a line each:
   had | failed                             the piece has its hash | hasn't, and is to be fetched again
   refused N                                the call isn't allowed, and changes nothing:
     1 the peer hasn't joined               2 it has joined before
-    3 a bitfield comes after another call  4 the bitfield isn't of so many pieces
+    3 a bitfield comes after another call  4 the bitfield, or the levels, aren't of so many pieces
     5 there is no such piece               6 no block begins there
     7 the block has another length         8 the piece doesn't wait for a check
     9 the piece has changed since it was hashed
     10 the block isn't asked of the peer   11 the depth is 0, or more than may be told
+    12 a level is above 7
 
 Status: 0 the whole script was played; 2 `line N`, the first line at fault, counted from 1 (another form, a number
 out of range, no such worker, a torrent or a bitfield that can't be, rules that stand elsewhere); 4 `file fault`,

@@ -1,4 +1,5 @@
 pub mod Counts
+pub mod Digits
 pub mod Numbers
 pub mod Played
 pub mod Results

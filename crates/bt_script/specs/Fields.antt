@@ -1,9 +1,9 @@
 -- What stands in a line of a script: fields with one space between two, numbers and hexadecimal.
-use Rattle.std.specs.Prelude.{◌≡◌, ◌^◌, ℕ, Bool, ◌&&◌, ◌==◌, not, nat_lt, List, [], ◌∷◌, length, Option, Some, None, if◌then◌else◌}
-use Rattle.std.specs.Prelude.{Result, Ok, Err}
+use Rattle.std.specs.Prelude.{◌≡◌, ◌-◌, ◌^◌, ℕ, Bool, true, false, ◌&&◌, ◌==◌, not, nat_lt, List, [], ◌∷◌, length, map, Option, Some, None, if◌then◌else◌}
+use Rattle.std.specs.Prelude.{Result, Ok, Err, codes}
 use Rattle.std.specs.List.{slice_split}
 use Rattle.std.specs.Result.{result_ok}
-use Rattle.std.specs.Str.{all_ascii_digits}
+use Rattle.std.specs.Str.{all_ascii_digits, bytes_eq}
 use Rattle.std.specs.Str.Parse.{digits_value}
 use Rattle.hex.specs.Hex.{decode_of, decode_sized}
 use Rattle.bt_script.specs.declared.script.fault.LineFault.{LineFault}
@@ -34,6 +34,22 @@ number_in text = number_below (2 ^ 64) text
 -- a number of 32 bits
 abbrev pub small_number_in : List ℕ → Option ℕ
 small_number_in text = number_below (2 ^ 32) text
+
+-- a number of 8 bits
+abbrev pub byte_in : List ℕ → Option ℕ
+byte_in text = number_below (2 ^ 8) text
+
+-- yes or no
+abbrev pub yes_or_no_in : List ℕ → Option Bool
+yes_or_no_in text = if bytes_eq text (codes "yes") then Some true else (if bytes_eq text (codes "no") then Some false else None)
+
+-- what a digit counts
+abbrev pub digit_value : ℕ → ℕ
+digit_value digit = digit - 48
+
+-- the values of digits, at least one
+abbrev pub digits_in : List ℕ → Option (List ℕ)
+digits_in text = if is_numeral text then Some (map digit_value text) else None
 
 -- the bytes that hexadecimal digits write, at least one
 abbrev pub bytes_in : List ℕ → Option (List ℕ)

@@ -1,19 +1,20 @@
 -- The lines of a script behind the first.
-use Rattle.std.specs.Prelude.{ℕ, List, [], ◌∷◌, Option, Some, None, option_map, codes, if◌then◌else◌}
+use Rattle.std.specs.Prelude.{ℕ, Bool, List, [], ◌∷◌, Option, Some, None, option_map, codes, if◌then◌else◌}
 use Rattle.std.specs.Str.{bytes_eq}
 use Rattle.bt_script.specs.declared.script.line.Command.{Command}
 use Rattle.bt_script.specs.declared.script.line.Command.TheVariants as commands
 use Rattle.bt_script.specs.declared.script.line.Line.{Line}
-use Rattle.bt_script.specs.Fields.{fields_of, number_in, small_number_in, bytes_in}
+use Rattle.bt_script.specs.Fields.{fields_of, number_in, small_number_in, byte_in, yes_or_no_in, bytes_in, digits_in}
 
 -- what a worker does, by plain values
 pub data Order : Type 0 where
   join choke unchoke leave : Order
-  bits want haves : List ℕ → Order
+  bits want haves levels : List ℕ → Order
   have settle depth : ℕ → Order
   next : ℕ → Order
   block : ℕ → ℕ → List ℕ → Order
-  release : ℕ → ℕ → Order
+  release level : ℕ → ℕ → Order
+  in_order : Bool → Order
 
 -- who does what
 pub record OrderLine : Type 0 where
@@ -35,6 +36,9 @@ seen_command (commands.Want bytes) = want bytes.items
 seen_command (commands.Haves bytes) = haves bytes.items
 seen_command (commands.Depth n) = depth n
 seen_command (commands.Release piece begin) = release piece begin
+seen_command (commands.Level piece n) = level piece n
+seen_command (commands.Levels values) = levels values.items
+seen_command (commands.InOrder rising) = in_order rising
 
 -- a line that was read, as an order of a worker
 abbrev pub seen_line : Line → OrderLine
@@ -59,17 +63,26 @@ short_command word argument =
     else (if bytes_eq word (codes "want") then option_map want (bytes_in argument)
     else (if bytes_eq word (codes "haves") then option_map haves (bytes_in argument)
     else (if bytes_eq word (codes "depth") then option_map depth (small_number_in argument)
-    else None))))))
+    else (if bytes_eq word (codes "levels") then option_map levels (digits_in argument)
+    else (if bytes_eq word (codes "inorder") then option_map in_order (yes_or_no_in argument)
+    else None))))))))
 
 -- what is given up: the piece, and where the block begins in it
 abbrev pub release_of : Option ℕ → Option ℕ → Option Order
 release_of (Some piece) (Some begin) = Some (release piece begin)
 release_of piece begin = None
 
+-- the level of a piece
+abbrev pub level_of : Option ℕ → Option ℕ → Option Order
+level_of (Some piece) (Some n) = Some (level piece n)
+level_of piece n = None
+
 -- a word and two arguments
 abbrev pub pair_command : List ℕ → List ℕ → List ℕ → Option Order
-pair_command word piece begin =
-    if bytes_eq word (codes "release") then release_of (small_number_in piece) (small_number_in begin) else None
+pair_command word piece second =
+    if bytes_eq word (codes "release") then release_of (small_number_in piece) (small_number_in second)
+    else (if bytes_eq word (codes "level") then level_of (small_number_in piece) (byte_in second)
+    else None)
 
 -- a block: its piece, where it begins in it, and its bytes
 abbrev pub block_of : Option ℕ → Option ℕ → Option (List ℕ) → Option Order
@@ -85,7 +98,7 @@ block_command word piece begin hex =
 abbrev pub command_in : List ℕ → List (List ℕ) → Option Order
 command_in word [] = bare_command word
 command_in word (argument ∷ []) = short_command word argument
-command_in word (piece ∷ begin ∷ []) = pair_command word piece begin
+command_in word (piece ∷ second ∷ []) = pair_command word piece second
 command_in word (piece ∷ begin ∷ hex ∷ []) = block_command word piece begin hex
 command_in word arguments = None
 

@@ -13,6 +13,7 @@ use Rattle.bt_text.specs.Texts.{reply_text}
 use Rattle.bt_script.specs.declared.script.setup.Setup.{Setup}
 use Rattle.bt_script.specs.Setups.{setup_in}
 use Rattle.bt_script.specs.Lines.{Order, OrderLine, join, choke, unchoke, leave, bits, have, settle, next, block, want, haves, depth, release}
+use Rattle.bt_script.specs.Lines.{level, levels, in_order}
 use Rattle.bt_script.specs.Lines.{line_in}
 use Rattle.bt_script.specs.RulesLines.{rules_in}
 
@@ -30,6 +31,9 @@ IsCall pieces (want bytes) action = (flags : List Bool) × (action ≡ actions.W
 IsCall pieces (haves bytes) action = (flags : List Bool) × (action ≡ actions.Haves flags) × (length flags ≡ pieces) × IsSpelled flags bytes
 IsCall pieces (depth n) action = action ≡ actions.Depth n
 IsCall pieces (release p begin) action = action ≡ actions.Release p begin
+IsCall pieces (level p n) action = action ≡ actions.Level p n
+IsCall pieces (levels values) action = action ≡ actions.Levels values
+IsCall pieces (in_order rising) action = action ≡ actions.InOrder rising
 IsCall pieces (settle p) action = ⊥
 
 -- the desk made the call and gained its entry

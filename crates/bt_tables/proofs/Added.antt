@@ -5,7 +5,7 @@ use Rattle.std.proofs.lemmas.Bool.{false≢true, ne_eqb}
 use Rattle.bt_history.specs.Counting.{table}
 use Rattle.bt_tables.specs.Tables.{PeerState, PieceState, bits_row, edit, fresh_peer, fresh_piece, have_row, joint, late_row, less_available}
 use Rattle.bt_tables.specs.Tables.{more_available, one_if, peer_row, piece_row, recounted}
-use Rattle.bt_tables.specs.Floors.{AreFloors, is_fresh}
+use Rattle.bt_tables.specs.Floors.{AreFloors, is_fresh, rank_of_row}
 use Rattle.bt_tables.proofs.Sweeps.{hides_none, shows_none}
 use Rattle.bt_tables.proofs.Tabled.{edit_none, edit_same, edit_twice, get_or_edit_same, get_or_table, length_edit, length_table, rows_edit, rows_init, rows_more}
 use Rattle.bt_tables.proofs.Tabled.{same_table, upto, upto_above, rows_done}
@@ -111,7 +111,7 @@ joint_floors floors peers rows flags shows are same = record {
       (get_or_table (length shows) (either flags shows) p false (omega (arith, within, same))) in
       let low = are.each q lq p within shown (ap is_fresh (sym row) ∙ fresh) in
       let more = no_less_jointly (piece_row rows p).availability (slice_index_or flags p false) (slice_index_or shows p false) in
-      let is = ap (λ (r : PieceState). r.availability) row in
+      let is = ap rank_of_row row in
       omega (arith, low, more, is);
 }
 

@@ -1,16 +1,17 @@
 -- Rows beside how many peers show each piece: what is read of both, and what a change of one leaves of the rows with these counts in them.
-use Rattle.std.proofs.Common.{◌≡◌, ℕ, zero, suc, ◌+◌, ◌-◌, ◌<◌, ◌≤◌, Bool, true, false, List, [], ◌∷◌, length, get_or, set, replicate, min, refl}
-use Rattle.std.proofs.Common.{ap, sym, ◌∙◌, arith, inl, inr, subst, ◌==◌, ⊎_elim}
+use Rattle.std.proofs.Common.{◌≡◌, ℕ, zero, suc, ◌+◌, ◌-◌, ◌*◌, ◌<◌, ◌≤◌, Bool, true, false, List, [], ◌∷◌, length, get_or, set, replicate, min, refl}
+use Rattle.std.proofs.Common.{ap, sym, ◌∙◌, arith, inl, inr, subst, ◌==◌, ◌⊎◌, ⊎_elim}
 use Rattle.std.specs.Prelude.{nat_lt, if◌then◌else◌}
-use Rattle.std.proofs.lemmas.Bool.{cases_eq, cases_lt, lt-ltb, le-ltb}
+use Rattle.std.proofs.lemmas.Bool.{cases_eq, cases_lt, lt-ltb, le-ltb, ne_eqb}
 use Rattle.std.proofs.lemmas.List.{set-get_or, get_or-map, get_or-set_same, get_or-set_other, get_or_past, set_past, length-map, get_or_default}
 use Rattle.std.proofs.lemmas.List.{get_or-replicate, length-replicate}
 use Rattle.bt_history.specs.Counting.{table}
 use Rattle.bt_order.specs.Orders.{at}
 use Rattle.bt_tables.specs.declared.piece.Change.{Change}
-use Rattle.bt_tables.specs.declared.piece.Change.TheVariants.{Raise, Lower, Store, Pass, Fail, Wanted}
+use Rattle.bt_tables.specs.declared.piece.Change.TheVariants.{Raise, Lower, Store, Pass, Fail, Level}
 use Rattle.bt_tables.specs.Tables.{HasRoomOf, PieceState, changed_row, edit, fresh_piece, less_available, more_available, one_if, piece_row}
-use Rattle.bt_tables.specs.Standings.{AreShelved, ShelfState, apart, group_of_row, is_resting, lowered_group, raised_group, shown_row, standing_of}
+use Rattle.bt_tables.specs.Standings.{AreShelved, ShelfState, apart, group_of_row, is_resting, lowered_group, raised_group, shown_row, slot_of}
+use Rattle.bt_tables.specs.Standings.{stage_of, standing_of}
 use Rattle.bt_tables.specs.Standings.{touched_count, whole_rows}
 use Rattle.bt_tables.specs.Apart.{AreApart}
 use Rattle.bt_tables.proofs.Shelves.{can_file, files}
@@ -70,7 +71,7 @@ same_room (Lower index) n row room = room
 same_room (Store index sender) n row room = room
 same_room Pass n row room = room
 same_room Fail n row room = room
-same_room (Wanted wanted) n row room = room
+same_room (Level m) n row room = room
 
 pub changed_apart : (change : Change) (n : ℕ) (row : PieceState) → shown_row n (changed_row change row) ≡ changed_row change (shown_row n row)
 changed_apart (Raise index) n row = refl
@@ -78,7 +79,7 @@ changed_apart (Lower index) n row = refl
 changed_apart (Store index sender) n row = refl
 changed_apart Pass n row = refl
 changed_apart Fail n row = refl
-changed_apart (Wanted wanted) n row = refl
+changed_apart (Level m) n row = refl
 
 -- ---- a count that changes: the group of the piece goes with it, and no sum
 
@@ -86,38 +87,87 @@ either : (b : Bool) (n : ℕ) → n ≡ (if b then n else n)
 either true n = refl
 either false n = refl
 
-raised_by : (resting unbegun asked : Bool) (n : ℕ) → (if resting then 0 else if unbegun then 3 + min (n + 1) 1025 else if asked then 1 else 2)
-    ≡ raised_group (n + 1) (if resting then 0 else if unbegun then 3 + min n 1025 else if asked then 1 else 2)
-raised_by true unbegun asked n = either (nat_lt 1025 (n + 1)) 0
-raised_by false false true n = either (nat_lt 1025 (n + 1)) 1
-raised_by false false false n = either (nat_lt 1025 (n + 1)) 2
-raised_by false true asked n =
+-- the stage of a group in the slot of a level
+stage_in : (b k : ℕ) → k < 1029 → stage_of (b * 1029 + k) ≡ k
+stage_in b k lt = omega (arith, lt)
+
+-- a group that isn't one of unbegun pieces stays
+stays : (n b k : ℕ) → k < 3 → b * 1029 + k ≡ raised_group n (b * 1029 + k)
+stays n b k low = rw (stage_in b k (omega (arith, low)), lt-ltb k 3 low) (either (nat_lt 1025 n) (b * 1029 + k))
+
+stays_too : (n b k : ℕ) → k < 3 → b * 1029 + k ≡ lowered_group n (b * 1029 + k)
+stays_too n b k low = rw (stage_in b k (omega (arith, low)), le-ltb 3 k (omega (arith, low))) (either (nat_lt 1025 n) (b * 1029 + k))
+
+raised_by : (b : ℕ) (resting unbegun asked : Bool) (n : ℕ)
+    → b * 1029 + (if resting then 0 else if unbegun then 3 + min (n + 1) 1025 else if asked then 1 else 2)
+    ≡ raised_group (n + 1) (b * 1029 + (if resting then 0 else if unbegun then 3 + min n 1025 else if asked then 1 else 2))
+raised_by b true unbegun asked n = stays (n + 1) b 0 (omega arith)
+raised_by b false false true n = stays (n + 1) b 1 (omega arith)
+raised_by b false false false n = stays (n + 1) b 2 (omega arith)
+raised_by b false true asked n =
     elim (cases_lt 1025 (n + 1)) [
       | inl crowd ↦ rw (lt-ltb 1025 (n + 1) crowd) (omega arith)
-      | inr few ↦ rw (le-ltb 1025 (n + 1) few, le-ltb (3 + min n 1025) 3 (omega arith)) (omega arith)
+      | inr few ↦ rw (le-ltb 1025 (n + 1) few, stage_in b (3 + min n 1025) (omega arith), le-ltb (3 + min n 1025) 3 (omega arith)) (omega arith)
     ]
 
-lowered_by : (resting unbegun asked : Bool) (n : ℕ) → (if resting then 0 else if unbegun then 3 + min (n - 1) 1025 else if asked then 1 else 2)
-    ≡ lowered_group n (if resting then 0 else if unbegun then 3 + min n 1025 else if asked then 1 else 2)
-lowered_by true unbegun asked n = either (nat_lt 1025 n) 0
-lowered_by false false true n = either (nat_lt 1025 n) 1
-lowered_by false false false n = either (nat_lt 1025 n) 2
-lowered_by false true asked n =
+lowered_by : (b : ℕ) (resting unbegun asked : Bool) (n : ℕ)
+    → b * 1029 + (if resting then 0 else if unbegun then 3 + min (n - 1) 1025 else if asked then 1 else 2)
+    ≡ lowered_group n (b * 1029 + (if resting then 0 else if unbegun then 3 + min n 1025 else if asked then 1 else 2))
+lowered_by b true unbegun asked n = stays_too n b 0 (omega arith)
+lowered_by b false false true n = stays_too n b 1 (omega arith)
+lowered_by b false false false n = stays_too n b 2 (omega arith)
+lowered_by b false true asked n =
     elim (cases_lt 1025 n) [
       | inl crowd ↦ rw (lt-ltb 1025 n crowd) (omega arith)
       | inr few ↦ elim (cases_lt 3 (3 + min n 1025)) [
-        | inl some ↦ rw (le-ltb 1025 n few, lt-ltb 3 (3 + min n 1025) some) (omega arith)
-        | inr none ↦ rw (le-ltb 1025 n few, le-ltb 3 (3 + min n 1025) none) (omega arith)
+        | inl some ↦ rw (le-ltb 1025 n few, stage_in b (3 + min n 1025) (omega arith), lt-ltb 3 (3 + min n 1025) some) (omega arith)
+        | inr none ↦ rw (le-ltb 1025 n few, stage_in b (3 + min n 1025) (omega arith), le-ltb 3 (3 + min n 1025) none) (omega arith)
       ]
     ]
 
--- where one peer more may be counted (up to CROWD, 1025), the group behind a row's is a group too (below GROUPS, 1029)
-next_room : (resting unbegun asked : Bool) (n : ℕ) → n + 1 ≤ 1025 →
-    (if resting then 0 else if unbegun then 3 + min n 1025 else if asked then 1 else 2) + 1 < 1029
-next_room true unbegun asked n few = omega arith
-next_room false true asked n few = omega arith
-next_room false false true n few = omega arith
-next_room false false false n few = omega arith
+-- which slot a level has
+pub slot_usual : (level : ℕ) → (level ≡ 0) ⊎ (level ≡ 4) → slot_of level ≡ 0
+slot_usual level (inl none) = ap slot_of none
+slot_usual level (inr usual) = ap slot_of usual
+
+pub slot_above : (level : ℕ) → 4 < level → slot_of level ≡ 8 - level
+slot_above level more =
+    rw (ne_eqb level 0 (λ none. omega (arith, none, more)), ne_eqb level 4 (λ usual. omega (arith, usual, more)), lt-ltb 4 level more) refl
+
+pub slot_below : (level : ℕ) → 0 < level → level < 4 → slot_of level ≡ 7 - level
+slot_below level some less =
+    rw (ne_eqb level 0 (λ none. omega (arith, none, some)), ne_eqb level 4 (λ usual. omega (arith, usual, less)), le-ltb 4 level (omega (arith, less))) refl
+
+-- a level is usual, higher or lower
+pub level_cases : (level : ℕ) → ((level ≡ 0) ⊎ (level ≡ 4)) ⊎ ((4 < level) ⊎ ((0 < level) × (level < 4)))
+level_cases level = ⊎_elim
+    (λ (more : 4 < level). inr (inl more))
+    (λ (few : level ≤ 4). ⊎_elim
+    (λ (usual : level ≡ 4). inl (inr usual))
+    (λ (other : level ≡ 4 → ⊥). ⊎_elim
+    (λ (none : level ≡ 0). inl (inl none))
+    (λ (some : level ≡ 0 → ⊥). inr (inr (omega (arith, some), omega (arith, few, other))))
+    (cases_eq level 0))
+    (cases_eq level 4))
+    (cases_lt 4 level)
+
+-- a level has one of seven slots
+pub slot_few : (level : ℕ) → slot_of level ≤ 6
+slot_few level = ⊎_elim
+    (λ (usual : (level ≡ 0) ⊎ (level ≡ 4)). omega (arith, slot_usual level usual))
+    (λ rest. ⊎_elim
+    (λ (more : 4 < level). omega (arith, slot_above level more, more))
+    (λ (less : (0 < level) × (level < 4)). omega (arith, slot_below level less.0 less.1, less.0))
+    rest)
+    (level_cases level)
+
+-- where one peer more may be counted (up to CROWD, 1025), the group behind a row's is a group too (below GROUPS, 7203)
+next_room : (b : ℕ) (resting unbegun asked : Bool) (n : ℕ) → b ≤ 6 → n + 1 ≤ 1025 →
+    b * 1029 + (if resting then 0 else if unbegun then 3 + min n 1025 else if asked then 1 else 2) + 1 < 7203
+next_room b true unbegun asked n low few = omega (arith, low)
+next_room b false true asked n low few = omega (arith, low, few)
+next_room b false false true n low few = omega (arith, low)
+next_room b false false false n low few = omega (arith, low)
 
 -- ---- what is read
 
@@ -133,7 +183,7 @@ read_row rows shown p row len are lp read =
     let none : row.availability ≡ 0 = ap (λ (r : PieceState). r.availability) is ∙ are p in
     let whole : apart (piece_row (whole_rows rows shown) p) ≡ apart row =
     ap apart (whole_at rows shown p (fresh_piece 0) row 0 len lp) ∙ ap apart (sym read) in
-    (λ i. record { had = row.had; wanted = row.wanted; availability = none i; blocks = row.blocks }) ∙ sym whole
+    (λ i. record { had = row.had; level = row.level; availability = none i; blocks = row.blocks }) ∙ sym whole
 
 pub lent_row : (rows : List PieceState) (shown : List ℕ) (p : ℕ) (row : PieceState) → length shown ≡ length rows → AreApart rows → p < length rows
     → row ≡ piece_row rows p → row ≡ apart (piece_row (whole_rows rows shown) p)
@@ -174,7 +224,7 @@ same_count (Lower index) row = refl
 same_count (Store index sender) row = refl
 same_count Pass row = refl
 same_count Fail row = refl
-same_count (Wanted wanted) row = refl
+same_count (Level n) row = refl
 
 -- ---- one piece of all
 
@@ -253,22 +303,23 @@ module _ (shelf : ShelfState) (rows : List PieceState) (shown : List ℕ) (p : �
       let unasked : shelf.unasked ≡ shelf.unasked - (standing_of old).unasked + (standing_of new).unasked = omega (arith, filed.unasked) in
       let unheld : shelf.unheld ≡ shelf.unheld - (standing_of old).unheld + (standing_of new).unheld = omega (arith, filed.unheld) in
       let had : shelf.had ≡ shelf.had - one_if (standing_of old).had + one_if (standing_of new).had = omega (arith, filed.had) in
+      let left : shelf.left ≡ shelf.left - one_if (standing_of old).left + one_if (standing_of new).left = omega (arith, filed.left) in
       subst (AreShelved now) (sym (whole_count rows shown p n kept.len))
       (files shelf now whole p old new (standing_of old) (standing_of new) kept.are in_whole old_is refl refl refl
-      (is ∙ (λ i. record { groups = set shelf.groups p (group_of_row new); unasked = unasked i; unheld = unheld i; had = had i })))
+      (is ∙ (λ i. record { groups = set shelf.groups p (group_of_row new); unasked = unasked i; unheld = unheld i; had = had i; left = left i })))
 
   -- one peer more shows the piece
-  pub has_next : (n : ℕ) → n ≡ at shown p + 1 → n ≤ 1025 → at shelf.groups p + 1 < 1029
+  pub has_next : (n : ℕ) → n ≡ at shown p + 1 → n ≤ 1025 → at shelf.groups p + 1 < 7203
   has_next n is few =
-      let room = next_room (is_resting old) (touched_count old.blocks == 0) (touched_count old.blocks == length old.blocks) (at shown p)
-      (omega (arith, is, few)) in
+      let room = next_room (slot_of old.level) (is_resting old) (touched_count old.blocks == 0) (touched_count old.blocks == length old.blocks) (at shown p)
+      (slot_few old.level) (omega (arith, is, few)) in
       omega (arith, group_is, room)
 
   pub shown_more : (now : ShelfState) (n : ℕ) → n ≡ at shown p + 1 →
       now ≡ record shelf { groups = set shelf.groups p (raised_group n (at shelf.groups p)) }
       → AreShelved now (whole_rows rows (set shown p n))
   shown_more now n more is =
-      let by = raised_by (is_resting old) (touched_count old.blocks == 0) (touched_count old.blocks == length old.blocks) (at shown p) in
+      let by = raised_by (slot_of old.level) (is_resting old) (touched_count old.blocks == 0) (touched_count old.blocks == length old.blocks) (at shown p) in
       let group : raised_group n (at shelf.groups p) ≡ group_of_row (shown_row n old) =
       ap (raised_group n) group_is ∙ (ap (λ (m : ℕ). raised_group m (group_of_row old)) more ∙
       (sym by ∙ ap (λ (m : ℕ). group_of_row (shown_row m old)) (sym more))) in
@@ -284,7 +335,7 @@ module _ (shelf : ShelfState) (rows : List PieceState) (shown : List ℕ) (p : �
       now ≡ record shelf { groups = set shelf.groups p (lowered_group m (at shelf.groups p)) }
       → AreShelved now (whole_rows rows (set shown p n))
   shown_less now m n many less is =
-      let by = lowered_by (is_resting old) (touched_count old.blocks == 0) (touched_count old.blocks == length old.blocks) (at shown p) in
+      let by = lowered_by (slot_of old.level) (is_resting old) (touched_count old.blocks == 0) (touched_count old.blocks == length old.blocks) (at shown p) in
       let fewer : n ≡ at shown p - 1 = omega arith in
       let group : lowered_group m (at shelf.groups p) ≡ group_of_row (shown_row n old) =
       ap (lowered_group m) group_is ∙ (ap (λ (k : ℕ). lowered_group k (group_of_row old)) many ∙

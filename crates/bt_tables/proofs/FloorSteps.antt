@@ -1,6 +1,6 @@
 -- The floors of all peers, as a row of a peer or of a piece changes.
 use Rattle.std.proofs.Common.{Some, is_some, ◌≡◌, ◌≢◌, ℕ, zero, suc, ◌+◌, ◌<◌, ◌≤◌, ◌&&◌, ◌||◌, Bool, true, false, not, List, length, get_or, set, replicate, refl, ap}
-use Rattle.std.proofs.Common.{sym, ◌∙◌, subst, arith, length-set, cond, ◌-◌}
+use Rattle.std.proofs.Common.{sym, ◌∙◌, subst, arith, length-set, cond, ◌-◌, ◌*◌}
 use Rattle.std.specs.Prelude.{slice_index_or}
 use Rattle.std.proofs.lemmas.Bool.{false≢true, ne_eqb, lt-ltb, and_right, or_right}
 use Rattle.std.proofs.lemmas.List.Sums.{get_or-le-sum_by}
@@ -11,7 +11,7 @@ use Rattle.bt_tables.specs.Tables.{less_available, more_available, one_more, pee
 use Rattle.bt_tables.specs.declared.piece.Change.TheVariants.{Raise}
 use Rattle.bt_tables.specs.Standings.{is_resting, is_touched, touched_count}
 use Rattle.bt_tables.proofs.Tabled.{edit_none, edit_read, get_or_edit_other, get_or_edit_same, get_or_table, length_edit, length_table}
-use Rattle.bt_tables.specs.Floors.{AreFloors, AreFloorsBeside, AreLowered, IsFloor, is_fresh}
+use Rattle.bt_tables.specs.Floors.{AreFloors, AreFloorsBeside, AreLowered, IsFloor, is_fresh, rank_of_row}
 use mathlib.Core.Logic.{dite}
 use native.Mathlib.Decide.{ℕ_discrete}
 
@@ -80,7 +80,7 @@ same_shows floors peers now rows are len same = record {
 
 pub set_piece : (floors : List ℕ) (peers : List PeerState) (rows : List PieceState) (p : ℕ) (row : PieceState) → AreFloors floors peers rows →
     p < length rows
-    → (is_fresh row ≡ true → (is_fresh (piece_row rows p) ≡ true) × ((piece_row rows p).availability ≤ row.availability)) →
+    → (is_fresh row ≡ true → (is_fresh (piece_row rows p) ≡ true) × (rank_of_row (piece_row rows p) ≤ rank_of_row row)) →
     AreFloors floors peers (set rows p row)
 set_piece floors peers rows p row are lp grows = record {
   len = are.len;
@@ -89,19 +89,19 @@ set_piece floors peers rows p row are lp grows = record {
       let now : piece_row (set rows p row) r ≡ row = ap (piece_row (set rows p row)) same ∙ get_or-set_same rows p row (fresh_piece 0) lp in
       let more = grows (ap is_fresh (sym now) ∙ fresh) in
       let low = are.each q lq p lp (ap (λ (m : ℕ). slice_index_or (peer_row peers q).shows m false) (sym same) ∙ shown) more.0 in
-      let is : (piece_row (set rows p row) r).availability ≡ row.availability = ap (λ (s : PieceState). s.availability) now in
+      let is = ap rank_of_row now in
       omega (arith, low, more.1, is))
       (λ other.
       let now : piece_row (set rows p row) r ≡ piece_row rows r = get_or-set_other rows p r row (fresh_piece 0) other in
       let low = are.each q lq r (omega (arith, lr, length-set rows p row)) shown (ap is_fresh (sym now) ∙ fresh) in
-      let is : (piece_row (set rows p row) r).availability ≡ (piece_row rows r).availability = ap (λ (s : PieceState). s.availability) now in
+      let is = ap rank_of_row now in
       omega (arith, low, is));
 }
 
 pub edit_piece : (floors : List ℕ) (peers : List PeerState) (rows : List PieceState) (p : ℕ) (f : PieceState → PieceState) →
     AreFloors floors peers rows → p < length rows
     → (is_fresh (f (piece_row rows p)) ≡ true → (is_fresh (piece_row rows p) ≡ true) ×
-    ((piece_row rows p).availability ≤ (f (piece_row rows p)).availability))
+    (rank_of_row (piece_row rows p) ≤ rank_of_row (f (piece_row rows p))))
     → AreFloors floors peers (edit rows p f)
 edit_piece floors peers rows p f are lp grows =
     subst (AreFloors floors peers) (edit_read rows p f (piece_row rows p) (fresh_piece 0) lp refl)
@@ -154,20 +154,20 @@ silent_peer floors peers rows w change are lw none = edit_peer floors peers rows
     (λ floor. shows_none rows (change (peer_row peers w)) (length (peer_row peers w).shows) (at floors w) (none (peer_row peers w)))
 
 -- a fresh piece that is shown too may lower the floor
-pub have_floor : (rows : List PieceState) (row : PeerState) (p n : ℕ) → (is_fresh (piece_row rows p) ≡ true → n ≤ (piece_row rows p).availability) →
+pub have_floor : (rows : List PieceState) (row : PeerState) (p n : ℕ) → (is_fresh (piece_row rows p) ≡ true → n ≤ rank_of_row (piece_row rows p)) →
     IsFloor rows row n
     → IsFloor rows (have_row p row) n
 have_floor rows row p n low floor r lr shown fresh = dite (ℕ_discrete r p)
-    (λ same. subst (λ (m : ℕ). n ≤ (piece_row rows m).availability) (sym same) (low (ap (λ (m : ℕ). is_fresh (piece_row rows m)) (sym same) ∙ fresh)))
+    (λ same. subst (λ (m : ℕ). n ≤ rank_of_row (piece_row rows m)) (sym same) (low (ap (λ (m : ℕ). is_fresh (piece_row rows m)) (sym same) ∙ fresh)))
     (λ other. floor r lr (sym (get_or-set_other row.shows p r true false other) ∙ shown) fresh)
 
 pub less_floor : (rows : List PieceState) (row : PeerState) (n m : ℕ) → m ≤ n → IsFloor rows row n → IsFloor rows row m
 less_floor rows row n m le floor p lp shown fresh = (let low = floor p lp shown fresh in omega (arith, low, le))
 
--- a count that may grow by one
-pub no_less : (n : ℕ) (x : Bool) → n ≤ n - one_if false + one_if x
-no_less n true = omega arith
-no_less n false = omega arith
+-- a piece that one peer more shows, or none, ranks no farther in front
+pub farther : (row : PieceState) (x : Bool) → rank_of_row row ≤ rank_of_row (more_available x (less_available false row))
+farther row true = omega arith
+farther row false = omega arith
 
 -- ---- a piece is unbegun that wasn't
 
@@ -179,7 +179,7 @@ edit_beside floors peers rows p f are = record {
   each = λ q lq r other lr shown fresh.
       let now : piece_row (edit rows p f) r ≡ piece_row rows r = get_or_edit_other rows p r f (fresh_piece 0) other in
       let low = are.each q lq r (omega (arith, lr, length_edit rows p f)) shown (ap is_fresh (sym now) ∙ fresh) in
-      let is : (piece_row (edit rows p f) r).availability ≡ (piece_row rows r).availability = ap (λ (s : PieceState). s.availability) now in
+      let is = ap rank_of_row now in
       omega (arith, low, is);
 }
 
@@ -194,13 +194,13 @@ stale_beside floors peers rows p beside stale = record {
 }
 
 pub lowered_beside : (floors now : List ℕ) (peers : List PeerState) (rows : List PieceState) (p : ℕ) → AreFloorsBeside p floors peers rows
-    → AreLowered floors now peers (length peers) p (piece_row rows p).availability → AreFloors now peers rows
+    → AreLowered floors now peers (length peers) p (rank_of_row (piece_row rows p)) → AreFloors now peers rows
 lowered_beside floors now peers rows p beside low = record {
   len = low.len ∙ beside.len;
   each = λ q lq r lr shown fresh. dite (ℕ_discrete r p)
       (λ same.
       let most = low.shown q lq (ap (λ (m : ℕ). slice_index_or (peer_row peers q).shows m false) (sym same) ∙ shown) in
-      let is : (piece_row rows r).availability ≡ (piece_row rows p).availability = ap (λ (m : ℕ). (piece_row rows m).availability) same in
+      let is = ap (λ (m : ℕ). rank_of_row (piece_row rows m)) same in
       omega (arith, most, is))
       (λ other. (let least = beside.each q lq r other lr shown fresh in omega (arith, least, low.most q)));
 }
@@ -250,15 +250,14 @@ eased_floors floors now peers rows before after are len less = record {
       let row : piece_row (recounted rows before after) p ≡ more_available x (less_available y (piece_row rows p)) =
       get_or_table (length rows) (reseen rows before after) p (fresh_piece 0) within in
       let low = are.each q lq p within shown (ap is_fresh (sym row) ∙ fresh) in
-      let is : (piece_row (recounted rows before after) p).availability ≡ (piece_row rows p).availability - one_if y + one_if x =
-      ap (λ (r : PieceState). r.availability) row in
-      one_less_at (at floors q) (piece_row rows p).availability x y (at now q) _ (less q (omega (arith, lq, are.len))) is low;
+      one_less_at (at floors q) (piece_row rows p).level (piece_row rows p).availability x y (at now q) _ (less q (omega (arith, lq, are.len)))
+      (ap rank_of_row row) low;
 } where
   reseen : List PieceState → List Bool → List Bool → ℕ → PieceState
   reseen rows before after p = more_available (slice_index_or after p false) (less_available (slice_index_or before p false) (piece_row rows p))
 
-  one_less_at : (n a : ℕ) (x y : Bool) (m b : ℕ) → m ≡ n - 1 → b ≡ a - one_if y + one_if x → n ≤ a → m ≤ b
-  one_less_at n a true true m b is sum low = omega (arith, is, sum, low)
-  one_less_at n a true false m b is sum low = omega (arith, is, sum, low)
-  one_less_at n a false true m b is sum low = omega (arith, is, sum, low)
-  one_less_at n a false false m b is sum low = omega (arith, is, sum, low)
+  one_less_at : (n l a : ℕ) (x y : Bool) (m b : ℕ) → m ≡ n - 1 → b ≡ (7 - l) * 65536 + (a - one_if y + one_if x) → n ≤ (7 - l) * 65536 + a → m ≤ b
+  one_less_at n l a true true m b is sum low = omega (arith, is, sum, low)
+  one_less_at n l a true false m b is sum low = omega (arith, is, sum, low)
+  one_less_at n l a false true m b is sum low = omega (arith, is, sum, low)
+  one_less_at n l a false false m b is sum low = omega (arith, is, sum, low)

@@ -3,6 +3,7 @@ pub mod Added
 pub mod Changes
 pub mod Forgetting
 pub mod Counted
+pub mod Resting
 pub mod Rowed
 pub mod Blank
 pub mod Shelves
@@ -13,3 +14,4 @@ pub mod FloorSteps
 pub mod Striped
 pub mod Showing
 pub mod Spelled
+pub mod Fronts

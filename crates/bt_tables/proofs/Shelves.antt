@@ -1,5 +1,5 @@
 -- What the rows of all pieces amount to, as one row changes.
-use Rattle.std.proofs.Common.{Some, ◌≡◌, ℕ, zero, suc, ◌+◌, ◌-◌, ◌<◌, ◌≤◌, ◌^◌, ◌++◌, Bool, true, false, List, [], ◌∷◌, length, get_or, set, map}
+use Rattle.std.proofs.Common.{Some, not, ◌≡◌, ℕ, zero, suc, ◌+◌, ◌-◌, ◌<◌, ◌≤◌, ◌^◌, ◌==◌, ◌++◌, Bool, true, false, List, [], ◌∷◌, length, get_or, set, map}
 use Rattle.std.proofs.Common.{replicate, refl, ap, sym, ◌∙◌, arith, length-set}
 use Rattle.std.specs.Prelude.{if◌then◌else◌}
 use Rattle.std.specs.List.{sum_by, count_by}
@@ -8,9 +8,10 @@ use Rattle.std.proofs.lemmas.List.Sums.{sum_by-set, count_by-le-length, get_or-l
 use Rattle.bt_order.specs.Orders.{at}
 use Rattle.bt_tables.specs.declared.piece.Standing.{Standing}
 use Rattle.bt_tables.specs.declared.piece.Change.{Change}
-use Rattle.bt_tables.specs.declared.piece.Change.TheVariants.{Raise, Lower, Store, Pass, Fail, Wanted}
+use Rattle.bt_tables.specs.declared.piece.Change.TheVariants.{Raise, Lower, Store, Pass, Fail, Level}
 use Rattle.bt_tables.specs.Tables.{PieceState, changed_row, one_if, one_less, one_more, unheld}
 use Rattle.bt_tables.specs.Standings.{held_count, touched_count, wanted_length, group_of_row, standing_of, ShelfState, shelf_of, IsFiled, AreShelved}
+use Rattle.bt_tables.specs.Standings.{is_resting}
 use Rattle.bt_tables.proofs.Tabled.{length_edit}
 
 -- no change makes a piece longer
@@ -20,7 +21,7 @@ same_length (Lower index) row = length_edit row.blocks index one_less
 same_length (Store index sender) row = length-set row.blocks index (record { sender = Some sender; askers = 0 })
 same_length Pass row = refl
 same_length Fail row = length-map row.blocks unheld
-same_length (Wanted wanted) row = refl
+same_length (Level n) row = refl
 
 -- an element's part of a sum
 pub sum_part : {A : Type 0} (f : A → ℕ) (xs : List A) (i : ℕ) (x : A) → i < length xs → x ≡ get_or xs i x → f x ≤ sum_by f xs
@@ -44,12 +45,15 @@ unheld_of row = wanted_length row - held_count row.blocks
 abbrev had_of : PieceState → ℕ
 had_of row = one_if row.had
 
+abbrev left_of : PieceState → ℕ
+left_of row = one_if (not (is_resting row))
+
 abbrev blocks_of : PieceState → ℕ
 blocks_of row = length row.blocks
 
 wanted_most : (row : PieceState) → wanted_length row ≤ blocks_of row
-wanted_most row = either row.wanted (length row.blocks) where
-  either : (x : Bool) (n : ℕ) → (if x then n else 0) ≤ n
+wanted_most row = either (row.level == 0) (length row.blocks) where
+  either : (x : Bool) (n : ℕ) → (if x then 0 else n) ≤ n
   either true n = omega arith
   either false n = omega arith
 
@@ -73,14 +77,18 @@ module _ (rows : List PieceState) (p : ℕ) (old new : PieceState) (lp : p < len
       let unheld = sum_moved unheld_of rows p old new lp read in
       let had = sum_moved had_of rows p old new lp read in
       let few = count_by-le-length (λ (row : PieceState). row.had) (set rows p new) in
+      let left = sum_moved left_of rows p old new lp read in
+      let few_left = count_by-le-length (λ (row : PieceState). not (is_resting row)) (set rows p new) in
       let len = length-set rows p new in
       record {
         unasked = sum_part unasked_of rows p old lp read;
         unheld = sum_part unheld_of rows p old lp read;
         had = sum_part had_of rows p old lp read;
+        left = sum_part left_of rows p old lp read;
         unasked_fits = omega (arith, unasked, sum_by-le-sum_by unasked_of blocks_of (set rows p new) (λ row. unasked_most row), still_fit, are.fit);
         unheld_fits = omega (arith, unheld, sum_by-le-sum_by unheld_of blocks_of (set rows p new) (λ row. unheld_most row), still_fit, are.fit);
         had_fits = omega (arith, had, few, len, are.short);
+        left_fits = omega (arith, left, few_left, len, are.short);
       }
 
   pub shelved : record {
@@ -88,13 +96,15 @@ module _ (rows : List PieceState) (p : ℕ) (old new : PieceState) (lp : p < len
     unasked = sum_by unasked_of rows - unasked_of old + unasked_of new;
     unheld = sum_by unheld_of rows - unheld_of old + unheld_of new;
     had = sum_by had_of rows - had_of old + had_of new;
+    left = sum_by left_of rows - left_of old + left_of new;
   } ≡ shelf_of (set rows p new)
   shelved =
       let groups = sym (map-set group_of_row rows p new) in
       let unasked = sum_moved unasked_of rows p old new lp read in
       let unheld = sum_moved unheld_of rows p old new lp read in
       let had = sum_moved had_of rows p old new lp read in
-      λ i. record { groups = groups i; unasked = unasked i; unheld = unheld i; had = had i }
+      let left = sum_moved left_of rows p old new lp read in
+      λ i. record { groups = groups i; unasked = unasked i; unheld = unheld i; had = had i; left = left i }
 
   pub still_shelved : (shelf : ShelfState) → AreShelved (shelf_of rows) rows → shelf ≡ shelf_of (set rows p new) → AreShelved shelf (set rows p new)
   still_shelved shelf are is = record {
@@ -120,6 +130,7 @@ pub files : (shelf now : ShelfState) (rows : List PieceState) (p : ℕ) (old new
       unasked = shelf.unasked - before.unasked + after.unasked;
       unheld = shelf.unheld - before.unheld + after.unheld;
       had = shelf.had - one_if before.had + one_if after.had;
+      left = shelf.left - one_if before.left + one_if after.left;
     } → AreShelved now (set rows p new)
 files shelf now rows p old new before after are lp read before_is after_is same is =
     let own : AreShelved (shelf_of rows) rows = rw (are.is) at are in
@@ -150,6 +161,7 @@ filling rows n = record {
   unasked = sum_by (λ row. (standing_of row).unasked) rows;
   unheld = sum_by (λ row. (standing_of row).unheld) rows;
   had = count_by (λ row. row.had) rows;
+  left = count_by (λ row. not (is_resting row)) rows;
 }
 
 pub shelf_more : (rows : List PieceState) (row : PieceState) (n p : ℕ) → length rows ≡ p → 0 < n
@@ -158,6 +170,7 @@ pub shelf_more : (rows : List PieceState) (row : PieceState) (n p : ℕ) → len
       unasked = (filling rows n).unasked - 0 + (standing_of row).unasked;
       unheld = (filling rows n).unheld - 0 + (standing_of row).unheld;
       had = (filling rows n).had - one_if false + one_if (standing_of row).had;
+      left = (filling rows n).left - one_if false + one_if (standing_of row).left;
     } ≡ filling (rows ++ row ∷ []) (n - 1)
 shelf_more rows row n p len some =
     let mapped = length-map rows group_of_row in
@@ -170,18 +183,22 @@ shelf_more rows row n p len some =
     omega (arith, sum_by_push unasked_of rows row) in
     let unheld : sum_by unheld_of rows - 0 + unheld_of row ≡ sum_by unheld_of (rows ++ row ∷ []) = omega (arith, sum_by_push unheld_of rows row) in
     let had : sum_by had_of rows - 0 + had_of row ≡ sum_by had_of (rows ++ row ∷ []) = omega (arith, sum_by_push had_of rows row) in
-    λ i. record { groups = groups i; unasked = unasked i; unheld = unheld i; had = had i }
+    let left : sum_by left_of rows - 0 + left_of row ≡ sum_by left_of (rows ++ row ∷ []) = omega (arith, sum_by_push left_of rows row) in
+    λ i. record { groups = groups i; unasked = unasked i; unheld = unheld i; had = had i; left = left i }
 
 pub shelf_fits : (rows : List PieceState) (row : PieceState) (n : ℕ) → length rows + 1 < 2 ^ 32 →
     sum_by (λ r. length r.blocks) (rows ++ row ∷ []) < 2 ^ 64
-    → IsFiled (filling rows n) (record { group = 0; unasked = 0; unheld = 0; had = false }) (standing_of row)
+    → IsFiled (filling rows n) (record { group = 0; unasked = 0; unheld = 0; had = false; left = false }) (standing_of row)
 shelf_fits rows row n short fit =
     let few = count_by-le-length (λ (r : PieceState). r.had) rows in
     let one : had_of row ≤ 1 = at_most (row.had) in
+    let few_left = count_by-le-length (λ (r : PieceState). not (is_resting r)) rows in
+    let one_left : left_of row ≤ 1 = at_most (not (is_resting row)) in
     record {
       unasked = omega arith;
       unheld = omega arith;
       had = omega arith;
+      left = omega arith;
       unasked_fits = omega (
         arith,
         sum_by_push unasked_of rows row,
@@ -190,6 +207,7 @@ shelf_fits rows row n short fit =
       );
       unheld_fits = omega (arith, sum_by_push unheld_of rows row, sum_by-le-sum_by unheld_of blocks_of (rows ++ row ∷ []) (λ r. unheld_most r), fit);
       had_fits = omega (arith, few, one, short);
+      left_fits = omega (arith, few_left, one_left, short);
     }
   where
     at_most : (b : Bool) → one_if b ≤ 1
@@ -205,4 +223,5 @@ shelf_whole rows n none =
       unasked = sum_by unasked_of rows;
       unheld = sum_by unheld_of rows;
       had = sum_by had_of rows;
+      left = sum_by left_of rows;
     }

@@ -1,13 +1,14 @@
 -- The rows of all pieces, as those of a set change one after the other.
 use Rattle.std.proofs.Common.{◌≡◌, ℕ, ◌+◌, ◌-◌, ◌<◌, ◌≤◌, ◌^◌, Bool, true, false, List, length, ap, sym, ◌∙◌, arith, inl, inr}
-use Rattle.std.proofs.Common.{refl}
+use Rattle.std.proofs.Common.{refl, get_or}
 use Rattle.std.specs.Prelude.{slice_index_or}
 use Rattle.std.proofs.lemmas.Bool.{cases_lt, false≢true}
 use Rattle.std.proofs.lemmas.List.{get_or_past}
 use Rattle.bt_history.specs.Counting.{table}
 use Rattle.bt_tables.specs.Tables.{AreCounted, PieceState, edit, fresh_piece, hidden_rows, less_available, more_available, one_if, piece_row}
-use Rattle.bt_tables.specs.Tables.{recounted, shown_rows}
-use Rattle.bt_tables.proofs.Tabled.{edit_none, edit_past, edit_table, get_or_table, length_table, same_table, upto, upto_above, upto_below}
+use Rattle.bt_tables.specs.Tables.{level_row, recounted, shown_rows}
+use Rattle.bt_tables.proofs.Tabled.{edit_none, edit_past, edit_read, edit_table, get_or_table, length_is_table, length_table, rows_more, rows_read, same_table, upto}
+use Rattle.bt_tables.proofs.Tabled.{upto_above, upto_below}
 
 module _ {A : Type 0} (n : ℕ) (g f : ℕ → A) where
   -- where g and f agree from i up to j
@@ -60,12 +61,12 @@ set_within flags p is =
 pub hides_none : (flag : Bool) (row : PieceState) → flag ≡ false → less_available flag row ≡ row
 hides_none flag row none =
     let same : row.availability - one_if false ≡ row.availability = omega arith in
-    ap (λ (b : Bool). less_available b row) none ∙ (λ i. record { had = row.had; wanted = row.wanted; availability = same i; blocks = row.blocks })
+    ap (λ (b : Bool). less_available b row) none ∙ (λ i. record { had = row.had; level = row.level; availability = same i; blocks = row.blocks })
 
 pub shows_none : (flag : Bool) (row : PieceState) → flag ≡ false → more_available flag row ≡ row
 shows_none flag row none =
     let same : row.availability + one_if false ≡ row.availability = omega arith in
-    ap (λ (b : Bool). more_available b row) none ∙ (λ i. record { had = row.had; wanted = row.wanted; availability = same i; blocks = row.blocks })
+    ap (λ (b : Bool). more_available b row) none ∙ (λ i. record { had = row.had; level = row.level; availability = same i; blocks = row.blocks })
 
 -- a step for each piece of a set, that does nothing where the flag isn't set
 module _ (step : Bool → PieceState → PieceState) (nothing : (flag : Bool) (row : PieceState) → flag ≡ false → step flag row ≡ row)
@@ -126,3 +127,18 @@ pub tells_nothing : (rows : List PieceState) (p : ℕ) (is_new : Bool) → is_ne
     edit rows p (λ row. more_available is_new (less_available false row)) ≡ rows
 tells_nothing rows p is_new old = edit_none rows p (λ row. more_available is_new (less_available false row))
     (λ row. shows_none is_new (less_available false row) old ∙ hides_none false row refl)
+
+-- ---- levels
+
+-- the rows once the pieces below n have the levels that the function gives them
+abbrev pub levelled_upto : List PieceState → (ℕ → ℕ) → ℕ → List PieceState
+levelled_upto rows level n = table (length rows) (upto n (λ p. level_row (level p) (piece_row rows p)) (piece_row rows))
+
+pub levelled_more : (rows now after : List PieceState) (level : ℕ → ℕ) (i n : ℕ) → now ≡ levelled_upto rows level i → i < length rows → n ≡ level i
+    → after ≡ edit now i (level_row n) → after ≡ levelled_upto rows level (i + 1)
+levelled_more rows now after level i n are lt is edited =
+    let long : length now ≡ length rows = length_is_table _ _ _ are in
+    let old = get_or now i (fresh_piece 0) in
+    let row : old ≡ piece_row rows i = rows_read now _ i _ (piece_row rows) (fresh_piece 0) are lt in
+    edited ∙ (sym (edit_read now i (level_row n) old (fresh_piece 0) (omega (arith, long, lt)) refl)
+    ∙ rows_more now _ i _ _ _ are lt (ap (λ (m : ℕ). level_row m old) is ∙ ap (level_row (level i)) row))

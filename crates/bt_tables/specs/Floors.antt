@@ -1,20 +1,30 @@
--- From how few peers on the search for a rarest piece has to look. No public clause of the picker cites this module.
-use Rattle.std.specs.Prelude.{ℕ, ◌≡◌, ◌≢◌, ◌<◌, ◌≤◌, ◌==◌, ◌&&◌, ⊤, Bool, true, false, not, List, length, slice_index_or}
+-- From which level, and from how few peers on, the search for a rarest piece has to look. No public clause of the picker cites this module.
+use Rattle.std.specs.Prelude.{ℕ, ◌+◌, ◌-◌, ◌*◌, ◌≡◌, ◌≢◌, ◌<◌, ◌≤◌, ◌==◌, ◌&&◌, ⊤, Bool, true, false, not, List, length, slice_index_or}
 use Rattle.bt_order.specs.Orders.{at}
 use Rattle.std.specs.List.{count_by}
 use Rattle.bt_history.specs.declared.call.Reply.{Reply}
 use Rattle.bt_history.specs.declared.call.Reply.TheVariants.{Idle, NothingLeft, Request}
 use Rattle.bt_tables.specs.Tables.{PeerState, PieceState, TablesState, peer_row, piece_row}
-use Rattle.bt_tables.specs.Standings.{group_of_row, is_resting, touched_count}
+use Rattle.bt_tables.specs.Standings.{is_resting, stage_of_row, touched_count}
+use Rattle.bt_history.specs.declared.rules.TheConstants.{MOST_LEVEL}
+use Rattle.bt_tables.specs.declared.piece.TheConstants.{RANKS, UNBEGUN}
 
 -- the piece is wanted and unbegun
 abbrev pub is_fresh : PieceState → Bool
 is_fresh row = not (is_resting row) && (touched_count row.blocks == 0)
 
--- each unbegun wanted piece that the peer shows is shown by so many peers, or more
+-- no piece before this one is wanted and unbegun
+abbrev pub NoneFresh : ℕ → List PieceState → Type 0
+NoneFresh front rows = (p : ℕ) → p < front → p < length rows → is_fresh (piece_row rows p) ≡ false
+
+-- how a piece ranks among the unbegun ones: by its level, the highest first, and then by how many peers show it
+abbrev pub rank_of_row : PieceState → ℕ
+rank_of_row row = (MOST_LEVEL - row.level) * RANKS + row.availability
+
+-- each unbegun wanted piece that the peer shows ranks so far behind, or farther
 abbrev pub IsFloor : List PieceState → PeerState → ℕ → Type 0
 IsFloor rows peer n = (p : ℕ) → p < length rows → slice_index_or peer.shows p false ≡ true → is_fresh (piece_row rows p) ≡ true
-    → n ≤ (piece_row rows p).availability
+    → n ≤ rank_of_row (piece_row rows p)
 
 -- there is such a number for each peer
 pub record AreFloors (floors : List ℕ) (peers : List PeerState) (rows : List PieceState) : Type 0 where
@@ -24,7 +34,7 @@ pub record AreFloors (floors : List ℕ) (peers : List PeerState) (rows : List P
 -- the same, but for one piece, of which nothing is said
 abbrev pub IsFloorBeside : ℕ → List PieceState → PeerState → ℕ → Type 0
 IsFloorBeside piece rows peer n = (p : ℕ) → p ≢ piece → p < length rows → slice_index_or peer.shows p false ≡ true
-    → is_fresh (piece_row rows p) ≡ true → n ≤ (piece_row rows p).availability
+    → is_fresh (piece_row rows p) ≡ true → n ≤ rank_of_row (piece_row rows p)
 
 -- there is such a number for each peer
 pub record AreFloorsBeside (piece : ℕ) (floors : List ℕ) (peers : List PeerState) (rows : List PieceState) : Type 0 where
@@ -37,15 +47,16 @@ pub record AreLowered (before after : List ℕ) (peers : List PeerState) (k piec
   pub most : (q : ℕ) → at after q ≤ at before q
   pub shown : (q : ℕ) → q < k → slice_index_or (peer_row peers q).shows piece false ≡ true → at after q ≤ n
 
--- the piece is unbegun and wanted, and enough pieces are had for it to begin as a rarest one
+-- the piece is unbegun and wanted, and enough pieces are had for it to begin as a rarest one, where the rarest come first
 pub record IsRarestStart (t : TablesState) (piece : ℕ) : Type 0 where
+  pub unordered : t.in_order ≡ false
   pub settled : t.setting.random ≤ count_by (λ row. row.had) t.pieces
   pub within : piece < length t.pieces
-  pub unbegun : 3 ≤ group_of_row (piece_row t.pieces piece)
+  pub unbegun : UNBEGUN ≤ stage_of_row (piece_row t.pieces piece)
 
 -- the reply to Next tells this floor: by the rarest piece that begins, or since nothing may begin
 abbrev pub TellsFloor : TablesState → Reply → ℕ → Type 0
-TellsFloor t (Request b) n = IsRarestStart t b.piece × (n ≡ (piece_row t.pieces b.piece).availability)
+TellsFloor t (Request b) n = IsRarestStart t b.piece × (n ≡ rank_of_row (piece_row t.pieces b.piece))
 TellsFloor t Idle n = ⊤
 TellsFloor t NothingLeft n = ⊤
 TellsFloor t reply n = ⊥

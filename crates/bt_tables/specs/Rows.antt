@@ -1,6 +1,7 @@
 -- Rows as they are kept: what is counted of each piece, and the cells of all pieces one behind the other. No public clause of the picker cites this module.
 use Rattle.std.specs.Prelude.{ℕ, ◌≡◌, ◌+◌, ◌*◌, ◌<◌, ◌≤◌, ◌==◌, Bool, true, false, List, [], ◌∷◌, length, map, take, drop, min, slice_index_or}
 use Rattle.std.specs.Prelude.{if◌then◌else◌}
+use Rattle.bt_history.specs.declared.rules.TheConstants.{USUAL_LEVEL}
 use Rattle.bt_tables.specs.declared.cell.Cell.{Cell}
 use Rattle.bt_tables.specs.declared.counts.Counts.{Counts}
 use Rattle.bt_tables.specs.Tables.{CellState, PieceState, piece_row}
@@ -16,16 +17,16 @@ said cells = map cell_kept cells
 
 -- the row of a piece with these counts and cells, that nobody shows
 abbrev pub row_of : Counts → List CellState → PieceState
-row_of counts cells = record { had = counts.had; wanted = counts.wanted; availability = 0; blocks = cells }
+row_of counts cells = record { had = counts.had; level = counts.level; availability = 0; blocks = cells }
 
 -- the rows of pieces that have so many cells each, but for the last, which has what is left
 abbrev pub rows_of : ℕ → List Counts → List Cell → List PieceState
 rows_of width [] cells = []
 rows_of width (c ∷ counts) cells = row_of c (said (take width cells)) ∷ rows_of width counts (drop width cells)
 
--- the counts of a wanted piece of which no block is held or asked
+-- the counts of a piece of the usual level of which no block is held or asked
 abbrev pub no_counts : Counts
-no_counts = record { had = false; wanted = true; held = 0; touched = 0; first = 0 }
+no_counts = record { had = false; level = USUAL_LEVEL; held = 0; touched = 0; first = 0 }
 
 -- the counts of piece p
 abbrev pub counts_at : List Counts → ℕ → Counts

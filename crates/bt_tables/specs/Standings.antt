@@ -1,12 +1,13 @@
 -- What a row of a piece amounts to among the others: its group, and what is counted of it. No public clause of the picker cites this module.
-use Rattle.std.specs.Prelude.{ℕ, ◌+◌, ◌-◌, ◌^◌, ◌≡◌, ◌<◌, ◌≤◌, ◌==◌, ◌||◌, Bool, false, not, List, [], ◌∷◌, length, map, min, nat_lt, true}
+use Rattle.std.specs.Prelude.{ℕ, ◌+◌, ◌-◌, ◌*◌, ◌%◌, ◌^◌, ◌≡◌, ◌<◌, ◌≤◌, ◌==◌, ◌||◌, Bool, false, not, List, [], ◌∷◌, length, map, min, nat_lt, true}
 use Rattle.std.specs.Prelude.{None, Some, is_some, slice_index_or, if◌then◌else◌}
 use Rattle.std.specs.List.{count_by, sum_by}
 use Rattle.bt_tables.specs.declared.cell.Cell.{Cell}
 use Rattle.bt_tables.specs.declared.cell.TheConstants.{HELD}
 use Rattle.bt_tables.specs.declared.piece.Standing.{Standing}
-use Rattle.bt_tables.specs.declared.piece.TheConstants.{ASKED_OUT, CROWD, OPEN, RESTING, UNBEGUN}
-use Rattle.bt_tables.specs.Tables.{CellState, PieceState, empty_cell, one_if}
+use Rattle.bt_history.specs.declared.rules.TheConstants.{MOST_LEVEL, USUAL_LEVEL}
+use Rattle.bt_tables.specs.declared.piece.TheConstants.{ASKED_OUT, CROWD, OPEN, RESTING, SPAN, UNBEGUN}
+use Rattle.bt_tables.specs.Tables.{CellState, PieceState, empty_cell, one_if, piece_row}
 use Rattle.bt_order.specs.Orders.{at}
 use Rattle.bt_order.specs.Risings.{IsIn}
 
@@ -59,34 +60,53 @@ whole_rows [] shown = []
 whole_rows (row ∷ rows) [] = []
 whole_rows (row ∷ rows) (n ∷ shown) = shown_row n row ∷ whole_rows rows shown
 
--- the group of an unbegun piece that so many peers show
-abbrev pub shown_group : ℕ → ℕ
-shown_group n = UNBEGUN + min n CROWD
+-- the place of a level among all: the usual one is the first, and pieces of level 0 rest there; then come those above it, and then those below
+abbrev pub slot_of : ℕ → ℕ
+slot_of level =
+    if (level == 0) || (level == USUAL_LEVEL) then 0
+    else if nat_lt USUAL_LEVEL level then MOST_LEVEL + 1 - level
+    else MOST_LEVEL - level
+
+-- the first group of a level
+abbrev pub first_group : ℕ → ℕ
+first_group level = slot_of level * SPAN
+
+-- the stage of an unbegun piece that so many peers show
+abbrev pub shown_stage : ℕ → ℕ
+shown_stage n = UNBEGUN + min n CROWD
 
 -- nothing is left to get of the piece: it is had, or not wanted
 abbrev pub is_resting : PieceState → Bool
-is_resting row = row.had || not row.wanted
+is_resting row = row.had || (row.level == 0)
 
 -- a resting piece's, that of one whose lacking blocks are all asked (a full one, too), that of another begun one, and for an unbegun one by
 -- its availability
-abbrev pub group_of_row : PieceState → ℕ
-group_of_row row =
+abbrev pub stage_of_row : PieceState → ℕ
+stage_of_row row =
     if is_resting row then RESTING
-    else if touched_count row.blocks == 0 then shown_group row.availability
+    else if touched_count row.blocks == 0 then shown_stage row.availability
     else if touched_count row.blocks == length row.blocks then ASKED_OUT
     else OPEN
 
+-- the group of a piece: its stage among the groups of its level
+abbrev pub group_of_row : PieceState → ℕ
+group_of_row row = first_group row.level + stage_of_row row
+
+-- the stage that a group is of
+abbrev pub stage_of : ℕ → ℕ
+stage_of group = group % SPAN
+
 -- the group of a piece of group g once one peer more shows it, n in all, and once one less of n does
 abbrev pub raised_group : ℕ → ℕ → ℕ
-raised_group n g = if nat_lt CROWD n then g else if nat_lt g UNBEGUN then g else g + 1
+raised_group n g = if nat_lt CROWD n then g else if nat_lt (stage_of g) UNBEGUN then g else g + 1
 
 -- the group of a piece of group g once one peer less shows it, n before
 abbrev pub lowered_group : ℕ → ℕ → ℕ
-lowered_group n g = if nat_lt CROWD n then g else if nat_lt UNBEGUN g then g - 1 else g
+lowered_group n g = if nat_lt CROWD n then g else if nat_lt UNBEGUN (stage_of g) then g - 1 else g
 
 -- so many blocks are to be had of the piece
 abbrev pub wanted_length : PieceState → ℕ
-wanted_length row = if row.wanted then length row.blocks else 0
+wanted_length row = if row.level == 0 then 0 else length row.blocks
 
 -- what the row of a piece amounts to
 abbrev pub standing_of : PieceState → Standing
@@ -95,6 +115,7 @@ standing_of row = record {
   unasked = wanted_length row - touched_count row.blocks;
   unheld = wanted_length row - held_count row.blocks;
   had = row.had;
+  left = not (is_resting row);
 }
 
 -- what is kept of all rows
@@ -103,6 +124,7 @@ pub record ShelfState : Type 0 where
   pub unasked : ℕ
   pub unheld : ℕ
   pub had : ℕ
+  pub left : ℕ
 
 -- what the rows amount to together
 abbrev pub shelf_of : List PieceState → ShelfState
@@ -111,22 +133,36 @@ shelf_of rows = record {
   unasked = sum_by (λ row. (standing_of row).unasked) rows;
   unheld = sum_by (λ row. (standing_of row).unheld) rows;
   had = count_by (λ row. row.had) rows;
+  left = count_by (λ row. not (is_resting row)) rows;
 }
+
+-- the answer tells whether nothing is left to get of any piece
+pub record TellsRest (rows : List PieceState) (all : Bool) : Type 0 where
+  pub each : all ≡ true → (p : ℕ) → p < length rows → is_resting (piece_row rows p) ≡ true
+  pub other : all ≡ false → (p : ℕ) × (p < length rows) × (is_resting (piece_row rows p) ≡ false)
+
+-- the list has each piece of stage OPEN once, and no other
+pub record ListsOpen (groups found : List ℕ) : Type 0 where
+  pub known : (i : ℕ) → i < length found → at found i < length groups
+  pub each : (i : ℕ) → i < length found → stage_of (at groups (at found i)) ≡ OPEN
+  pub all : (p : ℕ) → p < length groups → stage_of (at groups p) ≡ OPEN → (i : ℕ) × (i < length found) × (at found i ≡ p)
 
 -- the numbers are those of the begun pieces with an unasked block
 pub record AreOpen (groups : List ℕ) (bound : ℕ) (numbers : List ℕ) : Type 0 where
   pub bound_is : bound ≡ length groups
-  pub each : (p : ℕ) → IsIn numbers p → (p < length groups) × (at groups p ≡ 2)
-  pub all : (p : ℕ) → p < length groups → at groups p ≡ 2 → IsIn numbers p
+  pub each : (p : ℕ) → IsIn numbers p → (p < length groups) × (stage_of (at groups p) ≡ OPEN)
+  pub all : (p : ℕ) → p < length groups → stage_of (at groups p) ≡ OPEN → IsIn numbers p
 
 -- a row's part is in the sums, and there is room for the new one
 pub record IsFiled (shelf : ShelfState) (before after : Standing) : Type 0 where
   pub unasked : before.unasked ≤ shelf.unasked
   pub unheld : before.unheld ≤ shelf.unheld
   pub had : one_if before.had ≤ shelf.had
+  pub left : one_if before.left ≤ shelf.left
   pub unasked_fits : shelf.unasked - before.unasked + after.unasked < 2 ^ 64
   pub unheld_fits : shelf.unheld - before.unheld + after.unheld < 2 ^ 64
   pub had_fits : shelf.had - one_if before.had + one_if after.had < 2 ^ 32
+  pub left_fits : shelf.left - one_if before.left + one_if after.left < 2 ^ 32
 
 -- what is kept is what the rows amount to, and the sums fit
 pub record AreShelved (shelf : ShelfState) (rows : List PieceState) : Type 0 where

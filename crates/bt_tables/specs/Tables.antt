@@ -13,7 +13,8 @@ use Rattle.bt_history.specs.Legal.{place_at}
 use Rattle.bt_history.specs.Peers.{has_place}
 use Rattle.bt_tables.specs.declared.cell.TheConstants.{HELD}
 use Rattle.bt_tables.specs.declared.piece.Change.{Change}
-use Rattle.bt_tables.specs.declared.piece.Change.TheVariants.{Raise, Lower, Store, Pass, Fail, Wanted}
+use Rattle.bt_history.specs.declared.rules.TheConstants.{USUAL_LEVEL}
+use Rattle.bt_tables.specs.declared.piece.Change.TheVariants.{Raise, Lower, Store, Pass, Fail, Level}
 
 -- 1 for a test that passes
 abbrev pub one_if : Bool → ℕ
@@ -116,7 +117,7 @@ pub record CellState : Type 0 where
 -- what is kept of a piece
 pub record PieceState : Type 0 where
   pub had : Bool
-  pub wanted : Bool
+  pub level : ℕ
   pub availability : ℕ
   pub blocks : List CellState
 
@@ -138,7 +139,7 @@ unheld cell = record { sender = None; askers = cell.askers }
 
 -- the row of a piece of which nothing is known
 abbrev pub fresh_piece : ℕ → PieceState
-fresh_piece blocks = record { had = false; wanted = true; availability = 0; blocks = replicate blocks empty_cell }
+fresh_piece blocks = record { had = false; level = USUAL_LEVEL; availability = 0; blocks = replicate blocks empty_cell }
 
 -- the row at place p, or an empty one
 abbrev pub piece_row : List PieceState → ℕ → PieceState
@@ -182,9 +183,9 @@ had_row row = record row { had = true }
 abbrev pub failed_row : PieceState → PieceState
 failed_row row = record row { blocks = map unheld row.blocks }
 
--- the piece is wanted, or isn't
-abbrev pub want_row : Bool → PieceState → PieceState
-want_row wanted row = record row { wanted = wanted }
+-- the piece has this level
+abbrev pub level_row : ℕ → PieceState → PieceState
+level_row n row = record row { level = n }
 
 -- what a change makes of the row
 abbrev pub changed_row : Change → PieceState → PieceState
@@ -193,7 +194,7 @@ changed_row (Lower index) row = record row { blocks = edit row.blocks index one_
 changed_row (Store index sender) row = stored_row sender index row
 changed_row Pass row = had_row row
 changed_row Fail row = failed_row row
-changed_row (Wanted wanted) row = want_row wanted row
+changed_row (Level n) row = level_row n row
 
 -- the row has room for the change: it has the block that is asked or stored, one that is asked isn't held, and its counts fit their 32 bits
 abbrev pub HasRoomOf : Change → PieceState → Type 0
@@ -220,6 +221,7 @@ lowered_by (b ∷ bs) rows = lowered_by bs (lowered b rows)
 -- what contracts within the crate see of the tables
 pub record TablesState : Type 0 where
   pub setting : Setting
+  pub in_order : Bool
   pub peers : List PeerState
   pub pieces : List PieceState
 
@@ -316,10 +318,22 @@ AreAskers t piece index =
     (slice_index_or (piece_row t.pieces piece).blocks index empty_cell).askers
     ≡ count_below (length t.peers) (λ q. asks_at piece (block_size * index) (peer_row t.peers q))
 
--- just the pieces with their flag set are wanted
-abbrev pub wanted_by : List Bool → List PieceState → List PieceState
-wanted_by flags rows = table (length rows) (λ p. want_row (slice_index_or flags p false) (piece_row rows p))
+-- each piece has the level that the function gives it
+abbrev pub levelled_by : (ℕ → ℕ) → List PieceState → List PieceState
+levelled_by level rows = table (length rows) (λ p. level_row (level p) (piece_row rows p))
 
--- the tables once just these pieces are wanted
-abbrev pub rewanted : TablesState → List Bool → TablesState
-rewanted t flags = record t { pieces = wanted_by flags t.pieces }
+-- the level of a piece whose flag says whether it is wanted
+abbrev pub wanted_level : List Bool → ℕ → ℕ
+wanted_level flags p = if slice_index_or flags p false then USUAL_LEVEL else 0
+
+-- the tables once each piece has such a level
+abbrev pub relevelled : TablesState → (ℕ → ℕ) → TablesState
+relevelled t level = record t { pieces = levelled_by level t.pieces }
+
+-- and once one piece has
+abbrev pub levelled : TablesState → ℕ → ℕ → TablesState
+levelled t piece n = record t { pieces = edit t.pieces piece (level_row n) }
+
+-- the tables once pieces come in order, or the rarest first
+abbrev pub ordered : TablesState → Bool → TablesState
+ordered t rising = record t { in_order = rising }

@@ -6,24 +6,25 @@ ghost use Rattle.bt_tables.specs.Rows.{passed_to};
 ghost use Rattle.bt_tables.specs.Standings.{cell_kept, is_held, is_touched};
 
 use crate::cell::Cell;
+use bt_history::USUAL_LEVEL;
 
-/// What is kept of a piece beside the cells of its blocks, in sixteen bytes: whether it is had and wanted, how many of its blocks are held,
+/// What is kept of a piece beside the cells of its blocks, in sixteen bytes: whether it is had, its level, how many of its blocks are held,
 /// how many are held or asked, and up to which one each is. So whether the piece is full or begun is one look, and the next block is looked
 /// for behind those that are known to be held or asked.
 #[derive(Clone, Copy)]
 pub struct Counts {
     pub had: bool,
-    pub wanted: bool,
+    pub level: u8,
     pub held: u32,
     pub touched: u32,
     pub first: u32,
 }
 
 impl Counts {
-    /// Those of a wanted piece of which no block is held or asked.
+    /// Those of a piece of the usual level of which no block is held or asked.
     pub const FRESH: Counts = Counts {
         had: false,
-        wanted: true,
+        level: USUAL_LEVEL,
         held: 0,
         touched: 0,
         first: 0,
@@ -38,7 +39,7 @@ impl Counts {
         requires touched_room { self.old.touched + one_if (is_touched (cell_kept new)) < 2 ^ 32 + one_if (is_touched (cell_kept old)) }
         requires index { index + 1 < 2 ^ 32 }
         ensures had { self.new.had ≡ self.old.had }
-        ensures wanted { self.new.wanted ≡ self.old.wanted }
+        ensures level { self.new.level ≡ self.old.level }
         ensures held { self.new.held + one_if (is_held (cell_kept old)) ≡ self.old.held + one_if (is_held (cell_kept new)) }
         ensures touched { self.new.touched + one_if (is_touched (cell_kept old)) ≡ self.old.touched + one_if (is_touched (cell_kept new)) }
         ensures first { self.new.first ≡ passed_to self.old.first index (is_touched (cell_kept new)) }

@@ -1,4 +1,4 @@
-//! From how few peers on each peer's search for a rarest piece has to look.
+//! From which level, and from how few peers on, each peer's search for a rarest piece has to look.
 
 ghost use Rattle.std.specs.Prelude.{◌≡◌, ◌<◌, ◌≤◌, ◌-◌, ℕ, false, length, replicate, slice_index_or, slice_set, IfOk};
 ghost use Rattle.bt_order.specs.Orders.{at};
@@ -10,8 +10,8 @@ use crate::pieces::Pieces;
 use std::alloc::{AllocError, Global};
 use std::marker::Model;
 
-/// For each peer a number: it shows no unbegun wanted piece that fewer peers show. What is found out raises it, and what may bring such a
-/// piece lowers it. Contracts see the list of these numbers, by worker.
+/// For each peer a number: it shows no unbegun wanted piece that ranks before it, by level and then by how many peers show the piece. What
+/// is found out raises it, and what may bring such a piece lowers it. Contracts see the list of these numbers, by worker.
 #[derive(Drop)]
 pub struct Floors {
     floors: Vec<u32>,
@@ -75,18 +75,18 @@ impl Floors {
         ensures { AreFloors self.new peers.now pieces.now }
     {
         if pieces.row(piece).is_fresh() {
-            self.lower_for(peers, piece, pieces.availability(piece));
+            self.lower_for(peers, piece, pieces.rank(piece));
         }
     }
 
-    /// The floor of each peer that shows the piece is so many at most.
-    fn lower_for(&mut self, peers: &Peers, piece: u32, shown_by: u32)
+    /// The floor of each peer that shows the piece is so far behind at most.
+    fn lower_for(&mut self, peers: &Peers, piece: u32, rank: u32)
         requires { length self.old ≡ length peers.now }
-        ensures { AreLowered self.old self.new peers.now (length peers.now) piece shown_by }
+        ensures { AreLowered self.old self.new peers.now (length peers.now) piece rank }
     {
         for worker in 0..peers.len() {
             if shows(peers, worker, piece) {
-                self.put(worker, self.of(worker).min(shown_by));
+                self.put(worker, self.of(worker).min(rank));
             }
         }
     }

@@ -21,5 +21,7 @@ mod tables;
 
 pub use cell::{Cell, HELD};
 pub use peer::Peer;
-pub use piece::{ASKED_OUT, CROWD, GROUPS, OPEN, Piece, RESTING, UNBEGUN};
+pub use piece::{
+    ASKED_OUT, CROWD, GROUPS, OPEN, Piece, RANKS, RESTING, SPAN, UNBEGUN, first_group, rank,
+};
 pub use tables::Tables;

@@ -1,17 +1,17 @@
 //! The row of a piece as it is lent, and what it amounts to.
 
-ghost use Rattle.std.specs.Prelude.{◌≡◌, ◌<◌, ◌≤◌, ◌+◌, ◌-◌, ◌^◌, ◌==◌, nat_lt, min, if◌then◌else◌, length, slice_index_or};
+ghost use Rattle.std.specs.Prelude.{◌≡◌, ◌<◌, ◌≤◌, ◌+◌, ◌-◌, ◌*◌, ◌^◌, ◌==◌, nat_lt, min, if◌then◌else◌, length, slice_index_or};
 ghost use Rattle.std.specs.Prelude.{slice_set, IfOk, Bool, true, false, replicate};
 ghost use Rattle.bt_tables.specs.Tables.{HasRoomOf, PieceState, changed_row, edit, empty_cell, failed_row, fresh_piece, one_if, one_less, one_more};
 ghost use Rattle.bt_tables.specs.Tables.{stored_row};
 ghost use Rattle.bt_tables.specs.Floors.{is_fresh};
-ghost use Rattle.bt_tables.specs.Standings.{AreTouched, cell_kept, is_held, is_touched, held_count, touched_count, group_of_row, shown_row};
-ghost use Rattle.bt_tables.specs.Standings.{standing_of};
+ghost use Rattle.bt_tables.specs.Standings.{AreTouched, cell_kept, is_held, is_resting, is_touched, held_count, touched_count, group_of_row, shown_row};
+ghost use Rattle.bt_tables.specs.Standings.{first_group, stage_of_row, standing_of};
 ghost use Rattle.bt_tables.specs.Rows.{Keeps, row_of, said};
 
 use crate::cell::Cell;
 use crate::counts::Counts;
-use bt_history::MOST_WORKERS;
+use bt_history::{MOST_LEVEL, MOST_WORKERS, USUAL_LEVEL};
 use std::marker::Model;
 
 /// A change of what is kept of a piece. Blocks are counted from the front of the piece.
@@ -27,18 +27,19 @@ pub enum Change {
     Pass,
     /// A check found another hash: no block is held.
     Fail,
-    /// The piece is wanted from now on, or isn't.
-    Wanted(bool),
+    /// The piece has this level from now on.
+    Level(u8),
 }
 
-/// What a piece amounts to among the others: its group, how many of its blocks are unasked and how many aren't held, if it is wanted, and
-/// whether it is had.
+/// What a piece amounts to among the others: its group, how many of its blocks are unasked and how many aren't held, if it is wanted,
+/// whether it is had, and whether something is left to get of it.
 #[derive(Clone, Copy)]
 pub struct Standing {
     pub group: u32,
     pub unasked: u32,
     pub unheld: u32,
     pub had: bool,
+    pub left: bool,
 }
 
 impl Standing {
@@ -48,21 +49,49 @@ impl Standing {
         unasked: 0,
         unheld: 0,
         had: false,
+        left: false,
     };
 }
 
-/// The group of the pieces of which nothing is left to get: those that are had, or not wanted.
+/// The stage of the pieces of which nothing is left to get: those that are had, or not wanted.
 pub const RESTING: u32 = 0;
-/// The group of the begun pieces whose lacking blocks are all asked: also of the full ones, until their check passes.
+/// The stage of the begun pieces whose lacking blocks are all asked: also of the full ones, until their check passes.
 pub const ASKED_OUT: u32 = 1;
-/// The group of the begun pieces with an unasked block.
+/// The stage of the begun pieces with an unasked block.
 pub const OPEN: u32 = 2;
-/// The group of the unbegun pieces that nobody shows; those that n peers show are n groups behind it.
+/// The stage of the unbegun pieces that nobody shows; those that n peers show are n stages behind it.
 pub const UNBEGUN: u32 = 3;
-/// Unbegun pieces that so many peers show, or more, are one group: a desk has fewer workers, but a journal of more can be audited.
+/// Unbegun pieces of a level that so many peers show, or more, are one group: a desk has fewer workers, but a journal of more can be audited.
 pub const CROWD: u32 = MOST_WORKERS + 1;
-/// So many groups there are.
-pub const GROUPS: u16 = (UNBEGUN + CROWD + 1) as u16;
+/// Each level has so many stages, a group of pieces for each.
+pub const SPAN: u32 = UNBEGUN + CROWD + 1;
+/// So many groups there are: those of the usual level come first, where pieces of level 0 rest too.
+pub const GROUPS: u16 = (MOST_LEVEL as u32 * SPAN) as u16;
+/// A level ranks so far before the next lower one: farther than a count of peers goes.
+pub const RANKS: u32 = 0x1_0000;
+
+/// The first group of the level: the usual one has the first groups of all, so that a piece's way through them is short while no other
+/// level is told.
+#[inline(always)]
+pub fn first_group(level: u8) -> u32
+    ensures { result ≡ first_group level }
+{
+    if level == 0 || level == USUAL_LEVEL {
+        0
+    } else if level > USUAL_LEVEL {
+        u32::from((MOST_LEVEL + 1).saturating_sub(level)) * SPAN
+    } else {
+        u32::from(MOST_LEVEL.saturating_sub(level)) * SPAN
+    }
+}
+
+/// How an unbegun piece of the level ranks that so many peers show.
+#[inline(always)]
+pub fn rank(level: u8, shown_by: u16) -> u32
+    ensures { result ≡ (MOST_LEVEL - level) * RANKS + shown_by }
+{
+    u32::from(MOST_LEVEL.saturating_sub(level)) * RANKS + u32::from(shown_by)
+}
 
 /// What is kept of a piece, as its rows lend it: what is counted of its blocks, and a cell for each of them, by the block's index. How many
 /// peers show the piece stands apart (`Pieces`): contracts see a row that nobody shows.
@@ -104,13 +133,26 @@ impl<'a> Piece<'a> {
         ensures is { result ≡ standing_of (shown_row shown_by self.now) }
         ensures few { result.group < GROUPS }
     {
-        let blocks = if self.counts.wanted { self.len() } else { 0 };
+        let blocks = if self.counts.level == 0 {
+            0
+        } else {
+            self.len()
+        };
         Standing {
             group: self.group(shown_by),
             unasked: blocks.saturating_sub(self.counts.touched),
             unheld: blocks.saturating_sub(self.counts.held),
             had: self.counts.had,
+            left: !self.is_resting(),
         }
+    }
+
+    /// Whether nothing is left to get of the piece.
+    #[inline(always)]
+    pub fn is_resting(&self) -> bool
+        ensures { result ≡ is_resting self.now }
+    {
+        self.counts.had || self.counts.level == 0
     }
 
     /// The group of a piece that so many peers show.
@@ -119,7 +161,16 @@ impl<'a> Piece<'a> {
         ensures is { result ≡ group_of_row (shown_row shown_by self.now) }
         ensures few { result < GROUPS }
     {
-        if self.counts.had || !self.counts.wanted {
+        first_group(self.counts.level) + self.stage(shown_by)
+    }
+
+    /// The stage of a piece that so many peers show.
+    #[inline(always)]
+    fn stage(&self, shown_by: u32) -> u32
+        ensures is { result ≡ stage_of_row (shown_row shown_by self.now) }
+        ensures few { result < SPAN }
+    {
+        if self.is_resting() {
             RESTING
         } else if self.counts.touched == 0 {
             UNBEGUN + shown_by.min(CROWD)
@@ -155,7 +206,7 @@ impl<'a> Piece<'a> {
     pub fn is_fresh(&self) -> bool
         ensures { result ≡ is_fresh self.now }
     {
-        !(self.counts.had || !self.counts.wanted) && self.counts.touched == 0
+        !self.is_resting() && self.counts.touched == 0
     }
 
     pub fn is_had(&self) -> bool
@@ -164,10 +215,11 @@ impl<'a> Piece<'a> {
         self.counts.had
     }
 
-    pub fn is_wanted(&self) -> bool
-        ensures { result ≡ self.now.wanted }
+    /// The level of the piece: 0, where it isn't wanted.
+    pub fn level(&self) -> u8
+        ensures { result ≡ self.now.level }
     {
-        self.counts.wanted
+        self.counts.level
     }
 
     /// What is kept of the block.

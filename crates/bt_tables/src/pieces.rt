@@ -1,15 +1,16 @@
 //! The rows of all pieces.
 
-ghost use Rattle.std.specs.Prelude.{◌≡◌, ◌<◌, ◌+◌, ◌^◌, true, false, length, IfOk, map};
+ghost use Rattle.std.specs.Prelude.{◌≡◌, ◌<◌, ◌≤◌, ◌+◌, ◌^◌, ℕ, true, false, length, IfOk, map, min, if◌then◌else◌};
 ghost use Rattle.std.specs.List.{count_by, sum_by};
 ghost use Rattle.bt_meta.specs.Layout.{block_count, piece_count};
-ghost use Rattle.bt_order.specs.Orders.{at, ListsGroup, TellsFirst};
+ghost use Rattle.bt_order.specs.Orders.{at, ListsGroup};
 ghost use Rattle.bt_order.specs.Risings.{IsRising};
-ghost use Rattle.bt_tables.specs.Standings.{apart, group_of_row, standing_of};
+ghost use Rattle.bt_tables.specs.Floors.{NoneFresh, rank_of_row};
+ghost use Rattle.bt_tables.specs.Standings.{ListsOpen, TellsRest, apart, group_of_row, standing_of};
 ghost use Rattle.bt_history.specs.Counting.{table};
 ghost use Rattle.bt_tables.specs.Tables.{HasRoomOf, changed_row, edit, fresh_piece, less_available, more_available, piece_row};
 
-use crate::piece::{Change, GROUPS, Piece, Standing};
+use crate::piece::{Change, GROUPS, Piece, Standing, rank};
 use crate::rows::Rows;
 use crate::shelf::Shelf;
 use bt_meta::Torrent;
@@ -17,9 +18,11 @@ use std::alloc::{AllocError, Global};
 use std::marker::Model;
 
 /// The rows of all pieces, how many joined peers show each, and what they amount to together. Contracts see the rows with these counts in
-/// them. They stand apart since a bitfield that comes or goes changes a count of each piece in it, and nothing else of its row.
+/// them. They stand apart since a bitfield that comes or goes changes a count of each piece in it, and nothing else of its row. No piece
+/// before `front` is wanted and unbegun: there the search for the first such piece begins.
 pub struct Pieces {
     rows: Rows,
+    front: u32,
     shown_by: Vec<u16>,
     shelf: Shelf,
 }
@@ -29,6 +32,7 @@ impl Drop for Pieces {
     fn drop(self) {
         let Pieces {
             rows: _rows,
+            front: _,
             shown_by: _shown_by,
             shelf: _shelf,
         } = self;
@@ -38,6 +42,7 @@ impl Drop for Pieces {
 impl Model for Pieces {
     ghost use Rattle.std.specs.Prelude.{List, ◌≡◌, length};
     ghost use Rattle.bt_tables.specs.Apart.{AreApart};
+    ghost use Rattle.bt_tables.specs.Floors.{NoneFresh};
     ghost use Rattle.bt_tables.specs.Standings.{AreShelved, whole_rows};
     ghost use Rattle.bt_tables.specs.Tables.{PieceState};
 
@@ -47,7 +52,8 @@ impl Model for Pieces {
 
     ghost invariant = { λ p. AreShelved p.shelf (whole_rows p.rows p.shown_by.items)
         × (length p.shown_by.items ≡ length p.rows)
-        × AreApart p.rows };
+        × AreApart p.rows
+        × NoneFresh p.front p.rows };
 }
 
 impl Pieces {
@@ -64,6 +70,7 @@ impl Pieces {
         }
         Ok(Pieces {
             rows,
+            front: 0,
             shown_by: vec![in alloc; 0; torrent.piece_count() as usize]?,
             shelf,
         })
@@ -93,6 +100,28 @@ impl Pieces {
         u32::from(self.shown_by[piece as usize])
     }
 
+    /// No piece before this one is wanted and unbegun.
+    pub fn front(&self) -> u32
+        ensures { NoneFresh result self.now }
+    {
+        self.front
+    }
+
+    /// Moves the front over the pieces that aren't wanted and unbegun.
+    pub fn advance(&mut self)
+        ensures { self.new ≡ self.old }
+    {
+        self.front = self.rows.fresh_from(self.front);
+    }
+
+    /// How the piece ranks among the unbegun ones.
+    pub fn rank(&self, piece: u32) -> u32
+        requires { piece < length self.now }
+        ensures { result ≡ rank_of_row (piece_row self.now piece) }
+    {
+        rank(self.rows.row(piece).level(), self.shown_by[piece as usize])
+    }
+
     /// The pieces of the group.
     pub fn group(&self, group: u32) -> &[u32]
         requires { group < GROUPS }
@@ -101,16 +130,27 @@ impl Pieces {
         self.shelf.group(group)
     }
 
+    /// Whether no piece is in the groups from `low` up to `high`.
+    #[inline(always)]
+    pub fn has_none(&self, low: u32, high: u32) -> bool
+        requires low { low < high }
+        requires high { high ≤ GROUPS }
+        ensures { result ≡ true → (p : ℕ) → p < length self.now → low ≤ at (map group_of_row self.now) p
+            → high ≤ at (map group_of_row self.now) p }
+    {
+        self.shelf.has_none(low, high)
+    }
+
     /// Whether nothing is left to get of any piece.
     pub fn are_all_resting(&self) -> bool
-        ensures { TellsFirst (map group_of_row self.now) result }
+        ensures { TellsRest self.now result }
     {
-        self.shelf.are_all_resting()
+        self.shelf.left() == 0
     }
 
     /// The begun pieces with an unasked block, the least first.
     pub fn open_pieces(&self) -> &[u32]
-        ensures lists { ListsGroup (map group_of_row self.now) 2 result.now }
+        ensures lists { ListsOpen (map group_of_row self.now) result.now }
         ensures rise { IsRising (length self.now) result.now }
     {
         self.shelf.open_pieces()
@@ -155,6 +195,7 @@ impl Pieces {
         let shown_by = u32::from(self.shown_by[piece as usize]);
         let before = self.rows.row(piece).standing(shown_by);
         self.rows.apply(piece, change);
+        self.front = front_with(self.front, piece, self.rows.row(piece).is_fresh());
         let after = self.rows.row(piece).standing(shown_by);
         self.shelf.put(piece, before, after);
     }
@@ -192,4 +233,12 @@ impl Pieces {
             self.show(piece);
         }
     }
+}
+
+/// The front once this piece is wanted and unbegun, or isn't.
+#[inline(always)]
+fn front_with(front: u32, piece: u32, fresh: bool) -> u32
+    ensures { result ≡ (if fresh then min front piece else front) }
+{
+    if fresh { front.min(piece) } else { front }
 }

@@ -3,9 +3,10 @@
 ghost use Rattle.std.specs.Prelude.{◌≡◌, ◌<◌, ◌+◌, ◌^◌, false, true, length, slice_index_or, slice_set, IfOk};
 ghost use Rattle.bt_meta.specs.Layout.{block_count, piece_count};
 ghost use Rattle.bt_history.specs.Counting.{table};
+ghost use Rattle.bt_tables.specs.Floors.{NoneFresh};
 ghost use Rattle.bt_tables.specs.Standings.{is_held, cell_kept};
 ghost use Rattle.bt_tables.specs.Tables.{HasRoomOf, changed_row, edit, empty_cell, failed_row, fresh_piece, had_row, one_less, one_more, piece_row};
-ghost use Rattle.bt_tables.specs.Tables.{stored_row, want_row};
+ghost use Rattle.bt_tables.specs.Tables.{level_row, stored_row};
 
 use crate::cell::{Cell, HELD};
 use crate::counts::Counts;
@@ -79,6 +80,20 @@ impl Rows {
         Piece::new(&self.counts[piece as usize], &self.cells[start..end])
     }
 
+    /// The first piece from this one on that is wanted and unbegun, or the count of the pieces.
+    pub fn fresh_from(&self, from: u32) -> u32
+        requires { length self.now < 2 ^ 32 }
+        ensures { NoneFresh from self.now → NoneFresh result self.now }
+    {
+        let count = self.len() as u32;
+        for piece in from..count {
+            if self.row(piece).is_fresh() {
+                return piece;
+            }
+        }
+        count
+    }
+
     /// Changes the row of the piece.
     #[inline(always)]
     pub fn apply(&mut self, piece: u32, change: Change)
@@ -92,7 +107,7 @@ impl Rows {
             Change::Store { index, sender } => self.put(piece, index, Cell::kept_by(sender)),
             Change::Pass => self.pass(piece),
             Change::Fail => self.fail(piece),
-            Change::Wanted(wanted) => self.want(piece, wanted),
+            Change::Level(level) => self.put_level(piece, level),
         }
     }
 
@@ -104,12 +119,12 @@ impl Rows {
         self.counts[piece as usize].had = true;
     }
 
-    /// The piece is wanted from now on, or isn't.
-    fn want(&mut self, piece: u32, wanted: bool)
+    /// The piece has this level from now on.
+    fn put_level(&mut self, piece: u32, level: u8)
         requires { piece < length self.old }
-        ensures { self.new ≡ edit self.old piece (want_row wanted) }
+        ensures { self.new ≡ edit self.old piece (level_row level) }
     {
-        self.counts[piece as usize].wanted = wanted;
+        self.counts[piece as usize].level = level;
     }
 
     /// A check found another hash: no block is held.

@@ -1,24 +1,26 @@
 //! How all pieces stand to each other: in groups, in the list of the open ones, and in sums.
 
-ghost use Rattle.std.specs.Prelude.{◌≡◌, ◌<◌, ◌≤◌, ◌+◌, ◌-◌, ◌^◌, length, replicate, slice_set, slice_index_or, IfOk};
-ghost use Rattle.bt_order.specs.Orders.{at, ListsGroup, TellsFirst};
+ghost use Rattle.std.specs.Prelude.{◌≡◌, ◌<◌, ◌≤◌, ◌+◌, ◌-◌, ◌^◌, ℕ, true, length, replicate, slice_set, slice_index_or, IfOk};
+ghost use Rattle.bt_order.specs.Orders.{at, ListsGroup};
 ghost use Rattle.bt_order.specs.Risings.{IsRising};
-ghost use Rattle.bt_tables.specs.Standings.{IsFiled, ShelfState, lowered_group, raised_group};
+ghost use Rattle.bt_tables.specs.Standings.{IsFiled, ListsOpen, ShelfState, lowered_group, raised_group, stage_of};
 ghost use Rattle.bt_tables.specs.Tables.{one_if};
 
-use crate::piece::{CROWD, GROUPS, OPEN, Standing, UNBEGUN};
+use crate::piece::{CROWD, GROUPS, OPEN, SPAN, Standing, UNBEGUN};
 use bt_order::{Order, Rising};
 use std::alloc::{AllocError, Global};
 use std::marker::Model;
 
-/// What the rows of the pieces amount to together: the pieces by group, those of group OPEN in rising order too, since strict priority
-/// takes the least that a peer shows; the numbers of unasked blocks and of those that aren't held, and how many pieces are had.
+/// What the rows of the pieces amount to together: the pieces by group, those of stage OPEN in rising order too, since strict priority
+/// takes the least that a peer shows; the numbers of unasked blocks and of those that aren't held, how many pieces are had, and of how many
+/// something is left to get.
 pub struct Shelf {
     order: Order,
     open_pieces: Rising,
     unasked: u64,
     unheld: u64,
     had: u32,
+    left: u32,
 }
 
 /// The end of a shelf is one call for whoever owns one.
@@ -30,6 +32,7 @@ impl Drop for Shelf {
             unasked: _,
             unheld: _,
             had: _,
+            left: _,
         } = self;
     }
 }
@@ -41,7 +44,7 @@ impl Model for Shelf {
 
     ghost Value = { ShelfState };
 
-    ghost view = { λ s. record { groups = s.order.group_of; unasked = s.unasked; unheld = s.unheld; had = s.had } };
+    ghost view = { λ s. record { groups = s.order.group_of; unasked = s.unasked; unheld = s.unheld; had = s.had; left = s.left } };
 
     ghost invariant = { λ s. (s.order.count ≡ GROUPS) × AreOpen s.order.group_of s.open_pieces.bound s.open_pieces.numbers };
 }
@@ -49,7 +52,7 @@ impl Model for Shelf {
 impl Shelf {
     /// So many pieces of group 0, of which nothing is unasked.
     pub fn new(alloc: Global, pieces: u32) -> Result<Shelf, AllocError>
-        ensures { IfOk result (λ shelf. shelf ≡ record { groups = replicate pieces 0; unasked = 0; unheld = 0; had = 0 }) }
+        ensures { IfOk result (λ shelf. shelf ≡ record { groups = replicate pieces 0; unasked = 0; unheld = 0; had = 0; left = 0 }) }
     {
         Ok(Shelf {
             order: Order::new(alloc, pieces, GROUPS)?,
@@ -57,6 +60,7 @@ impl Shelf {
             unasked: 0,
             unheld: 0,
             had: 0,
+            left: 0,
         })
     }
 
@@ -68,16 +72,19 @@ impl Shelf {
         self.order.group(group)
     }
 
-    /// Whether each piece is in group 0.
-    pub fn are_all_resting(&self) -> bool
-        ensures { TellsFirst self.now.groups result }
+    /// Whether no piece is in the groups from `low` up to `high`.
+    #[inline(always)]
+    pub fn has_none(&self, low: u32, high: u32) -> bool
+        requires low { low < high }
+        requires high { high ≤ GROUPS }
+        ensures { result ≡ true → (p : ℕ) → p < length self.now.groups → low ≤ at self.now.groups p → high ≤ at self.now.groups p }
     {
-        self.order.are_all_first()
+        self.order.has_none(low, high)
     }
 
     /// The begun pieces with an unasked block, the least first.
     pub fn open_pieces(&self) -> &[u32]
-        ensures lists { ListsGroup self.now.groups 2 result.now }
+        ensures lists { ListsOpen self.now.groups result.now }
         ensures rise { IsRising (length self.now.groups) result.now }
     {
         self.open_pieces.as_slice()
@@ -112,6 +119,13 @@ impl Shelf {
         self.had
     }
 
+    /// Of how many pieces something is left to get.
+    pub fn left(&self) -> u32
+        ensures { result ≡ self.now.left }
+    {
+        self.left
+    }
+
     /// One peer more shows the piece, so many in all: an unbegun one moves to the next group.
     #[inline(always)]
     pub fn raise(&mut self, piece: u32, shown_by: u32)
@@ -124,7 +138,7 @@ impl Shelf {
         if shown_by > CROWD {
             return;
         }
-        if self.group_of(piece) >= UNBEGUN {
+        if self.group_of(piece) % SPAN >= UNBEGUN {
             self.order.raise(piece);
         }
     }
@@ -140,7 +154,7 @@ impl Shelf {
         if shown_by > CROWD {
             return;
         }
-        if self.group_of(piece) > UNBEGUN {
+        if self.group_of(piece) % SPAN > UNBEGUN {
             self.order.lower(piece);
         }
     }
@@ -157,12 +171,14 @@ impl Shelf {
           unasked = self.old.unasked - before.unasked + after.unasked;
           unheld = self.old.unheld - before.unheld + after.unheld;
           had = self.old.had - one_if before.had + one_if after.had;
+          left = self.old.left - one_if before.left + one_if after.left;
         } }
     {
         self.put_in(piece, before.group, after.group);
         self.unasked = self.unasked - u64::from(before.unasked) + u64::from(after.unasked);
         self.unheld = self.unheld - u64::from(before.unheld) + u64::from(after.unheld);
         self.had = self.had - u32::from(before.had) + u32::from(after.had);
+        self.left = self.left - u32::from(before.left) + u32::from(after.left);
     }
 
     /// Moves the piece from the one group to the other.
@@ -176,8 +192,8 @@ impl Shelf {
         if before == after {
             return;
         }
-        let opens = after == OPEN;
-        if (before == OPEN) != opens {
+        let opens = after % SPAN == OPEN;
+        if (before % SPAN == OPEN) != opens {
             self.open_pieces.put(piece, opens);
         }
         self.order.put(piece, after);

@@ -4,12 +4,13 @@ ghost use Rattle.std.specs.Prelude.{◌≡◌, ◌<◌, ◌+◌, ◌^◌, [], fa
 ghost use Rattle.std.specs.Option.{option_copied};
 ghost use Rattle.bt_tables.specs.Floors.{AreFloors};
 ghost use Rattle.bt_tables.specs.Tables.{AreCounted, edit, hidden_rows, less_available, lowered, lowered_by, more_available, peer_row, piece_row};
-ghost use Rattle.bt_tables.specs.Tables.{recounted, shown_rows, wanted_by};
+ghost use Rattle.bt_tables.specs.Tables.{levelled_by, recounted, shown_rows, wanted_level};
 
 use crate::floors::Floors;
 use crate::peers::Peers;
 use crate::piece::Change;
 use crate::pieces::Pieces;
+use bt_history::USUAL_LEVEL;
 use bt_meta::{BLOCK_SIZE, Bitfield, Block};
 
 /// The worker's peer shows the pieces of `after` in place of those that it showed, or none.
@@ -79,12 +80,40 @@ fn show(pieces: &mut Pieces, piece: u32)
     }
 }
 
-/// Just the pieces with their flag set are wanted.
+/// Just the pieces with their flag set are wanted, all of them at the usual level.
 pub fn rewant(pieces: &mut Pieces, flags: &Bitfield)
-    ensures { pieces.new ≡ wanted_by flags.now pieces.old }
+    ensures { pieces.new ≡ levelled_by (wanted_level flags.now) pieces.old }
 {
     for piece in 0..pieces.len() as u32 {
-        pieces.apply(piece, Change::Wanted(has(flags, piece)));
+        pieces.apply(piece, Change::Level(wanted_level(flags, piece)));
+    }
+}
+
+/// Each piece has the level of its place in the list, and none that has no place there is wanted.
+pub fn relevel(pieces: &mut Pieces, levels: &[u8])
+    ensures { pieces.new ≡ levelled_by (λ p. slice_index_or levels.now p 0) pieces.old }
+{
+    for piece in 0..pieces.len() as u32 {
+        pieces.apply(piece, Change::Level(level_in(levels, piece)));
+    }
+}
+
+/// The level of a piece that is wanted just where its flag is set.
+fn wanted_level(flags: &Bitfield, piece: u32) -> u8
+    ensures { result ≡ wanted_level flags.now piece }
+{
+    if has(flags, piece) { USUAL_LEVEL } else { 0 }
+}
+
+/// The level of its place in the list, or 0.
+fn level_in(levels: &[u8], piece: u32) -> u8
+    ensures { result ≡ slice_index_or levels.now piece 0 }
+{
+    let place = piece as usize;
+    if place < levels.len() {
+        levels[place]
+    } else {
+        0
     }
 }
 

@@ -5,27 +5,27 @@ ghost use Rattle.std.specs.Prelude.{EachIndex, unwrap_or};
 ghost use Rattle.bt_meta.specs.Layout.{IsLayout, block_count, piece_count, block_size};
 ghost use Rattle.std.specs.Option.{option_copied};
 ghost use Rattle.std.specs.List.{count_by, sum_by};
-ghost use Rattle.bt_order.specs.Orders.{at, ListsGroup, TellsFirst};
+ghost use Rattle.bt_order.specs.Orders.{at, ListsGroup};
 ghost use Rattle.bt_order.specs.Risings.{IsRising};
 ghost use Rattle.bt_tables.specs.Showing.{dealings};
-ghost use Rattle.bt_tables.specs.Standings.{apart, group_of_row, standing_of};
+ghost use Rattle.bt_tables.specs.Standings.{ListsOpen, TellsRest, apart, group_of_row, standing_of};
 ghost use Rattle.bt_history.specs.Setting.{deepest_line, setting_of};
 ghost use Rattle.bt_history.specs.History.{stores};
 ghost use Rattle.bt_meta.specs.declared.block.Block.{Block};
 ghost use Rattle.bt_history.specs.Counting.{table};
-ghost use Rattle.bt_tables.specs.Floors.{IsFloor, IsRarestStart, TellsFloor, is_fresh};
+ghost use Rattle.bt_tables.specs.Floors.{IsFloor, IsRarestStart, NoneFresh, TellsFloor, is_fresh};
 ghost use Rattle.bt_tables.specs.Tables.{AreAskers, AreCounted, HasBlock, HasRoomFor, HasShortLines, bits_row, leave_row, TablesState, after_arrival, after_check};
 ghost use Rattle.bt_tables.specs.Tables.{after_next, announced, cancel_row, depth_row, given_up, late_row, edit, failed_row, fresh_peer, fresh_piece, join_row, choke_row};
-ghost use Rattle.bt_tables.specs.Tables.{unchoke_row, joint, peer_row, piece_row, released, reshown, rewanted, with_block, with_peer};
+ghost use Rattle.bt_tables.specs.Tables.{unchoke_row, joint, levelled, ordered, peer_row, piece_row, released, relevelled, reshown, wanted_level, with_block, with_peer};
 
 use crate::cell::HELD;
 use crate::floors::Floors;
 use crate::haves::announce_all;
 use crate::peer::Peer;
 use crate::peers::Peers;
-use crate::piece::{Change, GROUPS, Piece, UNBEGUN};
+use crate::piece::{Change, GROUPS, Piece, SPAN, UNBEGUN};
 use crate::pieces::Pieces;
-use crate::sweep::{lower, lower_all, recount, rewant};
+use crate::sweep::{lower, lower_all, recount, relevel, rewant};
 use bt_history::{Reply, Rules};
 use bt_meta::{BLOCK_SIZE, Bitfield, Block, Torrent};
 use std::alloc::{AllocError, Global};
@@ -38,6 +38,7 @@ pub struct Tables {
     torrent: Arc<Torrent>,
     workers: u32,
     rules: Rules,
+    in_order: bool,
     peers: Peers,
     pieces: Pieces,
     floors: Floors,
@@ -50,6 +51,7 @@ impl Drop for Tables {
             torrent: _torrent,
             workers: _,
             rules: _,
+            in_order: _,
             peers: _peers,
             pieces: _pieces,
             floors: _floors,
@@ -66,6 +68,7 @@ impl Model for Tables {
 
     ghost view = { λ t. record {
       setting = setting_of t.torrent.value.layout t.workers t.rules;
+      in_order = t.in_order;
       peers = t.peers;
       pieces = t.pieces;
     } };
@@ -83,6 +86,7 @@ impl Tables {
     ) -> Result<Tables, AllocError>
         ensures setting { IfOk result (λ t. t.setting ≡ setting_of torrent.value.layout workers rules) }
         ensures layout { IfOk result (λ t. IsLayout t.setting.torrent) }
+        ensures in_order { IfOk result (λ t. t.in_order ≡ false) }
         ensures peers { IfOk result (λ t. t.peers ≡ table workers
             (λ worker. fresh_peer (deepest_line (setting_of torrent.value.layout workers rules)) (piece_count torrent.value.layout))) }
         ensures pieces { IfOk result (λ t. t.pieces
@@ -95,6 +99,7 @@ impl Tables {
             torrent,
             workers,
             rules,
+            in_order: false,
         })
     }
 
@@ -111,6 +116,13 @@ impl Tables {
         ensures deepest { result.deepest ≡ self.now.setting.deepest }
     {
         self.rules
+    }
+
+    /// Whether pieces of one level come in rising order.
+    pub fn is_in_order(&self) -> bool
+        ensures { result ≡ self.now.in_order }
+    {
+        self.in_order
     }
 
     pub fn torrent(&self) -> &Torrent
@@ -162,14 +174,25 @@ impl Tables {
 
     /// Whether nothing is left to get of any piece.
     pub fn are_all_resting(&self) -> bool
-        ensures { TellsFirst (map group_of_row self.now.pieces) result }
+        ensures { TellsRest self.now.pieces result }
     {
         self.pieces.are_all_resting()
     }
 
+    /// Whether no piece is in the groups from `low` up to `high`.
+    #[inline(always)]
+    pub fn has_none(&self, low: u32, high: u32) -> bool
+        requires low { low < high }
+        requires high { high ≤ GROUPS }
+        ensures { result ≡ true → (p : ℕ) → p < length self.now.pieces → low ≤ at (map group_of_row self.now.pieces) p
+            → high ≤ at (map group_of_row self.now.pieces) p }
+    {
+        self.pieces.has_none(low, high)
+    }
+
     /// The begun pieces with an unasked block, the least first.
     pub fn open_pieces(&self) -> &[u32]
-        ensures lists { ListsGroup (map group_of_row self.now.pieces) 2 result.now }
+        ensures lists { ListsOpen (map group_of_row self.now.pieces) result.now }
         ensures rise { IsRising (length self.now.pieces) result.now }
     {
         self.pieces.open_pieces()
@@ -204,7 +227,14 @@ impl Tables {
         self.pieces.had()
     }
 
-    /// The worker's peer shows no unbegun wanted piece that fewer peers than this show.
+    /// No piece before this one is wanted and unbegun.
+    pub fn front(&self) -> u32
+        ensures { NoneFresh result self.now.pieces }
+    {
+        self.pieces.front()
+    }
+
+    /// The worker's peer shows no unbegun wanted piece that ranks before this.
     pub fn floor(&self, worker: u32) -> u32
         requires { worker < length self.now.peers }
         ensures { IsFloor self.now.pieces (peer_row self.now.peers worker) result }
@@ -212,14 +242,14 @@ impl Tables {
         self.floors.of(worker)
     }
 
-    /// The floor that a reply to Next tells: once enough pieces are had, a piece that begins is a rarest one; and where nothing is to be
-    /// asked, the peer shows no unbegun wanted piece.
+    /// The floor that a reply to Next tells: once enough pieces are had, a piece that begins is a rarest one of the highest level that
+    /// has one; and where nothing is to be asked, the peer shows no unbegun wanted piece.
     fn floor_told(&self, reply: Reply) -> Option<u32>
         ensures { IfSome result (λ n. TellsFloor self.now reply n) }
     {
         match reply {
             Reply::Request(block) if self.begins(block.piece) => {
-                Some(self.pieces.availability(block.piece))
+                Some(self.pieces.rank(block.piece))
             }
             Reply::Idle | Reply::NothingLeft => Some(u32::MAX),
             _ => None,
@@ -252,9 +282,10 @@ impl Tables {
     fn begins(&self, piece: u32) -> bool
         ensures { result ≡ true → IsRarestStart self.now piece }
     {
-        self.pieces.had() >= self.rules.random
+        !self.in_order
+            && self.pieces.had() >= self.rules.random
             && (piece as usize) < self.pieces.len()
-            && self.pieces.group_of(piece) >= UNBEGUN
+            && self.pieces.group_of(piece) % SPAN >= UNBEGUN
     }
 
     /// Frees what was asked of the worker's peer.
@@ -348,8 +379,11 @@ impl Tables {
     {
         let is_new = !self.peers.shows(worker, piece);
         self.pieces.announce(piece, is_new);
-        let shown_by = self.pieces.availability(piece);
-        let floor = floor_with(self.floors.of(worker), &self.pieces.row(piece), shown_by);
+        let floor = floor_with(
+            self.floors.of(worker),
+            &self.pieces.row(piece),
+            self.pieces.rank(piece),
+        );
         self.floors.put(worker, floor);
         self.peers.put_have(worker, piece);
     }
@@ -387,6 +421,16 @@ impl Tables {
         self.peers.ask(worker, block);
         self.pieces
             .apply(block.piece, Change::Raise(block.begin / BLOCK_SIZE));
+        self.advance();
+    }
+
+    /// Moves the front of the pieces when they are asked in order.
+    fn advance(&mut self)
+        ensures { self.new ≡ self.old }
+    {
+        if self.in_order {
+            self.pieces.advance();
+        }
     }
 
     /// The cancel of the block is told.
@@ -465,10 +509,34 @@ impl Tables {
 
     /// Want.
     pub fn put_want(&mut self, flags: &Bitfield)
-        ensures { self.new ≡ rewanted self.old flags.now }
+        ensures { self.new ≡ relevelled self.old (wanted_level flags.now) }
     {
         rewant(&mut self.pieces, flags);
         self.floors.clear(); // more may be wanted
+    }
+
+    /// Levels.
+    pub fn put_levels(&mut self, levels: &[u8])
+        ensures { self.new ≡ relevelled self.old (λ p. slice_index_or levels.now p 0) }
+    {
+        relevel(&mut self.pieces, levels);
+        self.floors.clear(); // any piece may come first now
+    }
+
+    /// InOrder.
+    pub fn put_order(&mut self, rising: bool)
+        ensures { self.new ≡ ordered self.old rising }
+    {
+        self.in_order = rising;
+    }
+
+    /// Level.
+    pub fn put_level(&mut self, piece: u32, level: u8)
+        requires { piece < length self.old.pieces }
+        ensures { self.new ≡ levelled self.old piece level }
+    {
+        self.pieces.apply(piece, Change::Level(level));
+        self.floors.admit(&self.peers, &self.pieces, piece);
     }
 
     /// Haves: the peer shows these pieces too, a have for each.
@@ -487,13 +555,13 @@ impl Tables {
     }
 }
 
-/// The floor of a peer that shows the piece too, which so many show.
-fn floor_with(floor: u32, row: &Piece<'_>, shown_by: u32) -> u32
+/// The floor of a peer that shows the piece too, which ranks so.
+fn floor_with(floor: u32, row: &Piece<'_>, rank: u32) -> u32
     ensures most { result ≤ floor }
-    ensures shown { is_fresh row.now ≡ true → result ≤ shown_by }
+    ensures shown { is_fresh row.now ≡ true → result ≤ rank }
 {
     if row.is_fresh() {
-        floor.min(shown_by)
+        floor.min(rank)
     } else {
         floor
     }

@@ -1,10 +1,11 @@
 -- Journals as text.
-use Rattle.std.specs.Prelude.{◌≡◌, ℕ, List, [], ◌∷◌, ◌++◌, codes, length}
+use Rattle.std.specs.Prelude.{◌≡◌, ℕ, ◌+◌, min, true, false, List, [], ◌∷◌, ◌++◌, codes, length, map}
 use Rattle.std.specs.Fmt.{decimal}
 use Rattle.hex.specs.Hex.{encode_lower}
 use Rattle.bt_meta.specs.WireBits.{IsSpelled}
 use Rattle.bt_history.specs.declared.event.Action.{Action}
 use Rattle.bt_history.specs.declared.event.Action.TheVariants.{Join, Bits, Have, Choke, Unchoke, Next, Arrived, Settle, Leave, Want, Haves, Depth, Release}
+use Rattle.bt_history.specs.declared.event.Action.TheVariants.{Level, Levels, InOrder}
 use Rattle.bt_history.specs.declared.event.Event.{Event}
 use Rattle.bt_text.specs.Texts.{reply_text}
 
@@ -15,6 +16,18 @@ arrived_text piece begin len = codes "block " ++ (decimal piece ++ (codes " " ++
 -- the text of a block that is given up: its piece, and where it begins
 abbrev pub released_text : ℕ → ℕ → List ℕ
 released_text piece begin = codes "release " ++ (decimal piece ++ (codes " " ++ decimal begin))
+
+-- the text of a piece's level
+abbrev pub level_text : ℕ → ℕ → List ℕ
+level_text piece level = codes "level " ++ (decimal piece ++ (codes " " ++ decimal level))
+
+-- a level as one digit; one beyond 9 is told as 9, which is refused like it
+abbrev pub level_digit : ℕ → ℕ
+level_digit level = 48 + min level 9
+
+-- the level of each piece, a digit each
+abbrev pub level_digits : List ℕ → List ℕ
+level_digits levels = map level_digit levels
 
 -- the text of a call
 abbrev pub IsCallText : Action → List ℕ → Type 0
@@ -31,6 +44,10 @@ IsCallText (Want flags) text = (wire : List ℕ) × (IsSpelled flags wire × (te
 IsCallText (Haves flags) text = (wire : List ℕ) × (IsSpelled flags wire × (text ≡ codes "haves " ++ encode_lower wire))
 IsCallText (Depth n) text = text ≡ codes "depth " ++ decimal n
 IsCallText (Release p begin) text = text ≡ released_text p begin
+IsCallText (Level p n) text = text ≡ level_text p n
+IsCallText (Levels levels) text = text ≡ codes "levels " ++ level_digits levels
+IsCallText (InOrder true) text = text ≡ codes "inorder yes"
+IsCallText (InOrder false) text = text ≡ codes "inorder no"
 
 -- the line of an entry: the worker, the call and the reply
 pub record IsJournalLine (e : Event) (text : List ℕ) : Type 0 where

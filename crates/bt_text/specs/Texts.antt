@@ -8,7 +8,7 @@ use Rattle.bt_text.specs.declared.text.Tail.{Tail}
 use Rattle.bt_text.specs.declared.text.Tail.TheVariants.{Nothing, Block, Number}
 use Rattle.bt_history.specs.declared.call.Reason.{Reason}
 use Rattle.bt_history.specs.declared.call.Reason.TheVariants.{NotJoined, AlreadyJoined, LateBits, WrongCount, NoSuchPiece, NoSuchBlock, WrongLength}
-use Rattle.bt_history.specs.declared.call.Reason.TheVariants.{NotWaiting, Stale, NotAsked, WrongDepth}
+use Rattle.bt_history.specs.declared.call.Reason.TheVariants.{NotWaiting, Stale, NotAsked, WrongDepth, WrongLevel}
 use Rattle.bt_history.specs.declared.call.Reply.{Reply}
 use Rattle.bt_history.specs.declared.call.Reply.TheVariants.{Joined, Noted, Quiet, Cancel, Request, Choked, PipeFull, Idle, NothingLeft, Stored}
 use Rattle.bt_history.specs.declared.call.Reply.TheVariants.{Completed, Dropped, Had, Failed, Refused}
@@ -42,6 +42,7 @@ reason_number NotWaiting = 8
 reason_number Stale = 9
 reason_number NotAsked = 10
 reason_number WrongDepth = 11
+reason_number WrongLevel = 12
 
 -- where a block stands: piece, beginning and length
 abbrev pub block_text : blocks.Block → List ℕ

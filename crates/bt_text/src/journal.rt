@@ -5,7 +5,8 @@ ghost use Rattle.std.specs.Io.KnownBytes.{Appends};
 ghost use Rattle.hex.specs.Hex.{encode_lower};
 ghost use Rattle.bt_meta.specs.WireBits.{IsSpelled};
 ghost use Rattle.bt_history.specs.Entries.{action_of, event_of};
-ghost use Rattle.bt_text.specs.Journals.{arrived_text, released_text, AreJournalLines, IsCallText, IsJournalLine};
+ghost use Rattle.bt_text.specs.Journals.{arrived_text, released_text, level_text, level_digit, level_digits};
+ghost use Rattle.bt_text.specs.Journals.{AreJournalLines, IsCallText, IsJournalLine};
 
 use crate::printing::{print, print_number, print_said};
 use crate::text::ReplyText;
@@ -13,7 +14,7 @@ use bt_meta::{Bitfield, DeviceFault, Sink, write_all};
 use bt_picker::{Call, Entry};
 
 /// Prints the lines of a journal: of each entry the worker, the call as a script has it, and the reply. The word of `next` is left out, a
-/// block has its length in place of its bytes, and a bitfield is in lower case.
+/// block has its length in place of its bytes, a bitfield is in lower case, and of many levels each is a digit.
 pub fn print_journal<O: Sink>(out: &mut O, journal: &[Entry]) -> Result<(), DeviceFault>
     ensures ok { OnOk result ((text : List ℕ) × AreJournalLines (map event_of journal.now) text
         × Appends (O.written out.old) (O.written out.new) text) }
@@ -81,6 +82,13 @@ fn print_call<O: Sink>(out: &mut O, call: &Call) -> Result<(), DeviceFault>
             print_number(out, u64::from(*depth))
         }
         Call::Release { piece, begin } => print_released(out, *piece, *begin),
+        Call::Level { piece, level } => print_level(out, *piece, *level),
+        Call::Levels(levels) => {
+            print(out, "levels ")?;
+            print_levels(out, levels.as_slice())
+        }
+        Call::InOrder(true) => print(out, "inorder yes"),
+        Call::InOrder(false) => print(out, "inorder no"),
     }
 }
 
@@ -93,6 +101,37 @@ fn print_released<O: Sink>(out: &mut O, piece: u32, begin: u32) -> Result<(), De
     print_number(out, u64::from(piece))?;
     print(out, " ")?;
     print_number(out, u64::from(begin))
+}
+
+/// The level of one piece.
+fn print_level<O: Sink>(out: &mut O, piece: u32, level: u8) -> Result<(), DeviceFault>
+    ensures ok { OnOk result (Appends (O.written out.old) (O.written out.new) (level_text piece level)) }
+    ensures err { OnErr result (O.failed out.new ≡ true) }
+{
+    print(out, "level ")?;
+    print_number(out, u64::from(piece))?;
+    print(out, " ")?;
+    print_number(out, u64::from(level))
+}
+
+/// The level of each piece, a digit each.
+fn print_levels<O: Sink>(out: &mut O, levels: &[u8]) -> Result<(), DeviceFault>
+    ensures ok { OnOk result (Appends (O.written out.old) (O.written out.new) (level_digits levels.now)) }
+    ensures err { OnErr result (O.failed out.new ≡ true) }
+{
+    for level in levels {
+        print_digit(out, *level)?;
+    }
+    Ok(())
+}
+
+/// A level, as one digit.
+fn print_digit<O: Sink>(out: &mut O, level: u8) -> Result<(), DeviceFault>
+    ensures ok { OnOk result (Appends (O.written out.old) (O.written out.new) (level_digit level ∷ [])) }
+    ensures err { OnErr result (O.failed out.new ≡ true) }
+{
+    let digit = b'0' + level.min(9);
+    write_all(out, &[digit])
 }
 
 /// An arrival, with its length in place of its bytes.

@@ -65,6 +65,7 @@ pub fn reason_number(reason: Reason) -> u8
         Reason::Stale => 9,
         Reason::NotAsked => 10,
         Reason::WrongDepth => 11,
+        Reason::WrongLevel => 12,
     }
 }
 

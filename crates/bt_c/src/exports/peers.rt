@@ -1,5 +1,5 @@
 //! What a worker tells of its peer, and asks.
-ghost use Rattle.std.specs.Prelude.{◌≡◌};
+ghost use Rattle.std.specs.Prelude.{◌≡◌, ◌==◌, min, not};
 ghost use Rattle.bt_history.specs.declared.event.Action.TheVariants as actions;
 ghost use Rattle.bt_history.specs.Entries.{action_of};
 ghost use Rattle.bt_c.specs.Calling.{Makes, MakesFlags, Settles};
@@ -58,6 +58,30 @@ fn haves(alloc: Global, desk: &mut DeskHandle, worker: u32, bytes: &[u8]) -> Res
     let outcome = held.haves(alloc, worker, bytes);
     *desk = DeskHandle::of(held);
     outcome
+}
+
+/// Levels, with a copy of the bytes.
+fn tell_levels(
+    alloc: Global,
+    desk: &mut DeskHandle,
+    worker: u32,
+    bytes: &[u8],
+) -> Result<Reply, Fault>
+    ensures { AtHandle (λ d e o. Makes d e worker (actions.Levels bytes.now) o) desk.old.desk desk.new.desk result }
+{
+    let Some(mut held) = desk.take(alloc) else {
+        return Err(Fault::Shut);
+    };
+    let outcome = held.levels(alloc, worker, bytes);
+    *desk = DeskHandle::of(held);
+    outcome
+}
+
+/// The level that a number tells: one beyond 255 is told as 255, which is refused like it.
+fn level_of(number: u32) -> u8
+    ensures { result ≡ min number 255 }
+{
+    number.min(255) as u8
 }
 
 /// Arrived, with a copy of the bytes.
@@ -258,6 +282,59 @@ pub extern "C" fn piecepick_want(
         desk.old.desk desk.new.desk result answer.new }
 {
     tell(want(alloc, desk, worker, flags), answer)
+}
+
+/// From now on the piece has this level, 0 to 7: 0 isn't downloaded, and of the others a higher one comes before a lower one.
+#[unsafe(no_mangle)]
+pub extern "C" fn piecepick_level(
+    alloc: Global,
+    desk: &mut DeskHandle,
+    worker: u32,
+    piece: u32,
+    level: u32,
+    answer: &mut Answer,
+) -> u32
+    ensures { Tells (λ d e o. Makes d e worker (actions.Level piece (min level 255)) o)
+        desk.old.desk desk.new.desk result answer.new }
+{
+    let told = Call::Level {
+        piece,
+        level: level_of(level),
+    };
+    tell(call(alloc, desk, worker, told), answer)
+}
+
+/// From now on each piece has the level of its byte.
+#[unsafe(no_mangle)]
+pub extern "C" fn piecepick_levels(
+    alloc: Global,
+    desk: &mut DeskHandle,
+    worker: u32,
+    levels: &[u8],
+    answer: &mut Answer,
+) -> u32
+    ensures { Tells (λ d e o. Makes d e worker (actions.Levels levels.now) o)
+        desk.old.desk desk.new.desk result answer.new }
+{
+    tell(tell_levels(alloc, desk, worker, levels), answer)
+}
+
+/// From now on the pieces of one level come in rising order, or, where `rising` is 0, the rarest first again.
+#[unsafe(no_mangle)]
+pub extern "C" fn piecepick_in_order(
+    alloc: Global,
+    desk: &mut DeskHandle,
+    worker: u32,
+    rising: u32,
+    answer: &mut Answer,
+) -> u32
+    ensures { Tells (λ d e o. Makes d e worker (actions.InOrder (not (rising == 0))) o)
+        desk.old.desk desk.new.desk result answer.new }
+{
+    tell(
+        call(alloc, desk, worker, Call::InOrder(rising != 0)),
+        answer,
+    )
 }
 
 /// A `piece` message came: a block, `begin` bytes into the piece. The desk keeps a copy of its bytes.

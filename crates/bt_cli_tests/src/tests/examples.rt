@@ -299,6 +299,26 @@ pub const EXAMPLES: &[Example] = &[
             0 next 0 = idle",
     },
     Example {
+        name: "levels, and pieces in order",
+        torrent: "torrent 3 12 2 a9993e364706816aba3e25717850c26c9cd0d89d a9993e364706816aba3e25717850c26c9cd0d89d a9993e364706816aba3e25717850c26c9cd0d89d a9993e364706816aba3e25717850c26c9cd0d89d",
+        lines: "1 levels 1474 = quiet\n\
+            1 inorder yes = quiet\n\
+            0 join = joined\n\
+            0 bits f0 = noted yes\n\
+            0 unchoke = quiet\n\
+            0 next 0 = request 2 0 3\n\
+            0 next 0 = request 1 0 3\n\
+            0 level 4 1 = refused 5\n\
+            0 level 0 8 = refused 12\n\
+            0 level 3 0 = quiet\n\
+            0 next 0 = request 0 0 3\n\
+            0 next 0 = idle\n\
+            0 levels 4444 = quiet\n\
+            0 levels 444 = refused 4\n\
+            0 inorder no = quiet\n\
+            0 next 0 = request 3 0 3",
+    },
+    Example {
         name: "the last of the most workers",
         torrent: "torrent 3 3 1024 a9993e364706816aba3e25717850c26c9cd0d89d",
         lines: "1023 join = joined",

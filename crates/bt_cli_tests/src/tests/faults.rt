@@ -110,6 +110,31 @@ const BEHIND: &[(&[u8], u64, &[u8])] = &[
     (b"0 rules 5 1\n", 2, b""),
 ];
 
+/// The same, of levels and the order.
+const LEVELS: &[(&[u8], u64, &[u8])] = &[
+    (b"0 level 0 7\n", 0, b"quiet\n"),
+    (b"0 level 9 0\n", 0, b"refused 5\n"),
+    (b"0 level 0 8\n", 0, b"refused 12\n"),
+    (b"0 level 0 255\n", 0, b"refused 12\n"),
+    (b"0 level 0 256\n", 2, b""),
+    (b"0 level\n", 2, b""),
+    (b"0 level 0\n", 2, b""),
+    (b"0 level 0 x\n", 2, b""),
+    (b"0 level 0 4 4\n", 2, b""),
+    (b"0 levels 470\n", 0, b"quiet\n"),
+    (b"0 levels 44\n", 0, b"refused 4\n"),
+    (b"0 levels 448\n", 0, b"refused 12\n"),
+    (b"0 levels\n", 2, b""),
+    (b"0 levels \n", 2, b""),
+    (b"0 levels 4x4\n", 2, b""),
+    (b"0 levels 4 4 4\n", 2, b""),
+    (b"0 inorder yes\n0 inorder no\n", 0, b"quiet\nquiet\n"),
+    (b"0 inorder\n", 2, b""),
+    (b"0 inorder maybe\n", 2, b""),
+    (b"0 inorder yes no\n", 2, b""),
+    (b"2 inorder yes\n", 2, b""),
+];
+
 /// Whole scripts whose first line that isn't empty is at fault.
 const FIRST_LINES: &[(&[u8], u64)] = &[
     (b"", 1),
@@ -186,16 +211,29 @@ fn plays(
     same_for(out.as_slice(), printed, case)
 }
 
+/// Checks how the torrent line with this behind it is played: which line is at fault, and what was printed.
+fn plays_behind(alloc: Global, behind: &[u8], number: u64, printed: &[u8]) -> Result<(), Fail> {
+    let script = script_of(alloc, behind)?;
+    let wanted = if number == 0 {
+        Ok(())
+    } else {
+        Err(Fault::Line(number))
+    };
+    plays(alloc, &script, wanted, printed, behind)
+}
+
 #[test]
 fn lines_behind_the_first(rt: HostRuntime) -> Result<(), Fail> {
     for &(behind, number, printed) in BEHIND {
-        let script = script_of(rt.alloc(), behind)?;
-        let wanted = if number == 0 {
-            Ok(())
-        } else {
-            Err(Fault::Line(number))
-        };
-        plays(rt.alloc(), &script, wanted, printed, behind)?;
+        plays_behind(rt.alloc(), behind, number, printed)?;
+    }
+    Ok(())
+}
+
+#[test]
+fn levels_behind_the_first(rt: HostRuntime) -> Result<(), Fail> {
+    for &(behind, number, printed) in LEVELS {
+        plays_behind(rt.alloc(), behind, number, printed)?;
     }
     Ok(())
 }

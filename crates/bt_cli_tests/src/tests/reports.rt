@@ -56,6 +56,27 @@ fn lines_of_what_is_asked(alloc: Global) -> Result<(), Fail> {
     is_line(alloc, Call::Depth(65), reply, b"7 depth 65 = refused 11\n")
 }
 
+/// Checks the lines of levels, where one beyond 9 is told as 9, and of an order.
+fn lines_of_levels(alloc: Global) -> Result<(), Fail> {
+    let call = Call::Level { piece: 2, level: 7 };
+    is_line(alloc, call, Reply::Quiet, b"7 level 2 7 = quiet\n")?;
+    let call = Call::Levels(Bytes::from_static(b"\x04\x00\x09\xff"));
+    let reply = Reply::Refused(Reason::WrongLevel);
+    is_line(alloc, call, reply, b"7 levels 4099 = refused 12\n")?;
+    is_line(
+        alloc,
+        Call::InOrder(true),
+        Reply::Quiet,
+        b"7 inorder yes = quiet\n",
+    )?;
+    is_line(
+        alloc,
+        Call::InOrder(false),
+        Reply::Quiet,
+        b"7 inorder no = quiet\n",
+    )
+}
+
 /// Checks the line of a block that came.
 fn line_of_a_block(alloc: Global) -> Result<(), Fail> {
     let call = Call::Arrived {
@@ -113,5 +134,6 @@ fn journal_lines(rt: HostRuntime) -> Result<(), Fail> {
     lines_of_bits(rt.alloc())?;
     lines_of_next(rt.alloc())?;
     lines_of_what_is_asked(rt.alloc())?;
+    lines_of_levels(rt.alloc())?;
     line_of_a_block(rt.alloc())
 }

@@ -4,7 +4,7 @@
 //! random, of how many peers a block is asked in endgame, and which depth may be told at most; then come its lines, and behind `but`, each
 //! behind the number of lines that come before, those that mustn't come. Between two examples stands an empty line.
 
-pub const COUNT: u32 = 49;
+pub const COUNT: u32 = 62;
 
 pub const EXAMPLES: &str = "\
 first request
@@ -791,4 +791,237 @@ haves are counted
 1 haves 20 = noted yes
 0 next 0 = request 1 0 3
 but
-6 0 next 0 = request 2 0 1";
+6 0 next 0 = request 2 0 1
+
+two levels
+3 12 abc abc abc abc
+3 5 0 1024 64
+2 levels 2772 = quiet
+0 join = joined
+0 bits f0 = noted yes
+0 unchoke = quiet
+1 join = joined
+1 bits c0 = noted yes
+1 unchoke = quiet
+2 join = joined
+2 bits 70 = noted yes
+2 unchoke = quiet
+0 next 0 = request 2 0 3
+1 next 0 = request 1 0 3
+2 next 0 = request 3 0 3
+0 next 0 = request 0 0 3
+1 next 0 = request 0 0 3
+but
+10 0 next 0 = request 0 0 3
+10 0 next 0 = request 1 0 3
+11 1 next 0 = request 0 0 3
+12 2 next 0 = request 2 0 3
+
+raised in mid download
+32768 65536 abc abc
+1 5 1 1024 64
+0 join = joined
+0 bits c0 = noted yes
+0 unchoke = quiet
+0 next 0 = request 0 0 16384
+0 level 1 5 = quiet
+0 next 0 = request 1 0 16384
+0 next 0 = request 1 16384 16384
+0 next 0 = request 0 16384 16384
+but
+5 0 next 0 = request 0 16384 16384
+
+streaming
+3 12 abc abc abc abc
+1 5 1 1024 64
+0 join = joined
+0 bits f0 = noted yes
+0 unchoke = quiet
+0 inorder yes = quiet
+0 level 2 5 = quiet
+0 next 0 = request 2 0 3
+0 next 0 = request 0 0 3
+0 level 2 4 = quiet
+0 level 3 5 = quiet
+0 next 0 = request 3 0 3
+0 next 0 = request 1 0 3
+but
+5 0 next 0 = request 0 0 3
+6 0 next 0 = request 3 0 3
+9 0 next 0 = request 1 0 3
+
+earlier piece in order
+32768 65536 abc abc
+1 5 1 1024 64
+0 join = joined
+0 bits 40 = noted yes
+0 unchoke = quiet
+0 next 0 = request 1 0 16384
+0 inorder yes = quiet
+0 have 0 = noted yes
+0 next 0 = request 0 0 16384
+0 next 0 = request 0 16384 16384
+0 next 0 = request 1 16384 16384
+but
+6 0 next 0 = request 1 16384 16384
+
+in order told off
+3 12 abc abc abc abc
+2 5 0 1024 64
+0 join = joined
+0 bits f0 = noted yes
+0 unchoke = quiet
+1 join = joined
+1 bits c0 = noted yes
+0 inorder yes = quiet
+0 next 0 = request 0 0 3
+1 inorder no = quiet
+0 next 0 = request 2 0 3
+but
+6 0 next 0 = request 2 0 3
+8 0 next 0 = request 1 0 3
+
+peer of low levels
+3 12 abc abc abc abc
+2 5 1 1024 64
+1 levels 7711 = quiet
+0 join = joined
+0 bits f0 = noted yes
+0 unchoke = quiet
+1 join = joined
+1 bits 30 = noted yes
+1 unchoke = quiet
+1 next 0 = request 2 0 3
+0 next 0 = request 0 0 3
+1 next 0 = request 3 0 3
+0 next 0 = request 1 0 3
+1 next 0 = idle
+but
+7 1 next 0 = idle
+
+unwanted by level
+3 6 abc abc
+1 5 1 1024 64
+0 join = joined
+0 bits c0 = noted yes
+0 unchoke = quiet
+0 level 0 0 = quiet
+0 next 0 = request 1 0 3
+0 next 0 = idle
+0 level 0 4 = quiet
+0 next 0 = request 0 0 3
+0 levels 00 = quiet
+0 next 0 = nothing
+but
+4 0 next 0 = request 0 0 3
+7 0 next 0 = idle
+
+levels of none
+3 7 abc abc a
+1 5 1 1024 64
+0 levels 000 = quiet
+0 join = joined
+0 bits e0 = noted no
+0 unchoke = quiet
+0 next 0 = nothing
+0 level 2 1 = quiet
+0 next 0 = request 2 0 1
+0 next 0 = idle
+but
+2 0 bits e0 = noted yes
+6 0 next 0 = nothing
+
+want after levels
+3 12 abc abc abc abc
+2 5 0 1024 64
+0 levels 7115 = quiet
+0 join = joined
+0 bits f0 = noted yes
+0 unchoke = quiet
+1 join = joined
+1 bits 10 = noted yes
+0 want 70 = quiet
+0 next 0 = request 1 0 3
+0 next 0 = request 2 0 3
+0 level 0 3 = quiet
+0 next 0 = request 3 0 3
+0 next 0 = request 0 0 3
+but
+7 0 next 0 = request 3 0 3
+10 0 next 0 = request 0 0 3
+
+level before the bits
+3 6 abc abc
+1 5 1 1024 64
+0 join = joined
+0 level 1 7 = quiet
+0 bits c0 = noted yes
+0 unchoke = quiet
+0 next 0 = request 1 0 3
+0 next 0 = request 0 0 3
+but
+2 0 bits c0 = refused LateBits
+4 0 next 0 = request 0 0 3
+
+endgame of all levels
+3 6 abc abc
+3 5 1 1024 64
+2 levels 71 = quiet
+0 join = joined
+0 bits c0 = noted yes
+0 unchoke = quiet
+1 join = joined
+1 bits c0 = noted yes
+1 unchoke = quiet
+2 join = joined
+2 bits c0 = noted yes
+2 unchoke = quiet
+0 next 0 = request 0 0 3
+1 next 0 = request 1 0 3
+2 next 0 = request 1 0 3
+2 next 0 = request 0 0 3
+but
+11 1 next 0 = request 0 0 3
+
+asked outlasts its level
+3 6 abc abc
+1 5 1 1024 64
+0 join = joined
+0 bits c0 = noted yes
+0 unchoke = quiet
+0 next 0 = request 0 0 3
+0 level 0 0 = quiet
+0 block 0 0 abc = completed
+0 settle 0 abc = had
+0 next 0 = request 1 0 3
+but
+5 0 block 0 0 abc = dropped
+
+refusals of levels
+3 7 abc abc a
+2 5 1 1024 64
+0 level 3 4 = refused NoSuchPiece
+0 level 0 8 = refused WrongLevel
+0 level 9 9 = refused NoSuchPiece
+1 levels 44 = refused WrongCount
+1 levels 4444 = refused WrongCount
+1 levels 484 = refused WrongLevel
+1 levels 88 = refused WrongCount
+1 levels 470 = quiet
+1 level 2 7 = quiet
+0 inorder yes = quiet
+0 inorder no = quiet
+0 join = joined
+0 bits e0 = noted yes
+0 unchoke = quiet
+0 next 0 = request 2 0 1
+0 next 0 = request 1 0 3
+0 next 0 = request 0 0 3
+but
+0 0 level 3 4 = quiet
+1 0 level 0 8 = quiet
+3 1 levels 44 = quiet
+5 1 levels 484 = quiet
+6 1 levels 88 = refused WrongLevel
+8 1 level 2 7 = refused NotJoined
+9 0 inorder yes = refused NotJoined";

@@ -50,6 +50,13 @@ fn piece_of(block: Option<&Block>) -> Shown {
     }
 }
 
+/// The pieces of a group. None stands there twice.
+fn group_of(rt: &impl Abort, group: &[u32]) -> Shown {
+    let flags = [group.contains(&0), group.contains(&1), group.contains(&2)];
+    same(rt, group.len(), count(flags), "unbegun pieces");
+    pieces(flags)
+}
+
 /// A desk of pieces `abc`, `abc` and `a` for four workers.
 pub struct Played {
     desk: Desk,
@@ -181,6 +188,8 @@ impl Played {
         match question {
             "had" => yes_or_no(self.had(rt, number)),
             "shown-by" => self.group(rt, number),
+            "raised-shown-by" => self.raised(rt, number),
+            "level" => Shown::Count(u64::from(self.level(rt, number))),
             "outstanding" => Shown::Count(self.outstanding(rt, number) as u64),
             "availability" => Shown::Count(u64::from(self.availability(rt, number))),
             "finished" => piece_at(rt, self.finished(), number as usize),
@@ -195,6 +204,7 @@ impl Played {
         match question {
             "has-wanted" => yes_or_no(self.has_wanted()),
             "complete" => yes_or_no(self.is_complete()),
+            "in-order" => yes_or_no(self.is_in_order()),
             "wanted" => self.wanted(rt),
             "entries" => Shown::Count(self.entries() as u64),
             "unasked" => Shown::Count(self.unasked()),
@@ -267,6 +277,15 @@ impl Played {
         self.desk.wanted(piece)
     }
 
+    fn level(&self, rt: &impl Abort, piece: u32) -> u8 {
+        assert!(rt; piece < PIECES);
+        self.desk.level(piece)
+    }
+
+    fn is_in_order(&self) -> bool {
+        self.desk.is_in_order()
+    }
+
     fn wanted(&self, rt: &impl Abort) -> Shown {
         let flags = [
             self.is_wanted(rt, 0),
@@ -299,12 +318,19 @@ impl Played {
         self.desk.group(shown_by)
     }
 
-    /// The unbegun pieces that so many peers show. None stands there twice.
+    fn unbegun_at(&self, rt: &impl Abort, level: u8, shown_by: u32) -> &[u32] {
+        assert!(rt; 1 <= level && level <= 7 && shown_by <= WORKERS);
+        self.desk.group_at(level, shown_by)
+    }
+
+    /// The unbegun pieces of the usual level that so many peers show.
     fn group(&self, rt: &impl Abort, shown_by: u32) -> Shown {
-        let group = self.unbegun(rt, shown_by);
-        let flags = [group.contains(&0), group.contains(&1), group.contains(&2)];
-        same(rt, group.len(), count(flags), "unbegun pieces");
-        pieces(flags)
+        group_of(rt, self.unbegun(rt, shown_by))
+    }
+
+    /// The unbegun pieces of the highest level that so many peers show.
+    fn raised(&self, rt: &impl Abort, shown_by: u32) -> Shown {
+        group_of(rt, self.unbegun_at(rt, 7, shown_by))
     }
 
     fn entries(&self) -> usize {

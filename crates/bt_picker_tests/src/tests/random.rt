@@ -1,4 +1,4 @@
-//! Calls at random, and an audit of what came of them.
+//! Calls at random, and an audit of what came of them. Levels and the order are also told anew from the journal.
 ghost use Rattle.std.specs.Prelude.{◌≡◌, ◌<◌, ◌≤◌, IfOk};
 ghost use Rattle.bt_meta.specs.Layout.{piece_count};
 ghost use Rattle.bt_history.specs.Setting.{AreRules};
@@ -169,6 +169,91 @@ fn any_want(alloc: Global, rng: &mut Lcg64Xsh32) -> Result<Call, Fail> {
     Ok(Call::Want(any_flags(alloc, rng)?))
 }
 
+/// A level of one piece; now and then there is no such piece, or no such level.
+fn any_level(rng: &mut Lcg64Xsh32) -> Call {
+    Call::Level {
+        piece: one_of(rng, 5),
+        level: [0, 1, 4, 4, 5, 7, 8, 255][one_of(rng, 8) as usize],
+    }
+}
+
+/// A level for each piece; now and then one too great, or one too few.
+fn any_levels(rng: &mut Lcg64Xsh32) -> Call {
+    let levels: &'static [u8] = match one_of(rng, 7) {
+        0 => &[4, 4, 4, 4],
+        1 => &[7, 4, 4, 1],
+        2 => &[1, 7, 0, 7],
+        3 => &[0, 0, 6, 3],
+        4 => &[2, 2, 5, 5],
+        5 => &[4, 8, 4, 4],
+        _ => &[7, 7, 7],
+    };
+    Call::Levels(Bytes::from_static(levels))
+}
+
+/// What is told of the whole download: what is wanted, levels, or an order.
+fn any_wish(alloc: Global, rng: &mut Lcg64Xsh32) -> Result<Call, Fail> {
+    match one_of(rng, 8) {
+        0..=1 => any_want(alloc, rng),
+        2..=3 => Ok(any_levels(rng)),
+        4..=5 => Ok(Call::InOrder(one_of(rng, 2) == 0)),
+        _ => Ok(any_level(rng)),
+    }
+}
+
+/// What the journal's calls make of the levels and the order, by the rules' words alone: the newest that was told holds.
+#[derive(Clone, Copy)]
+struct Wishes {
+    levels: [u8; 4],
+    rising: bool,
+}
+
+impl Wishes {
+    /// What holds after the entry.
+    fn after(self, entry: &Entry) -> Wishes {
+        if entry.reply != Reply::Quiet {
+            return self;
+        }
+        match &entry.call {
+            Call::InOrder(rising) => Wishes {
+                rising: *rising,
+                ..self
+            },
+            _ => Wishes {
+                levels: self.levels_after(&entry.call),
+                ..self
+            },
+        }
+    }
+
+    /// The levels after the call: Want has its pieces at 4 and the others at 0.
+    fn levels_after(self, call: &Call) -> [u8; 4] {
+        let [first, second, third, fourth] = self.levels;
+        [
+            level_after(call, 0, first),
+            level_after(call, 1, second),
+            level_after(call, 2, third),
+            level_after(call, 3, fourth),
+        ]
+    }
+}
+
+/// The byte at this place, and none behind the last.
+fn byte_at(bytes: &[u8], place: usize) -> u8 {
+    if place < bytes.len() { bytes[place] } else { 0 }
+}
+
+/// The level of the piece after the call, from what it was before.
+fn level_after(call: &Call, piece: u32, before: u8) -> u8 {
+    match call {
+        Call::Want(flags) if piece < flags.count() && flags.has(piece) => 4,
+        Call::Want(_) => 0,
+        Call::Levels(levels) => byte_at(levels.as_slice(), piece as usize),
+        Call::Level { piece: of, level } if *of == piece => *level,
+        _ => before,
+    }
+}
+
 /// A run of calls at one desk, and a verdict that a worker keeps for later.
 struct Run {
     desk: Desk,
@@ -233,7 +318,7 @@ impl Run {
         from_wire(alloc, rng, self.desk.outstanding(worker))
     }
 
-    /// One call: of a peer's worker, a check at once, one that was begun earlier, or what is wanted.
+    /// One call: of a peer's worker, a check at once, one that was begun earlier, or what is told of the whole download.
     fn step(&mut self, alloc: Global, rng: &mut Lcg64Xsh32) -> Result<Reply, Fail> {
         let worker = one_of(rng, WORKERS);
         let piece = one_of(rng, 5);
@@ -257,7 +342,7 @@ impl Run {
         self.call(worker, Call::Settle(verdict))
     }
 
-    /// A check that was begun earlier, what is wanted, or what the peer sends.
+    /// A check that was begun earlier, what is told of the whole download, or what the peer sends.
     fn any_call(&mut self, alloc: Global, rng: &mut Lcg64Xsh32, worker: u32) -> Result<Call, Fail>
         requires { worker < 4 }
     {
@@ -266,8 +351,8 @@ impl Run {
         {
             return Ok(Call::Settle(verdict));
         }
-        if one_of(rng, 40) == 0 {
-            return any_want(alloc, rng);
+        if one_of(rng, 20) == 0 {
+            return any_wish(alloc, rng);
         }
         self.sent(alloc, rng, worker)
     }
@@ -277,7 +362,7 @@ impl Run {
         &mut self,
         alloc: Global,
         rng: &mut Lcg64Xsh32,
-        counts: &mut [u64; 26],
+        counts: &mut [u64; 27],
     ) -> Result<(), Fail> {
         for _ in 0..500 {
             count(counts, self.step(alloc, rng)?);
@@ -293,7 +378,7 @@ impl Run {
         alloc: Global,
         rules: Rules,
         rng: &mut Lcg64Xsh32,
-        counts: &mut [u64; 26],
+        counts: &mut [u64; 27],
     ) -> Result<(), Fail> {
         self.steps(alloc, rng, counts)?;
         self.judge(rt, alloc, rules)
@@ -302,9 +387,36 @@ impl Run {
     /// Checks that the audit allows what was said.
     fn judge(&self, rt: &impl Abort, alloc: Global, rules: Rules) -> Result<(), Fail> {
         assert!(rt; self.has_wanted_at_the_end());
+        self.judge_wishes(rt);
         let torrent = torrent(rt, alloc)?;
         let journal = self.desk.journal();
         finds(rt, alloc, &torrent, WORKERS, rules, journal, None)
+    }
+
+    /// Checks that the desk shows the levels and the order that its journal tells.
+    fn judge_wishes(&self, rt: &impl Abort) {
+        let mut wishes = Wishes {
+            levels: [4; 4],
+            rising: false,
+        };
+        for entry in self.desk.journal() {
+            wishes = wishes.after(entry);
+        }
+        let shown = Wishes {
+            levels: [
+                self.level(rt, 0),
+                self.level(rt, 1),
+                self.level(rt, 2),
+                self.level(rt, 3),
+            ],
+            rising: self.desk.is_in_order(),
+        };
+        assert!(rt; shown.levels == wishes.levels && shown.rising == wishes.rising);
+    }
+
+    fn level(&self, rt: &impl Abort, piece: u32) -> u8 {
+        assert!(rt; piece < self.desk.torrent().piece_count());
+        self.desk.level(piece)
     }
 
     /// Who has all pieces has those that are wanted.
@@ -315,7 +427,7 @@ impl Run {
 
 /// Each kind of reply has a place, each reason its own.
 fn kind(reply: Reply) -> usize
-    ensures { result < 26 }
+    ensures { result < 27 }
 {
     match reply {
         Reply::Joined => 0,
@@ -338,7 +450,7 @@ fn kind(reply: Reply) -> usize
 }
 
 /// Counts a reply by its kind.
-fn count(counts: &mut [u64; 26], reply: Reply) {
+fn count(counts: &mut [u64; 27], reply: Reply) {
     let place = kind(reply);
     counts[place] = counts[place].saturating_add(1);
 }
@@ -348,7 +460,7 @@ fn one_journal(
     rt: &impl Abort,
     alloc: Global,
     seed: u64,
-    counts: &mut [u64; 26],
+    counts: &mut [u64; 27],
 ) -> Result<(), Fail> {
     let mut rng = Lcg64Xsh32::new(seed, 1);
     let rules = any_rules(&mut rng);
@@ -361,7 +473,7 @@ fn journals(
     rt: &impl Abort,
     alloc: Global,
     seeds: u64,
-    counts: &mut [u64; 26],
+    counts: &mut [u64; 27],
 ) -> Result<(), Fail> {
     for seed in 0..seeds {
         one_journal(rt, alloc, seed, counts)?;
@@ -371,7 +483,7 @@ fn journals(
 
 #[test]
 fn journals_of_random_calls(rt: HostRuntime) -> Result<(), Fail> {
-    let mut counts = [0_u64; 26];
+    let mut counts = [0_u64; 27];
     journals(&rt, rt.alloc(), 40, &mut counts)?;
     assert!(rt; !counts.contains(&0));
     Ok(())

@@ -1,5 +1,5 @@
 //! Histories as texts: a line for each call, `WORKER CALL = REPLY`, as in the program's scripts. Bytes are spelled as text; `whole` is a
-//! block of 16 KiB; `settle PIECE BYTES` is the verdict of these bytes; a reason is told by its name.
+//! block of 16 KiB; `settle PIECE BYTES` is the verdict of these bytes; `levels` has a digit for each piece; a reason is told by its name.
 
 use bt_meta::{Bitfield, Block, Torrent};
 use bt_picker::*;
@@ -139,6 +139,7 @@ fn call_of(
             Ok(Call::Haves(flags_of(rt, alloc, pieces, name, words)?))
         }
         "settle" => settle_of(rt, alloc, words),
+        "levels" => Ok(Call::Levels(levels_of(alloc, words.next().unwrap_or(""))?)),
         name => Ok(plain_call(rt, name, words)),
     }
 }
@@ -157,9 +158,29 @@ fn plain_call(rt: &impl Abort, name: &str, words: &mut Split<'static, char>) -> 
             piece: next_number(rt, words),
             begin: next_number(rt, words),
         },
+        "level" => Call::Level {
+            piece: next_number(rt, words),
+            level: next_level(rt, words),
+        },
+        "inorder" => Call::InOrder(words.next() == Some("yes")),
         "block" => arrival_of(rt, words),
         _ => panic!(rt; "no such call"),
     }
+}
+
+/// The level that the next word spells.
+fn next_level(rt: &impl Abort, words: &mut Split<'_, char>) -> u8 {
+    let level = u8::try_from(next_number(rt, words));
+    level.ok().expect(rt, "a level is missing")
+}
+
+/// The levels of these digits.
+fn levels_of(alloc: Global, digits: &str) -> Result<Bytes, Fail> {
+    let mut levels = Vec::new(alloc);
+    for digit in digits.as_bytes() {
+        levels.push(digit.saturating_sub(b'0'))?;
+    }
+    Ok(Bytes::from_vec(levels)?)
 }
 
 fn arrival_of(rt: &impl Abort, words: &mut Split<'static, char>) -> Call {
@@ -214,6 +235,7 @@ const REPLIES: &[(&str, Reply)] = &[
     ("refused Stale", Reply::Refused(Reason::Stale)),
     ("refused NotAsked", Reply::Refused(Reason::NotAsked)),
     ("refused WrongDepth", Reply::Refused(Reason::WrongDepth)),
+    ("refused WrongLevel", Reply::Refused(Reason::WrongLevel)),
 ];
 
 /// The reply that the text tells.

@@ -2,7 +2,7 @@
 
 ghost use Rattle.std.specs.Prelude.{◌≡◌, ◌↔◌, IfOk, IsTrue, map, option_map, slice_index};
 ghost use Rattle.std.specs.Str.{bytes_eq};
-ghost use Rattle.bt_script.specs.Fields.{number_in, small_number_in, fields_of, bytes_in, Reads, digest_in};
+ghost use Rattle.bt_script.specs.Fields.{number_in, small_number_in, byte_in, yes_or_no_in, fields_of, bytes_in, digits_in, Reads, digest_in};
 
 use super::LineFault;
 use hex::{FromHex, FromHexError};
@@ -28,6 +28,26 @@ pub fn small_number(text: &[u8]) -> Result<u32, LineFault>
     ensures { Reads (λ n. n) result (small_number_in text.now) }
 {
     u32::try_from(number(text)?).map_err(|_| LineFault::NotAllowed)
+}
+
+/// The same within 8 bits.
+pub fn byte(text: &[u8]) -> Result<u8, LineFault>
+    ensures { Reads (λ n. n) result (byte_in text.now) }
+{
+    u8::try_from(number(text)?).map_err(|_| LineFault::NotAllowed)
+}
+
+/// Yes or no, in these words.
+pub fn yes_or_no(text: &[u8]) -> Result<bool, LineFault>
+    ensures { Reads (λ answer. answer) result (yes_or_no_in text.now) }
+{
+    if is(text, "yes") {
+        Ok(true)
+    } else if is(text, "no") {
+        Ok(false)
+    } else {
+        Err(LineFault::NotAllowed)
+    }
 }
 
 /// The number that the text says in base ten, a sign allowed.
@@ -67,6 +87,23 @@ pub fn hex_bytes(alloc: Global, text: &[u8]) -> Result<Vec<u8>, LineFault>
     ensures { Reads (λ v. v.items) result (bytes_in text.now) }
 {
     read_hex(alloc, text)?.ok_or(LineFault::NotAllowed)
+}
+
+/// The values of digits, at least one.
+pub fn digits(alloc: Global, text: &[u8]) -> Result<Vec<u8>, LineFault>
+    ensures { Reads (λ v. v.items) result (digits_in text.now) }
+{
+    if text.is_empty() {
+        return Err(LineFault::NotAllowed);
+    }
+    let mut values = Vec::new(alloc);
+    for digit in text {
+        if !digit.is_ascii_digit() {
+            return Err(LineFault::NotAllowed);
+        }
+        values.push(*digit - b'0')?;
+    }
+    Ok(values)
 }
 
 /// The 20 bytes that hexadecimal digits of either case write.

@@ -6,7 +6,7 @@ ghost use Rattle.bt_script.specs.Lines.{line_in, seen_line, seen_command, bare_c
 ghost use Rattle.bt_script.specs.Lines.{command_in};
 
 use super::LineFault;
-use super::fields::{fields, hex_bytes, is, number, small_number};
+use super::fields::{byte, digits, fields, hex_bytes, is, number, small_number, yes_or_no};
 use std::alloc::Global;
 
 /// What a worker does, as a script says it.
@@ -37,6 +37,15 @@ pub enum Command {
         piece: u32,
         begin: u32,
     },
+    /// The level of a piece.
+    Level {
+        piece: u32,
+        level: u8,
+    },
+    /// The level of each piece.
+    Levels(Vec<u8>),
+    /// Whether pieces of one level come in rising order.
+    InOrder(bool),
 }
 
 #[derive(Drop)]
@@ -68,7 +77,7 @@ fn read_command(alloc: Global, word: &[u8], arguments: &[&[u8]]) -> Result<Comma
     match arguments {
         [] => bare_command(word),
         [argument] => short_command(alloc, word, argument),
-        [piece, begin] => pair_command(word, piece, begin),
+        [piece, second] => pair_command(word, piece, second),
         [piece, begin, hex] => block_command(alloc, word, piece, begin, hex),
         _ => Err(LineFault::NotAllowed),
     }
@@ -109,22 +118,32 @@ fn short_command(alloc: Global, word: &[u8], argument: &[u8]) -> Result<Command,
         Ok(Command::Haves(hex_bytes(alloc, argument)?))
     } else if is(word, "depth") {
         Ok(Command::Depth(small_number(argument)?))
+    } else if is(word, "levels") {
+        Ok(Command::Levels(digits(alloc, argument)?))
+    } else if is(word, "inorder") {
+        Ok(Command::InOrder(yes_or_no(argument)?))
     } else {
         Err(LineFault::NotAllowed)
     }
 }
 
-/// What `release` says, the only word with two arguments.
-fn pair_command(word: &[u8], piece: &[u8], begin: &[u8]) -> Result<Command, LineFault>
-    ensures { Reads seen_command result (pair_command word.now piece.now begin.now) }
+/// What a word with two arguments says.
+fn pair_command(word: &[u8], piece: &[u8], second: &[u8]) -> Result<Command, LineFault>
+    ensures { Reads seen_command result (pair_command word.now piece.now second.now) }
 {
-    if !is(word, "release") {
-        return Err(LineFault::NotAllowed);
+    if is(word, "release") {
+        Ok(Command::Release {
+            piece: small_number(piece)?,
+            begin: small_number(second)?,
+        })
+    } else if is(word, "level") {
+        Ok(Command::Level {
+            piece: small_number(piece)?,
+            level: byte(second)?,
+        })
+    } else {
+        Err(LineFault::NotAllowed)
     }
-    Ok(Command::Release {
-        piece: small_number(piece)?,
-        begin: small_number(begin)?,
-    })
 }
 
 /// What `block` says, the only word with three arguments.

@@ -119,6 +119,12 @@ impl Player {
             }
             Command::Depth(depth) => self.make(worker, Call::Depth(depth)),
             Command::Release { piece, begin } => self.make(worker, Call::Release { piece, begin }),
+            Command::Level { piece, level } => self.make(worker, Call::Level { piece, level }),
+            Command::Levels(levels) => {
+                let levels = Bytes::from_vec(levels)?;
+                self.make(worker, Call::Levels(levels))
+            }
+            Command::InOrder(rising) => self.make(worker, Call::InOrder(rising)),
         }
     }
 

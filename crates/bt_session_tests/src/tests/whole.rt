@@ -34,6 +34,9 @@ fn word(call: &Call) -> &'static str {
         Call::Haves(_) => "haves",
         Call::Depth(_) => "depth",
         Call::Release { .. } => "release",
+        Call::Level { .. } => "level",
+        Call::Levels(_) => "levels",
+        Call::InOrder(_) => "inorder",
     }
 }
 
@@ -46,6 +49,7 @@ pub fn tell(entry: &Entry, said: &mut String) -> Result<(), AllocError> {
             write!(said, " {piece} {begin}")?;
         }
         Call::Depth(depth) => write!(said, " {depth}")?,
+        Call::Level { piece, level } => write!(said, " {piece} {level}")?,
         _ => {}
     }
     let reply = entry.reply;

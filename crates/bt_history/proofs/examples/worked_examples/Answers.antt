@@ -11,6 +11,10 @@ use Rattle.bt_history.proofs.ExampleProofs.{released_arrives_after_all_legal, de
 use Rattle.bt_history.proofs.ExampleProofs.{depth_goes_with_its_peer_legal, smaller_depth_legal, one_asker_legal, two_askers_legal}
 use Rattle.bt_history.proofs.ExampleProofs.{no_depth_may_be_told_legal, greatest_depth_legal, refusals_of_release_and_depth_legal}
 use Rattle.bt_history.proofs.ExampleProofs.{haves_after_a_bitfield_legal, haves_after_a_have_legal, haves_of_none_legal, haves_are_counted_legal}
+use Rattle.bt_history.proofs.ExampleProofs.{two_levels_legal, raised_in_mid_download_legal, streaming_legal, earlier_piece_in_order_legal}
+use Rattle.bt_history.proofs.ExampleProofs.{in_order_told_off_legal, peer_of_low_levels_legal, unwanted_by_level_legal, levels_of_none_legal}
+use Rattle.bt_history.proofs.ExampleProofs.{want_after_levels_legal, level_before_the_bits_legal, endgame_of_all_levels_legal}
+use Rattle.bt_history.proofs.ExampleProofs.{asked_outlasts_its_level_legal, refusals_of_levels_legal}
 use Rattle.bt_history.proofs.examples.worked_examples.Goals as goal
 
 pub returns : goal.returns
@@ -64,4 +68,17 @@ returns c = record {
   haves_after_a_have = haves_after_a_have_legal;
   haves_of_none = haves_of_none_legal;
   haves_are_counted = haves_are_counted_legal;
+  two_levels = two_levels_legal;
+  raised_in_mid_download = raised_in_mid_download_legal;
+  streaming = streaming_legal;
+  earlier_piece_in_order = earlier_piece_in_order_legal;
+  in_order_told_off = in_order_told_off_legal;
+  peer_of_low_levels = peer_of_low_levels_legal;
+  unwanted_by_level = unwanted_by_level_legal;
+  levels_of_none = levels_of_none_legal;
+  want_after_levels = want_after_levels_legal;
+  level_before_the_bits = level_before_the_bits_legal;
+  endgame_of_all_levels = endgame_of_all_levels_legal;
+  asked_outlasts_its_level = asked_outlasts_its_level_legal;
+  refusals_of_levels = refusals_of_levels_legal;
 }

@@ -19,7 +19,18 @@ use Rattle.bt_history.proofs.ExampleProofs.{second_asker_of_two_idle_wrong, dept
 use Rattle.bt_history.proofs.ExampleProofs.{unasked_block_released_wrong, block_of_another_peer_released_wrong, depth_of_none_told_wrong}
 use Rattle.bt_history.proofs.ExampleProofs.{depth_beyond_the_rules_told_wrong, block_released_twice_wrong, idle_though_the_bitfield_shows_more_wrong}
 use Rattle.bt_history.proofs.ExampleProofs.{nothing_left_though_the_bitfield_shows_more_wrong, bits_after_haves_noted_wrong}
-use Rattle.bt_history.proofs.ExampleProofs.{haves_noted_without_the_bits_wrong, availability_without_the_haves_wrong}
+use Rattle.bt_history.proofs.ExampleProofs.{haves_noted_without_the_bits_wrong, availability_without_the_haves_wrong, low_level_asked_first_wrong}
+use Rattle.bt_history.proofs.ExampleProofs.{commoner_piece_of_the_level_started_wrong, rarer_piece_of_a_lower_level_started_wrong}
+use Rattle.bt_history.proofs.ExampleProofs.{second_peer_asked_though_a_low_level_is_unasked_wrong, begun_piece_of_a_lower_level_continued_wrong}
+use Rattle.bt_history.proofs.ExampleProofs.{in_order_before_levels_wrong, in_order_by_the_wrong_end_wrong, moved_head_passed_over_wrong}
+use Rattle.bt_history.proofs.ExampleProofs.{begun_piece_continued_though_in_order_wrong, rarest_though_in_order_wrong, in_order_though_told_off_wrong}
+use Rattle.bt_history.proofs.ExampleProofs.{idle_though_a_low_level_is_usable_wrong, piece_of_level_0_asked_wrong, idle_though_wanted_again_wrong}
+use Rattle.bt_history.proofs.ExampleProofs.{bits_noted_though_of_level_0_wrong, nothing_left_though_a_level_rose_wrong}
+use Rattle.bt_history.proofs.ExampleProofs.{older_level_outlasts_a_want_wrong, level_below_the_usual_asked_first_wrong, bits_late_by_a_level_wrong}
+use Rattle.bt_history.proofs.ExampleProofs.{level_from_before_the_bits_forgotten_wrong, endgame_though_a_low_level_is_unasked_wrong}
+use Rattle.bt_history.proofs.ExampleProofs.{asked_block_of_level_0_dropped_wrong, level_of_no_piece_taken_wrong, level_8_taken_wrong}
+use Rattle.bt_history.proofs.ExampleProofs.{levels_of_a_wrong_count_taken_wrong, levels_with_an_8_taken_wrong, levels_refused_for_a_later_cause_wrong}
+use Rattle.bt_history.proofs.ExampleProofs.{level_of_a_stranger_refused_wrong, order_of_a_stranger_refused_wrong}
 use Rattle.bt_history.proofs.examples.wrong_replies.Goals as goal
 
 pub returns : goal.returns
@@ -82,4 +93,33 @@ returns c = record {
   bits_after_haves_noted = bits_after_haves_noted_wrong;
   haves_noted_without_the_bits = haves_noted_without_the_bits_wrong;
   availability_without_the_haves = availability_without_the_haves_wrong;
+  low_level_asked_first = low_level_asked_first_wrong;
+  commoner_piece_of_the_level_started = commoner_piece_of_the_level_started_wrong;
+  rarer_piece_of_a_lower_level_started = rarer_piece_of_a_lower_level_started_wrong;
+  second_peer_asked_though_a_low_level_is_unasked = second_peer_asked_though_a_low_level_is_unasked_wrong;
+  begun_piece_of_a_lower_level_continued = begun_piece_of_a_lower_level_continued_wrong;
+  in_order_before_levels = in_order_before_levels_wrong;
+  in_order_by_the_wrong_end = in_order_by_the_wrong_end_wrong;
+  moved_head_passed_over = moved_head_passed_over_wrong;
+  begun_piece_continued_though_in_order = begun_piece_continued_though_in_order_wrong;
+  rarest_though_in_order = rarest_though_in_order_wrong;
+  in_order_though_told_off = in_order_though_told_off_wrong;
+  idle_though_a_low_level_is_usable = idle_though_a_low_level_is_usable_wrong;
+  piece_of_level_0_asked = piece_of_level_0_asked_wrong;
+  idle_though_wanted_again = idle_though_wanted_again_wrong;
+  bits_noted_though_of_level_0 = bits_noted_though_of_level_0_wrong;
+  nothing_left_though_a_level_rose = nothing_left_though_a_level_rose_wrong;
+  older_level_outlasts_a_want = older_level_outlasts_a_want_wrong;
+  level_below_the_usual_asked_first = level_below_the_usual_asked_first_wrong;
+  bits_late_by_a_level = bits_late_by_a_level_wrong;
+  level_from_before_the_bits_forgotten = level_from_before_the_bits_forgotten_wrong;
+  endgame_though_a_low_level_is_unasked = endgame_though_a_low_level_is_unasked_wrong;
+  asked_block_of_level_0_dropped = asked_block_of_level_0_dropped_wrong;
+  level_of_no_piece_taken = level_of_no_piece_taken_wrong;
+  level_8_taken = level_8_taken_wrong;
+  levels_of_a_wrong_count_taken = levels_of_a_wrong_count_taken_wrong;
+  levels_with_an_8_taken = levels_with_an_8_taken_wrong;
+  levels_refused_for_a_later_cause = levels_refused_for_a_later_cause_wrong;
+  level_of_a_stranger_refused = level_of_a_stranger_refused_wrong;
+  order_of_a_stranger_refused = order_of_a_stranger_refused_wrong;
 }

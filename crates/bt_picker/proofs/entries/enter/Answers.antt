@@ -1,6 +1,6 @@
 use Rattle.std.proofs.Common.{◌≡◌, ◌∙◌, Bool, true, false, not, length, sym, ap, arith}
 use Rattle.std.proofs.lemmas.Bool.{not-true, not-false}
-use Rattle.bt_history.specs.declared.event.Action.TheVariants.{Bits, Have, Haves, Arrived}
+use Rattle.bt_history.specs.declared.event.Action.TheVariants.{Bits, Have, Haves, Arrived, Level}
 use Rattle.bt_picker.specs.Told.{action_told}
 use Rattle.bt_history.proofs.Allowed.{worker_below}
 use Rattle.bt_tables.specs.Tables.{PeerState, TablesState, have_row}
@@ -8,7 +8,8 @@ use Rattle.bt_tables.proofs.Tabled.{length_edit}
 use Rattle.bt_picker.proofs.Entering.{peer_row_is}
 use Rattle.bt_picker.proofs.PeerSteps.{shows_length}
 use Rattle.bt_picker.proofs.Entered.{entered_refusal, enter_join, enter_bits, enter_have, enter_choke, enter_unchoke, enter_next, enter_arrival}
-use Rattle.bt_picker.proofs.Entered.{enter_leave, enter_want, enter_haves, enter_depth, enter_release, cause_none, bits_facts, have_facts, haves_facts, lines_short}
+use Rattle.bt_picker.proofs.Entered.{enter_leave, enter_want, enter_haves, enter_depth, enter_release, enter_level, enter_levels, enter_order, level_piece}
+use Rattle.bt_picker.proofs.Entered.{cause_none, bits_facts, have_facts, haves_facts, lines_short}
 use Rattle.bt_picker.proofs.Entered.{pieces_few, pieces_short, shown_counted, arrival_askers, arrival_block, has_room}
 use Rattle.bt_picker.proofs.Learning.{told_floor, unnoted_floor}
 use Rattle.bt_picker.proofs.entries.enter.Goals as goal
@@ -261,3 +262,28 @@ put_haves-requires-clause-counted c =
 pub put_arrival-requires-clause-sender : goal.put_arrival-requires-clause-sender
 put_arrival-requires-clause-sender c =
     let lw = worker_below _ _ _ c.requires.allowed in omega (arith, lw, c.requires.are.few)
+
+pub put_level-requires : goal.put_level-requires
+put_level-requires c =
+    let cause = cause_none _ _ c.args.worker (Level c.in-Level.piece c.in-Level.level) c.args.reply (rw c.in-Level.is at c.requires.allowed)
+    (counts_if _ _ c.is_refusal.ensures c.if-is_refusal.false) in
+    let lp = level_piece _ _ c.args.worker c.in-Level.piece c.in-Level.level cause in
+    omega (arith, lp, c.requires.are.pieces_len)
+
+pub returns-in-Level-clause-are : goal.returns-in-Level-clause-are
+returns-in-Level-clause-are c =
+    rw (c.in-Level.is, c.put_level.ensures)
+    (enter_level _ _ c.args.worker c.requires.are _ _ c.args.reply (rw c.in-Level.is at c.requires.allowed)
+    (counts_if _ _ c.is_refusal.ensures c.if-is_refusal.false))
+
+pub returns-in-Levels-clause-are : goal.returns-in-Levels-clause-are
+returns-in-Levels-clause-are c =
+    rw (c.in-Levels.is, c.put_levels.ensures)
+    (enter_levels _ _ c.args.worker c.requires.are _ c.args.reply (rw c.in-Levels.is at c.requires.allowed)
+    (counts_if _ _ c.is_refusal.ensures c.if-is_refusal.false))
+
+pub returns-in-InOrder-clause-are : goal.returns-in-InOrder-clause-are
+returns-in-InOrder-clause-are c =
+    rw (c.in-InOrder.is, c.put_order.ensures)
+    (enter_order _ _ c.args.worker c.requires.are _ c.args.reply (rw c.in-InOrder.is at c.requires.allowed)
+    (counts_if _ _ c.is_refusal.ensures c.if-is_refusal.false))

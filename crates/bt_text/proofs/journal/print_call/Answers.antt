@@ -38,3 +38,8 @@ pub returns-in_ok-print-in-Depth-clause-ok : goal.returns-in_ok-print-in-Depth-c
 returns-in_ok-print-in-Depth-clause-ok g c =
     more_that (IsCallText (action_of c.args.call.now)) c.print_number-in-Depth.result _ _ _ _ _ (rw (c.in-Depth.is, c.from-in-Depth.ensures) refl)
     c.in_ok-print-in-Depth.ensures.ok c.print_number-in-Depth.ensures.ok
+
+pub returns-in_ok-print-in-Levels-clause-ok : goal.returns-in_ok-print-in-Levels-clause-ok
+returns-in_ok-print-in-Levels-clause-ok g c =
+    more_that (IsCallText (action_of c.args.call.now)) c.print_levels.result _ _ _ _ _ (rw (c.in-Levels.is, c.as_slice.ensures) refl)
+    c.in_ok-print-in-Levels.ensures.ok c.print_levels.ensures.ok

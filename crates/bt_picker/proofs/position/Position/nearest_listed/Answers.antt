@@ -1,4 +1,4 @@
-use Rattle.bt_picker.proofs.Endings.{group_within}
+use Rattle.bt_picker.proofs.Stages.{group_within}
 use Rattle.bt_picker.proofs.position.Position.nearest_listed.Goals as goal
 
 pub nearer_of-nearest-requires-clause-pieces : goal.nearer_of-nearest-requires-clause-pieces

@@ -8,7 +8,7 @@ returns-then-is_fresh c =
     let o = c.args.self.now in
     let peers = c.args.peers.now in
     lowered_beside o _ peers c.args.pieces.now c.args.piece c.requires.beside
-    (subst (AreLowered o c.lower_for.new.self peers (length peers) c.args.piece) c.availability.ensures c.lower_for.ensures)
+    (subst (AreLowered o c.lower_for.new.self peers (length peers) c.args.piece) c.rank.ensures c.lower_for.ensures)
 
 pub returns-else-is_fresh : goal.returns-else-is_fresh
 returns-else-is_fresh c =

@@ -6,6 +6,8 @@ use Rattle.bt_tables.specs.Tables.{HasRoomOf, PieceState, changed_row, piece_row
 use Rattle.bt_tables.specs.Standings.{AreShelved, shown_row, standing_of, whole_rows}
 use Rattle.bt_tables.proofs.Apart.{changed_counts, edit_is, edited_row, edited_rows, in_groups, in_whole, kept_piece, lent_row, own_row, row_is}
 use Rattle.bt_tables.proofs.Apart.{same_room, set_is, stands_in}
+use Rattle.bt_tables.specs.Floors.{is_fresh}
+use Rattle.bt_tables.proofs.Fronts.{front_kept}
 use Rattle.bt_tables.proofs.Shelves.{can_file, files, same_length}
 use Rattle.bt_tables.proofs.Tabled.{length_edit}
 use Rattle.bt_tables.proofs.pieces.Pieces.apply.Goals as goal
@@ -48,6 +50,13 @@ row-requires-2 c =
     let kept = kept_piece o.shelf o.rows o.shown_by.items _ p c.self.invariant.0 c.self.invariant.1 c.self.view_is c.requires.piece in
     omega (arith, kept.within, ap length c.apply.ensures, length_edit o.rows p (changed_row c.args.change))
 
+pub row-requires-3 : goal.row-requires-3
+row-requires-3 c =
+    let o = c.self.inside in
+    let p = c.args.piece in
+    let kept = kept_piece o.shelf o.rows o.shown_by.items _ p c.self.invariant.0 c.self.invariant.1 c.self.view_is c.requires.piece in
+    omega (arith, kept.within, ap length c.apply.ensures, length_edit o.rows p (changed_row c.args.change))
+
 pub put-requires-clause-piece : goal.put-requires-clause-piece
 put-requires-clause-piece c =
     let o = c.self.inside in
@@ -80,7 +89,7 @@ put-requires-clause-fits c =
     let before : c.standing-before.result ≡ standing_of (shown_row m row) =
     c.standing-before.ensures.is ∙ ap (λ (r : PieceState). standing_of (shown_row m r)) c.row.ensures in
     let after : c.standing-after.result ≡ standing_of (shown_row m new) =
-    c.standing-after.ensures.is ∙ ap (λ (r : PieceState). standing_of (shown_row m r)) (c.row-2.ensures
+    c.standing-after.ensures.is ∙ ap (λ (r : PieceState). standing_of (shown_row m r)) (c.row-3.ensures
     ∙ (ap (λ (l : List PieceState). piece_row l p) c.apply.ensures ∙ edited_row o.rows p c.args.change kept.within)) in
     let whole = whole_rows o.rows o.shown_by.items in
     let in_all = in_whole o.shelf o.rows o.shown_by.items p kept in
@@ -101,7 +110,7 @@ invariant_of-self c =
     let before : c.standing-before.result ≡ standing_of (shown_row m row) =
     c.standing-before.ensures.is ∙ ap (λ (r : PieceState). standing_of (shown_row m r)) c.row.ensures in
     let after : c.standing-after.result ≡ standing_of (shown_row m new) =
-    c.standing-after.ensures.is ∙ ap (λ (r : PieceState). standing_of (shown_row m r)) (c.row-2.ensures
+    c.standing-after.ensures.is ∙ ap (λ (r : PieceState). standing_of (shown_row m r)) (c.row-3.ensures
     ∙ (ap (λ (l : List PieceState). piece_row l p) c.apply.ensures ∙ edited_row o.rows p c.args.change kept.within)) in
     let whole = whole_rows o.rows o.shown_by.items in
     let in_all = in_whole o.shelf o.rows o.shown_by.items p kept in
@@ -109,10 +118,13 @@ invariant_of-self c =
     let shelved = files o.shelf c.put.new.self whole p (shown_row m row) (shown_row m new) c.standing-before.result c.standing-after.result
     c.self.invariant.0 in_all old_is before after (same_length c.args.change row) c.put.ensures in
     let rows : c.apply.new.self ≡ set o.rows p new = c.apply.ensures ∙ edited_rows o.rows p c.args.change kept.within in
+    let fresh : c.is_fresh.result ≡ is_fresh new = c.is_fresh.ensures ∙ ap is_fresh (c.row-2.ensures
+    ∙ (ap (λ (l : List PieceState). piece_row l p) c.apply.ensures ∙ edited_row o.rows p c.args.change kept.within)) in
     rw rows (
       subst (AreShelved c.put.new.self) (sym (set_is o.shelf o.rows o.shown_by.items p kept new m read)) shelved,
       c.self.invariant.1 ∙ sym (length-set o.rows p new),
       changed_counts o.shelf o.rows o.shown_by.items p kept c.self.invariant.2 c.args.change row new (own_row o.rows p kept.within) refl,
+      front_kept o.rows p o.front _ new c.is_fresh.result c.self.invariant.3 fresh c.front_with-self-inside.ensures,
     )
 
 pub returns : goal.returns

@@ -25,6 +25,7 @@ invariant_of-self c =
           (rw c.from.ensures at c.lower.ensures),
       length-set o.shown_by.items c.args.piece _ ∙ c.self.invariant.1,
       c.self.invariant.2,
+      c.self.invariant.3,
     )
 
 pub returns : goal.returns

@@ -143,6 +143,7 @@ invariant_of-result c =
       subst (AreShelved c.loop-piece.shelf) (sym (counted t rows _ c.in_ok-rows.ensures zeros)) shelved,
       ap length zeros ∙ (length-replicate {A = ℕ} n 0 ∙ sym all),
       subst AreApart (sym c.in_ok-rows.ensures) (fresh_apart n (block_count t)),
+      λ p before within. absurd (omega (arith, before)),
     )
 
 pub returns : goal.returns

@@ -44,6 +44,7 @@ invariant_of-self c =
           (rw c.from.ensures at c.raise.ensures),
       length-set o.shown_by.items c.args.piece (c.index.result.now + 1) ∙ c.self.invariant.1,
       c.self.invariant.2,
+      c.self.invariant.3,
     )
 
 pub returns : goal.returns

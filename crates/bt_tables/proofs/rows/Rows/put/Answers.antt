@@ -147,10 +147,10 @@ returns c =
     let rows = rows_of o.width o.counts.items o.cells.items in
     let change : PieceState → PieceState = λ r. record r { blocks = set r.blocks k (cell_kept c.args.cell) } in
     let had = rw counts at c.note.ensures.had in
-    let wanted = rw counts at c.note.ensures.wanted in
+    let level = rw counts at c.note.ensures.level in
     let cells = cells_at o.width o.cells.items p in
     let new : row_of c.note.new.self (set cells k (cell_kept c.args.cell)) ≡ change (piece_row rows p) =
-    (λ i. record { had = had i; wanted = wanted i; availability = 0; blocks = set cells k (cell_kept c.args.cell) }) ∙ ap change (sym row) in
+    (λ i. record { had = had i; level = level i; availability = 0; blocks = set cells k (cell_kept c.args.cell) }) ∙ ap change (sym row) in
     rw (← c.self.view_is)
     (rows_set o.width o.counts.items o.cells.items p k c.note.new.self c.args.cell lp (in_width o.width o.cells.items p k lk)
     ∙ (ap (set rows p) new ∙ edit_set rows p change (piece_row rows p)

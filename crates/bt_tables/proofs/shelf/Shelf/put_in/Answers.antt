@@ -1,6 +1,6 @@
 use Rattle.std.proofs.Common.{◌≡◌, ◌==◌, ◌<◌, ◌∙◌, ℕ, length, ap, arith, refl, sym}
 use Rattle.bt_order.specs.Orders.{at}
-use Rattle.bt_tables.specs.Standings.{ShelfState}
+use Rattle.bt_tables.specs.Standings.{ShelfState, stage_of}
 use Rattle.bt_tables.proofs.Opened.{agree, open_kept, open_put}
 use Rattle.bt_tables.proofs.shelf.Shelf.put_in.Goals as goal
 use Rattle.bt_tables.proofs.shelf.Shelf.put_in.Goals.{then-before-opens, else-before-opens}
@@ -16,12 +16,12 @@ invariant_of-self c =
           rw (c.put-2.ensures, w.self-inside-is, w.put.ensures.bound) (
             c.self.invariant.0,
             open_put o.order.group_of o.open_pieces.numbers o.open_pieces.bound c.args.piece c.args.after c.self.invariant.1 lp
-                (c.args.after == 2) w.put.new.self.numbers refl w.put.ensures.puts,
+                (stage_of c.args.after == 2) w.put.new.self.numbers refl w.put.ensures.puts,
           )
       | else-before-opens w ↦
           rw (c.put-2.ensures, w.self-inside-is) (
             c.self.invariant.0,
             open_kept o.order.group_of o.open_pieces.numbers o.open_pieces.bound c.args.piece c.args.after c.self.invariant.1 lp
-                (ap (λ (g : ℕ). g == 2) (sym before) ∙ agree (c.args.before == 2) (c.args.after == 2) w.if-before-opens.false),
+                (ap (λ (g : ℕ). stage_of g == 2) (sym before) ∙ agree (stage_of c.args.before == 2) (stage_of c.args.after == 2) w.if-before-opens.false),
           )
     ]

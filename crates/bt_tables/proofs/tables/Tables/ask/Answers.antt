@@ -27,7 +27,7 @@ apply-requires-clause-fits c =
     (room.cell.has_cell, room.free, room.few)
 
 pub returns : goal.returns
-returns c = rw (← c.self.view_is, c.apply.ensures, c.ask.ensures) refl
+returns c = rw (← c.self.view_is, c.advance.ensures, c.apply.ensures, c.ask.ensures) refl
 
 pub ask-requires-clause-new : goal.ask-requires-clause-new
 ask-requires-clause-new c = (rw (← c.self.view_is) at c.requires.room).new

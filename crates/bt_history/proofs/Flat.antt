@@ -1,0 +1,127 @@
+-- Histories that give pieces no level and no order are judged as they were before there were these.
+use Rattle.std.proofs.Common.{◌≡◌, ℕ, zero, suc, ◌==◌, ◌<◌, Bool, true, false, not, ◌&&◌, ◌||◌, [], ◌∷◌, None, Some, refl, ap, sym, ◌∙◌, arith}
+use Rattle.std.proofs.Common.{⊎_elim}
+use Rattle.std.specs.Prelude.{if◌then◌else◌, nat_lt, nat_le}
+use Rattle.std.proofs.lemmas.Bool.{and_parts, and_left, and_from, or_left, or_right, not-true, eq-eqb, le-leb, cases_Bool}
+use Rattle.bt_meta.specs.declared.block.Block.{Block}
+use Rattle.bt_meta.specs.Layout.{piece_count, block_count, block}
+use Rattle.bt_history.specs.declared.call.Reply.TheVariants.{Choked, PipeFull, Idle, NothingLeft}
+use Rattle.bt_history.specs.declared.event.Action.{Action}
+use Rattle.bt_history.specs.declared.event.Action.TheVariants.{Want, Level, Levels, InOrder}
+use Rattle.bt_history.specs.declared.rules.TheConstants.{USUAL_LEVEL}
+use Rattle.bt_history.specs.Counting.{all_below}
+use Rattle.bt_history.specs.Setting.{Setting, some_block, each_block_of}
+use Rattle.bt_history.specs.History.{History, counts, counted_call}
+use Rattle.bt_history.specs.Peers.{shows, is_open, asked_count, depth_of, due}
+use Rattle.bt_history.specs.Pieces.{unasked, wanted, chosen, level, level_after, level_if, in_order, in_order_after}
+use Rattle.bt_history.specs.Pieces.{begun, unbegun, availability, endgame, interesting, had_count}
+use Rattle.bt_history.specs.Next.{Exactly, CancelOf, RequestOf, usable, tops, is_candidate, is_rarest, starts, rises, doubles, next_answer}
+use Rattle.bt_history.specs.Before.{chosen_then, chosen_before, is_rarest_before, starts_before, next_before, is_levelling, never_levels}
+use Rattle.bt_history.proofs.Below.{all_found}
+
+-- ---- one level
+
+level_same : (call : Action) (x : Bool) (p : ℕ) (before : Bool) → is_levelling call ≡ false
+    → level_after (if x then Some call else None) p (level_if before) ≡ level_if (chosen_then (if x then Some call else None) p before)
+level_same call false p before isnt = refl
+level_same (Want flags) true p before isnt = refl
+level_same (Level piece n) true p before isnt = absurd (cc isnt)
+level_same (Levels levels) true p before isnt = absurd (cc isnt)
+level_same call true p before isnt = refl
+
+order_same : (call : Action) (x before : Bool) → is_levelling call ≡ false → in_order_after (if x then Some call else None) before ≡ before
+order_same call false before isnt = refl
+order_same (InOrder rising) true before isnt = absurd (cc isnt)
+order_same call true before isnt = refl
+
+-- each chosen piece is of the usual level
+level_flat : (h : History) (p : ℕ) → never_levels h ≡ true → level h p ≡ level_if (chosen_before h p)
+unfolding level chosen_before never_levels
+level_flat [] p never = refl
+level_flat (e ∷ h) p never =
+    let parts = and_parts (not (is_levelling e.action)) (never_levels h) never in
+    ap (level_after (counted_call e) p) (level_flat h p parts.1)
+    ∙ level_same e.action (counts e.reply) p (chosen_before h p) (not-true (is_levelling e.action) parts.0)
+
+unordered : (h : History) → never_levels h ≡ true → in_order h ≡ false
+unfolding in_order never_levels
+unordered [] never = refl
+unordered (e ∷ h) never =
+    let parts = and_parts (not (is_levelling e.action)) (never_levels h) never in
+    ap (in_order_after (counted_call e)) (unordered h parts.1) ∙ order_same e.action (counts e.reply) false (not-true (is_levelling e.action) parts.0)
+
+above_none : (chosen : Bool) → nat_lt 0 (level_if chosen) ≡ chosen
+above_none true = refl
+above_none false = refl
+
+pub chosen_as_before : (h : History) (p : ℕ) → never_levels h ≡ true → chosen h p ≡ chosen_before h p
+chosen_as_before h p never = ap (nat_lt 0) (level_flat h p never) ∙ above_none (chosen_before h p)
+
+-- ---- the answers where all wanted pieces are of the usual level
+
+-- tests that agree below n
+all_same : (n : ℕ) (f g : ℕ → Bool) → ((k : ℕ) → k < n → f k ≡ g k) → all_below n f ≡ all_below n g
+all_same zero f g same = refl
+all_same (suc n) f g same =
+    let step = all_same n f g (λ k lk. same k (omega (arith, lk))) in
+    let last = same n (omega arith) in
+    λ i. step i && last i
+
+module _ (s : Setting) (h : History) (q : ℕ) (never : never_levels h ≡ true) where
+  flat : (p : ℕ) → wanted s h p ≡ true → level h p ≡ USUAL_LEVEL
+  flat p wants =
+      level_flat h p never ∙ ap level_if (sym (chosen_as_before h p never) ∙ (and_parts (nat_lt p (piece_count s.torrent)) (chosen h p) wants).1)
+
+  -- the piece of a usable block is wanted
+  usable_wanted : (b : Block) → usable s h q b ≡ true → wanted s h b.piece ≡ true
+  usable_wanted b is = (and_parts (wanted s h b.piece) (shows h q b.piece) (and_parts (unasked s h b) _ is).1).0
+
+  tops_flat : (b : Block) → tops s h q b ≡ usable s h q b
+  tops_flat b = by_usable (usable s h q b) refl where
+    by_usable : (x : Bool) → usable s h q b ≡ x → tops s h q b ≡ x
+    by_usable false is = and_left (usable s h q b) _ is
+    by_usable true is = and_from (usable s h q b) _ is
+        (all_found (piece_count s.torrent) (λ p. each_block_of s.torrent p (λ c. not (usable s h q c) || nat_le (level h c.piece) (level h b.piece)))
+        (λ p lp. all_found (block_count s.torrent p)
+        (λ k. not (usable s h q (block s.torrent p k)) || nat_le (level h p) (level h b.piece))
+        (λ k lk. ⊎_elim
+        (λ (fits : usable s h q (block s.torrent p k) ≡ true).
+        let own = flat b.piece (usable_wanted b is) in
+        let other = flat p (usable_wanted (block s.torrent p k) fits) in
+        or_right (not (usable s h q (block s.torrent p k))) (nat_le (level h p) (level h b.piece))
+        (le-leb (level h p) (level h b.piece) (omega (arith, own, other))))
+        (λ (fails : usable s h q (block s.torrent p k) ≡ false).
+        or_left (not (usable s h q (block s.torrent p k))) (nat_le (level h p) (level h b.piece)) (ap not fails))
+        (cases_Bool (usable s h q (block s.torrent p k))))))
+
+  rarest_flat : (p : ℕ) → wanted s h p ≡ true → is_rarest s h q p ≡ is_rarest_before s h q p
+  rarest_flat p wants = all_same (piece_count s.torrent) _ _ (λ r lr. ⊎_elim
+      (λ (fits : is_candidate s h q r ≡ true).
+      let other = flat r (and_parts (wanted s h r) _ fits).0 in
+      let same : (level h r == level h p) ≡ true = eq-eqb (level h r) (level h p) (other ∙ sym (flat p wants)) in
+      (λ i. not (fits i && same i) || nat_le (availability s h p) (availability s h r))
+      ∙ sym (ap (λ (x : Bool). not x || nat_le (availability s h p) (availability s h r)) fits))
+      (λ (fails : is_candidate s h q r ≡ false).
+      ap (λ (x : Bool). not (x && (level h r == level h p)) || nat_le (availability s h p) (availability s h r)) fails
+      ∙ sym (ap (λ (x : Bool). not x || nat_le (availability s h p) (availability s h r)) fails))
+      (cases_Bool (is_candidate s h q r)))
+
+  starts_flat : (b : Block) → starts s h q b ≡ starts_before s h q b
+  starts_flat b = by_usable (usable s h q b) refl where
+    by_usable : (x : Bool) → usable s h q b ≡ x → starts s h q b ≡ starts_before s h q b
+    by_usable false is = and_left (tops s h q b) _ (tops_flat b ∙ is) ∙ sym (and_left (usable s h q b) _ is)
+    by_usable true is = λ i. tops_flat b i && (unbegun s h b.piece
+        && (nat_lt (had_count s h) s.random || rarest_flat b.piece (usable_wanted b is) i))
+
+  pub answer_as_before : next_answer s h q ≡ next_before s h q
+  unfolding next_answer next_before
+  answer_as_before = λ i.
+      if some_block s.torrent (due h q) then CancelOf (due h q)
+      else if not (is_open h q) then Exactly Choked
+      else if nat_le (depth_of s h q) (asked_count s h q) then Exactly PipeFull
+      else if unordered h never i && some_block s.torrent (usable s h q) then RequestOf (rises s h q)
+      else if some_block s.torrent (λ b. tops_flat b i && begun s h b.piece) then RequestOf (λ b. tops_flat b i && begun s h b.piece)
+      else if some_block s.torrent (usable s h q) then RequestOf (λ b. starts_flat b i)
+      else if endgame s h && some_block s.torrent (doubles s h q) then RequestOf (doubles s h q)
+      else if interesting s h q then Exactly Idle
+      else Exactly NothingLeft

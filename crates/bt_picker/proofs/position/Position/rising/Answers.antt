@@ -1,0 +1,47 @@
+use Rattle.std.proofs.Common.{◌≡◌, ◌∙◌, Option, None, Some, ℕ, sym, subst}
+use Rattle.std.specs.Prelude.{IfNone, IfSome, IsTrue}
+use Rattle.bt_meta.specs.declared.block.Block.{Block}
+use Rattle.bt_history.specs.Next.{rises}
+use Rattle.bt_history.specs.Setting.{is_block}
+use Rattle.bt_picker.specs.Search.{NoneAt}
+use Rattle.bt_picker.proofs.Levelled.{lesser_gives, rises_at, rises_none}
+use Rattle.bt_picker.proofs.Stages.{open_within}
+use Rattle.bt_picker.proofs.position.Position.rising.Goals as goal
+
+pub least_shown-open-requires-clause-pieces : goal.least_shown-open-requires-clause-pieces
+least_shown-open-requires-clause-pieces c =
+    let d = c.args.self.now in
+    open_within d.setting d.history c.open_pieces.result.now c.open_pieces.ensures.lists
+
+pub unasked_in-requires : goal.unasked_in-requires
+unasked_in-requires c =
+    let d = c.args.self.now in
+    (lesser_gives d.setting d.history c.args.worker c.args.level c.open_pieces.result.now c.attest.ensures.legal c.attest.ensures.layout
+    c.requires.level c.open_pieces.ensures.lists c.least_shown-open.result c.least_candidate.result c.in-Some.piece (sym c.in-Some.ensures)
+    c.least_shown-open.ensures.listed c.least_candidate.ensures.least c.least_candidate.ensures.within).within
+
+pub returns-in-Some-clause-some : goal.returns-in-Some-clause-some
+returns-in-Some-clause-some c =
+    let d = c.args.self.now in
+    let up = rises_at d.setting d.history c.args.worker c.args.level c.open_pieces.result.now c.attest.ensures.legal c.attest.ensures.layout
+    c.requires.level c.open_pieces.ensures.lists c.least_shown-open.result c.least_candidate.result c.in-Some.piece c.unasked_in.result c.requires.above
+    (sym c.in-Some.ensures) c.least_shown-open.ensures.listed c.least_shown-open.ensures.least c.least_candidate.ensures.least
+    c.least_candidate.ensures.within c.unasked_in.ensures in
+    subst (λ (o : Option Block). IfSome o (λ b. IsTrue (is_block d.setting.torrent b) × IsTrue (rises d.setting d.history c.args.worker b)))
+    (sym up.1) (up.2, up.3)
+
+pub returns-in-Some-clause-none : goal.returns-in-Some-clause-none
+returns-in-Some-clause-none c =
+    let d = c.args.self.now in
+    let up = rises_at d.setting d.history c.args.worker c.args.level c.open_pieces.result.now c.attest.ensures.legal c.attest.ensures.layout
+    c.requires.level c.open_pieces.ensures.lists c.least_shown-open.result c.least_candidate.result c.in-Some.piece c.unasked_in.result c.requires.above
+    (sym c.in-Some.ensures) c.least_shown-open.ensures.listed c.least_shown-open.ensures.least c.least_candidate.ensures.least
+    c.least_candidate.ensures.within c.unasked_in.ensures in
+    subst (λ (o : Option Block). IfNone o (NoneAt d.setting d.history c.args.worker c.args.level)) (sym up.1) tt
+
+pub returns-in-None-clause-none : goal.returns-in-None-clause-none
+returns-in-None-clause-none c =
+    let d = c.args.self.now in
+    rises_none d.setting d.history c.args.worker c.args.level c.open_pieces.result.now c.attest.ensures.legal c.attest.ensures.layout
+    c.requires.level c.open_pieces.ensures.lists c.least_shown-open.result c.least_candidate.result (sym c.in-None.ensures)
+    c.least_shown-open.ensures.listed c.least_candidate.ensures.least

@@ -1,0 +1,309 @@
+//! Which piece to begin at a peer: rarest first, random first piece, or the least in rising order (Cohen 2003, "Piece selection").
+ghost use Rattle.std.specs.Prelude.{◌≡◌, ◌<◌, ◌≤◌, ◌==◌, ◌&&◌, ◌⊎◌, ℕ, true, false, length, IfSome, IfNone, IsTrue, Some, None};
+ghost use Rattle.bt_meta.specs.Layout.{piece_count};
+ghost use Rattle.bt_history.specs.Peers.{shows};
+ghost use Rattle.bt_history.specs.Pieces.{availability, level};
+ghost use Rattle.bt_history.specs.Next.{is_candidate};
+ghost use Rattle.bt_order.specs.Orders.{at, ListsGroup};
+ghost use Rattle.bt_picker.specs.Search.{FindsListed, FindsRarest, IsLevel, IsRarer, FindsLeast, NoneRarer, is_candidate_at, rank_of};
+ghost use Rattle.bt_picker.specs.Tables.{groups_of};
+
+use crate::position::Position;
+use bt_tables::{ASKED_OUT, CROWD, OPEN, RESTING, UNBEGUN, first_group, rank};
+
+/// A walk goes over at most so many pieces for each piece of the group: a step costs far less than a listed piece.
+const WALK: usize = 1;
+
+impl<'a> Position<'a> {
+    /// Whether the piece may be begun at the peer.
+    #[inline(always)]
+    pub fn is_candidate(&self, worker: u32, piece: u32) -> bool
+        requires worker { worker < self.now.setting.workers }
+        requires piece { piece < piece_count self.now.setting.torrent }
+        ensures { result ≡ is_candidate self.now.setting self.now.history worker piece }
+    {
+        self.is_wanted(piece) && self.shows(worker, piece) && self.is_unbegun(piece)
+    }
+
+    /// Whether the piece has this level and may be begun at the peer.
+    #[inline(always)]
+    fn is_candidate_at(&self, worker: u32, level: u8, piece: u32) -> bool
+        requires worker { worker < self.now.setting.workers }
+        requires piece { piece < piece_count self.now.setting.torrent }
+        ensures { result ≡ is_candidate_at self.now.setting self.now.history worker level piece }
+    {
+        self.is_candidate(worker, piece) && self.level(piece) == level
+    }
+
+    /// The first of the level's candidates from `low` up to `high`.
+    fn first_candidate(&self, worker: u32, level: u8, low: u32, high: u32) -> Option<u32>
+        requires worker { worker < self.now.setting.workers }
+        requires high { high ≤ piece_count self.now.setting.torrent }
+        ensures some { IfSome result (λ p. (p < piece_count self.now.setting.torrent)
+            × IsTrue (is_candidate_at self.now.setting self.now.history worker level p)) }
+        ensures first { IfSome result (λ p. (r : ℕ) → low ≤ r → r < p → is_candidate_at self.now.setting self.now.history worker level r ≡ false) }
+        ensures none { IfNone result ((p : ℕ) → low ≤ p → p < high → is_candidate_at self.now.setting self.now.history worker level p ≡ false) }
+    {
+        for piece in low..high {
+            if self.is_candidate_at(worker, level, piece) {
+                return Some(piece);
+            }
+        }
+        None
+    }
+
+    /// The level's candidate to begin where the rarest come first: of those that rank first the nearest from `first` on, which no contract
+    /// says.
+    pub(crate) fn rarest(&self, worker: u32, level: u8, first: u32) -> Option<u32>
+        requires worker { worker < self.now.setting.workers }
+        requires level { IsLevel level }
+        requires first { first ≤ piece_count self.now.setting.torrent }
+        ensures least { FindsLeast (is_candidate_at self.now.setting self.now.history worker level)
+            (rank_of self.now.setting self.now.history true) 0 (piece_count self.now.setting.torrent) result }
+        ensures within { IfSome result (λ p. p < piece_count self.now.setting.torrent) }
+    {
+        self.attest();
+        let most = self.workers().min(CROWD - 1);
+        let unbegun = first_group(level) + UNBEGUN;
+        for shown_by in self.floor_at(worker, level)..most + 1 {
+            let pieces = self.group(unbegun + shown_by);
+            if let Some(piece) = self.nearest_of(worker, unbegun + shown_by, pieces, first) {
+                return Some(piece);
+            }
+        }
+        self.rarest_of(worker, self.group(unbegun + CROWD))
+    }
+
+    /// No candidate of the level is shown by fewer peers than this.
+    fn floor_at(&self, worker: u32, level: u8) -> u32
+        requires { worker < self.now.setting.workers }
+        ensures { NoneRarer self.now.setting self.now.history worker level result }
+    {
+        self.floor(worker).saturating_sub(rank(level, 0))
+    }
+
+    /// Of these pieces that the peer shows one that the fewest peers show. It is asked for the crowd's group, which is empty at a desk: only the
+    /// audit of a journal of more workers finds pieces there.
+    fn rarest_of(&self, worker: u32, pieces: &[u32]) -> Option<u32>
+        requires worker { worker < self.now.setting.workers }
+        requires pieces { (i : ℕ) → i < length pieces.now → at pieces.now i < piece_count self.now.setting.torrent }
+        ensures { FindsRarest (shows self.now.history worker) (availability self.now.setting self.now.history)
+            pieces.now (length pieces.now) result }
+    {
+        let mut rarest = None;
+        for piece in pieces {
+            rarest = self.rarer_shown(worker, rarest, *piece);
+        }
+        rarest
+    }
+
+    /// The piece, where the peer shows it and fewer peers show it than the one found before.
+    fn rarer_shown(&self, worker: u32, found: Option<u32>, piece: u32) -> Option<u32>
+        requires worker { worker < self.now.setting.workers }
+        requires piece { piece < piece_count self.now.setting.torrent }
+        requires found { IfSome found (λ p. p < piece_count self.now.setting.torrent) }
+        ensures rarer { IsRarer (shows self.now.history worker) (availability self.now.setting self.now.history) found piece result }
+        ensures within { IfSome result (λ p. p < piece_count self.now.setting.torrent) }
+    {
+        match found {
+            Some(rarest) if self.availability(rarest) <= self.availability(piece) => found,
+            _ if self.shows(worker, piece) => Some(piece),
+            _ => found,
+        }
+    }
+
+    /// Of the pieces of the group that the peer shows the first from this piece on, or else the first of all: in a large group it is
+    /// mostly near. `pieces` are those of the group.
+    fn nearest_of(&self, worker: u32, group: u32, pieces: &[u32], first: u32) -> Option<u32>
+        requires worker { worker < self.now.setting.workers }
+        requires lists { ListsGroup (groups_of self.now.setting self.now.history) group pieces.now }
+        requires first { first ≤ piece_count self.now.setting.torrent }
+        ensures { FindsListed (shows self.now.history worker) pieces.now (length pieces.now) result }
+    {
+        let most = pieces.len().saturating_mul(WALK) as u64;
+        let behind = self.piece_count() - first;
+        let steps = most.min(u64::from(behind)) as u32;
+        match self.walk(worker, group, first, first + steps) {
+            Some(piece) => Some(piece),
+            None => self.nearest_shown(worker, pieces, first),
+        }
+    }
+
+    /// The first piece of the group that the peer shows, from `low` up to `high`.
+    fn walk(&self, worker: u32, group: u32, low: u32, high: u32) -> Option<u32>
+        requires worker { worker < self.now.setting.workers }
+        requires high { high ≤ piece_count self.now.setting.torrent }
+        ensures { IfSome result (λ p. (p < piece_count self.now.setting.torrent)
+            × IsTrue (shows self.now.history worker p) × (at (groups_of self.now.setting self.now.history) p ≡ group)) }
+    {
+        for piece in low..high {
+            if self.group_of(piece) == group && self.shows(worker, piece) {
+                return Some(piece);
+            }
+        }
+        None
+    }
+
+    /// Of these pieces that the peer shows the first from this piece on, or else the first of all.
+    fn nearest_shown(&self, worker: u32, pieces: &[u32], first: u32) -> Option<u32>
+        requires worker { worker < self.now.setting.workers }
+        requires pieces { (i : ℕ) → i < length pieces.now → at pieces.now i < piece_count self.now.setting.torrent }
+        ensures { FindsListed (shows self.now.history worker) pieces.now (length pieces.now) result }
+    {
+        let mut nearest = None;
+        for piece in pieces {
+            nearest = self.nearer_shown(worker, nearest, *piece, first);
+        }
+        nearest
+    }
+
+    /// The piece, where the peer shows it and it comes before the one found before.
+    fn nearer_shown(&self, worker: u32, found: Option<u32>, piece: u32, first: u32) -> Option<u32>
+        requires worker { worker < self.now.setting.workers }
+        requires piece { piece < piece_count self.now.setting.torrent }
+        ensures { ((result ≡ Some piece) × IsTrue (shows self.now.history worker piece))
+            ⊎ ((result ≡ found) × (found ≡ None → shows self.now.history worker piece ≡ false)) }
+    {
+        match found {
+            Some(nearest) if !comes_before(piece, nearest, first) => found,
+            _ if self.shows(worker, piece) => Some(piece),
+            _ => found,
+        }
+    }
+
+    /// The level's candidate to begin where any may be: the nearest from `first` on, which no contract says. While many pieces are unbegun a
+    /// walk soon meets one, and once few are their lists are short.
+    fn nearest(&self, worker: u32, level: u8, first: u32) -> Option<u32>
+        requires worker { worker < self.now.setting.workers }
+        requires level { IsLevel level }
+        requires first { first ≤ piece_count self.now.setting.torrent }
+        ensures some { IfSome result (λ p. (p < piece_count self.now.setting.torrent)
+            × IsTrue (is_candidate_at self.now.setting self.now.history worker level p)) }
+        ensures none { IfNone result ((p : ℕ) → p < piece_count self.now.setting.torrent →
+            is_candidate_at self.now.setting self.now.history worker level p ≡ false) }
+    {
+        let steps = self.unbegun_count(level);
+        let ahead = steps.min(self.piece_count() - first);
+        if let Some(piece) = self.first_candidate(worker, level, first, first + ahead) {
+            return Some(piece);
+        }
+        if let Some(piece) = self.first_candidate(worker, level, 0, steps.min(first)) {
+            return Some(piece);
+        }
+        match self.rarest(worker, level, first) {
+            Some(piece) => Some(self.nearest_listed(worker, level, piece, first)),
+            None => None,
+        }
+    }
+
+    /// At least so many pieces are unbegun: all but those of the level that are begun or at rest. No contract needs it.
+    fn unbegun_count(&self, level: u8) -> u32
+        requires { IsLevel level }
+    {
+        let base = first_group(level);
+        let begun = self
+            .group(base + ASKED_OUT)
+            .len()
+            .saturating_add(self.group(base + OPEN).len());
+        let others = self.group(base + RESTING).len().saturating_add(begun);
+        (self.piece_count() as usize).saturating_sub(others) as u32
+    }
+
+    /// Of the level's unbegun pieces that the peer shows, and of this one, the first from `first` on, or else the first of all.
+    fn nearest_listed(&self, worker: u32, level: u8, piece: u32, first: u32) -> u32
+        requires worker { worker < self.now.setting.workers }
+        requires level { IsLevel level }
+        requires within { piece < piece_count self.now.setting.torrent }
+        requires candidate { IsTrue (is_candidate_at self.now.setting self.now.history worker level piece) }
+        ensures within { result < piece_count self.now.setting.torrent }
+        ensures candidate { IsTrue (is_candidate_at self.now.setting self.now.history worker level result) }
+    {
+        let mut nearest = piece;
+        let unbegun = first_group(level) + UNBEGUN;
+        for shown_by in self.floor_at(worker, level)..self.workers().min(CROWD - 1) + 1 {
+            nearest = self.nearer_of(
+                worker,
+                level,
+                nearest,
+                self.group(unbegun + shown_by),
+                first,
+            );
+        }
+        nearest
+    }
+
+    /// Of these pieces that may be begun at the peer, and of the one found before, the first from `first` on, or else the first of all.
+    fn nearer_of(&self, worker: u32, level: u8, found: u32, pieces: &[u32], first: u32) -> u32
+        requires worker { worker < self.now.setting.workers }
+        requires pieces { (i : ℕ) → i < length pieces.now → at pieces.now i < piece_count self.now.setting.torrent }
+        requires within { found < piece_count self.now.setting.torrent }
+        requires candidate { IsTrue (is_candidate_at self.now.setting self.now.history worker level found) }
+        ensures within { result < piece_count self.now.setting.torrent }
+        ensures candidate { IsTrue (is_candidate_at self.now.setting self.now.history worker level result) }
+    {
+        let mut nearest = found;
+        for piece in pieces {
+            if comes_before(*piece, nearest, first) && self.is_candidate_at(worker, level, *piece) {
+                nearest = *piece;
+            }
+        }
+        nearest
+    }
+
+    /// Whether it is known that nothing of the level may be begun at the peer: no piece is shown by as many peers as its floor says.
+    fn shows_no_candidate(&self, worker: u32, level: u8) -> bool
+        requires { worker < self.now.setting.workers }
+        ensures { result ≡ true → (p : ℕ) → p < piece_count self.now.setting.torrent →
+            is_candidate_at self.now.setting self.now.history worker level p ≡ false }
+    {
+        self.floor_at(worker, level) > self.workers()
+    }
+
+    /// The level's candidate to begin, if there is one: among those that rank first the first from the piece on that the word picks.
+    pub(crate) fn candidate(&self, worker: u32, level: u8, rare: bool, word: u64) -> Option<u32>
+        requires worker { worker < self.now.setting.workers }
+        requires level { IsLevel level }
+        ensures least { FindsLeast (is_candidate_at self.now.setting self.now.history worker level)
+            (rank_of self.now.setting self.now.history rare) 0 (piece_count self.now.setting.torrent) result }
+        ensures within { IfSome result (λ p. p < piece_count self.now.setting.torrent) }
+    {
+        let count = self.piece_count();
+        if count == 0 || self.shows_no_candidate(worker, level) {
+            return None;
+        }
+        let first = (word % u64::from(count)) as u32;
+        if rare {
+            return self.rarest(worker, level, first);
+        }
+        self.nearest(worker, level, first)
+    }
+
+    /// The least candidate of the level.
+    pub(crate) fn least_candidate(&self, worker: u32, level: u8) -> Option<u32>
+        requires worker { worker < self.now.setting.workers }
+        requires level { IsLevel level }
+        ensures least { FindsLeast (is_candidate_at self.now.setting self.now.history worker level) (λ p. p) 0
+            (piece_count self.now.setting.torrent) result }
+        ensures within { IfSome result (λ p. p < piece_count self.now.setting.torrent) }
+    {
+        if self.shows_no_candidate(worker, level) {
+            return None;
+        }
+        let front = self.front().min(self.piece_count());
+        match self.rarest(worker, level, front) {
+            Some(found) => self
+                .first_candidate(worker, level, front, found)
+                .or(Some(found)),
+            None => None,
+        }
+    }
+}
+
+/// Whether a piece comes before another one, from this piece on and then from the first of all.
+fn comes_before(piece: u32, other: u32, first: u32) -> bool {
+    if (piece < first) == (other < first) {
+        piece < other
+    } else {
+        piece >= first
+    }
+}
