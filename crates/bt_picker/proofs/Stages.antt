@@ -87,7 +87,7 @@ module _ (s : Setting) (h : History) (p : ℕ) where
 -- two levels with one slot are the same
 slot_same : (l n : ℕ) → IsLevel l → IsLevel n → slot_of l ≡ slot_of n → l ≡ n
 slot_same l n own is same = by_own (level_cases l) where
-  by_other : (m : ℕ) → slot_of l ≡ m → (m ≡ 0 → l ≡ 4) → (4 < n → m ≡ 8 - n → l ≡ n) → (n < 4 → m ≡ 7 - n → l ≡ n) → l ≡ n
+  by_other : (m : ℕ) → slot_of l ≡ m → (m ≡ 0 → l ≡ 4) → (4 < n → m ≡ min n 7 - 4 → l ≡ n) → (n < 4 → m ≡ 7 - n → l ≡ n) → l ≡ n
   by_other m here usual above below = ⊎_elim
       (λ (either : (n ≡ 0) ⊎ (n ≡ 4)). ⊎_elim
       (λ (none : n ≡ 0). absurd (omega (arith, none, is.0)))
@@ -103,7 +103,7 @@ slot_same l n own is same = by_own (level_cases l) where
   by_own (inl (inl none)) = absurd (omega (arith, none, own.0))
   by_own (inl (inr four)) = by_other 0 (slot_usual l (inr four)) (λ zero_is. four) (λ more there. absurd (omega (arith, there, more, is.1)))
       (λ less there. absurd (omega (arith, there, less)))
-  by_own (inr (inl more)) = by_other (8 - l) (slot_above l more) (λ zero_is. absurd (omega (arith, zero_is, own.1)))
+  by_own (inr (inl more)) = by_other (min l 7 - 4) (slot_above l more) (λ zero_is. absurd (omega (arith, zero_is, more)))
       (λ high there. omega (arith, there, high, more, own.1, is.1)) (λ less there. absurd (omega (arith, there, less, more)))
   by_own (inr (inr less)) = by_other (7 - l) (slot_below l less.0 less.1) (λ zero_is. absurd (omega (arith, zero_is, less.1)))
       (λ high there. absurd (omega (arith, there, high, less.1))) (λ low there. omega (arith, there, low, less.1))

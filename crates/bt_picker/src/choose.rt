@@ -187,7 +187,7 @@ impl<'a> Position<'a> {
         ensures none { (p : ℕ) → p < piece_count self.now.setting.torrent → level self.now.history p ≤ MOST_LEVEL - result }
     {
         self.attest();
-        if self.has_none(first_group(MOST_LEVEL), first_group(USUAL_LEVEL - 1)) {
+        if self.has_none(first_group(USUAL_LEVEL + 1), first_group(USUAL_LEVEL - 1)) {
             MOST_LEVEL - USUAL_LEVEL
         } else {
             0

@@ -130,7 +130,7 @@ pub slot_usual : (level : ℕ) → (level ≡ 0) ⊎ (level ≡ 4) → slot_of l
 slot_usual level (inl none) = ap slot_of none
 slot_usual level (inr usual) = ap slot_of usual
 
-pub slot_above : (level : ℕ) → 4 < level → slot_of level ≡ 8 - level
+pub slot_above : (level : ℕ) → 4 < level → slot_of level ≡ min level 7 - 4
 slot_above level more =
     rw (ne_eqb level 0 (λ none. omega (arith, none, more)), ne_eqb level 4 (λ usual. omega (arith, usual, more)), lt-ltb 4 level more) refl
 

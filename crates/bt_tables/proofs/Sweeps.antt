@@ -8,7 +8,7 @@ use Rattle.bt_history.specs.Counting.{table}
 use Rattle.bt_tables.specs.Tables.{AreCounted, PieceState, edit, fresh_piece, hidden_rows, less_available, more_available, one_if, piece_row}
 use Rattle.bt_tables.specs.Tables.{level_row, recounted, shown_rows}
 use Rattle.bt_tables.proofs.Tabled.{edit_none, edit_past, edit_read, edit_table, get_or_table, length_is_table, length_table, rows_more, rows_read, same_table, upto}
-use Rattle.bt_tables.proofs.Tabled.{upto_above, upto_below}
+use Rattle.bt_tables.proofs.Tabled.{edit_unmoved, upto_above, upto_below}
 
 module _ {A : Type 0} (n : ℕ) (g f : ℕ → A) where
   -- where g and f agree from i up to j
@@ -142,3 +142,7 @@ levelled_more rows now after level i n are lt is edited =
     let row : old ≡ piece_row rows i = rows_read now _ i _ (piece_row rows) (fresh_piece 0) are lt in
     edited ∙ (sym (edit_read now i (level_row n) old (fresh_piece 0) (omega (arith, long, lt)) refl)
     ∙ rows_more now _ i _ _ _ are lt (ap (λ (m : ℕ). level_row m old) is ∙ ap (level_row (level i)) row))
+
+-- a piece that has the told level stays as it is
+pub same_level : (rows : List PieceState) (p n : ℕ) → p < length rows → (piece_row rows p).level ≡ n → rows ≡ edit rows p (level_row n)
+same_level rows p n lt is = sym (edit_unmoved rows p (level_row n) (fresh_piece 0) lt (λ i. record (piece_row rows p) { level = sym is i }))

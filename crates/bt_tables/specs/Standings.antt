@@ -60,11 +60,12 @@ whole_rows [] shown = []
 whole_rows (row ∷ rows) [] = []
 whole_rows (row ∷ rows) (n ∷ shown) = shown_row n row ∷ whole_rows rows shown
 
--- the place of a level among all: the usual one is the first, and pieces of level 0 rest there; then come those above it, and then those below
+-- the place of a level among all: the usual one is the first, and pieces of level 0 rest there; then come those above it and those below, the
+-- nearest first
 abbrev pub slot_of : ℕ → ℕ
 slot_of level =
     if (level == 0) || (level == USUAL_LEVEL) then 0
-    else if nat_lt USUAL_LEVEL level then MOST_LEVEL + 1 - level
+    else if nat_lt USUAL_LEVEL level then min level MOST_LEVEL - USUAL_LEVEL
     else MOST_LEVEL - level
 
 -- the first group of a level

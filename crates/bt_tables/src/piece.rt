@@ -70,8 +70,8 @@ pub const GROUPS: u16 = (MOST_LEVEL as u32 * SPAN) as u16;
 /// A level ranks so far before the next lower one: farther than a count of peers goes.
 pub const RANKS: u32 = 0x1_0000;
 
-/// The first group of the level: the usual one has the first groups of all, so that a piece's way through them is short while no other
-/// level is told.
+/// The first group of the level. The usual one has the first groups of all, and the next higher one those behind it: a piece crosses all
+/// groups between two, and few are raised any higher.
 #[inline(always)]
 pub fn first_group(level: u8) -> u32
     ensures { result ≡ first_group level }
@@ -79,7 +79,7 @@ pub fn first_group(level: u8) -> u32
     if level == 0 || level == USUAL_LEVEL {
         0
     } else if level > USUAL_LEVEL {
-        u32::from((MOST_LEVEL + 1).saturating_sub(level)) * SPAN
+        u32::from(level.min(MOST_LEVEL) - USUAL_LEVEL) * SPAN
     } else {
         u32::from(MOST_LEVEL.saturating_sub(level)) * SPAN
     }

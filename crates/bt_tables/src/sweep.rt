@@ -4,7 +4,7 @@ ghost use Rattle.std.specs.Prelude.{◌≡◌, ◌<◌, ◌+◌, ◌^◌, [], fa
 ghost use Rattle.std.specs.Option.{option_copied};
 ghost use Rattle.bt_tables.specs.Floors.{AreFloors};
 ghost use Rattle.bt_tables.specs.Tables.{AreCounted, edit, hidden_rows, less_available, lowered, lowered_by, more_available, peer_row, piece_row};
-ghost use Rattle.bt_tables.specs.Tables.{levelled_by, recounted, shown_rows, wanted_level};
+ghost use Rattle.bt_tables.specs.Tables.{level_row, levelled_by, recounted, shown_rows, wanted_level};
 
 use crate::floors::Floors;
 use crate::peers::Peers;
@@ -85,7 +85,7 @@ pub fn rewant(pieces: &mut Pieces, flags: &Bitfield)
     ensures { pieces.new ≡ levelled_by (wanted_level flags.now) pieces.old }
 {
     for piece in 0..pieces.len() as u32 {
-        pieces.apply(piece, Change::Level(wanted_level(flags, piece)));
+        put_level(pieces, piece, wanted_level(flags, piece));
     }
 }
 
@@ -94,7 +94,18 @@ pub fn relevel(pieces: &mut Pieces, levels: &[u8])
     ensures { pieces.new ≡ levelled_by (λ p. slice_index_or levels.now p 0) pieces.old }
 {
     for piece in 0..pieces.len() as u32 {
-        pieces.apply(piece, Change::Level(level_in(levels, piece)));
+        put_level(pieces, piece, level_in(levels, piece));
+    }
+}
+
+/// The piece has this level from now on. Most pieces have the told one before: then no group is looked up.
+#[inline(always)]
+pub fn put_level(pieces: &mut Pieces, piece: u32, level: u8)
+    requires { piece < length pieces.old }
+    ensures { pieces.new ≡ edit pieces.old piece (level_row level) }
+{
+    if pieces.row(piece).level() != level {
+        pieces.apply(piece, Change::Level(level));
     }
 }
 
