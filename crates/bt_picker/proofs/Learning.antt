@@ -19,7 +19,7 @@ use Rattle.bt_history.specs.Pieces.{availability, begun, chosen, had, had_count,
 use Rattle.bt_history.specs.declared.call.Reply.TheVariants as said
 use Rattle.bt_history.specs.Legal.{IsAllowed, IsLegal, Permits, answer, interesting_after}
 use Rattle.bt_history.specs.Next.{continues, is_candidate, is_rarest, starts, tops, usable}
-use Rattle.bt_history.proofs.Levels.{implied, level_bounded, top_above}
+use Rattle.bt_history.proofs.Levels.{higher_first, implied, level_bounded, top_above}
 use Rattle.bt_history.proofs.Allowed.{answered, no_cause}
 use Rattle.bt_history.proofs.Below.{all_at, count_most}
 use Rattle.bt_history.proofs.LineLaws.{block_is_block, some_found}
@@ -151,6 +151,14 @@ begins_first s h w b legal layout few first settled r lr fits =
     (λ (apart : level h r ≡ level h b.piece → ⊥). omega (arith, low, apart, most, bound, few))
     (cases_eq (level h r) (level h b.piece))
 
+-- a request tells that no candidate is of a higher level
+level_before : (s : Setting) (h : History) (w word : ℕ) (b : Block) → IsLayout s.torrent
+    → IsAllowed s h (record { worker = w; action = Next word; reply = Request b }) → NoneBefore s h w ((7 - level h b.piece) * 65536)
+level_before s h w word b layout allowed r lr fits =
+    let own = candidate_block s h w r layout lr fits in
+    let low = higher_first s h (record { worker = w; action = Next word; reply = Request b }) b allowed refl (block s.torrent r 0) own.0 own.1 in
+    omega (arith, low)
+
 never_both : (d t : Bool) → (not d && t) ≡ true → (not d && not t) ≡ true → ⊥
 never_both true t is other = cc is
 never_both false true is other = cc other
@@ -211,7 +219,7 @@ fewer t h are = omega (arith, are.few)
 pub told_floor : (t : TablesState) (h : History) (w word n : ℕ) (reply : Reply) → AreTables t h →
     IsAllowed t.setting h (record { worker = w; action = Next word; reply = reply })
     → w < t.setting.workers → TellsFloor t reply n → IsFloor t.pieces (peer_row t.peers w) n
-told_floor t h w word n (Request b) are allowed lw told =
+told_floor t h w word n (Request b) are allowed lw (inl told) =
     let s = t.setting in
     let lp : b.piece < piece_count s.torrent = subst (λ (m : ℕ). b.piece < m) are.pieces_len told.0.within in
     let row = row_is t h w are lw b.piece lp in
@@ -222,6 +230,11 @@ told_floor t h w word n (Request b) are allowed lw told =
     let first = begun_first s h w word are.legal are.layout (fewer t h are) b allowed unordered settled fresh in
     let is : n ≡ rank_at s h b.piece = told.1 ∙ ap rank_of_row row in
     before_floor t h w are lw n (subst (NoneBefore s h w) (sym is) first)
+told_floor t h w word n (Request b) are allowed lw (inr told) =
+    let s = t.setting in
+    let row = row_is t h w are lw b.piece (subst (λ (m : ℕ). b.piece < m) are.pieces_len told.0) in
+    let is : n ≡ (7 - level h b.piece) * 65536 = told.1 ∙ ap (λ (r : PieceState). (7 - r.level) * 65536) row in
+    before_floor t h w are lw n (subst (NoneBefore s h w) (sym is) (level_before s h w word b are.layout allowed))
 told_floor t h w word n Idle are allowed lw told = before_floor t h w are lw n
     (idle_before t.setting h w word are.legal are.layout (fewer t h are) n Idle (inl refl) allowed)
 told_floor t h w word n NothingLeft are allowed lw told = before_floor t h w are lw n

@@ -13,6 +13,8 @@ use bt_tables::{ASKED_OUT, CROWD, OPEN, RESTING, UNBEGUN, first_group, rank};
 
 /// A walk goes over at most so many pieces for each piece of the group: a step costs far less than a listed piece.
 const WALK: usize = 1;
+/// In order so many pieces from the front on are looked at before it is asked whether there is a candidate at all.
+const NEAR: u32 = 32;
 
 impl<'a> Position<'a> {
     /// Whether the piece may be begun at the peer.
@@ -290,9 +292,13 @@ impl<'a> Position<'a> {
             return None;
         }
         let front = self.front().min(self.piece_count());
-        match self.rarest(worker, level, front) {
+        let near = front.saturating_add(NEAR).min(self.piece_count());
+        if let Some(piece) = self.first_candidate(worker, level, front, near) {
+            return Some(piece);
+        }
+        match self.rarest(worker, level, near) {
             Some(found) => self
-                .first_candidate(worker, level, front, found)
+                .first_candidate(worker, level, near, found)
                 .or(Some(found)),
             None => None,
         }

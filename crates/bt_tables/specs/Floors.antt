@@ -1,5 +1,5 @@
 -- From which level, and from how few peers on, the search for a rarest piece has to look. No public clause of the picker cites this module.
-use Rattle.std.specs.Prelude.{ℕ, ◌+◌, ◌-◌, ◌*◌, ◌≡◌, ◌≢◌, ◌<◌, ◌≤◌, ◌==◌, ◌&&◌, ⊤, Bool, true, false, not, List, length, slice_index_or}
+use Rattle.std.specs.Prelude.{ℕ, ◌+◌, ◌-◌, ◌*◌, ◌≡◌, ◌≢◌, ◌<◌, ◌≤◌, ◌==◌, ◌&&◌, ◌⊎◌, ⊤, Bool, true, false, not, List, length, slice_index_or}
 use Rattle.bt_order.specs.Orders.{at}
 use Rattle.std.specs.List.{count_by}
 use Rattle.bt_history.specs.declared.call.Reply.{Reply}
@@ -54,9 +54,14 @@ pub record IsRarestStart (t : TablesState) (piece : ℕ) : Type 0 where
   pub within : piece < length t.pieces
   pub unbegun : UNBEGUN ≤ stage_of_row (piece_row t.pieces piece)
 
--- the reply to Next tells this floor: by the rarest piece that begins, or since nothing may begin
+-- a request for a block of the piece tells this floor: that of the rarest piece that begins, or by the level of another
+abbrev pub RequestTells : TablesState → ℕ → ℕ → Type 0
+RequestTells t piece n = (IsRarestStart t piece × (n ≡ rank_of_row (piece_row t.pieces piece)))
+    ⊎ ((piece < length t.pieces) × (n ≡ (MOST_LEVEL - (piece_row t.pieces piece).level) * RANKS))
+
+-- the reply to Next tells this floor: by the request, or since nothing may begin
 abbrev pub TellsFloor : TablesState → Reply → ℕ → Type 0
-TellsFloor t (Request b) n = IsRarestStart t b.piece × (n ≡ rank_of_row (piece_row t.pieces b.piece))
+TellsFloor t (Request b) n = RequestTells t b.piece n
 TellsFloor t Idle n = ⊤
 TellsFloor t NothingLeft n = ⊤
 TellsFloor t reply n = ⊥

@@ -1,6 +1,6 @@
 //! From which level, and from how few peers on, each peer's search for a rarest piece has to look.
 
-ghost use Rattle.std.specs.Prelude.{◌≡◌, ◌<◌, ◌≤◌, ◌-◌, ℕ, false, length, replicate, slice_index_or, slice_set, IfOk};
+ghost use Rattle.std.specs.Prelude.{◌≡◌, ◌<◌, ◌≤◌, ◌-◌, ℕ, false, length, max, replicate, slice_index_or, slice_set, IfOk};
 ghost use Rattle.bt_order.specs.Orders.{at};
 ghost use Rattle.bt_tables.specs.Floors.{AreFloors, AreFloorsBeside, AreLowered};
 ghost use Rattle.bt_tables.specs.Tables.{peer_row};
@@ -49,6 +49,14 @@ impl Floors {
         ensures { self.new ≡ slice_set self.old worker floor }
     {
         self.floors[worker as usize] = floor;
+    }
+
+    /// The worker's peer has this floor, or a higher one.
+    pub fn raise(&mut self, worker: u32, floor: u32)
+        requires { worker < length self.old }
+        ensures { self.new ≡ slice_set self.old worker (max floor (at self.old worker)) }
+    {
+        self.put(worker, floor.max(self.of(worker)));
     }
 
     /// Nothing is known of any peer.

@@ -13,7 +13,7 @@ ghost use Rattle.bt_history.specs.Setting.{deepest_line, setting_of};
 ghost use Rattle.bt_history.specs.History.{stores};
 ghost use Rattle.bt_meta.specs.declared.block.Block.{Block};
 ghost use Rattle.bt_history.specs.Counting.{table};
-ghost use Rattle.bt_tables.specs.Floors.{IsFloor, IsRarestStart, NoneFresh, TellsFloor, is_fresh};
+ghost use Rattle.bt_tables.specs.Floors.{IsFloor, IsRarestStart, NoneFresh, RequestTells, TellsFloor, is_fresh};
 ghost use Rattle.bt_tables.specs.Tables.{AreAskers, AreCounted, HasBlock, HasRoomFor, HasShortLines, bits_row, leave_row, TablesState, after_arrival, after_check};
 ghost use Rattle.bt_tables.specs.Tables.{after_next, announced, cancel_row, depth_row, given_up, late_row, edit, failed_row, fresh_peer, fresh_piece, join_row, choke_row};
 ghost use Rattle.bt_tables.specs.Tables.{unchoke_row, joint, levelled, ordered, peer_row, piece_row, released, relevelled, reshown, wanted_level, with_block, with_peer};
@@ -23,7 +23,7 @@ use crate::floors::Floors;
 use crate::haves::announce_all;
 use crate::peer::Peer;
 use crate::peers::Peers;
-use crate::piece::{Change, GROUPS, Piece, SPAN, UNBEGUN};
+use crate::piece::{Change, GROUPS, Piece, SPAN, UNBEGUN, rank};
 use crate::pieces::Pieces;
 use crate::sweep::{lower, lower_all, recount, relevel, rewant};
 use bt_history::{Reply, Rules};
@@ -242,17 +242,30 @@ impl Tables {
         self.floors.of(worker)
     }
 
-    /// The floor that a reply to Next tells: once enough pieces are had, a piece that begins is a rarest one of the highest level that
-    /// has one; and where nothing is to be asked, the peer shows no unbegun wanted piece.
+    /// The floor that a reply to Next tells: in order nothing of a higher level is to be asked, and otherwise, once enough pieces are had, a
+    /// piece that begins is a rarest one of the highest level that has one. Where nothing is to be asked, the peer shows no unbegun wanted
+    /// piece.
     fn floor_told(&self, reply: Reply) -> Option<u32>
         ensures { IfSome result (λ n. TellsFloor self.now reply n) }
     {
         match reply {
+            Reply::Request(block) if self.in_order => self.level_told(block.piece),
             Reply::Request(block) if self.begins(block.piece) => {
                 Some(self.pieces.rank(block.piece))
             }
             Reply::Idle | Reply::NothingLeft => Some(u32::MAX),
             _ => None,
+        }
+    }
+
+    /// The floor that a request for a block of the piece tells by its level alone: nothing of a higher one is to be asked.
+    fn level_told(&self, piece: u32) -> Option<u32>
+        ensures { IfSome result (RequestTells self.now piece) }
+    {
+        if (piece as usize) < self.pieces.len() {
+            Some(rank(self.pieces.row(piece).level(), 0))
+        } else {
+            None
         }
     }
 
@@ -274,7 +287,7 @@ impl Tables {
         ensures { self.new ≡ self.old }
     {
         if let Some(floor) = self.floor_told(reply) {
-            self.floors.put(worker, floor);
+            self.floors.raise(worker, floor);
         }
     }
 
