@@ -23,7 +23,8 @@ from collections.abc import Callable
 from dataclasses import dataclass, field
 
 from bencode import metainfo
-from fetch import HANDSHAKE, info_span
+from fetch import HANDSHAKE
+from piecepick import Picker
 
 PIECE_LENGTH = 1 << 18  # bytes
 LONGEST = 120.0  # seconds of one download
@@ -52,10 +53,8 @@ class Place:
 
     def infohash(self) -> bytes:
         """The SHA-1 of the info dictionary."""
-        with open(self.torrent, "rb") as file:
-            data = file.read()
-        begin, end = info_span(data)
-        return hashlib.sha1(data[begin:end]).digest()
+        with open(self.torrent, "rb") as file, Picker(file.read()) as picker:
+            return picker.infohash
 
     def seed_directory(self, content: bytes) -> str:
         """A directory of a seeder, with its copy of the file."""

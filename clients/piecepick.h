@@ -1,20 +1,20 @@
-/* piecepick.h: the piece picker of a BitTorrent download (BEP 3): which block to request next, from which peer, which cancels to send,
-   and which pieces are had. Every call here is proved to do what the picker's rules say, whatever its numbers are; the contracts stand in
+/* piecepick.h: the piece picker of a BitTorrent v1 download (BEP 3): which block to request next, from which peer, which cancels to send, and
+   which pieces are had. Every call is proved to do what the picker's rules say, whatever its numbers are. The contracts stand in
    crates/bt_c/src/exports.
 
-   A call returns a status, and writes its answer or its number in any case (kind 0, number 0, where the status isn't PIECEPICK_OK).
-   A call whose status isn't PIECEPICK_OK has changed nothing, and may be made again.
+   A call returns a status, and writes its answer or its number in any case: kind 0, number 0 where the status isn't PIECEPICK_OK. A call whose
+   status isn't PIECEPICK_OK has changed nothing that a later call can tell, and may be made again. Of several causes the first is told, in the order in
+   which the call lists them. Lengths are in bytes.
 
    What the library can't test, and the caller must see to:
-   - A handle starts as PIECEPICK_NONE. One that was never set is undefined behaviour at its first call.
-   - A handle is the library's: never copy it, write it, or move its pointer into another; it isn't freed but by its own close.
-   - Each other pointer is valid for its call: an answer and a number may be written, a buffer has the length that is given with it, isn't
-     NULL (also at length 0: pass any valid pointer) and isn't freed meanwhile. What is written lies in nothing else that is passed, and
-     no two parameters of one call are the same handle.
-   - One call at a time at each handle. The library takes no lock and keeps no state of its own, so other handles may be used meanwhile,
-     and a handle may go to another thread under the caller's lock.
-   - malloc, realloc and free come from one allocator; no call is made in a signal handler, or in the forked child of a process with
-     threads. */
+   - A digest that is told is the SHA-1 of the bytes that it is told for (piecepick_settle, piecepick_restore).
+   - A pointer to a picker or a job starts as NULL. It is filled and freed by its own two calls alone, and isn't NULL at any other.
+   - Each other pointer is valid for its call: an answer and a number may be written, a buffer has the length that is given with it, isn't NULL
+     (also at length 0: pass any valid pointer) and isn't freed meanwhile. What is written lies in nothing else that is passed.
+   - One call at a time at each picker, and at each job. The library takes no lock and keeps no state of its own. So other pickers may be used
+     meanwhile, and a picker may go to another thread under the caller's lock.
+   - malloc, realloc and free come from one allocator. No call is made in a signal handler, or in the forked child of a process with threads.
+   - The processor has the level x86-64-v2 (SSSE3, SSE4.1), where the library wasn't built for another. */
 #ifndef PIECEPICK_H
 #define PIECEPICK_H
 #include <stddef.h>
@@ -23,147 +23,303 @@
 extern "C" {
 #endif
 
-/* Compare it with piecepick_abi() before the first other call. */
-#define PIECEPICK_ABI 2u
+/* Compare it with piecepick_abi() before the first other call. It rises with each change that an older caller can't bear. */
+#define PIECEPICK_ABI 3u
+#define PIECEPICK_VERSION "3.0.0"
+/* As a number, to be compared with piecepick_version(). */
+#define PIECEPICK_VERSION_NUMBER 30000u
 
-/* A desk: the picker of one download. */
-typedef struct piecepick_desk { void *at; } piecepick_desk;
-/* The check of a piece that left its desk, to be hashed while others use that. */
-typedef struct piecepick_check { void *at; } piecepick_check;
-#define PIECEPICK_NONE { NULL }
+#if defined(__GNUC__) || defined(__clang__)
+#define PIECEPICK_MUST __attribute__((warn_unused_result))
+#else
+#define PIECEPICK_MUST
+#endif
 
-/* What the desk answers to a worker's call. The block is told by CANCEL and REQUEST alone. `detail` is 1 at NOTED where the peer has a
-   wanted and lacking piece, and a reason at REFUSED; else it is 0. */
-typedef struct piecepick_answer { uint32_t kind, piece, begin, len, detail; } piecepick_answer;
+/* The picker of one download. */
+typedef struct piecepick_picker piecepick_picker;
+/* The check of one full piece, to be hashed while others use the picker. */
+typedef struct piecepick_job piecepick_job;
 
-/* Statuses. */
-enum {
+typedef enum piecepick_status {
     PIECEPICK_OK = 0,
-    PIECEPICK_SHUT = 1,        /* the handle holds no desk */
-    PIECEPICK_OPEN = 2,        /* the handle to be filled holds something already */
-    PIECEPICK_WORKER = 3,      /* no such worker; at open: the workers aren't 1 to 1,024 */
-    PIECEPICK_PIECE = 4,       /* no such piece */
-    PIECEPICK_BITS_LENGTH = 5, /* the flags haven't one bit a piece */
-    PIECEPICK_SPARE_BITS = 6,  /* a bit behind those of the pieces is set */
-    PIECEPICK_ROOM = 7,        /* the room hasn't just the piece's length */
-    PIECEPICK_MEMORY = 8,      /* no memory */
-    PIECEPICK_NOT_HAD = 9,     /* the piece isn't had */
-    PIECEPICK_RULES = 10,      /* the depth isn't 1 to 64, or more pieces at random than there are */
-    PIECEPICK_NOT_WAITING = 11,/* the piece isn't full, or is had: there is nothing to check */
-    PIECEPICK_NO_JOB = 12,     /* the handle holds no job */
-    PIECEPICK_NOT_HASHED = 13, /* the job wasn't hashed yet */
-    PIECEPICK_PLACE = 14,      /* fewer blocks than that are asked of the peer */
-    /* At open, 100 and more: why the bytes are no metainfo file, or the parts no torrent. */
-    PIECEPICK_BENCODE = 101, PIECEPICK_NOT_DICTIONARY = 102, PIECEPICK_MISSING_KEY = 103, PIECEPICK_WRONG_KIND = 104,
-    PIECEPICK_PIECE_LENGTH = 105, PIECEPICK_PIECES_LENGTH = 106, PIECEPICK_LENGTH_AND_FILES = 107, PIECEPICK_NO_CONTENT = 108,
-    PIECEPICK_COUNT_MISMATCH = 109, PIECEPICK_TOO_LARGE = 110
+    PIECEPICK_E_SHUT = 1,         /* the pointer leads to no picker: for wrappers, since no call at a pointer that was opened tells it */
+    PIECEPICK_E_OPEN = 2,         /* the pointer to be filled isn't NULL */
+    PIECEPICK_E_WORKER = 3,       /* no such worker; at open: the workers aren't 1 to 1,024 */
+    PIECEPICK_E_PIECE = 4,        /* no such piece */
+    PIECEPICK_E_BITS_LENGTH = 5,  /* the flags haven't one bit a piece */
+    PIECEPICK_E_SPARE_BITS = 6,   /* a bit behind those of the pieces is set */
+    PIECEPICK_E_LENGTH = 7,       /* the buffer hasn't just the length of what it is for */
+    PIECEPICK_E_MEMORY = 8,       /* out of memory */
+    PIECEPICK_E_NOT_HAD = 9,      /* the piece isn't had */
+    PIECEPICK_E_RULES = 10,       /* depth, deepest, askers or random is out of its range */
+    PIECEPICK_E_NOT_WAITING = 11, /* the piece isn't full, or is had: there is nothing to check */
+    PIECEPICK_E_NO_JOB = 12,      /* the pointer leads to no job: likewise */
+    PIECEPICK_E_NOT_HASHED = 13,  /* the job wasn't hashed yet */
+    PIECEPICK_E_PLACE = 14,       /* fewer blocks than that are asked of the peer */
+    PIECEPICK_E_KEEPS = 15,       /* the picker keeps something else than the call is for */
+    PIECEPICK_E_OPTIONS = 16,     /* the options have another size, or `keeps` is none of the three */
+    PIECEPICK_E_STALE = 17,       /* the bytes that were hashed are no longer those held */
+    PIECEPICK_E_BLOCK = 18,       /* no such block of the piece */
+    PIECEPICK_E_NOT_HELD = 19,    /* the block isn't held */
+    PIECEPICK_E_BEGUN = 20,       /* a block of the piece is held or asked of a peer, or it is had already */
+    /* At open, 100 and more: why the bytes are no metainfo file, or the parts no torrent. Reading is strict: keys that aren't sorted, and bytes
+       behind the end, are BENCODE. piecepick_open_parts takes what another parser has read. */
+    PIECEPICK_E_BENCODE = 101, PIECEPICK_E_NOT_DICTIONARY = 102, PIECEPICK_E_MISSING_KEY = 103, PIECEPICK_E_WRONG_KIND = 104,
+    PIECEPICK_E_PIECE_LENGTH = 105, PIECEPICK_E_PIECES_LENGTH = 106, PIECEPICK_E_LENGTH_AND_FILES = 107, PIECEPICK_E_NO_CONTENT = 108,
+    PIECEPICK_E_COUNT_MISMATCH = 109, PIECEPICK_E_TOO_LARGE = 110
+} piecepick_status;
+
+/* What the picker answers. */
+typedef enum piecepick_kind {
+    PIECEPICK_K_NONE = 0,        /* no answer: the status isn't PIECEPICK_OK */
+    PIECEPICK_K_JOINED = 1,
+    PIECEPICK_K_NOTED = 2,
+    PIECEPICK_K_QUIET = 3,       /* done; there is nothing to say */
+    PIECEPICK_K_CANCEL = 4,      /* to be sent as `cancel`: the block came from another peer */
+    PIECEPICK_K_REQUEST = 5,     /* to be sent as `request` */
+    PIECEPICK_K_CHOKED = 6,      /* nothing to ask: the peer chokes us */
+    PIECEPICK_K_PIPE_FULL = 7,   /* nothing to ask: as many blocks as may be are asked of the peer */
+    PIECEPICK_K_IDLE = 8,        /* nothing to ask now, though the peer has a wanted piece that isn't had */
+    PIECEPICK_K_NOTHING_LEFT = 9,/* the peer shows no wanted piece that isn't had */
+    PIECEPICK_K_STORED = 10,
+    PIECEPICK_K_COMPLETED = 11,  /* stored, and its piece is full now: it waits for its check */
+    PIECEPICK_K_DROPPED = 12,    /* the block was held already: it came twice */
+    PIECEPICK_K_HAD = 13,        /* the piece has its hash */
+    PIECEPICK_K_FAILED = 14,     /* the piece has another hash: its blocks are held no more */
+    PIECEPICK_K_REFUSED = 15     /* by a rule, which `reason` names: mostly the peer's fault, not the caller's */
+} piecepick_kind;
+
+/* Why a call was refused. 4, 5, 8 and 9 come as a status instead, but for 4 at piecepick_set_levels. */
+typedef enum piecepick_reason {
+    PIECEPICK_R_NONE = 0,
+    PIECEPICK_R_NOT_JOINED = 1, PIECEPICK_R_ALREADY_JOINED = 2,
+    PIECEPICK_R_LATE_BITS = 3,     /* a bitfield that isn't the peer's first word: tell it by piecepick_haves */
+    PIECEPICK_R_WRONG_COUNT = 4, PIECEPICK_R_NO_SUCH_PIECE = 5, PIECEPICK_R_NO_SUCH_BLOCK = 6, PIECEPICK_R_WRONG_LENGTH = 7,
+    PIECEPICK_R_NOT_WAITING = 8, PIECEPICK_R_STALE = 9,
+    PIECEPICK_R_NOT_ASKED = 10,    /* the block isn't asked of the peer */
+    PIECEPICK_R_WRONG_DEPTH = 11,  /* a depth of 0, or beyond `deepest` */
+    PIECEPICK_R_WRONG_LEVEL = 12   /* a level above 7 */
+} piecepick_reason;
+
+/* The block is told by CANCEL and REQUEST alone, the reason by REFUSED. `interesting` is 1 at NOTED where the peer has a wanted piece that isn't
+   had. All else is 0. */
+typedef struct piecepick_answer {
+    piecepick_kind kind;
+    uint32_t piece, begin, length;
+    piecepick_reason reason;
+    uint32_t interesting;
+} piecepick_answer;
+
+typedef struct piecepick_digest { uint8_t bytes[20]; } piecepick_digest;
+
+/* What a picker keeps of what it is told. */
+enum {
+    PIECEPICK_KEEPS_NOTHING = 0, /* neither content nor journal: the caller keeps the content and hashes it, and tells the digest (piecepick_settle) */
+    PIECEPICK_KEEPS_BEGUN = 1,   /* the blocks of pieces that are begun, until they are had: jobs hash them, and hand them out (piecepick_job_*) */
+    PIECEPICK_KEEPS_JOURNAL = 2  /* all content, and each call with its answer, until it is closed: for simulators and audits */
 };
 
-/* Kinds of an answer. */
-enum {
-    PIECEPICK_JOINED = 1, PIECEPICK_NOTED = 2, PIECEPICK_QUIET = 3,
-    PIECEPICK_CANCEL = 4,       /* to be sent as `cancel`: the block came from another peer */
-    PIECEPICK_REQUEST = 5,      /* to be sent as `request` */
-    PIECEPICK_CHOKED = 6,       /* nothing to ask: the peer chokes us */
-    PIECEPICK_PIPE_FULL = 7,    /* nothing to ask: as many blocks as may be are asked of the peer */
-    PIECEPICK_IDLE = 8,         /* nothing to ask now, though the peer has a wanted and lacking piece */
-    PIECEPICK_NOTHING_LEFT = 9, /* the peer shows no wanted piece that isn't had */
-    PIECEPICK_STORED = 10,
-    PIECEPICK_COMPLETED = 11,   /* stored, and its piece is full now: it waits for its check */
-    PIECEPICK_DROPPED = 12,     /* the block was held already: it came twice */
-    PIECEPICK_HAD = 13,         /* the piece has its hash */
-    PIECEPICK_FAILED = 14,      /* the piece has another hash: its blocks are held no more */
-    PIECEPICK_REFUSED = 15
-};
-
-/* Reasons, the detail of REFUSED. */
-enum {
-    PIECEPICK_NOT_JOINED = 1, PIECEPICK_ALREADY_JOINED = 2, PIECEPICK_LATE_BITS = 3, PIECEPICK_WRONG_COUNT = 4,
-    PIECEPICK_NO_SUCH_PIECE = 5, PIECEPICK_NO_SUCH_BLOCK = 6, PIECEPICK_WRONG_LENGTH = 7, PIECEPICK_REASON_NOT_WAITING = 8,
-    PIECEPICK_STALE = 9,        /* the bytes that were hashed are no longer those held */
-    PIECEPICK_NOT_ASKED = 10,   /* the block isn't asked of the peer */
-    PIECEPICK_WRONG_DEPTH = 11, /* a depth of 0, or beyond 64 */
-    PIECEPICK_WRONG_LEVEL = 12  /* a level above 7 */
-};
+/* Start from PIECEPICK_OPTIONS, and change what you need. */
+typedef struct piecepick_options {
+    uint32_t size;    /* sizeof(piecepick_options) */
+    uint32_t keeps;
+    uint32_t workers; /* peers at a time, 1 to 1,024: a worker is a number below it */
+    uint32_t depth;   /* blocks asked of a peer at a time until another depth is told, 1 to 64 */
+    uint32_t deepest; /* the greatest depth that may be told of a peer later, 1 to 4,096 */
+    uint32_t random;  /* pieces that are had before the rarest come first, no more than there are */
+    uint32_t askers;  /* of how many peers one block is asked at most in endgame, 1 (no endgame) to 1,024 (no bound) */
+} piecepick_options;
+#define PIECEPICK_OPTIONS { sizeof(piecepick_options), PIECEPICK_KEEPS_NOTHING, 50, 5, 500, 1, 2 }
 
 uint32_t piecepick_abi(void);
+uint32_t piecepick_version(void);
 
-/* Fills an empty handle. `workers` peers at most, 1 to 1,024; `depth` blocks asked of one peer, 1 to 64 (5 is usual); `random` pieces
-   before the rarest come first (1 is usual), no more than there are. MEMORY, WORKER, RULES, OPEN and 101 to 110. */
-uint32_t piecepick_open(piecepick_desk *desk, const uint8_t *metainfo, size_t metainfo_len, uint32_t workers, uint32_t depth, uint32_t random);
-/* The same by parts: bytes of a piece and of the content, and the SHA-1 of each piece, 20 bytes each. 105, 106, 108 to 110. */
-uint32_t piecepick_open_parts(piecepick_desk *desk, uint32_t piece_length, uint64_t total, const uint8_t *digests, size_t digests_len,
-                              uint32_t workers, uint32_t depth, uint32_t random);
-/* Frees the desk, if there is one. The handle is empty then, and may be filled again. */
-void piecepick_close(piecepick_desk *desk);
+/* Fills a NULL pointer. OPEN, OPTIONS, WORKER, 101 to 110, RULES; MEMORY at any place. */
+PIECEPICK_MUST piecepick_status piecepick_open(piecepick_picker **picker, const uint8_t *metainfo, size_t metainfo_len, const piecepick_options *options);
+/* The same by parts: bytes of a piece and of the content, and the SHA-1 of each piece, 20 bytes each. Its infohash is zeros, its name empty.
+   105, 106, 108 to 110 of the faults above 100. */
+PIECEPICK_MUST piecepick_status piecepick_open_parts(piecepick_picker **picker, uint32_t piece_length, uint64_t total, const uint8_t *digests,
+                                                     size_t digests_len, const piecepick_options *options);
+/* Frees the picker, if there is one. The pointer is NULL then. */
+void piecepick_close(piecepick_picker **picker);
 
-/* What came on the wire of a worker's peer. SHUT, WORKER, MEMORY, and at the two with flags BITS_LENGTH and SPARE_BITS. */
-uint32_t piecepick_join(piecepick_desk *desk, uint32_t worker, piecepick_answer *answer);
-uint32_t piecepick_leave(piecepick_desk *desk, uint32_t worker, piecepick_answer *answer);
-uint32_t piecepick_choke(piecepick_desk *desk, uint32_t worker, piecepick_answer *answer); /* also: the peer is silent */
-uint32_t piecepick_unchoke(piecepick_desk *desk, uint32_t worker, piecepick_answer *answer);
-uint32_t piecepick_have(piecepick_desk *desk, uint32_t worker, uint32_t piece, piecepick_answer *answer);
-uint32_t piecepick_bits(piecepick_desk *desk, uint32_t worker, const uint8_t *payload, size_t payload_len, piecepick_answer *answer);
-/* Copies the block. */
-uint32_t piecepick_arrived(piecepick_desk *desk, uint32_t worker, uint32_t piece, uint32_t begin, const uint8_t *bytes, size_t bytes_len,
-                           piecepick_answer *answer);
-/* The peer has these pieces too, at any time, spelled as in a `bitfield` message: a second `bitfield` came, or `have all` or `have none`
-   (BEP 6). What it had before stays. NOTED, or REFUSED by NOT_JOINED. SHUT, WORKER, BITS_LENGTH, SPARE_BITS, MEMORY. */
-uint32_t piecepick_haves(piecepick_desk *desk, uint32_t worker, const uint8_t *flags, size_t flags_len, piecepick_answer *answer);
+/* What came on the wire of a worker's peer. WORKER, MEMORY where something is kept; PIECE at a piece that isn't; BITS_LENGTH and SPARE_BITS at
+   the two with flags, which take memory in any case. */
+PIECEPICK_MUST piecepick_status piecepick_join(piecepick_picker *picker, uint32_t worker, piecepick_answer *answer);
+PIECEPICK_MUST piecepick_status piecepick_leave(piecepick_picker *picker, uint32_t worker, piecepick_answer *answer);
+PIECEPICK_MUST piecepick_status piecepick_choke(piecepick_picker *picker, uint32_t worker, piecepick_answer *answer); /* also: the peer is silent */
+PIECEPICK_MUST piecepick_status piecepick_unchoke(piecepick_picker *picker, uint32_t worker, piecepick_answer *answer);
+PIECEPICK_MUST piecepick_status piecepick_have(piecepick_picker *picker, uint32_t worker, uint32_t piece, piecepick_answer *answer);
+/* A `bitfield` message: its payload. */
+PIECEPICK_MUST piecepick_status piecepick_bits(piecepick_picker *picker, uint32_t worker, const uint8_t *payload, size_t payload_len, piecepick_answer *answer);
+/* The peer has these pieces too, at any time, spelled as in a `bitfield` message: a second `bitfield` came, or `have all` (BEP 6). What it had
+   before stays, so `have none` needs no call. */
+PIECEPICK_MUST piecepick_status piecepick_haves(piecepick_picker *picker, uint32_t worker, const uint8_t *flags, size_t flags_len, piecepick_answer *answer);
+/* A block came. A picker that keeps nothing reads none of the bytes; another one keeps a copy. */
+PIECEPICK_MUST piecepick_status piecepick_arrived(piecepick_picker *picker, uint32_t worker, uint32_t piece, uint32_t begin, const uint8_t *bytes,
+                                                  size_t bytes_len, piecepick_answer *answer);
 /* The block that begins `begin` bytes into the piece is asked of the peer no more: the peer rejected it (BEP 6), it took too long, or the
-   request was not sent. Any peer may be asked for it again, and it is kept if it comes after all. QUIET, or REFUSED by NOT_JOINED or
-   NOT_ASKED. SHUT, WORKER, MEMORY. */
-uint32_t piecepick_release(piecepick_desk *desk, uint32_t worker, uint32_t piece, uint32_t begin, piecepick_answer *answer);
-/* From now on `depth` blocks, 1 to 64, may be asked of the peer at a time, until another number is told or the worker's next peer joins;
-   what is asked stays asked. QUIET, or REFUSED by NOT_JOINED or WRONG_DEPTH. SHUT, WORKER, MEMORY. */
-uint32_t piecepick_depth(piecepick_desk *desk, uint32_t worker, uint32_t depth, piecepick_answer *answer);
-/* What to say to the peer next: ask until the answer is neither CANCEL nor REQUEST. The word is the caller's randomness. */
-uint32_t piecepick_next(piecepick_desk *desk, uint32_t worker, uint64_t word, piecepick_answer *answer);
-/* From now on just these pieces are to be downloaded, for all peers; spelled as in a `bitfield` message. They have level 4 then. */
-uint32_t piecepick_want(piecepick_desk *desk, uint32_t worker, const uint8_t *flags, size_t flags_len, piecepick_answer *answer);
-/* From now on the piece has this level, for all peers: 0 isn't downloaded, and of 1 to 7 a higher one comes before a lower one. Each piece has
-   level 4 until another is told. What is asked stays asked. QUIET, or REFUSED by NO_SUCH_PIECE or WRONG_LEVEL. SHUT, WORKER, MEMORY. */
-uint32_t piecepick_level(piecepick_desk *desk, uint32_t worker, uint32_t piece, uint32_t level, piecepick_answer *answer);
-/* The same for each piece, a byte each, that of the first piece first. It copies the bytes. QUIET, or REFUSED by WRONG_COUNT or WRONG_LEVEL.
-   SHUT, WORKER, MEMORY. */
-uint32_t piecepick_levels(piecepick_desk *desk, uint32_t worker, const uint8_t *levels, size_t levels_len, piecepick_answer *answer);
-/* From now on the pieces of one level come in rising order, for all peers; or, where `rising` is 0, the rarest first, as they do until this
-   is told. QUIET. SHUT, WORKER, MEMORY. */
-uint32_t piecepick_in_order(piecepick_desk *desk, uint32_t worker, uint32_t rising, piecepick_answer *answer);
-/* Hashes a piece that waits for its check, here and now: HAD or FAILED, or REFUSED with no entry in the journal. */
-uint32_t piecepick_settle_now(piecepick_desk *desk, uint32_t worker, uint32_t piece, piecepick_answer *answer);
+   request was not sent. Any peer may be asked for it again, and it is kept if it comes after all. QUIET, or REFUSED by NOT_JOINED or NOT_ASKED. */
+PIECEPICK_MUST piecepick_status piecepick_release(piecepick_picker *picker, uint32_t worker, uint32_t piece, uint32_t begin, piecepick_answer *answer);
+/* From now on `depth` blocks may be asked of the peer at a time, until another number is told or the worker's next peer joins. What is asked
+   stays asked. QUIET, or REFUSED by NOT_JOINED or WRONG_DEPTH. */
+PIECEPICK_MUST piecepick_status piecepick_depth(piecepick_picker *picker, uint32_t worker, uint32_t depth, piecepick_answer *answer);
+/* What to say to the peer next: send what it answers while it is CANCEL or REQUEST. The word is the caller's randomness. */
+PIECEPICK_MUST piecepick_status piecepick_next(piecepick_picker *picker, uint32_t worker, uint64_t word, piecepick_answer *answer);
 
-/* The same check away from the desk. `job` fills an empty handle (SHUT, PIECE, NOT_WAITING, OPEN, MEMORY); `job_hash` hashes without any
-   desk, so outside the caller's lock (NO_JOB, MEMORY); `job_settle` tells the verdict (SHUT, NO_JOB, NOT_HASHED, WORKER, MEMORY) and keeps
-   it; `job_close` frees it, before or after its desk. */
-uint32_t piecepick_job(piecepick_desk *desk, uint32_t piece, piecepick_check *job);
-uint32_t piecepick_job_hash(piecepick_check *job);
-uint32_t piecepick_job_settle(piecepick_desk *desk, uint32_t worker, piecepick_check *job, piecepick_answer *answer);
-void piecepick_job_close(piecepick_check *job);
+/* What is to be downloaded, for all peers. What is asked stays asked. Just these pieces, spelled as in a `bitfield` message; they have level 4
+   then. QUIET. BITS_LENGTH, SPARE_BITS, MEMORY. */
+PIECEPICK_MUST piecepick_status piecepick_want(piecepick_picker *picker, const uint8_t *flags, size_t flags_len, piecepick_answer *answer);
+/* The piece has this level from now on: 0 isn't downloaded, and of 1 to 7 a higher one comes before a lower one. Each piece has level 4 until
+   another is told. QUIET, or REFUSED by WRONG_LEVEL. PIECE; at all three MEMORY where a journal is kept. */
+PIECEPICK_MUST piecepick_status piecepick_set_level(piecepick_picker *picker, uint32_t piece, uint32_t level, piecepick_answer *answer);
+/* The same for each piece, a byte each. QUIET, or REFUSED by WRONG_COUNT or WRONG_LEVEL. */
+PIECEPICK_MUST piecepick_status piecepick_set_levels(piecepick_picker *picker, const uint8_t *levels, size_t levels_len, piecepick_answer *answer);
+/* The pieces of one level come in rising order from now on; or, where `rising` is 0, the rarest first again. QUIET. */
+PIECEPICK_MUST piecepick_status piecepick_set_in_order(piecepick_picker *picker, uint32_t rising, piecepick_answer *answer);
 
-/* What the desk knows; flags are 1 or 0. SHUT; PIECE where a piece is named. They change nothing. */
-uint32_t piecepick_pieces(piecepick_desk *desk, uint32_t *number);
-uint32_t piecepick_workers(piecepick_desk *desk, uint32_t *number);
-uint32_t piecepick_is_complete(piecepick_desk *desk, uint32_t *number); /* each piece is had */
-uint32_t piecepick_has_wanted(piecepick_desk *desk, uint32_t *number);  /* each wanted piece is had */
-uint32_t piecepick_had(piecepick_desk *desk, uint32_t piece, uint32_t *number);
-uint32_t piecepick_wanted(piecepick_desk *desk, uint32_t piece, uint32_t *number);
-uint32_t piecepick_availability(piecepick_desk *desk, uint32_t piece, uint32_t *number); /* joined peers that show it */
-uint32_t piecepick_piece_length(piecepick_desk *desk, uint32_t piece, uint32_t *number); /* in bytes */
-uint32_t piecepick_blocks(piecepick_desk *desk, uint32_t piece, uint32_t *number);
-/* How many blocks are asked of the worker's peer (at most its greatest depth since it joined or choked), and each by its place from 0, told as a REQUEST. SHUT, WORKER, PLACE. */
-uint32_t piecepick_outstanding(piecepick_desk *desk, uint32_t worker, uint32_t *number);
-uint32_t piecepick_outstanding_at(piecepick_desk *desk, uint32_t worker, uint32_t place, piecepick_answer *answer);
-/* Writes a had piece into a room of just its length, and takes no memory. SHUT, PIECE, NOT_HAD, ROOM: then nothing is written. */
-uint32_t piecepick_read(piecepick_desk *desk, uint32_t piece, uint8_t *room, size_t room_len);
-/* Goes over the journal of all calls by the picker's rules. No journal fails it: SHUT, MEMORY. */
-uint32_t piecepick_audit(piecepick_desk *desk);
+/* KEEPS_NOTHING: the piece is full, and this is the SHA-1 of what arrived of it. HAD or FAILED. KEEPS, PIECE, NOT_WAITING. */
+PIECEPICK_MUST piecepick_status piecepick_settle(piecepick_picker *picker, uint32_t piece, const piecepick_digest *digest, piecepick_answer *answer);
+/* KEEPS_NOTHING: the whole piece is on a disk, for which this worker stands; it has joined, and shows nothing. The digest is the SHA-1 of the
+   bytes, of which none is read: a mapping of the file costs no reading. HAD, FAILED, or REFUSED by NOT_JOINED. KEEPS, WORKER, PIECE, LENGTH,
+   BEGUN. Blocks of a piece that isn't whole are told by piecepick_arrived, and stay held behind the worker's leave. */
+PIECEPICK_MUST piecepick_status piecepick_restore(piecepick_picker *picker, uint32_t worker, uint32_t piece, const uint8_t *bytes, size_t bytes_len,
+                                                  const piecepick_digest *digest, piecepick_answer *answer);
 
-/* The SHA-1 of each of four messages, one digest behind the other, into a room of 80 bytes; ROOM where it has another length: then nothing
-   is written. The lengths may be any; four of one length are hashed side by side, at more than twice the speed. It needs no desk, takes no
-   memory, and may be called by several threads at once. */
-uint32_t piecepick_hash4(const uint8_t *first, size_t first_len, const uint8_t *second, size_t second_len, const uint8_t *third,
-                         size_t third_len, const uint8_t *fourth, size_t fourth_len, uint8_t *digests, size_t digests_len);
+/* KEEPS_BEGUN and KEEPS_JOURNAL: the check of a full piece, away from its picker. `take` fills a NULL pointer (OPEN, KEEPS, PIECE, NOT_WAITING,
+   MEMORY). `hash` needs no picker, so no lock (MEMORY). `settle` tells the verdict: HAD or FAILED (NOT_HASHED, KEEPS, STALE,
+   NOT_WAITING, MEMORY). `read` writes the bytes of the piece into a room of just their length, before or behind that (LENGTH). `close` frees the job, before
+   or after its picker; the pointer is NULL then. */
+PIECEPICK_MUST piecepick_status piecepick_job_take(piecepick_picker *picker, uint32_t piece, piecepick_job **job);
+PIECEPICK_MUST piecepick_status piecepick_job_hash(piecepick_job *job);
+PIECEPICK_MUST piecepick_status piecepick_job_settle(piecepick_picker *picker, piecepick_job *job, piecepick_answer *answer);
+PIECEPICK_MUST piecepick_status piecepick_job_read(piecepick_job *job, uint8_t *room, size_t room_len);
+void piecepick_job_close(piecepick_job **job);
+
+/* What the picker knows; flags are 1 or 0. They change nothing. */
+PIECEPICK_MUST piecepick_status piecepick_pieces(piecepick_picker *picker, uint32_t *number);
+PIECEPICK_MUST piecepick_status piecepick_workers(piecepick_picker *picker, uint32_t *number);
+PIECEPICK_MUST piecepick_status piecepick_is_complete(piecepick_picker *picker, uint32_t *number); /* each piece is had */
+PIECEPICK_MUST piecepick_status piecepick_has_wanted(piecepick_picker *picker, uint32_t *number);  /* each wanted piece is had */
+PIECEPICK_MUST piecepick_status piecepick_is_in_order(piecepick_picker *picker, uint32_t *number);
+/* A number that rises when a peer whose answer was IDLE or NOTHING_LEFT may have another one, though its own worker told nothing. While it is
+   the same, it needn't be asked again. */
+PIECEPICK_MUST piecepick_status piecepick_epoch(piecepick_picker *picker, uint64_t *number);
+/* Of a piece: PIECE. */
+PIECEPICK_MUST piecepick_status piecepick_is_had(piecepick_picker *picker, uint32_t piece, uint32_t *number);
+PIECEPICK_MUST piecepick_status piecepick_is_waiting(piecepick_picker *picker, uint32_t piece, uint32_t *number); /* full, and not had */
+PIECEPICK_MUST piecepick_status piecepick_level(piecepick_picker *picker, uint32_t piece, uint32_t *number);
+PIECEPICK_MUST piecepick_status piecepick_availability(piecepick_picker *picker, uint32_t piece, uint32_t *number); /* joined peers that show it */
+PIECEPICK_MUST piecepick_status piecepick_piece_length(piecepick_picker *picker, uint32_t piece, uint32_t *number);
+PIECEPICK_MUST piecepick_status piecepick_blocks(piecepick_picker *picker, uint32_t piece, uint32_t *number);
+/* The worker whose peer brought a block that is held; `index` counts the piece's blocks from its front. PIECE, BLOCK, NOT_HELD. Ask it of a
+   piece whose bytes have another hash, before it is settled. */
+PIECEPICK_MUST piecepick_status piecepick_sender(piecepick_picker *picker, uint32_t piece, uint32_t index, uint32_t *worker);
+/* How many blocks are asked of the worker's peer, and each by its place from 0, the oldest request first, told as a REQUEST. WORKER, PLACE. */
+PIECEPICK_MUST piecepick_status piecepick_outstanding(piecepick_picker *picker, uint32_t worker, uint32_t *number);
+PIECEPICK_MUST piecepick_status piecepick_outstanding_at(piecepick_picker *picker, uint32_t worker, uint32_t place, piecepick_answer *answer);
+
+/* What the metainfo file says, so that nobody reads it twice. The name is a suggestion, and perhaps no text. LENGTH, PIECE. */
+PIECEPICK_MUST piecepick_status piecepick_total(piecepick_picker *picker, uint64_t *number);
+PIECEPICK_MUST piecepick_status piecepick_name_length(piecepick_picker *picker, uint64_t *number);
+PIECEPICK_MUST piecepick_status piecepick_name(piecepick_picker *picker, uint8_t *room, size_t room_len);
+PIECEPICK_MUST piecepick_status piecepick_infohash(piecepick_picker *picker, piecepick_digest *digest);
+PIECEPICK_MUST piecepick_status piecepick_piece_hash(piecepick_picker *picker, uint32_t piece, piecepick_digest *digest);
+
+/* The SHA-1 of each of four messages, one digest behind the other, into a room of 80 bytes (LENGTH). Messages of one length are hashed side by
+   side, at more than twice the speed. It needs no picker, takes no memory, and may be called by several threads at once. */
+PIECEPICK_MUST piecepick_status piecepick_hash4(const uint8_t *first, size_t first_len, const uint8_t *second, size_t second_len,
+                                                const uint8_t *third, size_t third_len, const uint8_t *fourth, size_t fourth_len,
+                                                uint8_t *digests, size_t digests_len);
+
+/* ---- KEEPS_JOURNAL alone: for simulators and audits. Its memory is all content, and some 80 bytes for each call. */
+
+/* Hashes a full piece, here and now. HAD or FAILED. KEEPS, PIECE, NOT_WAITING, MEMORY. */
+PIECEPICK_MUST piecepick_status piecepick_settle_now(piecepick_picker *picker, uint32_t piece, piecepick_answer *answer);
+/* Writes a had piece into a room of just its length, and takes no memory. KEEPS, PIECE, NOT_HAD, LENGTH: then nothing is written. */
+PIECEPICK_MUST piecepick_status piecepick_read(piecepick_picker *picker, uint32_t piece, uint8_t *room, size_t room_len);
+/* Goes over the journal of all calls by the picker's rules. No journal fails it: KEEPS, MEMORY. */
+PIECEPICK_MUST piecepick_status piecepick_audit(piecepick_picker *picker);
+
+/* ---- Texts, of the header alone. */
+
+static inline const char *piecepick_status_text(piecepick_status status) {
+    switch (status) {
+    case PIECEPICK_OK: return "done";
+    case PIECEPICK_E_SHUT: return "the pointer leads to nothing";
+    case PIECEPICK_E_OPEN: return "the pointer to be filled isn't NULL";
+    case PIECEPICK_E_WORKER: return "no such worker";
+    case PIECEPICK_E_PIECE: return "no such piece";
+    case PIECEPICK_E_BITS_LENGTH: return "the flags haven't one bit a piece";
+    case PIECEPICK_E_SPARE_BITS: return "a bit behind those of the pieces is set";
+    case PIECEPICK_E_LENGTH: return "the buffer has another length";
+    case PIECEPICK_E_MEMORY: return "out of memory";
+    case PIECEPICK_E_NOT_HAD: return "the piece isn't had";
+    case PIECEPICK_E_RULES: return "depth, deepest, askers or random is out of its range";
+    case PIECEPICK_E_NOT_WAITING: return "the piece doesn't wait for a check";
+    case PIECEPICK_E_NO_JOB: return "the pointer leads to no job";
+    case PIECEPICK_E_NOT_HASHED: return "the job wasn't hashed";
+    case PIECEPICK_E_PLACE: return "fewer blocks than that are asked of the peer";
+    case PIECEPICK_E_KEEPS: return "the picker keeps something else than the call is for";
+    case PIECEPICK_E_OPTIONS: return "options of another size, or that keep what isn't kept";
+    case PIECEPICK_E_STALE: return "the bytes that were hashed are no longer those held";
+    case PIECEPICK_E_BLOCK: return "no such block of the piece";
+    case PIECEPICK_E_NOT_HELD: return "the block isn't held";
+    case PIECEPICK_E_BEGUN: return "the piece is begun, or had already";
+    case PIECEPICK_E_BENCODE: return "not bencoded, or not as strictly as BEP 3 has it";
+    case PIECEPICK_E_NOT_DICTIONARY: return "the metainfo is no dictionary";
+    case PIECEPICK_E_MISSING_KEY: return "a key of the metainfo is missing";
+    case PIECEPICK_E_WRONG_KIND: return "a value of the metainfo, or its info, has another kind";
+    case PIECEPICK_E_PIECE_LENGTH: return "a piece length that isn't 1 to 2^31";
+    case PIECEPICK_E_PIECES_LENGTH: return "digests that aren't 20 bytes each";
+    case PIECEPICK_E_LENGTH_AND_FILES: return "both length and files";
+    case PIECEPICK_E_NO_CONTENT: return "neither length nor files, or no bytes";
+    case PIECEPICK_E_COUNT_MISMATCH: return "another number of digests than of pieces";
+    case PIECEPICK_E_TOO_LARGE: return "too large";
+    }
+    return "no status of this interface";
+}
+
+static inline const char *piecepick_kind_text(piecepick_kind kind) {
+    switch (kind) {
+    case PIECEPICK_K_NONE: return "no answer";
+    case PIECEPICK_K_JOINED: return "joined";
+    case PIECEPICK_K_NOTED: return "noted";
+    case PIECEPICK_K_QUIET: return "quiet";
+    case PIECEPICK_K_CANCEL: return "cancel";
+    case PIECEPICK_K_REQUEST: return "request";
+    case PIECEPICK_K_CHOKED: return "choked";
+    case PIECEPICK_K_PIPE_FULL: return "pipe full";
+    case PIECEPICK_K_IDLE: return "idle";
+    case PIECEPICK_K_NOTHING_LEFT: return "nothing left";
+    case PIECEPICK_K_STORED: return "stored";
+    case PIECEPICK_K_COMPLETED: return "completed";
+    case PIECEPICK_K_DROPPED: return "dropped";
+    case PIECEPICK_K_HAD: return "had";
+    case PIECEPICK_K_FAILED: return "failed";
+    case PIECEPICK_K_REFUSED: return "refused";
+    }
+    return "no kind of this interface";
+}
+
+static inline const char *piecepick_reason_text(piecepick_reason reason) {
+    switch (reason) {
+    case PIECEPICK_R_NONE: return "none";
+    case PIECEPICK_R_NOT_JOINED: return "the worker hasn't joined";
+    case PIECEPICK_R_ALREADY_JOINED: return "the worker has joined already";
+    case PIECEPICK_R_LATE_BITS: return "a bitfield that isn't the peer's first word";
+    case PIECEPICK_R_WRONG_COUNT: return "not one for each piece";
+    case PIECEPICK_R_NO_SUCH_PIECE: return "no such piece";
+    case PIECEPICK_R_NO_SUCH_BLOCK: return "no such block";
+    case PIECEPICK_R_WRONG_LENGTH: return "a block of another length";
+    case PIECEPICK_R_NOT_WAITING: return "the piece doesn't wait for a check";
+    case PIECEPICK_R_STALE: return "the bytes that were hashed are no longer those held";
+    case PIECEPICK_R_NOT_ASKED: return "the block isn't asked of the peer";
+    case PIECEPICK_R_WRONG_DEPTH: return "a depth of 0, or beyond the deepest";
+    case PIECEPICK_R_WRONG_LEVEL: return "a level above 7";
+    }
+    return "no reason of this interface";
+}
 
 #ifdef __cplusplus
 }

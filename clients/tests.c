@@ -1,14 +1,21 @@
-/* What only a caller in C can try: each allocation refused in turn, four threads at one desk, four pieces hashed at once, and a round of
-   misuses.
+/* What only a caller in C can try, with each of the three kinds of picker: each allocation refused in turn, rooms of each length, four
+   threads under one lock, four pieces hashed at once, and what the header says of statuses and answers.
 
-   usage: tests FILE.torrent CONTENT        linked with -Wl,--wrap=malloc,--wrap=realloc */
+   usage: tests FILE.torrent CONTENT INFOHASH NAME        linked with -Wl,--wrap=malloc,--wrap=realloc
+   The torrent has pieces of two blocks, but for a shorter last one, and a number of pieces that eight doesn't divide. The infohash is in
+   hexadecimal digits. */
+#define _DEFAULT_SOURCE /* for MAP_ANONYMOUS */
 #include "piecepick.h"
 #include <pthread.h>
+#include <sched.h>
 #include <stdio.h>
 #include <stdlib.h>
 #include <string.h>
+#include <sys/mman.h>
 
-enum { WORKERS = 4, MOST = 1 << 24 };
+#define BLOCK 16384u
+#define PIECE (2 * BLOCK)
+enum { THREADS = 4, MOST = 1 << 24, MOST_PIECES = 256 };
 
 #ifdef __cplusplus
 extern "C" {
@@ -21,8 +28,9 @@ void *__wrap_realloc(void *at, size_t size);
 }
 #endif
 
-static long until_refusal = -1; /* allocations until one is refused; none is while it is negative */
-static long made;
+/* Of the thread's own, since the library takes memory in several threads at once. */
+static __thread long until_refusal = -1; /* allocations until one is refused; none is while it is negative */
+static __thread long made;
 
 static int refuses(void)
 {
@@ -37,346 +45,1526 @@ static uint8_t metainfo[1 << 20];
 static uint8_t content[MOST];
 static uint8_t room[MOST + 1];
 static size_t metainfo_len, content_len;
+static uint32_t pieces;
+static uint8_t all[MOST_PIECES / 8], none[MOST_PIECES / 8]; /* flags: each piece, and no piece */
+static size_t flags_len;
+static const uint8_t *digests; /* of the pieces, as they stand in the metainfo file */
+static long tried;             /* comparisons since the last line was printed */
 
-static void fail(const char *what, uint32_t status)
+static const uint32_t KINDS[] = {PIECEPICK_KEEPS_NOTHING, PIECEPICK_KEEPS_BEGUN, PIECEPICK_KEEPS_JOURNAL};
+static const char *const KEPT[] = {"nothing", "what is begun", "a journal"};
+
+static void fail(int line, const char *what, uint64_t got, uint64_t wanted)
 {
-    printf("%s: status %u\n", what, (unsigned)status);
-    exit(1);
+    printf("tests.c:%d: %s: %llu instead of %llu\n", line, what, (unsigned long long)got, (unsigned long long)wanted);
+    fflush(stdout);
+    _Exit(1);
 }
 
-/* The call, made once more where there was no memory; any other status but OK fails. The answer was written all the
-   same, so nothing that the call is passed may come from it. */
-static long refusals;
-#define AGAIN(call)                                                     \
-    do {                                                                \
-        uint32_t again_status;                                          \
-        while ((again_status = (call)) != PIECEPICK_OK) {               \
-            if (again_status != PIECEPICK_MEMORY) fail(#call, again_status); \
-            refusals++;                                                 \
-        }                                                               \
+#define EQUAL(got, wanted)                                                                                    \
+    do {                                                                                                      \
+        uint64_t equal_got = (uint64_t)(got), equal_wanted = (uint64_t)(wanted);                              \
+        tried++;                                                                                              \
+        if (equal_got != equal_wanted) fail(__LINE__, #got, equal_got, equal_wanted);                         \
     } while (0)
 
-static void all_flags(uint8_t *flags, uint32_t pieces)
+static void told(const char *what)
 {
-    memset(flags, 0, (pieces + 7) / 8);
-    for (uint32_t piece = 0; piece < pieces; piece++)
-        flags[piece / 8] = (uint8_t)(flags[piece / 8] | (0x80 >> piece % 8));
+    printf("%s: %ld comparisons\n", what, tried);
+    tried = 0;
 }
 
-/* A piece that is full is checked, by a job in every second piece. */
-static void settle(piecepick_desk *desk, uint32_t worker, uint32_t piece)
+/* A whole answer. Only NOTED tells of interest, only REFUSED has a reason, and the block is told by requests and cancels alone. */
+static void is_answer(int line, const char *what, const piecepick_answer *answer, piecepick_kind kind, piecepick_reason reason,
+                      uint32_t interesting)
 {
-    piecepick_check job = PIECEPICK_NONE;
+    tried++;
+    if (answer->kind != kind) fail(line, what, answer->kind, kind);
+    if (answer->reason != reason) fail(line, what, answer->reason, reason);
+    if (answer->interesting != interesting) fail(line, what, answer->interesting, interesting);
+    if (answer->piece || answer->begin || answer->length) fail(line, what, answer->piece, 0);
+}
+
+static void is_block(int line, const char *what, const piecepick_answer *answer, piecepick_kind kind, uint32_t piece, uint32_t begin)
+{
+    uint64_t rest = content_len - (uint64_t)piece * PIECE - begin;
+    tried++;
+    if (answer->kind != kind) fail(line, what, answer->kind, kind);
+    if (answer->piece != piece) fail(line, what, answer->piece, piece);
+    if (answer->begin != begin) fail(line, what, answer->begin, begin);
+    if (answer->length != (rest < BLOCK ? rest : BLOCK)) fail(line, what, answer->length, rest);
+    if (answer->reason || answer->interesting) fail(line, what, answer->reason, 0);
+}
+
+/* These use an `answer` or a `number` of the caller's. It is spoilt first, so that it must be written: nothing that the call is passed may
+   come from it. */
+#define SPOIL(thing) memset(&(thing), 0xa5, sizeof(thing))
+#define ANSWERS(call, kind, reason, interesting)                               \
+    do {                                                                       \
+        SPOIL(answer);                                                         \
+        EQUAL(call, PIECEPICK_OK);                                             \
+        is_answer(__LINE__, #call, &answer, kind, reason, interesting);        \
+    } while (0)
+#define GETS(call, kind) ANSWERS(call, kind, PIECEPICK_R_NONE, 0)
+#define QUIET(call) GETS(call, PIECEPICK_K_QUIET)
+#define NOTED(call, interesting) ANSWERS(call, PIECEPICK_K_NOTED, PIECEPICK_R_NONE, interesting)
+#define REFUSED(call, reason) ANSWERS(call, PIECEPICK_K_REFUSED, reason, 0)
+#define BLOCKS(call, kind, piece, begin)                                       \
+    do {                                                                       \
+        SPOIL(answer);                                                         \
+        EQUAL(call, PIECEPICK_OK);                                             \
+        is_block(__LINE__, #call, &answer, kind, piece, begin);                \
+    } while (0)
+#define NO_ANSWER(call, status)                                                             \
+    do {                                                                                    \
+        SPOIL(answer);                                                                      \
+        EQUAL(call, status);                                                                \
+        is_answer(__LINE__, #call, &answer, PIECEPICK_K_NONE, PIECEPICK_R_NONE, 0);         \
+    } while (0)
+#define NUMBER(call, wanted)           \
+    do {                               \
+        SPOIL(number);                 \
+        EQUAL(call, PIECEPICK_OK);     \
+        EQUAL(number, wanted);         \
+    } while (0)
+#define NO_NUMBER(call, status)        \
+    do {                               \
+        SPOIL(number);                 \
+        EQUAL(call, status);           \
+        EQUAL(number, 0);              \
+    } while (0)
+
+static uint32_t length_of(uint32_t piece)
+{
+    size_t rest = content_len - (size_t)piece * PIECE;
+    return (uint32_t)(rest < PIECE ? rest : PIECE);
+}
+
+static uint32_t blocks_of(uint32_t piece) { return (length_of(piece) + BLOCK - 1) / BLOCK; }
+static const uint8_t *bytes_of(uint32_t piece) { return content + (size_t)piece * PIECE; }
+
+static piecepick_digest sha1(const uint8_t *bytes, size_t length)
+{
+    uint8_t four[80];
+    piecepick_digest digest;
+    EQUAL(piecepick_hash4(bytes, length, bytes, 0, bytes, 0, bytes, 0, four, sizeof four), PIECEPICK_OK);
+    memcpy(digest.bytes, four, sizeof digest.bytes);
+    return digest;
+}
+
+static piecepick_picker *open_by(const piecepick_options *options)
+{
+    piecepick_picker *picker = NULL;
+    EQUAL(piecepick_open(&picker, metainfo, metainfo_len, options), PIECEPICK_OK);
+    return picker;
+}
+
+static piecepick_picker *open_for(uint32_t keeps, uint32_t workers)
+{
+    piecepick_options options = PIECEPICK_OPTIONS;
+    options.keeps = keeps;
+    options.workers = workers;
+    return open_by(&options);
+}
+
+/* A peer joins, shows each piece, and doesn't choke us. */
+static void come(piecepick_picker *picker, uint32_t worker)
+{
     piecepick_answer answer;
-    if (piece % 2 == 0) {
-        AGAIN(piecepick_settle_now(desk, worker, piece, &answer));
-    } else {
-        AGAIN(piecepick_job(desk, piece, &job));
-        AGAIN(piecepick_job_hash(&job));
-        AGAIN(piecepick_job_settle(desk, worker, &job, &answer));
-        piecepick_job_close(&job);
-    }
-    if (answer.kind != PIECEPICK_HAD) fail("a check", answer.kind);
+    GETS(piecepick_join(picker, worker, &answer), PIECEPICK_K_JOINED);
+    NOTED(piecepick_bits(picker, worker, all, flags_len, &answer), 1);
+    QUIET(piecepick_unchoke(picker, worker, &answer));
 }
 
-/* The one block that is asked of the worker's peer is the one that was requested last. */
-static void asked(piecepick_desk *desk, uint32_t worker, const piecepick_answer *request)
+/* The bytes of a block as the peer has them, or wrong ones. */
+static piecepick_kind bring(piecepick_picker *picker, uint32_t worker, uint32_t piece, uint32_t begin, int wrong)
+{
+    uint8_t block[BLOCK];
+    piecepick_answer answer;
+    uint32_t rest = length_of(piece) - begin, length = rest < BLOCK ? rest : BLOCK;
+    memcpy(block, bytes_of(piece) + begin, length);
+    block[length - 1] = (uint8_t)(block[length - 1] + (wrong != 0));
+    EQUAL(piecepick_arrived(picker, worker, piece, begin, block, length, &answer), PIECEPICK_OK);
+    is_answer(__LINE__, "arrived", &answer, answer.kind, PIECEPICK_R_NONE, 0);
+    return answer.kind;
+}
+
+/* A full piece is checked in the way of its picker; its last block came with wrong bytes, or not. A journal has two ways. */
+static piecepick_kind settle(piecepick_picker *picker, uint32_t keeps, uint32_t piece, int wrong)
+{
+    uint8_t bytes[PIECE];
+    uint32_t length = length_of(piece);
+    piecepick_answer answer;
+    piecepick_job *job = NULL;
+    memcpy(bytes, bytes_of(piece), length);
+    bytes[length - 1] = (uint8_t)(bytes[length - 1] + (wrong != 0));
+    if (keeps == PIECEPICK_KEEPS_NOTHING) {
+        piecepick_digest digest = sha1(bytes, length);
+        EQUAL(piecepick_settle(picker, piece, &digest, &answer), PIECEPICK_OK);
+    } else if (keeps == PIECEPICK_KEEPS_JOURNAL && piece % 2 == 0) {
+        EQUAL(piecepick_settle_now(picker, piece, &answer), PIECEPICK_OK);
+    } else {
+        EQUAL(piecepick_job_take(picker, piece, &job), PIECEPICK_OK);
+        EQUAL(piecepick_job_hash(job), PIECEPICK_OK);
+        EQUAL(piecepick_job_settle(picker, job, &answer), PIECEPICK_OK);
+        EQUAL(piecepick_job_read(job, room, length), PIECEPICK_OK);
+        EQUAL(memcmp(room, bytes, length), 0);
+        piecepick_job_close(&job);
+        EQUAL(job == NULL, 1);
+    }
+    is_answer(__LINE__, "a check", &answer, answer.kind, PIECEPICK_R_NONE, 0);
+    return answer.kind;
+}
+
+static piecepick_kind bring_whole(piecepick_picker *picker, uint32_t keeps, uint32_t worker, uint32_t piece)
+{
+    for (uint32_t begin = 0; begin < length_of(piece); begin += BLOCK)
+        EQUAL(bring(picker, worker, piece, begin, 0), begin + BLOCK < length_of(piece) ? PIECEPICK_K_STORED : PIECEPICK_K_COMPLETED);
+    return settle(picker, keeps, piece, 0);
+}
+
+/* ---- What a picker tells of itself, as one number. */
+
+static uint64_t mixed(uint64_t sum, uint64_t number) { return (sum ^ number) * 0x100000001b3u; }
+
+static uint64_t picture(piecepick_picker *picker)
+{
+    typedef piecepick_status question(piecepick_picker * picker, uint32_t piece, uint32_t * number);
+    static question *const QUESTIONS[] = {piecepick_is_had, piecepick_is_waiting, piecepick_level, piecepick_availability};
+    uint64_t sum = 0xcbf29ce484222325u, epoch;
+    uint32_t number, workers, count;
+    piecepick_answer answer;
+    EQUAL(piecepick_epoch(picker, &epoch), PIECEPICK_OK);
+    sum = mixed(sum, epoch);
+    EQUAL(piecepick_is_in_order(picker, &number), PIECEPICK_OK);
+    sum = mixed(sum, number);
+    for (uint32_t piece = 0; piece < pieces; piece++) {
+        for (size_t at = 0; at < sizeof QUESTIONS / sizeof *QUESTIONS; at++) {
+            EQUAL(QUESTIONS[at](picker, piece, &number), PIECEPICK_OK);
+            sum = mixed(sum, number);
+        }
+        for (uint32_t index = 0; index < blocks_of(piece); index++)
+            sum = mixed(sum, (uint64_t)piecepick_sender(picker, piece, index, &number) << 32 | number);
+    }
+    EQUAL(piecepick_workers(picker, &workers), PIECEPICK_OK);
+    for (uint32_t worker = 0; worker < workers; worker++) {
+        EQUAL(piecepick_outstanding(picker, worker, &count), PIECEPICK_OK);
+        for (uint32_t place = 0; place < count; place++) {
+            EQUAL(piecepick_outstanding_at(picker, worker, place, &answer), PIECEPICK_OK);
+            sum = mixed(mixed(sum, answer.piece), answer.begin);
+        }
+    }
+    return sum;
+}
+
+/* ---- Opening. */
+
+#define SIZE ((uint32_t)sizeof(piecepick_options))
+#define MORE UINT32_MAX
+
+static const struct { piecepick_options options; piecepick_status status; } OPTIONS[] = {
+    {{0, 0, 50, 5, 500, 1, 2}, PIECEPICK_E_OPTIONS},
+    {{24, 0, 50, 5, 500, 1, 2}, PIECEPICK_E_OPTIONS},
+    {{SIZE - 1, 0, 50, 5, 500, 1, 2}, PIECEPICK_E_OPTIONS},
+    {{SIZE + 1, 0, 50, 5, 500, 1, 2}, PIECEPICK_E_OPTIONS},
+    {{32, 0, 50, 5, 500, 1, 2}, PIECEPICK_E_OPTIONS},
+    {{MORE, 0, 50, 5, 500, 1, 2}, PIECEPICK_E_OPTIONS},
+    {{SIZE, 3, 50, 5, 500, 1, 2}, PIECEPICK_E_OPTIONS},
+    {{SIZE, MORE, 50, 5, 500, 1, 2}, PIECEPICK_E_OPTIONS},
+    {{SIZE, 0, 0, 5, 500, 1, 2}, PIECEPICK_E_WORKER},
+    {{SIZE, 1, 1025, 5, 500, 1, 2}, PIECEPICK_E_WORKER},
+    {{SIZE, 2, MORE, 5, 500, 1, 2}, PIECEPICK_E_WORKER},
+    {{SIZE, 0, 50, 0, 500, 1, 2}, PIECEPICK_E_RULES},
+    {{SIZE, 1, 50, 65, 500, 1, 2}, PIECEPICK_E_RULES},
+    {{SIZE, 2, 50, MORE, 500, 1, 2}, PIECEPICK_E_RULES},
+    {{SIZE, 0, 50, 5, 0, 1, 2}, PIECEPICK_E_RULES},
+    {{SIZE, 1, 50, 5, 4097, 1, 2}, PIECEPICK_E_RULES},
+    {{SIZE, 2, 50, 5, MORE, 1, 2}, PIECEPICK_E_RULES},
+    {{SIZE, 0, 50, 5, 500, 11, 2}, PIECEPICK_E_RULES},
+    {{SIZE, 2, 50, 5, 500, MORE, 2}, PIECEPICK_E_RULES},
+    {{SIZE, 0, 50, 5, 500, 1, 0}, PIECEPICK_E_RULES},
+    {{SIZE, 1, 50, 5, 500, 1, 1025}, PIECEPICK_E_RULES},
+    {{SIZE, 2, 50, 5, 500, 1, MORE}, PIECEPICK_E_RULES},
+    /* Two causes: the one that the header has first. */
+    {{0, 0, 0, 0, 500, 1, 2}, PIECEPICK_E_OPTIONS},
+    {{SIZE, 0, 0, 0, 500, 1, 2}, PIECEPICK_E_WORKER},
+    /* The borders. */
+    {{SIZE, 0, 1, 1, 1, 0, 1}, PIECEPICK_OK},
+    {{SIZE, 1, 1, 1, 1, 0, 1}, PIECEPICK_OK},
+    {{SIZE, 2, 1, 1, 1, 0, 1}, PIECEPICK_OK},
+    {{SIZE, 0, 1024, 64, 4096, 10, 1024}, PIECEPICK_OK},
+    {{SIZE, 1, 1024, 64, 500, 10, 1024}, PIECEPICK_OK},
+    {{SIZE, 2, 1024, 64, 500, 10, 1024}, PIECEPICK_OK},
+};
+
+/* Reads the metainfo file, or takes the same torrent by its parts. */
+static piecepick_status open_either(int by_parts, piecepick_picker **picker, const piecepick_options *options)
+{
+    return by_parts ? piecepick_open_parts(picker, PIECE, content_len, digests, (size_t)20 * pieces, options)
+                    : piecepick_open(picker, metainfo, metainfo_len, options);
+}
+
+static void try_options(void)
+{
+    const piecepick_options usual = PIECEPICK_OPTIONS;
+    uint32_t number;
+    EQUAL(usual.size, sizeof usual);
+    for (size_t at = 0; at < sizeof OPTIONS / sizeof *OPTIONS; at++)
+        for (int by_parts = 0; by_parts < 2; by_parts++) {
+            const piecepick_options *options = &OPTIONS[at].options;
+            piecepick_picker *picker = NULL, *same;
+            EQUAL(open_either(by_parts, &picker, options), OPTIONS[at].status);
+            EQUAL(picker == NULL, OPTIONS[at].status != PIECEPICK_OK);
+            if (picker == NULL) EQUAL(open_either(by_parts, &picker, &usual), PIECEPICK_OK);
+            else NUMBER(piecepick_workers(picker, &number), options->workers);
+            /* Whatever else is wrong, a pointer that isn't NULL stays as it is. */
+            same = picker;
+            EQUAL(open_either(by_parts, &picker, options), PIECEPICK_E_OPEN);
+            EQUAL(open_either(by_parts, &picker, &usual), PIECEPICK_E_OPEN);
+            EQUAL(picker == same, 1);
+            NUMBER(piecepick_pieces(picker, &number), pieces);
+            piecepick_close(&picker);
+            EQUAL(picker == NULL, 1);
+            piecepick_close(&picker);
+            EQUAL(picker == NULL, 1);
+        }
+    told("options, each out of its range and at its borders");
+}
+
+#define INFO(first, piece_length, row) "d4:infod" first "4:name1:n12:piece lengthi" piece_length "e6:pieces" row "ee"
+#define ONE "20:01234567890123456789"
+#define FILE_OF(length) "d6:lengthi" length "e4:pathl1:aee"
+
+static const struct { const char *bytes; piecepick_status status; } FILES[] = {
+    {"", PIECEPICK_E_BENCODE},
+    {"d", PIECEPICK_E_BENCODE},
+    {"i01e", PIECEPICK_E_BENCODE},
+    {"d4:infod12:piece lengthi1e6:lengthi1eee", PIECEPICK_E_BENCODE}, /* keys that aren't sorted */
+    {INFO("6:lengthi1e", "16384", ONE) "x", PIECEPICK_E_BENCODE},     /* bytes behind the end */
+    {"i1e", PIECEPICK_E_NOT_DICTIONARY},
+    {"le", PIECEPICK_E_NOT_DICTIONARY},
+    {"de", PIECEPICK_E_MISSING_KEY},
+    {"d4:infodee", PIECEPICK_E_MISSING_KEY},
+    {"d4:infod6:lengthi1e4:name1:n6:pieces" ONE "ee", PIECEPICK_E_MISSING_KEY},
+    {"d4:infoi1ee", PIECEPICK_E_WRONG_KIND},
+    {INFO("6:length1:1", "16384", ONE), PIECEPICK_E_WRONG_KIND},
+    {INFO("6:lengthi-1e", "16384", ONE), PIECEPICK_E_WRONG_KIND},
+    {INFO("5:files0:", "16384", ONE), PIECEPICK_E_WRONG_KIND},
+    {INFO("6:lengthi1e", "0", ONE), PIECEPICK_E_PIECE_LENGTH},
+    {INFO("6:lengthi1e", "-1", ONE), PIECEPICK_E_PIECE_LENGTH},
+    {INFO("6:lengthi1e", "2147483649", ONE), PIECEPICK_E_PIECE_LENGTH},
+    {INFO("6:lengthi1e", "16384", "19:0123456789012345678"), PIECEPICK_E_PIECES_LENGTH},
+    {INFO("5:filesl" FILE_OF("1") "e6:lengthi1e", "16384", ONE), PIECEPICK_E_LENGTH_AND_FILES},
+    {INFO("6:lengthi0e", "16384", "0:"), PIECEPICK_E_NO_CONTENT},
+    {INFO("", "16384", ONE), PIECEPICK_E_NO_CONTENT},
+    {INFO("6:lengthi16385e", "16384", ONE), PIECEPICK_E_COUNT_MISMATCH},
+    {INFO("6:lengthi1e", "16384", "0:"), PIECEPICK_E_COUNT_MISMATCH},
+    {INFO("5:filesl" FILE_OF("4611686018427387904") FILE_OF("4611686018427387904") "e", "16384", ONE), PIECEPICK_E_TOO_LARGE},
+    {INFO("6:lengthi4294967296e", "1", ONE), PIECEPICK_E_TOO_LARGE},
+    {INFO("6:lengthi1e", "16384", ONE), PIECEPICK_OK},
+    {INFO("6:lengthi1e", "2147483648", ONE), PIECEPICK_OK},
+    {INFO("5:filesl" FILE_OF("1") FILE_OF("16383") "e", "16384", ONE), PIECEPICK_OK},
+};
+
+static const struct { uint32_t piece_length; uint64_t total; size_t digests_len; piecepick_status status; } PARTS[] = {
+    {0, 1, 20, PIECEPICK_E_PIECE_LENGTH},
+    {2147483649u, 1, 20, PIECEPICK_E_PIECE_LENGTH},
+    {MORE, 1, 20, PIECEPICK_E_PIECE_LENGTH},
+    {BLOCK, 1, 19, PIECEPICK_E_PIECES_LENGTH},
+    {BLOCK, 1, 21, PIECEPICK_E_PIECES_LENGTH},
+    {BLOCK, 0, 0, PIECEPICK_E_NO_CONTENT},
+    {BLOCK, 0, 20, PIECEPICK_E_NO_CONTENT},
+    {BLOCK, 1, 0, PIECEPICK_E_COUNT_MISMATCH},
+    {BLOCK, BLOCK + 1, 20, PIECEPICK_E_COUNT_MISMATCH},
+    {BLOCK, BLOCK, 40, PIECEPICK_E_COUNT_MISMATCH},
+    {BLOCK, (uint64_t)1 << 63, 20, PIECEPICK_E_TOO_LARGE},
+    {BLOCK, UINT64_MAX, 20, PIECEPICK_E_TOO_LARGE},
+    {1, (uint64_t)1 << 32, 20, PIECEPICK_E_TOO_LARGE},
+    {1, 1, 20, PIECEPICK_OK},
+    {2147483648u, 1, 20, PIECEPICK_OK},
+    {BLOCK, BLOCK, 20, PIECEPICK_OK},
+};
+
+static void try_torrents(void)
+{
+    piecepick_options usual = PIECEPICK_OPTIONS, unfit = PIECEPICK_OPTIONS;
+    piecepick_picker *picker = NULL;
+    unfit.depth = 0;
+    for (size_t at = 0; at < sizeof FILES / sizeof *FILES; at++) {
+        piecepick_status status = FILES[at].status;
+        const uint8_t *bytes = (const uint8_t *)FILES[at].bytes;
+        EQUAL(piecepick_open(&picker, bytes, strlen(FILES[at].bytes), &usual), status);
+        piecepick_close(&picker);
+        /* A file that can't be read comes before rules that don't fit it. */
+        EQUAL(piecepick_open(&picker, bytes, strlen(FILES[at].bytes), &unfit), status == PIECEPICK_OK ? PIECEPICK_E_RULES : status);
+        EQUAL(picker == NULL, 1);
+    }
+    for (size_t at = 0; at < sizeof PARTS / sizeof *PARTS; at++) {
+        EQUAL(piecepick_open_parts(&picker, PARTS[at].piece_length, PARTS[at].total, content, PARTS[at].digests_len, &usual),
+              PARTS[at].status);
+        EQUAL(picker == NULL, PARTS[at].status != PIECEPICK_OK);
+        piecepick_close(&picker);
+    }
+    told("metainfo files and parts, with each fault");
+}
+
+/* ---- What the torrent is. */
+
+/* A room of another length stays as it was. */
+static void has_name(piecepick_picker *picker, const char *name)
+{
+    uint64_t number;
+    uint8_t place[64];
+    size_t length = strlen(name);
+    NUMBER(piecepick_name_length(picker, &number), length);
+    memset(place, 0x5a, sizeof place);
+    EQUAL(piecepick_name(picker, place, length + 1), PIECEPICK_E_LENGTH);
+    if (length > 0) EQUAL(piecepick_name(picker, place, length - 1), PIECEPICK_E_LENGTH);
+    for (size_t at = 0; at < sizeof place; at++) EQUAL(place[at], 0x5a);
+    EQUAL(piecepick_name(picker, place, length), PIECEPICK_OK);
+    EQUAL(memcmp(place, name, length), 0);
+    EQUAL(place[length], 0x5a);
+}
+
+static void try_torrent(const char *infohash, const char *name)
+{
+    unsigned major, minor, least;
+    EQUAL(piecepick_abi(), PIECEPICK_ABI);
+    EQUAL(piecepick_version(), PIECEPICK_VERSION_NUMBER);
+    EQUAL(sscanf(PIECEPICK_VERSION, "%u.%u.%u", &major, &minor, &least), 3);
+    EQUAL(major * 10000 + minor * 100 + least, PIECEPICK_VERSION_NUMBER);
+    EQUAL(major, PIECEPICK_ABI);
+    EQUAL(strlen(infohash), 40);
+    EQUAL(sizeof(piecepick_answer), 24);
+    EQUAL(sizeof(piecepick_digest), 20);
+    for (size_t kind = 0; kind < 3; kind++)
+        for (int by_parts = 0; by_parts < 2; by_parts++) {
+            piecepick_options options = PIECEPICK_OPTIONS;
+            piecepick_picker *picker = NULL;
+            piecepick_digest digest;
+            uint32_t number;
+            options.keeps = KINDS[kind];
+            EQUAL(open_either(by_parts, &picker, &options), PIECEPICK_OK);
+            has_name(picker, by_parts ? "" : name);
+            {
+                uint64_t large = 0;
+                EQUAL(piecepick_total(picker, &large), PIECEPICK_OK);
+                EQUAL(large, content_len);
+            }
+            SPOIL(digest);
+            EQUAL(piecepick_infohash(picker, &digest), PIECEPICK_OK);
+            for (size_t at = 0; at < 20; at++) {
+                unsigned byte = 0;
+                EQUAL(sscanf(infohash + 2 * at, "%2x", &byte), 1);
+                EQUAL(digest.bytes[at], by_parts ? 0 : byte);
+            }
+            NUMBER(piecepick_pieces(picker, &number), pieces);
+            for (uint32_t piece = 0; piece < pieces; piece++) {
+                piecepick_digest hash = sha1(bytes_of(piece), length_of(piece));
+                SPOIL(digest);
+                EQUAL(piecepick_piece_hash(picker, piece, &digest), PIECEPICK_OK);
+                EQUAL(memcmp(digest.bytes, digests + 20 * piece, 20), 0);
+                EQUAL(memcmp(digest.bytes, hash.bytes, 20), 0);
+                NUMBER(piecepick_piece_length(picker, piece, &number), length_of(piece));
+                NUMBER(piecepick_blocks(picker, piece, &number), blocks_of(piece));
+                NUMBER(piecepick_level(picker, piece, &number), 4);
+                NUMBER(piecepick_is_had(picker, piece, &number), 0);
+                NUMBER(piecepick_is_waiting(picker, piece, &number), 0);
+                NUMBER(piecepick_availability(picker, piece, &number), 0);
+            }
+            NUMBER(piecepick_is_complete(picker, &number), 0);
+            NUMBER(piecepick_has_wanted(picker, &number), 0);
+            NUMBER(piecepick_is_in_order(picker, &number), 0);
+            piecepick_close(&picker);
+        }
+    told("what the torrent is, of a file and of parts");
+}
+
+/* Each number has a text of its own, and others have none. */
+static void try_texts(void)
+{
+    const char *texts[128];
+    size_t count = 0;
+    for (int status = 0; status < 128; status++) {
+        const int is_one = status <= 20 || (status > 100 && status <= 110);
+        const char *text = piecepick_status_text((piecepick_status)status);
+        EQUAL(strcmp(text, "no status of this interface") == 0, !is_one);
+        if (is_one) texts[count++] = text;
+    }
+    for (int kind = 0; kind < 16; kind++) texts[count++] = piecepick_kind_text((piecepick_kind)kind);
+    EQUAL(count, 31 + 16);
+    for (size_t at = 0; at < count; at++)
+        for (size_t other = 0; other < at; other++) EQUAL(strcmp(texts[at], texts[other]) == 0, 0);
+    for (int reason = 0; reason < 16; reason++)
+        EQUAL(strcmp(piecepick_reason_text((piecepick_reason)reason), "no reason of this interface") == 0, reason > 12);
+    told("texts");
+}
+
+/* ---- The same cause has the same status at each call. */
+
+typedef piecepick_status by_number(piecepick_picker *picker, uint32_t at, piecepick_answer *answer);
+typedef piecepick_status by_flags(piecepick_picker *picker, const uint8_t *flags, size_t flags_len, piecepick_answer *answer);
+
+#define BY_NUMBER(name, call) \
+    static piecepick_status name(piecepick_picker *picker, uint32_t at, piecepick_answer *answer) { return call; }
+BY_NUMBER(bits_of, piecepick_bits(picker, at, all, flags_len, answer))
+BY_NUMBER(haves_of, piecepick_haves(picker, at, all, flags_len, answer))
+BY_NUMBER(have_of, piecepick_have(picker, at, 0, answer))
+BY_NUMBER(arrived_of, piecepick_arrived(picker, at, 0, 0, content, BLOCK, answer))
+BY_NUMBER(release_of, piecepick_release(picker, at, 0, 0, answer))
+BY_NUMBER(depth_of, piecepick_depth(picker, at, 7, answer))
+BY_NUMBER(next_of, piecepick_next(picker, at, 1, answer))
+BY_NUMBER(outstanding_of, piecepick_outstanding_at(picker, at, 0, answer))
+BY_NUMBER(have_at, piecepick_have(picker, 0, at, answer))
+BY_NUMBER(arrived_at, piecepick_arrived(picker, 0, at, 0, content, BLOCK, answer))
+BY_NUMBER(release_at, piecepick_release(picker, 0, at, 0, answer))
+BY_NUMBER(level_at, piecepick_set_level(picker, at, 4, answer))
+#define BY_FLAGS(name, call) \
+    static piecepick_status name(piecepick_picker *picker, const uint8_t *flags, size_t len, piecepick_answer *answer) { return call; }
+BY_FLAGS(bits_by, piecepick_bits(picker, 0, flags, len, answer))
+BY_FLAGS(haves_by, piecepick_haves(picker, 0, flags, len, answer))
+
+static piecepick_status restore_piece(piecepick_picker *picker, uint32_t worker, uint32_t piece, uint32_t of, piecepick_answer *answer)
+{
+    piecepick_digest digest = sha1(bytes_of(of), length_of(of));
+    return piecepick_restore(picker, worker, piece, bytes_of(of), length_of(of), &digest, answer);
+}
+BY_NUMBER(restore_of, restore_piece(picker, at, 0, 0, answer))
+BY_NUMBER(restore_at, restore_piece(picker, 0, at, 0, answer))
+static piecepick_status settle_at(piecepick_picker *picker, uint32_t piece, piecepick_answer *answer)
+{
+    piecepick_digest digest = sha1(content, length_of(0));
+    return piecepick_settle(picker, piece, &digest, answer);
+}
+
+/* The first are refused where no peer has joined. `join` isn't, and of the last one asks only. */
+static by_number *const AT_WORKER[] = {
+    piecepick_leave, piecepick_choke, piecepick_unchoke, bits_of, haves_of, have_of, arrived_of, release_of, depth_of, next_of,
+    piecepick_join, outstanding_of,
+};
+enum { NEED_A_PEER = 10, AT_WORKERS = 12 };
+static by_number *const AT_PIECE[] = {have_at, arrived_at, release_at, level_at};
+static by_flags *const WITH_FLAGS[] = {bits_by, haves_by, piecepick_want};
+
+static void no_worker(piecepick_picker *picker, uint32_t keeps, uint32_t worker)
 {
     piecepick_answer answer;
     uint32_t number;
-    AGAIN(piecepick_outstanding(desk, worker, &number));
-    AGAIN(piecepick_outstanding_at(desk, worker, 0, &answer));
-    if (number != 1 || memcmp(&answer, request, sizeof answer) != 0) fail("outstanding", number);
+    for (size_t at = 0; at < AT_WORKERS; at++) NO_ANSWER(AT_WORKER[at](picker, worker, &answer), PIECEPICK_E_WORKER);
+    NO_NUMBER(piecepick_outstanding(picker, worker, &number), PIECEPICK_E_WORKER);
+    NO_ANSWER(restore_of(picker, worker, &answer), keeps == PIECEPICK_KEEPS_NOTHING ? PIECEPICK_E_WORKER : PIECEPICK_E_KEEPS);
+    /* The worker comes before the piece and the flags. */
+    NO_ANSWER(piecepick_have(picker, worker, pieces, &answer), PIECEPICK_E_WORKER);
+    NO_ANSWER(piecepick_bits(picker, worker, all, 0, &answer), PIECEPICK_E_WORKER);
+}
+
+static void no_piece(piecepick_picker *picker, uint32_t keeps, uint32_t piece)
+{
+    const int is_journal = keeps == PIECEPICK_KEEPS_JOURNAL, is_nothing = keeps == PIECEPICK_KEEPS_NOTHING;
+    piecepick_job *job = NULL;
+    piecepick_answer answer;
+    piecepick_digest digest;
+    piecepick_status status;
+    uint32_t number;
+    for (size_t at = 0; at < sizeof AT_PIECE / sizeof *AT_PIECE; at++) NO_ANSWER(AT_PIECE[at](picker, piece, &answer), PIECEPICK_E_PIECE);
+    NO_NUMBER(piecepick_is_had(picker, piece, &number), PIECEPICK_E_PIECE);
+    NO_NUMBER(piecepick_is_waiting(picker, piece, &number), PIECEPICK_E_PIECE);
+    NO_NUMBER(piecepick_level(picker, piece, &number), PIECEPICK_E_PIECE);
+    NO_NUMBER(piecepick_availability(picker, piece, &number), PIECEPICK_E_PIECE);
+    NO_NUMBER(piecepick_piece_length(picker, piece, &number), PIECEPICK_E_PIECE);
+    NO_NUMBER(piecepick_blocks(picker, piece, &number), PIECEPICK_E_PIECE);
+    NO_NUMBER(piecepick_sender(picker, piece, 0, &number), PIECEPICK_E_PIECE);
+    NO_NUMBER(piecepick_sender(picker, piece, MORE, &number), PIECEPICK_E_PIECE);
+    SPOIL(digest);
+    EQUAL(piecepick_piece_hash(picker, piece, &digest), PIECEPICK_E_PIECE);
+    EQUAL(digest.bytes[0] == 0xa5 && digest.bytes[19] == 0xa5, 1);
+    NO_ANSWER(settle_at(picker, piece, &answer), is_nothing ? PIECEPICK_E_PIECE : PIECEPICK_E_KEEPS);
+    NO_ANSWER(restore_at(picker, piece, &answer), is_nothing ? PIECEPICK_E_PIECE : PIECEPICK_E_KEEPS);
+    NO_ANSWER(piecepick_settle_now(picker, piece, &answer), is_journal ? PIECEPICK_E_PIECE : PIECEPICK_E_KEEPS);
+    EQUAL(piecepick_read(picker, piece, room, PIECE), is_journal ? PIECEPICK_E_PIECE : PIECEPICK_E_KEEPS);
+    /* Where nothing is kept there are two causes, of which the contract doesn't say which comes first at this call. */
+    status = piecepick_job_take(picker, piece, &job);
+    EQUAL(status == PIECEPICK_E_PIECE || (is_nothing && status == PIECEPICK_E_KEEPS), 1);
+    EQUAL(job == NULL, 1);
+}
+
+static void try_statuses(uint32_t keeps)
+{
+    const int is_journal = keeps == PIECEPICK_KEEPS_JOURNAL, is_nothing = keeps == PIECEPICK_KEEPS_NOTHING;
+    piecepick_picker *picker = open_for(keeps, 3);
+    piecepick_job *job = NULL;
+    piecepick_answer answer;
+    uint32_t number;
+    uint8_t spare[MOST_PIECES / 8];
+    uint64_t before;
+    EQUAL(pieces % 8 != 0, 1);
+    come(picker, 0);
+    SPOIL(answer);
+    EQUAL(piecepick_next(picker, 0, 1, &answer), PIECEPICK_OK);
+    EQUAL(answer.kind, PIECEPICK_K_REQUEST);
+    before = picture(picker);
+    no_worker(picker, keeps, 3);
+    no_worker(picker, keeps, 1024);
+    no_worker(picker, keeps, MORE);
+    no_piece(picker, keeps, pieces);
+    no_piece(picker, keeps, MORE);
+    memcpy(spare, all, flags_len);
+    spare[flags_len - 1] |= 1;
+    for (size_t at = 0; at < sizeof WITH_FLAGS / sizeof *WITH_FLAGS; at++) {
+        NO_ANSWER(WITH_FLAGS[at](picker, all, 0, &answer), PIECEPICK_E_BITS_LENGTH);
+        NO_ANSWER(WITH_FLAGS[at](picker, all, flags_len - 1, &answer), PIECEPICK_E_BITS_LENGTH);
+        NO_ANSWER(WITH_FLAGS[at](picker, all, flags_len + 1, &answer), PIECEPICK_E_BITS_LENGTH);
+        NO_ANSWER(WITH_FLAGS[at](picker, spare, flags_len, &answer), PIECEPICK_E_SPARE_BITS);
+    }
+    /* Where no peer has joined. */
+    for (size_t at = 0; at < NEED_A_PEER; at++) REFUSED(AT_WORKER[at](picker, 1, &answer), PIECEPICK_R_NOT_JOINED);
+    if (is_nothing) REFUSED(restore_of(picker, 1, &answer), PIECEPICK_R_NOT_JOINED);
+    else NO_ANSWER(restore_of(picker, 1, &answer), PIECEPICK_E_KEEPS);
+    NUMBER(piecepick_outstanding(picker, 1, &number), 0);
+    NO_ANSWER(piecepick_outstanding_at(picker, 1, 0, &answer), PIECEPICK_E_PLACE);
+    NO_ANSWER(piecepick_outstanding_at(picker, 0, 1, &answer), PIECEPICK_E_PLACE);
+    NO_ANSWER(piecepick_outstanding_at(picker, 0, MORE, &answer), PIECEPICK_E_PLACE);
+    /* A piece that isn't full, and a block that isn't there. */
+    NO_ANSWER(settle_at(picker, 1, &answer), is_nothing ? PIECEPICK_E_NOT_WAITING : PIECEPICK_E_KEEPS);
+    NO_ANSWER(piecepick_settle_now(picker, 1, &answer), is_journal ? PIECEPICK_E_NOT_WAITING : PIECEPICK_E_KEEPS);
+    EQUAL(piecepick_job_take(picker, 1, &job), is_nothing ? PIECEPICK_E_KEEPS : PIECEPICK_E_NOT_WAITING);
+    EQUAL(job == NULL, 1);
+    EQUAL(piecepick_read(picker, 1, room, PIECE), is_journal ? PIECEPICK_E_NOT_HAD : PIECEPICK_E_KEEPS);
+    EQUAL(piecepick_audit(picker), is_journal ? PIECEPICK_OK : PIECEPICK_E_KEEPS);
+    NO_NUMBER(piecepick_sender(picker, 1, 0, &number), PIECEPICK_E_NOT_HELD);
+    NO_NUMBER(piecepick_sender(picker, 1, blocks_of(1), &number), PIECEPICK_E_BLOCK);
+    NO_NUMBER(piecepick_sender(picker, pieces - 1, blocks_of(pieces - 1), &number), PIECEPICK_E_BLOCK);
+    NO_NUMBER(piecepick_sender(picker, 1, MORE, &number), PIECEPICK_E_BLOCK);
+    EQUAL(piecepick_hash4(content, 0, content, 0, content, 0, content, 0, room, 79), PIECEPICK_E_LENGTH);
+    EQUAL(piecepick_hash4(content, 0, content, 0, content, 0, content, 0, room, 81), PIECEPICK_E_LENGTH);
+    /* Refusals change nothing either. */
+    REFUSED(piecepick_join(picker, 0, &answer), PIECEPICK_R_ALREADY_JOINED);
+    REFUSED(piecepick_bits(picker, 0, all, flags_len, &answer), PIECEPICK_R_LATE_BITS);
+    REFUSED(piecepick_depth(picker, 0, 0, &answer), PIECEPICK_R_WRONG_DEPTH);
+    REFUSED(piecepick_depth(picker, 0, 501, &answer), PIECEPICK_R_WRONG_DEPTH);
+    REFUSED(piecepick_depth(picker, 0, MORE, &answer), PIECEPICK_R_WRONG_DEPTH);
+    REFUSED(piecepick_set_level(picker, 0, 8, &answer), PIECEPICK_R_WRONG_LEVEL);
+    REFUSED(piecepick_set_level(picker, 0, 260, &answer), PIECEPICK_R_WRONG_LEVEL);
+    REFUSED(piecepick_set_level(picker, 0, MORE, &answer), PIECEPICK_R_WRONG_LEVEL);
+    REFUSED(piecepick_set_levels(picker, none, pieces - 1, &answer), PIECEPICK_R_WRONG_COUNT);
+    REFUSED(piecepick_set_levels(picker, none, pieces + 1, &answer), PIECEPICK_R_WRONG_COUNT);
+    REFUSED(piecepick_set_levels(picker, none, 0, &answer), PIECEPICK_R_WRONG_COUNT);
+    REFUSED(piecepick_arrived(picker, 0, 1, 1, content, BLOCK, &answer), PIECEPICK_R_NO_SUCH_BLOCK);
+    REFUSED(piecepick_arrived(picker, 0, 1, PIECE, content, BLOCK, &answer), PIECEPICK_R_NO_SUCH_BLOCK);
+    REFUSED(piecepick_arrived(picker, 0, 1, MORE, content, BLOCK, &answer), PIECEPICK_R_NO_SUCH_BLOCK);
+    REFUSED(piecepick_arrived(picker, 0, 1, 0, content, BLOCK - 1, &answer), PIECEPICK_R_WRONG_LENGTH);
+    REFUSED(piecepick_arrived(picker, 0, 1, 0, content, BLOCK + 1, &answer), PIECEPICK_R_WRONG_LENGTH);
+    REFUSED(piecepick_arrived(picker, 0, 1, 0, content, 0, &answer), PIECEPICK_R_WRONG_LENGTH);
+    REFUSED(piecepick_arrived(picker, 0, pieces - 1, 0, content, BLOCK, &answer), PIECEPICK_R_WRONG_LENGTH);
+    REFUSED(piecepick_release(picker, 0, 0, 1, &answer), PIECEPICK_R_NOT_ASKED);
+    REFUSED(piecepick_release(picker, 0, 0, MORE, &answer), PIECEPICK_R_NOT_ASKED);
+    EQUAL(picture(picker), before);
+    if (is_journal) EQUAL(piecepick_audit(picker), PIECEPICK_OK);
+    piecepick_close(&picker);
+}
+
+/* ---- What comes on the wire, and what is asked. */
+
+static void try_wire(uint32_t keeps)
+{
+    piecepick_picker *picker = open_for(keeps, 2);
+    piecepick_answer answer, request[3];
+    uint32_t number;
+    GETS(piecepick_join(picker, 0, &answer), PIECEPICK_K_JOINED);
+    GETS(piecepick_next(picker, 0, 0, &answer), PIECEPICK_K_CHOKED);
+    QUIET(piecepick_unchoke(picker, 0, &answer));
+    GETS(piecepick_next(picker, 0, 0, &answer), PIECEPICK_K_NOTHING_LEFT);
+    REFUSED(piecepick_bits(picker, 0, all, flags_len, &answer), PIECEPICK_R_LATE_BITS);
+    NOTED(piecepick_haves(picker, 0, none, flags_len, &answer), 0);
+    NOTED(piecepick_haves(picker, 0, all, flags_len, &answer), 1);
+    NOTED(piecepick_haves(picker, 0, none, flags_len, &answer), 1); /* what it had before stays */
+    /* The other peer. */
+    GETS(piecepick_join(picker, 1, &answer), PIECEPICK_K_JOINED);
+    NOTED(piecepick_bits(picker, 1, none, flags_len, &answer), 0);
+    NOTED(piecepick_have(picker, 1, 2, &answer), 1);
+    NUMBER(piecepick_availability(picker, 2, &number), 2);
+    NUMBER(piecepick_availability(picker, 1, &number), 1);
+    QUIET(piecepick_leave(picker, 1, &answer));
+    NUMBER(piecepick_availability(picker, 2, &number), 1);
+    /* Five blocks at a time: each is told once more by its place, until it comes or is given up. */
+    for (uint32_t place = 0; place < 5; place++) {
+        SPOIL(answer);
+        EQUAL(piecepick_next(picker, 0, place, &answer), PIECEPICK_OK);
+        EQUAL(answer.kind, PIECEPICK_K_REQUEST);
+        is_block(__LINE__, "next", &answer, PIECEPICK_K_REQUEST, answer.piece, answer.begin);
+        if (place < 3) request[place] = answer;
+        NUMBER(piecepick_outstanding(picker, 0, &number), place + 1);
+        for (uint32_t before = 0; before <= place && before < 3; before++)
+            BLOCKS(piecepick_outstanding_at(picker, 0, before, &answer), PIECEPICK_K_REQUEST, request[before].piece, request[before].begin);
+    }
+    GETS(piecepick_next(picker, 0, 5, &answer), PIECEPICK_K_PIPE_FULL);
+    QUIET(piecepick_release(picker, 0, request[1].piece, request[1].begin, &answer));
+    REFUSED(piecepick_release(picker, 0, request[1].piece, request[1].begin, &answer), PIECEPICK_R_NOT_ASKED);
+    NUMBER(piecepick_outstanding(picker, 0, &number), 4);
+    BLOCKS(piecepick_outstanding_at(picker, 0, 1, &answer), PIECEPICK_K_REQUEST, request[2].piece, request[2].begin);
+    EQUAL(piecepick_next(picker, 0, 6, &answer), PIECEPICK_OK);
+    EQUAL(answer.kind, PIECEPICK_K_REQUEST);
+    /* A block that nobody was asked for is kept too; what is told of it goes by what is held. */
+    EQUAL(bring(picker, 0, request[0].piece, request[0].begin, 0) != PIECEPICK_K_DROPPED, 1);
+    EQUAL(bring(picker, 0, request[0].piece, request[0].begin, 0), PIECEPICK_K_DROPPED);
+    NUMBER(piecepick_outstanding(picker, 0, &number), 4);
+    /* A choke ends what is asked; a depth that was told lasts until the next peer joins. */
+    QUIET(piecepick_depth(picker, 0, 2, &answer));
+    NUMBER(piecepick_outstanding(picker, 0, &number), 4);
+    GETS(piecepick_next(picker, 0, 7, &answer), PIECEPICK_K_PIPE_FULL);
+    QUIET(piecepick_choke(picker, 0, &answer));
+    NUMBER(piecepick_outstanding(picker, 0, &number), 0);
+    GETS(piecepick_next(picker, 0, 8, &answer), PIECEPICK_K_CHOKED);
+    QUIET(piecepick_unchoke(picker, 0, &answer));
+    for (uint32_t depth = 0; depth < 2; depth++) {
+        EQUAL(piecepick_next(picker, 0, depth, &answer), PIECEPICK_OK);
+        EQUAL(answer.kind, PIECEPICK_K_REQUEST);
+    }
+    GETS(piecepick_next(picker, 0, 9, &answer), PIECEPICK_K_PIPE_FULL);
+    QUIET(piecepick_leave(picker, 0, &answer));
+    come(picker, 0);
+    for (uint32_t depth = 0; depth < 5; depth++) {
+        EQUAL(piecepick_next(picker, 0, depth, &answer), PIECEPICK_OK);
+        EQUAL(answer.kind, PIECEPICK_K_REQUEST);
+    }
+    GETS(piecepick_next(picker, 0, 10, &answer), PIECEPICK_K_PIPE_FULL);
+    if (keeps == PIECEPICK_KEEPS_JOURNAL) EQUAL(piecepick_audit(picker), PIECEPICK_OK);
+    piecepick_close(&picker);
+}
+
+/* Pieces on their way to being had, and what is wanted. */
+static void try_pieces(uint32_t keeps)
+{
+    piecepick_picker *picker = open_for(keeps, 2);
+    piecepick_answer answer;
+    uint32_t number;
+    uint8_t third[MOST_PIECES / 8] = {0x20};
+    QUIET(piecepick_want(picker, third, flags_len, &answer));
+    for (uint32_t piece = 0; piece < pieces; piece++) NUMBER(piecepick_level(picker, piece, &number), piece == 2 ? 4 : 0);
+    come(picker, 0);
+    /* A piece that isn't wanted isn't asked for. */
+    for (uint32_t index = 0; index < 2; index++) {
+        EQUAL(piecepick_next(picker, 0, 9, &answer), PIECEPICK_OK);
+        is_block(__LINE__, "next", &answer, PIECEPICK_K_REQUEST, 2, answer.begin);
+    }
+    GETS(piecepick_next(picker, 0, 9, &answer), PIECEPICK_K_IDLE);
+    EQUAL(bring(picker, 0, 2, 0, 0), PIECEPICK_K_STORED);
+    NUMBER(piecepick_is_waiting(picker, 2, &number), 0);
+    EQUAL(bring(picker, 0, 2, BLOCK, 1), PIECEPICK_K_COMPLETED);
+    NUMBER(piecepick_is_waiting(picker, 2, &number), 1);
+    NUMBER(piecepick_is_had(picker, 2, &number), 0);
+    GETS(piecepick_next(picker, 0, 9, &answer), PIECEPICK_K_IDLE); /* a full piece isn't had yet */
+    EQUAL(settle(picker, keeps, 2, 1), PIECEPICK_K_FAILED);
+    NUMBER(piecepick_is_waiting(picker, 2, &number), 0);
+    NUMBER(piecepick_is_had(picker, 2, &number), 0);
+    EQUAL(bring_whole(picker, keeps, 0, 2), PIECEPICK_K_HAD);
+    NUMBER(piecepick_is_waiting(picker, 2, &number), 0);
+    NUMBER(piecepick_is_had(picker, 2, &number), 1);
+    NUMBER(piecepick_has_wanted(picker, &number), 1);
+    NUMBER(piecepick_is_complete(picker, &number), 0);
+    GETS(piecepick_next(picker, 0, 9, &answer), PIECEPICK_K_NOTHING_LEFT);
+    EQUAL(bring(picker, 0, 2, 0, 0), PIECEPICK_K_DROPPED);
+    /* A piece that isn't wanted comes all the same. */
+    EQUAL(bring_whole(picker, keeps, 0, pieces - 1), PIECEPICK_K_HAD);
+    QUIET(piecepick_want(picker, all, flags_len, &answer));
+    NUMBER(piecepick_has_wanted(picker, &number), 0);
+    for (uint32_t piece = 0; piece < pieces; piece++)
+        if (piece != 2 && piece != pieces - 1) EQUAL(bring_whole(picker, keeps, 0, piece), PIECEPICK_K_HAD);
+    NUMBER(piecepick_has_wanted(picker, &number), 1);
+    NUMBER(piecepick_is_complete(picker, &number), 1);
+    NOTED(piecepick_have(picker, 0, 1, &answer), 0);
+    GETS(piecepick_next(picker, 0, 9, &answer), PIECEPICK_K_NOTHING_LEFT);
+    if (keeps == PIECEPICK_KEEPS_JOURNAL) EQUAL(piecepick_audit(picker), PIECEPICK_OK);
+    piecepick_close(&picker);
+}
+
+/* Levels, and the order of pieces of one level. */
+static void try_levels(uint32_t keeps)
+{
+    piecepick_picker *picker = open_for(keeps, 2);
+    piecepick_answer answer;
+    uint32_t number;
+    uint8_t levels[MOST_PIECES];
+    memset(levels, 4, sizeof levels);
+    levels[2] = 7;
+    QUIET(piecepick_set_levels(picker, levels, pieces, &answer));
+    NUMBER(piecepick_level(picker, 2, &number), 7);
+    levels[3] = 8;
+    REFUSED(piecepick_set_levels(picker, levels, pieces, &answer), PIECEPICK_R_WRONG_LEVEL);
+    QUIET(piecepick_set_level(picker, 0, 0, &answer));
+    NUMBER(piecepick_level(picker, 0, &number), 0);
+    QUIET(piecepick_set_in_order(picker, 1, &answer));
+    NUMBER(piecepick_is_in_order(picker, &number), 1);
+    come(picker, 0);
+    BLOCKS(piecepick_next(picker, 0, 0, &answer), PIECEPICK_K_REQUEST, 2, 0);
+    BLOCKS(piecepick_next(picker, 0, 0, &answer), PIECEPICK_K_REQUEST, 2, BLOCK);
+    BLOCKS(piecepick_next(picker, 0, 0, &answer), PIECEPICK_K_REQUEST, 1, 0);
+    QUIET(piecepick_set_level(picker, 0, 4, &answer));
+    BLOCKS(piecepick_next(picker, 0, 0, &answer), PIECEPICK_K_REQUEST, 0, 0);
+    QUIET(piecepick_set_in_order(picker, 7, &answer)); /* any number but 0 */
+    NUMBER(piecepick_is_in_order(picker, &number), 1);
+    QUIET(piecepick_set_in_order(picker, 0, &answer));
+    NUMBER(piecepick_is_in_order(picker, &number), 0);
+    EQUAL(piecepick_next(picker, 0, 0, &answer), PIECEPICK_OK); /* a piece that has begun comes first: 0 or 1 */
+    EQUAL(answer.kind, PIECEPICK_K_REQUEST);
+    EQUAL(answer.piece < 2 && answer.begin == BLOCK, 1);
+    if (keeps == PIECEPICK_KEEPS_JOURNAL) EQUAL(piecepick_audit(picker), PIECEPICK_OK);
+    piecepick_close(&picker);
+}
+
+/* Depths that may be told, and as many requests. The torrent has a thousand blocks, and is never downloaded. */
+static const struct { uint32_t deepest, depth; int is_refused; } DEPTHS[] = {
+    {500, 500, 0}, {500, 501, 1}, {500, 1, 0}, {500, 0, 1}, {500, MORE, 1}, {1, 1, 0}, {1, 2, 1}, {1, 64, 1}, {64, 64, 0},
+    {64, 65, 1}, {65, 65, 0}, {65, 66, 1}, {4096, 900, 0}, {4096, 4096, 0}, {4096, 4097, 1},
+};
+
+static void try_depths(uint32_t keeps)
+{
+    for (size_t at = 0; at < sizeof DEPTHS / sizeof *DEPTHS; at++) {
+        piecepick_options options = PIECEPICK_OPTIONS;
+        piecepick_picker *picker = NULL;
+        piecepick_answer answer;
+        uint32_t asked = 0, wanted = DEPTHS[at].is_refused ? options.depth : DEPTHS[at].depth, number;
+        const uint8_t every[2] = {0xff, 0xc0};
+        options.keeps = keeps;
+        options.workers = 1;
+        options.deepest = DEPTHS[at].deepest;
+        EQUAL(piecepick_open_parts(&picker, 100 * BLOCK, 1000 * BLOCK, content, 200, &options), PIECEPICK_OK);
+        GETS(piecepick_join(picker, 0, &answer), PIECEPICK_K_JOINED);
+        NOTED(piecepick_bits(picker, 0, every, sizeof every, &answer), 1);
+        QUIET(piecepick_unchoke(picker, 0, &answer));
+        if (DEPTHS[at].is_refused) REFUSED(piecepick_depth(picker, 0, DEPTHS[at].depth, &answer), PIECEPICK_R_WRONG_DEPTH);
+        else QUIET(piecepick_depth(picker, 0, DEPTHS[at].depth, &answer));
+        for (;;) {
+            SPOIL(answer);
+            EQUAL(piecepick_next(picker, 0, asked, &answer), PIECEPICK_OK);
+            if (answer.kind != PIECEPICK_K_REQUEST) break;
+            asked++;
+        }
+        EQUAL(answer.kind, wanted > 1000 ? PIECEPICK_K_IDLE : PIECEPICK_K_PIPE_FULL);
+        EQUAL(asked, wanted > 1000 ? 1000 : wanted);
+        NUMBER(piecepick_outstanding(picker, 0, &number), asked);
+        if (keeps == PIECEPICK_KEEPS_JOURNAL && asked < 100) EQUAL(piecepick_audit(picker), PIECEPICK_OK);
+        piecepick_close(&picker);
+    }
+}
+
+/* In endgame a block is asked of no more peers than the bound says; the first that brings it has cancels sent to the others. */
+static uint32_t asks_all(piecepick_picker *picker, uint32_t worker, piecepick_kind last)
+{
+    piecepick_answer answer;
+    uint32_t asked = 0;
+    for (;;) {
+        SPOIL(answer);
+        EQUAL(piecepick_next(picker, worker, 3, &answer), PIECEPICK_OK);
+        if (answer.kind != PIECEPICK_K_REQUEST) break;
+        asked++;
+    }
+    EQUAL(answer.kind, last);
+    return asked;
+}
+
+static void try_endgame(uint32_t keeps)
+{
+    static const uint32_t BOUNDS[] = {1, 2, 3, 1024};
+    for (size_t at = 0; at < sizeof BOUNDS / sizeof *BOUNDS; at++) {
+        piecepick_options options = PIECEPICK_OPTIONS;
+        piecepick_answer answer, block;
+        piecepick_picker *picker;
+        uint32_t blocks = 0;
+        for (uint32_t piece = 0; piece < pieces; piece++) blocks += blocks_of(piece);
+        options.keeps = keeps;
+        options.workers = 3;
+        options.depth = 64;
+        options.askers = BOUNDS[at];
+        picker = open_by(&options);
+        for (uint32_t worker = 0; worker < 3; worker++) come(picker, worker);
+        for (uint32_t worker = 0; worker < 3; worker++)
+            EQUAL(asks_all(picker, worker, PIECEPICK_K_IDLE), worker < BOUNDS[at] ? blocks : 0);
+        if (BOUNDS[at] == 2) {
+            EQUAL(piecepick_outstanding_at(picker, 1, 0, &block), PIECEPICK_OK);
+            EQUAL(bring(picker, 1, block.piece, block.begin, 0) == PIECEPICK_K_DROPPED, 0);
+            BLOCKS(piecepick_next(picker, 0, 3, &answer), PIECEPICK_K_CANCEL, block.piece, block.begin);
+            GETS(piecepick_next(picker, 0, 3, &answer), PIECEPICK_K_IDLE); /* once */
+            GETS(piecepick_next(picker, 2, 3, &answer), PIECEPICK_K_IDLE);
+            QUIET(piecepick_choke(picker, 0, &answer));
+            EQUAL(asks_all(picker, 2, PIECEPICK_K_IDLE), blocks - 1);
+            EQUAL(asks_all(picker, 1, PIECEPICK_K_IDLE), 0);
+        }
+        if (keeps == PIECEPICK_KEEPS_JOURNAL) EQUAL(piecepick_audit(picker), PIECEPICK_OK);
+        piecepick_close(&picker);
+    }
+}
+
+/* ---- When a peer is worth another question. */
+
+static uint64_t epoch(piecepick_picker *picker)
+{
+    uint64_t number;
+    SPOIL(number);
+    EQUAL(piecepick_epoch(picker, &number), PIECEPICK_OK);
+    return number;
+}
+
+#define STAYS(step) do { uint64_t stays_at = epoch(picker); step; EQUAL(epoch(picker) == stays_at, 1); } while (0)
+#define RISES(step) do { uint64_t rises_from = epoch(picker); step; EQUAL(epoch(picker) > rises_from, 1); } while (0)
+
+static void try_epochs(uint32_t keeps)
+{
+    piecepick_picker *picker = open_for(keeps, 3);
+    piecepick_answer answer;
+    uint32_t piece, begin, number;
+    uint8_t levels[MOST_PIECES];
+    memset(levels, 4, sizeof levels);
+    EQUAL(epoch(picker), 0);
+    RISES(GETS(piecepick_join(picker, 0, &answer), PIECEPICK_K_JOINED));
+    RISES(GETS(piecepick_join(picker, 1, &answer), PIECEPICK_K_JOINED));
+    /* What a peer's own worker tells gives another answer to that peer alone. */
+    STAYS(NOTED(piecepick_have(picker, 0, 0, &answer), 1));
+    STAYS(NOTED(piecepick_bits(picker, 1, none, flags_len, &answer), 0));
+    STAYS(NOTED(piecepick_have(picker, 1, 0, &answer), 1));
+    STAYS(NOTED(piecepick_haves(picker, 1, none, flags_len, &answer), 1));
+    STAYS(QUIET(piecepick_unchoke(picker, 0, &answer)));
+    STAYS(QUIET(piecepick_unchoke(picker, 1, &answer)));
+    STAYS(QUIET(piecepick_depth(picker, 0, 64, &answer)));
+    STAYS(QUIET(piecepick_set_in_order(picker, 1, &answer)));
+    STAYS(QUIET(piecepick_set_in_order(picker, 0, &answer)));
+    /* Two blocks of piece 0 are asked of the first peer, so the second one has nothing. */
+    for (uint32_t index = 0; index < 2; index++) {
+        STAYS(EQUAL(piecepick_next(picker, 0, 1, &answer), PIECEPICK_OK));
+        EQUAL(answer.kind, PIECEPICK_K_REQUEST);
+        EQUAL(answer.piece, 0);
+    }
+    STAYS(GETS(piecepick_next(picker, 1, 1, &answer), PIECEPICK_K_IDLE));
+    STAYS(GETS(piecepick_next(picker, 0, 1, &answer), PIECEPICK_K_IDLE));
+    STAYS(NOTED(piecepick_have(picker, 0, 1, &answer), 1));
+    STAYS(NOTED(piecepick_have(picker, 0, 2, &answer), 1));
+    STAYS(GETS(piecepick_next(picker, 1, 1, &answer), PIECEPICK_K_IDLE));
+    /* Refusals, statuses and questions. */
+    STAYS(REFUSED(piecepick_choke(picker, 2, &answer), PIECEPICK_R_NOT_JOINED));
+    STAYS(REFUSED(piecepick_leave(picker, 2, &answer), PIECEPICK_R_NOT_JOINED));
+    STAYS(REFUSED(piecepick_join(picker, 0, &answer), PIECEPICK_R_ALREADY_JOINED));
+    STAYS(REFUSED(piecepick_release(picker, 1, 0, 0, &answer), PIECEPICK_R_NOT_ASKED));
+    STAYS(REFUSED(piecepick_set_level(picker, 0, 8, &answer), PIECEPICK_R_WRONG_LEVEL));
+    STAYS(NO_ANSWER(piecepick_choke(picker, 3, &answer), PIECEPICK_E_WORKER));
+    STAYS(NUMBER(piecepick_is_had(picker, 0, &number), 0));
+    /* A choke of the first peer frees both blocks for the second one. */
+    RISES(QUIET(piecepick_choke(picker, 0, &answer)));
+    STAYS(EQUAL(piecepick_next(picker, 1, 1, &answer), PIECEPICK_OK));
+    EQUAL(answer.kind, PIECEPICK_K_REQUEST);
+    EQUAL(answer.piece, 0);
+    begin = answer.begin;
+    /* A block that its peer alone was asked for comes; another one comes unasked. */
+    STAYS(EQUAL(bring(picker, 1, 0, begin, 0), PIECEPICK_K_STORED));
+    STAYS(EQUAL(bring(picker, 1, 0, begin, 0), PIECEPICK_K_DROPPED));
+    RISES(EQUAL(bring(picker, 1, 0, BLOCK - begin, 0), PIECEPICK_K_COMPLETED));
+    RISES(EQUAL(settle(picker, keeps, 0, 0), PIECEPICK_K_HAD));
+    GETS(piecepick_next(picker, 1, 1, &answer), PIECEPICK_K_NOTHING_LEFT);
+    /* What is wanted, and what is given up. */
+    RISES(QUIET(piecepick_want(picker, all, flags_len, &answer)));
+    RISES(QUIET(piecepick_set_level(picker, 1, 5, &answer)));
+    RISES(QUIET(piecepick_set_levels(picker, levels, pieces, &answer)));
+    STAYS(QUIET(piecepick_unchoke(picker, 0, &answer)));
+    STAYS(EQUAL(piecepick_next(picker, 0, 1, &answer), PIECEPICK_OK));
+    EQUAL(answer.kind, PIECEPICK_K_REQUEST);
+    piece = answer.piece;
+    begin = answer.begin;
+    RISES(QUIET(piecepick_release(picker, 0, piece, begin, &answer)));
+    RISES(QUIET(piecepick_leave(picker, 0, &answer)));
+    piecepick_close(&picker);
+    /* The last block that nobody was asked for is asked: the endgame begins, and another peer has something again. */
+    picker = open_for(keeps, 2);
+    come(picker, 0);
+    come(picker, 1);
+    QUIET(piecepick_depth(picker, 0, 64, &answer));
+    QUIET(piecepick_depth(picker, 1, 1, &answer));
+    for (uint32_t left = 2 * pieces - 1; left > 1; left--) STAYS(EQUAL(piecepick_next(picker, 0, left, &answer), PIECEPICK_OK));
+    RISES(EQUAL(piecepick_next(picker, 0, 0, &answer), PIECEPICK_OK));
+    EQUAL(answer.kind, PIECEPICK_K_REQUEST);
+    EQUAL(asks_all(picker, 0, PIECEPICK_K_IDLE), 0);
+    EQUAL(asks_all(picker, 1, PIECEPICK_K_PIPE_FULL), 1);
+    if (keeps == PIECEPICK_KEEPS_JOURNAL) EQUAL(piecepick_audit(picker), PIECEPICK_OK);
+    piecepick_close(&picker);
+}
+
+/* Calls at random. A peer that had nothing to be asked for has nothing while its own worker tells nothing, and the epoch stays. */
+static void try_epochs_at_random(uint32_t keeps)
+{
+    enum { PEERS = 4, STEPS = 20000 };
+    piecepick_picker *picker = NULL;
+    piecepick_answer answer;
+    uint64_t state = 1, idle_at[PEERS] = {0};
+    uint32_t complete = 1, number;
+    int is_idle[PEERS] = {0}, is_wrong[MOST_PIECES] = {0};
+    long again = 0;
+    for (long step = 0; step < STEPS; step++) {
+        if (complete) {
+            piecepick_close(&picker);
+            picker = open_for(keeps, PEERS);
+            memset(is_idle, 0, sizeof is_idle);
+        }
+        state = state * 6364136223846793005u + 1442695040888963407u;
+        uint32_t worker = (uint32_t)(state >> 33) % PEERS, piece = (uint32_t)(state >> 37) % pieces, action = (uint32_t)(state >> 45) % 64;
+        uint32_t level = (uint32_t)(state >> 52) % 8, begin = blocks_of(piece) > 1 && state >> 63 ? BLOCK : 0;
+        int wrong = 0;
+        piecepick_status status = PIECEPICK_OK;
+        const int was_idle = is_idle[worker];
+        /* A block that is given up or comes is mostly one that was asked for. */
+        EQUAL(piecepick_outstanding(picker, worker, &number), PIECEPICK_OK);
+        if (number > 0 && action != 42) {
+            EQUAL(piecepick_outstanding_at(picker, worker, piece % number, &answer), PIECEPICK_OK);
+            if ((action >= 18 && action < 20) || (action > 42 && action < 60)) {
+                piece = answer.piece;
+                begin = answer.begin;
+            }
+        } else if (action > 42 && action < 60) {
+            continue;
+        }
+        is_idle[worker] = 0;
+        if (action < 3) status = piecepick_join(picker, worker, &answer);
+        else if (action < 4) status = piecepick_leave(picker, worker, &answer);
+        else if (action < 6) status = piecepick_choke(picker, worker, &answer);
+        else if (action < 9) status = piecepick_unchoke(picker, worker, &answer);
+        else if (action < 16) status = piecepick_have(picker, worker, piece, &answer);
+        else if (action < 17) status = piecepick_haves(picker, worker, all, flags_len, &answer);
+        else if (action < 18) status = piecepick_depth(picker, worker, level + 1, &answer);
+        else if (action < 20) status = piecepick_release(picker, worker, piece, begin, &answer);
+        else if (action < 42) {
+            status = piecepick_next(picker, worker, state, &answer);
+            is_idle[worker] = answer.kind == PIECEPICK_K_IDLE || answer.kind == PIECEPICK_K_NOTHING_LEFT;
+            if (is_idle[worker]) idle_at[worker] = epoch(picker);
+        } else if (action < 60) {
+            wrong = begin + BLOCK >= length_of(piece) && level < 3;
+            uint8_t block[BLOCK];
+            uint32_t rest = length_of(piece) - begin, length = rest < BLOCK ? rest : BLOCK;
+            memcpy(block, bytes_of(piece) + begin, length);
+            block[length - 1] = (uint8_t)(block[length - 1] + wrong);
+            status = piecepick_arrived(picker, worker, piece, begin, block, length, &answer);
+            if (answer.kind == PIECEPICK_K_STORED || answer.kind == PIECEPICK_K_COMPLETED)
+                is_wrong[piece] = begin + BLOCK >= length_of(piece) ? wrong : is_wrong[piece];
+        } else {
+            is_idle[worker] = was_idle; /* told by no worker */
+            EQUAL(piecepick_is_waiting(picker, piece, &number), PIECEPICK_OK);
+            /* Some last blocks were wrong. */
+            if (number) EQUAL(settle(picker, keeps, piece, is_wrong[piece]), is_wrong[piece] ? PIECEPICK_K_FAILED : PIECEPICK_K_HAD);
+            else if (action < 61) status = piecepick_set_level(picker, piece, level, &answer);
+        }
+        EQUAL(status, PIECEPICK_OK);
+        for (uint32_t peer = 0; peer < PEERS; peer++) {
+            if (!is_idle[peer] || epoch(picker) != idle_at[peer]) continue;
+            EQUAL(piecepick_next(picker, peer, state, &answer), PIECEPICK_OK);
+            EQUAL(answer.kind == PIECEPICK_K_IDLE || answer.kind == PIECEPICK_K_NOTHING_LEFT, 1);
+            again++;
+        }
+        EQUAL(piecepick_is_complete(picker, &complete), PIECEPICK_OK);
+    }
+    EQUAL(again > 1000, 1);
+    if (keeps == PIECEPICK_KEEPS_JOURNAL) EQUAL(piecepick_audit(picker), PIECEPICK_OK);
+    piecepick_close(&picker);
+}
+
+/* ---- Who brought what. */
+
+static void try_senders(uint32_t keeps)
+{
+    piecepick_picker *picker = open_for(keeps, 4);
+    piecepick_answer answer;
+    uint32_t number;
+    come(picker, 1);
+    come(picker, 3);
+    for (int wrong = 1; wrong >= 0; wrong--) {
+        NO_NUMBER(piecepick_sender(picker, 1, 0, &number), PIECEPICK_E_NOT_HELD);
+        EQUAL(bring(picker, 1, 1, 0, 0), PIECEPICK_K_STORED);
+        NUMBER(piecepick_sender(picker, 1, 0, &number), 1);
+        NO_NUMBER(piecepick_sender(picker, 1, 1, &number), PIECEPICK_E_NOT_HELD);
+        EQUAL(bring(picker, 3, 1, 0, 0), PIECEPICK_K_DROPPED); /* the first that brings a block has sent it */
+        NUMBER(piecepick_sender(picker, 1, 0, &number), 1);
+        EQUAL(bring(picker, 3, 1, BLOCK, wrong), PIECEPICK_K_COMPLETED);
+        NUMBER(piecepick_sender(picker, 1, 0, &number), 1);
+        NUMBER(piecepick_sender(picker, 1, 1, &number), 3);
+        NO_NUMBER(piecepick_sender(picker, 1, 2, &number), PIECEPICK_E_BLOCK);
+        if (wrong) QUIET(piecepick_choke(picker, 3, &answer));
+        NUMBER(piecepick_sender(picker, 1, 1, &number), 3);
+        EQUAL(settle(picker, keeps, 1, wrong), wrong ? PIECEPICK_K_FAILED : PIECEPICK_K_HAD);
+        if (wrong) NO_NUMBER(piecepick_sender(picker, 1, 1, &number), PIECEPICK_E_NOT_HELD);
+    }
+    /* Blocks stay held, and their senders known, behind the peer's leave. */
+    EQUAL(bring(picker, 3, pieces - 1, 0, 0), PIECEPICK_K_COMPLETED);
+    EQUAL(bring(picker, 3, 0, BLOCK, 0), PIECEPICK_K_STORED);
+    QUIET(piecepick_leave(picker, 3, &answer));
+    NUMBER(piecepick_sender(picker, pieces - 1, 0, &number), 3);
+    NUMBER(piecepick_sender(picker, 0, 1, &number), 3);
+    EQUAL(settle(picker, keeps, pieces - 1, 0), PIECEPICK_K_HAD);
+    EQUAL(bring(picker, 1, 0, 0, 0), PIECEPICK_K_COMPLETED);
+    EQUAL(settle(picker, keeps, 0, 0), PIECEPICK_K_HAD);
+    piecepick_close(&picker);
+}
+
+/* ---- A start from a disk. */
+
+static void try_restores(void)
+{
+    const uint32_t disk = 1, last = pieces - 1;
+    piecepick_picker *picker = open_for(PIECEPICK_KEEPS_NOTHING, 2);
+    piecepick_answer answer;
+    piecepick_digest digest = sha1(content, length_of(0));
+    uint32_t number, at = 0;
+    uint64_t before;
+    uint8_t *sealed = (uint8_t *)mmap(NULL, PIECE, PROT_NONE, MAP_PRIVATE | MAP_ANONYMOUS, -1, 0);
+    EQUAL((void *)sealed == MAP_FAILED, 0);
+    REFUSED(restore_piece(picker, disk, 0, 0, &answer), PIECEPICK_R_NOT_JOINED);
+    GETS(piecepick_join(picker, disk, &answer), PIECEPICK_K_JOINED);
+    before = picture(picker);
+    NO_ANSWER(piecepick_restore(picker, disk, 0, content, PIECE - 1, &digest, &answer), PIECEPICK_E_LENGTH);
+    NO_ANSWER(piecepick_restore(picker, disk, 0, content, PIECE + 1, &digest, &answer), PIECEPICK_E_LENGTH);
+    NO_ANSWER(piecepick_restore(picker, disk, 0, content, 0, &digest, &answer), PIECEPICK_E_LENGTH);
+    NO_ANSWER(restore_piece(picker, disk, last, 0, &answer), PIECEPICK_E_LENGTH);
+    NO_ANSWER(restore_piece(picker, disk, 0, last, &answer), PIECEPICK_E_LENGTH);
+    NO_ANSWER(restore_piece(picker, disk, pieces, 0, &answer), PIECEPICK_E_PIECE);
+    NO_ANSWER(restore_piece(picker, 2, 0, 0, &answer), PIECEPICK_E_WORKER);
+    EQUAL(picture(picker), before);
+    /* Another piece's bytes fail, and leave the piece as it was: no block is held. The right ones are had then. */
+    GETS(restore_piece(picker, disk, 0, 1, &answer), PIECEPICK_K_FAILED);
+    NUMBER(piecepick_is_had(picker, 0, &number), 0);
+    NO_NUMBER(piecepick_sender(picker, 0, 0, &number), PIECEPICK_E_NOT_HELD);
+    GETS(restore_piece(picker, disk, 0, 0, &answer), PIECEPICK_K_HAD);
+    NUMBER(piecepick_is_had(picker, 0, &number), 1);
+    NUMBER(piecepick_sender(picker, 0, 1, &number), disk);
+    NO_ANSWER(restore_piece(picker, disk, 0, 0, &answer), PIECEPICK_E_BEGUN);
+    GETS(restore_piece(picker, disk, last, last, &answer), PIECEPICK_K_HAD);
+    /* None of the bytes is read: these can't be. */
+    digest = sha1(bytes_of(1), PIECE);
+    GETS(piecepick_restore(picker, disk, 1, sealed, PIECE, &digest, &answer), PIECEPICK_K_HAD);
+    GETS(piecepick_arrived(picker, disk, 2, 0, sealed, BLOCK, &answer), PIECEPICK_K_STORED);
+    NO_ANSWER(restore_piece(picker, disk, 2, 2, &answer), PIECEPICK_E_BEGUN);
+    /* A disk shows nothing, so it has nothing to be asked for. */
+    NUMBER(piecepick_availability(picker, 0, &number), 0);
+    /* A piece of which a block is asked. */
+    come(picker, 0);
+    SPOIL(answer);
+    while (at++ < 64) {
+        EQUAL(piecepick_next(picker, 0, at, &answer), PIECEPICK_OK);
+        if (answer.kind != PIECEPICK_K_REQUEST || answer.piece != 2) break;
+    }
+    EQUAL(answer.kind, PIECEPICK_K_REQUEST);
+    at = answer.piece;
+    NO_ANSWER(restore_piece(picker, disk, at, at, &answer), PIECEPICK_E_BEGUN);
+    /* A disk's blocks stay held, and its pieces had, behind its leave. The rest comes from the peer. */
+    QUIET(piecepick_leave(picker, disk, &answer));
+    NUMBER(piecepick_sender(picker, 2, 0, &number), disk);
+    EQUAL(bring(picker, 0, 2, BLOCK, 0), PIECEPICK_K_COMPLETED);
+    EQUAL(settle(picker, PIECEPICK_KEEPS_NOTHING, 2, 0), PIECEPICK_K_HAD);
+    for (uint32_t piece = 3; piece < last; piece++) EQUAL(bring_whole(picker, PIECEPICK_KEEPS_NOTHING, 0, piece), PIECEPICK_K_HAD);
+    NUMBER(piecepick_is_complete(picker, &number), 1);
+    piecepick_close(&picker);
+    munmap(sealed, PIECE);
+    told("restores from a disk, whose bytes can't be read");
+}
+
+/* ---- Jobs. */
+
+static piecepick_job *take(piecepick_picker *picker, uint32_t piece)
+{
+    piecepick_job *job = NULL;
+    EQUAL(piecepick_job_take(picker, piece, &job), PIECEPICK_OK);
+    EQUAL(job != NULL, 1);
+    return job;
+}
+
+/* The room gets the bytes where it has their length, and stays as it was where it hasn't. */
+static void reads(piecepick_job *job, const uint8_t *bytes, uint32_t length)
+{
+    memset(room, 0x5a, (size_t)length + 2);
+    EQUAL(piecepick_job_read(job, room, 0), PIECEPICK_E_LENGTH);
+    EQUAL(piecepick_job_read(job, room, length - 1), PIECEPICK_E_LENGTH);
+    EQUAL(piecepick_job_read(job, room, (size_t)length + 1), PIECEPICK_E_LENGTH);
+    for (uint32_t at = 0; at < length + 2; at++)
+        if (room[at] != 0x5a) fail(__LINE__, "a room of another length", at, length);
+    EQUAL(piecepick_job_read(job, room, length), PIECEPICK_OK);
+    EQUAL(memcmp(room, bytes, length), 0);
+    EQUAL(room[length], 0x5a);
+}
+
+static void try_jobs(uint32_t keeps)
+{
+    const uint32_t last = pieces - 1, length = length_of(last);
+    piecepick_picker *picker = open_for(keeps, 2), *nothing = open_for(PIECEPICK_KEEPS_NOTHING, 2);
+    piecepick_picker *another = open_for(PIECEPICK_KEEPS_BEGUN, 2);
+    piecepick_job *first, *second, *third, *same;
+    piecepick_answer answer;
+    uint8_t wrong[PIECE];
+    memcpy(wrong, bytes_of(last), length);
+    wrong[length - 1]++;
+    come(picker, 0);
+    EQUAL(bring(picker, 0, last, 0, 1), PIECEPICK_K_COMPLETED);
+    first = take(picker, last);
+    second = take(picker, last);
+    third = take(picker, last);
+    same = first;
+    EQUAL(piecepick_job_take(picker, last, &first), PIECEPICK_E_OPEN);
+    EQUAL(first == same, 1);
+    reads(first, wrong, length);
+    NO_ANSWER(piecepick_job_settle(picker, first, &answer), PIECEPICK_E_NOT_HASHED);
+    EQUAL(piecepick_job_hash(first), PIECEPICK_OK);
+    EQUAL(piecepick_job_hash(first), PIECEPICK_OK);
+    EQUAL(piecepick_job_hash(second), PIECEPICK_OK);
+    EQUAL(piecepick_job_hash(third), PIECEPICK_OK);
+    reads(first, wrong, length);
+    NO_ANSWER(piecepick_job_settle(nothing, first, &answer), PIECEPICK_E_KEEPS);
+    NO_ANSWER(piecepick_job_settle(another, first, &answer), PIECEPICK_E_NOT_WAITING);
+    GETS(piecepick_job_settle(picker, first, &answer), PIECEPICK_K_FAILED);
+    NO_ANSWER(piecepick_job_settle(picker, first, &answer), PIECEPICK_E_NOT_WAITING);
+    NO_ANSWER(piecepick_job_settle(picker, second, &answer), PIECEPICK_E_NOT_WAITING);
+    reads(second, wrong, length);
+    piecepick_job_close(&first);
+    piecepick_job_close(&first);
+    EQUAL(first == NULL, 1);
+    /* The same bytes come again: what was hashed is what is held. */
+    EQUAL(bring(picker, 0, last, 0, 1), PIECEPICK_K_COMPLETED);
+    GETS(piecepick_job_settle(picker, second, &answer), PIECEPICK_K_FAILED);
+    /* Other bytes come. */
+    EQUAL(bring(picker, 0, last, 0, 0), PIECEPICK_K_COMPLETED);
+    NO_ANSWER(piecepick_job_settle(picker, third, &answer), PIECEPICK_E_STALE);
+    first = take(picker, last);
+    EQUAL(piecepick_job_hash(first), PIECEPICK_OK);
+    GETS(piecepick_job_settle(picker, first, &answer), PIECEPICK_K_HAD);
+    NO_ANSWER(piecepick_job_settle(picker, first, &answer), PIECEPICK_E_NOT_WAITING);
+    NO_ANSWER(piecepick_job_settle(picker, third, &answer), PIECEPICK_E_NOT_WAITING);
+    reads(first, bytes_of(last), length);
+    same = NULL;
+    EQUAL(piecepick_job_take(picker, last, &same), PIECEPICK_E_NOT_WAITING);
+    /* A job outlives its picker. */
+    EQUAL(bring(picker, 0, 1, 0, 0), PIECEPICK_K_STORED);
+    EQUAL(bring(picker, 0, 1, BLOCK, 0), PIECEPICK_K_COMPLETED);
+    same = take(picker, 1);
+    if (keeps == PIECEPICK_KEEPS_JOURNAL) EQUAL(piecepick_audit(picker), PIECEPICK_OK);
+    piecepick_close(&picker);
+    EQUAL(piecepick_job_hash(same), PIECEPICK_OK);
+    reads(same, bytes_of(1), length_of(1));
+    reads(first, bytes_of(last), length);
+    piecepick_job_close(&same);
+    piecepick_job_close(&first);
+    piecepick_job_close(&second);
+    piecepick_job_close(&third);
+    piecepick_close(&nothing);
+    piecepick_close(&another);
+}
+
+/* ---- Each allocation refused in turn. */
+
+/* A call that may find no memory is made once more; any other status but OK fails. Its results were written all the same, so nothing that
+   the call is passed may come from them. */
+static long refusals;
+#define AGAIN(call)                                                                             \
+    do {                                                                                        \
+        piecepick_status again_status;                                                          \
+        while ((again_status = (call)) != PIECEPICK_OK) {                                       \
+            if (again_status != PIECEPICK_E_MEMORY) fail(__LINE__, #call, again_status, 0);     \
+            refusals++;                                                                         \
+        }                                                                                       \
+    } while (0)
+/* A call that takes none, by the header: where something, or a journal, is kept it may. */
+#define AGAIN_IF(may, call) do { if (may) AGAIN(call); else EQUAL(call, PIECEPICK_OK); } while (0)
+
+static void settle_again(piecepick_picker *picker, uint32_t keeps, uint32_t piece)
+{
+    piecepick_job *job = NULL;
+    piecepick_answer answer;
+    uint8_t *place = room + (size_t)piece * PIECE;
+    if (keeps == PIECEPICK_KEEPS_NOTHING) {
+        piecepick_digest digest = sha1(place, length_of(piece));
+        EQUAL(piecepick_settle(picker, piece, &digest, &answer), PIECEPICK_OK);
+    } else if (keeps == PIECEPICK_KEEPS_JOURNAL && piece % 2 == 0) {
+        AGAIN(piecepick_settle_now(picker, piece, &answer));
+    } else {
+        AGAIN(piecepick_job_take(picker, piece, &job));
+        AGAIN(piecepick_job_hash(job));
+        AGAIN(piecepick_job_settle(picker, job, &answer));
+        EQUAL(piecepick_job_read(job, place, length_of(piece)), PIECEPICK_OK);
+        piecepick_job_close(&job);
+    }
+    EQUAL(answer.kind, PIECEPICK_K_HAD);
 }
 
 /* Reads each piece into its place, with a byte behind it that stays as it is; a room of another length stays so too. */
-static void read_all(piecepick_desk *desk, uint32_t pieces, uint32_t piece_length)
+static void read_all(piecepick_picker *picker)
 {
-    uint32_t length;
     memset(room, 0x5a, content_len + 1);
     for (uint32_t piece = 0; piece < pieces; piece++) {
-        uint8_t *place = room + (size_t)piece * piece_length;
-        AGAIN(piecepick_piece_length(desk, piece, &length));
-        if (piecepick_read(desk, piece, place, length - 1) != PIECEPICK_ROOM) fail("a short room", piece);
-        if (piecepick_read(desk, piece, place, (size_t)length + 1) != PIECEPICK_ROOM) fail("a long room", piece);
-        if (place[0] != 0x5a || place[length] != 0x5a) fail("a room of another length", piece);
-        if (piecepick_read(desk, piece, place, length) != PIECEPICK_OK) fail("read", piece);
-        if (place[length] != 0x5a) fail("what lies behind a room", piece);
+        uint8_t *place = room + (size_t)piece * PIECE;
+        uint32_t length = length_of(piece);
+        EQUAL(piecepick_read(picker, piece, place, 0), PIECEPICK_E_LENGTH);
+        EQUAL(piecepick_read(picker, piece, place, length - 1), PIECEPICK_E_LENGTH);
+        EQUAL(piecepick_read(picker, piece, place, (size_t)length + 1), PIECEPICK_E_LENGTH);
+        EQUAL(place[0] == 0x5a && place[length] == 0x5a, 1);
+        EQUAL(piecepick_read(picker, piece, place, length), PIECEPICK_OK);
+        EQUAL(place[length], 0x5a);
     }
 }
 
-/* A whole download by two workers in one thread, every call repeated where it found no memory. */
-static void run(void)
+/* A whole download by two peers in one thread, of which a third worker's disk has a piece where nothing is kept. What comes is put into
+   the room by the caller, where that keeps it, or by the jobs. */
+static void run(uint32_t keeps)
 {
-    piecepick_desk desk = PIECEPICK_NONE;
+    const int is_journal = keeps == PIECEPICK_KEEPS_JOURNAL, is_nothing = keeps == PIECEPICK_KEEPS_NOTHING;
+    piecepick_options options = PIECEPICK_OPTIONS;
+    piecepick_picker *picker = NULL;
     piecepick_answer answer, request;
-    uint8_t flags[1 << 12], levels[1 << 12];
-    uint32_t pieces, piece_length, idle = 0;
-    AGAIN(piecepick_open(&desk, metainfo, metainfo_len, 2, 5, 1));
-    AGAIN(piecepick_pieces(&desk, &pieces));
-    AGAIN(piecepick_piece_length(&desk, 0, &piece_length));
-    all_flags(flags, pieces);
-    AGAIN(piecepick_want(&desk, 0, flags, (pieces + 7) / 8, &answer));
+    uint8_t levels[MOST_PIECES];
+    uint32_t idle = 0, number;
+    options.keeps = keeps;
+    options.workers = 3;
+    memset(room, 0, content_len);
+    AGAIN(piecepick_open(&picker, metainfo, metainfo_len, &options));
+    AGAIN(piecepick_want(picker, all, flags_len, &answer));
     memset(levels, 4, sizeof levels);
-    AGAIN(piecepick_levels(&desk, 0, levels, pieces, &answer));
-    AGAIN(piecepick_level(&desk, 0, 0, 7, &answer));
-    AGAIN(piecepick_in_order(&desk, 0, 1, &answer));
+    AGAIN_IF(is_journal, piecepick_set_levels(picker, levels, pieces, &answer));
+    AGAIN_IF(is_journal, piecepick_set_level(picker, 0, 7, &answer));
+    AGAIN_IF(is_journal, piecepick_set_in_order(picker, 1, &answer));
     for (uint32_t worker = 0; worker < 2; worker++) {
-        AGAIN(piecepick_join(&desk, worker, &answer));
-        AGAIN(piecepick_bits(&desk, worker, flags, (pieces + 7) / 8, &answer));
-        AGAIN(piecepick_unchoke(&desk, worker, &answer));
+        AGAIN_IF(!is_nothing, piecepick_join(picker, worker, &answer));
+        AGAIN(piecepick_bits(picker, worker, all, flags_len, &answer));
+        AGAIN(piecepick_haves(picker, worker, all, flags_len, &answer));
+        AGAIN_IF(!is_nothing, piecepick_have(picker, worker, 1, &answer));
+        AGAIN_IF(!is_nothing, piecepick_unchoke(picker, worker, &answer));
+        AGAIN_IF(!is_nothing, piecepick_depth(picker, worker, 7, &answer));
+    }
+    if (is_nothing) {
+        EQUAL(piecepick_join(picker, 2, &answer), PIECEPICK_OK);
+        EQUAL(restore_piece(picker, 2, 1, 1, &answer), PIECEPICK_OK);
+        EQUAL(answer.kind, PIECEPICK_K_HAD);
+        memcpy(room + PIECE, bytes_of(1), PIECE);
+        EQUAL(piecepick_leave(picker, 2, &answer), PIECEPICK_OK);
     }
     for (uint32_t worker = 0; idle < 2; worker = 1 - worker) {
-        AGAIN(piecepick_next(&desk, worker, worker * 77u, &request));
-        idle = request.kind == PIECEPICK_NOTHING_LEFT ? idle + 1 : 0;
-        if (request.kind != PIECEPICK_REQUEST) continue;
-        asked(&desk, worker, &request);
-        const uint8_t *block = content + (size_t)request.piece * piece_length + request.begin;
-        AGAIN(piecepick_arrived(&desk, worker, request.piece, request.begin, block, request.len, &answer));
-        if (answer.kind == PIECEPICK_COMPLETED) settle(&desk, worker, request.piece);
-        else if (answer.kind != PIECEPICK_STORED) fail("a block", answer.kind);
+        AGAIN_IF(!is_nothing, piecepick_next(picker, worker, worker * 77u, &request));
+        idle = request.kind == PIECEPICK_K_NOTHING_LEFT ? idle + 1 : 0;
+        if (request.kind != PIECEPICK_K_REQUEST) continue;
+        EQUAL(piecepick_outstanding(picker, worker, &number), PIECEPICK_OK);
+        EQUAL(number, 1);
+        EQUAL(piecepick_outstanding_at(picker, worker, 0, &answer), PIECEPICK_OK);
+        EQUAL(memcmp(&answer, &request, sizeof answer), 0);
+        const uint8_t *block = bytes_of(request.piece) + request.begin;
+        AGAIN_IF(!is_nothing, piecepick_arrived(picker, worker, request.piece, request.begin, block, request.length, &answer));
+        if (is_nothing) memcpy(room + (size_t)request.piece * PIECE + request.begin, block, request.length);
+        if (answer.kind == PIECEPICK_K_COMPLETED) settle_again(picker, keeps, request.piece);
+        else EQUAL(answer.kind, PIECEPICK_K_STORED);
     }
-    read_all(&desk, pieces, piece_length);
-    AGAIN(piecepick_audit(&desk));
-    if (memcmp(room, content, content_len) != 0) fail("the content", 0);
-    piecepick_close(&desk);
+    EQUAL(piecepick_is_complete(picker, &number), PIECEPICK_OK);
+    EQUAL(number, 1);
+    if (is_journal) {
+        read_all(picker);
+        AGAIN(piecepick_audit(picker));
+    }
+    EQUAL(memcmp(room, content, content_len), 0);
+    AGAIN_IF(!is_nothing, piecepick_choke(picker, 0, &answer));
+    AGAIN_IF(!is_nothing, piecepick_leave(picker, 0, &answer));
+    piecepick_close(&picker);
 }
 
-/* Each allocation is refused in turn, in a download of its own. One is the journal's room, which `open` takes where there is that much:
-   a desk does without it. */
-static void refuse_each(void)
+/* One allocation is the journal's room, which `open` takes where there is that much: a picker does without it. */
+static void refuse_each(uint32_t keeps)
 {
-    long before = made, borne = 0;
-    run();
-    long each = made - before;
+    long before = made, each, borne = 0;
+    run(keeps);
+    each = made - before;
+    refusals = 0;
     for (long place = 0; place < each; place++) {
-        long told = refusals;
+        long told_of = refusals;
         until_refusal = place;
-        run();
-        if (until_refusal >= 0 || refusals > told + 1) fail("a refusal", (uint32_t)place);
-        borne += refusals == told;
+        run(keeps);
+        if (until_refusal >= 0 || refusals > told_of + 1) fail(__LINE__, "a refusal", (uint64_t)place, (uint64_t)each);
+        borne += refusals == told_of;
     }
-    printf("%ld allocations of a download, each refused in turn: %ld statuses of no memory, each call repeated\n", each, refusals);
-    if (borne != 1) fail("refusals that no status told", (uint32_t)borne);
+    printf("    %ld allocations, each refused in turn: %ld statuses of no memory, each call made again\n", each, refusals);
+    EQUAL(borne, keeps == PIECEPICK_KEEPS_JOURNAL ? 1 : 0);
 }
+
+/* ---- Four threads under one lock. */
 
 static pthread_mutex_t lock = PTHREAD_MUTEX_INITIALIZER;
-static piecepick_desk shared = PIECEPICK_NONE;
-static uint32_t shared_pieces, shared_length;
+static piecepick_picker *shared;
+static uint32_t shared_keeps;
 
-#define LOCKED(call)                     \
-    do {                                 \
-        uint32_t locked_status;          \
-        pthread_mutex_lock(&lock);       \
-        locked_status = (call);          \
-        pthread_mutex_unlock(&lock);     \
-        if (locked_status) fail(#call, locked_status); \
+#define LOCKED(call)                                                       \
+    do {                                                                   \
+        piecepick_status locked_status;                                    \
+        pthread_mutex_lock(&lock);                                         \
+        locked_status = (call);                                            \
+        pthread_mutex_unlock(&lock);                                       \
+        if (locked_status) fail(__LINE__, #call, locked_status, 0);        \
     } while (0)
 
-/* One worker's peer: its pieces are hashed outside the lock. */
+/* A piece is hashed outside the lock: by its job, or by the caller, who keeps the content. */
+static void settle_shared(uint32_t piece)
+{
+    piecepick_answer answer;
+    uint8_t place[PIECE], four[80];
+    const uint8_t *bytes = bytes_of(piece);
+    uint32_t length = length_of(piece);
+    if (shared_keeps == PIECEPICK_KEEPS_NOTHING) {
+        piecepick_digest digest;
+        if (piecepick_hash4(bytes, length, bytes, length, bytes, length, bytes, length, four, sizeof four)) fail(__LINE__, "hash4", 1, 0);
+        memcpy(digest.bytes, four + 40, 20);
+        LOCKED(piecepick_settle(shared, piece, &digest, &answer));
+    } else {
+        piecepick_job *job = NULL;
+        LOCKED(piecepick_job_take(shared, piece, &job));
+        if (piecepick_job_hash(job)) fail(__LINE__, "hash", 1, 0);
+        LOCKED(piecepick_job_settle(shared, job, &answer));
+        if (piecepick_job_read(job, place, length)) fail(__LINE__, "read", 1, 0);
+        if (memcmp(place, bytes, length) != 0) fail(__LINE__, "bytes", 1, 0);
+        piecepick_job_close(&job);
+    }
+    if (answer.kind != PIECEPICK_K_HAD) fail(__LINE__, "a check", answer.kind, PIECEPICK_K_HAD);
+}
+
 static void *worker_thread(void *argument)
 {
     uint32_t worker = (uint32_t)(size_t)argument;
     piecepick_answer answer;
-    uint8_t flags[1 << 12];
-    all_flags(flags, shared_pieces);
-    LOCKED(piecepick_join(&shared, worker, &answer));
-    LOCKED(piecepick_bits(&shared, worker, flags, (shared_pieces + 7) / 8, &answer));
-    LOCKED(piecepick_unchoke(&shared, worker, &answer));
+    LOCKED(piecepick_join(shared, worker, &answer));
+    LOCKED(piecepick_bits(shared, worker, all, flags_len, &answer));
+    LOCKED(piecepick_unchoke(shared, worker, &answer));
     for (;;) {
-        LOCKED(piecepick_next(&shared, worker, worker, &answer));
-        if (answer.kind == PIECEPICK_NOTHING_LEFT) return NULL;
-        if (answer.kind != PIECEPICK_REQUEST) continue;
+        LOCKED(piecepick_next(shared, worker, worker, &answer));
+        if (answer.kind == PIECEPICK_K_NOTHING_LEFT) return NULL;
+        if (answer.kind != PIECEPICK_K_REQUEST) {
+            sched_yield();
+            continue;
+        }
         uint32_t piece = answer.piece;
-        const uint8_t *block = content + (size_t)piece * shared_length + answer.begin;
-        LOCKED(piecepick_arrived(&shared, worker, piece, answer.begin, block, answer.len, &answer));
-        if (answer.kind != PIECEPICK_COMPLETED) continue;
-        piecepick_check job = PIECEPICK_NONE;
-        LOCKED(piecepick_job(&shared, piece, &job));
-        if (piecepick_job_hash(&job)) fail("hash", 0);
-        LOCKED(piecepick_job_settle(&shared, worker, &job, &answer));
-        LOCKED((piecepick_job_close(&job), 0u));
+        const uint8_t *block = bytes_of(piece) + answer.begin;
+        LOCKED(piecepick_arrived(shared, worker, piece, answer.begin, block, answer.length, &answer));
+        if (answer.kind == PIECEPICK_K_COMPLETED) settle_shared(piece);
     }
 }
 
-static void by_threads(void)
+static void by_threads(uint32_t keeps)
 {
+    shared_keeps = keeps;
     for (int round = 0; round < 25; round++) {
-        pthread_t threads[WORKERS];
+        pthread_t threads[THREADS];
         uint32_t complete;
-        LOCKED(piecepick_open(&shared, metainfo, metainfo_len, WORKERS, 5, 1));
-        LOCKED(piecepick_pieces(&shared, &shared_pieces));
-        LOCKED(piecepick_piece_length(&shared, 0, &shared_length));
-        for (size_t worker = 0; worker < WORKERS; worker++)
-            if (pthread_create(&threads[worker], NULL, worker_thread, (void *)worker)) fail("thread", 0);
-        for (size_t worker = 0; worker < WORKERS; worker++) pthread_join(threads[worker], NULL);
-        LOCKED(piecepick_is_complete(&shared, &complete));
-        if (!complete) fail("threads", 0);
-        LOCKED(piecepick_audit(&shared));
+        shared = open_for(keeps, THREADS);
+        for (size_t worker = 0; worker < THREADS; worker++)
+            if (pthread_create(&threads[worker], NULL, worker_thread, (void *)worker)) fail(__LINE__, "thread", 1, 0);
+        for (size_t worker = 0; worker < THREADS; worker++) pthread_join(threads[worker], NULL);
+        EQUAL(piecepick_is_complete(shared, &complete), PIECEPICK_OK);
+        EQUAL(complete, 1);
+        if (keeps == PIECEPICK_KEEPS_JOURNAL) EQUAL(piecepick_audit(shared), PIECEPICK_OK);
         piecepick_close(&shared);
     }
-    puts("25 downloads by four threads under one lock, hashed outside it: complete, and the journals sound");
+    printf("    25 downloads by four threads under one lock, hashed outside it\n");
 }
 
-#define IS(call, wanted) do { uint32_t is_status = (call); if (is_status != (wanted)) fail(#call, is_status); } while (0)
+/* ---- Hashing. */
 
-static void misuses(void)
-{
-    piecepick_desk desk = PIECEPICK_NONE;
-    piecepick_check job = PIECEPICK_NONE;
-    piecepick_answer answer;
-    uint32_t number, pieces;
-    uint8_t none[1] = {0}, spare[1 << 12];
-    IS(piecepick_join(&desk, 0, &answer), PIECEPICK_SHUT);
-    if (answer.kind != 0) fail("an answer", answer.kind);
-    IS(piecepick_open(&desk, none, 0, 1, 5, 1), PIECEPICK_BENCODE);
-    IS(piecepick_open(&desk, metainfo, metainfo_len, 1025, 5, 1), PIECEPICK_WORKER);
-    IS(piecepick_open(&desk, metainfo, metainfo_len, 1, 65, 1), PIECEPICK_RULES);
-    IS(piecepick_open_parts(&desk, 16384, 1, none, 1, 1, 5, 1), PIECEPICK_PIECES_LENGTH);
-    IS(piecepick_open(&desk, metainfo, metainfo_len, 1, 5, 1), PIECEPICK_OK);
-    IS(piecepick_open(&desk, metainfo, metainfo_len, 1, 5, 1), PIECEPICK_OPEN);
-    IS(piecepick_pieces(&desk, &pieces), PIECEPICK_OK);
-    IS(piecepick_join(&desk, 1, &answer), PIECEPICK_WORKER);
-    IS(piecepick_had(&desk, pieces, &number), PIECEPICK_PIECE);
-    IS(piecepick_bits(&desk, 0, none, 0, &answer), PIECEPICK_BITS_LENGTH);
-    memset(spare, 255, sizeof spare);
-    IS(piecepick_bits(&desk, 0, spare, (pieces + 7) / 8, &answer), pieces % 8 ? (uint32_t)PIECEPICK_SPARE_BITS : (uint32_t)PIECEPICK_OK);
-    IS(piecepick_haves(&desk, 0, none, 0, &answer), PIECEPICK_BITS_LENGTH);
-    IS(piecepick_depth(&desk, 1, 5, &answer), PIECEPICK_WORKER);
-    IS(piecepick_release(&desk, 1, 0, 0, &answer), PIECEPICK_WORKER);
-    IS(piecepick_levels(&desk, 1, spare, pieces, &answer), PIECEPICK_WORKER);
-    IS(piecepick_in_order(&desk, 1, 1, &answer), PIECEPICK_WORKER);
-    IS(piecepick_read(&desk, 0, room, 1), PIECEPICK_NOT_HAD);
-    IS(piecepick_job(&desk, 0, &job), PIECEPICK_NOT_WAITING);
-    IS(piecepick_job_hash(&job), PIECEPICK_NO_JOB);
-    IS(piecepick_job_settle(&desk, 0, &job, &answer), PIECEPICK_NO_JOB);
-    IS(piecepick_outstanding(&desk, 0, &number), PIECEPICK_OK);
-    IS(piecepick_outstanding_at(&desk, 0, 0, &answer), PIECEPICK_PLACE);
-    piecepick_job_close(&job);
-    piecepick_close(&desk);
-    piecepick_close(&desk);
-    IS(piecepick_hash4(none, 0, none, 0, none, 0, none, 0, spare, 79), PIECEPICK_ROOM);
-    puts("21 misuses: the statuses that the header says");
-}
-
-#define GETS(call, wanted, told) do { \
-    IS(call, PIECEPICK_OK); \
-    if (answer.kind != (wanted) || answer.detail != (told)) fail(#call, answer.kind); \
-} while (0)
-
-/* More pieces of a peer, a depth of its own, and a block that it is asked for no more. */
-static void told_beside_the_wire(void)
-{
-    piecepick_desk desk = PIECEPICK_NONE;
-    piecepick_answer answer;
-    uint8_t flags[1 << 12];
-    uint32_t pieces;
-    IS(piecepick_open(&desk, metainfo, metainfo_len, 1, 5, 1), PIECEPICK_OK);
-    IS(piecepick_pieces(&desk, &pieces), PIECEPICK_OK);
-    all_flags(flags, pieces);
-    GETS(piecepick_depth(&desk, 0, 1, &answer), PIECEPICK_REFUSED, PIECEPICK_NOT_JOINED);
-    GETS(piecepick_join(&desk, 0, &answer), PIECEPICK_JOINED, 0);
-    GETS(piecepick_unchoke(&desk, 0, &answer), PIECEPICK_QUIET, 0);
-    GETS(piecepick_haves(&desk, 0, flags, (pieces + 7) / 8, &answer), PIECEPICK_NOTED, 1);
-    GETS(piecepick_depth(&desk, 0, 1, &answer), PIECEPICK_QUIET, 0);
-    GETS(piecepick_depth(&desk, 0, 65, &answer), PIECEPICK_REFUSED, PIECEPICK_WRONG_DEPTH);
-    GETS(piecepick_next(&desk, 0, 0, &answer), PIECEPICK_REQUEST, 0);
-    uint32_t piece = answer.piece, begin = answer.begin;
-    GETS(piecepick_next(&desk, 0, 0, &answer), PIECEPICK_PIPE_FULL, 0);
-    GETS(piecepick_release(&desk, 0, piece, begin + 1, &answer), PIECEPICK_REFUSED, PIECEPICK_NOT_ASKED);
-    GETS(piecepick_release(&desk, 0, piece, begin, &answer), PIECEPICK_QUIET, 0);
-    GETS(piecepick_next(&desk, 0, 0, &answer), PIECEPICK_REQUEST, 0);
-    IS(piecepick_audit(&desk), PIECEPICK_OK);
-    piecepick_close(&desk);
-    puts("11 answers to haves, depths and releases, and to what comes between: those of the rules");
-}
-
-/* The peer of worker 0 is asked for this block next. */
-static void asks_next(piecepick_desk *desk, uint32_t piece, uint32_t begin)
-{
-    piecepick_answer answer;
-    IS(piecepick_next(desk, 0, 0, &answer), PIECEPICK_OK);
-    if (answer.kind != PIECEPICK_REQUEST || answer.piece != piece || answer.begin != begin) fail("what comes first", answer.piece);
-}
-
-/* Levels, and the order of pieces of one level, told by a worker with no peer. */
-static void told_of_what_comes_first(void)
-{
-    piecepick_desk desk = PIECEPICK_NONE;
-    piecepick_answer answer;
-    uint8_t flags[1 << 12], levels[1 << 12];
-    uint32_t pieces, number;
-    IS(piecepick_open(&desk, metainfo, metainfo_len, 2, 5, 1), PIECEPICK_OK);
-    IS(piecepick_pieces(&desk, &pieces), PIECEPICK_OK);
-    all_flags(flags, pieces);
-    memset(levels, 4, sizeof levels);
-    levels[2] = 7;
-    GETS(piecepick_levels(&desk, 1, levels, pieces, &answer), PIECEPICK_QUIET, 0);
-    GETS(piecepick_levels(&desk, 1, levels, pieces - 1, &answer), PIECEPICK_REFUSED, PIECEPICK_WRONG_COUNT);
-    GETS(piecepick_level(&desk, 1, 0, 0, &answer), PIECEPICK_QUIET, 0);
-    GETS(piecepick_level(&desk, 1, 0, 8, &answer), PIECEPICK_REFUSED, PIECEPICK_WRONG_LEVEL);
-    GETS(piecepick_level(&desk, 1, 0, 260, &answer), PIECEPICK_REFUSED, PIECEPICK_WRONG_LEVEL);
-    GETS(piecepick_level(&desk, 1, pieces, 4, &answer), PIECEPICK_REFUSED, PIECEPICK_NO_SUCH_PIECE);
-    GETS(piecepick_in_order(&desk, 1, 1, &answer), PIECEPICK_QUIET, 0);
-    IS(piecepick_wanted(&desk, 0, &number), PIECEPICK_OK);
-    if (number != 0) fail("a piece of level 0", number);
-    GETS(piecepick_join(&desk, 0, &answer), PIECEPICK_JOINED, 0);
-    GETS(piecepick_unchoke(&desk, 0, &answer), PIECEPICK_QUIET, 0);
-    GETS(piecepick_haves(&desk, 0, flags, (pieces + 7) / 8, &answer), PIECEPICK_NOTED, 1);
-    asks_next(&desk, 2, 0);
-    asks_next(&desk, 2, 16384);
-    asks_next(&desk, 1, 0);
-    GETS(piecepick_level(&desk, 0, 0, 4, &answer), PIECEPICK_QUIET, 0);
-    asks_next(&desk, 0, 0);
-    GETS(piecepick_in_order(&desk, 0, 0, &answer), PIECEPICK_QUIET, 0);
-    IS(piecepick_next(&desk, 0, 0, &answer), PIECEPICK_OK);
-    if (answer.kind != PIECEPICK_REQUEST || answer.begin != 16384) fail("strict priority", answer.begin);
-    IS(piecepick_audit(&desk), PIECEPICK_OK);
-    piecepick_close(&desk);
-    puts("17 answers to levels and orders, and to what comes between: those of the rules");
-}
+/* Digests that FIPS 180 and its examples give. */
+static const struct { const char *message, *digest; } KNOWN[] = {
+    {"", "da39a3ee5e6b4b0d3255bfef95601890afd80709"},
+    {"abc", "a9993e364706816aba3e25717850c26c9cd0d89d"},
+    {"abcdbcdecdefdefgefghfghighijhijkijkljklmklmnlmnomnopnopq", "84983e441c3bd26ebaae4aa1f95129e5e54670f1"},
+    {"The quick brown fox jumps over the lazy dog", "2fd4e1c67a2d28fced849ee1bb76e7391b93eb12"},
+};
 
 /* Four pieces from this one on, against the digests that the metainfo file has. */
-static void hash_pieces(const uint8_t *digests, size_t piece, size_t piece_length)
+static void hash_pieces(uint32_t piece)
 {
     uint8_t found[81];
-    const uint8_t *at = content + piece * piece_length;
-    size_t last = content_len - (piece + 3) * piece_length;
     memset(found, 7, sizeof found);
-    uint32_t status = piecepick_hash4(at, piece_length, at + piece_length, piece_length, at + 2 * piece_length, piece_length,
-                                      at + 3 * piece_length, last < piece_length ? last : piece_length, found, 80);
-    if (status != PIECEPICK_OK) fail("hash4", status);
-    if (memcmp(found, digests + 20 * piece, 80) != 0 || found[80] != 7) fail("four digests", (uint32_t)piece);
+    EQUAL(piecepick_hash4(bytes_of(piece), length_of(piece), bytes_of(piece + 1), length_of(piece + 1), bytes_of(piece + 2),
+                          length_of(piece + 2), bytes_of(piece + 3), length_of(piece + 3), found, 80), PIECEPICK_OK);
+    EQUAL(memcmp(found, digests + 20 * piece, 80), 0);
+    EQUAL(found[80], 7);
 }
 
-/* Four pieces of one length, and four of which the last is shorter. */
-static void four_at_once(void)
+/* Four pieces of one length, four of which the last is shorter, and messages of other lengths in each place. */
+static void try_hashing(void)
+{
+    hash_pieces(0);
+    hash_pieces(pieces - 4);
+    for (size_t turn = 0; turn < 4; turn++) {
+        uint8_t found[80];
+        const char *said[4];
+        for (size_t at = 0; at < 4; at++) said[at] = KNOWN[(turn + at) % 4].message;
+        EQUAL(piecepick_hash4((const uint8_t *)said[0], strlen(said[0]), (const uint8_t *)said[1], strlen(said[1]),
+                              (const uint8_t *)said[2], strlen(said[2]), (const uint8_t *)said[3], strlen(said[3]), found, 80),
+              PIECEPICK_OK);
+        for (size_t at = 0; at < 80; at++) {
+            unsigned byte = 0;
+            EQUAL(sscanf(KNOWN[(turn + at / 20) % 4].digest + 2 * (at % 20), "%2x", &byte), 1);
+            EQUAL(found[at], byte);
+        }
+    }
+    told("messages hashed four at a time");
+}
+
+/* ---- */
+
+static size_t read_file(const char *path, uint8_t *bytes, size_t most)
+{
+    FILE *file = fopen(path, "rb");
+    size_t length;
+    if (file == NULL) exit(2);
+    length = fread(bytes, 1, most, file);
+    fclose(file);
+    return length;
+}
+
+/* The digests stand behind the key `pieces` and their length. */
+static const uint8_t *digests_of(void)
 {
     static const char key[] = "6:pieces";
-    size_t at = 0, piece_length = 32768, pieces = (content_len + piece_length - 1) / piece_length;
-    while (memcmp(metainfo + at, key, sizeof key - 1) != 0) at++;
-    while (metainfo[at + sizeof key - 1] != ':') at++;
-    hash_pieces(metainfo + at + sizeof key, 0, piece_length);
-    hash_pieces(metainfo + at + sizeof key, pieces - 4, piece_length);
-    puts("8 pieces hashed four at a time: the digests of the metainfo file");
+    const uint8_t *at = metainfo;
+    while (memcmp(at, key, sizeof key - 1) != 0) at++;
+    at += sizeof key - 1;
+    while (*at != ':') at++;
+    return at + 1;
 }
 
 int main(int argc, char **argv)
 {
-    if (argc != 3) return 2;
-    FILE *file = fopen(argv[1], "rb");
-    if (file == NULL) return 2;
-    metainfo_len = fread(metainfo, 1, sizeof metainfo, file);
-    fclose(file);
-    file = fopen(argv[2], "rb");
-    if (file == NULL) return 2;
-    content_len = fread(content, 1, sizeof content, file);
-    fclose(file);
-    misuses();
-    told_beside_the_wire();
-    told_of_what_comes_first();
-    four_at_once();
-    refuse_each();
-    by_threads();
+    static const struct { const char *what; void (*tries)(uint32_t keeps); } TRIES[] = {
+        {"statuses, each cause at each call", try_statuses},
+        {"what comes on the wire, and what is asked", try_wire},
+        {"pieces, and what is wanted", try_pieces},
+        {"levels and order", try_levels},
+        {"depths", try_depths},
+        {"askers in endgame, and cancels", try_endgame},
+        {"epochs", try_epochs},
+        {"epochs, in calls at random", try_epochs_at_random},
+        {"senders", try_senders},
+    };
+    if (argc != 5) return 2;
+    metainfo_len = read_file(argv[1], metainfo, sizeof metainfo);
+    content_len = read_file(argv[2], content, sizeof content);
+    pieces = (uint32_t)((content_len + PIECE - 1) / PIECE);
+    if (pieces != 10) return 2; /* as the table of options has it */
+    flags_len = (pieces + 7) / 8;
+    for (uint32_t piece = 0; piece < pieces; piece++) all[piece / 8] = (uint8_t)(all[piece / 8] | (0x80 >> piece % 8));
+    digests = digests_of();
+    try_options();
+    try_torrents();
+    try_torrent(argv[3], argv[4]);
+    try_texts();
+    try_hashing();
+    try_restores();
+    for (size_t kind = 0; kind < 3; kind++) {
+        printf("a picker that keeps %s:\n", KEPT[kind]);
+        for (size_t at = 0; at < sizeof TRIES / sizeof *TRIES; at++) {
+            printf("    ");
+            TRIES[at].tries(KINDS[kind]);
+            told(TRIES[at].what);
+        }
+        if (KINDS[kind] != PIECEPICK_KEEPS_NOTHING) {
+            printf("    ");
+            try_jobs(KINDS[kind]);
+            told("jobs");
+        }
+        refuse_each(KINDS[kind]);
+        by_threads(KINDS[kind]);
+        tried = 0;
+    }
     return 0;
 }

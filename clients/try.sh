@@ -1,27 +1,138 @@
 #!/bin/sh
-# Compiles the example and the tests as C11 and as C++17 with all warnings as errors, and runs them under the address and undefined
-# behaviour checks (of the C side: the library is built without them). Run build.sh first. Before that it compares the header and the
-# Python module with what the library exports.
+# Compiles the examples and the tests as C11 and as C++17 with all warnings as errors. It runs them under the address and undefined behaviour
+# checks, of the C side: the library is built without them. Run build.sh first. Before that it compares the header with what the library
+# exports, and sees that mistakes with the header don't compile. Behind that it plays downloads with delays, in virtual time, and runs the
+# tests of the Python package and of the Rust crate.
 set -eu
 here=$(cd "$(dirname "$0")" && pwd)
+fail() { echo "try.sh: $1" >&2; exit 1; }
+[ -f "$here/out/libpiecepick.a" ] || fail "there is no clients/out/libpiecepick.a: run build.sh first"
+# But for comments the header is the one that the library was built with.
+bare() { gcc -w -fpreprocessed -dD -E -P "$1"; }
+[ "$(bare "$here/piecepick.h")" = "$(bare "$here/out/piecepick.h")" ] || fail "the library was built with another header"
 "$here/exports.py"
 work=$(mktemp -d)
 trap 'rm -rf "$work"' EXIT
 cd "$work"
-PYTHONPATH="$here" python3 - <<'PY'
+PYTHONPATH="$here" python3 -B - <<'PY'
+import hashlib
 import random
 from bencode import metainfo
 content = random.Random(1).randbytes(9 * 32768 + 12345)
+file = metainfo(b"content", content, 32768)
 open("content", "wb").write(content)
-open("try.torrent", "wb").write(metainfo(b"content", content, 32768))
+open("try.torrent", "wb").write(file)
+# The info dictionary is the last value of the file.
+open("infohash", "w").write(hashlib.sha1(file[file.index(b"4:info") + 6 : -1]).hexdigest())
 PY
-flags="-Wall -Wextra -Werror -g -fsanitize=address,undefined -fno-sanitize-recover=all -I$here/out"
+plain="-Wall -Wextra -Werror -I$here"
+flags="$plain -g -fsanitize=address,undefined -fno-sanitize-recover=all"
+
+# wrong WHAT MISTAKE RIGHT: each of these compilers that is there takes the line that is right, and doesn't take the mistake.
+each="gcc -std=c11,g++ -std=c++17 -x c++,clang++ -std=c++17 -x c++,clang -std=c11"
+wrong() {
+    printf '#include "piecepick.h"\nint line(piecepick_picker *picker, piecepick_answer *answer) {\n#ifdef MISTAKE\n%s\n#else\n%s\n#endif\n}\n' \
+        "$2" "$3" > wrong.c
+    echo "$each" | tr ',' '\n' > compilers
+    while read -r language; do
+        command -v "${language%% *}" > /dev/null || continue
+        $language $plain -c wrong.c -o wrong.o || fail "$language doesn't take what is right of: $1"
+        ! $language $plain -DMISTAKE -c wrong.c -o wrong.o 2> said || fail "$language takes $1"
+    done < compilers
+    echo "doesn't compile: $1"
+}
+# In C the constants of an enum are plain numbers, and clang 14 goes by that: it sees no other enum in them.
+every=$each each=${each%,*}
+wrong "a status that is compared with a kind" \
+    'return piecepick_next(picker, 0, 0, answer) == PIECEPICK_K_REQUEST;' 'return piecepick_next(picker, 0, 0, answer) == PIECEPICK_OK;'
+wrong "a kind that is compared with a reason" 'return !picker || answer->kind == PIECEPICK_R_STALE;' \
+    'return !picker || answer->reason == PIECEPICK_R_STALE;'
+each=$every
+wrong "a status that is ignored" 'piecepick_next(picker, 0, 0, answer); return 0;' 'return piecepick_next(picker, 0, 0, answer) != PIECEPICK_OK;'
+wrong "a picker that is copied" 'piecepick_picker copy = *picker; return !answer + !&copy;' 'piecepick_picker *same = picker; return !answer + !same;'
+wrong "a picker in place of a job" 'return piecepick_job_hash(picker) != PIECEPICK_OK || !answer;' \
+    'return piecepick_job_hash((piecepick_job *)answer) != PIECEPICK_OK || !picker;'
+wrong "a picker in place of its pointer" 'piecepick_close(picker); return !answer;' 'piecepick_close(&picker); return !answer;'
+
 for language in "gcc -std=c11" "g++ -std=c++17 -x c++"; do
     $language $flags -c "$here/example.c" -o example.o
     g++ -fsanitize=address,undefined example.o "$here/out/libpiecepick.a" -o example
     ./example try.torrent content
     $language $flags -c "$here/tests.c" -o tests.o
     g++ -fsanitize=address,undefined -Wl,--wrap=malloc,--wrap=realloc tests.o "$here/out/libpiecepick.a" -lpthread -o tests
-    ./tests try.torrent content
+    ./tests try.torrent content "$(cat infohash)" content
     echo "$language: well"
 done
+
+g++ -std=c++17 $flags -Wconversion -Wshadow "$here/example.cpp" "$here/out/libpiecepick.a" -o example
+./example try.torrent content
+# A picker and a job are moved and never copied, and an empty one throws.
+cat > moves.cpp <<'CPP'
+#include "piecepick.hpp"
+#include <type_traits>
+using namespace piecepick;
+static_assert(!std::is_copy_constructible_v<Picker> && !std::is_copy_assignable_v<Picker>);
+static_assert(!std::is_copy_constructible_v<Job> && !std::is_copy_assignable_v<Job>);
+static_assert(std::is_nothrow_move_constructible_v<Picker> && std::is_nothrow_move_assignable_v<Picker>);
+static_assert(std::is_nothrow_move_constructible_v<Job> && std::is_nothrow_move_assignable_v<Job>);
+template <class Call> static bool throws(piecepick_status status, Call call)
+{
+    try {
+        call();
+    } catch (const Error &error) {
+        return error.status() == status && std::string(error.what()) == piecepick_status_text(status);
+    }
+    return false;
+}
+int main()
+{
+    const Digest digest = hash4(std::string("0"), std::string(), std::string(), std::string())[0];
+    Options options;
+    options.keeps = PIECEPICK_KEEPS_JOURNAL;
+    auto open = [&] { return Picker(16384, 1, {digest.bytes, 20}, options); };
+    Picker first = open(), second = std::move(first);
+    bool well = throws(PIECEPICK_E_SHUT, [&] { first.join(0); }) && throws(PIECEPICK_E_SHUT, [&] { (void)first.name(); });
+    first = std::move(second);
+    well = well && throws(PIECEPICK_E_SHUT, [&] { (void)second.pieces(); }) && first.pieces() == 1;
+    well = well && throws(PIECEPICK_E_WORKER, [&] { first.join(50); }) && throws(PIECEPICK_E_BENCODE, [&] { Picker(std::string(), options); });
+    well = well && throws(PIECEPICK_E_NOT_WAITING, [&] { (void)first.job(0); });
+    well = well && first.join(0).kind == PIECEPICK_K_JOINED && first.arrived(0, 0, 0, std::string("0")).kind == PIECEPICK_K_COMPLETED;
+    Job job = first.job(0), same = std::move(job);
+    well = well && throws(PIECEPICK_E_NO_JOB, [&] { job.hash(); }) && throws(PIECEPICK_E_NOT_HASHED, [&] { (void)first.settle(same); });
+    job = std::move(same);
+    job.hash();
+    std::array<std::uint8_t, 1> room{};
+    std::vector<std::uint8_t> none, more(2);
+    well = well && first.settle(job).kind == PIECEPICK_K_HAD && first.is_complete() && first.sender(0, 0) == 0;
+    job.read(room);
+    well = well && room[0] == '0' && throws(PIECEPICK_E_LENGTH, [&] { job.read(none); }) && throws(PIECEPICK_E_LENGTH, [&] { job.read(more); });
+    room[0] = 0;
+    first.read(0, room);
+    first.audit();
+    well = well && room[0] == '0' && first.name().empty() && first.total() == 1 && first.epoch() > 0 && first.infohash().bytes[0] == 0;
+    first = open();
+    return well && !first.is_complete() && throws(PIECEPICK_E_NOT_HAD, [&] { first.read(0, room); }) ? 0 : 1;
+}
+CPP
+g++ -std=c++17 $flags moves.cpp "$here/out/libpiecepick.a" -o moves
+./moves || fail "piecepick.hpp doesn't do what its words say"
+if command -v clang++ > /dev/null; then
+    clang++ -std=c++17 $plain "$here/example.cpp" "$here/out/libpiecepick.a" -o example
+    ./example try.torrent content
+    clang++ -std=c++17 $plain moves.cpp "$here/out/libpiecepick.a" -o moves
+    ./moves || fail "piecepick.hpp by clang++ doesn't do what its words say"
+fi
+echo "piecepick.hpp: well"
+
+cc -O2 -Wall -Wextra -Werror -I "$here/out" "$here/delays.c" "$here/out/libpiecepick.a" -o delays
+./delays
+cc -O2 -Wall -Wextra -Werror -I "$here/out" "$here/costs.c" "$here/out/libpiecepick.a" -o costs
+
+python3 -B -W error -m unittest discover -s "$here/python/tests"
+if command -v cargo > /dev/null; then
+    export CARGO_TARGET_DIR="$work/target" PIECEPICK_LIB_DIR="$here/out"
+    cargo test --offline --quiet --manifest-path "$here/rust/Cargo.toml" || fail "the Rust crate"
+    cargo run --offline --quiet --manifest-path "$here/rust/Cargo.toml" --example loop || fail "the Rust example"
+else
+    echo "cargo isn't here: the Rust crate was passed over"
+fi

@@ -18,7 +18,7 @@ import time
 from pathlib import Path
 
 HERE = Path(__file__).resolve().parent
-sys.path.insert(0, str(HERE.parent / "clients"))
+sys.path.insert(0, str(HERE.parent / "clients" / "python"))
 from piecepick import hash_four  # noqa: E402
 
 length = 1024 * (int(sys.argv[1]) if len(sys.argv) > 1 else 256)

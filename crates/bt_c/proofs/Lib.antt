@@ -3,3 +3,8 @@ pub mod Handles
 pub mod Sound
 pub mod ContentLengths
 pub mod Crossings
+pub mod Verdicts
+pub mod Restoring
+pub mod Given
+pub mod Staying
+pub mod Joining

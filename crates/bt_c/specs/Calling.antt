@@ -1,26 +1,49 @@
--- What a worker's call does, its number tested first.
-use Rattle.std.specs.Prelude.{◌≡◌, ◌≢◌, ℕ, ◌<◌, List, Bool, length}
+-- What a call does, the numbers that it names tested first.
+use Rattle.std.specs.Prelude.{◌≡◌, ◌≢◌, ℕ, ◌<◌, List, Bool, length, true, false}
 use Rattle.std.specs.declared.result.Result.{Result}
 use Rattle.std.specs.declared.result.Result.TheVariants.{Ok, Err}
 use Rattle.bt_meta.specs.Layout.{piece_count}
 use Rattle.bt_meta.specs.WireBits.{HasSpareBit, IsSpelled, wire_len}
 use Rattle.bt_history.specs.declared.event.Action.{Action}
-use Rattle.bt_picker.specs.Checks.{SettlesNow}
+use Rattle.bt_history.specs.declared.call.Reason.TheVariants.{NoSuchPiece, WrongLength}
+use Rattle.bt_history.specs.declared.call.Reply.TheVariants.{Failed, Had, Refused}
+use Rattle.bt_history.specs.Pieces.{content}
+use Rattle.bt_picker.specs.Checks.{settling, waits}
+use Rattle.bt_picker.specs.Restores.{Restores as Restores_at}
+use Rattle.bt_picker.specs.declared.picker.restoring.Restored.{Restored}
+use Rattle.bt_picker.specs.declared.picker.restoring.Restored.TheVariants as restored
+use Rattle.sha1.specs.Sha1.{sha1}
 use Rattle.bt_picker.specs.Positions.{DeskState, Gains}
+use Rattle.bt_c.specs.declared.engine.Keeping.{Keeping}
+use Rattle.bt_c.specs.declared.engine.Keeping.TheVariants.{Nothing}
 use Rattle.bt_c.specs.declared.fault.Fault.{Fault}
-use Rattle.bt_c.specs.declared.fault.Fault.TheVariants.{Worker, BitsLength, SpareBits, NoMemory}
+use Rattle.bt_c.specs.declared.fault.Fault.TheVariants.{Worker, Piece, BitsLength, SpareBits, NoMemory, NotWaiting, Keeps, Begun, Room}
+use Rattle.bt_c.specs.declared.held.Held.{Held}
+use Rattle.bt_c.specs.Behind.{keeping, state}
 use Rattle.bt_c.specs.Outcomes.{Outcome}
 
--- w is one of the desk's workers
+-- w is one of the picker's workers
 abbrev pub IsWorker : DeskState → ℕ → Type 0
 IsWorker d w = w < d.setting.workers
 
--- worker w makes this call: its reply is one that the rules allow, and the journal has gained just that; or nothing changes
+-- p is a piece of the picker's torrent
+abbrev pub IsPiece : DeskState → ℕ → Type 0
+IsPiece d p = p < piece_count d.setting.torrent
+
+-- worker w makes this call: its reply is one that the rules allow, and the history has gained just that; or nothing changes
 abbrev pub Makes : DeskState → DeskState → ℕ → Action → Outcome → Type 0
 Makes d e w action (Ok r) = IsWorker d w × Gains d e (record { worker = w; action = action; reply = r })
 Makes d e w action (Err Worker) = (IsWorker d w → ⊥) × (e ≡ d)
 Makes d e w action (Err NoMemory) = IsWorker d w × (e ≡ d)
 Makes d e w action (Err f) = ⊥
+
+-- worker w makes this call, which names piece p
+abbrev pub MakesAt : DeskState → DeskState → ℕ → ℕ → Action → Outcome → Type 0
+MakesAt d e w p action (Ok r) = IsWorker d w × IsPiece d p × Gains d e (record { worker = w; action = action; reply = r })
+MakesAt d e w p action (Err Worker) = (IsWorker d w → ⊥) × (e ≡ d)
+MakesAt d e w p action (Err Piece) = IsWorker d w × (IsPiece d p → ⊥) × (e ≡ d)
+MakesAt d e w p action (Err NoMemory) = IsWorker d w × IsPiece d p × (e ≡ d)
+MakesAt d e w p action (Err f) = ⊥
 
 -- worker w makes a call with the flags that the bytes spell, as a `bitfield` message does; or nothing changes
 abbrev pub MakesFlags : DeskState → DeskState → ℕ → List ℕ → (List Bool → Action) → Outcome → Type 0
@@ -35,13 +58,6 @@ MakesFlags d e w bytes action (Err SpareBits) = IsWorker d w
 MakesFlags d e w bytes action (Err NoMemory) = IsWorker d w × (e ≡ d)
 MakesFlags d e w bytes action (Err f) = ⊥
 
--- worker w has piece p checked, here and now; or nothing changes
-abbrev pub Settles : DeskState → DeskState → ℕ → ℕ → Outcome → Type 0
-Settles d e w p (Ok r) = IsWorker d w × SettlesNow d e w p r
-Settles d e w p (Err Worker) = (IsWorker d w → ⊥) × (e ≡ d)
-Settles d e w p (Err NoMemory) = IsWorker d w × (e ≡ d)
-Settles d e w p (Err f) = ⊥
-
 -- the flags that the bytes spell for so many pieces, or why they spell none
 abbrev pub Spelling : ℕ → List ℕ → Result (List Bool) Fault → Type 0
 Spelling pieces bytes (Ok flags) = (length flags ≡ pieces) × IsSpelled flags bytes
@@ -49,3 +65,39 @@ Spelling pieces bytes (Err BitsLength) = length bytes ≢ wire_len pieces
 Spelling pieces bytes (Err SpareBits) = (length bytes ≡ wire_len pieces) × HasSpareBit bytes pieces
 Spelling pieces bytes (Err NoMemory) = Unit {0}
 Spelling pieces bytes (Err f) = ⊥
+
+-- a piece that waits is settled by what is held of it, where the picker keeps this; or nothing changes. The entry is worker 0's
+abbrev pub Settles : Keeping → Held → DeskState → ℕ → Outcome → Type 0
+Settles kept h e p (Ok r) = (keeping h ≡ kept) × (waits (state h).setting (state h).history p ≡ true)
+    × Gains (state h) e (settling (state h).setting (state h).history 0 p r)
+Settles kept h e p (Err Keeps) = (keeping h ≢ kept) × (e ≡ state h)
+Settles kept h e p (Err Piece) = (keeping h ≡ kept) × (IsPiece (state h) p → ⊥) × (e ≡ state h)
+Settles kept h e p (Err NotWaiting) = (keeping h ≡ kept) × IsPiece (state h) p
+    × (waits (state h).setting (state h).history p ≡ false) × (e ≡ state h)
+Settles kept h e p (Err NoMemory) = (keeping h ≡ kept) × (e ≡ state h)
+Settles kept h e p (Err f) = ⊥
+
+-- the digest is that of what arrived of piece p, where this waits at a picker that keeps nothing
+abbrev pub Vouches : Held → ℕ → List ℕ → Type 0
+Vouches h p digest = keeping h ≡ Nothing → waits (state h).setting (state h).history p ≡ true
+    → digest ≡ sha1 (content (state h).setting (state h).history p)
+
+-- the digest is that of the bytes, where the picker keeps nothing
+abbrev pub VouchesFor : Held → List ℕ → List ℕ → Type 0
+VouchesFor h bytes digest = keeping h ≡ Nothing → digest ≡ sha1 bytes
+
+-- what comes of a restore, as a reply or a fault
+abbrev pub outcome_of : Restored → Outcome
+outcome_of restored.Had = Ok Had
+outcome_of restored.Failed = Ok Failed
+outcome_of restored.Begun = Err Begun
+outcome_of (restored.Refused NoSuchPiece) = Err Piece
+outcome_of (restored.Refused WrongLength) = Err Room
+outcome_of (restored.Refused reason) = Ok (Refused reason)
+
+-- a whole piece is there, which worker w's peer brings to a picker that keeps nothing; or nothing changes
+abbrev pub Restores : Held → DeskState → ℕ → ℕ → List ℕ → Outcome → Type 0
+Restores h e w p bytes (Err Keeps) = (keeping h ≢ Nothing) × (e ≡ state h)
+Restores h e w p bytes (Err Worker) = (keeping h ≡ Nothing) × (IsWorker (state h) w → ⊥) × (e ≡ state h)
+Restores h e w p bytes o = (keeping h ≡ Nothing) × IsWorker (state h) w
+    × ((r : Restored) × Restores_at (state h) e w p bytes r × (o ≡ outcome_of r))

@@ -1,19 +1,28 @@
--- A check of a piece that is away from its desk.
-use Rattle.std.specs.Prelude.{◌≡◌, ℕ, Bool, true, false, Option, None, Some}
+-- A check of a piece that is away from its picker.
+use Rattle.std.specs.Prelude.{◌≡◌, ◌≢◌, ℕ, List, Bool, true, false, Option, None, Some, ◌⊎◌, length}
+use Rattle.std.specs.List.{concat}
 use Rattle.std.specs.declared.result.Result.{Result}
 use Rattle.std.specs.declared.result.Result.TheVariants.{Ok, Err}
-use Rattle.bt_check.specs.Checked.{Checked, joined}
-use Rattle.bt_history.specs.declared.event.Action.TheVariants.{Settle}
+use Rattle.bt_check.specs.Checked.{Checked}
+use Rattle.bt_check.specs.declared.job.Job.{Job}
+use Rattle.std.specs.declared.alloc.AllocError.{AllocError}
+use Rattle.bt_history.specs.declared.call.Reason.{Reason}
+use Rattle.bt_history.specs.declared.call.Reason.TheVariants.{Stale as StaleReason}
+use Rattle.bt_history.specs.declared.call.Reply.{Reply}
+use Rattle.bt_history.specs.declared.call.Reply.TheVariants.{Refused}
 use Rattle.bt_picker.specs.Checks.{blocks_of, waits}
-use Rattle.bt_picker.specs.Positions.{DeskState}
+use Rattle.bt_picker.specs.Positions.{DeskState, Gains}
+use Rattle.bt_picker.specs.Told.{checking}
 use Rattle.bt_c.specs.declared.check.Check.{Check}
 use Rattle.bt_c.specs.declared.check.Check.TheVariants.{Due, Hashed, Ready}
+use Rattle.bt_c.specs.declared.engine.Keeping.TheVariants.{Nothing}
 use Rattle.bt_c.specs.declared.fault.Fault.{Fault}
-use Rattle.bt_c.specs.declared.fault.Fault.TheVariants.{Shut, Open, Piece, NoMemory, NotWaiting, NoJob, NotHashed}
+use Rattle.bt_c.specs.declared.fault.Fault.TheVariants.{Shut, Open, Piece, NoMemory, NotWaiting, NoJob, NotHashed, Keeps, Stale, Room}
 use Rattle.bt_c.specs.declared.held.Held.{Held}
-use Rattle.bt_c.specs.Asking.{IsPiece}
-use Rattle.bt_c.specs.Calling.{Makes}
+use Rattle.bt_c.specs.Behind.{keeping, state}
+use Rattle.bt_c.specs.Calling.{IsPiece}
 use Rattle.bt_c.specs.Outcomes.{Done, Outcome, status_of}
+use Rattle.bt_c.specs.contracts.job_handle.JobHandle as handle
 
 -- the piece and the blocks that a check is of, before and after they are hashed
 abbrev pub checked_of : Check → Checked
@@ -28,29 +37,35 @@ is_ready (Hashed verdict) = false
 is_ready (Ready verdict) = true
 
 -- the check of piece p with the blocks that are held of it, where the piece is full and isn't had
-abbrev pub IsCheckOf : DeskState → ℕ → Result Check Fault → Type 0
-IsCheckOf d p (Ok c) = (waits d.setting d.history p ≡ true)
-    × (checked_of c ≡ record { piece = p; blocks = blocks_of d.setting d.history p })
-IsCheckOf d p (Err Piece) = IsPiece d p → ⊥
-IsCheckOf d p (Err NotWaiting) = IsPiece d p × (waits d.setting d.history p ≡ false)
-IsCheckOf d p (Err NoMemory) = (waits d.setting d.history p ≡ false) → ⊥
-IsCheckOf d p (Err f) = ⊥
+abbrev pub IsCheckOf : Held → ℕ → Result Check Fault → Type 0
+IsCheckOf h p (Ok c) = (keeping h ≡ Nothing → ⊥) × (waits (state h).setting (state h).history p ≡ true)
+    × (checked_of c ≡ record { piece = p; blocks = blocks_of (state h).setting (state h).history p })
+IsCheckOf h p (Err Keeps) = keeping h ≡ Nothing
+IsCheckOf h p (Err Piece) = (keeping h ≡ Nothing → ⊥) × (IsPiece (state h) p → ⊥)
+IsCheckOf h p (Err NotWaiting) = (keeping h ≡ Nothing → ⊥) × IsPiece (state h) p × (waits (state h).setting (state h).history p ≡ false)
+IsCheckOf h p (Err NoMemory) = (keeping h ≡ Nothing) → ⊥
+IsCheckOf h p (Err f) = ⊥
 
--- a handle that holds a job keeps it, and an empty one gets the check of piece p, if there is one
-abbrev pub TakesJob : Option Check → Option Check → DeskState → ℕ → Done → Type 0
-TakesJob (Some c) new d p o = (new ≡ Some c) × (o ≡ Err Open)
-TakesJob None (Some e) d p (Ok u) = IsCheckOf d p (Ok e)
-TakesJob None None d p (Err f) = IsCheckOf d p (Err f)
-TakesJob None new d p o = ⊥
+-- a handle that holds the check, if there is one
+abbrev pub IsHandleOf : Held → ℕ → Result handle.the_row.Denot Fault → Type 0
+IsHandleOf h p (Ok d) = (c : Check) × (d.check ≡ Some c) × IsCheckOf h p (Ok c)
+IsHandleOf h p (Err f) = IsCheckOf h p (Err f)
 
--- the same at a handle of a desk: where there is no desk, the handle of the job stays as it is
-abbrev pub PutsJob : Option Held → Option Check → Option Check → ℕ → Done → Type 0
+-- a pointer that isn't NULL stays, and another one gets the check of piece p, if there is one
+abbrev pub TakesJob : Option handle.the_row.Denot → Option handle.the_row.Denot → Held → ℕ → Done → Type 0
+TakesJob (Some d) new h p o = (new ≡ Some d) × (o ≡ Err Open)
+TakesJob None (Some e) h p (Ok u) = IsHandleOf h p (Ok e)
+TakesJob None None h p (Err f) = IsCheckOf h p (Err f)
+TakesJob None new h p o = ⊥
+
+-- the same at a handle of a picker: where there is none, the pointer of the job stays as it is
+abbrev pub PutsJob : Option Held → Option handle.the_row.Denot → Option handle.the_row.Denot → ℕ → Done → Type 0
 PutsJob None old new p o = (new ≡ old) × (o ≡ Err Shut)
-PutsJob (Some d) old new p o = TakesJob old new d.desk p o
+PutsJob (Some h) old new p o = TakesJob old new h p o
 
 -- the status tells it
-abbrev pub TellsJob : Option Held → Option Check → Option Check → ℕ → ℕ → Type 0
-TellsJob desk old new p s = (o : Done) × PutsJob desk old new p o × (s ≡ status_of o)
+abbrev pub TellsJob : Option Held → Option handle.the_row.Denot → Option handle.the_row.Denot → ℕ → ℕ → Type 0
+TellsJob held old new p s = (o : Done) × PutsJob held old new p o × (s ≡ status_of o)
 
 -- a check is hashed: it stays that of the same blocks, and but for want of memory its verdict is ready
 abbrev pub Hashes : Option Check → Option Check → Done → Type 0
@@ -63,9 +78,48 @@ Hashes (Some c) new o = ⊥
 abbrev pub TellsHash : Option Check → Option Check → ℕ → Type 0
 TellsHash old new s = (o : Done) × Hashes old new o × (s ≡ status_of o)
 
--- worker w tells the verdict of a check: it is the call Settle of the bytes that were hashed
-abbrev pub TellsVerdict : Option Check → DeskState → DeskState → ℕ → Outcome → Type 0
-TellsVerdict None d e w o = (e ≡ d) × (o ≡ Err NoJob)
-TellsVerdict (Some c) d e w (Err NotHashed) = (is_ready c ≡ false) × (e ≡ d)
-TellsVerdict (Some c) d e w o = (is_ready c ≡ true)
-    × Makes d e w (Settle (checked_of c).piece (joined (checked_of c))) o
+-- a verdict is refused for this reason, which changes no table
+abbrev pub RefusesVerdict : DeskState → DeskState → Checked → Reason → Type 0
+RefusesVerdict d e v reason = (e ≡ d) ⊎ ((bytes : List ℕ) × Gains d e (checking 0 v.piece bytes (Refused reason)))
+
+-- a verdict is told: its piece is settled, which the rules allow; or it is stale, or its piece waits for none
+abbrev pub SettlesVerdict : Held → DeskState → Checked → Outcome → Type 0
+SettlesVerdict h e v (Ok r) = (bytes : List ℕ) × Gains (state h) e (checking 0 v.piece bytes r)
+SettlesVerdict h e v (Err Keeps) = (keeping h ≡ Nothing) × (e ≡ state h)
+SettlesVerdict h e v (Err Stale) = RefusesVerdict (state h) e v StaleReason
+SettlesVerdict h e v (Err NotWaiting) = (reason : Reason) × RefusesVerdict (state h) e v reason
+SettlesVerdict h e v (Err NoMemory) = e ≡ state h
+SettlesVerdict h e v (Err f) = ⊥
+
+-- the verdict of a check that was hashed is told
+abbrev pub TellsVerdict : Option Check → Held → DeskState → Outcome → Type 0
+TellsVerdict None h e o = (e ≡ state h) × (o ≡ Err NoJob)
+TellsVerdict (Some c) h e (Err NotHashed) = (is_ready c ≡ false) × (e ≡ state h)
+TellsVerdict (Some c) h e o = (is_ready c ≡ true) × SettlesVerdict h e (checked_of c) o
+
+-- the bytes of the blocks go into a room of just their length; another one stays as it was
+abbrev pub PutsBlocks : List (List ℕ) → List ℕ → List ℕ → Done → Type 0
+PutsBlocks blocks old new (Ok u) = new ≡ concat blocks
+PutsBlocks blocks old new (Err Room) = (length old ≢ length (concat blocks)) × (new ≡ old)
+PutsBlocks blocks old new (Err f) = ⊥
+
+-- the same of the check behind a handle
+abbrev pub ReadsJob : Option Check → List ℕ → List ℕ → Done → Type 0
+ReadsJob None old new o = (new ≡ old) × (o ≡ Err NoJob)
+ReadsJob (Some c) old new o = PutsBlocks (checked_of c).blocks old new o
+
+-- the status tells it
+abbrev pub TellsRead : Option Check → List ℕ → List ℕ → ℕ → Type 0
+TellsRead c old new s = (o : Done) × ReadsJob c old new o × (s ≡ status_of o)
+
+-- a check of the job that a picker gave, or why there is none
+abbrev pub check_given : Result (Option Job) AllocError → Result Check Fault
+check_given (Ok (Some job)) = Ok (Due job)
+check_given (Ok None) = Err NotWaiting
+check_given (Err f) = Err NoMemory
+
+-- a reply that settles is told, and one that refuses is a fault
+abbrev pub settled_of : Reply → Outcome
+settled_of (Refused StaleReason) = Err Stale
+settled_of (Refused reason) = Err NotWaiting
+settled_of reply = Ok reply

@@ -1,4 +1,6 @@
 pub mod Handles
+pub mod Engines
+pub mod Behind
 pub mod Answers
 pub mod Statuses
 pub mod Outcomes
@@ -7,5 +9,6 @@ pub mod Opening
 pub mod Calling
 pub mod Asking
 pub mod Jobs
+pub mod Torrents
 pub mod Rooms
 pub mod Digests

@@ -11,6 +11,7 @@ use Rattle.bt_c.specs.declared.fault.Fault.{Fault}
 use Rattle.bt_c.specs.declared.fault.Fault.TheVariants.{Shut}
 use Rattle.bt_c.specs.declared.held.Held.{Held}
 use Rattle.bt_c.specs.Answers.{answer_of, nothing}
+use Rattle.bt_c.specs.Behind.{keeping, state}
 use Rattle.bt_c.specs.Statuses.{fault_number}
 
 -- a reply, or why there is none
@@ -41,28 +42,33 @@ abbrev pub flag : Bool → ℕ
 flag true = 1
 flag false = 0
 
--- a call at a handle: a null one stays null and says so, and an open one stays open, its desk changed as P says
-abbrev pub AtHandle : {X : Type 0} → (DeskState → DeskState → Result X Fault → Type 0)
+-- what stays of a picker, whatever it is told: its torrent, and what it keeps
+pub record StaysItself (h k : Held) : Type 0 where
+  pub torrent : k.torrent ≡ h.torrent
+  pub keeping : keeping k ≡ keeping h
+
+-- a call at a handle: a null one stays null and says so, and an open one stays open, its picker changed as P says
+abbrev pub AtHandle : {X : Type 0} → (Held → DeskState → Result X Fault → Type 0)
     → Option Held → Option Held → Result X Fault → Type 0
 AtHandle P None new o = (new ≡ None) × (o ≡ Err Shut)
-AtHandle P (Some d) None o = ⊥
-AtHandle P (Some d) (Some e) o = P d.desk e.desk o
+AtHandle P (Some h) None o = ⊥
+AtHandle P (Some h) (Some k) o = StaysItself h k × P h (state k) o
 
 -- a question to a handle, which changes nothing: a null one has no answer
-abbrev pub AtOpen : {X : Type 0} → (DeskState → Result X Fault → Type 0) → Option Held → Result X Fault → Type 0
+abbrev pub AtOpen : {X : Type 0} → (Held → Result X Fault → Type 0) → Option Held → Result X Fault → Type 0
 AtOpen P None o = o ≡ Err Shut
-AtOpen P (Some d) o = P d.desk o
+AtOpen P (Some h) o = P h o
 
 -- the status and the answer tell what came of a call at a handle
-abbrev pub Tells : (DeskState → DeskState → Outcome → Type 0) → Option Held → Option Held → ℕ → Answer → Type 0
+abbrev pub Tells : (Held → DeskState → Outcome → Type 0) → Option Held → Option Held → ℕ → Answer → Type 0
 Tells P old new s a = (o : Outcome) × AtHandle P old new o × (s ≡ status_of o) × (a ≡ told o)
 
 -- the status and the number tell what came of a question to a handle
-abbrev pub TellsNumber : (DeskState → Result ℕ Fault → Type 0) → Option Held → ℕ → ℕ → Type 0
+abbrev pub TellsNumber : (Held → Result ℕ Fault → Type 0) → Option Held → ℕ → ℕ → Type 0
 TellsNumber P h s x = (o : Result ℕ Fault) × AtOpen P h o × (s ≡ status_of o) × (x ≡ number_told o)
 
 -- the status tells what came of a question to a handle
-abbrev pub TellsDone : (DeskState → Done → Type 0) → Option Held → ℕ → Type 0
+abbrev pub TellsDone : (Held → Done → Type 0) → Option Held → ℕ → Type 0
 TellsDone P h s = (o : Done) × AtOpen P h o × (s ≡ status_of o)
 
 -- a block that was found, told as if it were to be requested
@@ -71,5 +77,5 @@ block_told (Ok b) = answer_of (Request b)
 block_told (Err f) = nothing
 
 -- the status and the answer tell a block of an open handle
-abbrev pub TellsBlock : (DeskState → Result Block Fault → Type 0) → Option Held → ℕ → Answer → Type 0
+abbrev pub TellsBlock : (Held → Result Block Fault → Type 0) → Option Held → ℕ → Answer → Type 0
 TellsBlock P h s a = (o : Result Block Fault) × AtOpen P h o × (s ≡ status_of o) × (a ≡ block_told o)

@@ -1,13 +1,11 @@
 -- The rules that a caller in C chooses, and those of a setting.
-use Rattle.std.specs.Prelude.{ℕ}
 use Rattle.bt_history.specs.declared.rules.Rules.{Rules}
-use Rattle.bt_history.specs.declared.rules.TheConstants.{MOST_DEPTH, MOST_WORKERS}
 use Rattle.bt_history.specs.Setting.{Setting}
+use Rattle.bt_c.specs.declared.options.Options.{Options}
 
--- the choices that a download may make of the rules: on how many peers a block is asked of, and the greatest depth that may be told, there
--- is no choice, and they are as usual
-abbrev pub rules : ℕ → ℕ → Rules
-rules depth random = record { depth = depth; random = random; askers = MOST_WORKERS; deepest = MOST_DEPTH }
+-- the rules that the options say
+abbrev pub rules : Options → Rules
+rules o = record { depth = o.depth; random = o.random; askers = o.askers; deepest = o.deepest }
 
 -- the rules that a setting has
 abbrev pub rules_of_setting : Setting → Rules

@@ -5,7 +5,8 @@ use Rattle.bt_meta.specs.declared.fault.MetaFault.TheVariants as metainfo
 use Rattle.bt_meta.specs.Faults as meta
 use Rattle.bt_c.specs.declared.fault.Fault.{Fault}
 use Rattle.bt_c.specs.declared.fault.Fault.TheVariants.{Shut, Open, Worker, Piece, BitsLength, SpareBits, Room, NoMemory, NotHad}
-use Rattle.bt_c.specs.declared.fault.Fault.TheVariants.{Rules, NotWaiting, NoJob, NotHashed, Place, Metainfo}
+use Rattle.bt_c.specs.declared.fault.Fault.TheVariants.{Rules, NotWaiting, NoJob, NotHashed, Place, Keeps, Options, Stale, Block}
+use Rattle.bt_c.specs.declared.fault.Fault.TheVariants.{NotHeld, Begun, Metainfo}
 
 -- the status that tells a fault; 0 tells that there was none
 abbrev pub fault_number : Fault → ℕ
@@ -23,6 +24,12 @@ fault_number NotWaiting = 11
 fault_number NoJob = 12
 fault_number NotHashed = 13
 fault_number Place = 14
+fault_number Keeps = 15
+fault_number Options = 16
+fault_number Stale = 17
+fault_number Block = 18
+fault_number NotHeld = 19
+fault_number Begun = 20
 fault_number (Metainfo f) = 100 + meta.fault_number f
 
 -- a fault of a metainfo file as one of a call; want of memory is want of memory

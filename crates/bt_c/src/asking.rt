@@ -1,15 +1,21 @@
-//! What a desk tells.
-ghost use Rattle.std.specs.Prelude.{◌≡◌};
-ghost use Rattle.bt_c.specs.Asking.{Audits, CountsOutstanding, IsOutstanding, Reads, SaysOfContent, SaysOfPiece, number_of, number_of_piece};
+//! What a picker tells.
+ghost use Rattle.std.specs.Prelude.{◌≡◌, ◌%◌, ◌^◌};
+ghost use Rattle.bt_history.specs.Epochs.{epoch};
+ghost use Rattle.bt_c.specs.Asking.{Audits, AuditsBy, CountsOutstanding, IsOutstanding, Reads, ReadsFrom, SaysOfContent};
+ghost use Rattle.bt_c.specs.Asking.{SaysOfPiece, SaysSender, number_of, number_of_piece};
+ghost use Rattle.bt_history.specs.Setting.{AreRules};
+ghost use Rattle.bt_c.specs.Behind.{state};
+ghost use Rattle.bt_c.specs.Rules.{rules_of_setting};
 
 use crate::buffer::Buffer;
+use crate::engine::Engine;
 use crate::fault::Fault;
 use crate::held::Held;
 use bt_meta::Block;
-use bt_picker::{AuditFault, ContentFault, audit};
+use bt_picker::{AuditFault, ContentFault, Desk, audit};
 use std::alloc::Global;
 
-/// What a desk is asked.
+/// What a picker is asked.
 #[derive(Clone, Copy, Debug, PartialEq, Eq)]
 pub enum Question {
     /// How many pieces there are.
@@ -20,15 +26,19 @@ pub enum Question {
     Complete,
     /// Whether each wanted piece is had.
     HasWanted,
+    /// Whether the pieces of one level come in rising order.
+    InOrder,
 }
 
-/// What a desk is asked of a piece.
+/// What a picker is asked of a piece.
 #[derive(Clone, Copy, Debug, PartialEq, Eq)]
 pub enum PieceQuestion {
     /// Whether it is had.
     Had,
-    /// Whether it is to be downloaded.
-    Wanted,
+    /// Whether it is full, and waits for its check.
+    Waiting,
+    /// Its level.
+    Level,
     /// How many joined peers show it.
     Availability,
     /// Its bytes.
@@ -40,103 +50,148 @@ pub enum PieceQuestion {
 impl Held {
     /// Answers a question, a flag by 1 or 0.
     pub fn ask(&self, question: Question) -> u32
-        ensures { result ≡ number_of self.now.desk question }
+        ensures { result ≡ number_of (state self.now) question }
     {
         match question {
-            Question::Pieces => self.desk.torrent().piece_count(),
-            Question::Workers => self.desk.workers(),
-            Question::Complete => u32::from(self.desk.is_complete()),
-            Question::HasWanted => u32::from(self.desk.has_wanted()),
+            Question::Pieces => self.torrent.piece_count(),
+            Question::Workers => self.engine.workers(),
+            Question::Complete => u32::from(self.engine.is_complete()),
+            Question::HasWanted => u32::from(self.engine.has_wanted()),
+            Question::InOrder => u32::from(self.engine.is_in_order()),
         }
+    }
+
+    /// The number that rises when an answer of nothing to ask may have changed.
+    pub fn epoch(&self) -> u64
+        ensures { result ≡ epoch (state self.now).setting (state self.now).history % 2 ^ 64 }
+    {
+        self.engine.epoch()
     }
 
     /// Answers a question of a piece, a flag by 1 or 0.
     pub fn ask_of_piece(&self, question: PieceQuestion, piece: u32) -> Result<u32, Fault>
-        ensures { SaysOfPiece self.now.desk piece (number_of_piece self.now.desk question piece) result }
+        ensures { SaysOfPiece (state self.now) piece (number_of_piece (state self.now) question piece) result }
     {
-        if piece >= self.desk.torrent().piece_count() {
+        if piece >= self.torrent.piece_count() {
             return Err(Fault::Piece);
         }
         let number = match question {
-            PieceQuestion::Had => u32::from(self.desk.had(piece)),
-            PieceQuestion::Wanted => u32::from(self.desk.wanted(piece)),
-            PieceQuestion::Availability => self.desk.availability(piece),
-            PieceQuestion::Length => self.desk.torrent().piece_len(piece),
-            PieceQuestion::Blocks => self.desk.torrent().block_count(piece),
+            PieceQuestion::Had => u32::from(self.engine.had(piece)),
+            PieceQuestion::Waiting => u32::from(self.engine.is_waiting(piece)),
+            PieceQuestion::Level => u32::from(self.engine.level(piece)),
+            PieceQuestion::Availability => self.engine.availability(piece),
+            PieceQuestion::Length => self.torrent.piece_len(piece),
+            PieceQuestion::Blocks => self.torrent.block_count(piece),
         };
         Ok(number)
     }
 
+    /// The worker whose peer brought the block of this index, if that is held.
+    pub fn sender(&self, piece: u32, index: u32) -> Result<u32, Fault>
+        ensures { SaysSender (state self.now) piece index result }
+    {
+        if piece >= self.torrent.piece_count() {
+            return Err(Fault::Piece);
+        }
+        if index >= self.torrent.block_count(piece) {
+            return Err(Fault::Block);
+        }
+        match self.engine.sender(piece, index) {
+            Some(worker) => Ok(worker),
+            None => Err(Fault::NotHeld),
+        }
+    }
+
     /// How many blocks are asked of the worker's peer.
     pub fn outstanding_count(&self, worker: u32) -> Result<u32, Fault>
-        ensures { CountsOutstanding self.now.desk worker result }
+        ensures { CountsOutstanding (state self.now) worker result }
     {
-        if worker >= self.desk.workers() {
+        if worker >= self.engine.workers() {
             return Err(Fault::Worker);
         }
-        // They fit, since in a legal journal they are no more than the greatest depth that can be told.
-        let _legal = self.desk.journal();
-        Ok(self.desk.outstanding(worker).len() as u32)
+        // They fit, since in a legal history they are no more than the greatest depth that can be told.
+        self.engine.attest();
+        Ok(self.engine.outstanding(worker).len() as u32)
     }
 
     /// The block at this place among those that are asked of the worker's peer, the oldest request first.
     pub fn outstanding(&self, worker: u32, place: u32) -> Result<Block, Fault>
-        ensures { IsOutstanding self.now.desk worker place result }
+        ensures { IsOutstanding (state self.now) worker place result }
     {
-        if worker >= self.desk.workers() {
+        if worker >= self.engine.workers() {
             return Err(Fault::Worker);
         }
-        match self.desk.outstanding(worker).get(place as usize) {
+        match self.engine.outstanding(worker).get(place as usize) {
             Some(block) => Ok(*block),
             None => Err(Fault::Place),
         }
     }
 
-    /// The length of a piece's content, where that is had.
-    fn content_len(&self, piece: u32) -> Result<u32, Fault>
-        ensures { SaysOfContent self.now.desk piece result }
-    {
-        if piece >= self.desk.torrent().piece_count() {
-            return Err(Fault::Piece);
-        }
-        if !self.desk.had(piece) {
-            return Err(Fault::NotHad);
-        }
-        // It is the piece's, since in a legal journal each block that is held has its length.
-        let _legal = self.desk.journal();
-        Ok(self.desk.torrent().piece_len(piece))
-    }
-
     /// Writes the bytes of a piece that is had into a room of their number.
     pub fn read(&self, piece: u32, room: &mut [u8]) -> Result<(), Fault>
-        ensures { Reads self.now.desk piece room.old room.new result }
+        ensures { Reads self.now piece room.old room.new result }
     {
-        let length = self.content_len(piece)?;
-        if room.len() != length as usize {
-            return Err(Fault::Room);
-        }
-        match self.desk.write_piece(&mut Buffer::new(room), piece) {
-            // A room refuses where it is full, and then it has all of the content.
-            Ok(()) | Err(ContentFault::WriteFault) => Ok(()),
-            Err(ContentFault::Incomplete) => Err(Fault::NotHad),
+        match &self.engine {
+            Engine::Desk(desk) => read(desk, piece, room),
+            _ => Err(Fault::Keeps),
         }
     }
 
     /// Judges the journal by the rules.
     pub fn audit(&self, alloc: Global) -> Result<(), Fault>
-        ensures { Audits self.now.desk result }
+        ensures { Audits self.now result }
     {
-        let desk = &self.desk;
-        match audit(
-            alloc,
-            desk.torrent(),
-            desk.workers(),
-            desk.rules(),
-            desk.journal(),
-        ) {
-            Ok(()) => Ok(()),
-            Err(AuditFault::NotAllowed(_)) => unreachable!(),
-            Err(AuditFault::NoMemory) => Err(Fault::NoMemory),
+        match &self.engine {
+            Engine::Desk(desk) => judge(alloc, desk),
+            _ => Err(Fault::Keeps),
         }
+    }
+}
+
+/// The length of a piece's content, where that is had.
+fn content_len(desk: &Desk, piece: u32) -> Result<u32, Fault>
+    ensures { SaysOfContent desk.now piece result }
+{
+    if piece >= desk.torrent().piece_count() {
+        return Err(Fault::Piece);
+    }
+    if !desk.had(piece) {
+        return Err(Fault::NotHad);
+    }
+    // It is the piece's, since in a legal journal each block that is held has its length.
+    let _legal = desk.journal();
+    Ok(desk.torrent().piece_len(piece))
+}
+
+/// Writes the bytes of a piece that is had into a room of their number.
+fn read(desk: &Desk, piece: u32, room: &mut [u8]) -> Result<(), Fault>
+    ensures { ReadsFrom desk.now piece room.old room.new result }
+{
+    let length = content_len(desk, piece)?;
+    if room.len() != length as usize {
+        return Err(Fault::Room);
+    }
+    match desk.write_piece(&mut Buffer::new(room), piece) {
+        // A room refuses where it is full, and then it has all of the content.
+        Ok(()) | Err(ContentFault::WriteFault) => Ok(()),
+        Err(ContentFault::Incomplete) => Err(Fault::NotHad),
+    }
+}
+
+/// Judges the journal by the rules, of which the desk's are such as may be chosen.
+fn judge(alloc: Global, desk: &Desk) -> Result<(), Fault>
+    requires { AreRules desk.now.setting.torrent (rules_of_setting desk.now.setting) }
+    ensures { AuditsBy desk.now result }
+{
+    match audit(
+        alloc,
+        desk.torrent(),
+        desk.workers(),
+        desk.rules(),
+        desk.journal(),
+    ) {
+        Ok(()) => Ok(()),
+        Err(AuditFault::NotAllowed(_)) => unreachable!(),
+        Err(AuditFault::NoMemory) => Err(Fault::NoMemory),
     }
 }

@@ -1,14 +1,17 @@
-//! Calls of workers that are tested.
+//! Calls whose numbers are tested.
 ghost use Rattle.std.specs.Prelude.{◌≡◌};
 ghost use Rattle.bt_history.specs.declared.event.Action.TheVariants as actions;
-ghost use Rattle.bt_history.specs.Entries.{action_of};
-ghost use Rattle.bt_c.specs.Calling.{Makes, MakesFlags, Settles, Spelling};
+ghost use Rattle.bt_picker.specs.Told.{action_told};
+ghost use Rattle.bt_c.specs.declared.engine.Keeping.TheVariants as keeps;
+ghost use Rattle.bt_c.specs.Behind.{state};
+ghost use Rattle.bt_c.specs.Calling.{Makes, MakesAt, MakesFlags, Restores, Settles, Spelling, Vouches, VouchesFor, outcome_of};
+ghost use Rattle.bt_c.specs.Outcomes.{StaysItself};
 
+use crate::engine::Engine;
 use crate::fault::Fault;
 use crate::held::Held;
 use bt_meta::{BitFault, Bitfield};
-use bt_picker::{Call, Reply};
-use bytes::Bytes;
+use bt_picker::{Reason, Reply, Restored, Told};
 use std::alloc::Global;
 
 /// The flags that the bytes spell, one for each of so many pieces.
@@ -23,108 +26,143 @@ fn flags_of(alloc: Global, bytes: &[u8], pieces: u32) -> Result<Bitfield, Fault>
     }
 }
 
+/// What came of a restore, as a reply or a fault.
+fn restored(restored: Restored) -> Result<Reply, Fault>
+    ensures { result ≡ outcome_of restored }
+{
+    match restored {
+        Restored::Had => Ok(Reply::Had),
+        Restored::Failed => Ok(Reply::Failed),
+        Restored::Begun => Err(Fault::Begun),
+        Restored::Refused(Reason::NoSuchPiece) => Err(Fault::Piece),
+        Restored::Refused(Reason::WrongLength) => Err(Fault::Room),
+        Restored::Refused(reason) => Ok(Reply::Refused(reason)),
+    }
+}
+
 impl Held {
     /// Makes a call of the worker, where there is one.
-    pub fn call(&mut self, worker: u32, call: Call) -> Result<Reply, Fault>
-        ensures { Makes self.old.desk self.new.desk worker (action_of call) result }
+    pub fn call(&mut self, alloc: Global, worker: u32, told: Told<'_>) -> Result<Reply, Fault>
+        ensures same { StaysItself self.old self.new }
+        ensures makes { Makes (state self.old) (state self.new) worker (action_told told.entry) result }
     {
-        if worker >= self.desk.workers() {
+        if worker >= self.engine.workers() {
             return Err(Fault::Worker);
         }
-        match self.desk.call(worker, call) {
+        match self.engine.tell(alloc, worker, told) {
             Ok(reply) => Ok(reply),
             Err(_) => Err(Fault::NoMemory),
         }
     }
 
-    /// Has a piece checked.
-    pub fn settle_now(&mut self, alloc: Global, worker: u32, piece: u32) -> Result<Reply, Fault>
-        ensures { Settles self.old.desk self.new.desk worker piece result }
-    {
-        if worker >= self.desk.workers() {
-            return Err(Fault::Worker);
-        }
-        match self.desk.settle_now(alloc, worker, piece) {
-            Ok(reply) => Ok(reply),
-            Err(_) => Err(Fault::NoMemory),
-        }
-    }
-
-    /// Tells the set of pieces that the payload of a `bitfield` message spells.
-    pub fn bits(&mut self, alloc: Global, worker: u32, bytes: &[u8]) -> Result<Reply, Fault>
-        ensures { MakesFlags self.old.desk self.new.desk worker bytes.now actions.Bits result }
-    {
-        if worker >= self.desk.workers() {
-            return Err(Fault::Worker);
-        }
-        match flags_of(alloc, bytes, self.desk.torrent().piece_count()) {
-            Ok(flags) => self.call(worker, Call::Bits(flags)),
-            Err(fault) => Err(fault),
-        }
-    }
-
-    /// Tells which pieces are wanted, spelled as a `bitfield` message spells them.
-    pub fn want(&mut self, alloc: Global, worker: u32, bytes: &[u8]) -> Result<Reply, Fault>
-        ensures { MakesFlags self.old.desk self.new.desk worker bytes.now actions.Want result }
-    {
-        if worker >= self.desk.workers() {
-            return Err(Fault::Worker);
-        }
-        match flags_of(alloc, bytes, self.desk.torrent().piece_count()) {
-            Ok(flags) => self.call(worker, Call::Want(flags)),
-            Err(fault) => Err(fault),
-        }
-    }
-
-    /// Tells which pieces the peer has too, spelled as a `bitfield` message spells them.
-    pub fn haves(&mut self, alloc: Global, worker: u32, bytes: &[u8]) -> Result<Reply, Fault>
-        ensures { MakesFlags self.old.desk self.new.desk worker bytes.now actions.Haves result }
-    {
-        if worker >= self.desk.workers() {
-            return Err(Fault::Worker);
-        }
-        match flags_of(alloc, bytes, self.desk.torrent().piece_count()) {
-            Ok(flags) => self.call(worker, Call::Haves(flags)),
-            Err(fault) => Err(fault),
-        }
-    }
-
-    /// Tells the level of each piece, and keeps a copy of the bytes.
-    pub fn levels(&mut self, alloc: Global, worker: u32, levels: &[u8]) -> Result<Reply, Fault>
-        ensures { Makes self.old.desk self.new.desk worker (actions.Levels levels.now) result }
-    {
-        if worker >= self.desk.workers() {
-            return Err(Fault::Worker);
-        }
-        match Bytes::copy_from_slice(alloc, levels) {
-            Ok(levels) => self.call(worker, Call::Levels(levels)),
-            Err(_) => Err(Fault::NoMemory),
-        }
-    }
-
-    /// Brings a block, of which it keeps a copy.
-    pub fn arrived(
+    /// Makes a call of the worker that names the piece, where there are both.
+    pub fn call_at(
         &mut self,
         alloc: Global,
         worker: u32,
         piece: u32,
-        begin: u32,
-        bytes: &[u8],
+        told: Told<'_>,
     ) -> Result<Reply, Fault>
-        ensures { Makes self.old.desk self.new.desk worker (actions.Arrived piece begin bytes.now) result }
+        ensures same { StaysItself self.old self.new }
+        ensures makes { MakesAt (state self.old) (state self.new) worker piece (action_told told.entry) result }
     {
-        if worker >= self.desk.workers() {
+        if worker >= self.engine.workers() {
             return Err(Fault::Worker);
         }
-        match Bytes::copy_from_slice(alloc, bytes) {
-            Ok(bytes) => self.call(
-                worker,
-                Call::Arrived {
-                    piece,
-                    begin,
-                    bytes,
-                },
-            ),
+        if piece >= self.torrent.piece_count() {
+            return Err(Fault::Piece);
+        }
+        self.call(alloc, worker, told)
+    }
+
+    /// Tells the set of pieces that the payload of a `bitfield` message spells.
+    pub fn bits(&mut self, alloc: Global, worker: u32, bytes: &[u8]) -> Result<Reply, Fault>
+        ensures same { StaysItself self.old self.new }
+        ensures makes { MakesFlags (state self.old) (state self.new) worker bytes.now actions.Bits result }
+    {
+        if worker >= self.engine.workers() {
+            return Err(Fault::Worker);
+        }
+        let flags = flags_of(alloc, bytes, self.torrent.piece_count())?;
+        self.call(alloc, worker, Told::Bits(&flags))
+    }
+
+    /// Tells which pieces the peer has too, spelled as a `bitfield` message spells them.
+    pub fn haves(&mut self, alloc: Global, worker: u32, bytes: &[u8]) -> Result<Reply, Fault>
+        ensures same { StaysItself self.old self.new }
+        ensures makes { MakesFlags (state self.old) (state self.new) worker bytes.now actions.Haves result }
+    {
+        if worker >= self.engine.workers() {
+            return Err(Fault::Worker);
+        }
+        let flags = flags_of(alloc, bytes, self.torrent.piece_count())?;
+        self.call(alloc, worker, Told::Haves(&flags))
+    }
+
+    /// Tells which pieces are wanted, spelled as a `bitfield` message spells them.
+    pub fn want(&mut self, alloc: Global, bytes: &[u8]) -> Result<Reply, Fault>
+        ensures same { StaysItself self.old self.new }
+        ensures makes { MakesFlags (state self.old) (state self.new) 0 bytes.now actions.Want result }
+    {
+        let flags = flags_of(alloc, bytes, self.torrent.piece_count())?;
+        self.call(alloc, 0, Told::Want(&flags))
+    }
+
+    /// Settles a piece of a picker that keeps no content, by the digest of what arrived.
+    pub fn settle(&mut self, piece: u32, digest: &[u8; 20]) -> Result<Reply, Fault>
+        requires { Vouches self.old piece digest.now }
+        ensures same { StaysItself self.old self.new }
+        ensures settles { Settles keeps.Nothing self.old (state self.new) piece result }
+    {
+        let Engine::Picker(picker) = &mut self.engine else {
+            return Err(Fault::Keeps);
+        };
+        if piece >= picker.torrent().piece_count() {
+            return Err(Fault::Piece);
+        }
+        if !picker.is_waiting(piece) {
+            return Err(Fault::NotWaiting);
+        }
+        Ok(picker.settle(0, piece, digest))
+    }
+
+    /// Tells a picker that keeps no content that a whole piece is there, whose bytes have this digest.
+    pub fn restore(
+        &mut self,
+        worker: u32,
+        piece: u32,
+        bytes: &[u8],
+        digest: &[u8; 20],
+    ) -> Result<Reply, Fault>
+        requires { VouchesFor self.old bytes.now digest.now }
+        ensures same { StaysItself self.old self.new }
+        ensures restores { Restores self.old (state self.new) worker piece bytes.now result }
+    {
+        let Engine::Picker(picker) = &mut self.engine else {
+            return Err(Fault::Keeps);
+        };
+        if worker >= picker.workers() {
+            return Err(Fault::Worker);
+        }
+        restored(picker.restore(worker, piece, bytes, digest))
+    }
+
+    /// Has a piece checked by a picker that keeps a journal.
+    pub fn settle_now(&mut self, alloc: Global, piece: u32) -> Result<Reply, Fault>
+        ensures same { StaysItself self.old self.new }
+        ensures settles { Settles keeps.Journal self.old (state self.new) piece result }
+    {
+        let Engine::Desk(desk) = &mut self.engine else {
+            return Err(Fault::Keeps);
+        };
+        if piece >= desk.torrent().piece_count() {
+            return Err(Fault::Piece);
+        }
+        if !desk.is_waiting(piece) {
+            return Err(Fault::NotWaiting);
+        }
+        match desk.settle_now(alloc, 0, piece) {
+            Ok(reply) => Ok(reply),
             Err(_) => Err(Fault::NoMemory),
         }
     }

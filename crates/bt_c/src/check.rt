@@ -5,6 +5,7 @@ ghost use Rattle.bt_c.specs.Jobs.{checked_of, is_ready};
 
 use crate::fault::Fault;
 use bt_picker::{Job, Verdict};
+use bytes::Bytes;
 use std::alloc::Global;
 use std::sync::Arc;
 
@@ -39,6 +40,17 @@ impl Check {
             Check::Due(job) => share(alloc, job.hash()),
             Check::Hashed(verdict) => share(alloc, verdict),
             Check::Ready(verdict) => (Check::Ready(verdict), Ok(())),
+        }
+    }
+
+    /// The blocks of the piece.
+    pub fn blocks(&self) -> &[Bytes]
+        ensures { result.now ≡ (checked_of self.now).blocks }
+    {
+        match self {
+            Check::Due(job) => job.blocks.as_slice(),
+            Check::Hashed(verdict) => verdict.blocks(),
+            Check::Ready(verdict) => verdict.blocks(),
         }
     }
 

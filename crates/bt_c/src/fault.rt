@@ -9,11 +9,11 @@ use std::alloc::{AllocError, AllocFailed};
 /// Why a call at a handle did nothing.
 #[derive(Clone, Copy, Debug, PartialEq, Eq)]
 pub enum Fault {
-    /// The handle holds no desk.
+    /// The handle holds nothing. No pointer that was opened has such a handle.
     Shut,
-    /// The handle that is to be filled holds something already.
+    /// The pointer that is to be filled isn't NULL.
     Open,
-    /// No such worker; or, where a desk is to be made, a number of workers that isn't 1 to 1,024.
+    /// No such worker; or, where a picker is to be made, a number of workers that isn't 1 to 1,024.
     Worker,
     /// No such piece.
     Piece,
@@ -21,12 +21,12 @@ pub enum Fault {
     BitsLength,
     /// A bit behind those of the pieces is set.
     SpareBits,
-    /// The room has another length than the piece.
+    /// The room has another length than what is to be written.
     Room,
     NoMemory,
     /// The piece isn't had.
     NotHad,
-    /// A depth that isn't 1 to 64, or more pieces at random than there are.
+    /// A depth that isn't 1 to 64, a greatest one that isn't 1 to 4,096, no askers, or more pieces at random than there are.
     Rules,
     /// The piece isn't full, or is had already: there is nothing to check.
     NotWaiting,
@@ -36,6 +36,18 @@ pub enum Fault {
     NotHashed,
     /// Fewer blocks than that are asked of the peer.
     Place,
+    /// The picker doesn't keep what the call needs, or keeps what makes it needless.
+    Keeps,
+    /// The options have another size, or say that something is kept which isn't.
+    Options,
+    /// The bytes that were hashed are no longer those that are held.
+    Stale,
+    /// No such block of the piece.
+    Block,
+    /// The block isn't held.
+    NotHeld,
+    /// A block of the piece is held or asked of a peer, or it is had already.
+    Begun,
     /// The bytes are no metainfo file, or the parts make no torrent.
     Metainfo(MetaFault),
 }
@@ -60,6 +72,12 @@ impl Fault {
             Fault::NoJob => 12,
             Fault::NotHashed => 13,
             Fault::Place => 14,
+            Fault::Keeps => 15,
+            Fault::Options => 16,
+            Fault::Stale => 17,
+            Fault::Block => 18,
+            Fault::NotHeld => 19,
+            Fault::Begun => 20,
             Fault::Metainfo(fault) => 100 + u32::from(fault.number()),
         }
     }

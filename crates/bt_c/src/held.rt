@@ -1,13 +1,20 @@
-//! The desk that stands behind a handle.
+//! The picker that stands behind a handle.
 
+ghost use Rattle.std.specs.Prelude.{◌≡◌, ◌≤◌};
 ghost use Rattle.bt_history.specs.Setting.{AreRules};
+ghost use Rattle.bt_c.specs.Engines.{state_of};
 ghost use Rattle.bt_c.specs.Rules.{rules_of_setting};
 
-use bt_picker::Desk;
+use crate::engine::Engine;
+use bt_meta::Torrent;
+use std::sync::Arc;
 
-/// A desk behind a handle. Its calls test what the desk's own calls require of their callers.
+/// A picker behind a handle, and its torrent. Its calls test what the picker's own calls require of their callers.
 #[derive(Drop)]
 pub struct Held {
-    pub desk: Desk,
-    ghost are_rules: { AreRules desk.setting.torrent (rules_of_setting desk.setting) },
+    pub engine: Engine,
+    pub torrent: Arc<Torrent>,
+    ghost are_rules: { AreRules (state_of engine).setting.torrent (rules_of_setting (state_of engine).setting) },
+    ghost own_torrent: { torrent.value.layout ≡ (state_of engine).setting.torrent },
+    ghost has_worker: { 1 ≤ (state_of engine).setting.workers },
 }

@@ -9,7 +9,7 @@ use std::alloc::Global;
 use std::marker::Model;
 use std::ptr::null_mut;
 
-/// A handle: one pointer in C. Null holds no job.
+/// What lies behind C's `piecepick_job *`: one pointer, of which C knows nothing. Null holds no job.
 #[repr(C)]
 pub struct JobHandle {
     at: *mut u8,

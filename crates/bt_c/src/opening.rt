@@ -1,33 +1,21 @@
-//! A desk for an empty handle.
-ghost use Rattle.std.specs.Prelude.{◌≡◌, [], IfOk, IfErr};
-ghost use Rattle.bt_history.specs.Setting.{AreRules, setting_of};
+//! A picker for an empty pointer.
+ghost use Rattle.std.specs.Prelude.{◌≡◌, IfOk, IfErr, Some};
 ghost use Rattle.bt_meta.specs.Reading.{Gives, torrent_of_file};
-ghost use Rattle.bt_c.specs.Opening.{AreWorkers, IsDecided, IsRefusal, Opened, PutsIn, digests_in, torrent_of_parts};
+ghost use Rattle.bt_c.specs.Opening.{AreChoices, AreOptions, AreWorkers, IsNew, IsRefusal, IsUnfit, MakesHandle, Opened, PutsIn};
+ghost use Rattle.bt_c.specs.Opening.{digests_in, keeping_by, torrent_of_parts};
 
-use crate::desk_handle::DeskHandle;
+use crate::engine::{Engine, Keeping};
 use crate::fault::Fault;
 use crate::held::Held;
+use crate::options::{Options, SIZE};
+use crate::picker_handle::PickerHandle;
+use crate::picker_pointer::PickerPointer;
 use bt_meta::{MetaFault, Torrent};
-use bt_picker::{Desk, MOST_DEPTH, MOST_WORKERS, Rules};
 use std::alloc::{AllocError, Global};
 use std::sync::Arc;
 
 /// The bytes of a SHA-1.
 const DIGEST_LEN: usize = 20;
-
-/// Whether a desk may have so many workers.
-fn are_workers(workers: u32) -> bool
-    ensures { IsDecided result (AreWorkers workers) }
-{
-    1 <= workers && workers <= MOST_WORKERS
-}
-
-/// Whether a picker of the torrent may go by these rules.
-fn are_rules(torrent: &Torrent, rules: Rules) -> bool
-    ensures { IsDecided result (AreRules torrent.now.layout rules) }
-{
-    1 <= rules.depth && rules.depth <= MOST_DEPTH && rules.random <= torrent.piece_count()
-}
 
 /// The digests that stand one behind the other.
 fn digests(alloc: Global, bytes: &[u8]) -> Result<Vec<[u8; 20]>, AllocError>
@@ -51,60 +39,91 @@ fn torrent_of_parts(
     Torrent::of_parts(piece_len, total, digests(alloc, hashes)?, [0; 20])
 }
 
+/// What is kept, where the options are of this interface and say so, and the workers may be so many.
+fn keeping_of(options: Options) -> Result<Keeping, Fault>
+    ensures ok { IfOk result (λ keeping. AreOptions options × AreWorkers options.workers × (keeping_by options.keeps ≡ Some keeping)) }
+    ensures err { IfErr result (λ fault. IsUnfit options fault) }
+{
+    if options.size != SIZE {
+        return Err(Fault::Options);
+    }
+    let Some(keeping) = options.keeping() else {
+        return Err(Fault::Options);
+    };
+    if !options.are_workers() {
+        return Err(Fault::Worker);
+    }
+    Ok(keeping)
+}
+
 impl Held {
-    /// A desk of the torrent.
-    fn new(alloc: Global, torrent: Torrent, workers: u32, rules: Rules) -> Result<Held, Fault>
-        requires { AreWorkers workers }
-        ensures ok { IfOk result (λ h. AreRules torrent.layout rules
-            × (h.desk.setting ≡ setting_of torrent.layout workers rules) × (h.desk.history ≡ [])) }
-        ensures err { IfErr result (λ fault. IsRefusal torrent.layout rules fault) }
+    /// A picker of the torrent.
+    fn new(
+        alloc: Global,
+        torrent: Torrent,
+        keeping: Keeping,
+        options: Options,
+    ) -> Result<Held, Fault>
+        requires workers { AreWorkers options.workers }
+        requires keeping { keeping_by options.keeps ≡ Some keeping }
+        ensures ok { IfOk result (λ h. AreChoices torrent.layout options × IsNew torrent options h) }
+        ensures err { IfErr result (λ fault. IsRefusal torrent.layout options fault) }
     {
-        if !are_rules(&torrent, rules) {
+        if !options.are_choices(&torrent) {
             return Err(Fault::Rules);
         }
         let torrent = Arc::new(alloc, torrent)?;
+        let shared = torrent.clone()?;
         Ok(Held {
-            desk: Desk::new(alloc, torrent, workers, rules)?,
+            engine: Engine::new(alloc, keeping, shared, options.workers, options.rules())?,
+            torrent,
         })
     }
 
-    /// A desk of the torrent whose metainfo file this is.
-    pub fn open(alloc: Global, metainfo: &[u8], workers: u32, rules: Rules) -> Result<Held, Fault>
-        ensures { Opened (torrent_of_file metainfo.now) workers rules result }
+    /// A picker of the torrent whose metainfo file this is.
+    pub fn open(alloc: Global, metainfo: &[u8], options: Options) -> Result<Held, Fault>
+        ensures { Opened (torrent_of_file metainfo.now) options result }
     {
-        if !are_workers(workers) {
-            return Err(Fault::Worker);
-        }
-        Held::new(alloc, Torrent::read(alloc, metainfo)?, workers, rules)
+        let keeping = keeping_of(options)?;
+        let torrent = Torrent::read(alloc, metainfo)?;
+        Held::new(alloc, torrent, keeping, options)
     }
 
-    /// A desk of the torrent of these parts.
+    /// A picker of the torrent of these parts.
     pub fn open_parts(
         alloc: Global,
         piece_len: u32,
         total: u64,
         hashes: &[u8],
-        workers: u32,
-        rules: Rules,
+        options: Options,
     ) -> Result<Held, Fault>
-        ensures { Opened (torrent_of_parts piece_len total hashes.now) workers rules result }
+        ensures { Opened (torrent_of_parts piece_len total hashes.now) options result }
     {
-        if !are_workers(workers) {
-            return Err(Fault::Worker);
-        }
+        let keeping = keeping_of(options)?;
         let torrent = torrent_of_parts(alloc, piece_len, total, hashes)?;
-        Held::new(alloc, torrent, workers, rules)
+        Held::new(alloc, torrent, keeping, options)
     }
 }
 
-/// Puts a new desk into an empty handle.
-pub fn fill(alloc: Global, desk: &mut DeskHandle, opened: Result<Held, Fault>) -> Result<(), Fault>
-    ensures { PutsIn opened desk.old.desk desk.new.desk result }
+/// The handle of a new picker.
+fn handle_of(alloc: Global, opened: Result<Held, Fault>) -> Result<PickerHandle, Fault>
+    ensures { MakesHandle opened result }
 {
-    if let Some(held) = desk.take(alloc) {
-        *desk = DeskHandle::of(held);
+    Ok(PickerHandle::of(Box::new(alloc, opened?)?))
+}
+
+/// Puts a new picker into an empty pointer.
+pub fn fill(
+    alloc: Global,
+    pointer: &mut PickerPointer,
+    opened: Result<Held, Fault>,
+) -> Result<(), Fault>
+    ensures { PutsIn opened pointer.old.picker pointer.new.picker result }
+{
+    if let Some(handle) = pointer.take(alloc) {
+        *pointer = PickerPointer::of(handle);
         return Err(Fault::Open);
     }
-    *desk = DeskHandle::of(Box::new(alloc, opened?)?);
+    *pointer = PickerPointer::of(Box::new(alloc, handle_of(alloc, opened)?)?);
     Ok(())
 }

@@ -1,5 +1,5 @@
 -- What becomes of the bytes that a keeper holds.
-use Rattle.std.specs.Prelude.{ℕ, ◌≡◌, ◌≢◌, true, List, [], ⊤}
+use Rattle.std.specs.Prelude.{ℕ, ◌≡◌, ◌≢◌, true, List, [], ⊤, ◌⊎◌}
 use Rattle.bt_check.specs.Checked.{Checked}
 use Rattle.bt_history.specs.declared.call.Reason.TheVariants.{Stale}
 use Rattle.bt_history.specs.declared.call.Reply.{Reply}
@@ -23,6 +23,10 @@ IsStale old v = (waits old.setting old.history v.piece ≡ true) × (v.blocks �
 pub record SettlesBy (old new : DeskState) (w : ℕ) (v : Checked) (reply : Reply) : Type 0 where
   pub current : ¬ IsStale old v → Settles old new w v.piece reply
   pub stale : IsStale old v → (new ≡ old) × (reply ≡ Refused Stale)
+
+-- the piece is settled, or the verdict is stale and nothing changes
+abbrev pub SettlesOrStale : DeskState → DeskState → ℕ → ℕ → Reply → Type 0
+SettlesOrStale old new w p reply = Settles old new w p reply ⊎ ((new ≡ old) × (reply ≡ Refused Stale))
 
 -- the call brings no block
 abbrev pub BringsNone : Action → Type 0

@@ -6,13 +6,14 @@ ghost use Rattle.bt_meta.specs.Layout.{block, block_count, hash_of, piece_count}
 ghost use Rattle.bt_history.specs.declared.call.Reply.{Reply};
 ghost use Rattle.bt_history.specs.declared.event.Action.TheVariants.{Arrived};
 ghost use Rattle.bt_history.specs.Epochs.{epoch};
+ghost use Rattle.bt_history.specs.Legal.{IsLegal};
 ghost use Rattle.bt_history.specs.Peers.{outstanding};
 ghost use Rattle.bt_history.specs.Pieces.{availability, content, content_of_block, had, in_order, level, sender, wanted};
 ghost use Rattle.bt_history.specs.Setting.{AreRules, setting_of};
 ghost use Rattle.bt_picker.specs.Checks.{IsJobOf, arriving, blocks_of, waits};
 ghost use Rattle.bt_picker.specs.Contents.{complete, has_wanted};
 ghost use Rattle.bt_picker.specs.Told.{Settles, Tells, action_told, telling};
-ghost use Rattle.bt_keeper.specs.Kept.{BringsNone, HandsOut, IsStale, SettlesBy};
+ghost use Rattle.bt_keeper.specs.Kept.{BringsNone, HandsOut, IsStale, SettlesBy, SettlesOrStale};
 
 use crate::settled::Settled;
 use crate::stash::Stash;
@@ -141,6 +142,8 @@ impl Keeper {
     /// verdict of other blocks than those held is refused, and changes nothing. Takes no memory.
     pub fn settle(&mut self, worker: u32, verdict: &Verdict) -> Settled
         ensures settles { SettlesBy self.old self.new worker verdict.now result.reply }
+        // Whoever doesn't know whether the verdict is stale has one of these.
+        ensures either { SettlesOrStale self.old self.new worker verdict.now.piece result.reply }
         ensures blocks { HandsOut self.old verdict.now.piece result.reply result.blocks.items }
         // What is handed out has the hash that the metainfo gives for the piece.
         ensures hashed { result.reply ≡ Reply.Had →
@@ -231,6 +234,13 @@ impl Keeper {
         ensures { result.now ≡ content_of_block self.now.history (block self.now.setting.torrent piece index) }
     {
         self.stash.bytes(piece, index)
+    }
+
+    /// Tells a proof what holds of each keeper. Nothing is done.
+    pub fn attest(&self)
+        ensures legal { IsLegal self.now.setting self.now.history }
+    {
+        self.picker.attest();
     }
 
     /// The torrent of the download.

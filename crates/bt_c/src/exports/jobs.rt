@@ -1,68 +1,64 @@
-//! Checks of pieces that are hashed without the desk.
+//! Checks of pieces that are hashed without the picker.
 ghost use Rattle.std.specs.Prelude.{◌≡◌, None};
-ghost use Rattle.bt_c.specs.Jobs.{PutsJob, TellsHash, TellsJob, TellsVerdict};
+ghost use Rattle.bt_c.specs.Jobs.{PutsJob, TellsHash, TellsJob, TellsRead, TellsVerdict};
 ghost use Rattle.bt_c.specs.Outcomes.{AtHandle, Tells};
 
 use super::tell::{tell, tell_done};
 use crate::answer::Answer;
-use crate::desk_handle::DeskHandle;
 use crate::fault::Fault;
 use crate::job_handle::JobHandle;
-use crate::jobs::hash;
+use crate::job_pointer::JobPointer;
+use crate::jobs::{hash, read};
+use crate::picker_handle::PickerHandle;
 use bt_picker::Reply;
 use std::alloc::Global;
 
-/// Puts a piece that waits for a check behind an empty handle.
+/// Puts a piece that waits for a check behind an empty pointer.
 fn take_job(
     alloc: Global,
-    desk: &mut DeskHandle,
+    picker: &mut PickerHandle,
     piece: u32,
-    job: &mut JobHandle,
+    job: &mut JobPointer,
 ) -> Result<(), Fault>
-    ensures same { desk.new.desk ≡ desk.old.desk }
-    ensures puts { PutsJob desk.old.desk job.old.check job.new.check piece result }
+    ensures same { picker.new.held ≡ picker.old.held }
+    ensures puts { PutsJob picker.old.held job.old.job job.new.job piece result }
 {
-    let Some(held) = desk.take(alloc) else {
+    let Some(held) = picker.take(alloc) else {
         return Err(Fault::Shut);
     };
     let done = held.take_job(alloc, piece, job);
-    *desk = DeskHandle::of(held);
+    *picker = PickerHandle::of(held);
     done
 }
 
 /// Settles the verdict of the check behind the handle.
-fn settle(
-    alloc: Global,
-    desk: &mut DeskHandle,
-    worker: u32,
-    job: &mut JobHandle,
-) -> Result<Reply, Fault>
+fn settle(alloc: Global, picker: &mut PickerHandle, job: &mut JobHandle) -> Result<Reply, Fault>
     ensures same { job.new.check ≡ job.old.check }
-    ensures tells { AtHandle (λ d e o. TellsVerdict job.old.check d e worker o) desk.old.desk desk.new.desk result }
+    ensures tells { AtHandle (λ h e o. TellsVerdict job.old.check h e o) picker.old.held picker.new.held result }
 {
-    let Some(mut held) = desk.take(alloc) else {
+    let Some(mut held) = picker.take(alloc) else {
         return Err(Fault::Shut);
     };
-    let outcome = held.settle(alloc, worker, job);
-    *desk = DeskHandle::of(held);
+    let outcome = held.settle_job(alloc, job);
+    *picker = PickerHandle::of(held);
     outcome
 }
 
-/// Puts the check of a piece that is full and isn't had into an empty handle.
+/// Makes the job of checking a piece that is full and isn't had.
 #[unsafe(no_mangle)]
-pub extern "C" fn piecepick_job(
+pub extern "C" fn piecepick_job_take(
     alloc: Global,
-    desk: &mut DeskHandle,
+    picker: &mut PickerHandle,
     piece: u32,
-    job: &mut JobHandle,
+    job: &mut JobPointer,
 ) -> u32
-    ensures same { desk.new.desk ≡ desk.old.desk }
-    ensures puts { TellsJob desk.old.desk job.old.check job.new.check piece result }
+    ensures same { picker.new.held ≡ picker.old.held }
+    ensures puts { TellsJob picker.old.held job.old.job job.new.job piece result }
 {
-    tell_done(take_job(alloc, desk, piece, job))
+    tell_done(take_job(alloc, picker, piece, job))
 }
 
-/// Hashes the check. No desk is needed, so others may use it meanwhile.
+/// Hashes the piece of the job. No picker is needed, so others may use it meanwhile.
 #[unsafe(no_mangle)]
 pub extern "C" fn piecepick_job_hash(alloc: Global, job: &mut JobHandle) -> u32
     ensures { TellsHash job.old.check job.new.check result }
@@ -70,26 +66,34 @@ pub extern "C" fn piecepick_job_hash(alloc: Global, job: &mut JobHandle) -> u32
     tell_done(hash(alloc, job))
 }
 
-/// Tells a desk the verdict of a check that was hashed.
+/// Tells the picker the verdict of a job that was hashed.
 #[unsafe(no_mangle)]
 pub extern "C" fn piecepick_job_settle(
     alloc: Global,
-    desk: &mut DeskHandle,
-    worker: u32,
+    picker: &mut PickerHandle,
     job: &mut JobHandle,
     answer: &mut Answer,
 ) -> u32
     ensures same { job.new.check ≡ job.old.check }
-    ensures tells { Tells (λ d e o. TellsVerdict job.old.check d e worker o)
-        desk.old.desk desk.new.desk result answer.new }
+    ensures tells { Tells (λ h e o. TellsVerdict job.old.check h e o)
+        picker.old.held picker.new.held result answer.new }
 {
-    tell(settle(alloc, desk, worker, job), answer)
+    tell(settle(alloc, picker, job), answer)
 }
 
-/// Frees the check, if there is one; the handle is empty then.
+/// Writes the bytes of the job's piece into a room of their number, whether it was hashed or not. Takes no memory.
 #[unsafe(no_mangle)]
-pub extern "C" fn piecepick_job_close(alloc: Global, job: &mut JobHandle)
-    ensures { job.new.check ≡ None }
+pub extern "C" fn piecepick_job_read(alloc: Global, job: &mut JobHandle, room: &mut [u8]) -> u32
+    ensures same { job.new.check ≡ job.old.check }
+    ensures reads { TellsRead job.old.check room.old room.new result }
+{
+    tell_done(read(alloc, job, room))
+}
+
+/// Frees the job, if there is one; the pointer is NULL then.
+#[unsafe(no_mangle)]
+pub extern "C" fn piecepick_job_close(alloc: Global, job: &mut JobPointer)
+    ensures { job.new.job ≡ None }
 {
     drop(job.take(alloc));
 }

@@ -1,118 +1,79 @@
 //! What a worker tells of its peer, and asks.
-ghost use Rattle.std.specs.Prelude.{◌≡◌, ◌==◌, min, not};
+ghost use Rattle.std.specs.Prelude.{◌≡◌};
 ghost use Rattle.bt_history.specs.declared.event.Action.TheVariants as actions;
-ghost use Rattle.bt_history.specs.Entries.{action_of};
-ghost use Rattle.bt_c.specs.Calling.{Makes, MakesFlags, Settles};
+ghost use Rattle.bt_picker.specs.Told.{action_told};
+ghost use Rattle.bt_c.specs.Behind.{state};
+ghost use Rattle.bt_c.specs.Calling.{Makes, MakesAt, MakesFlags};
 ghost use Rattle.bt_c.specs.Outcomes.{AtHandle, Tells};
 
 use super::tell::tell;
 use crate::answer::Answer;
-use crate::desk_handle::DeskHandle;
 use crate::fault::Fault;
-use bt_picker::{Call, Reply};
+use crate::picker_handle::PickerHandle;
+use bt_picker::{Reply, Told};
 use std::alloc::Global;
 
-/// Makes the worker's call at the desk behind the handle.
-fn call(alloc: Global, desk: &mut DeskHandle, worker: u32, call: Call) -> Result<Reply, Fault>
-    ensures { AtHandle (λ d e o. Makes d e worker (action_of call) o) desk.old.desk desk.new.desk result }
+/// Makes the worker's call.
+pub fn call(
+    alloc: Global,
+    picker: &mut PickerHandle,
+    worker: u32,
+    told: Told<'_>,
+) -> Result<Reply, Fault>
+    ensures { AtHandle (λ h e o. Makes (state h) e worker (action_told told.entry) o) picker.old.held picker.new.held result }
 {
-    let Some(mut held) = desk.take(alloc) else {
+    let Some(mut held) = picker.take(alloc) else {
         return Err(Fault::Shut);
     };
-    let outcome = held.call(worker, call);
-    *desk = DeskHandle::of(held);
+    let outcome = held.call(alloc, worker, told);
+    *picker = PickerHandle::of(held);
+    outcome
+}
+
+/// Makes the worker's call, which names the piece.
+pub fn call_at(
+    alloc: Global,
+    picker: &mut PickerHandle,
+    worker: u32,
+    piece: u32,
+    told: Told<'_>,
+) -> Result<Reply, Fault>
+    ensures { AtHandle (λ h e o. MakesAt (state h) e worker piece (action_told told.entry) o) picker.old.held picker.new.held result }
+{
+    let Some(mut held) = picker.take(alloc) else {
+        return Err(Fault::Shut);
+    };
+    let outcome = held.call_at(alloc, worker, piece, told);
+    *picker = PickerHandle::of(held);
     outcome
 }
 
 /// Bits, with the payload of a bitfield.
-fn bits(alloc: Global, desk: &mut DeskHandle, worker: u32, bytes: &[u8]) -> Result<Reply, Fault>
-    ensures { AtHandle (λ d e o. MakesFlags d e worker bytes.now actions.Bits o) desk.old.desk desk.new.desk result }
+fn bits(alloc: Global, picker: &mut PickerHandle, worker: u32, bytes: &[u8]) -> Result<Reply, Fault>
+    ensures { AtHandle (λ h e o. MakesFlags (state h) e worker bytes.now actions.Bits o) picker.old.held picker.new.held result }
 {
-    let Some(mut held) = desk.take(alloc) else {
+    let Some(mut held) = picker.take(alloc) else {
         return Err(Fault::Shut);
     };
     let outcome = held.bits(alloc, worker, bytes);
-    *desk = DeskHandle::of(held);
-    outcome
-}
-
-/// Want, with the payload of a bitfield.
-fn want(alloc: Global, desk: &mut DeskHandle, worker: u32, bytes: &[u8]) -> Result<Reply, Fault>
-    ensures { AtHandle (λ d e o. MakesFlags d e worker bytes.now actions.Want o) desk.old.desk desk.new.desk result }
-{
-    let Some(mut held) = desk.take(alloc) else {
-        return Err(Fault::Shut);
-    };
-    let outcome = held.want(alloc, worker, bytes);
-    *desk = DeskHandle::of(held);
+    *picker = PickerHandle::of(held);
     outcome
 }
 
 /// Haves, with the payload of a bitfield.
-fn haves(alloc: Global, desk: &mut DeskHandle, worker: u32, bytes: &[u8]) -> Result<Reply, Fault>
-    ensures { AtHandle (λ d e o. MakesFlags d e worker bytes.now actions.Haves o) desk.old.desk desk.new.desk result }
+fn haves(
+    alloc: Global,
+    picker: &mut PickerHandle,
+    worker: u32,
+    bytes: &[u8],
+) -> Result<Reply, Fault>
+    ensures { AtHandle (λ h e o. MakesFlags (state h) e worker bytes.now actions.Haves o) picker.old.held picker.new.held result }
 {
-    let Some(mut held) = desk.take(alloc) else {
+    let Some(mut held) = picker.take(alloc) else {
         return Err(Fault::Shut);
     };
     let outcome = held.haves(alloc, worker, bytes);
-    *desk = DeskHandle::of(held);
-    outcome
-}
-
-/// Levels, with a copy of the bytes.
-fn tell_levels(
-    alloc: Global,
-    desk: &mut DeskHandle,
-    worker: u32,
-    bytes: &[u8],
-) -> Result<Reply, Fault>
-    ensures { AtHandle (λ d e o. Makes d e worker (actions.Levels bytes.now) o) desk.old.desk desk.new.desk result }
-{
-    let Some(mut held) = desk.take(alloc) else {
-        return Err(Fault::Shut);
-    };
-    let outcome = held.levels(alloc, worker, bytes);
-    *desk = DeskHandle::of(held);
-    outcome
-}
-
-/// The level that a number tells: one beyond 255 is told as 255, which is refused like it.
-fn level_of(number: u32) -> u8
-    ensures { result ≡ min number 255 }
-{
-    number.min(255) as u8
-}
-
-/// Arrived, with a copy of the bytes.
-fn arrived(
-    alloc: Global,
-    desk: &mut DeskHandle,
-    worker: u32,
-    piece: u32,
-    begin: u32,
-    bytes: &[u8],
-) -> Result<Reply, Fault>
-    ensures { AtHandle (λ d e o. Makes d e worker (actions.Arrived piece begin bytes.now) o)
-        desk.old.desk desk.new.desk result }
-{
-    let Some(mut held) = desk.take(alloc) else {
-        return Err(Fault::Shut);
-    };
-    let outcome = held.arrived(alloc, worker, piece, begin, bytes);
-    *desk = DeskHandle::of(held);
-    outcome
-}
-
-/// Checks the piece here and now.
-fn settle_now(alloc: Global, desk: &mut DeskHandle, worker: u32, piece: u32) -> Result<Reply, Fault>
-    ensures { AtHandle (λ d e o. Settles d e worker piece o) desk.old.desk desk.new.desk result }
-{
-    let Some(mut held) = desk.take(alloc) else {
-        return Err(Fault::Shut);
-    };
-    let outcome = held.settle_now(alloc, worker, piece);
-    *desk = DeskHandle::of(held);
+    *picker = PickerHandle::of(held);
     outcome
 }
 
@@ -120,101 +81,89 @@ fn settle_now(alloc: Global, desk: &mut DeskHandle, worker: u32, piece: u32) -> 
 #[unsafe(no_mangle)]
 pub extern "C" fn piecepick_join(
     alloc: Global,
-    desk: &mut DeskHandle,
+    picker: &mut PickerHandle,
     worker: u32,
     answer: &mut Answer,
 ) -> u32
-    ensures { Tells (λ d e o. Makes d e worker actions.Join o)
-        desk.old.desk desk.new.desk result answer.new }
+    ensures { Tells (λ h e o. Makes (state h) e worker actions.Join o)
+        picker.old.held picker.new.held result answer.new }
 {
-    tell(call(alloc, desk, worker, Call::Join), answer)
+    tell(call(alloc, picker, worker, Told::Join), answer)
 }
 
 /// The connection is gone.
 #[unsafe(no_mangle)]
 pub extern "C" fn piecepick_leave(
     alloc: Global,
-    desk: &mut DeskHandle,
+    picker: &mut PickerHandle,
     worker: u32,
     answer: &mut Answer,
 ) -> u32
-    ensures { Tells (λ d e o. Makes d e worker actions.Leave o)
-        desk.old.desk desk.new.desk result answer.new }
+    ensures { Tells (λ h e o. Makes (state h) e worker actions.Leave o)
+        picker.old.held picker.new.held result answer.new }
 {
-    tell(call(alloc, desk, worker, Call::Leave), answer)
+    tell(call(alloc, picker, worker, Told::Leave), answer)
 }
 
 /// A `choke` message came, or the peer is silent.
 #[unsafe(no_mangle)]
 pub extern "C" fn piecepick_choke(
     alloc: Global,
-    desk: &mut DeskHandle,
+    picker: &mut PickerHandle,
     worker: u32,
     answer: &mut Answer,
 ) -> u32
-    ensures { Tells (λ d e o. Makes d e worker actions.Choke o)
-        desk.old.desk desk.new.desk result answer.new }
+    ensures { Tells (λ h e o. Makes (state h) e worker actions.Choke o)
+        picker.old.held picker.new.held result answer.new }
 {
-    tell(call(alloc, desk, worker, Call::Choke), answer)
+    tell(call(alloc, picker, worker, Told::Choke), answer)
 }
 
 /// An `unchoke` message came.
 #[unsafe(no_mangle)]
 pub extern "C" fn piecepick_unchoke(
     alloc: Global,
-    desk: &mut DeskHandle,
+    picker: &mut PickerHandle,
     worker: u32,
     answer: &mut Answer,
 ) -> u32
-    ensures { Tells (λ d e o. Makes d e worker actions.Unchoke o)
-        desk.old.desk desk.new.desk result answer.new }
+    ensures { Tells (λ h e o. Makes (state h) e worker actions.Unchoke o)
+        picker.old.held picker.new.held result answer.new }
 {
-    tell(call(alloc, desk, worker, Call::Unchoke), answer)
+    tell(call(alloc, picker, worker, Told::Unchoke), answer)
 }
 
 /// A `have` message came.
 #[unsafe(no_mangle)]
 pub extern "C" fn piecepick_have(
     alloc: Global,
-    desk: &mut DeskHandle,
+    picker: &mut PickerHandle,
     worker: u32,
     piece: u32,
     answer: &mut Answer,
 ) -> u32
-    ensures { Tells (λ d e o. Makes d e worker (actions.Have piece) o)
-        desk.old.desk desk.new.desk result answer.new }
+    ensures { Tells (λ h e o. MakesAt (state h) e worker piece (actions.Have piece) o)
+        picker.old.held picker.new.held result answer.new }
 {
-    tell(call(alloc, desk, worker, Call::Have(piece)), answer)
-}
-
-/// What to say to the peer next. The word settles what the rules leave to chance.
-#[unsafe(no_mangle)]
-pub extern "C" fn piecepick_next(
-    alloc: Global,
-    desk: &mut DeskHandle,
-    worker: u32,
-    word: u64,
-    answer: &mut Answer,
-) -> u32
-    ensures { Tells (λ d e o. Makes d e worker (actions.Next word) o)
-        desk.old.desk desk.new.desk result answer.new }
-{
-    tell(call(alloc, desk, worker, Call::Next(word)), answer)
+    tell(
+        call_at(alloc, picker, worker, piece, Told::Have(piece)),
+        answer,
+    )
 }
 
 /// A `bitfield` message came: its payload.
 #[unsafe(no_mangle)]
 pub extern "C" fn piecepick_bits(
     alloc: Global,
-    desk: &mut DeskHandle,
+    picker: &mut PickerHandle,
     worker: u32,
     payload: &[u8],
     answer: &mut Answer,
 ) -> u32
-    ensures { Tells (λ d e o. MakesFlags d e worker payload.now actions.Bits o)
-        desk.old.desk desk.new.desk result answer.new }
+    ensures { Tells (λ h e o. MakesFlags (state h) e worker payload.now actions.Bits o)
+        picker.old.held picker.new.held result answer.new }
 {
-    tell(bits(alloc, desk, worker, payload), answer)
+    tell(bits(alloc, picker, worker, payload), answer)
 }
 
 /// The peer has these pieces too, at any time: a second `bitfield` message came, or `have all` or `have none` (BEP 6). Spelled as in a
@@ -222,31 +171,45 @@ pub extern "C" fn piecepick_bits(
 #[unsafe(no_mangle)]
 pub extern "C" fn piecepick_haves(
     alloc: Global,
-    desk: &mut DeskHandle,
+    picker: &mut PickerHandle,
     worker: u32,
     flags: &[u8],
     answer: &mut Answer,
 ) -> u32
-    ensures { Tells (λ d e o. MakesFlags d e worker flags.now actions.Haves o)
-        desk.old.desk desk.new.desk result answer.new }
+    ensures { Tells (λ h e o. MakesFlags (state h) e worker flags.now actions.Haves o)
+        picker.old.held picker.new.held result answer.new }
 {
-    tell(haves(alloc, desk, worker, flags), answer)
+    tell(haves(alloc, picker, worker, flags), answer)
 }
 
-/// From now on so many blocks may be asked of the peer at a time, until another number is told or the worker's next peer
-/// joins: 1 to 64.
+/// From now on so many blocks may be asked of the peer at a time, until another number is told or the worker's next peer joins.
 #[unsafe(no_mangle)]
 pub extern "C" fn piecepick_depth(
     alloc: Global,
-    desk: &mut DeskHandle,
+    picker: &mut PickerHandle,
     worker: u32,
     depth: u32,
     answer: &mut Answer,
 ) -> u32
-    ensures { Tells (λ d e o. Makes d e worker (actions.Depth depth) o)
-        desk.old.desk desk.new.desk result answer.new }
+    ensures { Tells (λ h e o. Makes (state h) e worker (actions.Depth depth) o)
+        picker.old.held picker.new.held result answer.new }
 {
-    tell(call(alloc, desk, worker, Call::Depth(depth)), answer)
+    tell(call(alloc, picker, worker, Told::Depth(depth)), answer)
+}
+
+/// What to say to the peer next. The word, a random number, settles what the rules leave to chance.
+#[unsafe(no_mangle)]
+pub extern "C" fn piecepick_next(
+    alloc: Global,
+    picker: &mut PickerHandle,
+    worker: u32,
+    word: u64,
+    answer: &mut Answer,
+) -> u32
+    ensures { Tells (λ h e o. Makes (state h) e worker (actions.Next word) o)
+        picker.old.held picker.new.held result answer.new }
+{
+    tell(call(alloc, picker, worker, Told::Next(word)), answer)
 }
 
 /// The block that begins `begin` bytes into the piece is asked of the peer no more: the peer rejected it (BEP 6), it took too long, or the
@@ -254,117 +217,38 @@ pub extern "C" fn piecepick_depth(
 #[unsafe(no_mangle)]
 pub extern "C" fn piecepick_release(
     alloc: Global,
-    desk: &mut DeskHandle,
+    picker: &mut PickerHandle,
     worker: u32,
     piece: u32,
     begin: u32,
     answer: &mut Answer,
 ) -> u32
-    ensures { Tells (λ d e o. Makes d e worker (actions.Release piece begin) o)
-        desk.old.desk desk.new.desk result answer.new }
+    ensures { Tells (λ h e o. MakesAt (state h) e worker piece (actions.Release piece begin) o)
+        picker.old.held picker.new.held result answer.new }
 {
-    tell(
-        call(alloc, desk, worker, Call::Release { piece, begin }),
-        answer,
-    )
+    let told = Told::Release { piece, begin };
+    tell(call_at(alloc, picker, worker, piece, told), answer)
 }
 
-/// From now on just these pieces are to be downloaded, spelled as in a `bitfield` message.
-#[unsafe(no_mangle)]
-pub extern "C" fn piecepick_want(
-    alloc: Global,
-    desk: &mut DeskHandle,
-    worker: u32,
-    flags: &[u8],
-    answer: &mut Answer,
-) -> u32
-    ensures { Tells (λ d e o. MakesFlags d e worker flags.now actions.Want o)
-        desk.old.desk desk.new.desk result answer.new }
-{
-    tell(want(alloc, desk, worker, flags), answer)
-}
-
-/// From now on the piece has this level, 0 to 7: 0 isn't downloaded, and of the others a higher one comes before a lower one.
-#[unsafe(no_mangle)]
-pub extern "C" fn piecepick_level(
-    alloc: Global,
-    desk: &mut DeskHandle,
-    worker: u32,
-    piece: u32,
-    level: u32,
-    answer: &mut Answer,
-) -> u32
-    ensures { Tells (λ d e o. Makes d e worker (actions.Level piece (min level 255)) o)
-        desk.old.desk desk.new.desk result answer.new }
-{
-    let told = Call::Level {
-        piece,
-        level: level_of(level),
-    };
-    tell(call(alloc, desk, worker, told), answer)
-}
-
-/// From now on each piece has the level of its byte.
-#[unsafe(no_mangle)]
-pub extern "C" fn piecepick_levels(
-    alloc: Global,
-    desk: &mut DeskHandle,
-    worker: u32,
-    levels: &[u8],
-    answer: &mut Answer,
-) -> u32
-    ensures { Tells (λ d e o. Makes d e worker (actions.Levels levels.now) o)
-        desk.old.desk desk.new.desk result answer.new }
-{
-    tell(tell_levels(alloc, desk, worker, levels), answer)
-}
-
-/// From now on the pieces of one level come in rising order, or, where `rising` is 0, the rarest first again.
-#[unsafe(no_mangle)]
-pub extern "C" fn piecepick_in_order(
-    alloc: Global,
-    desk: &mut DeskHandle,
-    worker: u32,
-    rising: u32,
-    answer: &mut Answer,
-) -> u32
-    ensures { Tells (λ d e o. Makes d e worker (actions.InOrder (not (rising == 0))) o)
-        desk.old.desk desk.new.desk result answer.new }
-{
-    tell(
-        call(alloc, desk, worker, Call::InOrder(rising != 0)),
-        answer,
-    )
-}
-
-/// A `piece` message came: a block, `begin` bytes into the piece. The desk keeps a copy of its bytes.
+/// A `piece` message came: a block, `begin` bytes into the piece. A picker that keeps nothing reads none of its bytes, and another one keeps
+/// a copy.
 #[unsafe(no_mangle)]
 pub extern "C" fn piecepick_arrived(
     alloc: Global,
-    desk: &mut DeskHandle,
+    picker: &mut PickerHandle,
     worker: u32,
     piece: u32,
     begin: u32,
     bytes: &[u8],
     answer: &mut Answer,
 ) -> u32
-    ensures { Tells (λ d e o. Makes d e worker (actions.Arrived piece begin bytes.now) o)
-        desk.old.desk desk.new.desk result answer.new }
+    ensures { Tells (λ h e o. MakesAt (state h) e worker piece (actions.Arrived piece begin bytes.now) o)
+        picker.old.held picker.new.held result answer.new }
 {
-    tell(arrived(alloc, desk, worker, piece, begin, bytes), answer)
-}
-
-/// Hashes the bytes that are held of the piece, and settles it.
-#[unsafe(no_mangle)]
-pub extern "C" fn piecepick_settle_now(
-    alloc: Global,
-    desk: &mut DeskHandle,
-    worker: u32,
-    piece: u32,
-    answer: &mut Answer,
-) -> u32
-    ensures { Tells (λ d e o. Settles d e worker piece o)
-        desk.old.desk desk.new.desk result answer.new }
-{
-    tell(settle_now(alloc, desk, worker, piece), answer)
+    let told = Told::Arrived {
+        piece,
+        begin,
+        bytes,
+    };
+    tell(call_at(alloc, picker, worker, piece, told), answer)
 }

@@ -1,168 +1,224 @@
-//! What a desk tells.
-ghost use Rattle.std.specs.Prelude.{◌≡◌, None};
-ghost use Rattle.bt_c.specs.Asking.{CountsOutstanding, IsOutstanding, Reads, Says, SaysOfPiece, number_of, number_of_piece};
+//! What a picker tells.
+ghost use Rattle.std.specs.Prelude.{◌≡◌, ◌%◌, ◌^◌};
+ghost use Rattle.bt_history.specs.Epochs.{epoch};
+ghost use Rattle.bt_c.specs.Asking.{CountsOutstanding, IsOutstanding, Says, SaysOfPiece, SaysSender, number_of, number_of_piece};
+ghost use Rattle.bt_c.specs.Behind.{state};
 ghost use Rattle.bt_c.specs.declared.asking.Question.TheVariants as questions;
 ghost use Rattle.bt_c.specs.declared.asking.PieceQuestion.TheVariants as of_piece;
-ghost use Rattle.bt_c.specs.Outcomes.{AtOpen, TellsBlock, TellsDone, TellsNumber};
+ghost use Rattle.bt_c.specs.Outcomes.{AtOpen, TellsBlock, TellsNumber};
 
-use super::tell::{tell, tell_done, tell_number};
+use super::tell::{tell, tell_large, tell_number};
 use crate::answer::Answer;
 use crate::asking::{PieceQuestion, Question};
-use crate::desk_handle::DeskHandle;
 use crate::fault::Fault;
+use crate::picker_handle::PickerHandle;
 use bt_meta::Block;
 use bt_picker::Reply;
 use std::alloc::Global;
 
-/// A question about the whole desk.
-fn ask(alloc: Global, desk: &mut DeskHandle, question: Question) -> Result<u32, Fault>
-    ensures same { desk.new.desk ≡ desk.old.desk }
-    ensures says { AtOpen (λ d o. Says (number_of d question) o) desk.old.desk result }
+/// A question about the whole download.
+fn ask(alloc: Global, picker: &mut PickerHandle, question: Question) -> Result<u32, Fault>
+    ensures same { picker.new.held ≡ picker.old.held }
+    ensures says { AtOpen (λ h o. Says (number_of (state h) question) o) picker.old.held result }
 {
-    let Some(held) = desk.take(alloc) else {
+    let Some(held) = picker.take(alloc) else {
         return Err(Fault::Shut);
     };
     let number = held.ask(question);
-    *desk = DeskHandle::of(held);
+    *picker = PickerHandle::of(held);
     Ok(number)
 }
 
 /// A question about a piece.
 fn ask_of_piece(
     alloc: Global,
-    desk: &mut DeskHandle,
+    picker: &mut PickerHandle,
     question: PieceQuestion,
     piece: u32,
 ) -> Result<u32, Fault>
-    ensures same { desk.new.desk ≡ desk.old.desk }
-    ensures says { AtOpen (λ d o. SaysOfPiece d piece (number_of_piece d question piece) o) desk.old.desk result }
+    ensures same { picker.new.held ≡ picker.old.held }
+    ensures says { AtOpen (λ h o. SaysOfPiece (state h) piece (number_of_piece (state h) question piece) o) picker.old.held result }
 {
-    let Some(held) = desk.take(alloc) else {
+    let Some(held) = picker.take(alloc) else {
         return Err(Fault::Shut);
     };
     let number = held.ask_of_piece(question, piece);
-    *desk = DeskHandle::of(held);
+    *picker = PickerHandle::of(held);
     number
 }
 
-/// How many blocks are asked of the worker's peer.
-fn outstanding_count(alloc: Global, desk: &mut DeskHandle, worker: u32) -> Result<u32, Fault>
-    ensures same { desk.new.desk ≡ desk.old.desk }
-    ensures says { AtOpen (λ d o. CountsOutstanding d worker o) desk.old.desk result }
+/// The number by which a client knows when to ask again.
+fn ask_epoch(alloc: Global, picker: &mut PickerHandle) -> Result<u64, Fault>
+    ensures same { picker.new.held ≡ picker.old.held }
+    ensures says { AtOpen (λ h o. Says (epoch (state h).setting (state h).history % 2 ^ 64) o) picker.old.held result }
 {
-    let Some(held) = desk.take(alloc) else {
+    let Some(held) = picker.take(alloc) else {
+        return Err(Fault::Shut);
+    };
+    let number = held.epoch();
+    *picker = PickerHandle::of(held);
+    Ok(number)
+}
+
+/// Who sent a block.
+fn sender(alloc: Global, picker: &mut PickerHandle, piece: u32, index: u32) -> Result<u32, Fault>
+    ensures same { picker.new.held ≡ picker.old.held }
+    ensures says { AtOpen (λ h o. SaysSender (state h) piece index o) picker.old.held result }
+{
+    let Some(held) = picker.take(alloc) else {
+        return Err(Fault::Shut);
+    };
+    let worker = held.sender(piece, index);
+    *picker = PickerHandle::of(held);
+    worker
+}
+
+/// How many blocks are asked of the worker's peer.
+fn outstanding_count(alloc: Global, picker: &mut PickerHandle, worker: u32) -> Result<u32, Fault>
+    ensures same { picker.new.held ≡ picker.old.held }
+    ensures says { AtOpen (λ h o. CountsOutstanding (state h) worker o) picker.old.held result }
+{
+    let Some(held) = picker.take(alloc) else {
         return Err(Fault::Shut);
     };
     let count = held.outstanding_count(worker);
-    *desk = DeskHandle::of(held);
+    *picker = PickerHandle::of(held);
     count
 }
 
 /// One of the blocks that are asked of the worker's peer.
 fn outstanding(
     alloc: Global,
-    desk: &mut DeskHandle,
+    picker: &mut PickerHandle,
     worker: u32,
     place: u32,
 ) -> Result<Block, Fault>
-    ensures same { desk.new.desk ≡ desk.old.desk }
-    ensures says { AtOpen (λ d o. IsOutstanding d worker place o) desk.old.desk result }
+    ensures same { picker.new.held ≡ picker.old.held }
+    ensures says { AtOpen (λ h o. IsOutstanding (state h) worker place o) picker.old.held result }
 {
-    let Some(held) = desk.take(alloc) else {
+    let Some(held) = picker.take(alloc) else {
         return Err(Fault::Shut);
     };
     let block = held.outstanding(worker, place);
-    *desk = DeskHandle::of(held);
+    *picker = PickerHandle::of(held);
     block
-}
-
-/// Writes the piece into the room, if it is had.
-fn read(alloc: Global, desk: &mut DeskHandle, piece: u32, room: &mut [u8]) -> Result<(), Fault>
-    ensures same { desk.new.desk ≡ desk.old.desk }
-    ensures shut { desk.old.desk ≡ None → room.new ≡ room.old }
-    ensures reads { AtOpen (λ d o. Reads d piece room.old room.new o) desk.old.desk result }
-{
-    let Some(held) = desk.take(alloc) else {
-        return Err(Fault::Shut);
-    };
-    let done = held.read(piece, room);
-    *desk = DeskHandle::of(held);
-    done
 }
 
 /// How many pieces the torrent has.
 #[unsafe(no_mangle)]
-pub extern "C" fn piecepick_pieces(alloc: Global, desk: &mut DeskHandle, number: &mut u32) -> u32
-    ensures same { desk.new.desk ≡ desk.old.desk }
-    ensures says { TellsNumber (λ d o. Says (number_of d questions.Pieces) o) desk.old.desk result number.new }
+pub extern "C" fn piecepick_pieces(
+    alloc: Global,
+    picker: &mut PickerHandle,
+    number: &mut u32,
+) -> u32
+    ensures same { picker.new.held ≡ picker.old.held }
+    ensures says { TellsNumber (λ h o. Says (number_of (state h) questions.Pieces) o) picker.old.held result number.new }
 {
-    tell_number(ask(alloc, desk, Question::Pieces), number)
+    tell_number(ask(alloc, picker, Question::Pieces), number)
 }
 
-/// How many workers the desk has.
+/// How many workers the picker has.
 #[unsafe(no_mangle)]
-pub extern "C" fn piecepick_workers(alloc: Global, desk: &mut DeskHandle, number: &mut u32) -> u32
-    ensures same { desk.new.desk ≡ desk.old.desk }
-    ensures says { TellsNumber (λ d o. Says (number_of d questions.Workers) o) desk.old.desk result number.new }
+pub extern "C" fn piecepick_workers(
+    alloc: Global,
+    picker: &mut PickerHandle,
+    number: &mut u32,
+) -> u32
+    ensures same { picker.new.held ≡ picker.old.held }
+    ensures says { TellsNumber (λ h o. Says (number_of (state h) questions.Workers) o) picker.old.held result number.new }
 {
-    tell_number(ask(alloc, desk, Question::Workers), number)
+    tell_number(ask(alloc, picker, Question::Workers), number)
 }
 
 /// Whether each piece is had, wanted or not.
 #[unsafe(no_mangle)]
 pub extern "C" fn piecepick_is_complete(
     alloc: Global,
-    desk: &mut DeskHandle,
+    picker: &mut PickerHandle,
     number: &mut u32,
 ) -> u32
-    ensures same { desk.new.desk ≡ desk.old.desk }
-    ensures says { TellsNumber (λ d o. Says (number_of d questions.Complete) o) desk.old.desk result number.new }
+    ensures same { picker.new.held ≡ picker.old.held }
+    ensures says { TellsNumber (λ h o. Says (number_of (state h) questions.Complete) o) picker.old.held result number.new }
 {
-    tell_number(ask(alloc, desk, Question::Complete), number)
+    tell_number(ask(alloc, picker, Question::Complete), number)
 }
 
 /// Whether each wanted piece is had.
 #[unsafe(no_mangle)]
 pub extern "C" fn piecepick_has_wanted(
     alloc: Global,
-    desk: &mut DeskHandle,
+    picker: &mut PickerHandle,
     number: &mut u32,
 ) -> u32
-    ensures same { desk.new.desk ≡ desk.old.desk }
-    ensures says { TellsNumber (λ d o. Says (number_of d questions.HasWanted) o) desk.old.desk result number.new }
+    ensures same { picker.new.held ≡ picker.old.held }
+    ensures says { TellsNumber (λ h o. Says (number_of (state h) questions.HasWanted) o) picker.old.held result number.new }
 {
-    tell_number(ask(alloc, desk, Question::HasWanted), number)
+    tell_number(ask(alloc, picker, Question::HasWanted), number)
+}
+
+/// Whether the pieces of one level come in rising order.
+#[unsafe(no_mangle)]
+pub extern "C" fn piecepick_is_in_order(
+    alloc: Global,
+    picker: &mut PickerHandle,
+    number: &mut u32,
+) -> u32
+    ensures same { picker.new.held ≡ picker.old.held }
+    ensures says { TellsNumber (λ h o. Says (number_of (state h) questions.InOrder) o) picker.old.held result number.new }
+{
+    tell_number(ask(alloc, picker, Question::InOrder), number)
 }
 
 /// Whether the piece was checked, and had its hash.
 #[unsafe(no_mangle)]
-pub extern "C" fn piecepick_had(
+pub extern "C" fn piecepick_is_had(
     alloc: Global,
-    desk: &mut DeskHandle,
+    picker: &mut PickerHandle,
     piece: u32,
     number: &mut u32,
 ) -> u32
-    ensures same { desk.new.desk ≡ desk.old.desk }
-    ensures says { TellsNumber (λ d o. SaysOfPiece d piece (number_of_piece d of_piece.Had piece) o)
-        desk.old.desk result number.new }
-{
-    tell_number(ask_of_piece(alloc, desk, PieceQuestion::Had, piece), number)
-}
-
-/// Whether the piece is to be downloaded.
-#[unsafe(no_mangle)]
-pub extern "C" fn piecepick_wanted(
-    alloc: Global,
-    desk: &mut DeskHandle,
-    piece: u32,
-    number: &mut u32,
-) -> u32
-    ensures same { desk.new.desk ≡ desk.old.desk }
-    ensures says { TellsNumber (λ d o. SaysOfPiece d piece (number_of_piece d of_piece.Wanted piece) o)
-        desk.old.desk result number.new }
+    ensures same { picker.new.held ≡ picker.old.held }
+    ensures says { TellsNumber (λ h o. SaysOfPiece (state h) piece (number_of_piece (state h) of_piece.Had piece) o)
+        picker.old.held result number.new }
 {
     tell_number(
-        ask_of_piece(alloc, desk, PieceQuestion::Wanted, piece),
+        ask_of_piece(alloc, picker, PieceQuestion::Had, piece),
+        number,
+    )
+}
+
+/// Whether the piece is full and isn't had: it waits for its check.
+#[unsafe(no_mangle)]
+pub extern "C" fn piecepick_is_waiting(
+    alloc: Global,
+    picker: &mut PickerHandle,
+    piece: u32,
+    number: &mut u32,
+) -> u32
+    ensures same { picker.new.held ≡ picker.old.held }
+    ensures says { TellsNumber (λ h o. SaysOfPiece (state h) piece (number_of_piece (state h) of_piece.Waiting piece) o)
+        picker.old.held result number.new }
+{
+    tell_number(
+        ask_of_piece(alloc, picker, PieceQuestion::Waiting, piece),
+        number,
+    )
+}
+
+/// The level of the piece: 0, where it isn't to be downloaded.
+#[unsafe(no_mangle)]
+pub extern "C" fn piecepick_level(
+    alloc: Global,
+    picker: &mut PickerHandle,
+    piece: u32,
+    number: &mut u32,
+) -> u32
+    ensures same { picker.new.held ≡ picker.old.held }
+    ensures says { TellsNumber (λ h o. SaysOfPiece (state h) piece (number_of_piece (state h) of_piece.Level piece) o)
+        picker.old.held result number.new }
+{
+    tell_number(
+        ask_of_piece(alloc, picker, PieceQuestion::Level, piece),
         number,
     )
 }
@@ -171,16 +227,16 @@ pub extern "C" fn piecepick_wanted(
 #[unsafe(no_mangle)]
 pub extern "C" fn piecepick_availability(
     alloc: Global,
-    desk: &mut DeskHandle,
+    picker: &mut PickerHandle,
     piece: u32,
     number: &mut u32,
 ) -> u32
-    ensures same { desk.new.desk ≡ desk.old.desk }
-    ensures says { TellsNumber (λ d o. SaysOfPiece d piece (number_of_piece d of_piece.Availability piece) o)
-        desk.old.desk result number.new }
+    ensures same { picker.new.held ≡ picker.old.held }
+    ensures says { TellsNumber (λ h o. SaysOfPiece (state h) piece (number_of_piece (state h) of_piece.Availability piece) o)
+        picker.old.held result number.new }
 {
     tell_number(
-        ask_of_piece(alloc, desk, PieceQuestion::Availability, piece),
+        ask_of_piece(alloc, picker, PieceQuestion::Availability, piece),
         number,
     )
 }
@@ -189,16 +245,16 @@ pub extern "C" fn piecepick_availability(
 #[unsafe(no_mangle)]
 pub extern "C" fn piecepick_piece_length(
     alloc: Global,
-    desk: &mut DeskHandle,
+    picker: &mut PickerHandle,
     piece: u32,
     number: &mut u32,
 ) -> u32
-    ensures same { desk.new.desk ≡ desk.old.desk }
-    ensures says { TellsNumber (λ d o. SaysOfPiece d piece (number_of_piece d of_piece.Length piece) o)
-        desk.old.desk result number.new }
+    ensures same { picker.new.held ≡ picker.old.held }
+    ensures says { TellsNumber (λ h o. SaysOfPiece (state h) piece (number_of_piece (state h) of_piece.Length piece) o)
+        picker.old.held result number.new }
 {
     tell_number(
-        ask_of_piece(alloc, desk, PieceQuestion::Length, piece),
+        ask_of_piece(alloc, picker, PieceQuestion::Length, piece),
         number,
     )
 }
@@ -207,63 +263,72 @@ pub extern "C" fn piecepick_piece_length(
 #[unsafe(no_mangle)]
 pub extern "C" fn piecepick_blocks(
     alloc: Global,
-    desk: &mut DeskHandle,
+    picker: &mut PickerHandle,
     piece: u32,
     number: &mut u32,
 ) -> u32
-    ensures same { desk.new.desk ≡ desk.old.desk }
-    ensures says { TellsNumber (λ d o. SaysOfPiece d piece (number_of_piece d of_piece.Blocks piece) o)
-        desk.old.desk result number.new }
+    ensures same { picker.new.held ≡ picker.old.held }
+    ensures says { TellsNumber (λ h o. SaysOfPiece (state h) piece (number_of_piece (state h) of_piece.Blocks piece) o)
+        picker.old.held result number.new }
 {
     tell_number(
-        ask_of_piece(alloc, desk, PieceQuestion::Blocks, piece),
+        ask_of_piece(alloc, picker, PieceQuestion::Blocks, piece),
         number,
     )
 }
 
-/// How many blocks are asked of the worker's peer: no more than the depth.
+/// The number that rises when a peer that had nothing to be asked for may have another answer.
+#[unsafe(no_mangle)]
+pub extern "C" fn piecepick_epoch(alloc: Global, picker: &mut PickerHandle, number: &mut u64) -> u32
+    ensures same { picker.new.held ≡ picker.old.held }
+    ensures says { TellsNumber (λ h o. Says (epoch (state h).setting (state h).history % 2 ^ 64) o) picker.old.held result number.new }
+{
+    tell_large(ask_epoch(alloc, picker), number)
+}
+
+/// The worker whose peer brought a block that is held: the one of this index, counted from the front of its piece.
+#[unsafe(no_mangle)]
+pub extern "C" fn piecepick_sender(
+    alloc: Global,
+    picker: &mut PickerHandle,
+    piece: u32,
+    index: u32,
+    worker: &mut u32,
+) -> u32
+    ensures same { picker.new.held ≡ picker.old.held }
+    ensures says { TellsNumber (λ h o. SaysSender (state h) piece index o) picker.old.held result worker.new }
+{
+    tell_number(sender(alloc, picker, piece, index), worker)
+}
+
+/// How many blocks are asked of the worker's peer.
 #[unsafe(no_mangle)]
 pub extern "C" fn piecepick_outstanding(
     alloc: Global,
-    desk: &mut DeskHandle,
+    picker: &mut PickerHandle,
     worker: u32,
     number: &mut u32,
 ) -> u32
-    ensures same { desk.new.desk ≡ desk.old.desk }
-    ensures says { TellsNumber (λ d o. CountsOutstanding d worker o) desk.old.desk result number.new }
+    ensures same { picker.new.held ≡ picker.old.held }
+    ensures says { TellsNumber (λ h o. CountsOutstanding (state h) worker o) picker.old.held result number.new }
 {
-    tell_number(outstanding_count(alloc, desk, worker), number)
+    tell_number(outstanding_count(alloc, picker, worker), number)
 }
 
 /// One of these blocks, by its place from 0, the oldest request first: an answer of kind `Request`.
 #[unsafe(no_mangle)]
 pub extern "C" fn piecepick_outstanding_at(
     alloc: Global,
-    desk: &mut DeskHandle,
+    picker: &mut PickerHandle,
     worker: u32,
     place: u32,
     answer: &mut Answer,
 ) -> u32
-    ensures same { desk.new.desk ≡ desk.old.desk }
-    ensures says { TellsBlock (λ d o. IsOutstanding d worker place o) desk.old.desk result answer.new }
+    ensures same { picker.new.held ≡ picker.old.held }
+    ensures says { TellsBlock (λ h o. IsOutstanding (state h) worker place o) picker.old.held result answer.new }
 {
-    match outstanding(alloc, desk, worker, place) {
+    match outstanding(alloc, picker, worker, place) {
         Ok(block) => tell(Ok(Reply::Request(block)), answer),
         Err(fault) => tell(Err(fault), answer),
     }
-}
-
-/// Writes the bytes of a piece that is had into a room of their number. Takes no memory.
-#[unsafe(no_mangle)]
-pub extern "C" fn piecepick_read(
-    alloc: Global,
-    desk: &mut DeskHandle,
-    piece: u32,
-    room: &mut [u8],
-) -> u32
-    ensures same { desk.new.desk ≡ desk.old.desk }
-    ensures shut { desk.old.desk ≡ None → room.new ≡ room.old }
-    ensures reads { TellsDone (λ d o. Reads d piece room.old room.new o) desk.old.desk result }
-{
-    tell_done(read(alloc, desk, piece, room))
 }

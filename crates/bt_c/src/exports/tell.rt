@@ -33,6 +33,23 @@ pub fn tell(outcome: Result<Reply, Fault>, answer: &mut Answer) -> u32
     }
 }
 
+/// The status of a question, with a number of 64 bits.
+pub fn tell_large(outcome: Result<u64, Fault>, number: &mut u64) -> u32
+    ensures status { result ≡ status_of outcome }
+    ensures number { number.new ≡ number_told outcome }
+{
+    match outcome {
+        Ok(found) => {
+            *number = found;
+            0
+        }
+        Err(fault) => {
+            *number = 0;
+            fault.number()
+        }
+    }
+}
+
 /// The status of a question, with the number.
 pub fn tell_number(outcome: Result<u32, Fault>, number: &mut u32) -> u32
     ensures status { result ≡ status_of outcome }

@@ -124,3 +124,21 @@ fn no_worker_and_no_piece(rt: HostRuntime) -> Result<(), Fail> {
     settles(&rt, keeper.settle_now(1, 0), Reply::Had, Some(b"abc"));
     Ok(())
 }
+
+/// A level is told of one piece, and the order of all. A peer is asked for the highest level then, and in order for the least piece.
+#[test]
+fn levels_and_order(rt: HostRuntime) -> Result<(), Fail> {
+    let alloc = rt.alloc();
+    let mut keeper = three_pieces(&rt, alloc)?;
+    has_level(&rt, &keeper, 2, 4);
+    assert!(rt; !keeper.is_in_order());
+    let raised = Told::Level { piece: 2, level: 5 };
+    tells(&rt, alloc, &mut keeper, raised, Reply::Quiet)?;
+    tells(&rt, alloc, &mut keeper, Told::InOrder(true), Reply::Quiet)?;
+    has_level(&rt, &keeper, 2, 5);
+    has_level(&rt, &keeper, 1, 4);
+    assert!(rt; keeper.is_in_order());
+    assert!(rt; asks(&rt, alloc, &mut keeper)?.piece == 2);
+    assert!(rt; asks(&rt, alloc, &mut keeper)?.piece == 0);
+    Ok(())
+}

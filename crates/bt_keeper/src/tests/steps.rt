@@ -46,6 +46,12 @@ pub fn tells(
     Ok(())
 }
 
+/// The piece is there, and has this level.
+pub fn has_level(rt: &impl Abort, keeper: &Keeper, piece: u32, level: u8) {
+    assert!(rt; piece < keeper.torrent().piece_count());
+    assert_eq!(rt; keeper.level(piece), level);
+}
+
 /// The block that the first worker's peer is asked for, at the random number 0.
 pub fn asks(rt: &impl Abort, alloc: Global, keeper: &mut Keeper) -> Result<Block, Fail> {
     match keeper.tell(alloc, 0, Told::Next(0))? {

@@ -5,13 +5,14 @@ use Rattle.bt_history.specs.Setting.{deepest_line}
 use Rattle.bt_history.specs.declared.rules.TheConstants.{MOST_DEPTH, MOST_TOLD_DEPTH}
 use Rattle.bt_history.proofs.Depths.{so_far_bounded}
 use Rattle.bt_history.proofs.LineLaws.{lines_room}
+use Rattle.bt_c.specs.Behind.{state}
 use Rattle.bt_c.proofs.held.Held.outstanding_count.Goals as goal
 
 pub overflow_cast-result : goal.overflow_cast-result
 overflow_cast-result c =
-    let held = c.args.self.now in let d = held.desk in
-    let room = lines_room d.setting d.history c.args.worker c.journal-legal.ensures.legal in
-    let bounded = so_far_bounded d.setting d.history c.args.worker c.journal-legal.ensures.legal in
+    let held = c.args.self.now in let d = state held in
+    let room = lines_room d.setting d.history c.args.worker c.attest.ensures in
+    let bounded = so_far_bounded d.setting d.history c.args.worker c.attest.ensures in
     let told : MOST_DEPTH ≤ MOST_TOLD_DEPTH = omega arith in
     let most : deepest_line d.setting ≤ MOST_TOLD_DEPTH =
     max-le (le_trans held.are_rules.deep told) (min-le_right d.setting.deepest MOST_TOLD_DEPTH) in
@@ -19,6 +20,6 @@ overflow_cast-result c =
 
 pub returns : goal.returns
 returns c =
-    let d = c.args.self.now.desk in let same = ap (λ (bs : List Block). length bs) c.outstanding.ensures in
-    let room = lines_room d.setting d.history c.args.worker c.journal-legal.ensures.legal in
+    let d = state c.args.self.now in let same = ap (λ (bs : List Block). length bs) c.outstanding.ensures in
+    let room = lines_room d.setting d.history c.args.worker c.attest.ensures in
     (grind arith, same, omega (arith, room, same))

@@ -1,0 +1,201 @@
+/* What each call costs, at 1,000 and at 100,000 pieces of 16 blocks, with 50 peers, where nothing is kept.
+       cc -O2 -I out costs.c out/libpiecepick.a -o costs && ./costs
+   Prints a row for each call: nanoseconds, the least of five rounds. Each round makes the call as often as the second number says. */
+#define _POSIX_C_SOURCE 199309L
+#include "piecepick.h"
+#include <stdio.h>
+#include <stdlib.h>
+#include <string.h>
+#include <time.h>
+
+enum { PEERS = 50, ROUNDS = 5, BLOCK = 16384, BLOCKS = 16 };
+
+static piecepick_picker *picker;
+static piecepick_answer answer;
+static piecepick_digest digest;
+static uint8_t *flags, *levels, block[BLOCK];
+static uint32_t pieces;
+static size_t flags_len;
+
+static void well(piecepick_status status) {
+    if (status == PIECEPICK_OK) return;
+    fprintf(stderr, "%s\n", piecepick_status_text(status));
+    exit(1);
+}
+
+static double now(void) {
+    struct timespec at;
+    clock_gettime(CLOCK_PROCESS_CPUTIME_ID, &at);
+    return (double)at.tv_sec * 1e9 + (double)at.tv_nsec;
+}
+
+/* The digest of a piece of zeros. */
+static void digest_of_zeros(void) {
+    uint8_t *zeros = calloc(1, BLOCK * BLOCKS), four[80];
+    if (!zeros) exit(1);
+    well(piecepick_hash4(zeros, BLOCK * BLOCKS, zeros, 0, zeros, 0, zeros, 0, four, sizeof four));
+    memcpy(digest.bytes, four, sizeof digest.bytes);
+    free(zeros);
+}
+
+static void open_picker(void) {
+    piecepick_options options = PIECEPICK_OPTIONS;
+    uint8_t *digests = malloc(20 * (size_t)pieces);
+    if (!digests) exit(1);
+    options.workers = PEERS + 1;
+    for (uint32_t piece = 0; piece < pieces; piece++) memcpy(digests + 20 * (size_t)piece, digest.bytes, 20);
+    well(piecepick_open_parts(&picker, BLOCK * BLOCKS, (uint64_t)pieces * BLOCK * BLOCKS, digests, 20 * (size_t)pieces, &options));
+    free(digests);
+    for (uint32_t worker = 0; worker < PEERS; worker++) {
+        well(piecepick_join(picker, worker, &answer));
+        well(piecepick_bits(picker, worker, flags, flags_len, &answer));
+        well(piecepick_unchoke(picker, worker, &answer));
+    }
+}
+
+/* Each of these makes a call, or calls that undo each other, some number of times, and says how many calls that were. */
+static int come_and_go(void) {
+    well(piecepick_join(picker, PEERS, &answer));
+    well(piecepick_leave(picker, PEERS, &answer));
+    return 2;
+}
+static int bits(void) {
+    well(piecepick_join(picker, PEERS, &answer));
+    double begin = now();
+    well(piecepick_bits(picker, PEERS, flags, flags_len, &answer));
+    double end = now();
+    well(piecepick_leave(picker, PEERS, &answer));
+    return -(int)(end - begin);
+}
+static int haves(void) {
+    well(piecepick_haves(picker, 0, flags, flags_len, &answer));
+    return 1;
+}
+static int have(void) {
+    for (uint32_t piece = 0; piece < 1000; piece++) well(piecepick_have(picker, 0, piece, &answer));
+    return 1000;
+}
+static int ask_and_release(void) {
+    for (int i = 0; i < 1000; i++) {
+        well(piecepick_next(picker, 0, (uint64_t)i * 0x9e3779b97f4a7c15u, &answer));
+        if (answer.kind != PIECEPICK_K_REQUEST) exit(1);
+        well(piecepick_release(picker, 0, answer.piece, answer.begin, &answer));
+    }
+    return 1000;
+}
+static int full(void) {
+    for (int i = 0; i < 5; i++) well(piecepick_next(picker, 1, (uint64_t)i, &answer));
+    double begin = now();
+    for (int i = 0; i < 1000; i++) well(piecepick_next(picker, 1, (uint64_t)i, &answer));
+    return -(int)((now() - begin) / 1000);
+}
+static int choke(void) {
+    well(piecepick_choke(picker, 2, &answer));
+    well(piecepick_unchoke(picker, 2, &answer));
+    return 2;
+}
+static int depth(void) {
+    for (uint32_t i = 0; i < 1000; i++) well(piecepick_depth(picker, 3, 5 + (i & 1), &answer));
+    return 1000;
+}
+static int set_level(void) {
+    for (uint32_t i = 0; i < 1000; i++) well(piecepick_set_level(picker, i, 5, &answer));
+    for (uint32_t i = 0; i < 1000; i++) well(piecepick_set_level(picker, i, 4, &answer));
+    return 2000;
+}
+static int set_levels(void) {
+    well(piecepick_set_levels(picker, levels, pieces, &answer));
+    return 1;
+}
+static int want(void) {
+    well(piecepick_want(picker, flags, flags_len, &answer));
+    return 1;
+}
+static int in_order(void) {
+    well(piecepick_set_in_order(picker, 1, &answer));
+    well(piecepick_set_in_order(picker, 0, &answer));
+    return 2;
+}
+static int epoch(void) {
+    uint64_t number = 0;
+    for (int i = 0; i < 1000; i++) well(piecepick_epoch(picker, &number));
+    return 1000;
+}
+static int is_had(void) {
+    uint32_t number = 0;
+    for (uint32_t i = 0; i < 1000; i++) well(piecepick_is_had(picker, i, &number));
+    return 1000;
+}
+
+/* Whole pieces: the cost of an arrival, and of settling. */
+static double arrived_ns, settled_ns, restored_ns;
+static void pieces_come(void) {
+    double arrived = 0, settled = 0, restored = 0, begin;
+    for (uint32_t piece = 0; piece < 500; piece++) {
+        begin = now();
+        for (uint32_t index = 0; index < BLOCKS; index++) well(piecepick_arrived(picker, 4, piece, index * BLOCK, block, BLOCK, &answer));
+        arrived += now() - begin;
+        begin = now();
+        well(piecepick_settle(picker, piece, &digest, &answer));
+        settled += now() - begin;
+        if (answer.kind != PIECEPICK_K_HAD) exit(1);
+    }
+    uint8_t *zeros = calloc(1, BLOCK * BLOCKS);
+    if (!zeros) exit(1);
+    for (uint32_t piece = 500; piece < 900; piece++) {
+        begin = now();
+        well(piecepick_restore(picker, 4, piece, zeros, BLOCK * BLOCKS, &digest, &answer));
+        restored += now() - begin;
+        if (answer.kind != PIECEPICK_K_HAD) exit(1);
+    }
+    free(zeros);
+    arrived_ns = arrived / 500 / BLOCKS;
+    settled_ns = settled / 500;
+    restored_ns = restored / 400;
+}
+
+static const struct {
+    const char *name;
+    int (*make)(void);
+} CALLS[] = {
+    {"join, leave of a peer that shows nothing", come_and_go}, {"bits, the first ones", bits}, {"haves that tell nothing new", haves}, {"have that tells nothing new", have},
+    {"next with a request, and its release", ask_and_release}, {"next, PIPE_FULL", full}, {"choke, unchoke with nothing asked", choke}, {"depth", depth},
+    {"set_level, from 4 to 5 or back", set_level}, {"set_levels that change nothing", set_levels}, {"want that changes nothing", want},
+    {"set_in_order", in_order}, {"epoch", epoch}, {"is_had", is_had},
+};
+
+static void measure(uint32_t count) {
+    pieces = count;
+    flags_len = (pieces + 7) / 8;
+    flags = malloc(flags_len);
+    levels = malloc(pieces);
+    if (!flags || !levels) exit(1);
+    memset(flags, 0xff, flags_len);
+    if (pieces % 8) flags[flags_len - 1] = (uint8_t)(0xff << (8 - pieces % 8));
+    memset(levels, 4, pieces);
+    double begin = now();
+    open_picker();
+    printf("%u pieces\n%12.0f ns  open_parts, and %d peers that come\n", pieces, now() - begin, PEERS);
+    for (size_t i = 0; i < sizeof CALLS / sizeof *CALLS; i++) {
+        double least = 1e18;
+        for (int round = 0; round < ROUNDS; round++) {
+            begin = now();
+            int calls = CALLS[i].make();
+            double took = calls < 0 ? -calls : (now() - begin) / calls;
+            if (took < least) least = took;
+        }
+        printf("%12.0f ns  %s\n", least, CALLS[i].name);
+    }
+    pieces_come();
+    printf("%12.0f ns  arrived\n%12.0f ns  settle\n%12.0f ns  restore\n", arrived_ns, settled_ns, restored_ns);
+    piecepick_close(&picker);
+    free(flags);
+    free(levels);
+}
+
+int main(void) {
+    digest_of_zeros();
+    measure(1000);
+    measure(100000);
+    return 0;
+}

@@ -1,0 +1,33 @@
+"""The piece picker of a BitTorrent download (BEP 3): which block to request next, and from which peer.
+
+    with Picker(metainfo, workers=20) as picker:
+        picker.join(0)
+        picker.bits(0, payload)
+        picker.unchoke(0)
+        while (answer := picker.next(0)).kind in (Kind.REQUEST, Kind.CANCEL):
+            send = send_request if answer.kind is Kind.REQUEST else send_cancel
+            send(*answer.block)
+
+It is a binding of libpiecepick, whose header piecepick.h says what each call means. A call whose status isn't OK raises a PiecepickError, and
+has changed nothing. A call that a rule refuses has the answer REFUSED: that is mostly the peer's fault, and raises nothing.
+"""
+
+from ._native import Keeps, Kind, Reason, Status
+from .picker import Answer, InputFault, Job, MemoryFault, Picker, PiecepickError, hash_four, version
+
+__version__ = "3.0.0"
+
+__all__ = [
+    "Answer",
+    "InputFault",
+    "Job",
+    "Keeps",
+    "Kind",
+    "MemoryFault",
+    "Picker",
+    "PiecepickError",
+    "Reason",
+    "Status",
+    "hash_four",
+    "version",
+]

@@ -1,0 +1,308 @@
+"""Each call, at each kind of picker."""
+
+from __future__ import annotations
+
+import hashlib
+import unittest
+
+from support import ALL, BLOCK, CONTENT, DIGESTS, INFO, METAINFO, PARTS, PIECE, PIECES, bring, picker, with_peer
+
+from piecepick import Answer, InputFault, Keeps, Kind, Picker, PiecepickError, Reason, Status, hash_four, version
+
+STORED = [Kind.STORED, Kind.COMPLETED]
+WITH_INTEREST = Answer(Kind.NOTED, interesting=True)
+
+
+def refused(reason: Reason) -> Answer:
+    """A refusal."""
+    return Answer(Kind.REFUSED, reason=reason)
+
+
+class CallCase(unittest.TestCase):
+    """A case that looks at statuses."""
+
+    def assert_status(self, status: Status, call: object, *arguments: object) -> None:
+        """The call raises just this status."""
+        with self.assertRaises(PiecepickError) as caught:
+            call(*arguments)  # type: ignore[operator]
+        self.assertIs(caught.exception.status, status)
+
+
+class Opening(CallCase):
+    """Pickers are made of a metainfo file or of parts."""
+
+    def test_metainfo(self) -> None:
+        for data in (METAINFO, bytearray(METAINFO), memoryview(METAINFO)):
+            with Picker(data) as made:
+                self.assertEqual((made.pieces, made.workers, made.total), (PIECES, 50, len(CONTENT)))
+                self.assertEqual(made.name, b"some")
+                self.assertEqual(made.infohash, hashlib.sha1(INFO).digest())
+                self.assertEqual([made.piece_hash(piece) for piece in range(PIECES)], DIGESTS)
+                self.assertEqual([made.piece_length(piece) for piece in range(PIECES)], [len(part) for part in PARTS])
+                self.assertEqual(made.blocks(6), 2)
+
+    def test_parts(self) -> None:
+        with Picker.of_parts(PIECE, len(CONTENT), b"".join(DIGESTS), workers=2) as made:
+            self.assertEqual((made.pieces, made.workers, made.name, made.infohash), (PIECES, 2, b"", bytes(20)))
+        self.assert_status(Status.PIECES_LENGTH, Picker.of_parts, PIECE, len(CONTENT), bytes(21))
+        self.assert_status(Status.COUNT_MISMATCH, Picker.of_parts, PIECE, len(CONTENT), bytes(20))
+        self.assert_status(Status.PIECE_LENGTH, Picker.of_parts, 0, 1, bytes(20))
+        self.assert_status(Status.NO_CONTENT, Picker.of_parts, 1, 0, b"")
+
+    def test_no_torrent(self) -> None:
+        self.assert_status(Status.BENCODE, Picker, b"")
+        self.assert_status(Status.BENCODE, Picker, METAINFO + b"e")
+        self.assert_status(Status.NOT_DICTIONARY, Picker, b"i1e")
+        self.assert_status(Status.MISSING_KEY, Picker, b"de")
+        self.assertRaises(ValueError, Picker, b"")
+
+    def test_options(self) -> None:
+        for name, number, status in [
+            ("workers", 0, Status.WORKER),
+            ("workers", 1025, Status.WORKER),
+            ("keeps", 3, Status.OPTIONS),
+            ("depth", 0, Status.RULES),
+            ("depth", 65, Status.RULES),
+            ("deepest", 4097, Status.RULES),
+            ("askers", 0, Status.RULES),
+            ("random", PIECES + 1, Status.RULES),
+        ]:
+            with self.subTest(name=name, number=number):
+                self.assert_status(status, lambda choice: Picker(METAINFO, **choice), {name: number})
+
+    def test_version(self) -> None:
+        self.assertEqual(version(), "3.0.0")
+
+
+class Peers(CallCase):
+    """What comes on the wire."""
+
+    def test_a_peer_comes_and_goes(self) -> None:
+        with picker() as made:
+            self.assertEqual(made.next(0), refused(Reason.NOT_JOINED))
+            self.assertEqual(made.join(0), Answer(Kind.JOINED))
+            self.assertEqual(made.join(0), refused(Reason.ALREADY_JOINED))
+            self.assert_status(Status.WORKER, made.join, 3)
+            self.assertEqual(made.next(0).kind, Kind.CHOKED)
+            self.assertEqual(made.unchoke(0).kind, Kind.QUIET)
+            self.assertEqual(made.next(0).kind, Kind.NOTHING_LEFT)
+            self.assertEqual(made.have(0, 2), WITH_INTEREST)
+            self.assert_status(Status.PIECE, made.have, 0, PIECES)
+            self.assertEqual(made.availability(2), 1)
+            self.assertEqual(made.choke(0).kind, Kind.QUIET)
+            self.assertEqual(made.leave(0).kind, Kind.QUIET)
+            self.assertEqual(made.availability(2), 0)
+
+    def test_bitfields(self) -> None:
+        with picker() as made:
+            made.join(0)
+            self.assert_status(Status.BITS_LENGTH, made.bits, 0, b"\0\0")
+            self.assert_status(Status.BITS_LENGTH, made.haves, 0, b"")
+            self.assert_status(Status.SPARE_BITS, made.bits, 0, b"\x01")
+            self.assertEqual(made.bits(0, b"\0"), Answer(Kind.NOTED))
+            self.assertEqual(made.bits(0, ALL), refused(Reason.LATE_BITS))
+            self.assertEqual(made.haves(0, bytearray(ALL)), WITH_INTEREST)
+
+    def test_blocks_are_asked_and_released(self) -> None:
+        with with_peer() as made:
+            self.assertEqual(made.depth(0, 2).kind, Kind.QUIET)
+            self.assertEqual(made.depth(0, 501), refused(Reason.WRONG_DEPTH))
+            first, second = made.next(0), made.next(0, 2**64 - 1)
+            self.assertEqual([first.kind, second.kind, made.next(0).kind], [Kind.REQUEST, Kind.REQUEST, Kind.PIPE_FULL])
+            self.assertEqual(made.outstanding(0), 2)
+            self.assertEqual([made.outstanding_at(0, 0), made.outstanding_at(0, 1)], [first, second])
+            self.assert_status(Status.PLACE, made.outstanding_at, 0, 2)
+            self.assertEqual(made.release(0, first.piece, first.begin).kind, Kind.QUIET)
+            self.assertEqual(made.release(0, first.piece, first.begin), refused(Reason.NOT_ASKED))
+            self.assertEqual(made.outstanding(0), 1)
+
+    def test_a_block_from_another_peer_is_cancelled(self) -> None:
+        with with_peer() as made:
+            made.join(1)
+            piece, begin, length = made.next(0).block
+            block = PARTS[piece][begin : begin + length]
+            self.assertEqual(made.arrived(1, piece, begin, block[1:]), refused(Reason.WRONG_LENGTH))
+            self.assertEqual(made.arrived(1, piece, 5, block), refused(Reason.NO_SUCH_BLOCK))
+            self.assertEqual(made.arrived(1, piece, begin, block).kind, Kind.STORED)
+            self.assertEqual(made.arrived(0, piece, begin, block).kind, Kind.DROPPED)
+            self.assertEqual(made.sender(piece, begin // BLOCK), 1)
+            self.assert_status(Status.NOT_HELD, made.sender, piece, 1 - begin // BLOCK)
+            self.assert_status(Status.BLOCK, made.sender, piece, 2)
+
+    def test_cancel(self) -> None:
+        with with_peer() as made:
+            made.join(1)
+            asked = made.next(0)
+            piece, begin, length = asked.block
+            made.arrived(1, piece, begin, PARTS[piece][begin : begin + length])
+            self.assertEqual(made.next(0), asked._replace(kind=Kind.CANCEL))
+
+    def test_epoch(self) -> None:
+        with with_peer() as made:
+            made.join(1)
+            before = made.epoch
+            made.leave(1)
+            self.assertGreater(made.epoch, before)
+
+
+class Pieces(CallCase):
+    """What is to be downloaded, for all peers."""
+
+    def test_levels(self) -> None:
+        with with_peer() as made:
+            self.assertEqual(made.level(3), 4)
+            self.assertEqual(made.set_level(3, 7).kind, Kind.QUIET)
+            self.assertEqual((made.level(3), made.next(0).piece), (7, 3))
+            self.assertEqual(made.set_level(3, 8), refused(Reason.WRONG_LEVEL))
+            self.assertEqual(made.set_level(3, 2**32 - 1), refused(Reason.WRONG_LEVEL))
+            self.assert_status(Status.PIECE, made.set_level, PIECES, 1)
+            self.assertEqual(made.set_levels(bytes(PIECES)).kind, Kind.QUIET)
+            self.assertEqual((made.has_wanted, made.is_complete), (True, False))
+            self.assertEqual(made.set_levels(bytes(PIECES - 1)), refused(Reason.WRONG_COUNT))
+            self.assertEqual(made.want(b"\x40").kind, Kind.QUIET)
+            self.assertEqual((made.level(1), made.level(3), made.has_wanted), (4, 0, False))
+
+    def test_order(self) -> None:
+        with with_peer() as made:
+            self.assertFalse(made.is_in_order)
+            self.assertEqual(made.set_in_order().kind, Kind.QUIET)
+            self.assertTrue(made.is_in_order)
+            self.assertEqual(made.next(0).block, (0, 0, BLOCK))
+            made.set_in_order(False)
+            self.assertFalse(made.is_in_order)
+
+
+class Nothing(CallCase):
+    """A picker that keeps nothing."""
+
+    def test_settle(self) -> None:
+        with with_peer() as made:
+            self.assert_status(Status.NOT_WAITING, made.settle, 1, DIGESTS[1])
+            self.assertEqual(bring(made, 1, PARTS[1]), STORED)
+            self.assertTrue(made.is_waiting(1))
+            self.assertEqual(made.settle(1, bytes(20)).kind, Kind.FAILED)
+            self.assertEqual(bring(made, 1, PARTS[1]), STORED)
+            self.assertEqual(made.settle(1, bytearray(DIGESTS[1])).kind, Kind.HAD)
+            self.assertEqual((made.is_had(1), made.is_had(2), made.is_waiting(1)), (True, False, False))
+            for digest in (b"", bytes(19), bytes(21)):
+                self.assertRaises(ValueError, made.settle, 1, digest)
+
+    def test_restore(self) -> None:
+        with picker() as made:
+            self.assertEqual(made.restore(2, 6, PARTS[6], DIGESTS[6]), refused(Reason.NOT_JOINED))
+            made.join(2)
+            self.assert_status(Status.LENGTH, made.restore, 2, 6, PARTS[6][1:], DIGESTS[6])
+            self.assert_status(Status.WORKER, made.restore, 3, 6, PARTS[6], DIGESTS[6])
+            self.assertEqual(made.restore(2, 6, PARTS[6], bytes(20)).kind, Kind.FAILED)
+            self.assertEqual(made.restore(2, 6, memoryview(PARTS[6]), DIGESTS[6]).kind, Kind.HAD)
+            self.assert_status(Status.BEGUN, made.restore, 2, 6, PARTS[6], DIGESTS[6])
+            self.assertTrue(made.is_had(6))
+
+    def test_what_it_lacks(self) -> None:
+        with with_peer() as made:
+            bring(made, 1, PARTS[1])
+            self.assert_status(Status.KEEPS, made.job, 1)
+            self.assert_status(Status.KEEPS, made.settle_now, 1)
+            self.assert_status(Status.KEEPS, made.read, 1)
+            self.assert_status(Status.KEEPS, made.audit)
+
+
+class Begun(CallCase):
+    """A picker that keeps what is begun."""
+
+    def test_download(self) -> None:
+        with with_peer(Keeps.BEGUN) as made:
+            got = {}
+            while (answer := made.next(0)).kind is Kind.REQUEST:
+                piece, begin, length = answer.block
+                if made.arrived(0, piece, begin, memoryview(PARTS[piece])[begin : begin + length]).kind is Kind.COMPLETED:
+                    with made.job(piece) as job:
+                        job.hash()
+                        self.assertEqual(job.settle().kind, Kind.HAD)
+                        got[piece] = bytes(job.read())
+            self.assertEqual(answer.kind, Kind.NOTHING_LEFT)
+            self.assertTrue(made.is_complete)
+            self.assertEqual(b"".join(got[piece] for piece in range(PIECES)), CONTENT)
+
+    def test_job(self) -> None:
+        with with_peer(Keeps.BEGUN) as made:
+            self.assert_status(Status.NOT_WAITING, made.job, 1)
+            self.assert_status(Status.PIECE, made.job, PIECES)
+            bring(made, 1, PARTS[1])
+            job = made.job(1)
+            self.assertEqual((job.piece, job.length), (1, PIECE))
+            self.assert_status(Status.NOT_HASHED, job.settle)
+            self.assertEqual(job.read(), PARTS[1])
+            job.hash()
+            self.assertEqual(job.settle().kind, Kind.HAD)
+            self.assert_status(Status.NOT_WAITING, job.settle)
+        self.assertEqual(job.read(), PARTS[1])
+        self.assert_status(Status.LENGTH, job.read_into, bytearray(PIECE - 1))
+        self.assert_status(Status.SHUT, job.settle)
+        job.close()
+
+    def test_stale(self) -> None:
+        with with_peer(Keeps.BEGUN) as made:
+            bring(made, 0, PARTS[1])
+            first, second = made.job(0), made.job(0)
+            for job in (first, second):
+                job.hash()
+            self.assertEqual(first.settle().kind, Kind.FAILED)
+            bring(made, 0, PARTS[0])
+            self.assert_status(Status.STALE, second.settle)
+
+    def test_what_it_lacks(self) -> None:
+        with with_peer(Keeps.BEGUN) as made:
+            bring(made, 1, PARTS[1])
+            self.assert_status(Status.KEEPS, made.settle, 1, DIGESTS[1])
+            self.assert_status(Status.KEEPS, made.restore, 0, 2, PARTS[2], DIGESTS[2])
+            self.assert_status(Status.KEEPS, made.settle_now, 1)
+
+
+class Journal(CallCase):
+    """A picker that keeps all."""
+
+    def test_download(self) -> None:
+        with with_peer(Keeps.JOURNAL) as made:
+            for piece, part in enumerate(PARTS):
+                bring(made, piece, part)
+                self.assert_status(Status.NOT_HAD, made.read, piece)
+                self.assertEqual(made.settle_now(piece).kind, Kind.HAD)
+                self.assertEqual(made.read(piece), part)
+            self.assert_status(Status.LENGTH, made.read_into, 0, bytearray(1))
+            self.assert_status(Status.PIECE, made.settle_now, PIECES)
+            self.assertTrue(made.is_complete and made.has_wanted)
+            made.audit()
+
+    def test_job(self) -> None:
+        with with_peer(Keeps.JOURNAL) as made:
+            bring(made, 6, PARTS[5][: len(PARTS[6])])
+            with made.job(6) as job:
+                job.hash()
+                self.assertEqual(job.settle().kind, Kind.FAILED)
+            made.audit()
+
+
+class Hashing(CallCase):
+    """Four messages at once."""
+
+    def test_four(self) -> None:
+        for messages in (PARTS[:4], PARTS[3:], [b"", b"a", b"abc", bytes(1000)]):
+            self.assertEqual(hash_four(*messages), [hashlib.sha1(message).digest() for message in messages])
+        self.assertRaises(TypeError, hash_four, b"", b"", b"", "text")
+
+
+class Faults(CallCase):
+    """What is raised is a ValueError where the caller passed what isn't."""
+
+    def test_kinds(self) -> None:
+        with with_peer() as made:
+            self.assertRaises(InputFault, made.join, 3)
+            with self.assertRaises(PiecepickError) as caught:
+                made.settle(0, DIGESTS[0])
+            self.assertNotIsInstance(caught.exception, ValueError)
+            self.assertEqual(str(caught.exception), "settle: not waiting")
+
+
+if __name__ == "__main__":
+    unittest.main()

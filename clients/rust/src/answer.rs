@@ -1,0 +1,189 @@
+//! What the picker answers.
+
+use crate::sys;
+use std::fmt;
+
+/// A block, as the wire names it: `begin` and `length` are in bytes.
+#[derive(Clone, Copy, Debug, PartialEq, Eq, Hash)]
+pub struct Block {
+    /// The number of its piece.
+    pub piece: u32,
+    /// How far into the piece it begins.
+    pub begin: u32,
+    /// How many bytes it has.
+    pub length: u32,
+}
+
+/// What the picker answers.
+#[derive(Clone, Copy, Debug, PartialEq, Eq)]
+pub enum Answer {
+    /// The worker's peer is there.
+    Joined,
+    /// What the peer has is noted.
+    Noted {
+        /// The peer has a wanted piece that isn't had.
+        interesting: bool,
+    },
+    /// Done; there is nothing to say.
+    Quiet,
+    /// To be sent as `cancel`: the block came from another peer. Ask again.
+    Cancel(Block),
+    /// To be sent as `request`. Ask again.
+    Request(Block),
+    /// Nothing to ask: the peer chokes us.
+    Choked,
+    /// Nothing to ask: as many blocks as may be are asked of the peer.
+    PipeFull,
+    /// Nothing to ask now, though the peer has a wanted piece that isn't had.
+    Idle,
+    /// The peer shows no wanted piece that isn't had.
+    NothingLeft,
+    /// The block is held.
+    Stored,
+    /// The block is held, and its piece is full now: it waits for its check.
+    Completed,
+    /// The block was held already: it came twice.
+    Dropped,
+    /// The piece has its hash.
+    Had,
+    /// The piece has another hash: its blocks are held no more.
+    Failed,
+    /// A rule refused it: mostly the peer's fault, not the caller's.
+    Refused(Reason),
+}
+
+/// An [`Answer`] without what it carries.
+#[derive(Clone, Copy, Debug, PartialEq, Eq, Hash)]
+#[allow(missing_docs)]
+pub enum Kind {
+    Joined,
+    Noted,
+    Quiet,
+    Cancel,
+    Request,
+    Choked,
+    PipeFull,
+    Idle,
+    NothingLeft,
+    Stored,
+    Completed,
+    Dropped,
+    Had,
+    Failed,
+    Refused,
+}
+
+/// Why a rule refused a call.
+#[derive(Clone, Copy, Debug, PartialEq, Eq, Hash)]
+pub enum Reason {
+    /// The worker hasn't joined.
+    NotJoined,
+    /// The worker has joined already.
+    AlreadyJoined,
+    /// A bitfield that isn't the peer's first word: tell it by [`haves`](crate::Picker::haves).
+    LateBits,
+    /// Not one for each piece.
+    WrongCount,
+    /// No such piece.
+    NoSuchPiece,
+    /// No such block.
+    NoSuchBlock,
+    /// A block of another length.
+    WrongLength,
+    /// The piece doesn't wait for a check.
+    NotWaiting,
+    /// The bytes that were hashed are no longer those held.
+    Stale,
+    /// The block isn't asked of the peer.
+    NotAsked,
+    /// A depth of 0, or beyond the deepest.
+    WrongDepth,
+    /// A level above 7.
+    WrongLevel,
+}
+
+impl Reason {
+    /// The reason of a number that the library has told.
+    fn of(number: sys::piecepick_reason) -> Reason {
+        match number {
+            1 => Reason::NotJoined,
+            2 => Reason::AlreadyJoined,
+            3 => Reason::LateBits,
+            4 => Reason::WrongCount,
+            5 => Reason::NoSuchPiece,
+            6 => Reason::NoSuchBlock,
+            7 => Reason::WrongLength,
+            8 => Reason::NotWaiting,
+            9 => Reason::Stale,
+            10 => Reason::NotAsked,
+            11 => Reason::WrongDepth,
+            12 => Reason::WrongLevel,
+            _ => panic!("libpiecepick told the reason {number}, which its interface hasn't"),
+        }
+    }
+}
+
+impl fmt::Display for Reason {
+    fn fmt(&self, formatter: &mut fmt::Formatter<'_>) -> fmt::Result {
+        formatter.write_str(match self {
+            Reason::NotJoined => "the worker hasn't joined",
+            Reason::AlreadyJoined => "the worker has joined already",
+            Reason::LateBits => "a bitfield that isn't the peer's first word",
+            Reason::WrongCount => "not one for each piece",
+            Reason::NoSuchPiece => "no such piece",
+            Reason::NoSuchBlock => "no such block",
+            Reason::WrongLength => "a block of another length",
+            Reason::NotWaiting => "the piece doesn't wait for a check",
+            Reason::Stale => "the bytes that were hashed are no longer those held",
+            Reason::NotAsked => "the block isn't asked of the peer",
+            Reason::WrongDepth => "a depth of 0, or beyond the deepest",
+            Reason::WrongLevel => "a level above 7",
+        })
+    }
+}
+
+impl Answer {
+    /// The answer that the library wrote, at a status of OK.
+    pub(crate) fn of(told: &sys::piecepick_answer) -> Answer {
+        let block = Block { piece: told.piece, begin: told.begin, length: told.length };
+        match told.kind {
+            1 => Answer::Joined,
+            2 => Answer::Noted { interesting: told.interesting == 1 },
+            3 => Answer::Quiet,
+            4 => Answer::Cancel(block),
+            5 => Answer::Request(block),
+            6 => Answer::Choked,
+            7 => Answer::PipeFull,
+            8 => Answer::Idle,
+            9 => Answer::NothingLeft,
+            10 => Answer::Stored,
+            11 => Answer::Completed,
+            12 => Answer::Dropped,
+            13 => Answer::Had,
+            14 => Answer::Failed,
+            15 => Answer::Refused(Reason::of(told.reason)),
+            kind => panic!("libpiecepick answered the kind {kind}, which its interface hasn't"),
+        }
+    }
+
+    /// The answer without what it carries.
+    pub fn kind(&self) -> Kind {
+        match self {
+            Answer::Joined => Kind::Joined,
+            Answer::Noted { .. } => Kind::Noted,
+            Answer::Quiet => Kind::Quiet,
+            Answer::Cancel(_) => Kind::Cancel,
+            Answer::Request(_) => Kind::Request,
+            Answer::Choked => Kind::Choked,
+            Answer::PipeFull => Kind::PipeFull,
+            Answer::Idle => Kind::Idle,
+            Answer::NothingLeft => Kind::NothingLeft,
+            Answer::Stored => Kind::Stored,
+            Answer::Completed => Kind::Completed,
+            Answer::Dropped => Kind::Dropped,
+            Answer::Had => Kind::Had,
+            Answer::Failed => Kind::Failed,
+            Answer::Refused(_) => Kind::Refused,
+        }
+    }
+}

@@ -1,0 +1,90 @@
+//! The choices at open.
+
+use crate::sys;
+use std::mem::size_of;
+
+/// What a picker keeps of what it is told.
+#[derive(Clone, Copy, Debug, Default, PartialEq, Eq, Hash)]
+pub enum Keeps {
+    /// Neither content nor journal: the caller keeps the content and hashes it, and tells the digest
+    /// ([`settle`](crate::Picker::settle)).
+    #[default]
+    Nothing = 0,
+    /// The blocks of pieces that are begun, until they are had: a [`Job`](crate::Job) hashes them, and hands them out.
+    Begun = 1,
+    /// All content, and each call with its answer, until the picker is dropped: for simulators and audits.
+    Journal = 2,
+}
+
+/// The choices at open. What isn't said is as the header's `PIECEPICK_OPTIONS` has it.
+#[derive(Clone, Copy, Debug, PartialEq, Eq)]
+pub struct Options {
+    keeps: Keeps,
+    workers: u32,
+    depth: u32,
+    deepest: u32,
+    random: u32,
+    askers: u32,
+}
+
+impl Default for Options {
+    fn default() -> Options {
+        Options { keeps: Keeps::Nothing, workers: 50, depth: 5, deepest: 500, random: 1, askers: 2 }
+    }
+}
+
+impl Options {
+    /// The choices of the header.
+    #[must_use]
+    pub fn new() -> Options {
+        Options::default()
+    }
+
+    /// What the picker keeps; nothing, where it isn't said.
+    #[must_use]
+    pub fn keeps(self, keeps: Keeps) -> Options {
+        Options { keeps, ..self }
+    }
+
+    /// Peers at a time, 1 to 1,024: a worker is a number below it. 50, where it isn't said.
+    #[must_use]
+    pub fn workers(self, workers: u32) -> Options {
+        Options { workers, ..self }
+    }
+
+    /// Blocks asked of a peer at a time until another depth is told, 1 to 64. 5, where it isn't said.
+    #[must_use]
+    pub fn depth(self, depth: u32) -> Options {
+        Options { depth, ..self }
+    }
+
+    /// The greatest depth that may be told, 1 to 4,096. 500, where it isn't said.
+    #[must_use]
+    pub fn deepest(self, deepest: u32) -> Options {
+        Options { deepest, ..self }
+    }
+
+    /// Pieces that are had before the rarest come first, no more than there are. 1, where it isn't said.
+    #[must_use]
+    pub fn random(self, random: u32) -> Options {
+        Options { random, ..self }
+    }
+
+    /// Of how many peers one block is asked at most in endgame, 1 (no endgame) to 1,024 (no bound). 2, where it isn't said.
+    #[must_use]
+    pub fn askers(self, askers: u32) -> Options {
+        Options { askers, ..self }
+    }
+
+    pub(crate) fn to_c(self) -> sys::piecepick_options {
+        sys::piecepick_options {
+            size: size_of::<sys::piecepick_options>() as u32,
+            keeps: self.keeps as u32,
+            workers: self.workers,
+            depth: self.depth,
+            deepest: self.deepest,
+            random: self.random,
+            askers: self.askers,
+        }
+    }
+}

@@ -1,0 +1,286 @@
+//! Each call, at each kind of picker, by a torrent of seven pieces.
+
+use piecepick::{hash4, sys, Answer, Block, Digest, Error, Job, Keeps, Kind, Options, Picker, Reason};
+use std::mem::size_of;
+use std::sync::Mutex;
+use std::thread;
+
+const BLOCK: usize = 1 << 14;
+const PIECE: usize = 2 * BLOCK;
+const PIECES: u32 = 7;
+const ALL: [u8; 1] = [0b1111_1110];
+
+/// The last piece has one block and a short one.
+fn content() -> Vec<u8> {
+    (0..6 * PIECE + BLOCK + 100).map(|at| (at * 7 + at / 251) as u8).collect()
+}
+
+fn piece(content: &[u8], piece: u32) -> &[u8] {
+    content.chunks(PIECE).nth(piece as usize).unwrap()
+}
+
+fn sha1(bytes: &[u8]) -> Digest {
+    hash4([bytes, b"", b"", b""])[0]
+}
+
+fn digests(content: &[u8]) -> Vec<Digest> {
+    content.chunks(PIECE).map(sha1).collect()
+}
+
+fn info(content: &[u8]) -> Vec<u8> {
+    let digests = digests(content).concat();
+    let head = format!("d6:lengthi{}e4:name4:some12:piece lengthi{PIECE}e6:pieces{}:", content.len(), digests.len());
+    [head.as_bytes(), &digests, b"e"].concat()
+}
+
+fn metainfo(content: &[u8]) -> Vec<u8> {
+    [b"d4:info".as_slice(), &info(content), b"e"].concat()
+}
+
+fn picker(keeps: Keeps) -> Picker {
+    let content = content();
+    let options = Options::new().keeps(keeps).workers(3).random(0);
+    Picker::open_parts(PIECE as u32, content.len() as u64, &digests(&content), options).unwrap()
+}
+
+/// A worker's peer that has each piece and has unchoked us.
+fn with_peer(keeps: Keeps) -> Picker {
+    let mut picker = picker(keeps);
+    assert_eq!(picker.join(0), Ok(Answer::Joined));
+    assert_eq!(picker.bits(0, &ALL), Ok(Answer::Noted { interesting: true }));
+    assert_eq!(picker.unchoke(0), Ok(Answer::Quiet));
+    picker
+}
+
+/// Brings a piece that nobody was asked for, or was.
+fn bring(picker: &mut Picker, number: u32, bytes: &[u8]) {
+    let blocks = bytes.chunks(BLOCK).count();
+    for (index, block) in bytes.chunks(BLOCK).enumerate() {
+        let answer = picker.arrived(0, number, (index * BLOCK) as u32, block);
+        assert_eq!(answer, Ok(if index + 1 == blocks { Answer::Completed } else { Answer::Stored }));
+    }
+}
+
+#[test]
+fn structs_are_those_of_c() {
+    assert_eq!(size_of::<sys::piecepick_answer>(), 24);
+    assert_eq!(size_of::<sys::piecepick_options>(), 28);
+    assert_eq!(size_of::<sys::piecepick_digest>(), 20);
+    assert_eq!(piecepick::version(), 30_000);
+}
+
+#[test]
+fn a_metainfo_file_is_read() {
+    let content = content();
+    let picker = Picker::open(&metainfo(&content), Options::default()).unwrap();
+    assert_eq!((picker.pieces(), picker.workers(), picker.total()), (PIECES, 50, content.len() as u64));
+    assert_eq!(picker.name(), b"some");
+    assert_eq!(picker.infohash(), sha1(&info(&content)));
+    assert_eq!(picker.piece_hash(6), Ok(sha1(piece(&content, 6))));
+    assert_eq!(picker.piece_length(6), Ok((BLOCK + 100) as u32));
+    assert_eq!(picker.blocks(6), Ok(2));
+    assert_eq!(picker.piece_hash(7), Err(Error::Piece));
+}
+
+#[test]
+fn a_torrent_of_parts_has_no_name() {
+    let picker = picker(Keeps::Nothing);
+    assert_eq!((picker.name(), picker.infohash()), (vec![], [0; 20]));
+}
+
+#[test]
+fn what_is_wrong_at_open_is_told() {
+    let good = metainfo(&content());
+    let open = |options| Picker::open(&good, options).map(|_| ()).unwrap_err();
+    assert_eq!(Picker::open(b"", Options::new()).map(|_| ()), Err(Error::Bencode));
+    assert_eq!(Picker::open(b"i1e", Options::new()).map(|_| ()), Err(Error::NotDictionary));
+    assert_eq!(Picker::open(b"de", Options::new()).map(|_| ()), Err(Error::MissingKey));
+    assert_eq!(open(Options::new().workers(0)), Error::Worker);
+    assert_eq!(open(Options::new().workers(1025)), Error::Worker);
+    assert_eq!(open(Options::new().depth(65)), Error::Rules);
+    assert_eq!(open(Options::new().deepest(4097)), Error::Rules);
+    assert_eq!(open(Options::new().askers(0)), Error::Rules);
+    assert_eq!(open(Options::new().random(PIECES + 1)), Error::Rules);
+    assert_eq!(Picker::open_parts(0, 1, &[[0; 20]], Options::new()).map(|_| ()), Err(Error::PieceLength));
+    assert_eq!(Picker::open_parts(1, 0, &[], Options::new()).map(|_| ()), Err(Error::NoContent));
+    assert_eq!(Picker::open_parts(1, 2, &[[0; 20]], Options::new()).map(|_| ()), Err(Error::CountMismatch));
+    assert_eq!(Error::Worker.to_string(), "no such worker");
+}
+
+#[test]
+fn a_peer_comes_and_goes() {
+    let mut picker = picker(Keeps::Nothing);
+    assert_eq!(picker.next(0, 1), Ok(Answer::Refused(Reason::NotJoined)));
+    assert_eq!(picker.join(3), Err(Error::Worker));
+    assert_eq!(picker.join(0), Ok(Answer::Joined));
+    assert_eq!(picker.join(0), Ok(Answer::Refused(Reason::AlreadyJoined)));
+    assert_eq!(picker.next(0, 1), Ok(Answer::Choked));
+    assert_eq!(picker.unchoke(0), Ok(Answer::Quiet));
+    assert_eq!(picker.next(0, 1), Ok(Answer::NothingLeft));
+    assert_eq!(picker.have(0, 2), Ok(Answer::Noted { interesting: true }));
+    assert_eq!(picker.have(0, PIECES), Err(Error::Piece));
+    assert_eq!(picker.bits(0, &ALL), Ok(Answer::Refused(Reason::LateBits)));
+    assert_eq!(picker.bits(0, &[0, 0]), Err(Error::BitsLength));
+    assert_eq!(picker.haves(0, &[1]), Err(Error::SpareBits));
+    assert_eq!(picker.haves(0, &ALL), Ok(Answer::Noted { interesting: true }));
+    assert_eq!(picker.availability(5), Ok(1));
+    assert_eq!(picker.choke(0), Ok(Answer::Quiet));
+    assert_eq!(picker.leave(0), Ok(Answer::Quiet));
+    assert_eq!(picker.availability(5), Ok(0));
+}
+
+#[test]
+fn blocks_are_asked_and_released() {
+    let mut picker = with_peer(Keeps::Nothing);
+    assert_eq!(picker.depth(0, 2), Ok(Answer::Quiet));
+    assert_eq!(picker.depth(0, 501), Ok(Answer::Refused(Reason::WrongDepth)));
+    let Ok(Answer::Request(first)) = picker.next(0, 1) else { panic!("no request") };
+    let Ok(Answer::Request(second)) = picker.next(0, 2) else { panic!("no request") };
+    assert_eq!(picker.next(0, 3).unwrap().kind(), Kind::PipeFull);
+    assert_eq!(picker.outstanding(0), Ok(2));
+    assert_eq!((picker.outstanding_at(0, 0), picker.outstanding_at(0, 1)), (Ok(first), Ok(second)));
+    assert_eq!(picker.outstanding_at(0, 2), Err(Error::Place));
+    assert_eq!(picker.release(0, first.piece, first.begin), Ok(Answer::Quiet));
+    assert_eq!(picker.release(0, first.piece, first.begin), Ok(Answer::Refused(Reason::NotAsked)));
+    assert_eq!(picker.outstanding(0), Ok(1));
+}
+
+#[test]
+fn a_block_from_another_peer_is_cancelled() {
+    let content = content();
+    let mut picker = with_peer(Keeps::Nothing);
+    picker.join(1).unwrap();
+    let Ok(Answer::Request(Block { piece: number, begin, length })) = picker.next(0, 1) else { panic!("no request") };
+    let bytes = &piece(&content, number)[begin as usize..][..length as usize];
+    assert_eq!(picker.arrived(1, number, begin, &bytes[1..]), Ok(Answer::Refused(Reason::WrongLength)));
+    assert_eq!(picker.arrived(1, number, begin, bytes), Ok(Answer::Stored));
+    assert_eq!(picker.arrived(1, number, begin, bytes), Ok(Answer::Dropped));
+    assert_eq!(picker.sender(number, begin / BLOCK as u32), Ok(1));
+    assert_eq!(picker.sender(number, 1 - begin / BLOCK as u32), Err(Error::NotHeld));
+    assert_eq!(picker.sender(number, 2), Err(Error::Block));
+    assert_eq!(picker.next(0, 2), Ok(Answer::Cancel(Block { piece: number, begin, length })));
+}
+
+#[test]
+fn levels_say_what_comes_first() {
+    let mut picker = with_peer(Keeps::Nothing);
+    assert_eq!(picker.level(3), Ok(4));
+    assert_eq!(picker.set_level(3, 7), Ok(Answer::Quiet));
+    assert_eq!(picker.set_level(3, 8), Ok(Answer::Refused(Reason::WrongLevel)));
+    assert_eq!(picker.set_level(PIECES, 7), Err(Error::Piece));
+    let Ok(Answer::Request(block)) = picker.next(0, 1) else { panic!("no request") };
+    assert_eq!((picker.level(3), block.piece), (Ok(7), 3));
+    assert_eq!(picker.set_levels(&[0; 6]), Ok(Answer::Refused(Reason::WrongCount)));
+    let before = picker.epoch();
+    assert_eq!(picker.set_levels(&[0; 7]), Ok(Answer::Quiet));
+    assert!(picker.epoch() > before && picker.has_wanted() && !picker.is_complete());
+    assert_eq!(picker.want(&[0b0100_0000]), Ok(Answer::Quiet));
+    assert_eq!((picker.level(1), picker.level(3), picker.has_wanted()), (Ok(4), Ok(0), false));
+    assert_eq!(picker.set_in_order(true), Ok(Answer::Quiet));
+    assert!(picker.is_in_order());
+    assert_eq!(picker.set_in_order(false), Ok(Answer::Quiet));
+    assert!(!picker.is_in_order());
+}
+
+#[test]
+fn the_caller_hashes_what_it_keeps() {
+    let content = content();
+    let mut picker = with_peer(Keeps::Nothing);
+    assert_eq!(picker.settle(1, &[0; 20]), Err(Error::NotWaiting));
+    bring(&mut picker, 1, piece(&content, 1));
+    assert_eq!(picker.is_waiting(1), Ok(true));
+    assert_eq!(picker.settle(1, &[0; 20]), Ok(Answer::Failed));
+    bring(&mut picker, 1, piece(&content, 1));
+    assert_eq!(picker.settle(1, &sha1(piece(&content, 1))), Ok(Answer::Had));
+    assert_eq!((picker.is_had(1), picker.is_had(2)), (Ok(true), Ok(false)));
+    assert_eq!(picker.take_job(1).map(|_| ()), Err(Error::Keeps));
+    assert_eq!(picker.settle_now(1), Err(Error::Keeps));
+    assert_eq!(picker.read(1), Err(Error::Keeps));
+    assert_eq!(picker.audit(), Err(Error::Keeps));
+}
+
+#[test]
+fn what_a_disk_has_is_restored() {
+    let content = content();
+    let mut picker = picker(Keeps::Nothing);
+    let whole = piece(&content, 6);
+    assert_eq!(picker.restore(2, 6, whole, &sha1(whole)), Ok(Answer::Refused(Reason::NotJoined)));
+    picker.join(2).unwrap();
+    assert_eq!(picker.restore(2, 6, &whole[1..], &sha1(whole)), Err(Error::Length));
+    assert_eq!(picker.restore(2, 6, whole, &[0; 20]), Ok(Answer::Failed));
+    assert_eq!(picker.restore(2, 6, whole, &sha1(whole)), Ok(Answer::Had));
+    assert_eq!(picker.restore(2, 6, whole, &sha1(whole)), Err(Error::Begun));
+    assert_eq!(with_peer(Keeps::Begun).restore(0, 6, whole, &sha1(whole)), Err(Error::Keeps));
+}
+
+#[test]
+fn a_job_hashes_away_from_its_picker() {
+    let content = content();
+    let mut picker = with_peer(Keeps::Begun);
+    assert_eq!(picker.take_job(1).map(|_| ()), Err(Error::NotWaiting));
+    bring(&mut picker, 1, piece(&content, 1));
+    let job = picker.take_job(1).unwrap();
+    assert_eq!(picker.settle_job(&job), Err(Error::NotHashed));
+    let job = thread::spawn(move || hashed(job)).join().unwrap();
+    assert_eq!(picker.settle_job(&job), Ok(Answer::Had));
+    assert_eq!(picker.settle_job(&job), Err(Error::NotWaiting));
+    drop(picker);
+    assert_eq!(job.read_into(&mut [0; 3]), Err(Error::Length));
+    assert_eq!((job.piece(), job.read().as_slice()), (1, piece(&content, 1)));
+}
+
+fn hashed(mut job: Job) -> Job {
+    job.hash().unwrap();
+    job
+}
+
+#[test]
+fn a_stale_verdict_is_refused() {
+    let content = content();
+    let mut picker = with_peer(Keeps::Begun);
+    bring(&mut picker, 0, piece(&content, 1));
+    let (first, second) = (picker.take_job(0).unwrap(), picker.take_job(0).unwrap());
+    assert_eq!(picker.settle_job(&hashed(first)), Ok(Answer::Failed));
+    bring(&mut picker, 0, piece(&content, 0));
+    assert_eq!(picker.settle_job(&hashed(second)), Err(Error::Stale));
+    assert_eq!(picker.is_waiting(0), Ok(true));
+}
+
+#[test]
+fn a_journal_is_audited() {
+    let content = content();
+    let mut picker = with_peer(Keeps::Journal);
+    for number in 0..PIECES {
+        bring(&mut picker, number, piece(&content, number));
+        assert_eq!(picker.read(number), Err(Error::NotHad));
+        assert_eq!(picker.settle_now(number), Ok(Answer::Had));
+        assert_eq!(picker.read(number).unwrap(), piece(&content, number));
+    }
+    assert_eq!(picker.read_into(0, &mut [0; 1]), Err(Error::Length));
+    assert!(picker.is_complete() && picker.has_wanted());
+    assert_eq!(picker.audit(), Ok(()));
+}
+
+#[test]
+fn threads_share_a_picker_by_a_mutex() {
+    let content = content();
+    let picker = Mutex::new(with_peer(Keeps::Begun));
+    thread::scope(|scope| {
+        for number in 0..PIECES {
+            let (picker, bytes) = (&picker, piece(&content, number));
+            scope.spawn(move || {
+                bring(&mut picker.lock().unwrap(), number, bytes);
+                let job = picker.lock().unwrap().take_job(number).unwrap();
+                assert_eq!(picker.lock().unwrap().settle_job(&hashed(job)), Ok(Answer::Had));
+            });
+        }
+    });
+    assert!(picker.into_inner().unwrap().is_complete());
+}
+
+#[test]
+fn four_messages_are_hashed_at_once() {
+    let abc = [0xa9, 0x99, 0x3e, 0x36, 0x47, 0x06, 0x81, 0x6a, 0xba, 0x3e, 0x25, 0x71, 0x78, 0x50, 0xc2, 0x6c, 0x9c, 0xd0, 0xd8, 0x9d];
+    assert_eq!(hash4([b"abc"; 4]), [abc; 4]);
+    assert_eq!(hash4([b"abc", b"", b"abc", b"abcd"])[2], abc);
+}

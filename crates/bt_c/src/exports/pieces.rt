@@ -1,0 +1,169 @@
+//! What is told of pieces, for all peers.
+ghost use Rattle.std.specs.Prelude.{◌≡◌, ◌==◌, min, not, IfSome};
+ghost use Rattle.bt_history.specs.declared.event.Action.TheVariants as actions;
+ghost use Rattle.bt_c.specs.declared.engine.Keeping.TheVariants as keeps;
+ghost use Rattle.bt_c.specs.Behind.{state};
+ghost use Rattle.bt_c.specs.Calling.{Makes, MakesAt, MakesFlags, Restores, Settles, Vouches, VouchesFor};
+ghost use Rattle.bt_c.specs.Outcomes.{AtHandle, Tells};
+
+use super::peers::{call, call_at};
+use super::tell::tell;
+use crate::answer::Answer;
+use crate::digest::Digest;
+use crate::fault::Fault;
+use crate::picker_handle::PickerHandle;
+use bt_picker::{Reply, Told};
+use std::alloc::Global;
+
+/// Want, with the payload of a bitfield.
+fn want(alloc: Global, picker: &mut PickerHandle, bytes: &[u8]) -> Result<Reply, Fault>
+    ensures { AtHandle (λ h e o. MakesFlags (state h) e 0 bytes.now actions.Want o) picker.old.held picker.new.held result }
+{
+    let Some(mut held) = picker.take(alloc) else {
+        return Err(Fault::Shut);
+    };
+    let outcome = held.want(alloc, bytes);
+    *picker = PickerHandle::of(held);
+    outcome
+}
+
+/// The level that a number tells: one beyond 255 is told as 255, which is refused like it.
+fn level_of(number: u32) -> u8
+    ensures { result ≡ min number 255 }
+{
+    number.min(255) as u8
+}
+
+/// Settles the piece by the digest of what arrived.
+fn settle(
+    alloc: Global,
+    picker: &mut PickerHandle,
+    piece: u32,
+    digest: &Digest,
+) -> Result<Reply, Fault>
+    requires { IfSome picker.old.held (λ h. Vouches h piece digest.now.bytes) }
+    ensures { AtHandle (λ h e o. Settles keeps.Nothing h e piece o) picker.old.held picker.new.held result }
+{
+    let Some(mut held) = picker.take(alloc) else {
+        return Err(Fault::Shut);
+    };
+    let outcome = held.settle(piece, &digest.bytes);
+    *picker = PickerHandle::of(held);
+    outcome
+}
+
+/// Restores the piece, whose bytes have this digest.
+fn restore(
+    alloc: Global,
+    picker: &mut PickerHandle,
+    worker: u32,
+    piece: u32,
+    bytes: &[u8],
+    digest: &Digest,
+) -> Result<Reply, Fault>
+    requires { IfSome picker.old.held (λ h. VouchesFor h bytes.now digest.now.bytes) }
+    ensures { AtHandle (λ h e o. Restores h e worker piece bytes.now o) picker.old.held picker.new.held result }
+{
+    let Some(mut held) = picker.take(alloc) else {
+        return Err(Fault::Shut);
+    };
+    let outcome = held.restore(worker, piece, bytes, &digest.bytes);
+    *picker = PickerHandle::of(held);
+    outcome
+}
+
+/// From now on just these pieces are to be downloaded, spelled as in a `bitfield` message.
+#[unsafe(no_mangle)]
+pub extern "C" fn piecepick_want(
+    alloc: Global,
+    picker: &mut PickerHandle,
+    flags: &[u8],
+    answer: &mut Answer,
+) -> u32
+    ensures { Tells (λ h e o. MakesFlags (state h) e 0 flags.now actions.Want o)
+        picker.old.held picker.new.held result answer.new }
+{
+    tell(want(alloc, picker, flags), answer)
+}
+
+/// From now on the piece has this level, 0 to 7: 0 isn't downloaded, and of the others a higher one comes before a lower one.
+#[unsafe(no_mangle)]
+pub extern "C" fn piecepick_set_level(
+    alloc: Global,
+    picker: &mut PickerHandle,
+    piece: u32,
+    level: u32,
+    answer: &mut Answer,
+) -> u32
+    ensures { Tells (λ h e o. MakesAt (state h) e 0 piece (actions.Level piece (min level 255)) o)
+        picker.old.held picker.new.held result answer.new }
+{
+    let told = Told::Level {
+        piece,
+        level: level_of(level),
+    };
+    tell(call_at(alloc, picker, 0, piece, told), answer)
+}
+
+/// From now on each piece has the level of its byte.
+#[unsafe(no_mangle)]
+pub extern "C" fn piecepick_set_levels(
+    alloc: Global,
+    picker: &mut PickerHandle,
+    levels: &[u8],
+    answer: &mut Answer,
+) -> u32
+    ensures { Tells (λ h e o. Makes (state h) e 0 (actions.Levels levels.now) o)
+        picker.old.held picker.new.held result answer.new }
+{
+    tell(call(alloc, picker, 0, Told::Levels(levels)), answer)
+}
+
+/// From now on the pieces of one level come in rising order, or, where `rising` is 0, the rarest first again.
+#[unsafe(no_mangle)]
+pub extern "C" fn piecepick_set_in_order(
+    alloc: Global,
+    picker: &mut PickerHandle,
+    rising: u32,
+    answer: &mut Answer,
+) -> u32
+    ensures { Tells (λ h e o. Makes (state h) e 0 (actions.InOrder (not (rising == 0))) o)
+        picker.old.held picker.new.held result answer.new }
+{
+    tell(call(alloc, picker, 0, Told::InOrder(rising != 0)), answer)
+}
+
+/// A picker that keeps nothing is told the SHA-1 of what arrived of a full piece.
+#[unsafe(no_mangle)]
+pub extern "C" fn piecepick_settle(
+    alloc: Global,
+    picker: &mut PickerHandle,
+    piece: u32,
+    digest: &Digest,
+    answer: &mut Answer,
+) -> u32
+    requires { IfSome picker.old.held (λ h. Vouches h piece digest.now.bytes) }
+    ensures { Tells (λ h e o. Settles keeps.Nothing h e piece o)
+        picker.old.held picker.new.held result answer.new }
+{
+    tell(settle(alloc, picker, piece, digest), answer)
+}
+
+/// A picker that keeps nothing is told that a whole piece is there already, on a disk for which this worker stands, with the SHA-1 of its
+/// bytes. None of these is read.
+#[unsafe(no_mangle)]
+pub extern "C" fn piecepick_restore(
+    alloc: Global,
+    picker: &mut PickerHandle,
+    worker: u32,
+    piece: u32,
+    bytes: &[u8],
+    digest: &Digest,
+    answer: &mut Answer,
+) -> u32
+    requires { IfSome picker.old.held (λ h. VouchesFor h bytes.now digest.now.bytes) }
+    ensures { Tells (λ h e o. Restores h e worker piece bytes.now o)
+        picker.old.held picker.new.held result answer.new }
+{
+    tell(restore(alloc, picker, worker, piece, bytes, digest), answer)
+}
