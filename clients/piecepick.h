@@ -62,6 +62,8 @@ typedef enum piecepick_status {
     PIECEPICK_E_BLOCK = 18,       /* no such block of the piece */
     PIECEPICK_E_NOT_HELD = 19,    /* the block isn't held */
     PIECEPICK_E_BEGUN = 20,       /* a block of the piece is held or asked of a peer, or it is had already */
+    PIECEPICK_E_FILE = 21,        /* no such file */
+    PIECEPICK_E_PART = 22,        /* no such name on the file's path */
     /* At open, 100 and more: why the bytes are no metainfo file, or the parts no torrent. Reading is strict: keys that aren't sorted, and bytes
        behind the end, are BENCODE. piecepick_open_parts takes what another parser has read. */
     PIECEPICK_E_BENCODE = 101, PIECEPICK_E_NOT_DICTIONARY = 102, PIECEPICK_E_MISSING_KEY = 103, PIECEPICK_E_WRONG_KIND = 104,
@@ -143,8 +145,8 @@ PIECEPICK_MUST piecepick_status piecepick_open_parts(piecepick_picker **picker, 
 /* Frees the picker, if there is one. The pointer is NULL then. */
 void piecepick_close(piecepick_picker **picker);
 
-/* What came on the wire of a worker's peer. WORKER, MEMORY where something is kept; PIECE at a piece that isn't; BITS_LENGTH and SPARE_BITS at
-   the two with flags, which take memory in any case. */
+/* What came on the wire of a worker's peer. WORKER; PIECE at a piece that isn't; BITS_LENGTH and SPARE_BITS at the two with flags. MEMORY at these
+   two, at each call where a journal is kept, and at an arrival where its block is kept. No other call tells it. */
 PIECEPICK_MUST piecepick_status piecepick_join(piecepick_picker *picker, uint32_t worker, piecepick_answer *answer);
 PIECEPICK_MUST piecepick_status piecepick_leave(piecepick_picker *picker, uint32_t worker, piecepick_answer *answer);
 PIECEPICK_MUST piecepick_status piecepick_choke(piecepick_picker *picker, uint32_t worker, piecepick_answer *answer); /* also: the peer is silent */
@@ -225,6 +227,15 @@ PIECEPICK_MUST piecepick_status piecepick_name_length(piecepick_picker *picker, 
 PIECEPICK_MUST piecepick_status piecepick_name(piecepick_picker *picker, uint8_t *room, size_t room_len);
 PIECEPICK_MUST piecepick_status piecepick_infohash(piecepick_picker *picker, piecepick_digest *digest);
 PIECEPICK_MUST piecepick_status piecepick_piece_hash(piecepick_picker *picker, uint32_t piece, piecepick_digest *digest);
+/* Its files, counted from 0: the content is all of them, one behind the other. How many there are (none where the picker was made of parts), and
+   of each its bytes, the names on its path, and each of these with its length. The first one is the torrent's own name: the folder, or the file
+   itself where there is one. FILE, PART, LENGTH. Names are whatever the file says: empty, "..", with slashes or zeros in them. Look at each one
+   before you make a path of it. */
+PIECEPICK_MUST piecepick_status piecepick_files(piecepick_picker *picker, uint64_t *number);
+PIECEPICK_MUST piecepick_status piecepick_file_length(piecepick_picker *picker, uint64_t file, uint64_t *number);
+PIECEPICK_MUST piecepick_status piecepick_file_parts(piecepick_picker *picker, uint64_t file, uint64_t *number);
+PIECEPICK_MUST piecepick_status piecepick_file_part_length(piecepick_picker *picker, uint64_t file, uint64_t part, uint64_t *number);
+PIECEPICK_MUST piecepick_status piecepick_file_part(piecepick_picker *picker, uint64_t file, uint64_t part, uint8_t *room, size_t room_len);
 
 /* The SHA-1 of each of four messages, one digest behind the other, into a room of 80 bytes (LENGTH). Messages of one length are hashed side by
    side, at more than twice the speed. It needs no picker, takes no memory, and may be called by several threads at once. */
@@ -266,6 +277,8 @@ static inline const char *piecepick_status_text(piecepick_status status) {
     case PIECEPICK_E_BLOCK: return "no such block of the piece";
     case PIECEPICK_E_NOT_HELD: return "the block isn't held";
     case PIECEPICK_E_BEGUN: return "the piece is begun, or had already";
+    case PIECEPICK_E_FILE: return "no such file";
+    case PIECEPICK_E_PART: return "no such name on the file's path";
     case PIECEPICK_E_BENCODE: return "not bencoded, or not as strictly as BEP 3 has it";
     case PIECEPICK_E_NOT_DICTIONARY: return "the metainfo is no dictionary";
     case PIECEPICK_E_MISSING_KEY: return "a key of the metainfo is missing";

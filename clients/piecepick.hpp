@@ -197,6 +197,18 @@ public:
     }
     [[nodiscard]] Digest infohash() { return number<Digest>(piecepick_infohash); }
     [[nodiscard]] Digest piece_hash(std::uint32_t piece) { return number<Digest>(piecepick_piece_hash, piece); }
+    [[nodiscard]] std::uint64_t files() { return number<std::uint64_t>(piecepick_files); }
+    [[nodiscard]] std::uint64_t file_length(std::uint64_t file) { return number<std::uint64_t>(piecepick_file_length, file); }
+    /* The names on the file's path, which may be any bytes. */
+    [[nodiscard]] std::vector<std::string> file_path(std::uint64_t file)
+    {
+        std::vector<std::string> path(static_cast<std::size_t>(number<std::uint64_t>(piecepick_file_parts, file)));
+        for (std::size_t part = 0; part < path.size(); part++) {
+            path[part].resize(static_cast<std::size_t>(number<std::uint64_t>(piecepick_file_part_length, file, part)));
+            check(piecepick_file_part(get(), file, part, reinterpret_cast<std::uint8_t *>(path[part].data()), path[part].size()));
+        }
+        return path;
+    }
 
     /* For the calls of piecepick.h. */
     ::piecepick_picker *get() const

@@ -426,6 +426,77 @@ static void has_name(piecepick_picker *picker, const char *name)
     EQUAL(place[length], 0x5a);
 }
 
+/* A name on a path, by a room of its length; a room of another length stays as it was. */
+static void has_part(piecepick_picker *picker, uint64_t file, uint64_t part, const char *name, size_t length)
+{
+    uint64_t number;
+    uint8_t place[64];
+    NUMBER(piecepick_file_part_length(picker, file, part, &number), length);
+    memset(place, 0x5a, sizeof place);
+    EQUAL(piecepick_file_part(picker, file, part, place, length + 1), PIECEPICK_E_LENGTH);
+    if (length > 0) EQUAL(piecepick_file_part(picker, file, part, place, length - 1), PIECEPICK_E_LENGTH);
+    for (size_t at = 0; at < sizeof place; at++) EQUAL(place[at], 0x5a);
+    EQUAL(piecepick_file_part(picker, file, part, place, length), PIECEPICK_OK);
+    EQUAL(memcmp(place, name, length), 0);
+    EQUAL(place[length], 0x5a);
+}
+
+/* What is behind the last file, and behind the last name on the path of file 0, isn't there. */
+static void has_no_more(piecepick_picker *picker, uint64_t files, uint64_t parts)
+{
+    uint64_t number;
+    uint8_t place[1] = {0x5a};
+    const uint64_t beyond[] = {files, (uint64_t)1 << 32, UINT64_MAX};
+    NUMBER(piecepick_files(picker, &number), files);
+    for (size_t at = 0; at < sizeof beyond / sizeof *beyond; at++) {
+        EQUAL(piecepick_file_length(picker, beyond[at], &number), PIECEPICK_E_FILE);
+        EQUAL(piecepick_file_parts(picker, beyond[at], &number), PIECEPICK_E_FILE);
+        EQUAL(piecepick_file_part_length(picker, beyond[at], 0, &number), PIECEPICK_E_FILE);
+        EQUAL(piecepick_file_part(picker, beyond[at], 0, place, 1), PIECEPICK_E_FILE);
+    }
+    if (files == 0) return;
+    NUMBER(piecepick_file_parts(picker, 0, &number), parts);
+    EQUAL(piecepick_file_part_length(picker, 0, parts, &number), PIECEPICK_E_PART);
+    EQUAL(number, 0);
+    EQUAL(piecepick_file_part(picker, 0, parts, place, 1), PIECEPICK_E_PART);
+    EQUAL(place[0], 0x5a);
+}
+
+/* Three files, of which the second has no bytes, and names that are no good ones. */
+#define LISTED "5:filesld6:lengthi5e4:pathl3:oneeed6:lengthi0e4:pathl0:2:..3:a/beed6:lengthi11e4:pathl4:deep3:twoeee"
+
+static void try_files(const char *name)
+{
+    static const struct { uint64_t length; size_t parts; const char *path[4]; } listed[] = {
+        {5, 2, {"n", "one"}}, {0, 4, {"n", "", "..", "a/b"}}, {11, 3, {"n", "deep", "two"}},
+    };
+    const char *several = INFO(LISTED, "16", ONE);
+    for (size_t kind = 0; kind < 3; kind++) {
+        piecepick_options options = PIECEPICK_OPTIONS;
+        piecepick_picker *picker = NULL;
+        uint64_t number;
+        options.keeps = KINDS[kind];
+        EQUAL(piecepick_open(&picker, (const uint8_t *)several, strlen(several), &options), PIECEPICK_OK);
+        for (size_t file = 0; file < 3; file++) {
+            NUMBER(piecepick_file_length(picker, file, &number), listed[file].length);
+            NUMBER(piecepick_file_parts(picker, file, &number), listed[file].parts);
+            for (size_t part = 0; part < listed[file].parts; part++)
+                has_part(picker, file, part, listed[file].path[part], strlen(listed[file].path[part]));
+        }
+        has_no_more(picker, 3, 2);
+        piecepick_close(&picker);
+        EQUAL(open_either(0, &picker, &options), PIECEPICK_OK);
+        NUMBER(piecepick_file_length(picker, 0, &number), content_len);
+        has_part(picker, 0, 0, name, strlen(name));
+        has_no_more(picker, 1, 1);
+        piecepick_close(&picker);
+        EQUAL(open_either(1, &picker, &options), PIECEPICK_OK);
+        has_no_more(picker, 0, 0);
+        piecepick_close(&picker);
+    }
+    told("files, with their lengths and paths");
+}
+
 static void try_torrent(const char *infohash, const char *name)
 {
     unsigned major, minor, least;
@@ -486,13 +557,13 @@ static void try_texts(void)
     const char *texts[128];
     size_t count = 0;
     for (int status = 0; status < 128; status++) {
-        const int is_one = status <= 20 || (status > 100 && status <= 110);
+        const int is_one = status <= 22 || (status > 100 && status <= 110);
         const char *text = piecepick_status_text((piecepick_status)status);
         EQUAL(strcmp(text, "no status of this interface") == 0, !is_one);
         if (is_one) texts[count++] = text;
     }
     for (int kind = 0; kind < 16; kind++) texts[count++] = piecepick_kind_text((piecepick_kind)kind);
-    EQUAL(count, 31 + 16);
+    EQUAL(count, 33 + 16);
     for (size_t at = 0; at < count; at++)
         for (size_t other = 0; other < at; other++) EQUAL(strcmp(texts[at], texts[other]) == 0, 0);
     for (int reason = 0; reason < 16; reason++)
@@ -1547,6 +1618,7 @@ int main(int argc, char **argv)
     try_options();
     try_torrents();
     try_torrent(argv[3], argv[4]);
+    try_files(argv[4]);
     try_texts();
     try_hashing();
     try_restores();

@@ -34,6 +34,8 @@ class Status(IntEnum):
     BLOCK = 18
     NOT_HELD = 19
     BEGUN = 20
+    FILE = 21
+    PART = 22
     BENCODE = 101
     NOT_DICTIONARY = 102
     MISSING_KEY = 103
@@ -172,6 +174,11 @@ SIGNATURES: dict[str, tuple[Any, list[Any]]] = {
     "piecepick_name": (c_uint32, [_PICKER, _ROOM, c_size_t]),
     "piecepick_infohash": (c_uint32, [_PICKER, _DIGEST]),
     "piecepick_piece_hash": (c_uint32, [_PICKER, c_uint32, _DIGEST]),
+    "piecepick_files": (c_uint32, [_PICKER, _WIDE]),
+    "piecepick_file_length": (c_uint32, [_PICKER, c_uint64, _WIDE]),
+    "piecepick_file_parts": (c_uint32, [_PICKER, c_uint64, _WIDE]),
+    "piecepick_file_part_length": (c_uint32, [_PICKER, c_uint64, c_uint64, _WIDE]),
+    "piecepick_file_part": (c_uint32, [_PICKER, c_uint64, c_uint64, _ROOM, c_size_t]),
     "piecepick_hash4": (c_uint32, [_DATA, c_size_t, _DATA, c_size_t, _DATA, c_size_t, _DATA, c_size_t, _ROOM, c_size_t]),
     "piecepick_settle_now": (c_uint32, [_PICKER, c_uint32, _ANSWER]),
     "piecepick_read": (c_uint32, [_PICKER, c_uint32, _ROOM, c_size_t]),

@@ -70,6 +70,16 @@ _OF_STATE = frozenset(
 )
 
 
+class File(NamedTuple):
+    """A file of a torrent: its bytes, and the names on its path. The first name is the torrent's own, which is the file's where there is one.
+
+    The names are whatever the metainfo file says: empty, "..", with slashes or zeros in them. Look at each before you make a path of it.
+    """
+
+    length: int
+    path: tuple[bytes, ...]
+
+
 class Answer(NamedTuple):
     """What the picker answers. A block stands in CANCEL and REQUEST, in bytes; `reason` in REFUSED; `interesting` in NOTED."""
 
@@ -288,12 +298,12 @@ class Picker:
             _check(call, self._handle, *arguments, self._number_at)
             return self._number.value
 
-    def _long_count(self, call: Any) -> int:
+    def _long_count(self, call: Any, *arguments: Any) -> int:
         """Makes a call that writes a number of 64 bits."""
         with self._lock:
             if not self._is_open:
                 _fail(call.__name__, Status.SHUT)
-            _check(call, self._handle, self._wide_at)
+            _check(call, self._handle, *arguments, self._wide_at)
             return self._wide.value
 
     # What came on the wire of a worker's peer.
@@ -500,6 +510,25 @@ class Picker:
         digest = _native.Digest()
         self._do(LIBRARY.piecepick_piece_hash, _u32(piece), byref(digest))
         return bytes(digest)
+
+    @property
+    def files(self) -> list[File]:
+        """The files that the metainfo file lists, in the order of the content; none where the picker was made of parts."""
+        return [self._file(file) for file in range(self._long_count(LIBRARY.piecepick_files))]
+
+    def _file(self, file: int) -> File:
+        """One of them."""
+        length = self._long_count(LIBRARY.piecepick_file_length, c_uint64(file))
+        parts = self._long_count(LIBRARY.piecepick_file_parts, c_uint64(file))
+        return File(length, tuple(self._file_part(file, part) for part in range(parts)))
+
+    def _file_part(self, file: int, part: int) -> bytes:
+        """A name on its path."""
+        place = c_uint64(file), c_uint64(part)
+        room = bytearray(self._long_count(LIBRARY.piecepick_file_part_length, *place))
+        data, length = lend_writable(room)
+        self._do(LIBRARY.piecepick_file_part, *place, data, length)
+        return bytes(room)
 
     # Keeps.JOURNAL alone.
 

@@ -19,6 +19,11 @@ PARTS = [CONTENT[at : at + PIECE] for at in range(0, len(CONTENT), PIECE)]
 DIGESTS = [hashlib.sha1(part).digest() for part in PARTS]
 INFO = b"d6:lengthi%de4:name4:some12:piece lengthi%de6:pieces%d:%se" % (len(CONTENT), PIECE, 20 * PIECES, b"".join(DIGESTS))
 METAINFO = b"d4:info" + INFO + b"e"
+# Three files, of 5, 0 and 11 bytes, and names that are no good ones.
+SEVERAL = (
+    b"d4:infod5:filesld6:lengthi5e4:pathl3:oneeed6:lengthi0e4:pathl0:2:..4:a/b\0eed6:lengthi11e4:pathl4:deep3:twoeee"
+    b"4:name6:folder12:piece lengthi16e6:pieces20:%see" % bytes(20)
+)
 
 
 def picker(keeps: Keeps = Keeps.NOTHING) -> Picker:

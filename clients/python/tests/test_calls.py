@@ -5,9 +5,9 @@ from __future__ import annotations
 import hashlib
 import unittest
 
-from support import ALL, BLOCK, CONTENT, DIGESTS, INFO, METAINFO, PARTS, PIECE, PIECES, bring, picker, with_peer
+from support import ALL, BLOCK, CONTENT, DIGESTS, INFO, METAINFO, PARTS, PIECE, PIECES, SEVERAL, bring, picker, with_peer
 
-from piecepick import Answer, InputFault, Keeps, Kind, Picker, PiecepickError, Reason, Status, hash_four, version
+from piecepick import Answer, File, InputFault, Keeps, Kind, Picker, PiecepickError, Reason, Status, hash_four, version
 
 STORED = [Kind.STORED, Kind.COMPLETED]
 WITH_INTEREST = Answer(Kind.NOTED, interesting=True)
@@ -40,6 +40,16 @@ class Opening(CallCase):
                 self.assertEqual([made.piece_hash(piece) for piece in range(PIECES)], DIGESTS)
                 self.assertEqual([made.piece_length(piece) for piece in range(PIECES)], [len(part) for part in PARTS])
                 self.assertEqual(made.blocks(6), 2)
+
+    def test_files(self) -> None:
+        with Picker(METAINFO) as made:
+            self.assertEqual(made.files, [File(len(CONTENT), (b"some",))])
+        with Picker(SEVERAL) as made:
+            paths = [(b"folder", b"one"), (b"folder", b"", b"..", b"a/b\0"), (b"folder", b"deep", b"two")]
+            self.assertEqual(made.files, [File(length, path) for length, path in zip((5, 0, 11), paths)])
+            self.assertEqual(made.total, 16)
+        with Picker.of_parts(PIECE, len(CONTENT), b"".join(DIGESTS)) as made:
+            self.assertEqual(made.files, [])
 
     def test_parts(self) -> None:
         with Picker.of_parts(PIECE, len(CONTENT), b"".join(DIGESTS), workers=2) as made:

@@ -52,6 +52,8 @@ errors! {
     Block = 18, "no such block of the piece";
     NotHeld = 19, "the block isn't held";
     Begun = 20, "the piece is begun, or had already";
+    File = 21, "no such file";
+    Part = 22, "no such name on the file's path";
     Bencode = 101, "not bencoded, or not as strictly as BEP 3 has it";
     NotDictionary = 102, "the metainfo is no dictionary";
     MissingKey = 103, "a key of the metainfo is missing";

@@ -41,6 +41,7 @@
 
 mod answer;
 mod error;
+mod file;
 mod hash;
 mod job;
 mod options;
@@ -49,6 +50,7 @@ pub mod sys;
 
 pub use answer::{Answer, Block, Kind, Reason};
 pub use error::Error;
+pub use file::File;
 pub use hash::{hash4, Digest};
 pub use job::Job;
 pub use options::{Keeps, Options};

@@ -2,6 +2,7 @@
 
 use crate::answer::{Answer, Block};
 use crate::error::{check, Error};
+use crate::file::File;
 use crate::hash::Digest;
 use crate::job::Job;
 use crate::options::Options;
@@ -290,6 +291,30 @@ impl Picker {
     pub fn piece_hash(&self, piece: u32) -> Result<Digest, Error> {
         let digest: sys::piecepick_digest = self.number(|picker, digest| unsafe { sys::piecepick_piece_hash(picker, piece, digest) })?;
         Ok(digest.bytes)
+    }
+
+    /// The files that the metainfo file lists, in the order of the content. There are none where the picker was made of parts.
+    pub fn files(&self) -> Vec<File> {
+        let count: u64 = self.sure(|picker, number| unsafe { sys::piecepick_files(picker, number) });
+        (0..count).map(|file| self.file(file)).collect()
+    }
+
+    /// One of them.
+    fn file(&self, file: u64) -> File {
+        let parts: u64 = self.sure(|picker, number| unsafe { sys::piecepick_file_parts(picker, file, number) });
+        File {
+            length: self.sure(|picker, number| unsafe { sys::piecepick_file_length(picker, file, number) }),
+            path: (0..parts).map(|part| self.file_part(file, part)).collect(),
+        }
+    }
+
+    /// A name on its path.
+    fn file_part(&self, file: u64, part: u64) -> Vec<u8> {
+        let length: u64 = self.sure(|picker, number| unsafe { sys::piecepick_file_part_length(picker, file, part, number) });
+        let mut room = vec![0; length as usize];
+        let status = unsafe { sys::piecepick_file_part(self.pointer.as_ptr(), file, part, room.as_mut_ptr(), room.len()) };
+        check(status).expect("the room has the name's length");
+        room
     }
 
     /// [`Keeps::Journal`](crate::Keeps::Journal): hashes a full piece, here and now. [`Answer::Had`] or [`Answer::Failed`].

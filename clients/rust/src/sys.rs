@@ -175,6 +175,11 @@ extern "C" {
     pub fn piecepick_total(picker: *mut piecepick_picker, number: *mut u64) -> piecepick_status;
     pub fn piecepick_name_length(picker: *mut piecepick_picker, number: *mut u64) -> piecepick_status;
     pub fn piecepick_name(picker: *mut piecepick_picker, room: *mut u8, room_len: usize) -> piecepick_status;
+    pub fn piecepick_files(picker: *mut piecepick_picker, number: *mut u64) -> piecepick_status;
+    pub fn piecepick_file_length(picker: *mut piecepick_picker, file: u64, number: *mut u64) -> piecepick_status;
+    pub fn piecepick_file_parts(picker: *mut piecepick_picker, file: u64, number: *mut u64) -> piecepick_status;
+    pub fn piecepick_file_part_length(picker: *mut piecepick_picker, file: u64, part: u64, number: *mut u64) -> piecepick_status;
+    pub fn piecepick_file_part(picker: *mut piecepick_picker, file: u64, part: u64, room: *mut u8, room_len: usize) -> piecepick_status;
     pub fn piecepick_infohash(picker: *mut piecepick_picker, digest: *mut piecepick_digest) -> piecepick_status;
     pub fn piecepick_piece_hash(picker: *mut piecepick_picker, piece: u32, digest: *mut piecepick_digest) -> piecepick_status;
     pub fn piecepick_hash4(

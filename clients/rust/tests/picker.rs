@@ -1,6 +1,6 @@
 //! Each call, at each kind of picker, by a torrent of seven pieces.
 
-use piecepick::{hash4, sys, Answer, Block, Digest, Error, Job, Keeps, Kind, Options, Picker, Reason};
+use piecepick::{hash4, sys, Answer, Block, Digest, Error, File, Job, Keeps, Kind, Options, Picker, Reason};
 use std::mem::size_of;
 use std::sync::Mutex;
 use std::thread;
@@ -82,10 +82,27 @@ fn a_metainfo_file_is_read() {
     assert_eq!(picker.piece_hash(7), Err(Error::Piece));
 }
 
+fn listed(length: u64, path: &[&str]) -> File {
+    File { length, path: path.iter().map(|name| name.as_bytes().to_vec()).collect() }
+}
+
 #[test]
-fn a_torrent_of_parts_has_no_name() {
+fn files_are_listed() {
+    let content = content();
+    let picker = Picker::open(&metainfo(&content), Options::default()).unwrap();
+    assert_eq!(picker.files(), [listed(content.len() as u64, &["some"])]);
+    let files = "d6:lengthi5e4:pathl3:oneeed6:lengthi0e4:pathl0:2:..4:a/b\0eed6:lengthi11e4:pathl4:deep3:twoee";
+    let head = format!("d4:infod5:filesl{files}e4:name6:folder12:piece lengthi16e6:pieces20:");
+    let picker = Picker::open(&[head.as_bytes(), &[0; 20], b"ee"].concat(), Options::default()).unwrap();
+    let expected = [listed(5, &["folder", "one"]), listed(0, &["folder", "", "..", "a/b\0"]), listed(11, &["folder", "deep", "two"])];
+    assert_eq!(picker.files(), expected);
+    assert_eq!(picker.total(), 16);
+}
+
+#[test]
+fn a_torrent_of_parts_has_no_name_and_no_files() {
     let picker = picker(Keeps::Nothing);
-    assert_eq!((picker.name(), picker.infohash()), (vec![], [0; 20]));
+    assert_eq!((picker.name(), picker.infohash(), picker.files()), (vec![], [0; 20], vec![]));
 }
 
 #[test]

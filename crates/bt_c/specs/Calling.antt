@@ -5,6 +5,7 @@ use Rattle.std.specs.declared.result.Result.TheVariants.{Ok, Err}
 use Rattle.bt_meta.specs.Layout.{piece_count}
 use Rattle.bt_meta.specs.WireBits.{HasSpareBit, IsSpelled, wire_len}
 use Rattle.bt_history.specs.declared.event.Action.{Action}
+use Rattle.bt_history.specs.declared.event.Action.TheVariants.{Arrived}
 use Rattle.bt_history.specs.declared.call.Reason.TheVariants.{NoSuchPiece, WrongLength}
 use Rattle.bt_history.specs.declared.call.Reply.TheVariants.{Failed, Had, Refused}
 use Rattle.bt_history.specs.Pieces.{content}
@@ -15,7 +16,7 @@ use Rattle.bt_picker.specs.declared.picker.restoring.Restored.TheVariants as res
 use Rattle.sha1.specs.Sha1.{sha1}
 use Rattle.bt_picker.specs.Positions.{DeskState, Gains}
 use Rattle.bt_c.specs.declared.engine.Keeping.{Keeping}
-use Rattle.bt_c.specs.declared.engine.Keeping.TheVariants.{Nothing}
+use Rattle.bt_c.specs.declared.engine.Keeping.TheVariants.{Begun, Journal, Nothing}
 use Rattle.bt_c.specs.declared.fault.Fault.{Fault}
 use Rattle.bt_c.specs.declared.fault.Fault.TheVariants.{Worker, Piece, BitsLength, SpareBits, NoMemory, NotWaiting, Keeps, Begun, Room}
 use Rattle.bt_c.specs.declared.held.Held.{Held}
@@ -30,33 +31,40 @@ IsWorker d w = w < d.setting.workers
 abbrev pub IsPiece : DeskState → ℕ → Type 0
 IsPiece d p = p < piece_count d.setting.torrent
 
+-- the call takes memory, where this is kept: each one of a journal, and where blocks are kept those that bring one
+abbrev pub TakesMemory : Keeping → Action → Type 0
+TakesMemory Nothing action = ⊥
+TakesMemory Begun (Arrived p begin bytes) = Unit {0}
+TakesMemory Begun action = ⊥
+TakesMemory Journal action = Unit {0}
+
 -- worker w makes this call: its reply is one that the rules allow, and the history has gained just that; or nothing changes
-abbrev pub Makes : DeskState → DeskState → ℕ → Action → Outcome → Type 0
-Makes d e w action (Ok r) = IsWorker d w × Gains d e (record { worker = w; action = action; reply = r })
-Makes d e w action (Err Worker) = (IsWorker d w → ⊥) × (e ≡ d)
-Makes d e w action (Err NoMemory) = IsWorker d w × (e ≡ d)
-Makes d e w action (Err f) = ⊥
+abbrev pub Makes : Held → DeskState → ℕ → Action → Outcome → Type 0
+Makes h e w action (Ok r) = IsWorker (state h) w × Gains (state h) e (record { worker = w; action = action; reply = r })
+Makes h e w action (Err Worker) = (IsWorker (state h) w → ⊥) × (e ≡ state h)
+Makes h e w action (Err NoMemory) = TakesMemory (keeping h) action × IsWorker (state h) w × (e ≡ state h)
+Makes h e w action (Err f) = ⊥
 
 -- worker w makes this call, which names piece p
-abbrev pub MakesAt : DeskState → DeskState → ℕ → ℕ → Action → Outcome → Type 0
-MakesAt d e w p action (Ok r) = IsWorker d w × IsPiece d p × Gains d e (record { worker = w; action = action; reply = r })
-MakesAt d e w p action (Err Worker) = (IsWorker d w → ⊥) × (e ≡ d)
-MakesAt d e w p action (Err Piece) = IsWorker d w × (IsPiece d p → ⊥) × (e ≡ d)
-MakesAt d e w p action (Err NoMemory) = IsWorker d w × IsPiece d p × (e ≡ d)
-MakesAt d e w p action (Err f) = ⊥
+abbrev pub MakesAt : Held → DeskState → ℕ → ℕ → Action → Outcome → Type 0
+MakesAt h e w p action (Ok r) = IsPiece (state h) p × Makes h e w action (Ok r)
+MakesAt h e w p action (Err Worker) = Makes h e w action (Err Worker)
+MakesAt h e w p action (Err Piece) = IsWorker (state h) w × (IsPiece (state h) p → ⊥) × (e ≡ state h)
+MakesAt h e w p action (Err NoMemory) = IsPiece (state h) p × Makes h e w action (Err NoMemory)
+MakesAt h e w p action (Err f) = ⊥
 
--- worker w makes a call with the flags that the bytes spell, as a `bitfield` message does; or nothing changes
-abbrev pub MakesFlags : DeskState → DeskState → ℕ → List ℕ → (List Bool → Action) → Outcome → Type 0
-MakesFlags d e w bytes action (Ok r) = IsWorker d w × ((flags : List Bool)
-    × (length flags ≡ piece_count d.setting.torrent) × IsSpelled flags bytes
-    × Gains d e (record { worker = w; action = action flags; reply = r }))
-MakesFlags d e w bytes action (Err Worker) = (IsWorker d w → ⊥) × (e ≡ d)
-MakesFlags d e w bytes action (Err BitsLength) =
-    IsWorker d w × (length bytes ≢ wire_len (piece_count d.setting.torrent)) × (e ≡ d)
-MakesFlags d e w bytes action (Err SpareBits) = IsWorker d w
-    × (length bytes ≡ wire_len (piece_count d.setting.torrent)) × HasSpareBit bytes (piece_count d.setting.torrent) × (e ≡ d)
-MakesFlags d e w bytes action (Err NoMemory) = IsWorker d w × (e ≡ d)
-MakesFlags d e w bytes action (Err f) = ⊥
+-- worker w makes a call with the flags that the bytes spell, as a `bitfield` message does; or nothing changes. The flags take memory
+abbrev pub MakesFlags : Held → DeskState → ℕ → List ℕ → (List Bool → Action) → Outcome → Type 0
+MakesFlags h e w bytes action (Ok r) = (flags : List Bool)
+    × (length flags ≡ piece_count (state h).setting.torrent) × IsSpelled flags bytes × Makes h e w (action flags) (Ok r)
+MakesFlags h e w bytes action (Err Worker) = (IsWorker (state h) w → ⊥) × (e ≡ state h)
+MakesFlags h e w bytes action (Err BitsLength) =
+    IsWorker (state h) w × (length bytes ≢ wire_len (piece_count (state h).setting.torrent)) × (e ≡ state h)
+MakesFlags h e w bytes action (Err SpareBits) = IsWorker (state h) w
+    × (length bytes ≡ wire_len (piece_count (state h).setting.torrent))
+    × HasSpareBit bytes (piece_count (state h).setting.torrent) × (e ≡ state h)
+MakesFlags h e w bytes action (Err NoMemory) = IsWorker (state h) w × (e ≡ state h)
+MakesFlags h e w bytes action (Err f) = ⊥
 
 -- the flags that the bytes spell for so many pieces, or why they spell none
 abbrev pub Spelling : ℕ → List ℕ → Result (List Bool) Fault → Type 0
@@ -74,7 +82,7 @@ Settles kept h e p (Err Keeps) = (keeping h ≢ kept) × (e ≡ state h)
 Settles kept h e p (Err Piece) = (keeping h ≡ kept) × (IsPiece (state h) p → ⊥) × (e ≡ state h)
 Settles kept h e p (Err NotWaiting) = (keeping h ≡ kept) × IsPiece (state h) p
     × (waits (state h).setting (state h).history p ≡ false) × (e ≡ state h)
-Settles kept h e p (Err NoMemory) = (keeping h ≡ kept) × (e ≡ state h)
+Settles kept h e p (Err NoMemory) = (kept ≢ Nothing) × (keeping h ≡ kept) × (e ≡ state h)
 Settles kept h e p (Err f) = ⊥
 
 -- the digest is that of what arrived of piece p, where this waits at a picker that keeps nothing

@@ -3,19 +3,20 @@ use Rattle.std.specs.Prelude.{◌≡◌, ◌≢◌, ℕ, List, Bool, true, false
 use Rattle.std.specs.List.{concat}
 use Rattle.std.specs.declared.result.Result.{Result}
 use Rattle.std.specs.declared.result.Result.TheVariants.{Ok, Err}
-use Rattle.bt_check.specs.Checked.{Checked}
+use Rattle.bt_check.specs.Checked.{Checked, joined}
 use Rattle.bt_check.specs.declared.job.Job.{Job}
 use Rattle.std.specs.declared.alloc.AllocError.{AllocError}
-use Rattle.bt_history.specs.declared.call.Reason.{Reason}
 use Rattle.bt_history.specs.declared.call.Reason.TheVariants.{Stale as StaleReason}
 use Rattle.bt_history.specs.declared.call.Reply.{Reply}
-use Rattle.bt_history.specs.declared.call.Reply.TheVariants.{Refused}
-use Rattle.bt_picker.specs.Checks.{blocks_of, waits}
+use Rattle.bt_history.specs.declared.call.Reply.TheVariants.{Failed, Had, Refused}
+use Rattle.bt_keeper.specs.Kept.{IsStale}
+use Rattle.bt_picker.specs.Checks.{blocks_of, unasked_check, waits}
 use Rattle.bt_picker.specs.Positions.{DeskState, Gains}
 use Rattle.bt_picker.specs.Told.{checking}
 use Rattle.bt_c.specs.declared.check.Check.{Check}
 use Rattle.bt_c.specs.declared.check.Check.TheVariants.{Due, Hashed, Ready}
-use Rattle.bt_c.specs.declared.engine.Keeping.TheVariants.{Nothing}
+use Rattle.bt_c.specs.declared.engine.Keeping.{Keeping}
+use Rattle.bt_c.specs.declared.engine.Keeping.TheVariants.{Journal, Nothing}
 use Rattle.bt_c.specs.declared.fault.Fault.{Fault}
 use Rattle.bt_c.specs.declared.fault.Fault.TheVariants.{Shut, Open, Piece, NoMemory, NotWaiting, NoJob, NotHashed, Keeps, Stale, Room}
 use Rattle.bt_c.specs.declared.held.Held.{Held}
@@ -78,24 +79,31 @@ Hashes (Some c) new o = ⊥
 abbrev pub TellsHash : Option Check → Option Check → ℕ → Type 0
 TellsHash old new s = (o : Done) × Hashes old new o × (s ≡ status_of o)
 
--- a verdict is refused for this reason, which changes no table
-abbrev pub RefusesVerdict : DeskState → DeskState → Checked → Reason → Type 0
-RefusesVerdict d e v reason = (e ≡ d) ⊎ ((bytes : List ℕ) × Gains d e (checking 0 v.piece bytes (Refused reason)))
+-- a check came to its end: the piece has its hash, or another
+abbrev pub IsSettled : Reply → Type 0
+IsSettled reply = (reply ≡ Had) ⊎ (reply ≡ Failed)
 
--- a verdict is told: its piece is settled, which the rules allow; or it is stale, or its piece waits for none
-abbrev pub SettlesVerdict : Held → DeskState → Checked → Outcome → Type 0
-SettlesVerdict h e v (Ok r) = (bytes : List ℕ) × Gains (state h) e (checking 0 v.piece bytes r)
-SettlesVerdict h e v (Err Keeps) = (keeping h ≡ Nothing) × (e ≡ state h)
-SettlesVerdict h e v (Err Stale) = RefusesVerdict (state h) e v StaleReason
-SettlesVerdict h e v (Err NotWaiting) = (reason : Reason) × RefusesVerdict (state h) e v reason
-SettlesVerdict h e v (Err NoMemory) = e ≡ state h
-SettlesVerdict h e v (Err f) = ⊥
+-- a verdict that is refused enters a journal, where there is one, and changes nothing else
+abbrev pub RefusesVerdict : Keeping → DeskState → DeskState → Checked → Reply → Type 0
+RefusesVerdict Journal d e v reply = Gains d e (checking 0 v.piece (joined v) reply)
+RefusesVerdict kept d e v reply = e ≡ d
+
+-- a verdict is told where this is kept: its piece is settled, which the rules allow; or the piece has other blocks now, or waits for none
+abbrev pub SettlesVerdict : Keeping → DeskState → DeskState → Checked → Outcome → Type 0
+SettlesVerdict Nothing d e v o = (o ≡ Err Keeps) × (e ≡ d)
+SettlesVerdict kept d e v (Ok r) =
+    (waits d.setting d.history v.piece ≡ true) × IsSettled r × Gains d e (checking 0 v.piece (joined v) r)
+SettlesVerdict kept d e v (Err Stale) = IsStale d v × RefusesVerdict kept d e v (Refused StaleReason)
+SettlesVerdict kept d e v (Err NotWaiting) =
+    (waits d.setting d.history v.piece ≡ false) × RefusesVerdict kept d e v (unasked_check d.setting v.piece)
+SettlesVerdict kept d e v (Err NoMemory) = (kept ≡ Journal) × (e ≡ d)
+SettlesVerdict kept d e v (Err f) = ⊥
 
 -- the verdict of a check that was hashed is told
 abbrev pub TellsVerdict : Option Check → Held → DeskState → Outcome → Type 0
 TellsVerdict None h e o = (e ≡ state h) × (o ≡ Err NoJob)
 TellsVerdict (Some c) h e (Err NotHashed) = (is_ready c ≡ false) × (e ≡ state h)
-TellsVerdict (Some c) h e o = (is_ready c ≡ true) × SettlesVerdict h e (checked_of c) o
+TellsVerdict (Some c) h e o = (is_ready c ≡ true) × SettlesVerdict (keeping h) (state h) e (checked_of c) o
 
 -- the bytes of the blocks go into a room of just their length; another one stays as it was
 abbrev pub PutsBlocks : List (List ℕ) → List ℕ → List ℕ → Done → Type 0

@@ -6,7 +6,10 @@ use Rattle.std.specs.declared.result.Result.{Result}
 use Rattle.std.specs.declared.result.Result.TheVariants.{Ok, Err}
 use Rattle.bt_meta.specs.declared.fault.MetaFault.{MetaFault}
 use Rattle.bt_meta.specs.declared.fault.MetaFault.TheVariants.{PiecesLength}
+use Rattle.bt_bencode.specs.Reading.{◌>>=◌}
+use Rattle.bt_meta.specs.Files.{Listed, files_of_file}
 use Rattle.bt_meta.specs.Layout.{Layout, Metainfo as Torrent, torrent_of}
+use Rattle.bt_meta.specs.Reading.{torrent_of_file}
 use Rattle.bt_history.specs.declared.rules.TheConstants.{MOST_TOLD_DEPTH, MOST_WORKERS}
 use Rattle.bt_history.specs.Setting.{AreRules, setting_of}
 use Rattle.bt_c.specs.declared.engine.Keeping.{Keeping}
@@ -47,26 +50,40 @@ torrent_of_parts piece_length total digests =
     if length digests % 20 == 0 then torrent_of piece_length total (digests_in digests) (replicate 20 0)
     else Err PiecesLength
 
--- what a caller hands in describes this torrent, or has this fault
+-- what a caller hands in: a torrent, and the files of which its content is made, where they are listed
+pub record Described : Type 0 where
+  pub torrent : Torrent
+  pub files : List Listed
+
+-- what a caller hands in describes this, or has this fault
 abbrev pub Reading : Type 0
-Reading = Result Torrent MetaFault
+Reading = Result Described MetaFault
+
+-- what a metainfo file describes, or its first fault
+abbrev pub described_in : List ℕ → Reading
+described_in metainfo = torrent_of_file metainfo >>= λ t. files_of_file metainfo >>= λ files. Ok (record { torrent = t; files = files })
+
+-- what parts describe: they list no files
+abbrev pub described_by : ℕ → ℕ → List ℕ → Reading
+described_by piece_length total digests = torrent_of_parts piece_length total digests >>= λ t. Ok (record { torrent = t; files = [] })
 
 -- a new picker of the torrent by these choices, which was told nothing
-pub record IsNew (t : Torrent) (o : Choices) (h : Held) : Type 0 where
-  pub torrent : h.torrent.value ≡ t
-  pub setting : (state h).setting ≡ setting_of t.layout o.workers (rules o)
+pub record IsNew (d : Described) (o : Choices) (h : Held) : Type 0 where
+  pub torrent : h.torrent.value ≡ d.torrent
+  pub files : h.files.items ≡ d.files
+  pub setting : (state h).setting ≡ setting_of d.torrent.layout o.workers (rules o)
   pub history : (state h).history ≡ []
   pub keeping : keeping_by o.keeps ≡ Some (keeping h)
 
 -- what came of making a picker of a torrent that is read so, or the first fault
 abbrev pub Opened : Reading → Choices → Result Held Fault → Type 0
 Opened reading o (Ok h) = AreOptions o × AreWorkers o.workers
-    × ((t : Torrent) × (reading ≡ Ok t) × AreChoices t.layout o × IsNew t o h)
+    × ((d : Described) × (reading ≡ Ok d) × AreChoices d.torrent.layout o × IsNew d o h)
 Opened reading o (Err Options) = AreOptions o → ⊥
 Opened reading o (Err Worker) = AreOptions o × (AreWorkers o.workers → ⊥)
 Opened reading o (Err (Metainfo f)) = AreOptions o × AreWorkers o.workers × (reading ≡ Err f)
 Opened reading o (Err Rules) = AreOptions o × AreWorkers o.workers
-    × ((t : Torrent) × (reading ≡ Ok t) × (AreChoices t.layout o → ⊥))
+    × ((d : Described) × (reading ≡ Ok d) × (AreChoices d.torrent.layout o → ⊥))
 Opened reading o (Err NoMemory) = AreOptions o × AreWorkers o.workers
 Opened reading o (Err f) = ⊥
 

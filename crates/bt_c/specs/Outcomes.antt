@@ -42,9 +42,10 @@ abbrev pub flag : Bool → ℕ
 flag true = 1
 flag false = 0
 
--- what stays of a picker, whatever it is told: its torrent, and what it keeps
+-- what stays of a picker, whatever it is told: its torrent with its files, and what it keeps
 pub record StaysItself (h k : Held) : Type 0 where
   pub torrent : k.torrent ≡ h.torrent
+  pub files : k.files.items ≡ h.files.items
   pub keeping : keeping k ≡ keeping h
 
 -- a call at a handle: a null one stays null and says so, and an open one stays open, its picker changed as P says

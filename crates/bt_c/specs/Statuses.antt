@@ -6,7 +6,7 @@ use Rattle.bt_meta.specs.Faults as meta
 use Rattle.bt_c.specs.declared.fault.Fault.{Fault}
 use Rattle.bt_c.specs.declared.fault.Fault.TheVariants.{Shut, Open, Worker, Piece, BitsLength, SpareBits, Room, NoMemory, NotHad}
 use Rattle.bt_c.specs.declared.fault.Fault.TheVariants.{Rules, NotWaiting, NoJob, NotHashed, Place, Keeps, Options, Stale, Block}
-use Rattle.bt_c.specs.declared.fault.Fault.TheVariants.{NotHeld, Begun, Metainfo}
+use Rattle.bt_c.specs.declared.fault.Fault.TheVariants.{NotHeld, Begun, File, Part, Metainfo}
 
 -- the status that tells a fault; 0 tells that there was none
 abbrev pub fault_number : Fault → ℕ
@@ -30,6 +30,8 @@ fault_number Stale = 17
 fault_number Block = 18
 fault_number NotHeld = 19
 fault_number Begun = 20
+fault_number File = 21
+fault_number Part = 22
 fault_number (Metainfo f) = 100 + meta.fault_number f
 
 -- a fault of a metainfo file as one of a call; want of memory is want of memory

@@ -44,7 +44,7 @@ impl Held {
     /// Makes a call of the worker, where there is one.
     pub fn call(&mut self, alloc: Global, worker: u32, told: Told<'_>) -> Result<Reply, Fault>
         ensures same { StaysItself self.old self.new }
-        ensures makes { Makes (state self.old) (state self.new) worker (action_told told.entry) result }
+        ensures makes { Makes self.old (state self.new) worker (action_told told.entry) result }
     {
         if worker >= self.engine.workers() {
             return Err(Fault::Worker);
@@ -64,7 +64,7 @@ impl Held {
         told: Told<'_>,
     ) -> Result<Reply, Fault>
         ensures same { StaysItself self.old self.new }
-        ensures makes { MakesAt (state self.old) (state self.new) worker piece (action_told told.entry) result }
+        ensures makes { MakesAt self.old (state self.new) worker piece (action_told told.entry) result }
     {
         if worker >= self.engine.workers() {
             return Err(Fault::Worker);
@@ -78,7 +78,7 @@ impl Held {
     /// Tells the set of pieces that the payload of a `bitfield` message spells.
     pub fn bits(&mut self, alloc: Global, worker: u32, bytes: &[u8]) -> Result<Reply, Fault>
         ensures same { StaysItself self.old self.new }
-        ensures makes { MakesFlags (state self.old) (state self.new) worker bytes.now actions.Bits result }
+        ensures makes { MakesFlags self.old (state self.new) worker bytes.now actions.Bits result }
     {
         if worker >= self.engine.workers() {
             return Err(Fault::Worker);
@@ -90,7 +90,7 @@ impl Held {
     /// Tells which pieces the peer has too, spelled as a `bitfield` message spells them.
     pub fn haves(&mut self, alloc: Global, worker: u32, bytes: &[u8]) -> Result<Reply, Fault>
         ensures same { StaysItself self.old self.new }
-        ensures makes { MakesFlags (state self.old) (state self.new) worker bytes.now actions.Haves result }
+        ensures makes { MakesFlags self.old (state self.new) worker bytes.now actions.Haves result }
     {
         if worker >= self.engine.workers() {
             return Err(Fault::Worker);
@@ -102,7 +102,7 @@ impl Held {
     /// Tells which pieces are wanted, spelled as a `bitfield` message spells them.
     pub fn want(&mut self, alloc: Global, bytes: &[u8]) -> Result<Reply, Fault>
         ensures same { StaysItself self.old self.new }
-        ensures makes { MakesFlags (state self.old) (state self.new) 0 bytes.now actions.Want result }
+        ensures makes { MakesFlags self.old (state self.new) 0 bytes.now actions.Want result }
     {
         let flags = flags_of(alloc, bytes, self.torrent.piece_count())?;
         self.call(alloc, 0, Told::Want(&flags))

@@ -11,6 +11,7 @@ ghost use Rattle.bt_picker.specs.Contents.{complete, has_wanted};
 ghost use Rattle.bt_picker.specs.Positions.{Gains};
 ghost use Rattle.bt_picker.specs.Told.{action_told, telling};
 ghost use Rattle.bt_history.specs.Entries.{action_of};
+ghost use Rattle.bt_c.specs.Calling.{TakesMemory};
 ghost use Rattle.bt_c.specs.Engines.{content_kept, keeping_of, state_of};
 
 use bt_history::{Call, MOST_WORKERS, Reply, Rules};
@@ -131,6 +132,8 @@ impl Engine {
         requires { worker < (state_of self.old).setting.workers }
         ensures ok { IfOk result (λ reply. Gains (state_of self.old) (state_of self.new) (telling worker told.entry reply)) }
         ensures err { OnErr result (state_of self.new ≡ state_of self.old) }
+        // Only what takes memory can lack it.
+        ensures short { OnErr result (TakesMemory (keeping_of self.old) (action_told told.entry)) }
         ensures keeping { keeping_of self.new ≡ keeping_of self.old }
     {
         match self {

@@ -48,6 +48,10 @@ pub enum Fault {
     NotHeld,
     /// A block of the piece is held or asked of a peer, or it is had already.
     Begun,
+    /// No such file of the torrent.
+    File,
+    /// No such name on the file's path.
+    Part,
     /// The bytes are no metainfo file, or the parts make no torrent.
     Metainfo(MetaFault),
 }
@@ -78,6 +82,8 @@ impl Fault {
             Fault::Block => 18,
             Fault::NotHeld => 19,
             Fault::Begun => 20,
+            Fault::File => 21,
+            Fault::Part => 22,
             Fault::Metainfo(fault) => 100 + u32::from(fault.number()),
         }
     }

@@ -1,7 +1,7 @@
 //! Checks of pieces that leave their picker, and come back as verdicts.
 ghost use Rattle.std.specs.Prelude.{◌≡◌, ◌<◌, ◌-◌, ◌^◌, length, min, Some};
 ghost use Rattle.std.specs.List.{concat};
-ghost use Rattle.bt_c.specs.Behind.{state};
+ghost use Rattle.bt_c.specs.Behind.{keeping, state};
 ghost use Rattle.bt_c.specs.Jobs.{Hashes, IsCheckOf, IsHandleOf, PutsBlocks, ReadsJob, SettlesVerdict, TakesJob, TellsVerdict};
 ghost use Rattle.bt_c.specs.Jobs.{check_given, settled_of};
 ghost use Rattle.bt_c.specs.Outcomes.{StaysItself};
@@ -87,7 +87,7 @@ impl Held {
     /// Tells the verdict, of which a journal takes a share.
     fn settle_verdict(&mut self, verdict: &Arc<Verdict>) -> Result<Reply, Fault>
         ensures same { StaysItself self.old self.new }
-        ensures settles { SettlesVerdict self.old (state self.new) verdict.now.value result }
+        ensures settles { SettlesVerdict (keeping self.old) (state self.old) (state self.new) verdict.now.value result }
     {
         match &mut self.engine {
             Engine::Picker(_) => Err(Fault::Keeps),

@@ -1,8 +1,8 @@
 //! A picker for an empty pointer.
 ghost use Rattle.std.specs.Prelude.{◌≡◌, IfOk, IfErr, Some};
-ghost use Rattle.bt_meta.specs.Reading.{Gives, torrent_of_file};
+ghost use Rattle.bt_meta.specs.Reading.{Gives};
 ghost use Rattle.bt_c.specs.Opening.{AreChoices, AreOptions, AreWorkers, IsNew, IsRefusal, IsUnfit, MakesHandle, Opened, PutsIn};
-ghost use Rattle.bt_c.specs.Opening.{digests_in, keeping_by, torrent_of_parts};
+ghost use Rattle.bt_c.specs.Opening.{described_by, described_in, digests_in, keeping_by, torrent_of_parts};
 
 use crate::engine::{Engine, Keeping};
 use crate::fault::Fault;
@@ -10,7 +10,7 @@ use crate::held::Held;
 use crate::options::{Options, SIZE};
 use crate::picker_handle::PickerHandle;
 use crate::picker_pointer::PickerPointer;
-use bt_meta::{MetaFault, Torrent};
+use bt_meta::{ListedFile, MetaFault, Torrent};
 use std::alloc::{AllocError, Global};
 use std::sync::Arc;
 
@@ -61,12 +61,14 @@ impl Held {
     fn new(
         alloc: Global,
         torrent: Torrent,
+        files: Vec<ListedFile>,
         keeping: Keeping,
         options: Options,
     ) -> Result<Held, Fault>
         requires workers { AreWorkers options.workers }
         requires keeping { keeping_by options.keeps ≡ Some keeping }
-        ensures ok { IfOk result (λ h. AreChoices torrent.layout options × IsNew torrent options h) }
+        ensures ok { IfOk result (λ h. AreChoices torrent.layout options
+            × IsNew (record { torrent = torrent; files = files.items }) options h) }
         ensures err { IfErr result (λ fault. IsRefusal torrent.layout options fault) }
     {
         if !options.are_choices(&torrent) {
@@ -77,16 +79,18 @@ impl Held {
         Ok(Held {
             engine: Engine::new(alloc, keeping, shared, options.workers, options.rules())?,
             torrent,
+            files,
         })
     }
 
     /// A picker of the torrent whose metainfo file this is.
     pub fn open(alloc: Global, metainfo: &[u8], options: Options) -> Result<Held, Fault>
-        ensures { Opened (torrent_of_file metainfo.now) options result }
+        ensures { Opened (described_in metainfo.now) options result }
     {
         let keeping = keeping_of(options)?;
         let torrent = Torrent::read(alloc, metainfo)?;
-        Held::new(alloc, torrent, keeping, options)
+        let files = ListedFile::read_all(alloc, metainfo)?;
+        Held::new(alloc, torrent, files, keeping, options)
     }
 
     /// A picker of the torrent of these parts.
@@ -97,11 +101,11 @@ impl Held {
         hashes: &[u8],
         options: Options,
     ) -> Result<Held, Fault>
-        ensures { Opened (torrent_of_parts piece_len total hashes.now) options result }
+        ensures { Opened (described_by piece_len total hashes.now) options result }
     {
         let keeping = keeping_of(options)?;
         let torrent = torrent_of_parts(alloc, piece_len, total, hashes)?;
-        Held::new(alloc, torrent, keeping, options)
+        Held::new(alloc, torrent, Vec::new(alloc), keeping, options)
     }
 }
 

@@ -24,9 +24,14 @@ pub record SettlesBy (old new : DeskState) (w : ℕ) (v : Checked) (reply : Repl
   pub current : ¬ IsStale old v → Settles old new w v.piece reply
   pub stale : IsStale old v → (new ≡ old) × (reply ≡ Refused Stale)
 
+-- if the piece waits for a check, the blocks that were hashed are those that are held
+abbrev pub IsFresh : DeskState → Checked → Type 0
+IsFresh old v = waits old.setting old.history v.piece ≡ true → v.blocks ≡ blocks_of old.setting old.history v.piece
+
 -- the piece is settled, or the verdict is stale and nothing changes
-abbrev pub SettlesOrStale : DeskState → DeskState → ℕ → ℕ → Reply → Type 0
-SettlesOrStale old new w p reply = Settles old new w p reply ⊎ ((new ≡ old) × (reply ≡ Refused Stale))
+abbrev pub SettlesOrStale : DeskState → DeskState → ℕ → Checked → Reply → Type 0
+SettlesOrStale old new w v reply =
+    (IsFresh old v × Settles old new w v.piece reply) ⊎ (IsStale old v × (new ≡ old) × (reply ≡ Refused Stale))
 
 -- the call brings no block
 abbrev pub BringsNone : Action → Type 0

@@ -13,7 +13,7 @@ ghost use Rattle.bt_history.specs.Setting.{AreRules, setting_of};
 ghost use Rattle.bt_picker.specs.Checks.{IsJobOf, arriving, blocks_of, waits};
 ghost use Rattle.bt_picker.specs.Contents.{complete, has_wanted};
 ghost use Rattle.bt_picker.specs.Told.{Settles, Tells, action_told, telling};
-ghost use Rattle.bt_keeper.specs.Kept.{BringsNone, HandsOut, IsStale, SettlesBy, SettlesOrStale};
+ghost use Rattle.bt_keeper.specs.Kept.{BringsNone, HandsOut, IsFresh, IsStale, SettlesBy, SettlesOrStale};
 
 use crate::settled::Settled;
 use crate::stash::Stash;
@@ -143,7 +143,7 @@ impl Keeper {
     pub fn settle(&mut self, worker: u32, verdict: &Verdict) -> Settled
         ensures settles { SettlesBy self.old self.new worker verdict.now result.reply }
         // Whoever doesn't know whether the verdict is stale has one of these.
-        ensures either { SettlesOrStale self.old self.new worker verdict.now.piece result.reply }
+        ensures either { SettlesOrStale self.old self.new worker verdict.now result.reply }
         ensures blocks { HandsOut self.old verdict.now.piece result.reply result.blocks.items }
         // What is handed out has the hash that the metainfo gives for the piece.
         ensures hashed { result.reply ≡ Reply.Had →
@@ -211,8 +211,7 @@ impl Keeper {
     /// Whether the verdict's piece waits for a check, and other blocks were hashed than those that are held.
     fn is_stale(&self, verdict: &Verdict) -> bool
         ensures yes { result ≡ true → IsStale self.now verdict.now }
-        ensures no { result ≡ false → waits self.now.setting self.now.history verdict.now.piece ≡ true →
-            verdict.now.blocks ≡ blocks_of self.now.setting self.now.history verdict.now.piece }
+        ensures no { result ≡ false → IsFresh self.now verdict.now }
     {
         self.is_waiting(verdict.piece()) && self.waiting(verdict.piece()) != verdict.blocks()
     }

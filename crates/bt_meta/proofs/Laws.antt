@@ -15,12 +15,14 @@ use Rattle.bt_bencode.proofs.Results.{bind_ok, chosen, ok_is, never}
 use Rattle.bt_meta.specs.declared.key.Key.TheVariants as key
 use Rattle.bt_meta.specs.declared.fault.MetaFault.{MetaFault}
 use Rattle.bt_meta.specs.declared.fault.MetaFault.TheVariants.{NotDictionary, WrongKind, PieceLength, PiecesLength}
+use Rattle.bt_meta.specs.Files.{AreFilesOf, Listed, files_of_file}
 use Rattle.bt_meta.specs.Keys.{key_name}
 use Rattle.bt_meta.specs.Layout.{IsLayout, Metainfo, sizes_checked}
 use Rattle.bt_meta.specs.Metainfo.{Describes, IsMeta, int_at, text_at}
 use Rattle.bt_meta.specs.Reading.{value_in, int_in, text_in, piece_length_in, piece_length_of, lengths_in, assembled}
 use Rattle.bt_meta.specs.Reading.{torrent_by, dictionary, info_in, torrent_of_file, or_bencode}
 use Rattle.bt_meta.specs.Reading as reading
+use Rattle.bt_meta.proofs.FilesFound.{described_files}
 use Rattle.bt_meta.proofs.Digests.{chunks_cut, length-concat, chunks-concat}
 use Rattle.bt_meta.proofs.Found.{found_ok, ok_found, value_found, int_found, text_found, lengths_found}
 use Rattle.bt_meta.proofs.Sizes.{Fit, sizes_fit, fit_passes}
@@ -223,3 +225,12 @@ file_again source t m =
     let read : tree_of source ≡ Ok (placed 0 m.tree) = ap tree_of (sym m.spelled.spelled) ∙ tree_again m.tree m.spelled.is_tree in
     let info = info_again m.tree m.info t m.info_is m.described in
     rw (read, m.spans, info, ← m.infohash) (torrent_again m.info t m.described)
+
+-- the files of a metainfo file are read, and are those of the torrent that it describes
+pub files_again : (source : List ℕ) (t : Metainfo) → IsMeta source t → (files : List Listed) × (files_of_file source ≡ Ok files) × AreFilesOf t files
+unfolding files_of_file
+files_again source t m =
+    let read : tree_of source ≡ Ok (placed 0 m.tree) = ap tree_of (sym m.spelled.spelled) ∙ tree_again m.tree m.spelled.is_tree in
+    let info = info_again m.tree m.info t m.info_is m.described in
+    let files = described_files m.info t m.described in
+    (files.0, rw (read, m.spans, info) files.1, files.2)

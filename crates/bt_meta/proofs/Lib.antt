@@ -1,9 +1,12 @@
 pub mod Payloads
 pub mod Searched
 pub mod Lengths
+pub mod ListedFiles
 pub mod Sizes
 pub mod Digests
 pub mod Found
+pub mod FilesFound
+pub mod Refusing
 pub mod Laws
 pub mod Counted
 pub mod Written

@@ -5,4 +5,5 @@ pub mod Keys
 pub mod Faults
 pub mod Metainfo
 pub mod Reading
+pub mod Files
 pub mod Counting

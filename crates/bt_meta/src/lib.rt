@@ -15,4 +15,4 @@ pub use devices::{DeviceFault, FromRead, Sink, Source, ToWrite, write_all};
 pub use fault::{BitFault, MetaFault};
 pub use intervals::{blocks_tile_a_piece, pieces_tile_the_content};
 pub use key::Key;
-pub use torrent::{BLOCK_SIZE, Torrent};
+pub use torrent::{BLOCK_SIZE, ListedFile, Torrent};

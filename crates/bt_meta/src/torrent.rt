@@ -8,6 +8,7 @@ mod reading;
 
 use crate::block::Block;
 use crate::fault::MetaFault;
+pub use reading::ListedFile;
 use std::alloc::AllocError;
 use std::marker::Model;
 

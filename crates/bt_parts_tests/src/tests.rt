@@ -4,6 +4,7 @@ mod bencode;
 mod board;
 mod check;
 mod devices;
+mod files;
 mod geometry;
 mod metainfo;
 mod order;

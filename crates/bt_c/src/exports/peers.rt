@@ -20,7 +20,7 @@ pub fn call(
     worker: u32,
     told: Told<'_>,
 ) -> Result<Reply, Fault>
-    ensures { AtHandle (λ h e o. Makes (state h) e worker (action_told told.entry) o) picker.old.held picker.new.held result }
+    ensures { AtHandle (λ h e o. Makes h e worker (action_told told.entry) o) picker.old.held picker.new.held result }
 {
     let Some(mut held) = picker.take(alloc) else {
         return Err(Fault::Shut);
@@ -38,7 +38,7 @@ pub fn call_at(
     piece: u32,
     told: Told<'_>,
 ) -> Result<Reply, Fault>
-    ensures { AtHandle (λ h e o. MakesAt (state h) e worker piece (action_told told.entry) o) picker.old.held picker.new.held result }
+    ensures { AtHandle (λ h e o. MakesAt h e worker piece (action_told told.entry) o) picker.old.held picker.new.held result }
 {
     let Some(mut held) = picker.take(alloc) else {
         return Err(Fault::Shut);
@@ -50,7 +50,7 @@ pub fn call_at(
 
 /// Bits, with the payload of a bitfield.
 fn bits(alloc: Global, picker: &mut PickerHandle, worker: u32, bytes: &[u8]) -> Result<Reply, Fault>
-    ensures { AtHandle (λ h e o. MakesFlags (state h) e worker bytes.now actions.Bits o) picker.old.held picker.new.held result }
+    ensures { AtHandle (λ h e o. MakesFlags h e worker bytes.now actions.Bits o) picker.old.held picker.new.held result }
 {
     let Some(mut held) = picker.take(alloc) else {
         return Err(Fault::Shut);
@@ -67,7 +67,7 @@ fn haves(
     worker: u32,
     bytes: &[u8],
 ) -> Result<Reply, Fault>
-    ensures { AtHandle (λ h e o. MakesFlags (state h) e worker bytes.now actions.Haves o) picker.old.held picker.new.held result }
+    ensures { AtHandle (λ h e o. MakesFlags h e worker bytes.now actions.Haves o) picker.old.held picker.new.held result }
 {
     let Some(mut held) = picker.take(alloc) else {
         return Err(Fault::Shut);
@@ -85,7 +85,7 @@ pub extern "C" fn piecepick_join(
     worker: u32,
     answer: &mut Answer,
 ) -> u32
-    ensures { Tells (λ h e o. Makes (state h) e worker actions.Join o)
+    ensures { Tells (λ h e o. Makes h e worker actions.Join o)
         picker.old.held picker.new.held result answer.new }
 {
     tell(call(alloc, picker, worker, Told::Join), answer)
@@ -99,7 +99,7 @@ pub extern "C" fn piecepick_leave(
     worker: u32,
     answer: &mut Answer,
 ) -> u32
-    ensures { Tells (λ h e o. Makes (state h) e worker actions.Leave o)
+    ensures { Tells (λ h e o. Makes h e worker actions.Leave o)
         picker.old.held picker.new.held result answer.new }
 {
     tell(call(alloc, picker, worker, Told::Leave), answer)
@@ -113,7 +113,7 @@ pub extern "C" fn piecepick_choke(
     worker: u32,
     answer: &mut Answer,
 ) -> u32
-    ensures { Tells (λ h e o. Makes (state h) e worker actions.Choke o)
+    ensures { Tells (λ h e o. Makes h e worker actions.Choke o)
         picker.old.held picker.new.held result answer.new }
 {
     tell(call(alloc, picker, worker, Told::Choke), answer)
@@ -127,7 +127,7 @@ pub extern "C" fn piecepick_unchoke(
     worker: u32,
     answer: &mut Answer,
 ) -> u32
-    ensures { Tells (λ h e o. Makes (state h) e worker actions.Unchoke o)
+    ensures { Tells (λ h e o. Makes h e worker actions.Unchoke o)
         picker.old.held picker.new.held result answer.new }
 {
     tell(call(alloc, picker, worker, Told::Unchoke), answer)
@@ -142,7 +142,7 @@ pub extern "C" fn piecepick_have(
     piece: u32,
     answer: &mut Answer,
 ) -> u32
-    ensures { Tells (λ h e o. MakesAt (state h) e worker piece (actions.Have piece) o)
+    ensures { Tells (λ h e o. MakesAt h e worker piece (actions.Have piece) o)
         picker.old.held picker.new.held result answer.new }
 {
     tell(
@@ -160,7 +160,7 @@ pub extern "C" fn piecepick_bits(
     payload: &[u8],
     answer: &mut Answer,
 ) -> u32
-    ensures { Tells (λ h e o. MakesFlags (state h) e worker payload.now actions.Bits o)
+    ensures { Tells (λ h e o. MakesFlags h e worker payload.now actions.Bits o)
         picker.old.held picker.new.held result answer.new }
 {
     tell(bits(alloc, picker, worker, payload), answer)
@@ -176,7 +176,7 @@ pub extern "C" fn piecepick_haves(
     flags: &[u8],
     answer: &mut Answer,
 ) -> u32
-    ensures { Tells (λ h e o. MakesFlags (state h) e worker flags.now actions.Haves o)
+    ensures { Tells (λ h e o. MakesFlags h e worker flags.now actions.Haves o)
         picker.old.held picker.new.held result answer.new }
 {
     tell(haves(alloc, picker, worker, flags), answer)
@@ -191,7 +191,7 @@ pub extern "C" fn piecepick_depth(
     depth: u32,
     answer: &mut Answer,
 ) -> u32
-    ensures { Tells (λ h e o. Makes (state h) e worker (actions.Depth depth) o)
+    ensures { Tells (λ h e o. Makes h e worker (actions.Depth depth) o)
         picker.old.held picker.new.held result answer.new }
 {
     tell(call(alloc, picker, worker, Told::Depth(depth)), answer)
@@ -206,7 +206,7 @@ pub extern "C" fn piecepick_next(
     word: u64,
     answer: &mut Answer,
 ) -> u32
-    ensures { Tells (λ h e o. Makes (state h) e worker (actions.Next word) o)
+    ensures { Tells (λ h e o. Makes h e worker (actions.Next word) o)
         picker.old.held picker.new.held result answer.new }
 {
     tell(call(alloc, picker, worker, Told::Next(word)), answer)
@@ -223,7 +223,7 @@ pub extern "C" fn piecepick_release(
     begin: u32,
     answer: &mut Answer,
 ) -> u32
-    ensures { Tells (λ h e o. MakesAt (state h) e worker piece (actions.Release piece begin) o)
+    ensures { Tells (λ h e o. MakesAt h e worker piece (actions.Release piece begin) o)
         picker.old.held picker.new.held result answer.new }
 {
     let told = Told::Release { piece, begin };
@@ -242,7 +242,7 @@ pub extern "C" fn piecepick_arrived(
     bytes: &[u8],
     answer: &mut Answer,
 ) -> u32
-    ensures { Tells (λ h e o. MakesAt (state h) e worker piece (actions.Arrived piece begin bytes.now) o)
+    ensures { Tells (λ h e o. MakesAt h e worker piece (actions.Arrived piece begin bytes.now) o)
         picker.old.held picker.new.held result answer.new }
 {
     let told = Told::Arrived {

@@ -1,7 +1,6 @@
 //! A picker's beginning and end.
 ghost use Rattle.std.specs.Prelude.{◌≡◌, None};
-ghost use Rattle.bt_meta.specs.Reading.{torrent_of_file};
-ghost use Rattle.bt_c.specs.Opening.{Opens, torrent_of_parts};
+ghost use Rattle.bt_c.specs.Opening.{Opens, described_by, described_in};
 
 use super::tell::tell_done;
 use crate::held::Held;
@@ -40,7 +39,7 @@ pub extern "C" fn piecepick_open(
     metainfo: &[u8],
     options: &Options,
 ) -> u32
-    ensures { Opens (torrent_of_file metainfo.now) options.now picker.old.picker picker.new.picker result }
+    ensures { Opens (described_in metainfo.now) options.now picker.old.picker picker.new.picker result }
 {
     let opened = Held::open(alloc, metainfo, *options);
     tell_done(fill(alloc, picker, opened))
@@ -56,7 +55,7 @@ pub extern "C" fn piecepick_open_parts(
     digests: &[u8],
     options: &Options,
 ) -> u32
-    ensures { Opens (torrent_of_parts piece_length total digests.now) options.now picker.old.picker picker.new.picker result }
+    ensures { Opens (described_by piece_length total digests.now) options.now picker.old.picker picker.new.picker result }
 {
     let opened = Held::open_parts(alloc, piece_length, total, digests, *options);
     tell_done(fill(alloc, picker, opened))

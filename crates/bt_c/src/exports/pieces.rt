@@ -17,7 +17,7 @@ use std::alloc::Global;
 
 /// Want, with the payload of a bitfield.
 fn want(alloc: Global, picker: &mut PickerHandle, bytes: &[u8]) -> Result<Reply, Fault>
-    ensures { AtHandle (λ h e o. MakesFlags (state h) e 0 bytes.now actions.Want o) picker.old.held picker.new.held result }
+    ensures { AtHandle (λ h e o. MakesFlags h e 0 bytes.now actions.Want o) picker.old.held picker.new.held result }
 {
     let Some(mut held) = picker.take(alloc) else {
         return Err(Fault::Shut);
@@ -80,7 +80,7 @@ pub extern "C" fn piecepick_want(
     flags: &[u8],
     answer: &mut Answer,
 ) -> u32
-    ensures { Tells (λ h e o. MakesFlags (state h) e 0 flags.now actions.Want o)
+    ensures { Tells (λ h e o. MakesFlags h e 0 flags.now actions.Want o)
         picker.old.held picker.new.held result answer.new }
 {
     tell(want(alloc, picker, flags), answer)
@@ -95,7 +95,7 @@ pub extern "C" fn piecepick_set_level(
     level: u32,
     answer: &mut Answer,
 ) -> u32
-    ensures { Tells (λ h e o. MakesAt (state h) e 0 piece (actions.Level piece (min level 255)) o)
+    ensures { Tells (λ h e o. MakesAt h e 0 piece (actions.Level piece (min level 255)) o)
         picker.old.held picker.new.held result answer.new }
 {
     let told = Told::Level {
@@ -113,7 +113,7 @@ pub extern "C" fn piecepick_set_levels(
     levels: &[u8],
     answer: &mut Answer,
 ) -> u32
-    ensures { Tells (λ h e o. Makes (state h) e 0 (actions.Levels levels.now) o)
+    ensures { Tells (λ h e o. Makes h e 0 (actions.Levels levels.now) o)
         picker.old.held picker.new.held result answer.new }
 {
     tell(call(alloc, picker, 0, Told::Levels(levels)), answer)
@@ -127,7 +127,7 @@ pub extern "C" fn piecepick_set_in_order(
     rising: u32,
     answer: &mut Answer,
 ) -> u32
-    ensures { Tells (λ h e o. Makes (state h) e 0 (actions.InOrder (not (rising == 0))) o)
+    ensures { Tells (λ h e o. Makes h e 0 (actions.InOrder (not (rising == 0))) o)
         picker.old.held picker.new.held result answer.new }
 {
     tell(call(alloc, picker, 0, Told::InOrder(rising != 0)), answer)

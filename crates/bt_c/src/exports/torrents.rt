@@ -1,51 +1,59 @@
 //! What a picker tells of its torrent.
-ghost use Rattle.std.specs.Prelude.{◌≡◌, None, length};
+ghost use Rattle.std.specs.Prelude.{◌≡◌, None};
+ghost use Rattle.bt_c.specs.declared.torrents.TorrentQuestion.TheVariants as questions;
 ghost use Rattle.bt_c.specs.Outcomes.{AtOpen, TellsDone, TellsNumber};
-ghost use Rattle.bt_c.specs.Asking.{Says};
-ghost use Rattle.bt_c.specs.Torrents.{PutsHash, PutsInfohash, PutsName};
+ghost use Rattle.bt_c.specs.Torrents.{PutsBytes, PutsHash, PutsIfAny, PutsInfohash, number_of_torrent, part_at};
 
 use super::tell::{tell_done, tell_large};
 use crate::digest::Digest;
 use crate::fault::Fault;
 use crate::picker_handle::PickerHandle;
+use crate::torrents::TorrentQuestion;
 use std::alloc::Global;
 
-/// The bytes of the content.
-fn ask_total(alloc: Global, picker: &mut PickerHandle) -> Result<u64, Fault>
+/// Answers a question of the torrent.
+fn ask(alloc: Global, picker: &mut PickerHandle, question: TorrentQuestion) -> Result<u64, Fault>
     ensures same { picker.new.held ≡ picker.old.held }
-    ensures says { AtOpen (λ h o. Says h.torrent.value.layout.total o) picker.old.held result }
+    ensures says { AtOpen (λ h o. o ≡ number_of_torrent h question) picker.old.held result }
 {
     let Some(held) = picker.take(alloc) else {
         return Err(Fault::Shut);
     };
-    let total = held.torrent.total();
+    let outcome = held.ask_of_torrent(question);
     *picker = PickerHandle::of(held);
-    Ok(total)
-}
-
-/// How many bytes the name has.
-fn ask_name_length(alloc: Global, picker: &mut PickerHandle) -> Result<u64, Fault>
-    ensures same { picker.new.held ≡ picker.old.held }
-    ensures says { AtOpen (λ h o. Says (length h.torrent.value.name) o) picker.old.held result }
-{
-    let Some(held) = picker.take(alloc) else {
-        return Err(Fault::Shut);
-    };
-    let length = held.torrent.name().len() as u64;
-    *picker = PickerHandle::of(held);
-    Ok(length)
+    outcome
 }
 
 /// Writes the name into a room of its length.
 fn put_name(alloc: Global, picker: &mut PickerHandle, room: &mut [u8]) -> Result<(), Fault>
     ensures same { picker.new.held ≡ picker.old.held }
     ensures shut { picker.old.held ≡ None → room.new ≡ room.old }
-    ensures puts { AtOpen (λ h o. PutsName h.torrent.value room.old room.new o) picker.old.held result }
+    ensures puts { AtOpen (λ h o. PutsBytes h.torrent.value.name room.old room.new o) picker.old.held result }
 {
     let Some(held) = picker.take(alloc) else {
         return Err(Fault::Shut);
     };
     let done = held.put_name(room);
+    *picker = PickerHandle::of(held);
+    done
+}
+
+/// Writes a name on the path of a file into a room of its length.
+fn put_part(
+    alloc: Global,
+    picker: &mut PickerHandle,
+    file: u64,
+    part: u64,
+    room: &mut [u8],
+) -> Result<(), Fault>
+    ensures same { picker.new.held ≡ picker.old.held }
+    ensures shut { picker.old.held ≡ None → room.new ≡ room.old }
+    ensures puts { AtOpen (λ h o. PutsIfAny (part_at h.files.items file part) room.old room.new o) picker.old.held result }
+{
+    let Some(held) = picker.take(alloc) else {
+        return Err(Fault::Shut);
+    };
+    let done = held.put_part(file, part, room);
     *picker = PickerHandle::of(held);
     done
 }
@@ -87,9 +95,9 @@ fn put_hash(
 #[unsafe(no_mangle)]
 pub extern "C" fn piecepick_total(alloc: Global, picker: &mut PickerHandle, number: &mut u64) -> u32
     ensures same { picker.new.held ≡ picker.old.held }
-    ensures says { TellsNumber (λ h o. Says h.torrent.value.layout.total o) picker.old.held result number.new }
+    ensures says { TellsNumber (λ h o. o ≡ number_of_torrent h questions.Total) picker.old.held result number.new }
 {
-    tell_large(ask_total(alloc, picker), number)
+    tell_large(ask(alloc, picker, TorrentQuestion::Total), number)
 }
 
 /// How many bytes the name has that the metainfo file suggests: none of a torrent of parts.
@@ -100,9 +108,9 @@ pub extern "C" fn piecepick_name_length(
     number: &mut u64,
 ) -> u32
     ensures same { picker.new.held ≡ picker.old.held }
-    ensures says { TellsNumber (λ h o. Says (length h.torrent.value.name) o) picker.old.held result number.new }
+    ensures says { TellsNumber (λ h o. o ≡ number_of_torrent h questions.NameLength) picker.old.held result number.new }
 {
-    tell_large(ask_name_length(alloc, picker), number)
+    tell_large(ask(alloc, picker, TorrentQuestion::NameLength), number)
 }
 
 /// Writes the name into a room of its length. It is a suggestion, and perhaps no text.
@@ -110,7 +118,7 @@ pub extern "C" fn piecepick_name_length(
 pub extern "C" fn piecepick_name(alloc: Global, picker: &mut PickerHandle, room: &mut [u8]) -> u32
     ensures same { picker.new.held ≡ picker.old.held }
     ensures shut { picker.old.held ≡ None → room.new ≡ room.old }
-    ensures puts { TellsDone (λ h o. PutsName h.torrent.value room.old room.new o) picker.old.held result }
+    ensures puts { TellsDone (λ h o. PutsBytes h.torrent.value.name room.old room.new o) picker.old.held result }
 {
     tell_done(put_name(alloc, picker, room))
 }
@@ -142,4 +150,78 @@ pub extern "C" fn piecepick_piece_hash(
     ensures puts { TellsDone (λ h o. PutsHash h.torrent.value piece digest.old.bytes digest.new.bytes o) picker.old.held result }
 {
     tell_done(put_hash(alloc, picker, piece, digest))
+}
+
+/// How many files the metainfo file lists: none of a torrent of parts.
+#[unsafe(no_mangle)]
+pub extern "C" fn piecepick_files(alloc: Global, picker: &mut PickerHandle, number: &mut u64) -> u32
+    ensures same { picker.new.held ≡ picker.old.held }
+    ensures says { TellsNumber (λ h o. o ≡ number_of_torrent h questions.Files) picker.old.held result number.new }
+{
+    tell_large(ask(alloc, picker, TorrentQuestion::Files), number)
+}
+
+/// The bytes of a file.
+#[unsafe(no_mangle)]
+pub extern "C" fn piecepick_file_length(
+    alloc: Global,
+    picker: &mut PickerHandle,
+    file: u64,
+    number: &mut u64,
+) -> u32
+    ensures same { picker.new.held ≡ picker.old.held }
+    ensures says { TellsNumber (λ h o. o ≡ number_of_torrent h (questions.FileLength file)) picker.old.held result number.new }
+{
+    tell_large(
+        ask(alloc, picker, TorrentQuestion::FileLength(file)),
+        number,
+    )
+}
+
+/// How many names the path of a file has, the torrent's own being the first.
+#[unsafe(no_mangle)]
+pub extern "C" fn piecepick_file_parts(
+    alloc: Global,
+    picker: &mut PickerHandle,
+    file: u64,
+    number: &mut u64,
+) -> u32
+    ensures same { picker.new.held ≡ picker.old.held }
+    ensures says { TellsNumber (λ h o. o ≡ number_of_torrent h (questions.FileParts file)) picker.old.held result number.new }
+{
+    tell_large(ask(alloc, picker, TorrentQuestion::FileParts(file)), number)
+}
+
+/// How many bytes a name on the path of a file has.
+#[unsafe(no_mangle)]
+pub extern "C" fn piecepick_file_part_length(
+    alloc: Global,
+    picker: &mut PickerHandle,
+    file: u64,
+    part: u64,
+    number: &mut u64,
+) -> u32
+    ensures same { picker.new.held ≡ picker.old.held }
+    ensures says { TellsNumber (λ h o. o ≡ number_of_torrent h (questions.PartLength file part)) picker.old.held result number.new }
+{
+    tell_large(
+        ask(alloc, picker, TorrentQuestion::PartLength(file, part)),
+        number,
+    )
+}
+
+/// Writes a name on the path of a file into a room of its length. It may be any bytes.
+#[unsafe(no_mangle)]
+pub extern "C" fn piecepick_file_part(
+    alloc: Global,
+    picker: &mut PickerHandle,
+    file: u64,
+    part: u64,
+    room: &mut [u8],
+) -> u32
+    ensures same { picker.new.held ≡ picker.old.held }
+    ensures shut { picker.old.held ≡ None → room.new ≡ room.old }
+    ensures puts { TellsDone (λ h o. PutsIfAny (part_at h.files.items file part) room.old room.new o) picker.old.held result }
+{
+    tell_done(put_part(alloc, picker, file, part, room))
 }

@@ -12,10 +12,13 @@ ghost use Rattle.bt_meta.specs.Reading.{Gives, torrent_of_file, info_in};
 ghost use Rattle.bt_meta.specs.Counting.{content_in, content_listed, torrent_counted};
 ghost use Rattle.bt_meta.specs.Reading.{file_length_in, path_in, pieces_in, piece_length_in, length_in, value_in, int_in, text_in, items_in};
 
+mod files;
+
 use super::{Torrent, check_sizes};
 use crate::fault::MetaFault;
 use crate::key::Key;
 use bt_bencode::{Items, Span, Value};
+pub use files::ListedFile;
 use sha1::Sha1;
 use std::alloc::{AllocError, Global};
 

@@ -1,4 +1,3 @@
-use Rattle.std.proofs.Common.{rules, ◌≡◌, ◌<◌, ℕ}
 use Rattle.bt_parts_tests.proofs.tests.board.closed.Goals as goal
 
 -- what is closed once more is what was
