@@ -1,0 +1,204 @@
+//! What a peer takes: its questions to the picker, and the blocks that come.
+
+use crate::peer::slots;
+use crate::queue::SECOND;
+use crate::rule::{Ask, Block, Came, Fault};
+use crate::swarm::{Event, Message, Swarm};
+
+impl Swarm<'_> {
+    /// Asks the picker what to say to the neighbour, as long as there is something.
+    pub(crate) fn ask(&mut self, peer: u32, slot: u8) -> Result<(), Fault> {
+        loop {
+            let word = self.random.word();
+            let asker = &mut self.peers[peer as usize];
+            let Some(picker) = &mut asker.picker else { return Ok(()) };
+            let answer = picker.next(slot, word)?;
+            match answer {
+                Ask::Request(block) => self.request(peer, slot, block),
+                Ask::Cancel(block) => self.cancel(peer, slot, block),
+                Ask::Full => asker.dry &= !(1 << slot),
+                Ask::Dry => asker.dry |= 1 << slot,
+            }
+            if matches!(answer, Ask::Full | Ask::Dry) {
+                return Ok(());
+            }
+        }
+    }
+
+    fn request(&mut self, peer: u32, slot: u8, block: Block) {
+        let link = &mut self.peers[peer as usize].links[slot as usize];
+        link.count(self.queue.now(), &mut self.outcome.open);
+        link.asked.push(block);
+        self.outcome.requests += 1;
+        self.say(peer, slot, 0, Message::Request(block));
+    }
+
+    fn cancel(&mut self, peer: u32, slot: u8, block: Block) {
+        let link = &mut self.peers[peer as usize].links[slot as usize];
+        link.count(self.queue.now(), &mut self.outcome.open);
+        link.asked.retain(|&asked| asked != block);
+        self.say(peer, slot, 0, Message::Cancel(block));
+    }
+
+    /// Neighbours that had nothing are asked again where the epoch is another.
+    pub(crate) fn ask_others(&mut self, peer: u32) -> Result<(), Fault> {
+        loop {
+            let asker = &mut self.peers[peer as usize];
+            let Some(picker) = &asker.picker else { return Ok(()) };
+            let epoch = picker.epoch();
+            if epoch == asker.epoch {
+                return Ok(());
+            }
+            asker.epoch = epoch;
+            for slot in slots(asker.dry) {
+                self.ask(peer, slot)?;
+            }
+        }
+    }
+
+    /// The neighbour chokes this peer, or does so no more.
+    pub(crate) fn note_choke(&mut self, peer: u32, slot: u8, is_choked: bool) -> Result<(), Fault> {
+        let taker = &mut self.peers[peer as usize];
+        let Some(picker) = &mut taker.picker else { return Ok(()) };
+        picker.choke(slot, is_choked)?;
+        let link = &mut taker.links[slot as usize];
+        link.count(self.queue.now(), &mut self.outcome.open);
+        link.is_open = !is_choked;
+        if is_choked {
+            link.asked.clear();
+            taker.dry &= !(1 << slot);
+        } else {
+            self.ask(peer, slot)?;
+        }
+        self.ask_others(peer)
+    }
+
+    /// A block reaches the line down, which takes one block at a time.
+    pub(crate) fn block_reaches(&mut self, peer: u32, slot: u8, block: Block) -> Result<(), Fault> {
+        let now = self.queue.now();
+        let taker = &self.peers[peer as usize];
+        let link = &taker.links[slot as usize];
+        let began = now.saturating_sub(self.peers[link.peer as usize].line.up);
+        let (serial, through) = (link.serial, now.max(taker.down_free.max(began) + taker.line.down));
+        self.peers[peer as usize].down_free = through;
+        if through == now {
+            return self.block_comes(peer, slot, block);
+        }
+        self.queue.put(through - now, Event::Said { peer, slot, serial, message: Message::Comes(block) });
+        Ok(())
+    }
+
+    /// A block came.
+    pub(crate) fn block_comes(&mut self, peer: u32, slot: u8, block: Block) -> Result<(), Fault> {
+        self.last_block = self.queue.now();
+        self.outcome.blocks.received += 1;
+        let taker = &mut self.peers[peer as usize];
+        let link = &mut taker.links[slot as usize];
+        link.count(self.last_block, &mut self.outcome.open);
+        link.received[0] += 1;
+        link.lately += 1;
+        if let Some(place) = link.asked.iter().position(|&asked| asked == block) {
+            link.asked.remove(place);
+        }
+        let Some(picker) = &mut taker.picker else {
+            self.outcome.blocks.twice += 1;
+            return Ok(());
+        };
+        match picker.arrived(slot, block)? {
+            Came::Stored => (),
+            Came::Twice => self.outcome.blocks.twice += 1,
+            Came::Completed => self.get_piece(peer, block.piece)?,
+        }
+        self.ask(peer, slot)?;
+        self.ask_others(peer)
+    }
+
+    /// The peer has one piece more, and tells its neighbours.
+    fn get_piece(&mut self, peer: u32, piece: u32) -> Result<(), Fault> {
+        let now = self.queue.now();
+        self.copies[piece as usize] += 1;
+        let taker = &mut self.peers[peer as usize];
+        taker.get(piece);
+        let is_whole = taker.had_count == self.setup.content.pieces;
+        for slot in slots(taker.shown[piece as usize]) {
+            let link = &mut self.peers[peer as usize].links[slot as usize];
+            link.count(now, &mut self.outcome.open);
+            link.wanted -= 1;
+            self.say_interest(peer, slot);
+        }
+        self.queue.put(self.setup.have_delay, Event::Have { peer, piece });
+        if is_whole {
+            self.be_whole(peer)?;
+        }
+        Ok(())
+    }
+
+    /// The peer has everything. What it asked for twice is cancelled, and its picker goes.
+    fn be_whole(&mut self, peer: u32) -> Result<(), Fault> {
+        let now = self.queue.now();
+        for slot in slots(self.peers[peer as usize].used) {
+            if !self.peers[peer as usize].links[slot as usize].asked.is_empty() {
+                self.ask(peer, slot)?;
+            }
+        }
+        let whole = &mut self.peers[peer as usize];
+        whole.picker = None;
+        whole.shown = Vec::new();
+        whole.whole = Some(now);
+        self.outcome.times.push(now - whole.came);
+        self.outcome.ends.push(now);
+        if let Some(stay) = self.setup.stays {
+            self.queue.put(stay, Event::Leave { peer });
+        }
+        Ok(())
+    }
+
+    /// All neighbours hear that the peer has the piece. One that was asked in vain is asked again.
+    pub(crate) fn tell_have(&mut self, peer: u32, piece: u32) -> Result<(), Fault> {
+        for slot in slots(self.peers[peer as usize].used) {
+            let link = &self.peers[peer as usize].links[slot as usize];
+            let (neighbour, back) = (link.peer, link.back);
+            self.note_have(neighbour, back, piece)?;
+        }
+        Ok(())
+    }
+
+    fn note_have(&mut self, peer: u32, slot: u8, piece: u32) -> Result<(), Fault> {
+        let hearer = &mut self.peers[peer as usize];
+        let Some(picker) = &mut hearer.picker else { return Ok(()) };
+        if hearer.shown[piece as usize] >> slot & 1 == 1 {
+            return Ok(());
+        }
+        picker.have(slot, piece)?;
+        hearer.shown[piece as usize] |= 1 << slot;
+        if hearer.has(piece) {
+            return Ok(());
+        }
+        let link = &mut hearer.links[slot as usize];
+        link.count(self.queue.now(), &mut self.outcome.open);
+        link.wanted += 1;
+        let is_dry = hearer.dry >> slot & 1 == 1;
+        self.say_interest(peer, slot);
+        if is_dry {
+            self.ask(peer, slot)?;
+        }
+        self.ask_others(peer)
+    }
+
+    /// Each neighbour that is open gets as many requests as it brought blocks lately, and some more.
+    pub(crate) fn tell_depths(&mut self, peer: u32) -> Result<(), Fault> {
+        let Some(depths) = self.chooser.depths() else { return Ok(()) };
+        for slot in slots(self.peers[peer as usize].used) {
+            let taker = &mut self.peers[peer as usize];
+            let Some(picker) = &mut taker.picker else { return Ok(()) };
+            let link = &mut taker.links[slot as usize];
+            let brought = std::mem::take(&mut link.lately);
+            if link.is_open {
+                picker.depth(slot, depths.depth(brought))?;
+                self.ask(peer, slot)?;
+            }
+        }
+        self.queue.put(SECOND, Event::Depths { peer });
+        self.ask_others(peer)
+    }
+}

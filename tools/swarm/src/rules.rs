@@ -1,0 +1,105 @@
+//! The rules that are put beside each other.
+
+use crate::ours::Ours;
+use crate::plain::{AnyPiece, Plain, Rarest, Rising};
+use crate::queue::{Micros, SECOND};
+use crate::rule::{Content, Fault, Rule};
+use crate::timed::{Spent, Timed};
+use piecepick::Options;
+use std::cell::Cell;
+use std::rc::Rc;
+
+/// The usual depth, and the usual bound of those who are asked for one block in endgame.
+const DEPTH: u32 = 5;
+const ASKERS: u32 = 2;
+
+/// The greatest number of askers, which is no bound.
+const NO_BOUND: u32 = 1024;
+
+/// Depths that follow the rate: what came in a time, and the usual depth beside.
+#[derive(Clone, Copy, Debug)]
+pub struct Depths {
+    /// The time.
+    pub every: Micros,
+    most: u32,
+}
+
+impl Depths {
+    /// The depth of a neighbour that brought so many blocks in the time.
+    pub fn depth(self, brought: u32) -> u32 {
+        (DEPTH + brought).min(self.most)
+    }
+}
+
+#[derive(Clone, Copy, Debug)]
+enum Kind {
+    Ours { options: Options, in_order: bool },
+    AnyPiece,
+    Rising,
+    Rarest(Rarest),
+}
+
+/// A rule by its name.
+#[derive(Clone, Copy, Debug)]
+pub struct Chooser {
+    /// Its name in tables and pictures.
+    pub name: &'static str,
+    kind: Kind,
+    depths: Option<Depths>,
+}
+
+impl Chooser {
+    /// A picker for a downloader that has nothing.
+    pub fn picker(&self, content: Content, spent: &Rc<Cell<Spent>>) -> Result<Box<dyn Rule>, Fault> {
+        let plain = |order| Box::new(Plain::new(content, DEPTH, ASKERS, order));
+        let rule: Box<dyn Rule> = match self.kind {
+            Kind::Ours { options, in_order } => Box::new(Ours::new(content, options, in_order)?),
+            Kind::AnyPiece => plain(Box::new(AnyPiece)),
+            Kind::Rising => plain(Box::new(Rising)),
+            Kind::Rarest(rarest) => plain(Box::new(rarest)),
+        };
+        Ok(Box::new(Timed::new(rule, spent)))
+    }
+
+    /// How the depths follow the rates, if they do.
+    pub fn depths(&self) -> Option<Depths> {
+        self.depths
+    }
+}
+
+/// The usual options of the library, for depths that aren't told. A greater `deepest` takes memory in each picker.
+fn usual() -> Options {
+    Options::new().depth(DEPTH).deepest(DEPTH).askers(ASKERS)
+}
+
+fn ours(name: &'static str, options: Options) -> Chooser {
+    Chooser { name, kind: Kind::Ours { options, in_order: false }, depths: None }
+}
+
+fn control(name: &'static str, kind: Kind) -> Chooser {
+    Chooser { name, kind, depths: None }
+}
+
+/// All rules, the library's first.
+pub fn all() -> Vec<Chooser> {
+    let by_rate = Depths { every: SECOND, most: 500 };
+    vec![
+        ours("ours", usual()),
+        ours("ours, depth 64", usual().depth(64).deepest(64)),
+        Chooser { depths: Some(by_rate), ..ours("ours, depth by rate", usual().deepest(by_rate.most)) },
+        ours("ours, 1 asker", usual().askers(1)),
+        ours("ours, no bound", usual().askers(NO_BOUND)),
+        ours("ours, first rarest", usual().random(0)),
+        ours("ours, 4 random", usual().random(4)),
+        Chooser { kind: Kind::Ours { options: usual(), in_order: true }, ..ours("ours, in order", usual()) },
+        control("rarest", Kind::Rarest(Rarest { is_strict: true, random: 1 })),
+        control("rarest, not strict", Kind::Rarest(Rarest { is_strict: false, random: 1 })),
+        control("random", Kind::AnyPiece),
+        control("rising", Kind::Rising),
+    ]
+}
+
+/// The rule of this name.
+pub fn named(name: &str) -> Option<Chooser> {
+    all().into_iter().find(|chooser| chooser.name == name)
+}
