@@ -56,6 +56,11 @@ impl Book {
         }
     }
 
+    /// How many pieces there are.
+    pub fn pieces(&self) -> u32 {
+        self.content.pieces
+    }
+
     /// How many pieces are had.
     pub fn had(&self) -> u32 {
         self.had
@@ -104,18 +109,17 @@ impl Book {
         Block { piece, index: (!self.taken[piece as usize]).trailing_zeros() }
     }
 
-    /// Endgame: any block that the neighbour may bring, and of which too few others were asked. There is none while a block is free.
-    pub fn double(&self, slot: u8, word: u64) -> Option<Block> {
+    /// Endgame: the blocks that the neighbour may bring, and of which too few others were asked. There are none while a block is free.
+    pub fn doubles(&self, slot: u8) -> Vec<Block> {
         if self.free > 0 {
-            return None;
+            return Vec::new();
         }
         let mut asked: Vec<Block> = self.neighbours.iter().flat_map(|neighbour| &neighbour.line).copied().collect();
         asked.sort_unstable();
         let own = &self.neighbours[slot as usize].line;
         let is_useful = |block: &Block| self.shown[block.piece as usize] >> slot & 1 == 1 && !own.contains(block);
         let runs = asked.chunk_by(|block, next| block == next);
-        let found: Vec<Block> = runs.filter(|run| run.len() < self.askers && is_useful(&run[0])).map(|run| run[0]).collect();
-        any(found.into_iter(), word)
+        runs.filter(|run| run.len() < self.askers && is_useful(&run[0])).map(|run| run[0]).collect()
     }
 
     /// Whether another block may be asked of the neighbour now.

@@ -1,18 +1,19 @@
 //! What a peer takes: its questions to the picker, and the blocks that come.
 
+use crate::meter::Spread;
 use crate::peer::slots;
 use crate::queue::SECOND;
 use crate::rule::{Ask, Block, Came, Fault};
-use crate::swarm::{Event, Message, Swarm};
+use crate::swarm::{Event, Message, Swarm, SEED};
 
 impl Swarm<'_> {
-    /// Asks the picker what to say to the neighbour, as long as there is something.
+    /// Asks the picker what to say to the neighbour, as long as there is something. A word is used for one request, so a question in vain changes
+    /// nothing of what follows.
     pub(crate) fn ask(&mut self, peer: u32, slot: u8) -> Result<(), Fault> {
         loop {
-            let word = self.random.word();
             let asker = &mut self.peers[peer as usize];
             let Some(picker) = &mut asker.picker else { return Ok(()) };
-            let answer = picker.next(slot, word)?;
+            let answer = picker.next(slot, asker.word)?;
             match answer {
                 Ask::Request(block) => self.request(peer, slot, block),
                 Ask::Cancel(block) => self.cancel(peer, slot, block),
@@ -26,7 +27,9 @@ impl Swarm<'_> {
     }
 
     fn request(&mut self, peer: u32, slot: u8, block: Block) {
-        let link = &mut self.peers[peer as usize].links[slot as usize];
+        let asker = &mut self.peers[peer as usize];
+        asker.word = self.random.word();
+        let link = &mut asker.links[slot as usize];
         link.count(self.queue.now(), &mut self.outcome.open);
         link.asked.push(block);
         self.outcome.requests += 1;
@@ -40,7 +43,7 @@ impl Swarm<'_> {
         self.say(peer, slot, 0, Message::Cancel(block));
     }
 
-    /// Neighbours that had nothing are asked again where the epoch is another.
+    /// Where the epoch is another, neighbours that had nothing may have something now, and others may be due for a cancel.
     pub(crate) fn ask_others(&mut self, peer: u32) -> Result<(), Fault> {
         loop {
             let asker = &mut self.peers[peer as usize];
@@ -50,7 +53,7 @@ impl Swarm<'_> {
                 return Ok(());
             }
             asker.epoch = epoch;
-            for slot in slots(asker.dry) {
+            for slot in slots(asker.open) {
                 self.ask(peer, slot)?;
             }
         }
@@ -67,7 +70,9 @@ impl Swarm<'_> {
         if is_choked {
             link.asked.clear();
             taker.dry &= !(1 << slot);
+            taker.open &= !(1 << slot);
         } else {
+            taker.open |= 1 << slot;
             self.ask(peer, slot)?;
         }
         self.ask_others(peer)
@@ -116,7 +121,7 @@ impl Swarm<'_> {
     /// The peer has one piece more, and tells its neighbours.
     fn get_piece(&mut self, peer: u32, piece: u32) -> Result<(), Fault> {
         let now = self.queue.now();
-        self.copies[piece as usize] += 1;
+        self.note_copy(piece);
         let taker = &mut self.peers[peer as usize];
         taker.get(piece);
         let is_whole = taker.had_count == self.setup.content.pieces;
@@ -131,6 +136,16 @@ impl Swarm<'_> {
             self.be_whole(peer)?;
         }
         Ok(())
+    }
+
+    /// There is one copy more of the piece.
+    fn note_copy(&mut self, piece: u32) {
+        self.copies[piece as usize] += 1;
+        let is_new = !std::mem::replace(&mut self.is_out[piece as usize], true);
+        self.unspread -= u32::from(is_new);
+        if is_new && self.unspread == 0 {
+            self.outcome.spread = Some(Spread { at: self.queue.now(), sent: self.peers[SEED as usize].sent });
+        }
     }
 
     /// The peer has everything. What it asked for twice is cancelled, and its picker goes.

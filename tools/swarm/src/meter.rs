@@ -38,6 +38,15 @@ pub struct Sample {
     pub interested: u64,
 }
 
+/// When each piece was at somebody beside the seed.
+#[derive(Clone, Copy, Debug, PartialEq, Eq)]
+pub struct Spread {
+    /// The time.
+    pub at: Micros,
+    /// The blocks that the seed had sent then.
+    pub sent: u64,
+}
+
 /// What a run was.
 #[derive(Clone, Debug, Default)]
 pub struct Outcome {
@@ -49,6 +58,8 @@ pub struct Outcome {
     pub guests: u32,
     /// The pieces that nobody who is here has at the end.
     pub missing: u32,
+    /// When each piece was out of the seed, if that came.
+    pub spread: Option<Spread>,
     /// When the run ended.
     pub end: Micros,
     pub blocks: Blocks,

@@ -106,7 +106,10 @@ pub struct Peer {
     pub shown: Vec<u64>,
     /// What chooses its requests, until it is whole.
     pub picker: Option<Box<dyn Rule>>,
-    /// The slots that had nothing to ask, at this epoch.
+    /// The random word of its next request.
+    pub word: u64,
+    /// The slots whose neighbour unchokes it, and those of them that had nothing to ask, at this epoch.
+    pub open: u64,
     pub dry: u64,
     pub epoch: u64,
     /// The slots with requests that wait, and the one that was served last.
@@ -135,6 +138,8 @@ impl Peer {
             had_count: 0,
             shown: Vec::new(),
             picker: None,
+            word: 0,
+            open: 0,
             dry: 0,
             epoch: 0,
             ready: 0,

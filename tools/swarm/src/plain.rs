@@ -1,7 +1,7 @@
 //! The controls: orders of a few lines each, beside which the library's rules are put.
 
 use crate::book::{any, Book};
-use crate::rule::{Ask, Block, Came, Content, Fault, Rule};
+use crate::rule::{Ask, Block, Came, Fault, Rule};
 
 /// Which free block to ask next of a neighbour, if it can bring one. The word is random.
 pub trait Order {
@@ -31,6 +31,15 @@ impl Order for Rising {
     }
 }
 
+/// Which of several pieces, or blocks, that are as good as each other.
+#[derive(Clone, Copy, Debug, PartialEq, Eq)]
+pub enum Ties {
+    /// Each is as likely as the others.
+    Any,
+    /// The least; or, of pieces to begin, the first from a random piece on, round the end. So does the library.
+    Least,
+}
+
 /// A block of a begun piece, and else of a piece that fewest neighbours show.
 #[derive(Clone, Copy, Debug)]
 pub struct Rarest {
@@ -38,25 +47,36 @@ pub struct Rarest {
     pub is_strict: bool,
     /// So many pieces are had before the rarest come first.
     pub random: u32,
+    /// Which of the begun pieces.
+    pub begun: Ties,
+    /// Which of the rarest pieces.
+    pub fresh: Ties,
 }
 
 impl Order for Rarest {
     fn choose(&self, book: &Book, slot: u8, word: u64) -> Option<Block> {
-        let piece = if !self.is_strict {
-            any_rarest(book, book.useful(slot), word)?
-        } else if let Some(piece) = any(book.begun(slot), word) {
-            piece
-        } else if book.had() < self.random {
-            any(book.fresh(slot), word)?
-        } else {
-            any_rarest(book, book.fresh(slot), word)?
+        if !self.is_strict {
+            let piece = any(rarest(book, book.useful(slot)).into_iter(), word)?;
+            return Some(book.first_free(piece));
+        }
+        let begun = match self.begun {
+            Ties::Any => any(book.begun(slot), word),
+            Ties::Least => book.begun(slot).min(),
         };
+        let piece = begun.or_else(|| {
+            let is_random = book.had() < self.random;
+            let fresh = if is_random { book.fresh(slot).collect() } else { rarest(book, book.fresh(slot)) };
+            match self.fresh {
+                Ties::Any => any(fresh.into_iter(), word),
+                Ties::Least => first_from(&fresh, (word % u64::from(book.pieces())) as u32),
+            }
+        })?;
         Some(book.first_free(piece))
     }
 }
 
-/// One of the pieces that fewest neighbours show.
-fn any_rarest(book: &Book, pieces: impl Iterator<Item = u32>, word: u64) -> Option<u32> {
+/// The pieces that fewest neighbours show.
+fn rarest(book: &Book, pieces: impl Iterator<Item = u32>) -> Vec<u32> {
     let (mut least, mut rarest) = (u32::MAX, Vec::new());
     for piece in pieces {
         let availability = book.availability(piece);
@@ -68,19 +88,34 @@ fn any_rarest(book: &Book, pieces: impl Iterator<Item = u32>, word: u64) -> Opti
             rarest.push(piece);
         }
     }
-    any(rarest.into_iter(), word)
+    rarest
+}
+
+/// Of pieces in rising order the first that isn't below the start, round the end.
+fn first_from(pieces: &[u32], start: u32) -> Option<u32> {
+    pieces.iter().find(|&&piece| piece >= start).or(pieces.first()).copied()
 }
 
 /// A picker that follows an order, with the usual endgame behind it.
 pub struct Plain {
     book: Book,
     order: Box<dyn Order>,
+    endgame: Ties,
 }
 
 impl Plain {
-    /// A picker that has nothing.
-    pub fn new(content: Content, depth: u32, askers: u32, order: Box<dyn Order>) -> Plain {
-        Plain { book: Book::new(content, depth, askers), order }
+    /// A picker that has nothing. The ties are those of its endgame.
+    pub fn new(book: Book, order: Box<dyn Order>, endgame: Ties) -> Plain {
+        Plain { book, order, endgame }
+    }
+
+    /// Endgame: a block that is asked of others.
+    fn double(&self, slot: u8, word: u64) -> Option<Block> {
+        let blocks = self.book.doubles(slot);
+        match self.endgame {
+            Ties::Any => any(blocks.into_iter(), word),
+            Ties::Least => blocks.into_iter().min(),
+        }
     }
 }
 
@@ -92,7 +127,7 @@ impl Rule for Plain {
         if !self.book.has_room(slot) {
             return Ok(Ask::Full);
         }
-        let chosen = self.order.choose(&self.book, slot, word).or_else(|| self.book.double(slot, word));
+        let chosen = self.order.choose(&self.book, slot, word).or_else(|| self.double(slot, word));
         let Some(block) = chosen else { return Ok(Ask::Dry) };
         self.book.ask(slot, block);
         Ok(Ask::Request(block))

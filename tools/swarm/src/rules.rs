@@ -1,7 +1,8 @@
 //! The rules that are put beside each other.
 
+use crate::book::Book;
 use crate::ours::Ours;
-use crate::plain::{AnyPiece, Plain, Rarest, Rising};
+use crate::plain::{AnyPiece, Plain, Rarest, Rising, Ties};
 use crate::queue::{Micros, SECOND};
 use crate::rule::{Content, Fault, Rule};
 use crate::timed::{Spent, Timed};
@@ -51,12 +52,12 @@ pub struct Chooser {
 impl Chooser {
     /// A picker for a downloader that has nothing.
     pub fn picker(&self, content: Content, spent: &Rc<Cell<Spent>>) -> Result<Box<dyn Rule>, Fault> {
-        let plain = |order| Box::new(Plain::new(content, DEPTH, ASKERS, order));
+        let book = || Book::new(content, DEPTH, ASKERS);
         let rule: Box<dyn Rule> = match self.kind {
             Kind::Ours { options, in_order } => Box::new(Ours::new(content, options, in_order)?),
-            Kind::AnyPiece => plain(Box::new(AnyPiece)),
-            Kind::Rising => plain(Box::new(Rising)),
-            Kind::Rarest(rarest) => plain(Box::new(rarest)),
+            Kind::AnyPiece => Box::new(Plain::new(book(), Box::new(AnyPiece), Ties::Any)),
+            Kind::Rising => Box::new(Plain::new(book(), Box::new(Rising), Ties::Any)),
+            Kind::Rarest(rarest) => Box::new(Plain::new(book(), Box::new(rarest), rarest.begun)),
         };
         Ok(Box::new(Timed::new(rule, spent)))
     }
@@ -76,6 +77,9 @@ fn ours(name: &'static str, options: Options) -> Chooser {
     Chooser { name, kind: Kind::Ours { options, in_order: false }, depths: None }
 }
 
+/// Rarest first, as plainly as it can be written, but for what is said otherwise.
+const RAREST: Rarest = Rarest { is_strict: true, random: 1, begun: Ties::Any, fresh: Ties::Any };
+
 fn control(name: &'static str, kind: Kind) -> Chooser {
     Chooser { name, kind, depths: None }
 }
@@ -92,8 +96,11 @@ pub fn all() -> Vec<Chooser> {
         ours("ours, first rarest", usual().random(0)),
         ours("ours, 4 random", usual().random(4)),
         Chooser { kind: Kind::Ours { options: usual(), in_order: true }, ..ours("ours, in order", usual()) },
-        control("rarest", Kind::Rarest(Rarest { is_strict: true, random: 1 })),
-        control("rarest, not strict", Kind::Rarest(Rarest { is_strict: false, random: 1 })),
+        control("rarest", Kind::Rarest(RAREST)),
+        control("rarest, least begun", Kind::Rarest(Rarest { begun: Ties::Least, ..RAREST })),
+        control("rarest, from a piece on", Kind::Rarest(Rarest { fresh: Ties::Least, ..RAREST })),
+        control("rarest, ties of ours", Kind::Rarest(Rarest { begun: Ties::Least, fresh: Ties::Least, ..RAREST })),
+        control("rarest, not strict", Kind::Rarest(Rarest { is_strict: false, ..RAREST })),
         control("random", Kind::AnyPiece),
         control("rising", Kind::Rising),
     ]

@@ -73,6 +73,9 @@ pub struct Swarm<'a> {
     pub(crate) here: Vec<u32>,
     /// How many of those who are here have each piece.
     pub(crate) copies: Vec<u32>,
+    /// Whether somebody beside the seed ever had the piece, and how many pieces that isn't so of.
+    pub(crate) is_out: Vec<bool>,
+    pub(crate) unspread: u32,
     pub(crate) connections: u32,
     pub(crate) last_block: Micros,
     pub(crate) spent: Rc<Cell<Spent>>,
@@ -98,6 +101,8 @@ impl<'a> Swarm<'a> {
             peers: lines.map(Peer::new).collect(),
             here: Vec::new(),
             copies: vec![0; setup.content.pieces as usize],
+            is_out: vec![false; setup.content.pieces as usize],
+            unspread: setup.content.pieces,
             connections: 0,
             last_block: 0,
             spent: Rc::default(),

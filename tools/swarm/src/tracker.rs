@@ -17,7 +17,9 @@ impl Swarm<'_> {
         let now = self.queue.now();
         let is_seed = peer == SEED;
         let picker = if is_seed { None } else { Some(self.chooser.picker(self.setup.content, &self.spent)?) };
-        self.peers[peer as usize].come(self.setup.content, now, picker);
+        let comer = &mut self.peers[peer as usize];
+        comer.come(self.setup.content, now, picker);
+        comer.word = self.random.word();
         if is_seed {
             self.fill_seed();
         } else if let Some(depths) = self.chooser.depths() {
@@ -129,7 +131,9 @@ impl Swarm<'_> {
         left.links[slot as usize].count(now, &mut self.outcome.open);
         left.links[slot as usize] = Default::default();
         let mask = !(1 << slot);
-        (left.used, left.ready, left.dry) = (left.used & mask, left.ready & mask, left.dry & mask);
+        for set in [&mut left.used, &mut left.ready, &mut left.open, &mut left.dry] {
+            *set &= mask;
+        }
         if let Some(picker) = &mut left.picker {
             picker.leave(slot)?;
             left.shown.iter_mut().for_each(|shown| *shown &= mask);
