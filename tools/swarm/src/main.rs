@@ -1,39 +1,125 @@
+//! The command: runs scenarios, prints their tables, and writes them into the page.
+
+use std::error::Error;
+use std::path::{Path, PathBuf};
+use std::process::ExitCode;
 use std::time::Instant;
-use swarm::{rules, scenario, swarm::run};
-fn main() {
-    let a: Vec<String> = std::env::args().collect();
-    let mut s = scenario::named(&a[1]).unwrap();
-    s.guests = a[2].parse().unwrap();
-    s.content.pieces = a[3].parse().unwrap();
-    let n: u64 = std::env::var("SEED").map_or(1, |v| v.parse().unwrap());
-    let setup = s.setup(n);
-    let b = setup.bound();
-    println!("bound {:.0} {:.0} {:.0}", b.down / 1e6, b.seed / 1e6, b.all / 1e6);
-    for c in rules::all() {
-        if a.len() > 4 && c.name != a[4] {
-            continue;
-        }
-        let t = Instant::now();
-        match run(&setup, &c, n) {
-            Ok(o) => {
-                let p = |x: usize| o.percentile(x).map_or(-1.0, |v| v as f64 / 1e6);
-                println!("{:20} first {:7.1} median {:7.1} last {:7.1} end {:.1} interest {:.2} idle {:.2} twice {:.3} req {} picker {:.2}s calls {} events {} wall {:.2}s miss {} {:?}", c.name, p(0), p(50), p(100), o.end as f64/1e6, o.interest(), o.idle(), o.twice(), o.requests, o.spent.nanoseconds as f64/1e9, o.spent.calls, o.events, t.elapsed().as_secs_f64(), o.missing, o.spread.map(|x| x.sent as f64 / setup.content.all_blocks() as f64));
-                if std::env::var("SAMPLES").is_ok() {
-                    let step = o.samples.len() / 25 + 1;
-                    for x in o.samples.iter().step_by(step) {
-                        println!(
-                            "   t {:.0} rarest {} mean {:.1} downloaders {} whole {} interest {:.1}",
-                            x.at as f64 / 1e6,
-                            x.rarest,
-                            x.copies as f64 / s.content.pieces as f64,
-                            x.downloaders,
-                            x.whole,
-                            swarm::meter::share(x.interested, x.pairs)
-                        );
-                    }
-                }
-            }
-            Err(f) => println!("{} {f}", c.name),
+use std::{env, fs};
+use swarm::report::{bounds, chart, table, Row};
+use swarm::rules::{self, Chooser};
+use swarm::scenario::{self, Scenario};
+use swarm::swarm::run;
+
+const USAGE: &str = "usage: swarm list
+       swarm run SCENARIO [--rule NAME].. [--guests N] [--pieces N] [--blocks N] [--runs N]
+       swarm page SCENARIO..
+
+list names the scenarios and the rules. run prints the table of a scenario, in another size if one is given.
+page runs scenarios at full size, and writes their tables and pictures into docs.";
+
+type Fallible<T> = Result<T, Box<dyn Error>>;
+
+fn main() -> ExitCode {
+    let words: Vec<String> = env::args().skip(1).collect();
+    match command(&words.iter().map(String::as_str).collect::<Vec<_>>()) {
+        Ok(()) => ExitCode::SUCCESS,
+        Err(error) => {
+            eprintln!("swarm: {error}");
+            ExitCode::FAILURE
         }
     }
+}
+
+fn command(words: &[&str]) -> Fallible<()> {
+    match words {
+        ["list"] => {
+            scenario::all().iter().for_each(|scenario| println!("{:8} {}", scenario.name, scenario.title));
+            rules::all().iter().for_each(|rule| println!("{}", rule.name));
+            Ok(())
+        }
+        ["run", name, options @ ..] => {
+            let (scenario, rules) = sized(named(name)?, options)?;
+            println!("{}", played(&scenario, &rules)?.1);
+            Ok(())
+        }
+        ["page", names @ ..] if !names.is_empty() => names.iter().try_for_each(|name| write_page(&named(name)?)),
+        _ => Err(USAGE.into()),
+    }
+}
+
+fn named(name: &str) -> Fallible<Scenario> {
+    scenario::named(name).ok_or_else(|| format!("no scenario is named {name}").into())
+}
+
+/// The scenario in the size that the options say, and the rules that they name.
+fn sized(mut scenario: Scenario, options: &[&str]) -> Fallible<(Scenario, Vec<Chooser>)> {
+    let mut chosen = Vec::new();
+    for pair in options.chunks(2) {
+        let &[option, value] = pair else { return Err(USAGE.into()) };
+        match option {
+            "--rule" => chosen.push(rules::named(value).ok_or_else(|| format!("no rule is named {value}"))?),
+            "--guests" => scenario.guests = value.parse()?,
+            "--pieces" => scenario.content.pieces = value.parse()?,
+            "--blocks" => scenario.content.blocks = value.parse()?,
+            "--runs" => scenario.runs = value.parse()?,
+            _ => return Err(USAGE.into()),
+        }
+    }
+    let is_possible =
+        scenario.guests > 0 && scenario.content.pieces > 0 && (1..=64).contains(&scenario.content.blocks) && scenario.runs > 0;
+    if !is_possible {
+        return Err("guests, pieces and runs are at least 1, and a piece has 1 to 64 blocks".into());
+    }
+    let rules = if chosen.is_empty() { usual_rules(&scenario) } else { chosen };
+    Ok((scenario, rules))
+}
+
+fn usual_rules(scenario: &Scenario) -> Vec<Chooser> {
+    let is_chosen = |rule: &Chooser| scenario.rules.is_empty() || scenario.rules.contains(&rule.name);
+    rules::all().into_iter().filter(is_chosen).collect()
+}
+
+/// Runs the rules one after the other. Gives their runs, and the table with what belongs to it.
+fn played(scenario: &Scenario, rules: &[Chooser]) -> Fallible<(Vec<Row>, String)> {
+    let begin = Instant::now();
+    let setups: Vec<_> = (1..=scenario.runs).map(|draw| (draw, scenario.setup(draw))).collect();
+    let mut rows = Vec::new();
+    for rule in rules {
+        let start = Instant::now();
+        let runs = setups.iter().map(|(draw, setup)| run(setup, rule, *draw)).collect::<Result<_, _>>()?;
+        eprintln!("{}, {}: {:.0} s", scenario.name, rule.name, start.elapsed().as_secs_f64());
+        rows.push(Row { rule: rule.name, runs });
+    }
+    let limits = bounds(&setups.iter().map(|(_, setup)| setup.bound()).collect::<Vec<_>>());
+    let events: u64 = rows.iter().flat_map(|row| &row.runs).map(|run| run.events).sum();
+    let text = format!(
+        "{limits}\n\n{}\nRuns of each rule: {}. All of them took {:.0} s, with {} million events. The process held at most {} MB.",
+        table(scenario.content, &rows),
+        scenario.runs,
+        begin.elapsed().as_secs_f64(),
+        events / 1_000_000,
+        most_memory()?
+    );
+    Ok((rows, text))
+}
+
+/// The most megabytes that this process held, as Linux tells it.
+fn most_memory() -> Fallible<u64> {
+    let status = fs::read_to_string("/proc/self/status")?;
+    let line = status.lines().find_map(|line| line.strip_prefix("VmHWM:")).ok_or("the system tells no VmHWM")?;
+    let kilobytes: u64 = line.trim().trim_end_matches(" kB").parse()?;
+    Ok(kilobytes * 1024 / 1_000_000)
+}
+
+/// Runs a scenario, and writes its table and its pictures into the folder docs of the repository.
+fn write_page(scenario: &Scenario) -> Fallible<()> {
+    let (rows, text) = played(scenario, &usual_rules(scenario))?;
+    let docs: PathBuf = Path::new(env!("CARGO_MANIFEST_DIR")).join("../../docs");
+    for &view in scenario.views {
+        let picture = docs.join(format!("swarms/{}-{}.svg", scenario.name, view.word()));
+        fs::write(picture, chart(scenario.title, view, &rows).svg())?;
+    }
+    let page = docs.join("SWARMS.md");
+    let replaced = swarm::page::replace(&fs::read_to_string(&page)?, scenario.name, &text)?;
+    Ok(fs::write(page, replaced)?)
 }

@@ -48,7 +48,7 @@ pub struct Spread {
 }
 
 /// What a run was.
-#[derive(Clone, Debug, Default)]
+#[derive(Clone, Debug, Default, PartialEq, Eq)]
 pub struct Outcome {
     /// How long each peer took that got whole, the shortest first.
     pub times: Vec<Micros>,

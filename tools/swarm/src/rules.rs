@@ -56,7 +56,7 @@ impl Chooser {
         let rule: Box<dyn Rule> = match self.kind {
             Kind::Ours { options, in_order } => Box::new(Ours::new(content, options, in_order)?),
             Kind::AnyPiece => Box::new(Plain::new(book(), Box::new(AnyPiece), Ties::Any)),
-            Kind::Rising => Box::new(Plain::new(book(), Box::new(Rising), Ties::Any)),
+            Kind::Rising => Box::new(Plain::new(book(), Box::new(Rising), Ties::Least)),
             Kind::Rarest(rarest) => Box::new(Plain::new(book(), Box::new(rarest), rarest.begun)),
         };
         Ok(Box::new(Timed::new(rule, spent)))

@@ -3,6 +3,7 @@
 use crate::peer::Line;
 use crate::queue::{Micros, SECOND};
 use crate::random::Random;
+use crate::report::View;
 use crate::rule::Content;
 use crate::setup::{Guest, Setup};
 
@@ -26,8 +27,15 @@ enum Coming {
 #[derive(Clone, Copy, Debug)]
 pub struct Scenario {
     pub name: &'static str,
+    pub title: &'static str,
     pub guests: u32,
     pub content: Content,
+    /// How many runs there are of each rule, with lines and delays of their own.
+    pub runs: u64,
+    /// What is drawn.
+    pub views: &'static [View],
+    /// The rules; all of them where none is named.
+    pub rules: &'static [&'static str],
     lines: &'static [(u64, u64)],
     seed: (u64, u64),
     coming: Coming,
@@ -41,8 +49,12 @@ pub struct Scenario {
 pub fn all() -> Vec<Scenario> {
     let flash = Scenario {
         name: "flash",
+        title: "Flash crowd: a seed of 256 KiB/s, 1,000 downloaders, 1,000 pieces",
         guests: 1_000,
         content: Content { pieces: 1_000, blocks: 16 },
+        runs: 1,
+        views: &[View::Whole, View::Interest],
+        rules: &[],
         lines: &HOMES,
         seed: (256, 1024),
         coming: Coming::Within(10 * SECOND),
@@ -50,13 +62,77 @@ pub fn all() -> Vec<Scenario> {
         stays: None,
         sampled: 10 * SECOND,
     };
-    let small = Scenario { guests: 200, content: Content { pieces: 400, blocks: 16 }, ..flash };
+    let small = Scenario {
+        name: "small",
+        title: "Small flash crowd: 200 downloaders, 200 pieces",
+        guests: 200,
+        content: Content { pieces: 200, blocks: 16 },
+        runs: 10,
+        ..flash
+    };
     vec![
         flash,
-        Scenario { name: "fast", lines: &FIBRES, seed: (8192, 32768), sampled: SECOND / 2, ..small },
-        Scenario { name: "steady", guests: 1_000, coming: Coming::Each(5 * SECOND), stays: Some(60 * SECOND), ..small },
-        Scenario { name: "leaves", seed_gives: Some(110), ..small },
-        Scenario { name: "large", guests: 10_000, content: Content { pieces: 400, blocks: 16 }, ..flash },
+        small,
+        Scenario {
+            name: "short",
+            title: "Pieces of one block: 200 downloaders, 3,200 pieces",
+            content: Content { pieces: 3_200, blocks: 1 },
+            runs: 1,
+            ..small
+        },
+        Scenario {
+            name: "strong",
+            title: "A seed of 4 MiB/s: 200 downloaders, 200 pieces",
+            seed: (4096, 4096),
+            views: &[View::Whole],
+            ..small
+        },
+        Scenario {
+            name: "fast",
+            title: "Fast lines of 8 MiB/s up: 200 downloaders, 400 pieces",
+            content: Content { pieces: 400, blocks: 16 },
+            runs: 3,
+            views: &[View::Whole],
+            lines: &FIBRES,
+            seed: (8192, 32768),
+            sampled: SECOND / 2,
+            ..small
+        },
+        Scenario {
+            name: "steady",
+            title: "Steady state: one comes each 5 s, and leaves 60 s after it is whole",
+            guests: 1_000,
+            content: Content { pieces: 400, blocks: 16 },
+            views: &[View::Downloaders, View::Rarest],
+            coming: Coming::Each(5 * SECOND),
+            stays: Some(60 * SECOND),
+            ..flash
+        },
+        Scenario {
+            name: "leaves",
+            title: "The seed leaves after 1.1 copies: 200 downloaders, 200 pieces",
+            runs: 3,
+            views: &[],
+            seed_gives: Some(110),
+            ..small
+        },
+        Scenario {
+            name: "later",
+            title: "The seed leaves after 3 copies: 200 downloaders, 200 pieces",
+            runs: 3,
+            views: &[View::Whole],
+            seed_gives: Some(300),
+            ..small
+        },
+        Scenario {
+            name: "large",
+            title: "10,000 downloaders, 400 pieces",
+            guests: 10_000,
+            content: Content { pieces: 400, blocks: 16 },
+            views: &[],
+            rules: &["ours"],
+            ..flash
+        },
     ]
 }
 

@@ -1,0 +1,188 @@
+//! The table and the pictures of a scenario.
+
+use crate::meter::{share, Outcome, Sample};
+use crate::picture::{Chart, Series};
+use crate::queue::Micros;
+use crate::rule::Content;
+use crate::setup::Bound;
+
+/// The runs of one rule.
+#[derive(Clone, Debug)]
+pub struct Row {
+    pub rule: &'static str,
+    pub runs: Vec<Outcome>,
+}
+
+/// What a picture shows over time.
+#[derive(Clone, Copy, Debug, PartialEq, Eq)]
+pub enum View {
+    /// The share of all peers that are whole.
+    Whole,
+    /// The share of pairs of downloaders with interest.
+    Interest,
+    /// The copies of the rarest piece.
+    Rarest,
+    /// The downloaders that are there.
+    Downloaders,
+}
+
+/// The rules in pictures. More lines can't be told apart.
+const SHOWN: [&str; 6] = ["ours", "ours, depth 64", "ours, depth by rate", "rarest", "random", "rising"];
+
+/// The columns of a table.
+const HEAD: [&str; 11] = [
+    "Rule",
+    "First, s",
+    "Median, s",
+    "Medians, s",
+    "Last, s",
+    "Out of the seed, copies",
+    "Interest, %",
+    "Idle, %",
+    "Twice, %",
+    "Pickers, s",
+    "A call, ns",
+];
+
+impl View {
+    /// The word in the names of files.
+    pub fn word(self) -> &'static str {
+        match self {
+            View::Whole => "whole",
+            View::Interest => "interest",
+            View::Rarest => "rarest",
+            View::Downloaders => "downloaders",
+        }
+    }
+
+    fn up(self) -> &'static str {
+        match self {
+            View::Whole => "peers that are whole, %",
+            View::Interest => "pairs with interest, %",
+            View::Rarest => "copies of the rarest piece",
+            View::Downloaders => "downloaders",
+        }
+    }
+
+    fn value(self, sample: &Sample, guests: u32) -> f64 {
+        match self {
+            View::Whole => share(sample.whole.into(), guests.into()),
+            View::Interest => share(sample.interested, sample.pairs),
+            View::Rarest => sample.rarest.into(),
+            View::Downloaders => sample.downloaders.into(),
+        }
+    }
+}
+
+/// The chart of the first run of each rule.
+pub fn chart(title: &str, view: View, rows: &[Row]) -> Chart {
+    let shown = SHOWN.iter().filter_map(|name| rows.iter().find(|row| row.rule == *name));
+    let series = shown.map(|row| Series { name: row.rule.into(), points: points(view, &row.runs[0]) });
+    Chart { title: title.into(), across: "seconds".into(), up: view.up().into(), series: series.collect() }
+}
+
+/// Some 200 points of a run. Interest has none where there is no pair.
+fn points(view: View, run: &Outcome) -> Vec<(f64, f64)> {
+    let step = run.samples.len() / 200 + 1;
+    let last = run.samples.last().filter(|_| run.samples.len() % step != 1);
+    let samples = run.samples.iter().step_by(step).chain(last);
+    let samples = samples.filter(|sample| view != View::Interest || sample.pairs > 0);
+    samples.map(|sample| (seconds(sample.at), view.value(sample, run.guests))).collect()
+}
+
+fn seconds(time: Micros) -> f64 {
+    time as f64 / 1e6
+}
+
+/// The table of all rules, as Markdown. A figure is the mean of the runs.
+pub fn table(content: Content, rows: &[Row]) -> String {
+    let head = format!("| {} |\n|{}\n", HEAD.join(" | "), "---|".repeat(HEAD.len()));
+    rows.iter().fold(head, |table, row| table + &format!("| {} |\n", cells(content, row).join(" | ")))
+}
+
+fn cells(content: Content, row: &Row) -> Vec<String> {
+    let runs = &row.runs;
+    let time = |percent: usize| all(runs, |run| Some(seconds(run.percentile(percent)?)));
+    let copies = |run: &Outcome| Some(run.spread?.sent as f64 / content.all_blocks() as f64);
+    vec![
+        row.rule.to_string(),
+        mean(&time(0), 0),
+        mean(&time(50), 0),
+        range(&time(50)),
+        last(runs),
+        mean(&all(runs, copies), 2),
+        mean(&all(runs, |run| Some(run.interest())), 1),
+        mean(&all(runs, |run| Some(run.idle())), 1),
+        mean(&all(runs, |run| Some(run.twice())), 2),
+        mean(&all(runs, |run| Some(run.spent.nanoseconds as f64 / 1e9)), 1),
+        mean(&all(runs, |run| Some(run.spent.nanoseconds as f64 / run.spent.calls.max(1) as f64)), 0),
+    ]
+}
+
+/// When the last peer was whole; or, where a run ended without that, how many got whole and which pieces are gone.
+fn last(runs: &[Outcome]) -> String {
+    let times = all(runs, |run| Some(seconds(run.percentile(100)?)));
+    if !times.is_empty() {
+        return mean(&times, 0);
+    }
+    let whole = mean(&all(runs, |run| Some(run.times.len() as f64)), 0);
+    let missing = mean(&all(runs, |run| Some(f64::from(run.missing))), 0);
+    format!("{whole} whole; {missing} pieces gone")
+}
+
+/// The figure of each run; none where a run has no figure.
+fn all(runs: &[Outcome], figure: impl Fn(&Outcome) -> Option<f64>) -> Vec<f64> {
+    runs.iter().map(figure).collect::<Option<Vec<f64>>>().unwrap_or_default()
+}
+
+fn mean(figures: &[f64], digits: usize) -> String {
+    if figures.is_empty() {
+        return "-".into();
+    }
+    format!("{:.digits$}", figures.iter().sum::<f64>() / figures.len() as f64)
+}
+
+/// The least and the greatest of several.
+fn range(figures: &[f64]) -> String {
+    if figures.len() < 2 {
+        return String::new();
+    }
+    let (least, greatest) = figures.iter().fold((f64::MAX, 0f64), |(least, greatest), &figure| (least.min(figure), greatest.max(figure)));
+    format!("{least:.0} to {greatest:.0}")
+}
+
+/// The three bounds in a sentence.
+pub fn bounds(bounds: &[Bound]) -> String {
+    let figure = |pick: fn(&Bound) -> f64| mean(&bounds.iter().map(|bound| pick(bound) / 1e6).collect::<Vec<_>>(), 0);
+    format!(
+        "Bounds: {} s by the slowest line down, {} s by the seed's line up, {} s by all lines up.",
+        figure(|bound| bound.down),
+        figure(|bound| bound.seed),
+        figure(|bound| bound.all)
+    )
+}
+
+#[cfg(test)]
+mod tests {
+    use super::*;
+
+    fn run(times: &[Micros], guests: u32, missing: u32) -> Outcome {
+        Outcome { times: times.to_vec(), guests, missing, ..Outcome::default() }
+    }
+
+    #[test]
+    fn a_row_has_the_mean_of_the_runs() {
+        let runs = vec![run(&[1_000_000, 2_000_000, 5_000_000], 3, 0), run(&[3_000_000, 4_000_000, 6_000_000], 3, 0)];
+        let table = table(Content { pieces: 1, blocks: 1 }, &[Row { rule: "some", runs }]);
+        let row = table.lines().last().unwrap_or_default();
+        assert!(row.starts_with("| some | 2 | 3 | 2 to 4 | 6 | - |"), "{row}");
+        assert_eq!(row.matches('|').count(), table.lines().next().unwrap_or_default().matches('|').count());
+    }
+
+    #[test]
+    fn a_swarm_that_stopped_tells_what_is_gone() {
+        let runs = vec![run(&[1_000_000], 3, 7), run(&[], 3, 8)];
+        assert_eq!(last(&runs), "0 whole; 8 pieces gone");
+        assert_eq!(last(&runs[..1]), "1 whole; 7 pieces gone");
+    }
+}
