@@ -95,11 +95,11 @@ impl Swarm<'_> {
 
     /// A block came.
     pub(crate) fn block_comes(&mut self, peer: u32, slot: u8, block: Block) -> Result<(), Fault> {
-        self.last_block = self.queue.now();
+        self.last_move = self.queue.now();
         self.outcome.blocks.received += 1;
         let taker = &mut self.peers[peer as usize];
         let link = &mut taker.links[slot as usize];
-        link.count(self.last_block, &mut self.outcome.open);
+        link.count(self.last_move, &mut self.outcome.open);
         link.received[0] += 1;
         link.lately += 1;
         if let Some(place) = link.asked.iter().position(|&asked| asked == block) {
@@ -161,7 +161,6 @@ impl Swarm<'_> {
         whole.shown = Vec::new();
         whole.whole = Some(now);
         self.outcome.times.push(now - whole.came);
-        self.outcome.ends.push(now);
         if let Some(stay) = self.setup.stays {
             self.queue.put(stay, Event::Leave { peer });
         }

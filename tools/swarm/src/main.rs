@@ -74,8 +74,9 @@ fn sized(mut scenario: Scenario, options: &[&str]) -> Fallible<(Scenario, Vec<Ch
     Ok((scenario, rules))
 }
 
+/// The rules that the scenario names, or all but those that make the requests of another one.
 fn usual_rules(scenario: &Scenario) -> Vec<Chooser> {
-    let is_chosen = |rule: &Chooser| scenario.rules.is_empty() || scenario.rules.contains(&rule.name);
+    let is_chosen = |rule: &Chooser| if scenario.rules.is_empty() { !rule.is_twin() } else { scenario.rules.contains(&rule.name) };
     rules::all().into_iter().filter(is_chosen).collect()
 }
 
@@ -117,7 +118,7 @@ fn write_page(scenario: &Scenario) -> Fallible<()> {
     let docs: PathBuf = Path::new(env!("CARGO_MANIFEST_DIR")).join("../../docs");
     for &view in scenario.views {
         let picture = docs.join(format!("swarms/{}-{}.svg", scenario.name, view.word()));
-        fs::write(picture, chart(scenario.title, view, &rows).svg())?;
+        fs::write(picture, chart(scenario, view, &rows).svg())?;
     }
     let page = docs.join("SWARMS.md");
     let replaced = swarm::page::replace(&fs::read_to_string(&page)?, scenario.name, &text)?;

@@ -28,10 +28,10 @@ pub struct Sample {
     pub rarest: u32,
     /// The copies of all pieces.
     pub copies: u64,
-    /// The downloaders that are here.
+    /// All peers that are here.
+    pub peers: u32,
+    /// The downloaders among them.
     pub downloaders: u32,
-    /// The peers that were whole so far.
-    pub whole: u32,
     /// The pairs of connected downloaders, each in both directions.
     pub pairs: u64,
     /// Those of them where the second shows something that the first lacks.
@@ -52,8 +52,6 @@ pub struct Spread {
 pub struct Outcome {
     /// How long each peer took that got whole, the shortest first.
     pub times: Vec<Micros>,
-    /// When each peer was whole, the first first.
-    pub ends: Vec<Micros>,
     /// How many peers came.
     pub guests: u32,
     /// The pieces that nobody who is here has at the end.
@@ -71,8 +69,6 @@ pub struct Outcome {
     pub spent: Spent,
     /// How many events there were.
     pub events: u64,
-    /// The processor time of the whole run, in nanoseconds.
-    pub nanoseconds: u64,
 }
 
 impl Outcome {

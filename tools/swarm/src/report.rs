@@ -4,6 +4,7 @@ use crate::meter::{share, Outcome, Sample};
 use crate::picture::{Chart, Series};
 use crate::queue::Micros;
 use crate::rule::Content;
+use crate::scenario::Scenario;
 use crate::setup::Bound;
 
 /// The runs of one rule.
@@ -16,8 +17,8 @@ pub struct Row {
 /// What a picture shows over time.
 #[derive(Clone, Copy, Debug, PartialEq, Eq)]
 pub enum View {
-    /// The share of all peers that are whole.
-    Whole,
+    /// How much of the content a peer has, on average.
+    Content,
     /// The share of pairs of downloaders with interest.
     Interest,
     /// The copies of the rarest piece.
@@ -27,7 +28,7 @@ pub enum View {
 }
 
 /// The rules in pictures. More lines can't be told apart.
-const SHOWN: [&str; 6] = ["ours", "ours, depth 64", "ours, depth by rate", "rarest", "random", "rising"];
+const SHOWN: [&str; 6] = ["ours", "ours, depth 64", "ours, depth by rate", "ours, in order", "rarest", "random"];
 
 /// The columns of a table.
 const HEAD: [&str; 11] = [
@@ -48,7 +49,7 @@ impl View {
     /// The word in the names of files.
     pub fn word(self) -> &'static str {
         match self {
-            View::Whole => "whole",
+            View::Content => "content",
             View::Interest => "interest",
             View::Rarest => "rarest",
             View::Downloaders => "downloaders",
@@ -57,16 +58,16 @@ impl View {
 
     fn up(self) -> &'static str {
         match self {
-            View::Whole => "peers that are whole, %",
+            View::Content => "content that a peer has, %",
             View::Interest => "pairs with interest, %",
             View::Rarest => "copies of the rarest piece",
             View::Downloaders => "downloaders",
         }
     }
 
-    fn value(self, sample: &Sample, guests: u32) -> f64 {
+    fn value(self, sample: &Sample, pieces: u32) -> f64 {
         match self {
-            View::Whole => share(sample.whole.into(), guests.into()),
+            View::Content => share(sample.copies, u64::from(sample.peers) * u64::from(pieces)),
             View::Interest => share(sample.interested, sample.pairs),
             View::Rarest => sample.rarest.into(),
             View::Downloaders => sample.downloaders.into(),
@@ -75,19 +76,19 @@ impl View {
 }
 
 /// The chart of the first run of each rule.
-pub fn chart(title: &str, view: View, rows: &[Row]) -> Chart {
+pub fn chart(scenario: &Scenario, view: View, rows: &[Row]) -> Chart {
     let shown = SHOWN.iter().filter_map(|name| rows.iter().find(|row| row.rule == *name));
-    let series = shown.map(|row| Series { name: row.rule.into(), points: points(view, &row.runs[0]) });
-    Chart { title: title.into(), across: "seconds".into(), up: view.up().into(), series: series.collect() }
+    let series = shown.map(|row| Series { name: row.rule.into(), points: points(view, &row.runs[0], scenario.content.pieces) });
+    Chart { title: scenario.title.into(), across: "seconds".into(), up: view.up().into(), series: series.collect() }
 }
 
 /// Some 200 points of a run. Interest has none where there is no pair.
-fn points(view: View, run: &Outcome) -> Vec<(f64, f64)> {
+fn points(view: View, run: &Outcome, pieces: u32) -> Vec<(f64, f64)> {
     let step = run.samples.len() / 200 + 1;
     let last = run.samples.last().filter(|_| run.samples.len() % step != 1);
     let samples = run.samples.iter().step_by(step).chain(last);
     let samples = samples.filter(|sample| view != View::Interest || sample.pairs > 0);
-    samples.map(|sample| (seconds(sample.at), view.value(sample, run.guests))).collect()
+    samples.map(|sample| (seconds(sample.at), view.value(sample, pieces))).collect()
 }
 
 fn seconds(time: Micros) -> f64 {
@@ -119,15 +120,19 @@ fn cells(content: Content, row: &Row) -> Vec<String> {
     ]
 }
 
-/// When the last peer was whole; or, where a run ended without that, how many got whole and which pieces are gone.
+/// When the last peer was whole. Where a run ended without that: how many peers got whole, and in how many runs nearly all did, or which pieces
+/// are gone.
 fn last(runs: &[Outcome]) -> String {
     let times = all(runs, |run| Some(seconds(run.percentile(100)?)));
     if !times.is_empty() {
         return mean(&times, 0);
     }
-    let whole = mean(&all(runs, |run| Some(run.times.len() as f64)), 0);
-    let missing = mean(&all(runs, |run| Some(f64::from(run.missing))), 0);
-    format!("{whole} whole; {missing} pieces gone")
+    let whole = |run: &Outcome| share(run.times.len() as u64, run.guests.into());
+    let shares: Vec<f64> = runs.iter().map(whole).collect();
+    let lived = shares.iter().filter(|&&share| share > 90.0).count();
+    let missing: Vec<f64> = runs.iter().map(|run| run.missing.into()).collect();
+    let rest = if lived > 0 { format!("{lived} of {} runs lived", runs.len()) } else { format!("{} pieces gone", mean(&missing, 0)) };
+    format!("{}% whole; {rest}", mean(&shares, 0))
 }
 
 /// The figure of each run; none where a run has no figure.
@@ -181,8 +186,14 @@ mod tests {
 
     #[test]
     fn a_swarm_that_stopped_tells_what_is_gone() {
-        let runs = vec![run(&[1_000_000], 3, 7), run(&[], 3, 8)];
-        assert_eq!(last(&runs), "0 whole; 8 pieces gone");
-        assert_eq!(last(&runs[..1]), "1 whole; 7 pieces gone");
+        let runs = vec![run(&[1_000_000], 4, 7), run(&[], 4, 8)];
+        assert_eq!(last(&runs), "12% whole; 8 pieces gone");
+        assert_eq!(last(&runs[..1]), "25% whole; 7 pieces gone");
+    }
+
+    #[test]
+    fn a_swarm_that_lived_in_some_runs_tells_in_how_many() {
+        let runs = vec![run(&[1_000_000; 20], 20, 0), run(&[1_000_000; 19], 20, 9), run(&[], 20, 5)];
+        assert_eq!(last(&runs), "65% whole; 2 of 3 runs lived");
     }
 }

@@ -62,11 +62,19 @@ impl Chooser {
         Ok(Box::new(Timed::new(rule, spent)))
     }
 
+    /// Whether it is a control that makes the requests of one of the library's rules.
+    pub fn is_twin(&self) -> bool {
+        TWINS.iter().any(|(_, control)| *control == self.name)
+    }
+
     /// How the depths follow the rates, if they do.
     pub fn depths(&self) -> Option<Depths> {
         self.depths
     }
 }
+
+/// Rules of the library, and controls that make the same requests.
+pub const TWINS: [(&str, &str); 2] = [("ours", "rarest, ties of ours"), ("ours, in order", "rising")];
 
 /// The usual options of the library, for depths that aren't told. A greater `deepest` takes memory in each picker.
 fn usual() -> Options {

@@ -45,6 +45,19 @@ pub struct Scenario {
     sampled: Micros,
 }
 
+/// The rules of scenarios that take long.
+const FEW: [&str; 9] = [
+    "ours",
+    "ours, depth 64",
+    "ours, depth by rate",
+    "ours, 1 asker",
+    "ours, no bound",
+    "ours, in order",
+    "rarest",
+    "rarest, not strict",
+    "random",
+];
+
 /// All scenarios.
 pub fn all() -> Vec<Scenario> {
     let flash = Scenario {
@@ -53,8 +66,8 @@ pub fn all() -> Vec<Scenario> {
         guests: 1_000,
         content: Content { pieces: 1_000, blocks: 16 },
         runs: 1,
-        views: &[View::Whole, View::Interest],
-        rules: &[],
+        views: &[View::Content, View::Interest],
+        rules: &FEW,
         lines: &HOMES,
         seed: (256, 1024),
         coming: Coming::Within(10 * SECOND),
@@ -68,6 +81,7 @@ pub fn all() -> Vec<Scenario> {
         guests: 200,
         content: Content { pieces: 200, blocks: 16 },
         runs: 10,
+        rules: &[],
         ..flash
     };
     vec![
@@ -78,13 +92,15 @@ pub fn all() -> Vec<Scenario> {
             title: "Pieces of one block: 200 downloaders, 3,200 pieces",
             content: Content { pieces: 3_200, blocks: 1 },
             runs: 1,
+            rules: &FEW,
             ..small
         },
         Scenario {
             name: "strong",
             title: "A seed of 4 MiB/s: 200 downloaders, 200 pieces",
             seed: (4096, 4096),
-            views: &[View::Whole],
+            runs: 5,
+            views: &[View::Content],
             ..small
         },
         Scenario {
@@ -92,7 +108,7 @@ pub fn all() -> Vec<Scenario> {
             title: "Fast lines of 8 MiB/s up: 200 downloaders, 400 pieces",
             content: Content { pieces: 400, blocks: 16 },
             runs: 3,
-            views: &[View::Whole],
+            views: &[View::Content],
             lines: &FIBRES,
             seed: (8192, 32768),
             sampled: SECOND / 2,
@@ -106,6 +122,7 @@ pub fn all() -> Vec<Scenario> {
             views: &[View::Downloaders, View::Rarest],
             coming: Coming::Each(5 * SECOND),
             stays: Some(60 * SECOND),
+            rules: &[],
             ..flash
         },
         Scenario {
@@ -120,8 +137,18 @@ pub fn all() -> Vec<Scenario> {
             name: "later",
             title: "The seed leaves after 3 copies: 200 downloaders, 200 pieces",
             runs: 3,
-            views: &[View::Whole],
+            views: &[View::Content],
             seed_gives: Some(300),
+            ..small
+        },
+        Scenario {
+            name: "fades",
+            title: "One comes each 5 s and leaves when it is whole; the seed leaves after 4 copies",
+            guests: 500,
+            views: &[View::Downloaders, View::Rarest],
+            coming: Coming::Each(5 * SECOND),
+            seed_gives: Some(400),
+            stays: Some(0),
             ..small
         },
         Scenario {

@@ -27,7 +27,7 @@ pub struct Setup {
     pub have_delay: Micros,
     /// The time between two samples.
     pub sampled: Micros,
-    /// The run ends when no block came for so long.
+    /// The run ends when neither a block nor a peer came for so long.
     pub patience: Micros,
 }
 

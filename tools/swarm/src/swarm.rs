@@ -77,7 +77,8 @@ pub struct Swarm<'a> {
     pub(crate) is_out: Vec<bool>,
     pub(crate) unspread: u32,
     pub(crate) connections: u32,
-    pub(crate) last_block: Micros,
+    /// When a peer or a block came the last time.
+    pub(crate) last_move: Micros,
     pub(crate) spent: Rc<Cell<Spent>>,
     pub(crate) outcome: Outcome,
 }
@@ -104,7 +105,7 @@ impl<'a> Swarm<'a> {
             is_out: vec![false; setup.content.pieces as usize],
             unspread: setup.content.pieces,
             connections: 0,
-            last_block: 0,
+            last_move: 0,
             spent: Rc::default(),
             outcome: Outcome { guests: setup.guests.len() as u32, ..Outcome::default() },
         };
@@ -115,7 +116,7 @@ impl<'a> Swarm<'a> {
 
     /// All are whole, or nothing moves any more.
     pub fn is_over(&self) -> bool {
-        let is_stuck = self.queue.now() > self.last_block + self.setup.patience && self.here.len() > 1;
+        let is_stuck = self.queue.now() > self.last_move + self.setup.patience;
         is_stuck || self.outcome.times.len() == self.setup.guests.len()
     }
 
@@ -174,8 +175,8 @@ impl<'a> Swarm<'a> {
             at: self.queue.now(),
             rarest: self.copies.iter().copied().min().unwrap_or(0),
             copies: self.copies.iter().map(|&copies| u64::from(copies)).sum(),
+            peers: self.here.len() as u32,
             downloaders: downloaders.clone().count() as u32,
-            whole: self.outcome.times.len() as u32,
             pairs: 0,
             interested: 0,
         };

@@ -15,6 +15,7 @@ impl Swarm<'_> {
     /// A peer comes, and the next one is on its way.
     pub(crate) fn come(&mut self, peer: u32) -> Result<(), Fault> {
         let now = self.queue.now();
+        self.last_move = now;
         let is_seed = peer == SEED;
         let picker = if is_seed { None } else { Some(self.chooser.picker(self.setup.content, &self.spent)?) };
         let comer = &mut self.peers[peer as usize];

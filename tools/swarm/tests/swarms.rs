@@ -18,7 +18,7 @@ fn outcome(scenario: &Scenario, rule: &str, draw: u64) -> Outcome {
 
 /// All that doesn't depend on the machine, nor on how often a picker was asked in vain.
 fn facts(outcome: Outcome) -> Outcome {
-    Outcome { spent: Default::default(), nanoseconds: 0, ..outcome }
+    Outcome { spent: Default::default(), ..outcome }
 }
 
 #[test]
@@ -33,7 +33,7 @@ fn the_same_draw_gives_the_same_run() {
 /// Two programs that choose by the same rules, ties among them, make the same requests throughout a swarm.
 #[test]
 fn the_library_and_a_control_with_its_ties_agree() {
-    for (ours, control) in [("ours", "rarest, ties of ours"), ("ours, in order", "rising")] {
+    for (ours, control) in rules::TWINS {
         for name in ["flash", "fast", "steady", "leaves", "short"] {
             let scenario = small(name);
             let runs = [ours, control].map(|rule| facts(outcome(&scenario, rule, 3)));
