@@ -35,13 +35,13 @@ const HEAD: [&str; 11] = [
     "Rule",
     "First, s",
     "Median, s",
-    "Medians, s",
     "Last, s",
     "Out of the seed, copies",
     "Interest, %",
     "Idle, %",
     "Twice, %",
-    "Pickers, s",
+    "Calls, millions",
+    "Their time, s",
     "A call, ns",
 ];
 
@@ -108,13 +108,13 @@ fn cells(content: Content, row: &Row) -> Vec<String> {
     vec![
         row.rule.to_string(),
         mean(&time(0), 0),
-        mean(&time(50), 0),
-        range(&time(50)),
+        format!("{}{}", mean(&time(50), 0), range(&time(50))),
         last(runs),
         mean(&all(runs, copies), 2),
         mean(&all(runs, |run| Some(run.interest())), 1),
         mean(&all(runs, |run| Some(run.idle())), 1),
         mean(&all(runs, |run| Some(run.twice())), 2),
+        mean(&all(runs, |run| Some(run.spent.calls as f64 / 1e6)), 1),
         mean(&all(runs, |run| Some(run.spent.nanoseconds as f64 / 1e9)), 1),
         mean(&all(runs, |run| Some(run.spent.nanoseconds as f64 / run.spent.calls.max(1) as f64)), 0),
     ]
@@ -147,13 +147,13 @@ fn mean(figures: &[f64], digits: usize) -> String {
     format!("{:.digits$}", figures.iter().sum::<f64>() / figures.len() as f64)
 }
 
-/// The least and the greatest of several.
+/// The least and the greatest of several, in brackets.
 fn range(figures: &[f64]) -> String {
     if figures.len() < 2 {
         return String::new();
     }
     let (least, greatest) = figures.iter().fold((f64::MAX, 0f64), |(least, greatest), &figure| (least.min(figure), greatest.max(figure)));
-    format!("{least:.0} to {greatest:.0}")
+    format!(" ({least:.0} to {greatest:.0})")
 }
 
 /// The three bounds in a sentence.
@@ -180,7 +180,7 @@ mod tests {
         let runs = vec![run(&[1_000_000, 2_000_000, 5_000_000], 3, 0), run(&[3_000_000, 4_000_000, 6_000_000], 3, 0)];
         let table = table(Content { pieces: 1, blocks: 1 }, &[Row { rule: "some", runs }]);
         let row = table.lines().last().unwrap_or_default();
-        assert!(row.starts_with("| some | 2 | 3 | 2 to 4 | 6 | - |"), "{row}");
+        assert!(row.starts_with("| some | 2 | 3 (2 to 4) | 6 | - |"), "{row}");
         assert_eq!(row.matches('|').count(), table.lines().next().unwrap_or_default().matches('|').count());
     }
 
