@@ -9,21 +9,54 @@ const DIGEST: Digest = [0; 20];
 /// What is told as a block's content. The library reads none of it.
 static BYTES: [u8; BLOCK as usize] = [0; BLOCK as usize];
 
+/// The usual level of a piece, and that of one which one neighbour alone shows.
+const USUAL: u8 = 4;
+const RAISED: u8 = 5;
+
+/// Which piece comes first, beside what the options say.
+#[derive(Clone, Copy, Debug, PartialEq, Eq)]
+pub enum First {
+    /// The rarest.
+    Rarest,
+    /// The lowest.
+    Lowest,
+    /// One that one neighbour alone shows has a higher level.
+    Lone,
+}
+
 /// A picker of the library that keeps nothing.
 #[derive(Debug)]
 pub struct Ours {
     picker: Picker,
+    /// The level of each piece, where levels are told.
+    levels: Vec<u8>,
 }
 
 impl Ours {
     /// A picker by these options.
-    pub fn new(content: Content, options: Options, in_order: bool) -> Result<Ours, Fault> {
+    pub fn new(content: Content, options: Options, first: First) -> Result<Ours, Fault> {
         let digests = vec![DIGEST; content.pieces as usize];
         let mut picker = Picker::open_parts(content.blocks * BLOCK, content.bytes(), &digests, options)?;
-        if in_order {
+        if first == First::Lowest {
             expect("set_in_order", picker.set_in_order(true)?, Answer::Quiet)?;
         }
-        Ok(Ours { picker })
+        let graded = if first == First::Lone { content.pieces } else { 0 };
+        Ok(Ours { picker, levels: vec![USUAL; graded as usize] })
+    }
+
+    /// Tells the level of a piece, where it is another.
+    fn grade(&mut self, piece: u32) -> Result<(), Fault> {
+        let level = if self.picker.availability(piece)? == 1 { RAISED } else { USUAL };
+        if self.levels[piece as usize] != level {
+            self.levels[piece as usize] = level;
+            expect("set_level", self.picker.set_level(piece, level.into())?, Answer::Quiet)?;
+        }
+        Ok(())
+    }
+
+    /// Tells the levels of all pieces, where levels are told.
+    fn grade_all(&mut self) -> Result<(), Fault> {
+        (0..self.levels.len() as u32).try_for_each(|piece| self.grade(piece))
     }
 }
 
@@ -63,15 +96,21 @@ impl Rule for Ours {
 
     fn join(&mut self, slot: u8, flags: &[u8]) -> Result<(), Fault> {
         expect("join", self.picker.join(slot.into())?, Answer::Joined)?;
-        expect_noted("bits", self.picker.bits(slot.into(), flags)?)
+        expect_noted("bits", self.picker.bits(slot.into(), flags)?)?;
+        self.grade_all()
     }
 
     fn leave(&mut self, slot: u8) -> Result<(), Fault> {
-        expect("leave", self.picker.leave(slot.into())?, Answer::Quiet)
+        expect("leave", self.picker.leave(slot.into())?, Answer::Quiet)?;
+        self.grade_all()
     }
 
     fn have(&mut self, slot: u8, piece: u32) -> Result<(), Fault> {
-        expect_noted("have", self.picker.have(slot.into(), piece)?)
+        expect_noted("have", self.picker.have(slot.into(), piece)?)?;
+        if self.levels.is_empty() {
+            return Ok(());
+        }
+        self.grade(piece)
     }
 
     fn choke(&mut self, slot: u8, is_choked: bool) -> Result<(), Fault> {

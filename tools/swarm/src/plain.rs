@@ -40,13 +40,24 @@ pub enum Ties {
     Least,
 }
 
+/// A block of a piece that fewest neighbours show, begun or not.
+#[derive(Clone, Copy, Debug)]
+pub struct NotStrict;
+
+impl Order for NotStrict {
+    fn choose(&self, book: &Book, slot: u8, word: u64) -> Option<Block> {
+        let piece = any(rarest(book, book.useful(slot)).into_iter(), word)?;
+        Some(book.first_free(piece))
+    }
+}
+
 /// A block of a begun piece, and else of a piece that fewest neighbours show.
 #[derive(Clone, Copy, Debug)]
 pub struct Rarest {
-    /// Begun pieces come first: strict priority.
-    pub is_strict: bool,
     /// So many pieces are had before the rarest come first.
     pub random: u32,
+    /// Pieces that this neighbour alone shows come before begun ones that others show too.
+    pub lone_first: bool,
     /// Which of the begun pieces.
     pub begun: Ties,
     /// Which of the rarest pieces.
@@ -55,23 +66,28 @@ pub struct Rarest {
 
 impl Order for Rarest {
     fn choose(&self, book: &Book, slot: u8, word: u64) -> Option<Block> {
-        if !self.is_strict {
-            let piece = any(rarest(book, book.useful(slot)).into_iter(), word)?;
-            return Some(book.first_free(piece));
-        }
+        let is_lone = |piece: &u32| book.availability(*piece) == 1;
+        let lone = if self.lone_first { self.pick(book, slot, word, is_lone) } else { None };
+        let piece = lone.or_else(|| self.pick(book, slot, word, |_| true))?;
+        Some(book.first_free(piece))
+    }
+}
+
+impl Rarest {
+    /// A piece of those that pass the test.
+    fn pick(&self, book: &Book, slot: u8, word: u64, test: impl Fn(&u32) -> bool + Copy) -> Option<u32> {
         let begun = match self.begun {
-            Ties::Any => any(book.begun(slot), word),
-            Ties::Least => book.begun(slot).min(),
+            Ties::Any => any(book.begun(slot).filter(test), word),
+            Ties::Least => book.begun(slot).filter(test).min(),
         };
-        let piece = begun.or_else(|| {
-            let is_random = book.had() < self.random;
-            let fresh = if is_random { book.fresh(slot).collect() } else { rarest(book, book.fresh(slot)) };
+        begun.or_else(|| {
+            let fresh = book.fresh(slot).filter(test);
+            let fresh = if book.had() < self.random { fresh.collect() } else { rarest(book, fresh) };
             match self.fresh {
                 Ties::Any => any(fresh.into_iter(), word),
                 Ties::Least => first_from(&fresh, (word % u64::from(book.pieces())) as u32),
             }
-        })?;
-        Some(book.first_free(piece))
+        })
     }
 }
 

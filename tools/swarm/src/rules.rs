@@ -1,8 +1,8 @@
 //! The rules that are put beside each other.
 
 use crate::book::Book;
-use crate::ours::Ours;
-use crate::plain::{AnyPiece, Plain, Rarest, Rising, Ties};
+use crate::ours::{First, Ours};
+use crate::plain::{AnyPiece, NotStrict, Plain, Rarest, Rising, Ties};
 use crate::queue::{Micros, SECOND};
 use crate::rule::{Content, Fault, Rule};
 use crate::timed::{Spent, Timed};
@@ -34,9 +34,10 @@ impl Depths {
 
 #[derive(Clone, Copy, Debug)]
 enum Kind {
-    Ours { options: Options, in_order: bool },
+    Ours { options: Options, first: First },
     AnyPiece,
     Rising,
+    NotStrict,
     Rarest(Rarest),
 }
 
@@ -54,9 +55,10 @@ impl Chooser {
     pub fn picker(&self, content: Content, spent: &Rc<Cell<Spent>>) -> Result<Box<dyn Rule>, Fault> {
         let book = || Book::new(content, DEPTH, ASKERS);
         let rule: Box<dyn Rule> = match self.kind {
-            Kind::Ours { options, in_order } => Box::new(Ours::new(content, options, in_order)?),
+            Kind::Ours { options, first } => Box::new(Ours::new(content, options, first)?),
             Kind::AnyPiece => Box::new(Plain::new(book(), Box::new(AnyPiece), Ties::Any)),
             Kind::Rising => Box::new(Plain::new(book(), Box::new(Rising), Ties::Least)),
+            Kind::NotStrict => Box::new(Plain::new(book(), Box::new(NotStrict), Ties::Any)),
             Kind::Rarest(rarest) => Box::new(Plain::new(book(), Box::new(rarest), rarest.begun)),
         };
         Ok(Box::new(Timed::new(rule, spent)))
@@ -74,7 +76,8 @@ impl Chooser {
 }
 
 /// Rules of the library, and controls that make the same requests.
-pub const TWINS: [(&str, &str); 2] = [("ours", "rarest, ties of ours"), ("ours, in order", "rising")];
+pub const TWINS: [(&str, &str); 3] =
+    [("ours", "rarest, ties of ours"), ("ours, in order", "rising"), ("ours, lone first", "lone first, ties of ours")];
 
 /// The usual options of the library, for depths that aren't told. A greater `deepest` takes memory in each picker.
 fn usual() -> Options {
@@ -82,11 +85,15 @@ fn usual() -> Options {
 }
 
 fn ours(name: &'static str, options: Options) -> Chooser {
-    Chooser { name, kind: Kind::Ours { options, in_order: false }, depths: None }
+    Chooser { name, kind: Kind::Ours { options, first: First::Rarest }, depths: None }
+}
+
+fn ours_with(name: &'static str, first: First) -> Chooser {
+    Chooser { kind: Kind::Ours { options: usual(), first }, ..ours(name, usual()) }
 }
 
 /// Rarest first, as plainly as it can be written, but for what is said otherwise.
-const RAREST: Rarest = Rarest { is_strict: true, random: 1, begun: Ties::Any, fresh: Ties::Any };
+const RAREST: Rarest = Rarest { random: 1, lone_first: false, begun: Ties::Any, fresh: Ties::Any };
 
 fn control(name: &'static str, kind: Kind) -> Chooser {
     Chooser { name, kind, depths: None }
@@ -103,12 +110,15 @@ pub fn all() -> Vec<Chooser> {
         ours("ours, no bound", usual().askers(NO_BOUND)),
         ours("ours, first rarest", usual().random(0)),
         ours("ours, 4 random", usual().random(4)),
-        Chooser { kind: Kind::Ours { options: usual(), in_order: true }, ..ours("ours, in order", usual()) },
+        ours_with("ours, in order", First::Lowest),
+        ours_with("ours, lone first", First::Lone),
         control("rarest", Kind::Rarest(RAREST)),
         control("rarest, least begun", Kind::Rarest(Rarest { begun: Ties::Least, ..RAREST })),
         control("rarest, from a piece on", Kind::Rarest(Rarest { fresh: Ties::Least, ..RAREST })),
         control("rarest, ties of ours", Kind::Rarest(Rarest { begun: Ties::Least, fresh: Ties::Least, ..RAREST })),
-        control("rarest, not strict", Kind::Rarest(Rarest { is_strict: false, ..RAREST })),
+        control("rarest, lone first", Kind::Rarest(Rarest { lone_first: true, ..RAREST })),
+        control("lone first, ties of ours", Kind::Rarest(Rarest { lone_first: true, begun: Ties::Least, fresh: Ties::Least, ..RAREST })),
+        control("rarest, not strict", Kind::NotStrict),
         control("random", Kind::AnyPiece),
         control("rising", Kind::Rising),
     ]

@@ -46,14 +46,15 @@ pub struct Scenario {
 }
 
 /// The rules of scenarios that take long.
-const FEW: [&str; 9] = [
+const FEW: [&str; 10] = [
     "ours",
     "ours, depth 64",
-    "ours, depth by rate",
     "ours, 1 asker",
     "ours, no bound",
     "ours, in order",
+    "ours, lone first",
     "rarest",
+    "rarest, lone first",
     "rarest, not strict",
     "random",
 ];
@@ -145,6 +146,7 @@ pub fn all() -> Vec<Scenario> {
             name: "fades",
             title: "One comes each 5 s and leaves when it is whole; the seed leaves after 4 copies",
             guests: 500,
+            runs: 5,
             views: &[View::Downloaders, View::Rarest],
             coming: Coming::Each(5 * SECOND),
             seed_gives: Some(400),

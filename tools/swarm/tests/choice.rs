@@ -2,7 +2,7 @@
 
 use piecepick::Options;
 use swarm::book::Book;
-use swarm::ours::Ours;
+use swarm::ours::{First, Ours};
 use swarm::plain::{Plain, Rarest, Ties};
 use swarm::random::Random;
 use swarm::rule::{Ask, Block, Came, Content, Rule};
@@ -13,10 +13,10 @@ const CONTENT: Content = Content { pieces: PIECES, blocks: 1 };
 fn pickers() -> Vec<(&'static str, Box<dyn Rule>)> {
     let options = Options::new().depth(5).deepest(5).random(0);
     let plain = |fresh| {
-        let order = Rarest { is_strict: true, random: 0, begun: Ties::Any, fresh };
+        let order = Rarest { random: 0, lone_first: false, begun: Ties::Any, fresh };
         Box::new(Plain::new(Book::new(CONTENT, 5, 2), Box::new(order), Ties::Any)) as Box<dyn Rule>
     };
-    vec![("ours", Box::new(Ours::new(CONTENT, options, false).unwrap())), ("any", plain(Ties::Any)), ("least", plain(Ties::Least))]
+    vec![("ours", Box::new(Ours::new(CONTENT, options, First::Rarest).unwrap())), ("any", plain(Ties::Any)), ("least", plain(Ties::Least))]
 }
 
 fn flags(bits: u32) -> [u8; 3] {
