@@ -5,6 +5,7 @@ use std::path::{Path, PathBuf};
 use std::process::ExitCode;
 use std::time::Instant;
 use std::{env, fs};
+use swarm::page;
 use swarm::report::{bounds, chart, table, Row};
 use swarm::rules::{self, Chooser};
 use swarm::scenario::{self, Scenario};
@@ -33,8 +34,8 @@ fn main() -> ExitCode {
 fn command(words: &[&str]) -> Fallible<()> {
     match words {
         ["list"] => {
-            scenario::all().iter().for_each(|scenario| println!("{:8} {}", scenario.name, scenario.title));
-            rules::all().iter().for_each(|rule| println!("{}", rule.name));
+            scenario::all().iter().for_each(|scenario| println!("scenario {:8} {}", scenario.name, scenario.title));
+            rules::all().iter().for_each(|rule| println!("rule {}", rule.name));
             Ok(())
         }
         ["run", name, options @ ..] => {
@@ -114,13 +115,15 @@ fn most_memory() -> Fallible<u64> {
 
 /// Runs a scenario, and writes its table and its pictures into the folder docs of the repository.
 fn write_page(scenario: &Scenario) -> Fallible<()> {
-    let (rows, text) = played(scenario, &usual_rules(scenario))?;
     let docs: PathBuf = Path::new(env!("CARGO_MANIFEST_DIR")).join("../../docs");
+    let page = docs.join("SWARMS.md");
+    // A page without the region is told before the runs, which may take an hour.
+    page::replace(&fs::read_to_string(&page)?, scenario.name, "")?;
+    let (rows, text) = played(scenario, &usual_rules(scenario))?;
     for &view in scenario.views {
         let picture = docs.join(format!("swarms/{}-{}.svg", scenario.name, view.word()));
         fs::write(picture, chart(scenario, view, &rows).svg())?;
     }
-    let page = docs.join("SWARMS.md");
-    let replaced = swarm::page::replace(&fs::read_to_string(&page)?, scenario.name, &text)?;
+    let replaced = page::replace(&fs::read_to_string(&page)?, scenario.name, &text)?;
     Ok(fs::write(page, replaced)?)
 }

@@ -133,3 +133,89 @@ impl Swarm<'_> {
         Ok(())
     }
 }
+
+#[cfg(test)]
+mod tests {
+    use super::*;
+    use crate::peer::Line;
+    use crate::queue::Micros;
+    use crate::rule::Content;
+    use crate::rules;
+    use crate::setup::{Guest, Setup};
+
+    const UP: Micros = 1_000_000;
+    const DELAY: Micros = 20_000;
+
+    fn setup(guests: usize) -> Setup {
+        let line = Line { up: UP, down: 1_000, delay: DELAY / 2 };
+        Setup {
+            content: Content { pieces: 4, blocks: 16 },
+            seed: line,
+            seed_gives: None,
+            guests: vec![Guest { at: 0, line }; guests],
+            stays: None,
+            have_delay: DELAY,
+            sampled: SECOND,
+            patience: 100 * SECOND,
+        }
+    }
+
+    /// A swarm in which the seed sends its first block, and each guest has its other requests waiting there.
+    fn busy<'a>(setup: &'a Setup, chooser: &'a rules::Chooser) -> Swarm<'a> {
+        let mut swarm = Swarm::new(setup, chooser, 1);
+        while swarm.queue.now() < UP / 2 {
+            assert_eq!(swarm.step(), Ok(true));
+        }
+        swarm
+    }
+
+    fn waiting(swarm: &Swarm, slot: u8) -> Vec<Block> {
+        swarm.peers[SEED as usize].links[slot as usize].waiting.iter().copied().collect()
+    }
+
+    #[test]
+    fn a_cancel_drops_the_request_that_waits() {
+        let (setup, chooser) = (setup(1), rules::named("ours").unwrap());
+        let mut swarm = busy(&setup, &chooser);
+        let before = waiting(&swarm, 0);
+        assert_eq!(before.len(), 4);
+        swarm.forget(SEED, 0, before[1]);
+        assert_eq!(waiting(&swarm, 0), [before[0], before[2], before[3]]);
+        before.iter().for_each(|&block| swarm.forget(SEED, 0, block));
+        assert_eq!((waiting(&swarm, 0), swarm.peers[SEED as usize].ready), (vec![], 0));
+    }
+
+    /// The block that is being sent goes on, and comes before the choke.
+    #[test]
+    fn a_choke_drops_what_waits_and_comes_behind_the_block() {
+        let (setup, chooser) = (setup(1), rules::named("ours").unwrap());
+        let mut swarm = busy(&setup, &chooser);
+        swarm.choke(SEED, 0);
+        assert_eq!((waiting(&swarm, 0), swarm.peers[SEED as usize].ready), (vec![], 0));
+        while swarm.peers[1].open == 1 {
+            assert_eq!(swarm.step(), Ok(true));
+        }
+        assert_eq!((swarm.outcome.blocks.received, swarm.outcome.blocks.sent), (1, 1));
+        assert!(swarm.peers[1].links[0].asked.is_empty());
+        swarm.enqueue(SEED, 0, Block { piece: 0, index: 0 });
+        assert_eq!(waiting(&swarm, 0), []);
+    }
+
+    /// Four of six guests are served, one block of each in turns.
+    #[test]
+    fn the_unchoked_are_served_in_turns() {
+        let (setup, chooser) = (setup(6), rules::named("ours").unwrap());
+        let mut swarm = busy(&setup, &chooser);
+        let served: Vec<u8> = (0..6).filter(|&slot| swarm.peers[SEED as usize].links[slot as usize].unchoked_at.is_some()).collect();
+        assert_eq!(served.len(), UNCHOKED);
+        while swarm.outcome.blocks.sent < 8 {
+            assert_eq!(swarm.step(), Ok(true));
+        }
+        let received = served.iter().map(|&slot| {
+            let link = &swarm.peers[SEED as usize].links[slot as usize];
+            swarm.peers[link.peer as usize].links[link.back as usize].received[0]
+        });
+        let received: Vec<u32> = received.collect();
+        assert!(received.iter().all(|&blocks| (1..=2).contains(&blocks)), "{received:?}");
+    }
+}

@@ -93,3 +93,15 @@ fn pieces_are_out_when_the_seed_has_sent_them() {
     assert!(spread.at <= run.end);
     assert_eq!(run.samples.last().map(|sample| sample.rarest), Some(41));
 }
+
+/// The seed alone would take the time of all blocks of all peers.
+#[test]
+fn peers_give_each_other_most_of_what_they_get() {
+    let scenario = small("flash");
+    let setup = scenario.setup(1);
+    let alone = 40 * scenario.content.all_blocks() * setup.seed.up;
+    for rule in ["ours", "rarest", "random"] {
+        let end = outcome(&scenario, rule, 1).end;
+        assert!(end < alone / 4, "{rule}: {end} of {alone}");
+    }
+}
