@@ -31,10 +31,11 @@ pub enum View {
 const SHOWN: [&str; 6] = ["ours", "ours, depth 64", "ours, lone first", "ours, in order", "rarest", "random"];
 
 /// The columns of a table.
-const HEAD: [&str; 11] = [
+const HEAD: [&str; 12] = [
     "Rule",
     "First, s",
     "Median, s",
+    "Sooner, runs",
     "Last, s",
     "Out of the seed, copies",
     "Interest, %",
@@ -98,17 +99,18 @@ fn seconds(time: Micros) -> f64 {
 /// The table of all rules, as Markdown. A figure is the mean of the runs.
 pub fn table(content: Content, rows: &[Row]) -> String {
     let head = format!("| {} |\n|{}\n", HEAD.join(" | "), "---|".repeat(HEAD.len()));
-    rows.iter().fold(head, |table, row| table + &format!("| {} |\n", cells(content, row).join(" | ")))
+    rows.iter().fold(head, |table, row| table + &format!("| {} |\n", cells(content, &row.runs, row.rule, &rows[0].runs).join(" | ")))
 }
 
-fn cells(content: Content, row: &Row) -> Vec<String> {
-    let runs = &row.runs;
+/// The cells of a rule. It is compared with the runs of the first rule.
+fn cells(content: Content, runs: &[Outcome], rule: &str, first: &[Outcome]) -> Vec<String> {
     let time = |percent: usize| all(runs, |run| Some(seconds(run.percentile(percent)?)));
     let copies = |run: &Outcome| Some(run.spread?.sent as f64 / content.all_blocks() as f64);
     vec![
-        row.rule.to_string(),
+        rule.to_string(),
         mean(&time(0), 0),
         format!("{}{}", mean(&time(50), 0), range(&time(50))),
+        sooner(runs, first),
         last(runs),
         mean(&all(runs, copies), 2),
         mean(&all(runs, |run| Some(run.interest())), 1),
@@ -118,6 +120,18 @@ fn cells(content: Content, row: &Row) -> Vec<String> {
         mean(&all(runs, |run| Some(run.spent.nanoseconds as f64 / 1e9)), 1),
         mean(&all(runs, |run| Some(run.spent.nanoseconds as f64 / run.spent.calls.max(1) as f64)), 0),
     ]
+}
+
+/// In how many of several runs the median was less than with the first rule, in the same swarm.
+fn sooner(runs: &[Outcome], first: &[Outcome]) -> String {
+    let pairs =
+        runs.iter().zip(first).map(|(run, other)| (run.percentile(50).unwrap_or(Micros::MAX), other.percentile(50).unwrap_or(Micros::MAX)));
+    let count = pairs.filter(|(median, other)| median < other).count();
+    if runs.len() > 1 {
+        count.to_string()
+    } else {
+        String::new()
+    }
 }
 
 /// When the last peer was whole. Where a run ended without that: how many peers got whole, and in how many runs nearly all did, or which pieces
@@ -177,11 +191,14 @@ mod tests {
 
     #[test]
     fn a_row_has_the_mean_of_the_runs() {
+        let first = vec![run(&[2_000_000, 3_000_000, 4_000_000], 3, 0), run(&[2_000_000, 3_000_000, 4_000_000], 3, 0)];
         let runs = vec![run(&[1_000_000, 2_000_000, 5_000_000], 3, 0), run(&[3_000_000, 4_000_000, 6_000_000], 3, 0)];
-        let table = table(Content { pieces: 1, blocks: 1 }, &[Row { rule: "some", runs }]);
-        let row = table.lines().last().unwrap_or_default();
-        assert!(row.starts_with("| some | 2 | 3 (2 to 4) | 6 | - |"), "{row}");
-        assert_eq!(row.matches('|').count(), table.lines().next().unwrap_or_default().matches('|').count());
+        let rows = [Row { rule: "one", runs: first }, Row { rule: "two", runs }];
+        let table = table(Content { pieces: 1, blocks: 1 }, &rows);
+        let lines: Vec<&str> = table.lines().collect();
+        assert!(lines[2].starts_with("| one | 2 | 3 (3 to 3) | 0 | 4 | - |"), "{table}");
+        assert!(lines[3].starts_with("| two | 2 | 3 (2 to 4) | 1 | 6 | - |"), "{table}");
+        assert!(lines.iter().all(|line| line.matches('|').count() == HEAD.len() + 1), "{table}");
     }
 
     #[test]

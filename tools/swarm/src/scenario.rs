@@ -46,18 +46,7 @@ pub struct Scenario {
 }
 
 /// The rules of scenarios that take long.
-const FEW: [&str; 10] = [
-    "ours",
-    "ours, depth 64",
-    "ours, 1 asker",
-    "ours, no bound",
-    "ours, in order",
-    "ours, lone first",
-    "rarest",
-    "rarest, lone first",
-    "rarest, not strict",
-    "random",
-];
+const FEW: [&str; 7] = ["ours", "ours, depth 64", "ours, in order", "ours, lone first", "rarest", "rarest, not strict", "random"];
 
 /// All scenarios.
 pub fn all() -> Vec<Scenario> {
