@@ -92,7 +92,8 @@ fn played(scenario: &Scenario, rules: &[Chooser]) -> Fallible<(Vec<Row>, String)
         eprintln!("{}, {}: {:.0} s", scenario.name, rule.name, start.elapsed().as_secs_f64());
         rows.push(Row { rule: rule.name, runs });
     }
-    let limits = bounds(&setups.iter().map(|(_, setup)| setup.bound()).collect::<Vec<_>>());
+    let limits: Vec<_> = setups.iter().map(|(_, setup)| setup.bound()).collect();
+    let limits = if scenario.is_crowd() { bounds(&limits) } else { String::new() };
     let events: u64 = rows.iter().flat_map(|row| &row.runs).map(|run| run.events).sum();
     let text = format!(
         "{limits}\n\n{}\nRuns of each rule: {}. All of them took {:.0} s, with {} million events. The process held at most {} MB.",

@@ -160,6 +160,11 @@ pub fn named(name: &str) -> Option<Scenario> {
 }
 
 impl Scenario {
+    /// Whether all come at once. The bounds are those of such a swarm.
+    pub fn is_crowd(&self) -> bool {
+        matches!(self.coming, Coming::Within(_))
+    }
+
     /// The swarm: the same for each rule.
     pub fn setup(&self, seed: u64) -> Setup {
         let mut random = Random::new(seed);
