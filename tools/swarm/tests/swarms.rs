@@ -105,3 +105,21 @@ fn peers_give_each_other_most_of_what_they_get() {
         assert!(end < alone / 4, "{rule}: {end} of {alone}");
     }
 }
+
+/// Of two downloaders there are two pairs while both are here and lack something. Nobody is interested in one that has nothing.
+#[test]
+fn pairs_are_those_of_connected_downloaders() {
+    let mut scenario = small("flash");
+    scenario.guests = 2;
+    let mut setup = scenario.setup(1);
+    setup.sampled = 100_000;
+    let run = run(&setup, &rules::named("ours").unwrap(), 1).unwrap();
+    let both_came = setup.guests[1].at;
+    for sample in run.samples.iter().filter(|sample| sample.at > both_came) {
+        assert_eq!((sample.pairs, sample.downloaders), if sample.downloaders == 2 { (2, 2) } else { (0, sample.downloaders) });
+        assert!(sample.interested <= sample.pairs);
+        assert!(sample.interested == 0 || sample.copies > u64::from(scenario.content.pieces));
+    }
+    assert!(run.samples.iter().any(|sample| sample.interested == 2));
+    assert!((0.0..=100.0).contains(&run.interest()));
+}
