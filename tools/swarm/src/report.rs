@@ -28,7 +28,7 @@ pub enum View {
 }
 
 /// The rules in pictures. More lines can't be told apart.
-const SHOWN: [&str; 6] = ["ours", "ours, depth 64", "ours, lone first", "ours, in order", "rarest", "random"];
+const SHOWN: [&str; 7] = ["ours", "ours, depth 64", "ours, in order", "ours, lone first", "ours, lone first by rate", "rarest", "random"];
 
 /// The columns of a table.
 const HEAD: [&str; 12] = [

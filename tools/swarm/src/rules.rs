@@ -85,11 +85,11 @@ fn usual() -> Options {
 }
 
 fn ours(name: &'static str, options: Options) -> Chooser {
-    Chooser { name, kind: Kind::Ours { options, first: First::Rarest }, depths: None }
+    ours_with(name, options, First::Rarest)
 }
 
-fn ours_with(name: &'static str, first: First) -> Chooser {
-    Chooser { kind: Kind::Ours { options: usual(), first }, ..ours(name, usual()) }
+fn ours_with(name: &'static str, options: Options, first: First) -> Chooser {
+    Chooser { name, kind: Kind::Ours { options, first }, depths: None }
 }
 
 /// Rarest first, as plainly as it can be written, but for what is said otherwise.
@@ -110,8 +110,9 @@ pub fn all() -> Vec<Chooser> {
         ours("ours, no bound", usual().askers(NO_BOUND)),
         ours("ours, first rarest", usual().random(0)),
         ours("ours, 4 random", usual().random(4)),
-        ours_with("ours, in order", First::Lowest),
-        ours_with("ours, lone first", First::Lone),
+        ours_with("ours, in order", usual(), First::Lowest),
+        ours_with("ours, lone first", usual(), First::Lone),
+        Chooser { depths: Some(by_rate), ..ours_with("ours, lone first by rate", usual().deepest(by_rate.most), First::Lone) },
         control("rarest", Kind::Rarest(RAREST)),
         control("rarest, least begun", Kind::Rarest(Rarest { begun: Ties::Least, ..RAREST })),
         control("rarest, from a piece on", Kind::Rarest(Rarest { fresh: Ties::Least, ..RAREST })),
