@@ -160,7 +160,11 @@ impl Swarm<'_> {
         whole.picker = None;
         whole.shown = Vec::new();
         whole.whole = Some(now);
-        self.outcome.times.push(now - whole.came);
+        let time = now - whole.came;
+        self.outcome.times.push(time);
+        if self.chooser.is_mixed_in(peer) {
+            self.outcome.mixed_in.push(time);
+        }
         if let Some(stay) = self.setup.stays {
             self.queue.put(stay, Event::Leave { peer });
         }

@@ -6,7 +6,7 @@ use std::process::ExitCode;
 use std::time::Instant;
 use std::{env, fs};
 use swarm::page;
-use swarm::report::{bounds, chart, table, Row};
+use swarm::report::{bounds, chart, mixes, table, Row};
 use swarm::rules::{self, Chooser};
 use swarm::scenario::{self, Scenario};
 use swarm::swarm::run;
@@ -35,7 +35,7 @@ fn command(words: &[&str]) -> Fallible<()> {
     match words {
         ["list"] => {
             scenario::all().iter().for_each(|scenario| println!("scenario {:8} {}", scenario.name, scenario.title));
-            rules::all().iter().for_each(|rule| println!("rule {}", rule.name));
+            rules::all().iter().chain(&rules::mixes()).for_each(|rule| println!("rule {}", rule.name));
             Ok(())
         }
         ["run", name, options @ ..] => {
@@ -78,7 +78,8 @@ fn sized(mut scenario: Scenario, options: &[&str]) -> Fallible<(Scenario, Vec<Ch
 /// The rules that the scenario names, or all but those that make the requests of another one.
 fn usual_rules(scenario: &Scenario) -> Vec<Chooser> {
     let is_chosen = |rule: &Chooser| if scenario.rules.is_empty() { !rule.is_twin() } else { scenario.rules.contains(&rule.name) };
-    rules::all().into_iter().filter(is_chosen).collect()
+    let mixes = rules::mixes().into_iter().filter(|_| !scenario.rules.is_empty());
+    rules::all().into_iter().chain(mixes).filter(is_chosen).collect()
 }
 
 /// Runs the rules one after the other. Gives their runs, and the table with what belongs to it.
@@ -96,8 +97,9 @@ fn played(scenario: &Scenario, rules: &[Chooser]) -> Fallible<(Vec<Row>, String)
     let limits = if scenario.is_crowd() { bounds(&limits) } else { String::new() };
     let events: u64 = rows.iter().flat_map(|row| &row.runs).map(|run| run.events).sum();
     let text = format!(
-        "{limits}\n\n{}\nRuns of each rule: {}. All of them took {:.0} s, with {} million events. The process held at most {} MB.",
+        "{limits}\n\n{}\n{}\nRuns of each rule: {}. All of them took {:.0} s, with {} million events. The process held at most {} MB.",
         table(scenario.content, &rows),
+        mixes(&rows),
         scenario.runs,
         begin.elapsed().as_secs_f64(),
         events / 1_000_000,

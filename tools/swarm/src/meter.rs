@@ -52,6 +52,8 @@ pub struct Spread {
 pub struct Outcome {
     /// How long each peer took that got whole, the shortest first.
     pub times: Vec<Micros>,
+    /// The same of those who follow the other rule of a mixed swarm.
+    pub mixed_in: Vec<Micros>,
     /// How many peers came.
     pub guests: u32,
     /// The pieces that nobody who is here has at the end.
@@ -76,6 +78,17 @@ impl Outcome {
     pub fn percentile(&self, percent: usize) -> Option<Micros> {
         let place = (self.guests as usize - 1) * percent / 100;
         self.times.get(place).copied()
+    }
+
+    /// The median of those who follow the other rule of a mixed swarm, and of the rest, where each has somebody.
+    pub fn medians_of_mix(&self) -> Option<(Micros, Micros)> {
+        let mut rest = self.times.clone();
+        for time in &self.mixed_in {
+            let place = rest.iter().position(|other| other == time)?;
+            rest.remove(place);
+        }
+        let median = |times: &[Micros]| times.get(times.len().saturating_sub(1) / 2).copied();
+        Some((median(&self.mixed_in)?, median(&rest)?))
     }
 
     /// Of pairs of connected downloaders, how many percent were interested, over all samples.

@@ -170,6 +170,17 @@ fn range(figures: &[f64]) -> String {
     format!(" ({least:.0} to {greatest:.0})")
 }
 
+/// Of each mixed swarm, what each of the two rules brought to those who follow it.
+pub fn mixes(rows: &[Row]) -> String {
+    let lines = rows.iter().filter_map(|row| {
+        let medians: Vec<(Micros, Micros)> = row.runs.iter().map(Outcome::medians_of_mix).collect::<Option<_>>()?;
+        let mixed: Vec<f64> = medians.iter().map(|&(mixed, _)| seconds(mixed)).collect();
+        let rest: Vec<f64> = medians.iter().map(|&(_, rest)| seconds(rest)).collect();
+        Some(format!("- {}: the median of these is {} s, and that of the others {} s.\n", row.rule, mean(&mixed, 0), mean(&rest, 0)))
+    });
+    lines.collect()
+}
+
 /// The three bounds in a sentence.
 pub fn bounds(bounds: &[Bound]) -> String {
     let figure = |pick: fn(&Bound) -> f64| mean(&bounds.iter().map(|bound| pick(bound) / 1e6).collect::<Vec<_>>(), 0);
@@ -199,6 +210,15 @@ mod tests {
         assert!(lines[2].starts_with("| one | 2 | 3 (3 to 3) | 0 | 4 | - |"), "{table}");
         assert!(lines[3].starts_with("| two | 2 | 3 (2 to 4) | 1 | 6 | - |"), "{table}");
         assert!(lines.iter().all(|line| line.matches('|').count() == HEAD.len() + 1), "{table}");
+    }
+
+    #[test]
+    fn a_mixed_swarm_tells_both_medians() {
+        let mixed_in = vec![2_000_000, 5_000_000, 9_000_000];
+        let times = vec![1_000_000, 2_000_000, 4_000_000, 5_000_000, 7_000_000, 9_000_000];
+        let runs = vec![Outcome { mixed_in, ..run(&times, 6, 0) }];
+        let rows = [Row { rule: "mix", runs }, Row { rule: "pure", runs: vec![run(&[1], 1, 0)] }];
+        assert_eq!(mixes(&rows), "- mix: the median of these is 5 s, and that of the others 4 s.\n");
     }
 
     #[test]

@@ -48,13 +48,21 @@ pub struct Chooser {
     pub name: &'static str,
     kind: Kind,
     depths: Option<Depths>,
+    /// How many of ten peers follow another rule, and which.
+    mixed: Option<(u32, Kind)>,
 }
 
 impl Chooser {
+    /// Whether the peer follows the other rule of a mixed swarm.
+    pub fn is_mixed_in(&self, peer: u32) -> bool {
+        self.mixed.is_some_and(|(of_ten, _)| peer % 10 < of_ten)
+    }
+
     /// A picker for a downloader that has nothing.
-    pub fn picker(&self, content: Content, spent: &Rc<Cell<Spent>>) -> Result<Box<dyn Rule>, Fault> {
+    pub fn picker(&self, peer: u32, content: Content, spent: &Rc<Cell<Spent>>) -> Result<Box<dyn Rule>, Fault> {
+        let kind = self.mixed.filter(|_| self.is_mixed_in(peer)).map_or(self.kind, |(_, kind)| kind);
         let book = || Book::new(content, DEPTH, ASKERS);
-        let rule: Box<dyn Rule> = match self.kind {
+        let rule: Box<dyn Rule> = match kind {
             Kind::Ours { options, first } => Box::new(Ours::new(content, options, first)?),
             Kind::AnyPiece => Box::new(Plain::new(book(), Box::new(AnyPiece), Ties::Any)),
             Kind::Rising => Box::new(Plain::new(book(), Box::new(Rising), Ties::Least)),
@@ -89,14 +97,14 @@ fn ours(name: &'static str, options: Options) -> Chooser {
 }
 
 fn ours_with(name: &'static str, options: Options, first: First) -> Chooser {
-    Chooser { name, kind: Kind::Ours { options, first }, depths: None }
+    Chooser { name, kind: Kind::Ours { options, first }, depths: None, mixed: None }
 }
 
 /// Rarest first, as plainly as it can be written, but for what is said otherwise.
 const RAREST: Rarest = Rarest { random: 1, lone_first: false, begun: Ties::Any, fresh: Ties::Any };
 
 fn control(name: &'static str, kind: Kind) -> Chooser {
-    Chooser { name, kind, depths: None }
+    Chooser { name, kind, depths: None, mixed: None }
 }
 
 /// All rules, the library's first.
@@ -125,7 +133,14 @@ pub fn all() -> Vec<Chooser> {
     ]
 }
 
-/// The rule of this name.
+/// Swarms in which some peers follow another rule of the library than the rest.
+pub fn mixes() -> Vec<Chooser> {
+    let lone = Kind::Ours { options: usual(), first: First::Lone };
+    let mix = |name, of_ten| Chooser { mixed: Some((of_ten, lone)), ..ours(name, usual()) };
+    vec![mix("1 of 10 lone first", 1), mix("5 of 10 lone first", 5), mix("9 of 10 lone first", 9)]
+}
+
+/// The rule or the mix of this name.
 pub fn named(name: &str) -> Option<Chooser> {
-    all().into_iter().find(|chooser| chooser.name == name)
+    all().into_iter().chain(mixes()).find(|chooser| chooser.name == name)
 }

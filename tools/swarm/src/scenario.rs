@@ -78,6 +78,13 @@ pub fn all() -> Vec<Scenario> {
         flash,
         small,
         Scenario {
+            name: "mixed",
+            title: "Mixed small flash crowds: some peers follow another rule",
+            rules: &["ours", "1 of 10 lone first", "5 of 10 lone first", "9 of 10 lone first", "ours, lone first"],
+            views: &[],
+            ..small
+        },
+        Scenario {
             name: "short",
             title: "Pieces of one block: 200 downloaders, 3,200 pieces",
             content: Content { pieces: 3_200, blocks: 1 },

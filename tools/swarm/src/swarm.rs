@@ -197,6 +197,7 @@ impl<'a> Swarm<'a> {
         let mut outcome = self.outcome;
         outcome.blocks.under_way = self.queue.waiting().filter(is_block).count() as u64;
         outcome.times.sort_unstable();
+        outcome.mixed_in.sort_unstable();
         outcome.missing = self.copies.iter().filter(|&&copies| copies == 0).count() as u32;
         outcome.end = self.queue.now();
         outcome.events = self.queue.count();

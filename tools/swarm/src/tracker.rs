@@ -17,7 +17,7 @@ impl Swarm<'_> {
         let now = self.queue.now();
         self.last_move = now;
         let is_seed = peer == SEED;
-        let picker = if is_seed { None } else { Some(self.chooser.picker(self.setup.content, &self.spent)?) };
+        let picker = if is_seed { None } else { Some(self.chooser.picker(peer, self.setup.content, &self.spent)?) };
         let comer = &mut self.peers[peer as usize];
         comer.come(self.setup.content, now, picker);
         comer.word = self.random.word();

@@ -28,8 +28,7 @@ fn line(up: Micros, down: Micros, delay: Micros) -> Line {
 
 /// The time of each rule but those whose depth is another.
 fn times(setup: &Setup) -> Vec<(&'static str, Vec<Micros>)> {
-    let is_usual = |name: &str| !name.contains("depth");
-    let rules = rules::all().into_iter().filter(|rule| is_usual(rule.name));
+    let rules = rules::all().into_iter().filter(|rule| rule.depths().is_none() && !rule.name.contains("depth"));
     rules.map(|rule| (rule.name, run(setup, &rule, 1).unwrap().times)).collect()
 }
 
