@@ -45,8 +45,25 @@ pub struct Scenario {
     sampled: Micros,
 }
 
-/// The rules of scenarios that take long.
+/// The rules that differ most, for scenarios that take long.
 const FEW: [&str; 7] = ["ours", "ours, depth 64", "ours, in order", "ours, lone first", "rarest", "rarest, not strict", "random"];
+
+/// The rules that differ where the last peers wait for their last blocks.
+const LAST: [&str; 9] = [
+    "ours",
+    "ours, depth 64",
+    "ours, depth by rate",
+    "ours, 1 asker",
+    "ours, no bound",
+    "ours, lone first",
+    "ours, lone first by rate",
+    "rarest",
+    "random",
+];
+
+/// The rules that differ where a depth may be too small.
+const DEPTHS: [&str; 8] =
+    ["ours", "ours, depth 64", "ours, depth by rate", "ours, in order", "ours, lone first", "ours, lone first by rate", "rarest", "random"];
 
 /// All scenarios.
 pub fn all() -> Vec<Scenario> {
@@ -96,6 +113,7 @@ pub fn all() -> Vec<Scenario> {
             name: "strong",
             title: "A seed of 4 MiB/s: 200 downloaders, 200 pieces",
             seed: (4096, 4096),
+            rules: &LAST,
             runs: 5,
             views: &[View::Content],
             ..small
@@ -106,6 +124,7 @@ pub fn all() -> Vec<Scenario> {
             content: Content { pieces: 400, blocks: 16 },
             runs: 3,
             views: &[View::Content],
+            rules: &DEPTHS,
             lines: &FIBRES,
             seed: (8192, 32768),
             sampled: SECOND / 2,
@@ -119,13 +138,13 @@ pub fn all() -> Vec<Scenario> {
             views: &[View::Downloaders, View::Rarest],
             coming: Coming::Each(5 * SECOND),
             stays: Some(60 * SECOND),
-            rules: &[],
             ..flash
         },
         Scenario {
             name: "leaves",
             title: "The seed leaves after 1.1 copies: 200 downloaders, 200 pieces",
             runs: 3,
+            rules: &FEW,
             views: &[],
             seed_gives: Some(110),
             ..small
@@ -134,7 +153,8 @@ pub fn all() -> Vec<Scenario> {
             name: "later",
             title: "The seed leaves after 3 copies: 200 downloaders, 200 pieces",
             runs: 3,
-            views: &[View::Content],
+            rules: &FEW,
+            views: &[],
             seed_gives: Some(300),
             ..small
         },
@@ -143,6 +163,7 @@ pub fn all() -> Vec<Scenario> {
             title: "One comes each 5 s and leaves when it is whole; the seed leaves after 4 copies",
             guests: 500,
             runs: 5,
+            rules: &FEW,
             views: &[View::Downloaders, View::Rarest],
             coming: Coming::Each(5 * SECOND),
             seed_gives: Some(400),
