@@ -83,12 +83,17 @@ pub fn chart(scenario: &Scenario, view: View, rows: &[Row]) -> Chart {
     Chart { title: scenario.title.into(), across: "seconds".into(), up: view.up().into(), series: series.collect() }
 }
 
-/// Some 200 points of a run. Interest has none where there is no pair.
+/// Some 200 points of a run. There are none where there is no pair, or nobody beside the seed.
 fn points(view: View, run: &Outcome, pieces: u32) -> Vec<(f64, f64)> {
     let step = run.samples.len() / 200 + 1;
     let last = run.samples.last().filter(|_| run.samples.len() % step != 1);
     let samples = run.samples.iter().step_by(step).chain(last);
-    let samples = samples.filter(|sample| view != View::Interest || sample.pairs > 0);
+    let is_shown = |sample: &&Sample| match view {
+        View::Interest => sample.pairs > 0,
+        View::Content => sample.peers > 1,
+        View::Rarest | View::Downloaders => true,
+    };
+    let samples = samples.filter(is_shown);
     samples.map(|sample| (seconds(sample.at), view.value(sample, pieces))).collect()
 }
 

@@ -88,6 +88,7 @@ pub fn all() -> Vec<Scenario> {
         guests: 200,
         content: Content { pieces: 200, blocks: 16 },
         runs: 10,
+        views: &[View::Interest],
         rules: &[],
         ..flash
     };
@@ -106,6 +107,7 @@ pub fn all() -> Vec<Scenario> {
             title: "Pieces of one block: 200 downloaders, 3,200 pieces",
             content: Content { pieces: 3_200, blocks: 1 },
             runs: 1,
+            views: &[],
             rules: &FEW,
             ..small
         },
