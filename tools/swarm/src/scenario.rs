@@ -117,7 +117,7 @@ pub fn all() -> Vec<Scenario> {
             seed: (4096, 4096),
             rules: &LAST,
             runs: 5,
-            views: &[View::Content],
+            views: &[],
             ..small
         },
         Scenario {
