@@ -220,3 +220,48 @@ impl Swarm<'_> {
         self.ask_others(peer)
     }
 }
+
+#[cfg(test)]
+mod tests {
+    use super::*;
+    use crate::peer::Line;
+    use crate::rule::Content;
+    use crate::rules;
+    use crate::setup::{Guest, Setup};
+
+    /// Two blocks are asked of the first neighbour that unchokes us, and nothing is left for the second. When the first one chokes us, the epoch
+    /// rises, and the second one is asked for both.
+    #[test]
+    fn a_neighbour_that_had_nothing_is_asked_when_the_epoch_rises() {
+        let line = Line { up: 5 * SECOND, down: 1_000, delay: 10_000 };
+        let setup = Setup {
+            content: Content { pieces: 1, blocks: 2 },
+            seed: line,
+            seed_gives: None,
+            guests: vec![Guest { at: 0, line }, Guest { at: SECOND, line }],
+            stays: None,
+            have_delay: 1_000,
+            sampled: SECOND,
+            patience: 100 * SECOND,
+        };
+        for name in ["ours, 1 asker", "ours"] {
+            let chooser = rules::named(name).unwrap();
+            let mut swarm = Swarm::new(&setup, &chooser, 1);
+            while !swarm.peers[1].is_here {
+                swarm.step().unwrap();
+            }
+            swarm.peers[1].get(0);
+            swarm.be_whole(1).unwrap();
+            while swarm.peers[2].open.count_ones() < 2 {
+                swarm.step().unwrap();
+            }
+            let asked = |swarm: &Swarm, slot: u8| swarm.peers[2].links[slot as usize].asked.len();
+            let first = slots(swarm.peers[2].open).max_by_key(|&slot| asked(&swarm, slot)).unwrap();
+            let second = 1 - first;
+            let doubled = if name == "ours" { 2 } else { 0 };
+            assert_eq!((asked(&swarm, first), asked(&swarm, second)), (2, doubled), "{name}");
+            swarm.note_choke(2, first, true).unwrap();
+            assert_eq!((asked(&swarm, first), asked(&swarm, second)), (0, 2), "{name}");
+        }
+    }
+}
