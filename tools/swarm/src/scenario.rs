@@ -164,7 +164,7 @@ pub fn all() -> Vec<Scenario> {
             name: "fades",
             title: "One comes each 5 s and leaves when it is whole; the seed leaves after 4 copies",
             guests: 500,
-            runs: 5,
+            runs: 20,
             rules: &FEW,
             views: &[View::Downloaders, View::Rarest],
             coming: Coming::Each(5 * SECOND),
