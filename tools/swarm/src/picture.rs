@@ -17,6 +17,8 @@ const DASHES: [&str; 2] = ["none", "7 3"];
 #[derive(Clone, Debug)]
 pub struct Series {
     pub name: String,
+    /// The same style is the same colour in each picture.
+    pub style: usize,
     pub points: Vec<(f64, f64)>,
 }
 
@@ -152,10 +154,11 @@ mod tests {
 
     #[test]
     fn a_line_goes_from_corner_to_corner() {
-        let series = Series { name: "a < b".into(), points: vec![(0.0, 0.0), (10.0, 5.0)] };
+        let series = Series { name: "a < b".into(), style: 8, points: vec![(0.0, 0.0), (10.0, 5.0)] };
         let chart = Chart { title: "t".into(), across: "s".into(), up: "n".into(), series: vec![series] };
         let svg = chart.svg();
         assert!(svg.contains("points=\"70.0,345.0 560.0,40.0\""), "{svg}");
         assert!(svg.contains("a &lt; b"));
+        assert!(svg.contains(COLOURS[1]) && !svg.contains(COLOURS[0]));
     }
 }

@@ -78,8 +78,10 @@ impl View {
 
 /// The chart of the first run of each rule.
 pub fn chart(scenario: &Scenario, view: View, rows: &[Row]) -> Chart {
-    let shown = SHOWN.iter().filter_map(|name| rows.iter().find(|row| row.rule == *name));
-    let series = shown.map(|row| Series { name: row.rule.into(), points: points(view, &row.runs[0], scenario.content.pieces) });
+    let series = SHOWN.iter().enumerate().filter_map(|(style, name)| {
+        let row = rows.iter().find(|row| row.rule == *name)?;
+        Some(Series { name: row.rule.into(), style, points: points(view, &row.runs[0], scenario.content.pieces) })
+    });
     Chart { title: scenario.title.into(), across: "seconds".into(), up: view.up().into(), series: series.collect() }
 }
 
