@@ -94,8 +94,11 @@ impl Chart {
 
 /// A line and its name.
 fn line(text: &mut String, place: usize, series: &Series, across: Axis, up: Axis) {
-    let stroke =
-        format!("stroke=\"{}\" stroke-width=\"2\" stroke-dasharray=\"{}\"", COLOURS[place % COLOURS.len()], DASHES[place % DASHES.len()]);
+    let stroke = format!(
+        "stroke=\"{}\" stroke-width=\"2\" stroke-dasharray=\"{}\"",
+        COLOURS[series.style % COLOURS.len()],
+        DASHES[series.style % DASHES.len()]
+    );
     let points: Vec<String> = series.points.iter().map(|&(x, y)| format!("{:.1},{:.1}", x_of(x, across), y_of(y, up))).collect();
     add(text, &format!("<polyline fill=\"none\" {stroke} points=\"{}\"/>", points.join(" ")));
     let (x, y) = (WIDTH - RIGHT + 15.0, TOP + 15.0 + 20.0 * place as f64);
