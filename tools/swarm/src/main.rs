@@ -34,7 +34,7 @@ fn main() -> ExitCode {
 fn command(words: &[&str]) -> Fallible<()> {
     match words {
         ["list"] => {
-            scenario::all().iter().for_each(|scenario| println!("scenario {:8} {}", scenario.name, scenario.title));
+            scenario::ALL.iter().for_each(|scenario| println!("scenario {:8} {}", scenario.name, scenario.title));
             rules::all().iter().chain(&rules::mixes()).for_each(|rule| println!("rule {}", rule.name));
             Ok(())
         }

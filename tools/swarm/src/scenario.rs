@@ -65,128 +65,128 @@ const LAST: [&str; 9] = [
 const DEPTHS: [&str; 8] =
     ["ours", "ours, depth 64", "ours, depth by rate", "ours, in order", "ours, lone first", "ours, lone first by rate", "rarest", "random"];
 
+const FLASH: Scenario = Scenario {
+    name: "flash",
+    title: "Flash crowd: a seed of 256 KiB/s, 1,000 downloaders, 1,000 pieces",
+    guests: 1_000,
+    content: Content { pieces: 1_000, blocks: 16 },
+    runs: 1,
+    views: &[View::Content, View::Interest],
+    rules: &FEW,
+    lines: &HOMES,
+    seed: (256, 1024),
+    coming: Coming::Within(10 * SECOND),
+    seed_gives: None,
+    stays: None,
+    sampled: 10 * SECOND,
+};
+
+const SMALL: Scenario = Scenario {
+    name: "small",
+    title: "Small flash crowd: 200 downloaders, 200 pieces",
+    guests: 200,
+    content: Content { pieces: 200, blocks: 16 },
+    runs: 10,
+    views: &[View::Interest],
+    rules: &[],
+    ..FLASH
+};
+
 /// All scenarios.
-pub fn all() -> Vec<Scenario> {
-    let flash = Scenario {
-        name: "flash",
-        title: "Flash crowd: a seed of 256 KiB/s, 1,000 downloaders, 1,000 pieces",
-        guests: 1_000,
-        content: Content { pieces: 1_000, blocks: 16 },
+pub const ALL: [Scenario; 11] = [
+    FLASH,
+    SMALL,
+    Scenario {
+        name: "mixed",
+        title: "Mixed small flash crowds: some peers follow another rule",
+        rules: &["ours", "1 of 10 lone first", "5 of 10 lone first", "9 of 10 lone first", "ours, lone first"],
+        views: &[],
+        ..SMALL
+    },
+    Scenario {
+        name: "short",
+        title: "Pieces of one block: 200 downloaders, 3,200 pieces",
+        content: Content { pieces: 3_200, blocks: 1 },
         runs: 1,
-        views: &[View::Content, View::Interest],
+        views: &[],
         rules: &FEW,
-        lines: &HOMES,
-        seed: (256, 1024),
-        coming: Coming::Within(10 * SECOND),
-        seed_gives: None,
-        stays: None,
-        sampled: 10 * SECOND,
-    };
-    let small = Scenario {
-        name: "small",
-        title: "Small flash crowd: 200 downloaders, 200 pieces",
-        guests: 200,
-        content: Content { pieces: 200, blocks: 16 },
-        runs: 10,
-        views: &[View::Interest],
-        rules: &[],
-        ..flash
-    };
-    vec![
-        flash,
-        small,
-        Scenario {
-            name: "mixed",
-            title: "Mixed small flash crowds: some peers follow another rule",
-            rules: &["ours", "1 of 10 lone first", "5 of 10 lone first", "9 of 10 lone first", "ours, lone first"],
-            views: &[],
-            ..small
-        },
-        Scenario {
-            name: "short",
-            title: "Pieces of one block: 200 downloaders, 3,200 pieces",
-            content: Content { pieces: 3_200, blocks: 1 },
-            runs: 1,
-            views: &[],
-            rules: &FEW,
-            ..small
-        },
-        Scenario {
-            name: "strong",
-            title: "A seed of 4 MiB/s: 200 downloaders, 200 pieces",
-            seed: (4096, 4096),
-            rules: &LAST,
-            runs: 5,
-            views: &[],
-            ..small
-        },
-        Scenario {
-            name: "fast",
-            title: "Fast lines of 8 MiB/s up: 200 downloaders, 400 pieces",
-            content: Content { pieces: 400, blocks: 16 },
-            runs: 3,
-            views: &[View::Content],
-            rules: &DEPTHS,
-            lines: &FIBRES,
-            seed: (8192, 32768),
-            sampled: SECOND / 2,
-            ..small
-        },
-        Scenario {
-            name: "steady",
-            title: "Steady state: one comes each 5 s, and leaves 60 s after it is whole",
-            guests: 1_000,
-            content: Content { pieces: 400, blocks: 16 },
-            views: &[View::Downloaders, View::Rarest],
-            coming: Coming::Each(5 * SECOND),
-            stays: Some(60 * SECOND),
-            ..flash
-        },
-        Scenario {
-            name: "leaves",
-            title: "The seed leaves after 1.1 copies: 200 downloaders, 200 pieces",
-            runs: 3,
-            rules: &FEW,
-            views: &[],
-            seed_gives: Some(110),
-            ..small
-        },
-        Scenario {
-            name: "later",
-            title: "The seed leaves after 3 copies: 200 downloaders, 200 pieces",
-            runs: 3,
-            rules: &FEW,
-            views: &[],
-            seed_gives: Some(300),
-            ..small
-        },
-        Scenario {
-            name: "fades",
-            title: "One comes each 5 s and leaves when it is whole; the seed leaves after 4 copies",
-            guests: 500,
-            runs: 20,
-            rules: &FEW,
-            views: &[View::Downloaders, View::Rarest],
-            coming: Coming::Each(5 * SECOND),
-            seed_gives: Some(400),
-            stays: Some(0),
-            ..small
-        },
-        Scenario {
-            name: "large",
-            title: "10,000 downloaders, 400 pieces",
-            guests: 10_000,
-            content: Content { pieces: 400, blocks: 16 },
-            views: &[],
-            rules: &["ours"],
-            ..flash
-        },
-    ]
-}
+        ..SMALL
+    },
+    Scenario {
+        name: "strong",
+        title: "A seed of 4 MiB/s: 200 downloaders, 200 pieces",
+        seed: (4096, 4096),
+        rules: &LAST,
+        runs: 5,
+        views: &[],
+        ..SMALL
+    },
+    Scenario {
+        name: "fast",
+        title: "Fast lines of 8 MiB/s up: 200 downloaders, 400 pieces",
+        content: Content { pieces: 400, blocks: 16 },
+        runs: 3,
+        views: &[View::Content],
+        rules: &DEPTHS,
+        lines: &FIBRES,
+        seed: (8192, 32768),
+        sampled: SECOND / 2,
+        ..SMALL
+    },
+    Scenario {
+        name: "steady",
+        title: "Steady state: one comes each 5 s, and leaves 60 s after it is whole",
+        guests: 1_000,
+        content: Content { pieces: 400, blocks: 16 },
+        views: &[View::Downloaders, View::Rarest],
+        coming: Coming::Each(5 * SECOND),
+        stays: Some(60 * SECOND),
+        ..FLASH
+    },
+    Scenario {
+        name: "leaves",
+        title: "The seed leaves after 1.1 copies: 200 downloaders, 200 pieces",
+        runs: 3,
+        rules: &FEW,
+        views: &[],
+        seed_gives: Some(110),
+        ..SMALL
+    },
+    Scenario {
+        name: "later",
+        title: "The seed leaves after 3 copies: 200 downloaders, 200 pieces",
+        runs: 3,
+        rules: &FEW,
+        views: &[],
+        seed_gives: Some(300),
+        ..SMALL
+    },
+    Scenario {
+        name: "fades",
+        title: "One comes each 5 s and leaves when it is whole; the seed leaves after 4 copies",
+        guests: 500,
+        runs: 20,
+        rules: &FEW,
+        views: &[View::Downloaders, View::Rarest],
+        coming: Coming::Each(5 * SECOND),
+        seed_gives: Some(400),
+        stays: Some(0),
+        ..SMALL
+    },
+    Scenario {
+        name: "large",
+        title: "10,000 downloaders, 400 pieces",
+        guests: 10_000,
+        content: Content { pieces: 400, blocks: 16 },
+        views: &[],
+        rules: &["ours"],
+        ..FLASH
+    },
+];
 
 /// The scenario of this name.
 pub fn named(name: &str) -> Option<Scenario> {
-    all().into_iter().find(|scenario| scenario.name == name)
+    ALL.into_iter().find(|scenario| scenario.name == name)
 }
 
 impl Scenario {
