@@ -167,7 +167,7 @@ pub const ALL: [Scenario; 11] = [
         guests: 500,
         runs: 20,
         rules: &FEW,
-        views: &[View::Downloaders, View::Rarest],
+        views: &[View::Downloaders],
         coming: Coming::Each(5 * SECOND),
         seed_gives: Some(400),
         stays: Some(0),

@@ -14,6 +14,9 @@ use std::rc::Rc;
 /// The seed's number. The guests follow.
 pub const SEED: u32 = 0;
 
+/// The time between two choices of whom to unchoke.
+pub const ROUND: Micros = 10 * SECOND;
+
 /// What one peer says to another.
 #[derive(Clone, Copy, Debug, PartialEq, Eq)]
 pub enum Message {
@@ -205,6 +208,3 @@ impl<'a> Swarm<'a> {
         outcome
     }
 }
-
-/// The time between two choices of whom to unchoke.
-pub const ROUND: Micros = 10 * SECOND;

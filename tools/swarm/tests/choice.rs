@@ -58,7 +58,6 @@ fn endgame_asks_twice_and_cancels() {
         }
         let block = Block { piece: 0, index: 0 };
         assert_eq!(picker.next(0, 1), Ok(Ask::Request(block)), "{name}");
-        let others: Vec<u8> = (0..3).collect();
         for piece in 1..PIECES {
             picker.have(0, piece).unwrap();
         }
@@ -70,7 +69,7 @@ fn endgame_asks_twice_and_cancels() {
         assert_eq!(picker.arrived(1, block), Ok(Came::Completed), "{name}");
         assert_ne!(picker.epoch(), before, "{name}");
         assert_eq!(picker.next(0, 5), Ok(Ask::Cancel(block)), "{name}");
-        assert!(others.iter().all(|&slot| picker.next(slot, 6) == Ok(Ask::Dry)), "{name}");
+        assert!((0..3).all(|slot| picker.next(slot, 6) == Ok(Ask::Dry)), "{name}");
         assert_eq!(picker.arrived(0, block), Ok(Came::Twice), "{name}");
     }
 }
