@@ -1,0 +1,247 @@
+//! What a control knows of its download, written as plainly as it can be.
+
+use crate::random::scaled;
+use crate::rule::{Block, Came, Content};
+
+/// The slots of a book, and the most blocks of a piece: each set of them is a word of 64 bits.
+pub const SLOTS: usize = 64;
+
+#[derive(Clone, Debug, Default)]
+struct Neighbour {
+    is_open: bool,
+    depth: usize,
+    /// What is asked of it, the oldest first.
+    line: Vec<Block>,
+    /// What it was asked for, and another neighbour brought.
+    due: Vec<Block>,
+}
+
+/// Pieces, blocks and neighbours of one downloader.
+#[derive(Clone, Debug)]
+pub struct Book {
+    content: Content,
+    /// For each piece, the slots that show it.
+    shown: Vec<u64>,
+    /// For each piece, the blocks that are held or asked.
+    taken: Vec<u64>,
+    /// For each piece, the blocks that are held.
+    held: Vec<u64>,
+    /// The pieces that aren't had, and of which a block is held or asked.
+    begun: Vec<u32>,
+    had: u32,
+    /// The blocks that are neither held nor asked.
+    free: u64,
+    neighbours: Vec<Neighbour>,
+    usual_depth: usize,
+    askers: usize,
+    epoch: u64,
+}
+
+impl Book {
+    /// The book of a downloader that has nothing.
+    pub fn new(content: Content, depth: u32, askers: u32) -> Book {
+        let empty = vec![0; content.pieces as usize];
+        Book {
+            content,
+            shown: empty.clone(),
+            taken: empty.clone(),
+            held: empty,
+            begun: Vec::new(),
+            had: 0,
+            free: content.all_blocks(),
+            neighbours: vec![Neighbour::default(); SLOTS],
+            usual_depth: depth as usize,
+            askers: askers as usize,
+            epoch: 0,
+        }
+    }
+
+    /// How many pieces there are.
+    pub fn pieces(&self) -> u32 {
+        self.content.pieces
+    }
+
+    /// How many pieces are had.
+    pub fn had(&self) -> u32 {
+        self.had
+    }
+
+    /// See [`Rule::epoch`](crate::rule::Rule::epoch).
+    pub fn epoch(&self) -> u64 {
+        self.epoch
+    }
+
+    /// How many neighbours show the piece.
+    pub fn availability(&self, piece: u32) -> u32 {
+        self.shown[piece as usize].count_ones()
+    }
+
+    /// All blocks of a piece.
+    fn full(&self) -> u64 {
+        u64::MAX >> (64 - self.content.blocks)
+    }
+
+    /// The pieces that the neighbour shows, and of which a block is free.
+    pub fn useful(&self, slot: u8) -> impl Iterator<Item = u32> + Clone + '_ {
+        let full = self.full();
+        let pieces = self.shown.iter().zip(&self.taken).enumerate();
+        pieces.filter(move |(_, (shown, taken))| *shown >> slot & 1 == 1 && **taken != full).map(|(piece, _)| piece as u32)
+    }
+
+    /// Those of them of which no block is held or asked.
+    pub fn fresh(&self, slot: u8) -> impl Iterator<Item = u32> + Clone + '_ {
+        let pieces = self.shown.iter().zip(&self.taken).enumerate();
+        pieces.filter(move |(_, (shown, taken))| *shown >> slot & 1 == 1 && **taken == 0).map(|(piece, _)| piece as u32)
+    }
+
+    /// Those of them that are begun.
+    pub fn begun(&self, slot: u8) -> impl Iterator<Item = u32> + Clone + '_ {
+        let full = self.full();
+        let is_useful = move |piece: &u32| {
+            let at = *piece as usize;
+            self.shown[at] >> slot & 1 == 1 && self.taken[at] != full
+        };
+        self.begun.iter().copied().filter(is_useful)
+    }
+
+    /// The first free block of a piece that has one.
+    pub fn first_free(&self, piece: u32) -> Block {
+        Block { piece, index: (!self.taken[piece as usize]).trailing_zeros() }
+    }
+
+    /// Endgame: the blocks that the neighbour may bring, and of which too few others were asked. There are none while a block is free.
+    pub fn doubles(&self, slot: u8) -> Vec<Block> {
+        if self.free > 0 {
+            return Vec::new();
+        }
+        let mut asked: Vec<Block> = self.neighbours.iter().flat_map(|neighbour| &neighbour.line).copied().collect();
+        asked.sort_unstable();
+        let own = &self.neighbours[slot as usize].line;
+        let is_useful = |block: &Block| self.shown[block.piece as usize] >> slot & 1 == 1 && !own.contains(block);
+        let runs = asked.chunk_by(|block, next| block == next);
+        runs.filter(|run| run.len() < self.askers && is_useful(&run[0])).map(|run| run[0]).collect()
+    }
+
+    /// Whether another block may be asked of the neighbour now.
+    pub fn has_room(&self, slot: u8) -> bool {
+        let neighbour = &self.neighbours[slot as usize];
+        neighbour.is_open && neighbour.line.len() < neighbour.depth
+    }
+
+    /// What is to be cancelled at the neighbour.
+    pub fn take_due(&mut self, slot: u8) -> Option<Block> {
+        self.neighbours[slot as usize].due.pop()
+    }
+
+    /// The block is asked of the neighbour.
+    pub fn ask(&mut self, slot: u8, block: Block) {
+        self.neighbours[slot as usize].line.push(block);
+        self.take(block);
+    }
+
+    /// The block is held or asked from now on.
+    fn take(&mut self, block: Block) {
+        let taken = &mut self.taken[block.piece as usize];
+        if *taken >> block.index & 1 == 1 {
+            return;
+        }
+        if *taken == 0 {
+            self.begun.push(block.piece);
+        }
+        *taken |= 1 << block.index;
+        self.free -= 1;
+        if self.free == 0 {
+            self.epoch += 1;
+        }
+    }
+
+    /// A neighbour comes, and shows these pieces.
+    pub fn join(&mut self, slot: u8, flags: &[u8]) {
+        self.neighbours[slot as usize] = Neighbour { depth: self.usual_depth, ..Neighbour::default() };
+        for piece in 0..self.content.pieces {
+            if flags[piece as usize / 8] >> (7 - piece % 8) & 1 == 1 {
+                self.have(slot, piece);
+            }
+        }
+    }
+
+    /// The neighbour has one piece more.
+    pub fn have(&mut self, slot: u8, piece: u32) {
+        self.shown[piece as usize] |= 1 << slot;
+    }
+
+    /// The neighbour goes.
+    pub fn leave(&mut self, slot: u8) {
+        self.choke(slot, true);
+        self.shown.iter_mut().for_each(|shown| *shown &= !(1 << slot));
+    }
+
+    /// The neighbour chokes us, which frees what was asked of it; or it does so no more.
+    pub fn choke(&mut self, slot: u8, is_choked: bool) {
+        let neighbour = &mut self.neighbours[slot as usize];
+        neighbour.is_open = !is_choked;
+        if !is_choked {
+            return;
+        }
+        neighbour.due.clear();
+        let freed = std::mem::take(&mut neighbour.line);
+        for &block in freed.iter().filter(|block| !self.neighbours.iter().any(|other| other.line.contains(block))).collect::<Vec<_>>() {
+            self.release(block);
+        }
+        if !freed.is_empty() {
+            self.epoch += 1;
+        }
+    }
+
+    /// The block is asked of nobody from now on.
+    fn release(&mut self, block: Block) {
+        let taken = &mut self.taken[block.piece as usize];
+        *taken &= !(1 << block.index);
+        self.free += 1;
+        if *taken == 0 {
+            self.begun.retain(|&piece| piece != block.piece);
+        }
+    }
+
+    /// So many blocks may be asked of the neighbour.
+    pub fn depth(&mut self, slot: u8, depth: u32) {
+        self.neighbours[slot as usize].depth = depth as usize;
+    }
+
+    /// A block came from the neighbour.
+    pub fn arrived(&mut self, slot: u8, block: Block) -> Came {
+        self.neighbours[slot as usize].line.retain(|&asked| asked != block);
+        let at = block.piece as usize;
+        if self.held[at] >> block.index & 1 == 1 {
+            return Came::Twice;
+        }
+        self.take(block);
+        self.held[at] |= 1 << block.index;
+        self.cancel(block);
+        if self.held[at] != self.full() {
+            return Came::Stored;
+        }
+        self.begun.retain(|&piece| piece != block.piece);
+        self.had += 1;
+        Came::Completed
+    }
+
+    /// Those who are asked for a block that came are due for a cancel.
+    fn cancel(&mut self, block: Block) {
+        for neighbour in &mut self.neighbours {
+            let before = neighbour.line.len();
+            neighbour.line.retain(|&asked| asked != block);
+            if neighbour.line.len() < before {
+                neighbour.due.push(block);
+                self.epoch += 1;
+            }
+        }
+    }
+}
+
+/// One of the items, each as likely as the others.
+pub fn any<T>(items: impl Iterator<Item = T> + Clone, word: u64) -> Option<T> {
+    let count = items.clone().count() as u64;
+    let mut items = items;
+    items.nth(scaled(word, count) as usize)
+}

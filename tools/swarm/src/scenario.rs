@@ -1,0 +1,231 @@
+//! The swarms that are run.
+
+use crate::peer::Line;
+use crate::queue::{Micros, SECOND};
+use crate::random::Random;
+use crate::report::View;
+use crate::rule::Content;
+use crate::setup::{Guest, Setup};
+
+/// The lines that guests have: KiB a second, up and down.
+const HOMES: [(u64, u64); 3] = [(64, 512), (128, 1024), (256, 2048)];
+const FIBRES: [(u64, u64); 1] = [(8192, 32768)];
+
+/// The delay of a guest's line, in milliseconds: from the first to the second.
+const DELAYS: (u64, u64) = (10, 40);
+
+/// How the guests of a scenario come.
+#[derive(Clone, Copy, Debug, PartialEq, Eq)]
+enum Coming {
+    /// All within so long.
+    Within(Micros),
+    /// One after the other, so long from each to the next, on average.
+    Each(Micros),
+}
+
+/// A swarm by its name, in a size that may be changed.
+#[derive(Clone, Copy, Debug)]
+pub struct Scenario {
+    pub name: &'static str,
+    pub title: &'static str,
+    pub guests: u32,
+    pub content: Content,
+    /// How many runs there are of each rule, with lines and delays of their own.
+    pub runs: u64,
+    /// What is drawn.
+    pub views: &'static [View],
+    /// The rules; all of them where none is named.
+    pub rules: &'static [&'static str],
+    lines: &'static [(u64, u64)],
+    seed: (u64, u64),
+    coming: Coming,
+    /// How many percent of the content the seed gives before it leaves.
+    seed_gives: Option<u64>,
+    stays: Option<Micros>,
+    sampled: Micros,
+}
+
+/// The rules that differ most, for scenarios that take long.
+const FEW: [&str; 7] = ["ours", "ours, depth 64", "ours, in order", "ours, lone first", "rarest", "rarest, not strict", "random"];
+
+/// The rules that differ where the last peers wait for their last blocks.
+const LAST: [&str; 9] = [
+    "ours",
+    "ours, depth 64",
+    "ours, depth by rate",
+    "ours, 1 asker",
+    "ours, no bound",
+    "ours, lone first",
+    "ours, lone first by rate",
+    "rarest",
+    "random",
+];
+
+/// The rules that differ where a depth may be too small.
+const DEPTHS: [&str; 8] =
+    ["ours", "ours, depth 64", "ours, depth by rate", "ours, in order", "ours, lone first", "ours, lone first by rate", "rarest", "random"];
+
+const FLASH: Scenario = Scenario {
+    name: "flash",
+    title: "Flash crowd: a seed of 256 KiB/s, 1,000 downloaders, 1,000 pieces",
+    guests: 1_000,
+    content: Content { pieces: 1_000, blocks: 16 },
+    runs: 1,
+    views: &[View::Content, View::Interest],
+    rules: &FEW,
+    lines: &HOMES,
+    seed: (256, 1024),
+    coming: Coming::Within(10 * SECOND),
+    seed_gives: None,
+    stays: None,
+    sampled: 10 * SECOND,
+};
+
+const SMALL: Scenario = Scenario {
+    name: "small",
+    title: "Small flash crowd: 200 downloaders, 200 pieces",
+    guests: 200,
+    content: Content { pieces: 200, blocks: 16 },
+    runs: 10,
+    views: &[View::Interest],
+    rules: &[],
+    ..FLASH
+};
+
+/// All scenarios.
+pub const ALL: [Scenario; 11] = [
+    FLASH,
+    SMALL,
+    Scenario {
+        name: "mixed",
+        title: "Mixed small flash crowds: some peers follow another rule",
+        rules: &["ours", "1 of 10 lone first", "5 of 10 lone first", "9 of 10 lone first", "ours, lone first"],
+        views: &[],
+        ..SMALL
+    },
+    Scenario {
+        name: "short",
+        title: "Pieces of one block: 200 downloaders, 3,200 pieces",
+        content: Content { pieces: 3_200, blocks: 1 },
+        runs: 1,
+        views: &[],
+        rules: &FEW,
+        ..SMALL
+    },
+    Scenario {
+        name: "strong",
+        title: "A seed of 4 MiB/s: 200 downloaders, 200 pieces",
+        seed: (4096, 4096),
+        rules: &LAST,
+        runs: 5,
+        views: &[],
+        ..SMALL
+    },
+    Scenario {
+        name: "fast",
+        title: "Fast lines of 8 MiB/s up: 200 downloaders, 400 pieces",
+        content: Content { pieces: 400, blocks: 16 },
+        runs: 3,
+        views: &[View::Content],
+        rules: &DEPTHS,
+        lines: &FIBRES,
+        seed: (8192, 32768),
+        sampled: SECOND / 2,
+        ..SMALL
+    },
+    Scenario {
+        name: "steady",
+        title: "Steady state: one comes each 5 s, and leaves 60 s after it is whole",
+        guests: 1_000,
+        content: Content { pieces: 400, blocks: 16 },
+        views: &[View::Downloaders, View::Rarest],
+        coming: Coming::Each(5 * SECOND),
+        stays: Some(60 * SECOND),
+        ..FLASH
+    },
+    Scenario {
+        name: "leaves",
+        title: "The seed leaves after 1.1 copies: 200 downloaders, 200 pieces",
+        runs: 3,
+        rules: &FEW,
+        views: &[],
+        seed_gives: Some(110),
+        ..SMALL
+    },
+    Scenario {
+        name: "later",
+        title: "The seed leaves after 3 copies: 200 downloaders, 200 pieces",
+        runs: 3,
+        rules: &FEW,
+        views: &[],
+        seed_gives: Some(300),
+        ..SMALL
+    },
+    Scenario {
+        name: "fades",
+        title: "One comes each 5 s and leaves when it is whole; the seed leaves after 4 copies",
+        guests: 500,
+        runs: 20,
+        rules: &FEW,
+        views: &[View::Downloaders],
+        coming: Coming::Each(5 * SECOND),
+        seed_gives: Some(400),
+        stays: Some(0),
+        ..SMALL
+    },
+    Scenario {
+        name: "large",
+        title: "10,000 downloaders, 400 pieces",
+        guests: 10_000,
+        content: Content { pieces: 400, blocks: 16 },
+        views: &[],
+        rules: &["ours"],
+        ..FLASH
+    },
+];
+
+/// The scenario of this name.
+pub fn named(name: &str) -> Option<Scenario> {
+    ALL.into_iter().find(|scenario| scenario.name == name)
+}
+
+impl Scenario {
+    /// Whether all come at once. The bounds are those of such a swarm.
+    pub fn is_crowd(&self) -> bool {
+        matches!(self.coming, Coming::Within(_))
+    }
+
+    /// The swarm: the same for each rule.
+    pub fn setup(&self, seed: u64) -> Setup {
+        let mut random = Random::new(seed);
+        let mut times: Vec<Micros> = match self.coming {
+            Coming::Within(time) => (0..self.guests).map(|_| random.below(time)).collect(),
+            Coming::Each(mean) => {
+                let gaps = (0..self.guests).map(|_| random.below(2 * mean));
+                gaps.scan(0, |now, gap| {
+                    *now += gap;
+                    Some(*now)
+                })
+                .collect()
+            }
+        };
+        times.sort_unstable();
+        let guests = times.into_iter().map(|at| Guest { at, line: self.line(&mut random) }).collect();
+        Setup {
+            content: self.content,
+            seed: Line::new(self.seed.0, self.seed.1, DELAYS.0),
+            seed_gives: self.seed_gives.map(|percent| self.content.all_blocks() * percent / 100),
+            guests,
+            stays: self.stays,
+            have_delay: 2 * DELAYS.1 * 1000,
+            sampled: self.sampled,
+            patience: 600 * SECOND,
+        }
+    }
+
+    fn line(&self, random: &mut Random) -> Line {
+        let (up, down) = self.lines[random.below(self.lines.len() as u64) as usize];
+        let delay = DELAYS.0 + random.below(DELAYS.1 - DELAYS.0 + 1);
+        Line::new(up, down, delay)
+    }
+}

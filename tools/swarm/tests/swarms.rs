@@ -1,0 +1,125 @@
+//! Whole swarms: they are the same each time, lose nothing, and don't beat their bounds.
+
+use swarm::meter::Outcome;
+use swarm::rules;
+use swarm::scenario::{named, Scenario};
+use swarm::swarm::run;
+
+fn small(name: &str) -> Scenario {
+    let mut scenario = named(name).unwrap();
+    scenario.guests = 40;
+    scenario.content.pieces = 480 / scenario.content.blocks;
+    scenario
+}
+
+fn outcome(scenario: &Scenario, rule: &str, draw: u64) -> Outcome {
+    run(&scenario.setup(draw), &rules::named(rule).unwrap(), draw).unwrap()
+}
+
+/// All that doesn't depend on the machine, nor on how often a picker was asked in vain.
+fn facts(outcome: Outcome) -> Outcome {
+    Outcome { spent: Default::default(), ..outcome }
+}
+
+#[test]
+fn the_same_draw_gives_the_same_run() {
+    for rule in ["ours", "random"] {
+        let runs = [1, 1, 2].map(|draw| facts(outcome(&small("steady"), rule, draw)));
+        assert_eq!(runs[0], runs[1]);
+        assert_ne!(runs[0].times, runs[2].times);
+    }
+}
+
+/// Two programs that choose by the same rules, ties among them, make the same requests throughout a swarm.
+#[test]
+fn the_library_and_a_control_with_its_ties_agree() {
+    for (ours, control) in rules::TWINS {
+        for name in ["flash", "fast", "steady", "leaves", "short"] {
+            let scenario = small(name);
+            let runs = [ours, control].map(|rule| facts(outcome(&scenario, rule, 3)));
+            assert!(runs[0].requests > 0);
+            assert_eq!(runs[0], runs[1], "{control}, {name}");
+        }
+    }
+}
+
+#[test]
+fn each_peer_gets_each_block_and_none_is_lost_on_the_way() {
+    for rule in rules::all() {
+        for name in ["flash", "fast", "steady"] {
+            let scenario = small(name);
+            let run = outcome(&scenario, rule.name, 1);
+            let blocks = run.blocks;
+            assert_eq!(run.times.len(), 40, "{}, {name}", rule.name);
+            assert_eq!(blocks.received - blocks.twice, 40 * scenario.content.all_blocks(), "{}, {name}", rule.name);
+            assert_eq!(blocks.sent, blocks.received + blocks.lost + blocks.under_way, "{}, {name}", rule.name);
+            assert!(run.requests >= blocks.received, "{}, {name}", rule.name);
+        }
+    }
+}
+
+#[test]
+fn no_swarm_beats_its_bound() {
+    for rule in rules::all() {
+        for name in ["flash", "fast"] {
+            let scenario = small(name);
+            let bound = scenario.setup(1).bound().greatest();
+            let end = outcome(&scenario, rule.name, 1).end;
+            assert!(end as f64 > bound, "{}, {name}: {end} at a bound of {bound}", rule.name);
+        }
+    }
+}
+
+#[test]
+fn with_one_asker_few_blocks_come_twice() {
+    let scenario = small("flash");
+    let [one, two, all] = ["ours, 1 asker", "ours", "ours, no bound"].map(|rule| outcome(&scenario, rule, 1).blocks.twice);
+    assert!(one < two && two < all, "{one}, {two}, {all}");
+}
+
+#[test]
+fn a_swarm_without_its_seed_stops_where_pieces_are_gone() {
+    let run = outcome(&small("leaves"), "ours, in order", 1);
+    assert!(run.missing > 0 && run.times.is_empty() && run.spread.is_none());
+    let sent_at_most = small("leaves").content.all_blocks() * 110 / 100;
+    assert!(u64::from(30 - run.missing) * 16 <= sent_at_most);
+}
+
+#[test]
+fn pieces_are_out_when_the_seed_has_sent_them() {
+    let run = outcome(&small("flash"), "ours", 1);
+    let spread = run.spread.unwrap();
+    assert!(spread.sent >= small("flash").content.all_blocks());
+    assert!(spread.at <= run.end);
+    assert_eq!(run.samples.last().map(|sample| sample.rarest), Some(41));
+}
+
+/// The seed alone would take the time of all blocks of all peers.
+#[test]
+fn peers_give_each_other_most_of_what_they_get() {
+    let scenario = small("flash");
+    let setup = scenario.setup(1);
+    let alone = 40 * scenario.content.all_blocks() * setup.seed.up;
+    for rule in ["ours", "rarest", "random"] {
+        let end = outcome(&scenario, rule, 1).end;
+        assert!(end < alone / 4, "{rule}: {end} of {alone}");
+    }
+}
+
+/// Of two downloaders there are two pairs while both are here and lack something. Nobody is interested in one that has nothing.
+#[test]
+fn pairs_are_those_of_connected_downloaders() {
+    let mut scenario = small("flash");
+    scenario.guests = 2;
+    let mut setup = scenario.setup(1);
+    setup.sampled = 100_000;
+    setup.guests.iter_mut().for_each(|guest| guest.at = 0);
+    let run = run(&setup, &rules::named("ours").unwrap(), 1).unwrap();
+    for sample in run.samples.iter().filter(|sample| sample.at > 0) {
+        assert_eq!((sample.pairs, sample.downloaders), if sample.downloaders == 2 { (2, 2) } else { (0, sample.downloaders) });
+        assert!(sample.interested <= sample.pairs);
+        assert!(sample.interested == 0 || sample.copies > u64::from(scenario.content.pieces));
+    }
+    assert!([0, 2].iter().all(|count| run.samples.iter().any(|sample| sample.pairs == 2 && sample.interested == *count)));
+    assert!((0.0..=100.0).contains(&run.interest()));
+}
