@@ -1,12 +1,9 @@
 //! The rules of the library.
 
 use crate::rule::{Ask, Block, Came, Content, Fault, Rule, BLOCK};
-use piecepick::{Answer, Digest, Options, Picker};
+use piecepick::{hash4, Answer, Digest, Options, Picker};
 
-/// Each piece has this digest, and each full piece is told to have it. So no byte is hashed.
-const DIGEST: Digest = [0; 20];
-
-/// What is told as a block's content. The library reads none of it.
+/// The content of each block. The library reads none of it.
 static BYTES: [u8; BLOCK as usize] = [0; BLOCK as usize];
 
 /// The usual level of a piece, and that of one which one neighbour alone shows.
@@ -28,6 +25,8 @@ pub enum First {
 #[derive(Debug)]
 pub struct Ours {
     picker: Picker,
+    /// That of each piece, since all bytes are alike.
+    digest: Digest,
     /// The level of each piece, where levels are told.
     levels: Vec<u8>,
 }
@@ -35,13 +34,15 @@ pub struct Ours {
 impl Ours {
     /// A picker by these options.
     pub fn new(content: Content, options: Options, first: First) -> Result<Ours, Fault> {
-        let digests = vec![DIGEST; content.pieces as usize];
+        let piece = vec![0; (content.blocks * BLOCK) as usize];
+        let digest = hash4([&piece, b"", b"", b""])[0];
+        let digests = vec![digest; content.pieces as usize];
         let mut picker = Picker::open_parts(content.blocks * BLOCK, content.bytes(), &digests, options)?;
         if first == First::Lowest {
             expect("set_in_order", picker.set_in_order(true)?, Answer::Quiet)?;
         }
         let graded = if first == First::Lone { content.pieces } else { 0 };
-        Ok(Ours { picker, levels: vec![USUAL; graded as usize] })
+        Ok(Ours { picker, digest, levels: vec![USUAL; graded as usize] })
     }
 
     /// Tells the level of a piece, where it is another.
@@ -127,7 +128,7 @@ impl Rule for Ours {
             Answer::Stored => Ok(Came::Stored),
             Answer::Dropped => Ok(Came::Twice),
             Answer::Completed => {
-                expect("settle", self.picker.settle(block.piece, &DIGEST)?, Answer::Had)?;
+                expect("settle", self.picker.settle(block.piece, &self.digest)?, Answer::Had)?;
                 Ok(Came::Completed)
             }
             other => Err(Fault::Answer("arrived", other)),
