@@ -23,7 +23,7 @@ from collections.abc import Callable
 from dataclasses import dataclass, field
 
 from bencode import metainfo
-from fetch import HANDSHAKE
+from fetch.wire import PROTOCOL
 from piecepick import Picker
 
 PIECE_LENGTH = 1 << 18  # bytes
@@ -88,7 +88,7 @@ def answers(port: int, infohash: bytes) -> bool:
     try:
         with socket.create_connection(("127.0.0.1", port), 2.0) as connection:
             connection.settimeout(2.0)
-            connection.sendall(HANDSHAKE + bytes(8) + infohash + b"-PP0000-" + random.randbytes(12))
+            connection.sendall(PROTOCOL + bytes(8) + infohash + b"-PP0000-" + random.randbytes(12))
             return len(connection.recv(68)) > 0
     except OSError:
         return False
@@ -145,7 +145,7 @@ def fetch(place: Place, killed_after: float = 0.0) -> dict[str, str]:
     """Downloads from all seeders; the first is killed after so many seconds. The numbers that fetch.py printed."""
     out = os.path.join(place.directory, "out")
     peers = [f"127.0.0.1:{port}" for port in place.ports]
-    command = [sys.executable, os.path.join(HERE, "fetch.py"), "--quiet", place.torrent, out, *peers]
+    command = [sys.executable, os.path.join(HERE, "fetch.py"), "--quiet", "--meter", "--give-up", "60", place.torrent, out, *peers]
     with subprocess.Popen(command, stdout=subprocess.PIPE, text=True) as process:
         try:
             if killed_after > 0:

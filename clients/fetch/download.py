@@ -1,0 +1,204 @@
+"""One download from its metainfo file to its end: puts the parts together, and runs the loop."""
+
+from __future__ import annotations
+
+import os
+import secrets
+import socket
+import time
+from collections.abc import Callable
+from typing import Any, cast
+
+from piecepick import Keeps, Picker, PiecepickError
+
+from .addresses import Addresses
+from .checking import Checker
+from .content import Content
+from .layout import File, Layout, levels_of, safe_path
+from .meter import Metered
+from .metainfo import MetainfoFault, files_of, is_folder
+from .options import Options
+from .peer import FIRST_DEPTH, MOST_DEPTH
+from .progress import Progress, State
+from .session import Session
+from .storage import Storage, StorageFault
+from .swarm import Limits, Swarm
+from .uploads import Uploads
+
+CLIENT = b"-PP0003-"
+PORTS = range(6881, 6890)
+SAVE_SECONDS = 2.0
+USUAL_LEVEL = 4
+STATE_SUFFIX = ".piecepick"
+
+
+def open_picker(metainfo: bytes, options: Options) -> Picker:
+    """The picker. Two numbers for each peer, since a number isn't given to another while it names a block's sender; and one for the disk."""
+    try:
+        return Picker(
+            metainfo, keeps=Keeps.NOTHING, workers=2 * options.most_peers + 1, depth=FIRST_DEPTH, deepest=MOST_DEPTH, askers=options.askers
+        )
+    except PiecepickError as error:
+        raise MetainfoFault(f"the library can't use the metainfo file: {error.status.name.lower().replace('_', ' ')}") from error
+
+
+def layout_of(metainfo: bytes, picker: Picker) -> Layout:
+    """Where the files lie in the content."""
+    return Layout(files_of(metainfo), picker.piece_length(0), picker.total)
+
+
+def listener_of(options: Options) -> socket.socket | None:
+    """The socket at which peers connect to us. Raises OSError where the port that was told can't be had."""
+    if not options.listens:
+        return None
+    family = socket.AF_INET6 if ":" in options.bind else socket.AF_INET
+    if options.port is not None:
+        return socket.create_server((options.bind, options.port), family=family)
+    for port in PORTS:
+        try:
+            return socket.create_server((options.bind, port), family=family)
+        except OSError:
+            continue
+    return socket.create_server((options.bind, 0), family=family)
+
+
+def file_levels(layout: Layout, options: Options) -> dict[int, int]:
+    """The level of each file. Raises ValueError where a number has no file."""
+    numbers = {file.number for file in layout.files}
+    named = set(options.levels) | (options.only or set())
+    if unknown := named - numbers:
+        raise ValueError(f"there is no file {min(unknown)}: --list shows the numbers")
+    levels = {number: USUAL_LEVEL if options.only is None or number in options.only else 0 for number in numbers}
+    return levels | options.levels
+
+
+class Download:
+    """The parts of one download. `prepare` comes first, then `run`, and `close` in any case."""
+
+    def __init__(self, options: Options, metainfo: bytes) -> None:
+        self.options, self.metainfo = options, metainfo
+        plain = open_picker(metainfo, options)
+        self.metered = Metered(plain) if options.meters else None
+        self.picker = cast(Picker, self.metered or plain)
+        self.layout = layout_of(metainfo, plain)
+        self.levels = file_levels(self.layout, options)
+        self.root = os.path.join(options.out, safe_path([plain.name])) if options.out.endswith(os.sep) else options.out
+        self.storage = Storage(self.root, self.layout, is_folder(metainfo))
+        self.progress = Progress(options.quiet or options.watches)
+        self.checker = Checker(self.storage, lambda: self.swarm.wake())
+        self.content = Content(self.picker, self.layout, self.storage, self.checker, self.root + STATE_SUFFIX)
+        self.uploads = Uploads(self.content)
+        self.session = Session(self.content, self.uploads)
+        self.addresses = Addresses()
+        self.listener = listener_of(options)
+        limits = Limits(CLIENT + secrets.token_bytes(12), options.most_peers, options.slots)
+        self.swarm = Swarm(self.session, self.addresses, limits, self.listener)
+        self.companions: list[Callable[[float], None]] = []  # called each turn with the time
+        self.began = time.monotonic()
+        self.finished: float | None = None
+        self._saved = 0.0
+        self._newest = self.began  # when a block came last
+
+    @property
+    def wanted_files(self) -> list[File]:
+        """The files that are downloaded."""
+        return [file for file in self.layout.files if self.levels[file.number] > 0]
+
+    def prepare(self) -> None:
+        """Looks at what is on the disk, takes the room for the rest, and tells the picker what is wanted."""
+        self.content.restore(self.progress.check, self.options.replaces)
+        self.progress.end()
+        self.storage.prepare(self.wanted_files)
+        self.picker.set_levels(levels_of(self.layout, self.levels))
+        self.picker.set_in_order(self.options.in_order)
+        for host, port in self.options.peers:
+            for _, _, _, _, where in socket.getaddrinfo(host, port, type=socket.SOCK_STREAM)[:1]:
+                self.addresses.add((str(where[0]), int(where[1])), is_given=True)
+        self.began = self._newest = time.monotonic()
+
+    def run(self) -> bool:
+        """Downloads, and uploads as long as is wanted; whether all that is wanted is there."""
+        while not self.swarm.is_stopping and not self._is_over():
+            self.swarm.turn()
+            now = self.session.now
+            if now - self._saved >= SAVE_SECONDS:
+                self._saved = now
+                self._save()
+            for companion in self.companions:
+                companion(now)
+            self.progress.show(self.state(now))
+        return self.picker.has_wanted
+
+    def _is_over(self) -> bool:
+        """Whether there is nothing more to do."""
+        now = time.monotonic()
+        if self.picker.has_wanted:
+            if self.finished is None:
+                self.finished = now
+            return not self._seeds_on(now)
+        self._newest = max([self._newest, *(peer.block_came for peer in self.session.peers.values())])
+        return self.options.give_up is not None and now - self._newest > self.options.give_up
+
+    def _seeds_on(self, now: float) -> bool:
+        """Whether more is to be uploaded after all is there."""
+        options = self.options
+        if options.seed_ratio is not None and self.uploads.total < options.seed_ratio * self.layout.total:
+            return True
+        return options.seed_minutes is not None and self.finished is not None and now - self.finished < 60.0 * options.seed_minutes
+
+    def _save(self) -> None:
+        """Writes the state file. It is a hint alone, so a full disk is no reason to end."""
+        try:
+            self.content.save()
+        except OSError as error:
+            self.progress.say(f"the state can't be written: {error.strerror}")
+
+    def state(self, now: float) -> State:
+        """What the progress line tells."""
+        peers = self.session.peers.values()
+        return State(
+            done=self.content.had_bytes,
+            wanted=self.layout.total,
+            down=sum(peer.down.per_second(now) for peer in peers),
+            up=sum(peer.up.per_second(now) for peer in peers),
+            peers=len(peers),
+        )
+
+    def close(self) -> None:
+        """Ends all, and writes the state."""
+        self.checker.close()
+        self.swarm.close()
+        self._save()
+        self.storage.close()
+        self.progress.end()
+
+    def figures(self) -> dict[str, Any]:
+        """What happened, in numbers."""
+        figures = self.session.figures
+        end = self.finished or time.monotonic()
+        told: dict[str, Any] = {
+            "complete": self.picker.has_wanted,
+            "seconds": round(end - self.began, 3),
+            "bytes": self.layout.total,
+            "had": self.content.had_bytes,
+            "restored": self.content.restored_bytes,
+            "uploaded": self.uploads.total,
+            "blocks": figures.blocks,
+            "twice": figures.twice,
+            "unasked": figures.unasked,
+            "requests": figures.requests,
+            "endgame_requests": figures.endgame_requests,
+            "cancels": figures.cancels,
+            "rejects": figures.rejects,
+            "timeouts": figures.timeouts,
+            "failed": self.content.failed,
+            "connections": self.swarm.connections,
+            "lost": self.swarm.lost,
+            "banned": self.swarm.banned,
+        }
+        if self.metered:
+            told |= {"calls": self.metered.calls, "library": round(self.metered.seconds, 3)}
+        return told
+
+
+__all__ = ["Download", "StorageFault"]
