@@ -12,21 +12,24 @@ from typing import Any, cast
 from piecepick import Keeps, Picker, PiecepickError
 
 from .addresses import Addresses
+from .announcing import Announcer
 from .checking import Checker
 from .content import Content
 from .layout import File, Layout, levels_of, safe_path
 from .meter import Metered
-from .metainfo import MetainfoFault, files_of, is_folder
+from .metainfo import MetainfoFault, files_of, is_folder, trackers_of
 from .options import Options
 from .peer import FIRST_DEPTH, MOST_DEPTH
 from .progress import Progress, State
 from .session import Session
 from .storage import Storage, StorageFault
 from .swarm import Limits, Swarm
+from .tracker import Announce, Event
 from .uploads import Uploads
 
 CLIENT = b"-PP0003-"
 PORTS = range(6881, 6890)
+NO_PORT = 1  # is told a tracker by who takes no connections, since some refuse 0
 SAVE_SECONDS = 2.0
 USUAL_LEVEL = 4
 STATE_SUFFIX = ".piecepick"
@@ -93,11 +96,23 @@ class Download:
         self.listener = listener_of(options)
         limits = Limits(CLIENT + secrets.token_bytes(12), options.most_peers, options.slots)
         self.swarm = Swarm(self.session, self.addresses, limits, self.listener)
+        tiers = trackers_of(metainfo) if options.asks_trackers else []
+        self.announcer = Announcer(tiers, self._announce, self.swarm.wake)
         self.companions: list[Callable[[float], None]] = []  # called each turn with the time
         self.began = time.monotonic()
         self.finished: float | None = None
+        self.restored_count = 0
+        self.key = secrets.randbits(32)
         self._saved = 0.0
         self._newest = self.began  # when a block came last
+
+    def _announce(self, event: Event) -> Announce:
+        """What a tracker is told now."""
+        port = self.listener.getsockname()[1] if self.listener else NO_PORT
+        return Announce(
+            self.content.infohash, self.swarm.limits.peer_id, port, self.uploads.total, self.session.figures.bytes, self.content.left,
+            event, self.key,
+        )  # fmt: skip
 
     @property
     def wanted_files(self) -> list[File]:
@@ -108,6 +123,7 @@ class Download:
         """Looks at what is on the disk, takes the room for the rest, and tells the picker what is wanted."""
         self.content.restore(self.progress.check, self.options.replaces)
         self.progress.end()
+        self.restored_count = self.content.had_count
         self.storage.prepare(self.wanted_files)
         self.picker.set_levels(levels_of(self.layout, self.levels))
         self.picker.set_in_order(self.options.in_order)
@@ -124,6 +140,8 @@ class Download:
             if now - self._saved >= SAVE_SECONDS:
                 self._saved = now
                 self._save()
+            for address in self.announcer.tick(now, len(self.session.peers)):
+                self.addresses.add(address)
             for companion in self.companions:
                 companion(now)
             self.progress.show(self.state(now))
@@ -134,10 +152,17 @@ class Download:
         now = time.monotonic()
         if self.picker.has_wanted:
             if self.finished is None:
-                self.finished = now
+                self._finish(now)
             return not self._seeds_on(now)
         self._newest = max([self._newest, *(peer.block_came for peer in self.session.peers.values())])
         return self.options.give_up is not None and now - self._newest > self.options.give_up
+
+    def _finish(self, now: float) -> None:
+        """All that is wanted is there."""
+        self.finished = now
+        self._save()
+        if self.content.had_count == self.layout.pieces > self.restored_count:
+            self.announcer.complete()
 
     def _seeds_on(self, now: float) -> bool:
         """Whether more is to be uploaded after all is there."""
@@ -162,11 +187,13 @@ class Download:
             down=sum(peer.down.per_second(now) for peer in peers),
             up=sum(peer.up.per_second(now) for peer in peers),
             peers=len(peers),
+            note=self.announcer.note,
         )
 
     def close(self) -> None:
         """Ends all, and writes the state."""
         self.checker.close()
+        self.announcer.stop()
         self.swarm.close()
         self._save()
         self.storage.close()
@@ -183,6 +210,7 @@ class Download:
             "had": self.content.had_bytes,
             "restored": self.content.restored_bytes,
             "uploaded": self.uploads.total,
+            "downloaded": figures.bytes,
             "blocks": figures.blocks,
             "twice": figures.twice,
             "unasked": figures.unasked,
@@ -195,6 +223,7 @@ class Download:
             "connections": self.swarm.connections,
             "lost": self.swarm.lost,
             "banned": self.swarm.banned,
+            "announces": self.announcer.announces,
         }
         if self.metered:
             told |= {"calls": self.metered.calls, "library": round(self.metered.seconds, 3)}

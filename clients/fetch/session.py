@@ -39,6 +39,7 @@ class Figures:
     """What happened so far, in numbers."""
 
     blocks: int = 0
+    bytes: int = 0
     twice: int = 0
     unasked: int = 0
     requests: int = 0
@@ -177,6 +178,7 @@ class Session:
         block = (piece, begin)
         peer.down.add(len(data), self.now)
         self.figures.blocks += 1
+        self.figures.bytes += len(data)
         self._count_down(peer, block)
         if not peer.takes(block):
             self.figures.unasked += 1

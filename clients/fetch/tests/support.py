@@ -175,6 +175,7 @@ class Downloading(unittest.TestCase):
     """Runs the program in a folder of its own."""
 
     torrent = single_torrent()
+    listens = False
 
     def setUp(self) -> None:
         folder = tempfile.TemporaryDirectory()
@@ -192,7 +193,7 @@ class Downloading(unittest.TestCase):
 
     def start(self, *words: str, seeders: tuple[Seeder, ...] = ()) -> subprocess.Popen[str]:
         """Starts the program."""
-        command = [sys.executable, "-B", "-W", "error", str(Path(CLIENTS, "fetch.py")), "--quiet", "--no-listen", *words]
+        command = [sys.executable, "-B", "-W", "error", str(Path(CLIENTS, "fetch.py")), "--quiet", *([] if self.listens else ["--no-listen"]), *words]
         command += [str(self.torrent_path), str(self.out), *(seeder.address for seeder in seeders)]
         return subprocess.Popen(command, stdout=subprocess.PIPE, stderr=subprocess.PIPE, text=True)
 
