@@ -6,7 +6,6 @@ import os
 import secrets
 import socket
 import time
-from collections.abc import Callable
 from typing import Any, cast
 
 from piecepick import Keeps, Picker, PiecepickError
@@ -15,17 +14,21 @@ from .addresses import Addresses
 from .announcing import Announcer
 from .checking import Checker
 from .content import Content
-from .layout import File, Layout, levels_of, safe_path
+from .layout import File, Layout, levels_of, printable, safe_path
 from .meter import Metered
 from .metainfo import MetainfoFault, files_of, is_folder, trackers_of
 from .options import Options
 from .peer import FIRST_DEPTH, MOST_DEPTH
-from .progress import Progress, State
+from .picture import draw
+from .progress import Progress, State, line, size
+from .recorder import Recorder
+from .serving import Gate, Server, Urgent
 from .session import Session
 from .storage import Storage, StorageFault
 from .swarm import Limits, Swarm
 from .tracker import Announce, Event
 from .uploads import Uploads
+from .watch import Watch
 
 CLIENT = b"-PP0003-"
 PORTS = range(6881, 6890)
@@ -91,14 +94,17 @@ class Download:
         self.checker = Checker(self.storage, lambda: self.swarm.wake())
         self.content = Content(self.picker, self.layout, self.storage, self.checker, self.root + STATE_SUFFIX)
         self.uploads = Uploads(self.content)
-        self.session = Session(self.content, self.uploads)
+        self.recorder = Recorder(self.picker, self.layout) if options.picture else None
+        self.session = Session(self.content, self.uploads, self.recorder)
         self.addresses = Addresses()
         self.listener = listener_of(options)
         limits = Limits(CLIENT + secrets.token_bytes(12), options.most_peers, options.slots)
         self.swarm = Swarm(self.session, self.addresses, limits, self.listener)
         tiers = trackers_of(metainfo) if options.asks_trackers else []
         self.announcer = Announcer(tiers, self._announce, self.swarm.wake)
-        self.companions: list[Callable[[float], None]] = []  # called each turn with the time
+        self.watch = Watch() if options.watches else None
+        self.server: Server | None = None
+        self.urgent: Urgent | None = None
         self.began = time.monotonic()
         self.finished: float | None = None
         self.restored_count = 0
@@ -125,12 +131,23 @@ class Download:
         self.progress.end()
         self.restored_count = self.content.had_count
         self.storage.prepare(self.wanted_files)
-        self.picker.set_levels(levels_of(self.layout, self.levels))
-        self.picker.set_in_order(self.options.in_order)
+        levels = levels_of(self.layout, self.levels)
+        self.picker.set_levels(levels)
+        self.picker.set_in_order(self.options.in_order or self.options.serve is not None)
+        if self.options.serve is not None:
+            self._serve(self.options.serve, levels)
         for host, port in self.options.peers:
             for _, _, _, _, where in socket.getaddrinfo(host, port, type=socket.SOCK_STREAM)[:1]:
                 self.addresses.add((str(where[0]), int(where[1])), is_given=True)
         self.began = self._newest = time.monotonic()
+
+    def _serve(self, port: int, levels: bytes) -> None:
+        """Lets players read. Raises OSError where the port can't be had."""
+        gate = Gate(self.content, self.swarm.wake)
+        self.server, self.urgent = Server(port, gate), Urgent(gate, levels)
+        self.swarm.on_verdict = lambda verdict: gate.came()
+        self.server.start()
+        self.progress.say(f"players find the files at {self.server.url}")
 
     def run(self) -> bool:
         """Downloads, and uploads as long as is wanted; whether all that is wanted is there."""
@@ -142,8 +159,10 @@ class Download:
                 self._save()
             for address in self.announcer.tick(now, len(self.session.peers)):
                 self.addresses.add(address)
-            for companion in self.companions:
-                companion(now)
+            if self.urgent and self.urgent.tick():
+                self.session.reconsider()
+            if self.watch:
+                self.watch.draw(self.session, line(self.state(now)))
             self.progress.show(self.state(now))
         return self.picker.has_wanted
 
@@ -167,6 +186,8 @@ class Download:
     def _seeds_on(self, now: float) -> bool:
         """Whether more is to be uploaded after all is there."""
         options = self.options
+        if self.server:
+            return True
         if options.seed_ratio is not None and self.uploads.total < options.seed_ratio * self.layout.total:
             return True
         return options.seed_minutes is not None and self.finished is not None and now - self.finished < 60.0 * options.seed_minutes
@@ -192,12 +213,28 @@ class Download:
 
     def close(self) -> None:
         """Ends all, and writes the state."""
+        if self.watch:
+            self.watch.close()
+        if self.server:
+            self.server.close()
         self.checker.close()
         self.announcer.stop()
         self.swarm.close()
         self._save()
         self.storage.close()
         self.progress.end()
+        if self.recorder and self.options.picture:
+            self._draw(self.recorder, self.options.picture)
+
+    def _draw(self, recorder: Recorder, path: str) -> None:
+        """Writes the picture."""
+        name = os.path.basename(self.root) or "a download"
+        title = f"{name}: {size(self.layout.total)} in {recorder.trace.end:.1f} s"
+        try:
+            with open(path, "w", encoding="utf-8") as file:
+                file.write(draw(recorder.trace, printable(title), self.options.by_rarity))
+        except OSError as error:
+            self.progress.say(f"the picture can't be written: {error.strerror}")
 
     def figures(self) -> dict[str, Any]:
         """What happened, in numbers."""

@@ -40,6 +40,7 @@ class Options:
     give_up: float | None = None
     replaces: bool = False
     picture: str | None = None
+    by_rarity: bool = False
     watches: bool = False
     as_json: bool = False
     quiet: bool = False
@@ -104,7 +105,8 @@ def _parser() -> argparse.ArgumentParser:
     shown = parser.add_argument_group("what is shown")
     shown.add_argument("--watch", action="store_true", dest="watches", help="draw the pieces and the peers in the terminal")
     shown.add_argument("--picture", metavar="FILE.svg", help="draw the download: time across, pieces up, a colour for each peer")
-    shown.add_argument("--serve", type=_count, metavar="PORT", help="give the files to a player on this machine by HTTP, while they come")
+    shown.add_argument("--by-rarity", action="store_true", help="in the picture the pieces at the bottom that fewest peers show")
+    shown.add_argument("--serve", type=_count, metavar="PORT", help="give the files to players on this machine by HTTP while they come, until it is interrupted")
     shown.add_argument("--json", action="store_true", dest="as_json", help="print the figures at the end for programs")
     shown.add_argument("--meter", action="store_true", dest="meters", help="measure the time in the library, too")
     shown.add_argument("--quiet", action="store_true", help="no progress line")

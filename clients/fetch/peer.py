@@ -13,7 +13,7 @@ from .wire import Inbound, Message, spell
 FIRST_DEPTH = 64
 LEAST_DEPTH = 4
 MOST_DEPTH = 500
-LINE_SECONDS = 2.0  # so much of a peer's rate is asked of it at a time
+LINE_SECONDS = 1.0  # so much of a peer's rate is asked of it at a time
 MOST_LATE = 2000  # requests that are remembered after they were taken back, since their blocks may come
 NO_WORKER = -1
 
@@ -65,6 +65,14 @@ class Peer:
     def is_joined(self) -> bool:
         """Whether the handshakes were exchanged, so that the picker knows it."""
         return self.worker != NO_WORKER
+
+    @property
+    def program(self) -> str:
+        """What the peer's identity says of its program, such as TR3000; empty where it says nothing."""
+        head = self.peer_id[:8]
+        if head[:1] == b"-" and head[-1:] == b"-" and head[1:-1].isalnum():
+            return head[1:-1].decode("ascii")
+        return head.split(b"-")[0].decode("ascii") if head[:1].isalpha() and head.replace(b"-", b"").isalnum() else ""
 
     def say(self, message: Message, *numbers: int) -> None:
         """Puts a message behind what is to be sent."""
