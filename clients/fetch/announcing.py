@@ -27,21 +27,22 @@ class Outcome:
     faults: tuple[str, ...] = ()
 
 
-def announce(url: str, request: Announce, tracker_id: bytes = b"", hurries: bool = False) -> Told:
-    """Tells one tracker, by the way that its address names."""
+def announce(url: str, request: Announce, tracker_id: bytes = b"", source: str = "", hurries: bool = False) -> Told:
+    """Tells one tracker, by the way that its address names, from one of our own addresses."""
     if url.lower().startswith("udp://"):
-        return tracker_udp.announce(url, request, *((STOP_SECONDS / 2, 1) if hurries else ()))
+        wait, tries = (STOP_SECONDS / 2, 1) if hurries else (tracker_udp.FIRST_WAIT, tracker_udp.TRIES)
+        return tracker_udp.announce(url, request, wait, tries, source)
     if url.lower().startswith(("http://", "https://")):
-        return tracker_http.announce(url, request, STOP_SECONDS if hurries else tracker_http.TIMEOUT, tracker_id)
+        return tracker_http.announce(url, request, STOP_SECONDS if hurries else tracker_http.TIMEOUT, tracker_id, source)
     raise TrackerFault("no tracker of this kind is known")
 
 
 class Announcer:
     """The trackers of a download. `fill` gives an announce of an event, with the numbers of the moment."""
 
-    def __init__(self, tiers: list[list[str]], fill: Callable[[Event], Announce], wake: Callable[[], None]) -> None:
+    def __init__(self, tiers: list[list[str]], fill: Callable[[Event], Announce], wake: Callable[[], None], source: str = "") -> None:
         self.tiers = [random.sample(tier, len(tier)) for tier in tiers]
-        self.fill, self.wake = fill, wake
+        self.fill, self.wake, self.source = fill, wake, source
         self.outcomes: queue.SimpleQueue[Outcome] = queue.SimpleQueue()
         self.is_busy = False
         self.current = ""  # the tracker that took the last announce
@@ -108,7 +109,7 @@ class Announcer:
         for tier in self.tiers:
             for place, url in enumerate(tier):
                 try:
-                    told = announce(url, request, self._ids.get(url, b""))
+                    told = announce(url, request, self._ids.get(url, b""), self.source)
                 except TrackerFault as fault:
                     faults.append(f"{url}: {fault}")
                     continue
@@ -128,6 +129,6 @@ class Announcer:
     def _say_last(self, url: str, requests: list[Announce]) -> None:
         try:
             for request in requests:
-                announce(url, request, self._ids.get(url, b""), hurries=True)
+                announce(url, request, self._ids.get(url, b""), self.source, hurries=True)
         except TrackerFault as fault:
             self.note = f"{url}: {fault}"

@@ -34,6 +34,7 @@ class Options:
     listens: bool = True
     most_peers: int = 50
     slots: int = 4
+    up_limit: int | None = None
     asks_trackers: bool = True
     seed_ratio: float | None = None
     seed_minutes: float | None = None
@@ -92,10 +93,11 @@ def _parser() -> argparse.ArgumentParser:
     what.add_argument("--replace", action="store_true", dest="replaces", help="overwrite files that have another content")
     swarm = parser.add_argument_group("the swarm")
     swarm.add_argument("--port", type=_count, help="listen at this port; without it at 6881 to 6889, or at any")
-    swarm.add_argument("--bind", default="", metavar="ADDRESS", help="listen at this address of ours alone")
+    swarm.add_argument("--bind", default="", metavar="ADDRESS", help="use this address of ours alone")
     swarm.add_argument("--no-listen", action="store_false", dest="listens", help="take no connections")
     swarm.add_argument("--peers", type=_peers, dest="most_peers", default=50, metavar="N", help="connections at most, 50 by default")
     swarm.add_argument("--slots", type=_count, default=4, metavar="N", help="peers that are uploaded to at a time, 4 by default; 0 uploads nothing")
+    swarm.add_argument("--up", type=_count, dest="up_limit", metavar="KB", help="upload so many kilobytes a second at most")
     swarm.add_argument("--no-tracker", action="store_false", dest="asks_trackers", help="ask no tracker")
     swarm.add_argument("--askers", type=_peers, default=2, metavar="N", help="of so many peers a block is asked at most in endgame, 2 by default")
     ends = parser.add_argument_group("when it ends")

@@ -13,6 +13,7 @@ from .wire import Inbound, Message, spell
 FIRST_DEPTH = 64
 LEAST_DEPTH = 4
 MOST_DEPTH = 500
+ENDGAME_DEPTH = 16  # while nothing is left that no peer is asked for, so that few blocks come twice
 LINE_SECONDS = 1.0  # so much of a peer's rate is asked of it at a time
 MOST_LATE = 2000  # requests that are remembered after they were taken back, since their blocks may come
 NO_WORKER = -1
@@ -44,6 +45,7 @@ class Peer:
     asked: OrderedDict[tuple[int, int], float] = field(default_factory=OrderedDict)
     late: OrderedDict[tuple[int, int], None] = field(default_factory=OrderedDict)
     depth: int = FIRST_DEPTH
+    is_in_endgame: bool = False  # by the last request
     epoch: int = -1  # the picker's, when the peer was asked last; -1 where it is to be asked in any case
     rests_until: float = 0.0
     timeouts: int = 0
@@ -109,4 +111,5 @@ class Peer:
         """How many blocks should be in flight at this rate."""
         if self.timeouts:
             return LEAST_DEPTH
-        return max(LEAST_DEPTH, min(MOST_DEPTH, LEAST_DEPTH + int(rate * LINE_SECONDS / block)))
+        most = ENDGAME_DEPTH if self.is_in_endgame else MOST_DEPTH
+        return max(LEAST_DEPTH, min(most, LEAST_DEPTH + int(rate * LINE_SECONDS / block)))

@@ -10,7 +10,7 @@ from piecepick import Answer, InputFault, Kind, Reason
 
 from .content import Content, Verdict
 from .layout import BLOCK
-from .peer import NO_WORKER, Peer
+from .peer import ENDGAME_DEPTH, NO_WORKER, Peer
 from .uploads import Uploads
 from .wire import Message, WireFault, block_of, numbers_of, spell, spell_bitfield
 
@@ -232,6 +232,9 @@ class Session:
         if self.record:
             self.record.requested(peer, block, others > 0)
         self.asks[block] = others + 1
+        peer.is_in_endgame = others > 0
+        if peer.is_in_endgame and peer.depth > ENDGAME_DEPTH:
+            self._set_depth(peer, ENDGAME_DEPTH)
         self.figures.requests += 1
         self.figures.endgame_requests += others > 0
         peer.asked[block] = self.now
@@ -287,9 +290,13 @@ class Session:
         wanted = peer.depth_for(peer.down.per_second(self.now), BLOCK)
         depth = wanted if peer.timeouts else max(wanted, peer.depth * 3 // 4)
         if depth != peer.depth:
-            peer.depth = depth
-            self.picker.depth(peer.worker, depth)
+            self._set_depth(peer, depth)
             self.ask(peer)
+
+    def _set_depth(self, peer: Peer, depth: int) -> None:
+        """So many blocks may be asked of the peer at a time; what is asked stays asked."""
+        peer.depth = depth
+        self.picker.depth(peer.worker, depth)
 
     def settle(self) -> list[Verdict]:
         """Settles the pieces that were checked, and tells the peers of those that are had."""

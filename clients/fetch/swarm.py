@@ -36,6 +36,7 @@ class Limits:
     peer_id: bytes
     peers: int = 50
     slots: int = 4
+    source: str = ""  # our own address for connections that we begin; any where it is empty
 
 
 class Swarm:
@@ -78,8 +79,10 @@ class Swarm:
         connection = socket.socket(family, socket.SOCK_STREAM)
         connection.setblocking(False)
         try:
+            if self.limits.source:
+                connection.bind((self.limits.source, 0))
             error = connection.connect_ex(address)
-        except OSError as fault:  # a host that is no number
+        except OSError as fault:  # an address of another kind
             error = fault.errno or errno.EINVAL
         if error not in (0, errno.EINPROGRESS):
             connection.close()

@@ -6,6 +6,7 @@ import http.client
 import ipaddress
 import urllib.error
 import urllib.request
+from functools import partial
 from urllib.parse import urlencode
 
 from bencode import BencodeFault, Value, bdecode
@@ -17,13 +18,35 @@ LARGEST = 1 << 20  # bytes of an answer
 TIMEOUT = 15.0
 
 
-def _opener() -> urllib.request.OpenerDirector:
+class _Plain(urllib.request.HTTPHandler):
+    """HTTP from one of our own addresses."""
+
+    def __init__(self, source: str) -> None:
+        super().__init__()
+        self.source = (source, 0) if source else None
+
+    def http_open(self, request: urllib.request.Request) -> http.client.HTTPResponse:
+        return self.do_open(partial(http.client.HTTPConnection, source_address=self.source), request)
+
+
+class _Secured(urllib.request.HTTPSHandler):
+    """HTTPS from one of our own addresses."""
+
+    def __init__(self, source: str) -> None:
+        super().__init__()
+        self.source = (source, 0) if source else None
+
+    def https_open(self, request: urllib.request.Request) -> http.client.HTTPResponse:
+        return self.do_open(partial(http.client.HTTPSConnection, source_address=self.source), request)
+
+
+def _opener(source: str) -> urllib.request.OpenerDirector:
     """Opens addresses of HTTP alone, so that no metainfo file leads us to files of this machine."""
     opener = urllib.request.OpenerDirector()
-    for handler in (urllib.request.HTTPHandler, urllib.request.HTTPSHandler, urllib.request.HTTPRedirectHandler, urllib.request.UnknownHandler):
-        opener.add_handler(handler())
-    for handler in (urllib.request.HTTPErrorProcessor, urllib.request.HTTPDefaultErrorHandler):
-        opener.add_handler(handler())
+    for handler in (_Plain(source), _Secured(source), urllib.request.HTTPRedirectHandler(), urllib.request.UnknownHandler()):
+        opener.add_handler(handler)
+    opener.add_handler(urllib.request.HTTPErrorProcessor())
+    opener.add_handler(urllib.request.HTTPDefaultErrorHandler())
     opener.addheaders = [("User-Agent", "piecepick-fetch")]
     return opener
 
@@ -41,11 +64,11 @@ def query(request: Announce, tracker_id: bytes = b"") -> str:
     return urlencode(parameters)
 
 
-def announce(url: str, request: Announce, timeout: float = TIMEOUT, tracker_id: bytes = b"") -> Told:
+def announce(url: str, request: Announce, timeout: float = TIMEOUT, tracker_id: bytes = b"", source: str = "") -> Told:
     """Tells the tracker, and gives its answer. Raises TrackerFault."""
     address = url + ("&" if "?" in url else "?") + query(request, tracker_id)
     try:
-        with _opener().open(address, timeout=timeout) as reply:
+        with _opener(source).open(address, timeout=timeout) as reply:
             data = reply.read(LARGEST)
     except urllib.error.HTTPError as error:
         with error:

@@ -22,7 +22,7 @@ LARGEST = 1 << 16
 class Talk:
     """One exchange with a tracker. Packets that aren't answered are sent again, after longer and longer waits."""
 
-    def __init__(self, url: str, first_wait: float, tries: int) -> None:
+    def __init__(self, url: str, first_wait: float, tries: int, source: str) -> None:
         parts = urlsplit(url)
         if not parts.hostname or not parts.port:
             raise TrackerFault("the tracker's address has no host or no port")
@@ -30,6 +30,8 @@ class Talk:
         try:
             family, kind, protocol, _, address = socket.getaddrinfo(parts.hostname, parts.port, type=socket.SOCK_DGRAM)[0]
             self.socket = socket.socket(family, kind, protocol)
+            if source:
+                self.socket.bind((source, 0))
             self.socket.connect(address)
         except OSError as error:
             raise TrackerFault(f"the tracker can't be reached: {error}") from error
@@ -75,9 +77,9 @@ class Talk:
         raise TrackerFault("the tracker doesn't answer")
 
 
-def announce(url: str, request: Announce, first_wait: float = FIRST_WAIT, tries: int = TRIES) -> Told:
+def announce(url: str, request: Announce, first_wait: float = FIRST_WAIT, tries: int = TRIES, source: str = "") -> Told:
     """Tells the tracker, and gives its answer. Raises TrackerFault."""
-    talk = Talk(url, first_wait, tries)
+    talk = Talk(url, first_wait, tries, source)
     packet = request.infohash + request.peer_id + struct.pack(
         ">QQQIIIiH", request.downloaded, request.left, request.uploaded, EVENTS[request.event], 0, request.key, request.wanted, request.port
     )  # fmt: skip

@@ -11,11 +11,33 @@ MOST_REQUESTS = 500  # that wait at a peer
 MOST_UNSENT = 1 << 18  # bytes that wait to be sent, before no further block is read from the disk
 
 
+class Limit:
+    """So many bytes a second at most; None is no limit. What isn't used within a second is lost."""
+
+    def __init__(self, rate: int | None) -> None:
+        self.rate = rate
+        self._left = 0.0
+        self._filled = 0.0
+
+    def allows(self, now: float) -> bool:
+        """Whether something may be sent now."""
+        if self.rate is None:
+            return True
+        self._left = min(self._left + self.rate * (now - self._filled), float(self.rate))
+        self._filled = now
+        return self._left > 0
+
+    def take(self, count: int) -> None:
+        """So many bytes are sent, though it may be more than are left: then it takes longer until the next ones."""
+        self._left -= count
+
+
 class Uploads:
     """Answers the requests of unchoked peers."""
 
-    def __init__(self, content: Content) -> None:
+    def __init__(self, content: Content, rate: int | None = None) -> None:
         self.content = content
+        self.limit = Limit(rate)
         self.total = 0
         self.refused = 0
 
@@ -42,11 +64,12 @@ class Uploads:
 
     def serve(self, peer: Peer, now: float) -> None:
         """Reads what the peer wants, until enough waits to be sent. Raises OSError where a piece that is had isn't there."""
-        while peer.wants and len(peer.unsent) < MOST_UNSENT:
+        while peer.wants and len(peer.unsent) < MOST_UNSENT and self.limit.allows(now):
             piece, begin, length = peer.wants.popleft()
             block = self.content.storage.read(piece * self.content.layout.piece_length + begin, length)
             peer.unsent += spell_block(piece, begin, block)
             peer.up.add(length, now)
+            self.limit.take(length)
             self.total += length
 
     def choke(self, peer: Peer) -> None:

@@ -18,8 +18,8 @@ def compact(addresses: list[tuple[str, int]]) -> bytes:
 class HttpTracker:
     """Tells each peer the others of its torrent, and keeps what it was told. `reply` stands for all that where it isn't empty."""
 
-    def __init__(self, reply: bytes = b"", status: int = 200) -> None:
-        self.reply, self.status = reply, status
+    def __init__(self, reply: bytes = b"", status: int = 200, host: str = "127.0.0.1", shortest: int = 60) -> None:
+        self.reply, self.status, self.shortest = reply, status, shortest
         self.announces: list[dict[str, str]] = []
         self.peers: dict[str, dict[str, tuple[str, int]]] = {}
         tracker = self
@@ -28,6 +28,9 @@ class HttpTracker:
             """Answers one announce."""
 
             def do_GET(self) -> None:
+                if urlsplit(self.path).path != "/announce":
+                    self.send_error(404)
+                    return
                 query = parse_qs(urlsplit(self.path).query, encoding="latin-1")
                 body = tracker.answer({name: values[0] for name, values in query.items()}, self.client_address[0])
                 self.send_response(tracker.status)
@@ -38,8 +41,8 @@ class HttpTracker:
             def log_message(self, format: str, *arguments: object) -> None:
                 """Nothing is logged."""
 
-        self.server = http.server.ThreadingHTTPServer(("127.0.0.1", 0), Handler)
-        self.url = f"http://127.0.0.1:{self.server.server_address[1]}/announce"
+        self.server = http.server.ThreadingHTTPServer((host, 0), Handler)
+        self.url = f"http://{host}:{self.server.server_address[1]}/announce"
         threading.Thread(target=self.server.serve_forever, args=[0.05], daemon=True).start()
 
     def answer(self, told: dict[str, str], host: str) -> bytes:
@@ -53,7 +56,7 @@ class HttpTracker:
             peers.pop(told["peer_id"], None)
         else:
             peers[told["peer_id"]] = (host, int(told["port"]))
-        return b"d8:completei1e10:incompletei2e8:intervali1800e12:min intervali60e5:peers%d:%se" % (len(others), others)
+        return b"d8:completei1e10:incompletei2e8:intervali1800e12:min intervali%de5:peers%d:%se" % (self.shortest, len(others), others)
 
     def close(self) -> None:
         """No more announces."""
