@@ -197,16 +197,24 @@ def run(name: str) -> bool:
     """The downloads of one name, each with a line; whether all were well."""
     trial, leechers, lengths, piece_length = TRIALS[name]
     is_well = True
-    for who in leechers:
-        with tempfile.TemporaryDirectory() as directory:
-            place = Place(Path(directory), Content(Path(directory), lengths, piece_length))
-            try:
-                outcome = trial(place, who)
-            finally:
-                place.close()
-        print(outcome.line(name), flush=True)
-        is_well = is_well and outcome.is_well
+    with tempfile.TemporaryDirectory() as directory:
+        content = Content(Path(directory), lengths, piece_length)
+        content.make(name)
+        for who in leechers:
+            outcome = run_one(trial, who, content)
+            print(outcome.line(name), flush=True)
+            is_well = is_well and outcome.is_well
     return is_well
+
+
+def run_one(trial: Callable[[Place, str], Outcome], who: str, content: Content) -> Outcome:
+    """A download by one client, in a folder of its own on the disk of the content."""
+    with tempfile.TemporaryDirectory(dir=content.folder) as directory:
+        place = Place(Path(directory), content)
+        try:
+            return trial(place, who)
+        finally:
+            place.close()
 
 
 def main() -> int:

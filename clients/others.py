@@ -65,6 +65,8 @@ class Content:
     folder: Path
     lengths: dict[str, int]  # by path; "" is the single file
     piece_length: int
+    digests: bytearray = field(default_factory=bytearray)
+    right: dict[str, str] = field(default_factory=dict)  # the SHA-1 of each file
 
     @property
     def path(self) -> Path:
@@ -76,9 +78,9 @@ class Content:
         """All bytes."""
         return sum(self.lengths.values())
 
-    def write(self, seed: str, announce: str) -> Path:
-        """Writes random files and the metainfo file, whose path it gives."""
-        chance, digests, rest = random.Random(seed), bytearray(), b""
+    def make(self, seed: str) -> None:
+        """Writes random files, and keeps the digests of their pieces."""
+        chance, rest = random.Random(seed), b""
         for name, length in self.lengths.items():
             path = self.path / name if name else self.path
             path.parent.mkdir(parents=True, exist_ok=True)
@@ -87,21 +89,28 @@ class Content:
                     data = chance.randbytes(min(CHUNK, length))
                     file.write(data)
                     length -= len(data)
-                    rest += data
-                    while len(rest) >= self.piece_length:
-                        digests += hashlib.sha1(rest[: self.piece_length]).digest()
-                        rest = rest[self.piece_length :]
+                    rest = self._hash(rest + data)
         if rest:
-            digests += hashlib.sha1(rest).digest()
-        info: dict[bytes, Value] = {b"name": b"content", b"piece length": self.piece_length, b"pieces": bytes(digests), b"private": 1}
+            self.digests += hashlib.sha1(rest).digest()
+        self.right = self.sums(self.path)
+
+    def _hash(self, data: bytes) -> bytes:
+        """Takes whole pieces from the front of the data; what is left."""
+        at = 0
+        while len(data) - at >= self.piece_length:
+            self.digests += hashlib.sha1(data[at : at + self.piece_length]).digest()
+            at += self.piece_length
+        return data[at:]
+
+    def torrent(self, path: Path, announce: str) -> bytes:
+        """Writes the metainfo file, and gives the infohash."""
+        info: dict[bytes, Value] = {b"name": b"content", b"piece length": self.piece_length, b"pieces": bytes(self.digests), b"private": 1}
         if "" in self.lengths:
             info[b"length"] = self.total
         else:
             info[b"files"] = [{b"length": length, b"path": list(name.encode().split(b"/"))} for name, length in self.lengths.items()]
-        self.infohash = hashlib.sha1(bencode(info)).digest()
-        torrent = self.folder / "content.torrent"
-        torrent.write_bytes(bencode({b"announce": announce.encode(), b"info": info}))
-        return torrent
+        path.write_bytes(bencode({b"announce": announce.encode(), b"info": info}))
+        return hashlib.sha1(bencode(info)).digest()
 
     def sums(self, at: Path) -> dict[str, str]:
         """The SHA-1 of each file, as it is at this place; empty where it isn't there."""
@@ -157,8 +166,8 @@ class Place:
 
     def __post_init__(self) -> None:
         self.tracker = HttpTracker(host=f"{NETWORK}1", shortest=SHORTEST)
-        self.torrent = self.content.write(str(self.content.lengths), self.tracker.url)
-        self.sums = self.content.sums(self.content.path)
+        self.torrent = self.folder / "content.torrent"
+        self.infohash = self.content.torrent(self.torrent, self.tracker.url)
 
     def address(self) -> tuple[str, int]:
         """An address and a port for the next client."""
@@ -198,7 +207,7 @@ class Place:
         try:
             with socket.create_connection((client.host, client.port), 2.0) as connection:
                 connection.settimeout(2.0)
-                connection.sendall(PROTOCOL + bytes(8) + self.content.infohash + b"-PP0000-" + random.randbytes(12))
+                connection.sendall(PROTOCOL + bytes(8) + self.infohash + b"-PP0000-" + random.randbytes(12))
                 return len(connection.recv(68)) > 0
         except OSError:
             return False
@@ -221,7 +230,7 @@ class Place:
                     client.seconds = time.monotonic() - client.began
                     left.remove(client)
         time.sleep(0.5)  # for the last names of files
-        return not left and all(self.content.sums(client.out) == self.sums for client in clients)
+        return not left and all(self.content.sums(client.out) == self.content.right for client in clients)
 
     def downloaded(self, clients: list[Client]) -> int:
         """The bytes that these clients told the tracker to have got, each at last."""

@@ -188,7 +188,8 @@ class Download:
         options = self.options
         if self.server:
             return True
-        if options.seed_ratio is not None and self.uploads.total < options.seed_ratio * self.layout.total:
+        sent = self.uploads.total - self.swarm.unsent
+        if options.seed_ratio is not None and sent < options.seed_ratio * self.layout.total:
             return True
         return options.seed_minutes is not None and self.finished is not None and now - self.finished < 60.0 * options.seed_minutes
 

@@ -22,6 +22,7 @@ HANDSHAKE_SECONDS = 10.0  # until the handshakes have to be exchanged
 QUIET_SECONDS = 180.0  # with no byte from a peer, until it is let go
 STUCK_SECONDS = 120.0  # with no byte taken by a peer
 KEEPALIVE_SECONDS = 100.0
+LINGER_SECONDS = 1.0  # at the end, for peers to read what was sent to them
 MOST_CONNECTING = 10
 MOST_BACKLOG = 1 << 20  # bytes unsent, above which nothing more is read from a peer
 READ = 1 << 18  # bytes that are read at a time
@@ -60,6 +61,11 @@ class Swarm:
             listener.setblocking(False)
             self.selector.register(listener, selectors.EVENT_READ)
         self._ticked = self._slowly_ticked = self._choked = 0.0
+
+    @property
+    def unsent(self) -> int:
+        """The bytes that wait to be sent."""
+        return sum(len(peer.unsent) for peer in self.peers)
 
     def wake(self) -> None:
         """Ends the wait of the loop, from any thread."""
@@ -304,9 +310,37 @@ class Swarm:
             else:
                 self.session.uploads.choke(peer)
 
+    def _linger(self) -> None:
+        """Lets the peers read what was sent last: a connection that is closed with something unread in it takes that away."""
+        for other in filter(None, (self.listener, self._woken)):
+            self.selector.unregister(other)
+        for peer in list(self.peers):
+            try:
+                peer.connection.shutdown(socket.SHUT_WR)
+            except OSError:
+                self.drop(peer)
+        end = time.monotonic() + LINGER_SECONDS
+        while self.peers and (left := end - time.monotonic()) > 0:
+            for key, _ in self.selector.select(left):
+                if not self._discard(key.data):
+                    self.drop(key.data)
+
+    def _discard(self, peer: Peer) -> bool:
+        """Reads what came and forgets it; whether the connection lasts."""
+        peer.events = selectors.EVENT_READ
+        self.selector.modify(peer.connection, peer.events, peer)
+        try:
+            return bool(peer.connection.recv(READ))
+        except (BlockingIOError, InterruptedError):
+            return True
+        except OSError:
+            return False
+
     def close(self) -> None:
         """Ends all connections."""
         self.is_closing = True
+        if self.session.uploads.total:
+            self._linger()
         for peer in list(self.peers):
             self.drop(peer)
         self.selector.close()
