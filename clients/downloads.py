@@ -2,6 +2,7 @@
 """Runs the downloader against real clients on this machine, and the same downloads by those clients.
 
 usage: downloads.py [NAME ..]        (--list names them; all of them where none is named)
+       downloads.py --picture FILE.svg
 
 It makes files and torrents in a directory of its own, and starts a small tracker, the seeders and the leechers. The content of each leecher is
 compared by SHA-1, file by file. The status is 0 where each download was well. A line says who downloaded, how long it took until all was
@@ -44,7 +45,8 @@ class Outcome:
     def line(self, name: str) -> str:
         """The line that is printed."""
         times = " ".join(f"{seconds:.1f}" for seconds in sorted(self.seconds))
-        told = f"{name:<13} {self.who:<13} {'well' if self.is_well else 'WRONG'}  {times} s  {self.megabytes:.0f} MB  twice {self.twice / MEGABYTE:.2f} MB"
+        verdict = "well" if self.is_well else "WRONG"
+        told = f"{name:<13} {self.who:<13} {verdict}  {times} s  {self.megabytes:.0f} MB  twice {self.twice / MEGABYTE:.2f} MB"
         return f"{told}  {self.more}".rstrip()
 
 
@@ -63,7 +65,8 @@ def finish(place: Place, leechers: list[Client]) -> Outcome:
         client.stop()
     return Outcome(
         leechers[0].name, is_well, [client.seconds for client in leechers], max(client.megabytes() for client in leechers),
-        place.downloaded(leechers) - len(leechers) * place.content.total, " | ".join(figures_of(client) for client in leechers if client.name == "fetch"),
+        place.downloaded(leechers) - len(leechers) * place.content.total,
+        " | ".join(figures_of(client) for client in leechers if client.name == "fetch"),
     )  # fmt: skip
 
 
@@ -91,32 +94,8 @@ def three(place: Place, who: str) -> Outcome:
     """Three seeders: one as quick as it can, two of 8 MB a second. Of these one has no more than each second piece, and downloads the rest."""
     place.wait_ready(transmission(place, True))
     place.wait_ready(aria2(place, True, 8000))
-    half = aria2(place, True, 8000)
-    half.stop()
-    blank_each_second(half.out, place.content.piece_length)
-    half = aria2_at(place, half)
-    place.wait_ready(half)
+    place.wait_ready(aria2(place, True, 8000, keeps=lambda piece: piece % 2 == 0))
     return finish(place, [by_each(place, who)])
-
-
-def aria2_at(place: Place, old: Client) -> Client:
-    """aria2 once more, with the files of an earlier one, which it checks."""
-    client = aria2(place, False, 8000)
-    client.stop()
-    place.clients.remove(client)
-    command = [str(word) for word in client.process.args]  # type: ignore[union-attr]
-    command = [f"--dir={old.out.parent}" if word.startswith("--dir=") else word for word in command]
-    return place.start("aria2", [*command, "--check-integrity=true"], client.host, client.port, old.out)
-
-
-def blank_each_second(path: Path, piece_length: int) -> None:
-    """The file loses each second piece. It is a copy, since the others have the same file by another name."""
-    data = bytearray(path.read_bytes())
-    for at in range(piece_length, len(data), 2 * piece_length):
-        end = min(at + piece_length, len(data))
-        data[at:end] = bytes(end - at)
-    path.unlink()
-    path.write_bytes(data)
 
 
 def killed(place: Place, who: str) -> Outcome:
@@ -217,6 +196,28 @@ def run_one(trial: Callable[[Place, str], Outcome], who: str, content: Content) 
             place.close()
 
 
+def picture(path: str) -> None:
+    """Draws a download from four peers, of which three have a part of the pieces. None of them knows another one, nor gets anything."""
+    with tempfile.TemporaryDirectory() as directory:
+        content = Content(Path(directory), {"": 40 * MEGABYTE}, PIECE_LENGTH)
+        content.make("picture")
+        place = Place(Path(directory), content)
+        content.torrent(place.torrent, "http://127.0.0.1:9/announce")
+        count = len(content.digests) // 20
+        shares: list[list[tuple[float, float]]] = [[(0, 1)], [(0, 0.45), (0.6, 1)], [(0, 0.3), (0.45, 0.8)], [(0.8, 1)]]
+        try:
+            for share in shares:
+                parts = [range(int(first * count), int(last * count)) for first, last in share]
+                place.wait_ready(aria2(place, True, 700, keeps=lambda piece, parts=parts: any(piece in part for part in parts)))
+            addresses = [client.address for client in place.clients]
+            words = ("--no-tracker", "--slots", "0", "--picture", path)
+            leecher = fetch(place, False, words=words, peers=tuple(addresses))
+            leecher.process.wait(LONGEST)
+            print(figures_of(leecher))
+        finally:
+            place.close()
+
+
 def main() -> int:
     """Runs the downloads that are named, or all."""
     names = sys.argv[1:] or list(TRIALS)
@@ -224,6 +225,9 @@ def main() -> int:
         print("\n".join(TRIALS))
         return 0
     enter_network()
+    if names[0] == "--picture":
+        picture(names[1])
+        return 0
     return 0 if all([run(name) for name in names]) else 1
 
 

@@ -248,9 +248,22 @@ class Place:
         self.tracker.close()
 
 
-def aria2(place: Place, seeds: bool, kilobytes: int = 0) -> Client:
-    """aria2; it sends so many kilobytes a second at most, or as it can."""
+def keep_pieces(path: Path, piece_length: int, keeps: Callable[[int], bool]) -> None:
+    """A file loses the pieces that aren't to be kept. It is a copy then, since others have the same file by another name."""
+    data = bytearray(path.read_bytes())
+    for piece, at in enumerate(range(0, len(data), piece_length)):
+        if not keeps(piece):
+            end = min(at + piece_length, len(data))
+            data[at:end] = bytes(end - at)
+    path.unlink()
+    path.write_bytes(data)
+
+
+def aria2(place: Place, seeds: bool, kilobytes: int = 0, keeps: Callable[[int], bool] | None = None) -> Client:
+    """aria2; it sends so many kilobytes a second at most, or as it can. Where it keeps some pieces alone, it downloads the others."""
     (host, port), room = place.address(), place.room("aria2", seeds)
+    if keeps:
+        keep_pieces(room / "content", place.content.piece_length, keeps)
     command = [
         "aria2c", "--no-conf", f"--interface={host}", f"--listen-port={port}", "--enable-dht=false", "--enable-dht6=false",
         "--bt-enable-lpd=false", "--enable-peer-exchange=false", "--seed-ratio=0.0", "--allow-overwrite=true", "--file-allocation=falloc",
@@ -301,12 +314,12 @@ def rtorrent(place: Place, seeds: bool, kilobytes: int = 0) -> Client:
     return place.start("rtorrent", command, host, port, room / "content")
 
 
-def fetch(place: Place, seeds: bool, kilobytes: int = 0, words: tuple[str, ...] = ("--seed-minutes", "10")) -> Client:
+def fetch(place: Place, seeds: bool, kilobytes: int = 0, words: tuple[str, ...] = ("--seed-minutes", "10"), peers: tuple[str, ...] = ()) -> Client:
     """The downloader of this folder."""
     (host, port), room = place.address(), place.room("fetch", seeds)
     command = [sys.executable, str(HERE / "fetch.py"), "--quiet", "--json", "--bind", host, "--port", str(port), *words]
     command += ["--up", str(kilobytes)] if kilobytes else []
-    return place.start("fetch", [*command, str(place.torrent), str(room / "content")], host, port, room / "content", subprocess.PIPE)
+    return place.start("fetch", [*command, str(place.torrent), str(room / "content"), *peers], host, port, room / "content", subprocess.PIPE)
 
 
 START: dict[str, Callable[..., Client]] = {

@@ -57,6 +57,11 @@ class Addresses:
             known.failures = 0
         self.failed(address, now)
 
+    def postpone(self, address: Address, now: float) -> None:
+        """Who is there has all, as we have."""
+        if known := self.known.get(address):
+            known.next_try = now + LONGEST_DELAY
+
     def forget(self, address: Address) -> None:
         """It leads to ourselves."""
         self.known.pop(address, None)

@@ -14,6 +14,7 @@ from .tracker import Announce, Event, Told, TrackerFault
 FIRST_RETRY = 15.0  # seconds after all trackers failed; it doubles each time
 LONGEST_RETRY = 1800.0
 STOP_SECONDS = 3.0  # that the end of the program waits for the last announce
+LONGEST_TALK = 300.0  # seconds that an announce may take, before another one is made
 FEW_PEERS = 5  # fewer than these, and the tracker is asked as early as it allows
 
 
@@ -50,7 +51,7 @@ class Announcer:
         self.announces = 0
         self.note = ""
         self._events = [Event.STARTED]
-        self._next = self._earliest = 0.0
+        self._next = self._earliest = self._began = 0.0
         self._failures = 0
         self._ids: dict[str, bytes] = {}
 
@@ -69,8 +70,11 @@ class Announcer:
                 break
             self.is_busy = False
             addresses += self._take(outcome, now)
+        if self.is_busy and now - self._began > LONGEST_TALK:
+            self.is_busy = False
         is_time = now >= self._next or (peers < FEW_PEERS and now >= self._earliest)
         if self.tiers and not self.is_busy and is_time:
+            self._began = now
             self._start(self._events[0] if self._events else Event.NONE)
         return addresses
 

@@ -6,6 +6,7 @@ import os
 import secrets
 import socket
 import time
+from collections.abc import Iterable
 from typing import Any, cast
 
 from piecepick import Keeps, Picker, PiecepickError
@@ -24,7 +25,7 @@ from .progress import Progress, State, line, size
 from .recorder import Recorder
 from .serving import Gate, Server, Urgent
 from .session import Session
-from .storage import Storage, StorageFault
+from .storage import Storage
 from .swarm import Limits, Swarm
 from .tracker import Announce, Event
 from .uploads import Uploads
@@ -78,11 +79,15 @@ def file_levels(layout: Layout, options: Options) -> dict[int, int]:
     return levels | options.levels
 
 
+class Interrupted(Exception):
+    """The user has ended the program while it looked at what is there."""
+
+
 class Download:
     """The parts of one download. `prepare` comes first, then `run`, and `close` in any case."""
 
     def __init__(self, options: Options, metainfo: bytes) -> None:
-        self.options, self.metainfo = options, metainfo
+        self.options = options
         plain = open_picker(metainfo, options)
         self.metered = Metered(plain) if options.meters else None
         self.picker = cast(Picker, self.metered or plain)
@@ -108,6 +113,7 @@ class Download:
         self.began = time.monotonic()
         self.finished: float | None = None
         self.restored_count = 0
+        self.wanted: list[int] = []  # pieces
         self.key = secrets.randbits(32)
         self._saved = 0.0
         self._newest = self.began  # when a block came last
@@ -127,11 +133,12 @@ class Download:
 
     def prepare(self) -> None:
         """Looks at what is on the disk, takes the room for the rest, and tells the picker what is wanted."""
-        self.content.restore(self.progress.check, self.options.replaces)
+        self.content.restore(self._tell_check, self.options.replaces)
         self.progress.end()
         self.restored_count = self.content.had_count
         self.storage.prepare(self.wanted_files)
         levels = levels_of(self.layout, self.levels)
+        self.wanted = [piece for piece, level in enumerate(levels) if level > 0]
         self.picker.set_levels(levels)
         self.picker.set_in_order(self.options.in_order or self.options.serve is not None)
         if self.options.serve is not None:
@@ -140,6 +147,12 @@ class Download:
             for _, _, _, _, where in socket.getaddrinfo(host, port, type=socket.SOCK_STREAM)[:1]:
                 self.addresses.add((str(where[0]), int(where[1])), is_given=True)
         self.began = self._newest = time.monotonic()
+
+    def _tell_check(self, done: int, pieces: int) -> None:
+        """Shows how far the check at the start is. Raises Interrupted where the user ends it."""
+        self.progress.check(done, pieces)
+        if self.swarm.is_stopping:
+            raise Interrupted
 
     def _serve(self, port: int, levels: bytes) -> None:
         """Lets players read. Raises OSError where the port can't be had."""
@@ -165,6 +178,15 @@ class Download:
                 self.watch.draw(self.session, line(self.state(now)))
             self.progress.show(self.state(now))
         return self.picker.has_wanted
+
+    @property
+    def is_part(self) -> bool:
+        """Whether some pieces aren't wanted."""
+        return len(self.wanted) < self.layout.pieces
+
+    def _bytes_of(self, pieces: Iterable[int]) -> int:
+        """The bytes of these pieces."""
+        return sum(map(self.layout.length_of, pieces))
 
     def _is_over(self) -> bool:
         """Whether there is nothing more to do."""
@@ -204,8 +226,8 @@ class Download:
         """What the progress line tells."""
         peers = self.session.peers.values()
         return State(
-            done=self.content.had_bytes,
-            wanted=self.layout.total,
+            done=self._bytes_of(filter(self.content.has, self.wanted)) if self.is_part else self.content.had_bytes,
+            wanted=self._bytes_of(self.wanted) if self.is_part else self.layout.total,
             down=sum(peer.down.per_second(now) for peer in peers),
             up=sum(peer.up.per_second(now) for peer in peers),
             peers=len(peers),
@@ -266,6 +288,3 @@ class Download:
         if self.metered:
             told |= {"calls": self.metered.calls, "library": round(self.metered.seconds, 3)}
         return told
-
-
-__all__ = ["Download", "StorageFault"]

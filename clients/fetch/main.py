@@ -11,7 +11,7 @@ from typing import Any
 from piecepick import MemoryFault
 
 from . import options as command_line
-from .download import Download, layout_of, open_picker
+from .download import Download, Interrupted, layout_of, open_picker
 from .layout import printable
 from .metainfo import MetainfoFault
 from .options import Options
@@ -56,6 +56,8 @@ def fetch(metainfo: bytes, options: Options) -> int:
         end_in_order(download)
         download.prepare()
         is_done = download.run()
+    except Interrupted:
+        return NOT_DONE
     finally:
         signal.set_wakeup_fd(-1)
         download.close()

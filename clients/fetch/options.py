@@ -88,7 +88,8 @@ def _parser() -> argparse.ArgumentParser:
     what = parser.add_argument_group("what is downloaded")
     what.add_argument("--list", action="store_true", dest="lists", help="list the files with their numbers, and end")
     what.add_argument("--only", type=_numbers, metavar="1,3-5", help="download these files alone")
-    what.add_argument("--level", type=_level, action="append", default=[], metavar="N=L", help="file N has level L: 0 is not downloaded, 7 comes first, 4 is usual")
+    level = "file N has level L: 0 is not downloaded, 7 comes first, 4 is usual"
+    what.add_argument("--level", type=_level, action="append", default=[], metavar="N=L", help=level)
     what.add_argument("--in-order", action="store_true", help="from the front to the end, and not the rarest first")
     what.add_argument("--replace", action="store_true", dest="replaces", help="overwrite files that have another content")
     swarm = parser.add_argument_group("the swarm")
@@ -108,7 +109,8 @@ def _parser() -> argparse.ArgumentParser:
     shown.add_argument("--watch", action="store_true", dest="watches", help="draw the pieces and the peers in the terminal")
     shown.add_argument("--picture", metavar="FILE.svg", help="draw the download: time across, pieces up, a colour for each peer")
     shown.add_argument("--by-rarity", action="store_true", help="in the picture the pieces at the bottom that fewest peers show")
-    shown.add_argument("--serve", type=_count, metavar="PORT", help="give the files to players on this machine by HTTP while they come, until it is interrupted")
+    serve = "give the files to players on this machine by HTTP while they come, until it is interrupted"
+    shown.add_argument("--serve", type=_count, metavar="PORT", help=serve)
     shown.add_argument("--json", action="store_true", dest="as_json", help="print the figures at the end for programs")
     shown.add_argument("--meter", action="store_true", dest="meters", help="measure the time in the library, too")
     shown.add_argument("--quiet", action="store_true", help="no progress line")

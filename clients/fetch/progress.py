@@ -7,6 +7,8 @@ import time
 from dataclasses import dataclass
 from typing import TextIO
 
+from .layout import printable
+
 EACH = 0.5  # seconds
 
 
@@ -48,7 +50,7 @@ def line(state: State) -> str:
     if 0 < state.done < state.wanted and state.down > 0:
         parts.append(f"{duration((state.wanted - state.done) / state.down)} left")
     if state.note:
-        parts.append(state.note)
+        parts.append(printable(state.note))
     return ", ".join(parts)
 
 

@@ -195,7 +195,8 @@ class Server(http.server.ThreadingHTTPServer):
 
     def index(self) -> bytes:
         """A page with the files."""
-        lines = [f'<li><a href="/{file.number}/{quote(file.path, errors="replace")}">{escape(printable(file.path))}</a>' for file in self.files.values()]
+        links = [(f"/{file.number}/{quote(file.path, errors='replace')}", escape(printable(file.path))) for file in self.files.values()]
+        lines = [f'<li><a href="{link}">{name}</a>' for link, name in links]
         return ("<!doctype html><meta charset=utf-8><title>Files</title><ol>" + "\n".join(lines) + "</ol>\n").encode()
 
     def copy(self, file: File, begin: int, end: int, write: Callable[[bytes], object]) -> None:

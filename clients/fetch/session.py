@@ -176,13 +176,13 @@ class Session:
     def _piece(self, peer: Peer, payload: memoryview) -> None:
         piece, begin, data = block_of(payload)
         block = (piece, begin)
-        peer.down.add(len(data), self.now)
         self.figures.blocks += 1
         self.figures.bytes += len(data)
         self._count_down(peer, block)
         if not peer.takes(block):
             self.figures.unasked += 1
             return
+        peer.down.add(len(data), self.now)
         peer.block_came, peer.timeouts, peer.rests_until = self.now, 0, 0.0
         kind = self.content.arrived(peer.worker, piece, begin, data)
         if kind is Kind.REFUSED:

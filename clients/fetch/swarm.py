@@ -280,8 +280,12 @@ class Swarm:
                 self.drop(peer)
             return
         is_stuck = len(peer.unsent) > 0 and now - peer.said > STUCK_SECONDS
-        if is_stuck or now - peer.heard > QUIET_SECONDS or not self.session.time_out(peer) or self._is_useless(peer):
+        if is_stuck or now - peer.heard > QUIET_SECONDS or not self.session.time_out(peer):
             self.drop(peer)
+            return
+        if self._is_useless(peer):
+            self.drop(peer)
+            self.addresses.postpone(peer.address, now)
             return
         self.session.follow_rate(peer)
         if now - peer.said > KEEPALIVE_SECONDS and not peer.unsent:

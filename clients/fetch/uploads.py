@@ -4,6 +4,7 @@ from __future__ import annotations
 
 from .content import Content
 from .peer import Peer
+from .storage import StorageFault
 from .wire import Message, spell_block
 
 LONGEST_REQUEST = 1 << 17  # bytes
@@ -63,10 +64,13 @@ class Uploads:
             peer.say(Message.REJECT, *wanted)
 
     def serve(self, peer: Peer, now: float) -> None:
-        """Reads what the peer wants, until enough waits to be sent. Raises OSError where a piece that is had isn't there."""
+        """Reads what the peer wants, until enough waits to be sent. Raises StorageFault where a piece that is had isn't there."""
         while peer.wants and len(peer.unsent) < MOST_UNSENT and self.limit.allows(now):
             piece, begin, length = peer.wants.popleft()
-            block = self.content.storage.read(piece * self.content.layout.piece_length + begin, length)
+            try:
+                block = self.content.storage.read(piece * self.content.layout.piece_length + begin, length)
+            except OSError as error:
+                raise StorageFault(f"piece {piece} was there and can't be read: {error.strerror}") from error
             peer.unsent += spell_block(piece, begin, block)
             peer.up.add(length, now)
             self.limit.take(length)

@@ -73,7 +73,8 @@ def numbers(pieces: set[int]) -> str:
 def line_of(peer: Peer, number: int, pieces: int, now: float) -> str:
     """A peer: address, program, its share of the pieces, rates, requests of its depth, who chokes whom, and the pieces that it is asked for."""
     name = f"{peer.address[0]}:{peer.address[1]}"
-    signs = ("c" if peer.chokes_us else "-") + ("i" if peer.is_interested else "-") + ("C" if peer.we_choke else "-") + ("I" if peer.interests_us else "-")
+    states = (("c", peer.chokes_us), ("i", peer.is_interested), ("C", peer.we_choke), ("I", peer.interests_us))
+    signs = "".join(sign if holds else "-" for sign, holds in states)
     rates = f"{size(peer.down.per_second(now)):>9}/s {size(peer.up.per_second(now)):>9}/s"
     text = f"{name:<21.21} {peer.program:<6.6} {100 * peer.piece_count // pieces:3}% {rates} {len(peer.asked):3}/{peer.depth:<3} {signs}  "
     return paint("■ ", COLOURS[number % len(COLOURS)]) + text + numbers({piece for piece, _ in peer.asked})

@@ -2,6 +2,7 @@
 
 from __future__ import annotations
 
+import resource
 import signal
 import subprocess
 import sys
@@ -200,6 +201,26 @@ class FullDisk(Downloading):
         self.assertIn("larger than the system allows", process.stderr)
         self.fetch(seeder)
         self.assert_same()
+
+
+    def test_in_between(self) -> None:
+        """Writing fails in the middle: what came before stays, and is not fetched again."""
+        seeder = self.seeder(delay=0.01)
+        process = self.start(seeders=(seeder,))
+        end = time.monotonic() + 20
+        while seeder.blocks < 60 and time.monotonic() < end:
+            time.sleep(0.02)
+        # From now on nothing is written behind the first tenth of the file.
+        resource.prlimit(process.pid, resource.RLIMIT_FSIZE, (1 << 18, 1 << 18))
+        printed, errors = process.communicate(timeout=20)
+        self.assertEqual(process.returncode, 4, errors)
+        self.assertIn("larger than the system allows", errors)
+        self.assertTrue(Path(f"{self.out}.part").exists())
+        again = self.seeder()
+        self.fetch(again)
+        self.assert_same()
+        # Those that were under way when it failed are fetched twice.
+        self.assertLess(again.blocks, BLOCKS - 55)
 
 
 if __name__ == "__main__":

@@ -220,7 +220,8 @@ class Folders(Downloading):
     def test_list(self) -> None:
         process = self.start("--list")
         printed, _ = process.communicate(timeout=20)
-        self.assertEqual([line.split()[1:] for line in printed.splitlines()], [[str(length), path] for path, length in zip(parts(), (n for _, n in FILES))])
+        told = [line.split()[1:] for line in printed.splitlines()]
+        self.assertEqual(told, [[str(len(data)), path] for path, data in parts().items()])
 
     def test_unknown_file(self) -> None:
         self.fetch(words=("--only", "9"), status=2)

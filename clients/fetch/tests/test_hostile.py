@@ -22,7 +22,10 @@ from fetch.options import Options
 from fetch.peer import Peer
 from fetch.wire import Inbound, WireFault
 
-from .support import BITFIELD, BLOCK, BLOCK_MESSAGE, CANCEL, CONTENT, HAVE, HAVE_ALL, PIECE, PIECES, REJECT, REQUEST, UNCHOKE, Downloading, flags_of, single_torrent
+from .support import (
+    BITFIELD, BLOCK, BLOCK_MESSAGE, CANCEL, CONTENT, HAVE, HAVE_ALL, PIECE, PIECES, REJECT, REQUEST, UNCHOKE, Downloading, flags_of,
+    single_torrent,
+)  # fmt: skip
 
 SESSIONS = int(os.environ.get("FETCH_SESSIONS", "2000"))
 NUMBERS = [0, 1, PIECES - 1, PIECES, BLOCK, 2 * BLOCK, PIECE, 0x7FFFFFFF, 0xFFFFFFFF]

@@ -18,7 +18,8 @@ class Spelled(unittest.TestCase):
             (spell(Message.CHOKE), "00000001 00"), (spell(Message.UNCHOKE), "00000001 01"), (spell(Message.INTERESTED), "00000001 02"),
             (spell(Message.NOT_INTERESTED), "00000001 03"), (spell(Message.HAVE, 258), "00000005 04 00000102"),
             (spell_bitfield(b"\xfe"), "00000002 05 fe"), (spell(Message.REQUEST, 1, 16384, 16384), "0000000d 06 00000001 00004000 00004000"),
-            (spell_block(1, 16384, b"ab"), "0000000b 07 00000001 00004000 6162"), (spell(Message.CANCEL, 1, 2, 3), "0000000d 08 00000001 00000002 00000003"),
+            (spell_block(1, 16384, b"ab"), "0000000b 07 00000001 00004000 6162"),
+            (spell(Message.CANCEL, 1, 2, 3), "0000000d 08 00000001 00000002 00000003"),
             (spell(Message.HAVE_ALL), "00000001 0e"), (spell(Message.HAVE_NONE), "00000001 0f"),
             (spell(Message.REJECT, 1, 2, 3), "0000000d 10 00000001 00000002 00000003"),
         ):  # fmt: skip
