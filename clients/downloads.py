@@ -54,7 +54,7 @@ def figures_of(client: Client) -> str:
     """What the downloader of this folder printed at its end."""
     assert client.process.stdout
     told = json.loads(client.process.stdout.read() or b"{}")
-    names = ("blocks", "twice", "requests", "endgame_requests", "failed", "lost", "calls", "library")
+    names = ("blocks", "twice", "requests", "endgame_requests", "late_bitfields", "failed", "lost", "uploaded", "calls", "library")
     return " ".join(f"{name}={told[name]}" for name in names if name in told)
 
 
@@ -161,6 +161,7 @@ TRIALS: dict[str, tuple[Callable[[Place, str], Outcome], tuple[str, ...], dict[s
     "qbittorrent": (one_seeder("qbittorrent"), ONE, {"": 200 * MEGABYTE}, PIECE_LENGTH),
     "rtorrent": (one_seeder("rtorrent"), ONE, {"": 200 * MEGABYTE}, PIECE_LENGTH),
     "aria2": (one_seeder("aria2"), LEECHERS, {"": 200 * MEGABYTE}, PIECE_LENGTH),
+    "giving": (one_seeder("fetch"), ("fetch", "aria2", "transmission", "qbittorrent", "rtorrent"), {"": 200 * MEGABYTE}, PIECE_LENGTH),
     "three": (three, ONE, {"": 48 * MEGABYTE}, PIECE_LENGTH),
     "killed": (killed, ONE, {"": 32 * MEGABYTE}, PIECE_LENGTH),
     "slow": (slow, LEECHERS, {"": 24 * MEGABYTE}, PIECE_LENGTH),

@@ -9,7 +9,7 @@ import time
 from collections.abc import Iterable
 from typing import Any, cast
 
-from piecepick import Keeps, Picker, PiecepickError
+from piecepick import Keeps, Picker, PiecepickError, Status
 
 from .addresses import Addresses
 from .announcing import Announcer
@@ -46,7 +46,9 @@ def open_picker(metainfo: bytes, options: Options) -> Picker:
             metainfo, keeps=Keeps.NOTHING, workers=2 * options.most_peers + 1, depth=FIRST_DEPTH, deepest=MOST_DEPTH, askers=options.askers
         )
     except PiecepickError as error:
-        raise MetainfoFault(f"the library can't use the metainfo file: {error.status.name.lower().replace('_', ' ')}") from error
+        strict = "it isn't bencoded as strictly as BEP 3 has it"
+        cause = strict if error.status is Status.BENCODE else error.status.name.lower().replace("_", " ")
+        raise MetainfoFault(f"the library can't use the metainfo file: {cause}") from error
 
 
 def layout_of(metainfo: bytes, picker: Picker) -> Layout:
@@ -278,6 +280,7 @@ class Download:
             "endgame_requests": figures.endgame_requests,
             "cancels": figures.cancels,
             "rejects": figures.rejects,
+            "late_bitfields": figures.late_bitfields,
             "timeouts": figures.timeouts,
             "failed": self.content.failed,
             "connections": self.swarm.connections,

@@ -4,11 +4,14 @@ from __future__ import annotations
 
 import argparse
 import os
+from collections.abc import Callable
 from dataclasses import dataclass, field
+from typing import TypeVar
 
 from . import addresses
 from .blame import Address
 
+MOST_FILES = 1 << 20
 DESCRIPTION = "Downloads a torrent (BEP 3), and shows how the piece picker chooses."
 ENDING = """\
 OUT is the file, or the folder of a torrent of many files. Where it ends with a slash, the torrent's own name is put behind it.
@@ -49,42 +52,79 @@ class Options:
     askers: int = 2
 
 
+T = TypeVar("T")
+
+
+def _told(parse: Callable[[str], T]) -> Callable[[str], T]:
+    """The same parser, whose fault the user is told in its own words."""
+
+    def parse_or_tell(text: str) -> T:
+        try:
+            return parse(text)
+        except ValueError as fault:
+            raise argparse.ArgumentTypeError(str(fault)) from fault
+
+    return parse_or_tell
+
+
+def _whole(text: str) -> int:
+    """A number in decimal digits."""
+    if not text.isascii() or not text.isdigit() or len(text) > 18:
+        raise ValueError(f"{text!r} is no whole number")
+    return int(text)
+
+
+def _between(least: int, most: int) -> Callable[[str], int]:
+    """A number in these bounds."""
+
+    def parse(text: str) -> int:
+        if not least <= (number := _whole(text)) <= most:
+            raise ValueError(f"{number} isn't {least} to {most}")
+        return number
+
+    return _told(parse)
+
+
+@_told
 def _numbers(text: str) -> set[int]:
     """Files by number: 1,3-5."""
     numbers: set[int] = set()
     for part in text.split(","):
         first, dash, last = part.partition("-")
-        numbers.update(range(int(first), int(last if dash else first) + 1))
+        begin, end = _whole(first), _whole(last if dash else first)
+        if not begin <= end < MOST_FILES:
+            raise ValueError(f"{part!r} names no files")
+        numbers.update(range(begin, end + 1))
     return numbers
 
 
+@_told
 def _level(text: str) -> tuple[int, int]:
     """A file's number and its level: 2=7."""
     number, _, level = text.partition("=")
-    if not 0 <= int(level) <= 7:
-        raise ValueError("a level is 0 to 7")
-    return int(number), int(level)
+    if _whole(level) > 7:
+        raise ValueError(f"{level} is no level: 0 to 7 are")
+    return _whole(number), _whole(level)
 
 
-def _count(text: str) -> int:
-    """A number that isn't negative."""
-    if (number := int(text)) < 0:
-        raise ValueError("negative")
+@_told
+def _amount(text: str) -> float:
+    """A number that isn't negative, perhaps with a fraction."""
+    if not 0 <= (number := float(text)) < 1e12:
+        raise ValueError(f"{text!r} is no amount")
     return number
 
 
-def _peers(text: str) -> int:
-    """How many peers; the library has room for 1,024 workers, and each peer may need two numbers."""
-    if not 1 <= (number := int(text)) <= 500:
-        raise ValueError("1 to 500")
-    return number
+_port, _count = _between(0, 65535), _between(0, 1 << 30)
+# The library has room for 1,024 workers, and each peer may need two numbers.
+_peers = _between(1, 500)
 
 
 def _parser() -> argparse.ArgumentParser:
     parser = argparse.ArgumentParser(prog="fetch.py", description=DESCRIPTION, epilog=ENDING, formatter_class=argparse.RawDescriptionHelpFormatter)
     parser.add_argument("torrent", metavar="FILE.torrent")
     parser.add_argument("out", metavar="OUT", nargs="?")
-    parser.add_argument("peers", metavar="HOST:PORT", nargs="*", type=addresses.parse, help="peers beside those of the trackers")
+    parser.add_argument("peers", metavar="HOST:PORT", nargs="*", type=_told(addresses.parse), help="peers beside those of the trackers")
     what = parser.add_argument_group("what is downloaded")
     what.add_argument("--list", action="store_true", dest="lists", help="list the files with their numbers, and end")
     what.add_argument("--only", type=_numbers, metavar="1,3-5", help="download these files alone")
@@ -93,7 +133,7 @@ def _parser() -> argparse.ArgumentParser:
     what.add_argument("--in-order", action="store_true", help="from the front to the end, and not the rarest first")
     what.add_argument("--replace", action="store_true", dest="replaces", help="overwrite files that have another content")
     swarm = parser.add_argument_group("the swarm")
-    swarm.add_argument("--port", type=_count, help="listen at this port; without it at 6881 to 6889, or at any")
+    swarm.add_argument("--port", type=_port, help="listen at this port; without it at 6881 to 6889, or at any")
     swarm.add_argument("--bind", default="", metavar="ADDRESS", help="use this address of ours alone")
     swarm.add_argument("--no-listen", action="store_false", dest="listens", help="take no connections")
     swarm.add_argument("--peers", type=_peers, dest="most_peers", default=50, metavar="N", help="connections at most, 50 by default")
@@ -102,15 +142,15 @@ def _parser() -> argparse.ArgumentParser:
     swarm.add_argument("--no-tracker", action="store_false", dest="asks_trackers", help="ask no tracker")
     swarm.add_argument("--askers", type=_peers, default=2, metavar="N", help="of so many peers a block is asked at most in endgame, 2 by default")
     ends = parser.add_argument_group("when it ends")
-    ends.add_argument("--seed", type=float, dest="seed_ratio", metavar="RATIO", help="then upload until so many times the content is given")
-    ends.add_argument("--seed-minutes", type=float, metavar="N", help="then upload for so many minutes")
-    ends.add_argument("--give-up", type=float, metavar="SECONDS", help="end when nothing has come for so long")
+    ends.add_argument("--seed", type=_amount, dest="seed_ratio", metavar="RATIO", help="then upload until so many times the content is given")
+    ends.add_argument("--seed-minutes", type=_amount, metavar="N", help="then upload for so many minutes")
+    ends.add_argument("--give-up", type=_amount, metavar="SECONDS", help="end when nothing has come for so long")
     shown = parser.add_argument_group("what is shown")
     shown.add_argument("--watch", action="store_true", dest="watches", help="draw the pieces and the peers in the terminal")
     shown.add_argument("--picture", metavar="FILE.svg", help="draw the download: time across, pieces up, a colour for each peer")
     shown.add_argument("--by-rarity", action="store_true", help="in the picture the pieces at the bottom that fewest peers show")
     serve = "give the files to players on this machine by HTTP while they come, until it is interrupted"
-    shown.add_argument("--serve", type=_count, metavar="PORT", help=serve)
+    shown.add_argument("--serve", type=_port, metavar="PORT", help=serve)
     shown.add_argument("--json", action="store_true", dest="as_json", help="print the figures at the end for programs")
     shown.add_argument("--meter", action="store_true", dest="meters", help="measure the time in the library, too")
     shown.add_argument("--quiet", action="store_true", help="no progress line")

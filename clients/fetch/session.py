@@ -46,6 +46,7 @@ class Figures:
     cancels: int = 0
     endgame_requests: int = 0
     rejects: int = 0
+    late_bitfields: int = 0
     timeouts: int = 0
     allowed_fast: int = 0
 
@@ -135,6 +136,7 @@ class Session:
     def _bitfield(self, peer: Peer, payload: memoryview) -> None:
         answer = self.picker.bits(peer.worker, payload)
         if answer.reason is Reason.LATE_BITS:
+            self.figures.late_bitfields += 1
             answer = self.picker.haves(peer.worker, payload)
         self._show(peer, bytes(payload))
         self._interest(peer, answer)

@@ -25,7 +25,7 @@ def _told(path: str, error: OSError) -> StorageFault:
         return StorageFault(f"the disk is full: {path}")
     if error.errno == errno.EFBIG:
         return StorageFault(f"the file is larger than the system allows: {path}")
-    return StorageFault(f"{path}: {error.strerror or error}")
+    return StorageFault(f"{error.filename or path}: {error.strerror or error}")
 
 
 class Storage:
