@@ -3,19 +3,14 @@
 from __future__ import annotations
 
 import signal
-import struct
-import tempfile
 import time
 import unittest
 from pathlib import Path
-from typing import Any, cast
+from typing import Any
 
-from fetch.download import Download
-from fetch.options import Options
-from fetch.peer import Peer
 from fetch.uploads import Limit
-from fetch.wire import Inbound
 
+from .spoken import Speaking, message
 from .support import (
     BITFIELD, BLOCK, BLOCK_MESSAGE, CANCEL, CHOKE, CONTENT, HAVE, HAVE_ALL, HAVE_NONE, INTERESTED, NOT_INTERESTED, PIECE, PIECES, REJECT,
     REQUEST, UNCHOKE, Downloading, flags_of, single_torrent,
@@ -25,45 +20,8 @@ from .trackers import HttpTracker
 BLOCKS = 161
 
 
-def message(kind: int, *numbers: int, data: bytes = b"") -> bytes:
-    """A message as BEP 3 spells it."""
-    payload = struct.pack(f">{len(numbers)}I", *numbers) + data
-    return struct.pack(">IB", 1 + len(payload), kind) + payload
-
-
-class Answers(unittest.TestCase):
+class Answers(Speaking):
     """What is said to one peer. Of the content the pieces 0 to 9 are there."""
-
-    had = 10
-
-    def setUp(self) -> None:
-        folder = tempfile.TemporaryDirectory()
-        self.addCleanup(folder.cleanup)
-        out = Path(folder.name, "out")
-        Path(f"{out}.part").write_bytes(CONTENT[: self.had * PIECE])
-        self.download = Download(Options("", str(out), listens=False, asks_trackers=False, quiet=True), single_torrent())
-        self.addCleanup(self.download.close)
-        self.download.prepare()
-        self.session = self.download.session
-
-    def peer(self, is_fast: bool) -> Peer:
-        """A peer that has joined; what was said to it is looked at by `said`."""
-        peer = Peer(cast(Any, None), ("127.0.0.1", 1), True, Inbound(PIECES), 0.0)
-        peer.is_fast = is_fast
-        self.session.join(peer, 0)
-        return peer
-
-    def said(self, peer: Peer) -> bytes:
-        """What was said since the last call."""
-        data = bytes(peer.unsent)
-        peer.unsent.clear()
-        return data
-
-    def hear(self, peer: Peer, data: bytes) -> bytes:
-        """The peer says something; what it is answered, with the blocks that it is given."""
-        self.session.receive(peer, data)
-        self.session.uploads.serve(peer, self.session.now)
-        return self.said(peer)
 
     def test_shown(self) -> None:
         self.assertEqual(self.said(self.peer(True)), message(BITFIELD, data=flags_of(range(10))))
@@ -83,7 +41,7 @@ class Answers(unittest.TestCase):
             peer = self.peer(is_fast)
             self.said(peer)
             self.assertEqual(self.hear(peer, message(REQUEST, 3, 0, BLOCK)), answer)
-            self.session.part(peer)
+            self.leave(peer)
 
     def test_not_there(self) -> None:
         peer = self.peer(True)
@@ -132,7 +90,7 @@ class Nothing(Answers):
 
     def test_shown(self) -> None:
         self.assertEqual(self.said(self.peer(True)), message(HAVE_NONE))
-        self.session.part(self.session.peers[0])
+        self.leave(self.session.peers[0])
         self.assertEqual(self.said(self.peer(False)), b"")
 
     test_given = test_choke_rejects = test_cancel = test_interest = None  # type: ignore[assignment]
@@ -145,7 +103,7 @@ class All(Answers):
 
     def test_shown(self) -> None:
         self.assertEqual(self.said(self.peer(True)), message(HAVE_ALL))
-        self.session.part(self.session.peers[0])
+        self.leave(self.session.peers[0])
         self.assertEqual(self.said(self.peer(False)), message(BITFIELD, data=flags_of(range(PIECES))))
 
     test_not_there = test_interest = None  # type: ignore[assignment]
