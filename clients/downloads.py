@@ -9,7 +9,7 @@ compared by SHA-1, file by file. The status is 0 where each download was well. A
 there, the most memory, and the bytes that came
 beyond one copy, as the leecher tells its tracker.
 
-It needs Debian's packages aria2, transmission-daemon, qbittorrent-nox and rtorrent, and `unshare` for a network of its own.
+It needs Debian's packages aria2, transmission-daemon, qbittorrent-nox, rtorrent and opentracker, and `unshare` for a network of its own.
 """
 
 from __future__ import annotations
@@ -22,7 +22,7 @@ from collections.abc import Callable
 from dataclasses import dataclass
 from pathlib import Path
 
-from others import START, Client, Content, Place, aria2, enter_network, fetch, transmission
+from others import NETWORK, START, Client, Content, Place, aria2, enter_network, fetch, opentracker, transmission
 
 LONGEST = 150.0  # seconds of one download
 PIECE_LENGTH = 1 << 18
@@ -142,6 +142,23 @@ def resumed(place: Place, who: str) -> Outcome:
     return outcome
 
 
+def by_opentracker(scheme: str) -> Callable[[Place, str], Outcome]:
+    """One gives to another, and they know each other by opentracker alone."""
+
+    def run(place: Place, who: str) -> Outcome:
+        port = opentracker(place)
+        place.content.torrent(place.torrent, f"{scheme}://{NETWORK}1:{port}/announce")
+        place.wait_ready(fetch(place, True))
+        leecher = fetch(place, False, words=())
+        while leecher.process.poll() is None and time.monotonic() - leecher.began < LONGEST:
+            leecher.megabytes()
+            time.sleep(0.05)
+        is_well = leecher.process.poll() == 0 and place.content.sums(leecher.out) == place.content.right
+        return Outcome(who, is_well, [time.monotonic() - leecher.began], leecher.megabytes(), 0, figures_of(leecher))
+
+    return run
+
+
 def swarm(place: Place, who: str) -> Outcome:
     """Four leechers of one kind, and one seeder of 1 MB a second."""
     place.wait_ready(transmission(place, True, 1000))
@@ -167,6 +184,8 @@ TRIALS: dict[str, tuple[Callable[[Place, str], Outcome], tuple[str, ...], dict[s
     "slow": (slow, LEECHERS, {"": 24 * MEGABYTE}, PIECE_LENGTH),
     "folder": (folder, LEECHERS, FOLDER, PIECE_LENGTH),
     "resumed": (resumed, ONE, {"": 300 * MEGABYTE}, PIECE_LENGTH),
+    "by udp": (by_opentracker("udp"), ONE, {"": 24 * MEGABYTE}, PIECE_LENGTH),
+    "by http": (by_opentracker("http"), ONE, {"": 24 * MEGABYTE}, PIECE_LENGTH),
     "swarm": (swarm, LEECHERS, {"": 30 * MEGABYTE}, PIECE_LENGTH),
     "mixed": (mixed, ONE, {"": 30 * MEGABYTE}, PIECE_LENGTH),
     "large": (one_seeder("aria2"), LEECHERS, {"": 1 << 32}, 1 << 20),

@@ -39,7 +39,8 @@ def enter_network() -> None:
         return
     set_up = "ip link set lo up; for number in $(seq 1 40); do ip address add %s$number/24 dev lo; done; exec \"$@\"" % NETWORK
     os.environ[INSIDE] = "yes"
-    os.execvp("unshare", ["unshare", "--map-root-user", "--net", "sh", "-ec", set_up, "sh", sys.executable, *sys.argv])
+    user = [] if os.getuid() == 0 else ["--map-root-user"]
+    os.execvp("unshare", ["unshare", *user, "--net", "sh", "-ec", set_up, "sh", sys.executable, *sys.argv])
 
 
 def free_port(host: str) -> int:
@@ -312,6 +313,22 @@ def rtorrent(place: Place, seeds: bool, kilobytes: int = 0) -> Client:
     ]  # fmt: skip
     command = ["rtorrent", "-n", *(word for choice in chosen for word in ("-o", choice)), "-O", f"load.start={place.torrent}"]
     return place.start("rtorrent", command, host, port, room / "content")
+
+
+def opentracker(place: Place) -> int:
+    """Starts opentracker for this torrent alone, as Debian builds it; its port, by HTTP and by UDP."""
+    host, room = f"{NETWORK}1", place.room("opentracker", False)
+    port = free_port(host)
+    (room / "allowed").write_text(place.infohash.hex() + "\n", encoding="ascii")
+    room.chmod(0o755)
+    command = ["opentracker", "-i", host, "-p", str(port), "-P", str(port), "-d", str(room), "-w", "allowed"]
+    place.start("opentracker", command, host, port, room)
+    end = time.monotonic() + READY
+    while time.monotonic() < end:
+        with contextlib.suppress(OSError), socket.create_connection((host, port), 1.0):
+            return port
+        time.sleep(0.1)
+    raise RuntimeError("opentracker doesn't answer")
 
 
 def fetch(place: Place, seeds: bool, kilobytes: int = 0, words: tuple[str, ...] = ("--seed-minutes", "10"), peers: tuple[str, ...] = ()) -> Client:

@@ -1,7 +1,17 @@
 """A downloader of torrents (BEP 3) over the piece picker: the library picks, and this speaks with disk, peers and trackers.
 
-`options` reads the command line, and `main` puts the parts together. `metainfo` and `layout` know the files, `storage` and `resume` the disk.
-`content` is what is had, with the picker beside it. `wire` spells messages, `session` answers them, and `swarm` is the loop of sockets.
+    main, options, download     the program, its command line, and one download with all its parts
+    metainfo, layout            the files that a metainfo file names, and which bytes of the content lie where
+    storage, checking, resume   the disk, the threads that hash what is on it, and the file that lets a killed download go on
+    content, blame              what is had, with the picker beside it, and who sent what was wrong
+    wire, peer, session         messages as bytes, one connection, and what is said with peers
+    uploads, choking, rate      what peers get, who gets it, and how fast it goes
+    swarm, addresses            the loop of sockets, and where peers may be found
+    announcing, tracker*        trackers, by HTTP and by UDP
+    progress, watch, serving    the progress line, the drawing in the terminal, and the files for a player
+    trace, recorder, picture    the drawing of a whole download
+
+Nothing but `swarm`, `serving` and the trackers knows sockets, and nothing but `content`, `session` and `serving` tells the picker something.
 """
 
 import os

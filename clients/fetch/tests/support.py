@@ -199,7 +199,7 @@ class Downloading(unittest.TestCase):
 
     def fetch(self, *seeders: Seeder, words: tuple[str, ...] = (), status: int = 0) -> dict[str, str]:
         """Runs it to its end, which has this status; the figures that it prints."""
-        process = self.start("--give-up", "4", *words, seeders=seeders)
+        process = self.start("--give-up", "1.5" if status else "4", *words, seeders=seeders)
         printed, self.errors = process.communicate(timeout=60)
         self.assertEqual(process.returncode, status, self.errors)
         return dict(line.split() for line in printed.splitlines())
