@@ -11,7 +11,7 @@
     progress, watch, serving    the progress line, the drawing in the terminal, and the files for a player
     trace, recorder, picture    the drawing of a whole download
 
-Nothing but `swarm`, `serving` and the trackers knows sockets, and nothing but `content`, `session` and `serving` tells the picker something.
+Only `swarm`, `serving` and the trackers use sockets. Only `content`, `session`, `serving` and `download` tell the picker something.
 """
 
 import os
