@@ -214,7 +214,10 @@ class Place:
             return False
 
     def has_all(self, client: Client) -> bool:
-        """Whether the client has told the tracker that it has all."""
+        """Whether the client has told the tracker that it has all. rtorrent says that late, so that its files are looked at."""
+        if client.name == "rtorrent":
+            time.sleep(0.3)
+            return self.content.sums(client.out) == self.content.right
         return any(told["port"] == str(client.port) and told.get("event") == "completed" for told in list(self.tracker.announces))
 
     def wait_all(self, clients: list[Client], longest: float) -> bool:

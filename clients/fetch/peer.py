@@ -3,7 +3,7 @@
 from __future__ import annotations
 
 import socket
-from collections import OrderedDict, deque
+from collections import OrderedDict
 from dataclasses import dataclass, field
 
 from .blame import Address
@@ -50,7 +50,7 @@ class Peer:
     rests_until: float = 0.0
     timeouts: int = 0
     bad_turns: int = 0
-    wants: deque[tuple[int, int, int]] = field(default_factory=deque)
+    wants: OrderedDict[tuple[int, int, int], None] = field(default_factory=OrderedDict)
 
     heard: float = 0.0
     said: float = 0.0

@@ -5,10 +5,10 @@ from __future__ import annotations
 from .content import Content
 from .peer import Peer
 from .storage import StorageFault
-from .wire import Message, spell_block
+from .wire import Message, WireFault, spell_block
 
 LONGEST_REQUEST = 1 << 17  # bytes
-MOST_REQUESTS = 500  # that wait at a peer
+MOST_REQUESTS = 1 << 14  # that wait at a peer: rtorrent has thousands where it is quick
 MOST_UNSENT = 1 << 18  # bytes that wait to be sent, before no further block is read from the disk
 
 
@@ -43,19 +43,24 @@ class Uploads:
         self.refused = 0
 
     def request(self, peer: Peer, piece: int, begin: int, length: int) -> None:
-        """A peer asks for a part of a piece. What can't be given is rejected, where the peer understands that."""
+        """A peer asks for a part of a piece. What can't be given is rejected, where the peer understands that. Raises WireFault."""
         wanted = (piece, begin, length)
         layout = self.content.layout
         is_there = piece < layout.pieces and self.content.has(piece) and begin + length <= layout.length_of(piece)
-        if peer.we_choke or not is_there or not 0 < length <= LONGEST_REQUEST or len(peer.wants) >= MOST_REQUESTS:
+        if peer.we_choke or not is_there or not 0 < length <= LONGEST_REQUEST:
             self._reject(peer, wanted)
-        elif wanted not in peer.wants:
-            peer.wants.append(wanted)
+        elif len(peer.wants) < MOST_REQUESTS:
+            peer.wants[wanted] = None
+        elif peer.is_fast:
+            self._reject(peer, wanted)
+        else:
+            # It would wait for ever for what isn't answered.
+            raise WireFault("the peer asks for too much at once")
 
     def cancel(self, peer: Peer, piece: int, begin: int, length: int) -> None:
         """The peer wants it no more."""
         if (piece, begin, length) in peer.wants:
-            peer.wants.remove((piece, begin, length))
+            del peer.wants[piece, begin, length]
             self._reject(peer, (piece, begin, length))
 
     def _reject(self, peer: Peer, wanted: tuple[int, int, int]) -> None:
@@ -66,7 +71,7 @@ class Uploads:
     def serve(self, peer: Peer, now: float) -> None:
         """Reads what the peer wants, until enough waits to be sent. Raises StorageFault where a piece that is had isn't there."""
         while peer.wants and len(peer.unsent) < MOST_UNSENT and self.limit.allows(now):
-            piece, begin, length = peer.wants.popleft()
+            (piece, begin, length), _ = peer.wants.popitem(last=False)
             try:
                 block = self.content.storage.read(piece * self.content.layout.piece_length + begin, length)
             except OSError as error:
