@@ -39,14 +39,15 @@ class Outcome:
     is_well: bool
     seconds: list[float]
     megabytes: float
-    twice: int
+    twice: int | None  # bytes that came beyond one copy, where that is known
     more: str = ""
 
     def line(self, name: str) -> str:
         """The line that is printed."""
         times = " ".join(f"{seconds:.1f}" for seconds in sorted(self.seconds))
+        twice = "unknown" if self.twice is None else f"{self.twice / MEGABYTE:.2f} MB"
         verdict = "well" if self.is_well else "WRONG"
-        told = f"{name:<13} {self.who:<13} {verdict}  {times} s  {self.megabytes:.0f} MB  twice {self.twice / MEGABYTE:.2f} MB"
+        told = f"{name:<13} {self.who:<13} {verdict}  {times} s  {self.megabytes:.0f} MB  twice {twice}"
         return f"{told}  {self.more}".rstrip()
 
 
@@ -63,9 +64,10 @@ def finish(place: Place, leechers: list[Client]) -> Outcome:
     is_well = place.wait_all(leechers, LONGEST)
     for client in leechers + [client for client in place.clients if client not in leechers]:
         client.stop()
+    came = place.downloaded(leechers)
     return Outcome(
         leechers[0].name, is_well, [client.seconds for client in leechers], max(client.megabytes() for client in leechers),
-        place.downloaded(leechers) - len(leechers) * place.content.total,
+        None if came is None else came - len(leechers) * place.content.total,
         " | ".join(figures_of(client) for client in leechers if client.name == "fetch"),
     )  # fmt: skip
 

@@ -236,8 +236,10 @@ class Place:
         time.sleep(0.5)  # for the last names of files
         return not left and all(self.content.sums(client.out) == self.content.right for client in clients)
 
-    def downloaded(self, clients: list[Client]) -> int:
-        """The bytes that these clients told the tracker to have got, each at last."""
+    def downloaded(self, clients: list[Client]) -> int | None:
+        """The bytes that these clients told the tracker to have got, each at last; None where rtorrent is one, which goes without a word."""
+        if any(client.name == "rtorrent" for client in clients):
+            return None
         last = {told["port"]: int(told["downloaded"]) for told in self.tracker.announces}
         return sum(last.get(str(client.port), 0) for client in clients)
 
