@@ -92,7 +92,7 @@ class Announcer:
             self._ids[outcome.url] = outcome.told.tracker_id
         if self._events and self._events[0] is outcome.event:
             self._events.pop(0)
-        self._next, self._earliest = now + outcome.told.interval, now + min(outcome.told.shortest, outcome.told.interval)
+        self._next, self._earliest = now + outcome.told.interval, now + outcome.told.shortest
         if self._events:
             self._next = 0.0
         return outcome.told.peers

@@ -51,10 +51,10 @@ class Told:
     """What the tracker answers."""
 
     interval: float
+    shortest: float  # seconds before which nothing but an event may be announced
     peers: list[Address]
     seeders: int | None = None
     leechers: int | None = None
-    shortest: float = SHORTEST_INTERVAL
     warning: str = ""
     tracker_id: bytes = field(default=b"", repr=False)
 

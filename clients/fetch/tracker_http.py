@@ -12,7 +12,7 @@ from urllib.parse import urlencode
 from bencode import BencodeFault, Value, bdecode
 
 from .blame import Address
-from .tracker import SHORTEST_INTERVAL, Announce, Event, Told, TrackerFault, bounded, compact_peers
+from .tracker import Announce, Event, Told, TrackerFault, bounded, compact_peers
 
 LARGEST = 1 << 20  # bytes of an answer
 TIMEOUT = 15.0
@@ -93,12 +93,13 @@ def read(data: bytes) -> Told:
         peers += compact_peers(six, 16)
     warning, tracker_id = answer.get(b"warning message"), answer.get(b"tracker id")
     seeders, leechers, shortest = answer.get(b"complete"), answer.get(b"incomplete"), answer.get(b"min interval")
+    interval = bounded(answer.get(b"interval"))
     return Told(
-        interval=bounded(answer.get(b"interval")),
+        interval=interval,
+        shortest=min(interval, bounded(shortest)) if isinstance(shortest, int) else interval,
         peers=peers,
         seeders=seeders if isinstance(seeders, int) else None,
         leechers=leechers if isinstance(leechers, int) else None,
-        shortest=bounded(shortest) if isinstance(shortest, int) else SHORTEST_INTERVAL,
         warning=warning.decode("utf-8", "replace") if isinstance(warning, bytes) else "",
         tracker_id=tracker_id if isinstance(tracker_id, bytes) else b"",
     )

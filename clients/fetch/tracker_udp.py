@@ -86,4 +86,4 @@ def announce(url: str, request: Announce, first_wait: float = FIRST_WAIT, tries:
     with talk.socket:
         answer = talk.ask(packet)
     interval, leechers, seeders = struct.unpack_from(">III", answer)
-    return Told(bounded(interval), compact_peers(answer[12:], talk.address_length), seeders, leechers)
+    return Told(bounded(interval), bounded(interval), compact_peers(answer[12:], talk.address_length), seeders, leechers)

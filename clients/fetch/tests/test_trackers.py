@@ -80,6 +80,11 @@ class Http(unittest.TestCase):
         for said, seconds in ((-1, 1800.0), (0, 1800.0), (1, 30.0), (1 << 40, 7200.0), (b"x", 1800.0), (600, 600.0)):
             self.assertEqual(tracker_http.read(bencode({b"interval": said})).interval, seconds)
 
+    def test_shortest(self) -> None:
+        """Without `min interval` the interval holds for all announces but events."""
+        for said, seconds in (({}, 600.0), ({b"min interval": 100}, 100.0), ({b"min interval": 900}, 600.0), ({b"min interval": 1}, 30.0)):
+            self.assertEqual(tracker_http.read(bencode({b"interval": 600} | said)).shortest, seconds)
+
     def test_other_schemes(self) -> None:
         for url in ("file:///etc/hostname", "ftp://127.0.0.1/", "nonsense", ""):
             with self.subTest(url), self.assertRaises(TrackerFault):
@@ -100,7 +105,8 @@ class Udp(unittest.TestCase):
     def test_announce(self) -> None:
         tracker = self.tracker()
         told = tracker_udp.announce(tracker.url, request())
-        self.assertEqual((told.peers, told.interval, told.seeders, told.leechers), ([("10.0.0.1", 6881)], 1800.0, 1, 2))
+        self.assertEqual((told.peers, told.interval, told.shortest), ([("10.0.0.1", 6881)], 1800.0, 1800.0))
+        self.assertEqual((told.seeders, told.leechers), (1, 2))
         self.assertEqual(tracker.infohashes, [INFOHASH])
         downloaded, left, uploaded, event, address, key, _, port = tracker.announces[0]
         self.assertEqual((downloaded, left, uploaded, event, address, key, port), (22, 33, 11, 2, 0, 0xABCD, 6881))
