@@ -118,6 +118,7 @@ class Download:
         self.wanted: list[int] = []  # pieces
         self.key = secrets.randbits(32)
         self._saved = 0.0
+        self._has_told = False  # that the state can't be written
         self._newest = self.began  # when a block came last
 
     def _announce(self, event: Event) -> Announce:
@@ -176,9 +177,10 @@ class Download:
                 self.addresses.add(address)
             if self.urgent and self.urgent.tick():
                 self.session.reconsider()
-            if self.watch:
+            if self.watch and self.watch.is_due(now):
                 self.watch.draw(self.session, line(self.state(now)))
-            self.progress.show(self.state(now))
+            if self.progress.is_due(now):
+                self.progress.show(self.state(now), now)
         return self.picker.has_wanted
 
     @property
@@ -222,7 +224,9 @@ class Download:
         try:
             self.content.save()
         except OSError as error:
-            self.progress.say(f"the state can't be written: {error.strerror}")
+            if not self._has_told:
+                self._has_told = True
+                self.progress.say(f"the state can't be written: {error.strerror}")
 
     def state(self, now: float) -> State:
         """What the progress line tells."""

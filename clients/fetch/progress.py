@@ -63,13 +63,15 @@ class Progress:
         self._shown = 0.0
         self._is_open = False
 
-    def show(self, state: State) -> None:
-        """Writes the line, if it is time for it."""
-        now = time.monotonic()
-        if self.shows and now - self._shown >= EACH:
-            self._shown = now
-            self._is_open = True
-            print(f"\r{line(state)}\x1b[K", end="", file=self.stream, flush=True)
+    def is_due(self, now: float) -> bool:
+        """Whether it is time to write the line again."""
+        return self.shows and now - self._shown >= EACH
+
+    def show(self, state: State, now: float) -> None:
+        """Writes the line."""
+        self._shown = now
+        self._is_open = True
+        print(f"\r{line(state)}\x1b[K", end="", file=self.stream, flush=True)
 
     def check(self, done: int, pieces: int) -> None:
         """The same for pieces that are checked at the start."""

@@ -4,7 +4,6 @@ from __future__ import annotations
 
 import shutil
 import sys
-import time
 from collections.abc import Sequence
 from dataclasses import dataclass
 from typing import TextIO
@@ -115,12 +114,13 @@ class Watch:
         self._drawn = 0.0
         self._is_open = False
 
+    def is_due(self, now: float) -> bool:
+        """Whether it is time to draw again."""
+        return self.shows and now - self._drawn >= EACH
+
     def draw(self, session: Session, head: str) -> None:
-        """Draws, if it is time for it."""
-        now = time.monotonic()
-        if not self.shows or now - self._drawn < EACH:
-            return
-        self._drawn = now
+        """Draws the whole screen."""
+        self._drawn = session.now
         if not self._is_open:
             self._is_open = True
             self.stream.write("\x1b[?1049h\x1b[?25l\x1b[2J")
