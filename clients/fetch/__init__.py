@@ -11,7 +11,8 @@
     progress, watch, serving    the progress line, the drawing in the terminal, and the files for a player
     trace, recorder, picture    the drawing of a whole download
 
-Only `swarm`, `serving` and the trackers use sockets. Only `content`, `session`, `serving` and `download` tell the picker something.
+Only `swarm`, `serving` and the trackers use sockets, and `download` opens the one that listens. Only `content`, `session`, `serving` and
+`download` tell the picker something.
 """
 
 import os

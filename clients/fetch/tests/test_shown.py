@@ -2,7 +2,10 @@
 
 from __future__ import annotations
 
+import contextlib
 import http.client
+import os
+import pty
 import re
 import signal
 import subprocess
@@ -135,6 +138,34 @@ class Whole(Downloading):
         self.fetch(self.seeder(), words=("--picture", str(path)))
         texts = [text.text or "" for text in ElementTree.parse(path).iter(f"{SVG}text")]
         self.assertTrue(any("41 pieces, 161 of 161 blocks" in text for text in texts), texts)
+
+    def on_terminal(self, *words: str) -> str:
+        """What a download writes to a terminal."""
+        ours, theirs = pty.openpty()
+        command = [sys.executable, "-B", str(Path(CLIENTS, "fetch.py")), "--no-listen", *words]
+        command += [str(self.torrent_path), str(self.out), self.seeder(delay=0.01).address]
+        written = b""
+        with subprocess.Popen(command, stdout=subprocess.DEVNULL, stderr=theirs) as process:
+            os.close(theirs)
+            with contextlib.suppress(OSError):  # the end of a terminal
+                while data := os.read(ours, 1 << 16):
+                    written += data
+        os.close(ours)
+        self.assertEqual(process.returncode, 0)
+        return written.decode()
+
+    def test_progress(self) -> None:
+        written = self.on_terminal()
+        self.assertRegex(written, r"\r *[1-9]\d?\.\d% of 2\.6 MB, .*/s down, 1 peer, 0:0\d left")
+        self.assertEqual(self.on_terminal("--quiet"), "")
+
+    def test_watch(self) -> None:
+        """The drawing is on a screen of its own, which is given back."""
+        written = self.on_terminal("--watch")
+        self.assertTrue(written.startswith("\x1b[?1049h"))
+        self.assertTrue(written.endswith("\x1b[?1049l"))
+        self.assertIn("▒", written)
+        self.assertIn("100%", written)
 
     def serving(self, **manners: object) -> http.client.HTTPConnection:
         """A download that serves, and a player's connection to it."""
