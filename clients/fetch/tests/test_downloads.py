@@ -57,6 +57,14 @@ class Single(Downloading):
         self.assert_same()
         self.assertGreaterEqual(int(figures["lost"]), 1)
 
+    def test_mute_peers(self) -> None:
+        """Two peers take requests and answer none. What they were asked is asked of the third after 15 seconds."""
+        mute = [self.seeder(mute=True) for _ in range(2)]
+        figures = self.fetch(*mute, self.seeder(delay=0.002), words=("--give-up", "30"))
+        self.assert_same()
+        self.assertGreater(int(figures["timeouts"]), 0)
+        self.assertEqual((figures["failed"], figures["lost"]), ("0", "0"))
+
     def test_connects_again(self) -> None:
         seeder = self.seeder(chokes_each=0)
         seeder.manners.ends_after = 30
