@@ -193,6 +193,14 @@ class Session:
             peer.twice += 1
         if self.record:
             self.record.came(peer, block, kind is Kind.DROPPED)
+        if block in self.asks:
+            self._cancel_elsewhere(block)
+
+    def _cancel_elsewhere(self, block: tuple[int, int]) -> None:
+        """The block came, and others were asked for it: the picker has a cancel for each, before they send it too."""
+        for peer in self.peers.values():
+            if block in peer.asked:
+                self.ask(peer)
 
     def _reject(self, peer: Peer, payload: memoryview) -> None:
         piece, begin, _ = numbers_of(Message.REJECT, payload)

@@ -125,7 +125,6 @@ class Last(Speaking):
             asked = self.hear(peer, message(HAVE, 40) + message(UNCHOKE))
             self.assertEqual(asked, message(INTERESTED) + message(REQUEST, 40, 0, 12345))
         self.hear(peers[0], message(BLOCK_MESSAGE, 40, 0, data=CONTENT[40 * PIECE :]))
-        self.session.ask(peers[1])
         self.assertTrue(self.said(peers[1]).startswith(message(CANCEL, 40, 0, 12345)))
         self.assertEqual((self.session.asks, self.session.figures.endgame_requests), ({}, 1))
 
