@@ -13,7 +13,7 @@ from .wire import Inbound, Message, spell
 FIRST_DEPTH = 64
 LEAST_DEPTH = 4
 MOST_DEPTH = 500
-ENDGAME_DEPTH = 16  # while nothing is left that no peer is asked for, so that few blocks come twice
+ENDGAME_DEPTH = 6  # while nothing is left that no peer is asked for, so that few blocks come twice
 LINE_SECONDS = 1.0  # so much of a peer's rate is asked of it at a time
 MOST_LATE = 2000  # requests that are remembered after they were taken back, since their blocks may come
 NO_WORKER = -1
