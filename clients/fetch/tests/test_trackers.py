@@ -2,6 +2,7 @@
 
 from __future__ import annotations
 
+import random
 import threading
 import time
 import unittest
@@ -74,6 +75,25 @@ class Http(unittest.TestCase):
             tracker_http.announce(self.tracker(b"le", 503).url, request())
         with self.assertRaisesRegex(TrackerFault, "doesn't answer"):
             tracker_http.announce("http://127.0.0.1:9/announce", request())
+
+    def test_nonsense(self) -> None:
+        """Whatever bytes come, they are an answer or a fault by its name."""
+        whole = bencode({
+            b"interval": 900, b"min interval": 60, b"complete": 3, b"incomplete": 4, b"tracker id": b"x", b"warning message": b"w",
+            b"peers": [{b"ip": b"10.0.0.1", b"port": 6881, b"peer id": bytes(20)}], b"peers6": bytes(18),
+        })  # fmt: skip
+        outcomes = {True: 0, False: 0}
+        for seed in range(5000):
+            chance, data = random.Random(seed), bytearray(whole)
+            for _ in range(chance.randint(1, 3)):
+                place = chance.randrange(len(data))
+                data[place : place + chance.randint(0, 2)] = bytes(chance.choice(b"deil:0129-\0\xff") for _ in range(chance.randint(0, 2)))
+            try:
+                tracker_http.read(bytes(data))
+                outcomes[True] += 1
+            except TrackerFault:
+                outcomes[False] += 1
+        self.assertGreater(min(outcomes.values()), 100)
 
     def test_intervals(self) -> None:
         """Whatever a tracker says, it isn't asked again and again, nor never."""
