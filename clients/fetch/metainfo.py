@@ -28,8 +28,8 @@ def files_of(metainfo: bytes) -> list[tuple[list[bytes], int]]:
         raise MetainfoFault("the metainfo file has no info dictionary")
     name, length, files = info.get(b"name"), info.get(b"length"), info.get(b"files")
     if isinstance(length, int):
-        if not isinstance(name, bytes):
-            raise MetainfoFault("the file has no name")
+        if not isinstance(name, bytes) or length < 0:
+            raise MetainfoFault("the file has no name, or no length")
         return [([name], length)]
     if not isinstance(files, list) or not files:
         raise MetainfoFault("the metainfo file names no files")

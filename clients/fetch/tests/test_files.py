@@ -61,7 +61,7 @@ class Metainfo(unittest.TestCase):
 
     def test_nonsense(self) -> None:
         for info in (
-            {}, {b"length": 3}, {b"files": []}, {b"files": [3]}, {b"files": [{b"length": 3}]}, {b"files": [{b"length": -1, b"path": [b"a"]}]},
+            {}, {b"length": 3}, {b"length": -3, b"name": b"a"}, {b"files": []}, {b"files": [3]}, {b"files": [{b"length": 3}]}, {b"files": [{b"length": -1, b"path": [b"a"]}]},
             {b"files": [{b"length": 3, b"path": []}]}, {b"files": [{b"length": 3, b"path": [3]}]}, {b"files": [{b"path": [b"a"]}]},
         ):  # fmt: skip
             with self.subTest(info), self.assertRaises(MetainfoFault):
