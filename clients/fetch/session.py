@@ -296,7 +296,9 @@ class Session:
         """The peer's depth follows its rate: up at once, and down by steps."""
         if not peer.down.total and not peer.timeouts:
             return
-        wanted = peer.depth_for(peer.down.per_second(self.now), BLOCK)
+        # The last two seconds tell of a rate that rises, and all of them of one that comes in bursts.
+        rate = max(peer.down.per_second(self.now, 2), peer.down.per_second(self.now))
+        wanted = peer.depth_for(rate, BLOCK)
         depth = wanted if peer.timeouts else max(wanted, peer.depth * 3 // 4)
         if depth != peer.depth:
             self._set_depth(peer, depth)
