@@ -15,6 +15,7 @@ It needs Debian's packages aria2, transmission-daemon, qbittorrent-nox, rtorrent
 from __future__ import annotations
 
 import json
+import signal
 import sys
 import tempfile
 import time
@@ -247,6 +248,8 @@ def main() -> int:
         print("\n".join(TRIALS))
         return 0
     enter_network()
+    for number in (signal.SIGINT, signal.SIGTERM):
+        signal.signal(number, signal.default_int_handler)  # so that what was started is ended
     if names[0] == "--picture":
         picture(names[1])
         return 0
