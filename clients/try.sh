@@ -129,6 +129,7 @@ cc -O2 -Wall -Wextra -Werror -I "$here/out" "$here/delays.c" "$here/out/libpiece
 cc -O2 -Wall -Wextra -Werror -I "$here/out" "$here/costs.c" "$here/out/libpiecepick.a" -o costs
 
 python3 -B -W error -m unittest discover -s "$here/python/tests"
+(cd "$here" && python3 -B -W error -m unittest discover -s fetch/tests -t .)
 if command -v cargo > /dev/null; then
     export CARGO_TARGET_DIR="$work/target" PIECEPICK_LIB_DIR="$here/out"
     cargo test --offline --quiet --manifest-path "$here/rust/Cargo.toml" || fail "the Rust crate"

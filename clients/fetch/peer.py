@@ -1,0 +1,115 @@
+"""One connection: what was said and asked on both sides, and how fast it goes."""
+
+from __future__ import annotations
+
+import socket
+from collections import OrderedDict
+from dataclasses import dataclass, field
+
+from .blame import Address
+from .rate import Rate
+from .wire import Inbound, Message, spell
+
+FIRST_DEPTH = 64
+LEAST_DEPTH = 4
+MOST_DEPTH = 500
+ENDGAME_DEPTH = 6  # while nothing is left that no peer is asked for, so that few blocks come twice
+LINE_SECONDS = 1.0  # so much of a peer's rate is asked of it at a time
+MOST_LATE = 2000  # requests that are remembered after they were taken back, since their blocks may come
+NO_WORKER = -1
+
+
+@dataclass(eq=False)
+class Peer:
+    """A peer. Its worker's number is the picker's; `asked` is what we want of it, and `wants` what it wants of us."""
+
+    connection: socket.socket
+    address: Address
+    is_incoming: bool
+    inbound: Inbound
+    began: float
+    worker: int = NO_WORKER
+    peer_id: bytes = b""
+    is_connected: bool = False
+    is_fast: bool = False
+    unsent: bytearray = field(default_factory=bytearray)
+    events: int = 0  # of the selector
+
+    chokes_us: bool = True
+    we_choke: bool = True
+    interests_us: bool = False
+    is_interested: bool = False
+    pieces: bytearray = field(default_factory=bytearray)
+    piece_count: int = 0
+
+    asked: OrderedDict[tuple[int, int], float] = field(default_factory=OrderedDict)
+    late: OrderedDict[tuple[int, int], None] = field(default_factory=OrderedDict)
+    depth: int = FIRST_DEPTH
+    is_in_endgame: bool = False  # by the last request
+    epoch: int = -1  # the picker's, when the peer was asked last; -1 where it is to be asked in any case
+    rests_until: float = 0.0
+    timeouts: int = 0
+    bad_turns: int = 0
+    wants: OrderedDict[tuple[int, int, int], None] = field(default_factory=OrderedDict)
+
+    heard: float = 0.0
+    said: float = 0.0
+    block_came: float = 0.0
+    down: Rate = field(init=False)
+    up: Rate = field(init=False)
+    twice: int = 0
+
+    def __post_init__(self) -> None:
+        self.down, self.up = Rate(self.began), Rate(self.began)
+        self.heard = self.said = self.block_came = self.began
+
+    @property
+    def is_joined(self) -> bool:
+        """Whether the handshakes were exchanged, so that the picker knows it."""
+        return self.worker != NO_WORKER
+
+    @property
+    def program(self) -> str:
+        """What the peer's identity says of its program, such as TR3000; empty where it says nothing."""
+        head = self.peer_id[:8]
+        if head[:1] == b"-" and head[-1:] == b"-" and head[1:-1].isalnum():
+            return head[1:-1].decode("ascii")
+        return head.split(b"-")[0].decode("ascii") if head[:1].isalpha() and head.replace(b"-", b"").isalnum() else ""
+
+    def say(self, message: Message, *numbers: int) -> None:
+        """Puts a message behind what is to be sent."""
+        self.unsent += spell(message, *numbers)
+
+    def shows(self, piece: int) -> bool:
+        """Whether the peer has said that it has the piece."""
+        return bool(self.pieces[piece >> 3] & 0x80 >> (piece & 7))
+
+    def forget(self, block: tuple[int, int]) -> None:
+        """A request was taken back; its block may come all the same."""
+        if self.asked.pop(block, None) is None:
+            return
+        self.late[block] = None
+        if len(self.late) > MOST_LATE:
+            self.late.popitem(last=False)
+
+    def forget_all(self) -> None:
+        """All requests were taken back."""
+        for block in list(self.asked):
+            self.forget(block)
+
+    def takes(self, block: tuple[int, int]) -> bool:
+        """Whether the block was asked for at some time; it is asked for no more."""
+        if block in self.asked:
+            del self.asked[block]
+            return True
+        if block in self.late:
+            del self.late[block]
+            return True
+        return False
+
+    def depth_for(self, rate: float, block: int) -> int:
+        """How many blocks should be in flight at this rate."""
+        if self.timeouts:
+            return LEAST_DEPTH
+        most = ENDGAME_DEPTH if self.is_in_endgame else MOST_DEPTH
+        return max(LEAST_DEPTH, min(most, LEAST_DEPTH + int(rate * LINE_SECONDS / block)))

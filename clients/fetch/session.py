@@ -1,0 +1,341 @@
+"""What is said with peers: each message goes to the picker, and what the picker answers goes to the peer. Nothing here knows of sockets."""
+
+from __future__ import annotations
+
+import time
+from dataclasses import dataclass
+from typing import Protocol
+
+from piecepick import Answer, InputFault, Kind, Reason
+
+from .content import Content, Verdict
+from .layout import BLOCK
+from .peer import ENDGAME_DEPTH, NO_WORKER, Peer
+from .uploads import Uploads
+from .wire import Message, WireFault, block_of, numbers_of, spell, spell_bitfield
+
+SILENCE = 15.0  # seconds with no block, after which a silent peer's oldest requests are taken back
+SLOWEST = 60.0  # seconds after which a request is taken back though other blocks come
+REST = 10.0  # seconds in which nothing is asked of a peer that was silent
+REJECT_REST = 1.0  # the same of a peer that rejected a request
+MOST_TIMEOUTS = 6  # rests one after the other, until a peer is let go
+
+
+class Record(Protocol):
+    """Who wants to know what the picker does."""
+
+    def requested(self, peer: Peer, block: tuple[int, int], is_endgame: bool) -> None:
+        """A block is asked of a peer; in endgame another one was asked for it too."""
+
+    def came(self, peer: Peer, block: tuple[int, int], is_twice: bool) -> None:
+        """A block came; it may have been held already."""
+
+    def checked(self, piece: int, is_had: bool) -> None:
+        """A piece was checked."""
+
+
+@dataclass
+class Figures:
+    """What happened so far, in numbers."""
+
+    blocks: int = 0
+    bytes: int = 0
+    twice: int = 0
+    unasked: int = 0
+    requests: int = 0
+    cancels: int = 0
+    endgame_requests: int = 0
+    rejects: int = 0
+    late_bitfields: int = 0
+    timeouts: int = 0
+    allowed_fast: int = 0
+
+
+class Session:
+    """All joined peers of one download."""
+
+    def __init__(self, content: Content, uploads: Uploads, record: Record | None = None) -> None:
+        self.content, self.picker, self.layout = content, content.picker, content.layout
+        self.uploads, self.record = uploads, record
+        self.peers: dict[int, Peer] = {}  # by worker
+        self.asks: dict[tuple[int, int], int] = {}  # of how many peers each block is asked now
+        self.figures = Figures()
+        self.now = time.monotonic()
+        self._hear = {
+            Message.CHOKE: self._choke, Message.UNCHOKE: self._unchoke, Message.INTERESTED: self._interested,
+            Message.NOT_INTERESTED: self._not_interested, Message.HAVE: self._have, Message.BITFIELD: self._bitfield,
+            Message.REQUEST: self._request, Message.PIECE: self._piece, Message.CANCEL: self._cancel, Message.HAVE_ALL: self._have_all,
+            Message.HAVE_NONE: self._have_none, Message.REJECT: self._reject, Message.ALLOWED_FAST: self._allowed_fast,
+        }  # fmt: skip
+
+    # Peers come and go.
+
+    def join(self, peer: Peer, worker: int) -> None:
+        """The handshakes were exchanged: the peer gets a worker's number, and is shown what is had."""
+        peer.worker = worker
+        peer.pieces = bytearray(len(self.content.had))
+        self.peers[worker] = peer
+        self.content.owners[worker] = peer.address
+        self.picker.join(worker)
+        if peer.is_fast and self.content.had_count == self.layout.pieces:
+            peer.say(Message.HAVE_ALL)
+        elif peer.is_fast and self.content.had_count == 0:
+            peer.say(Message.HAVE_NONE)
+        elif self.content.had_count:
+            peer.unsent += spell_bitfield(self.content.had)
+
+    def part(self, peer: Peer) -> None:
+        """The connection is gone."""
+        self._take_back_all(peer)
+        del self.peers[peer.worker]
+        self.picker.leave(peer.worker)
+        peer.worker = NO_WORKER
+
+    def receive(self, peer: Peer, data: bytes) -> None:
+        """Takes what came from a joined peer, and asks for more. Raises WireFault where the peer doesn't keep to the protocol."""
+        peer.heard = self.now
+        try:
+            for kind, payload in peer.inbound.messages(data):
+                if hear := self._hear.get(kind):  # type: ignore[call-overload]
+                    hear(peer, payload)
+        except InputFault as fault:
+            raise WireFault(str(fault)) from fault
+        self.ask(peer)
+
+    # What the peer says.
+
+    def _choke(self, peer: Peer, payload: memoryview) -> None:
+        numbers_of(Message.CHOKE, payload)
+        peer.chokes_us = True
+        self._take_back_all(peer)
+        self.picker.choke(peer.worker)
+
+    def _unchoke(self, peer: Peer, payload: memoryview) -> None:
+        numbers_of(Message.UNCHOKE, payload)
+        peer.chokes_us = False
+        peer.block_came = self.now
+        self.picker.unchoke(peer.worker)
+
+    def _interested(self, peer: Peer, payload: memoryview) -> None:
+        numbers_of(Message.INTERESTED, payload)
+        peer.interests_us = True
+
+    def _not_interested(self, peer: Peer, payload: memoryview) -> None:
+        numbers_of(Message.NOT_INTERESTED, payload)
+        peer.interests_us = False
+
+    def _have(self, peer: Peer, payload: memoryview) -> None:
+        (piece,) = numbers_of(Message.HAVE, payload)
+        answer = self.picker.have(peer.worker, piece)
+        if not peer.shows(piece):
+            peer.pieces[piece >> 3] |= 0x80 >> (piece & 7)
+            peer.piece_count += 1
+        self._interest(peer, answer)
+
+    def _bitfield(self, peer: Peer, payload: memoryview) -> None:
+        answer = self.picker.bits(peer.worker, payload)
+        if answer.reason is Reason.LATE_BITS:
+            self.figures.late_bitfields += 1
+            answer = self.picker.haves(peer.worker, payload)
+        self._show(peer, bytes(payload))
+        self._interest(peer, answer)
+
+    def _have_all(self, peer: Peer, payload: memoryview) -> None:
+        numbers_of(Message.HAVE_ALL, payload)
+        flags = all_flags(self.layout.pieces)
+        self._show(peer, flags)
+        self._interest(peer, self.picker.haves(peer.worker, flags))
+
+    def _have_none(self, peer: Peer, payload: memoryview) -> None:
+        numbers_of(Message.HAVE_NONE, payload)
+
+    def _show(self, peer: Peer, flags: bytes) -> None:
+        """The peer has these pieces, beside what it had before."""
+        peer.pieces = bytearray(old | new for old, new in zip(peer.pieces, flags, strict=True))
+        peer.piece_count = int.from_bytes(peer.pieces, "big").bit_count()
+
+    def _interest(self, peer: Peer, answer: Answer) -> None:
+        """The peer has something for us, where the picker's answer says so."""
+        if answer.interesting and not peer.is_interested:
+            peer.is_interested = True
+            peer.say(Message.INTERESTED)
+
+    def _lose_interest(self, peer: Peer) -> None:
+        """The peer has nothing for us any more."""
+        if peer.is_interested:
+            peer.is_interested = False
+            peer.say(Message.NOT_INTERESTED)
+
+    def _request(self, peer: Peer, payload: memoryview) -> None:
+        piece, begin, length = numbers_of(Message.REQUEST, payload)
+        self.uploads.request(peer, piece, begin, length)
+
+    def _cancel(self, peer: Peer, payload: memoryview) -> None:
+        piece, begin, length = numbers_of(Message.CANCEL, payload)
+        self.uploads.cancel(peer, piece, begin, length)
+
+    def _piece(self, peer: Peer, payload: memoryview) -> None:
+        piece, begin, data = block_of(payload)
+        block = (piece, begin)
+        self.figures.blocks += 1
+        self.figures.bytes += len(data)
+        self._count_down(peer, block)
+        if not peer.takes(block):
+            self.figures.unasked += 1
+            return
+        peer.down.add(len(data), self.now)
+        peer.block_came, peer.timeouts, peer.rests_until = self.now, 0, 0.0
+        kind = self.content.arrived(peer.worker, piece, begin, data)
+        if kind is Kind.REFUSED:
+            raise WireFault("a block has another length than was asked for")
+        if kind is Kind.DROPPED:
+            self.figures.twice += 1
+            peer.twice += 1
+        if self.record:
+            self.record.came(peer, block, kind is Kind.DROPPED)
+        if block in self.asks:
+            self._cancel_elsewhere(block)
+
+    def _cancel_elsewhere(self, block: tuple[int, int]) -> None:
+        """The block came, and others were asked for it: the picker has a cancel for each, before they send it too."""
+        for peer in self.peers.values():
+            if block in peer.asked:
+                self.ask(peer)
+
+    def _reject(self, peer: Peer, payload: memoryview) -> None:
+        piece, begin, _ = numbers_of(Message.REJECT, payload)
+        if (piece, begin) not in peer.asked:
+            peer.late.pop((piece, begin), None)
+            return
+        self.figures.rejects += 1
+        self.take_back(peer, (piece, begin))
+        self.picker.release(peer.worker, piece, begin)
+        # The picker may offer the same block at once, so the peer is left alone for a moment.
+        peer.rests_until, peer.epoch = self.now + REJECT_REST, -1
+
+    def _allowed_fast(self, peer: Peer, payload: memoryview) -> None:
+        """The picker asks nothing of a peer that chokes us, so this is read and counted alone."""
+        numbers_of(Message.ALLOWED_FAST, payload)
+        self.figures.allowed_fast += 1
+
+    # What is asked of the peer.
+
+    def ask(self, peer: Peer) -> None:
+        """Says to the peer what the picker has for it: cancels, and requests until its pipe is full."""
+        if peer.chokes_us or self.now < peer.rests_until:
+            return
+        peer.epoch = self.picker.epoch
+        while (answer := self.picker.next(peer.worker)).kind in (Kind.CANCEL, Kind.REQUEST):
+            block = (answer.piece, answer.begin)
+            if answer.kind is Kind.REQUEST:
+                self._send_request(peer, block, answer)
+            else:
+                self.figures.cancels += 1
+                self.take_back(peer, block)
+                peer.say(Message.CANCEL, *answer.block)
+        if answer.kind is Kind.NOTHING_LEFT:
+            self._lose_interest(peer)
+
+    def _send_request(self, peer: Peer, block: tuple[int, int], answer: Answer) -> None:
+        others = self.asks.get(block, 0)
+        if self.record:
+            self.record.requested(peer, block, others > 0)
+        self.asks[block] = others + 1
+        peer.is_in_endgame = others > 0
+        if peer.is_in_endgame and peer.depth > ENDGAME_DEPTH:
+            self._set_depth(peer, ENDGAME_DEPTH)
+        self.figures.requests += 1
+        self.figures.endgame_requests += others > 0
+        peer.asked[block] = self.now
+        if not peer.is_interested:
+            peer.is_interested = True
+            peer.say(Message.INTERESTED)
+        peer.unsent += spell(Message.REQUEST, *answer.block)
+
+    def _count_down(self, peer: Peer, block: tuple[int, int]) -> None:
+        """The block is asked of one peer less, if it was asked of this one."""
+        if block in peer.asked:
+            self.asks[block] -= 1
+            if self.asks[block] == 0:
+                del self.asks[block]
+
+    def take_back(self, peer: Peer, block: tuple[int, int]) -> None:
+        """A request stands no more at the peer."""
+        self._count_down(peer, block)
+        peer.forget(block)
+
+    def _take_back_all(self, peer: Peer) -> None:
+        for block in list(peer.asked):
+            self.take_back(peer, block)
+
+    def ask_idle(self) -> None:
+        """Asks the peers again whose answer may be another one by what others did."""
+        epoch = self.picker.epoch
+        for peer in self.peers.values():
+            if peer.epoch != epoch:
+                self.ask(peer)
+
+    # Time passes.
+
+    def time_out(self, peer: Peer) -> bool:
+        """Takes back what a peer doesn't bring, one request after the other; whether the peer is worth to be kept."""
+        late = [
+            block for block, since in peer.asked.items()
+            if self.now - max(since, peer.block_came) > SILENCE or self.now - since > SLOWEST
+        ]  # fmt: skip
+        for block in late:
+            self.figures.timeouts += 1
+            self.take_back(peer, block)
+            self.picker.release(peer.worker, *block)
+        if late:
+            peer.timeouts += 1
+            peer.rests_until, peer.epoch = self.now + REST, -1
+        return peer.timeouts < MOST_TIMEOUTS
+
+    def follow_rate(self, peer: Peer) -> None:
+        """The peer's depth follows its rate: up at once, and down by steps."""
+        if not peer.down.total and not peer.timeouts:
+            return
+        # The last two seconds tell of a rate that rises, and all of them of one that comes in bursts.
+        rate = max(peer.down.per_second(self.now, 2), peer.down.per_second(self.now))
+        wanted = peer.depth_for(rate, BLOCK)
+        depth = wanted if peer.timeouts else max(wanted, peer.depth * 3 // 4)
+        if depth != peer.depth:
+            self._set_depth(peer, depth)
+            self.ask(peer)
+
+    def _set_depth(self, peer: Peer, depth: int) -> None:
+        """So many blocks may be asked of the peer at a time; what is asked stays asked."""
+        peer.depth = depth
+        self.picker.depth(peer.worker, depth)
+
+    def settle(self) -> list[Verdict]:
+        """Settles the pieces that were checked, and tells the peers of those that are had."""
+        verdicts = list(self.content.verdicts())
+        for verdict in verdicts:
+            if self.record:
+                self.record.checked(verdict.piece, verdict.is_had)
+            if verdict.is_had:
+                for peer in self.peers.values():
+                    peer.say(Message.HAVE, verdict.piece)
+        if any(not verdict.is_had for verdict in verdicts):
+            self.reconsider()
+        elif verdicts and self.picker.has_wanted:
+            for peer in self.peers.values():
+                self._lose_interest(peer)
+        return verdicts
+
+    def reconsider(self) -> None:
+        """More may be wanted than before: tells the peers that have something of it."""
+        for peer in self.peers.values():
+            if not peer.is_interested:
+                # What the peer has is told once more, since the answer says whether it has something for us.
+                self._interest(peer, self.picker.haves(peer.worker, peer.pieces))
+
+
+def all_flags(pieces: int) -> bytes:
+    """The flags of a peer that has each piece, as in a `bitfield` message."""
+    flags = bytearray(b"\xff" * (pieces // 8))
+    if pieces % 8:
+        flags.append(0xFF00 >> pieces % 8 & 0xFF)
+    return bytes(flags)

@@ -1,0 +1,153 @@
+"""What is asked of peers: time-outs, rejects, depths, and whose number is whose."""
+
+from __future__ import annotations
+
+import unittest
+
+from fetch.peer import ENDGAME_DEPTH, FIRST_DEPTH, LEAST_DEPTH, Peer
+from fetch.session import MOST_TIMEOUTS, REJECT_REST, REST, SILENCE
+
+from .spoken import Speaking, message
+from .support import (
+    BITFIELD, BLOCK, BLOCK_MESSAGE, CANCEL, CHOKE, CONTENT, HAVE, HAVE_ALL, INTERESTED, PIECE, PIECES, REJECT, REQUEST, UNCHOKE, flags_of,
+)  # fmt: skip
+
+
+class Asked(Speaking):
+    """One peer, or two, that have all. Nothing is there."""
+
+    had = 0
+
+    def joined(self, port: int = 1) -> Peer:
+        """A peer that has all and unchokes us, so that it is asked."""
+        peer = self.peer(True, port)
+        self.hear(peer, message(HAVE_ALL) + message(UNCHOKE))
+        return peer
+
+    def bring(self, peer: Peer, block: tuple[int, int]) -> bytes:
+        """The peer sends a block; what it is told then."""
+        at = block[0] * PIECE + block[1]
+        return self.hear(peer, message(BLOCK_MESSAGE, *block, data=CONTENT[at : at + BLOCK]))
+
+    def test_depth(self) -> None:
+        peer = self.joined()
+        self.assertEqual(len(peer.asked), FIRST_DEPTH)
+        self.assertEqual(self.download.picker.outstanding(peer.worker), FIRST_DEPTH)
+
+    def test_time_out(self) -> None:
+        """A silent peer's requests are taken back; then it rests, and others may be asked."""
+        peer = self.joined()
+        block = next(iter(peer.asked))
+        self.session.now += SILENCE + 1
+        self.assertTrue(self.session.time_out(peer))
+        self.assertEqual((len(peer.asked), self.download.picker.outstanding(peer.worker)), (0, 0))
+        self.session.ask_idle()
+        self.assertEqual(len(peer.asked), 0)
+        # A block that comes after all is kept, and ends the rest.
+        self.bring(peer, block)
+        self.assertEqual(self.session.figures.unasked, 0)
+        self.assertIn(block[0], self.download.content.held)
+        self.assertGreater(len(peer.asked), 0)
+
+    def test_rests(self) -> None:
+        """After its rest it gets another try with few requests, and after some tries it is let go."""
+        peer = self.joined()
+        for _ in range(MOST_TIMEOUTS - 1):
+            self.session.now += SILENCE + REST
+            self.assertTrue(self.session.time_out(peer))
+            self.session.follow_rate(peer)
+            self.session.now += REST
+            self.session.ask_idle()
+            self.assertEqual(len(peer.asked), LEAST_DEPTH)
+        self.session.now += SILENCE + REST
+        self.assertFalse(self.session.time_out(peer))
+
+    def test_reject(self) -> None:
+        """A rejected block is asked of that peer no more for a moment, and of another peer at once."""
+        peer = self.joined()
+        block = next(iter(peer.asked))
+        said = self.hear(peer, message(REJECT, *block, BLOCK))
+        self.assertEqual((said, self.download.picker.outstanding(peer.worker)), (b"", FIRST_DEPTH - 1))
+        self.session.now += REJECT_REST
+        self.session.ask_idle()
+        self.assertEqual(self.download.picker.outstanding(peer.worker), FIRST_DEPTH)
+
+    def test_choke(self) -> None:
+        """All that was asked is free when a peer chokes us; a block that was under way is kept."""
+        peer = self.joined()
+        block = next(iter(peer.asked))
+        self.hear(peer, message(CHOKE))
+        self.assertEqual((len(peer.asked), self.session.asks), (0, {}))
+        self.bring(peer, block)
+        self.assertIn(block[0], self.download.content.held)
+
+    def test_unasked(self) -> None:
+        """A block that nobody asked for is no more than counted, so that nobody fills pieces with nonsense."""
+        peer = self.peer(False)
+        self.bring(peer, (7, 0))
+        self.assertEqual((self.session.figures.unasked, self.download.content.held, peer.down.total), (1, {}, 0))
+
+    def test_rising_rate(self) -> None:
+        peer = self.joined()
+        peer.down.add(200 * BLOCK, self.session.now)
+        self.session.now += 1.0
+        self.session.follow_rate(peer)
+        # 200 blocks in the first second, so as many are asked, and four more; there are 161 in all.
+        self.assertEqual(peer.depth, 204)
+        self.assertEqual(len(peer.asked), 161)
+
+    def test_endgame_depth(self) -> None:
+        """The second peer is asked for few of the blocks that the first one was asked for."""
+        first = self.joined()
+        first.down.add(200 * BLOCK, self.session.now)
+        self.session.now += 1.0
+        self.session.follow_rate(first)
+        second = self.joined(2)
+        self.assertEqual(len(second.asked), ENDGAME_DEPTH)
+        self.assertTrue(set(second.asked) <= set(first.asked))
+
+    def test_pieces_counted(self) -> None:
+        peer = self.peer(False)
+        self.hear(peer, message(BITFIELD, data=flags_of(range(0, PIECES, 2))) + message(4, 1) + message(4, 1))
+        self.assertEqual(peer.piece_count, 22)
+
+
+class Last(Speaking):
+    """Only the last piece is missing, so that a block may be asked of two peers."""
+
+    had = 40
+
+    def test_cancel(self) -> None:
+        """What one of two brought is cancelled at the other one."""
+        peers = [self.peer(False, port) for port in (1, 2)]
+        for peer in peers:
+            self.said(peer)
+            asked = self.hear(peer, message(HAVE, 40) + message(UNCHOKE))
+            self.assertEqual(asked, message(INTERESTED) + message(REQUEST, 40, 0, 12345))
+        self.hear(peers[0], message(BLOCK_MESSAGE, 40, 0, data=CONTENT[40 * PIECE :]))
+        self.assertTrue(self.said(peers[1]).startswith(message(CANCEL, 40, 0, 12345)))
+        self.assertEqual((self.session.asks, self.session.figures.endgame_requests), ({}, 1))
+
+
+class Numbers(Speaking):
+    """A worker's number isn't given to another peer while it names the sender of a block."""
+
+    had = 0
+    most_peers = 1  # so that there are two numbers for peers, and one for the disk
+
+    def test_kept(self) -> None:
+        first = self.peer(True, 1)
+        self.hear(first, message(HAVE_ALL) + message(UNCHOKE))
+        (piece, begin) = next(iter(first.asked))
+        self.hear(first, message(BLOCK_MESSAGE, piece, begin, data=CONTENT[piece * PIECE + begin :][:BLOCK]))
+        number = first.worker
+        self.leave(first)
+        for port in (2, 3, 4):
+            peer = self.peer(True, port)
+            self.assertNotEqual(peer.worker, number)
+            self.leave(peer)
+        self.assertEqual(self.download.content.owners[self.download.picker.sender(piece, begin // BLOCK)], ("127.0.0.1", 1))
+
+
+if __name__ == "__main__":
+    unittest.main()

@@ -1,0 +1,78 @@
+"""Messages, by the bytes that BEP 3 and BEP 6 name."""
+
+from __future__ import annotations
+
+import random
+import unittest
+
+from fetch.wire import Handshake, Inbound, Message, WireFault, block_of, numbers_of, read_handshake, spell, spell_bitfield, spell_block
+
+INFOHASH, PEER_ID = bytes(range(20)), b"-PP0000-abcdefghijkl"
+
+
+class Spelled(unittest.TestCase):
+    """What is sent."""
+
+    def test_messages(self) -> None:
+        for data, spelled in (
+            (spell(Message.CHOKE), "00000001 00"), (spell(Message.UNCHOKE), "00000001 01"), (spell(Message.INTERESTED), "00000001 02"),
+            (spell(Message.NOT_INTERESTED), "00000001 03"), (spell(Message.HAVE, 258), "00000005 04 00000102"),
+            (spell_bitfield(b"\xfe"), "00000002 05 fe"), (spell(Message.REQUEST, 1, 16384, 16384), "0000000d 06 00000001 00004000 00004000"),
+            (spell_block(1, 16384, b"ab"), "0000000b 07 00000001 00004000 6162"),
+            (spell(Message.CANCEL, 1, 2, 3), "0000000d 08 00000001 00000002 00000003"),
+            (spell(Message.HAVE_ALL), "00000001 0e"), (spell(Message.HAVE_NONE), "00000001 0f"),
+            (spell(Message.REJECT, 1, 2, 3), "0000000d 10 00000001 00000002 00000003"),
+        ):  # fmt: skip
+            self.assertEqual(data, bytes.fromhex(spelled))
+
+    def test_handshake(self) -> None:
+        head = b"\x13BitTorrent protocol"
+        self.assertEqual(Handshake(INFOHASH, PEER_ID).spell(), head + bytes(7) + b"\x04" + INFOHASH + PEER_ID)
+        self.assertEqual(Handshake(INFOHASH, PEER_ID, False).spell(), head + bytes(8) + INFOHASH + PEER_ID)
+        self.assertEqual(read_handshake(head + b"\xff" * 8 + INFOHASH + PEER_ID), Handshake(INFOHASH, PEER_ID, True))
+        self.assertFalse(read_handshake(head + b"\xff" * 7 + b"\xfb" + INFOHASH + PEER_ID).is_fast)
+
+
+class Received(unittest.TestCase):
+    """What comes, however it is cut."""
+
+    STREAM = bytes.fromhex("00000001 00" "00000000" "00000005 04 00000102" "0000000b 07 00000001 00004000 6162" "00000001 63")
+    MESSAGES = [(0, b""), (4, bytes.fromhex("00000102")), (7, bytes.fromhex("00000001 00004000 6162")), (0x63, b"")]
+
+    def test_cuts(self) -> None:
+        chance = random.Random(4)
+        handshake = Handshake(INFOHASH, PEER_ID).spell()
+        for _ in range(300):
+            inbound, data, found, got = Inbound(100), handshake + self.STREAM, [], None
+            while data:
+                count = chance.randint(1, len(data))
+                part, data = data[:count], data[count:]
+                if got is None:
+                    got = inbound.handshake(part)
+                    part = b""
+                if got is not None:
+                    found += [(kind, bytes(payload)) for kind, payload in inbound.messages(part)]
+            self.assertEqual((got, found), (Handshake(INFOHASH, PEER_ID), self.MESSAGES))
+
+    def test_foreign(self) -> None:
+        """Another protocol is known by its first bytes."""
+        for data in (b"GET / HTTP/1.1", b"\x14", b"\x13BitTorrent protocoL", b"\x00"):
+            with self.subTest(data), self.assertRaises(WireFault):
+                Inbound(100).handshake(data)
+
+    def test_too_long(self) -> None:
+        with self.assertRaises(WireFault):
+            list(Inbound(100).messages(bytes.fromhex("ffffffff 07")))
+        # A bitfield of a million pieces has 125,000 bytes.
+        self.assertEqual(list(Inbound(1000000).messages((125001).to_bytes(4, "big"))), [])
+
+    def test_lengths(self) -> None:
+        for message, payload in ((Message.HAVE, b"123"), (Message.CHOKE, b"1"), (Message.REQUEST, bytes(11)), (Message.REJECT, bytes(13))):
+            with self.subTest(message), self.assertRaises(WireFault):
+                numbers_of(message, memoryview(payload))
+        with self.assertRaises(WireFault):
+            block_of(memoryview(b"1234567"))
+
+
+if __name__ == "__main__":
+    unittest.main()

@@ -1,0 +1,98 @@
+"""What peers ask of us: their requests wait in a line, and are answered as fast as the connection takes it."""
+
+from __future__ import annotations
+
+from .content import Content
+from .peer import Peer
+from .storage import StorageFault
+from .wire import Message, WireFault, spell_block
+
+LONGEST_REQUEST = 1 << 17  # bytes
+MOST_REQUESTS = 1 << 14  # that wait at a peer: rtorrent has thousands where it is quick
+MOST_UNSENT = 1 << 18  # bytes that wait to be sent, before no further block is read from the disk
+
+
+class Limit:
+    """So many bytes a second at most; None is no limit. What isn't used within a second is lost."""
+
+    def __init__(self, rate: int | None) -> None:
+        self.rate = rate
+        self._left = 0.0
+        self._filled = 0.0
+
+    def allows(self, now: float) -> bool:
+        """Whether something may be sent now."""
+        if self.rate is None:
+            return True
+        self._left = min(self._left + self.rate * (now - self._filled), float(self.rate))
+        self._filled = now
+        return self._left > 0
+
+    def take(self, count: int) -> None:
+        """So many bytes are sent, though it may be more than are left: then it takes longer until the next ones."""
+        self._left -= count
+
+
+class Uploads:
+    """Answers the requests of unchoked peers."""
+
+    def __init__(self, content: Content, rate: int | None = None) -> None:
+        self.content = content
+        self.limit = Limit(rate)
+        self.total = 0
+        self.refused = 0
+
+    def request(self, peer: Peer, piece: int, begin: int, length: int) -> None:
+        """A peer asks for a part of a piece. What can't be given is rejected, where the peer understands that. Raises WireFault."""
+        wanted = (piece, begin, length)
+        layout = self.content.layout
+        is_there = piece < layout.pieces and self.content.has(piece) and begin + length <= layout.length_of(piece)
+        if peer.we_choke or not is_there or not 0 < length <= LONGEST_REQUEST:
+            self._reject(peer, wanted)
+        elif len(peer.wants) < MOST_REQUESTS:
+            peer.wants[wanted] = None
+        elif peer.is_fast:
+            self._reject(peer, wanted)
+        else:
+            # It would wait for ever for what isn't answered.
+            raise WireFault("the peer asks for too much at once")
+
+    def cancel(self, peer: Peer, piece: int, begin: int, length: int) -> None:
+        """The peer wants it no more."""
+        if (piece, begin, length) in peer.wants:
+            del peer.wants[piece, begin, length]
+            self._reject(peer, (piece, begin, length))
+
+    def _reject(self, peer: Peer, wanted: tuple[int, int, int]) -> None:
+        self.refused += 1
+        if peer.is_fast:
+            peer.say(Message.REJECT, *wanted)
+
+    def serve(self, peer: Peer, now: float) -> None:
+        """Reads what the peer wants, until enough waits to be sent. Raises StorageFault where a piece that is had isn't there."""
+        while peer.wants and len(peer.unsent) < MOST_UNSENT and self.limit.allows(now):
+            (piece, begin, length), _ = peer.wants.popitem(last=False)
+            try:
+                block = self.content.storage.read(piece * self.content.layout.piece_length + begin, length)
+            except OSError as error:
+                raise StorageFault(f"piece {piece} was there and can't be read: {error.strerror}") from error
+            peer.unsent += spell_block(piece, begin, block)
+            peer.up.add(length, now)
+            self.limit.take(length)
+            self.total += length
+
+    def choke(self, peer: Peer) -> None:
+        """The peer gets nothing for now; what it waits for is rejected."""
+        if peer.we_choke:
+            return
+        peer.we_choke = True
+        peer.say(Message.CHOKE)
+        for wanted in peer.wants:
+            self._reject(peer, wanted)
+        peer.wants.clear()
+
+    def unchoke(self, peer: Peer) -> None:
+        """The peer may ask."""
+        if peer.we_choke:
+            peer.we_choke = False
+            peer.say(Message.UNCHOKE)
