@@ -76,8 +76,9 @@ class Content:
         there = [piece for piece in range(self.layout.pieces) if self.storage.is_there(piece) or self._is_zeros(piece)]
         for number, (piece, digest) in enumerate(self.checker.all_of(there), 1):
             if digest == self.picker.piece_hash(piece):
-                # The library reads none of the bytes, so zeros of the right length stand for them.
-                self.picker.restore(self.disk, piece, bytes(self.layout.length_of(piece)), digest)
+                # The digest is vouched for to be that of these bytes. The library reads none of them.
+                with self.storage.lent(piece * self.layout.piece_length, self.layout.length_of(piece)) as data:
+                    self.picker.restore(self.disk, piece, data, digest)
                 self._note(piece)
             tell(number, len(there))
 
@@ -90,9 +91,13 @@ class Content:
         return self._is_begun(piece) and self.picker.piece_hash(piece) == zeros_digest(self.layout.length_of(piece))
 
     def _restore_block(self, piece: int, block: int) -> None:
-        """A block that the state file names is on the disk; the digest of its piece will tell whether it is right."""
+        """A block that the state file names is on the disk, if it can be read. The digest of its piece will tell whether it is right."""
         length = self.layout.block_length(piece, block)
-        if self.picker.arrived(self.disk, piece, block * BLOCK, bytes(length)).kind is Kind.STORED:
+        try:
+            data = self.storage.read(piece * self.layout.piece_length + block * BLOCK, length)
+        except OSError:
+            return
+        if self.picker.arrived(self.disk, piece, block * BLOCK, data).kind is Kind.STORED:
             self._hold(piece, block)
 
     def _take_up(self, file: File, is_ours: bool) -> None:

@@ -51,9 +51,9 @@ def open_picker(metainfo: bytes, options: Options) -> Picker:
         raise MetainfoFault(f"the library can't use the metainfo file: {cause}") from error
 
 
-def layout_of(metainfo: bytes, picker: Picker) -> Layout:
+def layout_of(picker: Picker) -> Layout:
     """Where the files lie in the content."""
-    return Layout(files_of(metainfo), picker.piece_length(0), picker.total)
+    return Layout(files_of(picker), picker.piece_length(0), picker.total)
 
 
 def listener_of(options: Options) -> socket.socket | None:
@@ -93,10 +93,10 @@ class Download:
         plain = open_picker(metainfo, options)
         self.metered = Metered(plain) if options.meters else None
         self.picker = cast(Picker, self.metered or plain)
-        self.layout = layout_of(metainfo, plain)
+        self.layout = layout_of(plain)
         self.levels = file_levels(self.layout, options)
         self.root = os.path.join(options.out, safe_path([plain.name])) if options.out.endswith(os.sep) else options.out
-        self.storage = Storage(self.root, self.layout, is_folder(metainfo))
+        self.storage = Storage(self.root, self.layout, is_folder(plain))
         self.progress = Progress(options.quiet or options.watches)
         self.checker = Checker(self.storage, lambda: self.swarm.wake())
         self.content = Content(self.picker, self.layout, self.storage, self.checker, self.root + STATE_SUFFIX)

@@ -24,7 +24,7 @@ LARGEST_METAINFO = 1 << 28  # bytes
 def list_files(metainfo: bytes, options: Options) -> None:
     """Prints the files with their numbers and lengths."""
     with open_picker(metainfo, options) as picker:
-        for file in layout_of(metainfo, picker).files:
+        for file in layout_of(picker).files:
             print(f"{file.number:6} {file.length:14} {printable(file.path)}")
 
 

@@ -1,8 +1,9 @@
-"""What a metainfo file says beside the pieces: its files, its trackers and whether it is private (BEP 3, BEP 12, BEP 27)."""
+"""What a metainfo file says beside the pieces: its files, by the library, and its trackers (BEP 3, BEP 12)."""
 
 from __future__ import annotations
 
 from bencode import BencodeFault, Value, bdecode
+from piecepick import Picker
 
 MOST_TRACKERS = 50
 
@@ -21,40 +22,14 @@ def _dictionary(metainfo: bytes) -> dict[bytes, Value]:
     return value
 
 
-def files_of(metainfo: bytes) -> list[tuple[list[bytes], int]]:
-    """The path and the length of each file. The path of a single file is its name alone."""
-    info = _dictionary(metainfo).get(b"info")
-    if not isinstance(info, dict):
-        raise MetainfoFault("the metainfo file has no info dictionary")
-    name, length, files = info.get(b"name"), info.get(b"length"), info.get(b"files")
-    if isinstance(length, int):
-        if not isinstance(name, bytes) or length < 0:
-            raise MetainfoFault("the file has no name, or no length")
-        return [([name], length)]
-    if not isinstance(files, list) or not files:
-        raise MetainfoFault("the metainfo file names no files")
-    return [_file(file) for file in files]
+def files_of(picker: Picker) -> list[tuple[list[bytes], int]]:
+    """The path and the length of each file. The path begins behind the torrent's folder, and that of a single file is its name alone."""
+    return [(list(file.path[1:] or file.path), file.length) for file in picker.files]
 
 
-def is_folder(metainfo: bytes) -> bool:
+def is_folder(picker: Picker) -> bool:
     """Whether the files lie in a folder of the torrent's name, be it one or many."""
-    info = _dictionary(metainfo).get(b"info")
-    return isinstance(info, dict) and b"files" in info
-
-
-def _file(file: Value) -> tuple[list[bytes], int]:
-    """The path and the length of one of many files."""
-    if not isinstance(file, dict):
-        raise MetainfoFault("a file is no dictionary")
-    length, path = file.get(b"length"), file.get(b"path")
-    if not isinstance(length, int) or length < 0:
-        raise MetainfoFault("a file has no length")
-    if not isinstance(path, list) or not path:
-        raise MetainfoFault("a file has no path")
-    names = [name for name in path if isinstance(name, bytes)]
-    if len(names) != len(path):
-        raise MetainfoFault("a part of a path is no string")
-    return names, length
+    return any(len(file.path) > 1 for file in picker.files)
 
 
 def trackers_of(metainfo: bytes) -> list[list[str]]:

@@ -4,10 +4,12 @@ from __future__ import annotations
 
 import errno
 import hashlib
+import mmap
 import os
 import threading
 from collections import OrderedDict
 from collections.abc import Iterator
+from contextlib import contextmanager
 
 from .layout import BLOCK, File, Layout
 
@@ -132,6 +134,25 @@ class Storage:
     def read(self, begin: int, length: int) -> bytes:
         """A part of the content. Raises OSError where it isn't there."""
         return b"".join(bytes(chunk) for chunk in self.chunks(begin, length))
+
+    @contextmanager
+    def lent(self, begin: int, length: int) -> Iterator[memoryview]:
+        """A part of the content as it lies on the disk. Of one file it is mapped, so that nobody reads what isn't looked at. Raises OSError."""
+        spans = list(self.layout.spans(begin, length))
+        if len(spans) > 1:
+            yield memoryview(self.read(begin, length))
+            return
+        file, inside, _ = spans[0]
+        handle = self._reading(file)
+        try:
+            start = inside - inside % mmap.ALLOCATIONGRANULARITY
+            with mmap.mmap(handle, inside + length - start, access=mmap.ACCESS_READ, offset=start) as mapped:
+                with memoryview(mapped) as whole, whole[inside - start :] as part:
+                    yield part
+        except ValueError as error:
+            raise OSError(errno.ENODATA, "the file is too short") from error
+        finally:
+            os.close(handle)
 
     def digest(self, piece: int) -> bytes:
         """The SHA-1 of a piece as it is on the disk. Raises OSError where it isn't there."""

@@ -7,9 +7,12 @@ import os
 import unittest
 
 from bencode import BencodeFault, bdecode, bencode
+from fetch.download import open_picker
 from fetch.layout import Layout, levels_of, printable, safe_path
 from fetch.metainfo import MetainfoFault, files_of, is_folder, trackers_of
+from fetch.options import Options
 from fetch.storage import Storage
+from piecepick import Picker
 
 from .support import CONTENT, FILES, PIECE, PIECES, Downloading, folder_torrent, single_torrent
 
@@ -48,10 +51,12 @@ class Metainfo(unittest.TestCase):
     """What is read of a metainfo file."""
 
     def test_files(self) -> None:
-        self.assertEqual(files_of(folder_torrent()), [(list(names), length) for names, length in FILES])
-        self.assertEqual(files_of(single_torrent()), [([b"content"], len(CONTENT))])
-        self.assertTrue(is_folder(folder_torrent()))
-        self.assertFalse(is_folder(single_torrent()))
+        with Picker(folder_torrent()) as picker:
+            self.assertEqual(files_of(picker), [(list(names), length) for names, length in FILES])
+            self.assertTrue(is_folder(picker))
+        with Picker(single_torrent()) as picker:
+            self.assertEqual(files_of(picker), [([b"content"], len(CONTENT))])
+            self.assertFalse(is_folder(picker))
 
     def test_trackers(self) -> None:
         listed = {b"announce": b"http://a/", b"announce-list": [[b"http://b/", b"udp://c:1/"], [], [b"http://d/"], 3, [4]], b"info": {}}
@@ -60,15 +65,17 @@ class Metainfo(unittest.TestCase):
         self.assertEqual(trackers_of(bencode({b"info": {}})), [])
 
     def test_nonsense(self) -> None:
+        options = Options(torrent="", out="")
         for info in (
-            {}, {b"length": 3}, {b"length": -3, b"name": b"a"}, {b"files": []}, {b"files": [3]}, {b"files": [{b"length": 3}]}, {b"files": [{b"length": -1, b"path": [b"a"]}]},
+            {}, {b"length": -3}, {b"files": []}, {b"files": [3]}, {b"files": [{b"length": 3}]}, {b"files": [{b"length": -1, b"path": [b"a"]}]},
             {b"files": [{b"length": 3, b"path": []}]}, {b"files": [{b"length": 3, b"path": [3]}]}, {b"files": [{b"path": [b"a"]}]},
         ):  # fmt: skip
+            whole = {b"name": b"a", b"piece length": 3, b"pieces": bytes(20)} | info
             with self.subTest(info), self.assertRaises(MetainfoFault):
-                files_of(bencode({b"info": info}))
+                open_picker(bencode({b"info": whole}), options)
         for data in (b"", b"le", b"de", b"d4:infolee"):
             with self.subTest(data), self.assertRaises(MetainfoFault):
-                files_of(data)
+                open_picker(data, options)
 
 
 class Names(unittest.TestCase):
