@@ -172,8 +172,11 @@ class Swarms(Downloading):
 
     def test_interrupted(self) -> None:
         """ctrl-C in between: the state is written, and the tracker is told."""
-        process = self.start_at(self.out, seeders=(self.seeder(delay=0.05),))
-        time.sleep(2.0)
+        seeder = self.seeder(delay=0.5)  # it takes over a minute for the content
+        process = self.start_at(self.out, seeders=(seeder,))
+        end = time.monotonic() + 60
+        while seeder.blocks < 3 and time.monotonic() < end:
+            time.sleep(0.05)
         process.send_signal(signal.SIGINT)
         self.assertEqual(process.wait(20), 1)
         self.assertEqual([told.get("event") for told in self.tracker.announces], ["started", "stopped"])
