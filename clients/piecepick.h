@@ -146,7 +146,7 @@ PIECEPICK_MUST piecepick_status piecepick_open_parts(piecepick_picker **picker, 
 void piecepick_close(piecepick_picker **picker);
 
 /* What came on the wire of a worker's peer. WORKER; PIECE at a piece that isn't; BITS_LENGTH and SPARE_BITS at the two with flags. MEMORY at these
-   two, at each call where a journal is kept, and at an arrival where its block is kept. No other call tells it. */
+   two, at each call where a journal is kept, and at an arrival where its block is kept. No other of these calls tells it. */
 PIECEPICK_MUST piecepick_status piecepick_join(piecepick_picker *picker, uint32_t worker, piecepick_answer *answer);
 PIECEPICK_MUST piecepick_status piecepick_leave(piecepick_picker *picker, uint32_t worker, piecepick_answer *answer);
 PIECEPICK_MUST piecepick_status piecepick_choke(piecepick_picker *picker, uint32_t worker, piecepick_answer *answer); /* also: the peer is silent */
