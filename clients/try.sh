@@ -61,6 +61,9 @@ for language in "gcc -std=c11" "g++ -std=c++17 -x c++"; do
     $language $flags -c "$here/tests.c" -o tests.o
     g++ -fsanitize=address,undefined -Wl,--wrap=malloc,--wrap=realloc tests.o "$here/out/libpiecepick.a" -lpthread -o tests
     ./tests try.torrent content "$(cat infohash)" content
+    $language $flags -c "$here/quick.c" -o quick.o
+    g++ -fsanitize=address,undefined quick.o "$here/out/libpiecepick.a" -o quick
+    ./quick
     echo "$language: well"
 done
 

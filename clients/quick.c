@@ -1,0 +1,33 @@
+/* A download from one peer, which has two pieces of zeros and sends each block at once. README.md shows the marked lines (tools/excerpt.py). */
+#include "piecepick.h"
+#include <stdlib.h>
+#include <string.h>
+#define HASH "\x51\x88\x43\x18\x49\xb4\x61\x31\x52\xfd\x7b\xdb\xa6\xa3\xff\x0a\x4f\xd6\x42\x4b"
+static const uint8_t metainfo[] = "d4:infod6:lengthi65536e4:name1:x12:piece lengthi32768e6:pieces40:" HASH HASH "ee";
+static const uint8_t bitfield[] = {0xc0}, block[16384] = {0};
+static void must(piecepick_status status) { if (status != PIECEPICK_OK) exit((int)status); }
+int main(void)
+{
+    piecepick_digest digest; /* a client hashes what it stored of the piece */
+    memcpy(digest.bytes, HASH, sizeof digest);
+    /* excerpt: download */
+    piecepick_picker *picker = NULL;
+    piecepick_options options = PIECEPICK_OPTIONS; /* the picker keeps no content, so the client hashes */
+    piecepick_answer next, answer;
+    must(piecepick_open(&picker, metainfo, sizeof metainfo - 1, &options));
+    must(piecepick_join(picker, 0, &answer)); /* worker 0 has a peer, with which handshakes are exchanged */
+    must(piecepick_bits(picker, 0, bitfield, sizeof bitfield, &answer));
+    must(piecepick_unchoke(picker, 0, &answer));
+    for (uint32_t done = 0; !done; must(piecepick_has_wanted(picker, &done))) {
+        must(piecepick_next(picker, 0, (uint64_t)rand(), &next));
+        if (next.kind == PIECEPICK_K_CANCEL) continue;  /* send `cancel`, and ask on */
+        if (next.kind != PIECEPICK_K_REQUEST) return 1; /* nothing more for now: wait for what comes */
+        /* Send `request`. Here the block comes at once; in a client it comes later, and then the peer is asked again. */
+        must(piecepick_arrived(picker, 0, next.piece, next.begin, block, next.length, &answer));
+        if (answer.kind == PIECEPICK_K_COMPLETED) must(piecepick_settle(picker, next.piece, &digest, &answer));
+    }
+    must(piecepick_leave(picker, 0, &answer));
+    piecepick_close(&picker);
+    /* end of excerpt */
+    return 0;
+}
