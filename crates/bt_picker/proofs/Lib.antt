@@ -24,6 +24,7 @@ pub mod Checking
 pub mod Allowing
 pub mod Audited
 pub mod Finishing
+pub mod FinishingFour
 pub mod Contents
 pub mod Completing
 pub mod Filing
