@@ -3,6 +3,7 @@
     main, options, download     the program, its command line, and one download with all its parts
     metainfo, layout            the files that a metainfo file names, and which bytes of the content lie where
     storage, checking, resume   the disk, the threads that hash what is on it, and the file that lets a killed download go on
+    hashing                     four pieces at once, where the library is faster at it than hashlib
     content, blame              what is had, with the picker beside it, and who sent what was wrong
     wire, peer, session         messages as bytes, one connection, and what is said with peers
     uploads, choking, rate      what peers get, who gets it, and how fast it goes

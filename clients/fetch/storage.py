@@ -21,6 +21,15 @@ class StorageFault(Exception):
     """The disk can't do what is asked of it; the text is for the user."""
 
 
+def _fill(handle: int, inside: int, room: memoryview) -> None:
+    """Reads a part of a file that is as long as the room. Raises OSError where the file ends before."""
+    while room:
+        got = os.preadv(handle, [room], inside)
+        if got == 0:
+            raise OSError(errno.ENODATA, "the file is too short")
+        room, inside = room[got:], inside + got
+
+
 def _told(path: str, error: OSError) -> StorageFault:
     """What to tell the user of an error of the system."""
     if error.errno in (errno.ENOSPC, errno.EDQUOT):
@@ -131,9 +140,18 @@ class Storage:
             finally:
                 os.close(handle)
 
-    def read(self, begin: int, length: int) -> bytes:
+    def read(self, begin: int, length: int) -> bytearray:
         """A part of the content. Raises OSError where it isn't there."""
-        return b"".join(bytes(chunk) for chunk in self.chunks(begin, length))
+        content = bytearray(length)
+        rest = memoryview(content)
+        for file, inside, span in self.layout.spans(begin, length):
+            handle = self._reading(file)
+            try:
+                _fill(handle, inside, rest[:span])
+            finally:
+                os.close(handle)
+            rest = rest[span:]
+        return content
 
     @contextmanager
     def lent(self, begin: int, length: int) -> Iterator[memoryview]:
@@ -160,6 +178,10 @@ class Storage:
         for chunk in self.chunks(piece * self.layout.piece_length, self.layout.length_of(piece)):
             hashed.update(chunk)
         return hashed.digest()
+
+    def content_of(self, piece: int) -> bytearray:
+        """The bytes of a piece. Raises OSError where it isn't there."""
+        return self.read(piece * self.layout.piece_length, self.layout.length_of(piece))
 
     def block_digests(self, piece: int) -> list[bytes]:
         """The SHA-1 of each block of a piece, to find out which of them were bad."""
