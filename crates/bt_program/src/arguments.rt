@@ -7,7 +7,7 @@ use clap::{Arg, ArgAction, Command, value_parser};
 use std::alloc::{AllocError, Global};
 
 /// The program's version, and the toolchain that it is proved by, as `rt version` says it; `tools/runs.py` compares the two.
-const VERSION: &str = "0.1.0, proved by rattle-kit-13b logic dac8208d650f15bf";
+const VERSION: &str = "0.1.0, proved by rattle-kit-13f logic dac8208d650f15bf";
 
 const STATUSES: &str = "\
 Status: 0 done; 1 a run after which a wanted piece is lacking; 2 wrong arguments, a script's `line N`, or a run's
