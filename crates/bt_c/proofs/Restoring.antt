@@ -16,5 +16,6 @@ unless (Some fault) old new w p bytes result none = ap (λ (d : DeskState). d.se
 unless None old new w p bytes result (reply, whole, is) =
     whole.settles.setting ∙ brings_setting old whole.full w p bytes (block_count old.setting.torrent p) whole.brings
 
-pub restored_setting : (old new : DeskState) (w p : ℕ) (bytes : List ℕ) (result : Restored) → Restores old new w p bytes result → new.setting ≡ old.setting
+pub restored_setting : (old new : DeskState) (w p : ℕ) (bytes : List ℕ) (result : Restored) → Restores old new w p bytes result →
+    new.setting ≡ old.setting
 restored_setting old new w p bytes result = unless (restore_fault old w p (length bytes)) old new w p bytes result

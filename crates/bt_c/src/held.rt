@@ -9,7 +9,8 @@ use crate::engine::Engine;
 use bt_meta::{ListedFile, Torrent};
 use std::sync::Arc;
 
-/// A picker behind a handle, its torrent, and the torrent's files, if a metainfo file lists them. Its calls test what the picker's own calls require of their callers.
+/// A picker behind a handle, its torrent, and the torrent's files, if a metainfo file lists them. Its calls test what the picker's own
+/// calls require of their callers.
 #[derive(Drop)]
 pub struct Held {
     pub engine: Engine,

@@ -55,7 +55,8 @@ module _ (side : Account → List Ticket) (accounts : List Account) (moved : Lis
     m : Moved
     m = record { pass = pass; ticket = ticket }
 
-    by_pass : (same : Bool) → (pass == i) ≡ same → side (get_or (set accounts pass new) i blank) ≡ tickets_of i (moved ++ record { pass = pass; ticket = ticket } ∷ [])
+    by_pass : (same : Bool) → (pass == i) ≡ same →
+        side (get_or (set accounts pass new) i blank) ≡ tickets_of i (moved ++ record { pass = pass; ticket = ticket } ∷ [])
     by_pass true is =
         let here : pass ≡ i = eqb-true pass i is in
         subst (λ (j : ℕ). side (get_or (set accounts pass new) j blank) ≡ tickets_of j (moved ++ record { pass = pass; ticket = ticket } ∷ [])) here
@@ -127,7 +128,8 @@ kept_put capacity pass old ticket left accounts room kept at =
           taken = was.taken;
           put_by = grown (λ a. a.put) accounts was.put pass old new ticket was.put_by at refl;
           taken_by = stayed (λ a. a.taken) accounts was.taken pass old new ticket was.taken_by at refl;
-          order = tickets_more was.put m ∙ ap (λ (ts : List Ticket). ts ++ ticket ∷ []) was.order ∙ append_assoc (tickets was.taken) left (ticket ∷ []);
+          order = tickets_more was.put m ∙ ap (λ (ts : List Ticket). ts ++ ticket ∷ []) was.order
+              ∙ append_assoc (tickets was.taken) left (ticket ∷ []);
         };
       },
       refl,

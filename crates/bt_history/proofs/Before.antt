@@ -15,7 +15,8 @@ use Rattle.bt_history.specs.Peers.{shows, shows_after, late, late_after, asks, a
 use Rattle.bt_history.specs.Pieces.{held, kept, wanted, asker_count}
 use Rattle.bt_history.specs.Next.{doubles}
 use Rattle.bt_history.specs.Legal.{place_at}
-use Rattle.bt_history.specs.Before.{asked_before, outstanding_before, is_release, never_releases, doubles_before, shows_before, shows_then, late_before, late_then, is_haves, never_adds}
+use Rattle.bt_history.specs.Before.{asked_before, outstanding_before, is_release, never_releases, doubles_before, shows_before, shows_then}
+use Rattle.bt_history.specs.Before.{late_before, late_then, is_haves, never_adds}
 use Rattle.bt_history.proofs.Below.{count_short}
 
 and_true : (x : Bool) → (x && true) ≡ x
@@ -83,7 +84,8 @@ module _ (h : History) (w p begin q : ℕ) (b : Block) where
 -- ---- a bound on askers
 
 -- a bound that no desk of so many workers reaches is none
-pub doubles_as_before : (s : Setting) (h : History) (q : ℕ) (b : Block) → q < s.workers → s.workers ≤ s.askers → doubles s h q b ≡ doubles_before s h q b
+pub doubles_as_before : (s : Setting) (h : History) (q : ℕ) (b : Block) → q < s.workers → s.workers ≤ s.askers →
+    doubles s h q b ≡ doubles_before s h q b
 doubles_as_before s h q b lq wide =
     ap (λ (x : Bool). wanted s h b.piece && (shows h q b.piece && (not (held h b) && x))) (by_asked (asked h q b) refl) where
       by_asked : (x : Bool) → asked h q b ≡ x → (nat_lt (asker_count s h b) s.askers && not x) ≡ not x

@@ -1,5 +1,6 @@
 -- A peer that has nothing to be asked for stays so until the epoch rises.
-use Rattle.std.proofs.Common.{◌≡◌, ◌≢◌, ◌⊎◌, ℕ, zero, suc, ◌==◌, ◌+◌, ◌<◌, ◌≤◌, Bool, true, false, not, ◌&&◌, ◌||◌, List, [], ◌∷◌, ◌++◌, Option, None, Some}
+use Rattle.std.proofs.Common.{◌≡◌, ◌≢◌, ◌⊎◌, ℕ, zero, suc, ◌==◌, ◌+◌, ◌<◌, ◌≤◌, Bool, true, false, not, ◌&&◌, ◌||◌, List, [], ◌∷◌, ◌++◌, Option}
+use Rattle.std.proofs.Common.{None, Some}
 use Rattle.std.proofs.Common.{refl, ap, sym, ◌∙◌, arith, ⊎_elim, inl, inr}
 use Rattle.std.specs.Prelude.{if◌then◌else◌, is_none, is_some, nat_lt, nat_le, unwrap_or}
 use Rattle.std.specs.List.{list_any}
@@ -14,10 +15,13 @@ use Rattle.bt_history.specs.declared.event.Action.TheVariants.{Join, Choke, Next
 use Rattle.bt_history.specs.declared.event.Event.{Event}
 use Rattle.bt_history.specs.Counting.{any_below, count_below}
 use Rattle.bt_history.specs.Setting.{Setting, some_block, some_block_of, each_block, each_block_of, count_blocks}
-use Rattle.bt_history.specs.History.{History, counts, counted_call, own_call, same_begin, stores, stored, bytes_for, requested, requested_by, cancelled, cancelled_by}
+use Rattle.bt_history.specs.History.{History, counts, counted_call, own_call, same_begin, stores, stored, bytes_for, requested, requested_by}
+use Rattle.bt_history.specs.History.{cancelled, cancelled_by}
 use Rattle.bt_history.specs.History.{failed, passed, is_failed, is_had, settles}
-use Rattle.bt_history.specs.Peers.{asked, asks, asked_count, resets, releases, lasts, shows, shows_after, is_open, is_open_after, told_depth, told_after, depth_of, due}
-use Rattle.bt_history.specs.Pieces.{kept, held, had, in_order, level, level_after, wanted, interesting, asked_of_some, asker_count, held_or_asked, unasked, endgame, begun}
+use Rattle.bt_history.specs.Peers.{asked, asks, asked_count, resets, releases, lasts, shows, shows_after, is_open, is_open_after, told_depth}
+use Rattle.bt_history.specs.Peers.{told_after, depth_of, due}
+use Rattle.bt_history.specs.Pieces.{kept, held, had, in_order, level, level_after, wanted, interesting, asked_of_some, asker_count}
+use Rattle.bt_history.specs.Pieces.{held_or_asked, unasked, endgame, begun}
 use Rattle.bt_history.specs.Next.{Exactly, usable, tops, continues, starts, rises, doubles, next_answer}
 use Rattle.bt_history.specs.Legal.{IsLegal, IsAllowed, place_at}
 use Rattle.bt_history.specs.Logs.{answers, call_mark}
@@ -76,7 +80,8 @@ refused_calm s h e refused = record {
   fails_none = λ p. and_left (is_failed e.reply) _ (none_failed e.reply refused);
   passes_none = λ p. and_left (is_had e.reply) _ (none_had e.reply refused);
   levels_same = λ p before. ap (λ (x : Bool). level_after (if x then Some e.action else None) p before) refused;
-  stores_awaited = λ b is. absurd (false≢true (sym (ap (λ (x : Bool). is_some (if x then bytes_for b e.action else None)) (none_stored e.reply refused)) ∙ is));
+  stores_awaited = λ b is. absurd
+      (false≢true (sym (ap (λ (x : Bool). is_some (if x then bytes_for b e.action else None)) (none_stored e.reply refused)) ∙ is));
   begins_none = λ b is. absurd (false≢true (sym refused ∙ ap counts is));
 } where
   none_failed : (r : Reply) → counts r ≡ false → is_failed r ≡ false
@@ -262,7 +267,8 @@ module _ (s : Setting) (h : History) (e : Event) (allowed : IsAllowed s h e) (st
       let q = found.0 in
       let before : asked h q b ≡ false = any_fails s.workers (λ w. asked h w b) q parts.1 found.1 in
       let asks_it : asks q e b ≡ true =
-      second (is_none (stored e b) && asked h q b) (asks q e b) (and_right (is_none (stored e b)) (asked h q b) before) (sym (asked_now q b) ∙ found.2) in
+      second (is_none (stored e b) && asked h q b) (asks q e b) (and_right (is_none (stored e b)) (asked h q b) before)
+      (sym (asked_now q b) ∙ found.2) in
       let request = asking q e b asks_it in
       false≢true (sym (still.begins_none request.0 request.1.reply) ∙ and_from (not (endgame s h)) (endgame s (e ∷ h)) (ap not older) now)
 
@@ -443,7 +449,8 @@ open_after call which before = ⊎_elim
     (λ (next : (word : ℕ) × (call ≡ Some (Next word))). ap (λ (c : Option Action). is_open_after c before) next.1)
     which
 
-depth_after : (call : Option Action) → (call ≡ None) ⊎ ((word : ℕ) × (call ≡ Some (Next word))) → (before : Option ℕ) → told_after call before ≡ before
+depth_after : (call : Option Action) → (call ≡ None) ⊎ ((word : ℕ) × (call ≡ Some (Next word))) → (before : Option ℕ) →
+    told_after call before ≡ before
 depth_after call which before = ⊎_elim
     (λ (none : call ≡ None). ap (λ (c : Option Action). told_after c before) none)
     (λ (next : (word : ℕ) × (call ≡ Some (Next word))). ap (λ (c : Option Action). told_after c before) next.1)
@@ -490,7 +497,8 @@ module _ (s : Setting) (h : History) (e : Event) (q : ℕ) (allowed : IsAllowed 
   due_same : (b : Block) → due (e ∷ h) q b ≡ due h q b
   unfolding due
   due_same b =
-      (λ i. not (still.resets_none q i) && (not (quiet.cancels_none b i) && (due h q b || (is_some (stored e b) && (not (e.worker == q) && asked h q b)))))
+      (λ i. not (still.resets_none q i) &&
+      (not (quiet.cancels_none b i) && (due h q b || (is_some (stored e b) && (not (e.worker == q) && asked h q b)))))
       ∙ by_stored (due h q b) (stored e b) (not (e.worker == q)) (asked h q b) (quiet.stores_none b)
     where
       by_stored : (d : Bool) (o : Option (List ℕ)) (w x : Bool) → (is_some o ≡ true → x ≡ false) → (d || (is_some o && (w && x))) ≡ d
@@ -553,7 +561,8 @@ module _ (s : Setting) (h : History) (e : Event) (q : ℕ) (allowed : IsAllowed 
       and_right (in_order (e ∷ h)) (some_block s.torrent (usable s (e ∷ h) q)) first in
       let again : (endgame s (e ∷ h) && some_block s.torrent (doubles s (e ∷ h) q)) ≡ false = none_again facts.again in
       let waits : interesting s (e ∷ h) q ≡ interesting s h q =
-      λ i. any_below (piece_count s.torrent) (λ p. wanted_same s h e allowed still p i && (shows_same p i && not (had_same s h e allowed still p i))) in
+      λ i. any_below (piece_count s.torrent)
+      (λ p. wanted_same s h e allowed still p i && (shows_same p i && not (had_same s h e allowed still p i))) in
       rw (next_is s (e ∷ h) q, none_due, open_same ∙ facts.opened, room, up, on, first, again, waits) (by_waits (interesting s h q) facts.says)
     where
       none_again : (endgame s h && some_block s.torrent (doubles s h q)) ≡ false

@@ -17,7 +17,8 @@ use Rattle.bt_history.specs.declared.event.Event.{Event}
 use Rattle.bt_history.specs.Counting.{count_below}
 use Rattle.bt_history.specs.Setting.{Setting, some_block, some_block_of, is_block, count_blocks}
 use Rattle.bt_history.specs.History.{History, own_call, same_begin, stored, requested, requested_by, cancelled}
-use Rattle.bt_history.specs.Peers.{asked, asked_count, outstanding, has_place, AreApart, due, due_count, dues, resets, releases, lasts, told_depth, told_after, depth_of, depth_so_far}
+use Rattle.bt_history.specs.Peers.{asked, asked_count, outstanding, has_place, AreApart, due, due_count, dues, resets, releases, lasts}
+use Rattle.bt_history.specs.Peers.{told_depth, told_after, depth_of, depth_so_far}
 use Rattle.bt_history.specs.Legal.{IsLegal}
 use Rattle.bt_history.proofs.Below.{any_found, any_witness, count_at, count_same, count_none, sum_at, sum_same, sum_none, one_if}
 use Rattle.bt_history.proofs.SameBegin.{same_begin_self, same_begin_sym, same_but_len}
@@ -347,13 +348,34 @@ lines_room s (e ∷ h) q legal = by_reset (resets (own_call q e)) (asks_or_none 
       let no_still : length still ≤ 0 = subst (λ (bs : List Block). length still ≤ length bs) none (fewer (λ b. not (cancelled q e b)) (dues h q)) in
       let one : length (requested q e) ≡ 1 = ap length named.1.only in
       let short = fewer (lasts q e) (outstanding h q) in
-      omega (arith, length-append old (requested q e), length-append still (if e.worker == q then [] else new), count, deep, most, no_new, no_still, one, short))
+      omega (
+        arith,
+        length-append old (requested q e),
+        length-append still (if e.worker == q then [] else new),
+        count,
+        deep,
+        most,
+        no_new,
+        no_still,
+        one,
+        short,
+      ))
       (λ (nothing : requested q e ≡ []).
       let zero : length (requested q e) ≡ 0 = ap length nothing in
       let others = of_others (e.worker == q) in
       let most = le-max_right (depth_of s (e ∷ h) q) (depth_so_far s h q) in
       let short = fewer (λ b. not (cancelled q e b)) (dues h q) in
-      omega (arith, length-append old (requested q e), length-append still (if e.worker == q then [] else new), zero, split, others, short, room, most))
+      omega (
+        arith,
+        length-append old (requested q e),
+        length-append still (if e.worker == q then [] else new),
+        zero,
+        split,
+        others,
+        short,
+        room,
+        most,
+      ))
       asking
 
 pub place_resized : (bs : List Block) (a b : Block) → same_begin a b ≡ true → has_place b bs ≡ has_place a bs

@@ -54,7 +54,8 @@ next_answers t false true false false false false false true cancels risings ons
 next_answers t false true false false false false false false cancels risings ons firsts seconds reply h = ap answers_next h
 
 -- what a request shows of the tests: one that neither rises nor goes on nor begins also shows that no block is usable
-pub record Requests (t : Layout) (has_due full rises_one starts_one doubles_one : Bool) (risings ons firsts seconds : Block → Bool) (b : Block) : Type 0 where
+pub record Requests (t : Layout) (has_due full rises_one starts_one doubles_one : Bool) (risings ons firsts seconds : Block → Bool)
+    (b : Block) : Type 0 where
   pub none_due : has_due ≡ false
   pub room : full ≡ false
   pub block : is_block t b ≡ true

@@ -6,7 +6,8 @@ use Rattle.bt_meta.specs.declared.block.Block.{Block}
 use Rattle.bt_meta.specs.Layout.{piece_count}
 use Rattle.bt_history.specs.declared.call.Reply.TheVariants.{Choked, PipeFull, Idle, NothingLeft}
 use Rattle.bt_history.specs.declared.event.Action.{Action}
-use Rattle.bt_history.specs.declared.event.Action.TheVariants.{Join, Bits, Have, Choke, Unchoke, Arrived, Leave, Want, Haves, Depth, Release, Level, Levels, InOrder}
+use Rattle.bt_history.specs.declared.event.Action.TheVariants.{Join, Bits, Have, Choke, Unchoke, Arrived, Leave, Want, Haves, Depth, Release}
+use Rattle.bt_history.specs.declared.event.Action.TheVariants.{Level, Levels, InOrder}
 use Rattle.bt_history.specs.Counting.{all_below}
 use Rattle.bt_history.specs.Setting.{Setting, some_block}
 use Rattle.bt_history.specs.History.{History, counted_call, own_call, stored, requested}

@@ -14,7 +14,8 @@ ghost use Rattle.bt_history.specs.History.{same_begin};
 ghost use Rattle.bt_history.specs.Epochs.{epoch, is_idle, pass_by};
 ghost use Rattle.bt_history.specs.Next.{Exactly, doubles, next_answer, usable};
 ghost use Rattle.bt_history.specs.Peers.{asked, asked_count, depth_of, depth_so_far, due, due_count, late, ListsAsked, outstanding, shows};
-ghost use Rattle.bt_history.specs.Pieces.{asker_count, held, full, content, had, endgame, unasked, wanted, was_endgame, sender, chosen, in_order, level};
+ghost use Rattle.bt_history.specs.Pieces.{asker_count, held, full, content, had, endgame, unasked, wanted, was_endgame, sender, chosen};
+ghost use Rattle.bt_history.specs.Pieces.{in_order, level};
 ghost use Rattle.bt_history.specs.Legal.{IsLegal, place_at};
 
 use crate::call::{Entry, Reply};

@@ -11,7 +11,8 @@ use Rattle.bt_history.specs.declared.call.Reason.{Reason}
 use Rattle.bt_history.specs.declared.call.Reply.{Reply}
 use Rattle.bt_history.specs.declared.call.Reply.TheVariants.{Refused}
 use Rattle.bt_history.specs.declared.event.Action.{Action}
-use Rattle.bt_history.specs.declared.event.Action.TheVariants.{Arrived, Bits, Choke, Depth, Have, Haves, InOrder, Join, Leave, Level, Levels, Next, Release, Settle, Unchoke, Want}
+use Rattle.bt_history.specs.declared.event.Action.TheVariants.{Arrived, Bits, Choke, Depth, Have, Haves, InOrder, Join, Leave, Level, Levels}
+use Rattle.bt_history.specs.declared.event.Action.TheVariants.{Next, Release, Settle, Unchoke, Want}
 use Rattle.bt_history.specs.declared.event.Event.{Event}
 use Rattle.bt_history.specs.History.{History, bytes_for, failed, is_failed, is_had, settles, stored, stores}
 use Rattle.bt_history.specs.Legal.{IsAllowed}

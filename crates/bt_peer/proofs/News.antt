@@ -1,5 +1,6 @@
 -- News: the finished pieces that weren't told, and that those told stay so.
-use Rattle.std.proofs.Common.{◌≡◌, ◌≤◌, ◌<◌, ◌+◌, ◌++◌, ℕ, Bool, true, false, List, [], length, Option, Some, None, refl, sym, ap, subst, ◌∙◌, inl, inr}
+use Rattle.std.proofs.Common.{◌≡◌, ◌≤◌, ◌<◌, ◌+◌, ◌++◌, ℕ, Bool, true, false, List, [], length, Option, Some, None, refl, sym, ap, subst, ◌∙◌}
+use Rattle.std.proofs.Common.{inl, inr}
 use Rattle.std.proofs.Common.{arith, below_more, length-append, length-set}
 use Rattle.std.specs.Prelude.{◌==◌, ◌∷◌, ◌&&◌, if◌then◌else◌, nat_lt, slice_index_or, slice_set}
 use Rattle.std.proofs.lemmas.Bool.{and_from, and_parts}
@@ -95,7 +96,8 @@ told_more told piece count pieces below are =
     } where
       still : (is : Bool) (told : List Bool) (piece other : ℕ) → (other == piece) ≡ is → piece < length told → has_told told other ≡ true →
           has_told (slice_set told piece true) other ≡ true
-      still true told piece other is below was = told_by true piece other told is below ∙ ap (λ (b : Bool). if b then true else has_told told other) is
+      still true told piece other is below was = told_by true piece other told is below
+          ∙ ap (λ (b : Bool). if b then true else has_told told other) is
       still false told piece other is below was =
           told_by false piece other told is below ∙ ap (λ (b : Bool). if b then true else has_told told other) is ∙ was
 

@@ -1,5 +1,6 @@
 -- The desk of a run before its first round.
-use Rattle.std.proofs.Common.{◌≡◌, ◌<◌, ◌≤◌, ℕ, Bool, false, true, not, nat_lt, List, [], ◌∷◌, length, get_or, refl, sym, ap, subst, ◌==◌, ◌∙◌, arith, eq-eqb}
+use Rattle.std.proofs.Common.{◌≡◌, ◌<◌, ◌≤◌, ℕ, Bool, false, true, not, nat_lt, List, [], ◌∷◌, length, get_or, refl, sym, ap, subst, ◌==◌, ◌∙◌}
+use Rattle.std.proofs.Common.{arith, eq-eqb}
 use Rattle.std.proofs.lemmas.Bool.Decides.{nat_tests}
 use Rattle.std.proofs.lemmas.List.{length-replicate}
 use Rattle.bt_meta.specs.Layout.{piece_count}

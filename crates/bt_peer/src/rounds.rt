@@ -1,6 +1,7 @@
 //! Several recorded peers at one desk, in one thread.
 
-ghost use Rattle.std.specs.Prelude.{◌≡◌, ◌≤◌, ◌<◌, ◌+◌, [], ℕ, length, map, Some, true, false, sum_by, All, Bool, List, Option, IfOk, IfSome, OnErr, OnOk, vec_capacity};
+ghost use Rattle.std.specs.Prelude.{◌≡◌, ◌≤◌, ◌<◌, ◌+◌, [], ℕ, length, map, Some, true, false, sum_by, All, Bool, List, Option, IfOk, IfSome};
+ghost use Rattle.std.specs.Prelude.{OnErr, OnOk, vec_capacity};
 ghost use Rattle.std.specs.List.{HoldsAt, list_any};
 ghost use Rattle.bt_history.specs.Peers.{flag};
 ghost use Rattle.bt_history.specs.Pieces.{chosen};

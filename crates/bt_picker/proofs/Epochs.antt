@@ -24,7 +24,8 @@ epoch_more s h e x is =
 -- the parts that a picker tells apart
 pub stirs_parts : (s : Setting) (h : History) (e : Event) → ((counts e.reply && (unsettles e.action || stores_beyond s h e e.action))
     || begins_endgame s h e) ≡ stirs s h e
-stirs_parts s h e = by_cases (counts e.reply) (is_request e.reply) (unsettles e.action) (stores_beyond s h e e.action) (not (endgame s h) && endgame s (e ∷ h))
+stirs_parts s h e = by_cases (counts e.reply) (is_request e.reply) (unsettles e.action) (stores_beyond s h e e.action)
+    (not (endgame s h) && endgame s (e ∷ h))
     (counted e.reply) where
       counted : (r : Reply) → is_request r ≡ true → counts r ≡ true
       counted (Request b) is = refl
@@ -53,7 +54,8 @@ pub epoch_settled : (s : Setting) (h : History) (e : Event) (number : ℕ) (x : 
     → x ≡ not (not (counts e.reply)) → (number + (if x then 1 else 0)) % 2 ^ 64 ≡ epoch s (e ∷ h) % 2 ^ 64
 epoch_settled s h e number x is settles counted =
     ap (λ (n : ℕ). (n + (if x then 1 else 0)) % 2 ^ 64) is
-    ∙ epoch_more s h e x (counted ∙ (not-not (counts e.reply) ∙ sym (ap (λ (y : Bool). counts e.reply && (y || (begins_endgame s h e || stores_beyond s h e e.action))) settles
+    ∙ epoch_more s h e x (counted
+    ∙ (not-not (counts e.reply) ∙ sym (ap (λ (y : Bool). counts e.reply && (y || (begins_endgame s h e || stores_beyond s h e e.action))) settles
     ∙ and_one (counts e.reply))))
   where
     not-not : (y : Bool) → not (not y) ≡ y

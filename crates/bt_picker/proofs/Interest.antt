@@ -1,7 +1,9 @@
 -- Interest by the groups: a wanted piece that isn't had is begun, with all its lacking blocks asked or not, or may begin.
-use Rattle.std.proofs.Common.{◌≡◌, ℕ, ◌+◌, ◌-◌, ◌≤◌, ◌<◌, ◌==◌, Bool, true, false, not, ◌&&◌, ◌||◌, Option, None, Some, List, length, refl, ap, sym, ◌∙◌, subst}
+use Rattle.std.proofs.Common.{◌≡◌, ℕ, ◌+◌, ◌-◌, ◌≤◌, ◌<◌, ◌==◌, Bool, true, false, not, ◌&&◌, ◌||◌, None, Some, List, length, refl, ap}
+use Rattle.std.proofs.Common.{sym, ◌∙◌, subst}
 use Rattle.std.proofs.Common.{arith, ⊎_elim}
-use Rattle.std.proofs.lemmas.Bool.{and_from, and_left, and_parts, and_right, cases_eq, cases_lt, eq-eqb, false≢true, le-ltb, ne_eqb, not-true, or_left}
+use Rattle.std.proofs.lemmas.Bool.{and_from, and_left, and_parts, and_right, cases_eq, cases_lt, eq-eqb, false≢true, le-ltb, ne_eqb, not-true}
+use Rattle.std.proofs.lemmas.Bool.{or_left}
 use Rattle.bt_meta.specs.Layout.{piece_count}
 use Rattle.bt_history.specs.Setting.{Setting, each_block_of, some_block_of}
 use Rattle.bt_history.specs.History.{History}
@@ -18,10 +20,11 @@ use Rattle.bt_picker.proofs.Levelled.{Covers}
 use Rattle.bt_picker.proofs.Rarest.{at_level}
 use Rattle.bt_picker.proofs.Stages.{begun_stage, candidate_at, candidate_parts, listed_place, place_listed, stage_left}
 use Rattle.bt_picker.proofs.Telling.{wanted_chosen}
+use Rattle.bt_tables.specs.declared.piece.TheConstants.{SPAN}
 use Rattle.bt_picker.proofs.Scans.{lacks_found, lacks_none}
 
 -- a shown piece of a stage behind the resting ones interests
-pub listed_interests : (s : Setting) (h : History) (q n k p : ℕ) (pieces : List ℕ) → IsLegal s h → IsLevel n → 0 < k → k < 1029
+pub listed_interests : (s : Setting) (h : History) (q n k p : ℕ) (pieces : List ℕ) → IsLegal s h → IsLevel n → 0 < k → k < SPAN
     → ListsGroup (groups_of s h) (first_group n + k) pieces → FindsListed (shows h q) pieces (length pieces) (Some p)
     → interesting s h q ≡ true
 listed_interests s h q n k p pieces legal is some under lists found =

@@ -1,8 +1,10 @@
 -- Floors by the history: no candidate ranks before; and what a reply tells of it.
-use Rattle.std.proofs.Common.{◌==◌, ◌≡◌, ◌⊎◌, ℕ, ◌+◌, ◌-◌, ◌*◌, ◌<◌, ◌≤◌, Bool, true, false, not, ◌&&◌, ◌||◌, refl, ap, sym, ◌∙◌, subst, inl, inr, ⊎_elim, arith}
+use Rattle.std.proofs.Common.{◌==◌, ◌≡◌, ◌⊎◌, ℕ, ◌-◌, ◌*◌, ◌<◌, ◌≤◌, Bool, true, false, not, ◌&&◌, ◌||◌, refl, ap, sym, ◌∙◌, subst, inl}
+use Rattle.std.proofs.Common.{inr, ⊎_elim, arith}
 use Rattle.std.proofs.Common.{List, length, set}
 use Rattle.std.specs.Prelude.{nat_le, nat_lt, slice_index_or, if◌then◌else◌}
-use Rattle.std.proofs.lemmas.Bool.{and_from, and_left, and_parts, cases_eq, eq-eqb, false_from_ne_true, false≢true, leb-true, le-ltb, or_left, or_right}
+use Rattle.std.proofs.lemmas.Bool.{and_from, and_left, and_parts, cases_eq, eq-eqb, false_from_ne_true, false≢true, leb-true, le-ltb, or_left}
+use Rattle.std.proofs.lemmas.Bool.{or_right}
 use Rattle.std.proofs.lemmas.List.{get_or-set_other, get_or-set_same}
 use mathlib.Core.Logic.{dite}
 use native.Mathlib.Decide.{ℕ_discrete}
@@ -145,7 +147,8 @@ begins_first s h w b legal layout few first settled r lr fits =
     ⊎_elim
     (λ (same : level h r ≡ level h b.piece).
     let at_it = and_from (is_candidate s h w r) (level h r == level h b.piece) fits (eq-eqb (level h r) (level h b.piece) same) in
-    let less = leb-true (availability s h b.piece) (availability s h r) (implied (is_candidate s h w r && (level h r == level h b.piece)) _ least at_it) in
+    let less = leb-true (availability s h b.piece) (availability s h r)
+    (implied (is_candidate s h w r && (level h r == level h b.piece)) _ least at_it) in
     let slot : (7 - level h r) * 65536 ≡ (7 - level h b.piece) * 65536 = ap (λ (m : ℕ). (7 - m) * 65536) same in
     omega (arith, slot, less))
     (λ (apart : level h r ≡ level h b.piece → ⊥). omega (arith, low, apart, most, bound, few))

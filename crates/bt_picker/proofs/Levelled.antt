@@ -1,16 +1,18 @@
 -- What may be asked of a peer of the pieces of one level, where no piece of a higher one has anything to ask.
-use Rattle.std.proofs.Common.{◌≡◌, ◌⊎◌, ℕ, zero, suc, ◌+◌, ◌-◌, ◌<◌, ◌≤◌, ◌==◌, Bool, true, false, not, ◌&&◌, ◌||◌, Option, None, Some, List, length, refl, ap, sym}
+use Rattle.std.proofs.Common.{◌≡◌, ◌⊎◌, ℕ, zero, suc, ◌+◌, ◌-◌, ◌<◌, ◌≤◌, ◌==◌, Bool, true, false, not, ◌&&◌, ◌||◌, Option, None, Some, List}
+use Rattle.std.proofs.Common.{length, refl, ap, sym}
 use Rattle.std.proofs.Common.{◌∙◌, subst, arith, ⊎_elim, inl, inr, min}
-use Rattle.std.specs.Prelude.{IfSome, IfNone, nat_le, nat_lt}
+use Rattle.std.specs.Prelude.{IfSome, nat_le, nat_lt}
 use Rattle.std.proofs.Math.Nat.{min-eq_left, min-eq_right}
-use Rattle.std.proofs.lemmas.Bool.{and_from, and_parts, cases_Bool, cases_lt, eq-eqb, eqb-true, false≢true, false_from_ne_true, le-leb, not-true, or_left, or_right}
+use Rattle.std.proofs.lemmas.Bool.{and_from, and_parts, cases_Bool, cases_lt, eq-eqb, eqb-true, false≢true, false_from_ne_true, le-leb, not-true}
+use Rattle.std.proofs.lemmas.Bool.{or_left, or_right}
 use Rattle.bt_meta.specs.declared.block.Block.{Block}
 use Rattle.bt_meta.specs.Layout.{IsLayout, piece_count, block_count, block}
-use Rattle.bt_history.specs.Setting.{Setting, each_block, each_block_of, is_block, some_block, some_block_of}
+use Rattle.bt_history.specs.Setting.{Setting, each_block_of, is_block, some_block, some_block_of}
 use Rattle.bt_history.specs.History.{History}
 use Rattle.bt_history.specs.Legal.{IsLegal}
 use Rattle.bt_history.specs.Peers.{shows}
-use Rattle.bt_history.specs.Pieces.{asked_of_some, availability, begun, chosen, had, had_count, held, held_or_asked, level, unasked, unbegun, wanted}
+use Rattle.bt_history.specs.Pieces.{asked_of_some, begun, chosen, had, had_count, held, held_or_asked, level, unasked, unbegun, wanted}
 use Rattle.bt_history.specs.Next.{continues, is_candidate, is_rarest, rises, starts, tops, usable}
 use Rattle.bt_history.proofs.Below.{all_fails, all_found, any_fails, any_found, any_none, any_witness}
 use Rattle.bt_history.proofs.HeldLaws.{had_full}
@@ -18,12 +20,14 @@ use Rattle.bt_history.proofs.Levels.{top_above}
 use Rattle.bt_history.proofs.LineLaws.{block_is_block, some_found}
 use Rattle.bt_order.specs.Orders.{at}
 use Rattle.bt_tables.specs.Standings.{ListsOpen, first_group, group_of_row, stage_of_row}
-use Rattle.bt_picker.specs.Search.{Finds, FindsLeast, FindsListed, FindsOf, IsLevel, NoneAbove, NoneAt, goes_on, is_candidate_at, lesser_of, rank_of, shows_at}
+use Rattle.bt_picker.specs.Search.{Finds, FindsLeast, FindsListed, FindsOf, IsLevel, NoneAbove, NoneAt, goes_on, is_candidate_at, lesser_of}
+use Rattle.bt_picker.specs.Search.{rank_of, shows_at}
 use Rattle.bt_picker.specs.Tables.{groups_of, piece_of}
 use Rattle.bt_picker.proofs.Rarest.{at_level}
 use Rattle.bt_picker.proofs.Scans.{candidate_usable, first_block, least_is_rarest, none_in_pieces}
 use Rattle.bt_picker.proofs.Stages.{begun_stage, candidate_at, candidate_parts, candidate_stage, level_chosen, listed_open, open_listed, open_within}
 use Rattle.bt_picker.proofs.Stages.{stage_few, stage_open}
+use Rattle.bt_tables.specs.declared.piece.TheConstants.{SPAN}
 use Rattle.bt_picker.proofs.Telling.{wanted_chosen}
 
 -- a piece of this level that has a block to ask of the peer: it shows the piece, which is wanted, and of which not each block is touched
@@ -96,7 +100,7 @@ none_at s h q n legal no_more no_start p lp same = false_from_ne_true (some_bloc
 
 -- where no piece is in the groups of the open and the unbegun ones of a level
 pub no_group : (s : Setting) (h : History) (q n base : ℕ) → IsLegal s h → base ≡ first_group n
-    → ((p : ℕ) → p < piece_count s.torrent → base + 2 ≤ group_of_row (piece_of s h p) → base + 1029 ≤ group_of_row (piece_of s h p))
+    → ((p : ℕ) → p < piece_count s.torrent → base + 2 ≤ group_of_row (piece_of s h p) → base + SPAN ≤ group_of_row (piece_of s h p))
     → NoneAt s h q n
 no_group s h q n base legal is empty p lp same = false_from_ne_true (some_block_of s.torrent p (usable s h q)) (λ some.
     let few = stage_few s h p in
@@ -342,7 +346,8 @@ module _ (s : Setting) (h : History) (q n : ℕ) (pieces : List ℕ) (legal : Is
           omega (arith, low, here.1)
 
   -- the lesser of both gives
-  pub lesser_gives : (shown_one fresh : Option ℕ) (m : ℕ) → lesser_of shown_one fresh ≡ Some m → FindsListed (shows_at h q n) pieces (length pieces) shown_one
+  pub lesser_gives : (shown_one fresh : Option ℕ) (m : ℕ) → lesser_of shown_one fresh ≡ Some m →
+      FindsListed (shows_at h q n) pieces (length pieces) shown_one
       → FindsLeast (is_candidate_at s h q n) (λ r. r) 0 (piece_count s.torrent) fresh → IfSome fresh (λ p. p < piece_count s.torrent)
       → Gives s h q n m
   lesser_gives shown_one fresh m lesser opens begins within = by_both shown_one fresh lesser opens begins within where

@@ -9,7 +9,8 @@ use Rattle.bt_meta.specs.declared.block.Block.{Block}
 use Rattle.bt_meta.specs.Layout.{IsLayout, Layout, block, block_count, block_size, piece_count, piece_len}
 use Rattle.bt_history.specs.declared.call.Reply.{Reply}
 use Rattle.bt_history.specs.declared.event.Action.{Action}
-use Rattle.bt_history.specs.declared.event.Action.TheVariants.{Join, Bits, Have, Choke, Unchoke, Next, Arrived, Settle, Leave, Want, Haves, Depth, Release}
+use Rattle.bt_history.specs.declared.event.Action.TheVariants.{Join, Bits, Have, Choke, Unchoke, Next, Arrived, Settle, Leave, Want, Haves}
+use Rattle.bt_history.specs.declared.event.Action.TheVariants.{Depth, Release}
 use Rattle.bt_history.specs.declared.event.Action.TheVariants.{Level, Levels, InOrder}
 use Rattle.bt_history.specs.declared.event.Event.{Event}
 use Rattle.bt_history.specs.Setting.{Setting}
@@ -110,8 +111,10 @@ slot_over w p k q j lk lt =
 -- two blocks have one slot only where they are one
 slot_same : (w p k q j : ℕ) → k < w → j < w → slot w p k ≡ slot w q j → (p ≡ q) × (k ≡ j)
 slot_same w p k q j lk lj is =
-    let least : p ≤ q = ⊎_elim (λ (lt : q < p). absurd (let over = slot_over w q j p k lj lt in omega (arith, over, is))) (λ (le : p ≤ q). le) (cases_lt q p) in
-    let most : q ≤ p = ⊎_elim (λ (lt : p < q). absurd (let over = slot_over w p k q j lk lt in omega (arith, over, is))) (λ (le : q ≤ p). le) (cases_lt p q) in
+    let least : p ≤ q = ⊎_elim (λ (lt : q < p). absurd (let over = slot_over w q j p k lj lt in omega (arith, over, is))) (λ (le : p ≤ q). le)
+    (cases_lt q p) in
+    let most : q ≤ p = ⊎_elim (λ (lt : p < q). absurd (let over = slot_over w p k q j lk lt in omega (arith, over, is))) (λ (le : q ≤ p). le)
+    (cases_lt p q) in
     let same : p ≡ q = omega (arith, least, most) in
     let there = ap (λ (n : ℕ). n * w) same in
     (same, omega (arith, is, there))
@@ -166,7 +169,8 @@ module _ (s : Setting) (h : History) (x : PlacesState) (are : ArePlaces s h x) w
   unfolding stored_place
   place_stored w p begin bytes reply b is =
       let call = Arrived p begin bytes in
-      ap (λ (y : Bool). if y && settles call b.piece then None else if is_some (if stores reply then bytes_for b call else None) then Some (length h) else
+      ap (λ (y : Bool). if y && settles call b.piece then None else if is_some (if stores reply then bytes_for b call else None) then
+      Some (length h) else
       stored_place h b) (store_unfailed reply is).0
       ∙ (ap (λ (y : Bool). if is_some (if y then bytes_for b call else None) then Some (length h) else stored_place h b) is
       ∙ either ((p == b.piece) && (begin == b.begin))) where

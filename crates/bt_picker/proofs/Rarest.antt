@@ -1,7 +1,8 @@
 -- The search for a piece to begin, among the candidates of a level.
-use Rattle.std.proofs.Common.{◌≡◌, ◌⊎◌, ℕ, ◌+◌, ◌-◌, ◌*◌, ◌<◌, ◌≤◌, ◌==◌, Bool, true, false, not, ◌&&◌, ◌||◌, Option, None, Some, List, length, refl, ap, sym}
+use Rattle.std.proofs.Common.{◌≡◌, ◌⊎◌, ℕ, ◌+◌, ◌-◌, ◌*◌, ◌<◌, ◌≤◌, ◌==◌, true, false, ◌&&◌, Option, None, Some, List, length}
+use Rattle.std.proofs.Common.{ap, sym}
 use Rattle.std.proofs.Common.{◌∙◌, subst, arith, ⊎_elim}
-use Rattle.std.specs.Prelude.{IfSome, min, nat_lt}
+use Rattle.std.specs.Prelude.{IfSome, min}
 use Rattle.std.proofs.Math.Nat.{min-eq_left, min-eq_right}
 use Rattle.std.proofs.lemmas.Bool.{and_parts, cases_eq, cases_lt, eqb-true, false≢true, false_from_ne_true}
 use Rattle.bt_meta.specs.Layout.{piece_count}
@@ -16,18 +17,19 @@ use Rattle.bt_order.specs.Orders.{at, ListsGroup}
 use Rattle.bt_tables.specs.Standings.{first_group, stage_of_row}
 use Rattle.bt_picker.specs.Search.{FindsLeast, FindsListed, FindsRarest, IsLevel, NoneBefore, NoneRarer, is_candidate_at, rank_of}
 use Rattle.bt_picker.specs.Tables.{groups_of, piece_of}
-use Rattle.bt_picker.proofs.Stages.{candidate_at, candidate_stage, group_at, listed_place, place_listed, placed, stage_candidate}
+use Rattle.bt_tables.specs.declared.piece.TheConstants.{CROWD, UNBEGUN}
+use Rattle.bt_picker.proofs.Stages.{candidate_at, candidate_stage, listed_place, place_listed, stage_candidate}
 
 -- a level's candidate is a candidate of that level
 pub at_level : (s : Setting) (h : History) (q n p : ℕ) → is_candidate_at s h q n p ≡ true → (is_candidate s h q p ≡ true) × (level h p ≡ n)
 at_level s h q n p is = (let parts = and_parts (is_candidate s h q p) (level h p == n) is in (parts.0, eqb-true (level h p) n parts.1))
 
 -- below the crowd the stage of an unbegun piece tells its availability
-pub uncrowded : (v n : ℕ) → n < 1025 → min v 1025 ≡ n → v ≡ n
+pub uncrowded : (v n : ℕ) → n < CROWD → min v CROWD ≡ n → v ≡ n
 uncrowded v n lt is = ⊎_elim
-    (λ (below : v < 1025). (let same : min v 1025 ≡ v = min-eq_left (omega (arith, below)) in omega (arith, same, is)))
-    (λ (past : 1025 ≤ v). (let same : min v 1025 ≡ 1025 = min-eq_right past in absurd (omega (arith, same, is, lt))))
-    (cases_lt v 1025)
+    (λ (below : v < CROWD). (let same : min v CROWD ≡ v = min-eq_left (omega (arith, below)) in omega (arith, same, is)))
+    (λ (past : CROWD ≤ v). (let same : min v CROWD ≡ CROWD = min-eq_right past in absurd (omega (arith, same, is, lt))))
+    (cases_lt v CROWD)
 
 -- what ranks before no candidate tells how many peers at least show one of a level
 pub floor_at : (s : Setting) (h : History) (q n floor : ℕ) → NoneBefore s h q floor → NoneRarer s h q n (floor - ((7 - n) * 65536 + 0))
@@ -43,15 +45,15 @@ pub above_all : (s : Setting) (h : History) (q n k : ℕ) → NoneRarer s h q n 
 above_all s h q n k none many p lp = false_from_ne_true (is_candidate_at s h q n p)
     (λ fits. (let low = none p lp fits in let most = count_most s.workers (λ r. joined h r && shows h r p) in omega (arith, low, most, many)))
 
-module _ (s : Setting) (h : History) (q n k : ℕ) (pieces : List ℕ) (legal : IsLegal s h) (is : IsLevel n) (under : k < 1025)
-    (lists : ListsGroup (groups_of s h) (first_group n + (3 + k)) pieces) (so_far : NoneRarer s h q n k) where
+module _ (s : Setting) (h : History) (q n k : ℕ) (pieces : List ℕ) (legal : IsLegal s h) (is : IsLevel n) (under : k < CROWD)
+    (lists : ListsGroup (groups_of s h) (first_group n + (UNBEGUN + k)) pieces) (so_far : NoneRarer s h q n k) where
   pub rarest_found : (p : ℕ) → FindsListed (shows h q) pieces (length pieces) (Some p)
       → (FindsLeast (is_candidate_at s h q n) (rank_of s h true) 0 (piece_count s.torrent) (Some p)) × (p < piece_count s.torrent)
   rarest_found p listed =
       let i = listed.1.0 in
-      let place = listed_place s h n (3 + k) pieces legal is (omega arith) (omega (arith, under)) lists i listed.1.1 in
+      let place = listed_place s h n (UNBEGUN + k) pieces legal is (omega arith) (omega (arith, under)) lists i listed.1.1 in
       let lp : p < piece_count s.torrent = subst (λ (m : ℕ). m < piece_count s.torrent) listed.1.2 place.0 in
-      let stage = subst (λ (m : ℕ). stage_of_row (piece_of s h m) ≡ 3 + k) listed.1.2 place.2 in
+      let stage = subst (λ (m : ℕ). stage_of_row (piece_of s h m) ≡ UNBEGUN + k) listed.1.2 place.2 in
       let known = stage_candidate s h q p k lp listed.0 stage in
       let shown = uncrowded (availability s h p) k under known.1 in (
         (
@@ -66,30 +68,30 @@ module _ (s : Setting) (h : History) (q n k : ℕ) (pieces : List ℕ) (legal : 
       (λ (same : availability s h p ≡ k).
       let parts = at_level s h q n p fits in
       let known = candidate_stage s h q p parts.0 in
-      let exact : min (availability s h p) 1025 ≡ k = min-eq_left (omega (arith, same, under)) ∙ same in
-      let listed = place_listed s h n (3 + k) p pieces lists lp parts.1 (known.1 ∙ ap (λ (m : ℕ). 3 + m) exact) in
+      let exact : min (availability s h p) CROWD ≡ k = min-eq_left (omega (arith, same, under)) ∙ same in
+      let listed = place_listed s h n (UNBEGUN + k) p pieces lists lp parts.1 (known.1 ∙ ap (λ (m : ℕ). UNBEGUN + m) exact) in
       absurd (false≢true (sym (none listed.0 listed.1) ∙ (ap (shows h q) listed.2 ∙ known.0))))
       (λ (apart : availability s h p ≡ k → ⊥). (let low = so_far p lp fits in omega (arith, low, apart)))
       (cases_eq (availability s h p) k)
 
 -- ---- the crowd: the unbegun pieces that 1,025 peers or more show
 
-module _ (s : Setting) (h : History) (q n k : ℕ) (pieces : List ℕ) (legal : IsLegal s h) (is : IsLevel n) (all : (s.workers < k) ⊎ (1025 ≤ k))
-    (lists : ListsGroup (groups_of s h) (first_group n + (3 + 1025)) pieces) (so_far : NoneRarer s h q n k) where
+module _ (s : Setting) (h : History) (q n k : ℕ) (pieces : List ℕ) (legal : IsLegal s h) (is : IsLevel n) (all : (s.workers < k) ⊎ (CROWD ≤ k))
+    (lists : ListsGroup (groups_of s h) (first_group n + (UNBEGUN + CROWD)) pieces) (so_far : NoneRarer s h q n k) where
   -- a candidate that is left is in the crowd
   crowded : (p : ℕ) → p < piece_count s.torrent → is_candidate_at s h q n p ≡ true →
       (shows h q p ≡ true) × ((i : ℕ) × (i < length pieces) × (at pieces i ≡ p))
   crowded p lp fits =
       let low = so_far p lp fits in
       let most = count_most s.workers (λ r. joined h r && shows h r p) in
-      let many : 1025 ≤ availability s h p = ⊎_elim
+      let many : CROWD ≤ availability s h p = ⊎_elim
       (λ (over : s.workers < k). absurd (omega (arith, most, low, over)))
-      (λ (past : 1025 ≤ k). (omega (arith, low, past)))
+      (λ (past : CROWD ≤ k). (omega (arith, low, past)))
       all in
       let parts = at_level s h q n p fits in
       let known = candidate_stage s h q p parts.0 in
-      let capped : min (availability s h p) 1025 ≡ 1025 = min-eq_right many in
-      (known.0, place_listed s h n (3 + 1025) p pieces lists lp parts.1 (known.1 ∙ ap (λ (m : ℕ). 3 + m) capped))
+      let capped : min (availability s h p) CROWD ≡ CROWD = min-eq_right many in
+      (known.0, place_listed s h n (UNBEGUN + CROWD) p pieces lists lp parts.1 (known.1 ∙ ap (λ (m : ℕ). UNBEGUN + m) capped))
 
   pub crowd_found : (found : Option ℕ) → FindsRarest (shows h q) (availability s h) pieces (length pieces) found
       → (FindsLeast (is_candidate_at s h q n) (rank_of s h true) 0 (piece_count s.torrent) found) × IfSome found (λ p. p < piece_count s.torrent)
@@ -101,10 +103,10 @@ module _ (s : Setting) (h : History) (q n k : ℕ) (pieces : List ℕ) (legal : 
   )
   crowd_found (Some p) some =
       let i = some.1.0 in
-      let place = listed_place s h n (3 + 1025) pieces legal is (omega arith) (omega arith) lists i some.1.1 in
+      let place = listed_place s h n (UNBEGUN + CROWD) pieces legal is (omega arith) (omega arith) lists i some.1.1 in
       let lp : p < piece_count s.torrent = subst (λ (m : ℕ). m < piece_count s.torrent) some.1.2 place.0 in
-      let stage = subst (λ (m : ℕ). stage_of_row (piece_of s h m) ≡ 3 + 1025) some.1.2 place.2 in
-      let known = stage_candidate s h q p 1025 lp some.0 stage in (
+      let stage = subst (λ (m : ℕ). stage_of_row (piece_of s h m) ≡ UNBEGUN + CROWD) some.1.2 place.2 in
+      let known = stage_candidate s h q p CROWD lp some.0 stage in (
         (
           candidate_at s h q n p known.0 (subst (λ (m : ℕ). level h m ≡ n) some.1.2 place.1),
           λ r low high fits.

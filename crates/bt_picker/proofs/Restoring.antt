@@ -1,5 +1,6 @@
 -- A piece that a worker's peer brings whole waits for its check, with these bytes.
-use Rattle.std.proofs.Common.{◌≡◌, ◌≢◌, ℕ, zero, suc, ◌+◌, ◌-◌, ◌*◌, ◌/◌, ◌<◌, ◌≤◌, ◌==◌, Bool, true, false, not, ◌&&◌, ◌||◌, List, [], ◌∷◌, ◌++◌, Option}
+use Rattle.std.proofs.Common.{◌≡◌, ◌≢◌, ℕ, zero, suc, ◌+◌, ◌-◌, ◌*◌, ◌/◌, ◌<◌, ◌≤◌, ◌==◌, Bool, true, false, not, ◌&&◌, ◌||◌, List, [], ◌∷◌}
+use Rattle.std.proofs.Common.{◌++◌, Option}
 use Rattle.std.proofs.Common.{None, Some, length, take, drop, refl, ap, sym, ◌∙◌, arith, subst, ⊎_elim}
 use Rattle.std.specs.Prelude.{is_some, if◌then◌else◌, min, nat_lt, unwrap_or}
 use Rattle.std.proofs.lemmas.Bool.{and_parts, and_right, or_parts, not-true, cases_eq, eq-eqb, ne_eqb, lt-ltb}
@@ -115,7 +116,8 @@ brought_none d w p bytes peer fresh =
     }
 
 -- the length of a part is that of its block
-part_len : (s : Setting) (p k : ℕ) (bytes : List ℕ) → length bytes ≡ piece_len s.torrent p → (block s.torrent p k).len ≡ length (part bytes (block_size * k))
+part_len : (s : Setting) (p k : ℕ) (bytes : List ℕ) → length bytes ≡ piece_len s.torrent p →
+    (block s.torrent p k).len ≡ length (part bytes (block_size * k))
 part_len s p k bytes len =
     sym (length-take block_size (drop (block_size * k) bytes)
     ∙ ap (min block_size) (length-drop (block_size * k) bytes ∙ ap (λ (n : ℕ). n - block_size * k) len))
@@ -126,7 +128,8 @@ there_now : (s : Setting) (h : History) (w p n : ℕ) (bytes : List ℕ) (reply 
     → kept (arriving w p (block_size * n) (part bytes (block_size * n)) reply ∷ h) (block s.torrent p k) ≡ Some (part bytes (block_size * k))
 there_now s h w p n bytes reply storing there k lt = ⊎_elim
     (λ (here : k ≡ n).
-    subst (λ (j : ℕ). kept (arriving w p (block_size * n) (part bytes (block_size * n)) reply ∷ h) (block s.torrent p j) ≡ Some (part bytes (block_size * j)))
+    subst (λ (j : ℕ). kept (arriving w p (block_size * n) (part bytes (block_size * n)) reply ∷ h) (block s.torrent p j) ≡
+    Some (part bytes (block_size * j)))
     (sym here) (kept_here s h w p n (part bytes (block_size * n)) reply storing))
     (λ (apart : k ≡ n → ⊥).
     kept_else s h w p n (part bytes (block_size * n)) reply storing k apart ∙ there k (omega (arith, lt, apart)))

@@ -1,14 +1,14 @@
 -- The stage of a piece and its group, by the history: each level has groups of its own, one for each stage.
-use Rattle.std.proofs.Common.{◌≡◌, ◌⊎◌, ℕ, zero, suc, ◌+◌, ◌-◌, ◌*◌, ◌<◌, ◌≤◌, ◌==◌, Bool, true, false, not, ◌&&◌, ◌||◌, List, length, refl, ap, sym, ◌∙◌}
+use Rattle.std.proofs.Common.{◌≡◌, ◌⊎◌, ℕ, ◌+◌, ◌-◌, ◌*◌, ◌<◌, ◌≤◌, ◌==◌, Bool, true, false, not, ◌&&◌, ◌||◌, List, length, refl, ap}
+use Rattle.std.proofs.Common.{sym, ◌∙◌}
 use Rattle.std.proofs.Common.{subst, arith, ⊎_elim, inl, inr}
 use Rattle.std.specs.Prelude.{nat_lt, min, if◌then◌else◌}
 use Rattle.std.proofs.lemmas.Bool.{and_from, and_parts, cases_eq, cases_lt, eq-eqb, lt-ltb, ltb-true}
-use Rattle.bt_meta.specs.Layout.{IsLayout, piece_count}
-use Rattle.bt_history.specs.Counting.{table}
+use Rattle.bt_meta.specs.Layout.{piece_count}
 use Rattle.bt_history.specs.Setting.{Setting, some_block_of, each_block_of}
 use Rattle.bt_history.specs.History.{History}
 use Rattle.bt_history.specs.Peers.{shows}
-use Rattle.bt_history.specs.Pieces.{had, held_or_asked, availability, chosen, level, unbegun, wanted}
+use Rattle.bt_history.specs.Pieces.{had, held_or_asked, availability, chosen, level, wanted}
 use Rattle.bt_history.specs.Legal.{IsLegal}
 use Rattle.bt_history.specs.Next.{is_candidate}
 use Rattle.bt_history.proofs.Levels.{level_bounded}
@@ -18,15 +18,17 @@ use Rattle.bt_tables.proofs.Apart.{level_cases, slot_above, slot_below, slot_few
 use Rattle.bt_tables.proofs.Tabled.{get_or_table, length_table}
 use Rattle.bt_picker.specs.Search.{IsLevel, is_candidate_at}
 use Rattle.bt_picker.specs.Tables.{groups_of, piece_of}
+use Rattle.bt_tables.specs.declared.piece.TheConstants.{ASKED_OUT, CROWD, GROUPS, OPEN, RESTING, SPAN, UNBEGUN}
 use Rattle.bt_picker.proofs.Telling.{stage_is, wanted_chosen}
 
 -- ---- what a stage tells of a piece
 
 -- the stage by its four tests
 abbrev pub stage_by : Bool → Bool → Bool → Bool → ℕ → ℕ
-stage_by had chosen touched full n = if had || not chosen then 0 else if not touched then 3 + min n 1025 else if full then 1 else 2
+stage_by had chosen touched full n =
+    if had || not chosen then RESTING else if not touched then UNBEGUN + min n CROWD else if full then ASKED_OUT else OPEN
 
-stage_low : (d c t u : Bool) (n : ℕ) → stage_by d c t u n < 1029
+stage_low : (d c t u : Bool) (n : ℕ) → stage_by d c t u n < SPAN
 stage_low true c t u n = omega arith
 stage_low false false t u n = omega arith
 stage_low false true false u n = omega arith
@@ -46,7 +48,7 @@ open_by false true false u n is = absurd (omega (arith, is))
 open_by false true true true n is = absurd (omega (arith, is))
 open_by false true true false n is = (refl, refl, refl, refl)
 
-unbegun_by : (d c t u : Bool) (v n : ℕ) → stage_by d c t u v ≡ 3 + n → (d ≡ false) × (c ≡ true) × (t ≡ false) × (min v 1025 ≡ n)
+unbegun_by : (d c t u : Bool) (v n : ℕ) → stage_by d c t u v ≡ UNBEGUN + n → (d ≡ false) × (c ≡ true) × (t ≡ false) × (min v CROWD ≡ n)
 unbegun_by true c t u v n is = absurd (omega (arith, is))
 unbegun_by false false t u v n is = absurd (omega (arith, is))
 unbegun_by false true false u v n is = (refl, refl, refl, omega (arith, is))
@@ -60,8 +62,8 @@ module _ (s : Setting) (h : History) (p : ℕ) where
   abbrev full : Bool
   full = each_block_of s.torrent p (held_or_asked s h)
 
-  pub stage_few : stage_of_row (piece_of s h p) < 1029
-  stage_few = subst (λ (n : ℕ). n < 1029) (sym (stage_is s h p)) (stage_low (had h p) (chosen h p) touched full (availability s h p))
+  pub stage_few : stage_of_row (piece_of s h p) < SPAN
+  stage_few = subst (λ (n : ℕ). n < SPAN) (sym (stage_is s h p)) (stage_low (had h p) (chosen h p) touched full (availability s h p))
 
   -- a piece with something left to get is wanted
   pub stage_left : 0 < stage_of_row (piece_of s h p) → (had h p ≡ false) × (chosen h p ≡ true)
@@ -70,8 +72,8 @@ module _ (s : Setting) (h : History) (p : ℕ) where
   pub stage_open : stage_of_row (piece_of s h p) ≡ 2 → (had h p ≡ false) × (chosen h p ≡ true) × (touched ≡ true) × (full ≡ false)
   stage_open is = open_by (had h p) (chosen h p) touched full (availability s h p) (sym (stage_is s h p) ∙ is)
 
-  pub stage_unbegun : (n : ℕ) → stage_of_row (piece_of s h p) ≡ 3 + n
-      → (had h p ≡ false) × (chosen h p ≡ true) × (touched ≡ false) × (min (availability s h p) 1025 ≡ n)
+  pub stage_unbegun : (n : ℕ) → stage_of_row (piece_of s h p) ≡ UNBEGUN + n
+      → (had h p ≡ false) × (chosen h p ≡ true) × (touched ≡ false) × (min (availability s h p) CROWD ≡ n)
   stage_unbegun n is = unbegun_by (had h p) (chosen h p) touched full (availability s h p) n (sym (stage_is s h p) ∙ is)
 
   -- and the stage where the tests are known
@@ -91,7 +93,8 @@ slot_same l n own is same = by_own (level_cases l) where
   by_other m here usual above below = ⊎_elim
       (λ (either : (n ≡ 0) ⊎ (n ≡ 4)). ⊎_elim
       (λ (none : n ≡ 0). absurd (omega (arith, none, is.0)))
-      (λ (four : n ≡ 4). (let zero_is = slot_usual n (inr four) in let mine = usual (omega (arith, here, same, zero_is)) in omega (arith, mine, four)))
+      (λ (four : n ≡ 4). (let zero_is = slot_usual n (inr four) in let mine = usual (omega (arith, here, same, zero_is)) in
+      omega (arith, mine, four)))
       either)
       (λ rest. ⊎_elim
       (λ (more : 4 < n). above more (omega (arith, here, same, slot_above n more)))
@@ -109,8 +112,8 @@ slot_same l n own is same = by_own (level_cases l) where
       (λ high there. absurd (omega (arith, there, high, less.1))) (λ low there. omega (arith, there, low, less.1))
 
 -- the level and the stage of a group can be told from its number
-same_place : (l n st k : ℕ) → l ≤ 7 → IsLevel n → st < 1029 → (l ≡ 0 → st ≡ 0) → 0 < k → k < 1029
-    → slot_of l * 1029 + st ≡ slot_of n * 1029 + k → (l ≡ n) × (st ≡ k)
+same_place : (l n st k : ℕ) → l ≤ 7 → IsLevel n → st < SPAN → (l ≡ 0 → st ≡ 0) → 0 < k → k < SPAN
+    → slot_of l * SPAN + st ≡ slot_of n * SPAN + k → (l ≡ n) × (st ≡ k)
 same_place l n st k few is low none some under same =
     let slot : slot_of l ≡ slot_of n = omega (arith, same, low, under) in
     let stage : st ≡ k = omega (arith, same, slot) in
@@ -131,7 +134,7 @@ module _ (s : Setting) (h : History) (p : ℕ) (legal : IsLegal s h) where
       rests false = refl
 
   -- a piece in a group of a level, but for the resting ones, has that level and that stage
-  pub placed : (n k : ℕ) → IsLevel n → 0 < k → k < 1029 → group_of_row (piece_of s h p) ≡ first_group n + k
+  pub placed : (n k : ℕ) → IsLevel n → 0 < k → k < SPAN → group_of_row (piece_of s h p) ≡ first_group n + k
       → (level h p ≡ n) × (stage_of_row (piece_of s h p) ≡ k)
   placed n k is some under same =
       same_place (level h p) n (stage_of_row (piece_of s h p)) k (level_bounded s h p legal) is (stage_few s h p) unchosen_rests some under same
@@ -148,7 +151,7 @@ pub level_chosen : (h : History) (p n : ℕ) → IsLevel n → level h p ≡ n �
 level_chosen h p n is same = lt-ltb 0 (level h p) (omega (arith, is.0, same))
 
 -- where a piece is in no group of the higher levels it has none of them
-pub not_above : (s : Setting) (h : History) (p : ℕ) → IsLegal s h → (1029 ≤ group_of_row (piece_of s h p) → 4116 ≤ group_of_row (piece_of s h p))
+pub not_above : (s : Setting) (h : History) (p : ℕ) → IsLegal s h → (SPAN ≤ group_of_row (piece_of s h p) → 4 * SPAN ≤ group_of_row (piece_of s h p))
     → level h p ≤ 4
 not_above s h p legal behind = ⊎_elim
     (λ (more : 4 < level h p).
@@ -161,14 +164,14 @@ not_above s h p legal behind = ⊎_elim
     (cases_lt 4 (level h p))
 
 -- and where it is in no group of the lower levels, none of those
-pub not_below : (s : Setting) (h : History) (p : ℕ) → group_of_row (piece_of s h p) < 4116 → 0 < level h p → 4 ≤ level h p
+pub not_below : (s : Setting) (h : History) (p : ℕ) → group_of_row (piece_of s h p) < 4 * SPAN → 0 < level h p → 4 ≤ level h p
 not_below s h p before some = ⊎_elim
     (λ (less : level h p < 4). (let slot = slot_below (level h p) some less in absurd (omega (arith, slot, before, less))))
     (λ (high : 4 ≤ level h p). high)
     (cases_lt (level h p) 4)
 
 -- a group is one of those there are
-pub group_few : (s : Setting) (h : History) (p : ℕ) → group_of_row (piece_of s h p) < 7203
+pub group_few : (s : Setting) (h : History) (p : ℕ) → group_of_row (piece_of s h p) < GROUPS
 group_few s h p = omega (arith, slot_few (level h p), stage_few s h p)
 
 -- ---- the lists of groups
@@ -189,7 +192,7 @@ pub listed_from : (groups pieces : List ℕ) (base n k : ℕ) → base ≡ first
 listed_from groups pieces base n k is = subst (λ (g : ℕ). ListsGroup groups (g + k) pieces) is
 
 -- a listed piece has the level and the stage of the list, and each such piece is listed
-pub listed_place : (s : Setting) (h : History) (n k : ℕ) (pieces : List ℕ) → IsLegal s h → IsLevel n → 0 < k → k < 1029
+pub listed_place : (s : Setting) (h : History) (n k : ℕ) (pieces : List ℕ) → IsLegal s h → IsLevel n → 0 < k → k < SPAN
     → ListsGroup (groups_of s h) (first_group n + k) pieces → (i : ℕ) → i < length pieces
     → (at pieces i < piece_count s.torrent) × (level h (at pieces i) ≡ n) × (stage_of_row (piece_of s h (at pieces i)) ≡ k)
 listed_place s h n k pieces legal is some under lists i li =
@@ -203,7 +206,7 @@ place_listed s h n k p pieces lists lp level_is stage =
     lists.all p (omega (arith, groups_long s h, lp)) (group_at s h p lp ∙ place_of s h p n k level_is stage)
 
 -- the stage of a group
-stage_in : (b k : ℕ) → k < 1029 → stage_of (b * 1029 + k) ≡ k
+stage_in : (b k : ℕ) → k < SPAN → stage_of (b * SPAN + k) ≡ k
 stage_in b k lt = omega (arith, lt)
 
 stage_told : (s : Setting) (h : History) (p : ℕ) → p < piece_count s.torrent → stage_of (at (groups_of s h) p) ≡ stage_of_row (piece_of s h p)
@@ -245,7 +248,7 @@ candidate_stage s h q p is =
 
 -- and each unbegun piece that the peer shows is one
 pub stage_candidate : (s : Setting) (h : History) (q p n : ℕ) → p < piece_count s.torrent → shows h q p ≡ true
-    → stage_of_row (piece_of s h p) ≡ 3 + n → (is_candidate s h q p ≡ true) × (min (availability s h p) 1025 ≡ n)
+    → stage_of_row (piece_of s h p) ≡ UNBEGUN + n → (is_candidate s h q p ≡ true) × (min (availability s h p) CROWD ≡ n)
 stage_candidate s h q p n lp shown is =
     let parts = stage_unbegun s h p n is in (
       and_from (wanted s h p) _ (wanted_chosen s h p lp ∙ parts.1)

@@ -1,27 +1,22 @@
 -- What a piece's row tells by its counts: whether the piece is full, whether it is begun, and the group that it stands in.
 use Rattle.std.proofs.Common.{◌≡◌, ◌⊎◌, ℕ, zero, suc, ◌+◌, ◌<◌, ◌≤◌, ◌==◌, Bool, true, false, not, ◌&&◌, ◌||◌, Option, None, Some, List, [], ◌∷◌}
 use Rattle.std.proofs.Common.{◌++◌, length, refl, ap, sym, ◌∙◌, subst, arith, ⊎_elim, inl, inr, cond}
-use Rattle.std.specs.Prelude.{nat_lt, min, unwrap_or, IfSome, if◌then◌else◌}
+use Rattle.std.specs.Prelude.{nat_lt, unwrap_or, if◌then◌else◌}
 use Rattle.std.specs.List.{count_by}
-use Rattle.std.proofs.Math.Nat.{min-eq_left, min-eq_right}
-use Rattle.std.proofs.lemmas.Bool.{cases_eq, cases_lt, eq-eqb, ne_eqb, eqb-true, lt-ltb, false≢true, and_right, and_from, and_parts}
+use Rattle.std.proofs.lemmas.Bool.{cases_eq, eq-eqb, ne_eqb, eqb-true, lt-ltb, false≢true, and_right}
 use Rattle.std.proofs.lemmas.List.Sums.{sum_by_push}
-use Rattle.bt_meta.specs.declared.block.Block.{Block}
-use Rattle.bt_meta.specs.Layout.{IsLayout, piece_count, block_count, block}
+use Rattle.bt_meta.specs.Layout.{piece_count, block_count, block}
 use Rattle.bt_history.specs.Counting.{any_below, all_below, count_below, table}
-use Rattle.bt_history.specs.Setting.{Setting, some_block, some_block_of, each_block_of}
+use Rattle.bt_history.specs.Setting.{Setting, some_block_of, each_block_of}
 use Rattle.bt_history.specs.History.{History}
-use Rattle.bt_history.specs.Peers.{joined, shows}
 use Rattle.bt_history.specs.Pieces.{had, held, full, held_or_asked, availability, chosen, level, wanted, had_count}
-use Rattle.bt_history.specs.Next.{continues, is_candidate}
-use Rattle.bt_history.proofs.Below.{any_fails, any_witness, all_found, all_fails, count_most, count_same}
+use Rattle.bt_history.proofs.Below.{count_most, count_same}
 use Rattle.bt_history.proofs.Sending.{sender_held}
-use Rattle.bt_picker.specs.Tables.{piece_of, cell_of, groups_of}
-use Rattle.bt_picker.specs.Search.{NoneRarer, FindsListed, FindsRarest, IsRarer, Finds, FindsOf, FindsLeast, rank_of}
+use Rattle.bt_picker.specs.Tables.{piece_of, cell_of}
+use Rattle.bt_picker.specs.Search.{FindsListed, FindsRarest, IsRarer}
 use Rattle.bt_tables.specs.Standings.{is_held, is_touched, held_count, touched_count, shown_stage, stage_of_row}
-use Rattle.bt_tables.proofs.Tabled.{table_more, length_table, get_or_table}
-use Rattle.bt_picker.proofs.Scans.{finds_in_piece, none_in_pieces}
-use Rattle.bt_order.specs.Orders.{at, ListsGroup}
+use Rattle.bt_tables.proofs.Tabled.{table_more, length_table}
+use Rattle.bt_order.specs.Orders.{at}
 use Rattle.bt_picker.proofs.Cells.{any_counted, asked_counted}
 
 -- ---- counts of tables

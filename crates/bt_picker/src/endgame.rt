@@ -1,5 +1,6 @@
 //! Endgame: once each lacking block of a wanted piece is asked for, which block to ask of one peer more (Cohen 2003, "Endgame mode").
-ghost use Rattle.std.specs.Prelude.{◌≡◌, ◌<◌, ◌≤◌, ◌+◌, ◌-◌, ◌*◌, ◌==◌, ◌&&◌, ◌||◌, ℕ, Bool, false, not, length, slice_index_or, IfSome, IfNone, IsTrue, None, nat_lt};
+ghost use Rattle.std.specs.Prelude.{◌≡◌, ◌<◌, ◌≤◌, ◌+◌, ◌-◌, ◌*◌, ◌==◌, ◌&&◌, ◌||◌, ℕ, Bool, false, not, length, slice_index_or, IfSome, IfNone};
+ghost use Rattle.std.specs.Prelude.{IsTrue, None, nat_lt};
 ghost use Rattle.bt_meta.specs.Layout.{piece_count, block_count, block, block_size};
 ghost use Rattle.bt_history.specs.Setting.{is_block, some_block, some_block_of};
 ghost use Rattle.bt_history.specs.History.{same_begin};

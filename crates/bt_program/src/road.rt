@@ -1,6 +1,7 @@
 //! What each command does with the bytes that its files gave, to its end.
 
-ghost use Rattle.std.specs.Prelude.{◌≡◌, ◌≤◌, ◌⊎◌, ◌+◌, ℕ, Bool, List, Option, Result, length, codes, false, true, Ok, Err, IfErr, IfOk, IsOk, OnErr, OnOk};
+ghost use Rattle.std.specs.Prelude.{◌≡◌, ◌≤◌, ◌⊎◌, ◌+◌, ℕ, Bool, List, Option, Result, length, codes, false, true, Ok, Err, IfErr, IfOk, IsOk};
+ghost use Rattle.std.specs.Prelude.{OnErr, OnOk};
 ghost use Rattle.std.specs.Io.KnownBytes.{Appends, Keeps};
 ghost use Rattle.bt_meta.specs.Layout.{Metainfo};
 ghost use Rattle.bt_meta.specs.Reading.{torrent_of_file};

@@ -7,7 +7,8 @@ use Rattle.bt_tables.specs.Tables.{PeerState, PieceState, bits_row, edit, fresh_
 use Rattle.bt_tables.specs.Tables.{more_available, one_if, peer_row, piece_row, recounted}
 use Rattle.bt_tables.specs.Floors.{AreFloors, is_fresh, rank_of_row}
 use Rattle.bt_tables.proofs.Sweeps.{hides_none, shows_none}
-use Rattle.bt_tables.proofs.Tabled.{edit_none, edit_same, edit_twice, get_or_edit_same, get_or_table, length_edit, length_table, rows_edit, rows_init, rows_more}
+use Rattle.bt_tables.proofs.Tabled.{edit_none, edit_same, edit_twice, get_or_edit_same, get_or_table, length_edit, length_table, rows_edit}
+use Rattle.bt_tables.proofs.Tabled.{rows_init, rows_more}
 use Rattle.bt_tables.proofs.Tabled.{same_table, upto, upto_above, rows_done}
 
 -- a row of the table stays as it is
@@ -74,7 +75,8 @@ module _ (flags shows : List Bool) where
         → (slice_index_or shows n false ≡ true → 1 ≤ (piece_row rows n).availability) → rows_upto n ≡ rows_upto (n + 1)
     rows_kept n lt told counted =
         kept (rows_upto n) (length rows) n recounted_row (piece_row rows) (fresh_piece 0) refl lt
-        (sym (ap (λ (b : Bool). more_available (b || slice_index_or shows n false) (less_available (slice_index_or shows n false) (piece_row rows n))) told
+        (sym (ap (λ (b : Bool). more_available (b || slice_index_or shows n false)
+        (less_available (slice_index_or shows n false) (piece_row rows n))) told
         ∙ counted_still (piece_row rows n) (slice_index_or shows n false) counted))
 
     pub rows_all : (n : ℕ) → length rows ≤ n → length shows ≡ length rows → rows_upto n ≡ recounted rows shows (joint flags shows)
@@ -149,7 +151,8 @@ late_then_bits peers now w flags is = ap (λ (l : List PeerState). edit l w (bit
 -- ---- the loop
 
 -- the rows of the peers and of the pieces, once the worker's peer told the pieces below n
-pub record HaveTold (flags : List Bool) (before : List PeerState) (rows : List PieceState) (w n : ℕ) (peers : List PeerState) (pieces : List PieceState)
+pub record HaveTold (flags : List Bool) (before : List PeerState) (rows : List PieceState) (w n : ℕ) (peers : List PeerState)
+    (pieces : List PieceState)
     : Type 0 where
   pub pieces_are : pieces ≡ rows_upto flags (peer_row before w).shows rows n
   pub peers_are : peers ≡ edit before w (bits_row (shown_upto flags (peer_row before w).shows n))

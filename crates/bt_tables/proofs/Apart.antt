@@ -16,6 +16,7 @@ use Rattle.bt_tables.specs.Standings.{touched_count, whole_rows}
 use Rattle.bt_tables.specs.Apart.{AreApart}
 use Rattle.bt_tables.proofs.Shelves.{can_file, files}
 use Rattle.bt_tables.proofs.Tabled.{edit_set, get_or_edit_same, get_or_table, length_table, table_from}
+use Rattle.bt_tables.specs.declared.piece.TheConstants.{ASKED_OUT, CROWD, GROUPS, OPEN, RESTING, SPAN, UNBEGUN}
 
 -- ---- the rows with the counts
 
@@ -88,40 +89,47 @@ either true n = refl
 either false n = refl
 
 -- the stage of a group in the slot of a level
-stage_in : (b k : ℕ) → k < 1029 → stage_of (b * 1029 + k) ≡ k
+stage_in : (b k : ℕ) → k < SPAN → stage_of (b * SPAN + k) ≡ k
 stage_in b k lt = omega (arith, lt)
 
 -- a group that isn't one of unbegun pieces stays
-stays : (n b k : ℕ) → k < 3 → b * 1029 + k ≡ raised_group n (b * 1029 + k)
-stays n b k low = rw (stage_in b k (omega (arith, low)), lt-ltb k 3 low) (either (nat_lt 1025 n) (b * 1029 + k))
+stays : (n b k : ℕ) → k < UNBEGUN → b * SPAN + k ≡ raised_group n (b * SPAN + k)
+stays n b k low = rw (stage_in b k (omega (arith, low)), lt-ltb k UNBEGUN low) (either (nat_lt CROWD n) (b * SPAN + k))
 
-stays_too : (n b k : ℕ) → k < 3 → b * 1029 + k ≡ lowered_group n (b * 1029 + k)
-stays_too n b k low = rw (stage_in b k (omega (arith, low)), le-ltb 3 k (omega (arith, low))) (either (nat_lt 1025 n) (b * 1029 + k))
+stays_too : (n b k : ℕ) → k < UNBEGUN → b * SPAN + k ≡ lowered_group n (b * SPAN + k)
+stays_too n b k low = rw (stage_in b k (omega (arith, low)), le-ltb UNBEGUN k (omega (arith, low))) (either (nat_lt CROWD n) (b * SPAN + k))
 
 raised_by : (b : ℕ) (resting unbegun asked : Bool) (n : ℕ)
-    → b * 1029 + (if resting then 0 else if unbegun then 3 + min (n + 1) 1025 else if asked then 1 else 2)
-    ≡ raised_group (n + 1) (b * 1029 + (if resting then 0 else if unbegun then 3 + min n 1025 else if asked then 1 else 2))
+    → b * SPAN + (if resting then RESTING else if unbegun then UNBEGUN + min (n + 1) CROWD else if asked then ASKED_OUT else OPEN)
+    ≡ raised_group (n + 1) (b * SPAN + (if resting then RESTING else if unbegun then UNBEGUN + min n CROWD else if asked then ASKED_OUT else OPEN))
 raised_by b true unbegun asked n = stays (n + 1) b 0 (omega arith)
 raised_by b false false true n = stays (n + 1) b 1 (omega arith)
 raised_by b false false false n = stays (n + 1) b 2 (omega arith)
 raised_by b false true asked n =
-    elim (cases_lt 1025 (n + 1)) [
-      | inl crowd ↦ rw (lt-ltb 1025 (n + 1) crowd) (omega arith)
-      | inr few ↦ rw (le-ltb 1025 (n + 1) few, stage_in b (3 + min n 1025) (omega arith), le-ltb (3 + min n 1025) 3 (omega arith)) (omega arith)
+    elim (cases_lt CROWD (n + 1)) [
+      | inl crowd ↦ rw (lt-ltb CROWD (n + 1) crowd) (omega arith)
+      | inr few ↦ rw (
+        le-ltb CROWD (n + 1) few,
+        stage_in b (UNBEGUN + min n CROWD) (omega arith),
+        le-ltb (UNBEGUN + min n CROWD) UNBEGUN
+            (omega arith),
+      ) (omega arith)
     ]
 
 lowered_by : (b : ℕ) (resting unbegun asked : Bool) (n : ℕ)
-    → b * 1029 + (if resting then 0 else if unbegun then 3 + min (n - 1) 1025 else if asked then 1 else 2)
-    ≡ lowered_group n (b * 1029 + (if resting then 0 else if unbegun then 3 + min n 1025 else if asked then 1 else 2))
+    → b * SPAN + (if resting then RESTING else if unbegun then UNBEGUN + min (n - 1) CROWD else if asked then ASKED_OUT else OPEN)
+    ≡ lowered_group n (b * SPAN + (if resting then RESTING else if unbegun then UNBEGUN + min n CROWD else if asked then ASKED_OUT else OPEN))
 lowered_by b true unbegun asked n = stays_too n b 0 (omega arith)
 lowered_by b false false true n = stays_too n b 1 (omega arith)
 lowered_by b false false false n = stays_too n b 2 (omega arith)
 lowered_by b false true asked n =
-    elim (cases_lt 1025 n) [
-      | inl crowd ↦ rw (lt-ltb 1025 n crowd) (omega arith)
-      | inr few ↦ elim (cases_lt 3 (3 + min n 1025)) [
-        | inl some ↦ rw (le-ltb 1025 n few, stage_in b (3 + min n 1025) (omega arith), lt-ltb 3 (3 + min n 1025) some) (omega arith)
-        | inr none ↦ rw (le-ltb 1025 n few, stage_in b (3 + min n 1025) (omega arith), le-ltb 3 (3 + min n 1025) none) (omega arith)
+    elim (cases_lt CROWD n) [
+      | inl crowd ↦ rw (lt-ltb CROWD n crowd) (omega arith)
+      | inr few ↦ elim (cases_lt UNBEGUN (UNBEGUN + min n CROWD)) [
+        | inl some ↦ rw (le-ltb CROWD n few, stage_in b (UNBEGUN + min n CROWD) (omega arith), lt-ltb UNBEGUN (UNBEGUN + min n CROWD) some)
+            (omega arith)
+        | inr none ↦ rw (le-ltb CROWD n few, stage_in b (UNBEGUN + min n CROWD) (omega arith), le-ltb UNBEGUN (UNBEGUN + min n CROWD) none)
+            (omega arith)
       ]
     ]
 
@@ -136,7 +144,11 @@ slot_above level more =
 
 pub slot_below : (level : ℕ) → 0 < level → level < 4 → slot_of level ≡ 7 - level
 slot_below level some less =
-    rw (ne_eqb level 0 (λ none. omega (arith, none, some)), ne_eqb level 4 (λ usual. omega (arith, usual, less)), le-ltb 4 level (omega (arith, less))) refl
+    rw (
+      ne_eqb level 0 (λ none. omega (arith, none, some)),
+      ne_eqb level 4 (λ usual. omega (arith, usual, less)),
+      le-ltb 4 level (omega (arith, less)),
+    ) refl
 
 -- a level is usual, higher or lower
 pub level_cases : (level : ℕ) → ((level ≡ 0) ⊎ (level ≡ 4)) ⊎ ((4 < level) ⊎ ((0 < level) × (level < 4)))
@@ -162,8 +174,8 @@ slot_few level = ⊎_elim
     (level_cases level)
 
 -- where one peer more may be counted (up to CROWD, 1025), the group behind a row's is a group too (below GROUPS, 7203)
-next_room : (b : ℕ) (resting unbegun asked : Bool) (n : ℕ) → b ≤ 6 → n + 1 ≤ 1025 →
-    b * 1029 + (if resting then 0 else if unbegun then 3 + min n 1025 else if asked then 1 else 2) + 1 < 7203
+next_room : (b : ℕ) (resting unbegun asked : Bool) (n : ℕ) → b ≤ 6 → n + 1 ≤ CROWD →
+    b * SPAN + (if resting then RESTING else if unbegun then UNBEGUN + min n CROWD else if asked then ASKED_OUT else OPEN) + 1 < GROUPS
 next_room b true unbegun asked n low few = omega (arith, low)
 next_room b false true asked n low few = omega (arith, low, few)
 next_room b false false true n low few = omega (arith, low)
@@ -309,9 +321,10 @@ module _ (shelf : ShelfState) (rows : List PieceState) (shown : List ℕ) (p : �
       (is ∙ (λ i. record { groups = set shelf.groups p (group_of_row new); unasked = unasked i; unheld = unheld i; had = had i; left = left i })))
 
   -- one peer more shows the piece
-  pub has_next : (n : ℕ) → n ≡ at shown p + 1 → n ≤ 1025 → at shelf.groups p + 1 < 7203
+  pub has_next : (n : ℕ) → n ≡ at shown p + 1 → n ≤ CROWD → at shelf.groups p + 1 < GROUPS
   has_next n is few =
-      let room = next_room (slot_of old.level) (is_resting old) (touched_count old.blocks == 0) (touched_count old.blocks == length old.blocks) (at shown p)
+      let room = next_room (slot_of old.level) (is_resting old) (touched_count old.blocks == 0) (touched_count old.blocks == length old.blocks)
+      (at shown p)
       (slot_few old.level) (omega (arith, is, few)) in
       omega (arith, group_is, room)
 
@@ -319,7 +332,8 @@ module _ (shelf : ShelfState) (rows : List PieceState) (shown : List ℕ) (p : �
       now ≡ record shelf { groups = set shelf.groups p (raised_group n (at shelf.groups p)) }
       → AreShelved now (whole_rows rows (set shown p n))
   shown_more now n more is =
-      let by = raised_by (slot_of old.level) (is_resting old) (touched_count old.blocks == 0) (touched_count old.blocks == length old.blocks) (at shown p) in
+      let by = raised_by (slot_of old.level) (is_resting old) (touched_count old.blocks == 0) (touched_count old.blocks == length old.blocks)
+      (at shown p) in
       let group : raised_group n (at shelf.groups p) ≡ group_of_row (shown_row n old) =
       ap (raised_group n) group_is ∙ (ap (λ (m : ℕ). raised_group m (group_of_row old)) more ∙
       (sym by ∙ ap (λ (m : ℕ). group_of_row (shown_row m old)) (sym more))) in
@@ -335,7 +349,8 @@ module _ (shelf : ShelfState) (rows : List PieceState) (shown : List ℕ) (p : �
       now ≡ record shelf { groups = set shelf.groups p (lowered_group m (at shelf.groups p)) }
       → AreShelved now (whole_rows rows (set shown p n))
   shown_less now m n many less is =
-      let by = lowered_by (slot_of old.level) (is_resting old) (touched_count old.blocks == 0) (touched_count old.blocks == length old.blocks) (at shown p) in
+      let by = lowered_by (slot_of old.level) (is_resting old) (touched_count old.blocks == 0) (touched_count old.blocks == length old.blocks)
+      (at shown p) in
       let fewer : n ≡ at shown p - 1 = omega arith in
       let group : lowered_group m (at shelf.groups p) ≡ group_of_row (shown_row n old) =
       ap (lowered_group m) group_is ∙ (ap (λ (k : ℕ). lowered_group k (group_of_row old)) many ∙

@@ -1,5 +1,6 @@
 -- The rows of a torrent of which nothing is known.
-use Rattle.std.proofs.Common.{◌≡◌, ◌<◌, ◌≤◌, ◌+◌, ◌*◌, ◌-◌, ◌/◌, ◌^◌, ◌∙◌, ℕ, zero, suc, List, ◌∷◌, length, get_or, take, drop, map, min, replicate, ap, arith}
+use Rattle.std.proofs.Common.{◌≡◌, ◌<◌, ◌≤◌, ◌+◌, ◌*◌, ◌-◌, ◌/◌, ◌^◌, ◌∙◌, ℕ, zero, suc, List, ◌∷◌, length, get_or, take, drop, map, min}
+use Rattle.std.proofs.Common.{replicate, ap, arith}
 use Rattle.std.proofs.Common.{refl, sym, ⊎_elim}
 use Rattle.std.proofs.Math.Nat.{div-mul-le_self, mul-le-mul_right, suc-mul}
 use Rattle.std.proofs.lemmas.Bool.{cases_lt}
@@ -92,7 +93,8 @@ module _ (t : Layout) (is : IsLayout t) where
         ∙ (λ i. row_of (get_or-replicate n p no_counts no_counts lp i)
         ((cells_blank (block_count t 0) m p ∙ ap (λ (k : ℕ). replicate k empty_cell) (own_cells p lp)) i))
 
-    pub blank_rows : rows_of (block_count t 0) (replicate n no_counts) (replicate m blank) ≡ table (piece_count t) (λ p. fresh_piece (block_count t p))
+    pub blank_rows : rows_of (block_count t 0) (replicate n no_counts) (replicate m blank) ≡ table (piece_count t)
+        (λ p. fresh_piece (block_count t p))
     blank_rows =
         table_from n (λ p. fresh_piece (block_count t p)) (rows_of (block_count t 0) (replicate n no_counts) (replicate m blank))
         (rows_length (block_count t 0) (replicate n no_counts) (replicate m blank) ∙ length-replicate {A = Counts} n no_counts)

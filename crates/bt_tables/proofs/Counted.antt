@@ -15,7 +15,8 @@ use Rattle.bt_tables.specs.Rows.{Keeps, no_counts, passed_to}
 use Rattle.bt_tables.specs.Tables.{CellState, empty_cell, one_if}
 use Rattle.bt_tables.specs.Standings.{AreCounts, AreTouched, is_held, is_touched}
 
-module _ (test : CellState → Bool) (cells : List CellState) (i : ℕ) (old new : CellState) (lt : i < length cells) (read : get_or cells i empty_cell ≡ old)
+module _ (test : CellState → Bool) (cells : List CellState) (i : ℕ) (old new : CellState) (lt : i < length cells)
+    (read : get_or cells i empty_cell ≡ old)
   where
     abbrev one : CellState → ℕ
     one cell = one_if (test cell)
@@ -43,7 +44,8 @@ still_touched n i cells cell lt so_far = by_test (is_touched cell) refl where
   by_test : (x : Bool) → is_touched cell ≡ x → AreTouched (passed_to n i x) (set cells i cell)
   by_test false untouched j lj inside = elsewhere j (omega (arith, lj, min-le_right n i)) (omega (arith, lj, min-le_left n i)) inside
   by_test true touched j lj inside = dite (ℕ_discrete j i)
-      (λ same. ap (λ (m : ℕ). is_touched (get_or (set cells i cell) m empty_cell)) same ∙ (ap is_touched (get_or-set_same cells i cell empty_cell lt) ∙ touched))
+      (λ same. ap (λ (m : ℕ). is_touched (get_or (set cells i cell) m empty_cell)) same
+      ∙ (ap is_touched (get_or-set_same cells i cell empty_cell lt) ∙ touched))
       (λ other. elsewhere j other (below other (i == n) refl lj) inside)
     where
       below : j ≢ i → (y : Bool) → (i == n) ≡ y → j < (if y then n + 1 else n) → j < n

@@ -23,7 +23,11 @@ module _ (groups numbers : List ℕ) (bound p g : ℕ) (are : AreOpen groups bou
       record {
         bound_is = are.bound_is ∙ sym long;
         each = λ q has. ⊎_elim
-            (λ (same : q ≡ p). (omega (arith, same, lp, long), ap (λ (r : ℕ). stage_of (at (set groups p g) r)) same ∙ (ap stage_of own ∙ opened (subst (IsIn now) same has))))
+            (λ (same : q ≡ p). (
+              omega (arith, same, lp, long),
+              ap (λ (r : ℕ). stage_of (at (set groups p g) r)) same
+                  ∙ (ap stage_of own ∙ opened (subst (IsIn now) same has)),
+            ))
             (λ (apart : q ≡ p → ⊥).
             let old = are.each q (put.each q apart has) in
             (omega (arith, old.0, long), ap stage_of (get_or-set_other groups p q g 0 apart) ∙ old.1))

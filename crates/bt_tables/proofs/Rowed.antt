@@ -1,5 +1,6 @@
 -- Rows as they are kept: what is read of one, and what a change of its counts and its cells makes of all.
-use Rattle.std.proofs.Common.{◌≡◌, ◌≢◌, ◌<◌, ◌≤◌, ◌+◌, ◌*◌, ◌-◌, ◌∙◌, ℕ, zero, suc, List, [], ◌∷◌, length, get_or, set, take, drop, map, min, ap, arith}
+use Rattle.std.proofs.Common.{◌≡◌, ◌≢◌, ◌<◌, ◌≤◌, ◌+◌, ◌*◌, ◌-◌, ◌∙◌, ℕ, zero, suc, List, [], ◌∷◌, length, get_or, set, take, drop, map, min, ap}
+use Rattle.std.proofs.Common.{arith}
 use Rattle.std.proofs.Common.{refl, subst, sym, length-set, ⊎_elim}
 use Rattle.std.proofs.Math.Nat.{min-le_left, min-le_right, mul-le-mul_right, suc-mul, zero-mul}
 use Rattle.std.proofs.Math.Seq.{take-set-lt}
@@ -100,7 +101,8 @@ rows_counted w [] xs p c lp = absurd (omega (arith, lp))
 rows_counted w (b ∷ cs) xs zero c lp = ap (λ (l : List CellState). row_of c l ∷ rows_of w cs (drop w xs)) (first_cells w xs)
 rows_counted w (b ∷ cs) xs (suc p) c lp =
     ap (λ (l : List PieceState). row_of b (said (take w xs)) ∷ l)
-    (rows_counted w cs (drop w xs) p c (omega (arith, lp)) ∙ ap (λ (l : List CellState). set (rows_of w cs (drop w xs)) p (row_of c l)) (next_cells w xs p))
+    (rows_counted w cs (drop w xs) p c (omega (arith, lp))
+    ∙ ap (λ (l : List CellState). set (rows_of w cs (drop w xs)) p (row_of c l)) (next_cells w xs p))
 
 -- one row changes, with its counts
 pub kept_on : (w : ℕ) (cs : List Counts) (xs ys : List Cell) (p : ℕ) (c : Counts) (row : PieceState) → AreKept w cs xs → p < length cs

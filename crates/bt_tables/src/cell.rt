@@ -8,8 +8,8 @@ ghost use Rattle.bt_tables.specs.Standings.{cell_kept, is_held, is_touched};
 /// peers than this are asked.
 pub const HELD: u16 = 0x8000;
 
-/// What is kept of a block, in two bytes: that it is held and who brought it, or how many peers are asked for it. So whether it is unasked is one look. Which
-/// peers these are say their lines. A block that is held is asked of nobody.
+/// What is kept of a block, in two bytes: that it is held and who brought it, or how many peers are asked for it. So whether it is unasked
+/// is one look. The peers' lines say which peers these are. A block that is held is asked of nobody.
 #[derive(Clone, Copy)]
 pub struct Cell {
     word: u16,

@@ -5,7 +5,8 @@ ghost use Rattle.bt_meta.specs.WireBits.{FindsFirst};
 ghost use Rattle.bt_history.specs.Counting.{count_below, table};
 ghost use Rattle.bt_history.specs.Peers.{has_place};
 ghost use Rattle.bt_tables.specs.Showing.{dealings};
-ghost use Rattle.bt_tables.specs.Tables.{asks_at, bits_row, cancel_row, choke_row, depth_row, edit, fresh_peer, have_row, join_row, late_row, leave_row};
+ghost use Rattle.bt_tables.specs.Tables.{asks_at, bits_row, cancel_row, choke_row, depth_row, edit, fresh_peer, have_row, join_row, late_row};
+ghost use Rattle.bt_tables.specs.Tables.{leave_row};
 ghost use Rattle.bt_tables.specs.Tables.{HasShortLines, peer_row, request_row, unchoke_row, without_block};
 
 use crate::peer::Peer;

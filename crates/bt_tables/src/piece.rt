@@ -5,7 +5,8 @@ ghost use Rattle.std.specs.Prelude.{slice_set, IfOk, Bool, true, false, replicat
 ghost use Rattle.bt_tables.specs.Tables.{HasRoomOf, PieceState, changed_row, edit, empty_cell, failed_row, fresh_piece, one_if, one_less, one_more};
 ghost use Rattle.bt_tables.specs.Tables.{stored_row};
 ghost use Rattle.bt_tables.specs.Floors.{is_fresh};
-ghost use Rattle.bt_tables.specs.Standings.{AreTouched, cell_kept, is_held, is_resting, is_touched, held_count, touched_count, group_of_row, shown_row};
+ghost use Rattle.bt_tables.specs.Standings.{AreTouched, cell_kept, is_held, is_resting, is_touched, held_count, touched_count, group_of_row};
+ghost use Rattle.bt_tables.specs.Standings.{shown_row};
 ghost use Rattle.bt_tables.specs.Standings.{first_group, stage_of_row, standing_of};
 ghost use Rattle.bt_tables.specs.Rows.{Keeps, row_of, said};
 

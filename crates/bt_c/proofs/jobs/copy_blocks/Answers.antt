@@ -45,7 +45,8 @@ loop-block-preserved c =
     let before = joined_most blocks i in (
       omega (arith, ap length more, length-append (concat (take i blocks)) block, c.loop-block.invariant.0, c.len-from.ensures.value),
       take-put_mid from (from + c.len.result - from) room piece (from + c.len-from.result) (omega (arith, ap length is, c.len-from.ensures.value))
-          (omega (arith, before, c.loop-block.invariant.0, c.requires.len, c.loop-block.auto.room)) ∙ ((λ j. c.loop-block.invariant.1 j ++ is j) ∙ more),
+          (omega (arith, before, c.loop-block.invariant.0, c.requires.len, c.loop-block.auto.room))
+          ∙ ((λ j. c.loop-block.invariant.1 j ++ is j) ∙ more),
     )
 
 pub returns : goal.returns

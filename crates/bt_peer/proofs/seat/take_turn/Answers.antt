@@ -11,7 +11,8 @@ returns g c =
     let place = c.turn.new.place in
     let stream = stream_of g.R.Source g.W.Sink in
     let old = standing c.args.desk.now c.args.seat.now (stream c.args.stream.now) in
-    let new = standing place.desk.now (record { session = c.turn.new.self; told = place.told.now; rng = c.turn.new.rng; seen = place.seen; short = place.short })
+    let new = standing place.desk.now
+    (record { session = c.turn.new.self; told = place.told.now; rng = c.turn.new.rng; seen = place.seen; short = place.short })
     (stream (record { reader = c.turn.new.reader; writer = c.turn.new.writer })) in
     let took = turn_at_desk c.turn.result _ (place.desk.ghost_name ∷ (place.told.ghost_name ∷ [])) c.args.worker place.worker old new _
     c.resume-place.ensures c.requires.runs (search rules) in

@@ -8,7 +8,8 @@ use Rattle.bt_tables.proofs.Tabled.{length_edit}
 use Rattle.bt_picker.proofs.Entering.{peer_row_is}
 use Rattle.bt_picker.proofs.PeerSteps.{shows_length}
 use Rattle.bt_picker.proofs.Entered.{entered_refusal, enter_join, enter_bits, enter_have, enter_choke, enter_unchoke, enter_next, enter_arrival}
-use Rattle.bt_picker.proofs.Entered.{enter_leave, enter_want, enter_haves, enter_depth, enter_release, enter_level, enter_levels, enter_order, level_piece}
+use Rattle.bt_picker.proofs.Entered.{enter_leave, enter_want, enter_haves, enter_depth, enter_release, enter_level, enter_levels, enter_order}
+use Rattle.bt_picker.proofs.Entered.{level_piece}
 use Rattle.bt_picker.proofs.Entered.{cause_none, bits_facts, have_facts, haves_facts, lines_short}
 use Rattle.bt_picker.proofs.Entered.{pieces_few, pieces_short, shown_counted, arrival_askers, arrival_block, has_room}
 use Rattle.bt_picker.proofs.Learning.{told_floor, unnoted_floor}

@@ -1,10 +1,10 @@
-use Rattle.std.proofs.Common.{◌≡◌, ◌∙◌, ℕ, ◌<◌, List, [], false, Result, Ok, Err, IfOk, ap, subst, sym}
+use Rattle.std.proofs.Common.{◌≡◌, ℕ, ◌<◌, [], false, Result, Ok, Err, IfOk, subst, sym}
 use Rattle.bt_meta.specs.Layout.{Layout, IsLayout, block_count, piece_count}
 use Rattle.bt_history.specs.declared.rules.Rules.{Rules}
 use Rattle.bt_history.specs.Counting.{table}
 use Rattle.bt_history.specs.Setting.{Setting, deepest_line, setting_of}
 use Rattle.bt_tables.specs.declared.cell.TheConstants.{HELD}
-use Rattle.bt_tables.specs.Tables.{PeerState, PieceState, TablesState, fresh_peer, fresh_piece}
+use Rattle.bt_tables.specs.Tables.{TablesState, fresh_peer, fresh_piece}
 use Rattle.bt_picker.specs.Tables.{AreTables}
 use Rattle.bt_picker.proofs.Fresh.{tables_fresh}
 use Rattle.bt_picker.proofs.entries.new_tables.Goals as goal
@@ -30,5 +30,6 @@ fresh_are t n rules (Err e) setting layout unordered peers pieces few = tt
 
 pub returns-clause-are : goal.returns-clause-are
 returns-clause-are c =
-    fresh_are c.args.torrent.value.layout c.args.workers c.args.rules c.new.result c.new.ensures.setting c.new.ensures.layout c.new.ensures.in_order c.new.ensures.peers
+    fresh_are c.args.torrent.value.layout c.args.workers c.args.rules c.new.result c.new.ensures.setting c.new.ensures.layout
+    c.new.ensures.in_order c.new.ensures.peers
     c.new.ensures.pieces c.requires.workers

@@ -17,7 +17,8 @@ pub loop-piece-preserved : goal.loop-piece-preserved
 loop-piece-preserved c =
     let lt : c.loop-piece.piece < length c.args.pieces.now = omega (arith, c.loop-piece-test.true, c.loop-piece.invariant.0) in (
       c.loop-piece.invariant.0,
-      levelled_more c.args.pieces.now c.loop-piece.pieces _ (λ p. slice_index_or c.args.levels.now p 0) c.loop-piece.piece _ c.loop-piece.invariant.1 lt
+      levelled_more c.args.pieces.now c.loop-piece.pieces _
+          (λ p. slice_index_or c.args.levels.now p 0) c.loop-piece.piece _ c.loop-piece.invariant.1 lt
           c.level_in.ensures c.put_level.ensures,
     )
 

@@ -11,7 +11,8 @@ returns-then-holds c =
     let lp = subst (λ (d : DeskState). c.args.piece < piece_count d.setting.torrent) (sym c.self.view_is) c.requires.piece in
     let lk = subst (λ (d : DeskState). c.args.index < block_count d.setting.torrent c.args.piece) (sym c.self.view_is) c.requires.index in
     ap Some c.of.ensures
-    ∙ place_found n.setting n.history c.self.inside.places.now c.args.piece c.args.index c.self.invariant.1 lp lk (sym c.holds.ensures ∙ c.if-holds.true)
+    ∙ place_found n.setting n.history c.self.inside.places.now c.args.piece c.args.index c.self.invariant.1 lp lk
+    (sym c.holds.ensures ∙ c.if-holds.true)
     ∙ ap (λ (d : DeskState). stored_place d.history (block d.setting.torrent c.args.piece c.args.index)) c.self.view_is
 
 pub returns-else-holds : goal.returns-else-holds

@@ -1,4 +1,4 @@
-use Rattle.std.proofs.Common.{◌≡◌, Option, None, Some, List, ℕ, length}
+use Rattle.std.proofs.Common.{Option, None, Some, length}
 use Rattle.std.specs.Prelude.{IfNone}
 use Rattle.bt_meta.specs.declared.block.Block.{Block}
 use Rattle.bt_history.specs.Next.{doubles}

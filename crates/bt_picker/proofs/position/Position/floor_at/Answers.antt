@@ -1,4 +1,4 @@
-use Rattle.std.proofs.Common.{◌≡◌, ◌-◌, ◌*◌, ◌+◌, ℕ, subst, sym, arith}
+use Rattle.std.proofs.Common.{◌≡◌, ◌-◌, ◌*◌, ◌+◌, subst, arith}
 use Rattle.bt_picker.specs.Search.{NoneRarer}
 use Rattle.bt_picker.proofs.Rarest.{floor_at}
 use Rattle.bt_picker.proofs.position.Position.floor_at.Goals as goal

@@ -1,4 +1,4 @@
-use Rattle.std.proofs.Common.{◌≡◌, ◌<◌, Option, None, Some, Bool, true, false, arith, sym, ◌∙◌, ℕ}
+use Rattle.std.proofs.Common.{◌≡◌, ◌<◌, Option, None, Some, true, false, arith, sym, ◌∙◌, ℕ}
 use Rattle.std.specs.Prelude.{IfSome, is_some}
 use Rattle.std.proofs.lemmas.Bool.{false≢true}
 use Rattle.bt_meta.specs.Layout.{piece_count}
@@ -18,7 +18,8 @@ pub returns-in-Some-clause-yes : goal.returns-in-Some-clause-yes
 returns-in-Some-clause-yes c is =
     let d = c.args.self.now in
     listed_interests d.setting d.history c.args.worker c.args.level 1 c.in-Some.field-0 c.group.result.now c.attest.ensures.legal c.requires.level
-    (omega arith) (omega arith) (listed_from (groups_of d.setting d.history) c.group.result.now _ c.args.level 1 c.first_group-base.ensures c.group.ensures)
+    (omega arith) (omega arith)
+    (listed_from (groups_of d.setting d.history) c.group.result.now _ c.args.level 1 c.first_group-base.ensures c.group.ensures)
     c.in-Some.ensures
 
 pub some_shown-requires-2-clause-pieces : goal.some_shown-requires-2-clause-pieces

@@ -1,4 +1,4 @@
-use Rattle.std.proofs.Common.{◌≡◌, ◌∙◌, Option, None, Some, ℕ, sym, subst}
+use Rattle.std.proofs.Common.{Option, sym, subst}
 use Rattle.std.specs.Prelude.{IfNone, IfSome, IsTrue}
 use Rattle.bt_meta.specs.declared.block.Block.{Block}
 use Rattle.bt_history.specs.Next.{rises}
@@ -24,7 +24,8 @@ pub returns-in-Some-clause-some : goal.returns-in-Some-clause-some
 returns-in-Some-clause-some c =
     let d = c.args.self.now in
     let up = rises_at d.setting d.history c.args.worker c.args.level c.open_pieces.result.now c.attest.ensures.legal c.attest.ensures.layout
-    c.requires.level c.open_pieces.ensures.lists c.least_shown-open.result c.least_candidate.result c.in-Some.piece c.unasked_in.result c.requires.above
+    c.requires.level c.open_pieces.ensures.lists c.least_shown-open.result c.least_candidate.result c.in-Some.piece c.unasked_in.result
+    c.requires.above
     (sym c.in-Some.ensures) c.least_shown-open.ensures.listed c.least_shown-open.ensures.least c.least_candidate.ensures.least
     c.least_candidate.ensures.within c.unasked_in.ensures in
     subst (λ (o : Option Block). IfSome o (λ b. IsTrue (is_block d.setting.torrent b) × IsTrue (rises d.setting d.history c.args.worker b)))
@@ -34,7 +35,8 @@ pub returns-in-Some-clause-none : goal.returns-in-Some-clause-none
 returns-in-Some-clause-none c =
     let d = c.args.self.now in
     let up = rises_at d.setting d.history c.args.worker c.args.level c.open_pieces.result.now c.attest.ensures.legal c.attest.ensures.layout
-    c.requires.level c.open_pieces.ensures.lists c.least_shown-open.result c.least_candidate.result c.in-Some.piece c.unasked_in.result c.requires.above
+    c.requires.level c.open_pieces.ensures.lists c.least_shown-open.result c.least_candidate.result c.in-Some.piece c.unasked_in.result
+    c.requires.above
     (sym c.in-Some.ensures) c.least_shown-open.ensures.listed c.least_shown-open.ensures.least c.least_candidate.ensures.least
     c.least_candidate.ensures.within c.unasked_in.ensures in
     subst (λ (o : Option Block). IfNone o (NoneAt d.setting d.history c.args.worker c.args.level)) (sym up.1) tt

@@ -94,7 +94,8 @@ put-requires-clause-fits c =
     let whole = whole_rows o.rows o.shown_by.items in
     let in_all = in_whole o.shelf o.rows o.shown_by.items p kept in
     let old_is = row_is o.shelf o.rows o.shown_by.items p kept row m (own_row o.rows p kept.within) read in
-    can_file o.shelf whole p (shown_row m row) (shown_row m new) c.standing-before.result c.standing-after.result c.self.invariant.0 in_all old_is before
+    can_file o.shelf whole p (shown_row m row)
+    (shown_row m new) c.standing-before.result c.standing-after.result c.self.invariant.0 in_all old_is before
     after (same_length c.args.change row)
 
 pub invariant_of-self : goal.invariant_of-self

@@ -1,4 +1,5 @@
-use Rattle.std.proofs.Common.{◌≡◌, ◌<◌, ◌≤◌, ◌+◌, ◌-◌, ◌*◌, ◌^◌, ◌∙◌, ◌++◌, ◌∷◌, [], ℕ, List, ap, arith, get_or, length, map, min, refl, replicate, subst}
+use Rattle.std.proofs.Common.{◌≡◌, ◌<◌, ◌≤◌, ◌+◌, ◌-◌, ◌*◌, ◌^◌, ◌∙◌, ◌++◌, ◌∷◌, [], ℕ, List, ap, arith, get_or, length, map, min, refl}
+use Rattle.std.proofs.Common.{replicate, subst}
 use Rattle.std.proofs.Common.{sym, take}
 use Rattle.std.specs.List.{sum_by}
 use Rattle.std.proofs.lemmas.List.{length-append, length-map, length-replicate, length-take, take_all, take_more}
@@ -97,7 +98,8 @@ put-requires-clause-fits c =
     let blocks = few_cells t c.piece_count.ensures.layout rows i c.in_ok-rows.ensures lt in
     let sum = sum_step (take i rows) row i c.loop-piece.invariant.1 blocks in
     let stands : c.standing-standing.result ≡ standing_of row =
-    c.standing-standing.ensures.is ∙ (ap (λ (r : PieceState). standing_of (shown_row 0 r)) c.row.ensures ∙ unshown t rows i c.in_ok-rows.ensures lt) in
+    c.standing-standing.ensures.is
+    ∙ (ap (λ (r : PieceState). standing_of (shown_row 0 r)) c.row.ensures ∙ unshown t rows i c.in_ok-rows.ensures lt) in
     rw (c.loop-piece.invariant.0, stands)
     (shelf_fits (take i rows) row (n - i) (let long = length-take i rows in omega (arith, long, c.loop-piece-test.true))
     (omega (arith, sum, c.loop-piece-test.true)))
@@ -114,7 +116,8 @@ loop-piece-preserved c =
     let blocks = few_cells t c.piece_count.ensures.layout rows i c.in_ok-rows.ensures lt in
     let sum = sum_step (take i rows) row i c.loop-piece.invariant.1 blocks in
     let stands : c.standing-standing.result ≡ standing_of row =
-    c.standing-standing.ensures.is ∙ (ap (λ (r : PieceState). standing_of (shown_row 0 r)) c.row.ensures ∙ unshown t rows i c.in_ok-rows.ensures lt) in
+    c.standing-standing.ensures.is
+    ∙ (ap (λ (r : PieceState). standing_of (shown_row 0 r)) c.row.ensures ∙ unshown t rows i c.in_ok-rows.ensures lt) in
     let put = rw (c.loop-piece.invariant.0, stands) at c.put.ensures in
     let more : take i rows ++ row ∷ [] ≡ take (i + 1) rows = sym (take_more rows i (fresh_piece 0) (omega (arith, all, lt))) in
     let long : length (take i rows) ≡ i = (let is = length-take i rows in omega (arith, is, all, lt)) in

@@ -21,7 +21,8 @@ loop-index-init c = (
   sym (edit_none c.args.self.now c.args.piece (partly 0) (λ row. refl)),
 )
 
-module _ (rows now : List PieceState) (p i : ℕ) (lp : p < length rows) (lt : i < length (piece_row rows p).blocks) (is : now ≡ edit rows p (partly i)) where
+module _ (rows now : List PieceState) (p i : ℕ) (lp : p < length rows) (lt : i < length (piece_row rows p).blocks)
+    (is : now ≡ edit rows p (partly i)) where
   here : piece_row now p ≡ partly i (piece_row rows p)
   here = ap (λ (l : List PieceState). piece_row l p) is ∙ get_or_edit_same rows p (partly i) (fresh_piece 0) lp
 
@@ -43,7 +44,8 @@ module _ (rows now : List PieceState) (p i : ℕ) (lp : p < length rows) (lt : i
       (ap (λ (l : List CellState). record (piece_row rows p) { blocks = l })
       (ap (λ (cell : CellState). set (partly i (piece_row rows p)).blocks i cell) released ∙ more)))
     where
-      read_here : (old : CellState) → old ≡ get_or (piece_row now p).blocks i empty_cell → (piece_row now p).blocks ≡ (partly i (piece_row rows p)).blocks
+      read_here : (old : CellState) → old ≡ get_or (piece_row now p).blocks i empty_cell →
+          (piece_row now p).blocks ≡ (partly i (piece_row rows p)).blocks
           → old ≡ get_or (partly i (piece_row rows p)).blocks i old
       read_here old read blocks =
           read ∙ (ap (λ (l : List CellState). get_or l i empty_cell) blocks ∙
@@ -51,32 +53,38 @@ module _ (rows now : List PieceState) (p i : ℕ) (lp : p < length rows) (lt : i
 
 pub row-requires-in-loop-index : goal.row-requires-in-loop-index
 row-requires-in-loop-index c =
-    let lt : c.loop-index.index < length (piece_row c.args.self.now c.args.piece).blocks = omega (arith, c.loop-index-test.true, c.loop-index.invariant.0) in
+    let lt : c.loop-index.index < length (piece_row c.args.self.now c.args.piece).blocks =
+    omega (arith, c.loop-index-test.true, c.loop-index.invariant.0) in
     in_rows c.args.self.now c.loop-index.self c.args.piece c.loop-index.index c.requires lt c.loop-index.invariant.1
 
 pub cell-cell-requires : goal.cell-cell-requires
 cell-cell-requires c =
-    let lt : c.loop-index.index < length (piece_row c.args.self.now c.args.piece).blocks = omega (arith, c.loop-index-test.true, c.loop-index.invariant.0) in
+    let lt : c.loop-index.index < length (piece_row c.args.self.now c.args.piece).blocks =
+    omega (arith, c.loop-index-test.true, c.loop-index.invariant.0) in
     let within = in_row c.args.self.now c.loop-index.self c.args.piece c.loop-index.index c.requires lt c.loop-index.invariant.1 in
     omega (arith, within, ap (λ (r : PieceState). length r.blocks) c.row-in-loop-index.ensures)
 
 pub put-requires-clause-piece : goal.put-requires-clause-piece
 put-requires-clause-piece c =
-    let lt : c.loop-index.index < length (piece_row c.args.self.now c.args.piece).blocks = omega (arith, c.loop-index-test.true, c.loop-index.invariant.0) in
+    let lt : c.loop-index.index < length (piece_row c.args.self.now c.args.piece).blocks =
+    omega (arith, c.loop-index-test.true, c.loop-index.invariant.0) in
     in_rows c.args.self.now c.loop-index.self c.args.piece c.loop-index.index c.requires lt c.loop-index.invariant.1
 
 pub put-requires-clause-index : goal.put-requires-clause-index
 put-requires-clause-index c =
-    let lt : c.loop-index.index < length (piece_row c.args.self.now c.args.piece).blocks = omega (arith, c.loop-index-test.true, c.loop-index.invariant.0) in
+    let lt : c.loop-index.index < length (piece_row c.args.self.now c.args.piece).blocks =
+    omega (arith, c.loop-index-test.true, c.loop-index.invariant.0) in
     in_row c.args.self.now c.loop-index.self c.args.piece c.loop-index.index c.requires lt c.loop-index.invariant.1
 
 pub loop-index-preserved : goal.loop-index-preserved
 loop-index-preserved c =
-    let lt : c.loop-index.index < length (piece_row c.args.self.now c.args.piece).blocks = omega (arith, c.loop-index-test.true, c.loop-index.invariant.0) in (
+    let lt : c.loop-index.index < length (piece_row c.args.self.now c.args.piece).blocks =
+    omega (arith, c.loop-index-test.true, c.loop-index.invariant.0) in (
       c.loop-index.invariant.0,
       c.put.ensures ∙ one_more_gone c.args.self.now c.loop-index.self c.args.piece c.loop-index.index c.requires lt c.loop-index.invariant.1
           (cell_kept c.cell-cell.result) (cell_kept c.released.result)
-          (c.cell-cell.ensures ∙ ap (λ (r : PieceState). get_or r.blocks c.loop-index.index empty_cell) c.row-in-loop-index.ensures) c.released.ensures,
+          (c.cell-cell.ensures ∙
+          ap (λ (r : PieceState). get_or r.blocks c.loop-index.index empty_cell) c.row-in-loop-index.ensures) c.released.ensures,
     )
 
 pub returns : goal.returns
@@ -86,4 +94,5 @@ returns c =
     c.loop-index.invariant.1
     ∙ edit_same c.args.self.now c.args.piece (partly c.loop-index.index) failed_row (fresh_piece 0) c.requires
     (ap (λ (l : List CellState). record (piece_row c.args.self.now c.args.piece) { blocks = l })
-    (rw (take_all c.loop-index.index blocks (omega (arith, all)), drop_all c.loop-index.index blocks (omega (arith, all))) (append-nil (map unheld blocks))))
+    (rw (take_all c.loop-index.index blocks (omega (arith, all)), drop_all c.loop-index.index blocks (omega (arith, all)))
+    (append-nil (map unheld blocks))))

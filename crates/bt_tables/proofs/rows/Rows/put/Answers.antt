@@ -14,7 +14,8 @@ index-old-requires c =
     let o = c.self.inside in
     let p = c.args.piece in
     let k = c.args.index in
-    let lp : p < length o.counts.items = omega (arith, c.requires.piece, ap length c.self.view_is, rows_length o.width o.counts.items o.cells.items) in
+    let lp : p < length o.counts.items =
+    omega (arith, c.requires.piece, ap length c.self.view_is, rows_length o.width o.counts.items o.cells.items) in
     let row = row_is o.width o.counts.items o.cells.items p (fresh_piece 0) lp in
     let lk : k < length (cells_at o.width o.cells.items p) =
     subst (λ (r : PieceState). k < length r.blocks) (ap (λ (rows : List PieceState). piece_row rows p) (sym c.self.view_is) ∙ row) c.requires.index in
@@ -30,7 +31,8 @@ note-requires-clause-held c =
     let o = c.self.inside in
     let p = c.args.piece in
     let k = c.args.index in
-    let lp : p < length o.counts.items = omega (arith, c.requires.piece, ap length c.self.view_is, rows_length o.width o.counts.items o.cells.items) in
+    let lp : p < length o.counts.items =
+    omega (arith, c.requires.piece, ap length c.self.view_is, rows_length o.width o.counts.items o.cells.items) in
     let row = row_is o.width o.counts.items o.cells.items p (fresh_piece 0) lp in
     let lk : k < length (cells_at o.width o.cells.items p) =
     subst (λ (r : PieceState). k < length r.blocks) (ap (λ (rows : List PieceState). piece_row rows p) (sym c.self.view_is) ∙ row) c.requires.index in
@@ -45,7 +47,8 @@ note-requires-clause-held_room c =
     let o = c.self.inside in
     let p = c.args.piece in
     let k = c.args.index in
-    let lp : p < length o.counts.items = omega (arith, c.requires.piece, ap length c.self.view_is, rows_length o.width o.counts.items o.cells.items) in
+    let lp : p < length o.counts.items =
+    omega (arith, c.requires.piece, ap length c.self.view_is, rows_length o.width o.counts.items o.cells.items) in
     let row = row_is o.width o.counts.items o.cells.items p (fresh_piece 0) lp in
     let lk : k < length (cells_at o.width o.cells.items p) =
     subst (λ (r : PieceState). k < length r.blocks) (ap (λ (rows : List PieceState). piece_row rows p) (sym c.self.view_is) ∙ row) c.requires.index in
@@ -61,7 +64,8 @@ note-requires-clause-touched c =
     let o = c.self.inside in
     let p = c.args.piece in
     let k = c.args.index in
-    let lp : p < length o.counts.items = omega (arith, c.requires.piece, ap length c.self.view_is, rows_length o.width o.counts.items o.cells.items) in
+    let lp : p < length o.counts.items =
+    omega (arith, c.requires.piece, ap length c.self.view_is, rows_length o.width o.counts.items o.cells.items) in
     let row = row_is o.width o.counts.items o.cells.items p (fresh_piece 0) lp in
     let lk : k < length (cells_at o.width o.cells.items p) =
     subst (λ (r : PieceState). k < length r.blocks) (ap (λ (rows : List PieceState). piece_row rows p) (sym c.self.view_is) ∙ row) c.requires.index in
@@ -76,7 +80,8 @@ note-requires-clause-touched_room c =
     let o = c.self.inside in
     let p = c.args.piece in
     let k = c.args.index in
-    let lp : p < length o.counts.items = omega (arith, c.requires.piece, ap length c.self.view_is, rows_length o.width o.counts.items o.cells.items) in
+    let lp : p < length o.counts.items =
+    omega (arith, c.requires.piece, ap length c.self.view_is, rows_length o.width o.counts.items o.cells.items) in
     let row = row_is o.width o.counts.items o.cells.items p (fresh_piece 0) lp in
     let lk : k < length (cells_at o.width o.cells.items p) =
     subst (λ (r : PieceState). k < length r.blocks) (ap (λ (rows : List PieceState). piece_row rows p) (sym c.self.view_is) ∙ row) c.requires.index in
@@ -92,7 +97,8 @@ note-requires-clause-index c =
     let o = c.self.inside in
     let p = c.args.piece in
     let k = c.args.index in
-    let lp : p < length o.counts.items = omega (arith, c.requires.piece, ap length c.self.view_is, rows_length o.width o.counts.items o.cells.items) in
+    let lp : p < length o.counts.items =
+    omega (arith, c.requires.piece, ap length c.self.view_is, rows_length o.width o.counts.items o.cells.items) in
     let row = row_is o.width o.counts.items o.cells.items p (fresh_piece 0) lp in
     let lk : k < length (cells_at o.width o.cells.items p) =
     subst (λ (r : PieceState). k < length r.blocks) (ap (λ (rows : List PieceState). piece_row rows p) (sym c.self.view_is) ∙ row) c.requires.index in
@@ -107,7 +113,8 @@ index_mut-requires-2 c =
     let o = c.self.inside in
     let p = c.args.piece in
     let k = c.args.index in
-    let lp : p < length o.counts.items = omega (arith, c.requires.piece, ap length c.self.view_is, rows_length o.width o.counts.items o.cells.items) in
+    let lp : p < length o.counts.items =
+    omega (arith, c.requires.piece, ap length c.self.view_is, rows_length o.width o.counts.items o.cells.items) in
     let row = row_is o.width o.counts.items o.cells.items p (fresh_piece 0) lp in
     let lk : k < length (cells_at o.width o.cells.items p) =
     subst (λ (r : PieceState). k < length r.blocks) (ap (λ (rows : List PieceState). piece_row rows p) (sym c.self.view_is) ∙ row) c.requires.index in
@@ -118,7 +125,8 @@ invariant_of-self c =
     let o = c.self.inside in
     let p = c.args.piece in
     let k = c.args.index in
-    let lp : p < length o.counts.items = omega (arith, c.requires.piece, ap length c.self.view_is, rows_length o.width o.counts.items o.cells.items) in
+    let lp : p < length o.counts.items =
+    omega (arith, c.requires.piece, ap length c.self.view_is, rows_length o.width o.counts.items o.cells.items) in
     let row = row_is o.width o.counts.items o.cells.items p (fresh_piece 0) lp in
     let lk : k < length (cells_at o.width o.cells.items p) =
     subst (λ (r : PieceState). k < length r.blocks) (ap (λ (rows : List PieceState). piece_row rows p) (sym c.self.view_is) ∙ row) c.requires.index in
@@ -136,7 +144,8 @@ returns c =
     let o = c.self.inside in
     let p = c.args.piece in
     let k = c.args.index in
-    let lp : p < length o.counts.items = omega (arith, c.requires.piece, ap length c.self.view_is, rows_length o.width o.counts.items o.cells.items) in
+    let lp : p < length o.counts.items =
+    omega (arith, c.requires.piece, ap length c.self.view_is, rows_length o.width o.counts.items o.cells.items) in
     let row = row_is o.width o.counts.items o.cells.items p (fresh_piece 0) lp in
     let lk : k < length (cells_at o.width o.cells.items p) =
     subst (λ (r : PieceState). k < length r.blocks) (ap (λ (rows : List PieceState). piece_row rows p) (sym c.self.view_is) ∙ row) c.requires.index in

@@ -15,21 +15,24 @@ index-requires c =
 pub offset_bounds-deref-start : goal.offset_bounds-deref-start
 offset_bounds-deref-start c =
     let o = c.self.inside in
-    let lp : c.args.piece < length o.counts.items = omega (arith, c.requires, ap length c.self.view_is, rows_length o.width o.counts.items o.cells.items) in
+    let lp : c.args.piece < length o.counts.items =
+    omega (arith, c.requires, ap length c.self.view_is, rows_length o.width o.counts.items o.cells.items) in
     let begins = row_begins (length o.counts.items) o.width (length o.cells.items) c.args.piece c.self.invariant.filled lp in
     omega (arith, begins, c.deref.type_inv.1, ap length c.deref.ensures.value)
 
 pub slice_bounds-new-count : goal.slice_bounds-new-count
 slice_bounds-new-count c =
     let o = c.self.inside in
-    let lp : c.args.piece < length o.counts.items = omega (arith, c.requires, ap length c.self.view_is, rows_length o.width o.counts.items o.cells.items) in
+    let lp : c.args.piece < length o.counts.items =
+    omega (arith, c.requires, ap length c.self.view_is, rows_length o.width o.counts.items o.cells.items) in
     let begins = row_begins (length o.counts.items) o.width (length o.cells.items) c.args.piece c.self.invariant.filled lp in
     omega (arith, begins, c.min-end.ensures, c.len.ensures, o.cells.ok.0)
 
 pub slice_bounds-new-start : goal.slice_bounds-new-start
 slice_bounds-new-start c =
     let o = c.self.inside in
-    let lp : c.args.piece < length o.counts.items = omega (arith, c.requires, ap length c.self.view_is, rows_length o.width o.counts.items o.cells.items) in
+    let lp : c.args.piece < length o.counts.items =
+    omega (arith, c.requires, ap length c.self.view_is, rows_length o.width o.counts.items o.cells.items) in
     let begins = row_begins (length o.counts.items) o.width (length o.cells.items) c.args.piece c.self.invariant.filled lp in
     omega (arith, begins, c.min-end.ensures, c.len.ensures, o.cells.ok.0, ap length c.deref.ensures.value)
 

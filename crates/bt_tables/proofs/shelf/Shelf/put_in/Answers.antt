@@ -22,6 +22,7 @@ invariant_of-self c =
           rw (c.put-2.ensures, w.self-inside-is) (
             c.self.invariant.0,
             open_kept o.order.group_of o.open_pieces.numbers o.open_pieces.bound c.args.piece c.args.after c.self.invariant.1 lp
-                (ap (λ (g : ℕ). stage_of g == 2) (sym before) ∙ agree (stage_of c.args.before == 2) (stage_of c.args.after == 2) w.if-before-opens.false),
+                (ap (λ (g : ℕ). stage_of g == 2) (sym before)
+                ∙ agree (stage_of c.args.before == 2) (stage_of c.args.after == 2) w.if-before-opens.false),
           )
     ]

@@ -37,7 +37,8 @@ invariant_of-self c =
     c.row.ensures ∙ ap (λ (rows : List PieceState). apart (piece_row rows p)) c.announce.ensures in
     let rank : c.rank.result ≡ rank_of_row (piece_row (edit o.pieces p f) p) =
     c.rank.ensures ∙ ap (λ (rows : List PieceState). rank_of_row (piece_row rows p)) c.announce.ensures in
-    let floor = less_floor (edit o.pieces p f) old (at o.floors w) n (omega (arith, c.floor_with-floor.ensures.most, c.of.ensures)) (grown.each w lw) in
+    let floor = less_floor (edit o.pieces p f) old (at o.floors w) n (omega (arith, c.floor_with-floor.ensures.most, c.of.ensures))
+    (grown.each w lw) in
     let low : is_fresh (piece_row (edit o.pieces p f) p) ≡ true → n ≤ rank_of_row (piece_row (edit o.pieces p f) p) =
     λ fresh. (let shown = c.floor_with-floor.ensures.shown (ap is_fresh row ∙ fresh) in omega (arith, shown, rank)) in
     rw (c.announce.ensures, c.put_have.ensures, c.put.ensures)

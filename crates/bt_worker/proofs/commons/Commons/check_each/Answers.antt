@@ -11,6 +11,7 @@ loop-piece-preserved g c =
     let pieces = c.args.pieces.now in
     let i = c.loop-piece.piece-index in
     let call = c.check_or_not-given_up in
-    subst (λ (ps : List ℕ). GoesThrough s c.args.worker.now ps (c.loop-piece.given_up || call.result) call.new.worker) (sym (take_more pieces i 0 c.loop-piece-test.true))
+    subst (λ (ps : List ℕ). GoesThrough s c.args.worker.now ps (c.loop-piece.given_up || call.result) call.new.worker)
+    (sym (take_more pieces i 0 c.loop-piece-test.true))
     (goes_more s c.args.worker.now c.loop-piece.worker call.new.worker (take i pieces) (get_or pieces i 0) c.loop-piece.given_up call.result
     c.loop-piece.invariant call.ensures)
