@@ -34,7 +34,7 @@ const WORKERS: u32 = 57;
 /// The calls of a row that each peer of the swarm makes.
 const SWARM: u64 = PEERS as u64;
 
-/// Where the words of the asks begin.
+/// Where the numbers of the asks begin.
 const SEED: u64 = 2;
 
 /// The same call, so many times.
@@ -55,7 +55,7 @@ struct Trial {
     alloc: Global,
     swarm: Swarm<WORKERS>,
     workload: Workload,
-    words: Mix,
+    rng: Mix,
     /// The pieces that are had.
     had: Vec<u32>,
     table: Table,
@@ -75,7 +75,7 @@ impl Trial {
             alloc,
             swarm: Swarm::new(alloc, &workload)?,
             workload,
-            words: Mix::new(SEED),
+            rng: Mix::new(SEED),
             had: Vec::new(alloc),
             table: Table::new(alloc),
         })
@@ -168,7 +168,7 @@ impl Trial {
         let mut others = false;
         let start = rt.thread_cpu_time()?;
         for _ in 0..REPEATS {
-            let reply = self.swarm.call(worker, Call::Next(self.words.next_word()))?;
+            let reply = self.swarm.call(worker, Call::Next(self.rng.next_word()))?;
             others |= reply != expected;
         }
         let took = rt.thread_cpu_time()?.saturating_sub(start);
@@ -207,7 +207,7 @@ impl Trial {
         let mut others = false;
         let start = rt.thread_cpu_time()?;
         for _ in 0..asks {
-            let reply = self.swarm.call(worker, Call::Next(self.words.next_word()))?;
+            let reply = self.swarm.call(worker, Call::Next(self.rng.next_word()))?;
             others |= !matches!(reply, Reply::Request(_));
         }
         let took = rt.thread_cpu_time()?.saturating_sub(start);
@@ -326,7 +326,7 @@ impl Trial {
         let start = rt.thread_cpu_time()?;
         for _ in 0..REPEATS {
             self.swarm
-                .call(LATECOMER, Call::Next(self.words.next_word()))?;
+                .call(LATECOMER, Call::Next(self.rng.next_word()))?;
             others |= self.told(kind) != before;
         }
         let took = rt.thread_cpu_time()?.saturating_sub(start);
@@ -364,7 +364,7 @@ impl Trial {
         requires { worker < 57 }
     {
         for _ in 0..self.workload.depth.max(1) {
-            self.swarm.call(worker, Call::Next(self.words.next_word()))?;
+            self.swarm.call(worker, Call::Next(self.rng.next_word()))?;
         }
         Ok(())
     }

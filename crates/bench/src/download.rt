@@ -12,7 +12,7 @@ use bytes::Bytes;
 use std::alloc::Global;
 use std::time::{CpuClock, Duration};
 
-/// Where the words of the asks begin.
+/// Where the numbers of the asks begin.
 const SEED: u64 = 2;
 
 /// The rounds of a stretch: some thousand asks, half a millisecond.
@@ -41,7 +41,7 @@ struct Peer {
 pub struct Download {
     swarm: Swarm<PEERS>,
     workload: Workload,
-    words: Mix,
+    rng: Mix,
     peers: Vec<Peer>,
     counts: Counts,
     settling: Duration,
@@ -54,7 +54,7 @@ impl Drop for Download {
         let Download {
             swarm: _swarm,
             workload: _,
-            words: _words,
+            rng: _rng,
             peers: _peers,
             counts: _,
             settling: _,
@@ -73,7 +73,7 @@ impl Download {
         Ok(Download {
             swarm: Swarm::new(alloc, &workload)?,
             workload,
-            words: Mix::new(SEED),
+            rng: Mix::new(SEED),
             peers: vec![in alloc; fresh; PEERS as usize]?,
             counts: Counts {
                 asks: 0,
@@ -211,7 +211,7 @@ impl Download {
     {
         for _ in 0..=MOST_DEPTH {
             self.counts.asks = self.counts.asks.saturating_add(1);
-            let reply = self.swarm.call(worker, Call::Next(self.words.next_word()))?;
+            let reply = self.swarm.call(worker, Call::Next(self.rng.next_word()))?;
             if !matches!(reply, Reply::Cancel(_)) {
                 return Ok(reply);
             }

@@ -58,22 +58,22 @@ impl Workload {
 
     /// What each peer shows, by their numbers.
     pub fn bitfields(&self, alloc: Global) -> Result<Vec<Bitfield>> {
-        let mut words = Mix::new(SEED);
+        let mut rng = Mix::new(SEED);
         let mut shown = Vec::new(alloc);
         for _ in 1..PEERS {
-            shown.push(self.bitfield(alloc, &mut words)?)?;
+            shown.push(self.bitfield(alloc, &mut rng)?)?;
         }
         shown.push(full(alloc, self.pieces)?)?;
         Ok(shown)
     }
 
     /// Pieces at random: 64 to a word, its low bit first.
-    fn bitfield(&self, alloc: Global, words: &mut Mix) -> Result<Bitfield> {
+    fn bitfield(&self, alloc: Global, rng: &mut Mix) -> Result<Bitfield> {
         let mut flags = Bitfield::empty(alloc, self.pieces)?;
         let mut word = 0;
         for piece in 0..self.pieces {
             if piece % 64 == 0 {
-                word = sparse(words, self.density);
+                word = sparse(rng, self.density);
             }
             if piece < flags.count() && (word >> (piece % 64)) & 1 == 1 {
                 flags.set(piece);
@@ -205,10 +205,10 @@ pub fn every(alloc: Global, pieces: u32, step: u32, remainder: u32) -> Result<Bi
 }
 
 /// A word each of whose bits is set with the probability 1/2^density.
-fn sparse(words: &mut Mix, density: u32) -> u64 {
+fn sparse(rng: &mut Mix, density: u32) -> u64 {
     let mut word = u64::MAX;
     for _ in 0..density {
-        word &= words.next_word();
+        word &= rng.next_word();
     }
     word
 }

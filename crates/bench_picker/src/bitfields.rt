@@ -11,7 +11,7 @@ const SEED: u64 = 1;
 /// half as many again for each halving.
 #[derive(Drop)]
 pub struct Bitfields {
-    words: Mix,
+    rng: Mix,
     pieces: u32,
     halvings: u32,
 }
@@ -19,7 +19,7 @@ pub struct Bitfields {
 impl Bitfields {
     pub fn new(pieces: u32, halvings: u32) -> Bitfields {
         Bitfields {
-            words: Mix::new(SEED),
+            rng: Mix::new(SEED),
             pieces,
             halvings,
         }
@@ -42,9 +42,9 @@ impl Bitfields {
 
     /// Which of 64 pieces are shown: those whose bit is set in each of so many words more.
     fn sparse_word(&mut self) -> u64 {
-        let mut word = self.words.next_word();
+        let mut word = self.rng.next_word();
         for _ in 0..self.halvings {
-            word &= self.words.next_word();
+            word &= self.rng.next_word();
         }
         word
     }

@@ -127,10 +127,10 @@ fn come<R: Runtime + AllocGlobal + CpuClock>(
     plan: &Plan,
     swarm: &mut Swarm,
 ) -> Result<u128> {
-    let mut words = Bitfields::new(plan.pieces, plan.halvings);
+    let mut bitfields = Bitfields::new(plan.pieces, plan.halvings);
     let mut took = 0;
     for worker in 0..plan.peers {
-        let shown = words.next(rt.alloc(), worker + 1 == plan.peers)?;
+        let shown = bitfields.next(rt.alloc(), worker + 1 == plan.peers)?;
         let start = rt.thread_cpu_time()?;
         swarm.come(worker, &shown);
         took = since(rt, start)?.saturating_add(took);

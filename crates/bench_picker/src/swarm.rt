@@ -7,7 +7,7 @@ use bt_meta::{Bitfield, Block};
 use bt_picker::{Reply, USUAL_LEVEL};
 use std::alloc::{AllocError, Global};
 
-/// Where the words of the asks begin.
+/// Where the numbers of the asks begin.
 const ASK_SEED: u64 = 2;
 
 /// One level above the usual one.
@@ -47,7 +47,7 @@ pub struct Counts {
 #[derive(Drop)]
 pub struct Swarm {
     zeros: Zeros,
-    words: Mix,
+    rng: Mix,
     peers: Vec<Peer>,
     counts: Counts,
     pieces: u32,
@@ -65,7 +65,7 @@ impl Swarm {
         };
         Ok(Swarm {
             zeros: Zeros::new(alloc, pieces, peers, depth, askers)?,
-            words: Mix::new(ASK_SEED),
+            rng: Mix::new(ASK_SEED),
             peers: vec![in alloc; fresh; peers as usize]?,
             counts: Counts {
                 asks: 0,
@@ -127,7 +127,7 @@ impl Swarm {
     /// Asks what to say to the first peer, and does nothing of it.
     #[inline(always)]
     pub fn ask_in_vain(&mut self) {
-        let _nothing = self.zeros.next(0, self.words.next_word());
+        let _nothing = self.zeros.next(0, self.rng.next_word());
     }
 
     /// Rounds until each piece is had.
@@ -198,7 +198,7 @@ impl Swarm {
     fn ask(&mut self, worker: u32) -> Reply {
         for _ in 0..=self.depth {
             self.counts.asks = self.counts.asks.wrapping_add(1);
-            let reply = self.zeros.next(worker, self.words.next_word());
+            let reply = self.zeros.next(worker, self.rng.next_word());
             if !matches!(reply, Reply::Cancel(_)) {
                 return reply;
             }

@@ -1,4 +1,4 @@
--- Stretches of a worker's calls, one after another: their words, and the checks of the pieces that they complete.
+-- Stretches of a worker's calls, one after another: their numbers, and the checks of the pieces that they complete.
 use Rattle.std.proofs.Common.{◌≡◌, ℕ, ◌==◌, Bool, true, false, ◌&&◌, List, [], ◌∷◌, ◌++◌, map, Option, Some, None, refl, sym, ap, subst}
 use Rattle.std.proofs.Common.{◌∙◌, ◌⊎◌}
 use Rattle.std.proofs.Common.{append_assoc, inl, inr}
@@ -20,16 +20,17 @@ use Rattle.bt_peer.specs.Turns.{call_of, arrived_piece, if_completed}
 use Rattle.bt_peer.specs.Outlets.{Outlet}
 use Rattle.bt_peer.specs.Parts.{CallStops}
 use Rattle.bt_peer.proofs.Asking.{stops_ways}
-use Rattle.bt_peer.specs.Conduct.{Calls, Draws, word_of, words_of, completed_by, checks_first, all_checked, Conducts, DrawsWords}
+use Rattle.bt_peer.specs.Conduct.{Calls, Draws, given_number, numbers_of, completed_by, checks_first, all_checked, Conducts, DrawsNumbers}
 
-pub words_of-append : (xs ys : Calls) → words_of (xs ++ ys) ≡ words_of xs ++ words_of ys
-words_of-append [] ys = refl
-words_of-append (made ∷ xs) ys =
-    ap (λ (words : List ℕ). word_of made.0 ++ words) (words_of-append xs ys) ∙ sym (append_assoc (word_of made.0) (words_of xs) (words_of ys))
+pub numbers_of-append : (xs ys : Calls) → numbers_of (xs ++ ys) ≡ numbers_of xs ++ numbers_of ys
+numbers_of-append [] ys = refl
+numbers_of-append (made ∷ xs) ys =
+    ap (λ (numbers : List ℕ). given_number made.0 ++ numbers) (numbers_of-append xs ys)
+    ∙ sym (append_assoc (given_number made.0) (numbers_of xs) (numbers_of ys))
 
 pub Draws-join : (a b c : Stream) (xs ys : List ℕ) → Draws a xs b → Draws b ys c → Draws a (xs ++ ys) c
 Draws-join a b c [] ys first second = subst (λ (s : Stream). Draws s ys c) first second
-Draws-join a b c (word ∷ xs) ys first second = (first.0, Draws-join (next_u64 a).1 b c xs ys first.1 second)
+Draws-join a b c (number ∷ xs) ys first second = (first.0, Draws-join (next_u64 a).1 b c xs ys first.1 second)
 
 both : (a b : Bool) → a ≡ true → b ≡ true → (a && b) ≡ true
 both true b first second = second
@@ -55,45 +56,45 @@ pub Conducts-join : {settles : Bool} {s t u : Stream} {a b c : Calls} → Conduc
 Conducts-join {s = s} {t = t} {u = u} {a = a} first second = record {
   gained = first.gained ++ second.gained;
   calls = second.calls ∙ ap (λ (calls : Calls). calls ++ second.gained) first.calls ∙ append_assoc a first.gained second.gained;
-  drawn = subst (λ (words : List ℕ). Draws s words u) (sym (words_of-append first.gained second.gained))
-      (Draws-join s t u (words_of first.gained) (words_of second.gained) first.drawn second.drawn);
+  drawn = subst (λ (numbers : List ℕ). Draws s numbers u) (sym (numbers_of-append first.gained second.gained))
+      (Draws-join s t u (numbers_of first.gained) (numbers_of second.gained) first.drawn second.drawn);
   checked = λ own. all_checked-append first.gained second.gained (first.checked own) (second.checked own);
 }
 
-pub Conducts-draws : {settles : Bool} {s t : Stream} {a b : Calls} → Conducts settles s a b t → DrawsWords s a b
+pub Conducts-draws : {settles : Bool} {s t : Stream} {a b : Calls} → Conducts settles s a b t → DrawsNumbers s a b
 Conducts-draws {t = t} conducts =
     record { gained = conducts.gained; calls = conducts.calls; left = t; drawn = conducts.drawn }
 
-pub DrawsWords-none : (s : Stream) (calls : Calls) → DrawsWords s calls calls
-DrawsWords-none s calls = record { gained = []; calls = sym (append-nil calls); left = s; drawn = refl }
+pub DrawsNumbers-none : (s : Stream) (calls : Calls) → DrawsNumbers s calls calls
+DrawsNumbers-none s calls = record { gained = []; calls = sym (append-nil calls); left = s; drawn = refl }
 
 -- a stretch, then one that may have been cut off
-pub DrawsWords-join : {settles : Bool} {s t : Stream} {a b c : Calls} → Conducts settles s a b t → DrawsWords t b c → DrawsWords s a c
-DrawsWords-join {s = s} {t = t} {a = a} first second = record {
+pub DrawsNumbers-join : {settles : Bool} {s t : Stream} {a b c : Calls} → Conducts settles s a b t → DrawsNumbers t b c → DrawsNumbers s a c
+DrawsNumbers-join {s = s} {t = t} {a = a} first second = record {
   gained = first.gained ++ second.gained;
   calls = second.calls ∙ ap (λ (calls : Calls). calls ++ second.gained) first.calls ∙ append_assoc a first.gained second.gained;
   left = second.left;
-  drawn = subst (λ (words : List ℕ). Draws s words second.left) (sym (words_of-append first.gained second.gained))
-      (Draws-join s t second.left (words_of first.gained) (words_of second.gained) first.drawn second.drawn);
+  drawn = subst (λ (numbers : List ℕ). Draws s numbers second.left) (sym (numbers_of-append first.gained second.gained))
+      (Draws-join s t second.left (numbers_of first.gained) (numbers_of second.gained) first.drawn second.drawn);
 }
 
--- calls that draw no word leave the generator as it is
-pub DrawsWords-silent : (s : Stream) (a b c gained : Calls) → DrawsWords s a b → c ≡ b ++ gained → words_of gained ≡ [] → DrawsWords s a c
-DrawsWords-silent s a b c gained draws is silent = record {
+-- calls that draw no number leave the generator as it is
+pub DrawsNumbers-silent : (s : Stream) (a b c gained : Calls) → DrawsNumbers s a b → c ≡ b ++ gained → numbers_of gained ≡ [] → DrawsNumbers s a c
+DrawsNumbers-silent s a b c gained draws is silent = record {
   gained = draws.gained ++ gained;
   calls = is ∙ ap (λ (calls : Calls). calls ++ gained) draws.calls ∙ append_assoc a draws.gained gained;
   left = draws.left;
-  drawn = subst (λ (words : List ℕ). Draws s words draws.left)
-      (sym (words_of-append draws.gained gained ∙ ap (λ (words : List ℕ). words_of draws.gained ++ words) silent
-      ∙ append-nil (words_of draws.gained))) draws.drawn;
+  drawn = subst (λ (numbers : List ℕ). Draws s numbers draws.left)
+      (sym (numbers_of-append draws.gained gained ∙ ap (λ (numbers : List ℕ). numbers_of draws.gained ++ numbers) silent
+      ∙ append-nil (numbers_of draws.gained))) draws.drawn;
 }
 
-pub silent_draws : (s : Stream) (old new gained : Calls) → new ≡ old ++ gained → words_of gained ≡ [] → DrawsWords s old new
-silent_draws s old new gained is silent = DrawsWords-silent s old old new gained (DrawsWords-none s old) is silent
+pub silent_draws : (s : Stream) (old new gained : Calls) → new ≡ old ++ gained → numbers_of gained ≡ [] → DrawsNumbers s old new
+silent_draws s old new gained is silent = DrawsNumbers-silent s old old new gained (DrawsNumbers-none s old) is silent
 
--- the calls of some acts that draw no word
+-- the calls of some acts that draw no number
 abbrev pub AreSilent : List Act → Type 0
-AreSilent acts = words_of (calls_of acts) ≡ []
+AreSilent acts = numbers_of (calls_of acts) ≡ []
 
 pub news_calls : (news : List ℕ) → calls_of (map News news) ≡ []
 news_calls [] = refl
@@ -115,7 +116,7 @@ none_completed _ = refl
 one_checked : (call : CallMark) (reply : Reply) → if_completed (arrived_piece call) reply ≡ None → all_checked ((call, reply) ∷ []) ≡ true
 one_checked call reply none = ap (λ (piece : Option ℕ). checks_first piece [] && true) none
 
--- one Next, with the generator's next word
+-- one Next, with the generator's next number
 pub asked_one : (settles : Bool) (a b : Stream) (word : ℕ) (reply : Reply) (old new : PlaceRecord) → (word, b) ≡ next_u64 a →
     Gains old (Called (marks.Next word) reply ∷ []) new → Conducts settles a old.calls new.calls b
 asked_one settles a b word reply old new drawn gains = record {
@@ -126,7 +127,7 @@ asked_one settles a b word reply old new drawn gains = record {
 }
 
 drew_one : (a b : Stream) (word : ℕ) (reply : Reply) (old new : Calls) → (word, b) ≡ next_u64 a → new ≡ old ++ (marks.Next word, reply) ∷ [] →
-    DrawsWords a old new
+    DrawsNumbers a old new
 drew_one a b word reply old new drawn is = record {
   gained = (marks.Next word, reply) ∷ [];
   calls = is;
@@ -145,42 +146,42 @@ stopped_calls call fault acts stops =
 
 -- a Next that stopped
 pub asked_cut : (a b : Stream) (word : ℕ) (fault : SessionFault) (old new : Outlet) → (word, b) ≡ next_u64 a →
-    CallStops fault (marks.Next word) old new → DrawsWords a old.past.calls new.past.calls
+    CallStops fault (marks.Next word) old new → DrawsNumbers a old.past.calls new.past.calls
 asked_cut a b word fault old new drawn cut =
     let old_calls = old.past.calls in
     let gains = cut.performs.gains.calls in
     elim (stopped_calls (marks.Next word) fault cut.acts cut.stops) [
-      | inl none ↦ silent_draws a old_calls new.past.calls (calls_of cut.acts) gains (ap words_of none)
+      | inl none ↦ silent_draws a old_calls new.past.calls (calls_of cut.acts) gains (ap numbers_of none)
       | inr one ↦ drew_one a b word one.0 old_calls new.past.calls drawn (gains ∙ ap (λ (calls : Calls). old_calls ++ calls) one.1)
     ]
 
 -- another call that stopped
-pub other_cut : (s : Stream) (call : CallMark) (fault : SessionFault) (old new : Outlet) → word_of call ≡ [] →
-    CallStops fault call old new → DrawsWords s old.past.calls new.past.calls
+pub other_cut : (s : Stream) (call : CallMark) (fault : SessionFault) (old new : Outlet) → given_number call ≡ [] →
+    CallStops fault call old new → DrawsNumbers s old.past.calls new.past.calls
 other_cut s call fault old new silent cut =
     let draws = silent_draws s old.past.calls new.past.calls (calls_of cut.acts) cut.performs.gains.calls in
     elim (stopped_calls call fault cut.acts cut.stops) [
-      | inl none ↦ draws (ap words_of none)
-      | inr one ↦ draws (ap words_of one.1 ∙ ap (λ (words : List ℕ). words ++ []) silent)
+      | inl none ↦ draws (ap numbers_of none)
+      | inr one ↦ draws (ap numbers_of one.1 ∙ ap (λ (numbers : List ℕ). numbers ++ []) silent)
     ]
 
 -- a call of a message is no Next
-pub own_word : (m : Message) (call : CallMark) → call_of m ≡ Some call → word_of call ≡ []
-own_word (messages.Hello h) call is = cc
-own_word messages.Choke call is = cc
-own_word messages.Unchoke call is = cc
-own_word (messages.Have piece) call is = cc
-own_word (messages.Bits bits) call is = cc
-own_word (messages.Piece piece begin bytes) call is = cc
-own_word _ call is = absurd cc
+pub own_number : (m : Message) (call : CallMark) → call_of m ≡ Some call → given_number call ≡ []
+own_number (messages.Hello h) call is = cc
+own_number messages.Choke call is = cc
+own_number messages.Unchoke call is = cc
+own_number (messages.Have piece) call is = cc
+own_number (messages.Bits bits) call is = cc
+own_number (messages.Piece piece begin bytes) call is = cc
+own_number _ call is = absurd cc
 
 departs_silently : (is_in short : Bool) (leave : List Act) → Departs is_in short leave → AreSilent leave
 departs_silently is_in short [] departs = refl
 departs_silently is_in short (Called marks.Leave reply ∷ []) departs = refl
 departs_silently is_in short _ departs = absurd departs
 
--- the departure draws no word
-pub left_draws : (s : Stream) (a b c : PlaceRecord) → DrawsWords s a.calls b.calls → Leaves b c → DrawsWords s a.calls c.calls
+-- the departure draws no number
+pub left_draws : (s : Stream) (a b c : PlaceRecord) → DrawsNumbers s a.calls b.calls → Leaves b c → DrawsNumbers s a.calls c.calls
 left_draws s a b c draws leaves =
-    DrawsWords-silent s a.calls b.calls c.calls (calls_of leaves.leave) draws leaves.gains.calls
+    DrawsNumbers-silent s a.calls b.calls c.calls (calls_of leaves.leave) draws leaves.gains.calls
     (departs_silently true c.short leaves.leave leaves.departs)

@@ -15,8 +15,8 @@ use Rattle.bt_picker.specs.Positions.{DeskState, Gains as Enters}
 use Rattle.bt_peer.specs.declared.fault.End.{End}
 use Rattle.bt_peer.specs.declared.fault.SessionFault.{SessionFault}
 use Rattle.bt_peer.specs.declared.seat.Seat.{Seat}
-use Rattle.rand_core.specs.Stream.{Stream as Words}
-use Rattle.bt_peer.specs.Conduct.{Calls, Conducts, DrawsWords, all_checked, answers_of, generator_of}
+use Rattle.rand_core.specs.Stream.{Stream as Numbers}
+use Rattle.bt_peer.specs.Conduct.{Calls, Conducts, DrawsNumbers, all_checked, answers_of, generator_of}
 use Rattle.bt_peer.specs.Desks.{calls_in}
 use Rattle.bt_peer.specs.Reader.{most_reads}
 use Rattle.bt_peer.specs.Places.{PlaceRecord, Gains}
@@ -174,15 +174,15 @@ begun_in terms seed worker setting desk seat stream layout same_setting uncalled
     }
 
 -- how a stream's session ended that stands
-words_after : (outcome : Result End SessionFault) (generator left : Words) (calls : Calls) → ConductBy (Some outcome) generator [] calls left →
-    DrawsWords generator [] calls
-words_after (Ok end) generator left calls conduct = Conducts-draws conduct
-words_after (Err fault) generator left calls words = words
+numbers_after : (outcome : Result End SessionFault) (generator left : Numbers) (calls : Calls) → ConductBy (Some outcome) generator [] calls left →
+    DrawsNumbers generator [] calls
+numbers_after (Ok end) generator left calls conduct = Conducts-draws conduct
+numbers_after (Err fault) generator left calls numbers = numbers
 
-checks_after : (outcome : Result End SessionFault) (generator left : Words) (calls : Calls) → ConductBy (Some outcome) generator [] calls left →
+checks_after : (outcome : Result End SessionFault) (generator left : Numbers) (calls : Calls) → ConductBy (Some outcome) generator [] calls left →
     ChecksAfter outcome calls
 checks_after (Ok end) generator left calls conduct = ap all_checked conduct.calls ∙ conduct.checked refl
-checks_after (Err fault) generator left calls words = tt
+checks_after (Err fault) generator left calls numbers = tt
 
 ended_so : (terms : TermsState) (seed worker : ℕ) (stream : StreamRecord) (now : Standing) (outcome : Result End SessionFault) →
     now.session.outcome ≡ Some outcome →
@@ -202,7 +202,7 @@ ended_so terms seed worker stream now outcome is stands =
       told = now.told;
       reads = now.session.reads;
       ends = ends;
-      words = words_after outcome (generator_of seed worker) now.generator (calls_in now.desk.history worker) conduct;
+      numbers = numbers_after outcome (generator_of seed worker) now.generator (calls_in now.desk.history worker) conduct;
       checks = checks_after outcome (generator_of seed worker) now.generator (calls_in now.desk.history worker) conduct;
       devices = subst (λ (o : Option (Result End SessionFault)). DevicesBy o stream now.stream) is stands.devices;
       counted = stands.counted;

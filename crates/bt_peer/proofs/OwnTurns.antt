@@ -6,8 +6,8 @@ use Rattle.bt_picker.specs.Positions.{DeskState}
 use Rattle.bt_peer.specs.declared.fault.End.{End}
 use Rattle.bt_peer.specs.declared.fault.SessionFault.{SessionFault}
 use Rattle.bt_peer.specs.declared.fault.SessionFault.TheVariants as faults
-use Rattle.rand_core.specs.Stream.{Stream as Words}
-use Rattle.bt_peer.specs.Conduct.{Conducts, DrawsWords}
+use Rattle.rand_core.specs.Stream.{Stream as Numbers}
+use Rattle.bt_peer.specs.Conduct.{Conducts, DrawsNumbers}
 use Rattle.bt_peer.specs.Desks.{calls_in, desk_record}
 use Rattle.bt_peer.specs.Acts.{Act}
 use Rattle.bt_peer.specs.Reader.{most_reads}
@@ -18,7 +18,7 @@ use Rattle.bt_peer.specs.Standing.{Standing, Stands, StandsBy, ConductBy, Device
 use Rattle.bt_peer.specs.declared.seat.Seat.{Seat}
 use Rattle.bt_peer.specs.Terms.{TermsState}
 use Rattle.bt_peer.specs.Steps.{Surroundings}
-use Rattle.bt_peer.proofs.Conduct.{Conducts-join, DrawsWords-join}
+use Rattle.bt_peer.proofs.Conduct.{Conducts-join, DrawsNumbers-join}
 use Rattle.bt_peer.proofs.Own.{others_left, own_goes_on, own_ends, own_fails}
 use Rattle.bt_peer.proofs.Runs.{running_on, running_ends, running_fails}
 
@@ -27,7 +27,7 @@ pub record AfterTurn : Type 0 where
   pub session : SessionState
   pub place : PlaceRecord
   pub stream : StreamRecord
-  pub generator : Words
+  pub generator : Numbers
 
 abbrev pub around_turn : AfterTurn → Surroundings
 around_turn now = record { past = now.place; left = now.stream.left; written = now.stream.written }
@@ -40,7 +40,7 @@ pub record Turned (result : Result (Option End) SessionFault) (old new : AfterTu
   pub fails : old.session.outcome ≡ None →
       IfErr result (λ fault. FailsWith fault old.session (around_turn old) (source_of new.stream new.session.reads) new.session (around_turn new))
   pub conduct : OnOk result (Conducts true old.generator old.place.calls new.place.calls new.generator)
-  pub words : OnErr result (DrawsWords old.generator old.place.calls new.place.calls)
+  pub numbers : OnErr result (DrawsNumbers old.generator old.place.calls new.place.calls)
   pub counted : old.stream.reads ≡ old.session.reads → new.stream.reads ≡ new.session.reads
   pub most : new.session.reads ≤ most_reads
   pub sound : IfOk result (λ o. (new.stream.failed ≡ old.stream.failed) × (new.stream.writer_failed ≡ old.stream.writer_failed))
@@ -54,7 +54,7 @@ turn_gains (Ok (Some end)) old new runs turned = (_, (turned.ends runs).leave.ga
 turn_gains (Err fault) old new runs turned = (_, (turned.fails runs).gains)
 
 -- how far a session came that runs
-record SoFar (terms : TermsState) (worker : ℕ) (begun : Words) (out : Surroundings) (first : StreamRecord) (now : Standing) : Type 0 where
+record SoFar (terms : TermsState) (worker : ℕ) (begun : Numbers) (out : Surroundings) (first : StreamRecord) (now : Standing) : Type 0 where
   running : Running terms worker out now.session (around now.desk worker now.told false now.stream)
   conduct : Conducts true begun out.past.calls (calls_in now.desk.history worker) now.generator
   failed : now.stream.failed ≡ first.failed
@@ -65,10 +65,10 @@ abbrev StandsAs : Option (Result End SessionFault) → TermsState → ℕ → Su
 StandsAs outcome terms worker out now = StandsBy outcome terms worker out now.session (source_of now.stream now.session.reads)
     (around now.desk worker now.told false now.stream) (around now.desk worker now.told now.short now.stream)
 
-abbrev ConductAs : Option (Result End SessionFault) → ℕ → Words → Surroundings → Standing → Type 0
+abbrev ConductAs : Option (Result End SessionFault) → ℕ → Numbers → Surroundings → Standing → Type 0
 ConductAs outcome worker begun out now = ConductBy outcome begun out.past.calls (calls_in now.desk.history worker) now.generator
 
-module _ (terms : TermsState) (worker : ℕ) (begun : Words) (out : Surroundings) (first : StreamRecord) where
+module _ (terms : TermsState) (worker : ℕ) (begun : Numbers) (out : Surroundings) (first : StreamRecord) where
   so_far : (now : Standing) → now.session.outcome ≡ None → Stands terms worker begun out first now → SoFar terms worker begun out first now
   so_far now runs stands =
       let devices = subst (λ (o : Option (Result End SessionFault)). DevicesBy o first now.stream) runs stands.devices in
@@ -136,7 +136,7 @@ turn_stands (Err fault) lent lent' worker old new runs turned =
           let so = so_far terms worker begun out first old runs stands in
           stands_as terms worker begun out first (Some (Err fault)) new fails.outcome
           (running_fails fault terms worker out old.session _ source new.session _ so.running (λ none. fails))
-          (DrawsWords-join so.conduct turned.words) (devices_of fault first new.stream (turned.failed runs))
+          (DrawsNumbers-join so.conduct turned.numbers) (devices_of fault first new.stream (turned.failed runs))
           (λ none. turned.counted (stands.counted none)) turned.most;
     }
 

@@ -1,7 +1,7 @@
 -- What a whole session's run says of its end, or of its fault.
 use Rattle.std.proofs.Common.{◌≡◌, ◌≤◌, ℕ, true, Result, Ok, Err, sym, subst}
 use Rattle.std.specs.Prelude.{IfOk, IfErr, OnOk}
-use Rattle.rand_core.specs.Stream.{Stream as Words}
+use Rattle.rand_core.specs.Stream.{Stream as Numbers}
 use Rattle.bt_peer.specs.declared.fault.End.{End}
 use Rattle.bt_peer.specs.declared.fault.SessionFault.{SessionFault}
 use Rattle.bt_peer.specs.declared.fault.SessionFault.TheVariants as faults
@@ -12,7 +12,7 @@ use Rattle.bt_peer.specs.Sessions.{IsCutShort, IsWhole}
 use Rattle.bt_peer.specs.Outcomes.{RunsTo, around_place}
 use Rattle.bt_peer.specs.Terms.{TermsState}
 
-module _ (terms : TermsState) (worker : ℕ) (generator : Words) (past : PlaceRecord) (old : StreamRecord)
+module _ (terms : TermsState) (worker : ℕ) (generator : Numbers) (past : PlaceRecord) (old : StreamRecord)
     (past' : PlaceRecord) (new : StreamRecord) where
   pub ran_whole : (outcome : Result End SessionFault) → RunsTo outcome terms worker generator past old past' new →
       IfOk outcome (λ end. IsWhole end terms worker (around_place past old) (around_place past' new))

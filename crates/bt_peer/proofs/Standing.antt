@@ -5,7 +5,7 @@ use Rattle.std.specs.Io.KnownBytes.{Appends, Consumes, IsAtEnd}
 use Rattle.bt_picker.specs.Positions.{DeskState}
 use Rattle.bt_peer.specs.declared.fault.End.{End}
 use Rattle.bt_peer.specs.declared.fault.SessionFault.{SessionFault}
-use Rattle.rand_core.specs.Stream.{Stream as Words}
+use Rattle.rand_core.specs.Stream.{Stream as Numbers}
 use Rattle.bt_peer.specs.Conduct.{Calls}
 use Rattle.bt_peer.specs.Acts.{Act, is_in}
 use Rattle.bt_peer.specs.Reader.{SourceState}
@@ -141,7 +141,7 @@ stands_later (Some outcome) terms worker out now source short old new later stan
 
 -- while another worker takes a turn
 pub others_stand : (worker other : ℕ) (old new : DeskState) (session : SessionState) (told : List Bool) (stream : StreamRecord)
-    (short : Bool) (generator : Words) →
+    (short : Bool) (generator : Numbers) →
     LeavesOthers worker old new → other ≢ worker →
     Keeps other (record { desk = old; session = session; told = told; stream = stream; short = short; generator = generator })
     (record { desk = new; session = session; told = told; stream = stream; short = short; generator = generator })

@@ -1,4 +1,4 @@
--- What a worker's calls keep to beside their turns: where the words of Next come from, and that a completed piece is checked at once.
+-- What a worker's calls keep to beside their turns: where the numbers of Next come from, and that a completed piece is checked at once.
 use Rattle.std.specs.Prelude.{◌≡◌, ℕ, ◌==◌, Bool, true, false, ◌&&◌, List, [], ◌∷◌, ◌++◌, Option, Some, None, Result, Ok, Err}
 use Rattle.rand_core.specs.Steps.{stream_of, steps_u32}
 use Rattle.rand_core.specs.Stream.{Stream, next_u64}
@@ -22,20 +22,20 @@ generator_of seed number = answers_of (started 64 multiplier_64 seed (increment_
 abbrev pub Calls : Type 0
 Calls = List (CallMark × Reply)
 
--- these are the next words of a generator, and the last is what it answers after them
+-- these are the next numbers of a generator, and the last is what it answers after them
 abbrev pub Draws : Stream → List ℕ → Stream → Type 0
 Draws generator [] left = left ≡ generator
-Draws generator (word ∷ words) left = (word ≡ (next_u64 generator).0) × Draws (next_u64 generator).1 words left
+Draws generator (number ∷ numbers) left = (number ≡ (next_u64 generator).0) × Draws (next_u64 generator).1 numbers left
 
--- the word of the call, if it is Next
-abbrev pub word_of : CallMark → List ℕ
-word_of (marks.Next word) = word ∷ []
-word_of call = []
+-- the number that the call was given, if it is Next
+abbrev pub given_number : CallMark → List ℕ
+given_number (marks.Next word) = word ∷ []
+given_number call = []
 
--- the words of the Next calls, in order
-abbrev pub words_of : Calls → List ℕ
-words_of [] = []
-words_of (made ∷ calls) = word_of made.0 ++ words_of calls
+-- the numbers of the Next calls, in order
+abbrev pub numbers_of : Calls → List ℕ
+numbers_of [] = []
+numbers_of (made ∷ calls) = given_number made.0 ++ numbers_of calls
 
 -- the piece that this call completed, if it did
 abbrev pub completed_by : CallMark × Reply → Option ℕ
@@ -62,22 +62,22 @@ pub record SettlesAtOnce (piece : ℕ) (old new : Calls) : Type 0 where
   pub reply : Reply
   pub made : new ≡ old ++ (marks.Settle piece, reply) ∷ []
 
--- The calls of a stretch: the words of Next are the generator's next ones, in order, and, at a place that checks its pieces itself,
+-- The calls of a stretch: the numbers of Next are the generator's next ones, in order, and, at a place that checks its pieces itself,
 -- each completed piece is checked at once.
 pub record Conducts (settles : Bool) (generator : Stream) (old new : Calls) (left : Stream) : Type 0 where
   pub gained : Calls
   pub calls : new ≡ old ++ gained
-  pub drawn : Draws generator (words_of gained) left
+  pub drawn : Draws generator (numbers_of gained) left
   pub checked : settles ≡ true → all_checked gained ≡ true
 
--- The calls of a stretch that a fault may have cut off: the words of Next are the generator's next ones, in order.
-pub record DrawsWords (generator : Stream) (old new : Calls) : Type 0 where
+-- The calls of a stretch that a fault may have cut off: the numbers of Next are the generator's next ones, in order.
+pub record DrawsNumbers (generator : Stream) (old new : Calls) : Type 0 where
   pub gained : Calls
   pub calls : new ≡ old ++ gained
   pub left : Stream
-  pub drawn : Draws generator (words_of gained) left
+  pub drawn : Draws generator (numbers_of gained) left
 
 -- the calls of a stretch that went on, or that a fault cut off
 abbrev pub ConductsBy : {X : Type 0} → Result X SessionFault → Bool → Stream → Calls → Calls → Stream → Type 0
 ConductsBy (Ok value) settles generator old new left = Conducts settles generator old new left
-ConductsBy (Err fault) settles generator old new left = DrawsWords generator old new
+ConductsBy (Err fault) settles generator old new left = DrawsNumbers generator old new

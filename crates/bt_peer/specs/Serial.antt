@@ -15,7 +15,7 @@ use Rattle.bt_peer.specs.declared.fault.End.{End}
 use Rattle.bt_peer.specs.declared.fault.SessionFault.{SessionFault}
 use Rattle.bt_peer.specs.declared.fault.SessionFault.TheVariants as faults
 use Rattle.bt_peer.specs.declared.stream.Stream.{Stream}
-use Rattle.bt_peer.specs.Conduct.{Calls, DrawsWords, all_checked, generator_of}
+use Rattle.bt_peer.specs.Conduct.{Calls, DrawsNumbers, all_checked, generator_of}
 use Rattle.bt_peer.specs.Desks.{calls_in}
 use Rattle.bt_peer.specs.Reader.{SourceState, most_reads}
 use Rattle.bt_peer.specs.Places.{PlaceRecord}
@@ -113,8 +113,8 @@ pub record Ended (outcome : Result End SessionFault) (short : Bool) (terms : Ter
   -- the reads that the session counted
   pub reads : ℕ
   pub ends : EndsAs outcome terms worker (before_all desk.setting worker old) (source_of new reads) (around desk worker told short new)
-  -- the words of its Next calls are those of the generator of its number, made of the seed
-  pub words : DrawsWords (generator_of seed worker) [] (calls_in desk.history worker)
+  -- the numbers of its Next calls are those of the generator of its number, made of the seed
+  pub numbers : DrawsNumbers (generator_of seed worker) [] (calls_in desk.history worker)
   pub checks : ChecksAfter outcome (calls_in desk.history worker)
   pub devices : DevicesAfter outcome old new
   -- its reads are those that its source was asked for, if none were before, and no more than a session asks for

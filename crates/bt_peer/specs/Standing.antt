@@ -10,8 +10,8 @@ use Rattle.bt_peer.specs.declared.fault.End.{End}
 use Rattle.bt_peer.specs.declared.fault.SessionFault.{SessionFault}
 use Rattle.bt_peer.specs.declared.seat.Seat.{Seat}
 use Rattle.bt_peer.specs.declared.stream.TheConstants.{MOST_STREAMS}
-use Rattle.rand_core.specs.Stream.{Stream as Words}
-use Rattle.bt_peer.specs.Conduct.{Calls, Conducts, DrawsWords, answers_of, generator_of}
+use Rattle.rand_core.specs.Stream.{Stream as Numbers}
+use Rattle.bt_peer.specs.Conduct.{Calls, Conducts, DrawsNumbers, answers_of, generator_of}
 use Rattle.bt_peer.specs.Desks.{calls_in}
 use Rattle.bt_peer.specs.News.{AreTold}
 use Rattle.bt_peer.specs.Places.{Extends}
@@ -30,7 +30,7 @@ pub record Standing : Type 0 where
   -- a call of its last turn found no memory
   pub short : Bool
   -- all that its generator will answer
-  pub generator : Words
+  pub generator : Numbers
 
 -- desk, seat and stream together
 abbrev pub standing : DeskState → Seat → StreamRecord → Standing
@@ -49,13 +49,13 @@ DevicesBy None old new = (new.failed ≡ old.failed) × (new.writer_failed ≡ o
 DevicesBy (Some outcome) old new = DevicesAfter outcome old new
 
 -- the calls of a session that runs, or that ended so, from this generator on
-abbrev pub ConductBy : Option (Result End SessionFault) → Words → Calls → Calls → Words → Type 0
+abbrev pub ConductBy : Option (Result End SessionFault) → Numbers → Calls → Calls → Numbers → Type 0
 ConductBy None generator old new left = Conducts true generator old new left
 ConductBy (Some (Ok end)) generator old new left = Conducts true generator old new left
-ConductBy (Some (Err fault)) generator old new left = DrawsWords generator old new
+ConductBy (Some (Err fault)) generator old new left = DrawsNumbers generator old new
 
 -- a session that began in these surroundings, with that generator and that stream, stands so
-pub record Stands (terms : TermsState) (worker : ℕ) (generator : Words) (out : Surroundings) (first : StreamRecord) (now : Standing) : Type 0 where
+pub record Stands (terms : TermsState) (worker : ℕ) (generator : Numbers) (out : Surroundings) (first : StreamRecord) (now : Standing) : Type 0 where
   pub stands : StandsBy now.session.outcome terms worker out now.session (source_of now.stream now.session.reads)
       (around now.desk worker now.told false now.stream) (around now.desk worker now.told now.short now.stream)
   pub conduct : ConductBy now.session.outcome generator out.past.calls (calls_in now.desk.history worker) now.generator
@@ -65,7 +65,7 @@ pub record Stands (terms : TermsState) (worker : ℕ) (generator : Words) (out :
 
 -- a session that stood goes on standing
 pub record Keeps (worker : ℕ) (old new : Standing) : Type 0 where
-  pub still : (terms : TermsState) (generator : Words) (out : Surroundings) (first : StreamRecord) →
+  pub still : (terms : TermsState) (generator : Numbers) (out : Surroundings) (first : StreamRecord) →
       Stands terms worker generator out first old → Stands terms worker generator out first new
 
 -- a worker's turn leaves alone what the others called, and what is had stays had

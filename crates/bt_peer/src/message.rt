@@ -3,7 +3,7 @@
 ghost use Rattle.std.specs.Prelude.{◌≡◌, ◌⊎◌, None, Some, false, [], IfErr, IfOk, OnOk, MatchOption};
 ghost use Rattle.bt_peer.specs.declared.fault.SessionFault.TheVariants.{NoMemory, BadBits};
 ghost use Rattle.rand_core.specs.Stream.{Stream};
-ghost use Rattle.bt_peer.specs.Conduct.{ConductsBy, word_of};
+ghost use Rattle.bt_peer.specs.Conduct.{ConductsBy, given_number};
 ghost use Rattle.bt_peer.specs.Acts.{is_check, mark_of_call};
 ghost use Rattle.bt_peer.specs.Terms.{pieces_of};
 ghost use Rattle.bt_peer.specs.Turns.{call_of, arrived_piece as piece_of_mark, if_completed, IsAcceptable, IsLater};
@@ -84,8 +84,8 @@ fn call_and_check<P: Place, W: Sink>(
         (outlet P.Place W.Sink place.old said.old) (outlet P.Place W.Sink place.new said.new)) }
     ensures err { IfErr result (λ fault. OpeningStops fault (Some (mark_of_call call))
         (outlet P.Place W.Sink place.old said.old) (outlet P.Place W.Sink place.new said.new)) }
-    // At a call that isn't Next no word is drawn.
-    ensures conduct { word_of (mark_of_call call) ≡ [] → (generator : Stream) →
+    // At a call that isn't Next no number is drawn.
+    ensures conduct { given_number (mark_of_call call) ≡ [] → (generator : Stream) →
         ConductsBy result P.settles generator (P.past place.old).calls (P.past place.new).calls generator }
 {
     let arrived = arrived_piece(&call);

@@ -214,7 +214,7 @@ fn open_desk(
     Ok(desk)
 }
 
-/// Sessions with recorded peers at one desk, in one thread. Worker `i` speaks for stream `i`, with the words of the generator `i` of the
+/// Sessions with recorded peers at one desk, in one thread. Worker `i` speaks for stream `i`, with the numbers of the generator `i` of the
 /// seed. In rounds each session that hasn't ended takes a turn, in the order of the streams; one more worker makes the last checks.
 ///
 /// Before the first round that worker tells which pieces are wanted, if `want` is given; else each piece is. The rules are those of the

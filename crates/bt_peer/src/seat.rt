@@ -20,7 +20,7 @@ pub struct Seat {
     pub told: Bitfield,
     /// So many of the pieces that the desk lists as finished were told, from the first on.
     pub seen: usize,
-    /// It gives the words of Next.
+    /// It gives the numbers of Next.
     pub rng: Lcg64Xsh32,
     /// A call of its last turn found no memory; no turn follows such a one.
     pub short: bool,

@@ -69,7 +69,7 @@ impl Model for Session {
 impl Session {
     ghost use Rattle.rand_core.specs.Stream.{Stream};
     ghost use Rattle.bt_peer.specs.declared.fault.SessionFault.TheVariants.{WriteFault};
-    ghost use Rattle.bt_peer.specs.Conduct.{Conducts, ConductsBy, DrawsWords, answers_of};
+    ghost use Rattle.bt_peer.specs.Conduct.{Conducts, ConductsBy, DrawsNumbers, answers_of};
     ghost use Rattle.bt_peer.specs.Reader.{most_reads, source_state};
     ghost use Rattle.bt_peer.specs.Terms.{terms_of};
     ghost use Rattle.bt_peer.specs.Steps.{surroundings};
@@ -118,7 +118,7 @@ impl Session {
             self.old (surroundings P.past R.left W.written place.old reader.old writer.old)
             (source_state R.left R.ended R.failed reader.new self.new.reads)
             self.new (surroundings P.past R.left W.written place.new reader.new writer.new)) }
-        // No word is drawn.
+        // No number is drawn.
         ensures conduct { (generator : Stream) →
             ConductsBy result P.settles generator (P.past place.old).calls (P.past place.new).calls generator }
         ensures counted { R.reads reader.old ≡ self.old.reads → R.reads reader.new ≡ self.new.reads }
@@ -176,10 +176,10 @@ impl Session {
             self.old (surroundings P.past R.left W.written place.old reader.old writer.old)
             (source_state R.left R.ended R.failed reader.new self.new.reads)
             self.new (surroundings P.past R.left W.written place.new reader.new writer.new)) }
-        // The words of Next are the generator's, and a piece is checked at once where the place checks it itself.
+        // The numbers of Next are the generator's, and a piece is checked at once where the place checks it itself.
         ensures conduct { OnOk result (Conducts P.settles
             (answers_of rng.old) (P.past place.old).calls (P.past place.new).calls (answers_of rng.new)) }
-        ensures words { OnErr result (DrawsWords (answers_of rng.old) (P.past place.old).calls (P.past place.new).calls) }
+        ensures numbers { OnErr result (DrawsNumbers (answers_of rng.old) (P.past place.old).calls (P.past place.new).calls) }
         // What the session counts is what the source was asked, where that was so before.
         ensures counted { R.reads reader.old ≡ self.old.reads → R.reads reader.new ≡ self.new.reads }
         ensures most { self.new.reads ≤ most_reads }

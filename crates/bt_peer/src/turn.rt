@@ -35,7 +35,7 @@ pub fn greet<R: Source, W: Sink, P: Place>(
     ensures ok { OnOk result (TakesTurn terms.now greeting.now
         (kept heard.old said.old) (round_turn P.Place R.Source W.Sink place.old reader.old said.old)
         (kept heard.new said.new) (round_turn P.Place R.Source W.Sink place.new reader.new said.new)) }
-    // No word is drawn.
+    // No number is drawn.
     ensures conduct { (generator : Stream) →
         ConductsBy result P.settles generator (P.past place.old).calls (P.past place.new).calls generator }
     ensures few { OnOk result (UsesUp (hearing R.Source heard.old reader.old) (hearing R.Source heard.new reader.new)) }

@@ -2,7 +2,7 @@
 
 ghost use Rattle.std.specs.Prelude.{ℕ, ◌≡◌, ◌≤◌, true, IfOk, IfErr, OnOk, OnErr};
 ghost use Rattle.bt_peer.specs.declared.fault.SessionFault.TheVariants.{WriteFault};
-ghost use Rattle.bt_peer.specs.Conduct.{Conducts, DrawsWords, answers_of};
+ghost use Rattle.bt_peer.specs.Conduct.{Conducts, DrawsNumbers, answers_of};
 ghost use Rattle.bt_peer.specs.Reader.{most_reads, source_state};
 ghost use Rattle.bt_peer.specs.Terms.{terms_of};
 ghost use Rattle.bt_peer.specs.Steps.{surroundings};
@@ -36,10 +36,10 @@ pub fn session<R: Source, W: Sink, P: Place>(
         (surroundings P.past R.left W.written place.new reader.new writer.new)) }
     // It comes to its end only where its source did.
     ensures ended { OnOk result (R.ended reader.new ≡ true) }
-    // The words of Next are the generator's, and a piece is checked at once where the place checks it itself.
+    // The numbers of Next are the generator's, and a piece is checked at once where the place checks it itself.
     ensures conduct { OnOk result (Conducts P.settles
         (answers_of rng.old) (P.past place.old).calls (P.past place.new).calls (answers_of rng.new)) }
-    ensures words { OnErr result (DrawsWords (answers_of rng.old) (P.past place.old).calls (P.past place.new).calls) }
+    ensures numbers { OnErr result (DrawsNumbers (answers_of rng.old) (P.past place.old).calls (P.past place.new).calls) }
     // The reads that the session counted are those that its source was asked for, if none were before.
     ensures cut_short { IfErr result (λ fault. (reads : ℕ) × ((R.reads reader.old ≡ 0 → R.reads reader.new ≡ reads)
         × IsCutShort fault (terms_of torrent.value depth) worker

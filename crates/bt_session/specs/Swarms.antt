@@ -23,7 +23,7 @@ EachPlays {X} record_of terms setting seed workers streams ends workers' streams
     Plays (slice_index_or ends i end) terms setting seed (slice_index_or workers i worker) (record_of (slice_index_or streams i stream))
     (slice_index_or workers' i worker) (record_of (slice_index_or streams' i stream)) short
 
--- A session ran with the words of the generator of its number, made of the seed: from no call and nothing told to this log. Each piece that
+-- A session ran with the numbers of the generator of its number, made of the seed: from no call and nothing told to this log. Each piece that
 -- it knew at its end to be finished, those that it told among them, is had in the journal. Where a call of it found no memory the run is short.
 pub record Swarmed (journal : History) (outcome : Result End SessionFault) (terms : TermsState) (setting : Setting) (seed number : ℕ)
     (old : StreamRecord) (log : List Mark) (new : StreamRecord) (short : Bool) : Type 0 where

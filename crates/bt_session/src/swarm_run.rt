@@ -114,7 +114,7 @@ fn run<
 }
 
 /// Sessions with recorded peers at one desk, each in a thread of its own, and checkers in theirs. Worker `i` speaks for stream `i`, with
-/// the words of the generator `i` of the seed. A session puts a ticket for each piece that it completes; the checkers, whose workers come
+/// the numbers of the generator `i` of the seed. A session puts a ticket for each piece that it completes; the checkers, whose workers come
 /// behind those of the streams, take the tickets, hash the pieces while others have the desk, and settle them. When all have ended, one
 /// more worker does the same for each piece that still waits for a check, the least first. Before each turn of a session its worker passes
 /// the gate.
@@ -149,7 +149,7 @@ pub fn swarm<
     ensures ends { IfOk result (λ run. length run.ends.items ≡ length streams.items) }
     ensures streams { IfOk result (λ run. length run.streams.items ≡ length streams.items) }
     // Each session ran from the empty log and the stream as it was handed in to its worker's log and the stream as it was given back, with
-    // the words of the generator of the seed and its number. After a fault it made Leave, unless the run is short.
+    // the numbers of the generator of the seed and its number. After a fault it made Leave, unless the run is short.
     ensures sessions { IfOk result (λ run. EachSwarmed (stream_record R.left R.ended R.failed R.reads W.written W.failed)
         (terms_of torrent.value rules.depth) (setting_of torrent.value.layout (length streams.items + checkers + 1) rules) seed
         streams.items run.book.desk.history run.book.logs.items run.streams.items run.ends.items run.short) }

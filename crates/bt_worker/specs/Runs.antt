@@ -33,7 +33,7 @@ IsRunFault _ = Unit {0}
 
 -- ---- sessions
 
--- A session ran at a worker's place, with the words of the generator of its number, made of the seed. It is short if a call found no memory.
+-- A session ran at a worker's place, with the numbers of the generator of its number, made of the seed. It is short if a call found no memory.
 pub record Plays (outcome : Result End SessionFault) (terms : TermsState) (setting : Setting) (seed : ℕ)
     (worker : WorkerState) (old : StreamRecord) (worker' : WorkerState) (new : StreamRecord) (short : Bool) : Type 0 where
   -- a call found no memory

@@ -26,7 +26,7 @@ pub struct Played<L: RunName, R, W> {
     pub short: bool,
 }
 
-/// A whole session at a shared desk, with the words of the generator of its worker's number.
+/// A whole session at a shared desk, with the numbers of the generator of its worker's number.
 pub fn play<L: RunName, R: Source, W: Sink, T: Wait, G: Gate>(
     rt: &T,
     alloc: Global,

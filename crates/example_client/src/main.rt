@@ -81,18 +81,18 @@ fn download(
     peer: &mut Peer,
     store: &mut Store,
 ) -> Result<()> {
-    let mut words = Lcg64Xsh32::new(0, u64::from(worker));
+    let mut rng = Lcg64Xsh32::new(0, u64::from(worker));
     let shown = Bitfield::from_wire(alloc, &SHOWN, 2)?;
     keeper.tell(alloc, worker, Told::Join)?;
     keeper.tell(alloc, worker, Told::Bits(&shown))?;
     keeper.tell(alloc, worker, Told::Unchoke)?;
-    ask(alloc, keeper, worker, &mut words, peer)?;
+    ask(alloc, keeper, worker, &mut rng, peer)?;
     'answers: for _ in 0..MOST_ANSWERS {
         let Some((block, bytes)) = peer.answer()? else {
             break;
         };
         receive(alloc, keeper, worker, block, bytes, store)?;
-        ask(alloc, keeper, worker, &mut words, peer)?;
+        ask(alloc, keeper, worker, &mut rng, peer)?;
     }
     keeper.tell(alloc, worker, Told::Leave)?;
     Ok(())
@@ -120,11 +120,11 @@ fn ask(
     alloc: Global,
     keeper: &mut Keeper,
     worker: u32,
-    words: &mut Lcg64Xsh32,
+    rng: &mut Lcg64Xsh32,
     peer: &mut Peer,
 ) -> Result<()> {
     'asks: for _ in 0..MOST_ASKS {
-        match keeper.tell(alloc, worker, Told::Next(words.next_u64()))? {
+        match keeper.tell(alloc, worker, Told::Next(rng.next_u64()))? {
             Reply::Request(block) => peer.request(block)?,
             Reply::Cancel(block) => peer.cancel(block),
             _ => break,

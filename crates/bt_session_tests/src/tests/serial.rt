@@ -241,23 +241,23 @@ fn has_two_faults(rt: &impl Abort, told: &Outcome) {
 }
 
 #[test]
-fn words_come_from_the_seed(rt: HostRuntime) -> Result<(), Fail> {
+fn numbers_come_from_the_seed(rt: HostRuntime) -> Result<(), Fail> {
     let sent = sent_by_two(rt.alloc())?;
     let run = run_of_two(rt.alloc(), &sent)?;
-    asks_by(&rt, &run, 0, &FIRST_WORDS)?;
-    asks_by(&rt, &run, 1, &SECOND_WORDS)
+    asks_by(&rt, &run, 0, &FIRST_NUMBERS)?;
+    asks_by(&rt, &run, 1, &SECOND_NUMBERS)
 }
 
-/// The first words of the generators 0 and 1 of the seed 5: PCG XSH RR 64/32 (O'Neill 2014), two of its outputs a word, the first one
+/// The first numbers of the generators 0 and 1 of the seed 5: PCG XSH RR 64/32 (O'Neill 2014), two of its outputs a number, the first one
 /// below, by another program.
-const FIRST_WORDS: [u64; 4] = [
+const FIRST_NUMBERS: [u64; 4] = [
     0xfb55_ab28_0f5d_eba9,
     0x7c7a_ff85_5980_a57f,
     0xf2fe_585d_d5e4_88e8,
     0xfaaa_ee30_9485_b6dc,
 ];
 
-const SECOND_WORDS: [u64; 4] = [
+const SECOND_NUMBERS: [u64; 4] = [
     0xb5bf_2b36_f239_3151,
     0x6f62_eda3_52a2_08df,
     0x6dc9_1f1a_9499_20e5,
@@ -270,16 +270,16 @@ fn run_of_two(alloc: Global, sent: &[Vec<u8>]) -> Result<SerialRun, Fail> {
     run_by(alloc, two_pieces(alloc)?, &mut streams, 5, None, RULES)
 }
 
-/// The worker asks with these words, and with no others.
-fn asks_by(rt: &impl Abort, run: &SerialRun, worker: u32, words: &[u64]) -> Result<(), Fail> {
-    let mut words = words.iter();
+/// The worker asks with these numbers, and with no others.
+fn asks_by(rt: &impl Abort, run: &SerialRun, worker: u32, numbers: &[u64]) -> Result<(), Fail> {
+    let mut numbers = numbers.iter();
     for entry in run.desk.journal() {
         if entry.worker == worker {
             if let Call::Next(word) = &entry.call {
-                assert!(rt; words.next() == Some(word));
+                assert!(rt; numbers.next() == Some(word));
             }
         }
     }
-    assert!(rt; words.next().is_none());
+    assert!(rt; numbers.next().is_none());
     Ok(())
 }

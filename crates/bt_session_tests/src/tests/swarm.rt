@@ -78,7 +78,7 @@ fn both_ended(rt: &impl Abort, run: &Run<'_>, first: u64, second: u64) {
     assert!(rt; run.ends[1] == Ok(End { messages: second }));
 }
 
-/// A mark by its call and its reply, without words.
+/// A mark by its call and its reply, without the numbers of Next.
 fn tell(mark: &Mark, said: &mut String) -> Result<(), AllocError> {
     match &mark.call {
         CallMark::Next(_) => said.push_str("Next")?,

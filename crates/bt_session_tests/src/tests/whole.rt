@@ -40,7 +40,7 @@ fn word(call: &Call) -> &'static str {
     }
 }
 
-/// An entry by its call and its reply, without words of Next, bytes and bitfields.
+/// An entry by its call and its reply, without the numbers of Next, bytes and bitfields.
 pub fn tell(entry: &Entry, said: &mut String) -> Result<(), AllocError> {
     said.push_str(word(&entry.call))?;
     match &entry.call {

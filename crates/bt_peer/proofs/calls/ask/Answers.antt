@@ -1,7 +1,7 @@
 use Rattle.std.proofs.Common.{◌≡◌, true, false, arith, sym, ◌∙◌}
 use Rattle.std.proofs.lemmas.Result.{err_from_is_err_and}
 use Rattle.bt_peer.specs.Turns.{has_more}
-use Rattle.bt_peer.proofs.Conduct.{Conducts-join, DrawsWords-join, asked_one, asked_cut}
+use Rattle.bt_peer.proofs.Conduct.{Conducts-join, DrawsNumbers-join, asked_one, asked_cut}
 use Rattle.bt_peer.proofs.Asking.{Asking-more, Asking-last, Asking-full, Asking-stops}
 use Rattle.bt_peer.proofs.calls.ask.Goals as goal
 
@@ -13,7 +13,7 @@ returns-in_err-reply-clause-err g c =
 pub returns-in_err-reply-clause-conduct : goal.returns-in_err-reply-clause-conduct
 returns-in_err-reply-clause-conduct g c =
     let p = err_from_is_err_and c.from_residual.result c.from_residual.ensures.1 in
-    rw p.1 (DrawsWords-join c.next.invariant.conduct
+    rw p.1 (DrawsNumbers-join c.next.invariant.conduct
     (asked_cut _ _ c.next_u64.result _ _ _ c.next_u64.ensures c.in_err-reply.ensures.err))
 
 pub returns-then-not-has_more-clause-conduct : goal.returns-then-not-has_more-clause-conduct

@@ -1,5 +1,5 @@
 use Rattle.std.proofs.lemmas.Result.{err_from_is_err_and}
-use Rattle.bt_peer.proofs.Conduct.{Conducts-join, Conducts-draws, DrawsWords-join, told_conducts}
+use Rattle.bt_peer.proofs.Conduct.{Conducts-join, Conducts-draws, DrawsNumbers-join, told_conducts}
 use Rattle.bt_peer.proofs.TurnParts.{turn_done, turn_stops_open, turn_stops_news, turn_stops_ask}
 use Rattle.bt_peer.proofs.message.attend.Goals as goal
 
@@ -40,7 +40,7 @@ pub returns-in_err-ask-clause-conduct : goal.returns-in_err-ask-clause-conduct
 returns-in_err-ask-clause-conduct g c =
     let p = err_from_is_err_and c.from_residual-in_err-ask.result c.from_residual-in_err-ask.ensures.1 in
     let told = c.in_ok-tell_news.ensures.ok in
-    rw p.1 (DrawsWords-join (Conducts-join (c.in_ok-open.ensures.conduct (g.N.Rng.stream c.args.rng.now))
+    rw p.1 (DrawsNumbers-join (Conducts-join (c.in_ok-open.ensures.conduct (g.N.Rng.stream c.args.rng.now))
     (told_conducts g.P.Place.settles _ _ _ told.news told.performs.gains.up_to)) c.in_err-ask.ensures.conduct)
 
 pub returns-clause-conduct : goal.returns-clause-conduct

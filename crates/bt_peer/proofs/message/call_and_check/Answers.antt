@@ -2,7 +2,7 @@ use Rattle.std.proofs.Common.{◌≡◌, ℕ, List, [], ◌++◌, Some, sym, ap,
 use Rattle.std.proofs.lemmas.Result.{err_from_is_err_and}
 use Rattle.bt_peer.specs.Acts.{mark_of_call}
 use Rattle.bt_peer.specs.Turns.{if_completed, arrived_piece}
-use Rattle.bt_peer.proofs.Conduct.{DrawsWords-silent, other_cut, silent_draws}
+use Rattle.bt_peer.proofs.Conduct.{DrawsNumbers-silent, other_cut, silent_draws}
 use Rattle.bt_peer.proofs.Opening.{opening_stops, opening_unchecked, opening_checked}
 use Rattle.bt_peer.proofs.message.call_and_check.Goals as goal
 
@@ -34,5 +34,5 @@ pub returns-in_err-completed-clause-conduct : goal.returns-in_err-completed-clau
 returns-in_err-completed-clause-conduct g c =
     let p = err_from_is_err_and c.from_residual-in_err-completed.result c.from_residual-in_err-completed.ensures.1 in
     let made = c.in_ok-reply.ensures.ok.gains.up_to.calls in
-    rw p.1 (λ silent. λ generator. DrawsWords-silent generator _ _ _ []
-    (silent_draws generator _ _ _ made (ap (λ (words : List ℕ). words ++ []) silent)) c.in_err-completed.ensures.err.gains.calls refl)
+    rw p.1 (λ silent. λ generator. DrawsNumbers-silent generator _ _ _ []
+    (silent_draws generator _ _ _ made (ap (λ (numbers : List ℕ). numbers ++ []) silent)) c.in_err-completed.ensures.err.gains.calls refl)

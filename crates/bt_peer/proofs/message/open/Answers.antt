@@ -3,7 +3,7 @@ use Rattle.std.proofs.Common.{◌≡◌, Option, Some, None, [], refl, subst, sy
 use Rattle.bt_peer.specs.Acts.{mark_of_call}
 use Rattle.bt_history.specs.declared.mark.CallMark.{CallMark}
 use Rattle.bt_peer.specs.Turns.{call_of, Opens}
-use Rattle.bt_peer.proofs.Conduct.{own_word}
+use Rattle.bt_peer.proofs.Conduct.{own_number}
 use Rattle.bt_peer.proofs.Stretches.{Performs-none}
 use Rattle.bt_peer.proofs.TurnParts.{nothing_came, opened_stops}
 use Rattle.bt_peer.proofs.message.open.Goals as goal
@@ -28,4 +28,4 @@ returns-in-None-clause-ok g c =
 pub returns-in-Some-clause-conduct : goal.returns-in-Some-clause-conduct
 returns-in-Some-clause-conduct g c =
     let made = rw c.in-Some.is at c.in_ok-call.ensures.ok in
-    c.call_and_check.ensures.conduct (own_word c.args.message _ made.1)
+    c.call_and_check.ensures.conduct (own_number c.args.message _ made.1)

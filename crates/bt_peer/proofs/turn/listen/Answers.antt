@@ -4,7 +4,7 @@ use Rattle.std.proofs.lemmas.List.{nil_from_length}
 use Rattle.std.proofs.lemmas.Result.{err_from_is_err_and}
 use Rattle.bt_peer.specs.Reader.{source_state}
 use Rattle.bt_peer.specs.Steps.{start}
-use Rattle.bt_peer.proofs.Conduct.{DrawsWords-none, left_draws}
+use Rattle.bt_peer.proofs.Conduct.{DrawsNumbers-none, left_draws}
 use Rattle.bt_peer.proofs.Failing.{hearing_fails, ends_within, leave_refused, leave_lacks_memory, attending_fails}
 use Rattle.bt_peer.proofs.Heard.{later}
 use Rattle.bt_peer.proofs.turn.listen.Goals as goal
@@ -53,12 +53,12 @@ returns-in-Err-attend-clause-err g c =
 pub returns-in-Err-clause-conduct : goal.returns-in-Err-clause-conduct
 returns-in-Err-clause-conduct g c =
     let past = g.P.Place.past c.args.place.now in
-    left_draws _ past past _ (DrawsWords-none _ past.calls) c.leave_by-in-Err.ensures.leave
+    left_draws _ past past _ (DrawsNumbers-none _ past.calls) c.leave_by-in-Err.ensures.leave
 
 pub returns-in-Ok-None-clause-conduct : goal.returns-in-Ok-None-clause-conduct
 returns-in-Ok-None-clause-conduct g c =
     let past = g.P.Place.past c.args.place.now in
-    left_draws _ past past _ (DrawsWords-none _ past.calls) c.leave_by.ensures.leave
+    left_draws _ past past _ (DrawsNumbers-none _ past.calls) c.leave_by.ensures.leave
 
 pub returns-in-Err-attend-clause-conduct : goal.returns-in-Err-attend-clause-conduct
 returns-in-Err-attend-clause-conduct g c =

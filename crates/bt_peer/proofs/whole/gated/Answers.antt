@@ -2,7 +2,7 @@ use Rattle.std.proofs.Common.{◌<◌, ◌∙◌, arith}
 use Rattle.std.proofs.lemmas.Result.{err_from_is_err_and}
 use Rattle.bt_peer.specs.Reader.{source_state}
 use Rattle.bt_peer.specs.Sessions.{to_hear}
-use Rattle.bt_peer.proofs.Conduct.{Conducts-draws, Conducts-join, DrawsWords-join}
+use Rattle.bt_peer.proofs.Conduct.{Conducts-draws, Conducts-join, DrawsNumbers-join}
 use Rattle.bt_peer.proofs.OwnTurns.{devices_of}
 use Rattle.bt_peer.proofs.Runs.{running_on, running_ends, running_fails, unended}
 use Rattle.bt_peer.proofs.whole.gated.Goals as goal
@@ -29,7 +29,7 @@ returns-in-Some-clause-runs g c =
     record {
       reads = c.turn.new.self.reads;
       ends = running_ends c.in-Some.end _ _ _ _ _ _ _ _ was.running (λ fresh. rw c.in-Some.is at (did.ends fresh));
-      words = Conducts-draws (Conducts-join was.conduct did.conduct);
+      numbers = Conducts-draws (Conducts-join was.conduct did.conduct);
       devices = (last.leave.hears.ended, did.sound.0 ∙ was.failed, did.sound.1 ∙ was.writer_failed);
       counted = λ none. did.counted (was.counted none);
       most = did.most;
@@ -47,7 +47,7 @@ returns-in_err-end-clause-runs g c =
     rw (p.1, p.2) (record {
       reads = c.turn.new.self.reads;
       ends = running_fails _ _ _ _ _ _ source _ _ was.running (λ fresh. did.fails fresh);
-      words = DrawsWords-join was.conduct did.words;
+      numbers = DrawsNumbers-join was.conduct did.numbers;
       devices = devices_of _ _ _ (did.failed (unended _ _ _ _ _ was.running));
       counted = λ none. did.counted (was.counted none);
       most = did.most;

@@ -8,8 +8,8 @@ returns-clause-whole g c = ran_whole _ _ _ _ _ _ _ _ c.gated.ensures.runs
 pub returns-clause-ended : goal.returns-clause-ended
 returns-clause-ended g c = ran_out _ _ _ _ _ _ _ _ c.gated.ensures.runs
 
-pub returns-clause-words : goal.returns-clause-words
-returns-clause-words g c = on_err _ _ c.gated.ensures.runs.words
+pub returns-clause-numbers : goal.returns-clause-numbers
+returns-clause-numbers g c = on_err _ _ c.gated.ensures.runs.numbers
 
 pub returns-clause-cut_short : goal.returns-clause-cut_short
 returns-clause-cut_short g c = ran_short _ _ _ _ _ _ _ _ c.gated.ensures.runs
