@@ -9,14 +9,14 @@ use Rattle.std.proofs.lemmas.Nat.Bits.{bit_at-zero}
 use mathlib.Core.Logic.{dite}
 use native.Mathlib.Decide.{dec_le, ℕ_discrete}
 use Rattle.bt_board.specs.declared.view.Load.{Load}
-use Rattle.bt_board.specs.declared.view.View.{View}
+use Rattle.bt_board.specs.declared.view.BoardView.{BoardView}
 use Rattle.bt_board.specs.Steps.{Finds, Gives, GivesNone}
 use Rattle.bt_board.specs.Story.{Has, IsSet, view, load, with_load, with_loads, loads_from, Seen}
 use Rattle.bt_board.proofs.Lists.{has_front, has_parts}
 use Rattle.bt_board.proofs.BitRows.{with_bit, set_here, still_set, newly_set}
 
 -- The first n words were loaded, with the values found. Each bit that was found was given before, and what had been seen was found
-pub record Looked (v : View) (given : List ℕ) (n : ℕ) (w : View) : Type 0 where
+pub record Looked (v : BoardView) (given : List ℕ) (n : ℕ) (w : BoardView) : Type 0 where
   pub found : List ℕ
   pub count : length found ≡ n
   pub now : w ≡ with_loads v found
@@ -24,7 +24,7 @@ pub record Looked (v : View) (given : List ℕ) (n : ℕ) (w : View) : Type 0 wh
   pub known : (q : ℕ) → q / 64 < n → Seen v q → IsSet found q
 
 -- one more word was loaded: the values found then
-pub record Next (v : View) (given : List ℕ) (n : ℕ) (w : View) (value : ℕ) : Type 0 where
+pub record Next (v : BoardView) (given : List ℕ) (n : ℕ) (w : BoardView) (value : ℕ) : Type 0 where
   pub found : List ℕ
   pub count : length found ≡ n + 1
   pub now : w ≡ with_loads v found
@@ -45,11 +45,11 @@ last_is [] y (suc n) e = absurd (omega arith)
 last_is (x ∷ xs) y zero e = absurd (omega arith)
 last_is (x ∷ xs) y (suc n) e = last_is xs y n (omega arith)
 
-seen_more : (v : View) (found : List ℕ) (q : ℕ) → Seen v q → Seen (with_loads v found) q
+seen_more : (v : BoardView) (found : List ℕ) (q : ℕ) → Seen v q → Seen (with_loads v found) q
 seen_more v found q seen = ⊎_elim (λ m. inl m) (λ l. inr (has_front (λ (x : Load). (x.word ≡ q / 64) × (bit_at x.found (q % 64) ≡ 1)) v.loads
     (loads_from 0 found) l)) seen
 
-pub next : (v : View) (given : List ℕ) (n pieces : ℕ) (w w' : View) (value : ℕ) → Looked v given n w → Finds pieces w n value w' →
+pub next : (v : BoardView) (given : List ℕ) (n pieces : ℕ) (w w' : BoardView) (value : ℕ) → Looked v given n w → Finds pieces w n value w' →
     Next v given n w' value
 next v given n pieces w w' value so_far load_found =
     let step = load_found.lists in
@@ -61,11 +61,11 @@ next v given n pieces w w' value so_far load_found =
     λ q lt. get_or_append_left xs (value ∷ []) 0 (q / 64) (let c = so_far.count in omega arith) in
     let at : (q : ℕ) → q / 64 ≡ n → slice_index ys (q / 64) ≡ value = λ q e. ap (slice_index ys) e ∙ last_is xs value n so_far.count in
     let long : length ys ≡ n + 1 = length-append xs (value ∷ []) ∙ ap (λ (k : ℕ). k + 1) so_far.count in
-    let shown : (q : ℕ) → Seen v q → Seen w q = λ q s. subst (λ (u : View). Seen u q) (sym so_far.now) (seen_more v xs q s) in
+    let shown : (q : ℕ) → Seen v q → Seen w q = λ q s. subst (λ (u : BoardView). Seen u q) (sym so_far.now) (seen_more v xs q s) in
     record {
       found = ys;
       count = long;
-      now = step ∙ ap (λ (u : View). with_load u (load n value)) so_far.now
+      now = step ∙ ap (λ (u : BoardView). with_load u (load n value)) so_far.now
           ∙ ap (λ (l : List Load). view v.marks l v.seats) (append_assoc v.loads (loads_from 0 xs) (load n value ∷ []) ∙
           ap (λ (l : List Load). v.loads ++ l) (sym (loads_more 0 xs value n (let c = so_far.count in omega arith))));
       here = λ q e h. subst (Bit q) (sym (at q e)) h;
@@ -77,7 +77,7 @@ next v given n pieces w w' value so_far load_found =
     }
 
 -- where the word had no bit that is new
-pub goes_on : (v : View) (given given' : List ℕ) (n : ℕ) (w : View) (value : ℕ) → Next v given n w value → GivesNone n value given given' →
+pub goes_on : (v : BoardView) (given given' : List ℕ) (n : ℕ) (w : BoardView) (value : ℕ) → Next v given n w value → GivesNone n value given given' →
     Looked v given (n + 1) w
 goes_on v given given' n w value more none_new = record {
   found = more.found;
@@ -96,7 +96,7 @@ pub bit_in : (n b : ℕ) → b < 64 → (n * 64 + b) % 64 ≡ b
 bit_in n b lt = mod-mul-add n 64 b lt
 
 -- where the piece p of the word is the least that is new
-pub gives : (v : View) (given given' : List ℕ) (n : ℕ) (w : View) (value p : ℕ) → Next v given n w value → Gives n value given given' p
+pub gives : (v : BoardView) (given given' : List ℕ) (n : ℕ) (w : BoardView) (value p : ℕ) → Next v given n w value → Gives n value given given' p
     → (found : List ℕ) × (length found ≡ p / 64 + 1) × (w ≡ with_loads v found) × IsSet found p × (¬ IsSet given p) ×
     ((q : ℕ) → q < p → IsSet found q → IsSet given q)
 gives v given given' n w value p more one =
@@ -153,11 +153,11 @@ loaded_in a (x ∷ xs) q h = ⊎_elim (λ (here : (a ≡ q / 64) × (bit_at x (q
     (λ there. let r = loaded_in (a + 1) xs q there in let e = r.1 in (suc r.0, omega arith, r.2)) h
 
 -- where all words were loaded, each piece that was seen was given
-pub complete : (v : View) (given : List ℕ) (n : ℕ) (w : View) → Looked v given n w → (q : ℕ) → q / 64 < n → Seen w q → IsSet given q
+pub complete : (v : BoardView) (given : List ℕ) (n : ℕ) (w : BoardView) → Looked v given n w → (q : ℕ) → q / 64 < n → Seen w q → IsSet given q
 complete v given n w all q lt seen = ⊎_elim
     (λ m. all.old q (all.known q lt (inl m)))
     (λ l. ⊎_elim (λ before. all.old q (all.known q lt (inr before)))
     (λ new. let r = loaded_in 0 all.found q new in let e = r.1 in let at : r.0 ≡ q / 64 = omega arith in
     all.old q (subst (λ (k : ℕ). bit_at (slice_index all.found k) (q % 64) ≡ 1) at r.2))
     (has_parts (λ (x : Load). (x.word ≡ q / 64) × (bit_at x.found (q % 64) ≡ 1)) v.loads (loads_from 0 all.found) l))
-    (subst (λ (u : View). Seen u q) all.now seen)
+    (subst (λ (u : BoardView). Seen u q) all.now seen)

@@ -14,7 +14,7 @@ use Rattle.atomic_table.proofs.Lists.{at_set, at_longer, set_else}
 use Rattle.bt_meta.specs.Layout.{Layout, piece_count}
 use Rattle.bt_board.specs.declared.view.Mark.{Mark}
 use Rattle.bt_board.specs.declared.view.Load.{Load}
-use Rattle.bt_board.specs.declared.view.View.{View}
+use Rattle.bt_board.specs.declared.view.BoardView.{BoardView}
 use Rattle.bt_board.specs.Story.{Has, Each, IsSet, words_of, view, load, fresh, without_first, first_of, with_mark, with_load, both, spent, Marked}
 use Rattle.bt_board.specs.Story.{Seen, StandsFor, IsProven, Story}
 use Rattle.bt_board.specs.Steps.{Looks, Announces}
@@ -23,7 +23,7 @@ use Rattle.bt_board.proofs.Lists.{in_range, append_nil_left}
 use Rattle.bt_board.proofs.BitRows.{bit_of, with_bit, set_here as bit_set, still_set, newly_set, none_set, word_below}
 
 -- a view that changes and still stands for its seats, with words in which just the bits that it has marked are new
-changed : (t : Layout) (n : ℕ) (words words' : List ℕ) (views : List View) (id : ℕ) (v w : View) → Story t n words views → get_elem? views id ≡ some v
+changed : (t : Layout) (n : ℕ) (words words' : List ℕ) (views : List BoardView) (id : ℕ) (v w : BoardView) → Story t n words views → get_elem? views id ≡ some v
     → length words' ≡ length words → w.seats ≡ v.seats → v.seats ≢ []
     → ((p : ℕ) → Marked v p → Marked w p)
     → ((p : ℕ) → IsSet words p → IsSet words' p)
@@ -32,14 +32,14 @@ changed : (t : Layout) (n : ℕ) (words words' : List ℕ) (views : List View) (
     → Each (IsProven t) w.marks
     → Story t n words' (set views id w)
 changed t n words words' views id v w s at same_length same_seats stands more stays comes shown right =
-    let Old : ℕ → View → Type 0 = λ j u. (get_elem? views j ≡ some u) ⊎ ((j ≡ id) × (w ≡ u)) in
-    let old : (j : ℕ) (u : View) → get_elem? (set views id w) j ≡ some u → Old j u =
+    let Old : ℕ → BoardView → Type 0 = λ j u. (get_elem? views j ≡ some u) ⊎ ((j ≡ id) × (w ≡ u)) in
+    let old : (j : ℕ) (u : BoardView) → get_elem? (set views id w) j ≡ some u → Old j u =
     λ j u e. ⊎_elim (λ x. inr x) (λ x. inl x.1) (at_set views id j w u e) in
-    let was : (j : ℕ) (u : View) → get_elem? (set views id w) j ≡ some u → (o : View) × (get_elem? views j ≡ some o) × (u.seats ≡ o.seats)
+    let was : (j : ℕ) (u : BoardView) → get_elem? (set views id w) j ≡ some u → (o : BoardView) × (get_elem? views j ≡ some o) × (u.seats ≡ o.seats)
     = λ j u e. ⊎_elim (λ o. (u, o, refl)) (λ x. (
       v,
       subst (λ (k : ℕ). get_elem? views k ≡ some v) (sym x.0) at,
-      ap (λ (y : View). y.seats) (sym x.1) ∙
+      ap (λ (y : BoardView). y.seats) (sym x.1) ∙
           same_seats,
     )) (old j u e) in
     record {
@@ -50,17 +50,17 @@ changed t n words words' views id v w s at same_length same_seats stands more st
             id,
             w,
             set_at views id v w at,
-            more p (subst (λ (u : View). Marked u p)
+            more p (subst (λ (u : BoardView). Marked u p)
                 (same_item views m.0 m.1 v m.2 (subst (λ (k : ℕ). get_elem? views k ≡ some v) (sym e) at)) m.3),
           ))
           (λ ne. (m.0, m.1, set_else views id m.0 w ne ∙ m.2, m.3)))
           (λ new. (id, w, set_at views id v w at, new)) (comes p is);
-      seen = λ j u e p h. ⊎_elim (λ o. stays p (s.seen j u o p h)) (λ x. shown p (subst (λ (y : View). Seen y p) (sym x.1) h)) (old j u e);
-      proven = λ j u e. ⊎_elim (λ o. s.proven j u o) (λ x. subst (λ (y : View). Each (IsProven t) y.marks) x.1 right) (old j u e);
+      seen = λ j u e p h. ⊎_elim (λ o. stays p (s.seen j u o p h)) (λ x. shown p (subst (λ (y : BoardView). Seen y p) (sym x.1) h)) (old j u e);
+      proven = λ j u e. ⊎_elim (λ o. s.proven j u o) (λ x. subst (λ (y : BoardView). Each (IsProven t) y.marks) x.1 right) (old j u e);
       apart = λ i j a b q ei ej ha hb. let x = was i a ei in let y = was j b ej in
           s.apart i j x.0 y.0 q x.1 y.1 (subst (λ (l : List ℕ). Has (λ r. r ≡ q) l) x.2 ha) (subst (λ (l : List ℕ). Has (λ r. r ≡ q) l) y.2 hb);
       below = λ i a ei q h. let x = was i a ei in s.below i x.0 x.1 q (subst (λ (l : List ℕ). Has (λ r. r ≡ q) l) x.2 h);
-      idle = λ i a ei no. ⊎_elim (λ o. s.idle i a o no) (λ x. absurd (stands (sym same_seats ∙ ap (λ (y : View). y.seats) x.1 ∙ no))) (old i a ei);
+      idle = λ i a ei no. ⊎_elim (λ o. s.idle i a o no) (λ x. absurd (stands (sym same_seats ∙ ap (λ (y : BoardView). y.seats) x.1 ∙ no))) (old i a ei);
     }
 
 -- a view stands for no seat or for some seat
@@ -69,17 +69,17 @@ first_seat [] P no_seat some_seat = no_seat refl
 first_seat (x ∷ xs) P no_seat some_seat = some_seat x (inl refl)
 
 -- what is set is a piece of the torrent
-pub set_piece : (t : Layout) (n : ℕ) (words : List ℕ) (views : List View) → Story t n words views → (p : ℕ) → IsSet words p → p < piece_count t
+pub set_piece : (t : Layout) (n : ℕ) (words : List ℕ) (views : List BoardView) → Story t n words views → (p : ℕ) → IsSet words p → p < piece_count t
 set_piece t n words views h p is =
     let m = h.marked p is in
     let x = each_at (IsProven t) m.1.marks (λ (y : Mark). y.piece ≡ p) (h.proven m.0 m.1 m.2) m.3 in
     subst (λ (k : ℕ). k < piece_count t) x.2 x.1.0
 
 -- the rule, as the table has it
-abbrev pub Holds : Layout → ℕ → State (Unit {0}) View → Type 0
+abbrev pub Holds : Layout → ℕ → State (Unit {0}) BoardView → Type 0
 Holds t n s = Story t n s.words s.views
 
-pub looks : (t : Layout) (n slots id word : ℕ) (v : View) (cs : List (ℕ × Unit {0})) → v.seats ≢ [] → (pieces : ℕ) → pieces ≡ piece_count t
+pub looks : (t : Layout) (n slots id word : ℕ) (v : BoardView) (cs : List (ℕ × Unit {0})) → v.seats ≢ [] → (pieces : ℕ) → pieces ≡ piece_count t
     → Allows (Holds t n) slots id (v, cs) word (λ k. k) (Looks pieces (step slots word 0 0 none) (v, cs))
 looks t n slots id word v cs stands pieces are s h len at bound =
     let found = slice_index s.words word in
@@ -103,7 +103,7 @@ looks t n slots id word v cs stands pieces are s h len at bound =
       ),
     )
 
-pub announces : (t : Layout) (n slots id : ℕ) (m : Mark) (v : View) (cs : List (ℕ × Unit {0})) → v.seats ≢ [] → IsProven t m
+pub announces : (t : Layout) (n slots id : ℕ) (m : Mark) (v : BoardView) (cs : List (ℕ × Unit {0})) → v.seats ≢ [] → IsProven t m
     → Allows (Holds t n) slots id (v, cs) (m.piece / 64) (λ k. bit_or k (bit_of m.piece))
     (Announces m (step slots (m.piece / 64) (bit_of m.piece) 0 none) (v, cs))
 announces t n slots id m v cs stands proven s h len at bound =
@@ -129,29 +129,29 @@ announces t n slots id m v cs stands proven s h len at bound =
     )
 
 -- the same, where the word and the bit are written by another name of the piece
-pub announces_as : (t : Layout) (n slots id : ℕ) (m : Mark) (p : ℕ) (v : View) (cs : List (ℕ × Unit {0})) → v.seats ≢ [] → IsProven t m → m.piece ≡ p
+pub announces_as : (t : Layout) (n slots id : ℕ) (m : Mark) (p : ℕ) (v : BoardView) (cs : List (ℕ × Unit {0})) → v.seats ≢ [] → IsProven t m → m.piece ≡ p
     → Allows (Holds t n) slots id (v, cs) (p / 64) (λ k. bit_or k (bit_of p)) (Announces m (step slots (p / 64) (bit_of p) 0 none) (v, cs))
 announces_as t n slots id m p v cs stands proven e =
     let P : ℕ → Type 0 = λ q. Allows (Holds t n) slots id (v, cs) (q / 64) (λ k. bit_or k (bit_of q))
     (Announces m (step slots (q / 64) (bit_of q) 0 none) (v, cs)) in
     subst P e (announces t n slots id m v cs stands proven)
 
-alone : (v u : View) (j : ℕ) → get_elem? (v ∷ []) j ≡ some u → (j ≡ 0) × (v ≡ u)
+alone : (v u : BoardView) (j : ℕ) → get_elem? (v ∷ []) j ≡ some u → (j ≡ 0) × (v ≡ u)
 alone v u zero e = (refl, some-injective v u e)
 alone v u (suc j) e = absurd (some-ne-none u (sym e))
 
 pub begins : (t : Layout) (n : ℕ) → Story t n (replicate (words_of (piece_count t)) 0) (view [] [] (range_with_len 0 n) ∷ [])
 begins t n =
     let v = view [] [] (range_with_len 0 n) in
-    let is : (j : ℕ) (u : View) → get_elem? (v ∷ []) j ≡ some u → (j ≡ 0) × (v ≡ u) = λ j u e. alone v u j e in
+    let is : (j : ℕ) (u : BoardView) → get_elem? (v ∷ []) j ≡ some u → (j ≡ 0) × (v ≡ u) = λ j u e. alone v u j e in
     record {
       wide = length-replicate (words_of (piece_count t)) 0;
       marked = λ p h. absurd (none_set (words_of (piece_count t)) p h);
-      seen = λ j u e p h. absurd (⊎_elim (λ m. m) (λ l. l) (subst (λ (y : View). Seen y p) (sym (is j u e).1) h));
-      proven = λ j u e. subst (λ (y : View). Each (IsProven t) y.marks) (is j u e).1 tt;
+      seen = λ j u e p h. absurd (⊎_elim (λ m. m) (λ l. l) (subst (λ (y : BoardView). Seen y p) (sym (is j u e).1) h));
+      proven = λ j u e. subst (λ (y : BoardView). Each (IsProven t) y.marks) (is j u e).1 tt;
       apart = λ i j a b q ei ej ha hb. (is i a ei).0 ∙ sym (is j b ej).0;
-      below = λ j u e q h. let high = (in_range 0 n q (subst (λ (y : View). StandsFor y q) (sym (is j u e).1) h)).1 in omega arith;
-      idle = λ j u e no. sym (is j u e).1 ∙ ap (λ (l : List ℕ). view [] [] l) (ap (λ (y : View). y.seats) (is j u e).1 ∙ no);
+      below = λ j u e q h. let high = (in_range 0 n q (subst (λ (y : BoardView). StandsFor y q) (sym (is j u e).1) h)).1 in omega arith;
+      idle = λ j u e no. sym (is j u e).1 ∙ ap (λ (l : List ℕ). view [] [] l) (ap (λ (y : BoardView). y.seats) (is j u e).1 ∙ no);
     }
 
 -- a seat that has seen and marked nothing gives its first seat away
@@ -162,32 +162,32 @@ splits t n id first rest new s h at =
     let left = view [] [] rest in
     let right = view [] [] (first ∷ []) in
     let views = set s.views id left in
-    let Was : ℕ → View → Type 0 = λ j u. ((get_elem? s.views j ≡ some u) × (j ≢ id)) ⊎ (((j ≡ id) × (left ≡ u)) ⊎ ((j ≡ length views) × (right ≡ u)))
+    let Was : ℕ → BoardView → Type 0 = λ j u. ((get_elem? s.views j ≡ some u) × (j ≢ id)) ⊎ (((j ≡ id) × (left ≡ u)) ⊎ ((j ≡ length views) × (right ≡ u)))
     in
-    let was : (j : ℕ) (u : View) → get_elem? (views ++ right ∷ []) j ≡ some u → Was j u = λ j u e. ⊎_elim
+    let was : (j : ℕ) (u : BoardView) → get_elem? (views ++ right ∷ []) j ≡ some u → Was j u = λ j u e. ⊎_elim
     (λ x. ⊎_elim (λ y. inr (inl y)) (λ y. inl (y.1, y.0)) (at_set s.views id j left u x.0)) (λ x. inr (inr x)) (at_appended views right u j e) in
-    let bare : (j : ℕ) (u : View) (P : View → Type 0) → Was j u → ((get_elem? s.views j ≡ some u) → P u) → P left → P right → P u =
+    let bare : (j : ℕ) (u : BoardView) (P : BoardView → Type 0) → Was j u → ((get_elem? s.views j ≡ some u) → P u) → P left → P right → P u =
     λ j u P w old a b. ⊎_elim
     (λ x. old x.0) (λ y. ⊎_elim (λ (z : (j ≡ id) × (left ≡ u)). subst P z.1 a) (λ (z : (j ≡ length views) × (right ≡ u)). subst P z.1 b) y) w in
     record {
       wide = h.wide;
       marked = λ p is. let m = h.marked p is in dite (ℕ_discrete m.0 id)
-          (λ e. absurd (subst (λ (u : View). Marked u p) (same_item s.views m.0 m.1 v m.2
+          (λ e. absurd (subst (λ (u : BoardView). Marked u p) (same_item s.views m.0 m.1 v m.2
           (subst (λ (k : ℕ). get_elem? s.views k ≡ some v) (sym e) at)) m.3))
           (λ ne. (m.0, m.1, at_longer views (right ∷ []) m.0 m.1 (set_else s.views id m.0 left ne ∙ m.2), m.3));
       seen = λ j u e p seen. bare j u (λ y. Seen y p → IsSet s.words p) (was j u e) (λ o. h.seen j u o p) (λ x. absurd (⊎_elim (λ m. m) (λ l. l) x))
           (λ x. absurd (⊎_elim (λ m. m) (λ l. l) x)) seen;
       proven = λ j u e. bare j u (λ y. Each (IsProven t) y.marks) (was j u e) (λ o. h.proven j u o) tt tt;
-      apart = λ i j a b q ei ej ha hb. let Old : ℕ → View → Type 0 = λ k u. (get_elem? s.views k ≡ some u) × (k ≢ id) in
+      apart = λ i j a b q ei ej ha hb. let Old : ℕ → BoardView → Type 0 = λ k u. (get_elem? s.views k ≡ some u) × (k ≢ id) in
           let New : ℕ → Type 0 = λ k. ((k ≡ id) × Has (λ r. r ≡ q) rest) ⊎ ((k ≡ length views) × (first ≡ q)) in
-          let place : (k : ℕ) (u : View) → get_elem? (views ++ right ∷ []) k ≡ some u → StandsFor u q → Old k u ⊎ New k =
+          let place : (k : ℕ) (u : BoardView) → get_elem? (views ++ right ∷ []) k ≡ some u → StandsFor u q → Old k u ⊎ New k =
           λ k u e stands. ⊎_elim (λ o. inl o)
           (λ (y : ((k ≡ id) × (left ≡ u)) ⊎ ((k ≡ length views) × (right ≡ u))).
-          ⊎_elim (λ (z : (k ≡ id) × (left ≡ u)). inr (inl (z.0, subst (λ (y : View). StandsFor y q) (sym z.1) stands)))
-          (λ (z : (k ≡ length views) × (right ≡ u)). let only : StandsFor right q = subst (λ (y : View). StandsFor y q) (sym z.1) stands in
+          ⊎_elim (λ (z : (k ≡ id) × (left ≡ u)). inr (inl (z.0, subst (λ (y : BoardView). StandsFor y q) (sym z.1) stands)))
+          (λ (z : (k ≡ length views) × (right ≡ u)). let only : StandsFor right q = subst (λ (y : BoardView). StandsFor y q) (sym z.1) stands in
           inr (inr (z.0, ⊎_elim (λ here. here) (λ no. absurd no) only))) y) (was k u e) in
           let mine : (k : ℕ) → New k → StandsFor v q = λ k y. ⊎_elim (λ r. inr r.1) (λ f. inl f.1) y in
-          let clash : (k : ℕ) (u : View) (l : ℕ) → Old k u → StandsFor u q → New l → ⊥ =
+          let clash : (k : ℕ) (u : BoardView) (l : ℕ) → Old k u → StandsFor u q → New l → ⊥ =
           λ k u l o stands y. o.1 (h.apart k id u v q o.0 at stands (mine l y)) in
           let fresh_twice : Has (λ r. r ≡ q) rest → first ≡ q → ⊥ = λ there here. new (subst (λ (k : ℕ). Has (λ r. r ≡ k) rest) (sym here) there) in
           let both_new : New i → New j → i ≡ j = λ x y. ⊎_elim
@@ -205,25 +205,25 @@ splits t n id first rest new s h at =
     }
 
 -- the joined seat has what either had, and the other is spent
-pub joins : (t : Layout) (n id other : ℕ) (v w : View) → v.seats ≢ [] → Joins (Holds t n) id v other w (both v w) spent
+pub joins : (t : Layout) (n id other : ℕ) (v w : BoardView) → v.seats ≢ [] → Joins (Holds t n) id v other w (both v w) spent
 joins t n id other v w stands s h at ne at_other =
     let u' = both v w in
     let views = set s.views id u' in
     let at_w : get_elem? s.views other ≡ some w = sym (set_else s.views id other u' ne) ∙ at_other in
-    let Old : ℕ → View → Type 0 = λ j u. (get_elem? s.views j ≡ some u) × (j ≢ id) × (j ≢ other) in
-    let Was : ℕ → View → Type 0 = λ j u. Old j u ⊎ (((j ≡ id) × (u' ≡ u)) ⊎ (spent ≡ u)) in
-    let was : (j : ℕ) (u : View) → get_elem? (set views other spent) j ≡ some u → Was j u = λ j u e. ⊎_elim (λ x. inr (inr x.1))
+    let Old : ℕ → BoardView → Type 0 = λ j u. (get_elem? s.views j ≡ some u) × (j ≢ id) × (j ≢ other) in
+    let Was : ℕ → BoardView → Type 0 = λ j u. Old j u ⊎ (((j ≡ id) × (u' ≡ u)) ⊎ (spent ≡ u)) in
+    let was : (j : ℕ) (u : BoardView) → get_elem? (set views other spent) j ≡ some u → Was j u = λ j u e. ⊎_elim (λ x. inr (inr x.1))
     (λ (x : (j ≢ other) × (get_elem? views j ≡ some u)). ⊎_elim (λ y. inr (inl y))
     (λ (y : (j ≢ id) × (get_elem? s.views j ≡ some u)). inl (y.1, y.0, x.0)) (at_set s.views id j u' u x.1)) (at_set views other j spent u e) in
     let here : get_elem? (set views other spent) id ≡ some u' = set_else views other id spent (λ e. ne (sym e)) ∙ set_at s.views id v u' at in
-    let each : (j : ℕ) (u : View) (P : View → Type 0) → Was j u → ((get_elem? s.views j ≡ some u) → P u) → P u' → P spent → P u =
+    let each : (j : ℕ) (u : BoardView) (P : BoardView → Type 0) → Was j u → ((get_elem? s.views j ≡ some u) → P u) → P u' → P spent → P u =
     λ j u P x old a b. ⊎_elim
     (λ (o : Old j u). old o.0) (λ y. ⊎_elim (λ (z : (j ≡ id) × (u' ≡ u)). subst P z.1 a) (λ (z : spent ≡ u). subst P z b) y) x in
     record {
       wide = h.wide;
       marked = λ p is. let m = h.marked p is in
-          let same_view : (k : ℕ) (x : View) → get_elem? s.views k ≡ some x → m.0 ≡ k → Marked x p =
-          λ k x there e. subst (λ (y : View). Marked y p)
+          let same_view : (k : ℕ) (x : BoardView) → get_elem? s.views k ≡ some x → m.0 ≡ k → Marked x p =
+          λ k x there e. subst (λ (y : BoardView). Marked y p)
           (same_item s.views m.0 m.1 x m.2 (subst (λ (l : ℕ). get_elem? s.views l ≡ some x) (sym e) there)) m.3 in
           dite (ℕ_discrete m.0 id) (λ e. (id, u', here, has_front (λ (x : Mark). x.piece ≡ p) v.marks w.marks (same_view id v at e)))
           (λ a. dite (ℕ_discrete m.0 other) (λ e. (id, u', here, has_back (λ (x : Mark). x.piece ≡ p) v.marks w.marks (same_view other w at_w e)))
@@ -238,12 +238,12 @@ joins t n id other v w stands s h at ne at_other =
           (each_append (IsProven t) v.marks w.marks (h.proven id v at) (h.proven other w at_w)) tt;
       apart = λ i j a b q ei ej ha hb.
           let New : ℕ → Type 0 = λ k. (k ≡ id) × StandsFor u' q in
-          let place : (k : ℕ) (u : View) → get_elem? (set views other spent) k ≡ some u → StandsFor u q → Old k u ⊎ New k =
+          let place : (k : ℕ) (u : BoardView) → get_elem? (set views other spent) k ≡ some u → StandsFor u q → Old k u ⊎ New k =
           λ k u e owns. ⊎_elim (λ o. inl o)
           (λ (y : ((k ≡ id) × (u' ≡ u)) ⊎ (spent ≡ u)). ⊎_elim
-          (λ (z : (k ≡ id) × (u' ≡ u)). inr (z.0, subst (λ (y : View). StandsFor y q) (sym z.1) owns))
-          (λ (z : spent ≡ u). absurd (subst (λ (y : View). StandsFor y q) (sym z) owns)) y) (was k u e) in
-          let clash : (k : ℕ) (u : View) (l : ℕ) → Old k u → StandsFor u q → New l → ⊥ = λ k u l o owns y.
+          (λ (z : (k ≡ id) × (u' ≡ u)). inr (z.0, subst (λ (y : BoardView). StandsFor y q) (sym z.1) owns))
+          (λ (z : spent ≡ u). absurd (subst (λ (y : BoardView). StandsFor y q) (sym z) owns)) y) (was k u e) in
+          let clash : (k : ℕ) (u : BoardView) (l : ℕ) → Old k u → StandsFor u q → New l → ⊥ = λ k u l o owns y.
           ⊎_elim (λ c. o.1 (h.apart k id u v q o.0 at owns c)) (λ c. o.2 (h.apart k other u w q o.0 at_w owns c))
           (has_parts (λ r. r ≡ q) v.seats w.seats y.1) in
           ⊎_elim (λ (x : Old i a). ⊎_elim (λ (y : Old j b). h.apart i j a b q x.0 y.0 ha hb) (λ (y : New j). absurd (clash i a j x ha y))
@@ -256,13 +256,13 @@ joins t n id other v w stands s h at ne at_other =
     }
 
 -- where one view stands for each seat, the set bits are the pieces that it has marked
-pub ends : (t : Layout) (n : ℕ) (words : List ℕ) (views : List View) (id : ℕ) (v : View) → Story t n words views → get_elem? views id ≡ some v
+pub ends : (t : Layout) (n : ℕ) (words : List ℕ) (views : List BoardView) (id : ℕ) (v : BoardView) → Story t n words views → get_elem? views id ≡ some v
     → ((q : ℕ) → q < n → StandsFor v q) → (p : ℕ) → IsSet words p → Marked v p
 ends t n words views id v h at all p is =
     let m = h.marked p is in
-    let own : m.0 ≡ id → Marked v p = λ e. subst (λ (y : View). Marked y p)
+    let own : m.0 ≡ id → Marked v p = λ e. subst (λ (y : BoardView). Marked y p)
     (same_item views m.0 m.1 v m.2 (subst (λ (l : ℕ). get_elem? views l ≡ some v) (sym e) at)) m.3 in
-    let no_seat : m.1.seats ≡ [] → Marked v p = λ none. absurd (subst (λ (y : View). Marked y p) (h.idle m.0 m.1 m.2 none) m.3) in
+    let no_seat : m.1.seats ≡ [] → Marked v p = λ none. absurd (subst (λ (y : BoardView). Marked y p) (h.idle m.0 m.1 m.2 none) m.3) in
     let a_seat : (q : ℕ) → StandsFor m.1 q → Marked v p = λ q stands.
     own (h.apart m.0 id m.1 v q m.2 at stands (all q (h.below m.0 m.1 m.2 q stands))) in
     first_seat m.1.seats (Marked v p) no_seat a_seat
@@ -271,23 +271,23 @@ range_step : (k n : ℕ) → k < n → range_with_len k (n - k) ≡ k ∷ range_
 range_step k n lt = let e : n - k ≡ suc (n - (k + 1)) = omega arith in ap (range_with_len k) e
 
 -- of the seats from k on, the first is split off
-pub deals : (t : Layout) (n id k m : ℕ) (v : View) → k < m → v ≡ view [] [] (range_with_len k (m - k)) →
+pub deals : (t : Layout) (n id k m : ℕ) (v : BoardView) → k < m → v ≡ view [] [] (range_with_len k (m - k)) →
     Splits (Holds t n) id v (without_first v) (first_of v)
 deals t n id k m v lt is =
-    let P : View → Type 0 = λ u. Splits (Holds t n) id u (without_first u) (first_of u) in
+    let P : BoardView → Type 0 = λ u. Splits (Holds t n) id u (without_first u) (first_of u) in
     subst P (sym (is ∙ ap (view [] []) (range_step k m lt)))
     (splits t n id k (range_with_len (k + 1) (m - (k + 1))) (λ has. let low = (in_range (k + 1) (m - (k + 1)) k has).0 in omega arith))
 
-pub dealt_rest : (k m : ℕ) (v : View) → k < m → v ≡ view [] [] (range_with_len k (m - k)) →
+pub dealt_rest : (k m : ℕ) (v : BoardView) → k < m → v ≡ view [] [] (range_with_len k (m - k)) →
     without_first v ≡ view [] [] (range_with_len (k + 1) (m - (k + 1)))
 dealt_rest k m v lt is = ap without_first (is ∙ ap (view [] []) (range_step k m lt))
 
-pub dealt_first : (k m : ℕ) (v : View) → k < m → v ≡ view [] [] (range_with_len k (m - k)) → first_of v ≡ fresh k
+pub dealt_first : (k m : ℕ) (v : BoardView) → k < m → v ≡ view [] [] (range_with_len k (m - k)) → first_of v ≡ fresh k
 dealt_first k m v lt is = ap first_of (is ∙ ap (view [] []) (range_step k m lt))
 
-pub dealt_stands : (k m : ℕ) (v : View) → k < m → v ≡ view [] [] (range_with_len k (m - k)) → (first_of v).seats ≢ []
+pub dealt_stands : (k m : ℕ) (v : BoardView) → k < m → v ≡ view [] [] (range_with_len k (m - k)) → (first_of v).seats ≢ []
 dealt_stands k m v lt is no_seat =
-    let one : k ∷ [] ≡ [] = sym (ap (λ (u : View). u.seats) (dealt_first k m v lt is)) ∙ no_seat in cc
+    let one : k ∷ [] ≡ [] = sym (ap (λ (u : BoardView). u.seats) (dealt_first k m v lt is)) ∙ no_seat in cc
 
 -- the bits so far are those of the words, and the others are not set
 pub record Copied (words : List ℕ) (pieces n : ℕ) (bits : List Bool) : Type 0 where
@@ -295,7 +295,7 @@ pub record Copied (words : List ℕ) (pieces n : ℕ) (bits : List Bool) : Type 
   pub done : (p : ℕ) → p < n → (get_or bits p false ≡ true) ↔ IsSet words p
   pub rest : (p : ℕ) → n ≤ p → get_or bits p false ≡ false
 
-pub closes : (t : Layout) (n : ℕ) (words : List ℕ) (views : List View) (id : ℕ) (v : View) (bits : List Bool) → Story t n words views →
+pub closes : (t : Layout) (n : ℕ) (words : List ℕ) (views : List BoardView) (id : ℕ) (v : BoardView) (bits : List Bool) → Story t n words views →
     get_elem? views id ≡ some v
     → ((q : ℕ) → q < n → StandsFor v q) → Copied words (piece_count t) (piece_count t) bits
     → ((p : ℕ) → (get_or bits p false ≡ true) ↔ Marked v p) × ((p : ℕ) → Seen v p → get_or bits p false ≡ true)

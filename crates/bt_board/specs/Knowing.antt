@@ -3,7 +3,7 @@ use Rattle.std.specs.Prelude.{ℕ, Bool, false, ◌==◌, ◌&&◌, ◌||◌, �
 use Rattle.std.specs.Int.{bit_at}
 use Rattle.bt_board.specs.declared.view.Mark.{Mark}
 use Rattle.bt_board.specs.declared.view.Load.{Load}
-use Rattle.bt_board.specs.declared.view.View.{View}
+use Rattle.bt_board.specs.declared.view.BoardView.{BoardView}
 
 -- one of the marks is of this piece
 abbrev pub marks_have : List Mark → ℕ → Bool
@@ -20,7 +20,7 @@ loads_have [] p = false
 loads_have (l ∷ ls) p = found_by l p || loads_have ls p
 
 -- p is below the number of pieces, and the seat has marked it or found it set
-abbrev pub has_seen : ℕ → View → ℕ → Bool
+abbrev pub has_seen : ℕ → BoardView → ℕ → Bool
 has_seen pieces v p = nat_lt p pieces && (marks_have v.marks p || loads_have v.loads p)
 
 -- the bit of p is set

@@ -3,11 +3,11 @@ use Rattle.std.specs.Prelude.{◌≡◌, ◌<◌, ◌/◌, ◌%◌, ◌⊎◌, �
 use Rattle.std.specs.Int.{bit_at}
 use Rattle.atomic_table.specs.Table.{Step, Me}
 use Rattle.bt_board.specs.declared.view.Mark.{Mark}
-use Rattle.bt_board.specs.declared.view.View.{View}
+use Rattle.bt_board.specs.declared.view.BoardView.{BoardView}
 use Rattle.bt_board.specs.Story.{IsSet, Seen, load, with_load, with_mark}
 
 -- the load of a word by a seat, of a board with so many pieces
-pub record Finds (pieces : ℕ) (old : View) (word value : ℕ) (new : View) : Type 0 where
+pub record Finds (pieces : ℕ) (old : BoardView) (word value : ℕ) (new : BoardView) : Type 0 where
   -- the seat lists the load
   pub lists : new ≡ with_load old (load word value)
   -- each bit that the seat had seen was found
@@ -16,11 +16,11 @@ pub record Finds (pieces : ℕ) (old : View) (word value : ℕ) (new : View) : T
   pub below : (p : ℕ) → p / 64 ≡ word → bit_at value (p % 64) ≡ 1 → p < pieces
 
 -- a word was loaded
-abbrev pub Looks : {S : Type 0} → ℕ → Step S → Me S View → ℕ → Me S View → Type 0
+abbrev pub Looks : {S : Type 0} → ℕ → Step S → Me S BoardView → ℕ → Me S BoardView → Type 0
 Looks pieces s old found new = Finds pieces old.0 s.word found new.0 × (new.1 ≡ old.1)
 
 -- a bit was set: the seat lists the mark
-abbrev pub Announces : {S : Type 0} → Mark → Step S → Me S View → ℕ → Me S View → Type 0
+abbrev pub Announces : {S : Type 0} → Mark → Step S → Me S BoardView → ℕ → Me S BoardView → Type 0
 Announces mark s old found new = (new.0 ≡ with_mark old.0 mark) × (new.1 ≡ old.1)
 
 -- The news of one word, where `found` was loaded: each bit was given before

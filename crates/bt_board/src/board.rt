@@ -13,7 +13,7 @@ ghost use Rattle.bt_board.specs.Story.{IsSet, Marked, Seen, StandsFor, both, loa
 
 use crate::bits::{least_new, unite};
 use crate::rule::{About, Announce, Announced, Counted, Deal, Look, MarkedAlone, Merge};
-use crate::view::View;
+use crate::view::BoardView;
 use atomic_table::{Seat, Table};
 use bt_check::Proven;
 use bt_meta::{Bitfield, Torrent};
@@ -25,7 +25,7 @@ use std::sync::Arc;
 ///
 /// Contracts see which board it is, its torrent, and how many seats it was opened with.
 pub struct Board {
-    table: Table<(), View, About, MarkedAlone, Global>,
+    table: Table<(), BoardView, About, MarkedAlone, Global>,
     about: About,
 }
 
@@ -55,7 +55,7 @@ impl Model for Board {
 ///
 /// Contracts see of which board it is, what was marked and loaded with it, and what its news has given.
 pub struct BoardSeat {
-    seat: Seat<(), View>,
+    seat: Seat<(), BoardView>,
     given: Vec<u64>,
 }
 
@@ -81,7 +81,7 @@ impl Model for BoardSeat {
 
 impl BoardSeat {
     /// The seat of the table, and the words of what its news has given.
-    fn into_parts(self) -> (Seat<(), View>, Vec<u64>)
+    fn into_parts(self) -> (Seat<(), BoardView>, Vec<u64>)
         ensures parts { self ≡ record { table = result.0.table_id; view = result.0.me.0; given = result.1.items } }
         ensures seat { IsSeat result.0.table_id result.0.me result.1.items }
     {
@@ -119,7 +119,7 @@ impl Board {
     }
 
     /// A seat for each number, where `first` stands for all of them.
-    fn deal(&self, alloc: Global, mut first: Seat<(), View>) -> Result<Vec<BoardSeat>, AllocError>
+    fn deal(&self, alloc: Global, mut first: Seat<(), BoardView>) -> Result<Vec<BoardSeat>, AllocError>
         requires seats { 0 < self.now.seats }
         requires first { (first.table_id ≡ self.now.table) × (first.me ≡ (view [] [] (range_with_len 0 self.now.seats), [])) }
         ensures { IfOk result (λ seats. seats.items ≡ map (newcomer self.now) (range_with_len 0 self.now.seats)) }

@@ -7,4 +7,4 @@ mod rule;
 mod view;
 
 pub use board::{Board, BoardSeat};
-pub use view::{Load, Mark, View};
+pub use view::{BoardView, Load, Mark};

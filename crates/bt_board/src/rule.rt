@@ -1,6 +1,6 @@
 //! The rule of the board, and what each atomic step tells the seat that makes it.
 
-use crate::view::View;
+use crate::view::BoardView;
 use atomic_table::{Join, Play, Split, TableRule};
 use bt_meta::Torrent;
 use std::alloc::Global;
@@ -17,7 +17,7 @@ pub struct About {
 /// The set bits are the pieces that were marked, and no seat has seen a bit that isn't set.
 pub struct MarkedAlone;
 
-impl TableRule<(), View, About> for MarkedAlone {
+impl TableRule<(), BoardView, About> for MarkedAlone {
     ghost use Rattle.std.specs.Prelude.{[]};
     ghost use Rattle.std.specs.List.{range_with_len};
     ghost use Rattle.std.specs.Arc.{arc_value};
@@ -44,7 +44,7 @@ pub struct Look<K> {
     counted: PhantomData<K>,
 }
 
-impl<K: Counted> Play<(), View> for Look<K> {
+impl<K: Counted> Play<(), BoardView> for Look<K> {
     ghost use Rattle.bt_board.specs.Steps.{Looks};
 
     ghost then = { Looks K.pieces };
@@ -68,7 +68,7 @@ pub struct Announce<M> {
     announced: PhantomData<M>,
 }
 
-impl<M: Announced> Play<(), View> for Announce<M> {
+impl<M: Announced> Play<(), BoardView> for Announce<M> {
     ghost use Rattle.bt_board.specs.Steps.{Announces};
 
     ghost then = { Announces M.added };
@@ -77,7 +77,7 @@ impl<M: Announced> Play<(), View> for Announce<M> {
 /// The first of the seats that a view stands for gets a view of its own.
 pub struct Deal;
 
-impl Split<View> for Deal {
+impl Split<BoardView> for Deal {
     ghost use Rattle.bt_board.specs.Story.{first_of, without_first};
 
     ghost left = { without_first };
@@ -88,7 +88,7 @@ impl Split<View> for Deal {
 /// One seat takes over what another has marked and loaded, and for which seats it stands.
 pub struct Merge;
 
-impl Join<View> for Merge {
+impl Join<BoardView> for Merge {
     ghost use Rattle.bt_board.specs.Story.{both, spent};
 
     ghost both = { both };

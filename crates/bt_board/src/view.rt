@@ -15,7 +15,7 @@ pub struct Load {
 
 /// What a seat has marked and loaded, the oldest first, and the numbers of the seats that it stands for: its own, and those that were
 /// joined with it.
-pub struct View {
+pub struct BoardView {
     pub marks: LinkedList<Mark>,
     pub loads: LinkedList<Load>,
     pub seats: LinkedList<usize>,

@@ -16,7 +16,7 @@ use Rattle.bt_peer.specs.declared.fault.End.{End}
 use Rattle.bt_peer.specs.declared.fault.SessionFault.{SessionFault}
 use Rattle.bt_peer.specs.declared.fault.SessionFault.TheVariants as sessions
 use Rattle.bt_peer.specs.Serial.{RanInTurns, StreamRecord}
-use Rattle.bt_peer.specs.Terms.{terms_of}
+use Rattle.bt_peer.specs.SessionTerms.{terms_of}
 use Rattle.bt_text.specs.declared.fault.Fault.{Fault}
 use Rattle.bt_text.specs.declared.fault.Fault.TheVariants as faults
 use Rattle.bt_cli.specs.declared.report.Judged.{Judged}

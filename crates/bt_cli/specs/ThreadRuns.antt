@@ -11,7 +11,7 @@ use Rattle.bt_session.specs.Checking.{CheckersCheck}
 use Rattle.bt_peer.specs.Serial.{StreamRecord}
 use Rattle.bt_session.specs.Swarms.{EachSwarmed, MakesLastChecks}
 use Rattle.bt_worker.specs.Runs.{LeavesNone}
-use Rattle.bt_peer.specs.Terms.{terms_of}
+use Rattle.bt_peer.specs.SessionTerms.{terms_of}
 use Rattle.bt_shared.specs.declared.gather.Book.{Book}
 use Rattle.bt_text.specs.declared.fault.Fault.{Fault}
 use Rattle.bt_text.specs.declared.fault.Fault.TheVariants as faults

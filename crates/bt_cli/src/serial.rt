@@ -6,7 +6,7 @@ ghost use Rattle.bt_meta.specs.Reading.{torrent_of_file};
 ghost use Rattle.bt_history.specs.Setting.{AreRules, setting_of};
 ghost use Rattle.bt_picker.specs.Checks.{waits};
 ghost use Rattle.bt_peer.specs.Serial.{RanInTurns, stream_record};
-ghost use Rattle.bt_peer.specs.Terms.{terms_of};
+ghost use Rattle.bt_peer.specs.SessionTerms.{terms_of};
 ghost use Rattle.bt_cli.specs.Runs.{IsStartFault, IsWant, Ran, run_status, want_of};
 
 use crate::options::{Options, fitting};
@@ -69,7 +69,7 @@ pub fn play_streams<R: Source, W: Sink, O: Sink>(
         short: played.run.short,
     };
     let ended = tell(alloc, &played.torrent, workers, options, outcome, out);
-    let Played { torrent: _, run } = played;
+    let PlayedRun { torrent: _, run } = played;
     let SerialRun {
         ends,
         desk,
@@ -80,7 +80,7 @@ pub fn play_streams<R: Source, W: Sink, O: Sink>(
 
 /// A run with recorded peers, and its torrent.
 #[derive(Drop)]
-struct Played {
+struct PlayedRun {
     torrent: Arc<Torrent>,
     run: SerialRun,
 }
@@ -91,7 +91,7 @@ fn play<R: Source, W: Sink>(
     meta: &[u8],
     streams: &mut [Stream<R, W>],
     options: &Options,
-) -> Result<Played, Fault>
+) -> Result<PlayedRun, Fault>
     requires streams { (1 ≤ length streams.old) × (length streams.old ≤ MOST_STREAMS) }
     requires depth { (1 ≤ options.now.rules.depth) × (options.now.rules.depth ≤ MOST_DEPTH) }
     ensures torrent { IfOk result (λ p. torrent_of_file meta.now ≡ Ok p.torrent.value) }
@@ -119,5 +119,5 @@ fn play<R: Source, W: Sink>(
         want,
         options.rules,
     )?;
-    Ok(Played { torrent, run })
+    Ok(PlayedRun { torrent, run })
 }

@@ -9,7 +9,7 @@ ghost use Rattle.bt_session.specs.Checking.{CheckersCheck};
 ghost use Rattle.bt_peer.specs.Serial.{stream_record};
 ghost use Rattle.bt_session.specs.Swarms.{EachSwarmed, MakesLastChecks};
 ghost use Rattle.bt_worker.specs.Runs.{LeavesNone};
-ghost use Rattle.bt_peer.specs.Terms.{terms_of};
+ghost use Rattle.bt_peer.specs.SessionTerms.{terms_of};
 ghost use Rattle.bt_shared.specs.Gathering.{EachAgrees};
 ghost use Rattle.bt_cli.specs.Runs.{run_status};
 ghost use Rattle.bt_cli.specs.ThreadRuns.{IsThreadsFault, RanThreads, of_swarm};
@@ -87,7 +87,7 @@ pub fn play_threads<
         short: played.run.short,
     };
     let ended = tell(rt.alloc(), &played.torrent, workers, options, outcome, out);
-    let Played { torrent: _, run } = played;
+    let PlayedRun { torrent: _, run } = played;
     let SwarmRun {
         ends,
         book,
@@ -104,7 +104,7 @@ pub fn play_threads<
 
 /// A run with recorded peers in threads, and its torrent.
 #[derive(Drop)]
-struct Played<R, W> {
+struct PlayedRun<R, W> {
     torrent: Arc<Torrent>,
     run: SwarmRun<R, W>,
 }
@@ -115,7 +115,7 @@ fn play<T: Threads + Wait + AllocGlobal + Sync, R: Source + Send + Drop, W: Sink
     meta: &[u8],
     streams: Vec<Stream<R, W>>,
     options: &Options,
-) -> Result<Played<R, W>, Fault>
+) -> Result<PlayedRun<R, W>, Fault>
     requires streams { (1 ≤ length streams.items) × (length streams.items ≤ MOST_STREAMS) }
     requires depth { (1 ≤ options.now.rules.depth) × (options.now.rules.depth ≤ MOST_DEPTH) }
     requires checkers { (1 ≤ options.now.checkers) × (options.now.checkers ≤ MOST_CHECKERS) }
@@ -153,7 +153,7 @@ fn play<T: Threads + Wait + AllocGlobal + Sync, R: Source + Send + Drop, W: Sink
         &OpenGate,
     );
     match run {
-        Ok(run) => Ok(Played { torrent, run }),
+        Ok(run) => Ok(PlayedRun { torrent, run }),
         Err(fault) => Err(of_swarm(fault)),
     }
 }

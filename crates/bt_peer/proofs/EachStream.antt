@@ -15,8 +15,8 @@ use Rattle.bt_peer.specs.declared.fault.SessionFault.{SessionFault}
 use Rattle.bt_peer.specs.declared.seat.Seat.{Seat}
 use Rattle.bt_peer.specs.Conduct.{answers_of}
 use Rattle.bt_peer.specs.Serial.{StreamRecord}
-use Rattle.bt_peer.specs.Standing.{Standing, Keeps, LeavesOthers, HasEnded, IsNew, AreNew, MayPlay, NotesPieces, Played, left_of, standing}
-use Rattle.bt_peer.specs.Terms.{TermsState}
+use Rattle.bt_peer.specs.Standing.{Standing, Keeps, LeavesOthers, HasEnded, IsNew, AreNew, MayPlay, NotesPieces, TookTurns, left_of, standing}
+use Rattle.bt_peer.specs.SessionTerms.{TermsState}
 use Rattle.bt_history.specs.Finished.{finished}
 use Rattle.bt_peer.proofs.News.{told_later}
 use Rattle.bt_peer.proofs.Standing.{Keeps-join, Keeps-refl, others_stand}
@@ -82,7 +82,7 @@ pub played_turn : {X : Type 0} (record_of : X → StreamRecord) (desk new : Desk
     MayPlay desk seats streams → i < length streams →
     Keeps i (standing desk (get_or seats i seat) (record_of (get_or streams i stream))) (standing new seat' (record_of stream')) →
     LeavesOthers i desk new → NotesPieces new seat' →
-    Played record_of desk seats streams new (set seats i seat') (set streams i stream')
+    TookTurns record_of desk seats streams new (set seats i seat') (set streams i stream')
 played_turn record_of desk new seats streams i seat seat' stream stream' may within keeps others notes =
     let seated : i < length seats = omega (arith, may.seated) in
     let later : All (NotesPieces new) seats =
@@ -97,20 +97,20 @@ played_turn record_of desk new seats streams i seat seat' stream stream' may wit
           (length-set streams i stream') others.setting fit;
     }
 
-pub Played-refl : {X : Type 0} (record_of : X → StreamRecord) (desk : DeskState) (seats : List Seat) (streams : List X) → MayPlay desk seats streams →
-    Played record_of desk seats streams desk seats streams
-Played-refl record_of desk seats streams may = record {
+pub TookTurns-refl : {X : Type 0} (record_of : X → StreamRecord) (desk : DeskState) (seats : List Seat) (streams : List X) → MayPlay desk seats streams →
+    TookTurns record_of desk seats streams desk seats streams
+TookTurns-refl record_of desk seats streams may = record {
   count = refl;
   keeps = λ j. λ s. λ x. λ few. Keeps-refl j _;
   rest = record { setting = refl; calls = λ other. λ above. refl };
   may = may;
 }
 
-pub Played-join : {X : Type 0} (record_of : X → StreamRecord) (a b c : DeskState) (seats seats' seats'' : List Seat)
+pub TookTurns-join : {X : Type 0} (record_of : X → StreamRecord) (a b c : DeskState) (seats seats' seats'' : List Seat)
     (streams streams' streams'' : List X) →
-    Played record_of a seats streams b seats' streams' → Played record_of b seats' streams' c seats'' streams'' →
-    Played record_of a seats streams c seats'' streams''
-Played-join record_of a b c seats seats' seats'' streams streams' streams'' first then = record {
+    TookTurns record_of a seats streams b seats' streams' → TookTurns record_of b seats' streams' c seats'' streams'' →
+    TookTurns record_of a seats streams c seats'' streams''
+TookTurns-join record_of a b c seats seats' seats'' streams streams' streams'' first then = record {
   count = then.count ∙ first.count;
   keeps = λ j. λ s. λ x. λ few. Keeps-join j _ _ _ (first.keeps j s x few) (then.keeps j s x (omega (arith, first.count)));
   rest = record {

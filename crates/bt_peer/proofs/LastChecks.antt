@@ -22,9 +22,9 @@ use Rattle.bt_peer.specs.Reader.{most_reads}
 use Rattle.bt_peer.specs.Places.{PlaceRecord, Gains}
 use Rattle.bt_peer.specs.Sessions.{SessionState, Running}
 use Rattle.bt_peer.specs.Serial.{StreamRecord, Ended, EachEnded, ChecksAfter, Finishes, around, before_all, own_record, source_of}
-use Rattle.bt_peer.specs.Terms.{TermsState}
+use Rattle.bt_peer.specs.SessionTerms.{TermsState}
 use Rattle.bt_peer.specs.Standing.{Standing, Stands, StandsBy, ConductBy, DevicesBy, LeavesOthers, LeavesRest, IsFresh, IsNew, AreNew}
-use Rattle.bt_peer.specs.Standing.{MayPlay, Played, standing}
+use Rattle.bt_peer.specs.Standing.{MayPlay, TookTurns, standing}
 use Rattle.bt_peer.proofs.Conduct.{Conducts-none, Conducts-draws}
 use Rattle.bt_peer.proofs.EachStream.{ends_count}
 use Rattle.bt_peer.proofs.Desks.{calls_in-other, and-more, finished_on, had-more}
@@ -227,7 +227,7 @@ end_at ends seats i end any told within =
 pub each_ended : {X : Type 0} (record_of : X → StreamRecord) (terms : TermsState) (seed : ℕ) (first mid last : DeskState) (seats seats' : List Seat)
     (streams streams' : List X) (ends : List (Result End SessionFault)) →
     first.setting.torrent ≡ terms.layout → IsFresh (length streams) first → AreNew terms seed seats → MayPlay first seats streams →
-    Played record_of first seats streams mid seats' streams' → (worker : ℕ) → length streams ≤ worker → LeavesOthers worker mid last →
+    TookTurns record_of first seats streams mid seats' streams' → (worker : ℕ) → length streams ≤ worker → LeavesOthers worker mid last →
     map Some ends ≡ map (λ seat. seat.session.outcome) seats' → EachEnded record_of terms seed streams last streams' ends
     (map (λ seat. seat.short) seats')
 each_ended record_of terms seed first mid last seats seats' streams streams' ends layout fresh new may played worker above left told =

@@ -22,7 +22,7 @@ use Rattle.bt_peer.specs.News.{AreTold}
 use Rattle.bt_peer.specs.declared.seat.Seat.{Seat}
 use Rattle.bt_peer.specs.declared.stream.TheConstants.{MOST_STREAMS}
 use Rattle.bt_peer.specs.Standing.{AreNew, IsFresh, HasOpened, MayPlay}
-use Rattle.bt_peer.specs.Terms.{TermsState, pieces_of}
+use Rattle.bt_peer.specs.SessionTerms.{TermsState, pieces_of}
 use Rattle.bt_peer.proofs.Desks.{calls_in-own, calls_in-other}
 use Rattle.bt_peer.proofs.News.{told_none_yet}
 

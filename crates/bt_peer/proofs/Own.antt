@@ -16,7 +16,7 @@ use Rattle.bt_peer.specs.Reader.{SourceState}
 use Rattle.bt_peer.specs.Places.{PlaceRecord, Gains, GainsUpTo}
 use Rattle.bt_peer.specs.Sessions.{SessionState, GoesOn, Ends, FailsWith}
 use Rattle.bt_peer.specs.Standing.{LeavesOthers}
-use Rattle.bt_peer.specs.Terms.{TermsState}
+use Rattle.bt_peer.specs.SessionTerms.{TermsState}
 use Rattle.bt_peer.specs.Steps.{Reading, Surroundings, TakesTurn, TellsNews, AsksForNews}
 
 abbrev pub own : PlaceRecord → PlaceRecord

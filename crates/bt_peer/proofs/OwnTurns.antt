@@ -16,7 +16,7 @@ use Rattle.bt_peer.specs.Serial.{StreamRecord, DevicesAfter, around, source_of}
 use Rattle.bt_peer.specs.Sessions.{SessionState, GoesOn, Ends, FailsWith, Running}
 use Rattle.bt_peer.specs.Standing.{Standing, Stands, StandsBy, ConductBy, DevicesBy, Keeps, LeavesOthers, NotesPieces}
 use Rattle.bt_peer.specs.declared.seat.Seat.{Seat}
-use Rattle.bt_peer.specs.Terms.{TermsState}
+use Rattle.bt_peer.specs.SessionTerms.{TermsState}
 use Rattle.bt_peer.specs.Steps.{Surroundings}
 use Rattle.bt_peer.proofs.Conduct.{Conducts-join, DrawsNumbers-join}
 use Rattle.bt_peer.proofs.Own.{others_left, own_goes_on, own_ends, own_fails}

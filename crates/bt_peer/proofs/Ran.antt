@@ -10,7 +10,7 @@ use Rattle.bt_peer.specs.Places.{PlaceRecord}
 use Rattle.bt_peer.specs.Serial.{StreamRecord, DevicesAfter, source_of}
 use Rattle.bt_peer.specs.Sessions.{IsCutShort, IsWhole}
 use Rattle.bt_peer.specs.Outcomes.{RunsTo, around_place}
-use Rattle.bt_peer.specs.Terms.{TermsState}
+use Rattle.bt_peer.specs.SessionTerms.{TermsState}
 
 module _ (terms : TermsState) (worker : ℕ) (generator : Numbers) (past : PlaceRecord) (old : StreamRecord)
     (past' : PlaceRecord) (new : StreamRecord) where

@@ -15,7 +15,7 @@ use Rattle.bt_peer.specs.declared.fault.SessionFault.{SessionFault}
 use Rattle.bt_peer.specs.Reader.{SourceState}
 use Rattle.bt_peer.specs.Acts.{Act, Called}
 use Rattle.bt_peer.specs.Writer.{greeting, says, interest_after}
-use Rattle.bt_peer.specs.Terms.{TermsState, pieces_of}
+use Rattle.bt_peer.specs.SessionTerms.{TermsState, pieces_of}
 use Rattle.bt_peer.specs.Turns.{IsTurn, NoneRefused, TurnsOf, AreTurns}
 use Rattle.bt_peer.specs.Steps.{Surroundings, AsksForNews, IsOfTorrent}
 use Rattle.bt_peer.specs.Sessions.{SessionState, begun, GoesOn, Ends, FailsWith, IsWhole, NamesTorrent, IsUntouched, TookTurns, Running, IsCutShort}

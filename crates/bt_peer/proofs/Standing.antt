@@ -14,7 +14,7 @@ use Rattle.bt_peer.specs.Outlets.{WroteFront}
 use Rattle.bt_peer.specs.Serial.{StreamRecord, EndsAs, around, source_of}
 use Rattle.bt_peer.specs.Sessions.{SessionState, FailsWith, IsWhole, IsUntouched, TookTurns, Running}
 use Rattle.bt_peer.specs.Standing.{Standing, StandsBy, ConductBy, Keeps, LeavesOthers}
-use Rattle.bt_peer.specs.Terms.{TermsState, pieces_of}
+use Rattle.bt_peer.specs.SessionTerms.{TermsState, pieces_of}
 use Rattle.bt_peer.specs.Steps.{Surroundings, Departs}
 use Rattle.bt_peer.proofs.Asked.{asked_later}
 use Rattle.bt_peer.proofs.Stretches.{GainsUpTo-join, Gains-join}

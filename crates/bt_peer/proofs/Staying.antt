@@ -10,7 +10,7 @@ use Rattle.bt_history.specs.declared.mark.CallMark.TheVariants as marks
 use Rattle.bt_peer.specs.declared.fault.SessionFault.{SessionFault}
 use Rattle.bt_peer.specs.declared.fault.SessionFault.TheVariants as faults
 use Rattle.bt_peer.specs.Acts.{Act, Called, News, is_in}
-use Rattle.bt_peer.specs.Terms.{TermsState, most_next}
+use Rattle.bt_peer.specs.SessionTerms.{TermsState, most_next}
 use Rattle.bt_peer.specs.Turns.{call_of, IsLater, Opens, ChecksAtMost, if_completed, arrived_piece, Asks, has_more, Attends, BeginsTurn}
 use Rattle.bt_peer.specs.Steps.{StopsTurn}
 

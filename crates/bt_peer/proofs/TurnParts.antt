@@ -11,7 +11,7 @@ use Rattle.bt_history.specs.declared.call.Reply.TheVariants as replies
 use Rattle.bt_peer.specs.declared.fault.SessionFault.{SessionFault}
 use Rattle.bt_peer.specs.declared.fault.SessionFault.TheVariants as faults
 use Rattle.bt_peer.specs.Acts.{Act, Called, News, is_refused_call}
-use Rattle.bt_peer.specs.Terms.{TermsState, pieces_of, most_next}
+use Rattle.bt_peer.specs.SessionTerms.{TermsState, pieces_of, most_next}
 use Rattle.bt_peer.specs.Turns.{call_of, Opens, Attends, IsTurn, BeginsTurn, IsAcceptable, NoneRefused, IsLater}
 use Rattle.bt_peer.specs.Outlets.{Outlet, PerformsUpTo, EndsCalls}
 use Rattle.bt_peer.specs.Steps.{StopsOpening, StopsTurn}

@@ -11,7 +11,7 @@ pub mod Serial
 pub mod Sessions
 pub mod Standing
 pub mod Steps
-pub mod Terms
+pub mod SessionTerms
 pub mod Turns
 pub mod Writer
 pub mod News

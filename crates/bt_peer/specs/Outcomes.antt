@@ -7,7 +7,7 @@ use Rattle.bt_peer.specs.Conduct.{DrawsNumbers}
 use Rattle.bt_peer.specs.Reader.{most_reads}
 use Rattle.bt_peer.specs.Places.{PlaceRecord}
 use Rattle.bt_peer.specs.Serial.{StreamRecord, EndsAs, DevicesAfter, source_of, stream_record}
-use Rattle.bt_peer.specs.Terms.{TermsState}
+use Rattle.bt_peer.specs.SessionTerms.{TermsState}
 use Rattle.bt_peer.specs.Steps.{Surroundings}
 
 -- what a reader and a writer say of themselves

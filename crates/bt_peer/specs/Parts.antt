@@ -16,7 +16,7 @@ use Rattle.bt_peer.specs.Outlets.{Outlet, Saying, Performs, PerformsUpTo, StopsC
 use Rattle.bt_peer.specs.Places.{PlaceRecord, GainsUpTo, AllTold}
 use Rattle.bt_peer.specs.Reader.{SourceState}
 use Rattle.bt_peer.specs.Steps.{Reading, Start, Surroundings, reading, surroundings, BreaksBy, Departs, StopsOpening, StopsTurn, TellsNews}
-use Rattle.bt_peer.specs.Terms.{TermsState, pieces_of}
+use Rattle.bt_peer.specs.SessionTerms.{TermsState, pieces_of}
 use Rattle.bt_peer.specs.Turns.{Opens, Asks, IsTurn, NoneRefused}
 use Rattle.bt_peer.specs.Writer.{says}
 

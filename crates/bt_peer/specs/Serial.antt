@@ -20,7 +20,7 @@ use Rattle.bt_peer.specs.Desks.{calls_in}
 use Rattle.bt_peer.specs.Reader.{SourceState, most_reads}
 use Rattle.bt_peer.specs.Places.{PlaceRecord}
 use Rattle.bt_peer.specs.Sessions.{IsWhole, IsCutShort}
-use Rattle.bt_peer.specs.Terms.{TermsState}
+use Rattle.bt_peer.specs.SessionTerms.{TermsState}
 use Rattle.bt_peer.specs.Steps.{Surroundings}
 
 -- what a stream says of itself

@@ -10,7 +10,7 @@ use Rattle.bt_peer.specs.declared.fault.SessionFault.{SessionFault}
 use Rattle.bt_peer.specs.declared.fault.End.{End}
 use Rattle.bt_peer.specs.Acts.{Act, is_in}
 use Rattle.bt_peer.specs.Places.{Gains, GainsUpTo}
-use Rattle.bt_peer.specs.Terms.{TermsState, pieces_of}
+use Rattle.bt_peer.specs.SessionTerms.{TermsState, pieces_of}
 use Rattle.bt_peer.specs.Turns.{TurnsOf, AreTurns}
 use Rattle.bt_peer.specs.Writer.{greeting, says, interest_after}
 use Rattle.bt_peer.specs.Outlets.{WroteFront}

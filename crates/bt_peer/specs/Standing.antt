@@ -18,7 +18,7 @@ use Rattle.bt_peer.specs.Places.{Extends}
 use Rattle.bt_peer.specs.Reader.{SourceState, most_reads}
 use Rattle.bt_peer.specs.Serial.{StreamRecord, DevicesAfter, EndsAs, around, had_at, opening_of, source_of}
 use Rattle.bt_peer.specs.Sessions.{SessionState, Running, begun, to_hear}
-use Rattle.bt_peer.specs.Terms.{TermsState, pieces_of}
+use Rattle.bt_peer.specs.SessionTerms.{TermsState, pieces_of}
 use Rattle.bt_peer.specs.Steps.{Surroundings}
 
 -- what a run knows of one of its streams
@@ -108,7 +108,7 @@ pub record MayPlay {X : Type 0} (desk : DeskState) (seats : List Seat) (streams 
   pub fit : All (NotesPieces desk) seats
 
 -- a run took turns: each stream's session goes on standing, the other workers are left alone, and the run may go on
-pub record Played {X : Type 0} (record_of : X → StreamRecord) (desk : DeskState) (seats : List Seat) (streams : List X)
+pub record TookTurns {X : Type 0} (record_of : X → StreamRecord) (desk : DeskState) (seats : List Seat) (streams : List X)
     (desk' : DeskState) (seats' : List Seat) (streams' : List X) : Type 0 where
   pub count : length streams' ≡ length streams
   pub keeps : EachKeeps record_of desk seats streams desk' seats' streams'

@@ -10,7 +10,7 @@ use Rattle.bt_history.specs.declared.call.Reason.{Reason}
 use Rattle.bt_history.specs.declared.call.Reply.TheVariants as replies
 use Rattle.bt_peer.specs.declared.fault.SessionFault.{SessionFault}
 use Rattle.bt_peer.specs.declared.fault.SessionFault.TheVariants as faults
-use Rattle.bt_peer.specs.Terms.{TermsState, pieces_of}
+use Rattle.bt_peer.specs.SessionTerms.{TermsState, pieces_of}
 use Rattle.bt_peer.specs.Acts.{Act, Called, News}
 use Rattle.bt_peer.specs.Writer.{says, interest_after}
 use Rattle.bt_peer.specs.Places.{PlaceRecord, Gains, GainsUpTo, AllTold}

@@ -10,7 +10,7 @@ use Rattle.bt_history.specs.declared.mark.CallMark.TheVariants as marks
 use Rattle.bt_history.specs.declared.call.Reply.{Reply}
 use Rattle.bt_history.specs.declared.call.Reply.TheVariants as replies
 use Rattle.bt_history.specs.Logs.{answers}
-use Rattle.bt_peer.specs.Terms.{TermsState, pieces_of, most_next}
+use Rattle.bt_peer.specs.SessionTerms.{TermsState, pieces_of, most_next}
 use Rattle.bt_peer.specs.Acts.{Act, Called, News, is_refused_call}
 
 -- the call that a message makes

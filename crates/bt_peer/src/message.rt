@@ -5,7 +5,7 @@ ghost use Rattle.bt_peer.specs.declared.fault.SessionFault.TheVariants.{NoMemory
 ghost use Rattle.rand_core.specs.Stream.{Stream};
 ghost use Rattle.bt_peer.specs.Conduct.{ConductsBy, given_number};
 ghost use Rattle.bt_peer.specs.Acts.{is_check, mark_of_call};
-ghost use Rattle.bt_peer.specs.Terms.{pieces_of};
+ghost use Rattle.bt_peer.specs.SessionTerms.{pieces_of};
 ghost use Rattle.bt_peer.specs.Turns.{call_of, arrived_piece as piece_of_mark, if_completed, IsAcceptable, IsLater};
 ghost use Rattle.bt_peer.specs.Outlets.{outlet};
 ghost use Rattle.bt_peer.specs.Parts.{MessageStops, OpeningDone, OpeningStops, TurnDone, TurnStops};
@@ -13,7 +13,7 @@ ghost use Rattle.bt_peer.specs.Parts.{MessageStops, OpeningDone, OpeningStops, T
 use crate::calls::{ask, make_call, tell_news};
 use crate::fault::SessionFault;
 use crate::place::Place;
-use crate::terms::Terms;
+use crate::session_terms::SessionTerms;
 use crate::writer::Said;
 use bt_history::{Call, Reply};
 use bt_meta::{BitFault, Bitfield, Sink};
@@ -22,7 +22,11 @@ use rand_core::Rng;
 use std::alloc::Global;
 
 /// The call that a message makes.
-fn call_for(alloc: Global, terms: &Terms, message: Message) -> Result<Option<Call>, SessionFault>
+fn call_for(
+    alloc: Global,
+    terms: &SessionTerms,
+    message: Message,
+) -> Result<Option<Call>, SessionFault>
     requires { IsLater message }
     ensures ok { IfOk result (λ o. IsAcceptable (pieces_of terms.now) message
         × MatchOption o (call_of message ≡ None) (λ call. call_of message ≡ Some (mark_of_call call))) }
@@ -99,7 +103,7 @@ fn call_and_check<P: Place, W: Sink>(
 /// Makes the call of a message, if it has one.
 fn open<P: Place, W: Sink>(
     alloc: Global,
-    terms: &Terms,
+    terms: &SessionTerms,
     message: Message,
     place: &mut P,
     said: &mut Said<'_, W>,
@@ -122,7 +126,7 @@ fn open<P: Place, W: Sink>(
 /// The turn of a message after the handshake: its call, then news, then Next calls.
 pub fn attend<P: Place, W: Sink, N: Rng>(
     alloc: Global,
-    terms: &Terms,
+    terms: &SessionTerms,
     message: Message,
     place: &mut P,
     said: &mut Said<'_, W>,

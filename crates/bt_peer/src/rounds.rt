@@ -10,8 +10,8 @@ ghost use Rattle.bt_meta.specs.Layout.{piece_count};
 ghost use Rattle.bt_picker.specs.Checks.{waits};
 ghost use Rattle.bt_peer.specs.Desks.{calls_in};
 ghost use Rattle.bt_peer.specs.Serial.{Finishes, RanInTurns, opening_of, stream_of, stream_record};
-ghost use Rattle.bt_peer.specs.Standing.{AreNew, HasEnded, HasOpened, IsFresh, IsNew, LeavesOthers, MayPlay, Played, left_of};
-ghost use Rattle.bt_peer.specs.Terms.{TermsState, terms_of};
+ghost use Rattle.bt_peer.specs.Standing.{AreNew, HasEnded, HasOpened, IsFresh, IsNew, LeavesOthers, MayPlay, TookTurns, left_of};
+ghost use Rattle.bt_peer.specs.SessionTerms.{TermsState, terms_of};
 
 use crate::fault::{End, SessionFault};
 use crate::seat::{Seat, take_turn};
@@ -74,7 +74,7 @@ fn turn_of<R: Source, W: Sink>(
 ) -> bool
     requires i { i < length streams.old }
     requires may { MayPlay desk.old seats.old streams.old }
-    ensures played { Played (stream_of R.Source W.Sink) desk.old seats.old streams.old desk.new seats.new streams.new }
+    ensures played { TookTurns (stream_of R.Source W.Sink) desk.old seats.old streams.old desk.new seats.new streams.new }
     ensures falls { result ≡ true → sum_by left_of seats.new < sum_by left_of seats.old }
     ensures same { result ≡ false → seats.new ≡ seats.old }
     ensures ended { result ≡ false → HoldsAt HasEnded seats.new i }
@@ -94,7 +94,7 @@ fn round<R: Source, W: Sink>(
     streams: &mut [Stream<R, W>],
 ) -> bool
     requires { MayPlay desk.old seats.old streams.old }
-    ensures played { Played (stream_of R.Source W.Sink) desk.old seats.old streams.old desk.new seats.new streams.new }
+    ensures played { TookTurns (stream_of R.Source W.Sink) desk.old seats.old streams.old desk.new seats.new streams.new }
     ensures falls { result ≡ true → sum_by left_of seats.new < sum_by left_of seats.old }
     ensures ended { result ≡ false → All HasEnded seats.new }
 {
@@ -113,7 +113,7 @@ fn play<R: Source, W: Sink>(
     streams: &mut [Stream<R, W>],
 )
     requires { MayPlay desk.old seats.old streams.old }
-    ensures played { Played (stream_of R.Source W.Sink) desk.old seats.old streams.old desk.new seats.new streams.new }
+    ensures played { TookTurns (stream_of R.Source W.Sink) desk.old seats.old streams.old desk.new seats.new streams.new }
     ensures ended { All HasEnded seats.new }
 {
     'rounds: while round(alloc, desk, seats, streams) {}

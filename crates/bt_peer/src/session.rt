@@ -6,7 +6,7 @@ use crate::fault::{End, SessionFault};
 use crate::handshake::greeting;
 use crate::place::Place;
 use crate::reader::Heard;
-use crate::terms::Terms;
+use crate::session_terms::SessionTerms;
 use crate::turn::{greet, listen};
 use crate::writer::Said;
 use bt_history::MOST_DEPTH;
@@ -19,7 +19,7 @@ use std::sync::Arc;
 
 /// A session of a worker with one peer, from the handshakes to the end of the peer's stream.
 pub struct Session {
-    terms: Terms,
+    terms: SessionTerms,
     worker: u32,
     heard: Heard,
     joined: bool,
@@ -71,7 +71,7 @@ impl Session {
     ghost use Rattle.bt_peer.specs.declared.fault.SessionFault.TheVariants.{WriteFault};
     ghost use Rattle.bt_peer.specs.Conduct.{Conducts, ConductsBy, DrawsNumbers, answers_of};
     ghost use Rattle.bt_peer.specs.Reader.{most_reads, source_state};
-    ghost use Rattle.bt_peer.specs.Terms.{terms_of};
+    ghost use Rattle.bt_peer.specs.SessionTerms.{terms_of};
     ghost use Rattle.bt_peer.specs.Steps.{surroundings};
     ghost use Rattle.bt_peer.specs.Sessions.{SessionState, begun, to_hear, GoesOn, Ends, FailsWith, answer_again};
 
@@ -83,7 +83,7 @@ impl Session {
     {
         let limit = frame_limit(torrent.piece_count());
         Session {
-            terms: Terms::new(torrent, depth),
+            terms: SessionTerms::new(torrent, depth),
             worker,
             heard: Heard::new(alloc, limit),
             joined: false,

@@ -13,7 +13,7 @@ use crate::fault::SessionFault;
 use crate::message::attend;
 use crate::place::Place;
 use crate::reader::Heard;
-use crate::terms::Terms;
+use crate::session_terms::SessionTerms;
 use crate::writer::Said;
 use bt_history::{Call, Reply};
 use bt_meta::{Sink, Source};
@@ -24,7 +24,7 @@ use std::alloc::Global;
 /// The first turn: each side's handshake, then Join.
 pub fn greet<R: Source, W: Sink, P: Place>(
     alloc: Global,
-    terms: &Terms,
+    terms: &SessionTerms,
     greeting: &[u8],
     heard: &mut Heard,
     said: &mut Said<'_, W>,
@@ -77,7 +77,7 @@ fn leave_by<P: Place>(alloc: Global, place: &mut P, fault: SessionFault) -> Sess
 /// A later turn: a message, or the end of the input. Answers whether the session goes on.
 pub fn listen<R: Source, W: Sink, P: Place, N: Rng>(
     alloc: Global,
-    terms: &Terms,
+    terms: &SessionTerms,
     heard: &mut Heard,
     said: &mut Said<'_, W>,
     reader: &mut R,

@@ -4,7 +4,7 @@ ghost use Rattle.std.specs.Prelude.{ℕ, ◌≡◌, ◌≤◌, true, IfOk, IfErr
 ghost use Rattle.bt_peer.specs.declared.fault.SessionFault.TheVariants.{WriteFault};
 ghost use Rattle.bt_peer.specs.Conduct.{Conducts, DrawsNumbers, answers_of};
 ghost use Rattle.bt_peer.specs.Reader.{most_reads, source_state};
-ghost use Rattle.bt_peer.specs.Terms.{terms_of};
+ghost use Rattle.bt_peer.specs.SessionTerms.{terms_of};
 ghost use Rattle.bt_peer.specs.Steps.{surroundings};
 ghost use Rattle.bt_peer.specs.Sessions.{IsWhole, IsCutShort};
 ghost use Rattle.bt_peer.specs.Outcomes.{RunsTo, devices_record};

@@ -1,6 +1,6 @@
 pub mod Counts
 pub mod Digits
 pub mod Numbers
-pub mod Played
+pub mod PlayedLines
 pub mod Results
 pub mod Taken

@@ -8,7 +8,7 @@ use Rattle.bt_text.specs.declared.fault.Fault.{Fault}
 use Rattle.bt_text.specs.declared.fault.Fault.TheVariants as faults
 use Rattle.bt_script.specs.Scripts.{AreBlank, EndsAfter, IsPrintedBy, MaySetRules, SetsRules, StopsOpening, lines_of, line_at}
 use Rattle.bt_script.specs.Setups.{setup_in}
-use Rattle.bt_script.specs.Played.{IsDesk, IsPrintedOf, Stage, TakesFront, TakesLine, TakesLines, opened, playing, silent}
+use Rattle.bt_script.specs.PlayedLines.{IsDesk, IsPrintedOf, Stage, TakesFront, TakesLine, TakesLines, opened, playing, silent}
 use Rattle.bt_script.specs.declared.script.setup.Setup.{Setup}
 use Rattle.bt_history.specs.declared.rules.Rules.{Rules}
 use Rattle.bt_meta.specs.Layout.{piece_count}

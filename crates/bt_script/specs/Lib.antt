@@ -3,4 +3,4 @@ pub mod Lines
 pub mod Setups
 pub mod RulesLines
 pub mod Scripts
-pub mod Played
+pub mod PlayedLines

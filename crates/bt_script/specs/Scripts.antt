@@ -16,7 +16,7 @@ use Rattle.bt_script.specs.declared.script.setup.Setup.{Setup}
 use Rattle.bt_script.specs.Lines.{Order, OrderLine, bits, want, haves, line_in}
 use Rattle.bt_script.specs.RulesLines.{rules_in}
 use Rattle.bt_script.specs.Setups.{setup_in}
-use Rattle.bt_script.specs.Played.{IsPrintedOf}
+use Rattle.bt_script.specs.PlayedLines.{IsPrintedOf}
 
 -- what became of a line, by whether it can be done. Memory may run out
 abbrev pub Judges : {X : Type 0} → Result X LineFault → Type 0 → Type 0

@@ -4,7 +4,7 @@ ghost use Rattle.std.specs.Prelude.{◌≡◌, ◌<◌, ◌≤◌, ◌+◌, ◌^
 ghost use Rattle.std.specs.String.{string_bytes};
 ghost use Rattle.bt_text.specs.declared.fault.Fault.TheVariants.{File};
 ghost use Rattle.bt_script.specs.Setups.{setup_in};
-ghost use Rattle.bt_script.specs.Played.{AnswersLine, TakesFront};
+ghost use Rattle.bt_script.specs.PlayedLines.{AnswersLine, TakesFront};
 ghost use Rattle.bt_script.specs.Scripts.{Blames, Explains, IsPrintedBy, IsScript, MaySetRules, Prints, IsFirstLine, Passes, Starts};
 ghost use Rattle.bt_script.specs.Scripts.{IsPlayFault, StopsOpening, line_at, lines_of};
 

@@ -17,7 +17,7 @@ use Rattle.bt_peer.specs.Conduct.{generator_of}
 use Rattle.bt_peer.specs.Outcomes.{RunsTo}
 use Rattle.bt_peer.specs.Places.{PlaceRecord}
 use Rattle.bt_peer.specs.Serial.{StreamRecord}
-use Rattle.bt_peer.specs.Terms.{TermsState}
+use Rattle.bt_peer.specs.SessionTerms.{TermsState}
 use Rattle.bt_session.specs.Checking.{CheckersCheck, CheckersWork}
 use Rattle.bt_session.proofs.Worked.{plays_short}
 use Rattle.bt_worker.specs.Checking.{AreChecks}

@@ -4,7 +4,7 @@ use Rattle.bt_history.specs.Setting.{Setting}
 use Rattle.bt_peer.specs.declared.fault.End.{End}
 use Rattle.bt_peer.specs.declared.fault.SessionFault.{SessionFault}
 use Rattle.bt_peer.specs.Serial.{StreamRecord}
-use Rattle.bt_peer.specs.Terms.{TermsState}
+use Rattle.bt_peer.specs.SessionTerms.{TermsState}
 use Rattle.bt_session.proofs.Rows.{at_first, at_last, at_second}
 use Rattle.bt_session.specs.Checking.{CheckersWork, EachMakesChecks}
 use Rattle.bt_worker.specs.Checking.{MakesChecks}

@@ -8,7 +8,7 @@ use Rattle.bt_history.specs.Setting.{Setting}
 use Rattle.bt_peer.specs.Conduct.{generator_of}
 use Rattle.bt_peer.specs.Outcomes.{RunsTo}
 use Rattle.bt_peer.specs.Serial.{StreamRecord}
-use Rattle.bt_peer.specs.Terms.{TermsState}
+use Rattle.bt_peer.specs.SessionTerms.{TermsState}
 use Rattle.bt_peer.specs.declared.fault.End.{End}
 use Rattle.bt_peer.specs.declared.fault.SessionFault.{SessionFault}
 use Rattle.bt_worker.specs.Passes.{no_piece, pass_record}

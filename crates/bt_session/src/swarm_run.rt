@@ -5,7 +5,7 @@ ghost use Rattle.bt_history.specs.Legal.{IsLegal};
 ghost use Rattle.bt_history.specs.Setting.{AreRules, setting_of};
 ghost use Rattle.bt_meta.specs.Layout.{piece_count};
 ghost use Rattle.bt_peer.specs.Serial.{stream_record};
-ghost use Rattle.bt_peer.specs.Terms.{terms_of};
+ghost use Rattle.bt_peer.specs.SessionTerms.{terms_of};
 ghost use Rattle.bt_session.specs.Checking.{CheckersCheck};
 ghost use Rattle.bt_session.specs.Beginnings.{AreFittings};
 ghost use Rattle.bt_session.specs.Swarms.{EachSwarmed, MakesLastChecks};

@@ -3,7 +3,7 @@
 ghost use Rattle.std.specs.Prelude.{◌≡◌, ◌≤◌, [], All, map, length, vec_len, vec_capacity, IfOk, IfErr, OnOk};
 ghost use Rattle.std.specs.PromisedHandle.{KeepsEach};
 ghost use Rattle.bt_peer.specs.Serial.{stream_record};
-ghost use Rattle.bt_peer.specs.Terms.{terms_of};
+ghost use Rattle.bt_peer.specs.SessionTerms.{terms_of};
 ghost use Rattle.bt_worker.specs.Runs.{IsRunFault, Plays};
 ghost use Rattle.bt_worker.specs.declared.fault.SwarmFault.TheVariants.{NoThread};
 

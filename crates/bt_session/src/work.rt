@@ -3,7 +3,7 @@
 ghost use Rattle.std.specs.Prelude.{◌≡◌, ◌≤◌, ◌+◌, length, slice_index_or, IfOk, IfErr};
 ghost use Rattle.bt_meta.specs.Layout.{piece_count};
 ghost use Rattle.bt_peer.specs.Serial.{stream_record};
-ghost use Rattle.bt_peer.specs.Terms.{terms_of};
+ghost use Rattle.bt_peer.specs.SessionTerms.{terms_of};
 ghost use Rattle.bt_session.specs.Checking.{CheckersWork};
 ghost use Rattle.bt_session.specs.Swarms.{EachPlays};
 ghost use Rattle.bt_worker.specs.Runs.{ChecksLast, IsRunFault};

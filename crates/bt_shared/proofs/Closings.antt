@@ -15,7 +15,7 @@ use Rattle.bt_history.specs.Legal.{IsLegal}
 use Rattle.bt_history.specs.Setting.{Setting}
 use Rattle.bt_picker.specs.Positions.{DeskState}
 use Rattle.bt_shared.specs.declared.view.Part.{Part}
-use Rattle.bt_shared.specs.declared.view.View.{View}
+use Rattle.bt_shared.specs.declared.view.DeskView.{DeskView}
 use Rattle.bt_shared.specs.Closing.{AreCounted, EachKnows, EachOwn, IsEntered, IsEveryone, IsJoined, parts_of, slot_if_free, workers_of}
 use Rattle.bt_shared.specs.Guard.{Guards, IsIdle, IsTaken, Sat, Saw, Slot, Table, desk, part}
 use Rattle.bt_shared.specs.Passes.{IsSeatOf, PassState}
@@ -70,7 +70,7 @@ module _ (setting : Setting) (ws : List ℕ) (xs : List Slot) (result : Slot)
           let below = (r.each t.seat t.view t.at).below t.worker t.speaks in
           let here : t.seat ≡ id = r.apart.workers t.seat id t.view m.0 t.worker t.at at t.speaks (all t.worker below) in
           let view-is : t.view ≡ m.0 = some-injective t.view m.0 (sym t.at ∙ (ap (get_elem? s.views) here ∙ at)) in
-          let on : m.0.taken ≡ true = ap (λ (v : View). v.taken) (sym view-is) ∙ t.says in
+          let on : m.0.taken ≡ true = ap (λ (v : DeskView). v.taken) (sym view-is) ∙ t.says in
           absurd cc
 
       free_found : IsEveryone setting m.0.part.workers → IsSome result
@@ -102,17 +102,17 @@ known h workers [] saw = tt
 known h workers (p ∷ ps) saw = (saw.0.knows, known h workers ps saw.1)
 
 -- one more pass's seat, into which the others were joined
-pub joined_more : (others : Option (Seat Slot View)) (seat result : Seat Slot View) (rest : List PassState) (p : PassState) (w : ℕ) →
+pub joined_more : (others : Option (Seat Slot DeskView)) (seat result : Seat Slot DeskView) (rest : List PassState) (p : PassState) (w : ℕ) →
     IsSeatOf w seat.me
     → w ≡ p.worker → seat.me.0.part.seen ≡ p.seen → IsIdle result.me → IfNone others (result ≡ seat)
-    → IfSome others (λ (s : Seat Slot View). result.me.0.part.workers ≡ seat.me.0.part.workers ++ s.me.0.part.workers)
-    → IfSome others (λ (s : Seat Slot View). result.me.0.parts ≡ seat.me.0.parts ++ s.me.0.parts)
-    → IfNone others (rest ≡ []) → (T : TableId) → IfSome others (λ (s : Seat Slot View). (s.table_id ≡ T) × IsJoined rest s.me) →
+    → IfSome others (λ (s : Seat Slot DeskView). result.me.0.part.workers ≡ seat.me.0.part.workers ++ s.me.0.part.workers)
+    → IfSome others (λ (s : Seat Slot DeskView). result.me.0.parts ≡ seat.me.0.parts ++ s.me.0.parts)
+    → IfNone others (rest ≡ []) → (T : TableId) → IfSome others (λ (s : Seat Slot DeskView). (s.table_id ≡ T) × IsJoined rest s.me) →
     IsJoined (p ∷ rest) result.me
 joined_more None seat result rest p w is worker seen idle none workers parts empty T joined = record {
   idle = idle;
-  workers = ap (λ (s : Seat Slot View). s.me.0.part.workers) none ∙ (is.alone ∙ (λ k. worker k ∷ workers_of (sym empty k)));
-  parts = ap (λ (s : Seat Slot View). s.me.0.parts) none ∙ (is.whole ∙ (λ k. part (worker k ∷ []) (seen k) ∷ parts_of (sym empty k)));
+  workers = ap (λ (s : Seat Slot DeskView). s.me.0.part.workers) none ∙ (is.alone ∙ (λ k. worker k ∷ workers_of (sym empty k)));
+  parts = ap (λ (s : Seat Slot DeskView). s.me.0.parts) none ∙ (is.whole ∙ (λ k. part (worker k ∷ []) (seen k) ∷ parts_of (sym empty k)));
 }
 joined_more (Some s) seat result rest p w is worker seen idle none workers parts empty T joined = record {
   idle = idle;
@@ -147,9 +147,9 @@ module _ (s : Setting) (passes : List PassState) (m : Sat) (joined : IsJoined pa
 
 -- the same, where the seats of the passes were joined into one, if there are passes
 module _ (s : Setting) (passes : List PassState) (T : TableId) (result : Slot) where
-  pub closed_knows : (all : Option (Seat Slot View)) → IfNone all (passes ≡ []) →
-      IfSome all (λ (seat : Seat Slot View). (seat.table_id ≡ T) × IsJoined passes seat.me)
-      → IfSome all (λ (seat : Seat Slot View). IfSome result (λ (d : DeskState). Each (Saw d.history seat.me.0.part.workers) seat.me.0.parts))
+  pub closed_knows : (all : Option (Seat Slot DeskView)) → IfNone all (passes ≡ []) →
+      IfSome all (λ (seat : Seat Slot DeskView). (seat.table_id ≡ T) × IsJoined passes seat.me)
+      → IfSome all (λ (seat : Seat Slot DeskView). IfSome result (λ (d : DeskState). Each (Saw d.history seat.me.0.part.workers) seat.me.0.parts))
       → IfSome result (λ (d : DeskState). EachKnows d.history passes)
   closed_knows None empty joined saw = go result
     where
@@ -158,11 +158,11 @@ module _ (s : Setting) (passes : List PassState) (T : TableId) (result : Slot) w
       go (Some d) = rw empty tt
   closed_knows (Some seat) empty joined saw = joined_knows s passes seat.me joined.1 result saw
 
-  pub closed_all : (all : Option (Seat Slot View)) → 1 ≤ s.workers → IfNone all (passes ≡ []) →
-      IfSome all (λ (seat : Seat Slot View). (seat.table_id ≡ T) × IsJoined passes seat.me)
+  pub closed_all : (all : Option (Seat Slot DeskView)) → 1 ≤ s.workers → IfNone all (passes ≡ []) →
+      IfSome all (λ (seat : Seat Slot DeskView). (seat.table_id ≡ T) × IsJoined passes seat.me)
       → IfSome result (λ (d : DeskState). d.setting ≡ s) → IfSome result (λ (d : DeskState). IsLegal d.setting d.history)
-      → IfSome result (λ (d : DeskState). EachKnows d.history passes) → IfSome all (λ (seat : Seat Slot View). AreCounted s seat.me.0.part.workers)
-      → IfSome all (λ (seat : Seat Slot View). IsEveryone s seat.me.0.part.workers → IsSome result) → EachOwn passes
+      → IfSome result (λ (d : DeskState). EachKnows d.history passes) → IfSome all (λ (seat : Seat Slot DeskView). AreCounted s seat.me.0.part.workers)
+      → IfSome all (λ (seat : Seat Slot DeskView). IsEveryone s seat.me.0.part.workers → IsSome result) → EachOwn passes
       → length passes ≡ s.workers → IsSomeAnd result (λ (d : DeskState). IsEntered d passes)
   closed_all None one empty joined setting legal knows counted free own full = let none : length passes ≡ 0 = ap length empty in
       absurd (omega (arith, none, full, one))

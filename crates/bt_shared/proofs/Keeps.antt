@@ -10,30 +10,30 @@ use Rattle.atomic_table.proofs.Lists.{at_set, set_here, set_again, exchanged}
 use Rattle.bt_history.specs.Setting.{Setting}
 use Rattle.bt_history.specs.declared.event.Event.{Event}
 use Rattle.bt_picker.specs.Positions.{DeskState}
-use Rattle.bt_shared.specs.declared.view.View.{View}
+use Rattle.bt_shared.specs.declared.view.DeskView.{DeskView}
 use Rattle.bt_shared.specs.Seen.{IsAmong, Grows, own}
 use Rattle.bt_shared.specs.Guard.{Slot, Table, Sat, desk, Fits, Apart, Guards, Saw, seeing, Takes, Frees, MayFree, MayTake}
 use Rattle.bt_shared.proofs.Histories.{each_map, own_other, knows_all, knows_more}
 
 -- a fact of each seat, where one has a new view
-pub each_set : (P : ℕ → View → Type 0) (vs : List View) (me : ℕ) (w : View) → P me w → ((i : ℕ) (u : View) → i ≢ me → get_elem? vs i ≡ some u → P i u)
-    → (i : ℕ) (u : View) → get_elem? (set vs me w) i ≡ some u → P i u
+pub each_set : (P : ℕ → DeskView → Type 0) (vs : List DeskView) (me : ℕ) (w : DeskView) → P me w → ((i : ℕ) (u : DeskView) → i ≢ me → get_elem? vs i ≡ some u → P i u)
+    → (i : ℕ) (u : DeskView) → get_elem? (set vs me w) i ≡ some u → P i u
 each_set P vs me w mine others i u at =
     ⊎_elim
-    (λ (t : (i ≡ me) × (w ≡ u)). subst (λ (x : ℕ × View). P x.0 x.1) (λ k. (sym t.0 k, t.1 k)) mine)
+    (λ (t : (i ≡ me) × (w ≡ u)). subst (λ (x : ℕ × DeskView). P x.0 x.1) (λ k. (sym t.0 k, t.1 k)) mine)
     (λ (t : (i ≢ me) × (get_elem? vs i ≡ some u)). others i u t.0 t.1)
     (at_set vs me i w u at)
 
 -- the seat's view before, which speaks for the same workers
-pub record Was (vs : List View) (i : ℕ) (u : View) : Type 0 where
-  pub old : View
+pub record Was (vs : List DeskView) (i : ℕ) (u : DeskView) : Type 0 where
+  pub old : DeskView
   pub at : get_elem? vs i ≡ some old
   pub workers : old.part.workers ≡ u.part.workers
   pub maker : old.maker ≡ u.maker
   pub next : old.next ≤ u.next
 
 -- the seats stay apart where a view speaks for the same workers
-pub apart_same : (vs us : List View) → ((i : ℕ) (u : View) → get_elem? us i ≡ some u → Was vs i u) → Apart vs → Apart us
+pub apart_same : (vs us : List DeskView) → ((i : ℕ) (u : DeskView) → get_elem? us i ≡ some u → Was vs i u) → Apart vs → Apart us
 apart_same vs us was a = record {
   workers = λ i j v u w av au mv mu.
       let x = was i v av in let y = was j u au in
@@ -47,7 +47,7 @@ apart_same vs us was a = record {
       omega (arith, below, x.next);
 }
 
-pub apart_set : (vs : List View) (me : ℕ) (v w : View) → get_elem? vs me ≡ some v → v.part.workers ≡ w.part.workers → v.maker ≡ w.maker →
+pub apart_set : (vs : List DeskView) (me : ℕ) (v w : DeskView) → get_elem? vs me ≡ some v → v.part.workers ≡ w.part.workers → v.maker ≡ w.maker →
     v.next ≤ w.next → Apart vs → Apart (set vs me w)
 apart_set vs me v w at same-workers same-maker same-next a =
     apart_same vs (set vs me w)
@@ -57,7 +57,7 @@ apart_set vs me v w at same-workers same-maker same-next a =
     a
 
 -- a seat that has seen the whole journal
-fits_all : (setting : Setting) (h h' : List Event) (taken : Bool) (v : View) → v.spent ≡ false → Fits setting h v →
+fits_all : (setting : Setting) (h h' : List Event) (taken : Bool) (v : DeskView) → v.spent ≡ false → Fits setting h v →
     Fits setting h' (seeing taken v h')
 fits_all setting h h' taken v live f =
     let knows = knows_all h' v.part.workers in
@@ -86,13 +86,13 @@ fresh_more h h' makers w (inl same) away zero-own = ap (own w) same ∙ zero-own
 fresh_more h h' makers w (inr more) away zero-own = let e = more.0 in
     ap (own w) more.2 ∙ (own_other w h e (λ is. away (subst (λ (x : ℕ). IsAmong x makers) is more.1)) ∙ zero-own)
 
-module _ (setting : Setting) (n me worker : ℕ) (v : View) (live : v.spent ≡ false) (speaks : IsAmong worker v.part.workers) where
+module _ (setting : Setting) (n me worker : ℕ) (v : DeskView) (live : v.spent ≡ false) (speaks : IsAmong worker v.part.workers) where
   -- the word was free: the seat takes it, with the desk
   take_free : (s : Table) (r : Guards setting s) → get_elem? s.views me ≡ some v → get_or s.words 0 0 ≡ 0
       → Guards setting (stepped s 0 1 me [] (seeing true v r.journal) (takes 0 (Some (desk setting r.journal))))
   take_free s r at is-free =
       let h = r.journal in
-      let w : View = seeing true v h in
+      let w : DeskView = seeing true v h in
       let free = r.free is-free in
       let wide = r.words in
       let word : get_or (set s.words 0 1) 0 0 ≡ 1 = get_or-set_same s.words 0 1 0 (omega arith) in
@@ -122,13 +122,13 @@ module _ (setting : Setting) (n me worker : ℕ) (v : View) (live : v.spent ≡ 
   -- a failed try
   take_failed : (s : Table) → Guards setting s → get_elem? s.views me ≡ some v → Guards setting (stepped s 0 (get_or s.words 0 0) me [] v keeps)
   take_failed s r at =
-      let P : List ℕ → List View → Type 0 = λ ws vs. Guards setting record { words = ws; homes = s.homes; views = vs } in
+      let P : List ℕ → List DeskView → Type 0 = λ ws vs. Guards setting record { words = ws; homes = s.homes; views = vs } in
       subst (λ ws. P ws (set s.views me v)) (sym (set-get_or s.words 0 0)) (subst (P s.words) (sym (set_again s.views me v at)) r)
 
   pub may_take : v.taken ≡ false → Allows (Guards setting) n me (v, []) 0 (λ n. either (n == 0) 1 n) (Takes (step n 0 0 1 none) (v, []))
   may_take idle s r slots at fits =
       let n : ℕ = get_or s.words 0 0 in
-      let Goes : ℕ → Type 0 = λ x. (w : View) × (a : Act Slot) × Valid s.homes [] a × Guards setting (stepped s 0 x me [] w a) ×
+      let Goes : ℕ → Type 0 = λ x. (w : DeskView) × (a : Act Slot) × Valid s.homes [] a × Guards setting (stepped s 0 x me [] w a) ×
       Takes (step n 0 0 1 none) (v, []) n (w, carried_after [] a) in
       exchanged n 0 1 Goes
       (λ is-free.
@@ -141,17 +141,17 @@ module _ (setting : Setting) (n me worker : ℕ) (v : View) (live : v.spent ≡ 
       ))
       (λ is-taken. (v, keeps, tt, take_failed s r at, ((λ e. absurd (is-taken e)), λ _. refl)))
 
-module _ (setting : Setting) (n me : ℕ) (v : View) (live : v.spent ≡ false) where
+module _ (setting : Setting) (n me : ℕ) (v : DeskView) (live : v.spent ≡ false) where
   -- the word is taken, by this seat, which gives the desk back
   free_taken : (d : DeskState) → MayFree v d → (s : Table) (r : Guards setting s) → get_elem? s.views me ≡ some v
       → Guards setting (stepped s 0 0 me ((0, Some d) ∷ []) (seeing false v d.history) gives)
   free_taken d m s r at =
-      let w : View = seeing false v d.history in
+      let w : DeskView = seeing false v d.history in
       let not-free : get_or s.words 0 0 ≢ 0 = λ e. let no = (r.free e).none_taken me v at in let yes = m.taken in absurd cc in
       let t = r.taken not-free in
       let mine : me ≡ t.seat = t.only me v at m.taken in
       let view-is : t.view ≡ v = some-injective t.view v (sym t.at ∙ (ap (get_elem? s.views) (sym mine) ∙ at)) in
-      let journal-is : v.part.seen ≡ r.journal = ap (λ (u : View). u.part.seen) (sym view-is) ∙ t.found in
+      let journal-is : v.part.seen ≡ r.journal = ap (λ (u : DeskView). u.part.seen) (sym view-is) ∙ t.found in
       let grows : Grows v.part.workers r.journal d.history = subst (λ h. Grows v.part.workers h d.history) journal-is m.grows in
       let same : d.setting ≡ setting = m.same ∙ (r.each me v at).same live in
       let word : get_or (set s.words 0 0) 0 0 ≡ 0 = get_or-set_same s.words 0 0 0 (omega (arith, r.words)) in

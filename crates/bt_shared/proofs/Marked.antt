@@ -13,7 +13,7 @@ use Rattle.bt_history.specs.Logs.{Agrees, mark_of, marks_of}
 use Rattle.bt_picker.specs.Checks.{SettlesIf, SettlesNow, settling, waits}
 use Rattle.bt_picker.specs.Positions.{DeskState, Gains}
 use Rattle.bt_shared.specs.declared.view.Part.{Part}
-use Rattle.bt_shared.specs.declared.view.View.{View}
+use Rattle.bt_shared.specs.declared.view.DeskView.{DeskView}
 use Rattle.bt_shared.specs.Guard.{MayTake, Sat, Saw, meeting, part}
 use Rattle.bt_shared.specs.Passes.{IsSeatOf, LogsIf}
 use Rattle.bt_shared.specs.Seen.{Continues, Each, IsAmong, Knows, own}
@@ -99,10 +99,10 @@ agrees_check (Err e) old new w seen after p log log' made noted err c is a =
     agrees_now old new w after log log' err.0 err.1 is (agrees_continue w seen old.history old.history log c refl a)
 
 -- of the two that a join found, the first was a pass's, and has no more entries of its worker then
-module _ (h : History) (old : Sat) (u after : View) (w : ℕ) (seat : IsSeatOf w old) (is : after ≡ meeting old.0 u)
+module _ (h : History) (old : Sat) (u after : DeskView) (w : ℕ) (seat : IsSeatOf w old) (is : after ≡ meeting old.0 u)
     (saw : Each (Saw h after.part.workers) after.parts) where
   both : Each (Saw h after.part.workers) (part (w ∷ []) old.0.part.seen ∷ u.parts)
-  both = subst (Each (Saw h after.part.workers)) (ap (λ (v : View). v.parts) is ∙ ap (λ (ps : List Part). ps ++ u.parts) seat.whole) saw
+  both = subst (Each (Saw h after.part.workers)) (ap (λ (v : DeskView). v.parts) is ∙ ap (λ (ps : List Part). ps ++ u.parts) seat.whole) saw
 
   pub met_continues : Continues w old.0.part.seen h
   met_continues = knows_continue h (part (w ∷ []) old.0.part.seen) w refl both.0.knows

@@ -11,7 +11,7 @@ use Rattle.std.proofs.lemmas.Bool.{ltb-true, ltb-false}
 use Rattle.bt_history.specs.Setting.{Setting}
 use Rattle.bt_history.specs.declared.event.Event.{Event}
 use Rattle.bt_shared.specs.declared.view.Part.{Part}
-use Rattle.bt_shared.specs.declared.view.View.{View}
+use Rattle.bt_shared.specs.declared.view.DeskView.{DeskView}
 use Rattle.bt_shared.specs.Seen.{Knows, IsAmong, own}
 use Rattle.bt_shared.specs.Guard.{Table, desk, Fits, Apart, Guards, Saw, maker, making, newcomer_view, witness, longer, meeting, spent_view}
 use Rattle.bt_shared.proofs.Histories.{apart_append, each_append, each_map, knows_nothing, knows_longer, starts_empty, starts_shorter, among_append}
@@ -26,18 +26,18 @@ at_end (x ∷ xs) a b zero e = inl e
 at_end (x ∷ xs) a b (suc j) e = ⊎_elim inl (λ t. inr (ap suc t.0, t.1)) (at_end xs a b j e)
 
 -- what a step on the views alone leaves of a seat that was there
-record Stays (s : Table) (i : ℕ) (u : View) : Type 0 where
-  old : View
+record Stays (s : Table) (i : ℕ) (u : DeskView) : Type 0 where
+  old : DeskView
   at : get_elem? s.views i ≡ some old
   taken : old.taken ≡ u.taken
 
 -- the rule after a step that changes views alone
-reviewed : (setting : Setting) (s : Table) (r : Guards setting s) (us : List View)
-    → ((i : ℕ) (u : View) → get_elem? us i ≡ some u → Stays s i u ⊎ (u.taken ≡ false))
-    → ((i : ℕ) (v : View) → get_elem? s.views i ≡ some v → v.taken ≡ true →
-    (u : View) × (get_elem? us i ≡ some u) × (u.taken ≡ true) × (u.part ≡ v.part))
-    → ((i : ℕ) (u : View) → get_elem? us i ≡ some u → (w : ℕ) → u.maker ≡ true → u.next ≤ w → own w r.journal ≡ [])
-    → ((i : ℕ) (u : View) → get_elem? us i ≡ some u → Fits setting r.journal u)
+reviewed : (setting : Setting) (s : Table) (r : Guards setting s) (us : List DeskView)
+    → ((i : ℕ) (u : DeskView) → get_elem? us i ≡ some u → Stays s i u ⊎ (u.taken ≡ false))
+    → ((i : ℕ) (v : DeskView) → get_elem? s.views i ≡ some v → v.taken ≡ true →
+    (u : DeskView) × (get_elem? us i ≡ some u) × (u.taken ≡ true) × (u.part ≡ v.part))
+    → ((i : ℕ) (u : DeskView) → get_elem? us i ≡ some u → (w : ℕ) → u.maker ≡ true → u.next ≤ w → own w r.journal ≡ [])
+    → ((i : ℕ) (u : DeskView) → get_elem? us i ≡ some u → Fits setting r.journal u)
     → Apart us
     → Guards setting record { words = s.words; homes = s.homes; views = us }
 reviewed setting s r us back forth fresh fits apart = record {
@@ -64,28 +64,28 @@ reviewed setting s r us back forth fresh fits apart = record {
   apart = apart;
 }
 
-apart_more : (vs : List View) (x : View) → Apart vs → x.maker ≡ false
-    → ((w i : ℕ) (u : View) → IsAmong w x.part.workers → get_elem? vs i ≡ some u → IsAmong w u.part.workers → ⊥)
-    → ((w i : ℕ) (u : View) → IsAmong w x.part.workers → get_elem? vs i ≡ some u → u.maker ≡ true → w < u.next)
+apart_more : (vs : List DeskView) (x : DeskView) → Apart vs → x.maker ≡ false
+    → ((w i : ℕ) (u : DeskView) → IsAmong w x.part.workers → get_elem? vs i ≡ some u → IsAmong w u.part.workers → ⊥)
+    → ((w i : ℕ) (u : DeskView) → IsAmong w x.part.workers → get_elem? vs i ≡ some u → u.maker ≡ true → w < u.next)
     → Apart (vs ++ x ∷ [])
 apart_more vs x a plain others below = record {
   workers = λ i j v u w av au mv mu.
       ⊎_elim
       (λ ov. ⊎_elim (λ ou. a.workers i j v u w ov ou mv mu) (λ nu.
-      absurd (others w i v (subst (λ (y : View). IsAmong w y.part.workers) (sym nu.1) mu) ov mv)) (at_end vs x u j au))
-      (λ nv. ⊎_elim (λ ou. absurd (others w j u (subst (λ (y : View). IsAmong w y.part.workers) (sym nv.1) mv) ou mu)) (λ nu. nv.0 ∙ sym nu.0)
+      absurd (others w i v (subst (λ (y : DeskView). IsAmong w y.part.workers) (sym nu.1) mu) ov mv)) (at_end vs x u j au))
+      (λ nv. ⊎_elim (λ ou. absurd (others w j u (subst (λ (y : DeskView). IsAmong w y.part.workers) (sym nv.1) mv) ou mu)) (λ nu. nv.0 ∙ sym nu.0)
       (at_end vs x u j au))
       (at_end vs x v i av);
   makers = λ i j v u av au mv mu.
       ⊎_elim
-      (λ ov. ⊎_elim (λ ou. a.makers i j v u ov ou mv mu) (λ nu. let is = ap (λ (y : View). y.maker) nu.1 in absurd cc) (at_end vs x u j au))
-      (λ nv. let is = ap (λ (y : View). y.maker) nv.1 in absurd cc)
+      (λ ov. ⊎_elim (λ ou. a.makers i j v u ov ou mv mu) (λ nu. let is = ap (λ (y : DeskView). y.maker) nu.1 in absurd cc) (at_end vs x u j au))
+      (λ nv. let is = ap (λ (y : DeskView). y.maker) nv.1 in absurd cc)
       (at_end vs x v i av);
   made = λ i j v u w av au mv mu.
       ⊎_elim
-      (λ ov. ⊎_elim (λ ou. a.made i j v u w ov ou mv mu) (λ nu. below w i v (subst (λ (y : View). IsAmong w y.part.workers) (sym nu.1) mu) ov mv)
+      (λ ov. ⊎_elim (λ ou. a.made i j v u w ov ou mv mu) (λ nu. below w i v (subst (λ (y : DeskView). IsAmong w y.part.workers) (sym nu.1) mu) ov mv)
       (at_end vs x u j au))
-      (λ nv. let is = ap (λ (y : View). y.maker) nv.1 in absurd cc)
+      (λ nv. let is = ap (λ (y : DeskView). y.maker) nv.1 in absurd cc)
       (at_end vs x v i av);
 }
 
@@ -96,12 +96,12 @@ one_seat x y (suc i) e = absurd (some-ne-none y (sym e))
 
 pub opens : (setting : Setting) → Guards setting (opening (0 ∷ []) (Some (desk setting []) ∷ []) (maker setting))
 opens setting =
-    let P : (View → Type 0) → Type 0 = λ Q. (i : ℕ) (v : View) → get_elem? (maker setting ∷ []) i ≡ some v → Q v in
+    let P : (DeskView → Type 0) → Type 0 = λ Q. (i : ℕ) (v : DeskView) → get_elem? (maker setting ∷ []) i ≡ some v → Q v in
     record {
       journal = [];
       words = refl;
       slots = refl;
-      free = λ _. record { home = refl; none_taken = λ i v at. subst (λ (u : View). u.taken ≡ false) (one_seat (maker setting) v i at).1 refl };
+      free = λ _. record { home = refl; none_taken = λ i v at. subst (λ (u : DeskView). u.taken ≡ false) (one_seat (maker setting) v i at).1 refl };
       taken = λ e. absurd (e refl);
       fresh = λ i v at w _ _. refl;
       each = λ i v at. subst (Fits setting []) (one_seat (maker setting) v i at).1 record {
@@ -115,34 +115,34 @@ opens setting =
       apart = record {
         workers = λ i j v u w av au mv mu. (one_seat (maker setting) v i av).0 ∙ sym (one_seat (maker setting) u j au).0;
         makers = λ i j v u av au mv mu. (one_seat (maker setting) v i av).0 ∙ sym (one_seat (maker setting) u j au).0;
-        made = λ i j v u w av au mv mu. absurd (subst (λ (y : View). IsAmong w y.part.workers) (sym (one_seat (maker setting) u j au).1) mu);
+        made = λ i j v u w av au mv mu. absurd (subst (λ (y : DeskView). IsAmong w y.part.workers) (sym (one_seat (maker setting) u j au).1) mu);
       };
     }
 
 -- a seat with a new view beside a new seat
-module _ (setting : Setting) (me : ℕ) (v left x : View) (live : v.spent ≡ false) (s : Table) (r : Guards setting s)
+module _ (setting : Setting) (me : ℕ) (v left x : DeskView) (live : v.spent ≡ false) (s : Table) (r : Guards setting s)
     (at : get_elem? s.views me ≡ some v)
     (same-taken : v.taken ≡ left.taken) (same-part : v.part ≡ left.part) (same-maker : v.maker ≡ left.maker) (more : v.next ≤ left.next)
     (fits-left : Fits setting r.journal left)
     (off : x.taken ≡ false) (plain : x.maker ≡ false) (fits-x : Fits setting r.journal x)
-    (others : (w i : ℕ) (u : View) → IsAmong w x.part.workers → get_elem? s.views i ≡ some u → IsAmong w u.part.workers → ⊥)
+    (others : (w i : ℕ) (u : DeskView) → IsAmong w x.part.workers → get_elem? s.views i ≡ some u → IsAmong w u.part.workers → ⊥)
     (below : (w : ℕ) → IsAmong w x.part.workers → v.maker ≡ true × (w < left.next)) where
-  vs : List View
+  vs : List DeskView
   vs = set s.views me left
 
-  was : (i : ℕ) (u : View) → get_elem? vs i ≡ some u → Was s.views i u
+  was : (i : ℕ) (u : DeskView) → get_elem? vs i ≡ some u → Was s.views i u
   unfolding vs
   was = each_set (Was s.views) s.views me left
       (record { old = v; at = at; workers = ap (λ p. p.workers) same-part; maker = same-maker; next = more })
       (λ i u _ there. record { old = u; at = there; workers = refl; maker = refl; next = le_refl u.next })
 
-  stays : (i : ℕ) (u : View) → get_elem? vs i ≡ some u → Stays s i u
+  stays : (i : ℕ) (u : DeskView) → get_elem? vs i ≡ some u → Stays s i u
   unfolding vs
   stays = each_set (Stays s) s.views me left (record { old = v; at = at; taken = same-taken })
       (λ i u _ there. record { old = u; at = there; taken = refl })
 
-  there : (i : ℕ) (u : View) → get_elem? s.views i ≡ some u → u.taken ≡ true →
-      (u' : View) × (get_elem? (vs ++ x ∷ []) i ≡ some u') × (u'.taken ≡ true) × (u'.part ≡ u.part)
+  there : (i : ℕ) (u : DeskView) → get_elem? s.views i ≡ some u → u.taken ≡ true →
+      (u' : DeskView) × (get_elem? (vs ++ x ∷ []) i ≡ some u') × (u'.taken ≡ true) × (u'.part ≡ u.part)
   unfolding vs
   there i u here on =
       dite (ℕ_discrete i me)
@@ -150,23 +150,23 @@ module _ (setting : Setting) (me : ℕ) (v left x : View) (live : v.spent ≡ fa
       let u-is : v ≡ u = some-injective v u (sym at ∙ (ap (get_elem? s.views) (sym e) ∙ here)) in (
         left,
         at_longer vs (x ∷ []) i left (ap (get_elem? vs) e ∙ set_at s.views me v left at),
-        sym same-taken ∙ (ap (λ (y : View). y.taken) u-is ∙ on),
-        sym same-part ∙ ap (λ (y : View). y.part) u-is,
+        sym same-taken ∙ (ap (λ (y : DeskView). y.taken) u-is ∙ on),
+        sym same-part ∙ ap (λ (y : DeskView). y.part) u-is,
       ))
       (λ ne. (u, at_longer vs (x ∷ []) i u (set_else s.views me i left ne ∙ here), on, refl))
 
-  fits : (i : ℕ) (u : View) → get_elem? vs i ≡ some u → Fits setting r.journal u
+  fits : (i : ℕ) (u : DeskView) → get_elem? vs i ≡ some u → Fits setting r.journal u
   unfolding vs
   fits = each_set (λ _ u. Fits setting r.journal u) s.views me left fits-left (λ i u _ here. r.each i u here)
 
   pub beside : Guards setting record { words = s.words; homes = s.homes; views = set s.views me left ++ x ∷ [] }
   unfolding vs
   beside = reviewed setting s r (vs ++ x ∷ [])
-      (λ i u here. ⊎_elim (λ o. inl (stays i u o)) (λ t. inr (ap (λ (y : View). y.taken) (sym t.1) ∙ off)) (at_end vs x u i here))
+      (λ i u here. ⊎_elim (λ o. inl (stays i u o)) (λ t. inr (ap (λ (y : DeskView). y.taken) (sym t.1) ∙ off)) (at_end vs x u i here))
       there
       (λ i u here w makes le. ⊎_elim
       (λ o. let old = was i u o in r.fresh i old.old old.at w (old.maker ∙ makes) (omega (arith, old.next, le)))
-      (λ t. let is = ap (λ (y : View). y.maker) t.1 in absurd cc)
+      (λ t. let is = ap (λ (y : DeskView). y.maker) t.1 in absurd cc)
       (at_end vs x u i here))
       (λ i u here. ⊎_elim (λ o. fits i u o) (λ t. subst (Fits setting r.journal) t.1 fits-x) (at_end vs x u i here))
       (apart_more vs x (apart_same s.views vs was r.apart) plain
@@ -176,9 +176,9 @@ module _ (setting : Setting) (me : ℕ) (v left x : View) (live : v.spent ≡ fa
       let b = below w among in
       let me-is : i ≡ me = r.apart.makers i me old.old v old.at at (old.maker ∙ makes) b.0 in
       let left-is : left ≡ u = some-injective left u (sym (set_at s.views me v left at) ∙ (ap (get_elem? vs) (sym me-is) ∙ here)) in
-      subst (λ (y : View). w < y.next) left-is b.1))
+      subst (λ (y : DeskView). w < y.next) left-is b.1))
 
-pub makes_newcomer : (setting : Setting) (me : ℕ) (v : View) → v.spent ≡ false → v.maker ≡ true → v.next < v.setting.workers →
+pub makes_newcomer : (setting : Setting) (me : ℕ) (v : DeskView) → v.spent ≡ false → v.maker ≡ true → v.next < v.setting.workers →
     Splits (Guards setting) me v (making v) (newcomer_view v)
 makes_newcomer setting me v live makes below s r at =
     let f = r.each me v at in
@@ -200,7 +200,7 @@ makes_newcomer setting me v live makes below s r at =
     (λ w i u among here mine. ⊎_elim (λ e. let below = r.apart.made me i v u w at here makes mine in absurd (omega arith)) absurd among)
     (λ w among. (makes, ⊎_elim (λ e. omega arith) absurd among))
 
-pub makes_witness : (setting : Setting) (me : ℕ) (v : View) → v.spent ≡ false → Splits (Guards setting) me v v (witness v)
+pub makes_witness : (setting : Setting) (me : ℕ) (v : DeskView) → v.spent ≡ false → Splits (Guards setting) me v v (witness v)
 makes_witness setting me v live s r at =
     let f = r.each me v at in
     let new : Knows r.journal [] v.part.seen = record { begins = f.part.begins; complete = λ w. absurd } in
@@ -210,15 +210,15 @@ makes_witness setting me v live s r at =
     (λ w. absurd)
 
 -- the old seat of a worker after a join, whose place is the joined seat's if it was the other
-record Source (vs : List View) (id other w i : ℕ) : Type 0 where
+record Source (vs : List DeskView) (id other w i : ℕ) : Type 0 where
   k : ℕ
-  old : View
+  old : DeskView
   at : get_elem? vs k ≡ some old
   among : IsAmong w old.part.workers
   moved : k ≡ other → i ≡ id
   kept : k ≢ other → i ≡ k
 
-knows_meeting : (setting : Setting) (h : List Event) (v u : View) → Fits setting h v → Fits setting h u →
+knows_meeting : (setting : Setting) (h : List Event) (v u : DeskView) → Fits setting h v → Fits setting h u →
     Knows h (v.part.workers ++ u.part.workers) (longer v.part.seen u.part.seen)
 knows_meeting setting h v u f g = go (nat_lt (length v.part.seen) (length u.part.seen)) refl
   where
@@ -240,7 +240,7 @@ knows_meeting setting h v u f g = go (nat_lt (length v.part.seen) (length u.part
 saw_more : (h : List Event) (few many : List ℕ) → ((w : ℕ) → IsAmong w few → IsAmong w many) → (p : Part) → Saw h few p → Saw h many p
 saw_more h few many more p saw = record { knows = saw.knows; among = λ w x. more w (saw.among w x) }
 
-fits_meeting : (setting : Setting) (h : List Event) (v u : View) → Fits setting h v → Fits setting h u →
+fits_meeting : (setting : Setting) (h : List Event) (v u : DeskView) → Fits setting h v → Fits setting h u →
     ((w : ℕ) → IsAmong w v.part.workers → IsAmong w u.part.workers → ⊥)
     → Fits setting h (meeting v u)
 fits_meeting setting h v u f g apart =
@@ -257,40 +257,40 @@ fits_meeting setting h v u f g apart =
       once = apart_append v.part.workers u.part.workers f.once g.once apart;
     }
 
-module _ (setting : Setting) (id other : ℕ) (v u : View) (live : v.spent ≡ false) (idle : v.taken ≡ false) (other-idle : u.taken ≡ false) (s : Table)
+module _ (setting : Setting) (id other : ℕ) (v u : DeskView) (live : v.spent ≡ false) (idle : v.taken ≡ false) (other-idle : u.taken ≡ false) (s : Table)
     (r : Guards setting s)
     (at : get_elem? s.views id ≡ some v) (apart : ¬ (other ≡ id)) (there' : get_elem? (set s.views id (meeting v u)) other ≡ some u) where
-  joined : List View
+  joined : List DeskView
   joined = set (set s.views id (meeting v u)) other spent_view
 
   other-at : get_elem? s.views other ≡ some u
   other-at = sym (set_else s.views id other (meeting v u) apart) ∙ there'
 
   -- a fact of each seat after the join
-  each_joined : (P : ℕ → View → Type 0) → P other spent_view → P id (meeting v u) →
-      ((i : ℕ) (x : View) → i ≢ other → i ≢ id → get_elem? s.views i ≡ some x → P i x)
-      → (i : ℕ) (x : View) → get_elem? joined i ≡ some x → P i x
+  each_joined : (P : ℕ → DeskView → Type 0) → P other spent_view → P id (meeting v u) →
+      ((i : ℕ) (x : DeskView) → i ≢ other → i ≢ id → get_elem? s.views i ≡ some x → P i x)
+      → (i : ℕ) (x : DeskView) → get_elem? joined i ≡ some x → P i x
   unfolding joined
   each_joined P of-spent of-both of-others =
       each_set P (set s.views id (meeting v u)) other spent_view of-spent
       (λ i x away here. each_set (λ j y. j ≢ other → P j y) s.views id (meeting v u) (λ _. of-both)
       (λ j y off here' away'. of-others j y away' off here') i x here away)
 
-  stays-joined : (i : ℕ) (x : View) → get_elem? joined i ≡ some x → Stays s i x ⊎ (x.taken ≡ false)
+  stays-joined : (i : ℕ) (x : DeskView) → get_elem? joined i ≡ some x → Stays s i x ⊎ (x.taken ≡ false)
   stays-joined = each_joined (λ i x. Stays s i x ⊎ (x.taken ≡ false)) (inr refl) (inl record { old = v; at = at; taken = refl })
       (λ i x _ _ here. inl record { old = x; at = here; taken = refl })
 
-  taken-joined : (i : ℕ) (x : View) → get_elem? s.views i ≡ some x → x.taken ≡ true →
-      (y : View) × (get_elem? joined i ≡ some y) × (y.taken ≡ true) × (y.part ≡ x.part)
+  taken-joined : (i : ℕ) (x : DeskView) → get_elem? s.views i ≡ some x → x.taken ≡ true →
+      (y : DeskView) × (get_elem? joined i ≡ some y) × (y.taken ≡ true) × (y.part ≡ x.part)
   unfolding joined
   taken-joined i x here on =
       let not-other : i ≢ other = λ e. let same : u ≡ x = some-injective u x (sym other-at ∙ (ap (get_elem? s.views) (sym e) ∙ here)) in let off =
-      sym other-idle ∙ (ap (λ (y : View). y.taken) same ∙ on) in absurd cc in
+      sym other-idle ∙ (ap (λ (y : DeskView). y.taken) same ∙ on) in absurd cc in
       let not-id : i ≢ id = λ e. let same : v ≡ x = some-injective v x (sym at ∙ (ap (get_elem? s.views) (sym e) ∙ here)) in let off =
-      sym idle ∙ (ap (λ (y : View). y.taken) same ∙ on) in absurd cc in
+      sym idle ∙ (ap (λ (y : DeskView). y.taken) same ∙ on) in absurd cc in
       (x, set_else (set s.views id (meeting v u)) other i spent_view not-other ∙ (set_else s.views id i (meeting v u) not-id ∙ here), on, refl)
 
-  source : (i : ℕ) (x : View) → get_elem? joined i ≡ some x → (w : ℕ) → IsAmong w x.part.workers → Source s.views id other w i
+  source : (i : ℕ) (x : DeskView) → get_elem? joined i ≡ some x → (w : ℕ) → IsAmong w x.part.workers → Source s.views id other w i
   source = each_joined (λ i x. (w : ℕ) → IsAmong w x.part.workers → Source s.views id other w i)
       (λ w. absurd)
       (λ w among. ⊎_elim
@@ -300,9 +300,9 @@ module _ (setting : Setting) (id other : ℕ) (v u : View) (live : v.spent ≡ f
       (λ i x away off here w among. record { k = i; old = x; at = here; among = among; moved = λ e. absurd (away e); kept = λ _. refl })
 
   -- a maker was one before, at its place
-  maker-joined : (i : ℕ) (x : View) → get_elem? joined i ≡ some x → x.maker ≡ true →
-      (y : View) × (get_elem? s.views i ≡ some y) × (y.maker ≡ true) × (y.next ≡ x.next)
-  maker-joined = each_joined (λ i x. x.maker ≡ true → (y : View) × (get_elem? s.views i ≡ some y) × (y.maker ≡ true) × (y.next ≡ x.next))
+  maker-joined : (i : ℕ) (x : DeskView) → get_elem? joined i ≡ some x → x.maker ≡ true →
+      (y : DeskView) × (get_elem? s.views i ≡ some y) × (y.maker ≡ true) × (y.next ≡ x.next)
+  maker-joined = each_joined (λ i x. x.maker ≡ true → (y : DeskView) × (get_elem? s.views i ≡ some y) × (y.maker ≡ true) × (y.next ≡ x.next))
       (λ no-maker. absurd cc)
       (λ makes. (v, at, makes, refl))
       (λ i x _ _ here makes. (x, here, makes, refl))
@@ -335,6 +335,6 @@ module _ (setting : Setting) (id other : ℕ) (v u : View) (live : v.spent ≡ f
       (λ i x _ _ here. r.each i x here))
       apart-joined
 
-pub meets : (setting : Setting) (id other : ℕ) (v u : View) → v.spent ≡ false → v.taken ≡ false → u.taken ≡ false →
+pub meets : (setting : Setting) (id other : ℕ) (v u : DeskView) → v.spent ≡ false → v.taken ≡ false → u.taken ≡ false →
     Joins (Guards setting) id v other u (meeting v u) spent_view
 meets setting id other v u live idle other-idle s r at apart there' = meets-here setting id other v u live idle other-idle s r at apart there'

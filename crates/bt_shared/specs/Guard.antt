@@ -8,7 +8,7 @@ use Rattle.bt_history.specs.Setting.{Setting}
 use Rattle.bt_history.specs.declared.event.Event.{Event}
 use Rattle.bt_picker.specs.Positions.{DeskState}
 use Rattle.bt_shared.specs.declared.view.Part.{Part}
-use Rattle.bt_shared.specs.declared.view.View.{View}
+use Rattle.bt_shared.specs.declared.view.DeskView.{DeskView}
 use Rattle.bt_shared.specs.Seen.{AreApart, Each, Grows, IsAmong, Knows, own}
 
 -- what the slot has: the desk, while nobody has the word
@@ -17,11 +17,11 @@ Slot = StdOption DeskState
 
 -- the words and slots of the table, with the views of its seats
 abbrev pub Table : Type 0
-Table = State Slot View
+Table = State Slot DeskView
 
 -- a seat: its view, and what it holds
 abbrev pub Sat : Type 0
-Sat = Me Slot View
+Sat = Me Slot DeskView
 
 -- a desk of this history
 abbrev pub desk : Setting → List Event → DeskState
@@ -36,7 +36,7 @@ pub record Saw (h : List Event) (workers : List ℕ) (p : Part) : Type 0 where
   pub among : (w : ℕ) → IsAmong w p.workers → IsAmong w workers
 
 -- what a seat knows is so of the journal
-pub record Fits (setting : Setting) (h : List Event) (v : View) : Type 0 where
+pub record Fits (setting : Setting) (h : List Event) (v : DeskView) : Type 0 where
   pub same : v.spent ≡ false → v.setting ≡ setting
   pub part : Knows h v.part.workers v.part.seen
   pub parts : Each (Saw h v.part.workers) v.parts
@@ -44,29 +44,29 @@ pub record Fits (setting : Setting) (h : List Event) (v : View) : Type 0 where
   pub once : AreApart v.part.workers
 
 -- each worker has one seat, and one seat makes them
-pub record Apart (views : List View) : Type 0 where
-  pub workers : (i j : ℕ) (v u : View) (w : ℕ) → get_elem? views i ≡ some v → get_elem? views j ≡ some u → IsAmong w v.part.workers →
+pub record Apart (views : List DeskView) : Type 0 where
+  pub workers : (i j : ℕ) (v u : DeskView) (w : ℕ) → get_elem? views i ≡ some v → get_elem? views j ≡ some u → IsAmong w v.part.workers →
       IsAmong w u.part.workers → i ≡ j
-  pub makers : (i j : ℕ) (v u : View) → get_elem? views i ≡ some v → get_elem? views j ≡ some u → v.maker ≡ true → u.maker ≡ true → i ≡ j
-  pub made : (i j : ℕ) (v u : View) (w : ℕ) → get_elem? views i ≡ some v → get_elem? views j ≡ some u → v.maker ≡ true → IsAmong w u.part.workers →
+  pub makers : (i j : ℕ) (v u : DeskView) → get_elem? views i ≡ some v → get_elem? views j ≡ some u → v.maker ≡ true → u.maker ≡ true → i ≡ j
+  pub made : (i j : ℕ) (v u : DeskView) (w : ℕ) → get_elem? views i ≡ some v → get_elem? views j ≡ some u → v.maker ≡ true → IsAmong w u.part.workers →
       w < v.next
 
 -- the desk is in its slot, with this journal, and no seat has taken the word
 pub record IsFree (setting : Setting) (h : List Event) (s : Table) : Type 0 where
   pub home : get_elem? s.homes 0 ≡ some (some (Some (desk setting h)))
-  pub none_taken : (i : ℕ) (v : View) → get_elem? s.views i ≡ some v → v.taken ≡ false
+  pub none_taken : (i : ℕ) (v : DeskView) → get_elem? s.views i ≡ some v → v.taken ≡ false
 
 -- one seat, which speaks for a worker, has taken the word, and found this journal
 pub record IsTaken (h : List Event) (s : Table) : Type 0 where
   pub away : get_elem? s.homes 0 ≡ some none
   pub seat : ℕ
-  pub view : View
+  pub view : DeskView
   pub at : get_elem? s.views seat ≡ some view
   pub says : view.taken ≡ true
   pub found : view.part.seen ≡ h
   pub worker : ℕ
   pub speaks : IsAmong worker view.part.workers
-  pub only : (i : ℕ) (v : View) → get_elem? s.views i ≡ some v → v.taken ≡ true → i ≡ seat
+  pub only : (i : ℕ) (v : DeskView) → get_elem? s.views i ≡ some v → v.taken ≡ true → i ≡ seat
 
 -- there is one journal, of which each seat knows what its view says
 pub record Guards (setting : Setting) (s : Table) : Type 0 where
@@ -75,8 +75,8 @@ pub record Guards (setting : Setting) (s : Table) : Type 0 where
   pub slots : length s.homes ≡ 1
   pub free : slice_index s.words 0 ≡ 0 → IsFree setting journal s
   pub taken : slice_index s.words 0 ≢ 0 → IsTaken journal s
-  pub fresh : (i : ℕ) (v : View) → get_elem? s.views i ≡ some v → (w : ℕ) → v.maker ≡ true → v.next ≤ w → own w journal ≡ []
-  pub each : (i : ℕ) (v : View) → get_elem? s.views i ≡ some v → Fits setting journal v
+  pub fresh : (i : ℕ) (v : DeskView) → get_elem? s.views i ≡ some v → (w : ℕ) → v.maker ≡ true → v.next ≤ w → own w journal ≡ []
+  pub each : (i : ℕ) (v : DeskView) → get_elem? s.views i ≡ some v → Fits setting journal v
   pub apart : Apart s.views
 
 -- the table of a desk: one word, one slot
@@ -91,27 +91,27 @@ abbrev pub part : List ℕ → List Event → Part
 part workers seen = record { workers = workers; seen = seen }
 
 -- a view that is not used up, that was given no other parts
-abbrev pub view : Setting → Bool → Bool → ℕ → Part → View
+abbrev pub view : Setting → Bool → Bool → ℕ → Part → DeskView
 view setting taken maker next p = record { setting = setting; spent = false; taken = taken; maker = maker; next = next; part = p; parts = p ∷ [] }
 
 -- the first seat, which makes the workers' seats
-abbrev pub maker : Setting → View
+abbrev pub maker : Setting → DeskView
 maker setting = view setting false true 0 (part [] [])
 
 -- the view of a seat once it has seen this history, which is all that its calls were answered from, with the word taken or not
-abbrev pub seeing : Bool → View → List Event → View
+abbrev pub seeing : Bool → DeskView → List Event → DeskView
 seeing taken v h = view v.setting taken v.maker v.next (part v.part.workers h)
 
 -- the first seat, once it made one more
-abbrev pub making : View → View
+abbrev pub making : DeskView → DeskView
 making v = record v { next = v.next + 1 }
 
 -- the seat of the next worker, which has seen nothing
-abbrev pub newcomer_view : View → View
+abbrev pub newcomer_view : DeskView → DeskView
 newcomer_view v = view v.setting false false 0 (part (v.next ∷ []) [])
 
 -- a seat that has seen as much, and speaks for no worker
-abbrev pub witness : View → View
+abbrev pub witness : DeskView → DeskView
 witness v = view v.setting false false 0 (part [] v.part.seen)
 
 -- the longer of two histories
@@ -119,7 +119,7 @@ abbrev pub longer : List Event → List Event → List Event
 longer a b = if nat_lt (length a) (length b) then b else a
 
 -- what two seats know, in one
-abbrev pub meeting : View → View → View
+abbrev pub meeting : DeskView → DeskView → DeskView
 meeting v u = record v { part = part (v.part.workers ++ u.part.workers) (longer v.part.seen u.part.seen); parts = v.parts ++ u.parts }
 
 -- the setting of a seat that is no more
@@ -127,7 +127,7 @@ abbrev pub no_setting : Setting
 no_setting = record { torrent = record { piece_length = 0; total = 0; hashes = [] }; workers = 0; depth = 0; random = 0; askers = 0; deepest = 0 }
 
 -- what is left of a seat that was joined into another
-abbrev pub spent_view : View
+abbrev pub spent_view : DeskView
 spent_view = record { setting = no_setting; spent = true; taken = false; maker = false; next = 0; part = part [] []; parts = [] }
 
 -- ---- steps
@@ -155,7 +155,7 @@ pub record MayTake (m : Sat) : Type 0 where
   pub speaks : IsAmong worker m.0.part.workers
 
 -- a seat that may free the word with this desk
-pub record MayFree (v : View) (d : DeskState) : Type 0 where
+pub record MayFree (v : DeskView) (d : DeskState) : Type 0 where
   pub taken : v.taken ≡ true
   pub same : d.setting ≡ v.setting
   pub grows : Grows v.part.workers v.part.seen d.history

@@ -17,7 +17,7 @@ use crate::compare::{first_differing, first_other};
 use crate::entering::{attest, entries_of};
 use crate::lock::{DeskSeat, FREE, Guard, Meet, Words};
 use crate::pass::Pass;
-use crate::view::{Terms, View};
+use crate::view::{DeskTerms, DeskView};
 use atomic_table::{Closed, Table};
 use bt_meta::Bitfield;
 use bt_picker::{Desk, Mark};
@@ -135,7 +135,7 @@ fn desk_in(mut closed: Closed<Option<Desk>, Global>) -> Option<Desk>
 
 /// The desk, if the word is free, out of a table that this seat closes. It is free where the seat speaks for all workers.
 fn close_with(
-    table: Table<Option<Desk>, View, Terms, Guard, Global>,
+    table: Table<Option<Desk>, DeskView, DeskTerms, Guard, Global>,
     seat: DeskSeat,
 ) -> Option<Desk>
     requires desk { IsDesk table.shared.table_id.words table.shared.table_id.slots }
@@ -151,7 +151,7 @@ fn close_with(
 
 /// The desk, if the word is free. It is free where the seat speaks for all workers.
 fn close(
-    table: Table<Option<Desk>, View, Terms, Guard, Global>,
+    table: Table<Option<Desk>, DeskView, DeskTerms, Guard, Global>,
     all: Option<DeskSeat>,
 ) -> Option<Desk>
     requires desk { IsDesk table.shared.table_id.words table.shared.table_id.slots }
@@ -171,7 +171,7 @@ fn close(
 
 /// Puts each log at its worker's place, counts the marks, and takes the desk out of its slot, if the word is free.
 fn take_apart(
-    table: Table<Option<Desk>, View, Terms, Guard, Global>,
+    table: Table<Option<Desk>, DeskView, DeskTerms, Guard, Global>,
     passes: Vec<Pass>,
     logs: &mut Vec<Vec<Mark>>,
 ) -> (usize, Option<Desk>)
@@ -220,7 +220,7 @@ fn difference(
 /// The desk of all calls, with a log for each worker, if the passes have all calls of the journal, each at its place, and the bitfield, if
 /// there is one, has exactly the pieces that are had.
 pub(crate) fn gather(
-    table: Table<Option<Desk>, View, Terms, Guard, Global>,
+    table: Table<Option<Desk>, DeskView, DeskTerms, Guard, Global>,
     workers: u32,
     alloc: Global,
     passes: Vec<Pass>,

@@ -5,7 +5,7 @@ ghost use Rattle.bt_history.specs.Legal.{IsLegal};
 ghost use Rattle.bt_shared.specs.Guard.{Fits, IsDesk, MayFree, MayTake, seeing};
 
 use crate::entering::attest;
-use crate::view::{Terms, View};
+use crate::view::{DeskTerms, DeskView};
 use atomic_table::{Join, Play, Seat, Shared, Split, TableRule};
 use bt_picker::Desk;
 use std::sync::Wait;
@@ -18,7 +18,7 @@ const TAKEN: u64 = 1;
 /// The rule of the word and the slot.
 pub struct Guard;
 
-impl TableRule<Option<Desk>, View, Terms> for Guard {
+impl TableRule<Option<Desk>, DeskView, DeskTerms> for Guard {
     ghost use Rattle.bt_shared.specs.Guard.{Guards, maker};
 
     ghost holds = { Guards };
@@ -29,7 +29,7 @@ impl TableRule<Option<Desk>, View, Terms> for Guard {
 /// Takes the word, with the desk.
 pub(crate) struct Take;
 
-impl Play<Option<Desk>, View> for Take {
+impl Play<Option<Desk>, DeskView> for Take {
     ghost use Rattle.bt_shared.specs.Guard.{Takes};
 
     ghost then = { Takes };
@@ -38,7 +38,7 @@ impl Play<Option<Desk>, View> for Take {
 /// Frees the word, and gives the desk back.
 pub(crate) struct Free;
 
-impl Play<Option<Desk>, View> for Free {
+impl Play<Option<Desk>, DeskView> for Free {
     ghost use Rattle.bt_shared.specs.Guard.{Frees};
 
     ghost then = { Frees };
@@ -47,7 +47,7 @@ impl Play<Option<Desk>, View> for Free {
 /// The maker's seat gives the next worker's.
 pub(crate) struct Make;
 
-impl Split<View> for Make {
+impl Split<DeskView> for Make {
     ghost use Rattle.bt_shared.specs.Guard.{making, newcomer_view};
 
     ghost left = { making };
@@ -58,7 +58,7 @@ impl Split<View> for Make {
 /// A seat that has seen as much, and speaks for no worker.
 pub(crate) struct Witness;
 
-impl Split<View> for Witness {
+impl Split<DeskView> for Witness {
     ghost use Rattle.bt_shared.specs.Guard.{witness};
 
     ghost left = { λ v. v };
@@ -69,7 +69,7 @@ impl Split<View> for Witness {
 /// What two seats know, in one.
 pub(crate) struct Meet;
 
-impl Join<View> for Meet {
+impl Join<DeskView> for Meet {
     ghost use Rattle.bt_shared.specs.Guard.{meeting, spent_view};
 
     ghost both = { meeting };
@@ -77,9 +77,9 @@ impl Join<View> for Meet {
     ghost spent = { spent_view };
 }
 
-pub(crate) type DeskSeat = Seat<Option<Desk>, View>;
+pub(crate) type DeskSeat = Seat<Option<Desk>, DeskView>;
 
-pub(crate) type Words = Shared<Option<Desk>, View, Terms, Guard>;
+pub(crate) type Words = Shared<Option<Desk>, DeskView, DeskTerms, Guard>;
 
 /// Waits for the word, and takes the desk out of its slot.
 pub(crate) fn lock<R: Wait>(rt: &R, words: &Words, seat: &mut DeskSeat) -> Desk

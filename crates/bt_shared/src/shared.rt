@@ -19,7 +19,7 @@ use crate::entering::{enter, enter_check, job_of};
 use crate::gather::{Book, GatherFault, gather};
 use crate::lock::{DeskSeat, FREE, Guard, Make, Meet, Witness, lock, unlock};
 use crate::pass::Pass;
-use crate::view::{Terms, View};
+use crate::view::{DeskTerms, DeskView};
 use atomic_table::Table;
 use bt_check::Job;
 use bt_history::MOST_WORKERS;
@@ -33,7 +33,7 @@ use std::sync::{Arc, Wait};
 /// Contracts see which desk it is, and the setting that its history is judged by. A pass is handed to the desk with which it was opened,
 /// the caller's condition.
 pub struct SharedDesk {
-    table: Table<Option<Desk>, View, Terms, Guard, Global>,
+    table: Table<Option<Desk>, DeskView, DeskTerms, Guard, Global>,
     workers: u32,
 }
 
@@ -61,10 +61,10 @@ impl Model for SharedDesk {
 }
 
 /// What the desk is made for.
-fn terms_of(torrent: &Arc<Torrent>, workers: u32, rules: Rules) -> Result<Terms, AllocError>
+fn desk_terms(torrent: &Arc<Torrent>, workers: u32, rules: Rules) -> Result<DeskTerms, AllocError>
     ensures { IfOk result (λ terms. terms ≡ setting_of torrent.now.value.layout workers rules) }
 {
-    Ok(Terms {
+    Ok(DeskTerms {
         torrent: torrent.clone()?,
         workers,
         rules,
@@ -77,7 +77,13 @@ fn lay(
     torrent: Arc<Torrent>,
     workers: u32,
     rules: Rules,
-) -> Result<(Table<Option<Desk>, View, Terms, Guard, Global>, DeskSeat), AllocError>
+) -> Result<
+    (
+        Table<Option<Desk>, DeskView, DeskTerms, Guard, Global>,
+        DeskSeat,
+    ),
+    AllocError,
+>
     requires workers { (1 ≤ workers) × (workers ≤ MOST_WORKERS) }
     requires rules { AreRules torrent.value.layout rules }
     ensures key { IfOk result (λ laid. laid.0.shared.key ≡ setting_of torrent.value.layout workers rules) }
@@ -85,7 +91,7 @@ fn lay(
     ensures seat { IfOk result (λ laid. (laid.1.table_id ≡ laid.0.shared.table_id)
         × (laid.1.me ≡ (maker (setting_of torrent.value.layout workers rules), []))) }
 {
-    let terms = terms_of(&torrent, workers, rules)?;
+    let terms = desk_terms(&torrent, workers, rules)?;
     let desk = Desk::new(alloc, torrent, workers, rules)?;
     let mut slots = Vec::new(alloc);
     slots.push(Some(desk))?;

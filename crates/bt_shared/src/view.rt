@@ -9,13 +9,13 @@ use std::sync::Arc;
 
 /// What a desk is made for. Contracts see it as the setting that its history is judged by.
 #[derive(Drop)]
-pub struct Terms {
+pub struct DeskTerms {
     pub(crate) torrent: Arc<Torrent>,
     pub(crate) workers: u32,
     pub(crate) rules: Rules,
 }
 
-impl Model for Terms {
+impl Model for DeskTerms {
     ghost use Rattle.bt_history.specs.Setting.{Setting, setting_of};
 
     ghost Value = { Setting };
@@ -30,9 +30,9 @@ pub struct Part {
 }
 
 /// What a seat knows. No value of it is made.
-pub struct View {
+pub struct DeskView {
     /// What the desk is made for, unless the seat is spent.
-    pub setting: Terms,
+    pub setting: DeskTerms,
     /// It was joined into another.
     pub spent: bool,
     /// It has taken the word.

@@ -84,8 +84,8 @@ impl fmt::Display for Tail {
         match *self {
             Tail::Nothing => Ok(()),
             Tail::Block(block) => {
-                let place = Place(block);
-                write!(f, " {place}")
+                let shown = BlockText(block);
+                write!(f, " {shown}")
             }
             Tail::Number(number) => write!(f, " {number}"),
         }
@@ -156,10 +156,10 @@ impl fmt::Display for ReplyText {
 
 /// Where a block stands: its piece, where it begins in it and its length, in bytes.
 #[derive(Clone, Copy)]
-struct Place(Block);
+struct BlockText(Block);
 
-impl fmt::Display for Place {
-    ghost output = { λ place. Some (block_text place.0) };
+impl fmt::Display for BlockText {
+    ghost output = { λ shown. Some (block_text shown.0) };
 
     fn fmt<W: fmt::Write>(&self, f: &mut fmt::Formatter<W>) -> fmt::Result {
         let Block { piece, begin, len } = self.0;

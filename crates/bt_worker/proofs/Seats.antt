@@ -11,7 +11,7 @@ use Rattle.bt_board.proofs.Lists.{has_back, has_front}
 use Rattle.bt_board.specs.Seats.{SeatState}
 use Rattle.bt_board.specs.Story.{Has, Seen, StandsFor, both}
 use Rattle.bt_board.specs.declared.view.Mark.{Mark}
-use Rattle.bt_board.specs.declared.view.View.{View}
+use Rattle.bt_board.specs.declared.view.BoardView.{BoardView}
 use Rattle.bt_check.specs.Queues.{Queue, PassState as TicketState}
 use Rattle.bt_history.specs.History.{History}
 use Rattle.bt_history.specs.Pieces.{had}
@@ -50,11 +50,11 @@ are_of desk name setting ps desk_is same named k p at =
 -- ---- joined seats
 
 -- what either has seen
-seen_left : (v w : View) (p : ℕ) → Seen v p → Seen (both v w) p
+seen_left : (v w : BoardView) (p : ℕ) → Seen v p → Seen (both v w) p
 seen_left v w p seen =
     ⊎_elim (λ m. inl (has_front (λ (x : Mark). x.piece ≡ p) v.marks w.marks m)) (λ l. inr (has_front _ v.loads w.loads l)) seen
 
-seen_right : (v w : View) (p : ℕ) → Seen w p → Seen (both v w) p
+seen_right : (v w : BoardView) (p : ℕ) → Seen w p → Seen (both v w) p
 seen_right v w p seen =
     ⊎_elim (λ m. inl (has_back (λ (x : Mark). x.piece ≡ p) v.marks w.marks m)) (λ l. inr (has_back _ v.loads w.loads l)) seen
 
@@ -67,13 +67,13 @@ takes_own worker is = record {
   seen = λ piece seen. seen;
 }
 
-takes_left : (v w : View) (worker : WorkerState) → Takes v worker → Takes (both v w) worker
+takes_left : (v w : BoardView) (worker : WorkerState) → Takes v worker → Takes (both v w) worker
 takes_left v w worker takes = record {
   stands = has_front (λ s. s ≡ worker.pass.worker) v.seats w.seats takes.stands;
   seen = λ piece seen. seen_left v w piece (takes.seen piece seen);
 }
 
-takes_right : (v w : View) (worker : WorkerState) → Takes w worker → Takes (both v w) worker
+takes_right : (v w : BoardView) (worker : WorkerState) → Takes w worker → Takes (both v w) worker
 takes_right v w worker takes = record {
   stands = has_back (λ s. s ≡ worker.pass.worker) v.seats w.seats takes.stands;
   seen = λ piece seen. seen_right v w piece (takes.seen piece seen);
@@ -124,7 +124,7 @@ joins_more setting desk table workers rest rest' w passes passes' all all' was i
   split = append_assoc was.done (w ∷ []) rest' ∙ (ap (λ (l : List WorkerState). was.done ++ l) (sym is) ∙ was.split);
   passes_are = more ∙ (ap (λ (l : List PassState). l ++ w.pass ∷ []) was.passes_are ∙ sym (map-append (λ w. w.pass) was.done (w ∷ [])));
   named = named_more setting desk passes passes' w.pass was.named named more;
-  takes = subst (λ (v : View). All (Takes v) (was.done ++ w ∷ [])) (sym view)
+  takes = subst (λ (v : BoardView). All (Takes v) (was.done ++ w ∷ [])) (sym view)
       (All-append (Takes (both all.view w.seat.view)) was.done (w ∷ [])
       (λ i d below. takes_left all.view w.seat.view (get_or was.done i d) (was.takes i d below))
       (one (Takes (both all.view w.seat.view)) w (takes_right all.view w.seat.view w (takes_own w mine))));
@@ -149,7 +149,7 @@ some_of : {X : Type 0} (xs : List X) → 1 ≤ length xs → X
 some_of [] some = absurd (omega (arith, some))
 some_of (x ∷ xs) some = x
 
-module _ (workers : List WorkerState) (all : View) (takes : All (Takes all) workers) where
+module _ (workers : List WorkerState) (all : BoardView) (takes : All (Takes all) workers) where
   -- it stands for each seat
   pub all_stand : (n : ℕ) → length workers ≡ n → 1 ≤ length workers → StandInOrder workers → (s : ℕ) → s < n → StandsFor all s
   all_stand n count some order s below =

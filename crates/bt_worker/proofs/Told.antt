@@ -7,7 +7,7 @@ use Rattle.bt_board.proofs.Knowing.{all_given, given_more, not_given, seen_decid
 use Rattle.bt_board.specs.Knowing.{has_given}
 use Rattle.bt_board.specs.Seats.{Given, SeatState, seat_with}
 use Rattle.bt_board.specs.Story.{IsSet, Seen, with_loads, words_of}
-use Rattle.bt_board.specs.declared.view.View.{View}
+use Rattle.bt_board.specs.declared.view.BoardView.{BoardView}
 use Rattle.bt_history.specs.Setting.{Setting}
 use Rattle.bt_meta.specs.Layout.{Layout, piece_count}
 use Rattle.bt_peer.specs.Desks.{calls_of_marks}
@@ -32,7 +32,7 @@ if_none f None is = f is
 
 module _ (setting : Setting) (t : Layout) (same : t ≡ setting.torrent) (old new : SeatState) where
   stays : (found : List ℕ) → new.view ≡ with_loads old.view found → (p : ℕ) → Seen old.view p → Seen new.view p
-  stays found is p was = subst (λ (v : View). Seen v p) (sym is) (seen_with_loads old.view found p was)
+  stays found is p was = subst (λ (v : BoardView). Seen v p) (sym is) (seen_with_loads old.view found p was)
 
   pub news_one : (r : Option ℕ) → IfSome r (λ p. p < piece_count t)
       → IfSome r (λ p. (found : List ℕ) × (length found ≡ p / 64 + 1) × (new.view ≡ with_loads old.view found)
@@ -41,7 +41,7 @@ module _ (setting : Setting) (t : Layout) (same : t ≡ setting.torrent) (old ne
   news_one (Some p) below facts given =
       let found : List ℕ = facts.0 in
       let seen : Seen new.view p =
-      subst (λ (v : View). Seen v p) (sym facts.2) (seen_found old.view found p (omega (arith, facts.1)) facts.3) in
+      subst (λ (v : BoardView). Seen v p) (sym facts.2) (seen_found old.view found p (omega (arith, facts.1)) facts.3) in
       let less : p < piece_count setting.torrent = subst (λ (l : Layout). p < piece_count l) same below in
       record {
         untold = not_given old.given p facts.4;

@@ -18,7 +18,7 @@ use Rattle.bt_peer.specs.Outcomes.{RunsTo}
 use Rattle.bt_worker.specs.Passes.{worker_record}
 use Rattle.bt_worker.specs.Workers.{WorkerState}
 use Rattle.bt_peer.specs.Serial.{StreamRecord}
-use Rattle.bt_peer.specs.Terms.{TermsState}
+use Rattle.bt_peer.specs.SessionTerms.{TermsState}
 
 -- why a run comes to nothing whose desk isn't gathered
 abbrev pub swarm_fault : GatherFault → SwarmFault

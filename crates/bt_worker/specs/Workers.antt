@@ -5,7 +5,7 @@ use Rattle.atomic_table.specs.Seated.{TableId}
 use Rattle.bt_board.specs.Knowing.{has_seen, has_given}
 use Rattle.bt_board.specs.Seats.{BoardState, SeatState}
 use Rattle.bt_board.specs.Story.{Seen, StandsFor}
-use Rattle.bt_board.specs.declared.view.View.{View}
+use Rattle.bt_board.specs.declared.view.BoardView.{BoardView}
 use Rattle.bt_check.specs.Queues.{Queue, PassState as TicketState}
 use Rattle.bt_history.specs.Setting.{Setting}
 use Rattle.bt_meta.specs.Layout.{Layout, piece_count}
@@ -73,7 +73,7 @@ pub record TellsNone (setting : Setting) (old new : SeatState) : Type 0 where
   pub all : (piece : ℕ) → knows setting new piece ≡ true → tells new piece ≡ true
 
 -- the view of a joined seat stands for this worker, and has seen what the worker's seat saw
-pub record Takes (joined : View) (worker : WorkerState) : Type 0 where
+pub record Takes (joined : BoardView) (worker : WorkerState) : Type 0 where
   pub stands : StandsFor joined worker.pass.worker
   pub seen : (piece : ℕ) → Seen worker.seat.view piece → Seen joined piece
 

@@ -2,7 +2,7 @@
 
 ghost use Rattle.std.specs.Prelude.{◌≤◌};
 ghost use Rattle.bt_peer.specs.Serial.{stream_record};
-ghost use Rattle.bt_peer.specs.Terms.{terms_of};
+ghost use Rattle.bt_peer.specs.SessionTerms.{terms_of};
 ghost use Rattle.bt_worker.specs.Runs.{Plays};
 
 use crate::commons::{Commons, Worker};

@@ -37,7 +37,7 @@ impl Player {
     ghost use Rattle.bt_history.specs.Setting.{AreRules, setting_of};
     ghost use Rattle.bt_picker.specs.Positions.{Gains};
     ghost use Rattle.bt_picker.specs.Checks.{SettlesNow};
-    ghost use Rattle.bt_script.specs.Played.{PlaysOrder, PlaysLine};
+    ghost use Rattle.bt_script.specs.PlayedLines.{PlaysOrder, PlaysLine};
 
     /// A player with a desk of its own.
     pub fn new(alloc: Global, setup: Setup, rules: Rules) -> Result<Player, AllocError>

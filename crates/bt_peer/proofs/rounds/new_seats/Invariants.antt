@@ -1,6 +1,6 @@
 use Rattle.std.proofs.Common.{◌≡◌, length}
 use Rattle.bt_peer.specs.Standing.{AreNew}
-use Rattle.bt_peer.specs.Terms.{terms_of}
+use Rattle.bt_peer.specs.SessionTerms.{terms_of}
 use Rattle.bt_peer.proofs.rounds.new_seats.Given as goal
 
 abbrev pub invariant-loop-worker : goal.invariant-loop-worker

@@ -1,12 +1,12 @@
 use Rattle.bt_peer.specs.Serial.{stream_of}
-use Rattle.bt_peer.proofs.EachStream.{Played-join, Played-refl}
+use Rattle.bt_peer.proofs.EachStream.{TookTurns-join, TookTurns-refl}
 use Rattle.bt_peer.proofs.rounds.play.Goals as goal
 
 pub rounds-init : goal.rounds-init
-rounds-init g c = Played-refl _ _ _ _ c.requires
+rounds-init g c = TookTurns-refl _ _ _ _ c.requires
 
 pub rounds-preserved : goal.rounds-preserved
-rounds-preserved g c = Played-join (stream_of g.R.Source g.W.Sink) _ _ _ _ _ _ _ _ _ c.rounds.invariant c.round.ensures.played
+rounds-preserved g c = TookTurns-join (stream_of g.R.Source g.W.Sink) _ _ _ _ _ _ _ _ _ c.rounds.invariant c.round.ensures.played
 
 pub returns-clause-played : goal.returns-clause-played
-returns-clause-played g c = Played-join (stream_of g.R.Source g.W.Sink) _ _ _ _ _ _ _ _ _ c.rounds.invariant c.round.ensures.played
+returns-clause-played g c = TookTurns-join (stream_of g.R.Source g.W.Sink) _ _ _ _ _ _ _ _ _ c.rounds.invariant c.round.ensures.played

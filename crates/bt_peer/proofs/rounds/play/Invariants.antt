@@ -1,10 +1,10 @@
 use Rattle.std.proofs.Common.{sum_by}
 use Rattle.bt_peer.specs.Serial.{stream_of}
-use Rattle.bt_peer.specs.Standing.{Played, left_of}
+use Rattle.bt_peer.specs.Standing.{TookTurns, left_of}
 use Rattle.bt_peer.proofs.rounds.play.Given as goal
 
 abbrev pub invariant-rounds : goal.invariant-rounds
-invariant-rounds g l = Played (stream_of g.R.Source g.W.Sink) l.fn.desk l.fn.seats l.fn.streams l.desk l.seats l.streams
+invariant-rounds g l = TookTurns (stream_of g.R.Source g.W.Sink) l.fn.desk l.fn.seats l.fn.streams l.desk l.seats l.streams
 
 abbrev pub decreases-rounds : goal.decreases-rounds
 decreases-rounds g l = sum_by left_of l.seats

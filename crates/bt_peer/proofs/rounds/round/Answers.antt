@@ -1,5 +1,5 @@
 use Rattle.bt_peer.specs.Serial.{stream_of}
-use Rattle.bt_peer.proofs.EachStream.{Played-join, progress_on}
+use Rattle.bt_peer.proofs.EachStream.{TookTurns-join, progress_on}
 use Rattle.bt_peer.proofs.rounds.round.Goals as goal
 
 pub loop-i-preserved : goal.loop-i-preserved
@@ -7,6 +7,6 @@ loop-i-preserved g c =
     let before = c.loop-i.invariant in
     let turn = c.turn_of-turns.ensures in
     record {
-      played = Played-join (stream_of g.R.Source g.W.Sink) _ _ _ _ _ _ _ _ _ before.played turn.played;
+      played = TookTurns-join (stream_of g.R.Source g.W.Sink) _ _ _ _ _ _ _ _ _ before.played turn.played;
       progress = progress_on c.turn_of-turns.result c.loop-i.turns _ _ c.loop-i.seats _ before.progress turn.falls turn.same turn.ended;
     }

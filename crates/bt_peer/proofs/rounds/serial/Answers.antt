@@ -1,6 +1,6 @@
 use Rattle.std.proofs.Common.{ap, arith}
 use Rattle.bt_history.specs.Setting.{Setting}
-use Rattle.bt_peer.specs.Terms.{terms_of}
+use Rattle.bt_peer.specs.SessionTerms.{terms_of}
 use Rattle.bt_peer.proofs.Opened.{AreNew-play}
 use Rattle.bt_peer.proofs.rounds.serial.Goals as goal
 

@@ -3,7 +3,7 @@ use Rattle.bt_peer.specs.Conduct.{Conducts, answers_of}
 use Rattle.bt_peer.specs.Reader.{most_reads, room_len}
 use Rattle.bt_peer.specs.Sessions.{to_hear, Running}
 use Rattle.bt_peer.specs.Steps.{surroundings}
-use Rattle.bt_peer.specs.Terms.{terms_of}
+use Rattle.bt_peer.specs.SessionTerms.{terms_of}
 use Rattle.bt_peer.proofs.whole.gated.Given as goal
 
 abbrev pub invariant-turns : goal.invariant-turns

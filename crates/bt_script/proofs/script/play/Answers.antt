@@ -2,9 +2,9 @@ use Rattle.std.proofs.Common.{◌≡◌, ◌<◌, ◌≤◌, ◌+◌, ◌++◌, 
 use Rattle.std.specs.String.{string_bytes}
 use Rattle.std.proofs.lemmas.List.{length-map}
 use Rattle.bt_script.specs.Scripts.{line_at, Explains}
-use Rattle.bt_script.specs.Played.{TakesLines, playing, silent}
+use Rattle.bt_script.specs.PlayedLines.{TakesLines, playing, silent}
 use Rattle.bt_script.proofs.Results.{IfErr-passed}
-use Rattle.bt_script.proofs.Played.{PassTo-more, IsScript-passed, Explains-later, Explains-unopened}
+use Rattle.bt_script.proofs.PlayedLines.{PassTo-more, IsScript-passed, Explains-later, Explains-unopened}
 use Rattle.bt_script.proofs.Taken.{printed_unopened, takes_more}
 use Rattle.bt_script.proofs.script.play.Goals as goal
 

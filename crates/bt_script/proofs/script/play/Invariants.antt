@@ -1,7 +1,7 @@
 use Rattle.std.proofs.Common.{map, take}
 use Rattle.std.specs.String.{string_bytes}
 use Rattle.bt_script.specs.Scripts.{Starts, PassTo}
-use Rattle.bt_script.specs.Played.{TakesLines, playing, silent}
+use Rattle.bt_script.specs.PlayedLines.{TakesLines, playing, silent}
 use Rattle.bt_script.proofs.script.play.Given as goal
 
 -- the script began, each line so far passed, and the text is what is printed of them

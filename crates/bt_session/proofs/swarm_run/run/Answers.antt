@@ -1,7 +1,7 @@
 use Rattle.std.proofs.Common.{◌≡◌, ◌+◌, length, refl, ◌∙◌, rules}
 use Rattle.bt_meta.specs.Layout.{piece_count}
 use Rattle.bt_peer.specs.Serial.{stream_record}
-use Rattle.bt_peer.specs.Terms.{terms_of}
+use Rattle.bt_peer.specs.SessionTerms.{terms_of}
 use Rattle.bt_session.proofs.Gathered.{Ran, checkers_check, finished, in_order, swarmed}
 use Rattle.bt_session.proofs.swarm_run.run.Goals as goal
 

@@ -1,6 +1,6 @@
 use Rattle.std.proofs.Common.{◌≡◌, arith, rules, ap, ◌∙◌}
 use Rattle.bt_meta.specs.Layout.{Metainfo}
-use Rattle.bt_peer.specs.Terms.{terms_of}
+use Rattle.bt_peer.specs.SessionTerms.{terms_of}
 use Rattle.bt_session.proofs.Kept.{grown, all_grown}
 use Rattle.bt_session.proofs.threads.start_sessions.Goals as goal
 

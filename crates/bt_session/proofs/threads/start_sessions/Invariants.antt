@@ -1,7 +1,7 @@
 use Rattle.std.proofs.Common.{◌≡◌, ◌++◌, ◌+◌, ◌≤◌, map, vec_len, vec_capacity}
 use Rattle.std.specs.List.{All}
 use Rattle.std.specs.Vec.Iter.{into_iter_items, into_iter_len}
-use Rattle.bt_peer.specs.Terms.{terms_of}
+use Rattle.bt_peer.specs.SessionTerms.{terms_of}
 use Rattle.bt_session.proofs.threads.start_sessions.Given as goal
 
 abbrev pub invariant-loop-stream : goal.invariant-loop-stream

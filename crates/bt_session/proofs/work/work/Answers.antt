@@ -4,7 +4,7 @@ use Rattle.std.specs.List.{list_any}
 use Rattle.std.proofs.lemmas.List.{length-map, take-append-drop}
 use Rattle.bt_meta.specs.Layout.{piece_count}
 use Rattle.bt_peer.specs.Serial.{stream_record}
-use Rattle.bt_peer.specs.Terms.{terms_of}
+use Rattle.bt_peer.specs.SessionTerms.{terms_of}
 use Rattle.bt_session.proofs.Worked.{Parted, all_check, all_play, last_check, plays_short}
 use Rattle.bt_worker.specs.Runs.{ChecksLast}
 use Rattle.bt_worker.specs.Workers.{WorkerState}

@@ -1,7 +1,7 @@
 use Rattle.std.proofs.Common.{◌≡◌, ◌∷◌, [], Some, None, arith, sym, ap, subst, ◌∙◌}
 use Rattle.atomic_table.specs.Table.{rest}
 use Rattle.bt_shared.specs.Guard.{Sat, MayFree}
-use Rattle.bt_shared.specs.declared.view.View.{View}
+use Rattle.bt_shared.specs.declared.view.DeskView.{DeskView}
 use Rattle.bt_shared.proofs.Keeps.{seat_may_free, has_slot}
 use Rattle.bt_shared.proofs.lock.unlock.Goals as goal
 
@@ -15,11 +15,11 @@ store-requires c =
     let m : c.exchange.new.seat.me ≡ (old.0, (0, Some c.args.desk) ∷ []) =
     c.exchange.ensures.3 ∙ ap (λ l. (old.0, (0, Some c.args.desk) ∷ l)) same-rest in
     let v : c.exchange.new.seat.me.0 ≡ old.0 = ap (λ (x : Sat). x.0) m in
-    let P : View → Type 0 = λ x. MayFree x c.args.desk in (
+    let P : DeskView → Type 0 = λ x. MayFree x c.args.desk in (
       c.exchange.ensures.0 ∙ c.requires.desk.1,
       omega (arith, c.requires.desk.0.one_word),
       seat_may_free c.args.words.now.key c.args.words.now.table_id.slots c.exchange.new.seat.id c.exchange.new.seat.me c.args.desk
           (ap (λ (x : Sat). x.1) m)
-          (ap (λ (x : View). x.spent) v ∙ c.requires.taken.1)
+          (ap (λ (x : DeskView). x.spent) v ∙ c.requires.taken.1)
           (subst P (sym v) c.requires.taken.2),
     )

@@ -7,7 +7,7 @@ use Rattle.std.specs.Slots.{slots_items}
 use Rattle.std.proofs.lemmas.Nat.Bits.{shr_and_one}
 use Rattle.bt_meta.specs.Layout.{Metainfo, piece_count}
 use Rattle.bt_board.specs.declared.rule.About.{About}
-use Rattle.bt_board.specs.declared.view.View.{View}
+use Rattle.bt_board.specs.declared.view.BoardView.{BoardView}
 use Rattle.bt_board.specs.Seats.{BoardState, SeatState}
 use Rattle.bt_board.specs.Story.{Story, Marked, Seen, StandsFor}
 use mathlib.Core.Option.{some}
@@ -57,10 +57,10 @@ returns-clause-marked c =
     = subst (λ (n : ℕ). Copied words (piece_count torrent) n c.loop-piece.bits) all
     (subst (λ (n : ℕ). Copied words n c.loop-piece.piece c.loop-piece.bits) count c.loop-piece.invariant) in
     let stands : (q : ℕ) → q < about.seats → StandsFor seat.me.0 q
-    = λ q lt. subst (λ (v : View). StandsFor v q) (sym same) (c.requires.all q (subst (λ (n : ℕ). q < n) seats lt)) in
+    = λ q lt. subst (λ (v : BoardView). StandsFor v q) (sym same) (c.requires.all q (subst (λ (n : ℕ). q < n) seats lt)) in
     let closed = closes torrent about.seats words last.0.views seat.id seat.me.0 c.loop-piece.bits story last.1.1 stands
     copied in
-    subst (λ (v : View). (p : ℕ) → (get_or c.loop-piece.bits p false ≡ true) ↔ Marked v p) same closed.0
+    subst (λ (v : BoardView). (p : ℕ) → (get_or c.loop-piece.bits p false ≡ true) ↔ Marked v p) same closed.0
 
 pub returns-clause-seen : goal.returns-clause-seen
 returns-clause-seen c =
@@ -83,10 +83,10 @@ returns-clause-seen c =
     = subst (λ (n : ℕ). Copied words (piece_count torrent) n c.loop-piece.bits) all
     (subst (λ (n : ℕ). Copied words n c.loop-piece.piece c.loop-piece.bits) count c.loop-piece.invariant) in
     let stands : (q : ℕ) → q < about.seats → StandsFor seat.me.0 q
-    = λ q lt. subst (λ (v : View). StandsFor v q) (sym same) (c.requires.all q (subst (λ (n : ℕ). q < n) seats lt)) in
+    = λ q lt. subst (λ (v : BoardView). StandsFor v q) (sym same) (c.requires.all q (subst (λ (n : ℕ). q < n) seats lt)) in
     let closed = closes torrent about.seats words last.0.views seat.id seat.me.0 c.loop-piece.bits story last.1.1 stands
     copied in
-    subst (λ (v : View). (p : ℕ) → Seen v p → get_or c.loop-piece.bits p false ≡ true) same closed.1
+    subst (λ (v : BoardView). (p : ℕ) → Seen v p → get_or c.loop-piece.bits p false ≡ true) same closed.1
 
 pub loop-piece-init : goal.loop-piece-init
 loop-piece-init c = record {

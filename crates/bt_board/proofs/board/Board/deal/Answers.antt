@@ -5,7 +5,7 @@ use Rattle.std.specs.List.{range_with_len}
 use Rattle.atomic_table.specs.Table.{Me}
 use Rattle.atomic_table.specs.Seated.{TableId}
 use Rattle.bt_meta.specs.Layout.{Layout, piece_count}
-use Rattle.bt_board.specs.declared.view.View.{View}
+use Rattle.bt_board.specs.declared.view.BoardView.{BoardView}
 use Rattle.bt_board.specs.Seats.{BoardState, newcomer}
 use Rattle.bt_board.specs.Story.{view, words_of}
 use Rattle.bt_board.proofs.Lists.{listed_more}
@@ -19,7 +19,7 @@ split_seat-seat-requires c =
     let seats_are : c.self.inside.about.seats ≡ seats = ap (λ (b : BoardState). b.seats) c.self.view_is in
     let dealt = length c.loop.all.items in
     let v = c.loop.first.me.0 in
-    let is : v ≡ view [] [] (range_with_len dealt (seats - dealt)) = ap (λ (m : Me (Unit {0}) View). m.0) c.loop.invariant.1.1 in
+    let is : v ≡ view [] [] (range_with_len dealt (seats - dealt)) = ap (λ (m : Me (Unit {0}) BoardView). m.0) c.loop.invariant.1.1 in
     let count = c.loop.invariant.0 in
     let more = c.loop-test.true in (
       c.loop.invariant.1.0 ∙ sym (ap (λ (b : BoardState). b.table) c.self.view_is),
@@ -33,7 +33,7 @@ invariant_of-push_reserved c =
     let seats_are : c.self.inside.about.seats ≡ seats = ap (λ (b : BoardState). b.seats) c.self.view_is in
     let dealt = length c.loop.all.items in
     let v = c.loop.first.me.0 in
-    let is : v ≡ view [] [] (range_with_len dealt (seats - dealt)) = ap (λ (m : Me (Unit {0}) View). m.0) c.loop.invariant.1.1 in
+    let is : v ≡ view [] [] (range_with_len dealt (seats - dealt)) = ap (λ (m : Me (Unit {0}) BoardView). m.0) c.loop.invariant.1.1 in
     let count = c.loop.invariant.0 in
     let more = c.loop-test.true in
     let split = c.split_seat-seat.ensures in
@@ -43,8 +43,8 @@ invariant_of-push_reserved c =
     split.3 ∙ c.loop.invariant.1.0 ∙ sym (ap (λ (b : BoardState). b.table) c.self.view_is) in record {
       wide = ap length c.in_ok-given.ensures ∙ length-replicate (words_of (piece_count c.args.self.now.torrent)) 0 ∙ sym words ∙
           ap (λ (z : TableId). z.words) (sym same);
-      bare = ap (λ (m : Me (Unit {0}) View). m.1) split.4;
-      stands = λ no_seat. dealt_stands dealt seats v (omega arith) is (sym (ap (λ (m : Me (Unit {0}) View). m.0.seats) split.4) ∙ no_seat);
+      bare = ap (λ (m : Me (Unit {0}) BoardView). m.1) split.4;
+      stands = λ no_seat. dealt_stands dealt seats v (omega arith) is (sym (ap (λ (m : Me (Unit {0}) BoardView). m.0.seats) split.4) ∙ no_seat);
     }
 
 pub loop-preserved : goal.loop-preserved
@@ -54,7 +54,7 @@ loop-preserved c =
     let dealt = length c.loop.all.items in
     let v = c.loop.first.me.0 in
     let first_is = c.loop.invariant.1.1 in
-    let is : v ≡ view [] [] (range_with_len dealt (seats - dealt)) = ap (λ (m : Me (Unit {0}) View). m.0) first_is in
+    let is : v ≡ view [] [] (range_with_len dealt (seats - dealt)) = ap (λ (m : Me (Unit {0}) BoardView). m.0) first_is in
     let count = c.loop.invariant.0 in
     let more = c.loop-test.true in
     let lt : dealt < seats = omega arith in
@@ -62,10 +62,10 @@ loop-preserved c =
     let pushed = c.push_reserved.ensures.items in
     let longer : length c.push_reserved.new.self.items ≡ dealt + 1 = ap length pushed ∙ length-append c.loop.all.items (_ ∷ []) in
     let rest : c.split_seat-seat.new.seat.me ≡ (view [] [] (range_with_len (dealt + 1) (seats - (dealt + 1))), [])
-    = split.2 ∙ (λ i. (dealt_rest dealt seats v lt is i, ap (λ (m : Me (Unit {0}) View). m.1) first_is i)) in
+    = split.2 ∙ (λ i. (dealt_rest dealt seats v lt is i, ap (λ (m : Me (Unit {0}) BoardView). m.1) first_is i)) in
     let table : c.split_seat-seat.result.table_id ≡ c.args.self.now.table = split.3 ∙ c.loop.invariant.1.0 in
     let known : c.split_seat-seat.result.me.0 ≡ (newcomer c.args.self.now dealt).view =
-    ap (λ (m : Me (Unit {0}) View). m.0) split.4 ∙ dealt_first dealt seats v lt is in (
+    ap (λ (m : Me (Unit {0}) BoardView). m.0) split.4 ∙ dealt_first dealt seats v lt is in (
       omega arith,
       (split.0 ∙ c.loop.invariant.1.0, rw longer rest),
       listed_more (newcomer c.args.self.now) c.loop.all.items c.push_reserved.new.self.items _ pushed
@@ -78,7 +78,7 @@ returns c =
     let seats_are : c.self.inside.about.seats ≡ seats = ap (λ (b : BoardState). b.seats) c.self.view_is in
     let dealt = length c.loop.all.items in
     let v = c.loop.first.me.0 in
-    let is : v ≡ view [] [] (range_with_len dealt (seats - dealt)) = ap (λ (m : Me (Unit {0}) View). m.0) c.loop.invariant.1.1 in
+    let is : v ≡ view [] [] (range_with_len dealt (seats - dealt)) = ap (λ (m : Me (Unit {0}) BoardView). m.0) c.loop.invariant.1.1 in
     let count = c.loop.invariant.0 in
     let done = c.loop-test.false in
     let end = c.loop.auto.counter-end in

@@ -3,7 +3,7 @@ use Rattle.std.specs.Int.{bit_at}
 use Rattle.std.proofs.lemmas.Nat.Bits.{shr_and_one}
 use Rattle.std.proofs.lemmas.Bool.Decides.{nat_tests}
 use Rattle.bt_board.specs.declared.view.Load.{Load}
-use Rattle.bt_board.specs.declared.view.View.{View}
+use Rattle.bt_board.specs.declared.view.BoardView.{BoardView}
 use Rattle.bt_board.specs.Story.{Seen, load}
 use Rattle.bt_board.proofs.Lists.{has_last}
 use Rattle.bt_board.proofs.board.Board.has.Goals as goal
@@ -14,7 +14,7 @@ returns-clause-seen c is =
     let p = c.args.piece in
     let one : bit_and (found / 2 ^ (p % 64)) 1 ≡ 1 = grind (arith, nat_tests) in
     let bit : bit_at found (p % 64) ≡ 1 = sym (shr_and_one found (p % 64)) ∙ one in
-    subst (λ (v : View). Seen v p) (sym c.look-found.ensures.finds.lists)
+    subst (λ (v : BoardView). Seen v p) (sym c.look-found.ensures.finds.lists)
     (inr (has_last (λ (l : Load). (l.word ≡ p / 64) × (bit_at l.found (p % 64) ≡ 1)) c.args.seat.now.view.loads (load (p / 64) found) (refl, bit)))
 
 pub returns-clause-load : goal.returns-clause-load

@@ -2,7 +2,7 @@ use Rattle.std.proofs.Common.{◌≡◌, ◌<◌, ◌+◌, ◌*◌, ◌^◌, ◌
 use Rattle.std.specs.Prelude.{slice_index}
 use Rattle.std.specs.Int.{bit_at}
 use Rattle.bt_meta.specs.Layout.{piece_count}
-use Rattle.bt_board.specs.declared.view.View.{View}
+use Rattle.bt_board.specs.declared.view.BoardView.{BoardView}
 use Rattle.bt_board.specs.Seats.{SeatState}
 use Rattle.bt_board.specs.Steps.{Finds, Gives}
 use Rattle.bt_board.specs.Story.{words_of}
@@ -53,7 +53,7 @@ returns-in-Some-clause-finds c =
     let one = gives_bit given after n b value x bit.0 bit.1 (subst (λ (k : ℕ). bit_at k b ≡ 0) item bit.2)
     (λ i lt is. subst (λ (k : ℕ). bit_at k i ≡ 1) item (c.in-Some.ensures.least i lt is)) inside was refl in (
       value,
-      subst (λ (v : View). Finds (piece_count c.args.self.now.torrent) c.args.seat.now.view n value v)
+      subst (λ (v : BoardView). Finds (piece_count c.args.self.now.torrent) c.args.seat.now.view n value v)
           (sym (ap (λ (s : SeatState). s.view) c.seat.view_is)) c.look-found.ensures.finds,
       subst (λ (l : List ℕ). Gives n value l after (n * 64 + b)) same one,
     )

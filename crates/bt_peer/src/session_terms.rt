@@ -1,7 +1,7 @@
 //! What a session goes by.
 
 ghost use Rattle.std.specs.Prelude.{◌≡◌, ◌≤◌};
-ghost use Rattle.bt_peer.specs.Terms.{most_next, pieces_of, terms_of};
+ghost use Rattle.bt_peer.specs.SessionTerms.{most_next, pieces_of, terms_of};
 
 use bt_history::MOST_DEPTH;
 use bt_meta::Torrent;
@@ -10,15 +10,15 @@ use std::sync::Arc;
 
 /// The torrent, and how many blocks may be asked of the peer at a time.
 #[derive(Drop)]
-pub struct Terms {
+pub struct SessionTerms {
     torrent: Arc<Torrent>,
     depth: u32,
 }
 
-impl Model for Terms {
+impl Model for SessionTerms {
     ghost use Rattle.std.specs.Prelude.{◌≤◌};
     ghost use Rattle.bt_history.specs.declared.rules.TheConstants.{MOST_DEPTH};
-    ghost use Rattle.bt_peer.specs.Terms.{TermsState, terms_of};
+    ghost use Rattle.bt_peer.specs.SessionTerms.{TermsState, terms_of};
 
     ghost Value = { TermsState };
 
@@ -27,13 +27,13 @@ impl Model for Terms {
     ghost invariant = { λ t. t.depth ≤ MOST_DEPTH };
 }
 
-impl Terms {
+impl SessionTerms {
     /// Those of a torrent and a depth.
-    pub fn new(torrent: Arc<Torrent>, depth: u32) -> Terms
+    pub fn new(torrent: Arc<Torrent>, depth: u32) -> SessionTerms
         requires { depth ≤ MOST_DEPTH }
         ensures { result ≡ terms_of torrent.value depth }
     {
-        Terms { torrent, depth }
+        SessionTerms { torrent, depth }
     }
 
     /// The torrent's pieces.
