@@ -19,8 +19,8 @@ pub record SeatState : Type 0 where
   pub given : List ℕ
 
 -- the seat of this number, of a new board
-abbrev pub newcomer : BoardState → ℕ → SeatState
-newcomer board seat = record { table = board.table; view = fresh seat; given = replicate (words_of (piece_count board.torrent)) 0 }
+abbrev pub new_seat : BoardState → ℕ → SeatState
+new_seat board seat = record { table = board.table; view = fresh seat; given = replicate (words_of (piece_count board.torrent)) 0 }
 
 -- the seat with another view
 abbrev pub seat_with : SeatState → BoardView → SeatState

@@ -7,7 +7,7 @@ ghost use Rattle.std.specs.Int.{bit_at};
 ghost use Rattle.std.specs.List.{range_with_len};
 ghost use Rattle.bt_check.specs.Checked.{Fits, joined};
 ghost use Rattle.bt_meta.specs.Layout.{piece_count};
-ghost use Rattle.bt_board.specs.Seats.{Given, IsSeat, newcomer, seat_with};
+ghost use Rattle.bt_board.specs.Seats.{Given, IsSeat, new_seat, seat_with};
 ghost use Rattle.bt_board.specs.Steps.{Finds, Gives, GivesNone};
 ghost use Rattle.bt_board.specs.Story.{IsSet, Marked, Seen, StandsFor, both, load, mark, view, with_load, with_loads, with_mark, words_of};
 
@@ -108,7 +108,7 @@ impl Board {
     ) -> Result<(Board, Vec<BoardSeat>), AllocError>
         requires { 0 < seats }
         ensures board { IfOk result (λ opened. (opened.0.torrent ≡ (arc_value torrent).layout) × (opened.0.seats ≡ seats)) }
-        ensures seats { IfOk result (λ opened. opened.1.items ≡ map (newcomer opened.0) (range_with_len 0 seats)) }
+        ensures seats { IfOk result (λ opened. opened.1.items ≡ map (new_seat opened.0) (range_with_len 0 seats)) }
     {
         let words = Vec::from_elem(alloc, 0u64, words_for(&torrent))?;
         let about = About { torrent, seats };
@@ -119,10 +119,14 @@ impl Board {
     }
 
     /// A seat for each number, where `first` stands for all of them.
-    fn deal(&self, alloc: Global, mut first: Seat<(), BoardView>) -> Result<Vec<BoardSeat>, AllocError>
+    fn deal(
+        &self,
+        alloc: Global,
+        mut first: Seat<(), BoardView>,
+    ) -> Result<Vec<BoardSeat>, AllocError>
         requires seats { 0 < self.now.seats }
         requires first { (first.table_id ≡ self.now.table) × (first.me ≡ (view [] [] (range_with_len 0 self.now.seats), [])) }
-        ensures { IfOk result (λ seats. seats.items ≡ map (newcomer self.now) (range_with_len 0 self.now.seats)) }
+        ensures { IfOk result (λ seats. seats.items ≡ map (new_seat self.now) (range_with_len 0 self.now.seats)) }
     {
         let mut all = Vec::with_capacity(alloc, self.about.seats)?;
         for _ in 1..self.about.seats {

@@ -1,7 +1,7 @@
 //! A queue of tickets that threads share.
 
 ghost use Rattle.std.specs.Prelude.{◌≡◌, ◌<◌, All, length, IfOk, IfErr, IfSome, OnOk, IfNone};
-ghost use Rattle.bt_check.specs.Queues.{newcomer, with_put, with_taken};
+ghost use Rattle.bt_check.specs.Queues.{new_ticket_pass, with_put, with_taken};
 
 use crate::rule::{Account, Cut, EachOnce, Put, Take};
 use crate::ticket::Ticket;
@@ -54,9 +54,9 @@ pub struct TicketPass {
 
 impl Model for TicketPass {
     ghost use Rattle.std.specs.Prelude.{◌≡◌, []};
-    ghost use Rattle.bt_check.specs.Queues.{PassState, state_of};
+    ghost use Rattle.bt_check.specs.Queues.{TicketPassState, state_of};
 
-    ghost Value = { PassState };
+    ghost Value = { TicketPassState };
 
     ghost view = { λ p. state_of p.pass };
 
@@ -68,7 +68,7 @@ impl Tickets {
     pub fn open(alloc: Global, passes: usize) -> Result<(Tickets, Vec<TicketPass>), AllocError>
         requires { 0 < passes }
         ensures count { IfOk result (λ opened. length opened.1.items ≡ passes) }
-        ensures passes { IfOk result (λ opened. All (λ pass. pass ≡ newcomer opened.0) opened.1.items) }
+        ensures passes { IfOk result (λ opened. All (λ pass. pass ≡ new_ticket_pass opened.0) opened.1.items) }
     {
         let (sender, receiver, pass) = bounded_with(alloc, CAPACITY)?;
         let tickets = Tickets { sender, receiver };
@@ -84,9 +84,9 @@ impl Tickets {
         count: usize,
     ) -> Result<Vec<TicketPass>, AllocError>
         requires count { 0 < count }
-        requires first { first ≡ newcomer self.now }
+        requires first { first ≡ new_ticket_pass self.now }
         ensures count { IfOk result (λ passes. length passes.items ≡ count) }
-        ensures passes { IfOk result (λ passes. All (λ pass. pass ≡ newcomer self.now) passes.items) }
+        ensures passes { IfOk result (λ passes. All (λ pass. pass ≡ new_ticket_pass self.now) passes.items) }
     {
         let mut all = Vec::with_capacity(alloc, count)?;
         for _ in 1..count {
@@ -100,7 +100,7 @@ impl Tickets {
     fn another(&self, pass: &mut TicketPass) -> TicketPass
         requires { pass.old.queue ≡ self.now }
         ensures same { pass.new ≡ pass.old }
-        ensures new { result ≡ newcomer self.now }
+        ensures new { result ≡ new_ticket_pass self.now }
     {
         TicketPass {
             pass: self.sender.another::<Cut>(&mut pass.pass),

@@ -10,7 +10,7 @@ use Rattle.bt_history.specs.declared.call.Reason.{Reason}
 use Rattle.bt_peer.specs.declared.fault.SessionFault.{SessionFault}
 use Rattle.bt_peer.specs.declared.fault.SessionFault.TheVariants as faults
 use Rattle.bt_peer.specs.Acts.{Act, Called, is_refusal, is_check, is_refused_call}
-use Rattle.bt_peer.specs.Writer.{answer, interest_by}
+use Rattle.bt_peer.specs.Writer.{interest_by, written_for}
 use Rattle.bt_peer.specs.Places.{PlaceRecord, Gains, LacksMemory}
 use Rattle.bt_peer.specs.Turns.{Checks, ChecksAtMost, if_completed, arrived_piece, NoneRefused}
 use Rattle.bt_peer.specs.Outlets.{Outlet, Performs, PerformsUpTo, IsCut, Writes}
@@ -95,7 +95,7 @@ opening_unchecked mark reply a b past accepted does lacks =
     (Performs-stops faults.NoMemory a b c (Called mark reply ∷ []) [] does stops)
 
 -- a check's reply calls for nothing
-check_says : (piece : ℕ) (i : Bool) (reply : Reply) → IsTrue (answers (marks.Settle piece) reply) → answer i reply ++ [] ≡ []
+check_says : (piece : ℕ) (i : Bool) (reply : Reply) → IsTrue (answers (marks.Settle piece) reply) → written_for i reply ++ [] ≡ []
 check_says piece i replies.Had h = refl
 check_says piece i replies.Failed h = refl
 check_says piece i (replies.Refused reason) h = refl

@@ -9,7 +9,7 @@ use Rattle.bt_history.specs.declared.call.Reply.{Reply}
 use Rattle.bt_peer.specs.declared.fault.SessionFault.{SessionFault}
 use Rattle.bt_peer.specs.declared.fault.SessionFault.TheVariants as faults
 use Rattle.bt_peer.specs.Acts.{Act, Called, News, calls_of, news_of, is_refusal}
-use Rattle.bt_peer.specs.Writer.{says, answer, interest_by, interest_after}
+use Rattle.bt_peer.specs.Writer.{says, interest_by, interest_after, written_for}
 use Rattle.bt_peer.specs.Places.{PlaceRecord, Gains, GainsUpTo, AllHad, Extends, LacksMemory, Tells}
 use Rattle.bt_peer.specs.Outlets.{Outlet, Saying, Performs, PerformsUpTo, StopsCall, Writes, WritesUpTo, IsCut}
 use Rattle.bt_peer.specs.Parts.{CallStops}
@@ -33,8 +33,8 @@ interest_after-append i (News piece ∷ es) fs = interest_after-append i es fs
 pub says-append : (i : Bool) (es fs : List Act) → says i (es ++ fs) ≡ says i es ++ says (interest_after i es) fs
 says-append i [] fs = refl
 says-append i (Called call reply ∷ es) fs =
-    ap (λ (xs : List ℕ). answer i reply ++ xs) (says-append (interest_by i reply) es fs)
-    ∙ sym (append_assoc (answer i reply) (says (interest_by i reply) es) (says (interest_after (interest_by i reply) es) fs))
+    ap (λ (xs : List ℕ). written_for i reply ++ xs) (says-append (interest_by i reply) es fs)
+    ∙ sym (append_assoc (written_for i reply) (says (interest_by i reply) es) (says (interest_after (interest_by i reply) es) fs))
 says-append i (News piece ∷ es) fs =
     ap (λ (xs : List ℕ). spelling (messages.Have piece) ++ xs) (says-append i es fs)
     ∙ sym (append_assoc (spelling (messages.Have piece)) (says i es) (says (interest_after i es) fs))
@@ -179,13 +179,13 @@ cut_call call reply fault accepted cut =
 
 -- a call whose answer was cut off
 pub call_cut : (a b : Outlet) (call : CallMark) (reply : Reply) (fault : SessionFault) → Gains a.past (Called call reply ∷ []) b.past →
-    is_refusal reply ≡ false → IsCut fault → WritesUpTo fault a.said (answer a.said.interested reply) b.said → CallStops fault call a b
+    is_refusal reply ≡ false → IsCut fault → WritesUpTo fault a.said (written_for a.said.interested reply) b.said → CallStops fault call a b
 call_cut a b call reply fault gains accepted cut wrote = record {
   acts = Called call reply ∷ [];
   stops = cut_call call reply fault accepted cut;
   performs = record {
     gains = up_to a.past b.past (Called call reply ∷ []) gains;
-    writes = subst (λ (xs : List ℕ). WritesUpTo fault a.said xs b.said) (sym (append-nil (answer a.said.interested reply))) wrote;
+    writes = subst (λ (xs : List ℕ). WritesUpTo fault a.said xs b.said) (sym (append-nil (written_for a.said.interested reply))) wrote;
   };
 }
 

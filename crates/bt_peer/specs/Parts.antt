@@ -95,8 +95,8 @@ abbrev pub round_turn : {P R W : Type 0} → places.Ghosts P → sources.Ghosts 
 round_turn at of to place reader said = surroundings at.past of.left to.written place reader said.writer.now
 
 -- what a session keeps between turns, by its two objects
-abbrev pub kept : {W : Type 0} → Heard → Said W → Reading
-kept heard said = reading heard.inbound said.interested
+abbrev pub reading_by : {W : Type 0} → Heard → Said W → Reading
+reading_by heard said = reading heard.inbound said.interested
 
 -- What each turn keeps: our count of the reads stays the source's, the sink is the one that was lent, and both devices stay sound, if they
 -- were; but after the fault of a write the sink has failed.

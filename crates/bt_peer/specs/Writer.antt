@@ -27,12 +27,12 @@ interest_by interested replies.NothingLeft = false
 interest_by interested reply = interested
 
 -- what is written for a reply
-abbrev pub answer : Bool → Reply → List ℕ
-answer interested (replies.Noted true) = if interested then [] else spelling messages.Interested
-answer interested replies.NothingLeft = if interested then spelling messages.NotInterested else []
-answer interested (replies.Request block) = spelling (messages.Request block.piece block.begin block.len)
-answer interested (replies.Cancel block) = spelling (messages.Cancel block.piece block.begin block.len)
-answer interested reply = []
+abbrev pub written_for : Bool → Reply → List ℕ
+written_for interested (replies.Noted true) = if interested then [] else spelling messages.Interested
+written_for interested replies.NothingLeft = if interested then spelling messages.NotInterested else []
+written_for interested (replies.Request block) = spelling (messages.Request block.piece block.begin block.len)
+written_for interested (replies.Cancel block) = spelling (messages.Cancel block.piece block.begin block.len)
+written_for interested reply = []
 
 -- whether the session is interested after these acts, from what it was before them
 abbrev pub interest_after : Bool → List Act → Bool
@@ -43,5 +43,5 @@ interest_after interested (News piece ∷ acts) = interest_after interested acts
 -- what is written for these acts, from the interest that was told before them
 abbrev pub says : Bool → List Act → List ℕ
 says interested [] = []
-says interested (Called call reply ∷ acts) = answer interested reply ++ says (interest_by interested reply) acts
+says interested (Called call reply ∷ acts) = written_for interested reply ++ says (interest_by interested reply) acts
 says interested (News piece ∷ acts) = spelling (messages.Have piece) ++ says interested acts

@@ -101,7 +101,7 @@ fn call_and_check<P: Place, W: Sink>(
 }
 
 /// Makes the call of a message, if it has one.
-fn open<P: Place, W: Sink>(
+fn open_turn<P: Place, W: Sink>(
     alloc: Global,
     terms: &SessionTerms,
     message: Message,
@@ -140,7 +140,7 @@ pub fn attend<P: Place, W: Sink, N: Rng>(
     ensures conduct { ConductsBy result P.settles
         (N.stream rng.old) (P.past place.old).calls (P.past place.new).calls (N.stream rng.new) }
 {
-    open(alloc, terms, message, place, said)?;
+    open_turn(alloc, terms, message, place, said)?;
     tell_news(alloc, place, said, terms.piece_count())?;
     ask(alloc, place, said, rng, terms.most_next())?;
     Ok(())

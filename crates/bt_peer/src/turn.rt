@@ -6,7 +6,7 @@ ghost use Rattle.rand_core.specs.Stream.{Stream};
 ghost use Rattle.bt_peer.specs.Conduct.{ConductsBy};
 ghost use Rattle.bt_peer.specs.Hearing.{UsesUp, hearing};
 ghost use Rattle.bt_peer.specs.Outlets.{saying};
-ghost use Rattle.bt_peer.specs.Parts.{GreetingFails, ListeningFails, TurnKeeps, kept, round_turn};
+ghost use Rattle.bt_peer.specs.Parts.{GreetingFails, ListeningFails, TurnKeeps, reading_by, round_turn};
 ghost use Rattle.bt_peer.specs.Steps.{start, TakesTurn, TakesLeave, Leaves};
 
 use crate::fault::SessionFault;
@@ -33,8 +33,8 @@ pub fn greet<R: Source, W: Sink, P: Place>(
 ) -> Result<(), SessionFault>
     requires greeted { heard.old.inbound.greeted ≡ false }
     ensures ok { OnOk result (TakesTurn terms.now greeting.now
-        (kept heard.old said.old) (round_turn P.Place R.Source W.Sink place.old reader.old said.old)
-        (kept heard.new said.new) (round_turn P.Place R.Source W.Sink place.new reader.new said.new)) }
+        (reading_by heard.old said.old) (round_turn P.Place R.Source W.Sink place.old reader.old said.old)
+        (reading_by heard.new said.new) (round_turn P.Place R.Source W.Sink place.new reader.new said.new)) }
     // No number is drawn.
     ensures conduct { (generator : Stream) →
         ConductsBy result P.settles generator (P.past place.old).calls (P.past place.new).calls generator }
@@ -86,13 +86,13 @@ pub fn listen<R: Source, W: Sink, P: Place, N: Rng>(
 ) -> Result<bool, SessionFault>
     requires greeted { heard.old.inbound.greeted ≡ true }
     ensures goes_on { IfOk result (λ goes_on. OnTrue goes_on (TakesTurn terms.now []
-        (kept heard.old said.old) (round_turn P.Place R.Source W.Sink place.old reader.old said.old)
-        (kept heard.new said.new) (round_turn P.Place R.Source W.Sink place.new reader.new said.new))) }
+        (reading_by heard.old said.old) (round_turn P.Place R.Source W.Sink place.old reader.old said.old)
+        (reading_by heard.new said.new) (round_turn P.Place R.Source W.Sink place.new reader.new said.new))) }
     ensures few { IfOk result (λ goes_on. OnTrue goes_on
         (UsesUp (hearing R.Source heard.old reader.old) (hearing R.Source heard.new reader.new))) }
     ensures leaves { IfOk result (λ goes_on. OnFalse goes_on (TakesLeave
-        (kept heard.old said.old) (round_turn P.Place R.Source W.Sink place.old reader.old said.old) (R.ended reader.new)
-        (kept heard.new said.new) (round_turn P.Place R.Source W.Sink place.new reader.new said.new))) }
+        (reading_by heard.old said.old) (round_turn P.Place R.Source W.Sink place.old reader.old said.old) (R.ended reader.new)
+        (reading_by heard.new said.new) (round_turn P.Place R.Source W.Sink place.new reader.new said.new))) }
     ensures conduct { ConductsBy result P.settles
         (N.stream rng.old) (P.past place.old).calls (P.past place.new).calls (N.stream rng.new) }
     ensures err { IfErr result (λ fault. ListeningFails fault said.old.interested

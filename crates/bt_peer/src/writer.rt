@@ -4,7 +4,7 @@ ghost use Rattle.bt_peer.specs.declared.fault.SessionFault.TheVariants.{WriteFau
 ghost use Rattle.std.specs.Prelude.{◌≡◌, [], IfErr, OnOk, MatchOption};
 ghost use Rattle.bt_wire.specs.Messages.{spelling, CanEncode};
 ghost use Rattle.bt_peer.specs.Outlets.{IsCut, Writes, WritesUpTo, saying};
-ghost use Rattle.bt_peer.specs.Writer.{answer, interest_by};
+ghost use Rattle.bt_peer.specs.Writer.{interest_by, written_for};
 
 use crate::fault::SessionFault;
 use bt_history::Reply;
@@ -49,10 +49,10 @@ impl<'a, W: Sink> Said<'a, W> {
 
     /// Says what a reply calls for.
     pub fn tell(&mut self, alloc: Global, reply: &Reply) -> Result<(), SessionFault>
-        ensures ok { OnOk result (Writes (saying W.Sink self.old) (answer self.old.interested reply.now) (saying W.Sink self.new)) }
+        ensures ok { OnOk result (Writes (saying W.Sink self.old) (written_for self.old.interested reply.now) (saying W.Sink self.new)) }
         ensures interest { OnOk result (self.new.interested ≡ interest_by self.old.interested reply.now) }
         ensures err { IfErr result (λ fault.
-            WritesUpTo fault (saying W.Sink self.old) (answer self.old.interested reply.now) (saying W.Sink self.new)) }
+            WritesUpTo fault (saying W.Sink self.old) (written_for self.old.interested reply.now) (saying W.Sink self.new)) }
         ensures cause { IfErr result IsCut }
     {
         if let Some(message) = answer_to(self.interested, reply) {
@@ -65,7 +65,7 @@ impl<'a, W: Sink> Said<'a, W> {
 
 /// What is to be said for a reply.
 fn answer_to(interested: bool, reply: &Reply) -> Option<Message>
-    ensures { MatchOption result (answer interested reply.now ≡ []) (λ m. (answer interested reply.now ≡ spelling m) × CanEncode m) }
+    ensures { MatchOption result (written_for interested reply.now ≡ []) (λ m. (written_for interested reply.now ≡ spelling m) × CanEncode m) }
 {
     match *reply {
         Reply::Noted(true) if !interested => Some(Message::Interested),

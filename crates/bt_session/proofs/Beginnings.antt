@@ -5,9 +5,9 @@ use Rattle.std.specs.List.{range_with_len}
 use Rattle.atomic_table.specs.Seated.{TableId}
 use Rattle.bt_board.proofs.BitRows.{none_set}
 use Rattle.bt_board.proofs.Knowing.{none_seen, not_given}
-use Rattle.bt_board.specs.Seats.{BoardState, SeatState, newcomer}
+use Rattle.bt_board.specs.Seats.{BoardState, SeatState, new_seat}
 use Rattle.bt_board.specs.Story.{fresh}
-use Rattle.bt_check.specs.Queues.{Queue, PassState as TicketState}
+use Rattle.bt_check.specs.Queues.{Queue, TicketPassState}
 use Rattle.bt_history.specs.Setting.{Setting}
 use Rattle.bt_meta.specs.Layout.{piece_count}
 use Rattle.bt_session.proofs.Numbered.{from_gets}
@@ -18,7 +18,7 @@ use Rattle.bt_worker.specs.Workers.{AreNumbered, Belongs}
 
 -- ---- a new board's
 
-is_new : (board : BoardState) (number : ℕ) → IsNewSeat (Some board.table) number (newcomer board number)
+is_new : (board : BoardState) (number : ℕ) → IsNewSeat (Some board.table) number (new_seat board number)
 is_new board number = record {
   board_is = refl;
   own = refl;
@@ -26,15 +26,15 @@ is_new board number = record {
   told = λ piece. not_given _ piece (none_set _ piece);
 }
 
-module _ (board : BoardState) (n : ℕ) (seats : List SeatState) (is : seats ≡ map (newcomer board) (range_with_len 0 n)) where
+module _ (board : BoardState) (n : ℕ) (seats : List SeatState) (is : seats ≡ map (new_seat board) (range_with_len 0 n)) where
   pub seats_count : length seats ≡ n
-  seats_count = ap length is ∙ length-map-range_with_len (newcomer board) 0 n
+  seats_count = ap length is ∙ length-map-range_with_len (new_seat board) 0 n
 
   pub are_new : AreNumbered (IsNewSeat (Some board.table)) 0 seats
   are_new i any below =
       subst (IsNewSeat (Some board.table) (0 + i))
       (sym (ap (λ (l : List SeatState). get_or l i any) is
-      ∙ get_or-map-range_with_len (newcomer board) 0 n i (0 + i) any (omega (arith, below, seats_count)) refl))
+      ∙ get_or-map-range_with_len (new_seat board) 0 n i (0 + i) any (omega (arith, below, seats_count)) refl))
       (is_new board (0 + i))
 
 -- a new desk's passes
@@ -50,7 +50,7 @@ are_new_passes desk setting ps same gets i any below =
 
 -- a new worker of a new seat
 pub belongs : (setting : Setting) (desk board : Option TableId) (queue : Option Queue) (number : ℕ) (pass : PassState) (seat : SeatState)
-    (tickets : TicketState) →
+    (tickets : TicketPassState) →
     IsNewPass desk setting number pass → IsNewSeat board number seat → queue ≡ Some tickets.queue →
     Belongs setting desk board queue (record { pass = pass; seat = seat; tickets = tickets })
 belongs setting desk board queue number pass seat tickets is new queue_is = record {
@@ -60,7 +60,7 @@ belongs setting desk board queue number pass seat tickets is new queue_is = reco
   tickets = queue_is;
 }
 
-pub is_fresh : (setting : Setting) (desk board : Option TableId) (number : ℕ) (pass : PassState) (seat : SeatState) (tickets : TicketState) →
+pub is_fresh : (setting : Setting) (desk board : Option TableId) (number : ℕ) (pass : PassState) (seat : SeatState) (tickets : TicketPassState) →
     IsNewPass desk setting number pass → IsNewSeat board number seat → IsFresh setting number (record { pass = pass; seat = seat; tickets = tickets })
 is_fresh setting desk board number pass seat tickets is new =
     record { number_is = is.number_is; log = is.log; seen = new.seen setting; told = new.told }

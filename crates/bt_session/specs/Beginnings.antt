@@ -2,7 +2,7 @@
 use Rattle.std.specs.Prelude.{◌≡◌, ◌<◌, ℕ, false, List, [], ◌∷◌, length, slice_index_or, Option, Some}
 use Rattle.atomic_table.specs.Seated.{TableId}
 use Rattle.bt_board.specs.Seats.{SeatState}
-use Rattle.bt_check.specs.Queues.{PassState as TicketState}
+use Rattle.bt_check.specs.Queues.{TicketPassState}
 use Rattle.bt_history.specs.Setting.{Setting}
 use Rattle.bt_session.specs.declared.fittings.Fittings.{Fittings}
 use Rattle.bt_shared.specs.Passes.{PassState}
@@ -32,7 +32,7 @@ pub record AreFittings (setting : Setting) (f : Fittings) : Type 0 where
   pub tickets_count : length f.tickets.items ≡ setting.workers
   pub passes : AreNumbered (IsNewPass (Some f.desk.table) setting) 0 f.passes.items
   pub seats : AreNumbered (IsNewSeat (Some f.board.table)) 0 f.seats.items
-  pub tickets : (i : ℕ) (any : TicketState) → i < length f.tickets.items → (slice_index_or f.tickets.items i any).queue ≡ f.queue
+  pub tickets : (i : ℕ) (any : TicketPassState) → i < length f.tickets.items → (slice_index_or f.tickets.items i any).queue ≡ f.queue
 
 -- the worker of this number has made no call, has seen no piece, and has told none
 pub record IsFresh (setting : Setting) (number : ℕ) (worker : WorkerState) : Type 0 where

@@ -12,7 +12,7 @@ use Rattle.bt_board.specs.Seats.{SeatState}
 use Rattle.bt_board.specs.Story.{Has, Seen, StandsFor, both}
 use Rattle.bt_board.specs.declared.view.Mark.{Mark}
 use Rattle.bt_board.specs.declared.view.BoardView.{BoardView}
-use Rattle.bt_check.specs.Queues.{Queue, PassState as TicketState}
+use Rattle.bt_check.specs.Queues.{Queue, TicketPassState}
 use Rattle.bt_history.specs.History.{History}
 use Rattle.bt_history.specs.Pieces.{had}
 use Rattle.bt_history.specs.Setting.{Setting}
@@ -29,7 +29,7 @@ same_table name a b is_a is_b = same_Some a b (sym is_a ∙ is_b)
 
 -- a worker belongs to its run whatever its pass has seen
 pub belongs_on : (setting : Setting) (desk board : Option TableId) (queue : Option Queue) (old new : PassState) (seat : SeatState)
-    (tickets : TicketState) →
+    (tickets : TicketPassState) →
     IsSame old new → Belongs setting desk board queue (record { pass = old; seat = seat; tickets = tickets }) →
     Belongs setting desk board queue (record { pass = new; seat = seat; tickets = tickets })
 belongs_on setting desk board queue old new seat tickets same was = record {

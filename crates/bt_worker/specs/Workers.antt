@@ -6,7 +6,7 @@ use Rattle.bt_board.specs.Knowing.{has_seen, has_given}
 use Rattle.bt_board.specs.Seats.{BoardState, SeatState}
 use Rattle.bt_board.specs.Story.{Seen, StandsFor}
 use Rattle.bt_board.specs.declared.view.BoardView.{BoardView}
-use Rattle.bt_check.specs.Queues.{Queue, PassState as TicketState}
+use Rattle.bt_check.specs.Queues.{Queue, TicketPassState}
 use Rattle.bt_history.specs.Setting.{Setting}
 use Rattle.bt_meta.specs.Layout.{Layout, piece_count}
 use Rattle.bt_shared.specs.Passes.{PassState, SharedState}
@@ -15,10 +15,10 @@ use Rattle.bt_shared.specs.Passes.{PassState, SharedState}
 pub record WorkerState : Type 0 where
   pub pass : PassState
   pub seat : SeatState
-  pub tickets : TicketState
+  pub tickets : TicketPassState
 
 -- the worker with another pass of the queue
-abbrev pub with_tickets : WorkerState → TicketState → WorkerState
+abbrev pub with_tickets : WorkerState → TicketPassState → WorkerState
 with_tickets worker tickets = record { pass = worker.pass; seat = worker.seat; tickets = tickets }
 
 -- the pass is one of the desk of this name

@@ -1,5 +1,5 @@
 use Rattle.std.proofs.Common.{◌≡◌, length, ap, arith, rules}
-use Rattle.bt_check.specs.Queues.{PassState as TicketState}
+use Rattle.bt_check.specs.Queues.{TicketPassState}
 use Rattle.bt_history.specs.Setting.{Setting, setting_of}
 use Rattle.bt_session.proofs.Beginnings.{are_new, are_new_passes, seats_count}
 use Rattle.bt_session.proofs.fittings.fit_out.Goals as goal
@@ -22,5 +22,5 @@ returns c =
       passes = are_new_passes desk.desk setting desk.passes.items desk_is
           (λ w below. desk.ensures.passes w (omega (arith, below, count)));
       seats = are_new board.board n board.seats.items board.ensures.seats;
-      tickets = λ i any below. ap (λ (t : TicketState). t.queue) (c.in_ok-queue.ensures.passes i any below);
+      tickets = λ i any below. ap (λ (t : TicketPassState). t.queue) (c.in_ok-queue.ensures.passes i any below);
     }

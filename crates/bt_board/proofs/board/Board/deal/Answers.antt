@@ -6,7 +6,7 @@ use Rattle.atomic_table.specs.Table.{Me}
 use Rattle.atomic_table.specs.Seated.{TableId}
 use Rattle.bt_meta.specs.Layout.{Layout, piece_count}
 use Rattle.bt_board.specs.declared.view.BoardView.{BoardView}
-use Rattle.bt_board.specs.Seats.{BoardState, newcomer}
+use Rattle.bt_board.specs.Seats.{BoardState, new_seat}
 use Rattle.bt_board.specs.Story.{view, words_of}
 use Rattle.bt_board.proofs.Lists.{listed_more}
 use Rattle.bt_board.proofs.Stories.{deals, dealt_first, dealt_rest, dealt_stands}
@@ -64,11 +64,11 @@ loop-preserved c =
     let rest : c.split_seat-seat.new.seat.me ≡ (view [] [] (range_with_len (dealt + 1) (seats - (dealt + 1))), [])
     = split.2 ∙ (λ i. (dealt_rest dealt seats v lt is i, ap (λ (m : Me (Unit {0}) BoardView). m.1) first_is i)) in
     let table : c.split_seat-seat.result.table_id ≡ c.args.self.now.table = split.3 ∙ c.loop.invariant.1.0 in
-    let known : c.split_seat-seat.result.me.0 ≡ (newcomer c.args.self.now dealt).view =
+    let known : c.split_seat-seat.result.me.0 ≡ (new_seat c.args.self.now dealt).view =
     ap (λ (m : Me (Unit {0}) BoardView). m.0) split.4 ∙ dealt_first dealt seats v lt is in (
       omega arith,
       (split.0 ∙ c.loop.invariant.1.0, rw longer rest),
-      listed_more (newcomer c.args.self.now) c.loop.all.items c.push_reserved.new.self.items _ pushed
+      listed_more (new_seat c.args.self.now) c.loop.all.items c.push_reserved.new.self.items _ pushed
           (λ i. record { table = table i; view = known i; given = c.in_ok-given.ensures i }) c.loop.invariant.2,
     )
 
@@ -87,6 +87,6 @@ returns c =
     let pushed = c.push_reserved-2.ensures.items in
     let longer : length c.push_reserved-2.new.self.items ≡ dealt + 1 = ap length pushed ∙ length-append c.loop.all.items (_ ∷ []) in
     let all : length c.push_reserved-2.new.self.items ≡ seats = omega arith in
-    let known : c.loop.first.me.0 ≡ (newcomer c.args.self.now dealt).view = is ∙ ap (λ (k : ℕ). view [] [] (range_with_len dealt k)) one in
-    rw (← all) (listed_more (newcomer c.args.self.now) c.loop.all.items c.push_reserved-2.new.self.items _ pushed
+    let known : c.loop.first.me.0 ≡ (new_seat c.args.self.now dealt).view = is ∙ ap (λ (k : ℕ). view [] [] (range_with_len dealt k)) one in
+    rw (← all) (listed_more (new_seat c.args.self.now) c.loop.all.items c.push_reserved-2.new.self.items _ pushed
     (λ i. record { table = c.loop.invariant.1.0 i; view = known i; given = c.in_ok-given-2.ensures i }) c.loop.invariant.2)

@@ -6,7 +6,7 @@ use Rattle.bt_peer.specs.Turns.{call_of, Opens}
 use Rattle.bt_peer.proofs.Conduct.{own_number}
 use Rattle.bt_peer.proofs.Stretches.{Performs-none}
 use Rattle.bt_peer.proofs.TurnParts.{nothing_came, opened_stops}
-use Rattle.bt_peer.proofs.message.open.Goals as goal
+use Rattle.bt_peer.proofs.message.open_turn.Goals as goal
 
 pub returns-in_err-call-clause-err : goal.returns-in_err-call-clause-err
 returns-in_err-call-clause-err g c =
