@@ -82,7 +82,8 @@ pub not_given : (given : List ℕ) (p : ℕ) → ¬ IsSet given p → has_given 
 not_given given p isnt = false_from_ne_true (has_given given p) (λ on. isnt ((given_decides given p).0 on))
 
 -- each piece that was seen was given
-pub all_given : (pieces : ℕ) (v : BoardView) (given : List ℕ) → ((p : ℕ) → p < pieces → Seen v p → IsSet given p) → (p : ℕ) → has_seen pieces v p ≡ true →
+pub all_given : (pieces : ℕ) (v : BoardView) (given : List ℕ) → ((p : ℕ) → p < pieces → Seen v p → IsSet given p) → (p : ℕ) →
+    has_seen pieces v p ≡ true →
     has_given given p ≡ true
 all_given pieces v given all p is = let was = (seen_decides pieces v p).0 is in (given_decides given p).1 (all p was.0 was.1)
 

@@ -23,7 +23,8 @@ use Rattle.bt_board.proofs.Lists.{in_range, append_nil_left}
 use Rattle.bt_board.proofs.BitRows.{bit_of, with_bit, set_here as bit_set, still_set, newly_set, none_set, word_below}
 
 -- a view that changes and still stands for its seats, with words in which just the bits that it has marked are new
-changed : (t : Layout) (n : ℕ) (words words' : List ℕ) (views : List BoardView) (id : ℕ) (v w : BoardView) → Story t n words views → get_elem? views id ≡ some v
+changed : (t : Layout) (n : ℕ) (words words' : List ℕ) (views : List BoardView) (id : ℕ) (v w : BoardView) → Story t n words views →
+    get_elem? views id ≡ some v
     → length words' ≡ length words → w.seats ≡ v.seats → v.seats ≢ []
     → ((p : ℕ) → Marked v p → Marked w p)
     → ((p : ℕ) → IsSet words p → IsSet words' p)
@@ -60,7 +61,8 @@ changed t n words words' views id v w s at same_length same_seats stands more st
       apart = λ i j a b q ei ej ha hb. let x = was i a ei in let y = was j b ej in
           s.apart i j x.0 y.0 q x.1 y.1 (subst (λ (l : List ℕ). Has (λ r. r ≡ q) l) x.2 ha) (subst (λ (l : List ℕ). Has (λ r. r ≡ q) l) y.2 hb);
       below = λ i a ei q h. let x = was i a ei in s.below i x.0 x.1 q (subst (λ (l : List ℕ). Has (λ r. r ≡ q) l) x.2 h);
-      idle = λ i a ei no. ⊎_elim (λ o. s.idle i a o no) (λ x. absurd (stands (sym same_seats ∙ ap (λ (y : BoardView). y.seats) x.1 ∙ no))) (old i a ei);
+      idle = λ i a ei no. ⊎_elim (λ o. s.idle i a o no) (λ x. absurd (stands (sym same_seats ∙ ap (λ (y : BoardView). y.seats) x.1 ∙ no)))
+          (old i a ei);
     }
 
 -- a view stands for no seat or for some seat
@@ -129,7 +131,8 @@ announces t n slots id m v cs stands proven s h len at bound =
     )
 
 -- the same, where the word and the bit are written by another name of the piece
-pub announces_as : (t : Layout) (n slots id : ℕ) (m : Mark) (p : ℕ) (v : BoardView) (cs : List (ℕ × Unit {0})) → v.seats ≢ [] → IsProven t m → m.piece ≡ p
+pub announces_as : (t : Layout) (n slots id : ℕ) (m : Mark) (p : ℕ) (v : BoardView) (cs : List (ℕ × Unit {0})) → v.seats ≢ [] → IsProven t m →
+    m.piece ≡ p
     → Allows (Holds t n) slots id (v, cs) (p / 64) (λ k. bit_or k (bit_of p)) (Announces m (step slots (p / 64) (bit_of p) 0 none) (v, cs))
 announces_as t n slots id m p v cs stands proven e =
     let P : ℕ → Type 0 = λ q. Allows (Holds t n) slots id (v, cs) (q / 64) (λ k. bit_or k (bit_of q))
@@ -162,7 +165,8 @@ splits t n id first rest new s h at =
     let left = view [] [] rest in
     let right = view [] [] (first ∷ []) in
     let views = set s.views id left in
-    let Was : ℕ → BoardView → Type 0 = λ j u. ((get_elem? s.views j ≡ some u) × (j ≢ id)) ⊎ (((j ≡ id) × (left ≡ u)) ⊎ ((j ≡ length views) × (right ≡ u)))
+    let Was : ℕ → BoardView →
+    Type 0 = λ j u. ((get_elem? s.views j ≡ some u) × (j ≢ id)) ⊎ (((j ≡ id) × (left ≡ u)) ⊎ ((j ≡ length views) × (right ≡ u)))
     in
     let was : (j : ℕ) (u : BoardView) → get_elem? (views ++ right ∷ []) j ≡ some u → Was j u = λ j u e. ⊎_elim
     (λ x. ⊎_elim (λ y. inr (inl y)) (λ y. inl (y.1, y.0)) (at_set s.views id j left u x.0)) (λ x. inr (inr x)) (at_appended views right u j e) in
@@ -256,7 +260,8 @@ joins t n id other v w stands s h at ne at_other =
     }
 
 -- where one view stands for each seat, the set bits are the pieces that it has marked
-pub ends : (t : Layout) (n : ℕ) (words : List ℕ) (views : List BoardView) (id : ℕ) (v : BoardView) → Story t n words views → get_elem? views id ≡ some v
+pub ends : (t : Layout) (n : ℕ) (words : List ℕ) (views : List BoardView) (id : ℕ) (v : BoardView) → Story t n words views →
+    get_elem? views id ≡ some v
     → ((q : ℕ) → q < n → StandsFor v q) → (p : ℕ) → IsSet words p → Marked v p
 ends t n words views id v h at all p is =
     let m = h.marked p is in

@@ -97,7 +97,8 @@ played_turn record_of desk new seats streams i seat seat' stream stream' may wit
           (length-set streams i stream') others.setting fit;
     }
 
-pub TookTurns-refl : {X : Type 0} (record_of : X → StreamRecord) (desk : DeskState) (seats : List Seat) (streams : List X) → MayPlay desk seats streams →
+pub TookTurns-refl : {X : Type 0} (record_of : X → StreamRecord) (desk : DeskState) (seats : List Seat) (streams : List X) →
+    MayPlay desk seats streams →
     TookTurns record_of desk seats streams desk seats streams
 TookTurns-refl record_of desk seats streams may = record {
   count = refl;

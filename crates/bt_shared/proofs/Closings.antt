@@ -161,7 +161,8 @@ module _ (s : Setting) (passes : List PassState) (T : TableId) (result : Slot) w
   pub closed_all : (all : Option (Seat Slot DeskView)) → 1 ≤ s.workers → IfNone all (passes ≡ []) →
       IfSome all (λ (seat : Seat Slot DeskView). (seat.table_id ≡ T) × IsJoined passes seat.me)
       → IfSome result (λ (d : DeskState). d.setting ≡ s) → IfSome result (λ (d : DeskState). IsLegal d.setting d.history)
-      → IfSome result (λ (d : DeskState). EachKnows d.history passes) → IfSome all (λ (seat : Seat Slot DeskView). AreCounted s seat.me.0.part.workers)
+      → IfSome result (λ (d : DeskState). EachKnows d.history passes) →
+      IfSome all (λ (seat : Seat Slot DeskView). AreCounted s seat.me.0.part.workers)
       → IfSome all (λ (seat : Seat Slot DeskView). IsEveryone s seat.me.0.part.workers → IsSome result) → EachOwn passes
       → length passes ≡ s.workers → IsSomeAnd result (λ (d : DeskState). IsEntered d passes)
   closed_all None one empty joined setting legal knows counted free own full = let none : length passes ≡ 0 = ap length empty in

@@ -16,7 +16,8 @@ use Rattle.bt_shared.specs.Guard.{Slot, Table, Sat, desk, Fits, Apart, Guards, S
 use Rattle.bt_shared.proofs.Histories.{each_map, own_other, knows_all, knows_more}
 
 -- a fact of each seat, where one has a new view
-pub each_set : (P : ℕ → DeskView → Type 0) (vs : List DeskView) (me : ℕ) (w : DeskView) → P me w → ((i : ℕ) (u : DeskView) → i ≢ me → get_elem? vs i ≡ some u → P i u)
+pub each_set : (P : ℕ → DeskView → Type 0) (vs : List DeskView) (me : ℕ) (w : DeskView) → P me w →
+    ((i : ℕ) (u : DeskView) → i ≢ me → get_elem? vs i ≡ some u → P i u)
     → (i : ℕ) (u : DeskView) → get_elem? (set vs me w) i ≡ some u → P i u
 each_set P vs me w mine others i u at =
     ⊎_elim

@@ -257,7 +257,8 @@ fits_meeting setting h v u f g apart =
       once = apart_append v.part.workers u.part.workers f.once g.once apart;
     }
 
-module _ (setting : Setting) (id other : ℕ) (v u : DeskView) (live : v.spent ≡ false) (idle : v.taken ≡ false) (other-idle : u.taken ≡ false) (s : Table)
+module _ (setting : Setting) (id other : ℕ) (v u : DeskView) (live : v.spent ≡ false) (idle : v.taken ≡ false) (other-idle : u.taken ≡ false)
+    (s : Table)
     (r : Guards setting s)
     (at : get_elem? s.views id ≡ some v) (apart : ¬ (other ≡ id)) (there' : get_elem? (set s.views id (meeting v u)) other ≡ some u) where
   joined : List DeskView

@@ -48,7 +48,8 @@ pub record Apart (views : List DeskView) : Type 0 where
   pub workers : (i j : ℕ) (v u : DeskView) (w : ℕ) → get_elem? views i ≡ some v → get_elem? views j ≡ some u → IsAmong w v.part.workers →
       IsAmong w u.part.workers → i ≡ j
   pub makers : (i j : ℕ) (v u : DeskView) → get_elem? views i ≡ some v → get_elem? views j ≡ some u → v.maker ≡ true → u.maker ≡ true → i ≡ j
-  pub made : (i j : ℕ) (v u : DeskView) (w : ℕ) → get_elem? views i ≡ some v → get_elem? views j ≡ some u → v.maker ≡ true → IsAmong w u.part.workers →
+  pub made : (i j : ℕ) (v u : DeskView) (w : ℕ) → get_elem? views i ≡ some v → get_elem? views j ≡ some u → v.maker ≡ true →
+      IsAmong w u.part.workers →
       w < v.next
 
 -- the desk is in its slot, with this journal, and no seat has taken the word

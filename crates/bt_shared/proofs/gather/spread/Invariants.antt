@@ -12,7 +12,8 @@ invariant-loop-pass l = record {
   fewer : length l.passes.items ≤ length l.fn.passes.items;
   held : l.held ≡ held_by (drop (length l.passes.items) l.fn.passes.items);
   none : IfNone l.all (drop (length l.passes.items) l.fn.passes.items ≡ []);
-  joined : IfSome l.all (λ (s : Seat Slot DeskView). (s.table_id ≡ l.words.table_id) × IsJoined (drop (length l.passes.items) l.fn.passes.items) s.me);
+  joined : IfSome l.all
+      (λ (s : Seat Slot DeskView). (s.table_id ≡ l.words.table_id) × IsJoined (drop (length l.passes.items) l.fn.passes.items) s.me);
   own : EachOwn (drop (length l.passes.items) l.fn.passes.items);
   room : vec_len l.logs ≡ vec_len l.fn.logs;
   logs : EachFrom (drop (length l.passes.items) l.fn.passes.items) l.logs.items;
