@@ -9,6 +9,7 @@ ghost use Rattle.bt_session.specs.Swarms.{EachPlays};
 ghost use Rattle.bt_worker.specs.Runs.{IsRunFault};
 
 use crate::check_threads::{CheckOf, start_checkers, stop};
+use crate::plan::Plan;
 use crate::threads::{PlayOf, join_each, start_sessions};
 use bt_history::MOST_DEPTH;
 use bt_meta::{Sink, Source};
@@ -18,6 +19,14 @@ use std::alloc::{AllocError, Global};
 use std::sync::Wait;
 use std::thread;
 use std::thread::{PromisedHandle, Threads};
+
+/// The workers of a run's threads, with the streams of its sessions, in the order of these.
+#[derive(Drop)]
+pub struct Hands<L: RunName, R, W> {
+    pub sessions: Vec<Worker<L>>,
+    pub streams: Vec<Stream<R, W>>,
+    pub checkers: Vec<Worker<L>>,
+}
 
 /// What the threads of a run gave back, each in the order of its workers.
 #[derive(Drop)]
@@ -117,32 +126,34 @@ fn start_all<
     alloc: Global,
     scope: &thread::Scope<'s, &'e ()>,
     commons: &'e Commons<L>,
-    sessions: Vec<Worker<L>>,
-    streams: Vec<Stream<R, W>>,
-    checkers: Vec<Worker<L>>,
-    seed: u64,
-    depth: u32,
+    hands: Hands<L, R, W>,
+    plan: Plan,
     gate: &'e G,
     checking: &mut Vec<PromisedHandle<Checked<L>, CheckOf<L>>>,
     playing: &mut Vec<PromisedHandle<Played<L, R, W>, PlayOf<L, R, W>>>,
 ) -> Result<(), SwarmFault>
-    requires count { length sessions.items ≡ length streams.items }
-    requires depth { (1 ≤ depth) × (depth ≤ MOST_DEPTH) }
-    requires room { (playing.old.items ≡ []) × (length streams.items ≤ vec_capacity playing.old) }
-    requires checkers_room { (checking.old.items ≡ []) × (length checkers.items ≤ vec_capacity checking.old) }
-    ensures few { length playing.new.items ≤ length streams.items }
-    ensures few_checkers { length checking.new.items ≤ length checkers.items }
-    ensures checkers { OnOk result (map (λ h. h.promise.worker.value) checking.new.items ≡ checkers.items) }
+    requires count { length hands.sessions.items ≡ length hands.streams.items }
+    requires depth { (1 ≤ plan.rules.depth) × (plan.rules.depth ≤ MOST_DEPTH) }
+    requires room { (playing.old.items ≡ []) × (length hands.streams.items ≤ vec_capacity playing.old) }
+    requires checkers_room { (checking.old.items ≡ []) × (length hands.checkers.items ≤ vec_capacity checking.old) }
+    ensures few { length playing.new.items ≤ length hands.streams.items }
+    ensures few_checkers { length checking.new.items ≤ length hands.checkers.items }
+    ensures checkers { OnOk result (map (λ h. h.promise.worker.value) checking.new.items ≡ hands.checkers.items) }
     ensures terms { OnOk result (All
-        (λ h. terms_of h.promise.torrent.value.value h.promise.depth ≡ terms_of commons.now depth) playing.new.items) }
-    ensures seeds { OnOk result (All (λ h. h.promise.seed ≡ seed) playing.new.items) }
-    ensures sessions { OnOk result (map (λ h. h.promise.worker.value) playing.new.items ≡ sessions.items) }
-    ensures streams { OnOk result (map (λ h. h.promise.stream.value) playing.new.items ≡ streams.items) }
+        (λ h. terms_of h.promise.torrent.value.value h.promise.depth ≡ terms_of commons.now plan.rules.depth) playing.new.items) }
+    ensures seeds { OnOk result (All (λ h. h.promise.seed ≡ plan.seed) playing.new.items) }
+    ensures sessions { OnOk result (map (λ h. h.promise.worker.value) playing.new.items ≡ hands.sessions.items) }
+    ensures streams { OnOk result (map (λ h. h.promise.stream.value) playing.new.items ≡ hands.streams.items) }
     ensures err { IfErr result IsRunFault }
 {
+    let Hands {
+        sessions,
+        streams,
+        checkers,
+    } = hands;
     start_checkers(rt, alloc, scope, commons, checkers, checking)?;
     start_sessions(
-        rt, alloc, scope, commons, sessions, streams, seed, depth, gate, playing,
+        rt, alloc, scope, commons, sessions, streams, plan, gate, playing,
     )
 }
 
@@ -160,23 +171,20 @@ pub fn crew<
     rt: &'e T,
     alloc: Global,
     commons: &'e Commons<L>,
-    sessions: Vec<Worker<L>>,
-    streams: Vec<Stream<R, W>>,
-    checkers: Vec<Worker<L>>,
+    hands: Hands<L, R, W>,
     last: Worker<L>,
-    seed: u64,
-    depth: u32,
+    plan: Plan,
     gate: &'e G,
 ) -> Result<Joined<L, R, W>, SwarmFault>
-    requires count { length sessions.items ≡ length streams.items }
-    requires depth { (1 ≤ depth) × (depth ≤ MOST_DEPTH) }
-    ensures count { IfOk result (λ r. length r.played.items ≡ length streams.items) }
-    ensures checkers { IfOk result (λ r. length r.checked.items ≡ length checkers.items) }
+    requires count { length hands.sessions.items ≡ length hands.streams.items }
+    requires depth { (1 ≤ plan.rules.depth) × (plan.rules.depth ≤ MOST_DEPTH) }
+    ensures count { IfOk result (λ r. length r.played.items ≡ length hands.streams.items) }
+    ensures checkers { IfOk result (λ r. length r.checked.items ≡ length hands.checkers.items) }
     ensures plays { IfOk result (λ r. EachPlays (stream_record R.left R.ended R.failed R.reads W.written W.failed)
-        (terms_of commons.now depth) L.setting seed sessions.items streams.items
+        (terms_of commons.now plan.rules.depth) L.setting plan.seed hands.sessions.items hands.streams.items
         (map (λ p. p.end) r.played.items) (map (λ p. p.worker) r.played.items) (map (λ p. p.stream) r.played.items)
         (list_any (λ p. p.short) r.played.items)) }
-    ensures checks { IfOk result (λ r. EachMakesChecks checkers.items (map (λ c. c.worker) r.checked.items)) }
+    ensures checks { IfOk result (λ r. EachMakesChecks hands.checkers.items (map (λ c. c.worker) r.checked.items)) }
     ensures last { IfOk result (λ r. (r.last.pass ≡ last.pass) × (r.last.seat ≡ last.seat)) }
     ensures err { IfErr result IsRunFault }
 {
@@ -184,31 +192,28 @@ pub fn crew<
         thread::scope_env(),
         rt,
         move |scope| -> Result<Joined<L, R, W>, SwarmFault>
-            requires count { length sessions.items ≡ length streams.items }
-            requires depth { (1 ≤ depth) × (depth ≤ MOST_DEPTH) }
-            ensures count { IfOk result (λ r. length r.played.items ≡ length streams.items) }
-            ensures checkers { IfOk result (λ r. length r.checked.items ≡ length checkers.items) }
+            requires count { length hands.sessions.items ≡ length hands.streams.items }
+            requires depth { (1 ≤ plan.rules.depth) × (plan.rules.depth ≤ MOST_DEPTH) }
+            ensures count { IfOk result (λ r. length r.played.items ≡ length hands.streams.items) }
+            ensures checkers { IfOk result (λ r. length r.checked.items ≡ length hands.checkers.items) }
             ensures plays { IfOk result (λ r. EachPlays (stream_record R.left R.ended R.failed R.reads W.written W.failed)
-                (terms_of commons.entry.now depth) L.setting seed sessions.items streams.items
+                (terms_of commons.entry.now plan.rules.depth) L.setting plan.seed hands.sessions.items hands.streams.items
                 (map (λ p. p.end) r.played.items) (map (λ p. p.worker) r.played.items) (map (λ p. p.stream) r.played.items)
                 (list_any (λ p. p.short) r.played.items)) }
-            ensures checks { IfOk result (λ r. EachMakesChecks checkers.items (map (λ c. c.worker) r.checked.items)) }
+            ensures checks { IfOk result (λ r. EachMakesChecks hands.checkers.items (map (λ c. c.worker) r.checked.items)) }
             ensures last { IfOk result (λ r. (r.last.pass ≡ last.pass) × (r.last.seat ≡ last.seat)) }
             ensures err { IfErr result IsRunFault }
         {
             let mut last = last;
-            let rooms = Rooms::new(alloc, checkers.len(), streams.len())?;
+            let rooms = Rooms::new(alloc, hands.checkers.len(), hands.streams.len())?;
             let (mut checking, mut checked, mut playing, mut played) = rooms.into_parts();
             let started = start_all(
                 rt,
                 alloc,
                 scope,
                 commons,
-                sessions,
-                streams,
-                checkers,
-                seed,
-                depth,
+                hands,
+                plan,
                 gate,
                 &mut checking,
                 &mut playing,

@@ -4,6 +4,7 @@
 mod check_threads;
 mod crew;
 mod fittings;
+mod plan;
 mod swarm_run;
 mod threads;
 mod work;

@@ -13,6 +13,7 @@ ghost use Rattle.bt_shared.specs.Gathering.{EachAgrees};
 ghost use Rattle.bt_worker.specs.Runs.{IsRunFault, LeavesNone};
 
 use crate::fittings::{Fittings, fit_out, set_up};
+use crate::plan::Plan;
 use crate::work::work;
 use bt_history::Rules;
 use bt_meta::{Sink, Source, Torrent};
@@ -56,47 +57,35 @@ fn run<
     torrent: Arc<Torrent>,
     fittings: Fittings,
     streams: Vec<Stream<R, W>>,
-    seed: u64,
-    rules: Rules,
-    checkers: u32,
+    plan: Plan,
     gate: &'e G,
 ) -> Result<SwarmRun<R, W>, SwarmFault>
     requires streams { (1 ≤ length streams.items) × (length streams.items ≤ MOST_STREAMS) }
-    requires rules { AreRules torrent.value.layout rules }
-    requires checkers { (1 ≤ checkers) × (checkers ≤ MOST_CHECKERS) }
-    requires setting { L.setting ≡ setting_of torrent.value.layout (length streams.items + checkers + 1) rules }
+    requires rules { AreRules torrent.value.layout plan.rules }
+    requires checkers { (1 ≤ plan.checkers) × (plan.checkers ≤ MOST_CHECKERS) }
+    requires setting { L.setting ≡ setting_of torrent.value.layout (length streams.items + plan.checkers + 1) plan.rules }
     requires fittings { AreFittings L.setting fittings }
     requires desk { L.desk ≡ Some fittings.desk.table }
     requires board { L.board ≡ Some fittings.board.table }
     requires queue { L.queue ≡ Some fittings.queue }
     ensures setting { IfOk result (λ run. run.book.desk.setting ≡ L.setting) }
     ensures legal { IfOk result (λ run. IsLegal L.setting run.book.desk.history) }
-    ensures logs { IfOk result (λ run. length run.book.logs.items ≡ length streams.items + checkers + 1) }
+    ensures logs { IfOk result (λ run. length run.book.logs.items ≡ length streams.items + plan.checkers + 1) }
     ensures agrees { IfOk result (λ run. EachAgrees run.book.desk.history run.book.logs.items) }
     ensures ends { IfOk result (λ run. length run.ends.items ≡ length streams.items) }
     ensures streams { IfOk result (λ run. length run.streams.items ≡ length streams.items) }
     ensures sessions { IfOk result (λ run. EachSwarmed (stream_record R.left R.ended R.failed R.reads W.written W.failed)
-        (terms_of torrent.value rules.depth) L.setting seed
+        (terms_of torrent.value plan.rules.depth) L.setting plan.seed
         streams.items run.book.desk.history run.book.logs.items run.streams.items run.ends.items run.short) }
-    ensures checks { IfOk result (λ run. CheckersCheck (length streams.items) checkers run.book.logs.items) }
+    ensures checks { IfOk result (λ run. CheckersCheck (length streams.items) plan.checkers run.book.logs.items) }
     ensures finishes { IfOk result (λ run.
-        MakesLastChecks (length streams.items + checkers) run.book.logs.items (piece_count torrent.value.layout)) }
+        MakesLastChecks (length streams.items + plan.checkers) run.book.logs.items (piece_count torrent.value.layout)) }
     ensures waits { IfOk result (λ run. LeavesNone run.short run.book.desk) }
     ensures err { IfErr result IsRunFault }
 {
     let pieces = torrent.piece_count();
     let (commons, all) = set_up::<L>(alloc, torrent, fittings)?;
-    let worked = work(
-        rt,
-        alloc,
-        &commons,
-        all,
-        streams,
-        checkers,
-        seed,
-        rules.depth,
-        gate,
-    )?;
+    let worked = work(rt, alloc, &commons, all, streams, plan, gate)?;
     let Worked {
         ends,
         workers,
@@ -163,7 +152,10 @@ pub fn swarm<
 {
     let workers = streams.len() as u32 + checkers + 1;
     let fittings = fit_out(alloc, &torrent, workers, rules)?;
-    run::<Brand, R, W, T, G>(
-        rt, alloc, torrent, fittings, streams, seed, rules, checkers, gate,
-    )
+    let plan = Plan {
+        seed,
+        rules,
+        checkers,
+    };
+    run::<Brand, R, W, T, G>(rt, alloc, torrent, fittings, streams, plan, gate)
 }

@@ -7,6 +7,7 @@ ghost use Rattle.bt_peer.specs.SessionTerms.{terms_of};
 ghost use Rattle.bt_worker.specs.Runs.{IsRunFault, Plays};
 ghost use Rattle.bt_worker.specs.declared.fault.SwarmFault.TheVariants.{NoThread};
 
+use crate::plan::Plan;
 use bt_history::MOST_DEPTH;
 use bt_meta::{Sink, Source, Torrent};
 use bt_peer::{Gate, Stream};
@@ -51,32 +52,40 @@ fn start<
     commons: &'e Commons<L>,
     worker: Worker<L>,
     stream: Stream<R, W>,
-    seed: u64,
-    depth: u32,
+    plan: Plan,
     gate: &'e G,
 ) -> Result<PromisedHandle<Played<L, R, W>, PlayOf<L, R, W>>, SwarmFault>
-    requires { (1 ≤ depth) × (depth ≤ MOST_DEPTH) }
-    ensures terms { IfOk result (λ h. terms_of h.promise.torrent.value.value h.promise.depth ≡ terms_of torrent.value depth) }
-    ensures seed { IfOk result (λ h. h.promise.seed ≡ seed) }
+    requires { (1 ≤ plan.rules.depth) × (plan.rules.depth ≤ MOST_DEPTH) }
+    ensures terms { IfOk result (λ h.
+        terms_of h.promise.torrent.value.value h.promise.depth ≡ terms_of torrent.value plan.rules.depth) }
+    ensures seed { IfOk result (λ h. h.promise.seed ≡ plan.seed) }
     ensures worker { IfOk result (λ h. h.promise.worker.value ≡ worker) }
     ensures stream { IfOk result (λ h. h.promise.stream.value ≡ stream) }
     ensures err { IfErr result (λ fault. fault ≡ NoThread) }
 {
     let promise = PlayOf {
         torrent: Snapshot::of(&torrent),
-        depth,
-        seed,
+        depth: plan.rules.depth,
+        seed: plan.seed,
         worker: Snapshot::of(&worker),
         stream: Snapshot::of(&stream),
     };
     let job = move || -> Played<L, R, W>
-        requires { (1 ≤ depth) × (depth ≤ MOST_DEPTH) }
-        ensures { Plays result.end (terms_of torrent.value depth) L.setting seed
+        requires { (1 ≤ plan.rules.depth) × (plan.rules.depth ≤ MOST_DEPTH) }
+        ensures { Plays result.end (terms_of torrent.value plan.rules.depth) L.setting plan.seed
             worker (stream_record R.left R.ended R.failed R.reads W.written W.failed stream)
             result.worker (stream_record R.left R.ended R.failed R.reads W.written W.failed result.stream) result.short }
     {
         play(
-            rt, alloc, torrent, commons, worker, stream, seed, depth, gate,
+            rt,
+            alloc,
+            torrent,
+            commons,
+            worker,
+            stream,
+            plan.seed,
+            plan.rules.depth,
+            gate,
         )
     };
     match scope.spawn_with(promise, job) {
@@ -101,18 +110,17 @@ pub fn start_sessions<
     commons: &'e Commons<L>,
     workers: Vec<Worker<L>>,
     streams: Vec<Stream<R, W>>,
-    seed: u64,
-    depth: u32,
+    plan: Plan,
     gate: &'e G,
     handles: &mut Vec<PromisedHandle<Played<L, R, W>, PlayOf<L, R, W>>>,
 ) -> Result<(), SwarmFault>
     requires count { length workers.items ≡ length streams.items }
-    requires depth { (1 ≤ depth) × (depth ≤ MOST_DEPTH) }
+    requires depth { (1 ≤ plan.rules.depth) × (plan.rules.depth ≤ MOST_DEPTH) }
     requires room { (handles.old.items ≡ []) × (length streams.items ≤ vec_capacity handles.old) }
     ensures few { length handles.new.items ≤ length streams.items }
     ensures terms { OnOk result (All
-        (λ h. terms_of h.promise.torrent.value.value h.promise.depth ≡ terms_of commons.now depth) handles.new.items) }
-    ensures seeds { OnOk result (All (λ h. h.promise.seed ≡ seed) handles.new.items) }
+        (λ h. terms_of h.promise.torrent.value.value h.promise.depth ≡ terms_of commons.now plan.rules.depth) handles.new.items) }
+    ensures seeds { OnOk result (All (λ h. h.promise.seed ≡ plan.seed) handles.new.items) }
     ensures workers { OnOk result (map (λ h. h.promise.worker.value) handles.new.items ≡ workers.items) }
     ensures streams { OnOk result (map (λ h. h.promise.stream.value) handles.new.items ≡ streams.items) }
     ensures err { IfErr result IsRunFault }
@@ -130,8 +138,7 @@ pub fn start_sessions<
             commons,
             worker,
             stream,
-            seed,
-            depth,
+            plan,
             gate,
         )?;
         handles.push_reserved(handle);

@@ -9,7 +9,8 @@ ghost use Rattle.bt_session.specs.Swarms.{EachPlays};
 ghost use Rattle.bt_worker.specs.Runs.{ChecksLast, IsRunFault};
 ghost use Rattle.bt_worker.specs.Workers.{WorkerState};
 
-use crate::crew::{Joined, crew};
+use crate::crew::{Hands, Joined, crew};
+use crate::plan::Plan;
 use bt_history::MOST_DEPTH;
 use bt_meta::{Sink, Source};
 use bt_peer::{Gate, Stream};
@@ -33,22 +34,20 @@ pub fn work<
     commons: &'e Commons<L>,
     workers: Vec<Worker<L>>,
     streams: Vec<Stream<R, W>>,
-    checkers: u32,
-    seed: u64,
-    depth: u32,
+    plan: Plan,
     gate: &'e G,
 ) -> Result<Worked<L, R, W>, SwarmFault>
-    requires count { length workers.items ≡ length streams.items + checkers + 1 }
-    requires depth { (1 ≤ depth) × (depth ≤ MOST_DEPTH) }
+    requires count { length workers.items ≡ length streams.items + plan.checkers + 1 }
+    requires depth { (1 ≤ plan.rules.depth) × (plan.rules.depth ≤ MOST_DEPTH) }
     ensures count { IfOk result (λ r. (length r.ends.items ≡ length streams.items) × (length r.streams.items ≡ length streams.items)
         × (length r.workers.items ≡ length workers.items)) }
     ensures plays { IfOk result (λ r. EachPlays (stream_record R.left R.ended R.failed R.reads W.written W.failed)
-        (terms_of commons.now depth) L.setting seed workers.items streams.items r.ends.items r.workers.items r.streams.items
+        (terms_of commons.now plan.rules.depth) L.setting plan.seed workers.items streams.items r.ends.items r.workers.items r.streams.items
         r.given_up) }
-    ensures checks { IfOk result (λ r. CheckersWork (length streams.items) checkers workers.items r.workers.items) }
+    ensures checks { IfOk result (λ r. CheckersWork (length streams.items) plan.checkers workers.items r.workers.items) }
     ensures last { IfOk result (λ r. (any : WorkerState) →
-        ChecksLast (slice_index_or workers.items (length streams.items + checkers) any).pass
-        (slice_index_or r.workers.items (length streams.items + checkers) any).pass (piece_count commons.now.layout)) }
+        ChecksLast (slice_index_or workers.items (length streams.items + plan.checkers) any).pass
+        (slice_index_or r.workers.items (length streams.items + plan.checkers) any).pass (piece_count commons.now.layout)) }
     ensures err { IfErr result IsRunFault }
 {
     let count = streams.len();
@@ -58,9 +57,12 @@ pub fn work<
         unreachable!()
     };
     let checkers = sessions.split_off(count)?;
-    let joined = crew(
-        rt, alloc, commons, sessions, streams, checkers, last, seed, depth, gate,
-    )?;
+    let hands = Hands {
+        sessions,
+        streams,
+        checkers,
+    };
+    let joined = crew(rt, alloc, commons, hands, last, plan, gate)?;
     let Joined {
         played,
         checked,

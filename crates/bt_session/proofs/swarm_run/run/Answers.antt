@@ -8,7 +8,7 @@ use Rattle.bt_session.proofs.swarm_run.run.Goals as goal
 pub gather-requires-clause-order : goal.gather-requires-clause-order
 gather-requires-clause-order g c =
     let n = length c.args.streams.items in
-    let m = c.args.checkers in
+    let m = c.args.plan.checkers in
     let layout = c.args.torrent.value in
     let made = c.in_ok-commons.ensures in
     let did = c.in_ok-worked.ensures in
@@ -16,7 +16,7 @@ gather-requires-clause-order g c =
     let worked = c.in_ok-worked.worked in
     let many : length all ≡ n + m + 1 = search rules in
     let ran : Ran (stream_record g.R.Source.left g.R.Source.ended g.R.Source.failed g.R.Source.reads g.W.Sink.written g.W.Sink.failed)
-    (terms_of layout c.args.rules.depth) g.L.RunName.setting c.args.seed n m (piece_count layout.layout)
+    (terms_of layout c.args.plan.rules.depth) g.L.RunName.setting c.args.plan.seed n m (piece_count layout.layout)
     all worked.workers.items c.args.streams.items worked.streams.items worked.ends.items worked.given_up = record {
       some = c.requires.streams.0;
       fresh = made.fresh;
@@ -32,7 +32,7 @@ gather-requires-clause-order g c =
 pub returns-clause-sessions : goal.returns-clause-sessions
 returns-clause-sessions g c =
     let n = length c.args.streams.items in
-    let m = c.args.checkers in
+    let m = c.args.plan.checkers in
     let layout = c.args.torrent.value in
     let made = c.in_ok-commons.ensures in
     let did = c.in_ok-worked.ensures in
@@ -40,7 +40,7 @@ returns-clause-sessions g c =
     let worked = c.in_ok-worked.worked in
     let many : length all ≡ n + m + 1 = search rules in
     let ran : Ran (stream_record g.R.Source.left g.R.Source.ended g.R.Source.failed g.R.Source.reads g.W.Sink.written g.W.Sink.failed)
-    (terms_of layout c.args.rules.depth) g.L.RunName.setting c.args.seed n m (piece_count layout.layout)
+    (terms_of layout c.args.plan.rules.depth) g.L.RunName.setting c.args.plan.seed n m (piece_count layout.layout)
     all worked.workers.items c.args.streams.items worked.streams.items worked.ends.items worked.given_up = record {
       some = c.requires.streams.0;
       fresh = made.fresh;
@@ -57,7 +57,7 @@ returns-clause-sessions g c =
 pub returns-clause-checks : goal.returns-clause-checks
 returns-clause-checks g c =
     let n = length c.args.streams.items in
-    let m = c.args.checkers in
+    let m = c.args.plan.checkers in
     let layout = c.args.torrent.value in
     let made = c.in_ok-commons.ensures in
     let did = c.in_ok-worked.ensures in
@@ -65,7 +65,7 @@ returns-clause-checks g c =
     let worked = c.in_ok-worked.worked in
     let many : length all ≡ n + m + 1 = search rules in
     let ran : Ran (stream_record g.R.Source.left g.R.Source.ended g.R.Source.failed g.R.Source.reads g.W.Sink.written g.W.Sink.failed)
-    (terms_of layout c.args.rules.depth) g.L.RunName.setting c.args.seed n m (piece_count layout.layout)
+    (terms_of layout c.args.plan.rules.depth) g.L.RunName.setting c.args.plan.seed n m (piece_count layout.layout)
     all worked.workers.items c.args.streams.items worked.streams.items worked.ends.items worked.given_up = record {
       some = c.requires.streams.0;
       fresh = made.fresh;
@@ -82,7 +82,7 @@ returns-clause-checks g c =
 pub returns-clause-finishes : goal.returns-clause-finishes
 returns-clause-finishes g c =
     let n = length c.args.streams.items in
-    let m = c.args.checkers in
+    let m = c.args.plan.checkers in
     let layout = c.args.torrent.value in
     let made = c.in_ok-commons.ensures in
     let did = c.in_ok-worked.ensures in
@@ -90,7 +90,7 @@ returns-clause-finishes g c =
     let worked = c.in_ok-worked.worked in
     let many : length all ≡ n + m + 1 = search rules in
     let ran : Ran (stream_record g.R.Source.left g.R.Source.ended g.R.Source.failed g.R.Source.reads g.W.Sink.written g.W.Sink.failed)
-    (terms_of layout c.args.rules.depth) g.L.RunName.setting c.args.seed n m (piece_count layout.layout)
+    (terms_of layout c.args.plan.rules.depth) g.L.RunName.setting c.args.plan.seed n m (piece_count layout.layout)
     all worked.workers.items c.args.streams.items worked.streams.items worked.ends.items worked.given_up = record {
       some = c.requires.streams.0;
       fresh = made.fresh;

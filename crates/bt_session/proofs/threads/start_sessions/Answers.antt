@@ -12,9 +12,9 @@ loop-stream-preserved g c =
     let hs' = c.push_reserved.new.self.items in
     let h = c.in_ok-handle.handle in
     record {
-      terms = all_grown (λ h. terms_of h.promise.torrent.value.value h.promise.depth ≡ terms_of c.args.commons.now c.args.depth) hs hs' h
-          c.push_reserved.ensures.items (made.terms ∙ ap (λ (t : Metainfo). terms_of t c.args.depth) c.in_ok-torrent.ensures) was.terms;
-      seeds = all_grown (λ h. h.promise.seed ≡ c.args.seed) hs hs' h c.push_reserved.ensures.items made.seed was.seeds;
+      terms = all_grown (λ h. terms_of h.promise.torrent.value.value h.promise.depth ≡ terms_of c.args.commons.now c.args.plan.rules.depth) hs hs' h
+          c.push_reserved.ensures.items (made.terms ∙ ap (λ (t : Metainfo). terms_of t c.args.plan.rules.depth) c.in_ok-torrent.ensures) was.terms;
+      seeds = all_grown (λ h. h.promise.seed ≡ c.args.plan.seed) hs hs' h c.push_reserved.ensures.items made.seed was.seeds;
       workers = grown (λ h. h.promise.worker.value) hs hs' h c.in-Some-next.worker _ _ _
           c.push_reserved.ensures.items c.in-Some-next.ensures.items made.worker was.workers;
       streams = grown (λ h. h.promise.stream.value) hs hs' h c.in-Some.stream _ _ _

@@ -11,7 +11,7 @@ use Rattle.bt_worker.specs.Workers.{WorkerState}
 use Rattle.bt_shared.specs.Passes.{PassState}
 use Rattle.bt_session.proofs.work.work.Goals as goal
 
-parted : (g : _) (c : goal.After-push_reserved g) → Parted (length c.args.streams.items) c.args.checkers c.args.workers.items
+parted : (g : _) (c : goal.After-push_reserved g) → Parted (length c.args.streams.items) c.args.plan.checkers c.args.workers.items
     c.push_reserved.new.self.items
     c.split_off.new.self.items c.in_ok-checkers.checkers.items (map (λ p. p.worker) c.in_ok-joined.joined.played.items)
     (map (λ p. p.worker) c.in_ok-joined.joined.checked.items) c.in-Some.last c.last_checks-unfinished.new.worker
@@ -25,7 +25,7 @@ parted g c =
     let parts : before ≡ sessions ++ checkers = rw (c.in_ok-checkers.ensures.items, c.in_ok-checkers.ensures.tail) (sym (take-append-drop _ before))
     in
     let many : length sessions ≡ length c.args.streams.items = search rules in
-    let many_checkers : length checkers ≡ c.args.checkers = search rules in
+    let many_checkers : length checkers ≡ c.args.plan.checkers = search rules in
     record {
       before = c.in-Some.ensures.items ∙ ap (λ (l : List WorkerState). l ++ c.in-Some.last ∷ []) parts;
       after = c.push_reserved.ensures.items
@@ -50,7 +50,7 @@ returns-clause-plays g c =
     plays_short _ _ _ _ _ _ _ _ short _ (λ is. or_second _ _ _ _ (c.part-came_back.ensures.short ∙ is))
     (all_play (parted g c)
     (stream_record g.R.Source.left g.R.Source.ended g.R.Source.failed g.R.Source.reads g.W.Sink.written g.W.Sink.failed)
-    (terms_of c.args.commons.now c.args.depth) g.L.RunName.setting c.args.seed c.args.streams.items
+    (terms_of c.args.commons.now c.args.plan.rules.depth) g.L.RunName.setting c.args.plan.seed c.args.streams.items
     (map (λ p. p.stream) played) (map (λ p. p.end) played) short refl c.in_ok-joined.ensures.plays i worker stream end below))
 
 pub returns-clause-checks : goal.returns-clause-checks

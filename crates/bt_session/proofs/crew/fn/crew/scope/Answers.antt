@@ -15,8 +15,8 @@ returns-in-Ok g c =
     let all = c.join_each.new.all.items in
     let checked = c.join_each-2.new.all.items in
     let parts = c.in-Ok.ensures in
-    let many : length hs ≡ length c.captures.streams.items = sym (length-map hs (λ h. h.promise.stream.value)) ∙ ap length parts.streams in
-    let many_checkers : length ks ≡ length c.captures.checkers.items = sym (length-map ks (λ h. h.promise.worker.value)) ∙ ap length parts.checkers in
+    let many : length hs ≡ length c.captures.hands.streams.items = sym (length-map hs (λ h. h.promise.stream.value)) ∙ ap length parts.streams in
+    let many_checkers : length ks ≡ length c.captures.hands.checkers.items = sym (length-map ks (λ h. h.promise.worker.value)) ∙ ap length parts.checkers in
     let same : length all ≡ length hs = search rules in
     let same_checked : length checked ≡ length ks = search rules in
     let whole : vec_len c.start_all-started.new.playing ≡ length hs = search rules in
@@ -31,9 +31,9 @@ returns-in-Ok g c =
           let back : i < length all = omega (arith, there, same) in
           let k = (c.join_each.ensures.each i d (omega (arith, there, whole))).1 in
           let p = k.handle.promise in
-          let terms : terms_of p.torrent.value.value p.depth ≡ terms_of c.captures.commons.now c.captures.depth =
+          let terms : terms_of p.torrent.value.value p.depth ≡ terms_of c.captures.commons.now c.captures.plan.rules.depth =
           ap (λ h. terms_of h.promise.torrent.value.value h.promise.depth) k.handle_is ∙ parts.terms i k.handle there in
-          let seed : p.seed ≡ c.captures.seed = ap (λ h. h.promise.seed) k.handle_is ∙ parts.seeds i k.handle there in
+          let seed : p.seed ≡ c.captures.plan.seed = ap (λ h. h.promise.seed) k.handle_is ∙ parts.seeds i k.handle there in
           plays_short _ _ _ _ _ _ _ _ (get_or all i d).short _ (list_any_at (λ p. p.short) all i d back) (rw (
             sym terms,
             sym seed,
