@@ -13,6 +13,7 @@ pub mod Opening
 pub mod Own
 pub mod OwnTurns
 pub mod Ran
+pub mod Reading
 pub mod Runs
 pub mod Standing
 pub mod Staying

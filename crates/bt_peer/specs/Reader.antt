@@ -1,5 +1,5 @@
 -- What a session reads.
-use Rattle.std.specs.Prelude.{◌≡◌, ◌⊎◌, ℕ, ◌≤◌, ◌^◌, Bool, true, List, ◌++◌, Option}
+use Rattle.std.specs.Prelude.{◌≡◌, ◌⊎◌, ℕ, ◌≤◌, ◌^◌, Bool, true, List, [], ◌++◌, length, Option, Result, MatchResult, IfOk}
 use Rattle.std.specs.Io.KnownBytes.{Consumes, IsAtEnd}
 use Rattle.bt_wire.specs.declared.message.Message.{Message}
 use Rattle.bt_wire.specs.declared.message.WireFault.{WireFault}
@@ -43,6 +43,14 @@ most_reads = 2 ^ 32
 -- the most bytes of one read
 abbrev pub room_len : ℕ
 room_len = 65536
+
+-- one read put what it gave behind these bytes, and gave none at the end alone
+pub record ReadsBehind {E : Type 0} (result : Result ℕ E) (old new : List ℕ) (left left' : Option (List ℕ)) (has_ended : Bool) : Type 0 where
+  pub read : List ℕ
+  pub consumed : Consumes left left' read
+  pub behind : new ≡ old ++ read
+  pub count : MatchResult result (λ count. (length read ≡ count) × (count ≤ room_len)) (λ _. read ≡ [])
+  pub at_end : IfOk result (λ count. count ≡ 0 → (has_ended ≡ true) × IsAtEnd left')
 
 -- what a source says after a turn, with the session's count of its reads
 pub record SourceState : Type 0 where

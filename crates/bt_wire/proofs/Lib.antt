@@ -1,3 +1,4 @@
+pub mod Blocks
 pub mod Bodies
 pub mod Frames
 pub mod Front

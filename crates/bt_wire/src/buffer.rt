@@ -1,10 +1,11 @@
 //! The unread bytes of a stream.
 
-ghost use Rattle.std.specs.Prelude.{◌≡◌, ◌≤◌, ◌++◌, List, [], drop, length, OnOk, OnErr};
+ghost use Rattle.std.specs.Prelude.{◌≡◌, ◌≤◌, ◌++◌, List, [], take, drop, length, IfOk, OnOk, OnErr};
 
-use bytes::BytesMut;
+use bytes::{Bytes, BytesMut};
 use std::alloc::{AllocError, Global};
 use std::marker::Model;
+use std::mem;
 
 /// A block with no more than this many bytes in front of the unread ones is left as it is.
 const SLACK: usize = 64 * 1024;
@@ -69,6 +70,34 @@ impl Buffer {
         if self.gone >= self.unread.len().max(SLACK) {
             self.give_back();
         }
+    }
+
+    /// Takes bytes off the front that stay where they are. They and the rest share the memory.
+    pub fn split_front(&mut self, count: usize) -> Result<Bytes, AllocError>
+        requires { count ≤ length self.old }
+        ensures front { IfOk result (λ front. front ≡ take count self.old) }
+        ensures rest { OnOk result (self.new ≡ drop count self.old) }
+        ensures err { OnErr result (self.new ≡ self.old) }
+    {
+        let front = self.unread.freeze_to(count)?;
+        self.gone = 0;
+        Ok(front)
+    }
+
+    /// Hands the bytes out.
+    pub fn take(&mut self) -> BytesMut
+        ensures bytes { result.items ≡ self.old }
+        ensures left { self.new ≡ [] }
+    {
+        let alloc = *self.unread.allocator();
+        mem::replace(&mut self.unread, BytesMut::new(alloc))
+    }
+
+    /// Holds these bytes, and none of those that it held.
+    pub fn put(&mut self, bytes: BytesMut)
+        ensures { self.new ≡ bytes.items }
+    {
+        self.unread = bytes;
     }
 
     /// Moves the unread bytes to a block of their own size. Where there is no memory for it they stay where they are.

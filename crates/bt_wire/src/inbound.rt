@@ -4,8 +4,9 @@ ghost use Rattle.std.specs.Prelude.{◌≡◌, ◌≢◌, ◌++◌, None, false,
 
 use crate::buffer::Buffer;
 use crate::message::{Message, WireFault};
-use crate::reading::front;
-use std::alloc::Global;
+use crate::reading::{BLOCK_HEAD, BlockFront, front, large_block_at};
+use bytes::BytesMut;
+use std::alloc::{AllocError, Global};
 use std::marker::Model;
 
 /// The messages of a stream, in whatever pieces it comes. Memory is held for bytes that came, never for a length that was announced.
@@ -30,6 +31,7 @@ impl Model for Inbound {
 
 impl Inbound {
     ghost use Rattle.bt_wire.specs.Stream.{InboundState, opened, Gives, HasNothing, HasFault};
+    ghost use Rattle.bt_wire.specs.Blocks.{IsBlockFront};
     ghost use Rattle.bt_wire.specs.declared.message.WireFault.TheVariants.{NoMemory};
 
     /// A stream of which nothing came yet. A message's length field is at most the limit, in bytes.
@@ -65,6 +67,40 @@ impl Inbound {
         Ok(())
     }
 
+    /// Hands out the bytes that are held, so that a reader adds to them where they lie. Nothing is held until `put_held`.
+    pub fn take_held(&mut self) -> BytesMut
+        requires { self.old.fault ≡ None }
+        ensures bytes { result.items ≡ self.old.bytes }
+        ensures left { self.new ≡ record self.old { bytes = [] } }
+    {
+        self.buffer.take()
+    }
+
+    /// Holds these bytes from now on: those of `take_held`, with what was read behind them.
+    pub fn put_held(&mut self, held: BytesMut)
+        requires { self.old.fault ≡ None }
+        ensures { self.new ≡ record self.old { bytes = held.items } }
+    {
+        self.buffer.put(held);
+    }
+
+    /// The block's message, which stands in front. Its bytes stay where they are.
+    fn give_block(&mut self, block: BlockFront) -> Result<Message, AllocError>
+        requires fault { self.old.fault ≡ None }
+        requires greeted { self.old.greeted ≡ true }
+        requires stands { IsBlockFront self.old.limit self.old.bytes block.piece block.begin block.len }
+        ensures message { IfOk result (λ m. Gives self.old m self.new) }
+        ensures memory { OnErr result (self.new ≡ self.old) }
+    {
+        let mut bytes = self.buffer.split_front(block.len)?;
+        bytes.advance(BLOCK_HEAD);
+        Ok(Message::Piece {
+            piece: block.piece,
+            begin: block.begin,
+            bytes,
+        })
+    }
+
     /// The message at the front, the handshake first. None says that more bytes are needed to tell what stands there.
     pub fn next(&mut self, alloc: Global) -> Result<Option<Message>, WireFault>
         ensures message { IfOk result (λ o. IfSome o (λ m. Gives self.old m self.new)) }
@@ -80,6 +116,9 @@ impl Inbound {
     {
         if let Some(fault) = self.fault {
             return Err(fault);
+        }
+        if let Some(block) = large_block_at(self.greeted, self.limit, self.buffer.as_slice()) {
+            return Ok(Some(self.give_block(block)?));
         }
         match front(alloc, self.greeted, self.limit, self.buffer.as_slice()) {
             Ok(Some((message, len))) => {

@@ -10,7 +10,7 @@ returns-in-Ok-Some-clause-message c =
     let state : InboundState = record { limit = inside.limit; greeted = inside.greeted; bytes = inside.buffer; fault = inside.fault } in
     let left = c.advance.new.self in
     subst (λ (old : InboundState). Gives old front.message (record state { greeted = true; bytes = left })) c.self.view_is
-    (gives state front.message front.len left (rw (← c.as_slice.ensures) (rw front.field-0-is at front.ensures.found).1) c.advance.ensures)
+    (gives state front.message front.len left (rw (← c.as_slice-2.ensures) (rw front.field-0-is at front.ensures.found).1) c.advance.ensures)
 
 pub returns-in-Ok-None-clause-none : goal.returns-in-Ok-None-clause-none
 returns-in-Ok-None-clause-none c = search rules fits 100

@@ -1,7 +1,7 @@
 use Rattle.std.proofs.Common.{◌≡◌, ◌+◌, ◌*◌, ◌-◌, ◌≤◌, length}
 use Rattle.bt_peer.specs.Reader.{most_reads, room_len}
 use Rattle.bt_peer.proofs.Heard.{BytesRead}
-use Rattle.bt_peer.proofs.reader.Heard.read_into.Given as goal
+use Rattle.bt_peer.proofs.reader.Heard.next.Given as goal
 
 abbrev pub invariant-reads : goal.invariant-reads
 invariant-reads g l = record {
