@@ -2,9 +2,9 @@ use Rattle.std.proofs.Common.{◌≡◌, ◌∙◌, Bool, true, false, not, ◌&
 use Rattle.std.proofs.lemmas.Bool.{false≢true, ltb-true}
 use Rattle.sha1.specs.Sha1.{sha1}
 use Rattle.bt_meta.specs.Layout.{piece_count}
-use Rattle.bench_picker.proofs.ZeroContent.{content_zeros}
-use Rattle.bench_picker.proofs.ZeroSteps.{settles_keeps}
-use Rattle.bench_picker.proofs.zeros.Zeros.settle.Goals as goal
+use Rattle.bench.proofs.ZeroContent.{content_zeros}
+use Rattle.bench.proofs.ZeroSteps.{settles_keeps}
+use Rattle.bench.proofs.picker.zeros.Zeros.settle.Goals as goal
 
 parts : (within filled had_it : Bool) → (within && (filled && not had_it)) ≡ true → (within ≡ true) × (filled ≡ true)
 parts true true had_it is = (refl, refl)

@@ -16,7 +16,7 @@ use Rattle.bt_history.specs.Legal.{IsLegal}
 use Rattle.bt_history.specs.Pieces.{content, content_of_block, full, held, joined_below, kept}
 use Rattle.bt_history.proofs.Below.{all_at}
 use Rattle.bt_history.proofs.HeldLengths.{held_len}
-use Rattle.bench_picker.specs.ZeroBytes.{AllZeros, BringsZeros, IsEven, zeros}
+use Rattle.bench.specs.ZeroBytes.{AllZeros, BringsZeros, IsEven, zeros}
 
 some_same : {A : Type 0} (x y : A) → Some x ≡ Some y → x ≡ y
 some_same x y is = cc

@@ -2,7 +2,7 @@
 
 ghost use Rattle.std.specs.Prelude.{◌≡◌, IfOk};
 ghost use Rattle.bt_picker.specs.Told.{action_told};
-ghost use Rattle.bench_picker.specs.ZeroBytes.{BringsZeros, zeros};
+ghost use Rattle.bench.specs.ZeroBytes.{BringsZeros, zeros};
 ghost use Rattle.sha1.specs.Sha1.{sha1};
 
 use anyhow::{Result, bail};
@@ -41,7 +41,7 @@ impl Model for Zeros {
     ghost use Rattle.std.specs.Prelude.{◌≡◌};
     ghost use Rattle.sha1.specs.Sha1.{sha1};
     ghost use Rattle.bt_picker.specs.Positions.{DeskState};
-    ghost use Rattle.bench_picker.specs.ZeroBytes.{AllZeros, IsEven, zeros};
+    ghost use Rattle.bench.specs.ZeroBytes.{AllZeros, IsEven, zeros};
 
     ghost Value = { DeskState };
 

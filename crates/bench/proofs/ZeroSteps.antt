@@ -8,7 +8,7 @@ use Rattle.bt_history.specs.Setting.{Setting}
 use Rattle.bt_picker.specs.Checks.{SettlesIf, settling, waits}
 use Rattle.bt_picker.specs.Positions.{DeskState, Gains}
 use Rattle.bt_picker.specs.Told.{Settles, SettlesAs, Tells, TellsIf}
-use Rattle.bench_picker.specs.ZeroBytes.{AllZeros, BringsZeros, IsEven, zeros}
+use Rattle.bench.specs.ZeroBytes.{AllZeros, BringsZeros, IsEven, zeros}
 
 -- a download of even pieces, of which each block that came is of zeros
 abbrev pub Keeps : DeskState → Type 0

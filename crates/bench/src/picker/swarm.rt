@@ -1,7 +1,7 @@
 //! The peers of the swarm, and the rounds of a download from them.
 
+use super::zeros::Zeros;
 use crate::mix::Mix;
-use crate::zeros::Zeros;
 use anyhow::Result;
 use bt_meta::{Bitfield, Block};
 use bt_picker::{Reply, USUAL_LEVEL};

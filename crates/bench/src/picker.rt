@@ -1,15 +1,12 @@
 //! Times the picker that keeps no content: a whole download from a swarm, asked block by block, with nothing hashed between.
-#![tactic(auto)]
 
 mod bitfields;
-mod mix;
 mod swarm;
 mod zeros;
 
 use anyhow::{Result, bail};
 use bitfields::Bitfields;
 use bt_picker::MOST_WORKERS;
-use std::env;
 use std::rt::Runtime;
 use std::time::{CpuClock, Duration};
 use swarm::{Manner, Swarm};
@@ -46,13 +43,9 @@ struct Times {
     dry: u128,
 }
 
-fn main(rt: HostRuntime) -> Result<()> {
-    obey(&rt)
-}
-
-/// Plays the download, and prints its counts.
-fn obey<R: Runtime + AllocGlobal + CpuClock>(rt: &R) -> Result<()> {
-    let plan = asked(rt)?;
+/// Plays the download that these words ask for, and prints its counts.
+pub fn time_picker<R: Runtime + AllocGlobal + CpuClock>(rt: &R, words: &[String]) -> Result<()> {
+    let plan = asked(words)?;
     let mut swarm = Swarm::new(rt.alloc(), plan.pieces, plan.peers, plan.depth, plan.askers)?;
     swarm.order(plan.manner);
     let come = come(rt, &plan, &mut swarm)?;
@@ -74,11 +67,10 @@ fn obey<R: Runtime + AllocGlobal + CpuClock>(rt: &R) -> Result<()> {
     Ok(())
 }
 
-/// The words are the number of pieces, how often the pieces that a peer shows are halved, the number of peers, how many blocks are asked of
+/// The first word is `picker`. Those behind it are the number of pieces, how often the pieces that a peer shows are halved, the number of peers, how many blocks are asked of
 /// each at a time, and of how many peers one block is asked in endgame. Behind them stand the order, `levels`, `order` or `stream`, and
 /// `times`, with which times are printed too. Each may be left out.
-fn asked<R: Runtime + AllocGlobal>(rt: &R) -> Result<Plan> {
-    let words: Vec<String> = env::args(rt)?.collect(rt.alloc())?;
+fn asked(words: &[String]) -> Result<Plan> {
     let is_timed = match words.last() {
         Some(word) => word.as_str() == "times",
         None => false,

@@ -1,6 +1,6 @@
 use Rattle.bt_picker.specs.Told.{telling}
-use Rattle.bench_picker.proofs.ZeroSteps.{tells_keeps}
-use Rattle.bench_picker.proofs.zeros.Zeros.tell.Goals as goal
+use Rattle.bench.proofs.ZeroSteps.{tells_keeps}
+use Rattle.bench.proofs.picker.zeros.Zeros.tell.Goals as goal
 
 pub invariant_of-self : goal.invariant_of-self
 invariant_of-self c =

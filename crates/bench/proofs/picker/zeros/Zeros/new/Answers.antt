@@ -1,8 +1,8 @@
 use Rattle.std.proofs.Common.{◌≡◌, ◌∙◌, ap, arith, subst, sym}
 use Rattle.bt_meta.specs.Layout.{Metainfo}
 use Rattle.bt_history.specs.Setting.{Setting}
-use Rattle.bench_picker.specs.ZeroBytes.{AllZeros, IsEven}
-use Rattle.bench_picker.proofs.zeros.Zeros.new.Goals as goal
+use Rattle.bench.specs.ZeroBytes.{AllZeros, IsEven}
+use Rattle.bench.proofs.picker.zeros.Zeros.new.Goals as goal
 
 pub invariant_of-result : goal.invariant_of-result
 invariant_of-result c =

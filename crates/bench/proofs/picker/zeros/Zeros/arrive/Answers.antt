@@ -1,8 +1,8 @@
 use Rattle.std.proofs.Common.{◌∙◌}
 use Rattle.bt_history.specs.declared.event.Event.{Event}
 use Rattle.bt_history.specs.declared.event.Action.TheVariants.{Arrived}
-use Rattle.bench_picker.proofs.ZeroSteps.{tells_keeps, zeros_self}
-use Rattle.bench_picker.proofs.zeros.Zeros.arrive.Goals as goal
+use Rattle.bench.proofs.ZeroSteps.{tells_keeps, zeros_self}
+use Rattle.bench.proofs.picker.zeros.Zeros.arrive.Goals as goal
 
 pub invariant_of-self : goal.invariant_of-self
 invariant_of-self c =
