@@ -9,7 +9,7 @@ mod serial;
 mod telling;
 mod threads;
 
-pub use bt_script::{
+pub use bt_text::{
     Fault, MOST_DEPTH, conclude, describe, explain_line, play_script, print, print_entry,
     print_fault, print_info, print_replies, read_hex, run_info, run_script, script_to, tell_fault,
 };

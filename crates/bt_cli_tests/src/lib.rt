@@ -1,4 +1,4 @@
-//! The tests of `bt_script` and `bt_cli`, and of the roads of `bt_program`, in a crate of their own, so that they are checked without
+//! The tests of `bt_text` and `bt_cli`, and of the roads of `bt_program`, in a crate of their own, so that they are checked without
 //! proving those again.
 #![tactic(auto)]
 

@@ -1,6 +1,6 @@
 -- What a command line that runs sessions says, and what is wrong with it.
 use Rattle.std.specs.Prelude.{◌≡◌, ℕ, List, codes, Option, Some, None}
-use Rattle.bt_script.specs.Fields.{bytes_in}
+use Rattle.bt_text.specs.Fields.{bytes_in}
 use Rattle.bt_program.specs.declared.wrong.Wrong.{Wrong}
 use Rattle.bt_program.specs.declared.wrong.Wrong.TheVariants.{Depth, Checkers, Streams, Want, Output, OfSerial, OfRun, Lacking}
 

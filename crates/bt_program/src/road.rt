@@ -10,7 +10,7 @@ ghost use Rattle.bt_peer.specs.Serial.{stream_record};
 ghost use Rattle.bt_shared.specs.declared.gather.Book.{Book};
 ghost use Rattle.bt_text.specs.declared.fault.Fault.{Fault};
 ghost use Rattle.bt_text.specs.Info.{IsInfoFault, PrintsInfo};
-ghost use Rattle.bt_script.specs.Scripts.{Explains, IsScript, Prints};
+ghost use Rattle.bt_text.specs.Scripts.{Explains, IsScript, Prints};
 ghost use Rattle.bt_cli.specs.Runs.{IsStartFault, Ran, run_status};
 ghost use Rattle.bt_cli.specs.ThreadRuns.{IsThreadsFault, RanThreads};
 ghost use Rattle.bt_files.specs.Failures.{IsEndOf, fault_of};

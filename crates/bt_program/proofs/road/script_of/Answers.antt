@@ -1,6 +1,6 @@
 use Rattle.std.specs.Io.Buffered.{writer_contents}
 use Rattle.std.proofs.Common.{Ok}
-use Rattle.bt_script.specs.Scripts.{Prints}
+use Rattle.bt_text.specs.Scripts.{Prints}
 use Rattle.bt_program.specs.Roads.{Flushed}
 use Rattle.bt_program.proofs.Ends.{on_ok}
 use Rattle.bt_program.proofs.road.script_of.Goals as goal
