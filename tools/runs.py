@@ -14,7 +14,7 @@ DATA = "crates/bt_runs/data"
 
 
 STDIN = "crates/bt_runs/stdin"
-ARGUMENTS = "crates/bt_program/src/arguments.rt"
+ARGUMENTS = "crates/bt_cli/src/arguments.rt"
 BLOCK = 16384
 
 

@@ -1,5 +1,4 @@
-//! The tests of `bt_text` and `bt_cli`, and of the roads of `bt_program`, in a crate of their own, so that they are checked without
-//! proving those again.
+//! The tests of `bt_text` and `bt_cli` in a crate of their own, so that they are checked without proving those again.
 #![tactic(auto)]
 
 #[cfg(test)]

@@ -6,7 +6,7 @@ mod counts;
 mod decoding;
 
 use anyhow::{Context, Result};
-use bt_program::obey;
+use bt_cli::obey;
 use closed::Closed;
 use decoding::decode;
 use sha1::Sha1;
