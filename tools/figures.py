@@ -1,10 +1,9 @@
 #!/usr/bin/env python3
 """Takes the picker's figures in one sitting: picker, desk, libtorrent's picker and the same rule in plain C++, on one workload, by turns.
 
-    (cd crates/bench_picker && rt run)
-    (cd crates/bench && rt run)                          # for the desk's column; it may be left out
-    tools/libtorrent/build.sh FOLDER                     # for libtorrent's; it may be left out
-    tools/figures.py [--libtorrent FOLDER] [--halvings N] [--runs N] [PIECES ..]
+    (cd crates/bench && rt run)
+    tools/libtorrent/build.sh FOLDER                     # for libtorrent's column; it may be left out
+    tools/figures.py [--libtorrent FOLDER] [--no-desk] [--halvings N] [--runs N] [PIECES ..]
 
 Prints a table, a row for each number of pieces: 1,000, 10,000 and 100,000 where none is given. Each figure is the least of so many runs in
 fresh processes, 3 where it isn't said. The plain C++ (tools/plain) is built by the machine's g++, where there is one. Times are processor time, of an ask with its arrival but for the columns that say otherwise. Memory is the most that a
@@ -21,8 +20,7 @@ import sys
 import tempfile
 
 ROOT = os.path.dirname(os.path.dirname(os.path.abspath(__file__)))
-PICKER = os.path.join(ROOT, "crates/bench_picker/out/bench_picker")
-DESK = os.path.join(ROOT, "crates/bench/out/bench")
+BENCH = os.path.join(ROOT, "crates/bench/out/bench")
 TIME = "/usr/bin/time"
 
 
@@ -71,15 +69,15 @@ def row(pieces, plain_program, options):
     """A line of the table, of runs by turns."""
     picker, desk, other, plain = [], [], [], []
     for _ in range(options.runs):
-        text, memory = measured([PICKER, str(pieces), str(options.halvings), "51", "times"])
+        text, memory = measured([BENCH, "picker", str(pieces), str(options.halvings), "51", "times"])
         picker.append({**numbers(text), "memory": memory})
         if plain_program:
             told = output([plain_program, str(pieces), str(options.halvings), "51"])
             if told.splitlines()[0] != text.splitlines()[0]:
                 sys.exit(f"{pieces} pieces: the plain C++ makes other requests than the picker")
             plain.append(numbers(told))
-        if os.path.exists(DESK):
-            desk.append(numbers(output([DESK, str(pieces), "--density", str(options.halvings + 1), "--runs", "1"])))
+        if options.desk:
+            desk.append(numbers(output([BENCH, str(pieces), "--density", str(options.halvings + 1), "--runs", "1"])))
         if options.libtorrent:
             program = os.path.join(options.libtorrent, "bench_libtorrent")
             words = [program, str(pieces), "--opts", "strict", "--depth", "5", "--density", str(options.halvings + 1)]
@@ -100,12 +98,13 @@ def row(pieces, plain_program, options):
 def main():
     options = argparse.ArgumentParser(description=__doc__.split("\n")[0])
     options.add_argument("--libtorrent", metavar="FOLDER", help="where tools/libtorrent/build.sh built its program")
+    options.add_argument("--no-desk", dest="desk", action="store_false", help="leaves out the desk's column, whose runs hash each piece")
     options.add_argument("--halvings", type=int, default=0, help="how often the pieces of each peer are halved")
     options.add_argument("--runs", type=int, default=3)
     options.add_argument("pieces", type=int, nargs="*")
     options = options.parse_args()
-    if not os.path.exists(PICKER):
-        sys.exit("crates/bench_picker isn't built: (cd crates/bench_picker && rt run)")
+    if not os.path.exists(BENCH):
+        sys.exit("crates/bench isn't built: (cd crates/bench && rt run)")
     print("| Pieces | Picker | Desk | Plain C++ | libtorrent | Picker by libtorrent | An ask that gives nothing | A peer's way in | Memory of the picker |")
     print("|---|---|---|---|---|---|---|---|---|")
     with tempfile.TemporaryDirectory() as folder:

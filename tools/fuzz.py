@@ -19,7 +19,7 @@ import time
 
 ROOT = os.path.dirname(os.path.dirname(os.path.abspath(__file__)))
 PROGRAM = os.path.join(ROOT, "crates/piecepick/out/piecepick")
-DATA = os.path.join(ROOT, "crates/bt_runs/data")
+DATA = os.path.join(ROOT, "crates/bt_cli_tests/data")
 RECORDINGS = [
     ("single-file.torrent", ["single-file-s0-transmission.bin", "single-file-s1-aria2.bin"]),
     ("multi-file.torrent", ["multi-file-s0-libtorrent-partial.bin", "multi-file-s1-libtorrent-partial.bin", "multi-file-s2-rtorrent.bin"]),

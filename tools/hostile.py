@@ -17,8 +17,8 @@ import tempfile
 
 ROOT = os.path.dirname(os.path.dirname(os.path.abspath(__file__)))
 PROGRAM = os.path.join(ROOT, "crates/piecepick/out/piecepick")
-TORRENT = os.path.join(ROOT, "crates/bt_runs/data/single-file.torrent")
-RECORDED = os.path.join(ROOT, "crates/bt_runs/data/single-file-s0-transmission.bin")
+TORRENT = os.path.join(ROOT, "crates/bt_cli_tests/data/single-file.torrent")
+RECORDED = os.path.join(ROOT, "crates/bt_cli_tests/data/single-file-s0-transmission.bin")
 MILLION = 1_000_000
 LARGEST = 2**32 - 1
 BLOCK = 16384

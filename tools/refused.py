@@ -29,7 +29,7 @@ import threading
 
 ROOT = os.path.dirname(os.path.dirname(os.path.abspath(__file__)))
 PROGRAM = os.path.join(ROOT, "crates/piecepick/out/piecepick")
-DATA = os.path.join(ROOT, "crates/bt_runs/data")
+DATA = os.path.join(ROOT, "crates/bt_cli_tests/data")
 KINDS = ("alloc", "read", "write", "thread")
 TESTED = ("bt_parts_tests", "bt_picker_tests", "bt_session_tests", "bt_cli_tests")
 # What a test says that ends by an error of its own, and not by an assertion; there was no memory for a thread either.

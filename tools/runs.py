@@ -1,5 +1,5 @@
 #!/usr/bin/env python3
-"""Writes the made-up metainfo files and streams of crates/bt_runs from parts that are put together by hand.
+"""Writes the made-up metainfo files and streams of crates/bt_cli_tests from parts that are put together by hand.
 
 A stream is a peer's handshake and its messages (BEP 3): bitfield, unchoke, and pieces of one block each. The metainfo files of `info`
 are spelled out, with the fault that each has. The infohashes of those that have none are printed, as hashlib has them. Run it from the
@@ -10,11 +10,11 @@ import hashlib
 import os
 import subprocess
 
-DATA = "crates/bt_runs/data"
+DATA = "crates/bt_cli_tests/data"
 
 
-STDIN = "crates/bt_runs/stdin"
-ARGUMENTS = "crates/bt_program/src/arguments.rt"
+STDIN = "crates/bt_cli_tests/stdin"
+ARGUMENTS = "crates/bt_cli/src/arguments.rt"
 BLOCK = 16384
 
 

@@ -1,4 +1,4 @@
-// Measures libtorrent-rasterbar's piece_picker alone on the workload of crates/bench_picker/README.md. One run, one process, one thread.
+// Measures libtorrent-rasterbar's piece_picker alone on the workload of crates/bench/README.md. One run, one process, one thread.
 //   bench_libtorrent P [--blocks 16] [--peers 50] [--density 1] [--depth 0] [--opts strict|default] [--classes] [--repeat N] [--trace FILE]
 #include "libtorrent/piece_picker.hpp"
 #include "libtorrent/bitfield.hpp"

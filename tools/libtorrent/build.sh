@@ -1,5 +1,5 @@
 #!/bin/sh
-# Builds bench_libtorrent: libtorrent-rasterbar 2.0.11's picker alone, on the workload of crates/bench_picker/README.md. Takes Debian's source package of the
+# Builds bench_libtorrent: libtorrent-rasterbar 2.0.11's picker alone, on the workload of crates/bench/README.md. Takes Debian's source package of the
 # suite trixie and boost's headers by a private apt folder, so that the machine's own settings stay; about half a minute after the download.
 # usage: build.sh FOLDER
 set -eu

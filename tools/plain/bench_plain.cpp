@@ -1,5 +1,5 @@
 // The picker's rule with its tables in plain C++, with nothing proved: how fast the same steps go without the checks of a library. It plays the
-// workload of crates/bench_picker/README.md, makes the same requests, and prints the same counts and times.
+// workload of crates/bench/README.md, makes the same requests, and prints the same counts and times.
 //
 //     g++ -std=c++17 -O2 -march=x86-64-v2 -o bench_plain tools/plain/bench_plain.cpp
 //     ./bench_plain [PIECES [HALVINGS [PEERS]]]

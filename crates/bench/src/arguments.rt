@@ -11,6 +11,12 @@ const MOST_THREADS: i64 = 64;
 
 const MOST_PAIRS: i64 = 1_000_000;
 
+/// What stands at the end of the help.
+const OF_PICKER: &str = "\
+Behind the word `picker` stands what is asked of the picker that keeps no content, with nothing hashed: five numbers,
+the order `levels`, `order` or `stream`, and `times`. The numbers are of pieces, halvings of what a peer shows, peers,
+blocks asked of a peer at a time, and askers of a block in endgame. Each may be left out, numbers from the end.";
+
 /// What the program is asked for.
 #[derive(Clone, Copy)]
 pub struct Arguments<'a> {
@@ -35,6 +41,7 @@ pub fn command<'a>(alloc: Global) -> Result<Command<'a>, AllocError> {
 fn named<'a>(alloc: Global) -> Command<'a> {
     Command::new(alloc, "bench")
         .about("Times the picker: a whole download from 51 peers, block by block")
+        .after_help(OF_PICKER)
         .arg_required_else_help(true)
 }
 

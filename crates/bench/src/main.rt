@@ -1,5 +1,5 @@
-//! A benchmark of the picker: a whole download from a swarm of 51 peers, asked block by block, or each kind of call alone; and of the desk
-//! that threads share.
+//! A benchmark of the desk: a whole download from a swarm of 51 peers, asked block by block, or each kind of call alone; of the desk that
+//! threads share; and of the picker that keeps no content.
 #![tactic(auto)]
 
 mod arguments;
@@ -7,6 +7,7 @@ mod calls;
 mod download;
 mod figures;
 mod mix;
+mod picker;
 mod stretches;
 mod swarm;
 mod threads;
@@ -16,6 +17,7 @@ use arguments::{Arguments, command, read};
 use calls::{Table, time_calls};
 use download::{Counts, Download};
 use figures::{CountLine, TimeLine, Times, hash_time, peak_memory, play};
+use picker::time_picker;
 use std::process::ExitCode;
 use std::rt::Runtime;
 use std::sync::Wait;
@@ -28,6 +30,9 @@ use threads::time_threads;
 
 /// The status where the arguments are wrong.
 const WRONG_ARGUMENTS: u8 = 2;
+
+/// The words from this one on are for the picker alone.
+const PICKER: &str = "picker";
 
 fn main(rt: HostRuntime) -> ExitCode {
     match obey(&rt) {
@@ -47,22 +52,37 @@ fn obey<R: Runtime + AllocGlobal + CpuClock + Clock + Threads + Wait + Sync>(
     obey_words(rt, &words)
 }
 
-/// Does what these words say, the first of them being the program's name.
+/// Does what these words say, the first of them being the program's name: times the desk, and then the picker.
 fn obey_words<R: Runtime + AllocGlobal + CpuClock + Clock + Threads + Wait + Sync>(
     rt: &R,
     words: &[String],
 ) -> Result<ExitCode> {
-    match command(rt.alloc())?.try_get_matches_from(words) {
-        Ok(matches) => time(rt, &read(&matches)),
-        Err(error) => refuse(rt, &error),
+    let (desk, picker) = parts(words);
+    if desk.len() > 1 || picker.is_none() {
+        match command(rt.alloc())?.try_get_matches_from(desk) {
+            Ok(matches) => time(rt, &read(&matches))?,
+            Err(error) => return refuse(rt, &error),
+        }
+    }
+    if let Some(words) = picker {
+        time_picker(rt, words)?;
+    }
+    Ok(ExitCode::SUCCESS)
+}
+
+/// The words before `picker`, and those from it on, where it is one of them.
+fn parts(words: &[String]) -> (&[String], Option<&[String]>) {
+    match words.iter().position(|word| word.as_str() == PICKER) {
+        Some(place) => (&words[..place], Some(&words[place..])),
+        None => (words, None),
     }
 }
 
-/// Times what is asked for.
+/// Times what is asked for of the desk.
 fn time<R: Runtime + AllocGlobal + CpuClock + Clock + Threads + Wait + Sync>(
     rt: &R,
     arguments: &Arguments<'_>,
-) -> Result<ExitCode> {
+) -> Result<()> {
     if arguments.calls {
         time_each_call(rt, arguments)?;
     } else {
@@ -71,7 +91,7 @@ fn time<R: Runtime + AllocGlobal + CpuClock + Clock + Threads + Wait + Sync>(
     if let Some(crowd) = arguments.crowd {
         time_threads(rt, crowd)?;
     }
-    Ok(ExitCode::SUCCESS)
+    Ok(())
 }
 
 /// Prints what is wrong with the command line, or the help that it asks for.

@@ -1,2 +1,3 @@
 pub mod Numbered
 pub mod Runs
+pub mod Ends

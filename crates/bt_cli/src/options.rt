@@ -6,7 +6,7 @@ ghost use Rattle.bt_cli.specs.Runs.{IsOptionFault, IsWant, IsWantFault, want_of}
 
 use bt_meta::Bitfield;
 use bt_picker::Rules;
-use bt_script::Fault;
+use bt_text::Fault;
 use std::alloc::Global;
 
 /// What a command that runs sessions is asked for.

@@ -10,8 +10,8 @@ ghost use Rattle.bt_cli.specs.Reports.{report_text, session_fault_number};
 
 use bt_meta::{DeviceFault, Sink};
 use bt_picker::Desk;
-use bt_script::{print, print_number};
 use bt_session::{End, SessionFault};
+use bt_text::{print, print_number};
 
 /// The number by which the end of a session is told.
 pub fn session_fault_number(fault: SessionFault) -> u8

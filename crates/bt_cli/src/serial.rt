@@ -13,8 +13,8 @@ use crate::options::{Options, fitting};
 use crate::telling::{Outcome, run_status, tell};
 use bt_meta::{Sink, Source, Torrent};
 use bt_picker::Desk;
-use bt_script::{Fault, MOST_DEPTH};
 use bt_session::{End, MOST_STREAMS, SerialRun, SessionFault, Stream, serial};
+use bt_text::{Fault, MOST_DEPTH};
 use std::alloc::Global;
 use std::sync::Arc;
 

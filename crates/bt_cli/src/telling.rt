@@ -12,8 +12,8 @@ use crate::options::Options;
 use crate::report::{Judged, print_report};
 use bt_meta::{DeviceFault, Sink, Torrent};
 use bt_picker::{AuditFault, Desk, Rules, audit};
-use bt_script::{Fault, print_journal};
 use bt_session::{End, SessionFault};
+use bt_text::{Fault, print_journal};
 use std::alloc::Global;
 
 /// The status of a run that isn't complete.

@@ -17,11 +17,11 @@ ghost use Rattle.bt_cli.specs.ThreadRuns.{IsThreadsFault, RanThreads, of_swarm};
 use crate::options::{Options, fit_random};
 use crate::telling::{Outcome, run_status, tell};
 use bt_meta::{Sink, Source, Torrent};
-use bt_script::{Fault, MOST_DEPTH};
 use bt_session::{
     End, MOST_CHECKERS, MOST_STREAMS, OpenGate, SessionFault, Stream, SwarmFault, SwarmRun, swarm,
 };
 use bt_shared::Book;
+use bt_text::{Fault, MOST_DEPTH};
 use std::sync::{Arc, Wait};
 use std::thread::Threads;
 

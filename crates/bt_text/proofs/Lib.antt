@@ -1,3 +1,9 @@
 pub mod Written
 pub mod Hexadecimal
 pub mod JournalLines
+pub mod Counts
+pub mod Digits
+pub mod Numbers
+pub mod PlayedLines
+pub mod Results
+pub mod Taken

@@ -2,3 +2,9 @@ pub mod Statuses
 pub mod Texts
 pub mod Info
 pub mod Journals
+pub mod Fields
+pub mod Lines
+pub mod Setups
+pub mod RulesLines
+pub mod Scripts
+pub mod PlayedLines

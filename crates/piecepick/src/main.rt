@@ -1,7 +1,7 @@
-//! The program `piecepick`: hands its command line and its standard streams to `bt_program`.
+//! The program `piecepick`: hands its command line and its standard streams to `bt_cli`.
 #![tactic(auto)]
 
-use bt_program::{Failure, ToWrite, WRONG_ARGUMENTS, conclude, obey};
+use bt_cli::{Failure, ToWrite, WRONG_ARGUMENTS, conclude, obey};
 use std::process::ExitCode;
 use std::rt::Runtime;
 use std::{env, io};

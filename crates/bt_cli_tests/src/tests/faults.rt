@@ -3,7 +3,7 @@
 use super::scripts::{in_memory, page, ran};
 use bt_expect::{same, same_for};
 use bt_meta::{BitFault, MetaFault};
-use bt_script::*;
+use bt_text::*;
 use std::alloc::{AllocError, Global};
 use std::test::*;
 

@@ -4,7 +4,7 @@ use super::scripts::page;
 use bt_expect::same;
 use bt_meta::{BitFault, Bitfield, Block, ToWrite};
 use bt_picker::{Call, Entry, Reason, Reply};
-use bt_script::print_entry;
+use bt_text::print_entry;
 use bytes::Bytes;
 use std::alloc::Global;
 use std::test::*;

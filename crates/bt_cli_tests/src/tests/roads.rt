@@ -4,9 +4,8 @@ ghost use Rattle.std.specs.Prelude.{◌≡◌};
 
 use super::saving::Kept;
 use super::serial::{FILE, FRAMES, INFOHASH, Recorded, recorded, stream, usual};
-use bt_cli::Fault;
+use bt_cli::*;
 use bt_expect::same;
-use bt_program::*;
 use std::alloc::{AllocError, Global};
 use std::io::BufWriter;
 use std::test::*;

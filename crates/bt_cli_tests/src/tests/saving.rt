@@ -37,7 +37,7 @@ impl Kept {
     }
 }
 
-impl bt_program::Kept for Kept {
+impl bt_cli::Kept for Kept {
     fn reason(&self) -> io::Error {
         // Once it is made it fails for want of memory alone.
         io::Error::from(if self.made {

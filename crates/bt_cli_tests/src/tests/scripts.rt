@@ -4,7 +4,7 @@ use super::examples::{EXAMPLES, Example};
 use super::picks::PICKS;
 use super::settings::SETTINGS;
 use bt_expect::{same, same_for};
-use bt_script::*;
+use bt_text::*;
 use std::alloc::{AllocError, Global};
 use std::fmt::Write;
 use std::io::Cursor;

@@ -1,5 +1,5 @@
 //! The command `serial` with an output that is full, and what the tests of runs share. Its reports and statuses are those of whole command
-//! lines, in `bt_runs`.
+//! lines, in `bt_cli_tests`.
 
 ghost use Rattle.std.specs.Prelude.{◌≡◌, ◌≤◌};
 

@@ -1,5 +1,5 @@
 //! The command `run`: sessions in threads, with the report of a run in one thread. Its statuses are those of whole command lines, in
-//! `bt_runs`.
+//! `data/commands`.
 
 ghost use Rattle.std.specs.Prelude.{◌≤◌, length};
 

@@ -1,4 +1,4 @@
-//! Metainfo files that are none, with the part at fault. Files that are some, and the numbers of the faults, are described in `bt_runs`.
+//! Metainfo files that are none, with the part at fault. Files that are some, and the numbers of the faults, are described in `bt_cli_tests`.
 
 use super::samples::{MULTI_FILE, SINGLE_FILE};
 use bt_bencode::BenFault;

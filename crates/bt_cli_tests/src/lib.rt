@@ -1,6 +1,0 @@
-//! The tests of `bt_script` and `bt_cli`, and of the roads of `bt_program`, in a crate of their own, so that they are checked without
-//! proving those again.
-#![tactic(auto)]
-
-#[cfg(test)]
-mod tests;

@@ -1,0 +1,10 @@
+use Rattle.std.proofs.Common.{arith, map}
+use Rattle.std.proofs.Math.ListN.{length-map}
+use Rattle.std.proofs.lemmas.Bool.Decides.{nat_tests}
+use Rattle.bt_text.proofs.Counts.{command_in-many}
+use Rattle.bt_text.proofs.script.line.read_command.Goals as goal
+
+pub returns-in_default : goal.returns-in_default
+returns-in_default c =
+    let texts = map (λ x. x.now) c.args.arguments.now in
+    command_in-many c.args.word.now texts (simp length-map (grind (arith, nat_tests)))
