@@ -5,7 +5,7 @@ ghost use Rattle.std.specs.List.{concat};
 ghost use Rattle.sha1.specs.Sha1.{sha1};
 ghost use Rattle.bt_check.specs.Checked.{lengths};
 
-use bt_lanes::FourDigests;
+use crate::four::FourDigests;
 use bytes::Bytes;
 
 /// Whether the blocks are equally many and equally long, block by block.

@@ -22,7 +22,7 @@ use Rattle.bt_tables.specs.Standings.{first_group, group_of_row, stage_of_row, i
 use Rattle.bt_picker.proofs.Levelled.{Covers}
 use Rattle.bt_picker.proofs.Stages.{begun_stage, place_listed}
 use Rattle.bt_picker.specs.Search.{DoublesNone, FindsAmong, FindsListed, FindsOf}
-use Rattle.bt_order.specs.Orders.{at, ListsGroup}
+use Rattle.bt_tables.specs.Orders.{at, ListsGroup}
 use Rattle.bt_picker.proofs.Scans.{finds_in_piece, none_in_pieces}
 use Rattle.bt_tables.proofs.Tabled.{length_table, table_more}
 use Rattle.bt_picker.proofs.Telling.{unchosen, wanted_chosen, full_row, all_touched_row, cells_long, counted_all, held_counted}

@@ -12,7 +12,7 @@ use Rattle.bt_history.specs.Pieces.{had, held_or_asked, interesting, lacks, leve
 use Rattle.bt_history.specs.declared.event.Action.TheVariants.{Have, Haves}
 use Rattle.bt_history.specs.Legal.{IsLegal, interesting_after}
 use Rattle.bt_history.proofs.Below.{any_fails, any_found, any_same, any_witness}
-use Rattle.bt_order.specs.Orders.{ListsGroup}
+use Rattle.bt_tables.specs.Orders.{ListsGroup}
 use Rattle.bt_picker.specs.Search.{FindsLeast, FindsListed, IsLevel, LacksNone, is_candidate_at, rank_of}
 use Rattle.bt_tables.specs.Standings.{first_group, stage_of_row}
 use Rattle.bt_picker.specs.Tables.{groups_of, piece_of}

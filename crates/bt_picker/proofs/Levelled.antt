@@ -18,7 +18,7 @@ use Rattle.bt_history.proofs.Below.{all_fails, all_found, any_fails, any_found, 
 use Rattle.bt_history.proofs.HeldLaws.{had_full}
 use Rattle.bt_history.proofs.Levels.{top_above}
 use Rattle.bt_history.proofs.LineLaws.{block_is_block, some_found}
-use Rattle.bt_order.specs.Orders.{at}
+use Rattle.bt_tables.specs.Orders.{at}
 use Rattle.bt_tables.specs.Standings.{ListsOpen, first_group, group_of_row, stage_of_row}
 use Rattle.bt_picker.specs.Search.{Finds, FindsLeast, FindsListed, FindsOf, IsLevel, NoneAbove, NoneAt, goes_on, is_candidate_at, lesser_of}
 use Rattle.bt_picker.specs.Search.{rank_of, shows_at}

@@ -13,7 +13,7 @@ use Rattle.bt_history.specs.Pieces.{availability, level}
 use Rattle.bt_history.specs.Legal.{IsLegal}
 use Rattle.bt_history.specs.Next.{is_candidate}
 use Rattle.bt_history.proofs.Below.{count_most}
-use Rattle.bt_order.specs.Orders.{at, ListsGroup}
+use Rattle.bt_tables.specs.Orders.{at, ListsGroup}
 use Rattle.bt_tables.specs.Standings.{first_group, stage_of_row}
 use Rattle.bt_picker.specs.Search.{FindsLeast, FindsListed, FindsRarest, IsLevel, NoneBefore, NoneRarer, is_candidate_at, rank_of}
 use Rattle.bt_picker.specs.Tables.{groups_of, piece_of}

@@ -12,7 +12,7 @@ use Rattle.bt_history.specs.Pieces.{had, held_or_asked, availability, chosen, le
 use Rattle.bt_history.specs.Legal.{IsLegal}
 use Rattle.bt_history.specs.Next.{is_candidate}
 use Rattle.bt_history.proofs.Levels.{level_bounded}
-use Rattle.bt_order.specs.Orders.{at, ListsGroup}
+use Rattle.bt_tables.specs.Orders.{at, ListsGroup}
 use Rattle.bt_tables.specs.Standings.{ListsOpen, first_group, group_of_row, slot_of, shown_stage, stage_of, stage_of_row}
 use Rattle.bt_tables.proofs.Apart.{level_cases, slot_above, slot_below, slot_few, slot_usual}
 use Rattle.bt_tables.proofs.Tabled.{get_or_table, length_table}

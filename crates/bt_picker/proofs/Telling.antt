@@ -16,7 +16,7 @@ use Rattle.bt_picker.specs.Tables.{piece_of, cell_of}
 use Rattle.bt_picker.specs.Search.{FindsListed, FindsRarest, IsRarer}
 use Rattle.bt_tables.specs.Standings.{is_held, is_touched, held_count, touched_count, shown_stage, stage_of_row}
 use Rattle.bt_tables.proofs.Tabled.{table_more, length_table}
-use Rattle.bt_order.specs.Orders.{at}
+use Rattle.bt_tables.specs.Orders.{at}
 use Rattle.bt_picker.proofs.Cells.{any_counted, asked_counted}
 
 -- ---- counts of tables

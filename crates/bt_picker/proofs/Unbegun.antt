@@ -13,7 +13,7 @@ use Rattle.bt_history.specs.History.{History}
 use Rattle.bt_history.specs.Legal.{IsLegal}
 use Rattle.bt_history.specs.Pieces.{availability, chosen, had, held_or_asked, level, unasked, unbegun, wanted}
 use Rattle.bt_history.proofs.Below.{count_none, count_same, sum_same}
-use Rattle.bt_order.specs.Orders.{at, ListsGroup}
+use Rattle.bt_tables.specs.Orders.{at, ListsGroup}
 use Rattle.bt_picker.specs.Tables.{AreTables, piece_of, groups_of}
 use Rattle.bt_tables.specs.Tables.{PieceState, TablesState}
 use Rattle.bt_tables.specs.Standings.{first_group, group_of_row, standing_of, touched_count}

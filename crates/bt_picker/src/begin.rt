@@ -4,7 +4,7 @@ ghost use Rattle.bt_meta.specs.Layout.{piece_count};
 ghost use Rattle.bt_history.specs.Peers.{shows};
 ghost use Rattle.bt_history.specs.Pieces.{availability, level};
 ghost use Rattle.bt_history.specs.Next.{is_candidate};
-ghost use Rattle.bt_order.specs.Orders.{at, ListsGroup};
+ghost use Rattle.bt_tables.specs.Orders.{at, ListsGroup};
 ghost use Rattle.bt_picker.specs.Search.{FindsListed, FindsRarest, IsLevel, IsRarer, FindsLeast, NoneRarer, is_candidate_at, rank_of};
 ghost use Rattle.bt_picker.specs.Tables.{groups_of};
 

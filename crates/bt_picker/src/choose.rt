@@ -8,8 +8,8 @@ ghost use Rattle.bt_history.specs.Setting.{each_block, each_block_of, is_block, 
 ghost use Rattle.bt_history.specs.Peers.{asked, asked_count, depth_of, due, shows};
 ghost use Rattle.bt_history.specs.Pieces.{asker_count, endgame, had_count, held, held_or_asked, interesting, level, unasked, wanted};
 ghost use Rattle.bt_history.specs.Next.{continues, doubles, next_answer, rises, starts, usable};
-ghost use Rattle.bt_order.specs.Orders.{at};
-ghost use Rattle.bt_order.specs.Risings.{Rises};
+ghost use Rattle.bt_tables.specs.Orders.{at};
+ghost use Rattle.bt_tables.specs.Risings.{Rises};
 ghost use Rattle.bt_picker.specs.Search.{FindsListed, Finds, FindsOf, IsLevel, IsRuling, LacksNone, MayAsk, NoneAbove, NoneAt};
 ghost use Rattle.bt_picker.specs.Search.{goes_on, lesser_of, shows_at};
 

@@ -8,7 +8,7 @@ ghost use Rattle.bt_history.specs.Legal.{place_at};
 ghost use Rattle.bt_history.specs.Peers.{asked, has_place};
 ghost use Rattle.bt_history.specs.Pieces.{asker_count, endgame, held};
 ghost use Rattle.bt_history.specs.Next.{doubles};
-ghost use Rattle.bt_order.specs.Orders.{at};
+ghost use Rattle.bt_tables.specs.Orders.{at};
 ghost use Rattle.bt_picker.specs.Search.{DoublesNone, Finds, FindsAmong, FindsFirst, FindsOf, IsLevel, has_room, has_room_for};
 
 use crate::position::Position;

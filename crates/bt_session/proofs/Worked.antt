@@ -7,10 +7,10 @@ use Rattle.bt_peer.specs.Serial.{StreamRecord}
 use Rattle.bt_peer.specs.SessionTerms.{TermsState}
 use Rattle.bt_session.proofs.Rows.{at_first, at_last, at_second}
 use Rattle.bt_session.specs.Checking.{CheckersWork, EachMakesChecks}
-use Rattle.bt_worker.specs.Checking.{MakesChecks}
+use Rattle.bt_session.specs.PieceChecks.{MakesChecks}
 use Rattle.bt_session.specs.Swarms.{EachPlays}
-use Rattle.bt_worker.specs.Runs.{ChecksLast, Plays}
-use Rattle.bt_worker.specs.Workers.{WorkerState}
+use Rattle.bt_session.specs.Runs.{ChecksLast, Plays}
+use Rattle.bt_session.specs.Workers.{WorkerState}
 
 -- how the workers were parted, and put together again
 pub record Parted (n m : ℕ) (all all' sessions checkers played checked : List WorkerState) (last last' : WorkerState) : Type 0 where

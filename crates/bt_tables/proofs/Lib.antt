@@ -15,3 +15,5 @@ pub mod Striped
 pub mod Showing
 pub mod Spelled
 pub mod Fronts
+pub mod Moves
+pub mod Places

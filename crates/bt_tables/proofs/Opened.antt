@@ -4,8 +4,8 @@ use Rattle.std.proofs.Common.{◌≡◌, ◌==◌, ◌<◌, ℕ, Bool, true, fal
 use Rattle.std.proofs.Common.{subst, arith, length-set, ⊎_elim, true≢false, eqb-true, eq-eqb, ne_eqb}
 use Rattle.std.proofs.lemmas.Bool.{cases_eq}
 use Rattle.std.proofs.lemmas.List.{get_or-set_same, get_or-set_other}
-use Rattle.bt_order.specs.Orders.{at}
-use Rattle.bt_order.specs.Risings.{IsIn, Puts}
+use Rattle.bt_tables.specs.Orders.{at}
+use Rattle.bt_tables.specs.Risings.{IsIn, Puts}
 use Rattle.bt_tables.specs.Standings.{AreOpen, stage_of}
 
 pub agree : (x y : Bool) → not (beq x y) ≡ false → x ≡ y

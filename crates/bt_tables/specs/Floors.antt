@@ -1,6 +1,6 @@
 -- From which level, and from how few peers on, the search for a rarest piece has to look. No public clause of the picker cites this module.
 use Rattle.std.specs.Prelude.{ℕ, ◌+◌, ◌-◌, ◌*◌, ◌≡◌, ◌≢◌, ◌<◌, ◌≤◌, ◌==◌, ◌&&◌, ◌⊎◌, ⊤, Bool, true, false, not, List, length, slice_index_or}
-use Rattle.bt_order.specs.Orders.{at}
+use Rattle.bt_tables.specs.Orders.{at}
 use Rattle.std.specs.List.{count_by}
 use Rattle.bt_history.specs.declared.call.Reply.{Reply}
 use Rattle.bt_history.specs.declared.call.Reply.TheVariants.{Idle, NothingLeft, Request}

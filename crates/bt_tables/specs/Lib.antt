@@ -5,3 +5,5 @@ pub mod Floors
 pub mod Apart
 pub mod Stripes
 pub mod Showing
+pub mod Orders
+pub mod Risings

@@ -8,8 +8,8 @@ use Rattle.bt_tables.specs.declared.piece.Standing.{Standing}
 use Rattle.bt_history.specs.declared.rules.TheConstants.{MOST_LEVEL, USUAL_LEVEL}
 use Rattle.bt_tables.specs.declared.piece.TheConstants.{ASKED_OUT, CROWD, OPEN, RESTING, SPAN, UNBEGUN}
 use Rattle.bt_tables.specs.Tables.{CellState, PieceState, empty_cell, one_if, piece_row}
-use Rattle.bt_order.specs.Orders.{at}
-use Rattle.bt_order.specs.Risings.{IsIn}
+use Rattle.bt_tables.specs.Orders.{at}
+use Rattle.bt_tables.specs.Risings.{IsIn}
 
 -- what the word of a cell says: a block that is held is asked of nobody, and the word says who brought it
 abbrev pub word_kept : ℕ → CellState

@@ -1,7 +1,7 @@
 //! From which level, and from how few peers on, each peer's search for a rarest piece has to look.
 
 ghost use Rattle.std.specs.Prelude.{◌≡◌, ◌<◌, ◌≤◌, ◌-◌, ℕ, false, length, max, replicate, slice_index_or, slice_set, IfOk};
-ghost use Rattle.bt_order.specs.Orders.{at};
+ghost use Rattle.bt_tables.specs.Orders.{at};
 ghost use Rattle.bt_tables.specs.Floors.{AreFloors, AreFloorsBeside, AreLowered};
 ghost use Rattle.bt_tables.specs.Tables.{peer_row};
 

@@ -1,4 +1,5 @@
 //! What a piece picker answers from: a row for each peer and for each piece, the groups that the pieces stand in, their sums, and floors.
+//! Groups (`Order`) and sets (`Rising`) are of numbers below a bound, and know no pieces.
 //!
 //! It keeps what the calls make of these rows, and answers what is read of them. It may never touch a byte of a block, a journal or a
 //! history: neither its code nor its contracts name one. Which call may change what is for the crate above to know.
@@ -8,10 +9,12 @@ mod cell;
 mod counts;
 mod floors;
 mod haves;
+mod order;
 mod peer;
 mod peers;
 mod piece;
 mod pieces;
+mod rising;
 mod rows;
 mod shelf;
 mod shows;
@@ -20,8 +23,10 @@ mod sweep;
 mod tables;
 
 pub use cell::{Cell, HELD};
+pub use order::Order;
 pub use peer::Peer;
 pub use piece::{
     ASKED_OUT, CROWD, GROUPS, OPEN, Piece, RANKS, RESTING, SPAN, UNBEGUN, first_group, rank,
 };
+pub use rising::Rising;
 pub use tables::Tables;

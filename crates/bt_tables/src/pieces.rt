@@ -3,8 +3,8 @@
 ghost use Rattle.std.specs.Prelude.{◌≡◌, ◌<◌, ◌≤◌, ◌+◌, ◌^◌, ℕ, true, false, length, IfOk, map, min, if◌then◌else◌};
 ghost use Rattle.std.specs.List.{count_by, sum_by};
 ghost use Rattle.bt_meta.specs.Layout.{block_count, piece_count};
-ghost use Rattle.bt_order.specs.Orders.{at, ListsGroup};
-ghost use Rattle.bt_order.specs.Risings.{IsRising};
+ghost use Rattle.bt_tables.specs.Orders.{at, ListsGroup};
+ghost use Rattle.bt_tables.specs.Risings.{IsRising};
 ghost use Rattle.bt_tables.specs.Floors.{NoneFresh, rank_of_row};
 ghost use Rattle.bt_tables.specs.Standings.{ListsOpen, TellsRest, apart, group_of_row, standing_of};
 ghost use Rattle.bt_history.specs.Counting.{table};

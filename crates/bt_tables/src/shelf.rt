@@ -1,13 +1,14 @@
 //! How all pieces stand to each other: in groups, in the list of the open ones, and in sums.
 
 ghost use Rattle.std.specs.Prelude.{◌≡◌, ◌<◌, ◌≤◌, ◌+◌, ◌-◌, ◌^◌, ℕ, true, length, replicate, slice_set, slice_index_or, IfOk};
-ghost use Rattle.bt_order.specs.Orders.{at, ListsGroup};
-ghost use Rattle.bt_order.specs.Risings.{IsRising};
+ghost use Rattle.bt_tables.specs.Orders.{at, ListsGroup};
+ghost use Rattle.bt_tables.specs.Risings.{IsRising};
 ghost use Rattle.bt_tables.specs.Standings.{IsFiled, ListsOpen, ShelfState, lowered_group, raised_group, stage_of};
 ghost use Rattle.bt_tables.specs.Tables.{one_if};
 
+use crate::order::Order;
 use crate::piece::{CROWD, GROUPS, OPEN, SPAN, Standing, UNBEGUN};
-use bt_order::{Order, Rising};
+use crate::rising::Rising;
 use std::alloc::{AllocError, Global};
 use std::marker::Model;
 

@@ -5,7 +5,7 @@ ghost use Rattle.bt_c.specs.Digests.{PutsDigests, TellsDigests, digests_of};
 
 use super::tell::tell_done;
 use crate::fault::Fault;
-use bt_lanes::hash_four;
+use bt_check::hash_four;
 
 /// Writes the digests into the room, one behind the other.
 fn put_digests(digests: &[[u8; 20]; 4], room: &mut [u8])

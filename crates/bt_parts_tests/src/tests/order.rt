@@ -2,7 +2,7 @@
 
 ghost use Rattle.std.specs.Prelude.{◌≡◌, ◌<◌};
 
-use bt_order::Order;
+use bt_tables::Order;
 use std::process::Abort;
 use std::test::*;
 

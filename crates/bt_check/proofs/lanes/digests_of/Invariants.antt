@@ -1,6 +1,6 @@
 use Rattle.std.proofs.Common.{take}
 use Rattle.std.specs.List.{concat}
-use Rattle.bt_lanes.specs.Holding.{Holds}
+use Rattle.bt_check.specs.Holding.{Holds}
 use Rattle.bt_check.proofs.lanes.digests_of.Given as goal
 
 -- each lane holds the blocks so far of its list

@@ -1,5 +1,5 @@
 use Rattle.std.proofs.Common.{arith, ◌+◌, ◌≡◌, ℕ, map, subst}
-use Rattle.bt_order.specs.Orders.{ListsGroup}
+use Rattle.bt_tables.specs.Orders.{ListsGroup}
 use Rattle.bt_tables.specs.Standings.{first_group, group_of_row}
 use Rattle.bt_picker.proofs.Unbegun.{group_unbegun_of}
 use Rattle.bt_picker.proofs.picker.Picker.group_at.Goals as goal

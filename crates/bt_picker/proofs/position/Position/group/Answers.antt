@@ -1,5 +1,5 @@
 use Rattle.std.proofs.Common.{◌≡◌, ◌∙◌, ap, List, ℕ, map, subst}
-use Rattle.bt_order.specs.Orders.{ListsGroup}
+use Rattle.bt_tables.specs.Orders.{ListsGroup}
 use Rattle.bt_picker.specs.Positions.{DeskState}
 use Rattle.bt_tables.specs.Standings.{group_of_row}
 use Rattle.bt_picker.specs.Tables.{groups_of}

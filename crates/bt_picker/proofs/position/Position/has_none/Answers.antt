@@ -1,5 +1,5 @@
 use Rattle.std.proofs.Common.{◌≡◌, ◌∙◌, ap, List, ℕ, map, arith}
-use Rattle.bt_order.specs.Orders.{at}
+use Rattle.bt_tables.specs.Orders.{at}
 use Rattle.bt_tables.specs.Standings.{group_of_row}
 use Rattle.bt_tables.proofs.Tabled.{map_table}
 use Rattle.bt_picker.proofs.Stages.{group_at}

@@ -1,6 +1,6 @@
 use Rattle.std.proofs.Common.{refl}
 use Rattle.bt_history.specs.Peers.{shows}
-use Rattle.bt_order.specs.Orders.{at}
+use Rattle.bt_tables.specs.Orders.{at}
 use Rattle.bt_picker.proofs.Telling.{listed_step}
 use Rattle.bt_picker.proofs.position.Position.nearest_shown.Goals as goal
 

@@ -2,7 +2,7 @@ use Rattle.std.proofs.Common.{◌≡◌, ◌⊎◌, ◌+◌, ◌<◌, ◌≤◌,
 use Rattle.std.specs.Prelude.{min}
 use Rattle.std.proofs.Math.Nat.{min-eq_left, min-eq_right}
 use Rattle.std.proofs.lemmas.Bool.{cases_lt}
-use Rattle.bt_order.specs.Orders.{ListsGroup}
+use Rattle.bt_tables.specs.Orders.{ListsGroup}
 use Rattle.bt_tables.specs.Standings.{first_group}
 use Rattle.bt_picker.specs.Tables.{groups_of}
 use Rattle.bt_picker.proofs.Rarest.{rarest_found, rarest_more, crowd_found}

@@ -1,4 +1,4 @@
-use Rattle.std.proofs.Common.{◌≡◌, ◌<◌, ◌≤◌, ◌+◌, ◌-◌, ◌*◌, ◌^◌, ◌∙◌, ◌++◌, ◌∷◌, [], ℕ, List, ap, arith, get_or, length, map, min, refl}
+use Rattle.std.proofs.Common.{◌≡◌, ◌<◌, ◌≤◌, ◌+◌, ◌-◌, ◌*◌, ◌^◌, ◌∙◌, ◌++◌, ◌∷◌, [], ℕ, List, ap, arith, length, map}
 use Rattle.std.proofs.Common.{replicate, subst}
 use Rattle.std.proofs.Common.{sym, take}
 use Rattle.std.specs.List.{sum_by}
@@ -6,7 +6,7 @@ use Rattle.std.proofs.lemmas.List.{length-append, length-map, length-replicate, 
 use Rattle.std.proofs.lemmas.List.Sums.{sum_by_push}
 use Rattle.bt_meta.specs.Layout.{IsLayout, Layout, block_count, piece_count}
 use Rattle.bt_history.specs.Counting.{table}
-use Rattle.bt_order.specs.Orders.{at}
+use Rattle.bt_tables.specs.Orders.{at}
 use Rattle.bt_tables.specs.Apart.{AreApart}
 use Rattle.bt_tables.specs.Tables.{PieceState, empty_cell, fresh_piece, piece_row}
 use Rattle.bt_tables.specs.Standings.{AreShelved, ShelfState, group_of_row, shown_row, standing_of, whole_rows}

@@ -1,5 +1,5 @@
 use Rattle.std.proofs.Common.{◌≡◌, ◌==◌, ◌<◌, ◌∙◌, ℕ, length, ap, arith, refl, sym}
-use Rattle.bt_order.specs.Orders.{at}
+use Rattle.bt_tables.specs.Orders.{at}
 use Rattle.bt_tables.specs.Standings.{ShelfState, stage_of}
 use Rattle.bt_tables.proofs.Opened.{agree, open_kept, open_put}
 use Rattle.bt_tables.proofs.shelf.Shelf.put_in.Goals as goal

@@ -1,5 +1,5 @@
 use Rattle.std.proofs.Common.{◌≡◌, ◌<◌, ◌+◌, ◌∙◌, length, ap, arith, sym, ne_eqb}
-use Rattle.bt_order.specs.Orders.{at}
+use Rattle.bt_tables.specs.Orders.{at}
 use Rattle.bt_tables.specs.Standings.{ShelfState, stage_of}
 use Rattle.bt_tables.proofs.Opened.{open_kept}
 use Rattle.bt_tables.proofs.shelf.Shelf.raise.Goals as goal

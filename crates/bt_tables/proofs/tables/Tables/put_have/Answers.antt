@@ -6,7 +6,7 @@ use Rattle.bt_tables.proofs.FloorSteps.{edit_piece, farther, have_floor, less_fl
 use Rattle.bt_tables.proofs.Tabled.{length_edit}
 use Rattle.bt_tables.specs.Floors.{is_fresh, rank_of_row}
 use Rattle.bt_tables.specs.Standings.{apart}
-use Rattle.bt_order.specs.Orders.{at}
+use Rattle.bt_tables.specs.Orders.{at}
 use Rattle.bt_tables.proofs.tables.Tables.put_have.Goals as goal
 
 pub rank-requires : goal.rank-requires

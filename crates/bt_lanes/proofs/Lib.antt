@@ -1,4 +1,0 @@
-pub mod HoldingLemmas
-pub mod PieceLemmas
-pub mod RoundsLemmas
-pub mod VectorLemmas

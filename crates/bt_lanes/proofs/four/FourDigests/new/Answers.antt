@@ -1,8 +1,0 @@
-use Rattle.std.proofs.Common.{rules}
-use Rattle.sha1.specs.Sha1.{hash_after}
-use Rattle.bt_lanes.specs.Holding.{Holds}
-use Rattle.bt_lanes.proofs.four.FourDigests.new.Goals as goal
-
-pub returns : goal.returns
-unfolding Holds hash_after
-returns c = search rules

@@ -1,5 +1,0 @@
-use Rattle.bt_lanes.proofs.VectorLemmas.{slice_index-parity}
-use Rattle.bt_lanes.proofs.words.parity.Goals as goal
-
-pub returns : goal.returns
-returns c = slice_index-parity c.args.x c.args.y c.args.z c.fits-x.0 c.fits-y.0 c.fits-z.0
