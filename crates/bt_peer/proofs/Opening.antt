@@ -9,10 +9,12 @@ use Rattle.bt_history.specs.declared.call.Reply.TheVariants as replies
 use Rattle.bt_history.specs.declared.call.Reason.{Reason}
 use Rattle.bt_peer.specs.declared.fault.SessionFault.{SessionFault}
 use Rattle.bt_peer.specs.declared.fault.SessionFault.TheVariants as faults
+use Rattle.bt_wire.specs.declared.message.Message.{Message}
+use Rattle.bt_wire.specs.declared.message.Message.TheVariants as messages
 use Rattle.bt_peer.specs.Acts.{Act, Called, is_refusal, is_check, is_refused_call}
 use Rattle.bt_peer.specs.Writer.{interest_by, written_for}
 use Rattle.bt_peer.specs.Places.{PlaceRecord, Gains, LacksMemory}
-use Rattle.bt_peer.specs.Turns.{Checks, ChecksAtMost, if_completed, arrived_piece, NoneRefused}
+use Rattle.bt_peer.specs.Turns.{call_of, Checks, ChecksAtMost, if_completed, arrived_piece, NoneRefused}
 use Rattle.bt_peer.specs.Outlets.{Outlet, Performs, PerformsUpTo, IsCut, Writes}
 use Rattle.bt_peer.specs.Parts.{CallStops, OpeningDone, OpeningStops}
 use Rattle.bt_peer.proofs.Stretches.{Performs-join, Performs-stops, Writes-none, WritesUpTo-none}
@@ -66,6 +68,16 @@ stops_one fault mark reply a c cut accepted stops = record {
   ends = ends_cut fault (Called mark reply ∷ []) cut (accepted_one mark reply accepted);
   performs = stops;
 }
+
+-- a message's call is no check
+pub no_check : (m : Message) (call : CallMark) → call_of m ≡ Some call → is_check call ≡ false
+no_check (messages.Hello h) call is = cc
+no_check messages.Choke call is = cc
+no_check messages.Unchoke call is = cc
+no_check (messages.Have piece) call is = cc
+no_check (messages.Bits bits) call is = cc
+no_check (messages.Piece piece begin bytes) call is = cc
+no_check _ call is = absurd cc
 
 -- the call stopped
 pub opening_stops : (mark : CallMark) (fault : SessionFault) (a c : Outlet) → is_check mark ≡ false → CallStops fault mark a c →

@@ -76,31 +76,7 @@ fn completed(arrived: Option<u32>, reply: &Reply) -> Option<u32>
     }
 }
 
-/// Makes a call, and sees to the check of a piece that it completes.
-fn call_and_check<P: Place, W: Sink>(
-    alloc: Global,
-    place: &mut P,
-    said: &mut Said<'_, W>,
-    call: Call,
-) -> Result<(), SessionFault>
-    requires { is_check (mark_of_call call) ≡ false }
-    ensures ok { OnOk result (OpeningDone (Some (mark_of_call call))
-        (outlet P.Place W.Sink place.old said.old) (outlet P.Place W.Sink place.new said.new)) }
-    ensures err { IfErr result (λ fault. OpeningStops fault (Some (mark_of_call call))
-        (outlet P.Place W.Sink place.old said.old) (outlet P.Place W.Sink place.new said.new)) }
-    // At a call that isn't Next no number is drawn.
-    ensures conduct { given_number (mark_of_call call) ≡ [] → (generator : Stream) →
-        ConductsBy result P.settles generator (P.past place.old).calls (P.past place.new).calls generator }
-{
-    let arrived = arrived_piece(&call);
-    let reply = make_call(alloc, place, said, call)?;
-    if let Some(piece) = completed(arrived, &reply) {
-        place.completed(alloc, piece)?;
-    }
-    Ok(())
-}
-
-/// Makes the call of a message, if it has one.
+/// Makes the call of a message, if it has one, and sees to the check of a piece that the call completes.
 fn open_turn<P: Place, W: Sink>(
     alloc: Global,
     terms: &SessionTerms,
@@ -114,13 +90,19 @@ fn open_turn<P: Place, W: Sink>(
         (outlet P.Place W.Sink place.old said.old) (outlet P.Place W.Sink place.new said.new)) }
     ensures err { IfErr result (λ fault. MessageStops fault (pieces_of terms.now) message
         (outlet P.Place W.Sink place.old said.old) (outlet P.Place W.Sink place.new said.new)) }
+    // At a call that isn't Next no number is drawn.
     ensures conduct { (generator : Stream) →
         ConductsBy result P.settles generator (P.past place.old).calls (P.past place.new).calls generator }
 {
-    match call_for(alloc, terms, message)? {
-        Some(call) => call_and_check(alloc, place, said, call),
-        None => Ok(()),
+    let Some(call) = call_for(alloc, terms, message)? else {
+        return Ok(());
+    };
+    let arrived = arrived_piece(&call);
+    let reply = make_call(alloc, place, said, call)?;
+    if let Some(piece) = completed(arrived, &reply) {
+        place.completed(alloc, piece)?;
     }
+    Ok(())
 }
 
 /// The turn of a message after the handshake: its call, then news, then Next calls.

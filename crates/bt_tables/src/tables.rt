@@ -458,6 +458,7 @@ impl Tables {
     }
 
     /// Block `index` of the piece is held now, brought by the worker's peer.
+    #[inline(always)]
     fn put_block(&mut self, worker: u32, piece: u32, index: u32)
         requires worker { worker < length self.old.peers }
         requires stored { HasBlock self.old piece index }
