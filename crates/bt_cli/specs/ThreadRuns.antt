@@ -5,12 +5,12 @@ use Rattle.bt_meta.specs.declared.fault.MetaFault.{MetaFault}
 use Rattle.bt_history.specs.Setting.{setting_of}
 use Rattle.bt_peer.specs.declared.fault.End.{End}
 use Rattle.bt_peer.specs.declared.fault.SessionFault.{SessionFault}
-use Rattle.bt_worker.specs.declared.fault.SwarmFault.{SwarmFault}
-use Rattle.bt_worker.specs.declared.fault.SwarmFault.TheVariants as swarms
+use Rattle.bt_session.specs.declared.fault.SwarmFault.{SwarmFault}
+use Rattle.bt_session.specs.declared.fault.SwarmFault.TheVariants as swarms
 use Rattle.bt_session.specs.Checking.{CheckersCheck}
 use Rattle.bt_peer.specs.Serial.{StreamRecord}
 use Rattle.bt_session.specs.Swarms.{EachSwarmed, MakesLastChecks}
-use Rattle.bt_worker.specs.Runs.{LeavesNone}
+use Rattle.bt_session.specs.Runs.{LeavesNone}
 use Rattle.bt_peer.specs.SessionTerms.{terms_of}
 use Rattle.bt_shared.specs.declared.gather.Book.{Book}
 use Rattle.bt_text.specs.declared.fault.Fault.{Fault}

@@ -8,7 +8,7 @@ ghost use Rattle.bt_history.specs.Setting.{AreRules, setting_of};
 ghost use Rattle.bt_session.specs.Checking.{CheckersCheck};
 ghost use Rattle.bt_peer.specs.Serial.{stream_record};
 ghost use Rattle.bt_session.specs.Swarms.{EachSwarmed, MakesLastChecks};
-ghost use Rattle.bt_worker.specs.Runs.{LeavesNone};
+ghost use Rattle.bt_session.specs.Runs.{LeavesNone};
 ghost use Rattle.bt_peer.specs.SessionTerms.{terms_of};
 ghost use Rattle.bt_shared.specs.Gathering.{EachAgrees};
 ghost use Rattle.bt_cli.specs.Runs.{run_status};

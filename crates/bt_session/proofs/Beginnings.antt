@@ -14,7 +14,7 @@ use Rattle.bt_session.proofs.Numbered.{from_gets}
 use Rattle.bt_session.specs.Beginnings.{IsFresh, IsNewPass, IsNewSeat}
 use Rattle.bt_shared.specs.Passes as passes
 use Rattle.bt_shared.specs.Passes.{PassState, SharedState}
-use Rattle.bt_worker.specs.Workers.{AreNumbered, Belongs}
+use Rattle.bt_session.specs.Workers.{AreNumbered, Belongs}
 
 -- ---- a new board's
 

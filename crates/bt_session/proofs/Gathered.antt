@@ -19,13 +19,13 @@ use Rattle.bt_peer.specs.Places.{PlaceRecord}
 use Rattle.bt_peer.specs.Serial.{StreamRecord}
 use Rattle.bt_peer.specs.SessionTerms.{TermsState}
 use Rattle.bt_session.specs.Checking.{CheckersCheck, CheckersWork}
-use Rattle.bt_session.proofs.Worked.{plays_short}
-use Rattle.bt_worker.specs.Checking.{AreChecks}
-use Rattle.bt_worker.specs.Passes.{no_piece, pass_record, worker_record}
+use Rattle.bt_session.proofs.Parts.{plays_short}
+use Rattle.bt_session.specs.PieceChecks.{AreChecks}
+use Rattle.bt_session.specs.Passes.{no_piece, pass_record, worker_record}
 use Rattle.bt_session.specs.Swarms.{EachPlays, EachSwarmed, MakesLastChecks, Swarmed}
-use Rattle.bt_worker.specs.Runs.{ChecksLast, ChecksRise, Plays}
+use Rattle.bt_session.specs.Runs.{ChecksLast, ChecksRise, Plays}
 use Rattle.bt_session.specs.Beginnings.{AreFresh, IsFresh}
-use Rattle.bt_worker.specs.Workers.{StandInOrder, WorkerState, knows, tells}
+use Rattle.bt_session.specs.Workers.{StandInOrder, WorkerState, knows, tells}
 use Rattle.bt_shared.specs.Gathering.{EachFrom, log_of}
 use Rattle.bt_shared.specs.Passes.{PassState}
 

@@ -1,6 +1,13 @@
 pub mod Beginnings
 pub mod Gathered
 pub mod Kept
+pub mod Noted
 pub mod Numbered
+pub mod Parts
+pub mod Passing
+pub mod PieceChecks
+pub mod Rising
 pub mod Rows
-pub mod Worked
+pub mod Seats
+pub mod Through
+pub mod Told

@@ -5,7 +5,7 @@ use Rattle.std.proofs.lemmas.List.{get_or_append_left, get_or_push}
 use Rattle.std.proofs.lemmas.Option.{get_or_from_slice_get}
 use mathlib.Core.Logic.{dite}
 use native.Mathlib.Decide.{ℕ_discrete}
-use Rattle.bt_worker.specs.Workers.{AreNumbered}
+use Rattle.bt_session.specs.Workers.{AreNumbered}
 
 module _ {X : Type 0} (P : ℕ → X → Type 0) where
   pub none_numbered : (first : ℕ) (xs : List X) → xs ≡ [] → AreNumbered P first xs

@@ -6,7 +6,7 @@ use Rattle.bt_check.specs.Queues.{TicketPassState}
 use Rattle.bt_history.specs.Setting.{Setting}
 use Rattle.bt_session.specs.declared.fittings.Fittings.{Fittings}
 use Rattle.bt_shared.specs.Passes.{PassState}
-use Rattle.bt_worker.specs.Workers.{AreNumbered, IsNamed, WorkerState, knows, tells}
+use Rattle.bt_session.specs.Workers.{AreNumbered, IsNamed, WorkerState, knows, tells}
 
 -- the seat of this number at the board of this name, which has seen and told no piece
 pub record IsNewSeat (board : Option TableId) (number : ℕ) (seat : SeatState) : Type 0 where

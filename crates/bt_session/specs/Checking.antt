@@ -2,8 +2,8 @@
 use Rattle.std.specs.Prelude.{◌≡◌, ◌<◌, ◌+◌, ℕ, List, length, slice_get, slice_index_or, Some}
 use Rattle.std.specs.Global.{Vec}
 use Rattle.bt_history.specs.declared.mark.Mark.{Mark}
-use Rattle.bt_worker.specs.Checking.{AreChecks, MakesChecks}
-use Rattle.bt_worker.specs.Workers.{WorkerState}
+use Rattle.bt_session.specs.PieceChecks.{AreChecks, MakesChecks}
+use Rattle.bt_session.specs.Workers.{WorkerState}
 
 -- each of these workers did
 abbrev pub EachMakesChecks : List WorkerState → List WorkerState → Type 0

@@ -11,9 +11,9 @@ use Rattle.bt_peer.specs.Serial.{StreamRecord}
 use Rattle.bt_peer.specs.SessionTerms.{TermsState}
 use Rattle.bt_peer.specs.declared.fault.End.{End}
 use Rattle.bt_peer.specs.declared.fault.SessionFault.{SessionFault}
-use Rattle.bt_worker.specs.Passes.{no_piece, pass_record}
-use Rattle.bt_worker.specs.Runs.{ChecksRise, Plays}
-use Rattle.bt_worker.specs.Workers.{WorkerState}
+use Rattle.bt_session.specs.Passes.{no_piece, pass_record}
+use Rattle.bt_session.specs.Runs.{ChecksRise, Plays}
+use Rattle.bt_session.specs.Workers.{WorkerState}
 
 -- that of each stream, in order; all together are short if one is
 abbrev pub EachPlays : {X : Type 0} → (X → StreamRecord) → TermsState → Setting → ℕ →

@@ -1,11 +1,14 @@
 //! Checkers in threads of their own.
 
 ghost use Rattle.std.specs.Prelude.{◌≡◌, ◌≤◌, [], map, length, vec_len, vec_capacity, IfOk, IfErr, OnOk};
-ghost use Rattle.bt_worker.specs.Checking.{MakesChecks};
-ghost use Rattle.bt_worker.specs.declared.fault.SwarmFault.TheVariants.{NoThread};
+ghost use Rattle.bt_session.specs.PieceChecks.{MakesChecks};
+ghost use Rattle.bt_session.specs.declared.fault.SwarmFault.TheVariants.{NoThread};
 
+use crate::checker::{Checked, check_pieces};
+use crate::commons::{Commons, Worker};
+use crate::fault::SwarmFault;
+use crate::run_name::RunName;
 use bt_check::Ticket;
-use bt_worker::{Checked, Commons, RunName, SwarmFault, Worker, check_pieces};
 use std::alloc::Global;
 use std::snapshot::Snapshot;
 use std::sync::Wait;

@@ -3,14 +3,15 @@
 ghost use Rattle.std.specs.Prelude.{◌≡◌, ◌≤◌, Some, All, length, IfOk};
 ghost use Rattle.bt_history.specs.Setting.{AreRules, setting_of};
 ghost use Rattle.bt_session.specs.Beginnings.{AreFittings, AreFresh, IsNewPass, IsNewSeat};
-ghost use Rattle.bt_worker.specs.Workers.{AreNumbered};
+ghost use Rattle.bt_session.specs.Workers.{AreNumbered};
 
+use crate::commons::{Commons, Worker};
+use crate::run_name::RunName;
 use bt_board::{Board, BoardSeat};
 use bt_check::{TicketPass, Tickets};
 use bt_history::{MOST_WORKERS, Rules};
 use bt_meta::Torrent;
 use bt_shared::{Pass, SharedDesk};
-use bt_worker::{Commons, RunName, Worker};
 use std::alloc::{AllocError, Global};
 use std::sync::Arc;
 

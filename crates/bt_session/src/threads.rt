@@ -4,14 +4,17 @@ ghost use Rattle.std.specs.Prelude.{◌≡◌, ◌≤◌, [], All, map, length, 
 ghost use Rattle.std.specs.PromisedHandle.{KeepsEach};
 ghost use Rattle.bt_peer.specs.Serial.{stream_record};
 ghost use Rattle.bt_peer.specs.SessionTerms.{terms_of};
-ghost use Rattle.bt_worker.specs.Runs.{IsRunFault, Plays};
-ghost use Rattle.bt_worker.specs.declared.fault.SwarmFault.TheVariants.{NoThread};
+ghost use Rattle.bt_session.specs.Runs.{IsRunFault, Plays};
+ghost use Rattle.bt_session.specs.declared.fault.SwarmFault.TheVariants.{NoThread};
 
+use crate::commons::{Commons, Worker};
+use crate::fault::SwarmFault;
 use crate::plan::Plan;
+use crate::played::{Played, play};
+use crate::run_name::RunName;
 use bt_history::MOST_DEPTH;
 use bt_meta::{Sink, Source, Torrent};
 use bt_peer::{Gate, Stream};
-use bt_worker::{Commons, Played, RunName, SwarmFault, Worker, play};
 use std::alloc::Global;
 use std::snapshot::Snapshot;
 use std::sync::{Arc, Wait};

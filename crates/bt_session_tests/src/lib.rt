@@ -1,4 +1,4 @@
-//! The tests of `bt_peer`, of `bt_worker` and of `bt_session`'s runs in threads, in a crate of their own, so that they are checked without
+//! The tests of `bt_peer` and of `bt_session`'s runs in threads, in a crate of their own, so that they are checked without
 //! proving those again.
 #![tactic(auto)]
 

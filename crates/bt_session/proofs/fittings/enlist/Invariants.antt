@@ -3,7 +3,7 @@ use Rattle.std.specs.List.{All}
 use Rattle.std.specs.Vec.Iter.{into_iter_items, into_iter_len}
 use Rattle.std.proofs.Common.{Some}
 use Rattle.bt_session.specs.Beginnings.{AreFresh, IsNewPass, IsNewSeat}
-use Rattle.bt_worker.specs.Workers.{AreNumbered}
+use Rattle.bt_session.specs.Workers.{AreNumbered}
 use Rattle.bt_session.proofs.fittings.enlist.Given as goal
 
 abbrev pub invariant-loop-pass : goal.invariant-loop-pass

@@ -2,7 +2,7 @@ use Rattle.std.proofs.Common.{Option, Some, sym, ap, subst, ◌∙◌}
 use Rattle.atomic_table.specs.Seated.{TableId}
 use Rattle.bt_check.specs.Queues.{Queue}
 use Rattle.bt_session.specs.Beginnings.{IsNewPass, IsNewSeat}
-use Rattle.bt_worker.specs.Workers.{AreNumbered}
+use Rattle.bt_session.specs.Workers.{AreNumbered}
 use Rattle.bt_session.proofs.fittings.set_up.Goals as goal
 
 pub enlist-requires-clause-passes : goal.enlist-requires-clause-passes

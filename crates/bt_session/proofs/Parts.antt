@@ -1,0 +1,66 @@
+-- The workers of a run before and after its work: those of its sessions, its checkers, and the last.
+use Rattle.std.proofs.Common.{◌≡◌, ◌<◌, ◌+◌, ℕ, Bool, true, List, [], ◌∷◌, ◌++◌, length, get_or, sym, subst, arith, Result}
+use Rattle.bt_history.specs.Setting.{Setting}
+use Rattle.bt_peer.specs.declared.fault.End.{End}
+use Rattle.bt_peer.specs.declared.fault.SessionFault.{SessionFault}
+use Rattle.bt_peer.specs.Serial.{StreamRecord}
+use Rattle.bt_peer.specs.SessionTerms.{TermsState}
+use Rattle.bt_session.proofs.Rows.{at_first, at_last, at_second}
+use Rattle.bt_session.specs.Checking.{CheckersWork, EachMakesChecks}
+use Rattle.bt_session.specs.PieceChecks.{MakesChecks}
+use Rattle.bt_session.specs.Swarms.{EachPlays}
+use Rattle.bt_session.specs.Runs.{ChecksLast, Plays}
+use Rattle.bt_session.specs.Workers.{WorkerState}
+
+-- how the workers were parted, and put together again
+pub record Parted (n m : ℕ) (all all' sessions checkers played checked : List WorkerState) (last last' : WorkerState) : Type 0 where
+  pub before : all ≡ (sessions ++ checkers) ++ last ∷ []
+  pub after : all' ≡ (played ++ checked) ++ last' ∷ []
+  pub many : length sessions ≡ n
+  pub many_checkers : length checkers ≡ m
+  pub many_played : length played ≡ n
+  pub many_checked : length checked ≡ m
+
+-- a session that is short is so in all that is
+pub plays_short : (outcome : Result End SessionFault) (terms : TermsState) (setting : Setting) (seed : ℕ) (worker worker' : WorkerState)
+    (old new : StreamRecord) (short more : Bool) → (short ≡ true → more ≡ true) → Plays outcome terms setting seed worker old worker' new short →
+    Plays outcome terms setting seed worker old worker' new more
+plays_short outcome terms setting seed worker worker' old new short more up plays = record {
+  lacked = plays.lacked;
+  noted = λ lacked. up (plays.noted lacked);
+  number = plays.number;
+  runs = plays.runs;
+}
+
+module _ {n m : ℕ} {all all' sessions checkers played checked : List WorkerState} {last last' : WorkerState}
+    (parts : Parted n m all all' sessions checkers played checked last last') where
+  pub all_play : {X : Type 0} (record_of : X → StreamRecord) (terms : TermsState) (setting : Setting) (seed : ℕ) (streams streams' : List X)
+      (ends : List (Result End SessionFault)) (short : Bool) → length streams ≡ n →
+      EachPlays record_of terms setting seed sessions streams ends played streams' short →
+      EachPlays record_of terms setting seed all streams ends all' streams' short
+  all_play record_of terms setting seed streams streams' ends short many each i worker stream end below =
+      let less : i < n = omega (arith, below, many) in
+      let outcome = get_or ends i end in
+      let old = record_of (get_or streams i stream) in
+      let new = record_of (get_or streams' i stream) in
+      subst (λ (w : WorkerState). Plays outcome terms setting seed w old (get_or all' i worker) new short)
+      (sym (at_first all sessions checkers last n m parts.before parts.many parts.many_checkers i worker less))
+      (subst (λ (w : WorkerState). Plays outcome terms setting seed (get_or sessions i worker) old w new short)
+      (sym (at_first all' played checked last' n m parts.after parts.many_played parts.many_checked i worker less))
+      (each i worker stream end below))
+
+  pub all_check : EachMakesChecks checkers checked → CheckersWork n m all all'
+  all_check each i any below =
+      subst (λ (w : WorkerState). MakesChecks w.pass (get_or all' (n + i) any).pass)
+      (sym (at_second all sessions checkers last n m parts.before parts.many parts.many_checkers i any below))
+      (subst (λ (w : WorkerState). MakesChecks (get_or checkers i any).pass w.pass)
+      (sym (at_second all' played checked last' n m parts.after parts.many_played parts.many_checked i any below))
+      (each i any (omega (arith, below, parts.many_checkers))))
+
+  pub last_check : (pieces : ℕ) → ChecksLast last.pass last'.pass pieces → (any : WorkerState) →
+      ChecksLast (get_or all (n + m) any).pass (get_or all' (n + m) any).pass pieces
+  last_check pieces did any =
+      subst (λ (w : WorkerState). ChecksLast w.pass (get_or all' (n + m) any).pass pieces)
+      (sym (at_last all sessions checkers last n m parts.before parts.many parts.many_checkers any))
+      (subst (λ (w : WorkerState). ChecksLast last.pass w.pass pieces)
+      (sym (at_last all' played checked last' n m parts.after parts.many_played parts.many_checked any)) did)

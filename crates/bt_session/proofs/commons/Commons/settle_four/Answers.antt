@@ -1,0 +1,19 @@
+use Rattle.std.proofs.Common.{[], ◌∷◌, false}
+use Rattle.std.specs.Prelude.{◌||◌}
+use Rattle.bt_session.proofs.Through.{goes_more, idle_same}
+use Rattle.bt_session.proofs.commons.Commons.settle_four.Goals as goal
+
+pub returns : goal.returns
+returns g c =
+    let s = g.L.RunName.setting in
+    let w = c.args.worker.now in
+    let v = c.args.verdicts in
+    let a = c.settle_or_not-first in
+    let b = c.settle_or_not-second in
+    let d = c.settle_or_not-third in
+    let e = c.settle_or_not-fourth in
+    let one = goes_more s w w a.new.worker [] v.0.piece false a.result (idle_same w) a.ensures in
+    let two = goes_more s w a.new.worker b.new.worker (v.0.piece ∷ []) v.1.piece a.result b.result one b.ensures in
+    let three = goes_more s w b.new.worker d.new.worker (v.0.piece ∷ v.1.piece ∷ []) v.2.piece (a.result || b.result) d.result two d.ensures in
+    goes_more s w d.new.worker e.new.worker (v.0.piece ∷ v.1.piece ∷ v.2.piece ∷ []) v.3.piece ((a.result || b.result) || d.result) e.result
+    three e.ensures

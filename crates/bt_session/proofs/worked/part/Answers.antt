@@ -1,0 +1,30 @@
+use Rattle.std.proofs.Common.{◌≡◌, Bool, true, false, List, [], ◌∷◌, ◌++◌, map, refl, sym, ap, ◌∙◌, append_assoc, arith}
+use Rattle.std.specs.Prelude.{◌||◌}
+use Rattle.std.specs.List.{list_any}
+use Rattle.std.proofs.lemmas.Grind.{common_steps}
+use Rattle.bt_session.proofs.worked.part.Goals as goal
+
+or_assoc : (a b c : Bool) → ((a || b) || c) ≡ (a || (b || c))
+or_assoc true b c = refl
+or_assoc false b c = refl
+
+-- a part of the first element left goes to the end of the list
+moved : {X Y : Type 0} (part : X → Y) (old new all : List Y) (items rest : List X) (x : X) → new ≡ old ++ part x ∷ [] → items ≡ x ∷ rest →
+    old ++ map part items ≡ all → new ++ map part rest ≡ all
+moved part old new all items rest x more left was =
+    ap (λ l. l ++ map part rest) more ∙ append_assoc old (part x ∷ []) (map part rest) ∙ ap (λ l. old ++ map part l) (sym left) ∙ was
+
+pub loop-played-preserved : goal.loop-played-preserved
+loop-played-preserved g c = record {
+  ends = moved (λ p. p.end) _ _ _ _ _ c.in-Some.played c.push_reserved.ensures.items c.in-Some.ensures.steps.0 c.loop-played.invariant.ends;
+  workers = moved (λ p. p.worker) _ _ _ _ _ c.in-Some.played c.push_reserved-in-loop-played.ensures.items c.in-Some.ensures.steps.0
+      c.loop-played.invariant.workers;
+  streams = moved (λ p. p.stream) _ _ _ _ _ c.in-Some.played c.push_reserved-in-loop-played-2.ensures.items c.in-Some.ensures.steps.0
+      c.loop-played.invariant.streams;
+  room_ends = grind (arith, common_steps);
+  room_workers = grind (arith, common_steps);
+  same = grind (arith, common_steps);
+  room_streams = grind (arith, common_steps);
+  short = or_assoc c.loop-played.given_up c.in-Some.played.short _
+      ∙ (ap (λ items. c.loop-played.given_up || list_any (λ p. p.short) items) (sym c.in-Some.ensures.steps.0) ∙ c.loop-played.invariant.short);
+}

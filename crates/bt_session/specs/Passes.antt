@@ -1,0 +1,44 @@
+-- A place at a desk that threads share: what its worker's pass and seat say.
+use Rattle.std.specs.Prelude.{◌≡◌, ◌⊎◌, ℕ, Bool, true, false, List, []}
+use Rattle.bt_check.specs.declared.ticket.Ticket.TheVariants.{Piece}
+use Rattle.bt_check.specs.Queues.{with_put}
+use Rattle.bt_history.specs.declared.mark.Mark.{Mark}
+use Rattle.bt_history.specs.Setting.{Setting}
+use Rattle.bt_peer.specs.Desks.{calls_of_marks}
+use Rattle.bt_peer.specs.Places.{PlaceRecord}
+use Rattle.bt_session.specs.Workers.{WorkerState, knows, tells, with_tickets}
+
+-- no piece at all
+abbrev pub no_piece : ℕ → Bool
+no_piece piece = false
+
+-- what a place at a shared desk says of itself: the calls of its pass, and the pieces that are known to be finished and those told.
+-- Of the other workers' calls it knows nothing
+abbrev pub pass_record : Setting → ℕ → List Mark → (ℕ → Bool) → (ℕ → Bool) → Bool → PlaceRecord
+pass_record setting worker log had told short = record {
+  lent = [];
+  worker = worker;
+  setting = setting;
+  calls = calls_of_marks log;
+  others = λ other. [];
+  had = had;
+  in_order = [];
+  told = told;
+  short = short;
+}
+
+-- that of a worker: its seat has seen the finished pieces, and given those that were told
+abbrev pub worker_record : Setting → WorkerState → Bool → PlaceRecord
+worker_record setting worker short = pass_record setting worker.pass.worker worker.pass.log (knows setting worker.seat) (tells worker.seat) short
+
+-- a place at a shared desk as its callers see it: its worker, whether a call has found no memory, and whether a ticket came back
+pub record PassPlaceState : Type 0 where
+  pub worker : WorkerState
+  pub short : Bool
+  pub given_up : Bool
+
+-- a ticket was put for the piece; or it came back, which is noted
+abbrev pub PutsTicket : PassPlaceState → ℕ → PassPlaceState → Type 0
+PutsTicket old piece new =
+    (new ≡ record { worker = with_tickets old.worker (with_put old.worker.tickets (Piece piece)); short = old.short; given_up = old.given_up })
+    ⊎ (new ≡ record { worker = old.worker; short = old.short; given_up = true })

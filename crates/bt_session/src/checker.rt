@@ -1,0 +1,37 @@
+//! What the thread of a checker does.
+
+ghost use Rattle.bt_session.specs.PieceChecks.{MakesChecks};
+
+use crate::commons::{Commons, Worker};
+use crate::run_name::RunName;
+use std::alloc::Global;
+use std::sync::Wait;
+
+/// What the thread of a checker gives back.
+#[derive(Drop)]
+pub struct Checked<L: RunName> {
+    pub worker: Worker<L>,
+    /// A check was given up for want of memory.
+    pub short: bool,
+}
+
+/// Sees to the pieces of the tickets that it takes, until it is told to stop.
+pub fn check_pieces<L: RunName, T: Wait>(
+    rt: &T,
+    alloc: Global,
+    commons: &Commons<L>,
+    worker: Worker<L>,
+) -> Checked<L>
+    ensures { MakesChecks worker.pass result.worker.pass }
+{
+    let mut worker = worker;
+    let mut short = false;
+    for _ in rt.forever() {
+        let round = commons.next_round(rt, &mut worker);
+        short |= commons.check_all(rt, alloc, &mut worker, round.pieces.as_slice());
+        if round.is_last {
+            break;
+        }
+    }
+    Checked { worker, short }
+}

@@ -1,5 +1,0 @@
-use Rattle.std.proofs.Common.{rules}
-use Rattle.bt_worker.proofs.waiting.is_waiting.Goals as goal
-
-pub loop-piece-preserved : goal.loop-piece-preserved
-loop-piece-preserved c = search rules fits 100

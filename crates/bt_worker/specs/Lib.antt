@@ -1,4 +1,0 @@
-pub mod Checking
-pub mod Passes
-pub mod Runs
-pub mod Workers
