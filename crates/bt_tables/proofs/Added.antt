@@ -1,12 +1,10 @@
 -- The rows of a peer and of the pieces, as the peer shows those of a set too, one after the other.
-use Rattle.std.proofs.Common.{◌≡◌, ℕ, zero, suc, ◌+◌, ◌-◌, ◌<◌, ◌≤◌, ◌==◌, ◌||◌, Bool, true, false, not, List, length, set, ap, sym, ◌∙◌, arith, refl}
+use Rattle.std.proofs.Common.{◌≡◌, ℕ, ◌+◌, ◌-◌, ◌<◌, ◌≤◌, ◌||◌, Bool, true, false, not, List, length, set, ap, sym, ◌∙◌, arith, refl}
 use Rattle.std.specs.Prelude.{slice_index_or}
-use Rattle.std.proofs.lemmas.Bool.{false≢true, ne_eqb}
 use Rattle.bt_history.specs.Counting.{table}
 use Rattle.bt_tables.specs.Tables.{PeerState, PieceState, bits_row, edit, fresh_peer, fresh_piece, have_row, joint, late_row, less_available}
 use Rattle.bt_tables.specs.Tables.{more_available, one_if, peer_row, piece_row, recounted}
 use Rattle.bt_tables.specs.Floors.{AreFloors, is_fresh, rank_of_row}
-use Rattle.bt_tables.proofs.Sweeps.{hides_none, shows_none}
 use Rattle.bt_tables.proofs.Tabled.{edit_none, edit_same, edit_twice, get_or_edit_same, get_or_table, length_edit, length_table, rows_edit}
 use Rattle.bt_tables.proofs.Tabled.{rows_init, rows_more}
 use Rattle.bt_tables.proofs.Tabled.{same_table, upto, upto_above, rows_done}

@@ -1,5 +1,5 @@
 -- The rows of a torrent of which nothing is known.
-use Rattle.std.proofs.Common.{◌≡◌, ◌<◌, ◌≤◌, ◌+◌, ◌*◌, ◌-◌, ◌/◌, ◌^◌, ◌∙◌, ℕ, zero, suc, List, ◌∷◌, length, get_or, take, drop, map, min}
+use Rattle.std.proofs.Common.{◌≡◌, ◌<◌, ◌≤◌, ◌+◌, ◌*◌, ◌-◌, ◌/◌, ◌^◌, ◌∙◌, ℕ, zero, suc, List, ◌∷◌, get_or, take, min}
 use Rattle.std.proofs.Common.{replicate, ap, arith}
 use Rattle.std.proofs.Common.{refl, sym, ⊎_elim}
 use Rattle.std.proofs.Math.Nat.{div-mul-le_self, mul-le-mul_right, suc-mul}
@@ -10,8 +10,8 @@ use Rattle.bt_meta.specs.Layout.{IsLayout, Layout, block_count, block_size, piec
 use Rattle.bt_history.specs.Counting.{table}
 use Rattle.bt_tables.specs.declared.cell.Cell.{Cell}
 use Rattle.bt_tables.specs.declared.counts.Counts.{Counts}
-use Rattle.bt_tables.specs.Rows.{AreKept, Keeps, counts_at, no_counts, row_of, rows_of, said}
-use Rattle.bt_tables.specs.Tables.{CellState, PieceState, empty_cell, fresh_piece, piece_row}
+use Rattle.bt_tables.specs.Rows.{AreKept, no_counts, row_of, rows_of, said}
+use Rattle.bt_tables.specs.Tables.{CellState, PieceState, empty_cell, fresh_piece}
 use Rattle.bt_tables.proofs.Counted.{keeps_none}
 use Rattle.bt_tables.proofs.Rowed.{cells_at, row_is, rows_length}
 use Rattle.bt_tables.proofs.Tabled.{table_from}

@@ -1,8 +1,8 @@
 -- What is counted of the cells of a piece, once one of them changes.
-use Rattle.std.proofs.Common.{◌≡◌, ℕ, zero, suc, ◌*◌, ◌∷◌, replicate, cond, ◌+◌, ◌<◌, ◌≤◌, ◌==◌, ◌≢◌, ◌^◌, Bool, true, false, List, length, get_or}
+use Rattle.std.proofs.Common.{◌≡◌, ℕ, ◌*◌, replicate, cond, ◌+◌, ◌<◌, ◌≤◌, ◌==◌, ◌≢◌, ◌^◌, Bool, true, false, List, length, get_or}
 use Rattle.std.proofs.Common.{set, refl, ap, sym, ◌∙◌, arith, length-set}
 use Rattle.std.specs.List.{count_by}
-use Rattle.std.specs.Prelude.{if◌then◌else◌, min}
+use Rattle.std.specs.Prelude.{if◌then◌else◌}
 use Rattle.std.proofs.Math.Nat.{min-le_left, min-le_right}
 use Rattle.std.proofs.lemmas.Bool.{eqb-true}
 use Rattle.std.proofs.lemmas.List.{get_or-set_other, get_or-set_same, length-replicate}
@@ -13,7 +13,7 @@ use native.Mathlib.Decide.{ℕ_discrete}
 use Rattle.bt_tables.specs.declared.counts.Counts.{Counts}
 use Rattle.bt_tables.specs.Rows.{Keeps, no_counts, passed_to}
 use Rattle.bt_tables.specs.Tables.{CellState, empty_cell, one_if}
-use Rattle.bt_tables.specs.Standings.{AreCounts, AreTouched, is_held, is_touched}
+use Rattle.bt_tables.specs.Standings.{AreTouched, is_held, is_touched}
 
 module _ (test : CellState → Bool) (cells : List CellState) (i : ℕ) (old new : CellState) (lt : i < length cells)
     (read : get_or cells i empty_cell ≡ old)

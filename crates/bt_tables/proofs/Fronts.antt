@@ -1,7 +1,7 @@
 -- Before the front no piece is wanted and unbegun.
-use Rattle.std.proofs.Common.{◌≡◌, ◌≢◌, ℕ, ◌+◌, ◌<◌, ◌≤◌, Bool, true, false, List, length, length-set, min, refl, ap, sym, ◌∙◌, arith, set, ⊎_elim}
+use Rattle.std.proofs.Common.{◌≡◌, ℕ, ◌+◌, ◌<◌, ◌≤◌, Bool, true, false, List, length, length-set, min, refl, ap, sym, ◌∙◌, arith, set, ⊎_elim}
 use Rattle.std.specs.Prelude.{if◌then◌else◌}
-use Rattle.std.proofs.lemmas.Bool.{cases_eq, cases_lt}
+use Rattle.std.proofs.lemmas.Bool.{cases_eq}
 use Rattle.std.proofs.lemmas.List.{get_or-set_other, get_or-set_same}
 use Rattle.bt_tables.specs.Floors.{NoneFresh, is_fresh}
 use Rattle.bt_tables.specs.Standings.{whole_rows}

@@ -1,5 +1,5 @@
 -- Rows as they are kept: what is read of one, and what a change of its counts and its cells makes of all.
-use Rattle.std.proofs.Common.{◌≡◌, ◌≢◌, ◌<◌, ◌≤◌, ◌+◌, ◌*◌, ◌-◌, ◌∙◌, ℕ, zero, suc, List, [], ◌∷◌, length, get_or, set, take, drop, map, min, ap}
+use Rattle.std.proofs.Common.{◌≡◌, ◌<◌, ◌≤◌, ◌+◌, ◌*◌, ◌-◌, ◌∙◌, ℕ, zero, suc, List, [], ◌∷◌, length, get_or, set, take, drop, min, ap}
 use Rattle.std.proofs.Common.{arith}
 use Rattle.std.proofs.Common.{refl, subst, sym, length-set, ⊎_elim}
 use Rattle.std.proofs.Math.Nat.{min-le_left, min-le_right, mul-le-mul_right, suc-mul, zero-mul}

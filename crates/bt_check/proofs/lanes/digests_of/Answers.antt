@@ -1,4 +1,4 @@
-use Rattle.std.proofs.Common.{◌≡◌, ◌+◌, length, arith}
+use Rattle.std.proofs.Common.{arith}
 use Rattle.bt_check.proofs.Alike.{alike_at, alike_many}
 use Rattle.bt_check.proofs.Blocks.{concat_more}
 use Rattle.bt_check.proofs.lanes.digests_of.Goals as goal

@@ -1,6 +1,5 @@
 use Rattle.std.proofs.Common.{◌≡◌, ◌==◌, ◌&&◌, ◌++◌, ◌∷◌, [], arith, ap, sym, ◌∙◌, Bool, List, false, if◌then◌else◌, not, subst, true}
 use Rattle.std.proofs.lemmas.List.{append-nil}
-use Rattle.std.specs.List.{filter}
 use Rattle.bt_meta.specs.declared.block.Block.{Block}
 use Rattle.bt_history.specs.Peers.{AreApart}
 use Rattle.bt_history.proofs.LineLaws.{apart_filter}

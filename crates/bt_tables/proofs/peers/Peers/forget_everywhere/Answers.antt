@@ -1,4 +1,4 @@
-use Rattle.std.proofs.Common.{◌<◌, ◌+◌, ◌≤◌, ◌∙◌, length, sym, subst, arith, refl}
+use Rattle.std.proofs.Common.{◌<◌, ◌∙◌, length, sym, subst, arith, refl}
 use Rattle.bt_tables.specs.Tables.{HasShortLines, peer_row, fresh_peer}
 use Rattle.bt_tables.proofs.Tabled.{length_is_table, rows_edit, rows_init, rows_read}
 use Rattle.bt_tables.proofs.peers.Peers.forget_everywhere.Goals as goal

@@ -1,5 +1,4 @@
-use Rattle.std.proofs.Common.{arith, ◌≡◌, length}
-use Rattle.bt_tables.specs.Standings.{whole_rows}
+use Rattle.std.proofs.Common.{arith}
 use Rattle.bt_tables.proofs.Apart.{length_whole}
 use Rattle.bt_tables.proofs.pieces.Pieces.advance.Goals as goal
 

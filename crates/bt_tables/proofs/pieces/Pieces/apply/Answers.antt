@@ -1,7 +1,6 @@
 use Rattle.std.proofs.Common.{◌≡◌, ◌∙◌, List, ap, subst, sym, arith, length, length-set, refl, set}
 use Rattle.std.proofs.lemmas.List.{get_or_default}
 use Rattle.bt_tables.specs.declared.piece.Standing.{Standing}
-use Rattle.bt_tables.specs.Apart.{AreApart}
 use Rattle.bt_tables.specs.Tables.{HasRoomOf, PieceState, changed_row, piece_row}
 use Rattle.bt_tables.specs.Standings.{AreShelved, shown_row, standing_of, whole_rows}
 use Rattle.bt_tables.proofs.Apart.{changed_counts, edit_is, edited_row, edited_rows, in_groups, in_whole, kept_piece, lent_row, own_row, row_is}

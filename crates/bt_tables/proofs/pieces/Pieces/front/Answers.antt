@@ -1,5 +1,3 @@
-use Rattle.std.proofs.Common.{subst}
-use Rattle.bt_tables.specs.Floors.{NoneFresh}
 use Rattle.bt_tables.proofs.Fronts.{front_whole}
 use Rattle.bt_tables.proofs.pieces.Pieces.front.Goals as goal
 

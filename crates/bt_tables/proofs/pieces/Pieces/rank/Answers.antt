@@ -1,8 +1,7 @@
-use Rattle.std.proofs.Common.{◌≡◌, ◌∙◌, ℕ, ap, arith, sym}
+use Rattle.std.proofs.Common.{◌∙◌, ap, arith, sym}
 use Rattle.std.proofs.lemmas.List.{get_or_default}
 use Rattle.bt_tables.specs.Tables.{PieceState, fresh_piece, piece_row}
 use Rattle.bt_tables.specs.Floors.{rank_of_row}
-use Rattle.bt_tables.specs.Standings.{shown_row, whole_rows}
 use Rattle.bt_tables.proofs.Apart.{kept_piece, whole_at}
 use Rattle.bt_tables.proofs.pieces.Pieces.rank.Goals as goal
 

@@ -1,4 +1,3 @@
-use Rattle.std.proofs.Common.{arith}
 use Rattle.bt_tables.proofs.Apart.{kept_piece, lent_row}
 use Rattle.bt_tables.proofs.pieces.Pieces.row.Goals as goal
 

@@ -1,6 +1,5 @@
-use Rattle.std.proofs.Common.{ap, arith, refl, sym, ◌∙◌}
-use Rattle.bt_tables.specs.Floors.{NoneFresh, is_fresh}
-use Rattle.bt_tables.specs.Tables.{piece_row}
+use Rattle.std.proofs.Common.{ap, arith, sym, ◌∙◌}
+use Rattle.bt_tables.specs.Floors.{is_fresh}
 use Rattle.bt_tables.proofs.Fronts.{front_more}
 use Rattle.bt_tables.proofs.rows.Rows.fresh_from.Goals as goal
 

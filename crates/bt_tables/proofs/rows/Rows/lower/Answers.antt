@@ -1,4 +1,4 @@
-use Rattle.std.proofs.Common.{List, get_or, ap, arith, length, ◌≡◌, ◌<◌, ◌≤◌, ◌∙◌, set, sym}
+use Rattle.std.proofs.Common.{List, get_or, ap, arith, length, ◌<◌, ◌≤◌, ◌∙◌, set, sym}
 use Rattle.bt_tables.specs.Tables.{CellState, PieceState, edit, empty_cell, fresh_piece, one_less, piece_row}
 use Rattle.bt_tables.specs.Standings.{cell_kept}
 use Rattle.bt_tables.proofs.Tabled.{edit_past, edit_read, edit_same, edit_unmoved}

@@ -1,6 +1,4 @@
-use Rattle.std.proofs.Common.{◌≡◌, ◌<◌, ◌+◌, ◌*◌, ◌-◌, ◌∙◌, ap, arith, refl, replicate, sym}
-use Rattle.bt_meta.specs.Layout.{block_count, piece_count}
-use Rattle.bt_tables.specs.Rows.{no_counts}
+use Rattle.std.proofs.Common.{◌<◌, refl}
 use Rattle.bt_tables.proofs.Blank.{blank_kept, blank_rows, some_pieces}
 use Rattle.bt_tables.proofs.rows.Rows.new.Goals as goal
 

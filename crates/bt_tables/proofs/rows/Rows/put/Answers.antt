@@ -1,9 +1,8 @@
-use Rattle.std.proofs.Common.{◌≡◌, ◌<◌, ◌+◌, ◌*◌, ◌∙◌, List, ap, arith, get_or, length, length-set, refl, set, subst, sym}
+use Rattle.std.proofs.Common.{◌≡◌, ◌<◌, ◌+◌, ◌*◌, ◌∙◌, List, ap, arith, length, length-set, set, subst, sym}
 use Rattle.std.proofs.lemmas.List.{get_or_default}
-use Rattle.bt_tables.specs.declared.counts.Counts.{Counts}
 use Rattle.bt_tables.specs.Rows.{Keeps, counts_at, no_counts, row_of, rows_of}
 use Rattle.bt_tables.specs.Standings.{cell_kept, is_held, is_touched}
-use Rattle.bt_tables.specs.Tables.{CellState, PieceState, edit, empty_cell, fresh_piece, piece_row}
+use Rattle.bt_tables.specs.Tables.{PieceState, empty_cell, fresh_piece, piece_row}
 use Rattle.bt_tables.proofs.Counted.{count_most, count_part, keeps_moved}
 use Rattle.bt_tables.proofs.Rowed.{cell_is, cells_at, in_cells, in_width, kept_on, row_is, rows_length, rows_set}
 use Rattle.bt_tables.proofs.Tabled.{edit_set}

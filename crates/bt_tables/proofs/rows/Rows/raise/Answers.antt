@@ -1,4 +1,4 @@
-use Rattle.std.proofs.Common.{List, get_or, ap, arith, ◌≡◌, ◌∙◌, set, sym}
+use Rattle.std.proofs.Common.{List, get_or, ap, ◌∙◌, set}
 use Rattle.bt_tables.specs.Tables.{CellState, PieceState, edit, empty_cell, fresh_piece, one_more, piece_row}
 use Rattle.bt_tables.specs.Standings.{cell_kept}
 use Rattle.bt_tables.proofs.Tabled.{edit_read, edit_same}

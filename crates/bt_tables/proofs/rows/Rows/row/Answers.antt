@@ -1,10 +1,8 @@
-use Rattle.std.proofs.Common.{◌≡◌, ◌<◌, ◌≤◌, ◌*◌, ◌∙◌, List, ap, arith, drop, get_or, length, refl, rules, subst, sym, take}
+use Rattle.std.proofs.Common.{◌≡◌, ◌<◌, ◌*◌, ◌∙◌, ap, arith, length, refl}
 use Rattle.std.proofs.lemmas.List.{get_or_default}
-use Rattle.bt_tables.specs.declared.cell.Cell.{Cell}
-use Rattle.bt_tables.specs.declared.counts.Counts.{Counts}
-use Rattle.bt_tables.specs.Rows.{Keeps, counts_at, no_counts, row_of, rows_of, said}
-use Rattle.bt_tables.specs.Tables.{PieceState, fresh_piece, piece_row}
-use Rattle.bt_tables.proofs.Rowed.{cells_at, lent, row_begins, row_is, rows_length}
+use Rattle.bt_tables.specs.Rows.{counts_at, no_counts}
+use Rattle.bt_tables.specs.Tables.{fresh_piece}
+use Rattle.bt_tables.proofs.Rowed.{lent, row_begins, row_is, rows_length}
 use Rattle.bt_tables.proofs.rows.Rows.row.Goals as goal
 
 pub index-requires : goal.index-requires
