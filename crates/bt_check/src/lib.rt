@@ -9,8 +9,6 @@ mod lanes;
 mod proven;
 mod rule;
 mod tails;
-#[cfg(test)]
-mod tests;
 mod ticket;
 mod tickets;
 mod words;

@@ -5,6 +5,7 @@ mod board;
 mod check;
 mod devices;
 mod files;
+mod four_hashes;
 mod geometry;
 mod metainfo;
 mod order;

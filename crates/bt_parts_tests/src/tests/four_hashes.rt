@@ -1,4 +1,6 @@
-use crate::{FourDigests, hash_four};
+//! Four messages hashed side by side, by the standard's examples (FIPS 180-4) and beside the plain hash.
+
+use bt_check::{FourDigests, hash_four};
 use sha1::Sha1;
 
 // NIST's examples for FIPS 180-4, and the empty message.
