@@ -1,12 +1,12 @@
 -- What an exchange of two numbers, and the move of a border, leave of the arrays of an order.
-use Rattle.std.proofs.Common.{◌≡◌, ◌≢◌, ◌⊎◌, ℕ, zero, suc, ◌+◌, ◌-◌, ◌^◌, ◌<◌, ◌≤◌, ◌==◌, List, [], ◌∷◌, length, get_or, set, take, drop, ◌++◌}
+use Rattle.std.proofs.Common.{◌≡◌, ◌≢◌, ◌⊎◌, ℕ, zero, suc, ◌+◌, ◌-◌, ◌^◌, ◌<◌, ◌≤◌, List, [], ◌∷◌, length, get_or, set, take, drop, ◌++◌}
 use Rattle.std.proofs.Common.{replicate, refl, ap, sym, ◌∙◌, arith, length-set, ⊎_elim, inl, inr, subst}
-use Rattle.std.proofs.lemmas.Bool.{cases_eq, cases_lt, eqb-true, eqb-false}
+use Rattle.std.proofs.lemmas.Bool.{cases_eq, cases_lt}
 use Rattle.std.proofs.lemmas.List.{get_or-set_same, get_or-set_other, get_or_read, length-replicate, get_or-replicate}
 use Rattle.std.specs.List.{range_with_len}
 use Rattle.std.proofs.lemmas.List.FromFn.{get_or-range_with_len, length-range_with_len}
 use Rattle.std.proofs.lemmas.Grind.{common_steps}
-use Rattle.bt_tables.specs.Orders.{at, AreInverse, AreSplit, Begins, ListsGroup, OrderState, Side, TellsFirst}
+use Rattle.bt_tables.specs.Orders.{at, AreInverse, AreSplit, Begins, ListsGroup, OrderState, Side}
 
 -- what is read at k of a list that was written at b
 abbrev Reads : List ℕ → ℕ → ℕ → ℕ → Type 0
@@ -170,33 +170,6 @@ has_last groups places ends p g last split lp group_is last_is =
     let side = split.side p g lp (omega arith) in
     let read = get_or_read ends g last (omega arith) last_is 0 in
     (omega arith, read)
-
--- ---- whether each number is in the first group
-
-module _ (groups numbers places ends : List ℕ) (are : AreInverse numbers places) (split : AreSplit groups places ends) (some : 0 < length ends) where
-  -- the first group ends behind the last number
-  all_first : at ends 0 ≡ length numbers → (p : ℕ) → p < length groups → at groups p ≡ 0
-  all_first whole_is p lp =
-      let place = are.place p (omega (arith, split.same)) in
-      let side = split.side p 0 (omega (arith, split.same)) some in
-      omega (arith, are.same)
-
-  -- it ends before: the number that stands there is in another one
-  other_first : at ends 0 ≢ length numbers → (p : ℕ) × (p < length groups) × (0 < at groups p)
-  other_first apart =
-      let within = split.within 0 some in
-      let short : at ends 0 < length places = omega (arith, are.same, apart) in
-      let q = at numbers (at ends 0) in
-      let lq = are.number (at ends 0) short in
-      let stands = are.forth (at ends 0) short in
-      let side = split.side q 0 lq some in
-      (q, omega (arith, split.same), omega arith)
-
-  pub tells_first : TellsFirst groups (at ends 0 == length numbers)
-  tells_first = record {
-    each = λ is. all_first (eqb-true (at ends 0) (length numbers) is);
-    other = λ is. other_first (eqb-false (at ends 0) (length numbers) is);
-  }
 
 -- ---- the numbers of a group
 

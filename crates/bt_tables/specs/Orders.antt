@@ -1,5 +1,5 @@
 -- Numbers in groups: what contracts see of an order, and how its arrays fit together.
-use Rattle.std.specs.Prelude.{ℕ, ◌+◌, ◌≡◌, ◌⊎◌, ◌<◌, ◌≤◌, ◌^◌, Bool, true, false, List, length, slice_index_or}
+use Rattle.std.specs.Prelude.{ℕ, ◌+◌, ◌≡◌, ◌⊎◌, ◌<◌, ◌≤◌, ◌^◌, List, length, slice_index_or}
 
 -- the number at place i of a list
 abbrev pub at : List ℕ → ℕ → ℕ
@@ -16,11 +16,6 @@ pub record ListsGroup (group_of : List ℕ) (n : ℕ) (found : List ℕ) : Type 
   pub each : (i : ℕ) → i < length found → at group_of (at found i) ≡ n
   pub all : (p : ℕ) → p < length group_of → at group_of p ≡ n → (i : ℕ) × (i < length found) × (at found i ≡ p)
   pub once : (i j : ℕ) → i < j → j < length found → at found i ≡ at found j → ⊥
-
--- the answer tells whether each number is in group 0
-pub record TellsFirst (group_of : List ℕ) (all : Bool) : Type 0 where
-  pub each : all ≡ true → (p : ℕ) → p < length group_of → at group_of p ≡ 0
-  pub other : all ≡ false → (p : ℕ) × (p < length group_of) × (0 < at group_of p)
 
 -- ---- the arrays; no public clause cites what follows
 

@@ -2,7 +2,7 @@
 
 ghost use Rattle.std.specs.Prelude.{◌≡◌, ◌<◌, ◌≤◌, ◌+◌, ◌-◌, ℕ, true, length, replicate, slice_set, IfOk};
 ghost use Rattle.std.specs.List.{range_with_len};
-ghost use Rattle.bt_tables.specs.Orders.{at, AreInverse, Begins, ListsGroup, OrderState, TellsFirst};
+ghost use Rattle.bt_tables.specs.Orders.{at, AreInverse, Begins, ListsGroup, OrderState};
 
 use std::alloc::{AllocError, Global};
 use std::marker::Model;
@@ -78,14 +78,6 @@ impl Order {
         ensures { result ≡ true → (p : ℕ) → p < length self.now.group_of → low ≤ at self.now.group_of p → high ≤ at self.now.group_of p }
     {
         begin_of(&self.ends, low) == self.ends[high as usize - 1]
-    }
-
-    /// Whether each number is in group 0, in constant time.
-    pub fn are_all_first(&self) -> bool
-        requires { 0 < self.now.count }
-        ensures { TellsFirst self.now.group_of result }
-    {
-        self.ends[0] as usize == self.numbers.len()
     }
 
     /// Puts the number in this group. It takes a step for each border between its group and this one.
