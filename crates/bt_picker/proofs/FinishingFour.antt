@@ -99,10 +99,21 @@ stops_first old now w p same waiting = stops_at old old now w p 0 refl same (ap 
 
 -- ---- four verdicts, one after the other
 
+-- the first of four is settled, and the others are still due
+abbrev pub OneOfFour : DeskState → DeskState → ℕ → ℕ → Checked → Checked → Checked → Type 0
+OneOfFour old d w p two three four = SettlesEach old w p 1 d × IsDue d (p + 1) two × IsDue d (p + 2) three × IsDue d (p + 3) four
+
+-- two are settled
+abbrev pub TwoOfFour : DeskState → DeskState → ℕ → ℕ → Checked → Checked → Type 0
+TwoOfFour old d w p three four = SettlesEach old w p 2 d × IsDue d (p + 2) three × IsDue d (p + 3) four
+
+-- three are
+abbrev pub ThreeOfFour : DeskState → DeskState → ℕ → ℕ → Checked → Type 0
+ThreeOfFour old d w p four = SettlesEach old w p 3 d × IsDue d (p + 3) four
+
 module _ (old d : DeskState) (w p : ℕ) (reply : Reply) (one two three four : Checked) where
-  -- the first of four is settled, and the others are still due
   pub first_of_four : AreDue old p one two three four → Gains old d (settling old.setting old.history w one.piece reply) →
-      SettlesEach old w p 1 d × IsDue d (p + 1) two × IsDue d (p + 2) three × IsDue d (p + 3) four
+      OneOfFour old d w p two three four
   first_of_four due gains =
       let now = due_settles old d w p reply one due.first gains in (
         settled_one old d w p reply now,
@@ -112,8 +123,8 @@ module _ (old d : DeskState) (w p : ℕ) (reply : Reply) (one two three four : C
       )
 
 module _ (old d new : DeskState) (w p : ℕ) (reply : Reply) where
-  pub second_of_four : (two three four : Checked) → SettlesEach old w p 1 d × IsDue d (p + 1) two × IsDue d (p + 2) three × IsDue d (p + 3) four →
-      Gains d new (settling d.setting d.history w two.piece reply) → SettlesEach old w p 2 new × IsDue new (p + 2) three × IsDue new (p + 3) four
+  pub second_of_four : (two three four : Checked) → OneOfFour old d w p two three four →
+      Gains d new (settling d.setting d.history w two.piece reply) → TwoOfFour old new w p three four
   second_of_four two three four due gains =
       let now = due_settles d new w (p + 1) reply two due.1 gains in (
         settled_more old d new w p 1 reply due.0 now,
@@ -121,8 +132,8 @@ module _ (old d new : DeskState) (w p : ℕ) (reply : Reply) where
         due_still d new w (p + 1) (p + 3) reply four (λ same. absurd (omega (arith, same))) now due.3,
       )
 
-  pub third_of_four : (three four : Checked) → SettlesEach old w p 2 d × IsDue d (p + 2) three × IsDue d (p + 3) four →
-      Gains d new (settling d.setting d.history w three.piece reply) → SettlesEach old w p 3 new × IsDue new (p + 3) four
+  pub third_of_four : (three four : Checked) → TwoOfFour old d w p three four →
+      Gains d new (settling d.setting d.history w three.piece reply) → ThreeOfFour old new w p four
   third_of_four three four due gains =
       let now = due_settles d new w (p + 2) reply three due.1 gains in (
         settled_more old d new w p 2 reply due.0 now,
