@@ -19,7 +19,7 @@ use Rattle.bt_peer.specs.Places.{PlaceRecord}
 use Rattle.bt_peer.specs.Serial.{StreamRecord}
 use Rattle.bt_peer.specs.SessionTerms.{TermsState}
 use Rattle.bt_session.specs.Checking.{CheckersCheck, CheckersWork}
-use Rattle.bt_session.proofs.Worked.{plays_short}
+use Rattle.bt_session.proofs.Parts.{plays_short}
 use Rattle.bt_session.specs.PieceChecks.{AreChecks}
 use Rattle.bt_session.specs.Passes.{no_piece, pass_record, worker_record}
 use Rattle.bt_session.specs.Swarms.{EachPlays, EachSwarmed, MakesLastChecks, Swarmed}

@@ -3,6 +3,7 @@ pub mod Gathered
 pub mod Kept
 pub mod Noted
 pub mod Numbered
+pub mod Parts
 pub mod Passing
 pub mod PieceChecks
 pub mod Rising
@@ -10,4 +11,3 @@ pub mod Rows
 pub mod Seats
 pub mod Through
 pub mod Told
-pub mod Worked

@@ -5,7 +5,7 @@ use Rattle.std.proofs.lemmas.List.{length-map, take-append-drop}
 use Rattle.bt_meta.specs.Layout.{piece_count}
 use Rattle.bt_peer.specs.Serial.{stream_record}
 use Rattle.bt_peer.specs.SessionTerms.{terms_of}
-use Rattle.bt_session.proofs.Worked.{Parted, all_check, all_play, last_check, plays_short}
+use Rattle.bt_session.proofs.Parts.{Parted, all_check, all_play, last_check, plays_short}
 use Rattle.bt_session.specs.Runs.{ChecksLast}
 use Rattle.bt_session.specs.Workers.{WorkerState}
 use Rattle.bt_shared.specs.Passes.{PassState}

@@ -5,7 +5,7 @@ use Rattle.bt_session.specs.declared.checker.Checked.{Checked}
 use Rattle.bt_session.specs.declared.played.Played.{Played}
 use Rattle.bt_peer.specs.SessionTerms.{terms_of}
 use Rattle.bt_session.proofs.Kept.{part_at}
-use Rattle.bt_session.proofs.Worked.{plays_short}
+use Rattle.bt_session.proofs.Parts.{plays_short}
 use Rattle.bt_session.proofs.crew.fn.crew.scope.Goals as goal
 
 pub returns-in-Ok : goal.returns-in-Ok
