@@ -9,7 +9,7 @@ use Rattle.std.specs.declared.alloc.AllocError.{AllocError}
 use Rattle.bt_history.specs.declared.call.Reason.TheVariants.{Stale as StaleReason}
 use Rattle.bt_history.specs.declared.call.Reply.{Reply}
 use Rattle.bt_history.specs.declared.call.Reply.TheVariants.{Failed, Had, Refused}
-use Rattle.bt_keeper.specs.Kept.{IsStale}
+use Rattle.bt_picker.specs.Kept.{IsStale}
 use Rattle.bt_picker.specs.Checks.{blocks_of, unasked_check, waits}
 use Rattle.bt_picker.specs.Positions.{DeskState, Gains}
 use Rattle.bt_picker.specs.Told.{checking}

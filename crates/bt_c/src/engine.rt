@@ -15,9 +15,8 @@ ghost use Rattle.bt_c.specs.Calling.{TakesMemory};
 ghost use Rattle.bt_c.specs.Engines.{content_kept, keeping_of, state_of};
 
 use bt_history::{Call, MOST_WORKERS, Reply, Rules};
-use bt_keeper::Keeper;
 use bt_meta::{Bitfield, Block, Torrent};
-use bt_picker::{Desk, Picker, Told};
+use bt_picker::{Desk, Keeper, Picker, Told};
 use bytes::Bytes;
 use std::alloc::{AllocError, Global};
 use std::sync::Arc;

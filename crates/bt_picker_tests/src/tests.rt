@@ -7,6 +7,7 @@ mod examples;
 mod finished;
 mod gathering;
 mod groups;
+mod keeper;
 mod large;
 mod logs;
 mod meeting;

@@ -9,9 +9,8 @@ mod peer;
 mod store;
 
 use anyhow::Result;
-use bt_keeper::Keeper;
 use bt_meta::{Bitfield, Block, Torrent};
-use bt_picker::{Reply, Rules, Told};
+use bt_picker::{Keeper, Reply, Rules, Told};
 use bytes::Bytes;
 use peer::Peer;
 use rand_core::Rng;

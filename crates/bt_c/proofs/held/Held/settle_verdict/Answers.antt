@@ -1,6 +1,6 @@
 use Rattle.std.proofs.Common.{◌≡◌, ◌∙◌, ap, rules, subst, sym}
 use Rattle.bt_check.specs.Checked.{Checked, joined}
-use Rattle.bt_keeper.specs.Kept.{SettlesOrStale}
+use Rattle.bt_picker.specs.Kept.{SettlesOrStale}
 use Rattle.bt_picker.specs.Positions.{DeskState, Gains}
 use Rattle.bt_picker.specs.Told.{checking}
 use Rattle.bt_c.specs.declared.engine.Engine.{Engine}

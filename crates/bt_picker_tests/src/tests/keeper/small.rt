@@ -1,0 +1,144 @@
+//! A keeper of pieces `abc`, `abc` and `a`.
+
+use super::steps::*;
+use bt_meta::Torrent;
+use bt_picker::*;
+use std::alloc::Global;
+use std::process::Abort;
+use std::test::*;
+
+/// The SHA-1 of `abc` (FIPS 180-4, the first worked example).
+const ABC: [u8; 20] = [
+    0xa9, 0x99, 0x3e, 0x36, 0x47, 0x06, 0x81, 0x6a, 0xba, 0x3e, 0x25, 0x71, 0x78, 0x50, 0xc2, 0x6c,
+    0x9c, 0xd0, 0xd8, 0x9d,
+];
+
+/// The SHA-1 of `a`, by another program.
+const A: [u8; 20] = [
+    0x86, 0xf7, 0xe4, 0x37, 0xfa, 0xa5, 0xa7, 0xfc, 0xe1, 0x5d, 0x1d, 0xdc, 0xb9, 0xea, 0xea, 0xea,
+    0x37, 0x76, 0x67, 0xb8,
+];
+
+fn three_pieces(rt: &impl Abort, alloc: Global) -> Result<Keeper, Fail> {
+    let hashes = vec![in alloc; ABC, ABC, A]?;
+    keeper_of(rt, alloc, Torrent::of_parts(3, 7, hashes, [0; 20])?)
+}
+
+/// Piece 0 is asked for, comes, is hashed and had, and its block is handed out.
+#[test]
+fn a_piece_from_its_request_to_its_blocks(rt: HostRuntime) -> Result<(), Fail> {
+    let alloc = rt.alloc();
+    let mut keeper = three_pieces(&rt, alloc)?;
+    let block = asks(&rt, alloc, &mut keeper)?;
+    assert!(rt; block.piece == 0 && block.begin == 0 && block.len == 3);
+    brings(&rt, alloc, &mut keeper, 0, 0, b"abc", Reply::Completed)?;
+    let verdict = verdict_of(&rt, alloc, &keeper, 0)?;
+    settles(&rt, keeper.settle(0, &verdict), Reply::Had, Some(b"abc"));
+    settles(
+        &rt,
+        keeper.settle(0, &verdict),
+        Reply::Refused(Reason::NotWaiting),
+        None,
+    );
+    Ok(())
+}
+
+/// All pieces come, copied from what is told, and are settled as they come.
+#[test]
+fn all_pieces_by_what_is_told(rt: HostRuntime) -> Result<(), Fail> {
+    let alloc = rt.alloc();
+    let mut keeper = three_pieces(&rt, alloc)?;
+    comes(&rt, alloc, &mut keeper, 0, b"abc")?;
+    comes(&rt, alloc, &mut keeper, 1, b"abc")?;
+    comes(&rt, alloc, &mut keeper, 2, b"a")?;
+    assert!(rt; keeper.is_complete() && keeper.has_wanted());
+    Ok(())
+}
+
+/// The piece is told, and had.
+fn comes(
+    rt: &impl Abort,
+    alloc: Global,
+    keeper: &mut Keeper,
+    piece: u32,
+    bytes: &[u8],
+) -> Result<(), Fail> {
+    let told = Told::Arrived {
+        piece,
+        begin: 0,
+        bytes,
+    };
+    tells(rt, alloc, keeper, told, Reply::Completed)?;
+    settles(rt, keeper.settle_now(0, piece), Reply::Had, Some(bytes));
+    Ok(())
+}
+
+/// A wrong block fails its piece, is held no longer, and is asked for again.
+#[test]
+fn a_wrong_block_is_asked_for_again(rt: HostRuntime) -> Result<(), Fail> {
+    let alloc = rt.alloc();
+    let mut keeper = three_pieces(&rt, alloc)?;
+    let first = asks(&rt, alloc, &mut keeper)?;
+    brings(&rt, alloc, &mut keeper, 0, 0, b"xyz", Reply::Completed)?;
+    settles(&rt, keeper.settle_now(0, 0), Reply::Failed, None);
+    assert!(rt; !keeper.is_waiting(0));
+    let again = asks(&rt, alloc, &mut keeper)?;
+    assert!(rt; again == first);
+    Ok(())
+}
+
+/// A verdict of bytes that were replaced since is stale, and the piece still waits.
+#[test]
+fn a_verdict_of_replaced_bytes_is_refused(rt: HostRuntime) -> Result<(), Fail> {
+    let alloc = rt.alloc();
+    let mut keeper = three_pieces(&rt, alloc)?;
+    brings(&rt, alloc, &mut keeper, 0, 0, b"xyz", Reply::Completed)?;
+    let wrong = verdict_of(&rt, alloc, &keeper, 0)?;
+    settles(&rt, keeper.settle(0, &wrong), Reply::Failed, None);
+    brings(&rt, alloc, &mut keeper, 0, 0, b"abc", Reply::Completed)?;
+    settles(
+        &rt,
+        keeper.settle(0, &wrong),
+        Reply::Refused(Reason::Stale),
+        None,
+    );
+    assert!(rt; keeper.is_waiting(0));
+    settles(&rt, keeper.settle_now(0, 0), Reply::Had, Some(b"abc"));
+    Ok(())
+}
+
+/// A number that is no worker's is refused whatever it tells, and so is a piece beyond the last.
+#[test]
+fn no_worker_and_no_piece(rt: HostRuntime) -> Result<(), Fail> {
+    let alloc = rt.alloc();
+    let none = Reply::Refused(Reason::NotJoined);
+    let beyond = Reply::Refused(Reason::NoSuchPiece);
+    let mut keeper = three_pieces(&rt, alloc)?;
+    replies(&rt, keeper.tell(alloc, 2, Told::Join)?, none);
+    brings(&rt, alloc, &mut keeper, 2, 0, b"abc", none)?;
+    brings(&rt, alloc, &mut keeper, 0, 3, b"abc", beyond)?;
+    assert!(rt; keeper.job(alloc, 3)?.is_none());
+    settles(&rt, keeper.settle_now(0, 3), beyond, None);
+    brings(&rt, alloc, &mut keeper, 0, 0, b"abc", Reply::Completed)?;
+    settles(&rt, keeper.settle_now(2, 0), none, None);
+    settles(&rt, keeper.settle_now(1, 0), Reply::Had, Some(b"abc"));
+    Ok(())
+}
+
+/// A level is told of one piece, and the order of all. A peer is asked for the highest level then, and in order for the least piece.
+#[test]
+fn levels_and_order(rt: HostRuntime) -> Result<(), Fail> {
+    let alloc = rt.alloc();
+    let mut keeper = three_pieces(&rt, alloc)?;
+    has_level(&rt, &keeper, 2, 4);
+    assert!(rt; !keeper.is_in_order());
+    let raised = Told::Level { piece: 2, level: 5 };
+    tells(&rt, alloc, &mut keeper, raised, Reply::Quiet)?;
+    tells(&rt, alloc, &mut keeper, Told::InOrder(true), Reply::Quiet)?;
+    has_level(&rt, &keeper, 2, 5);
+    has_level(&rt, &keeper, 1, 4);
+    assert!(rt; keeper.is_in_order());
+    assert!(rt; asks(&rt, alloc, &mut keeper)?.piece == 2);
+    assert!(rt; asks(&rt, alloc, &mut keeper)?.piece == 0);
+    Ok(())
+}
