@@ -16,7 +16,7 @@ use Rattle.bt_history.specs.declared.call.Reply.{Reply}
 use Rattle.bt_history.specs.declared.call.Reply.TheVariants.{Failed, Had, Refused}
 use Rattle.bt_history.specs.declared.event.Action.TheVariants.{Settle}
 use Rattle.bt_history.specs.Pieces.{content, full, had}
-use Rattle.bt_picker.proofs.Waiting.{joined_blocks}
+use Rattle.bt_picker.proofs.KeeperWaiting.{joined_blocks}
 use Rattle.bt_picker.specs.Kept.{SettlesOrStale}
 use Rattle.bt_picker.proofs.Answering.{answer_check, refuse_check}
 use Rattle.bt_picker.proofs.Checking.{settled_kinds}

@@ -19,6 +19,7 @@ use Rattle.bt_history.proofs.HeldLaws.{had_full}
 use Rattle.bt_tables.specs.Tables.{one_if, TablesState, PieceState}
 use Rattle.bt_picker.specs.Tables.{AreTables, piece_of, groups_of}
 use Rattle.bt_tables.specs.Standings.{first_group, group_of_row, stage_of_row, is_held, is_touched, standing_of, held_count, touched_count}
+use Rattle.bt_tables.specs.declared.piece.TheConstants.{ASKED_OUT}
 use Rattle.bt_picker.proofs.Levelled.{Covers}
 use Rattle.bt_picker.proofs.Stages.{begun_stage, place_listed}
 use Rattle.bt_picker.specs.Search.{DoublesNone, FindsAmong, FindsListed, FindsOf}
@@ -41,7 +42,7 @@ double_parts true true false d is = (refl, refl, refl)
 
 pub doubles_stage : (s : Setting) (h : History) (q p : ℕ) → IsLegal s h → p < piece_count s.torrent → endgame s h ≡ true →
     some_block_of s.torrent p (doubles s h q) ≡ true
-    → (shows h q p ≡ true) × (stage_of_row (piece_of s h p) ≡ 1)
+    → (shows h q p ≡ true) × (stage_of_row (piece_of s h p) ≡ ASKED_OUT)
 doubles_stage s h q p legal lp ending some =
     let found = any_witness (block_count s.torrent p) (λ k. doubles s h q (block s.torrent p k)) some in
     let k = found.0 in

@@ -28,13 +28,14 @@ use Rattle.bt_history.proofs.LineLaws.{block_is_block, some_found}
 use Rattle.bt_history.proofs.NextCases.{next_cases, next_is, next_request}
 use Rattle.bt_tables.specs.Floors.{IsFloor, NoneFresh, TellsFloor, is_fresh, rank_of_row}
 use Rattle.bt_picker.specs.Search.{NoneBefore, NoneBegins, rank_at}
-use Rattle.bt_tables.specs.Standings.{shown_stage, stage_of_row}
+use Rattle.bt_tables.specs.Standings.{stage_of_row}
+use Rattle.bt_tables.specs.declared.piece.TheConstants.{UNBEGUN}
 use Rattle.std.specs.List.{count_by}
 use Rattle.bt_picker.specs.Tables.{AreTables, peer_of, piece_of}
 use Rattle.bt_tables.specs.Tables.{PeerState, PieceState, TablesState, announced, edit, fresh_peer, fresh_piece, have_row, less_available}
 use Rattle.bt_tables.specs.Tables.{more_available, peer_row, piece_row}
 use Rattle.bt_picker.proofs.Stages.{candidate_parts}
-use Rattle.bt_picker.proofs.Telling.{had_rows, stage_is, unchosen, untouched_row, wanted_chosen}
+use Rattle.bt_picker.proofs.Telling.{had_rows, stage_by, stage_is, unchosen, untouched_row, wanted_chosen}
 use Rattle.bt_picker.proofs.Scans.{candidate_usable, first_block, lacks_found}
 use Rattle.bt_tables.proofs.Tabled.{edit_read, get_or_is_table, get_or_table, length_edit}
 
@@ -202,13 +203,13 @@ module _ (s : Setting) (h : History) (w word : ℕ) (legal : IsLegal s h) (layou
 
 -- ---- the tables before an entry
 
--- a piece of the stages from 3 on is unbegun
-stage_fresh : (s : Setting) (h : History) (p : ℕ) → 3 ≤ stage_of_row (piece_of s h p) → unbegun s h p ≡ true
+-- a piece of the stages from UNBEGUN on is unbegun
+stage_fresh : (s : Setting) (h : History) (p : ℕ) → UNBEGUN ≤ stage_of_row (piece_of s h p) → unbegun s h p ≡ true
 stage_fresh s h p high =
     by_test (had h p) (chosen h p) (some_block_of s.torrent p (held_or_asked s h)) (each_block_of s.torrent p (held_or_asked s h))
-    (shown_stage (availability s h p)) (subst (λ (n : ℕ). 3 ≤ n) (stage_is s h p) high)
+    (availability s h p) (subst (λ (n : ℕ). UNBEGUN ≤ n) (stage_is s h p) high)
   where
-    by_test : (d c t u : Bool) (n : ℕ) → 3 ≤ (if d || not c then 0 else if not t then n else if u then 1 else 2) → (not d && not t) ≡ true
+    by_test : (d c t u : Bool) (n : ℕ) → UNBEGUN ≤ stage_by d c t u n → (not d && not t) ≡ true
     by_test true c t u n le = absurd (omega (arith, le))
     by_test false false t u n le = absurd (omega (arith, le))
     by_test false true false u n le = refl
@@ -226,7 +227,7 @@ told_floor t h w word n (Request b) are allowed lw (inl told) =
     let s = t.setting in
     let lp : b.piece < piece_count s.torrent = subst (λ (m : ℕ). b.piece < m) are.pieces_len told.0.within in
     let row = row_is t h w are lw b.piece lp in
-    let fresh = stage_fresh s h b.piece (subst (λ (r : PieceState). 3 ≤ stage_of_row r) row told.0.unbegun) in
+    let fresh = stage_fresh s h b.piece (subst (λ (r : PieceState). UNBEGUN ≤ stage_of_row r) row told.0.unbegun) in
     let unordered = sym are.in_order_is ∙ told.0.unordered in
     let had = ap (count_by (λ (r : PieceState). r.had)) are.pieces_are ∙ had_rows s h in
     let settled = le-ltb (had_count s h) s.random (subst (λ (m : ℕ). s.random ≤ m) had told.0.settled) in

@@ -19,14 +19,9 @@ use Rattle.bt_tables.proofs.Tabled.{get_or_table, length_table}
 use Rattle.bt_picker.specs.Search.{IsLevel, is_candidate_at}
 use Rattle.bt_picker.specs.Tables.{groups_of, piece_of}
 use Rattle.bt_tables.specs.declared.piece.TheConstants.{ASKED_OUT, CROWD, GROUPS, OPEN, RESTING, SPAN, UNBEGUN}
-use Rattle.bt_picker.proofs.Telling.{stage_is, wanted_chosen}
+use Rattle.bt_picker.proofs.Telling.{stage_by, stage_is, wanted_chosen}
 
 -- ---- what a stage tells of a piece
-
--- the stage by its four tests
-abbrev pub stage_by : Bool → Bool → Bool → Bool → ℕ → ℕ
-stage_by had chosen touched full n =
-    if had || not chosen then RESTING else if not touched then UNBEGUN + min n CROWD else if full then ASKED_OUT else OPEN
 
 stage_low : (d c t u : Bool) (n : ℕ) → stage_by d c t u n < SPAN
 stage_low true c t u n = omega arith
@@ -36,12 +31,12 @@ stage_low false true true true n = omega arith
 stage_low false true true false n = omega arith
 
 -- of a piece with something left to get
-left_by : (d c t u : Bool) (n : ℕ) → 0 < stage_by d c t u n → (d ≡ false) × (c ≡ true)
+left_by : (d c t u : Bool) (n : ℕ) → RESTING < stage_by d c t u n → (d ≡ false) × (c ≡ true)
 left_by true c t u n some = absurd (omega (arith, some))
 left_by false false t u n some = absurd (omega (arith, some))
 left_by false true t u n some = (refl, refl)
 
-open_by : (d c t u : Bool) (n : ℕ) → stage_by d c t u n ≡ 2 → (d ≡ false) × (c ≡ true) × (t ≡ true) × (u ≡ false)
+open_by : (d c t u : Bool) (n : ℕ) → stage_by d c t u n ≡ OPEN → (d ≡ false) × (c ≡ true) × (t ≡ true) × (u ≡ false)
 open_by true c t u n is = absurd (omega (arith, is))
 open_by false false t u n is = absurd (omega (arith, is))
 open_by false true false u n is = absurd (omega (arith, is))
@@ -66,10 +61,10 @@ module _ (s : Setting) (h : History) (p : ℕ) where
   stage_few = subst (λ (n : ℕ). n < SPAN) (sym (stage_is s h p)) (stage_low (had h p) (chosen h p) touched full (availability s h p))
 
   -- a piece with something left to get is wanted
-  pub stage_left : 0 < stage_of_row (piece_of s h p) → (had h p ≡ false) × (chosen h p ≡ true)
+  pub stage_left : RESTING < stage_of_row (piece_of s h p) → (had h p ≡ false) × (chosen h p ≡ true)
   stage_left some = left_by (had h p) (chosen h p) touched full (availability s h p) (subst (λ (n : ℕ). 0 < n) (stage_is s h p) some)
 
-  pub stage_open : stage_of_row (piece_of s h p) ≡ 2 → (had h p ≡ false) × (chosen h p ≡ true) × (touched ≡ true) × (full ≡ false)
+  pub stage_open : stage_of_row (piece_of s h p) ≡ OPEN → (had h p ≡ false) × (chosen h p ≡ true) × (touched ≡ true) × (full ≡ false)
   stage_open is = open_by (had h p) (chosen h p) touched full (availability s h p) (sym (stage_is s h p) ∙ is)
 
   pub stage_unbegun : (n : ℕ) → stage_of_row (piece_of s h p) ≡ UNBEGUN + n
@@ -81,7 +76,7 @@ module _ (s : Setting) (h : History) (p : ℕ) where
   unbegun_stage lacks picked fresh = stage_is s h p ∙ (λ i. stage_by (lacks i) (picked i) (fresh i) full (availability s h p))
 
   pub begun_stage : (x : Bool) → had h p ≡ false → chosen h p ≡ true → touched ≡ true → full ≡ x
-      → stage_of_row (piece_of s h p) ≡ (if x then 1 else 2)
+      → stage_of_row (piece_of s h p) ≡ (if x then ASKED_OUT else OPEN)
   begun_stage x lacks picked begun all = stage_is s h p ∙ (λ i. stage_by (lacks i) (picked i) (begun i) (all i) (availability s h p))
 
 -- ---- the group that a stage of a level is
@@ -112,7 +107,7 @@ slot_same l n own is same = by_own (level_cases l) where
       (λ high there. absurd (omega (arith, there, high, less.1))) (λ low there. omega (arith, there, low, less.1))
 
 -- the level and the stage of a group can be told from its number
-same_place : (l n st k : ℕ) → l ≤ 7 → IsLevel n → st < SPAN → (l ≡ 0 → st ≡ 0) → 0 < k → k < SPAN
+same_place : (l n st k : ℕ) → l ≤ 7 → IsLevel n → st < SPAN → (l ≡ 0 → st ≡ RESTING) → RESTING < k → k < SPAN
     → slot_of l * SPAN + st ≡ slot_of n * SPAN + k → (l ≡ n) × (st ≡ k)
 same_place l n st k few is low none some under same =
     let slot : slot_of l ≡ slot_of n = omega (arith, same, low, under) in
@@ -124,12 +119,12 @@ same_place l n st k few is low none some under same =
 
 module _ (s : Setting) (h : History) (p : ℕ) (legal : IsLegal s h) where
   -- a piece of level 0 rests
-  unchosen_rests : level h p ≡ 0 → stage_of_row (piece_of s h p) ≡ 0
+  unchosen_rests : level h p ≡ 0 → stage_of_row (piece_of s h p) ≡ RESTING
   unchosen_rests none = stage_is s h p ∙ (λ i. stage_by (had h p) (nat_lt 0 (none i)) (some_block_of s.torrent p (held_or_asked s h))
       (each_block_of s.torrent p (held_or_asked s h)) (availability s h p)) ∙ rests (had h p)
     where
       rests : (d : Bool) → stage_by d false (some_block_of s.torrent p (held_or_asked s h)) (each_block_of s.torrent p (held_or_asked s h))
-          (availability s h p) ≡ 0
+          (availability s h p) ≡ RESTING
       rests true = refl
       rests false = refl
 
@@ -218,11 +213,11 @@ pub open_within : (s : Setting) (h : History) (pieces : List ℕ) → ListsOpen 
 open_within s h pieces lists i li = omega (arith, lists.known i li, groups_long s h)
 
 pub listed_open : (s : Setting) (h : History) (pieces : List ℕ) → ListsOpen (groups_of s h) pieces → (i : ℕ) → i < length pieces
-    → stage_of_row (piece_of s h (at pieces i)) ≡ 2
+    → stage_of_row (piece_of s h (at pieces i)) ≡ OPEN
 listed_open s h pieces lists i li = sym (stage_told s h (at pieces i) (open_within s h pieces lists i li)) ∙ lists.each i li
 
 pub open_listed : (s : Setting) (h : History) (pieces : List ℕ) (p : ℕ) → ListsOpen (groups_of s h) pieces → p < piece_count s.torrent
-    → stage_of_row (piece_of s h p) ≡ 2 → (i : ℕ) × (i < length pieces) × (at pieces i ≡ p)
+    → stage_of_row (piece_of s h p) ≡ OPEN → (i : ℕ) × (i < length pieces) × (at pieces i ≡ p)
 open_listed s h pieces p lists lp stage = lists.all p (omega (arith, groups_long s h, lp)) (stage_told s h p lp ∙ stage)
 
 -- ---- candidates

@@ -15,6 +15,7 @@ use Rattle.bt_history.proofs.Sending.{sender_held}
 use Rattle.bt_picker.specs.Tables.{piece_of, cell_of}
 use Rattle.bt_picker.specs.Search.{FindsListed, FindsRarest, IsRarer}
 use Rattle.bt_tables.specs.Standings.{is_held, is_touched, held_count, touched_count, shown_stage, stage_of_row}
+use Rattle.bt_tables.specs.declared.piece.TheConstants.{ASKED_OUT, OPEN, RESTING}
 use Rattle.bt_tables.proofs.Tabled.{table_more, length_table}
 use Rattle.bt_tables.specs.Orders.{at}
 use Rattle.bt_picker.proofs.Cells.{any_counted, asked_counted}
@@ -59,6 +60,11 @@ none_or_more (suc n) = ne_eqb (suc n) 0 (λ same. omega (arith, same)) ∙ ap no
 
 -- ---- the counts of a piece
 
+-- the stage of a piece by four tests: it is had, it is chosen, some block of it is held or asked, and each one is
+abbrev pub stage_by : Bool → Bool → Bool → Bool → ℕ → ℕ
+stage_by had chosen touched full n =
+    if had || not chosen then RESTING else if not touched then shown_stage n else if full then ASKED_OUT else OPEN
+
 module _ (s : Setting) (h : History) (p : ℕ) where
   held_is : (k : ℕ) → is_held (cell_of s h (block s.torrent p k)) ≡ held h (block s.torrent p k)
   held_is k = sender_held h (block s.torrent p k)
@@ -97,10 +103,9 @@ module _ (s : Setting) (h : History) (p : ℕ) where
 
   -- the stage of a piece, by the definitions
   pub stage_is : stage_of_row (piece_of s h p)
-      ≡ (if had h p || not (chosen h p) then 0 else if not (some_block_of s.torrent p (held_or_asked s h)) then shown_stage (availability s h p)
-      else if each_block_of s.torrent p (held_or_asked s h) then 1 else 2)
-  stage_is = λ i. if had h p || unchosen i then 0 else if untouched_row i then shown_stage (availability s h p) else if all_touched_row i then
-      1 else 2
+      ≡ stage_by (had h p) (chosen h p) (some_block_of s.torrent p (held_or_asked s h)) (each_block_of s.torrent p (held_or_asked s h)) (availability s h p)
+  stage_is = λ i. if had h p || unchosen i then RESTING else if untouched_row i then shown_stage (availability s h p)
+      else if all_touched_row i then ASKED_OUT else OPEN
 
   -- a piece of the torrent is wanted where it is chosen
   pub wanted_chosen : p < piece_count s.torrent → wanted s h p ≡ chosen h p
