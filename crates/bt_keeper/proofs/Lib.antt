@@ -1,5 +1,0 @@
-pub mod BlockBytes
-pub mod Stashing
-pub mod Rowed
-pub mod Calls
-pub mod Waiting
