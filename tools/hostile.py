@@ -58,7 +58,9 @@ def many():
     yield "a million cancels", frame(8, LARGEST, LARGEST, LARGEST) * MILLION, MILLION
     yield "a million chokes and unchokes", (frame(0) + frame(1)) * (MILLION // 2), MILLION
     yield "have of one piece, a million times", frame(4, 0) * MILLION, MILLION
-    yield "one block, a thousand times", frame(7, 0, 0, tail=b"x" * BLOCK) * 1000, 1000
+    block = frame(7, 0, 0, tail=b"x" * BLOCK)
+    yield "one block, a thousand times", block * 1000, 1000
+    yield "the same, each behind an unknown message of 48 KiB", (frame(20, tail=bytes(3 * BLOCK)) + block) * 1000, 2000
 
 
 def text(content):
