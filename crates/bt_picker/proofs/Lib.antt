@@ -20,6 +20,7 @@ pub mod Fresh
 pub mod Interest
 pub mod KeeperCalls
 pub mod KeeperWaiting
+pub mod Lasting
 pub mod Learning
 pub mod Levelled
 pub mod PeerSteps

@@ -2,6 +2,7 @@ pub mod Audits
 pub mod Checks
 pub mod Contents
 pub mod Kept
+pub mod Lasting
 pub mod Noted
 pub mod Places
 pub mod Positions

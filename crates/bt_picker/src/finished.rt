@@ -1,10 +1,10 @@
-//! The list of the pieces that are had.
+//! The list of the pieces that are had, and the number of checks that failed.
 
-ghost use Rattle.std.specs.Prelude.{◌≡◌, ◌≢◌, ◌<◌, ◌++◌, [], None, length, vec_capacity, if◌then◌else◌};
+ghost use Rattle.std.specs.Prelude.{◌≡◌, ◌≢◌, ◌+◌, ◌<◌, ◌++◌, [], None, length, vec_capacity, if◌then◌else◌};
 ghost use Rattle.std.specs.Option.{option_to_list};
 ghost use Rattle.bt_history.specs.Entries.{action_of};
 ghost use Rattle.bt_history.specs.Finished.{checked_by};
-ghost use Rattle.bt_history.specs.History.{is_had};
+ghost use Rattle.bt_history.specs.History.{is_failed, is_had};
 
 use bt_history::{Call, Reply};
 
@@ -26,5 +26,15 @@ pub fn list_finished(had_pieces: &mut Vec<u32>, finished: Option<u32>)
 {
     if let Some(piece) = finished {
         had_pieces.push_reserved(piece);
+    }
+}
+
+/// Counts the check, if it failed.
+pub fn count_failure(failures: &mut u64, reply: Reply)
+    requires { failures.old + 1 < 18446744073709551616 }
+    ensures { failures.new ≡ (if is_failed reply then 1 else 0) + failures.old }
+{
+    if let Reply::Failed = reply {
+        *failures += 1;
     }
 }

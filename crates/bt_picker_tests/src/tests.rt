@@ -20,3 +20,4 @@ mod shown;
 mod steps;
 mod threads;
 mod tickets;
+mod verdicts;

@@ -1,6 +1,7 @@
 -- The workers of a run in threads: what each of them has, and what its seat knows.
 use Rattle.std.specs.Prelude.{◌≡◌, ◌==◌, ◌<◌, ◌+◌, if◌then◌else◌, ℕ, Bool, true, false, List, [], ◌∷◌, length, slice_get, slice_index_or, Option}
-use Rattle.std.specs.Prelude.{Some}
+use Rattle.std.specs.Prelude.{Some, map}
+use Rattle.std.specs.List.{All}
 use Rattle.atomic_table.specs.Seated.{TableId}
 use Rattle.bt_board.specs.Knowing.{has_seen, has_given}
 use Rattle.bt_board.specs.Seats.{BoardState, SeatState}
@@ -10,6 +11,7 @@ use Rattle.bt_check.specs.Queues.{Queue, TicketPassState}
 use Rattle.bt_history.specs.Setting.{Setting}
 use Rattle.bt_meta.specs.Layout.{Layout, piece_count}
 use Rattle.bt_shared.specs.Passes.{PassState, SharedState}
+use Rattle.bt_shared.specs.SharedJobs.{JobState}
 
 -- a worker: its pass of the desk, its seat at the board, and its pass of the queue of tickets
 pub record WorkerState : Type 0 where
@@ -25,6 +27,27 @@ with_tickets worker tickets = record { pass = worker.pass; seat = worker.seat; t
 pub record IsNamed (desk : Option TableId) (setting : Setting) (pass : PassState) : Type 0 where
   pub desk_is : desk ≡ Some pass.table
   pub setting_is : pass.setting ≡ setting
+
+-- the job, or its verdict, is one of the desk of this name
+pub record IsOfRun (desk : Option TableId) (setting : Setting) (job : JobState) : Type 0 where
+  pub desk_is : desk ≡ Some job.table
+  pub setting_is : job.setting ≡ setting
+
+-- and it is of this piece
+abbrev pub IsCheckOf : Option TableId → Setting → ℕ → JobState → Type 0
+IsCheckOf desk setting piece job = IsOfRun desk setting job × (job.checked.piece ≡ piece)
+
+-- each of them is
+abbrev pub AreOfRun : Option TableId → Setting → List JobState → Type 0
+AreOfRun desk setting jobs = All (IsOfRun desk setting) jobs
+
+-- the pieces that they are of
+abbrev pub pieces_of : List JobState → List ℕ
+pieces_of jobs = map (λ (job : JobState). job.checked.piece) jobs
+
+-- and they are of these pieces
+abbrev pub AreChecksOf : Option TableId → Setting → List ℕ → List JobState → Type 0
+AreChecksOf desk setting pieces jobs = AreOfRun desk setting jobs × (pieces ≡ pieces_of jobs)
 
 -- each of these passes is
 abbrev pub AreNamed : Option TableId → Setting → List PassState → Type 0

@@ -10,20 +10,22 @@ ghost use Rattle.bt_history.specs.Entries.{action_of, event};
 ghost use Rattle.bt_history.specs.Legal.{IsLegal};
 ghost use Rattle.bt_history.specs.Logs.{answers, call_mark};
 ghost use Rattle.bt_history.specs.Pieces.{had};
+ghost use Rattle.bt_history.specs.declared.mark.CallMark.TheVariants.{Settle};
 ghost use Rattle.bt_meta.specs.Layout.{piece_count};
 ghost use Rattle.bt_session.specs.PieceChecks.{IsIdle, IsQuiet, MakesCheck, MayCheck, PutsIf, SeesTo, TakesNone, TakesPiece};
 ghost use Rattle.bt_session.specs.Runs.{IsRunFault};
-ghost use Rattle.bt_session.specs.Workers.{AreNamed, Belongs, Shares, StandInOrder, Takes, TellsNone, TellsOne, WorkerState, knows, with_tickets};
+ghost use Rattle.bt_session.specs.Workers.{AreNamed, Belongs, IsCheckOf, IsOfRun, Shares, StandInOrder, Takes, TellsNone, TellsOne, WorkerState, knows, with_tickets};
 ghost use Rattle.bt_shared.specs.Gathering.{EachAgrees, EachFrom};
 ghost use Rattle.bt_shared.specs.Passes.{Enters, Notes};
+ghost use Rattle.bt_shared.specs.SharedJobs.{checking};
 
 use crate::fault::SwarmFault;
 use crate::run_name::RunName;
 use bt_board::{Board, BoardSeat};
-use bt_check::{Job, Proven, Ticket, TicketPass, Tickets, Verdict};
+use bt_check::{Proven, Ticket, TicketPass, Tickets};
 use bt_meta::Torrent;
 use bt_picker::{Call, Reply};
-use bt_shared::{Book, Pass, SharedDesk};
+use bt_shared::{Book, Pass, SharedDesk, SharedJob, SharedVerdict};
 use std::alloc::{AllocError, Global};
 use std::marker::{Model, PhantomData};
 use std::sync::{Arc, Wait};
@@ -215,11 +217,11 @@ impl<L: RunName> Commons<L> {
         alloc: Global,
         worker: &mut Worker<L>,
         piece: u32,
-    ) -> Option<Job>
+    ) -> Option<SharedJob>
         ensures idle { IsIdle worker.old worker.new }
-        ensures piece { IfSome result (λ job. job.piece ≡ piece) }
+        ensures job { IfSome result (λ job. IsCheckOf L.desk L.setting piece job) }
     {
-        match self.desk.job(rt, alloc, &mut worker.pass, piece) {
+        match self.desk.shared_job(rt, alloc, &mut worker.pass, piece) {
             Ok(job) => job,
             Err(_) => None,
         }
@@ -238,8 +240,8 @@ impl<L: RunName> Commons<L> {
         ensures ok { OnOk result (SeesTo L.setting worker.old piece worker.new) }
         ensures err { OnErr result (IsIdle worker.old worker.new) }
     {
-        match self.desk.job(rt, alloc, &mut worker.pass, piece)? {
-            Some(job) => self.settle(rt, worker, Arc::new(alloc, job.hash())?),
+        match self.desk.shared_job(rt, alloc, &mut worker.pass, piece)? {
+            Some(job) => self.settle(rt, worker, job.hash(alloc)?),
             None => Ok(()),
         }
     }
@@ -249,19 +251,38 @@ impl<L: RunName> Commons<L> {
         &self,
         rt: &T,
         worker: &mut Worker<L>,
-        verdict: Arc<Verdict>,
+        verdict: SharedVerdict,
     ) -> Result<(), AllocError>
-        ensures ok { OnOk result (MakesCheck L.setting worker.old verdict.value.piece worker.new) }
+        requires { IsOfRun L.desk L.setting verdict }
+        ensures ok { OnOk result (MakesCheck L.setting worker.old verdict.checked.piece worker.new) }
         ensures err { OnErr result (IsIdle worker.old worker.new) }
     {
-        let proven = Proven::of(verdict.clone()?, &self.torrent);
-        let reply = self.call(rt, worker, Call::Settle(verdict))?;
+        let proven = Proven::of(verdict.verdict().clone()?, &self.torrent);
+        let reply = self.enter_verdict(rt, worker, verdict)?;
         if let Reply::Had = reply {
             // A piece is had by bytes with its hash alone.
             let Ok(proven) = proven else { unreachable!() };
             self.announce(worker, proven);
         }
         Ok(())
+    }
+
+    /// Settles the verdict at the desk. Waits for it. Without memory, no entry is made.
+    fn enter_verdict<T: Wait>(
+        &self,
+        rt: &T,
+        worker: &mut Worker<L>,
+        verdict: SharedVerdict,
+    ) -> Result<Reply, AllocError>
+        requires { IsOfRun L.desk L.setting verdict }
+        ensures ok { IfOk result (λ reply.
+            Enters (checking worker.old.pass.worker verdict.checked reply) worker.old.pass worker.new.pass) }
+        ensures notes { IfOk result (λ reply. Notes worker.old.pass (Settle verdict.checked.piece) reply worker.new.pass) }
+        ensures legal { IsLegal L.setting worker.new.pass.seen }
+        ensures rest { (worker.new.seat ≡ worker.old.seat) × (worker.new.tickets ≡ worker.old.tickets) }
+        ensures err { OnErr result (IsQuiet worker.old.pass worker.new.pass) }
+    {
+        self.desk.settle(rt, &mut worker.pass, verdict)
     }
 
     /// Marks a piece that is had, so that the sessions tell of it.

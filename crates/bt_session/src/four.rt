@@ -2,12 +2,13 @@
 
 ghost use Rattle.std.specs.Prelude.{◌≡◌, [], ◌∷◌, IfSome};
 ghost use Rattle.bt_session.specs.PieceChecks.{GoesThrough, IsIdle, SeesOrGivesUp};
+ghost use Rattle.bt_session.specs.Workers.{AreChecksOf, AreOfRun, IsOfRun, pieces_of};
 
 use crate::commons::{Commons, Worker};
 use crate::run_name::RunName;
-use bt_check::{Job, Verdict};
-use std::alloc::{AllocError, Global};
-use std::sync::{Arc, Wait};
+use bt_shared::{SharedJob, SharedVerdict};
+use std::alloc::Global;
+use std::sync::Wait;
 
 impl<L: RunName> Commons<L> {
     /// Sees to the pieces, one after the other. Four that all wait for their checks are hashed side by side. Whether a check was given up for
@@ -21,13 +22,25 @@ impl<L: RunName> Commons<L> {
     ) -> bool
         ensures { GoesThrough L.setting worker.old pieces.now result worker.new }
     {
-        match self.jobs_of_four(rt, alloc, worker, pieces) {
-            Some((first, second, third, fourth)) => {
-                let verdicts = Job::hash_four(first, second, third, fourth);
-                self.settle_four(rt, alloc, worker, verdicts)
-            }
+        match self.verdicts_of_four(rt, alloc, worker, pieces) {
+            Some(verdicts) => self.settle_four(rt, worker, verdicts),
             None => self.check_each(rt, alloc, worker, pieces),
         }
+    }
+
+    /// The verdicts of the pieces, hashed side by side, if these are four and each waits for a check. None where there is no memory for one.
+    fn verdicts_of_four<T: Wait>(
+        &self,
+        rt: &T,
+        alloc: Global,
+        worker: &mut Worker<L>,
+        pieces: &[u32],
+    ) -> Option<(SharedVerdict, SharedVerdict, SharedVerdict, SharedVerdict)>
+        ensures idle { IsIdle worker.old worker.new }
+        ensures pieces { IfSome result (λ four. AreChecksOf L.desk L.setting pieces.now (four.0 ∷ four.1 ∷ four.2 ∷ four.3 ∷ [])) }
+    {
+        let (first, second, third, fourth) = self.jobs_of_four(rt, alloc, worker, pieces)?;
+        SharedJob::hash_four(alloc, first, second, third, fourth).ok()
     }
 
     /// The jobs of the pieces, if these are four and each waits for a check. None where there is no memory for one.
@@ -37,9 +50,9 @@ impl<L: RunName> Commons<L> {
         alloc: Global,
         worker: &mut Worker<L>,
         pieces: &[u32],
-    ) -> Option<(Job, Job, Job, Job)>
+    ) -> Option<(SharedJob, SharedJob, SharedJob, SharedJob)>
         ensures idle { IsIdle worker.old worker.new }
-        ensures pieces { IfSome result (λ jobs. pieces.now ≡ jobs.0.piece ∷ jobs.1.piece ∷ jobs.2.piece ∷ jobs.3.piece ∷ []) }
+        ensures pieces { IfSome result (λ four. AreChecksOf L.desk L.setting pieces.now (four.0 ∷ four.1 ∷ four.2 ∷ four.3 ∷ [])) }
     {
         if pieces.len() != 4 {
             return None;
@@ -55,18 +68,17 @@ impl<L: RunName> Commons<L> {
     fn settle_four<T: Wait>(
         &self,
         rt: &T,
-        alloc: Global,
         worker: &mut Worker<L>,
-        verdicts: (Verdict, Verdict, Verdict, Verdict),
+        four: (SharedVerdict, SharedVerdict, SharedVerdict, SharedVerdict),
     ) -> bool
-        ensures { GoesThrough L.setting worker.old
-            (verdicts.0.piece ∷ verdicts.1.piece ∷ verdicts.2.piece ∷ verdicts.3.piece ∷ []) result worker.new }
+        requires { AreOfRun L.desk L.setting (four.0 ∷ four.1 ∷ four.2 ∷ four.3 ∷ []) }
+        ensures { GoesThrough L.setting worker.old (pieces_of (four.0 ∷ four.1 ∷ four.2 ∷ four.3 ∷ [])) result worker.new }
     {
-        let (first, second, third, fourth) = verdicts;
-        let first = self.settle_or_not(rt, alloc, worker, first);
-        let second = self.settle_or_not(rt, alloc, worker, second);
-        let third = self.settle_or_not(rt, alloc, worker, third);
-        let fourth = self.settle_or_not(rt, alloc, worker, fourth);
+        let (first, second, third, fourth) = four;
+        let first = self.settle_or_not(rt, worker, first);
+        let second = self.settle_or_not(rt, worker, second);
+        let third = self.settle_or_not(rt, worker, third);
+        let fourth = self.settle_or_not(rt, worker, fourth);
         first | second | third | fourth
     }
 
@@ -74,16 +86,13 @@ impl<L: RunName> Commons<L> {
     fn settle_or_not<T: Wait>(
         &self,
         rt: &T,
-        alloc: Global,
         worker: &mut Worker<L>,
-        verdict: Verdict,
+        verdict: SharedVerdict,
     ) -> bool
-        ensures { SeesOrGivesUp L.setting worker.old verdict.piece result worker.new }
+        requires { IsOfRun L.desk L.setting verdict }
+        ensures { SeesOrGivesUp L.setting worker.old verdict.checked.piece result worker.new }
     {
-        let Ok(shared) = Arc::new(alloc, verdict) else {
-            return true;
-        };
-        match self.settle(rt, worker, shared) {
+        match self.settle(rt, worker, verdict) {
             Ok(()) => false,
             Err(_) => true,
         }

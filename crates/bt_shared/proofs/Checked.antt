@@ -1,6 +1,6 @@
 -- What a call or a check that is entered, or isn't, makes of what a pass has seen.
 use Rattle.std.proofs.Common.{◌≡◌, ℕ, Bool, true, false, [], ◌∷◌, ◌++◌, length, Result, Ok, Err, refl, sym, ap, ◌∙◌, subst, inl, inr}
-use Rattle.std.specs.Prelude.{IfOk}
+use Rattle.std.specs.Prelude.{IfOk, OnErr}
 use Rattle.bt_history.specs.declared.call.Call.{Call}
 use Rattle.bt_history.specs.declared.call.Reply.{Reply}
 use Rattle.bt_history.specs.Entries.{event}
@@ -27,6 +27,10 @@ module _ (view before after : PassState) (is : view ≡ before) (found : DeskSta
         let P : PassState → Type 0 = λ b. Enters (event b.worker call reply) b after in
         subst P is (found.history, record { same = same; seen = goes; entered = seen ∙ gains.entered; log = log })
     enters_ok (Err e) call gains log = tt
+
+    pub rests_err : {E : Type 0} (result : Result Reply E) → OnErr result ((new ≡ found) × (after.log ≡ view.log)) → OnErr result (Rests before after)
+    rests_err (Ok reply) same_log = tt
+    rests_err (Err e) same_log = rests (seen ∙ ap (λ (d : DeskState). d.history) same_log.0) same_log.1
 
     settles : (b : Bool) (p : ℕ) (reply : Reply) → waits found.setting found.history p ≡ b → SettlesIf b found new view.worker p reply
         → LogsIf b (length found.history) view.log p reply after.log → after.setting ≡ found.setting → Settles p reply view after

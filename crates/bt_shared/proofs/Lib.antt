@@ -6,6 +6,7 @@ pub mod Jobs
 pub mod Checked
 pub mod Marked
 pub mod Comparing
+pub mod SharedJobs
 pub mod Spreading
 pub mod Counting
 pub mod Closings

@@ -3,3 +3,4 @@ pub mod Guard
 pub mod Passes
 pub mod Closing
 pub mod Gathering
+pub mod SharedJobs

@@ -5,13 +5,16 @@ ghost use Rattle.bt_history.specs.Legal.{IsLegal};
 ghost use Rattle.bt_history.specs.Logs.{answers, call_mark, mark_of};
 ghost use Rattle.bt_history.specs.declared.mark.CallMark.TheVariants.{Settle};
 ghost use Rattle.bt_picker.specs.Checks.{IsJobOf, SettlesNow, waits};
+ghost use Rattle.bt_picker.specs.Lasting.{WasDue};
 ghost use Rattle.bt_picker.specs.Positions.{Gains};
 ghost use Rattle.bt_shared.specs.Passes.{HasLengths, LogsIf};
 ghost use Rattle.bt_shared.specs.Seen.{Grows};
+ghost use Rattle.bt_shared.specs.SharedJobs.{checking};
 
-use bt_check::Job;
+use bt_check::{Job, Verdict};
 use bt_picker::{Call, CallMark, Desk, Mark, Reply};
 use std::alloc::{AllocError, Global};
+use std::sync::Arc;
 
 /// Tells a proof that the desk's history is legal. Nothing is done: that the journal is read is what opens the desk's invariant.
 pub(crate) fn attest(desk: &Desk)
@@ -93,6 +96,35 @@ pub(crate) fn enter_check(
         call: CallMark::Settle(piece),
         reply,
     });
+    Ok(reply)
+}
+
+/// The settling of a verdict of bytes that were held when so many checks had failed, whose mark goes to the log. Without memory for either,
+/// nothing changes.
+pub(crate) fn enter_verdict(
+    desk: &mut Desk,
+    worker: u32,
+    log: &mut Vec<Mark>,
+    verdict: Arc<Verdict>,
+    failures: u64,
+) -> Result<Reply, AllocError>
+    requires worker { worker < desk.old.setting.workers }
+    requires due { WasDue desk.old.setting desk.old.history failures verdict.value }
+    ensures ok { IfOk result (λ reply. Gains desk.old desk.new (checking worker verdict.value reply)) }
+    ensures log { IfOk result (λ reply.
+        log.new.items ≡ log.old.items ++ mark_of (length desk.old.history) (checking worker verdict.value reply) ∷ []) }
+    ensures fits { IfOk result (λ reply. IsTrue (answers (Settle verdict.value.piece) reply)) }
+    ensures err { OnErr result ((desk.new ≡ desk.old) × (log.new.items ≡ log.old.items)) }
+    ensures setting { desk.new.setting ≡ desk.old.setting }
+    ensures legal { IsLegal desk.new.setting desk.new.history }
+{
+    let place = entries_of(desk);
+    log.reserve(1)?;
+    let call = CallMark::Settle(verdict.piece());
+    let made = desk.settle_since(worker, verdict, failures);
+    attest(desk);
+    let reply = made?;
+    log.push_reserved(Mark { place, call, reply });
     Ok(reply)
 }
 

@@ -5,11 +5,13 @@
 mod compare;
 mod entering;
 mod gather;
+mod job;
 mod lock;
 mod pass;
 mod shared;
 mod view;
 
 pub use gather::{Book, GatherFault};
+pub use job::{SharedJob, SharedVerdict};
 pub use pass::Pass;
 pub use shared::SharedDesk;

@@ -14,9 +14,11 @@ ghost use Rattle.bt_shared.specs.Gathering.{AreHad, EachAgrees, EachFrom, IsCaus
 ghost use Rattle.bt_shared.specs.Guard.{IsDesk, maker};
 ghost use Rattle.bt_shared.specs.Passes.{AreOf, Enters, HasLengths, IsSame, Rests, Settles, newcomer};
 ghost use Rattle.bt_shared.specs.Seen.{Continues, StartsWith};
+ghost use Rattle.bt_shared.specs.SharedJobs.{IsFor, IsSharedJobOf, checking};
 
-use crate::entering::{enter, enter_check, job_of};
+use crate::entering::{enter, enter_check, enter_verdict, job_of};
 use crate::gather::{Book, GatherFault, gather};
+use crate::job::{SharedJob, SharedVerdict, with_seen};
 use crate::lock::{DeskSeat, FREE, Guard, Make, Meet, Witness, lock, unlock};
 use crate::pass::Pass;
 use crate::view::{DeskTerms, DeskView};
@@ -198,6 +200,66 @@ impl SharedDesk {
         let job = job_of(&desk, alloc, piece);
         unlock(words, seat, desk);
         job
+    }
+
+    /// The job of checking the piece, as `job` gives it, with what the desk was then. Its verdict is settled by `settle`.
+    pub fn shared_job<R: Wait>(
+        &self,
+        rt: &R,
+        alloc: Global,
+        pass: &mut Pass,
+        piece: u32,
+    ) -> Result<Option<SharedJob>, AllocError>
+        requires { pass.old.table ≡ self.now.table }
+        ensures rests { Rests pass.old pass.new }
+        ensures legal { IsLegal pass.new.setting pass.new.seen }
+        ensures job { IfOk result (λ job. IsSharedJobOf pass.new piece job) }
+        ensures unasked { waits pass.new.setting pass.new.seen piece ≡ false → IsOk result }
+    {
+        let words = &self.table.shared;
+        let seat = &mut pass.seat;
+        let desk = lock(rt, words, seat);
+        let made = job_of(&desk, alloc, piece);
+        let failures = desk.failures();
+        unlock(words, seat, desk);
+        let seen = words.split_seat::<Witness>(seat);
+        match made {
+            Ok(job) => Ok(with_seen(job, failures, seen)),
+            Err(error) => Err(error),
+        }
+    }
+
+    /// Settles the verdict of a shared job of this desk, once the desk is had. The bytes that were hashed aren't compared with those held, as
+    /// long as no check has failed since the job was made: then they are the same. What the pass has seen then ends with the entry.
+    /// Without memory for entry and mark, no entry is made.
+    pub fn settle<R: Wait>(
+        &self,
+        rt: &R,
+        pass: &mut Pass,
+        verdict: SharedVerdict,
+    ) -> Result<Reply, AllocError>
+        requires pass { pass.old.table ≡ self.now.table }
+        requires verdict { IsFor pass.old verdict }
+        ensures ok { IfOk result (λ reply. Enters (checking pass.old.worker verdict.checked reply) pass.old pass.new) }
+        ensures same { IsSame pass.old pass.new }
+        ensures legal { IsLegal pass.new.setting pass.new.seen }
+        ensures fits { IfOk result (λ reply. IsTrue (answers (Settle verdict.checked.piece) reply)) }
+        ensures err { OnErr result (Rests pass.old pass.new) }
+    {
+        // While nobody waits for this worker.
+        pass.make_room()?;
+        let SharedVerdict {
+            verdict,
+            failures,
+            seen,
+        } = verdict;
+        let words = &self.table.shared;
+        let Pass { worker, seat, log } = pass;
+        words.join_seat::<Meet>(seat, seen);
+        let mut desk = lock(rt, words, seat);
+        let made = enter_verdict(&mut desk, *worker, log, verdict, failures);
+        unlock(words, seat, desk);
+        made
     }
 
     /// The second pass has then seen all that the first has, and it knows so.

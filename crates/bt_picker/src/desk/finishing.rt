@@ -1,9 +1,14 @@
 //! The checks of the pieces that wait. Four that all wait are hashed side by side.
-ghost use Rattle.std.specs.Prelude.{◌≡◌, ◌+◌, ◌<◌, ℕ, false, true, IfOk, IfSome, IsOk, OnErr, OnOk, Some};
+ghost use Rattle.std.specs.Prelude.{◌≡◌, ◌+◌, ◌<◌, ℕ, false, true, IfOk, IfSome, IsOk, IsTrue, OnErr, OnOk, Some};
 ghost use Rattle.bt_meta.specs.Layout.{piece_count};
 ghost use Rattle.bt_picker.specs.Checks.{AreDue, AreJobsOf, FinishedBelow, GivesUp, IsDue, IsJobOf, SettlesEach, SettlesNow};
 ghost use Rattle.bt_picker.specs.Checks.{StopsAfter, settling, waits};
+ghost use Rattle.bt_picker.specs.Lasting.{WasDue, failure_count};
 ghost use Rattle.bt_picker.specs.Positions.{Gains};
+ghost use Rattle.bt_history.specs.Entries.{event};
+ghost use Rattle.bt_history.specs.Logs.{answers};
+ghost use Rattle.bt_history.specs.declared.call.Call.{Call};
+ghost use Rattle.bt_history.specs.declared.mark.CallMark.TheVariants.{Settle};
 
 use super::Desk;
 use bt_check::{Job, Verdict};
@@ -160,7 +165,38 @@ impl Desk {
         ensures err { OnErr result (self.new ≡ self.old) }
         ensures setting { self.new.setting ≡ self.old.setting }
     {
-        self.call(worker, Call::Settle(verdict))
+        let failures = self.failures();
+        self.settle_since(worker, verdict, failures)
+    }
+
+    /// Settles a verdict of the bytes that were held when so many checks had failed and the piece waited. Where none has failed since,
+    /// they are still held, and so they aren't read again. Else they are compared with those held, as by a call.
+    pub fn settle_since(
+        &mut self,
+        worker: u32,
+        verdict: Arc<Verdict>,
+        failures: u64,
+    ) -> Result<Reply, AllocError>
+        requires worker { worker < self.old.setting.workers }
+        requires due { WasDue self.old.setting self.old.history failures verdict.value }
+        ensures ok { IfOk result (λ reply. Gains self.old self.new (event worker (Call.Settle verdict) reply)) }
+        ensures fits { IfOk result (λ reply. IsTrue (answers (Settle verdict.value.piece) reply)) }
+        ensures err { OnErr result (self.new ≡ self.old) }
+        ensures setting { self.new.setting ≡ self.old.setting }
+    {
+        self.picker.attest();
+        if failures == self.failures {
+            self.enter(worker, Call::Settle(verdict), true)
+        } else {
+            self.call(worker, Call::Settle(verdict))
+        }
+    }
+
+    /// How many checks have failed.
+    pub fn failures(&self) -> u64
+        ensures { result ≡ failure_count self.now.history }
+    {
+        self.failures
     }
 }
 

@@ -1,12 +1,13 @@
 //! A torrent, calls, and a shared desk with its passes.
-ghost use Rattle.std.specs.Prelude.{◌≡◌, ◌≤◌, length, IfOk};
+ghost use Rattle.std.specs.Prelude.{◌≡◌, ◌≤◌, length, IfOk, IfSome};
 ghost use Rattle.bt_meta.specs.Layout.{piece_count};
 ghost use Rattle.bt_shared.specs.Passes.{IsOf, IsSame};
+ghost use Rattle.bt_shared.specs.SharedJobs.{IsFor};
 
 use bt_expect::same;
 use bt_meta::{Bitfield, Torrent};
 use bt_picker::{Call, CallMark, Mark, Reply, Rules};
-use bt_shared::{Book, GatherFault, Pass, SharedDesk};
+use bt_shared::{Book, GatherFault, Pass, SharedDesk, SharedJob, SharedVerdict};
 use bytes::Bytes;
 use std::alloc::{AllocError, Global};
 use std::marker::Model;
@@ -78,6 +79,35 @@ fn finds_job<R: Wait>(
     Ok(job.is_some())
 }
 
+/// The job of the piece, for a verdict at this desk.
+fn job_of<R: Wait>(
+    rt: &R,
+    alloc: Global,
+    desk: &SharedDesk,
+    pass: &mut Pass,
+    piece: u32,
+) -> Result<Option<SharedJob>, AllocError>
+    requires { IsOf desk.now pass.old }
+    ensures same { IsSame pass.old pass.new }
+    ensures job { IfOk result (λ job. IfSome job (λ job. IsFor pass.old job)) }
+{
+    desk.shared_job(rt, alloc, pass, piece)
+}
+
+/// The settling of a verdict by the pass.
+fn verdict_settled<R: Wait>(
+    rt: &R,
+    desk: &SharedDesk,
+    pass: &mut Pass,
+    verdict: SharedVerdict,
+) -> Result<Reply, AllocError>
+    requires pass { IsOf desk.now pass.old }
+    requires verdict { (verdict.table ≡ desk.now.table) × (verdict.setting ≡ desk.now.setting) }
+    ensures { IsSame pass.old pass.new }
+{
+    desk.settle(rt, pass, verdict)
+}
+
 /// A shared desk of the pieces `abc`, `abc` and `a`, and its passes.
 pub struct Seated {
     desk: SharedDesk,
@@ -122,7 +152,9 @@ impl Seated {
         rt: &R,
         worker: usize,
         call: Call,
-    ) -> Result<Reply, AllocError> {
+    ) -> Result<Reply, AllocError>
+        ensures { self.new ≡ self.old }
+    {
         let Seated { desk, passes } = self;
         assert!(rt; worker < passes.len());
         called(rt, desk, &mut passes[worker], call)
@@ -135,7 +167,9 @@ impl Seated {
         worker: usize,
         call: Call,
         wanted: Reply,
-    ) -> Result<(), Fail> {
+    ) -> Result<(), Fail>
+        ensures { self.new ≡ self.old }
+    {
         let reply = self.call(rt, worker, call)?;
         same(reply, wanted)
     }
@@ -190,6 +224,41 @@ impl Seated {
         let Seated { desk, passes } = self;
         assert!(rt; worker < passes.len());
         finds_job(rt, alloc, desk, &mut passes[worker], piece)
+    }
+
+    /// The verdict of the piece, which the worker finds waiting for its check.
+    pub fn hashed<R: Wait + Abort>(
+        &mut self,
+        rt: &R,
+        alloc: Global,
+        worker: usize,
+        piece: u32,
+    ) -> Result<SharedVerdict, Fail>
+        ensures verdict { IfOk result (λ verdict. (verdict.table ≡ self.old.table) × (verdict.setting ≡ self.old.setting)) }
+        ensures same { self.new ≡ self.old }
+    {
+        let Seated { desk, passes } = self;
+        assert!(rt; worker < passes.len());
+        let job = job_of(rt, alloc, desk, &mut passes[worker], piece)?;
+        let job = job.expect(rt, "no check is waited for");
+        Ok(job.hash(alloc)?)
+    }
+
+    /// The worker settles a verdict of this desk, which has to come to this.
+    pub fn settles_verdict<R: Wait + Abort>(
+        &mut self,
+        rt: &R,
+        worker: usize,
+        verdict: SharedVerdict,
+        wanted: Reply,
+    ) -> Result<(), Fail>
+        requires { (verdict.table ≡ self.old.table) × (verdict.setting ≡ self.old.setting) }
+        ensures { self.new ≡ self.old }
+    {
+        let Seated { desk, passes } = self;
+        assert!(rt; worker < passes.len());
+        let reply = verdict_settled(rt, desk, &mut passes[worker], verdict)?;
+        same(reply, wanted)
     }
 
     /// The worker's log.

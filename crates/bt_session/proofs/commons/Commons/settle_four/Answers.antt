@@ -7,13 +7,13 @@ pub returns : goal.returns
 returns g c =
     let s = g.L.RunName.setting in
     let w = c.args.worker.now in
-    let v = c.args.verdicts in
+    let v = c.args.four in
     let a = c.settle_or_not-first in
     let b = c.settle_or_not-second in
     let d = c.settle_or_not-third in
     let e = c.settle_or_not-fourth in
-    let one = goes_more s w w a.new.worker [] v.0.piece false a.result (idle_same w) a.ensures in
-    let two = goes_more s w a.new.worker b.new.worker (v.0.piece ∷ []) v.1.piece a.result b.result one b.ensures in
-    let three = goes_more s w b.new.worker d.new.worker (v.0.piece ∷ v.1.piece ∷ []) v.2.piece (a.result || b.result) d.result two d.ensures in
-    goes_more s w d.new.worker e.new.worker (v.0.piece ∷ v.1.piece ∷ v.2.piece ∷ []) v.3.piece ((a.result || b.result) || d.result) e.result
+    let one = goes_more s w w a.new.worker [] v.0.checked.piece false a.result (idle_same w) a.ensures in
+    let two = goes_more s w a.new.worker b.new.worker (v.0.checked.piece ∷ []) v.1.checked.piece a.result b.result one b.ensures in
+    let three = goes_more s w b.new.worker d.new.worker (v.0.checked.piece ∷ v.1.checked.piece ∷ []) v.2.checked.piece (a.result || b.result) d.result two d.ensures in
+    goes_more s w d.new.worker e.new.worker (v.0.checked.piece ∷ v.1.checked.piece ∷ v.2.checked.piece ∷ []) v.3.checked.piece ((a.result || b.result) || d.result) e.result
     three e.ensures
