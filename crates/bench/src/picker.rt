@@ -67,9 +67,9 @@ pub fn time_picker<R: Runtime + AllocGlobal + CpuClock>(rt: &R, words: &[String]
     Ok(())
 }
 
-/// The first word is `picker`. Those behind it are the number of pieces, how often the pieces that a peer shows are halved, the number of peers, how many blocks are asked of
-/// each at a time, and of how many peers one block is asked in endgame. Behind them stand the order, `levels`, `order` or `stream`, and
-/// `times`, with which times are printed too. Each may be left out.
+/// The first word is `picker`. Those behind it are the number of pieces, how often the pieces that a peer shows are halved, the number of
+/// peers, how many blocks are asked of each at a time, and of how many peers one block is asked in endgame. Behind them stand the order,
+/// `levels`, `order` or `stream`, and `times`, with which times are printed too. Each may be left out.
 fn asked(words: &[String]) -> Result<Plan> {
     let is_timed = match words.last() {
         Some(word) => word.as_str() == "times",

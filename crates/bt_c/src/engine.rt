@@ -46,7 +46,7 @@ fn owned(alloc: Global, told: Told<'_>) -> Result<Call, AllocError>
 {
     let call = match told {
         Told::Join => Call::Join,
-        Told::Bits(flags) => Call::Bits(flags_of(alloc, flags)?),
+        Told::Bits(flags) => Call::Bits(copy_of(alloc, flags)?),
         Told::Have(piece) => Call::Have(piece),
         Told::Choke => Call::Choke,
         Told::Unchoke => Call::Unchoke,
@@ -61,8 +61,8 @@ fn owned(alloc: Global, told: Told<'_>) -> Result<Call, AllocError>
             bytes: Bytes::copy_from_slice(alloc, bytes)?,
         },
         Told::Leave => Call::Leave,
-        Told::Want(flags) => Call::Want(flags_of(alloc, flags)?),
-        Told::Haves(flags) => Call::Haves(flags_of(alloc, flags)?),
+        Told::Want(flags) => Call::Want(copy_of(alloc, flags)?),
+        Told::Haves(flags) => Call::Haves(copy_of(alloc, flags)?),
         Told::Depth(depth) => Call::Depth(depth),
         Told::Release { piece, begin } => Call::Release { piece, begin },
         Told::Level { piece, level } => Call::Level { piece, level },
@@ -73,7 +73,7 @@ fn owned(alloc: Global, told: Told<'_>) -> Result<Call, AllocError>
 }
 
 /// A copy of the set.
-fn flags_of(alloc: Global, flags: &Bitfield) -> Result<Bitfield, AllocError>
+fn copy_of(alloc: Global, flags: &Bitfield) -> Result<Bitfield, AllocError>
     ensures { IfOk result (λ copy. copy ≡ flags.now) }
 {
     let mut copy = Bitfield::empty(alloc, flags.count())?;

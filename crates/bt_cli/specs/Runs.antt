@@ -59,8 +59,8 @@ abbrev pub IsRunFault : Fault → Type 0
 IsRunFault fault = (fault ≡ faults.File) ⊎ (fault ≡ faults.Memory)
 
 -- memory was lacking in a run: something was given up, or the audit found none
-abbrev pub IsShort : Bool → List (Result End SessionFault) → Judged → Type 0
-IsShort short ends judged = (gave_up short ends ≡ true) ⊎ (judged ≡ Unjudged)
+abbrev pub LacksMemory : Bool → List (Result End SessionFault) → Judged → Type 0
+LacksMemory short ends judged = (gave_up short ends ≡ true) ⊎ (judged ≡ Unjudged)
 
 -- How a run ended that came to this desk, and was to be told: it was, or the output has failed and a fault says so. The fault is want of
 -- memory just where memory was lacking in the run, and a file's only where the output has failed.
@@ -70,7 +70,7 @@ pub record Ended (short : Bool) (ends : List (Result End SessionFault)) (desk : 
   pub is_judged : (judged ≡ Sound) ⊎ (judged ≡ Unjudged)
   pub complete : IfOk ended (λ all. all ≡ has_wanted desk.setting desk.history)
   pub fault : IfErr ended IsRunFault
-  pub memory : (ended ≡ Err faults.Memory) ↔ IsShort short ends judged
+  pub memory : (ended ≡ Err faults.Memory) ↔ LacksMemory short ends judged
   pub file : ended ≡ Err faults.File → failed ≡ true
   pub told : TellsRun journal ends desk judged old new ⊎ ((failed ≡ true) × IsErr ended)
 

@@ -1,8 +1,8 @@
 -- Reading piece by piece.
 use Rattle.bt_wire.specs.declared.message.Message.{Message}
 use Rattle.bt_wire.specs.declared.message.Message.TheVariants as messages
-use Rattle.std.proofs.Common.{Bool, true, false, ◌≤◌, length, length-append, ◌≡◌, ℕ, ◌+◌, List, [], ◌∷◌, ◌++◌, Option, Some, None, refl, sym, ap, subst}
-use Rattle.std.proofs.Common.{◌∙◌, append_assoc, arith, Ok, Err, inl}
+use Rattle.std.proofs.Common.{Bool, true, false, ◌≤◌, length, length-append, ◌≡◌, ℕ, ◌+◌, List, [], ◌∷◌, ◌++◌, Option, Some, None}
+use Rattle.std.proofs.Common.{refl, sym, ap, subst, ◌∙◌, append_assoc, arith, Ok, Err, inl}
 use Rattle.std.proofs.lemmas.List.{append-nil}
 use Rattle.std.specs.Io.KnownBytes.{Consumes}
 use Rattle.bt_wire.specs.Stream.{InboundState, Gives, Spells}

@@ -54,7 +54,8 @@ kept_after : (s : Setting) (h : History) (e : Event) (b : Block) → IsLegal s (
 unfolding kept
 kept_after s h e b legal passes is = ⊎_elim
     (λ (none : stored e b ≡ None).
-    ap (λ (x : Bool). if x then None else if is_some (stored e b) then stored e b else kept h b) (and_left (is_failed e.reply) (settles e.action b.piece) passes)
+    ap (λ (x : Bool). if x then None else if is_some (stored e b) then stored e b else kept h b)
+    (and_left (is_failed e.reply) (settles e.action b.piece) passes)
     ∙ ap (λ (o : Option (List ℕ)). if is_some o then o else kept h b) none)
     (λ (some : is_some (stored e b) ≡ true). absurd (false≢true (sym (stored_unheld s h e b legal.1 some) ∙ is)))
     (stored_cases e b)

@@ -263,7 +263,8 @@ given s h q n p (Some b) gives some = (
 
 -- an unasked block of an open piece of the level goes on
 pub goes_on_found : (s : Setting) (h : History) (q n p : ℕ) (found : Option Block) → IsLayout s.torrent → IsLevel n → p < piece_count s.torrent
-    → stage_of_row (piece_of s h p) ≡ OPEN → shows_at h q n p ≡ true → FindsOf s.torrent p (unasked s h) found → Finds s.torrent (goes_on s h q n) found
+    → stage_of_row (piece_of s h p) ≡ OPEN → shows_at h q n p ≡ true → FindsOf s.torrent p (unasked s h) found →
+    Finds s.torrent (goes_on s h q n) found
 goes_on_found s h q n p found layout is lp stage shown finds =
     let gives = open_gives s h q n p layout is lp stage shown in
     let block_is = given s h q n p found gives finds in

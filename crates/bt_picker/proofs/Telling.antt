@@ -103,7 +103,8 @@ module _ (s : Setting) (h : History) (p : ℕ) where
 
   -- the stage of a piece, by the definitions
   pub stage_is : stage_of_row (piece_of s h p)
-      ≡ stage_by (had h p) (chosen h p) (some_block_of s.torrent p (held_or_asked s h)) (each_block_of s.torrent p (held_or_asked s h)) (availability s h p)
+      ≡ stage_by (had h p) (chosen h p) (some_block_of s.torrent p (held_or_asked s h)) (each_block_of s.torrent p (held_or_asked s h))
+      (availability s h p)
   stage_is = λ i. if had h p || unchosen i then RESTING else if untouched_row i then shown_stage (availability s h p)
       else if all_touched_row i then ASKED_OUT else OPEN
 

@@ -24,8 +24,8 @@ not_chosen true false d n fails = refl
 not_chosen false b d n fails = refl
 
 -- the tests of a number
-is_some_length : (bs : List ℕ) → 0 < length bs → not (length bs == 0) ≡ true
-is_some_length bs h = grind (arith, nat_tests)
+has_some : (bs : List ℕ) → 0 < length bs → not (length bs == 0) ≡ true
+has_some bs h = grind (arith, nat_tests)
 
 has_length : (bs : List ℕ) → not (length bs == 0) ≡ true → 0 < length bs
 has_length bs h = grind (arith, nat_tests)
@@ -56,7 +56,7 @@ number_below-not_utf8 limit bs bad =
 pub number_in-parsed : {E : Type 0} (bs : List ℕ) (r : Result ℕ E) → get_or bs 0 0 ≢ 43 → ParsesUnsigned 64 10 bs r → result_ok r ≡ number_in bs
 number_in-parsed {E} bs (Ok x) plain parses =
     let said = parse_plain model {E = E} 64 bs (Ok x) parses plain in
-    rw said.1 (sym (chosen _ _ _ (digits_value 10 bs) (is_some_length bs said.0.1) said.0.0 (is_below (digits_value 10 bs) (2 ^ 64) said.0.2)))
+    rw said.1 (sym (chosen _ _ _ (digits_value 10 bs) (has_some bs said.0.1) said.0.0 (is_below (digits_value 10 bs) (2 ^ 64) said.0.2)))
 number_in-parsed {E} bs (Err e) plain parses =
     let said = parse_plain model {E = E} 64 bs (Err e) parses plain in
     sym (not_chosen (not (length bs == 0)) (all_ascii_digits bs) (nat_lt (digits_value 10 bs) (2 ^ 64)) (digits_value 10 bs)

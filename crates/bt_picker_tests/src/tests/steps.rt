@@ -122,6 +122,7 @@ fn next_byte(rt: &impl Abort, words: &mut Split<'static, char>) -> u8 {
     byte.ok().expect(rt, "a bitfield is missing")
 }
 
+/// The call that these words spell.
 fn call_of(
     rt: &impl Abort,
     alloc: Global,

@@ -58,7 +58,8 @@ returns-in_ok-completed-clause-ok g c =
     let is : if_completed (arrived_piece mark) reply ≡ Some c.in-Some-completed.piece =
     ap (λ piece. if_completed piece reply) (sym c.arrived_piece-arrived.ensures) ∙ sym c.completed.ensures ∙ c.in-Some-completed.is in
     rw made.1
-    (opening_checked mark reply c.in-Some-completed.piece _ _ _ is c.in_ok-reply.ensures.ok_accepted c.in_ok-reply.ensures.ok c.in_ok-completed.ensures.ok)
+    (opening_checked mark reply c.in-Some-completed.piece _ _ _ is c.in_ok-reply.ensures.ok_accepted c.in_ok-reply.ensures.ok
+    c.in_ok-completed.ensures.ok)
 
 pub returns-in_ok-completed-clause-conduct : goal.returns-in_ok-completed-clause-conduct
 returns-in_ok-completed-clause-conduct g c =

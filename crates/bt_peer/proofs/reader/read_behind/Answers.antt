@@ -12,8 +12,9 @@ returns-in-Ok-clause-bytes g c =
       read = take c.in-Ok.count c.read.new.room;
       consumed = c.in-Ok.ensures.bytes.0;
       behind = c.truncate.ensures.items
-          ∙ cut_back c.advance_mut.new.self.items c.as_mut_slice.result.now _ c.read.new.room _ _ c.len-len.result c.in-Ok.count c.as_mut_slice.ensures.value
-          c.advance_mut.ensures.front c.len-len.ensures.value (c.in-Ok.ensures.bound.0) (omega (arith, room, c.in-Ok.ensures.bound.0));
+          ∙ cut_back c.advance_mut.new.self.items c.as_mut_slice.result.now _ c.read.new.room _ _ c.len-len.result c.in-Ok.count
+          c.as_mut_slice.ensures.value c.advance_mut.ensures.front c.len-len.ensures.value
+          (c.in-Ok.ensures.bound.0) (omega (arith, room, c.in-Ok.ensures.bound.0));
       count = (grind (arith, common_steps), omega (arith, room, c.in-Ok.ensures.bound.0, c.requires));
       at_end = grind (arith, common_steps);
     }

@@ -2,11 +2,9 @@ use Rattle.std.proofs.Common.{◌≡◌, ◌∙◌, Bool, true, false, not, sym,
 use Rattle.std.proofs.lemmas.Bool.{not-true, not-false}
 use Rattle.bt_check.specs.Checked.{joined}
 use Rattle.bt_history.specs.declared.event.Action.TheVariants.{Settle}
+use Rattle.bt_picker.proofs.Allowing.{counts_unrefused}
 use Rattle.bt_picker.proofs.Entered.{cause_none, enter_check, entered_refusal, settle_piece}
 use Rattle.bt_picker.proofs.entries.enter_verdict.Goals as goal
-
-counts_if : (b x : Bool) → x ≡ not b → x ≡ false → b ≡ true
-counts_if b x is fails = not-false b (sym is ∙ fails)
 
 pub returns-then-is_refusal-clause-are : goal.returns-then-is_refusal-clause-are
 returns-then-is_refusal-clause-are c =
@@ -17,7 +15,7 @@ pub put_check-requires : goal.put_check-requires
 put_check-requires c =
     let v = c.args.verdict.now in
     let cause = cause_none _ _ c.args.worker (Settle v.piece (joined v)) c.args.reply c.requires.allowed
-    (counts_if _ _ c.is_refusal.ensures c.if-is_refusal.false) in
+    (counts_unrefused _ _ c.is_refusal.ensures c.if-is_refusal.false) in
     let lp = settle_piece _ _ c.args.worker v.piece (joined v) cause in
     omega (arith, lp, c.requires.are.pieces_len, c.piece.ensures)
 
@@ -26,4 +24,4 @@ returns-clause-are c =
     let v = c.args.verdict.now in
     rw (c.put_check.ensures, c.piece.ensures)
     (enter_check _ _ c.args.worker c.requires.are v.piece (joined v) c.args.reply c.requires.allowed
-    (counts_if _ _ c.is_refusal.ensures c.if-is_refusal.false))
+    (counts_unrefused _ _ c.is_refusal.ensures c.if-is_refusal.false))

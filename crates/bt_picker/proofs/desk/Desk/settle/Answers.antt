@@ -14,4 +14,5 @@ returns-clause-ok c =
     c.settle_since.ensures.ok
 
 pub settle_since-requires-clause-due : goal.settle_since-requires-clause-due
-settle_since-requires-clause-due c = due_now c.args.self.now c.failures-failures.result c.args.verdict.value c.failures-failures.ensures c.requires.due
+settle_since-requires-clause-due c =
+    due_now c.args.self.now c.failures-failures.result c.args.verdict.value c.failures-failures.ensures c.requires.due

@@ -16,7 +16,8 @@ returns-in-Ok g c =
     let checked = c.join_each-2.new.all.items in
     let parts = c.in-Ok.ensures in
     let many : length hs ≡ length c.captures.hands.streams.items = sym (length-map hs (λ h. h.promise.stream.value)) ∙ ap length parts.streams in
-    let many_checkers : length ks ≡ length c.captures.hands.checkers.items = sym (length-map ks (λ h. h.promise.worker.value)) ∙ ap length parts.checkers in
+    let many_checkers : length ks ≡ length c.captures.hands.checkers.items =
+    sym (length-map ks (λ h. h.promise.worker.value)) ∙ ap length parts.checkers in
     let same : length all ≡ length hs = search rules in
     let same_checked : length checked ≡ length ks = search rules in
     let whole : vec_len c.start_all-started.new.playing ≡ length hs = search rules in
