@@ -1,5 +1,5 @@
 -- While no check fails, the bytes that are held stay.
-use Rattle.std.proofs.Common.{◌≡◌, ℕ, ◌+◌, ◌<◌, ◌≤◌, Bool, true, false, List, [], ◌∷◌, ◌++◌, Option, None, length, refl, ap, sym, ◌∙◌, arith}
+use Rattle.std.proofs.Common.{◌≡◌, ℕ, ◌+◌, ◌≤◌, Bool, true, false, List, [], ◌∷◌, ◌++◌, Option, None, length, refl, ap, sym, ◌∙◌, arith}
 use Rattle.std.proofs.Common.{⊎_elim, subst}
 use Rattle.std.specs.Prelude.{is_some, unwrap_or, if◌then◌else◌}
 use Rattle.std.specs.List.{concat}
@@ -9,7 +9,7 @@ use Rattle.bt_meta.specs.declared.block.Block.{Block}
 use Rattle.bt_meta.specs.Layout.{block, block_count}
 use Rattle.bt_history.specs.declared.event.Action.TheVariants.{Settle}
 use Rattle.bt_history.specs.declared.event.Event.{Event}
-use Rattle.bt_history.specs.History.{History, failed, is_failed, settles, stored}
+use Rattle.bt_history.specs.History.{History, is_failed, settles, stored}
 use Rattle.bt_history.specs.Legal.{IsLegal, same_bytes}
 use Rattle.bt_history.specs.Pieces.{content, content_of_block, held, kept}
 use Rattle.bt_history.specs.Setting.{Setting}

@@ -1,5 +1,5 @@
 -- The stage of a piece and its group, by the history: each level has groups of its own, one for each stage.
-use Rattle.std.proofs.Common.{◌≡◌, ◌⊎◌, ℕ, ◌+◌, ◌-◌, ◌*◌, ◌<◌, ◌≤◌, ◌==◌, Bool, true, false, not, ◌&&◌, ◌||◌, List, length, refl, ap}
+use Rattle.std.proofs.Common.{◌≡◌, ◌⊎◌, ℕ, ◌+◌, ◌-◌, ◌*◌, ◌<◌, ◌≤◌, ◌==◌, Bool, true, false, not, ◌&&◌, List, length, refl, ap}
 use Rattle.std.proofs.Common.{sym, ◌∙◌}
 use Rattle.std.proofs.Common.{subst, arith, ⊎_elim, inl, inr}
 use Rattle.std.specs.Prelude.{nat_lt, min, if◌then◌else◌}

@@ -1,5 +1,5 @@
 -- How long the bytes that were hashed stay those that are held: until a check fails.
-use Rattle.std.specs.Prelude.{ℕ, ◌+◌, ◌≡◌, ◌++◌, true, List, [], ◌∷◌, if◌then◌else◌}
+use Rattle.std.specs.Prelude.{ℕ, ◌+◌, ◌≡◌, ◌++◌, true, [], ◌∷◌, if◌then◌else◌}
 use Rattle.bt_check.specs.Checked.{Checked}
 use Rattle.bt_history.specs.History.{History, is_failed}
 use Rattle.bt_history.specs.Setting.{Setting}

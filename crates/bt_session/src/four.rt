@@ -40,7 +40,10 @@ impl<L: RunName> Commons<L> {
         ensures pieces { IfSome result (λ four. AreChecksOf L.desk L.setting pieces.now (four.0 ∷ four.1 ∷ four.2 ∷ four.3 ∷ [])) }
     {
         let (first, second, third, fourth) = self.jobs_of_four(rt, alloc, worker, pieces)?;
-        SharedJob::hash_four(alloc, first, second, third, fourth).ok()
+        match SharedJob::hash_four(alloc, first, second, third, fourth) {
+            Ok(verdicts) => Some(verdicts),
+            Err(_) => None,
+        }
     }
 
     /// The jobs of the pieces, if these are four and each waits for a check. None where there is no memory for one.

@@ -3,8 +3,7 @@ use Rattle.std.proofs.Common.{◌≡◌, ℕ, true, false, List, [], ◌∷◌, 
 use Rattle.bt_check.specs.Checked.{Checked}
 use Rattle.bt_history.specs.History.{History}
 use Rattle.bt_history.specs.Setting.{Setting}
-use Rattle.bt_picker.specs.Lasting.{WasDue, failure_count}
-use Rattle.bt_picker.specs.Checks.{blocks_of, waits}
+use Rattle.bt_picker.specs.Lasting.{WasDue}
 use Rattle.bt_picker.specs.Positions.{DeskState}
 use Rattle.bt_shared.specs.declared.view.DeskView.{DeskView}
 use Rattle.bt_shared.specs.declared.view.Part.{Part}

@@ -1,5 +1,5 @@
 -- Jobs and verdicts of a shared desk, which know what was seen of it.
-use Rattle.std.specs.Prelude.{◌≡◌, ℕ, true, false, List, [], ◌∷◌, Option, None, Some}
+use Rattle.std.specs.Prelude.{◌≡◌, ℕ, true, false, [], ◌∷◌, Option, None, Some}
 use Rattle.atomic_table.specs.Seated.{TableId}
 use Rattle.bt_check.specs.Checked.{Checked, joined}
 use Rattle.bt_check.specs.declared.job.Job.{Job}
@@ -10,7 +10,7 @@ use Rattle.bt_history.specs.Setting.{Setting}
 use Rattle.bt_picker.specs.Checks.{blocks_of, waits}
 use Rattle.bt_picker.specs.Lasting.{failure_count}
 use Rattle.bt_shared.specs.Guard.{Sat, part}
-use Rattle.bt_shared.specs.Passes.{PassState}
+use Rattle.bt_shared.specs.Passes.{PassState, SharedState}
 
 -- of which desk it is, by what its history is judged, and the piece with its blocks
 pub record JobState : Type 0 where
@@ -41,6 +41,11 @@ pub record Witnesses (m : Sat) (failures : ℕ) (v : Checked) : Type 0 where
 pub record IsFor (p : PassState) (job : JobState) : Type 0 where
   pub table : job.table ≡ p.table
   pub setting : job.setting ≡ p.setting
+
+-- it is of this desk
+pub record IsForDesk (desk : SharedState) (job : JobState) : Type 0 where
+  pub table : job.table ≡ desk.table
+  pub setting : job.setting ≡ desk.setting
 
 -- the job of piece p, where a check of it is waited for in what the pass has seen
 abbrev pub IsSharedJobOf : PassState → ℕ → Option JobState → Type 0

@@ -2,7 +2,7 @@
 ghost use Rattle.std.specs.Prelude.{◌≡◌, ◌≤◌, length, IfOk, IfSome};
 ghost use Rattle.bt_meta.specs.Layout.{piece_count};
 ghost use Rattle.bt_shared.specs.Passes.{IsOf, IsSame};
-ghost use Rattle.bt_shared.specs.SharedJobs.{IsFor};
+ghost use Rattle.bt_shared.specs.SharedJobs.{IsForDesk};
 
 use bt_expect::same;
 use bt_meta::{Bitfield, Torrent};
@@ -89,7 +89,7 @@ fn job_of<R: Wait>(
 ) -> Result<Option<SharedJob>, AllocError>
     requires { IsOf desk.now pass.old }
     ensures same { IsSame pass.old pass.new }
-    ensures job { IfOk result (λ job. IfSome job (λ job. IsFor pass.old job)) }
+    ensures job { IfOk result (λ job. IfSome job (λ job. IsForDesk desk.now job)) }
 {
     desk.shared_job(rt, alloc, pass, piece)
 }
@@ -102,7 +102,7 @@ fn verdict_settled<R: Wait>(
     verdict: SharedVerdict,
 ) -> Result<Reply, AllocError>
     requires pass { IsOf desk.now pass.old }
-    requires verdict { (verdict.table ≡ desk.now.table) × (verdict.setting ≡ desk.now.setting) }
+    requires verdict { IsForDesk desk.now verdict }
     ensures { IsSame pass.old pass.new }
 {
     desk.settle(rt, pass, verdict)
@@ -234,14 +234,28 @@ impl Seated {
         worker: usize,
         piece: u32,
     ) -> Result<SharedVerdict, Fail>
-        ensures verdict { IfOk result (λ verdict. (verdict.table ≡ self.old.table) × (verdict.setting ≡ self.old.setting)) }
+        ensures verdict { IfOk result (λ verdict. IsForDesk self.old verdict) }
+        ensures same { self.new ≡ self.old }
+    {
+        let job = self.job(rt, alloc, worker, piece)?;
+        let job = job.expect(rt, "no check is waited for");
+        Ok(job.hash(alloc)?)
+    }
+
+    /// The job of the piece, where the worker finds it waiting for its check.
+    fn job<R: Wait + Abort>(
+        &mut self,
+        rt: &R,
+        alloc: Global,
+        worker: usize,
+        piece: u32,
+    ) -> Result<Option<SharedJob>, AllocError>
+        ensures job { IfOk result (λ job. IfSome job (λ job. IsForDesk self.old job)) }
         ensures same { self.new ≡ self.old }
     {
         let Seated { desk, passes } = self;
         assert!(rt; worker < passes.len());
-        let job = job_of(rt, alloc, desk, &mut passes[worker], piece)?;
-        let job = job.expect(rt, "no check is waited for");
-        Ok(job.hash(alloc)?)
+        job_of(rt, alloc, desk, &mut passes[worker], piece)
     }
 
     /// The worker settles a verdict of this desk, which has to come to this.
@@ -252,7 +266,7 @@ impl Seated {
         verdict: SharedVerdict,
         wanted: Reply,
     ) -> Result<(), Fail>
-        requires { (verdict.table ≡ self.old.table) × (verdict.setting ≡ self.old.setting) }
+        requires { IsForDesk self.old verdict }
         ensures { self.new ≡ self.old }
     {
         let Seated { desk, passes } = self;

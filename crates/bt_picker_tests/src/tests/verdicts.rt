@@ -1,5 +1,6 @@
 //! Verdicts that know what their desk was: their bytes are compared only where a check has failed since.
 ghost use Rattle.std.specs.Prelude.{◌≡◌};
+ghost use Rattle.bt_shared.specs.SharedJobs.{IsForDesk};
 
 use super::setting::*;
 use bt_picker::{Call, Reason, Reply};
@@ -33,8 +34,8 @@ fn fails_once<R: Wait + Abort>(
     first: SharedVerdict,
     second: SharedVerdict,
 ) -> Result<(), Fail>
-    requires first { (first.table ≡ seated.old.table) × (first.setting ≡ seated.old.setting) }
-    requires second { (second.table ≡ seated.old.table) × (second.setting ≡ seated.old.setting) }
+    requires first { IsForDesk seated.old first }
+    requires second { IsForDesk seated.old second }
     ensures { seated.new ≡ seated.old }
 {
     seated.settles_verdict(rt, 0, first, Reply::Failed)?;

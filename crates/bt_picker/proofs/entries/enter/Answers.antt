@@ -1,5 +1,5 @@
-use Rattle.std.proofs.Common.{◌≡◌, ◌∙◌, Bool, true, false, not, length, sym, ap, arith}
-use Rattle.std.proofs.lemmas.Bool.{not-true, not-false}
+use Rattle.std.proofs.Common.{◌∙◌, length, sym, ap, arith}
+use Rattle.std.proofs.lemmas.Bool.{not-true}
 use Rattle.bt_history.specs.declared.event.Action.TheVariants.{Bits, Have, Haves, Arrived, Level}
 use Rattle.bt_picker.specs.Told.{action_told}
 use Rattle.bt_history.proofs.Allowed.{worker_below}

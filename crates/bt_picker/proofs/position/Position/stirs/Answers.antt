@@ -1,5 +1,4 @@
-use Rattle.std.proofs.Common.{◌≡◌, ◌==◌, ◌∙◌, ℕ, Bool, true, false, not, ap, sym}
-use Rattle.std.proofs.lemmas.Bool.{not-false}
+use Rattle.std.proofs.Common.{◌==◌, ◌∙◌, ℕ, ap}
 use Rattle.bt_history.specs.Setting.{some_block_of}
 use Rattle.bt_history.specs.declared.event.Action.TheVariants.{Arrived}
 use Rattle.bt_history.proofs.Arrivals.{arrival_facts}

@@ -1,5 +1,4 @@
-use Rattle.std.proofs.Common.{sym, ap, ◌∙◌}
-use Rattle.bt_shared.specs.Passes.{PassState}
+use Rattle.std.proofs.Common.{sym, ◌∙◌}
 use Rattle.bt_session.proofs.Seats.{same_table}
 use Rattle.bt_session.proofs.commons.Commons.enter_verdict.Goals as goal
 

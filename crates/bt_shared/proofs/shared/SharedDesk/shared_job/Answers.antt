@@ -1,6 +1,5 @@
-use Rattle.std.proofs.Common.{arith, ap, sym, ◌∙◌, rules}
+use Rattle.std.proofs.Common.{arith, ap, ◌∙◌, rules}
 use Rattle.bt_shared.specs.Guard.{Sat}
-use Rattle.bt_shared.specs.Passes.{PassState, SharedState}
 use Rattle.bt_shared.proofs.Marked.{agrees_continue, knows_continue, seat_may}
 use Rattle.bt_shared.proofs.Seats.{makes_witness}
 use Rattle.bt_shared.proofs.shared.SharedDesk.shared_job.Goals as goal
