@@ -86,12 +86,7 @@ impl<L: RunName> Commons<L> {
     }
 
     /// Settles the verdict. Whether it was given up for want of memory.
-    fn settle_or_not<T: Wait>(
-        &self,
-        rt: &T,
-        worker: &mut Worker<L>,
-        verdict: SharedVerdict,
-    ) -> bool
+    fn settle_or_not<T: Wait>(&self, rt: &T, worker: &mut Worker<L>, verdict: SharedVerdict) -> bool
         requires { IsOfRun L.desk L.setting verdict }
         ensures { SeesOrGivesUp L.setting worker.old verdict.checked.piece result worker.new }
     {
