@@ -18,8 +18,8 @@ use Rattle.bt_history.proofs.Below.{any_found, any_none, any_witness, all_found,
 use Rattle.bt_history.proofs.HeldLaws.{had_full}
 use Rattle.bt_tables.specs.Tables.{one_if, TablesState, PieceState}
 use Rattle.bt_picker.specs.Tables.{AreTables, piece_of, groups_of}
-use Rattle.bt_tables.specs.Standings.{first_group, group_of_row, stage_of_row, is_held, is_touched, standing_of, held_count, touched_count}
-use Rattle.bt_tables.specs.declared.piece.TheConstants.{ASKED_OUT}
+use Rattle.bt_tables.specs.Standings.{group_number, group_of_row, place_of, stage_of_row, is_held, is_touched, standing_of, held_count, touched_count}
+use Rattle.bt_tables.specs.declared.piece.Stage.TheVariants.{AskedOut}
 use Rattle.bt_picker.proofs.Levelled.{Covers}
 use Rattle.bt_picker.proofs.Stages.{begun_stage, place_listed}
 use Rattle.bt_picker.specs.Search.{DoublesNone, FindsAmong, FindsListed, FindsOf}
@@ -42,7 +42,7 @@ double_parts true true false d is = (refl, refl, refl)
 
 pub doubles_stage : (s : Setting) (h : History) (q p : ℕ) → IsLegal s h → p < piece_count s.torrent → endgame s h ≡ true →
     some_block_of s.torrent p (doubles s h q) ≡ true
-    → (shows h q p ≡ true) × (stage_of_row (piece_of s h p) ≡ ASKED_OUT)
+    → (shows h q p ≡ true) × (stage_of_row (piece_of s h p) ≡ AskedOut)
 doubles_stage s h q p legal lp ending some =
     let found = any_witness (block_count s.torrent p) (λ k. doubles s h q (block s.torrent p k)) some in
     let k = found.0 in
@@ -87,11 +87,11 @@ among_some t test pieces n (Some b) so_far = so_far
 
 -- where nothing was found among the pieces of the level whose lacking blocks are all asked, no piece of the level has a block to ask again
 pub doubles_none : (s : Setting) (h : History) (q n : ℕ) (pieces : List ℕ) → IsLegal s h → endgame s h ≡ true →
-    ListsGroup (groups_of s h) (first_group n + 1) pieces
+    ListsGroup (groups_of s h) (group_number n AskedOut) pieces
     → FindsAmong s.torrent (doubles s h q) pieces (length pieces) None → DoublesNone s h q n
 doubles_none s h q n pieces legal ending lists none p lp same = false_from_ne_true (some_block_of s.torrent p (doubles s h q)) (λ is.
     let stage = doubles_stage s h q p legal lp ending is in
-    let listed = place_listed s h n 1 p pieces lists lp same stage.1 in
+    let listed = place_listed s h n AskedOut p pieces lists lp same (ap place_of stage.1) in
     false≢true (sym (none listed.0 listed.1) ∙ (ap (λ (r : ℕ). some_block_of s.torrent r (doubles s h q)) listed.2 ∙ is)))
 
 -- so where no level has one there is none

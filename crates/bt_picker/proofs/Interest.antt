@@ -1,7 +1,8 @@
 -- Interest by the groups: a wanted piece that isn't had is begun, with all its lacking blocks asked or not, or may begin.
-use Rattle.std.proofs.Common.{◌≡◌, ℕ, ◌+◌, ◌-◌, ◌≤◌, ◌<◌, ◌==◌, Bool, true, false, not, ◌&&◌, ◌||◌, None, Some, List, length, refl, ap}
+use Rattle.std.proofs.Common.{◌≡◌, ℕ, ◌-◌, ◌≤◌, ◌<◌, ◌==◌, Bool, true, false, not, ◌&&◌, ◌||◌, Option, None, Some, List, length, refl, ap}
 use Rattle.std.proofs.Common.{sym, ◌∙◌, subst}
 use Rattle.std.proofs.Common.{arith, ⊎_elim}
+use Rattle.std.specs.Prelude.{IfSome, is_some}
 use Rattle.std.proofs.lemmas.Bool.{and_from, and_left, and_parts, and_right, cases_eq, cases_lt, eq-eqb, false≢true, le-ltb, ne_eqb, not-true}
 use Rattle.std.proofs.lemmas.Bool.{or_left}
 use Rattle.bt_meta.specs.Layout.{piece_count}
@@ -14,25 +15,26 @@ use Rattle.bt_history.specs.Legal.{IsLegal, interesting_after}
 use Rattle.bt_history.proofs.Below.{any_fails, any_found, any_same, any_witness}
 use Rattle.bt_tables.specs.Orders.{ListsGroup}
 use Rattle.bt_picker.specs.Search.{FindsLeast, FindsListed, IsLevel, LacksNone, is_candidate_at, rank_of}
-use Rattle.bt_tables.specs.Standings.{first_group, stage_of_row}
+use Rattle.bt_tables.specs.declared.piece.Stage.{Stage}
+use Rattle.bt_tables.specs.declared.piece.Stage.TheVariants.{AskedOut, Open}
+use Rattle.bt_tables.specs.Standings.{group_number, place_of, stage_of_row}
 use Rattle.bt_picker.specs.Tables.{groups_of, piece_of}
 use Rattle.bt_picker.proofs.Levelled.{Covers}
 use Rattle.bt_picker.proofs.Rarest.{at_level}
 use Rattle.bt_picker.proofs.Stages.{begun_stage, candidate_at, candidate_parts, listed_place, place_listed, stage_left}
 use Rattle.bt_picker.proofs.Telling.{wanted_chosen}
-use Rattle.bt_tables.specs.declared.piece.TheConstants.{SPAN}
 use Rattle.bt_picker.proofs.Scans.{lacks_found, lacks_none}
 
 -- a shown piece of a stage behind the resting ones interests
-pub listed_interests : (s : Setting) (h : History) (q n k p : ℕ) (pieces : List ℕ) → IsLegal s h → IsLevel n → 0 < k → k < SPAN
-    → ListsGroup (groups_of s h) (first_group n + k) pieces → FindsListed (shows h q) pieces (length pieces) (Some p)
+pub listed_interests : (s : Setting) (h : History) (q n : ℕ) (stage : Stage) (p : ℕ) (pieces : List ℕ) → IsLegal s h → IsLevel n
+    → 0 < place_of stage → ListsGroup (groups_of s h) (group_number n stage) pieces → FindsListed (shows h q) pieces (length pieces) (Some p)
     → interesting s h q ≡ true
-listed_interests s h q n k p pieces legal is some under lists found =
+listed_interests s h q n stage p pieces legal is some lists found =
     let i = found.1.0 in
-    let place = listed_place s h n k pieces legal is some under lists i found.1.1 in
+    let place = listed_place s h n stage pieces legal is some lists i found.1.1 in
     let lp = subst (λ (m : ℕ). m < piece_count s.torrent) found.1.2 place.0 in
-    let stage = subst (λ (m : ℕ). stage_of_row (piece_of s h m) ≡ k) found.1.2 place.2 in
-    let known = stage_left s h p (omega (arith, stage, some)) in
+    let stands = subst (λ (m : ℕ). place_of (stage_of_row (piece_of s h m)) ≡ place_of stage) found.1.2 place.2 in
+    let known = stage_left s h p (omega (arith, stands, some)) in
     lacks_found s h (shows h q) p (wanted_chosen s h p lp ∙ known.1) found.0 known.0 lp
 
 -- so does a candidate
@@ -44,16 +46,16 @@ candidate_interests s h q n p lp is =
 
 -- and no other piece of the level does
 pub nothing_interests : (s : Setting) (h : History) (q n : ℕ) (asked_out begun : List ℕ)
-    → ListsGroup (groups_of s h) (first_group n + 1) asked_out → ListsGroup (groups_of s h) (first_group n + 2) begun
+    → ListsGroup (groups_of s h) (group_number n AskedOut) asked_out → ListsGroup (groups_of s h) (group_number n Open) begun
     → FindsListed (shows h q) asked_out (length asked_out) None → FindsListed (shows h q) begun (length begun) None
     → FindsLeast (is_candidate_at s h q n) (rank_of s h true) 0 (piece_count s.torrent) None → LacksNone s h q n
 nothing_interests s h q n asked_out begun lists_out lists_open none_out none_open no_candidate p lp same =
     by_cases (wanted s h p) (shows h q p) (had h p) refl refl refl
   where
-    unlisted : (k : ℕ) (pieces : List ℕ) → ListsGroup (groups_of s h) (first_group n + k) pieces
-        → FindsListed (shows h q) pieces (length pieces) None → shows h q p ≡ true → stage_of_row (piece_of s h p) ≡ k → ⊥
-    unlisted k pieces lists none shown stage =
-        let listed = place_listed s h n k p pieces lists lp same stage in
+    unlisted : (stage : Stage) (pieces : List ℕ) → ListsGroup (groups_of s h) (group_number n stage) pieces
+        → FindsListed (shows h q) pieces (length pieces) None → shows h q p ≡ true → stage_of_row (piece_of s h p) ≡ stage → ⊥
+    unlisted stage pieces lists none shown is =
+        let listed = place_listed s h n stage p pieces lists lp same (ap place_of is) in
         false≢true (sym (none listed.0 listed.1) ∙ (ap (shows h q) listed.2 ∙ shown))
 
     by_stage : wanted s h p ≡ true → shows h q p ≡ true → had h p ≡ false
@@ -62,9 +64,9 @@ nothing_interests s h q n asked_out begun lists_out lists_open none_out none_ope
         false≢true (sym (no_candidate p (omega arith) lp) ∙ candidate_at s h q n p (and_from (wanted s h p) _ wants
         (and_from (shows h q p) _ shown (and_from (not (had h p)) _ (ap not lacks) (ap not touched_is)))) same)
     by_stage wants shown lacks true true touched_is all_is =
-        unlisted 1 asked_out lists_out none_out shown (begun_stage s h p true lacks (sym (wanted_chosen s h p lp) ∙ wants) touched_is all_is)
+        unlisted AskedOut asked_out lists_out none_out shown (begun_stage s h p true lacks (sym (wanted_chosen s h p lp) ∙ wants) touched_is all_is)
     by_stage wants shown lacks true false touched_is all_is =
-        unlisted 2 begun lists_open none_open shown (begun_stage s h p false lacks (sym (wanted_chosen s h p lp) ∙ wants) touched_is all_is)
+        unlisted Open begun lists_open none_open shown (begun_stage s h p false lacks (sym (wanted_chosen s h p lp) ∙ wants) touched_is all_is)
 
     by_cases : (w v d : Bool) → wanted s h p ≡ w → shows h q p ≡ v → had h p ≡ d → (w && (v && not d)) ≡ false
     by_cases false v d w_is v_is d_is = refl
@@ -72,6 +74,21 @@ nothing_interests s h q n asked_out begun lists_out lists_open none_out none_ope
     by_cases true true true w_is v_is d_is = refl
     by_cases true true false w_is v_is d_is =
         absurd (by_stage w_is v_is d_is (some_block_of s.torrent p (held_or_asked s h)) (each_block_of s.torrent p (held_or_asked s h)) refl refl)
+
+-- a candidate is found, or none is
+pub found_interests : (s : Setting) (h : History) (q n : ℕ) (found : Option ℕ)
+    → FindsLeast (is_candidate_at s h q n) (rank_of s h true) 0 (piece_count s.torrent) found → IfSome found (λ p. p < piece_count s.torrent)
+    → is_some found ≡ true → interesting s h q ≡ true
+found_interests s h q n None least within some = absurd (false≢true some)
+found_interests s h q n (Some p) least within some = candidate_interests s h q n p within least.0
+
+pub missing_interests : (s : Setting) (h : History) (q n : ℕ) (asked_out begun : List ℕ) (found : Option ℕ)
+    → ListsGroup (groups_of s h) (group_number n AskedOut) asked_out → ListsGroup (groups_of s h) (group_number n Open) begun
+    → FindsListed (shows h q) asked_out (length asked_out) None → FindsListed (shows h q) begun (length begun) None
+    → FindsLeast (is_candidate_at s h q n) (rank_of s h true) 0 (piece_count s.torrent) found → is_some found ≡ false → LacksNone s h q n
+missing_interests s h q n asked_out begun (Some p) lists_out lists_open none_out none_open least none = absurd (false≢true (sym none))
+missing_interests s h q n asked_out begun None lists_out lists_open none_out none_open least none =
+    nothing_interests s h q n asked_out begun lists_out lists_open none_out none_open least
 
 -- where no level interests nothing does
 pub no_level_interests : (s : Setting) (h : History) (q slot : ℕ) → Covers s h slot

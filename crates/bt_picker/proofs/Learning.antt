@@ -14,7 +14,7 @@ use Rattle.bt_history.specs.declared.call.Reply.{Reply}
 use Rattle.bt_history.specs.declared.call.Reply.TheVariants.{Request, Idle, NothingLeft}
 use Rattle.bt_history.specs.declared.event.Action.TheVariants.{Have, Next}
 use Rattle.bt_history.specs.declared.event.Event.{Event}
-use Rattle.bt_history.specs.Setting.{Setting, each_block_of, is_block, some_block, some_block_of}
+use Rattle.bt_history.specs.Setting.{Setting, is_block, some_block, some_block_of}
 use Rattle.bt_history.specs.History.{History}
 use Rattle.bt_history.specs.Peers.{joined, shows}
 use Rattle.bt_history.specs.Pieces.{availability, begun, chosen, had, had_count, held_or_asked, in_order, level, unbegun, wanted}
@@ -28,14 +28,12 @@ use Rattle.bt_history.proofs.LineLaws.{block_is_block, some_found}
 use Rattle.bt_history.proofs.NextCases.{next_cases, next_is, next_request}
 use Rattle.bt_tables.specs.Floors.{IsFloor, NoneFresh, TellsFloor, is_fresh, rank_of_row}
 use Rattle.bt_picker.specs.Search.{NoneBefore, NoneBegins, rank_at}
-use Rattle.bt_tables.specs.Standings.{stage_of_row}
-use Rattle.bt_tables.specs.declared.piece.TheConstants.{UNBEGUN}
 use Rattle.std.specs.List.{count_by}
 use Rattle.bt_picker.specs.Tables.{AreTables, peer_of, piece_of}
 use Rattle.bt_tables.specs.Tables.{PeerState, PieceState, TablesState, announced, edit, fresh_peer, fresh_piece, have_row, less_available}
 use Rattle.bt_tables.specs.Tables.{more_available, peer_row, piece_row}
 use Rattle.bt_picker.proofs.Stages.{candidate_parts}
-use Rattle.bt_picker.proofs.Telling.{had_rows, stage_by, stage_is, unchosen, untouched_row, wanted_chosen}
+use Rattle.bt_picker.proofs.Telling.{had_rows, unchosen, untouched_row, wanted_chosen}
 use Rattle.bt_picker.proofs.Scans.{candidate_usable, first_block, lacks_found}
 use Rattle.bt_tables.proofs.Tabled.{edit_read, get_or_is_table, get_or_table, length_edit}
 
@@ -50,6 +48,11 @@ fresh_parts true c t is = absurd (cc is)
 fresh_parts false false t is = absurd (cc is)
 fresh_parts false true true is = absurd (cc is)
 fresh_parts false true false is = (refl, refl, refl)
+
+fresh_unbegun : (s : Setting) (h : History) (p : ℕ) → is_fresh (piece_of s h p) ≡ true → unbegun s h p ≡ true
+fresh_unbegun s h p fresh =
+    let parts = fresh_parts (had h p) (chosen h p) (some_block_of s.torrent p (held_or_asked s h)) (sym (fresh_is s h p) ∙ fresh) in
+    and_from (not (had h p)) _ (ap not parts.0) (ap not parts.2)
 
 fresh_candidate : (s : Setting) (h : History) (q p : ℕ) → p < piece_count s.torrent → shows h q p ≡ true → is_fresh (piece_of s h p) ≡ true →
     is_candidate s h q p ≡ true
@@ -203,19 +206,6 @@ module _ (s : Setting) (h : History) (w word : ℕ) (legal : IsLegal s h) (layou
 
 -- ---- the tables before an entry
 
--- a piece of the stages from UNBEGUN on is unbegun
-stage_fresh : (s : Setting) (h : History) (p : ℕ) → UNBEGUN ≤ stage_of_row (piece_of s h p) → unbegun s h p ≡ true
-stage_fresh s h p high =
-    by_test (had h p) (chosen h p) (some_block_of s.torrent p (held_or_asked s h)) (each_block_of s.torrent p (held_or_asked s h))
-    (availability s h p) (subst (λ (n : ℕ). UNBEGUN ≤ n) (stage_is s h p) high)
-  where
-    by_test : (d c t u : Bool) (n : ℕ) → UNBEGUN ≤ stage_by d c t u n → (not d && not t) ≡ true
-    by_test true c t u n le = absurd (omega (arith, le))
-    by_test false false t u n le = absurd (omega (arith, le))
-    by_test false true false u n le = refl
-    by_test false true true true n le = absurd (omega (arith, le))
-    by_test false true true false n le = absurd (omega (arith, le))
-
 fewer : (t : TablesState) (h : History) → AreTables t h → t.setting.workers < 65536
 fewer t h are = omega (arith, are.few)
 
@@ -227,7 +217,7 @@ told_floor t h w word n (Request b) are allowed lw (inl told) =
     let s = t.setting in
     let lp : b.piece < piece_count s.torrent = subst (λ (m : ℕ). b.piece < m) are.pieces_len told.0.within in
     let row = row_is t h w are lw b.piece lp in
-    let fresh = stage_fresh s h b.piece (subst (λ (r : PieceState). UNBEGUN ≤ stage_of_row r) row told.0.unbegun) in
+    let fresh = fresh_unbegun s h b.piece (ap is_fresh (sym row) ∙ told.0.unbegun) in
     let unordered = sym are.in_order_is ∙ told.0.unordered in
     let had = ap (count_by (λ (r : PieceState). r.had)) are.pieces_are ∙ had_rows s h in
     let settled = le-ltb (had_count s h) s.random (subst (λ (m : ℕ). s.random ≤ m) had told.0.settled) in

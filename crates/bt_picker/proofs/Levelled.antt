@@ -19,15 +19,17 @@ use Rattle.bt_history.proofs.HeldLaws.{had_full}
 use Rattle.bt_history.proofs.Levels.{top_above}
 use Rattle.bt_history.proofs.LineLaws.{block_is_block, some_found}
 use Rattle.bt_tables.specs.Orders.{at}
-use Rattle.bt_tables.specs.Standings.{ListsOpen, first_group, group_of_row, stage_of_row}
+use Rattle.bt_tables.specs.declared.piece.Stage.TheVariants.{Open}
+use Rattle.bt_tables.specs.Standings.{ListsOpen, first_group, group_number, group_of_row, place_of, stage_of_row}
 use Rattle.bt_picker.specs.Search.{Finds, FindsLeast, FindsListed, FindsOf, IsLevel, NoneAbove, NoneAt, goes_on, is_candidate_at, lesser_of}
 use Rattle.bt_picker.specs.Search.{rank_of, shows_at}
 use Rattle.bt_picker.specs.Tables.{groups_of, piece_of}
 use Rattle.bt_picker.proofs.Rarest.{at_level}
 use Rattle.bt_picker.proofs.Scans.{candidate_usable, first_block, least_is_rarest, none_in_pieces}
 use Rattle.bt_picker.proofs.Stages.{begun_stage, candidate_at, candidate_parts, candidate_stage, level_chosen, listed_open, open_listed, open_within}
-use Rattle.bt_picker.proofs.Stages.{stage_few, stage_open}
-use Rattle.bt_tables.specs.declared.piece.TheConstants.{OPEN, SPAN}
+use Rattle.bt_picker.proofs.Stages.{stage_open}
+use Rattle.bt_tables.proofs.Apart.{place_few}
+use Rattle.bt_tables.specs.declared.piece.TheConstants.{SPAN}
 use Rattle.bt_picker.proofs.Telling.{wanted_chosen}
 
 -- a piece of this level that has a block to ask of the peer: it shows the piece, which is wanted, and of which not each block is touched
@@ -69,10 +71,10 @@ module _ (s : Setting) (h : History) (q p : ℕ) (legal : IsLegal s h) (lp : p <
       false≢true (sym free ∙ or_left (held h (block s.torrent p found.0)) (asked_of_some s h (block s.torrent p found.0)) full))
 
   -- it is begun, with an unasked block, or may be begun
-  pub usable_piece : ((begun s h p ≡ true) × (stage_of_row (piece_of s h p) ≡ OPEN)) ⊎ (is_candidate s h q p ≡ true)
+  pub usable_piece : ((begun s h p ≡ true) × (stage_of_row (piece_of s h p) ≡ Open)) ⊎ (is_candidate s h q p ≡ true)
   usable_piece = by_touch (some_block_of s.torrent p (held_or_asked s h)) refl where
     by_touch : (x : Bool) → some_block_of s.torrent p (held_or_asked s h) ≡ x
-        → ((begun s h p ≡ true) × (stage_of_row (piece_of s h p) ≡ OPEN)) ⊎ (is_candidate s h q p ≡ true)
+        → ((begun s h p ≡ true) × (stage_of_row (piece_of s h p) ≡ Open)) ⊎ (is_candidate s h q p ≡ true)
     by_touch true is = inl (and_from (not (had h p)) _ (ap not usable_lacks) is, begun_stage s h p false usable_lacks usable_chosen is usable_left)
     by_touch false is = inr (and_from (wanted s h p) _ parts.1 (and_from (shows h q p) _ parts.2 (and_from (not (had h p)) _ (ap not usable_lacks)
         (ap not is))))
@@ -92,25 +94,25 @@ none_at s h q n legal no_more no_start p lp same = false_from_ne_true (some_bloc
     let found = usable_block s h q p legal lp some in
     let b = block s.torrent p found.0 in
     ⊎_elim
-    (λ (on : (begun s h p ≡ true) × (stage_of_row (piece_of s h p) ≡ OPEN)).
+    (λ (on : (begun s h p ≡ true) × (stage_of_row (piece_of s h p) ≡ Open)).
     false≢true (sym no_more ∙ some_found s.torrent (goes_on s h q n) b (block_is_block s.torrent p found.0 lp found.1)
     (and_from (usable s h q b) _ found.2 (and_from (begun s h p) (level h p == n) on.0 (eq-eqb (level h p) n same)))))
     (λ (may : is_candidate s h q p ≡ true). false≢true (sym (no_start p lp) ∙ candidate_at s h q n p may same))
     (usable_piece s h q p legal lp some))
 
 -- where no piece is in the groups of the open and the unbegun ones of a level
-pub no_group : (s : Setting) (h : History) (q n base : ℕ) → IsLegal s h → base ≡ first_group n
-    → ((p : ℕ) → p < piece_count s.torrent → base + 2 ≤ group_of_row (piece_of s h p) → base + SPAN ≤ group_of_row (piece_of s h p))
+pub no_group : (s : Setting) (h : History) (q n low high : ℕ) → IsLegal s h → low ≡ group_number n Open → high ≡ first_group n + SPAN
+    → ((p : ℕ) → p < piece_count s.torrent → low ≤ group_of_row (piece_of s h p) → high ≤ group_of_row (piece_of s h p))
     → NoneAt s h q n
-no_group s h q n base legal is empty p lp same = false_from_ne_true (some_block_of s.torrent p (usable s h q)) (λ some.
-    let few = stage_few s h p in
-    let slot : first_group (level h p) ≡ base = ap first_group same ∙ sym is in
-    let low : OPEN ≤ stage_of_row (piece_of s h p) = ⊎_elim
-    (λ (on : (begun s h p ≡ true) × (stage_of_row (piece_of s h p) ≡ OPEN)). omega (arith, on.1))
-    (λ (may : is_candidate s h q p ≡ true). (let stage = (candidate_stage s h q p may).1 in omega (arith, stage)))
+no_group s h q n low high legal low_is high_is empty p lp same = false_from_ne_true (some_block_of s.torrent p (usable s h q)) (λ some.
+    let few = place_few (stage_of_row (piece_of s h p)) in
+    let slot : first_group (level h p) ≡ first_group n = ap first_group same in
+    let least : place_of Open ≤ place_of (stage_of_row (piece_of s h p)) = ⊎_elim
+    (λ (on : (begun s h p ≡ true) × (stage_of_row (piece_of s h p) ≡ Open)). omega (arith, ap place_of on.1))
+    (λ (may : is_candidate s h q p ≡ true). omega (arith, ap place_of (candidate_stage s h q p may).1))
     (usable_piece s h q p legal lp some) in
-    let high = empty p lp (omega (arith, slot, low)) in
-    omega (arith, high, slot, few))
+    let far = empty p lp (omega (arith, slot, low_is, least)) in
+    omega (arith, far, high_is, slot, few))
 
 -- ---- what is above a level
 
@@ -219,7 +221,7 @@ module _ (s : Setting) (h : History) (q n : ℕ) (above : NoneAbove s h q n) whe
 
 module _ (s : Setting) (h : History) (q n p : ℕ) (layout : IsLayout s.torrent) (is : IsLevel n) where
   -- an open piece that is shown gives
-  pub open_gives : p < piece_count s.torrent → stage_of_row (piece_of s h p) ≡ OPEN → shows_at h q n p ≡ true → Gives s h q n p
+  pub open_gives : p < piece_count s.torrent → stage_of_row (piece_of s h p) ≡ Open → shows_at h q n p ≡ true → Gives s h q n p
   open_gives lp stage shown =
       let known = stage_open s h p stage in
       let at_it = and_parts (shows h q p) (level h p == n) shown in
@@ -263,7 +265,7 @@ given s h q n p (Some b) gives some = (
 
 -- an unasked block of an open piece of the level goes on
 pub goes_on_found : (s : Setting) (h : History) (q n p : ℕ) (found : Option Block) → IsLayout s.torrent → IsLevel n → p < piece_count s.torrent
-    → stage_of_row (piece_of s h p) ≡ OPEN → shows_at h q n p ≡ true → FindsOf s.torrent p (unasked s h) found →
+    → stage_of_row (piece_of s h p) ≡ Open → shows_at h q n p ≡ true → FindsOf s.torrent p (unasked s h) found →
     Finds s.torrent (goes_on s h q n) found
 goes_on_found s h q n p found layout is lp stage shown finds =
     let gives = open_gives s h q n p layout is lp stage shown in
@@ -304,7 +306,7 @@ module _ (s : Setting) (h : History) (q n : ℕ) (pieces : List ℕ) (legal : Is
       → FindsLeast (is_candidate_at s h q n) (λ r. r) 0 (piece_count s.torrent) fresh
       → (r : ℕ) → r < piece_count s.torrent → level h r ≡ n → some_block_of s.torrent r (usable s h q) ≡ true → m ≤ r
   no_less shown_one fresh m lesser opens first begins r lr same some = ⊎_elim
-      (λ (on : (begun s h r ≡ true) × (stage_of_row (piece_of s h r) ≡ OPEN)).
+      (λ (on : (begun s h r ≡ true) × (stage_of_row (piece_of s h r) ≡ Open)).
       let listed = open_listed s h pieces r lists lr on.1 in
       let shown : shows_at h q n (at pieces listed.0) ≡ true = ap (shows_at h q n) listed.2
       ∙ and_from (shows h q r) (level h r == n) (usable_shown s h q r legal lr some) (eq-eqb (level h r) n same) in
@@ -362,7 +364,7 @@ module _ (s : Setting) (h : History) (q n : ℕ) (pieces : List ℕ) (legal : Is
     from_open p found =
         let i = found.1.0 in
         let lp = subst (λ (r : ℕ). r < piece_count s.torrent) found.1.2 (open_within s h pieces lists i found.1.1) in
-        let stage = subst (λ (r : ℕ). stage_of_row (piece_of s h r) ≡ OPEN) found.1.2 (listed_open s h pieces lists i found.1.1) in
+        let stage = subst (λ (r : ℕ). stage_of_row (piece_of s h r) ≡ Open) found.1.2 (listed_open s h pieces lists i found.1.1) in
         open_gives s h q n p layout is lp stage found.0
 
     by_both : (o f : Option ℕ) → lesser_of o f ≡ Some m → FindsListed (shows_at h q n) pieces (length pieces) o

@@ -14,10 +14,11 @@ use Rattle.bt_history.specs.Legal.{IsLegal}
 use Rattle.bt_history.specs.Next.{is_candidate}
 use Rattle.bt_history.proofs.Below.{count_most}
 use Rattle.bt_tables.specs.Orders.{at, ListsGroup}
-use Rattle.bt_tables.specs.Standings.{first_group, stage_of_row}
+use Rattle.bt_tables.specs.declared.piece.Stage.TheVariants.{Unbegun}
+use Rattle.bt_tables.specs.Standings.{group_number, place_of, stage_of_row}
 use Rattle.bt_picker.specs.Search.{FindsLeast, FindsListed, FindsRarest, IsLevel, NoneBefore, NoneRarer, is_candidate_at, rank_of}
 use Rattle.bt_picker.specs.Tables.{groups_of, piece_of}
-use Rattle.bt_tables.specs.declared.piece.TheConstants.{CROWD, UNBEGUN}
+use Rattle.bt_tables.specs.declared.piece.TheConstants.{CROWD}
 use Rattle.bt_picker.proofs.Stages.{candidate_at, candidate_stage, listed_place, place_listed, stage_candidate}
 
 -- a level's candidate is a candidate of that level
@@ -25,10 +26,12 @@ pub at_level : (s : Setting) (h : History) (q n p : ℕ) → is_candidate_at s h
 at_level s h q n p is = (let parts = and_parts (is_candidate s h q p) (level h p == n) is in (parts.0, eqb-true (level h p) n parts.1))
 
 -- below the crowd the stage of an unbegun piece tells its availability
-pub uncrowded : (v n : ℕ) → n < CROWD → min v CROWD ≡ n → v ≡ n
-uncrowded v n lt is = ⊎_elim
-    (λ (below : v < CROWD). (let same : min v CROWD ≡ v = min-eq_left (omega (arith, below)) in omega (arith, same, is)))
-    (λ (past : CROWD ≤ v). (let same : min v CROWD ≡ CROWD = min-eq_right past in absurd (omega (arith, same, is, lt))))
+pub uncrowded : (v n : ℕ) → n < CROWD → min v CROWD ≡ min n CROWD → v ≡ n
+uncrowded v n lt is =
+    let own : min n CROWD ≡ n = min-eq_left (omega (arith, lt)) in
+    ⊎_elim
+    (λ (below : v < CROWD). (let same : min v CROWD ≡ v = min-eq_left (omega (arith, below)) in omega (arith, same, own, is)))
+    (λ (past : CROWD ≤ v). (let same : min v CROWD ≡ CROWD = min-eq_right past in absurd (omega (arith, same, own, is, lt))))
     (cases_lt v CROWD)
 
 -- what ranks before no candidate tells how many peers at least show one of a level
@@ -46,14 +49,14 @@ above_all s h q n k none many p lp = false_from_ne_true (is_candidate_at s h q n
     (λ fits. (let low = none p lp fits in let most = count_most s.workers (λ r. joined h r && shows h r p) in omega (arith, low, most, many)))
 
 module _ (s : Setting) (h : History) (q n k : ℕ) (pieces : List ℕ) (legal : IsLegal s h) (is : IsLevel n) (under : k < CROWD)
-    (lists : ListsGroup (groups_of s h) (first_group n + (UNBEGUN + k)) pieces) (so_far : NoneRarer s h q n k) where
+    (lists : ListsGroup (groups_of s h) (group_number n (Unbegun k)) pieces) (so_far : NoneRarer s h q n k) where
   pub rarest_found : (p : ℕ) → FindsListed (shows h q) pieces (length pieces) (Some p)
       → (FindsLeast (is_candidate_at s h q n) (rank_of s h true) 0 (piece_count s.torrent) (Some p)) × (p < piece_count s.torrent)
   rarest_found p listed =
       let i = listed.1.0 in
-      let place = listed_place s h n (UNBEGUN + k) pieces legal is (omega arith) (omega (arith, under)) lists i listed.1.1 in
+      let place = listed_place s h n (Unbegun k) pieces legal is (omega arith) lists i listed.1.1 in
       let lp : p < piece_count s.torrent = subst (λ (m : ℕ). m < piece_count s.torrent) listed.1.2 place.0 in
-      let stage = subst (λ (m : ℕ). stage_of_row (piece_of s h m) ≡ UNBEGUN + k) listed.1.2 place.2 in
+      let stage = subst (λ (m : ℕ). place_of (stage_of_row (piece_of s h m)) ≡ place_of (Unbegun k)) listed.1.2 place.2 in
       let known = stage_candidate s h q p k lp listed.0 stage in
       let shown = uncrowded (availability s h p) k under known.1 in (
         (
@@ -68,8 +71,8 @@ module _ (s : Setting) (h : History) (q n k : ℕ) (pieces : List ℕ) (legal : 
       (λ (same : availability s h p ≡ k).
       let parts = at_level s h q n p fits in
       let known = candidate_stage s h q p parts.0 in
-      let exact : min (availability s h p) CROWD ≡ k = min-eq_left (omega (arith, same, under)) ∙ same in
-      let listed = place_listed s h n (UNBEGUN + k) p pieces lists lp parts.1 (known.1 ∙ ap (λ (m : ℕ). UNBEGUN + m) exact) in
+      let place = ap place_of known.1 ∙ ap (λ (m : ℕ). place_of (Unbegun m)) same in
+      let listed = place_listed s h n (Unbegun k) p pieces lists lp parts.1 place in
       absurd (false≢true (sym (none listed.0 listed.1) ∙ (ap (shows h q) listed.2 ∙ known.0))))
       (λ (apart : availability s h p ≡ k → ⊥). (let low = so_far p lp fits in omega (arith, low, apart)))
       (cases_eq (availability s h p) k)
@@ -77,7 +80,7 @@ module _ (s : Setting) (h : History) (q n k : ℕ) (pieces : List ℕ) (legal : 
 -- ---- the crowd: the unbegun pieces that 1,025 peers or more show
 
 module _ (s : Setting) (h : History) (q n k : ℕ) (pieces : List ℕ) (legal : IsLegal s h) (is : IsLevel n) (all : (s.workers < k) ⊎ (CROWD ≤ k))
-    (lists : ListsGroup (groups_of s h) (first_group n + (UNBEGUN + CROWD)) pieces) (so_far : NoneRarer s h q n k) where
+    (lists : ListsGroup (groups_of s h) (group_number n (Unbegun CROWD)) pieces) (so_far : NoneRarer s h q n k) where
   -- a candidate that is left is in the crowd
   crowded : (p : ℕ) → p < piece_count s.torrent → is_candidate_at s h q n p ≡ true →
       (shows h q p ≡ true) × ((i : ℕ) × (i < length pieces) × (at pieces i ≡ p))
@@ -91,7 +94,8 @@ module _ (s : Setting) (h : History) (q n k : ℕ) (pieces : List ℕ) (legal : 
       let parts = at_level s h q n p fits in
       let known = candidate_stage s h q p parts.0 in
       let capped : min (availability s h p) CROWD ≡ CROWD = min-eq_right many in
-      (known.0, place_listed s h n (UNBEGUN + CROWD) p pieces lists lp parts.1 (known.1 ∙ ap (λ (m : ℕ). UNBEGUN + m) capped))
+      let place : place_of (Unbegun (availability s h p)) ≡ place_of (Unbegun CROWD) = omega (arith, capped) in
+      (known.0, place_listed s h n (Unbegun CROWD) p pieces lists lp parts.1 (ap place_of known.1 ∙ place))
 
   pub crowd_found : (found : Option ℕ) → FindsRarest (shows h q) (availability s h) pieces (length pieces) found
       → (FindsLeast (is_candidate_at s h q n) (rank_of s h true) 0 (piece_count s.torrent) found) × IfSome found (λ p. p < piece_count s.torrent)
@@ -103,9 +107,9 @@ module _ (s : Setting) (h : History) (q n k : ℕ) (pieces : List ℕ) (legal : 
   )
   crowd_found (Some p) some =
       let i = some.1.0 in
-      let place = listed_place s h n (UNBEGUN + CROWD) pieces legal is (omega arith) (omega arith) lists i some.1.1 in
+      let place = listed_place s h n (Unbegun CROWD) pieces legal is (omega arith) lists i some.1.1 in
       let lp : p < piece_count s.torrent = subst (λ (m : ℕ). m < piece_count s.torrent) some.1.2 place.0 in
-      let stage = subst (λ (m : ℕ). stage_of_row (piece_of s h m) ≡ UNBEGUN + CROWD) some.1.2 place.2 in
+      let stage = subst (λ (m : ℕ). place_of (stage_of_row (piece_of s h m)) ≡ place_of (Unbegun CROWD)) some.1.2 place.2 in
       let known = stage_candidate s h q p CROWD lp some.0 stage in (
         (
           candidate_at s h q n p known.0 (subst (λ (m : ℕ). level h m ≡ n) some.1.2 place.1),

@@ -13,37 +13,33 @@ use Rattle.bt_history.specs.Legal.{IsLegal}
 use Rattle.bt_history.specs.Next.{is_candidate}
 use Rattle.bt_history.proofs.Levels.{level_bounded}
 use Rattle.bt_tables.specs.Orders.{at, ListsGroup}
-use Rattle.bt_tables.specs.Standings.{ListsOpen, first_group, group_of_row, slot_of, shown_stage, stage_of, stage_of_row}
-use Rattle.bt_tables.proofs.Apart.{level_cases, slot_above, slot_below, slot_few, slot_usual}
+use Rattle.bt_tables.specs.declared.piece.Stage.{Stage}
+use Rattle.bt_tables.specs.declared.piece.Stage.TheVariants.{AskedOut, Open, Resting, Unbegun}
+use Rattle.bt_tables.specs.Standings.{ListsOpen, first_group, group_number, group_of_row, place_in, place_of, slot_of, stage_of_row}
+use Rattle.bt_tables.proofs.Apart.{level_cases, place_few, place_in_slot, place_open, slot_above, slot_below, slot_few, slot_usual}
 use Rattle.bt_tables.proofs.Tabled.{get_or_table, length_table}
 use Rattle.bt_picker.specs.Search.{IsLevel, is_candidate_at}
 use Rattle.bt_picker.specs.Tables.{groups_of, piece_of}
-use Rattle.bt_tables.specs.declared.piece.TheConstants.{ASKED_OUT, CROWD, GROUPS, OPEN, RESTING, SPAN, UNBEGUN}
+use Rattle.bt_tables.specs.declared.piece.TheConstants.{CROWD, GROUPS, SPAN}
 use Rattle.bt_picker.proofs.Telling.{stage_by, stage_is, wanted_chosen}
 
 -- ---- what a stage tells of a piece
 
-stage_low : (d c t u : Bool) (n : ℕ) → stage_by d c t u n < SPAN
-stage_low true c t u n = omega arith
-stage_low false false t u n = omega arith
-stage_low false true false u n = omega arith
-stage_low false true true true n = omega arith
-stage_low false true true false n = omega arith
-
 -- of a piece with something left to get
-left_by : (d c t u : Bool) (n : ℕ) → RESTING < stage_by d c t u n → (d ≡ false) × (c ≡ true)
+left_by : (d c t u : Bool) (n : ℕ) → 0 < place_of (stage_by d c t u n) → (d ≡ false) × (c ≡ true)
 left_by true c t u n some = absurd (omega (arith, some))
 left_by false false t u n some = absurd (omega (arith, some))
 left_by false true t u n some = (refl, refl)
 
-open_by : (d c t u : Bool) (n : ℕ) → stage_by d c t u n ≡ OPEN → (d ≡ false) × (c ≡ true) × (t ≡ true) × (u ≡ false)
-open_by true c t u n is = absurd (omega (arith, is))
-open_by false false t u n is = absurd (omega (arith, is))
-open_by false true false u n is = absurd (omega (arith, is))
-open_by false true true true n is = absurd (omega (arith, is))
+open_by : (d c t u : Bool) (n : ℕ) → stage_by d c t u n ≡ Open → (d ≡ false) × (c ≡ true) × (t ≡ true) × (u ≡ false)
+open_by true c t u n is = absurd (cc is)
+open_by false false t u n is = absurd (cc is)
+open_by false true false u n is = absurd (cc is)
+open_by false true true true n is = absurd (cc is)
 open_by false true true false n is = (refl, refl, refl, refl)
 
-unbegun_by : (d c t u : Bool) (v n : ℕ) → stage_by d c t u v ≡ UNBEGUN + n → (d ≡ false) × (c ≡ true) × (t ≡ false) × (min v CROWD ≡ n)
+unbegun_by : (d c t u : Bool) (v n : ℕ) → place_of (stage_by d c t u v) ≡ place_of (Unbegun n)
+    → (d ≡ false) × (c ≡ true) × (t ≡ false) × (min v CROWD ≡ min n CROWD)
 unbegun_by true c t u v n is = absurd (omega (arith, is))
 unbegun_by false false t u v n is = absurd (omega (arith, is))
 unbegun_by false true false u v n is = (refl, refl, refl, omega (arith, is))
@@ -57,26 +53,24 @@ module _ (s : Setting) (h : History) (p : ℕ) where
   abbrev full : Bool
   full = each_block_of s.torrent p (held_or_asked s h)
 
-  pub stage_few : stage_of_row (piece_of s h p) < SPAN
-  stage_few = subst (λ (n : ℕ). n < SPAN) (sym (stage_is s h p)) (stage_low (had h p) (chosen h p) touched full (availability s h p))
-
   -- a piece with something left to get is wanted
-  pub stage_left : RESTING < stage_of_row (piece_of s h p) → (had h p ≡ false) × (chosen h p ≡ true)
-  stage_left some = left_by (had h p) (chosen h p) touched full (availability s h p) (subst (λ (n : ℕ). 0 < n) (stage_is s h p) some)
+  pub stage_left : 0 < place_of (stage_of_row (piece_of s h p)) → (had h p ≡ false) × (chosen h p ≡ true)
+  stage_left some =
+      left_by (had h p) (chosen h p) touched full (availability s h p) (subst (λ (stage : Stage). 0 < place_of stage) (stage_is s h p) some)
 
-  pub stage_open : stage_of_row (piece_of s h p) ≡ OPEN → (had h p ≡ false) × (chosen h p ≡ true) × (touched ≡ true) × (full ≡ false)
+  pub stage_open : stage_of_row (piece_of s h p) ≡ Open → (had h p ≡ false) × (chosen h p ≡ true) × (touched ≡ true) × (full ≡ false)
   stage_open is = open_by (had h p) (chosen h p) touched full (availability s h p) (sym (stage_is s h p) ∙ is)
 
-  pub stage_unbegun : (n : ℕ) → stage_of_row (piece_of s h p) ≡ UNBEGUN + n
-      → (had h p ≡ false) × (chosen h p ≡ true) × (touched ≡ false) × (min (availability s h p) CROWD ≡ n)
-  stage_unbegun n is = unbegun_by (had h p) (chosen h p) touched full (availability s h p) n (sym (stage_is s h p) ∙ is)
+  pub stage_unbegun : (n : ℕ) → place_of (stage_of_row (piece_of s h p)) ≡ place_of (Unbegun n)
+      → (had h p ≡ false) × (chosen h p ≡ true) × (touched ≡ false) × (min (availability s h p) CROWD ≡ min n CROWD)
+  stage_unbegun n is = unbegun_by (had h p) (chosen h p) touched full (availability s h p) n (sym (ap place_of (stage_is s h p)) ∙ is)
 
   -- and the stage where the tests are known
-  pub unbegun_stage : had h p ≡ false → chosen h p ≡ true → touched ≡ false → stage_of_row (piece_of s h p) ≡ shown_stage (availability s h p)
+  pub unbegun_stage : had h p ≡ false → chosen h p ≡ true → touched ≡ false → stage_of_row (piece_of s h p) ≡ Unbegun (availability s h p)
   unbegun_stage lacks picked fresh = stage_is s h p ∙ (λ i. stage_by (lacks i) (picked i) (fresh i) full (availability s h p))
 
   pub begun_stage : (x : Bool) → had h p ≡ false → chosen h p ≡ true → touched ≡ true → full ≡ x
-      → stage_of_row (piece_of s h p) ≡ (if x then ASKED_OUT else OPEN)
+      → stage_of_row (piece_of s h p) ≡ (if x then AskedOut else Open)
   begun_stage x lacks picked begun all = stage_is s h p ∙ (λ i. stage_by (lacks i) (picked i) (begun i) (all i) (availability s h p))
 
 -- ---- the group that a stage of a level is
@@ -106,37 +100,39 @@ slot_same l n own is same = by_own (level_cases l) where
   by_own (inr (inr less)) = by_other (7 - l) (slot_below l less.0 less.1) (λ zero_is. absurd (omega (arith, zero_is, less.1)))
       (λ high there. absurd (omega (arith, there, high, less.1))) (λ low there. omega (arith, there, low, less.1))
 
--- the level and the stage of a group can be told from its number
-same_place : (l n st k : ℕ) → l ≤ 7 → IsLevel n → st < SPAN → (l ≡ 0 → st ≡ RESTING) → RESTING < k → k < SPAN
-    → slot_of l * SPAN + st ≡ slot_of n * SPAN + k → (l ≡ n) × (st ≡ k)
-same_place l n st k few is low none some under same =
+-- the level of a group, and the place among those of the level, can be told from its number
+same_place : (l n j k : ℕ) → l ≤ 7 → IsLevel n → j < SPAN → (l ≡ 0 → j ≡ 0) → 0 < k → k < SPAN
+    → slot_of l * SPAN + j ≡ slot_of n * SPAN + k → (l ≡ n) × (j ≡ k)
+same_place l n j k few is low none some under same =
     let slot : slot_of l ≡ slot_of n = omega (arith, same, low, under) in
-    let stage : st ≡ k = omega (arith, same, slot) in
+    let place : j ≡ k = omega (arith, same, slot) in
     ⊎_elim
-    (λ (zero_is : l ≡ 0). (let rest = none zero_is in absurd (omega (arith, rest, stage, some))))
-    (λ (more : l ≡ 0 → ⊥). (slot_same l n (omega (arith, more), few) is slot, stage))
+    (λ (zero_is : l ≡ 0). (let rest = none zero_is in absurd (omega (arith, rest, place, some))))
+    (λ (more : l ≡ 0 → ⊥). (slot_same l n (omega (arith, more), few) is slot, place))
     (cases_eq l 0)
 
 module _ (s : Setting) (h : History) (p : ℕ) (legal : IsLegal s h) where
   -- a piece of level 0 rests
-  unchosen_rests : level h p ≡ 0 → stage_of_row (piece_of s h p) ≡ RESTING
+  unchosen_rests : level h p ≡ 0 → stage_of_row (piece_of s h p) ≡ Resting
   unchosen_rests none = stage_is s h p ∙ (λ i. stage_by (had h p) (nat_lt 0 (none i)) (some_block_of s.torrent p (held_or_asked s h))
       (each_block_of s.torrent p (held_or_asked s h)) (availability s h p)) ∙ rests (had h p)
     where
       rests : (d : Bool) → stage_by d false (some_block_of s.torrent p (held_or_asked s h)) (each_block_of s.torrent p (held_or_asked s h))
-          (availability s h p) ≡ RESTING
+          (availability s h p) ≡ Resting
       rests true = refl
       rests false = refl
 
-  -- a piece in a group of a level, but for the resting ones, has that level and that stage
-  pub placed : (n k : ℕ) → IsLevel n → 0 < k → k < SPAN → group_of_row (piece_of s h p) ≡ first_group n + k
-      → (level h p ≡ n) × (stage_of_row (piece_of s h p) ≡ k)
-  placed n k is some under same =
-      same_place (level h p) n (stage_of_row (piece_of s h p)) k (level_bounded s h p legal) is (stage_few s h p) unchosen_rests some under same
+  -- a piece in a group of a level, but for the resting ones, has that level and stands where that stage does
+  pub placed : (n : ℕ) (stage : Stage) → IsLevel n → 0 < place_of stage → group_of_row (piece_of s h p) ≡ group_number n stage
+      → (level h p ≡ n) × (place_of (stage_of_row (piece_of s h p)) ≡ place_of stage)
+  placed n stage is some same =
+      let own = stage_of_row (piece_of s h p) in
+      same_place (level h p) n (place_of own) (place_of stage) (level_bounded s h p legal) is (place_few own)
+      (λ none. ap place_of (unchosen_rests none)) some (place_few stage) same
 
-pub place_of : (s : Setting) (h : History) (p n k : ℕ) → level h p ≡ n → stage_of_row (piece_of s h p) ≡ k
-    → group_of_row (piece_of s h p) ≡ first_group n + k
-place_of s h p n k level_is stage = λ i. first_group (level_is i) + stage i
+group_is : (s : Setting) (h : History) (p n : ℕ) (stage : Stage) → level h p ≡ n → place_of (stage_of_row (piece_of s h p)) ≡ place_of stage
+    → group_of_row (piece_of s h p) ≡ group_number n stage
+group_is s h p n stage level_is place = λ i. first_group (level_is i) + place i
 
 -- a wanted piece has a level
 pub chosen_level : (s : Setting) (h : History) (p : ℕ) → IsLegal s h → chosen h p ≡ true → IsLevel (level h p)
@@ -152,22 +148,26 @@ not_above s h p legal behind = ⊎_elim
     (λ (more : 4 < level h p).
     let slot = slot_above (level h p) more in
     let bound = level_bounded s h p legal in
-    let few = stage_few s h p in
+    let few = place_few (stage_of_row (piece_of s h p)) in
     let far = behind (omega (arith, slot, bound)) in
     absurd (omega (arith, far, slot, more, few)))
     (λ (low : level h p ≤ 4). low)
     (cases_lt 4 (level h p))
 
--- and where it is in no group of the lower levels, none of those
-pub not_below : (s : Setting) (h : History) (p : ℕ) → group_of_row (piece_of s h p) < 4 * SPAN → 0 < level h p → 4 ≤ level h p
-not_below s h p before some = ⊎_elim
-    (λ (less : level h p < 4). (let slot = slot_below (level h p) some less in absurd (omega (arith, slot, before, less))))
-    (λ (high : 4 ≤ level h p). high)
-    (cases_lt (level h p) 4)
-
 -- a group is one of those there are
 pub group_few : (s : Setting) (h : History) (p : ℕ) → group_of_row (piece_of s h p) < GROUPS
-group_few s h p = omega (arith, slot_few (level h p), stage_few s h p)
+group_few s h p = omega (arith, slot_few (level h p), place_few (stage_of_row (piece_of s h p)))
+
+-- and where it is in no group of the lower levels, none of those
+pub not_below : (s : Setting) (h : History) (p : ℕ) → (4 * SPAN ≤ group_of_row (piece_of s h p) → GROUPS ≤ group_of_row (piece_of s h p))
+    → 0 < level h p → 4 ≤ level h p
+not_below s h p behind some = ⊎_elim
+    (λ (less : level h p < 4).
+    let slot = slot_below (level h p) some less in
+    let far = behind (omega (arith, slot, less)) in
+    absurd (omega (arith, far, group_few s h p)))
+    (λ (high : 4 ≤ level h p). high)
+    (cases_lt (level h p) 4)
 
 -- ---- the lists of groups
 
@@ -181,44 +181,41 @@ pub group_within : (s : Setting) (h : History) (n : ℕ) (pieces : List ℕ) →
     at pieces i < piece_count s.torrent
 group_within s h n pieces lists i li = omega (arith, lists.known i li, groups_long s h)
 
--- a group by the first one of its level
-pub listed_from : (groups pieces : List ℕ) (base n k : ℕ) → base ≡ first_group n → ListsGroup groups (base + k) pieces
-    → ListsGroup groups (first_group n + k) pieces
-listed_from groups pieces base n k is = subst (λ (g : ℕ). ListsGroup groups (g + k) pieces) is
-
--- a listed piece has the level and the stage of the list, and each such piece is listed
-pub listed_place : (s : Setting) (h : History) (n k : ℕ) (pieces : List ℕ) → IsLegal s h → IsLevel n → 0 < k → k < SPAN
-    → ListsGroup (groups_of s h) (first_group n + k) pieces → (i : ℕ) → i < length pieces
-    → (at pieces i < piece_count s.torrent) × (level h (at pieces i) ≡ n) × (stage_of_row (piece_of s h (at pieces i)) ≡ k)
-listed_place s h n k pieces legal is some under lists i li =
-    let lp = group_within s h (first_group n + k) pieces lists i li in
-    let place = placed s h (at pieces i) legal n k is some under (sym (group_at s h (at pieces i) lp) ∙ lists.each i li) in
+-- a listed piece has the level of the list and stands where its stage does, and each such piece is listed
+pub listed_place : (s : Setting) (h : History) (n : ℕ) (stage : Stage) (pieces : List ℕ) → IsLegal s h → IsLevel n → 0 < place_of stage
+    → ListsGroup (groups_of s h) (group_number n stage) pieces → (i : ℕ) → i < length pieces
+    → (at pieces i < piece_count s.torrent) × (level h (at pieces i) ≡ n) × (place_of (stage_of_row (piece_of s h (at pieces i))) ≡ place_of stage)
+listed_place s h n stage pieces legal is some lists i li =
+    let lp = group_within s h (group_number n stage) pieces lists i li in
+    let place = placed s h (at pieces i) legal n stage is some (sym (group_at s h (at pieces i) lp) ∙ lists.each i li) in
     (lp, place.0, place.1)
 
-pub place_listed : (s : Setting) (h : History) (n k p : ℕ) (pieces : List ℕ) → ListsGroup (groups_of s h) (first_group n + k) pieces
-    → p < piece_count s.torrent → level h p ≡ n → stage_of_row (piece_of s h p) ≡ k → (i : ℕ) × (i < length pieces) × (at pieces i ≡ p)
-place_listed s h n k p pieces lists lp level_is stage =
-    lists.all p (omega (arith, groups_long s h, lp)) (group_at s h p lp ∙ place_of s h p n k level_is stage)
+pub place_listed : (s : Setting) (h : History) (n : ℕ) (stage : Stage) (p : ℕ) (pieces : List ℕ)
+    → ListsGroup (groups_of s h) (group_number n stage) pieces → p < piece_count s.torrent → level h p ≡ n
+    → place_of (stage_of_row (piece_of s h p)) ≡ place_of stage → (i : ℕ) × (i < length pieces) × (at pieces i ≡ p)
+place_listed s h n stage p pieces lists lp level_is place =
+    lists.all p (omega (arith, groups_long s h, lp)) (group_at s h p lp ∙ group_is s h p n stage level_is place)
 
--- the stage of a group
-stage_in : (b k : ℕ) → k < SPAN → stage_of (b * SPAN + k) ≡ k
-stage_in b k lt = omega (arith, lt)
-
-stage_told : (s : Setting) (h : History) (p : ℕ) → p < piece_count s.torrent → stage_of (at (groups_of s h) p) ≡ stage_of_row (piece_of s h p)
-stage_told s h p lp =
-    ap stage_of (group_at s h p lp) ∙ stage_in (slot_of (level h p)) (stage_of_row (piece_of s h p)) (stage_few s h p)
+-- the place of a piece's group is that of its stage
+place_told : (s : Setting) (h : History) (p : ℕ) → p < piece_count s.torrent
+    → place_in (at (groups_of s h) p) ≡ place_of (stage_of_row (piece_of s h p))
+place_told s h p lp =
+    let stage = stage_of_row (piece_of s h p) in
+    ap place_in (group_at s h p lp) ∙ place_in_slot (slot_of (level h p)) (place_of stage) (place_few stage)
 
 pub open_within : (s : Setting) (h : History) (pieces : List ℕ) → ListsOpen (groups_of s h) pieces → (i : ℕ) → i < length pieces →
     at pieces i < piece_count s.torrent
 open_within s h pieces lists i li = omega (arith, lists.known i li, groups_long s h)
 
 pub listed_open : (s : Setting) (h : History) (pieces : List ℕ) → ListsOpen (groups_of s h) pieces → (i : ℕ) → i < length pieces
-    → stage_of_row (piece_of s h (at pieces i)) ≡ OPEN
-listed_open s h pieces lists i li = sym (stage_told s h (at pieces i) (open_within s h pieces lists i li)) ∙ lists.each i li
+    → stage_of_row (piece_of s h (at pieces i)) ≡ Open
+listed_open s h pieces lists i li =
+    place_open (stage_of_row (piece_of s h (at pieces i)))
+    (sym (place_told s h (at pieces i) (open_within s h pieces lists i li)) ∙ lists.each i li)
 
 pub open_listed : (s : Setting) (h : History) (pieces : List ℕ) (p : ℕ) → ListsOpen (groups_of s h) pieces → p < piece_count s.torrent
-    → stage_of_row (piece_of s h p) ≡ OPEN → (i : ℕ) × (i < length pieces) × (at pieces i ≡ p)
-open_listed s h pieces p lists lp stage = lists.all p (omega (arith, groups_long s h, lp)) (stage_told s h p lp ∙ stage)
+    → stage_of_row (piece_of s h p) ≡ Open → (i : ℕ) × (i < length pieces) × (at pieces i ≡ p)
+open_listed s h pieces p lists lp stage = lists.all p (omega (arith, groups_long s h, lp)) (place_told s h p lp ∙ ap place_of stage)
 
 -- ---- candidates
 
@@ -235,7 +232,7 @@ candidate_parts s h q p is = candidate_cases (wanted s h p) (shows h q p) (had h
 
 -- a candidate is an unbegun piece of the stage that its availability tells
 pub candidate_stage : (s : Setting) (h : History) (q p : ℕ) → is_candidate s h q p ≡ true
-    → (shows h q p ≡ true) × (stage_of_row (piece_of s h p) ≡ shown_stage (availability s h p))
+    → (shows h q p ≡ true) × (stage_of_row (piece_of s h p) ≡ Unbegun (availability s h p))
 candidate_stage s h q p is =
     let parts = candidate_parts s h q p is in
     let picked : chosen h p ≡ true = (and_parts (nat_lt p (piece_count s.torrent)) (chosen h p) parts.0).1 in
@@ -243,7 +240,8 @@ candidate_stage s h q p is =
 
 -- and each unbegun piece that the peer shows is one
 pub stage_candidate : (s : Setting) (h : History) (q p n : ℕ) → p < piece_count s.torrent → shows h q p ≡ true
-    → stage_of_row (piece_of s h p) ≡ UNBEGUN + n → (is_candidate s h q p ≡ true) × (min (availability s h p) CROWD ≡ n)
+    → place_of (stage_of_row (piece_of s h p)) ≡ place_of (Unbegun n)
+    → (is_candidate s h q p ≡ true) × (min (availability s h p) CROWD ≡ min n CROWD)
 stage_candidate s h q p n lp shown is =
     let parts = stage_unbegun s h p n is in (
       and_from (wanted s h p) _ (wanted_chosen s h p lp ∙ parts.1)

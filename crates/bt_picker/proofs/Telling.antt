@@ -14,8 +14,9 @@ use Rattle.bt_history.proofs.Below.{count_most, count_same}
 use Rattle.bt_history.proofs.Sending.{sender_held}
 use Rattle.bt_picker.specs.Tables.{piece_of, cell_of}
 use Rattle.bt_picker.specs.Search.{FindsListed, FindsRarest, IsRarer}
-use Rattle.bt_tables.specs.Standings.{is_held, is_touched, held_count, touched_count, shown_stage, stage_of_row}
-use Rattle.bt_tables.specs.declared.piece.TheConstants.{ASKED_OUT, OPEN, RESTING}
+use Rattle.bt_tables.specs.Standings.{is_held, is_touched, held_count, touched_count, stage_of_row}
+use Rattle.bt_tables.specs.declared.piece.Stage.{Stage}
+use Rattle.bt_tables.specs.declared.piece.Stage.TheVariants.{AskedOut, Open, Resting, Unbegun}
 use Rattle.bt_tables.proofs.Tabled.{table_more, length_table}
 use Rattle.bt_tables.specs.Orders.{at}
 use Rattle.bt_picker.proofs.Cells.{any_counted, asked_counted}
@@ -61,9 +62,9 @@ none_or_more (suc n) = ne_eqb (suc n) 0 (λ same. omega (arith, same)) ∙ ap no
 -- ---- the counts of a piece
 
 -- the stage of a piece by four tests: it is had, it is chosen, some block of it is held or asked, and each one is
-abbrev pub stage_by : Bool → Bool → Bool → Bool → ℕ → ℕ
+abbrev pub stage_by : Bool → Bool → Bool → Bool → ℕ → Stage
 stage_by had chosen touched full n =
-    if had || not chosen then RESTING else if not touched then shown_stage n else if full then ASKED_OUT else OPEN
+    if had || not chosen then Resting else if not touched then Unbegun n else if full then AskedOut else Open
 
 module _ (s : Setting) (h : History) (p : ℕ) where
   held_is : (k : ℕ) → is_held (cell_of s h (block s.torrent p k)) ≡ held h (block s.torrent p k)
@@ -105,8 +106,8 @@ module _ (s : Setting) (h : History) (p : ℕ) where
   pub stage_is : stage_of_row (piece_of s h p)
       ≡ stage_by (had h p) (chosen h p) (some_block_of s.torrent p (held_or_asked s h)) (each_block_of s.torrent p (held_or_asked s h))
       (availability s h p)
-  stage_is = λ i. if had h p || unchosen i then RESTING else if untouched_row i then shown_stage (availability s h p)
-      else if all_touched_row i then ASKED_OUT else OPEN
+  stage_is = λ i. if had h p || unchosen i then Resting else if untouched_row i then Unbegun (availability s h p)
+      else if all_touched_row i then AskedOut else Open
 
   -- a piece of the torrent is wanted where it is chosen
   pub wanted_chosen : p < piece_count s.torrent → wanted s h p ≡ chosen h p

@@ -1,9 +1,8 @@
 -- The groups of unbegun pieces, and the blocks that are yet to be asked, by the history.
 use Rattle.std.proofs.Common.{◌≡◌, ℕ, zero, suc, ◌+◌, ◌-◌, ◌<◌, ◌==◌, Bool, true, false, not, ◌&&◌, List, [], ◌∷◌, ◌++◌, length, map, refl, ap, sym}
 use Rattle.std.proofs.Common.{◌∙◌, subst, arith}
-use Rattle.std.specs.Prelude.{min, nat_lt, if◌then◌else◌}
+use Rattle.std.specs.Prelude.{nat_lt, if◌then◌else◌}
 use Rattle.std.specs.List.{sum_by}
-use Rattle.std.proofs.Math.Nat.{min-eq_left}
 use Rattle.std.proofs.lemmas.Bool.{eq-eqb, eqb-true, ltb-true, and_from, and_parts, not-true}
 use Rattle.std.proofs.lemmas.List.Sums.{sum_by_push}
 use Rattle.bt_meta.specs.Layout.{piece_count, block_count, block}
@@ -16,21 +15,22 @@ use Rattle.bt_history.proofs.Below.{count_none, count_same, sum_same}
 use Rattle.bt_tables.specs.Orders.{at, ListsGroup}
 use Rattle.bt_picker.specs.Tables.{AreTables, piece_of, groups_of}
 use Rattle.bt_tables.specs.Tables.{PieceState, TablesState}
-use Rattle.bt_tables.specs.Standings.{first_group, group_of_row, standing_of, touched_count}
+use Rattle.bt_tables.specs.declared.piece.Stage.TheVariants.{Unbegun}
+use Rattle.bt_tables.specs.Standings.{group_number, group_of_row, place_of, standing_of, touched_count}
 use Rattle.bt_picker.specs.Unbegun.{is_unbegun_at, ListsUnbegun, unasked_count}
 use Rattle.bt_picker.specs.Search.{IsLevel}
 use Rattle.bt_picker.proofs.Rarest.{uncrowded}
 use Rattle.bt_picker.proofs.Stages.{listed_place, place_listed, stage_unbegun, unbegun_stage}
 use Rattle.bt_picker.proofs.Telling.{cells_long, touched_counted, unchosen, wanted_chosen}
-use Rattle.bt_tables.specs.declared.piece.TheConstants.{CROWD, UNBEGUN}
+use Rattle.bt_tables.specs.declared.piece.TheConstants.{CROWD}
 use Rattle.bt_tables.proofs.Tabled.{map_table, table_more}
 
 module _ (s : Setting) (h : History) (l n : ℕ) (pieces : List ℕ) (legal : IsLegal s h) (is : IsLevel l) (under : n < CROWD)
-    (lists : ListsGroup (groups_of s h) (first_group l + (UNBEGUN + n)) pieces) where
+    (lists : ListsGroup (groups_of s h) (group_number l (Unbegun n)) pieces) where
   listed : (i : ℕ) → i < length pieces → is_unbegun_at s h l n (at pieces i) ≡ true
   listed i li =
       let p = at pieces i in
-      let place = listed_place s h l (UNBEGUN + n) pieces legal is (omega arith) (omega (arith, under)) lists i li in
+      let place = listed_place s h l (Unbegun n) pieces legal is (omega arith) lists i li in
       let parts = stage_unbegun s h p n place.2 in
       let shown = uncrowded (availability s h p) n under parts.3 in
       and_from (wanted s h p && (level h p == l)) _
@@ -46,21 +46,21 @@ module _ (s : Setting) (h : History) (l n : ℕ) (pieces : List ℕ) (legal : Is
       let rest = and_parts (unbegun s h p) (availability s h p == n) both.1 in
       let begins = and_parts (not (had h p)) (not (some_block_of s.torrent p (held_or_asked s h))) rest.0 in
       let shown = eqb-true (availability s h p) n rest.1 in
-      let exact : min (availability s h p) CROWD ≡ n = min-eq_left (omega (arith, shown, under)) ∙ shown in
       let stage = unbegun_stage s h p (not-true (had h p) begins.0) picks.1 (not-true (some_block_of s.torrent p (held_or_asked s h)) begins.1) in
-      place_listed s h l (UNBEGUN + n) p pieces lists lp (eqb-true (level h p) l wants.1) (stage ∙ ap (λ (m : ℕ). UNBEGUN + m) exact)
+      place_listed s h l (Unbegun n) p pieces lists lp (eqb-true (level h p) l wants.1)
+      (ap place_of stage ∙ ap (λ (m : ℕ). place_of (Unbegun m)) shown)
 
   pub lists_unbegun : ListsUnbegun s h l n pieces
   lists_unbegun = record { each = listed; all = all_listed; once = lists.once }
 
 -- the pieces of a group of tables that are those of the history
 pub group_unbegun_of : (t : TablesState) (h : History) (l n : ℕ) (pieces : List ℕ) → AreTables t h → IsLevel l → n < CROWD →
-    ListsGroup (map group_of_row t.pieces) (first_group l + (UNBEGUN + n)) pieces → ListsUnbegun t.setting h l n pieces
+    ListsGroup (map group_of_row t.pieces) (group_number l (Unbegun n)) pieces → ListsUnbegun t.setting h l n pieces
 group_unbegun_of t h l n pieces are is under lists =
     let rows : map group_of_row t.pieces ≡ groups_of t.setting h =
     ap (map group_of_row) are.pieces_are ∙ map_table group_of_row (piece_count t.setting.torrent) (piece_of t.setting h) in
     lists_unbegun t.setting h l n pieces are.legal is under
-    (subst (λ (groups : List ℕ). ListsGroup groups (first_group l + (UNBEGUN + n)) pieces) rows lists)
+    (subst (λ (groups : List ℕ). ListsGroup groups (group_number l (Unbegun n)) pieces) rows lists)
 
 -- ---- the sum of unasked blocks
 

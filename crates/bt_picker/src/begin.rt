@@ -9,7 +9,7 @@ ghost use Rattle.bt_picker.specs.Search.{FindsListed, FindsRarest, IsLevel, IsRa
 ghost use Rattle.bt_picker.specs.Tables.{groups_of};
 
 use crate::position::Position;
-use bt_tables::{ASKED_OUT, CROWD, OPEN, RESTING, UNBEGUN, first_group, rank};
+use bt_tables::{CROWD, Stage, group_number, rank};
 
 /// A walk goes over at most so many pieces for each piece of the group: a step costs far less than a listed piece.
 const WALK: usize = 1;
@@ -66,14 +66,19 @@ impl<'a> Position<'a> {
     {
         self.attest();
         let most = self.workers().min(CROWD - 1);
-        let unbegun = first_group(level) + UNBEGUN;
         for shown_by in self.floor_at(worker, level)..most + 1 {
-            let pieces = self.group(unbegun + shown_by);
-            if let Some(piece) = self.nearest_of(worker, unbegun + shown_by, pieces, first) {
+            let stage = Stage::Unbegun(shown_by);
+            let pieces = self.group(level, stage);
+            if let Some(piece) = self.nearest_of(
+                worker,
+                group_number(level, stage),
+                pieces,
+                first,
+            ) {
                 return Some(piece);
             }
         }
-        self.rarest_of(worker, self.group(unbegun + CROWD))
+        self.rarest_of(worker, self.group(level, Stage::Unbegun(CROWD)))
     }
 
     /// No candidate of the level is shown by fewer peers than this.
@@ -202,12 +207,12 @@ impl<'a> Position<'a> {
     fn unbegun_count(&self, level: u8) -> u32
         requires { IsLevel level }
     {
-        let base = first_group(level);
-        let begun = self
-            .group(base + ASKED_OUT)
+        let asked_out = self.group(level, Stage::AskedOut).len();
+        let begun = asked_out.saturating_add(self.group(level, Stage::Open).len());
+        let others = self
+            .group(level, Stage::Resting)
             .len()
-            .saturating_add(self.group(base + OPEN).len());
-        let others = self.group(base + RESTING).len().saturating_add(begun);
+            .saturating_add(begun);
         (self.piece_count() as usize).saturating_sub(others) as u32
     }
 
@@ -221,13 +226,12 @@ impl<'a> Position<'a> {
         ensures candidate { IsTrue (is_candidate_at self.now.setting self.now.history worker level result) }
     {
         let mut nearest = piece;
-        let unbegun = first_group(level) + UNBEGUN;
         for shown_by in self.floor_at(worker, level)..self.workers().min(CROWD - 1) + 1 {
             nearest = self.nearer_of(
                 worker,
                 level,
                 nearest,
-                self.group(unbegun + shown_by),
+                self.group(level, Stage::Unbegun(shown_by)),
                 first,
             );
         }

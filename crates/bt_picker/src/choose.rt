@@ -17,7 +17,7 @@ use crate::position::Position;
 use crate::ruling::Ruling;
 use bt_history::{MOST_LEVEL, Reply, USUAL_LEVEL};
 use bt_meta::Block;
-use bt_tables::{ASKED_OUT, GROUPS, OPEN, SPAN, first_group};
+use bt_tables::{GROUPS, SPAN, Stage, first_group, group_number};
 
 impl<'a> Position<'a> {
     /// The first block of the piece that is lacking and that nobody is asked for.
@@ -170,11 +170,10 @@ impl<'a> Position<'a> {
         ensures no { result ≡ false → LacksNone self.now.setting self.now.history worker level }
     {
         self.attest();
-        let base = first_group(level);
-        if let Some(_) = self.some_shown(worker, self.group(base + ASKED_OUT)) {
+        if let Some(_) = self.some_shown(worker, self.group(level, Stage::AskedOut)) {
             return true;
         }
-        if let Some(_) = self.some_shown(worker, self.group(base + OPEN)) {
+        if let Some(_) = self.some_shown(worker, self.group(level, Stage::Open)) {
             return true;
         }
         self.rarest(worker, level, 0).is_some()
@@ -215,8 +214,7 @@ impl<'a> Position<'a> {
         ensures { result ≡ true → (q : ℕ) → NoneAt self.now.setting self.now.history q level }
     {
         self.attest();
-        let base = first_group(level);
-        self.has_none(base + OPEN, base + SPAN)
+        self.has_none(group_number(level, Stage::Open), first_group(level) + SPAN)
     }
 
     /// Which rule asks for a block of a piece of this level, where no piece of a higher one has a block to ask, the peer is open and its

@@ -14,7 +14,7 @@ ghost use Rattle.bt_picker.specs.Search.{DoublesNone, Finds, FindsAmong, FindsFi
 use crate::position::Position;
 use bt_history::MOST_LEVEL;
 use bt_meta::{BLOCK_SIZE, Block};
-use bt_tables::{ASKED_OUT, first_group};
+use bt_tables::Stage;
 
 /// So many blocks of a piece are looked at together: all those of a piece of one mebibyte.
 const WINDOW: u32 = 64;
@@ -154,7 +154,7 @@ impl<'a> Position<'a> {
         ensures none { IfNone result (DoublesNone self.now.setting self.now.history worker level) }
     {
         self.attest();
-        self.least_doubling(worker, self.group(first_group(level) + ASKED_OUT))
+        self.least_doubling(worker, self.group(level, Stage::AskedOut))
     }
 
     /// A block of these pieces to ask of the peer too: of the least such piece.

@@ -28,7 +28,7 @@ use crate::told::{Lent, Told, lend};
 use bt_check::Verdict;
 use bt_history::{Call, MOST_WORKERS, Reason, Reply, Rules, USUAL_LEVEL};
 use bt_meta::{Block, Torrent};
-use bt_tables::{Tables, UNBEGUN, first_group};
+use bt_tables::{Stage, Tables};
 pub use restoring::Restored;
 use std::alloc::{AllocError, Global};
 use std::marker::Model;
@@ -170,7 +170,7 @@ impl Picker {
         requires shown_by { shown_by ≤ self.now.setting.workers }
         ensures { ListsUnbegun self.now.setting self.now.history level shown_by result.now }
     {
-        self.tables.group(first_group(level) + UNBEGUN + shown_by)
+        self.tables.group(level, Stage::Unbegun(shown_by))
     }
 
     /// The level of the piece, 0 to 7: the usual one until another is told, and 0 where it isn't wanted.

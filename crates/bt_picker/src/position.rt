@@ -14,13 +14,13 @@ ghost use Rattle.bt_tables.specs.Orders.{at, ListsGroup};
 ghost use Rattle.bt_tables.specs.Risings.{Rises};
 ghost use Rattle.bt_picker.specs.Search.{NoneBefore, NoneBegins};
 ghost use Rattle.bt_tables.specs.Showing.{dealings};
-ghost use Rattle.bt_tables.specs.Standings.{ListsOpen, apart, cell_kept, group_of_row};
+ghost use Rattle.bt_tables.specs.Standings.{ListsOpen, apart, cell_kept, group_number, group_of_row};
 ghost use Rattle.bt_picker.specs.Tables.{groups_of, AreTables, cell_of, peer_of, piece_of};
 
 use crate::past::Past;
 use bt_history::Call;
 use bt_meta::{Bitfield, Block, Torrent};
-use bt_tables::{Cell, GROUPS, Peer, Piece, Tables};
+use bt_tables::{Cell, GROUPS, Peer, Piece, Stage, Tables};
 use std::marker::Model;
 
 /// A history and the tables that tell of it. Contracts see the setting and the history.
@@ -139,12 +139,12 @@ impl<'a> Position<'a> {
         self.tables.piece(piece)
     }
 
-    /// The pieces of the group.
-    pub(crate) fn group(&self, group: u32) -> &[u32]
-        requires { group < GROUPS }
-        ensures { ListsGroup (groups_of self.now.setting self.now.history) group result.now }
+    /// The pieces of this level and this stage.
+    #[inline(always)]
+    pub(crate) fn group(&self, level: u8, stage: Stage) -> &[u32]
+        ensures { ListsGroup (groups_of self.now.setting self.now.history) (group_number level stage) result.now }
     {
-        self.tables.group(group)
+        self.tables.group(level, stage)
     }
 
     /// Whether no piece is in the groups from `low` up to `high`.

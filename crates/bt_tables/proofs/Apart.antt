@@ -10,13 +10,17 @@ use Rattle.bt_tables.specs.Orders.{at}
 use Rattle.bt_tables.specs.declared.piece.Change.{Change}
 use Rattle.bt_tables.specs.declared.piece.Change.TheVariants.{Raise, Lower, Store, Pass, Fail, Level}
 use Rattle.bt_tables.specs.Tables.{HasRoomOf, PieceState, changed_row, edit, fresh_piece, less_available, more_available, one_if, piece_row}
-use Rattle.bt_tables.specs.Standings.{AreShelved, ShelfState, apart, group_of_row, is_resting, lowered_group, raised_group, shown_row, slot_of}
-use Rattle.bt_tables.specs.Standings.{stage_of, standing_of}
+use Rattle.bt_tables.specs.Standings.{AreShelved, IsFiled, ShelfState, apart, group_of_row, is_resting, lowered_group, raised_group}
+use Rattle.bt_tables.specs.Standings.{shown_row, slot_of}
+use Rattle.bt_tables.specs.Standings.{place_in, place_of, standing_of}
+use Rattle.bt_tables.specs.declared.piece.Stage.{Stage}
+use Rattle.bt_tables.specs.declared.piece.Stage.TheVariants.{AskedOut, Open, Resting, Unbegun}
 use Rattle.bt_tables.specs.Standings.{touched_count, whole_rows}
 use Rattle.bt_tables.specs.Apart.{AreApart}
-use Rattle.bt_tables.proofs.Shelves.{can_file, files}
+use Rattle.bt_tables.specs.declared.piece.Standing.{Standing}
+use Rattle.bt_tables.proofs.Shelves.{can_file, files, same_length}
 use Rattle.bt_tables.proofs.Tabled.{edit_set, get_or_edit_same, get_or_table, length_table, table_from}
-use Rattle.bt_tables.specs.declared.piece.TheConstants.{ASKED_OUT, CROWD, GROUPS, OPEN, RESTING, SPAN, UNBEGUN}
+use Rattle.bt_tables.specs.declared.piece.TheConstants.{CROWD, GROUPS, SPAN, UNBEGUN}
 
 -- ---- the rows with the counts
 
@@ -88,20 +92,38 @@ either : (b : Bool) (n : ℕ) → n ≡ (if b then n else n)
 either true n = refl
 either false n = refl
 
--- the stage of a group in the slot of a level
-stage_in : (b k : ℕ) → k < SPAN → stage_of (b * SPAN + k) ≡ k
-stage_in b k lt = omega (arith, lt)
+-- the stage of a piece by three tests: it rests, it is unbegun, and its lacking blocks are all asked
+abbrev staged : Bool → Bool → Bool → ℕ → Stage
+staged resting unbegun asked n = if resting then Resting else if unbegun then Unbegun n else if asked then AskedOut else Open
+
+-- each stage has a place among the groups of a level
+pub place_few : (stage : Stage) → place_of stage < SPAN
+place_few Resting = omega arith
+place_few AskedOut = omega arith
+place_few Open = omega arith
+place_few (Unbegun n) = omega arith
+
+-- and no other stage has that of the open pieces
+pub place_open : (stage : Stage) → place_of stage ≡ place_of Open → stage ≡ Open
+place_open Resting is = absurd (omega (arith, is))
+place_open AskedOut is = absurd (omega (arith, is))
+place_open Open is = refl
+place_open (Unbegun n) is = absurd (omega (arith, is))
+
+-- the place of a group in the slot of a level
+pub place_in_slot : (b k : ℕ) → k < SPAN → place_in (b * SPAN + k) ≡ k
+place_in_slot b k lt = omega (arith, lt)
 
 -- a group that isn't one of unbegun pieces stays
 stays : (n b k : ℕ) → k < UNBEGUN → b * SPAN + k ≡ raised_group n (b * SPAN + k)
-stays n b k low = rw (stage_in b k (omega (arith, low)), lt-ltb k UNBEGUN low) (either (nat_lt CROWD n) (b * SPAN + k))
+stays n b k low = rw (place_in_slot b k (omega (arith, low)), lt-ltb k UNBEGUN low) (either (nat_lt CROWD n) (b * SPAN + k))
 
 stays_too : (n b k : ℕ) → k < UNBEGUN → b * SPAN + k ≡ lowered_group n (b * SPAN + k)
-stays_too n b k low = rw (stage_in b k (omega (arith, low)), le-ltb UNBEGUN k (omega (arith, low))) (either (nat_lt CROWD n) (b * SPAN + k))
+stays_too n b k low = rw (place_in_slot b k (omega (arith, low)), le-ltb UNBEGUN k (omega (arith, low))) (either (nat_lt CROWD n) (b * SPAN + k))
 
 raised_by : (b : ℕ) (resting unbegun asked : Bool) (n : ℕ)
-    → b * SPAN + (if resting then RESTING else if unbegun then UNBEGUN + min (n + 1) CROWD else if asked then ASKED_OUT else OPEN)
-    ≡ raised_group (n + 1) (b * SPAN + (if resting then RESTING else if unbegun then UNBEGUN + min n CROWD else if asked then ASKED_OUT else OPEN))
+    → b * SPAN + place_of (staged resting unbegun asked (n + 1))
+    ≡ raised_group (n + 1) (b * SPAN + place_of (staged resting unbegun asked n))
 raised_by b true unbegun asked n = stays (n + 1) b 0 (omega arith)
 raised_by b false false true n = stays (n + 1) b 1 (omega arith)
 raised_by b false false false n = stays (n + 1) b 2 (omega arith)
@@ -110,15 +132,15 @@ raised_by b false true asked n =
       | inl crowd ↦ rw (lt-ltb CROWD (n + 1) crowd) (omega arith)
       | inr few ↦ rw (
         le-ltb CROWD (n + 1) few,
-        stage_in b (UNBEGUN + min n CROWD) (omega arith),
+        place_in_slot b (UNBEGUN + min n CROWD) (omega arith),
         le-ltb (UNBEGUN + min n CROWD) UNBEGUN
             (omega arith),
       ) (omega arith)
     ]
 
 lowered_by : (b : ℕ) (resting unbegun asked : Bool) (n : ℕ)
-    → b * SPAN + (if resting then RESTING else if unbegun then UNBEGUN + min (n - 1) CROWD else if asked then ASKED_OUT else OPEN)
-    ≡ lowered_group n (b * SPAN + (if resting then RESTING else if unbegun then UNBEGUN + min n CROWD else if asked then ASKED_OUT else OPEN))
+    → b * SPAN + place_of (staged resting unbegun asked (n - 1))
+    ≡ lowered_group n (b * SPAN + place_of (staged resting unbegun asked n))
 lowered_by b true unbegun asked n = stays_too n b 0 (omega arith)
 lowered_by b false false true n = stays_too n b 1 (omega arith)
 lowered_by b false false false n = stays_too n b 2 (omega arith)
@@ -126,9 +148,9 @@ lowered_by b false true asked n =
     elim (cases_lt CROWD n) [
       | inl crowd ↦ rw (lt-ltb CROWD n crowd) (omega arith)
       | inr few ↦ elim (cases_lt UNBEGUN (UNBEGUN + min n CROWD)) [
-        | inl some ↦ rw (le-ltb CROWD n few, stage_in b (UNBEGUN + min n CROWD) (omega arith), lt-ltb UNBEGUN (UNBEGUN + min n CROWD) some)
+        | inl some ↦ rw (le-ltb CROWD n few, place_in_slot b (UNBEGUN + min n CROWD) (omega arith), lt-ltb UNBEGUN (UNBEGUN + min n CROWD) some)
             (omega arith)
-        | inr none ↦ rw (le-ltb CROWD n few, stage_in b (UNBEGUN + min n CROWD) (omega arith), le-ltb UNBEGUN (UNBEGUN + min n CROWD) none)
+        | inr none ↦ rw (le-ltb CROWD n few, place_in_slot b (UNBEGUN + min n CROWD) (omega arith), le-ltb UNBEGUN (UNBEGUN + min n CROWD) none)
             (omega arith)
       ]
     ]
@@ -175,7 +197,7 @@ slot_few level = ⊎_elim
 
 -- where one peer more may be counted (up to CROWD, 1025), the group behind a row's is a group too (below GROUPS, 7203)
 next_room : (b : ℕ) (resting unbegun asked : Bool) (n : ℕ) → b ≤ 6 → n + 1 ≤ CROWD →
-    b * SPAN + (if resting then RESTING else if unbegun then UNBEGUN + min n CROWD else if asked then ASKED_OUT else OPEN) + 1 < GROUPS
+    b * SPAN + place_of (staged resting unbegun asked n) + 1 < GROUPS
 next_room b true unbegun asked n low few = omega (arith, low)
 next_room b false true asked n low few = omega (arith, low, few)
 next_room b false false true n low few = omega (arith, low)
@@ -255,6 +277,23 @@ kept_piece shelf rows shown now p are len is lp = record {
   within = omega (arith, lp, ap length is, length_whole rows shown len);
 }
 
+-- a change of the row, as it was read: how many peers show the piece, and how it stands before and after
+pub record IsChange (rows : List PieceState) (shown : List ℕ) (p : ℕ) (change : Change) (m : ℕ) (before after : Standing) : Type 0 where
+  pub count : m ≡ at shown p
+  pub before_is : before ≡ standing_of (shown_row m (piece_row rows p))
+  pub after_is : after ≡ standing_of (shown_row m (changed_row change (piece_row rows p)))
+
+pub is_change : (rows now : List PieceState) (shown : List ℕ) (p : ℕ) (change : Change) (m n : ℕ) (row new : PieceState) (before after : Standing)
+    → p < length rows → p < length shown → m ≡ n → n ≡ get_or shown p n → row ≡ piece_row rows p → now ≡ edit rows p (changed_row change)
+    → new ≡ piece_row now p → before ≡ standing_of (shown_row m row) → after ≡ standing_of (shown_row m new)
+    → IsChange rows shown p change m before after
+is_change rows now shown p change m n row new before after lp ls same read row_is now_is new_is before_is after_is = record {
+  count = same ∙ (read ∙ get_or_default shown p n 0 ls);
+  before_is = before_is ∙ ap (λ (r : PieceState). standing_of (shown_row m r)) row_is;
+  after_is = after_is ∙ ap (λ (r : PieceState). standing_of (shown_row m r))
+      (new_is ∙ (ap (λ (l : List PieceState). piece_row l p) now_is ∙ edited_row rows p change lp));
+}
+
 module _ (shelf : ShelfState) (rows : List PieceState) (shown : List ℕ) (p : ℕ) (kept : IsKept shelf rows shown p) where
   abbrev whole : List PieceState
   whole = whole_rows rows shown
@@ -306,6 +345,28 @@ module _ (shelf : ShelfState) (rows : List PieceState) (shown : List ℕ) (p : �
   stands_in row m read count =
       let here : row ≡ piece_row rows p = read ∙ get_or_default rows p row (fresh_piece 0) kept.within in
       (λ i. group_of_row (shown_row (count i) (here i))) ∙ sym group_is
+
+  -- the change can be put on the shelf, and then the shelf is that of the rows again
+  pub can_change : (change : Change) (m : ℕ) (before after : Standing) → IsChange rows shown p change m before after → IsFiled shelf before after
+  can_change change m before after is =
+      let row = piece_row rows p in
+      can_file shelf whole p (shown_row m row) (shown_row m (changed_row change row)) before after kept.are in_whole
+      (row_is row m (own_row rows p kept.within) is.count) is.before_is is.after_is (same_length change row)
+
+  pub changes : (now : ShelfState) (change : Change) (m : ℕ) (before after : Standing) → IsChange rows shown p change m before after
+      → now ≡ record {
+        groups = set shelf.groups p after.group;
+        unasked = shelf.unasked - before.unasked + after.unasked;
+        unheld = shelf.unheld - before.unheld + after.unheld;
+        had = shelf.had - one_if before.had + one_if after.had;
+        left = shelf.left - one_if before.left + one_if after.left;
+      } → AreShelved now (whole_rows (set rows p (changed_row change (piece_row rows p))) shown)
+  changes now change m before after is put =
+      let row = piece_row rows p in
+      let new = changed_row change row in
+      subst (AreShelved now) (sym (set_is new m is.count))
+      (files shelf now whole p (shown_row m row) (shown_row m new) before after kept.are in_whole
+      (row_is row m (own_row rows p kept.within) is.count) is.before_is is.after_is (same_length change row) put)
 
   regrouped : (now : ShelfState) (n : ℕ) → now ≡ record shelf { groups = set shelf.groups p (group_of_row (shown_row n old)) }
       → AreShelved now (whole_rows rows (set shown p n))

@@ -5,13 +5,15 @@ use Rattle.std.proofs.Common.{refl, subst, sym, length-set, ⊎_elim}
 use Rattle.std.proofs.Math.Nat.{min-le_left, min-le_right, mul-le-mul_right, suc-mul, zero-mul}
 use Rattle.std.proofs.Math.Seq.{take-set-lt}
 use Rattle.std.proofs.lemmas.Bool.{cases_eq, cases_lt}
+use Rattle.std.proofs.lemmas.List.{get_or_default}
 use Rattle.std.proofs.lemmas.List.{drop-drop, drop-set-add, drop-set-lt, get_or-drop, get_or-map, get_or-set_other, get_or-set_same, get_or-take}
 use Rattle.std.proofs.lemmas.List.{length-drop, length-map, length-take, map-set, take-set-le, take_all}
 use Rattle.bt_tables.specs.declared.cell.Cell.{Cell}
 use Rattle.bt_tables.specs.declared.counts.Counts.{Counts}
 use Rattle.bt_tables.specs.Rows.{AreKept, Keeps, counts_at, no_counts, row_of, rows_of, said}
 use Rattle.bt_tables.specs.Standings.{cell_kept}
-use Rattle.bt_tables.specs.Tables.{CellState, PieceState, fresh_piece, piece_row}
+use Rattle.bt_tables.specs.Tables.{CellState, PieceState, edit, empty_cell, fresh_piece, piece_row}
+use Rattle.bt_tables.proofs.Tabled.{edit_read, edit_same, edit_set}
 
 -- the cells of piece p
 abbrev pub cells_at : ℕ → List Cell → ℕ → List CellState
@@ -117,3 +119,60 @@ kept_on w cs xs ys p c row kept lp long is keeps = record {
       (kept.each q (omega (arith, lq, length-set cs p c))))
       (cases_eq q p);
 }
+
+-- ---- one row of all, as it was read
+
+pub record IsRow (w : ℕ) (cs : List Counts) (xs : List Cell) (p : ℕ) (counts : Counts) : Type 0 where
+  pub within : p < length cs
+  pub row : piece_row (rows_of w cs xs) p ≡ row_of counts (cells_at w xs p)
+  pub keeps : Keeps counts (cells_at w xs p)
+
+pub is_row : (w : ℕ) (cs : List Counts) (xs : List Cell) (rows : List PieceState) (p : ℕ) (counts : Counts) → AreKept w cs xs
+    → rows_of w cs xs ≡ rows → p < length rows → counts ≡ get_or cs p counts → IsRow w cs xs p counts
+is_row w cs xs rows p counts kept are lp read =
+    let within : p < length cs = omega (arith, lp, ap length are, rows_length w cs xs) in
+    let own : counts ≡ counts_at cs p = read ∙ get_or_default cs p counts no_counts within in
+    let row = row_is w cs xs p (fresh_piece 0) within in
+    record {
+      within = within;
+      row = row ∙ ap (λ (c : Counts). row_of c (cells_at w xs p)) (sym own);
+      keeps = rw (row, ← own) at (kept.each p within);
+    }
+
+-- a row is edited
+pub row_edited : (rows : List PieceState) (p : ℕ) (change : PieceState → PieceState) (row : PieceState) → p < length rows
+    → row ≡ change (piece_row rows p) → set rows p row ≡ edit rows p change
+row_edited rows p change row lp is =
+    ap (set rows p) is ∙ edit_set rows p change (piece_row rows p) lp (get_or_default rows p (fresh_piece 0) (piece_row rows p) lp)
+
+-- its counts alone change
+pub counts_edited : (w : ℕ) (cs : List Counts) (xs : List Cell) (p : ℕ) (counts new : Counts) (change : PieceState → PieceState)
+    → IsRow w cs xs p counts → row_of new (cells_at w xs p) ≡ change (row_of counts (cells_at w xs p))
+    → rows_of w (set cs p new) xs ≡ edit (rows_of w cs xs) p change
+counts_edited w cs xs p counts new change is changed =
+    rows_counted w cs xs p new is.within
+    ∙ row_edited (rows_of w cs xs) p change (row_of new (cells_at w xs p)) (omega (arith, is.within, rows_length w cs xs))
+    (changed ∙ ap change (sym is.row))
+
+-- one of its cells, as it was read
+pub record IsCell (w : ℕ) (xs : List Cell) (p k : ℕ) (cell : Cell) : Type 0 where
+  pub within : k < length (cells_at w xs p)
+  pub read : get_or (cells_at w xs p) k empty_cell ≡ cell_kept cell
+
+pub is_cell : (w : ℕ) (cs : List Counts) (xs : List Cell) (rows : List PieceState) (p k : ℕ) (counts : Counts) (cell : Cell)
+    → IsRow w cs xs p counts → rows_of w cs xs ≡ rows → k < length (piece_row rows p).blocks → cell ≡ get_or xs (p * w + k) cell
+    → IsCell w xs p k cell
+is_cell w cs xs rows p k counts cell is are lk read =
+    let within : k < length (cells_at w xs p) = subst (λ (r : PieceState). k < length r.blocks)
+    (ap (λ (l : List PieceState). piece_row l p) (sym are) ∙ is.row) lk in
+    record { within = within; read = cell_is w xs p k cell empty_cell within read }
+
+-- a cell is edited by what was read of it
+pub cell_edited : (rows : List PieceState) (p k : ℕ) (change : CellState → CellState) (now old : CellState) → p < length rows
+    → k < length (piece_row rows p).blocks → old ≡ get_or (piece_row rows p).blocks k empty_cell → now ≡ change old
+    → edit rows p (λ r. record r { blocks = set r.blocks k now }) ≡ edit rows p (λ r. record r { blocks = edit r.blocks k change })
+cell_edited rows p k change now old lp lk read is =
+    let row = piece_row rows p in
+    edit_same rows p (λ r. record r { blocks = set r.blocks k now }) (λ r. record r { blocks = edit r.blocks k change }) (fresh_piece 0) lp
+    (ap (λ (cells : List CellState). record row { blocks = cells })
+    (ap (λ (cell : CellState). set row.blocks k cell) is ∙ edit_read row.blocks k change old empty_cell lk read))

@@ -5,9 +5,9 @@ use Rattle.std.specs.List.{count_by}
 use Rattle.bt_history.specs.declared.call.Reply.{Reply}
 use Rattle.bt_history.specs.declared.call.Reply.TheVariants.{Idle, NothingLeft, Request}
 use Rattle.bt_tables.specs.Tables.{PeerState, PieceState, TablesState, peer_row, piece_row}
-use Rattle.bt_tables.specs.Standings.{is_resting, stage_of_row, touched_count}
+use Rattle.bt_tables.specs.Standings.{is_resting, touched_count}
 use Rattle.bt_history.specs.declared.rules.TheConstants.{MOST_LEVEL}
-use Rattle.bt_tables.specs.declared.piece.TheConstants.{RANKS, UNBEGUN}
+use Rattle.bt_tables.specs.declared.piece.TheConstants.{RANKS}
 
 -- the piece is wanted and unbegun
 abbrev pub is_fresh : PieceState → Bool
@@ -52,7 +52,7 @@ pub record IsRarestStart (t : TablesState) (piece : ℕ) : Type 0 where
   pub unordered : t.in_order ≡ false
   pub settled : t.setting.random ≤ count_by (λ row. row.had) t.pieces
   pub within : piece < length t.pieces
-  pub unbegun : UNBEGUN ≤ stage_of_row (piece_row t.pieces piece)
+  pub unbegun : is_fresh (piece_row t.pieces piece) ≡ true
 
 -- a request for a block of the piece tells this floor: that of the rarest piece that begins, or by the level of another
 abbrev pub RequestTells : TablesState → ℕ → ℕ → Type 0

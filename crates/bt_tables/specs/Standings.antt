@@ -6,7 +6,9 @@ use Rattle.bt_tables.specs.declared.cell.Cell.{Cell}
 use Rattle.bt_tables.specs.declared.cell.TheConstants.{HELD}
 use Rattle.bt_tables.specs.declared.piece.Standing.{Standing}
 use Rattle.bt_history.specs.declared.rules.TheConstants.{MOST_LEVEL, USUAL_LEVEL}
-use Rattle.bt_tables.specs.declared.piece.TheConstants.{ASKED_OUT, CROWD, OPEN, RESTING, SPAN, UNBEGUN}
+use Rattle.bt_tables.specs.declared.piece.Stage.{Stage}
+use Rattle.bt_tables.specs.declared.piece.Stage.TheVariants.{AskedOut, Open, Resting, Unbegun}
+use Rattle.bt_tables.specs.declared.piece.TheConstants.{CROWD, SPAN, UNBEGUN}
 use Rattle.bt_tables.specs.Tables.{CellState, PieceState, empty_cell, one_if, piece_row}
 use Rattle.bt_tables.specs.Orders.{at}
 use Rattle.bt_tables.specs.Risings.{IsIn}
@@ -72,38 +74,44 @@ slot_of level =
 abbrev pub first_group : ℕ → ℕ
 first_group level = slot_of level * SPAN
 
--- the stage of an unbegun piece that so many peers show
-abbrev pub shown_stage : ℕ → ℕ
-shown_stage n = UNBEGUN + min n CROWD
+-- where the pieces of a stage stand among the groups of a level: from CROWD on all counts of peers share one
+abbrev pub place_of : Stage → ℕ
+place_of Resting = 0
+place_of AskedOut = 1
+place_of Open = 2
+place_of (Unbegun n) = UNBEGUN + min n CROWD
+
+-- the number of the group of a level and a stage
+abbrev pub group_number : ℕ → Stage → ℕ
+group_number level stage = first_group level + place_of stage
 
 -- nothing is left to get of the piece: it is had, or not wanted
 abbrev pub is_resting : PieceState → Bool
 is_resting row = row.had || (row.level == 0)
 
--- a resting piece's, that of one whose lacking blocks are all asked (a full one, too), that of another begun one, and for an unbegun one by
--- its availability
-abbrev pub stage_of_row : PieceState → ℕ
+-- how far a piece is: at rest, unbegun, begun with its lacking blocks all asked (a full one, too), or else open
+abbrev pub stage_of_row : PieceState → Stage
 stage_of_row row =
-    if is_resting row then RESTING
-    else if touched_count row.blocks == 0 then shown_stage row.availability
-    else if touched_count row.blocks == length row.blocks then ASKED_OUT
-    else OPEN
+    if is_resting row then Resting
+    else if touched_count row.blocks == 0 then Unbegun row.availability
+    else if touched_count row.blocks == length row.blocks then AskedOut
+    else Open
 
--- the group of a piece: its stage among the groups of its level
+-- the group of a piece
 abbrev pub group_of_row : PieceState → ℕ
-group_of_row row = first_group row.level + stage_of_row row
+group_of_row row = group_number row.level (stage_of_row row)
 
--- the stage that a group is of
-abbrev pub stage_of : ℕ → ℕ
-stage_of group = group % SPAN
+-- where a group stands among those of its level
+abbrev pub place_in : ℕ → ℕ
+place_in group = group % SPAN
 
 -- the group of a piece of group g once one peer more shows it, n in all, and once one less of n does
 abbrev pub raised_group : ℕ → ℕ → ℕ
-raised_group n g = if nat_lt CROWD n then g else if nat_lt (stage_of g) UNBEGUN then g else g + 1
+raised_group n g = if nat_lt CROWD n then g else if nat_lt (place_in g) UNBEGUN then g else g + 1
 
 -- the group of a piece of group g once one peer less shows it, n before
 abbrev pub lowered_group : ℕ → ℕ → ℕ
-lowered_group n g = if nat_lt CROWD n then g else if nat_lt UNBEGUN (stage_of g) then g - 1 else g
+lowered_group n g = if nat_lt CROWD n then g else if nat_lt UNBEGUN (place_in g) then g - 1 else g
 
 -- so many blocks are to be had of the piece
 abbrev pub wanted_length : PieceState → ℕ
@@ -142,17 +150,17 @@ pub record TellsRest (rows : List PieceState) (all : Bool) : Type 0 where
   pub each : all ≡ true → (p : ℕ) → p < length rows → is_resting (piece_row rows p) ≡ true
   pub other : all ≡ false → (p : ℕ) × (p < length rows) × (is_resting (piece_row rows p) ≡ false)
 
--- the list has each piece of stage OPEN once, and no other
+-- the list has each open piece once, and no other
 pub record ListsOpen (groups found : List ℕ) : Type 0 where
   pub known : (i : ℕ) → i < length found → at found i < length groups
-  pub each : (i : ℕ) → i < length found → stage_of (at groups (at found i)) ≡ OPEN
-  pub all : (p : ℕ) → p < length groups → stage_of (at groups p) ≡ OPEN → (i : ℕ) × (i < length found) × (at found i ≡ p)
+  pub each : (i : ℕ) → i < length found → place_in (at groups (at found i)) ≡ place_of Open
+  pub all : (p : ℕ) → p < length groups → place_in (at groups p) ≡ place_of Open → (i : ℕ) × (i < length found) × (at found i ≡ p)
 
 -- the numbers are those of the begun pieces with an unasked block
 pub record AreOpen (groups : List ℕ) (bound : ℕ) (numbers : List ℕ) : Type 0 where
   pub bound_is : bound ≡ length groups
-  pub each : (p : ℕ) → IsIn numbers p → (p < length groups) × (stage_of (at groups p) ≡ OPEN)
-  pub all : (p : ℕ) → p < length groups → stage_of (at groups p) ≡ OPEN → IsIn numbers p
+  pub each : (p : ℕ) → IsIn numbers p → (p < length groups) × (place_in (at groups p) ≡ place_of Open)
+  pub all : (p : ℕ) → p < length groups → place_in (at groups p) ≡ place_of Open → IsIn numbers p
 
 -- a row's part is in the sums, and there is room for the new one
 pub record IsFiled (shelf : ShelfState) (before after : Standing) : Type 0 where

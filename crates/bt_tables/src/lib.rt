@@ -26,7 +26,7 @@ pub use cell::{Cell, HELD};
 pub use order::Order;
 pub use peer::Peer;
 pub use piece::{
-    ASKED_OUT, CROWD, GROUPS, OPEN, Piece, RANKS, RESTING, SPAN, UNBEGUN, first_group, rank,
+    CROWD, GROUPS, Piece, RANKS, SPAN, Stage, UNBEGUN, first_group, group_number, rank,
 };
 pub use rising::Rising;
 pub use tables::Tables;

@@ -7,7 +7,8 @@ ghost use Rattle.bt_tables.specs.Tables.{stored_row};
 ghost use Rattle.bt_tables.specs.Floors.{is_fresh};
 ghost use Rattle.bt_tables.specs.Standings.{AreTouched, cell_kept, is_held, is_resting, is_touched, held_count, touched_count, group_of_row};
 ghost use Rattle.bt_tables.specs.Standings.{shown_row};
-ghost use Rattle.bt_tables.specs.Standings.{first_group, stage_of_row, standing_of};
+ghost use Rattle.bt_tables.specs.Standings.{first_group, group_number, place_in, place_of, stage_of_row, standing_of};
+ghost use Rattle.bt_tables.specs.declared.piece.Stage.TheVariants.{Open};
 ghost use Rattle.bt_tables.specs.Rows.{Keeps, row_of, said};
 
 use crate::cell::Cell;
@@ -54,17 +55,24 @@ impl Standing {
     };
 }
 
-/// The stage of the pieces of which nothing is left to get: those that are had, or not wanted.
-pub const RESTING: u32 = 0;
-/// The stage of the begun pieces whose lacking blocks are all asked: also of the full ones, until their check passes.
-pub const ASKED_OUT: u32 = 1;
-/// The stage of the begun pieces with an unasked block.
-pub const OPEN: u32 = 2;
-/// The stage of the unbegun pieces that nobody shows; those that n peers show are n stages behind it.
+/// How far a piece is. The pieces of one level and one stage are a group.
+#[derive(Clone, Copy)]
+pub enum Stage {
+    /// Nothing is left to get of the piece: it is had, or not wanted.
+    Resting,
+    /// Begun, and its lacking blocks are all asked: also a full piece, until its check passes.
+    AskedOut,
+    /// Begun, with an unasked block.
+    Open,
+    /// Unbegun, and so many peers show it.
+    Unbegun(u32),
+}
+
+/// Where the unbegun pieces that nobody shows stand among the groups of their level; those that n peers show come n groups behind them.
 pub const UNBEGUN: u32 = 3;
 /// Unbegun pieces of a level that so many peers show, or more, are one group: a desk has fewer workers, but a journal of more can be audited.
 pub const CROWD: u32 = MOST_WORKERS + 1;
-/// Each level has so many stages, a group of pieces for each.
+/// Each level has so many groups of pieces.
 pub const SPAN: u32 = UNBEGUN + CROWD + 1;
 /// So many groups there are: those of the usual level come first, where pieces of level 0 rest too.
 pub const GROUPS: u16 = (MOST_LEVEL as u32 * SPAN) as u16;
@@ -84,6 +92,39 @@ pub fn first_group(level: u8) -> u32
     } else {
         u32::from(MOST_LEVEL.saturating_sub(level)) * SPAN
     }
+}
+
+impl Stage {
+    /// Where the pieces of this stage stand among the groups of a level.
+    #[inline(always)]
+    pub fn place(self) -> u32
+        ensures is { result ≡ place_of self }
+        ensures few { result < SPAN }
+    {
+        match self {
+            Stage::Resting => 0,
+            Stage::AskedOut => 1,
+            Stage::Open => 2,
+            Stage::Unbegun(shown_by) => UNBEGUN + shown_by.min(CROWD),
+        }
+    }
+}
+
+/// The number of the group of this level and this stage.
+#[inline(always)]
+pub fn group_number(level: u8, stage: Stage) -> u32
+    ensures is { result ≡ group_number level stage }
+    ensures few { result < GROUPS }
+{
+    first_group(level) + stage.place()
+}
+
+/// Whether the pieces of the group are open.
+#[inline(always)]
+pub fn is_open(group: u32) -> bool
+    ensures { result ≡ (place_in group == place_of Open) }
+{
+    group % SPAN == Stage::Open.place()
 }
 
 /// How an unbegun piece of the level ranks that so many peers show.
@@ -162,23 +203,22 @@ impl<'a> Piece<'a> {
         ensures is { result ≡ group_of_row (shown_row shown_by self.now) }
         ensures few { result < GROUPS }
     {
-        first_group(self.counts.level) + self.stage(shown_by)
+        group_number(self.counts.level, self.stage(shown_by))
     }
 
     /// The stage of a piece that so many peers show.
     #[inline(always)]
-    fn stage(&self, shown_by: u32) -> u32
-        ensures is { result ≡ stage_of_row (shown_row shown_by self.now) }
-        ensures few { result < SPAN }
+    fn stage(&self, shown_by: u32) -> Stage
+        ensures { result ≡ stage_of_row (shown_row shown_by self.now) }
     {
         if self.is_resting() {
-            RESTING
+            Stage::Resting
         } else if self.counts.touched == 0 {
-            UNBEGUN + shown_by.min(CROWD)
+            Stage::Unbegun(shown_by)
         } else if self.counts.touched == self.len() {
-            ASKED_OUT
+            Stage::AskedOut
         } else {
-            OPEN
+            Stage::Open
         }
     }
 

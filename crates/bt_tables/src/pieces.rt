@@ -6,11 +6,11 @@ ghost use Rattle.bt_meta.specs.Layout.{block_count, piece_count};
 ghost use Rattle.bt_tables.specs.Orders.{at, ListsGroup};
 ghost use Rattle.bt_tables.specs.Risings.{IsRising};
 ghost use Rattle.bt_tables.specs.Floors.{NoneFresh, rank_of_row};
-ghost use Rattle.bt_tables.specs.Standings.{ListsOpen, TellsRest, apart, group_of_row, standing_of};
+ghost use Rattle.bt_tables.specs.Standings.{ListsOpen, TellsRest, apart, group_number, group_of_row, standing_of};
 ghost use Rattle.bt_history.specs.Counting.{table};
 ghost use Rattle.bt_tables.specs.Tables.{HasRoomOf, changed_row, edit, fresh_piece, less_available, more_available, piece_row};
 
-use crate::piece::{Change, GROUPS, Piece, Standing, rank};
+use crate::piece::{Change, GROUPS, Piece, Stage, Standing, group_number, rank};
 use crate::rows::Rows;
 use crate::shelf::Shelf;
 use bt_meta::Torrent;
@@ -122,12 +122,12 @@ impl Pieces {
         rank(self.rows.row(piece).level(), self.shown_by[piece as usize])
     }
 
-    /// The pieces of the group.
-    pub fn group(&self, group: u32) -> &[u32]
-        requires { group < GROUPS }
-        ensures { ListsGroup (map group_of_row self.now) group result.now }
+    /// The pieces of this level and this stage.
+    #[inline(always)]
+    pub fn group(&self, level: u8, stage: Stage) -> &[u32]
+        ensures { ListsGroup (map group_of_row self.now) (group_number level stage) result.now }
     {
-        self.shelf.group(group)
+        self.shelf.group(group_number(level, stage))
     }
 
     /// Whether no piece is in the groups from `low` up to `high`.

@@ -3,16 +3,16 @@
 ghost use Rattle.std.specs.Prelude.{◌≡◌, ◌<◌, ◌≤◌, ◌+◌, ◌-◌, ◌^◌, ℕ, true, length, replicate, slice_set, slice_index_or, IfOk};
 ghost use Rattle.bt_tables.specs.Orders.{at, ListsGroup};
 ghost use Rattle.bt_tables.specs.Risings.{IsRising};
-ghost use Rattle.bt_tables.specs.Standings.{IsFiled, ListsOpen, ShelfState, lowered_group, raised_group, stage_of};
+ghost use Rattle.bt_tables.specs.Standings.{IsFiled, ListsOpen, ShelfState, lowered_group, raised_group};
 ghost use Rattle.bt_tables.specs.Tables.{one_if};
 
 use crate::order::Order;
-use crate::piece::{CROWD, GROUPS, OPEN, SPAN, Standing, UNBEGUN};
+use crate::piece::{CROWD, GROUPS, SPAN, Standing, UNBEGUN, is_open};
 use crate::rising::Rising;
 use std::alloc::{AllocError, Global};
 use std::marker::Model;
 
-/// What the rows of the pieces amount to together: the pieces by group, those of stage OPEN in rising order too, since strict priority
+/// What the rows of the pieces amount to together: the pieces by group, the open ones in rising order too, since strict priority
 /// takes the least that a peer shows; the numbers of unasked blocks and of those that aren't held, how many pieces are had, and of how many
 /// something is left to get.
 pub struct Shelf {
@@ -193,8 +193,8 @@ impl Shelf {
         if before == after {
             return;
         }
-        let opens = after % SPAN == OPEN;
-        if (before % SPAN == OPEN) != opens {
+        let opens = is_open(after);
+        if is_open(before) != opens {
             self.open_pieces.put(piece, opens);
         }
         self.order.put(piece, after);

@@ -8,7 +8,7 @@ ghost use Rattle.std.specs.List.{count_by, sum_by};
 ghost use Rattle.bt_tables.specs.Orders.{at, ListsGroup};
 ghost use Rattle.bt_tables.specs.Risings.{IsRising};
 ghost use Rattle.bt_tables.specs.Showing.{dealings};
-ghost use Rattle.bt_tables.specs.Standings.{ListsOpen, TellsRest, apart, group_of_row, standing_of};
+ghost use Rattle.bt_tables.specs.Standings.{ListsOpen, TellsRest, apart, group_number, group_of_row, standing_of};
 ghost use Rattle.bt_history.specs.Setting.{deepest_line, setting_of};
 ghost use Rattle.bt_history.specs.History.{stores};
 ghost use Rattle.bt_meta.specs.declared.block.Block.{Block};
@@ -26,7 +26,7 @@ use crate::floors::Floors;
 use crate::haves::announce_all;
 use crate::peer::Peer;
 use crate::peers::Peers;
-use crate::piece::{Change, GROUPS, Piece, SPAN, UNBEGUN, rank};
+use crate::piece::{Change, GROUPS, Piece, Stage, rank};
 use crate::pieces::Pieces;
 use crate::sweep::{lower, lower_all, recount, relevel, rewant};
 use bt_history::{Reply, Rules};
@@ -167,12 +167,12 @@ impl Tables {
         self.pieces.availability(piece)
     }
 
-    /// The pieces of the group.
-    pub fn group(&self, group: u32) -> &[u32]
-        requires { group < GROUPS }
-        ensures { ListsGroup (map group_of_row self.now.pieces) group result.now }
+    /// The pieces of this level and this stage.
+    #[inline(always)]
+    pub fn group(&self, level: u8, stage: Stage) -> &[u32]
+        ensures { ListsGroup (map group_of_row self.now.pieces) (group_number level stage) result.now }
     {
-        self.pieces.group(group)
+        self.pieces.group(level, stage)
     }
 
     /// Whether nothing is left to get of any piece.
@@ -301,7 +301,7 @@ impl Tables {
         !self.in_order
             && self.pieces.had() >= self.rules.random
             && (piece as usize) < self.pieces.len()
-            && self.pieces.group_of(piece) % SPAN >= UNBEGUN
+            && self.pieces.row(piece).is_fresh()
     }
 
     /// Frees what was asked of the worker's peer.

@@ -3,9 +3,8 @@ use Rattle.std.specs.Prelude.{IfNone}
 use Rattle.bt_meta.specs.declared.block.Block.{Block}
 use Rattle.bt_history.specs.Next.{doubles}
 use Rattle.bt_picker.specs.Search.{DoublesNone, FindsAmong}
-use Rattle.bt_picker.specs.Tables.{groups_of}
 use Rattle.bt_picker.proofs.Endings.{among_some, doubles_none}
-use Rattle.bt_picker.proofs.Stages.{group_within, listed_from}
+use Rattle.bt_picker.proofs.Stages.{group_within}
 use Rattle.bt_picker.proofs.position.Position.doubling_at.Goals as goal
 
 pub least_doubling-requires-clause-pieces : goal.least_doubling-requires-clause-pieces
@@ -28,4 +27,4 @@ returns-clause-none c = missing c.least_doubling.result c.least_doubling.ensures
   missing None none =
       let d = c.args.self.now in
       doubles_none d.setting d.history c.args.worker c.args.level c.group.result.now c.attest.ensures.legal c.requires.endgame
-      (listed_from (groups_of d.setting d.history) c.group.result.now _ c.args.level 1 c.first_group.ensures c.group.ensures) none
+      c.group.ensures none

@@ -17,7 +17,8 @@ unreachable-requires g c =
     let legal = subst (IsLegal setting) c.in_ok-reply.ensures.ok.1.entered c.in_ok-reply.ensures.legal in
     let allowed = subst (λ (r : Reply). IsAllowed setting found (checking worker c.args.verdict.checked r)) c.in-Had.is legal.1 in
     c.in_default-proven.ensures.err.1
-    (rw (c.in_ok-clone.ensures.cases, c.verdict-2.ensures, c.deref.ensures, c.self.invariant.torrent_is) (passed_fits setting found worker c.args.verdict.checked allowed))
+    (rw (c.in_ok-clone.ensures.cases, c.verdict-2.ensures, c.deref.ensures, c.self.invariant.torrent_is)
+    (passed_fits setting found worker c.args.verdict.checked allowed))
 
 pub returns-in-Ok-clause-ok : goal.returns-in-Ok-clause-ok
 returns-in-Ok-clause-ok g c =
@@ -28,7 +29,7 @@ returns-in-Ok-clause-ok g c =
     record {
       reply = c.in_ok-reply.reply;
       notes = subst (λ (p : PassState). Notes old (Settle piece) c.in_ok-reply.reply p) (sym c.announce.ensures.rest.0) c.in_ok-reply.ensures.notes;
-      marks = λ had. subst (λ (v : Checked). knows setting new.seat v.piece ≡ true) (c.in-Ok.ensures.ok.0 ∙ c.in_ok-clone.ensures.cases ∙ c.verdict-2.ensures)
-          c.announce.ensures.known;
+      marks = λ had. subst (λ (v : Checked). knows setting new.seat v.piece ≡ true)
+          (c.in-Ok.ensures.ok.0 ∙ c.in_ok-clone.ensures.cases ∙ c.verdict-2.ensures) c.announce.ensures.known;
       unmarked = λ other. absurd (other c.in-Had.is);
     }

@@ -1,13 +1,11 @@
 use Rattle.std.proofs.Common.{◌≡◌, ◌∙◌, List, ap, subst, sym, arith, length, length-set, refl, set}
-use Rattle.std.proofs.lemmas.List.{get_or_default}
 use Rattle.bt_tables.specs.declared.piece.Standing.{Standing}
 use Rattle.bt_tables.specs.Tables.{HasRoomOf, PieceState, changed_row, piece_row}
-use Rattle.bt_tables.specs.Standings.{AreShelved, shown_row, standing_of, whole_rows}
-use Rattle.bt_tables.proofs.Apart.{changed_counts, edit_is, edited_row, edited_rows, in_groups, in_whole, kept_piece, lent_row, own_row, row_is}
-use Rattle.bt_tables.proofs.Apart.{same_room, set_is, stands_in}
+use Rattle.bt_tables.specs.Standings.{whole_rows}
+use Rattle.bt_tables.proofs.Apart.{can_change, changed_counts, changes, edit_is, edited_row, edited_rows, in_groups, is_change, kept_piece}
+use Rattle.bt_tables.proofs.Apart.{lent_row, own_row, same_room, stands_in}
 use Rattle.bt_tables.specs.Floors.{is_fresh}
 use Rattle.bt_tables.proofs.Fronts.{front_kept}
-use Rattle.bt_tables.proofs.Shelves.{can_file, files, same_length}
 use Rattle.bt_tables.proofs.Tabled.{length_edit}
 use Rattle.bt_tables.proofs.pieces.Pieces.apply.Goals as goal
 
@@ -68,60 +66,37 @@ put-requires-clause-before c =
     let o = c.self.inside in
     let p = c.args.piece in
     let kept = kept_piece o.shelf o.rows o.shown_by.items _ p c.self.invariant.0 c.self.invariant.1 c.self.view_is c.requires.piece in
-    let row = piece_row o.rows p in
-    let m = c.from-shown_by.result in
-    let read = c.from-shown_by.ensures ∙ (c.index.ensures
-    ∙ get_or_default o.shown_by.items p c.index.result.now 0 (omega (arith, kept.len, kept.within))) in
-    ap (λ (s : Standing). s.group) (c.standing-before.ensures.is ∙ ap (λ (r : PieceState). standing_of (shown_row m r)) c.row.ensures)
-    ∙ stands_in o.shelf o.rows o.shown_by.items p kept row m (own_row o.rows p kept.within) read
+    let is = is_change o.rows _ o.shown_by.items p c.args.change c.from-shown_by.result _ _ _ c.standing-before.result c.standing-after.result
+    kept.within (omega (arith, kept.len, kept.within)) c.from-shown_by.ensures c.index.ensures c.row.ensures c.apply.ensures c.row-3.ensures
+    c.standing-before.ensures.is c.standing-after.ensures.is in
+    ap (λ (s : Standing). s.group) is.before_is
+    ∙ stands_in o.shelf o.rows o.shown_by.items p kept (piece_row o.rows p) c.from-shown_by.result (own_row o.rows p kept.within) is.count
 
 pub put-requires-clause-fits : goal.put-requires-clause-fits
 put-requires-clause-fits c =
     let o = c.self.inside in
     let p = c.args.piece in
     let kept = kept_piece o.shelf o.rows o.shown_by.items _ p c.self.invariant.0 c.self.invariant.1 c.self.view_is c.requires.piece in
-    let row = piece_row o.rows p in
-    let m = c.from-shown_by.result in
-    let read = c.from-shown_by.ensures ∙ (c.index.ensures
-    ∙ get_or_default o.shown_by.items p c.index.result.now 0 (omega (arith, kept.len, kept.within))) in
-    let new = changed_row c.args.change row in
-    let before : c.standing-before.result ≡ standing_of (shown_row m row) =
-    c.standing-before.ensures.is ∙ ap (λ (r : PieceState). standing_of (shown_row m r)) c.row.ensures in
-    let after : c.standing-after.result ≡ standing_of (shown_row m new) =
-    c.standing-after.ensures.is ∙ ap (λ (r : PieceState). standing_of (shown_row m r)) (c.row-3.ensures
-    ∙ (ap (λ (l : List PieceState). piece_row l p) c.apply.ensures ∙ edited_row o.rows p c.args.change kept.within)) in
-    let whole = whole_rows o.rows o.shown_by.items in
-    let in_all = in_whole o.shelf o.rows o.shown_by.items p kept in
-    let old_is = row_is o.shelf o.rows o.shown_by.items p kept row m (own_row o.rows p kept.within) read in
-    can_file o.shelf whole p (shown_row m row)
-    (shown_row m new) c.standing-before.result c.standing-after.result c.self.invariant.0 in_all old_is before
-    after (same_length c.args.change row)
+    let is = is_change o.rows _ o.shown_by.items p c.args.change c.from-shown_by.result _ _ _ c.standing-before.result c.standing-after.result
+    kept.within (omega (arith, kept.len, kept.within)) c.from-shown_by.ensures c.index.ensures c.row.ensures c.apply.ensures c.row-3.ensures
+    c.standing-before.ensures.is c.standing-after.ensures.is in
+    can_change o.shelf o.rows o.shown_by.items p kept c.args.change c.from-shown_by.result _ _ is
 
 pub invariant_of-self : goal.invariant_of-self
 invariant_of-self c =
     let o = c.self.inside in
     let p = c.args.piece in
     let kept = kept_piece o.shelf o.rows o.shown_by.items _ p c.self.invariant.0 c.self.invariant.1 c.self.view_is c.requires.piece in
+    let is = is_change o.rows _ o.shown_by.items p c.args.change c.from-shown_by.result _ _ _ c.standing-before.result c.standing-after.result
+    kept.within (omega (arith, kept.len, kept.within)) c.from-shown_by.ensures c.index.ensures c.row.ensures c.apply.ensures c.row-3.ensures
+    c.standing-before.ensures.is c.standing-after.ensures.is in
     let row = piece_row o.rows p in
-    let m = c.from-shown_by.result in
-    let read = c.from-shown_by.ensures ∙ (c.index.ensures
-    ∙ get_or_default o.shown_by.items p c.index.result.now 0 (omega (arith, kept.len, kept.within))) in
     let new = changed_row c.args.change row in
-    let before : c.standing-before.result ≡ standing_of (shown_row m row) =
-    c.standing-before.ensures.is ∙ ap (λ (r : PieceState). standing_of (shown_row m r)) c.row.ensures in
-    let after : c.standing-after.result ≡ standing_of (shown_row m new) =
-    c.standing-after.ensures.is ∙ ap (λ (r : PieceState). standing_of (shown_row m r)) (c.row-3.ensures
-    ∙ (ap (λ (l : List PieceState). piece_row l p) c.apply.ensures ∙ edited_row o.rows p c.args.change kept.within)) in
-    let whole = whole_rows o.rows o.shown_by.items in
-    let in_all = in_whole o.shelf o.rows o.shown_by.items p kept in
-    let old_is = row_is o.shelf o.rows o.shown_by.items p kept row m (own_row o.rows p kept.within) read in
-    let shelved = files o.shelf c.put.new.self whole p (shown_row m row) (shown_row m new) c.standing-before.result c.standing-after.result
-    c.self.invariant.0 in_all old_is before after (same_length c.args.change row) c.put.ensures in
     let rows : c.apply.new.self ≡ set o.rows p new = c.apply.ensures ∙ edited_rows o.rows p c.args.change kept.within in
     let fresh : c.is_fresh.result ≡ is_fresh new = c.is_fresh.ensures ∙ ap is_fresh (c.row-2.ensures
     ∙ (ap (λ (l : List PieceState). piece_row l p) c.apply.ensures ∙ edited_row o.rows p c.args.change kept.within)) in
     rw rows (
-      subst (AreShelved c.put.new.self) (sym (set_is o.shelf o.rows o.shown_by.items p kept new m read)) shelved,
+      changes o.shelf o.rows o.shown_by.items p kept c.put.new.self c.args.change c.from-shown_by.result _ _ is c.put.ensures,
       c.self.invariant.1 ∙ sym (length-set o.rows p new),
       changed_counts o.shelf o.rows o.shown_by.items p kept c.self.invariant.2 c.args.change row new (own_row o.rows p kept.within) refl,
       front_kept o.rows p o.front _ new c.is_fresh.result c.self.invariant.3 fresh c.front_with-self-inside.ensures,
@@ -132,10 +107,9 @@ returns c =
     let o = c.self.inside in
     let p = c.args.piece in
     let kept = kept_piece o.shelf o.rows o.shown_by.items _ p c.self.invariant.0 c.self.invariant.1 c.self.view_is c.requires.piece in
+    let is = is_change o.rows _ o.shown_by.items p c.args.change c.from-shown_by.result _ _ _ c.standing-before.result c.standing-after.result
+    kept.within (omega (arith, kept.len, kept.within)) c.from-shown_by.ensures c.index.ensures c.row.ensures c.apply.ensures c.row-3.ensures
+    c.standing-before.ensures.is c.standing-after.ensures.is in
     let row = piece_row o.rows p in
-    let m = c.from-shown_by.result in
-    let read = c.from-shown_by.ensures ∙ (c.index.ensures
-    ∙ get_or_default o.shown_by.items p c.index.result.now 0 (omega (arith, kept.len, kept.within))) in
-    let new = changed_row c.args.change row in
     rw (← c.self.view_is, c.apply.ensures ∙ edited_rows o.rows p c.args.change kept.within)
-    (edit_is o.shelf o.rows o.shown_by.items p kept c.args.change row new m (own_row o.rows p kept.within) read refl)
+    (edit_is o.shelf o.rows o.shown_by.items p kept c.args.change row _ c.from-shown_by.result (own_row o.rows p kept.within) is.count refl)

@@ -1,7 +1,8 @@
-use Rattle.std.proofs.Common.{List, get_or, ap, arith, length, ◌<◌, ◌≤◌, ◌∙◌, set, sym}
+use Rattle.std.proofs.Common.{List, get_or, ap, arith, length, ◌<◌, ◌≤◌, ◌∙◌, sym}
 use Rattle.bt_tables.specs.Tables.{CellState, PieceState, edit, empty_cell, fresh_piece, one_less, piece_row}
 use Rattle.bt_tables.specs.Standings.{cell_kept}
-use Rattle.bt_tables.proofs.Tabled.{edit_past, edit_read, edit_same, edit_unmoved}
+use Rattle.bt_tables.proofs.Rowed.{cell_edited}
+use Rattle.bt_tables.proofs.Tabled.{edit_past, edit_unmoved}
 use Rattle.bt_tables.proofs.rows.Rows.lower.Goals as goal
 
 pub returns-then-index-len : goal.returns-then-index-len
@@ -9,15 +10,11 @@ returns-then-index-len c =
     let rows = c.args.self.now in
     let p = c.args.piece in
     let k = c.args.index in
-    let row = piece_row rows p in
-    let lk : k < length row.blocks = omega (arith, c.if-index-len.true, c.len.ensures, ap (λ (r : PieceState). length r.blocks) c.row.ensures) in
+    let lk : k < length (piece_row rows p).blocks =
+    omega (arith, c.if-index-len.true, c.len.ensures, ap (λ (r : PieceState). length r.blocks) c.row.ensures) in
     let read = c.cell-cell.ensures ∙ ap (λ (r : PieceState). get_or r.blocks k empty_cell) c.row-then-index-len.ensures in
     c.put.ensures
-    ∙ edit_same rows p (λ r. record r { blocks = set r.blocks k (cell_kept c.lowered.result) }) (λ r. record r { blocks = edit r.blocks k one_less })
-    (fresh_piece 0) c.requires
-    (ap (λ (cells : List CellState). record row { blocks = cells })
-    (ap (λ (cell : CellState). set row.blocks k cell) c.lowered.ensures
-    ∙ edit_read row.blocks k one_less (cell_kept c.cell-cell.result) empty_cell lk read))
+    ∙ cell_edited rows p k one_less (cell_kept c.lowered.result) (cell_kept c.cell-cell.result) c.requires lk read c.lowered.ensures
 
 pub returns-else-index-len : goal.returns-else-index-len
 returns-else-index-len c =

@@ -1,6 +1,7 @@
 use Rattle.std.proofs.Common.{◌≡◌, ◌<◌, ◌+◌, ◌∙◌, length, ap, arith, sym, ne_eqb}
 use Rattle.bt_tables.specs.Orders.{at}
-use Rattle.bt_tables.specs.Standings.{ShelfState, stage_of}
+use Rattle.bt_tables.specs.declared.piece.Stage.TheVariants.{Open}
+use Rattle.bt_tables.specs.Standings.{ShelfState, place_in, place_of}
 use Rattle.bt_tables.proofs.Opened.{open_kept}
 use Rattle.bt_tables.proofs.shelf.Shelf.raise.Goals as goal
 
@@ -15,6 +16,6 @@ invariant_of-self c =
     rw c.raise.ensures (
       c.self.invariant.0,
       open_kept o.order.group_of o.open_pieces.numbers o.open_pieces.bound p (g + 1) c.self.invariant.1 lp
-          (ne_eqb (stage_of g) 2 (λ e. omega (arith, e, read, c.if-group_of-ge-UNBEGUN.true)) ∙
-          sym (ne_eqb (stage_of (g + 1)) 2 (λ e. omega (arith, e, read, c.if-group_of-ge-UNBEGUN.true)))),
+          (ne_eqb (place_in g) (place_of Open) (λ e. omega (arith, e, read, c.if-group_of-ge-UNBEGUN.true)) ∙
+          sym (ne_eqb (place_in (g + 1)) (place_of Open) (λ e. omega (arith, e, read, c.if-group_of-ge-UNBEGUN.true)))),
     )
