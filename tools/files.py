@@ -1,0 +1,87 @@
+#!/usr/bin/env python3
+"""Lists the source files of each crate with the sentence that heads them, as `docs/FILES.md`.
+
+    tools/files.py          writes the page
+    tools/files.py --check  says whether the page is what it would write
+
+A file is listed by what its first comment says, up to the end of that sentence. Files that have one place for each function
+(`Answers.antt`, `Invariants.antt`, `Proof.antt`) and lists of files (`Lib.antt`) are left out, and so are the modules of tests. The status
+is 1 where the page is another, or where a file has no head.
+"""
+
+import re
+import subprocess
+import sys
+from pathlib import Path
+
+ROOT = Path(__file__).resolve().parent.parent
+PAGE = ROOT / "docs" / "FILES.md"
+LEFT_OUT = {"Answers.antt", "Invariants.antt", "Proof.antt", "Lib.antt"}
+FOLDERS = {"src": "Code", "specs": "Definitions", "proofs": "Lemmas"}
+HEAD = """# Files
+
+Each source file, with the sentence that heads it. `tools/files.py` makes this page. [ARCHITECTURE](ARCHITECTURE.md) says what each crate
+keeps, and where things go. The answers to a function's goals aren't listed: they stand in `proofs/`, in a folder of the function's name.
+Neither are the modules of tests, of which [TESTS](TESTS.md) tells.
+"""
+
+
+def head_of(path):
+    """The first sentence of a file's first comment."""
+    words = []
+    for line in path.read_text(encoding="utf-8").splitlines():
+        found = re.match(r"(?://!|--) ?(.*)", line)
+        if found is not None and found.group(1).strip():
+            words.append(found.group(1).strip())
+        elif words:
+            break
+    return re.split(r"(?<=[.:]) (?=[A-Z])", " ".join(words))[0].rstrip(":.")
+
+
+def crates():
+    """The crates, lowest first, without those that are tests alone."""
+    names = (line.split(":")[0].split()[0] for line in (ROOT / "crates.txt").read_text(encoding="utf-8").splitlines() if line[:1] != "#" and line)
+    return [name for name in names if not name.endswith("_tests")]
+
+
+def files_of(crate, folder):
+    """The files of a crate's folder that the page lists, by their paths in it."""
+    out = subprocess.run(["git", "ls-files", f"crates/{crate}/{folder}"], cwd=ROOT, capture_output=True, text=True, check=True).stdout
+    paths = (Path(line) for line in out.splitlines() if line.endswith((".rt", ".antt")))
+    return sorted(path for path in paths if path.name not in LEFT_OUT and "tests" not in path.parts and path.name != "tests.rt")
+
+
+def page():
+    """The page, and the files that have no head."""
+    lines, bare = [HEAD], []
+    for crate in crates():
+        lines.append(f"## {crate}\n")
+        for folder, title in FOLDERS.items():
+            listed = []
+            for path in files_of(crate, folder):
+                head = head_of(ROOT / path)
+                if not head:
+                    bare.append(str(path))
+                    continue
+                name = path.relative_to(f"crates/{crate}/{folder}").with_suffix("")
+                listed.append(f"- `{name}`: {head}.")
+            if listed:
+                lines.append(f"{title} (`{folder}/`):\n\n" + "\n".join(listed) + "\n")
+    return "\n".join(lines), bare
+
+
+def main():
+    text, bare = page()
+    for path in bare:
+        print(f"files: {path} has no head", file=sys.stderr)
+    if "--check" in sys.argv[1:]:
+        same = PAGE.exists() and PAGE.read_text(encoding="utf-8") == text
+        if not same:
+            print("files: docs/FILES.md is old; run tools/files.py", file=sys.stderr)
+        sys.exit(0 if same and not bare else 1)
+    PAGE.write_text(text, encoding="utf-8")
+    sys.exit(1 if bare else 0)
+
+
+if __name__ == "__main__":
+    main()
