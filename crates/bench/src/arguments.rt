@@ -1,4 +1,4 @@
-//! The command line.
+//! The command line and its help. The numbers behind the word `picker` are read in `picker`.
 
 use crate::swarm::Workload;
 use crate::threads::Crowd;

@@ -1,4 +1,4 @@
--- What the journal says of a held block, beside the history that it tells.
+-- The journal's entry at the place of a held block brought the block's bytes.
 use Rattle.std.proofs.Common.{◌≡◌, ℕ, List, Some, subst, sym}
 use Rattle.std.specs.Prelude.{slice_index_or}
 use Rattle.bt_meta.specs.declared.block.Block.{Block}

@@ -1,4 +1,4 @@
--- Several streams' sessions in threads of their own: what each of them sees at the shared desk, how it ended, and the last checks.
+-- One session of a run in threads, by its worker's place; the last checks, by their worker's pass; and why a run comes to nothing.
 use Rattle.std.specs.Prelude.{◌≡◌, ◌⊎◌, ◌≤◌, ◌+◌, ℕ, Bool, true, false, List, [], ◌∷◌, Result}
 use Rattle.bt_history.specs.declared.mark.CallMark.TheVariants as marks
 use Rattle.bt_history.specs.declared.mark.Mark.{Mark}

@@ -1,4 +1,4 @@
--- Several streams' sessions in threads of their own: what each of them sees at the shared desk, how it ended, and the last checks.
+-- Each session of a run in threads, and its last checks, by the journal and the logs that were gathered.
 use Rattle.std.specs.Prelude.{◌≡◌, ◌<◌, ℕ, Bool, true, false, List, [], length, slice_get, slice_index_or, Some, Result}
 use Rattle.std.specs.Global.{Vec}
 use Rattle.bt_history.specs.declared.mark.Mark.{Mark}

@@ -1,4 +1,4 @@
--- The lines of a script, one after the other.
+-- Up to which line a script passes, and at which one it is at fault.
 use Rattle.std.proofs.Common.{◌≡◌, ◌<◌, ◌≤◌, ◌+◌, ℕ, List, inl, inr, length, arith, subst, below_more}
 use Rattle.bt_text.specs.declared.fault.Fault.{Fault}
 use Rattle.bt_text.specs.declared.fault.Fault.TheVariants as faults

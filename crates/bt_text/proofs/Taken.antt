@@ -1,4 +1,4 @@
--- The lines of a script, as they are answered one after the other.
+-- What a script has printed and done to its desk, line by line.
 use Rattle.std.proofs.Common.{◌≡◌, ◌<◌, ◌≤◌, ◌+◌, ◌-◌, ℕ, zero, suc, Result, Ok, Err, inl, inr, List, [], ◌∷◌, ◌++◌, Some, length, take, refl, sym}
 use Rattle.std.proofs.Common.{ap, ◌∙◌, subst, append_assoc, append-nil, arith}
 use Rattle.std.specs.Result.{IsErrAnd}

@@ -1,4 +1,4 @@
-//! What a picker tells.
+//! The calls of C that ask a picker for a number.
 ghost use Rattle.std.specs.Prelude.{◌≡◌, ◌%◌, ◌^◌};
 ghost use Rattle.bt_history.specs.Epochs.{epoch};
 ghost use Rattle.bt_c.specs.Asking.{CountsOutstanding, IsOutstanding, Says, SaysOfPiece, SaysSender, number_of, number_of_piece};

@@ -1,4 +1,4 @@
-//! What a picker tells of its torrent.
+//! The calls of C that ask for what the metainfo file says: lengths, names, hashes and files.
 ghost use Rattle.std.specs.Prelude.{◌≡◌, None};
 ghost use Rattle.bt_c.specs.declared.torrents.TorrentQuestion.TheVariants as questions;
 ghost use Rattle.bt_c.specs.Outcomes.{AtOpen, TellsDone, TellsNumber};

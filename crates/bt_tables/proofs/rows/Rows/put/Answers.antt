@@ -46,8 +46,12 @@ note-requires-clause-held_room c =
     c.index_mut.ensures.value in
     let cell = is_cell o.width o.counts.items o.cells.items _ p k c.index_mut.result.now c.index-old.result.now row c.self.view_is c.requires.index
     c.index-old.ensures in
-    omega (arith, row.keeps.are.held_is, row.keeps.are.short,
-    count_most is_held (cells_at o.width o.cells.items p) k _ (cell_kept c.args.cell) cell.within cell.read)
+    omega (
+      arith,
+      row.keeps.are.held_is,
+      row.keeps.are.short,
+      count_most is_held (cells_at o.width o.cells.items p) k _ (cell_kept c.args.cell) cell.within cell.read,
+    )
 
 pub note-requires-clause-touched : goal.note-requires-clause-touched
 note-requires-clause-touched c =
@@ -58,8 +62,11 @@ note-requires-clause-touched c =
     c.index_mut.ensures.value in
     let cell = is_cell o.width o.counts.items o.cells.items _ p k c.index_mut.result.now c.index-old.result.now row c.self.view_is c.requires.index
     c.index-old.ensures in
-    omega (arith, row.keeps.are.touched_is,
-    count_part is_touched (cells_at o.width o.cells.items p) k _ (cell_kept c.args.cell) cell.within cell.read)
+    omega (
+      arith,
+      row.keeps.are.touched_is,
+      count_part is_touched (cells_at o.width o.cells.items p) k _ (cell_kept c.args.cell) cell.within cell.read,
+    )
 
 pub note-requires-clause-touched_room : goal.note-requires-clause-touched_room
 note-requires-clause-touched_room c =
@@ -70,8 +77,12 @@ note-requires-clause-touched_room c =
     c.index_mut.ensures.value in
     let cell = is_cell o.width o.counts.items o.cells.items _ p k c.index_mut.result.now c.index-old.result.now row c.self.view_is c.requires.index
     c.index-old.ensures in
-    omega (arith, row.keeps.are.touched_is, row.keeps.are.short,
-    count_most is_touched (cells_at o.width o.cells.items p) k _ (cell_kept c.args.cell) cell.within cell.read)
+    omega (
+      arith,
+      row.keeps.are.touched_is,
+      row.keeps.are.short,
+      count_most is_touched (cells_at o.width o.cells.items p) k _ (cell_kept c.args.cell) cell.within cell.read,
+    )
 
 pub note-requires-clause-index : goal.note-requires-clause-index
 note-requires-clause-index c =
