@@ -4,7 +4,7 @@
     tools/files.py          writes the page
     tools/files.py --check  says whether the page is what it would write
 
-A file is listed by what its first comment says, up to the end of that sentence. Files that have one place for each function
+A file is listed by what its first comment says, up to the end of that sentence; of a long one, up to its first colon or semicolon. Files that have one place for each function
 (`Answers.antt`, `Invariants.antt`, `Proof.antt`) and lists of files (`Lib.antt`) are left out, and so are the modules of tests. The status
 is 1 where the page is another, or where a file has no head.
 """
@@ -35,7 +35,8 @@ def head_of(path):
             words.append(found.group(1).strip())
         elif words:
             break
-    return re.split(r"(?<=[.:]) (?=[A-Z])", " ".join(words))[0].rstrip(":.")
+    sentence = re.split(r"(?<=[.:]) (?=[A-Z])", " ".join(words))[0].rstrip(":.")
+    return sentence if len(sentence.split()) <= 25 else re.split(r"[:;] ", sentence)[0]
 
 
 def crates():
