@@ -5,8 +5,11 @@
 
 CRATE is a name of crates.txt. It itself isn't built, but all below it are. A line on standard error tells of each crate how long it took,
 and how far the whole is. What `rt` prints goes to CRATE's out/build.log. Where a crate fails, the end of its output comes on standard
-error, and the status is 1. At most N crates are built at a time: 2 where it isn't said, or 1 on a machine of fewer than four processors,
-since a crate uses several processors itself.
+error, and the status is 1.
+
+At most N crates are built at a time: 2 where it isn't said, or 1 on a machine of fewer than four processors. Two crates with a crate below
+both are built one after the other, since `rt` works for one of them alone in what they share. A crate gets all processors that no other
+may use, as far as there is memory for so many jobs.
 """
 
 import argparse
@@ -45,10 +48,17 @@ def needed(below, crate):
     return [name for name in below if name in found]
 
 
-def build(crate, log, lock):
+def jobs_at(processors):
+    """How many jobs a crate may have on so many processors: one takes up to 3 GB, beside some 4 GB for the crate."""
+    with open("/proc/meminfo", encoding="utf-8") as lines:
+        free = next(int(line.split()[1]) for line in lines if line.startswith("MemAvailable:")) // 1_000_000
+    return max(1, min(processors, (free - 4) // 3))
+
+
+def build(crate, jobs, log, lock):
     """Runs `rt lib` in the crate's folder. Gives the seconds that it took, or None where it failed."""
     start = time.monotonic()
-    ran = subprocess.run(["rt", "lib"], cwd=os.path.join(ROOT, "crates", crate), stdout=subprocess.PIPE, stderr=subprocess.STDOUT, text=True)
+    ran = subprocess.run(["rt", "lib", "--jobs", str(jobs)], cwd=os.path.join(ROOT, "crates", crate), stdout=subprocess.PIPE, stderr=subprocess.STDOUT, text=True)
     with lock:
         log.write(f"== {crate}\n{ran.stdout}")
         log.flush()
@@ -58,21 +68,33 @@ def build(crate, log, lock):
     return time.monotonic() - start
 
 
+def apart(families, ready, running, at_once):
+    """Those of the ready crates that may be begun beside the running ones: no two have a crate below both."""
+    chosen = []
+    for name in ready:
+        if len(running) + len(chosen) < at_once and not any(families[name] & families[other] for other in [*running, *chosen]):
+            chosen.append(name)
+    return chosen
+
+
 def run(crate, at_once):
     """Builds all that the crate stands on. Gives whether all could be built."""
     below = graph()
     if crate not in below:
         sys.exit(f"build: {crate} is no crate of crates.txt")
     waiting = needed(below, crate)
+    families = {name: {name, *needed(below, name)} for name in waiting}
     total, built, running, lock = len(waiting), set(), {}, threading.Lock()
     folder = os.path.join(ROOT, "crates", crate, "out")
     os.makedirs(folder, exist_ok=True)
     with open(os.path.join(folder, "build.log"), "w", encoding="utf-8") as log, concurrent.futures.ThreadPoolExecutor(at_once) as pool:
         while waiting or running:
             ready = [name for name in waiting if all(other in built for other in below[name])]
-            for name in ready[:at_once - len(running)]:
+            chosen = apart(families, ready, list(running.values()), at_once)
+            jobs = jobs_at((os.cpu_count() or 1) // max(1, len(running) + len(chosen)))
+            for name in chosen:
                 waiting.remove(name)
-                running[pool.submit(build, name, log, lock)] = name
+                running[pool.submit(build, name, jobs, log, lock)] = name
             done, _ = concurrent.futures.wait(running, return_when=concurrent.futures.FIRST_COMPLETED)
             for future in done:
                 name, seconds = running.pop(future), future.result()

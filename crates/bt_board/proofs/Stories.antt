@@ -9,6 +9,7 @@ use mathlib.Core.Logic.{dite}
 use mathlib.Core.Option.{some, none, some-injective, some-ne-none}
 use native.Mathlib.Decide.{dec_le, ℕ_discrete}
 use lib.ListN.{get_elem?}
+use Rattle.atomic_table.specs.Seated.{TableId}
 use Rattle.atomic_table.specs.Table.{State, step, keeps, Allows, Splits, Joins}
 use Rattle.atomic_table.proofs.Lists.{at_set, at_longer, set_else}
 use Rattle.bt_meta.specs.Layout.{Layout, piece_count}
@@ -17,6 +18,7 @@ use Rattle.bt_board.specs.declared.view.Load.{Load}
 use Rattle.bt_board.specs.declared.view.BoardView.{BoardView}
 use Rattle.bt_board.specs.Story.{Has, Each, IsSet, words_of, view, load, fresh, without_first, first_of, with_mark, with_load, both, spent, Marked}
 use Rattle.bt_board.specs.Story.{Seen, StandsFor, IsProven, Story}
+use Rattle.bt_board.specs.Seats.{IsTable}
 use Rattle.bt_board.specs.Steps.{Looks, Announces}
 use Rattle.bt_board.proofs.Lists.{same_item, set_at, has_front, has_back, has_parts, has_last, has_snoc, each_append, each_at, at_appended}
 use Rattle.bt_board.proofs.Lists.{in_range, append_nil_left}
@@ -293,6 +295,11 @@ dealt_first k m v lt is = ap first_of (is ∙ ap (view [] []) (range_step k m lt
 pub dealt_stands : (k m : ℕ) (v : BoardView) → k < m → v ≡ view [] [] (range_with_len k (m - k)) → (first_of v).seats ≢ []
 dealt_stands k m v lt is no_seat =
     let one : k ∷ [] ≡ [] = sym (ap (λ (u : BoardView). u.seats) (dealt_first k m v lt is)) ∙ no_seat in cc
+
+-- a board's table has a bit for each piece of its torrent, by whatever name
+pub table_words : {A : Type 0} {told about : A} {table : TableId} {layout torrent : Layout} → IsTable told about table (piece_count layout) →
+    layout ≡ torrent → table.words ≡ words_of (piece_count torrent)
+table_words is same = is.words ∙ ap (λ (t : Layout). words_of (piece_count t)) same
 
 -- the bits so far are those of the words, and the others are not set
 pub record Copied (words : List ℕ) (pieces n : ℕ) (bits : List Bool) : Type 0 where

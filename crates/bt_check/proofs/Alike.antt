@@ -8,6 +8,10 @@ pub alike_many : (a b : List (List ℕ)) → lengths b ≡ lengths a → length 
 alike_many a b same =
     sym (length-map b (λ block. length block)) ∙ ap (λ (xs : List ℕ). length xs) same ∙ length-map a (λ block. length block)
 
+-- so a place in one is a place in the other
+pub alike_below : (a b : List (List ℕ)) (i : ℕ) → lengths b ≡ lengths a → i < length a → i < length b
+alike_below a b i same lt = omega (arith, alike_many a b same, lt)
+
 -- the blocks at one place are equally long
 pub alike_at : (a b : List (List ℕ)) (i : ℕ) (x y : List ℕ) → lengths b ≡ lengths a → i < length a → x ≡ get_or a i x → y ≡ get_or b i y →
     length y ≡ length x

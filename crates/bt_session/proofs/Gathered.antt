@@ -17,7 +17,8 @@ use Rattle.bt_peer.specs.Conduct.{generator_of}
 use Rattle.bt_peer.specs.Outcomes.{RunsTo}
 use Rattle.bt_peer.specs.Places.{PlaceRecord}
 use Rattle.bt_peer.specs.Serial.{StreamRecord}
-use Rattle.bt_peer.specs.SessionTerms.{TermsState}
+use Rattle.bt_meta.specs.Layout.{Metainfo, piece_count}
+use Rattle.bt_peer.specs.SessionTerms.{TermsState, terms_of}
 use Rattle.bt_session.specs.Checking.{CheckersCheck, CheckersWork}
 use Rattle.bt_session.proofs.Parts.{plays_short}
 use Rattle.bt_session.specs.PieceChecks.{AreChecks}
@@ -87,6 +88,24 @@ pub record Ran {X : Type 0} (record_of : X → StreamRecord) (terms : TermsState
   pub each : EachPlays record_of terms setting seed workers streams ends workers' streams' short
   pub checks : CheckersWork n m workers workers'
   pub last : (any : WorkerState) → ChecksLast (get_or workers (n + m) any).pass (get_or workers' (n + m) any).pass pieces
+
+-- by what is said of the work, where the torrent has another name
+pub ran_by : {X : Type 0} {record_of : X → StreamRecord} {made torrent : Metainfo} {depth : ℕ} {setting : Setting} {seed n m : ℕ}
+    {workers workers' : List WorkerState} {streams streams' : List X} {ends : List (Result End SessionFault)} {short : Bool} → made ≡ torrent →
+    1 ≤ n → AreFresh setting workers → length workers ≡ n + m + 1 → length workers' ≡ length workers → length streams ≡ n →
+    EachPlays record_of (terms_of made depth) setting seed workers streams ends workers' streams' short → CheckersWork n m workers workers' →
+    ((any : WorkerState) → ChecksLast (get_or workers (n + m) any).pass (get_or workers' (n + m) any).pass (piece_count made.layout)) →
+    Ran record_of (terms_of torrent depth) setting seed n m (piece_count torrent.layout) workers workers' streams streams' ends short
+ran_by is some fresh many same many_streams plays checks last = record {
+  some = some;
+  fresh = fresh;
+  many = many;
+  many' = same ∙ many;
+  many_streams = many_streams;
+  each = rw (← is) plays;
+  checks = checks;
+  last = rw (← is) last;
+}
 
 module _ {X : Type 0} {record_of : X → StreamRecord} {terms : TermsState} {setting : Setting} {seed n m pieces : ℕ}
     {workers workers' : List WorkerState} {streams streams' : List X} {ends : List (Result End SessionFault)} {short : Bool}

@@ -248,7 +248,7 @@ impl<L: RunName> Commons<L> {
     }
 
     /// Settles the verdict, and marks its piece if that is had then.
-    pub fn settle<T: Wait>(
+    pub(crate) fn settle<T: Wait>(
         &self,
         rt: &T,
         worker: &mut Worker<L>,

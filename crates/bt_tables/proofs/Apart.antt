@@ -11,7 +11,7 @@ use Rattle.bt_tables.specs.declared.piece.Change.{Change}
 use Rattle.bt_tables.specs.declared.piece.Change.TheVariants.{Raise, Lower, Store, Pass, Fail, Level}
 use Rattle.bt_tables.specs.Tables.{HasRoomOf, PieceState, changed_row, edit, fresh_piece, less_available, more_available, one_if, piece_row}
 use Rattle.bt_tables.specs.Standings.{AreShelved, IsFiled, ShelfState, apart, group_of_row, is_resting, lowered_group, raised_group}
-use Rattle.bt_tables.specs.Standings.{shown_row, slot_of}
+use Rattle.bt_tables.specs.Standings.{refiled, shown_row, slot_of}
 use Rattle.bt_tables.specs.Standings.{place_in, place_of, standing_of}
 use Rattle.bt_tables.specs.declared.piece.Stage.{Stage}
 use Rattle.bt_tables.specs.declared.piece.Stage.TheVariants.{AskedOut, Open, Resting, Unbegun}
@@ -354,13 +354,7 @@ module _ (shelf : ShelfState) (rows : List PieceState) (shown : List ℕ) (p : �
       (row_is row m (own_row rows p kept.within) is.count) is.before_is is.after_is (same_length change row)
 
   pub changes : (now : ShelfState) (change : Change) (m : ℕ) (before after : Standing) → IsChange rows shown p change m before after
-      → now ≡ record {
-        groups = set shelf.groups p after.group;
-        unasked = shelf.unasked - before.unasked + after.unasked;
-        unheld = shelf.unheld - before.unheld + after.unheld;
-        had = shelf.had - one_if before.had + one_if after.had;
-        left = shelf.left - one_if before.left + one_if after.left;
-      } → AreShelved now (whole_rows (set rows p (changed_row change (piece_row rows p))) shown)
+      → now ≡ refiled shelf p before after → AreShelved now (whole_rows (set rows p (changed_row change (piece_row rows p))) shown)
   changes now change m before after is put =
       let row = piece_row rows p in
       let new = changed_row change row in

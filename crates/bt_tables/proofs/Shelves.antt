@@ -12,7 +12,7 @@ use Rattle.bt_tables.specs.declared.piece.Change.{Change}
 use Rattle.bt_tables.specs.declared.piece.Change.TheVariants.{Raise, Lower, Store, Pass, Fail, Level}
 use Rattle.bt_tables.specs.Tables.{PieceState, changed_row, one_if, one_less, one_more, unheld}
 use Rattle.bt_tables.specs.Standings.{held_count, touched_count, wanted_length, group_of_row, standing_of, ShelfState, shelf_of, IsFiled, AreShelved}
-use Rattle.bt_tables.specs.Standings.{is_resting}
+use Rattle.bt_tables.specs.Standings.{is_resting, refiled}
 use Rattle.bt_tables.proofs.Tabled.{length_edit}
 
 -- no change makes a piece longer
@@ -126,13 +126,7 @@ can_file shelf rows p old new before after are lp read before_is after_is same =
 pub files : (shelf now : ShelfState) (rows : List PieceState) (p : ℕ) (old new : PieceState) (before after : Standing) → AreShelved shelf rows →
     p < length rows → old ≡ get_or rows p old
     → before ≡ standing_of old → after ≡ standing_of new → length new.blocks ≡ length old.blocks
-    → now ≡ record {
-      groups = set shelf.groups p after.group;
-      unasked = shelf.unasked - before.unasked + after.unasked;
-      unheld = shelf.unheld - before.unheld + after.unheld;
-      had = shelf.had - one_if before.had + one_if after.had;
-      left = shelf.left - one_if before.left + one_if after.left;
-    } → AreShelved now (set rows p new)
+    → now ≡ refiled shelf p before after → AreShelved now (set rows p new)
 files shelf now rows p old new before after are lp read before_is after_is same is =
     let own : AreShelved (shelf_of rows) rows = rw (are.is) at are in
     still_shelved rows p old new lp read same now own ((rw (are.is, before_is, after_is) at is) ∙ shelved rows p old new lp read same)
@@ -165,14 +159,12 @@ filling rows n = record {
   left = count_by (λ row. not (is_resting row)) rows;
 }
 
+-- a piece that has not come yet counts for nothing
+abbrev pub unfiled : Standing
+unfiled = record { group = 0; unasked = 0; unheld = 0; had = false; left = false }
+
 pub shelf_more : (rows : List PieceState) (row : PieceState) (n p : ℕ) → length rows ≡ p → 0 < n
-    → record {
-      groups = set (filling rows n).groups p (standing_of row).group;
-      unasked = (filling rows n).unasked - 0 + (standing_of row).unasked;
-      unheld = (filling rows n).unheld - 0 + (standing_of row).unheld;
-      had = (filling rows n).had - one_if false + one_if (standing_of row).had;
-      left = (filling rows n).left - one_if false + one_if (standing_of row).left;
-    } ≡ filling (rows ++ row ∷ []) (n - 1)
+    → refiled (filling rows n) p unfiled (standing_of row) ≡ filling (rows ++ row ∷ []) (n - 1)
 shelf_more rows row n p len some =
     let mapped = length-map rows group_of_row in
     let at : p ≡ length (map group_of_row rows) = omega arith in
@@ -189,7 +181,7 @@ shelf_more rows row n p len some =
 
 pub shelf_fits : (rows : List PieceState) (row : PieceState) (n : ℕ) → length rows + 1 < 2 ^ 32 →
     sum_by (λ r. length r.blocks) (rows ++ row ∷ []) < 2 ^ 64
-    → IsFiled (filling rows n) (record { group = 0; unasked = 0; unheld = 0; had = false; left = false }) (standing_of row)
+    → IsFiled (filling rows n) unfiled (standing_of row)
 shelf_fits rows row n short fit =
     let few = count_by-le-length (λ (r : PieceState). r.had) rows in
     let one : had_of row ≤ 1 = at_most (row.had) in

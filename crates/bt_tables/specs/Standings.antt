@@ -1,6 +1,6 @@
 -- What a row of a piece amounts to among the others: its group, and what is counted of it. No public clause of the picker cites this module.
 use Rattle.std.specs.Prelude.{ℕ, ◌+◌, ◌-◌, ◌*◌, ◌%◌, ◌^◌, ◌≡◌, ◌<◌, ◌≤◌, ◌==◌, ◌||◌, Bool, false, not, List, [], ◌∷◌, length, map, min, nat_lt, true}
-use Rattle.std.specs.Prelude.{None, Some, is_some, slice_index_or, if◌then◌else◌}
+use Rattle.std.specs.Prelude.{None, Some, is_some, slice_index_or, slice_set, if◌then◌else◌}
 use Rattle.std.specs.List.{count_by, sum_by}
 use Rattle.bt_tables.specs.declared.cell.Cell.{Cell}
 use Rattle.bt_tables.specs.declared.cell.TheConstants.{HELD}
@@ -172,6 +172,16 @@ pub record IsFiled (shelf : ShelfState) (before after : Standing) : Type 0 where
   pub unheld_fits : shelf.unheld - before.unheld + after.unheld < 2 ^ 64
   pub had_fits : shelf.had - one_if before.had + one_if after.had < 2 ^ 32
   pub left_fits : shelf.left - one_if before.left + one_if after.left < 2 ^ 32
+
+-- the shelf once a piece that stood one way stands another way
+abbrev pub refiled : ShelfState → ℕ → Standing → Standing → ShelfState
+refiled shelf piece before after = record {
+  groups = slice_set shelf.groups piece after.group;
+  unasked = shelf.unasked - before.unasked + after.unasked;
+  unheld = shelf.unheld - before.unheld + after.unheld;
+  had = shelf.had - one_if before.had + one_if after.had;
+  left = shelf.left - one_if before.left + one_if after.left;
+}
 
 -- what is kept is what the rows amount to, and the sums fit
 pub record AreShelved (shelf : ShelfState) (rows : List PieceState) : Type 0 where

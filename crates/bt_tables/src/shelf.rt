@@ -3,8 +3,7 @@
 ghost use Rattle.std.specs.Prelude.{◌≡◌, ◌<◌, ◌≤◌, ◌+◌, ◌-◌, ◌^◌, ℕ, true, length, replicate, slice_set, slice_index_or, IfOk};
 ghost use Rattle.bt_tables.specs.Orders.{at, ListsGroup};
 ghost use Rattle.bt_tables.specs.Risings.{IsRising};
-ghost use Rattle.bt_tables.specs.Standings.{IsFiled, ListsOpen, ShelfState, lowered_group, raised_group};
-ghost use Rattle.bt_tables.specs.Tables.{one_if};
+ghost use Rattle.bt_tables.specs.Standings.{IsFiled, ListsOpen, ShelfState, lowered_group, raised_group, refiled};
 
 use crate::order::Order;
 use crate::piece::{CROWD, GROUPS, SPAN, Standing, UNBEGUN, is_open};
@@ -167,13 +166,7 @@ impl Shelf {
         requires before { before.group ≡ at self.old.groups piece }
         requires group { after.group < GROUPS }
         requires fits { IsFiled self.old before after }
-        ensures { self.new ≡ record {
-          groups = slice_set self.old.groups piece after.group;
-          unasked = self.old.unasked - before.unasked + after.unasked;
-          unheld = self.old.unheld - before.unheld + after.unheld;
-          had = self.old.had - one_if before.had + one_if after.had;
-          left = self.old.left - one_if before.left + one_if after.left;
-        } }
+        ensures { self.new ≡ refiled self.old piece before after }
     {
         self.put_in(piece, before.group, after.group);
         self.unasked = self.unasked - u64::from(before.unasked) + u64::from(after.unasked);

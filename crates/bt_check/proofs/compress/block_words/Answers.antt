@@ -1,4 +1,4 @@
-use Rattle.std.proofs.Common.{rules, ◌≡◌, ◌<◌, ◌∙◌, length, arith, inl, inr}
+use Rattle.std.proofs.Common.{rules, ◌≡◌, ◌∙◌, arith, inl, inr}
 use Rattle.std.proofs.lemmas.Bool.{cases_lt}
 use Rattle.std.proofs.lemmas.List.{get_or-set_same, get_or-set_other}
 use Rattle.sha1.proofs.Schedule.{IsWindow_first}
@@ -11,12 +11,11 @@ loop-i-preserved c = (
   search rules,
   λ j k lt below.
       let w = lane j c.loop-i.w in
-      let long : c.loop-i.i < length w = omega (arith, length-lane j c.loop-i.w) in
       rw (lane-set j c.loop-i.w c.loop-i.i c.load.result) (elim (cases_lt k c.loop-i.i) [
         | inl before ↦ get_or-set_other w c.loop-i.i k _ 0 (omega arith) ∙ c.loop-i.invariant.1 j k lt before
         | inr after ↦
             let here : c.loop-i.i ≡ k = omega arith in
-            rw (← here) (get_or-set_same w c.loop-i.i _ 0 long ∙ c.load.ensures j lt)
+            rw (← here) (get_or-set_same w c.loop-i.i _ 0 (omega (arith, length-lane j c.loop-i.w)) ∙ c.load.ensures j lt)
       ]),
 )
 

@@ -1,5 +1,6 @@
-use Rattle.std.proofs.Common.{arith}
-use Rattle.bt_check.proofs.Alike.{alike_at, alike_many}
+use Rattle.std.proofs.Common.{◌≡◌, ◌∙◌, ◌<◌, ◌+◌, ◌++◌, ℕ, List, ap, get_or, length, take}
+use Rattle.std.specs.List.{concat}
+use Rattle.bt_check.proofs.Alike.{alike_at, alike_below}
 use Rattle.bt_check.proofs.Blocks.{concat_more}
 use Rattle.bt_check.proofs.lanes.digests_of.Goals as goal
 
@@ -18,20 +19,19 @@ update-requires-clause-d c =
     rw (c.as_slice-in-loop-i-3.ensures, c.as_slice.ensures)
     (alike_at c.args.a.now c.args.d.now c.loop-i.i _ _ c.requires.d c.loop-i-test.true c.index-a-i.is c.index-d-i.is)
 
+-- a list's blocks so far, joined, and the bytes of the next one
+grown : (blocks : List (List ℕ)) (i : ℕ) (block bytes : List ℕ) → bytes ≡ block → i < length blocks → block ≡ get_or blocks i block →
+    concat (take i blocks) ++ bytes ≡ concat (take (i + 1) blocks)
+grown blocks i block bytes read lt is = ap (λ (b : List ℕ). concat (take i blocks) ++ b) read ∙ concat_more blocks i block lt is
+
 pub loop-i-preserved : goal.loop-i-preserved
 loop-i-preserved c =
     let i = c.loop-i.i in
-    let many_b = alike_many c.args.a.now c.args.b.now c.requires.b in
-    let many_c = alike_many c.args.a.now c.args.c.now c.requires.c in
-    let many_d = alike_many c.args.a.now c.args.d.now c.requires.d in
+    let a = c.args.a.now in
     rw (
-      ← concat_more c.args.a.now i c.index-a-i.result c.loop-i-test.true c.index-a-i.is,
-      ← concat_more c.args.b.now i c.index-b-i.result (omega (arith, many_b, c.loop-i-test.true)) c.index-b-i.is,
-      ← concat_more c.args.c.now i c.index-c-i.result (omega (arith, many_c, c.loop-i-test.true)) c.index-c-i.is,
-      ← concat_more c.args.d.now i c.index-d-i.result (omega (arith, many_d, c.loop-i-test.true)) c.index-d-i.is,
-      ← c.as_slice.ensures,
-      ← c.as_slice-in-loop-i.ensures,
-      ← c.as_slice-in-loop-i-2.ensures,
-      ← c.as_slice-in-loop-i-3.ensures,
+      ← grown a i _ _ c.as_slice.ensures c.loop-i-test.true c.index-a-i.is,
+      ← grown c.args.b.now i _ _ c.as_slice-in-loop-i.ensures (alike_below a _ i c.requires.b c.loop-i-test.true) c.index-b-i.is,
+      ← grown c.args.c.now i _ _ c.as_slice-in-loop-i-2.ensures (alike_below a _ i c.requires.c c.loop-i-test.true) c.index-c-i.is,
+      ← grown c.args.d.now i _ _ c.as_slice-in-loop-i-3.ensures (alike_below a _ i c.requires.d c.loop-i-test.true) c.index-d-i.is,
     )
     (c.update.ensures _ _ _ _ c.loop-i.invariant)

@@ -2,104 +2,43 @@ use Rattle.std.proofs.Common.{◌≡◌, ◌+◌, length, refl, ◌∙◌, rules
 use Rattle.bt_meta.specs.Layout.{piece_count}
 use Rattle.bt_peer.specs.Serial.{stream_record}
 use Rattle.bt_peer.specs.SessionTerms.{terms_of}
-use Rattle.bt_session.proofs.Gathered.{Ran, checkers_check, finished, in_order, swarmed}
+use Rattle.bt_session.proofs.Gathered.{Ran, checkers_check, finished, in_order, ran_by, swarmed}
+use Rattle.bt_session.proofs.swarm_run.run.Given as given
 use Rattle.bt_session.proofs.swarm_run.run.Goals as goal
 
 pub gather-requires-clause-order : goal.gather-requires-clause-order
 gather-requires-clause-order g c =
-    let n = length c.args.streams.items in
-    let m = c.args.plan.checkers in
-    let layout = c.args.torrent.value in
     let made = c.in_ok-commons.ensures in
     let did = c.in_ok-worked.ensures in
-    let all = c.in_ok-commons.all.items in
-    let worked = c.in_ok-worked.worked in
-    let many : length all ≡ n + m + 1 = search rules in
-    let ran : Ran (stream_record g.R.Source.left g.R.Source.ended g.R.Source.failed g.R.Source.reads g.W.Sink.written g.W.Sink.failed)
-    (terms_of layout c.args.plan.rules.depth) g.L.RunName.setting c.args.plan.seed n m (piece_count layout.layout)
-    all worked.workers.items c.args.streams.items worked.streams.items worked.ends.items worked.given_up = record {
-      some = c.requires.streams.0;
-      fresh = made.fresh;
-      many = many;
-      many' = did.count.2 ∙ many;
-      many_streams = refl;
-      each = rw (← made.torrent) did.plays;
-      checks = did.checks;
-      last = rw (← made.torrent) did.last;
-    } in
-    in_order ran
+    let many : length c.in_ok-commons.all.items ≡ length c.args.streams.items + c.args.plan.checkers + 1 = search rules in
+    in_order (ran_by
+    {record_of = stream_record g.R.Source.left g.R.Source.ended g.R.Source.failed g.R.Source.reads g.W.Sink.written g.W.Sink.failed}
+    {streams' = c.in_ok-worked.worked.streams.items} made.torrent c.requires.streams.0 made.fresh many did.count.2 refl did.plays did.checks did.last)
+
+-- the sessions played, the checkers checked, and the last worker made the last checks
+ran : (g : given.Over) (c : goal.After-is_short-short g) → Ran
+    (stream_record g.R.Source.left g.R.Source.ended g.R.Source.failed g.R.Source.reads g.W.Sink.written g.W.Sink.failed)
+    (terms_of c.args.torrent.value c.args.plan.rules.depth) g.L.RunName.setting c.args.plan.seed (length c.args.streams.items) c.args.plan.checkers
+    (piece_count c.args.torrent.value.layout) c.in_ok-commons.all.items c.in_ok-worked.worked.workers.items c.args.streams.items
+    c.in_ok-worked.worked.streams.items c.in_ok-worked.worked.ends.items c.in_ok-worked.worked.given_up
+ran g c =
+    let made = c.in_ok-commons.ensures in
+    let did = c.in_ok-worked.ensures in
+    let many : length c.in_ok-commons.all.items ≡ length c.args.streams.items + c.args.plan.checkers + 1 = search rules in
+    ran_by made.torrent c.requires.streams.0 made.fresh many did.count.2 refl did.plays did.checks did.last
 
 pub returns-clause-sessions : goal.returns-clause-sessions
 returns-clause-sessions g c =
-    let n = length c.args.streams.items in
-    let m = c.args.plan.checkers in
-    let layout = c.args.torrent.value in
-    let made = c.in_ok-commons.ensures in
-    let did = c.in_ok-worked.ensures in
-    let all = c.in_ok-commons.all.items in
-    let worked = c.in_ok-worked.worked in
-    let many : length all ≡ n + m + 1 = search rules in
-    let ran : Ran (stream_record g.R.Source.left g.R.Source.ended g.R.Source.failed g.R.Source.reads g.W.Sink.written g.W.Sink.failed)
-    (terms_of layout c.args.plan.rules.depth) g.L.RunName.setting c.args.plan.seed n m (piece_count layout.layout)
-    all worked.workers.items c.args.streams.items worked.streams.items worked.ends.items worked.given_up = record {
-      some = c.requires.streams.0;
-      fresh = made.fresh;
-      many = many;
-      many' = did.count.2 ∙ many;
-      many_streams = refl;
-      each = rw (← made.torrent) did.plays;
-      checks = did.checks;
-      last = rw (← made.torrent) did.last;
-    } in
-    swarmed ran c.in_ok-book.book.logs.items c.in_ok-book.book.desk.history c.in_ok-book.ensures.logs
-    (c.in_ok-book.ensures.count ∙ (did.count.2 ∙ many)) c.in_ok-book.ensures.had c.is_short-short.result c.is_short-short.ensures.noted
+    let book = c.in_ok-book.ensures in
+    swarmed (ran g c) c.in_ok-book.book.logs.items c.in_ok-book.book.desk.history book.logs (book.count ∙ (ran g c).many') book.had
+    c.is_short-short.result c.is_short-short.ensures.noted
 
 pub returns-clause-checks : goal.returns-clause-checks
 returns-clause-checks g c =
-    let n = length c.args.streams.items in
-    let m = c.args.plan.checkers in
-    let layout = c.args.torrent.value in
-    let made = c.in_ok-commons.ensures in
-    let did = c.in_ok-worked.ensures in
-    let all = c.in_ok-commons.all.items in
-    let worked = c.in_ok-worked.worked in
-    let many : length all ≡ n + m + 1 = search rules in
-    let ran : Ran (stream_record g.R.Source.left g.R.Source.ended g.R.Source.failed g.R.Source.reads g.W.Sink.written g.W.Sink.failed)
-    (terms_of layout c.args.plan.rules.depth) g.L.RunName.setting c.args.plan.seed n m (piece_count layout.layout)
-    all worked.workers.items c.args.streams.items worked.streams.items worked.ends.items worked.given_up = record {
-      some = c.requires.streams.0;
-      fresh = made.fresh;
-      many = many;
-      many' = did.count.2 ∙ many;
-      many_streams = refl;
-      each = rw (← made.torrent) did.plays;
-      checks = did.checks;
-      last = rw (← made.torrent) did.last;
-    } in
-    checkers_check ran c.in_ok-book.book.logs.items c.in_ok-book.book.desk.history c.in_ok-book.ensures.logs
-    (c.in_ok-book.ensures.count ∙ (did.count.2 ∙ many)) c.in_ok-book.ensures.had
+    let book = c.in_ok-book.ensures in
+    checkers_check (ran g c) c.in_ok-book.book.logs.items c.in_ok-book.book.desk.history book.logs (book.count ∙ (ran g c).many') book.had
 
 pub returns-clause-finishes : goal.returns-clause-finishes
 returns-clause-finishes g c =
-    let n = length c.args.streams.items in
-    let m = c.args.plan.checkers in
-    let layout = c.args.torrent.value in
-    let made = c.in_ok-commons.ensures in
-    let did = c.in_ok-worked.ensures in
-    let all = c.in_ok-commons.all.items in
-    let worked = c.in_ok-worked.worked in
-    let many : length all ≡ n + m + 1 = search rules in
-    let ran : Ran (stream_record g.R.Source.left g.R.Source.ended g.R.Source.failed g.R.Source.reads g.W.Sink.written g.W.Sink.failed)
-    (terms_of layout c.args.plan.rules.depth) g.L.RunName.setting c.args.plan.seed n m (piece_count layout.layout)
-    all worked.workers.items c.args.streams.items worked.streams.items worked.ends.items worked.given_up = record {
-      some = c.requires.streams.0;
-      fresh = made.fresh;
-      many = many;
-      many' = did.count.2 ∙ many;
-      many_streams = refl;
-      each = rw (← made.torrent) did.plays;
-      checks = did.checks;
-      last = rw (← made.torrent) did.last;
-    } in
-    finished ran c.in_ok-book.book.logs.items c.in_ok-book.book.desk.history c.in_ok-book.ensures.logs
-    (c.in_ok-book.ensures.count ∙ (did.count.2 ∙ many)) c.in_ok-book.ensures.had
+    let book = c.in_ok-book.ensures in
+    finished (ran g c) c.in_ok-book.book.logs.items c.in_ok-book.book.desk.history book.logs (book.count ∙ (ran g c).many') book.had

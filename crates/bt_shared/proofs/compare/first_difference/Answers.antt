@@ -1,60 +1,74 @@
-use Rattle.std.proofs.Common.{◌≡◌, ◌<◌, ◌≤◌, ◌+◌, ◌++◌, ◌∷◌, [], length, take, Some, slice_get, sym, ap, ◌∙◌, refl, arith}
+use Rattle.std.proofs.Common.{◌≡◌, ◌<◌, ◌+◌, ◌++◌, ◌∷◌, ℕ, List, [], length, take, Some, slice_get, sym, ap, ◌∙◌, refl, arith}
 use Rattle.std.proofs.lemmas.List.{take_all}
 use Rattle.std.proofs.lemmas.Option.{none-some, slice_get_past, slice_get_read}
 use Rattle.bt_history.specs.Entries.{event_of, history_of}
 use Rattle.bt_history.specs.Logs.{marks_of, mark_of}
 use Rattle.bt_history.proofs.Journals.{mark_next, mark_skip, marks_take, take_step}
 use Rattle.bt_shared.proofs.Comparing.{apart_at, differs, goes_on, same_at}
+use Rattle.bt_history.specs.declared.call.Entry.{Entry}
+use Rattle.bt_history.specs.declared.mark.Mark.{Mark}
 use Rattle.bt_shared.proofs.compare.first_difference.Goals as goal
 use Rattle.bt_shared.proofs.compare.first_difference.Goals.{then-entry-worker+else-next-log+else-ne, else-entry-worker}
 use Rattle.bt_shared.proofs.compare.first_difference.Goals.{then-next-log-via-then-next-log, then-next-log-via-else-next-log+then-ne}
 
+-- the entry stands at its place of the journal
+entry_at : (c : goal.Joined-then-next-log) → slice_get c.args.journal.now c.loop-place.place ≡ Some c.index-journal-place.result
+entry_at c = slice_get_read c.args.journal.now _ _ _ refl c.loop-place-test.true c.index-journal-place.is
+
+-- the marks of the worker are the log so far, the entry's, and later ones
+later : (c : goal.Joined-then-next-log) → (more : List Mark) × (marks_of (history_of c.args.journal.now) c.args.worker
+    ≡ (take c.loop-place.next c.args.log.now ++ mark_of c.loop-place.place (event_of c.index-journal-place.result) ∷ []) ++ more)
+later c =
+    let j = c.args.journal.now in
+    let k = c.loop-place.place in
+    let e = c.index-journal-place.result in
+    let here = mark_next j c.args.worker k e (entry_at c) c.if-entry-worker.true in
+    let more = marks_take j (k + 1) c.args.worker in
+    (more.0, more.1 ∙ ap (λ ms. ms ++ more.0) (here ∙ ap (λ ms. ms ++ mark_of k (event_of e) ∷ []) (sym c.loop-place.invariant.same)))
+
+-- but the log has no such mark next
+lacking : (c : goal.Joined-then-next-log) → ¬ (slice_get c.args.log.now c.loop-place.next
+    ≡ Some (mark_of c.loop-place.place (event_of c.index-journal-place.result)))
+lacking c = elim c.then-next-log.branch [
+  | then-next-log-via-then-next-log w ↦
+      let past = slice_get_past c.args.log.now c.loop-place.next (omega (arith, w.if-next-log.true)) in
+      λ alike. none-some _ (sym past ∙ alike)
+  | then-next-log-via-else-next-log+then-ne w ↦
+      let within : c.loop-place.next < length c.args.log.now = omega (arith, c.loop-place.invariant.within, w.if-next-log.false) in
+      λ alike. apart_at c.args.log.now c.loop-place.next _ w.mark_at.result within (sym w.ne.ensures ∙ w.if-ne.true)
+      (alike ∙ ap Some (sym w.mark_at.ensures))
+]
+
 pub returns-then-next-log-clause-some : goal.returns-then-next-log-clause-some
 returns-then-next-log-clause-some c =
-    let j = c.args.journal.now in
-    let e = c.index-journal-place.result in
-    let k = c.loop-place.place in
-    let at = slice_get_read j (length j) k e refl c.loop-place-test.true c.index-journal-place.is in
-    let old = c.loop-place.invariant in
-    let marks = marks_of (history_of j) c.args.worker in
-    let here = mark_next j c.args.worker k e at c.if-entry-worker.true in
-    let later = marks_take j (k + 1) c.args.worker in
-    let are : marks ≡ (take c.loop-place.next c.args.log.now ++ mark_of k (event_of e) ∷ []) ++ later.0 =
-    later.1 ∙ ap (λ ms. ms ++ later.0) (here ∙ ap (λ ms. ms ++ mark_of k (event_of e) ∷ []) (sym old.same)) in
-    differs c.args.log.now c.loop-place.next old.within (mark_of k (event_of e)) marks later.0 are
-    (elim c.then-next-log.branch [
-      | then-next-log-via-then-next-log w ↦
-          let end : length c.args.log.now ≤ c.loop-place.next = omega (arith, w.if-next-log.true) in
-          let past = slice_get_past c.args.log.now c.loop-place.next end in
-          λ alike. none-some (mark_of k (event_of e)) (sym past ∙ alike)
-      | then-next-log-via-else-next-log+then-ne w ↦
-          let within : c.loop-place.next < length c.args.log.now = omega (arith, old.within, w.if-next-log.false) in
-          let apart = apart_at c.args.log.now c.loop-place.next _ w.mark_at.result within (sym w.ne.ensures ∙ w.if-ne.true) in
-          λ alike. apart (alike ∙ ap Some (sym w.mark_at.ensures))
-    ])
+    differs c.args.log.now c.loop-place.next c.loop-place.invariant.within _ (marks_of (history_of c.args.journal.now) c.args.worker) (later c).0
+    (later c).1 (lacking c)
+
+-- an entry of the worker that the log has is marked next
+marked : (j : List Entry) (worker k n : ℕ) (e : Entry) (log : List Mark) → slice_get j k ≡ Some e → e.worker ≡ worker → n < length log
+    → slice_get log n ≡ Some (mark_of k (event_of e)) → take n log ≡ marks_of (history_of (take k j)) worker
+    → take (n + 1) log ≡ marks_of (history_of (take (k + 1) j)) worker
+marked j worker k n e log at own within is same =
+    take_step log n (mark_of k (event_of e)) is ∙ (ap (λ l. l ++ mark_of k (event_of e) ∷ []) same ∙ sym (mark_next j worker k e at own))
 
 pub loop-place-preserved : goal.loop-place-preserved
 loop-place-preserved c =
     let j = c.args.journal.now in
-    let e = c.index-journal-place.result in
     let k = c.loop-place.place in
-    let at = slice_get_read j (length j) k e refl c.loop-place-test.true c.index-journal-place.is in
+    let at = slice_get_read j (length j) k c.index-journal-place.result refl c.loop-place-test.true c.index-journal-place.is in
     let old = c.loop-place.invariant in
     elim c.if-entry-worker.branch [
       | then-entry-worker+else-next-log+else-ne w ↦
-          let n = c.loop-place.next in
           let log = c.args.log.now in
-          let m = mark_of k (event_of e) in
-          let within : n < length log = omega (arith, old.within, w.if-next-log.false) in
-          let same : slice_get log n ≡ Some m =
-          same_at log n _ w.mark_at.result within (sym w.ne.ensures ∙ w.if-ne.false) ∙ ap Some w.mark_at.ensures in
+          let within : c.loop-place.next < length log = omega (arith, old.within, w.if-next-log.false) in
+          let is = same_at log c.loop-place.next _ w.mark_at.result within (sym w.ne.ensures ∙ w.if-ne.false) ∙ ap Some w.mark_at.ensures in
           rw w.next-is record {
             within = omega (arith, within);
-            same = take_step log n m same ∙ (ap (λ l. l ++ m ∷ []) old.same ∙ sym (mark_next j c.args.worker k e at w.if-entry-worker.true));
+            same = marked j c.args.worker k c.loop-place.next _ log at w.if-entry-worker.true within is old.same;
           }
       | else-entry-worker w ↦ rw w.next-is record {
         within = old.within;
-        same = old.same ∙ sym (mark_skip j c.args.worker k e at w.if-entry-worker.false);
+        same = old.same ∙ sym (mark_skip j c.args.worker k c.index-journal-place.result at w.if-entry-worker.false);
       }
     ]
 

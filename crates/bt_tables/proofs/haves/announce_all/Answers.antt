@@ -49,29 +49,33 @@ announce-requires-clause-counted c shown =
     ∙ (sym (told_shown _ _ _ _ _ _ _ lw c.loop-piece.invariant.1 ls) ∙ shown) in
     rw (told_row _ _ _ _ _ _ _ lw c.loop-piece.invariant.1 lt) (c.requires.counted p lt was)
 
+-- the piece has a row
+row_within : (c : goal.Joined-has) → c.loop-piece.piece < length c.args.pieces.now
+row_within c = omega (arith, c.loop-piece-test.true, c.loop-piece.invariant.0, c.requires.flags, c.requires.pieces)
+
+-- and a flag of what the peer shows
+shown_within : (c : goal.Joined-has) → c.loop-piece.piece < length (peer_row c.note_arrival.new.self c.args.worker).shows
+shown_within c =
+    omega (arith, row_within c, ap length (late_shows _ _ c.args.worker c.requires.worker c.note_arrival.ensures), c.requires.pieces)
+
+-- which the peer showed before the call, if it does now
+shown_before : (c : goal.Joined-has) → slice_index_or (peer_row c.note_arrival.new.self c.args.worker).shows c.loop-piece.piece false ≡ true
+    → slice_index_or (peer_row c.args.peers.now c.args.worker).shows c.loop-piece.piece false ≡ true
+shown_before c shown =
+    ap (λ (l : List Bool). slice_index_or l c.loop-piece.piece false)
+    (sym (late_shows _ _ c.args.worker c.requires.worker c.note_arrival.ensures)) ∙ shown
+
 pub loop-piece-preserved : goal.loop-piece-preserved
 loop-piece-preserved c =
-    let lw = late_worker _ _ c.args.worker c.requires.worker c.note_arrival.ensures in
-    let same = ap length (late_shows _ _ c.args.worker c.requires.worker c.note_arrival.ensures) in
-    let lt : c.loop-piece.piece < length c.args.pieces.now =
-    omega (arith, c.loop-piece-test.true, c.loop-piece.invariant.0, c.requires.flags, c.requires.pieces) in
-    let ls : c.loop-piece.piece < length (peer_row c.note_arrival.new.self c.args.worker).shows = omega (arith, lt, same, c.requires.pieces) in
-    let before : slice_index_or (peer_row c.note_arrival.new.self c.args.worker).shows c.loop-piece.piece false ≡ true
-    → slice_index_or (peer_row c.args.peers.now c.args.worker).shows c.loop-piece.piece false ≡ true =
-    λ shown. ap (λ (l : List Bool). slice_index_or l c.loop-piece.piece false)
-    (sym (late_shows _ _ c.args.worker c.requires.worker c.note_arrival.ensures)) ∙ shown in
-    elim c.if-has.branch [
-      | then-has w ↦ (
-        c.loop-piece.invariant.0,
-        rw (w.pieces-is, w.peers-is, w.announce.ensures.pieces, w.announce.ensures.peers)
-            (told_more _ _ _ _ _ _ _ lw c.loop-piece.invariant.1 ls lt (sym c.has.ensures ∙ w.if-has.true)),
-      )
-      | else-has w ↦ (
-        c.loop-piece.invariant.0,
-        rw (w.pieces-is, w.peers-is) (told_kept _ _ _ _ _ _ _ lw c.loop-piece.invariant.1 ls lt (sym c.has.ensures ∙ w.if-has.false)
-            (λ shown. c.requires.counted c.loop-piece.piece lt (before shown))),
-      )
-    ]
+    let lw = late_worker _ _ c.args.worker c.requires.worker c.note_arrival.ensures in (
+      c.loop-piece.invariant.0,
+      elim c.if-has.branch [
+        | then-has w ↦ rw (w.pieces-is, w.peers-is, w.announce.ensures.pieces, w.announce.ensures.peers)
+            (told_more _ _ _ _ _ _ _ lw c.loop-piece.invariant.1 (shown_within c) (row_within c) (sym c.has.ensures ∙ w.if-has.true))
+        | else-has w ↦ rw (w.pieces-is, w.peers-is) (told_kept _ _ _ _ _ _ _ lw c.loop-piece.invariant.1 (shown_within c) (row_within c)
+            (sym c.has.ensures ∙ w.if-has.false) (λ shown. c.requires.counted c.loop-piece.piece (row_within c) (shown_before c shown)))
+      ],
+    )
 
 pub returns-clause-pieces : goal.returns-clause-pieces
 returns-clause-pieces c =

@@ -1,92 +1,109 @@
-use Rattle.std.proofs.Common.{◌≡◌, ◌<◌, ◌+◌, ◌-◌, ℕ, [], ◌∷◌, length, ap, sym, ◌∙◌, arith, length-append}
+use Rattle.std.proofs.Common.{◌≡◌, ◌<◌, ◌+◌, ◌-◌, ◌++◌, ℕ, List, [], ◌∷◌, length, ap, sym, ◌∙◌, arith, length-append}
 use Rattle.std.proofs.lemmas.List.{length-replicate}
 use Rattle.std.specs.Arc.{arc_value}
 use Rattle.std.specs.List.{range_with_len}
 use Rattle.atomic_table.specs.Table.{Me}
 use Rattle.atomic_table.specs.Seated.{TableId}
-use Rattle.bt_meta.specs.Layout.{Layout, piece_count}
+use Rattle.bt_meta.specs.Layout.{piece_count}
 use Rattle.bt_board.specs.declared.view.BoardView.{BoardView}
 use Rattle.bt_board.specs.Seats.{BoardState, new_seat}
 use Rattle.bt_board.specs.Story.{view, words_of}
 use Rattle.bt_board.proofs.Lists.{listed_more}
-use Rattle.bt_board.proofs.Stories.{deals, dealt_first, dealt_rest, dealt_stands}
+use Rattle.bt_board.proofs.Stories.{deals, dealt_first, dealt_rest, dealt_stands, table_words}
 use Rattle.bt_board.proofs.board.Board.deal.Goals as goal
+
+-- `first` stands for this seat and the later ones
+first_is : (first : Me (Unit {0}) BoardView) (dealt seats : ℕ) → first ≡ (view [] [] (range_with_len dealt (seats - dealt)), []) →
+    first.0 ≡ view [] [] (range_with_len dealt (seats - dealt))
+first_is first dealt seats is = ap (λ (m : Me (Unit {0}) BoardView). m.0) is
+
+-- one seat more
+longer : {A : Type 0} (old new : List A) (x : A) → new ≡ old ++ x ∷ [] → length new ≡ length old + 1
+longer old new x pushed = ap length pushed ∙ length-append old (x ∷ [])
 
 pub split_seat-seat-requires : goal.split_seat-seat-requires
 split_seat-seat-requires c =
     let table = c.self.inside.table.shared in
-    let seats : ℕ = c.args.self.now.seats in
-    let seats_are : c.self.inside.about.seats ≡ seats = ap (λ (b : BoardState). b.seats) c.self.view_is in
     let dealt = length c.loop.all.items in
-    let v = c.loop.first.me.0 in
-    let is : v ≡ view [] [] (range_with_len dealt (seats - dealt)) = ap (λ (m : Me (Unit {0}) BoardView). m.0) c.loop.invariant.1.1 in
-    let count = c.loop.invariant.0 in
-    let more = c.loop-test.true in (
+    let more : dealt < c.args.self.now.seats =
+    omega (arith, ap (λ (b : BoardState). b.seats) c.self.view_is, c.loop.invariant.0, c.loop-test.true) in (
       c.loop.invariant.1.0 ∙ sym (ap (λ (b : BoardState). b.table) c.self.view_is),
       c.self.invariant.some,
-      deals (arc_value table.key.torrent).layout table.key.seats c.loop.first.id dealt seats v (omega arith) is,
+      deals (arc_value table.key.torrent).layout table.key.seats c.loop.first.id dealt _ _ more (first_is _ dealt _ c.loop.invariant.1.1),
     )
+
+-- the new seat is one of the board's table
+same_table : (c : goal.After-all-in-loop-1) → c.split_seat-seat.result.table_id ≡ c.self.inside.table.shared.table_id
+same_table c = c.split_seat-seat.ensures.3 ∙ c.loop.invariant.1.0 ∙ sym (ap (λ (b : BoardState). b.table) c.self.view_is)
+
+-- which has a bit for each piece
+words_are : (c : goal.After-all-in-loop-1) → c.split_seat-seat.result.table_id.words ≡ words_of (piece_count c.args.self.now.torrent)
+words_are c =
+    ap (λ (z : TableId). z.words) (same_table c) ∙ table_words c.self.invariant (ap (λ (b : BoardState). b.torrent) c.self.view_is)
 
 pub invariant_of-push_reserved : goal.invariant_of-push_reserved
 invariant_of-push_reserved c =
-    let seats : ℕ = c.args.self.now.seats in
-    let seats_are : c.self.inside.about.seats ≡ seats = ap (λ (b : BoardState). b.seats) c.self.view_is in
     let dealt = length c.loop.all.items in
-    let v = c.loop.first.me.0 in
-    let is : v ≡ view [] [] (range_with_len dealt (seats - dealt)) = ap (λ (m : Me (Unit {0}) BoardView). m.0) c.loop.invariant.1.1 in
-    let count = c.loop.invariant.0 in
-    let more = c.loop-test.true in
-    let split = c.split_seat-seat.ensures in
-    let words : c.self.inside.table.shared.table_id.words ≡ words_of (piece_count c.args.self.now.torrent)
-    = c.self.invariant.words ∙ ap (λ (t : Layout). words_of (piece_count t)) (ap (λ (b : BoardState). b.torrent) c.self.view_is) in
-    let same : c.split_seat-seat.result.table_id ≡ c.self.inside.table.shared.table_id =
-    split.3 ∙ c.loop.invariant.1.0 ∙ sym (ap (λ (b : BoardState). b.table) c.self.view_is) in record {
-      wide = ap length c.in_ok-given.ensures ∙ length-replicate (words_of (piece_count c.args.self.now.torrent)) 0 ∙ sym words ∙
-          ap (λ (z : TableId). z.words) (sym same);
+    let more : dealt < c.args.self.now.seats =
+    omega (arith, ap (λ (b : BoardState). b.seats) c.self.view_is, c.loop.invariant.0, c.loop-test.true) in
+    let split = c.split_seat-seat.ensures in record {
+      wide = ap length c.in_ok-given.ensures ∙ length-replicate (words_of (piece_count c.args.self.now.torrent)) 0 ∙ sym (words_are c);
       bare = ap (λ (m : Me (Unit {0}) BoardView). m.1) split.4;
-      stands = λ no_seat. dealt_stands dealt seats v (omega arith) is (sym (ap (λ (m : Me (Unit {0}) BoardView). m.0.seats) split.4) ∙ no_seat);
+      stands = λ no_seat. dealt_stands dealt _ _ more (first_is _ dealt _ c.loop.invariant.1.1)
+          (sym (ap (λ (m : Me (Unit {0}) BoardView). m.0.seats) split.4) ∙ no_seat);
     }
+
+-- there was a seat to deal
+some_left : (c : goal.After-push_reserved) → length c.loop.all.items < c.args.self.now.seats
+some_left c = omega (arith, ap (λ (b : BoardState). b.seats) c.self.view_is, c.loop.invariant.0, c.loop-test.true)
+
+-- `first` stands for the others now
+others_left : (c : goal.After-push_reserved) → c.split_seat-seat.new.seat.me ≡ (
+  view [] [] (range_with_len (length c.loop.all.items + 1) (c.args.self.now.seats - (length c.loop.all.items + 1))),
+  [],
+)
+others_left c = c.split_seat-seat.ensures.2 ∙ (λ i. (
+  dealt_rest _ _ _ (some_left c) (first_is _ (length c.loop.all.items) _ c.loop.invariant.1.1) i,
+  ap (λ (m : Me (Unit {0}) BoardView). m.1) c.loop.invariant.1.1 i,
+))
+
+-- what was seen with the new seat: nothing
+seen_none : (c : goal.After-push_reserved) → c.split_seat-seat.result.me.0 ≡ (new_seat c.args.self.now (length c.loop.all.items)).view
+seen_none c =
+    ap (λ (m : Me (Unit {0}) BoardView). m.0) c.split_seat-seat.ensures.4
+    ∙ dealt_first _ _ _ (some_left c) (first_is _ (length c.loop.all.items) _ c.loop.invariant.1.1)
 
 pub loop-preserved : goal.loop-preserved
 loop-preserved c =
-    let seats : ℕ = c.args.self.now.seats in
-    let seats_are : c.self.inside.about.seats ≡ seats = ap (λ (b : BoardState). b.seats) c.self.view_is in
-    let dealt = length c.loop.all.items in
-    let v = c.loop.first.me.0 in
-    let first_is = c.loop.invariant.1.1 in
-    let is : v ≡ view [] [] (range_with_len dealt (seats - dealt)) = ap (λ (m : Me (Unit {0}) BoardView). m.0) first_is in
-    let count = c.loop.invariant.0 in
-    let more = c.loop-test.true in
-    let lt : dealt < seats = omega arith in
     let split = c.split_seat-seat.ensures in
-    let pushed = c.push_reserved.ensures.items in
-    let longer : length c.push_reserved.new.self.items ≡ dealt + 1 = ap length pushed ∙ length-append c.loop.all.items (_ ∷ []) in
-    let rest : c.split_seat-seat.new.seat.me ≡ (view [] [] (range_with_len (dealt + 1) (seats - (dealt + 1))), [])
-    = split.2 ∙ (λ i. (dealt_rest dealt seats v lt is i, ap (λ (m : Me (Unit {0}) BoardView). m.1) first_is i)) in
-    let table : c.split_seat-seat.result.table_id ≡ c.args.self.now.table = split.3 ∙ c.loop.invariant.1.0 in
-    let known : c.split_seat-seat.result.me.0 ≡ (new_seat c.args.self.now dealt).view =
-    ap (λ (m : Me (Unit {0}) BoardView). m.0) split.4 ∙ dealt_first dealt seats v lt is in (
-      omega arith,
-      (split.0 ∙ c.loop.invariant.1.0, rw longer rest),
-      listed_more (new_seat c.args.self.now) c.loop.all.items c.push_reserved.new.self.items _ pushed
-          (λ i. record { table = table i; view = known i; given = c.in_ok-given.ensures i }) c.loop.invariant.2,
+    let more = longer _ _ _ c.push_reserved.ensures.items in
+    let table : c.split_seat-seat.result.table_id ≡ c.args.self.now.table = split.3 ∙ c.loop.invariant.1.0 in (
+      omega (arith, c.loop.invariant.0, more),
+      (split.0 ∙ c.loop.invariant.1.0, rw more (others_left c)),
+      listed_more (new_seat c.args.self.now) c.loop.all.items _ _ c.push_reserved.ensures.items
+          (λ i. record { table = table i; view = seen_none c i; given = c.in_ok-given.ensures i }) c.loop.invariant.2,
     )
+
+-- all seats were dealt but one, and `first` is that
+last_left : (c : goal.After-push_reserved-2) → c.args.self.now.seats ≡ length c.loop.all.items + 1
+last_left c = omega (
+  arith,
+  ap (λ (b : BoardState). b.seats) c.self.view_is,
+  c.loop.invariant.0,
+  c.loop-test.false,
+  c.loop.auto.counter-end,
+  c.requires.seats,
+)
+
+first_seen_none : (c : goal.After-push_reserved-2) → c.loop.first.me.0 ≡ (new_seat c.args.self.now (length c.loop.all.items)).view
+first_seen_none c =
+    let dealt = length c.loop.all.items in
+    let one : c.args.self.now.seats - dealt ≡ 1 = omega (arith, last_left c) in
+    first_is _ dealt _ c.loop.invariant.1.1 ∙ ap (λ (k : ℕ). view [] [] (range_with_len dealt k)) one
 
 pub returns : goal.returns
 returns c =
-    let seats : ℕ = c.args.self.now.seats in
-    let seats_are : c.self.inside.about.seats ≡ seats = ap (λ (b : BoardState). b.seats) c.self.view_is in
-    let dealt = length c.loop.all.items in
-    let v = c.loop.first.me.0 in
-    let is : v ≡ view [] [] (range_with_len dealt (seats - dealt)) = ap (λ (m : Me (Unit {0}) BoardView). m.0) c.loop.invariant.1.1 in
-    let count = c.loop.invariant.0 in
-    let done = c.loop-test.false in
-    let end = c.loop.auto.counter-end in
-    let some = c.requires.seats in
-    let one : seats - dealt ≡ 1 = omega arith in
     let pushed = c.push_reserved-2.ensures.items in
-    let longer : length c.push_reserved-2.new.self.items ≡ dealt + 1 = ap length pushed ∙ length-append c.loop.all.items (_ ∷ []) in
-    let all : length c.push_reserved-2.new.self.items ≡ seats = omega arith in
-    let known : c.loop.first.me.0 ≡ (new_seat c.args.self.now dealt).view = is ∙ ap (λ (k : ℕ). view [] [] (range_with_len dealt k)) one in
+    let all : length c.push_reserved-2.new.self.items ≡ c.args.self.now.seats = longer _ _ _ pushed ∙ sym (last_left c) in
     rw (← all) (listed_more (new_seat c.args.self.now) c.loop.all.items c.push_reserved-2.new.self.items _ pushed
-    (λ i. record { table = c.loop.invariant.1.0 i; view = known i; given = c.in_ok-given-2.ensures i }) c.loop.invariant.2)
+    (λ i. record { table = c.loop.invariant.1.0 i; view = first_seen_none c i; given = c.in_ok-given-2.ensures i }) c.loop.invariant.2)

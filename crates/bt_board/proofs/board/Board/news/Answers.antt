@@ -24,13 +24,12 @@ loop-word-preserved c =
     let so_far = c.loop-word.invariant in
     let none_new = c.in_default.ensures.finds in
     let n = c.loop-word.word in
-    let old = c.args.seat.now in
-    let new = c.news_in.new.seat in (
+    let old = c.args.seat.now in (
       c.news_in.ensures.seat ∙ so_far.0,
       none_new.2.same ∙ so_far.1,
-      goes_on old.view old.given new.given n new.view none_new.0
-          (next old.view old.given n (piece_count c.args.self.now.torrent) c.loop-word.seat.view new.view none_new.0 so_far.2 none_new.1)
-          (subst (λ (l : List ℕ). GivesNone n none_new.0 l new.given) so_far.1 none_new.2),
+      goes_on old.view old.given _ n _ none_new.0
+          (next old.view old.given n (piece_count c.args.self.now.torrent) c.loop-word.seat.view _ none_new.0 so_far.2 none_new.1)
+          (subst (λ (l : List ℕ). GivesNone n none_new.0 l c.news_in.new.seat.given) so_far.1 none_new.2),
     )
 
 pub returns-clause-complete : goal.returns-clause-complete

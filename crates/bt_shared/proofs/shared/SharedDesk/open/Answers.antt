@@ -20,35 +20,42 @@ split_seat-seat-requires c = (
       )),
 )
 
-pub loop-worker-preserved : goal.loop-worker-preserved
-loop-worker-preserved c =
-    let old = c.loop-worker.invariant in
-    let s : SharedState = record { table = c.in_ok-table.table.shared.table_id; setting = c.in_ok-table.table.shared.key } in
-    let xs = c.loop-worker.passes.items in
+-- the desk, and the pass that was made last
+abbrev desk : goal.In_ok-push → SharedState
+desk c = record { table = c.in_ok-table.table.shared.table_id; setting = c.in_ok-table.table.shared.key }
+
+abbrev pass : goal.In_ok-push → PassState
+pass c = record {
+  table = c.split_seat-seat.result.table_id;
+  setting = c.split_seat-seat.result.me.0.setting;
+  worker = c.loop-worker.worker;
+  seen = c.split_seat-seat.result.me.0.part.seen;
+  log = c.new.result.items;
+}
+
+next_worker : (c : goal.In_ok-push) → c.loop-worker.worker ≡ length c.loop-worker.passes.items
+next_worker c = omega (arith, c.loop-worker.invariant.count)
+
+-- it is the next worker's, who has seen and logged nothing
+is_next : (c : goal.In_ok-push) → pass c ≡ newcomer (desk c) (length c.loop-worker.passes.items)
+is_next c =
     let seat = c.split_seat-seat.ensures in
-    let n : c.loop-worker.worker ≡ length xs = omega (arith, old.count) in
-    let p : PassState = record {
-      table = c.split_seat-seat.result.table_id;
-      setting = c.split_seat-seat.result.me.0.setting;
-      worker =
-          c.loop-worker.worker;
-      seen = c.split_seat-seat.result.me.0.part.seen;
-      log = c.new.result.items;
-    } in
-    let is : p ≡ newcomer s (length xs) = λ k. record {
-      table = (seat.3 ∙ old.table) k;
-      setting = (ap (λ (m : Sat). m.0.setting) seat.4 ∙ old.setting) k;
-      worker = n k;
+    λ k. record {
+      table = (seat.3 ∙ c.loop-worker.invariant.table) k;
+      setting = (ap (λ (m : Sat). m.0.setting) seat.4 ∙ c.loop-worker.invariant.setting) k;
+      worker = next_worker c k;
       seen = ap (λ (m : Sat). m.0.part.seen) seat.4 k;
       log = c.new.ensures.items k;
-    } in
-    record {
-      table = search rules;
-      makes = search rules;
-      live = search rules;
-      setting = search rules;
-      next = search rules;
-      count = search rules;
-      fresh = λ w below. rw c.in_ok-push.ensures.items (one_more xs p (newcomer s) (λ v lt. old.fresh v (omega (arith, n, lt))) is w
-          (omega (arith, n, below)));
     }
+
+pub loop-worker-preserved : goal.loop-worker-preserved
+loop-worker-preserved c = record {
+  table = search rules;
+  makes = search rules;
+  live = search rules;
+  setting = search rules;
+  next = search rules;
+  count = search rules;
+  fresh = λ w below. rw c.in_ok-push.ensures.items (one_more c.loop-worker.passes.items (pass c) (newcomer (desk c))
+      (λ v lt. c.loop-worker.invariant.fresh v (omega (arith, next_worker c, lt))) (is_next c) w (omega (arith, next_worker c, below)));
+}

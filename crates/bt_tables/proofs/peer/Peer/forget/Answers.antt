@@ -3,25 +3,29 @@ use Rattle.std.proofs.lemmas.List.{append-nil}
 use Rattle.bt_meta.specs.declared.block.Block.{Block}
 use Rattle.bt_history.specs.Peers.{AreApart}
 use Rattle.bt_history.proofs.LineLaws.{apart_filter}
+use Rattle.bt_tables.specs.declared.peer.Peer.TheInside.{Inside}
 use Rattle.bt_tables.specs.Showing.{Dealings}
 use Rattle.bt_tables.proofs.Forgetting.{at_place, no_place, none_at_place, without_place}
 use Rattle.bt_tables.proofs.peer.Peer.forget.Goals as goal
+
+-- the dealings of a peer that has these lines
+abbrev lined : Inside → List Block → List Block → Dealings
+lined o asked due = record {
+  room = o.room;
+  joined = o.joined;
+  late = o.late;
+  told = o.told;
+  is_open = o.unchoked;
+  asked = asked;
+  due = due;
+}
 
 pub returns-in_default : goal.returns-in_default
 returns-in_default c =
     let line = c.self.inside.asked.items in
     let none = rw c.deref.ensures.value at c.in_default.ensures.none in
-    let row : List Block → List Block → Dealings = λ asked due. record {
-      room = c.self.inside.room;
-      joined = c.self.inside.joined;
-      late = c.self.inside.late;
-      told = c.self.inside.told;
-      is_open = c.self.inside.unchoked;
-      asked = asked;
-      due = due;
-    } in
     rw (← c.self.view_is)
-    (λ i. row (sym (no_place c.args.piece c.args.begin line none) i) (nothing c.self.inside.due.items _ c.args.own
+    (λ i. lined c.self.inside (sym (no_place c.args.piece c.args.begin line none) i) (nothing c.self.inside.due.items _ c.args.own
     (none_at_place c.args.piece c.args.begin line none) i))
   where
     nothing : (due more : List Block) (own : Bool) → more ≡ [] → due ≡ due ++ (if own then [] else more)
@@ -59,17 +63,8 @@ returns-then-not-own c =
     let d = c.remove-block.result in
     let kept = without_place c.args.piece c.args.begin line c.in-Some.index d c.self.invariant.2 some.0 some.1 (some.2 d) in
     let one = at_place c.args.piece c.args.begin line c.in-Some.index d c.self.invariant.2 some.0 some.1 (some.2 d) in
-    let row : List Block → List Block → Dealings = λ asked due. record {
-      room = c.self.inside.room;
-      joined = c.self.inside.joined;
-      late = c.self.inside.late;
-      told = c.self.inside.told;
-      is_open = c.self.inside.unchoked;
-      asked = asked;
-      due = due;
-    } in
     rw (← c.self.view_is, c.if-not-own.true)
-    (λ i. row ((c.remove-block.ensures.items ∙ sym kept) i)
+    (λ i. lined c.self.inside ((c.remove-block.ensures.items ∙ sym kept) i)
     ((c.push_reserved.ensures.items ∙ ap (λ (bs : List Block). c.self.inside.due.items ++ bs)
     (ap (λ (b : Block). b ∷ []) c.remove-block.ensures.value ∙ sym one)) i))
 
@@ -79,14 +74,5 @@ returns-else-not-own c =
     let some = rw c.deref.ensures.value at c.in-Some.ensures.some in
     let d = c.remove-block.result in
     let kept = without_place c.args.piece c.args.begin line c.in-Some.index d c.self.invariant.2 some.0 some.1 (some.2 d) in
-    let row : List Block → List Block → Dealings = λ asked due. record {
-      room = c.self.inside.room;
-      joined = c.self.inside.joined;
-      late = c.self.inside.late;
-      told = c.self.inside.told;
-      is_open = c.self.inside.unchoked;
-      asked = asked;
-      due = due;
-    } in
     rw (← c.self.view_is, c.if-not-own.false)
-    (λ i. row ((c.remove-block.ensures.items ∙ sym kept) i) (sym (append-nil c.self.inside.due.items) i))
+    (λ i. lined c.self.inside ((c.remove-block.ensures.items ∙ sym kept) i) (sym (append-nil c.self.inside.due.items) i))

@@ -1,8 +1,9 @@
-use Rattle.std.proofs.Common.{◌≡◌, ◌∙◌, List, ap, subst, sym, arith, length, length-set, refl, set}
+use Rattle.std.proofs.Common.{◌≡◌, ◌∙◌, List, ap, subst, sym, arith, length, length-set, refl}
 use Rattle.bt_tables.specs.declared.piece.Standing.{Standing}
 use Rattle.bt_tables.specs.Tables.{HasRoomOf, PieceState, changed_row, piece_row}
 use Rattle.bt_tables.specs.Standings.{whole_rows}
-use Rattle.bt_tables.proofs.Apart.{can_change, changed_counts, changes, edit_is, edited_row, edited_rows, in_groups, is_change, kept_piece}
+use Rattle.bt_tables.proofs.Apart.{IsChange, IsKept, can_change, changed_counts, changes, edit_is, edited_row, edited_rows, in_groups, is_change}
+use Rattle.bt_tables.proofs.Apart.{kept_piece}
 use Rattle.bt_tables.proofs.Apart.{lent_row, own_row, same_room, stands_in}
 use Rattle.bt_tables.specs.Floors.{is_fresh}
 use Rattle.bt_tables.proofs.Fronts.{front_kept}
@@ -54,62 +55,76 @@ row-requires-3 c =
     let kept = kept_piece o.shelf o.rows o.shown_by.items _ p c.self.invariant.0 c.self.invariant.1 c.self.view_is c.requires.piece in
     omega (arith, kept.within, ap length c.apply.ensures, length_edit o.rows p (changed_row c.args.change))
 
-pub put-requires-clause-piece : goal.put-requires-clause-piece
-put-requires-clause-piece c =
+-- what is read of the piece
+kept : (c : goal.After-put-arg-1) → IsKept c.self.inside.shelf c.self.inside.rows c.self.inside.shown_by.items c.args.piece
+kept c =
     let o = c.self.inside in
-    let p = c.args.piece in
-    let kept = kept_piece o.shelf o.rows o.shown_by.items _ p c.self.invariant.0 c.self.invariant.1 c.self.view_is c.requires.piece in
-    in_groups o.shelf o.rows o.shown_by.items p kept
+    kept_piece o.shelf o.rows o.shown_by.items _ c.args.piece c.self.invariant.0 c.self.invariant.1 c.self.view_is c.requires.piece
+
+-- and how it stands before and after
+stands : (c : goal.After-put-arg-1) → IsChange c.self.inside.rows c.self.inside.shown_by.items c.args.piece c.args.change c.from-shown_by.result
+    c.standing-before.result c.standing-after.result
+stands c =
+    let within = (kept c).within in
+    is_change c.self.inside.rows _ c.self.inside.shown_by.items c.args.piece c.args.change _ _ _ _ _ _ within (omega (arith, (kept c).len, within))
+    c.from-shown_by.ensures c.index.ensures c.row.ensures c.apply.ensures c.row-3.ensures c.standing-before.ensures.is c.standing-after.ensures.is
+
+pub put-requires-clause-piece : goal.put-requires-clause-piece
+put-requires-clause-piece c = in_groups c.self.inside.shelf c.self.inside.rows c.self.inside.shown_by.items c.args.piece (kept c)
 
 pub put-requires-clause-before : goal.put-requires-clause-before
 put-requires-clause-before c =
     let o = c.self.inside in
     let p = c.args.piece in
-    let kept = kept_piece o.shelf o.rows o.shown_by.items _ p c.self.invariant.0 c.self.invariant.1 c.self.view_is c.requires.piece in
-    let is = is_change o.rows _ o.shown_by.items p c.args.change c.from-shown_by.result _ _ _ c.standing-before.result c.standing-after.result
-    kept.within (omega (arith, kept.len, kept.within)) c.from-shown_by.ensures c.index.ensures c.row.ensures c.apply.ensures c.row-3.ensures
-    c.standing-before.ensures.is c.standing-after.ensures.is in
-    ap (λ (s : Standing). s.group) is.before_is
-    ∙ stands_in o.shelf o.rows o.shown_by.items p kept (piece_row o.rows p) c.from-shown_by.result (own_row o.rows p kept.within) is.count
+    ap (λ (s : Standing). s.group) (stands c).before_is
+    ∙ stands_in o.shelf o.rows o.shown_by.items p (kept c) (piece_row o.rows p) c.from-shown_by.result (own_row o.rows p (kept c).within)
+    (stands c).count
 
 pub put-requires-clause-fits : goal.put-requires-clause-fits
 put-requires-clause-fits c =
     let o = c.self.inside in
+    can_change o.shelf o.rows o.shown_by.items c.args.piece (kept c) c.args.change c.from-shown_by.result _ _ (stands c)
+
+-- the same, once it was put
+kept_after : (c : goal.After-put) → IsKept c.self.inside.shelf c.self.inside.rows c.self.inside.shown_by.items c.args.piece
+kept_after c =
+    let o = c.self.inside in
+    kept_piece o.shelf o.rows o.shown_by.items _ c.args.piece c.self.invariant.0 c.self.invariant.1 c.self.view_is c.requires.piece
+
+stands_after : (c : goal.After-put) → IsChange c.self.inside.rows c.self.inside.shown_by.items c.args.piece c.args.change c.from-shown_by.result
+    c.standing-before.result c.standing-after.result
+stands_after c =
+    let within = (kept_after c).within in
+    is_change c.self.inside.rows _ c.self.inside.shown_by.items c.args.piece c.args.change _ _ _ _ _ _ within
+    (omega (arith, (kept_after c).len, within)) c.from-shown_by.ensures c.index.ensures c.row.ensures c.apply.ensures c.row-3.ensures
+    c.standing-before.ensures.is c.standing-after.ensures.is
+
+-- whether the piece is fresh then
+fresh_after : (c : goal.After-put) → c.is_fresh.result ≡ is_fresh (changed_row c.args.change (piece_row c.self.inside.rows c.args.piece))
+fresh_after c =
+    let rows = c.self.inside.rows in
     let p = c.args.piece in
-    let kept = kept_piece o.shelf o.rows o.shown_by.items _ p c.self.invariant.0 c.self.invariant.1 c.self.view_is c.requires.piece in
-    let is = is_change o.rows _ o.shown_by.items p c.args.change c.from-shown_by.result _ _ _ c.standing-before.result c.standing-after.result
-    kept.within (omega (arith, kept.len, kept.within)) c.from-shown_by.ensures c.index.ensures c.row.ensures c.apply.ensures c.row-3.ensures
-    c.standing-before.ensures.is c.standing-after.ensures.is in
-    can_change o.shelf o.rows o.shown_by.items p kept c.args.change c.from-shown_by.result _ _ is
+    c.is_fresh.ensures ∙ ap is_fresh (c.row-2.ensures
+    ∙ (ap (λ (l : List PieceState). piece_row l p) c.apply.ensures ∙ edited_row rows p c.args.change (kept_after c).within))
 
 pub invariant_of-self : goal.invariant_of-self
 invariant_of-self c =
     let o = c.self.inside in
     let p = c.args.piece in
-    let kept = kept_piece o.shelf o.rows o.shown_by.items _ p c.self.invariant.0 c.self.invariant.1 c.self.view_is c.requires.piece in
-    let is = is_change o.rows _ o.shown_by.items p c.args.change c.from-shown_by.result _ _ _ c.standing-before.result c.standing-after.result
-    kept.within (omega (arith, kept.len, kept.within)) c.from-shown_by.ensures c.index.ensures c.row.ensures c.apply.ensures c.row-3.ensures
-    c.standing-before.ensures.is c.standing-after.ensures.is in
-    let row = piece_row o.rows p in
-    let new = changed_row c.args.change row in
-    let rows : c.apply.new.self ≡ set o.rows p new = c.apply.ensures ∙ edited_rows o.rows p c.args.change kept.within in
-    let fresh : c.is_fresh.result ≡ is_fresh new = c.is_fresh.ensures ∙ ap is_fresh (c.row-2.ensures
-    ∙ (ap (λ (l : List PieceState). piece_row l p) c.apply.ensures ∙ edited_row o.rows p c.args.change kept.within)) in
-    rw rows (
-      changes o.shelf o.rows o.shown_by.items p kept c.put.new.self c.args.change c.from-shown_by.result _ _ is c.put.ensures,
+    let kept = kept_after c in
+    let new = changed_row c.args.change (piece_row o.rows p) in
+    rw (c.apply.ensures ∙ edited_rows o.rows p c.args.change kept.within) (
+      changes o.shelf o.rows o.shown_by.items p kept c.put.new.self c.args.change c.from-shown_by.result _ _ (stands_after c) c.put.ensures,
       c.self.invariant.1 ∙ sym (length-set o.rows p new),
-      changed_counts o.shelf o.rows o.shown_by.items p kept c.self.invariant.2 c.args.change row new (own_row o.rows p kept.within) refl,
-      front_kept o.rows p o.front _ new c.is_fresh.result c.self.invariant.3 fresh c.front_with-self-inside.ensures,
+      changed_counts o.shelf o.rows o.shown_by.items p kept c.self.invariant.2 c.args.change _ new (own_row o.rows p kept.within) refl,
+      front_kept o.rows p o.front _ new c.is_fresh.result c.self.invariant.3 (fresh_after c) c.front_with-self-inside.ensures,
     )
 
 pub returns : goal.returns
 returns c =
     let o = c.self.inside in
     let p = c.args.piece in
-    let kept = kept_piece o.shelf o.rows o.shown_by.items _ p c.self.invariant.0 c.self.invariant.1 c.self.view_is c.requires.piece in
-    let is = is_change o.rows _ o.shown_by.items p c.args.change c.from-shown_by.result _ _ _ c.standing-before.result c.standing-after.result
-    kept.within (omega (arith, kept.len, kept.within)) c.from-shown_by.ensures c.index.ensures c.row.ensures c.apply.ensures c.row-3.ensures
-    c.standing-before.ensures.is c.standing-after.ensures.is in
-    let row = piece_row o.rows p in
-    rw (← c.self.view_is, c.apply.ensures ∙ edited_rows o.rows p c.args.change kept.within)
-    (edit_is o.shelf o.rows o.shown_by.items p kept c.args.change row _ c.from-shown_by.result (own_row o.rows p kept.within) is.count refl)
+    let within = (kept_after c).within in
+    rw (← c.self.view_is, c.apply.ensures ∙ edited_rows o.rows p c.args.change within)
+    (edit_is o.shelf o.rows o.shown_by.items p (kept_after c) c.args.change (piece_row o.rows p) _ c.from-shown_by.result
+    (own_row o.rows p within) (stands_after c).count refl)

@@ -7,12 +7,13 @@ use Rattle.std.proofs.lemmas.List.Sums.{sum_by_push}
 use Rattle.bt_meta.specs.Layout.{IsLayout, Layout, block_count, piece_count}
 use Rattle.bt_history.specs.Counting.{table}
 use Rattle.bt_tables.specs.Orders.{at}
+use Rattle.bt_tables.specs.declared.piece.Standing.{Standing}
 use Rattle.bt_tables.specs.Apart.{AreApart}
 use Rattle.bt_tables.specs.Tables.{PieceState, empty_cell, fresh_piece, piece_row}
-use Rattle.bt_tables.specs.Standings.{AreShelved, ShelfState, group_of_row, shown_row, standing_of, whole_rows}
+use Rattle.bt_tables.specs.Standings.{AreShelved, ShelfState, group_of_row, refiled, shown_row, standing_of, whole_rows}
 use Rattle.bt_tables.proofs.Apart.{fresh_apart, whole_fresh}
 use Rattle.bt_tables.proofs.Blank.{few_blocks}
-use Rattle.bt_tables.proofs.Shelves.{filling, none_filed, shelf_fits, shelf_more, shelf_whole}
+use Rattle.bt_tables.proofs.Shelves.{filling, none_filed, shelf_fits, shelf_more, shelf_whole, unfiled}
 use Rattle.bt_tables.proofs.Tabled.{get_or_is_table, length_is_table}
 use Rattle.bt_tables.proofs.pieces.Pieces.new.Goals as goal
 
@@ -46,6 +47,30 @@ module _ (t : Layout) where
   unshown rows p is lp =
       let row = row_fresh rows p is lp in
       ap (λ (r : PieceState). standing_of (shown_row 0 r)) row ∙ sym (ap standing_of row)
+
+  -- with the row of one piece more the sum isn't too great
+  sum_next : IsLayout t → (rows : List PieceState) (i : ℕ) → rows ≡ fresh → i < piece_count t
+      → sum_by (λ r. length r.blocks) (take i rows) ≤ i * (2 ^ 32 - 1)
+      → sum_by (λ r. length r.blocks) (take i rows ++ piece_row rows i ∷ []) ≤ (i + 1) * (2 ^ 32 - 1)
+  sum_next layout rows i is lt le = sum_step (take i rows) (piece_row rows i) i le (few_cells layout rows i is lt)
+
+  -- how it stands, as it was read
+  stands_new : (rows : List PieceState) (i : ℕ) (row : PieceState) (standing : Standing) → rows ≡ fresh → i < piece_count t → row ≡ piece_row rows i
+      → standing ≡ standing_of (shown_row 0 row) → standing ≡ standing_of (piece_row rows i)
+  stands_new rows i row standing is lt row_is read =
+      read ∙ (ap (λ (r : PieceState). standing_of (shown_row 0 r)) row_is ∙ unshown rows i is lt)
+
+  take_next : (rows : List PieceState) (i : ℕ) → rows ≡ fresh → i < piece_count t → take i rows ++ piece_row rows i ∷ [] ≡ take (i + 1) rows
+  take_next rows i is lt = sym (take_more rows i (fresh_piece 0) (omega (arith, rows_long rows is, lt)))
+
+  -- and the shelf with it
+  shelf_next : (rows : List PieceState) (i : ℕ) → rows ≡ fresh → i < piece_count t
+      → refiled (filling (take i rows) (piece_count t - i)) i unfiled (standing_of (piece_row rows i))
+      ≡ filling (take (i + 1) rows) (piece_count t - (i + 1))
+  shelf_next rows i is lt =
+      let long : length (take i rows) ≡ i = omega (arith, length-take i rows, rows_long rows is, lt) in
+      let less : piece_count t - i - 1 ≡ piece_count t - (i + 1) = omega arith in
+      shelf_more (take i rows) (piece_row rows i) (piece_count t - i) i long (omega (arith, lt)) ∙ (λ j. filling (take_next rows i is lt j) (less j))
 
   -- the rows beside counts that are zeros
   counted : (rows : List PieceState) (zeros : List ℕ) → rows ≡ fresh → zeros ≡ replicate (piece_count t) 0 → whole_rows rows zeros ≡ rows
@@ -91,17 +116,10 @@ put-requires-clause-fits c =
     let t = c.args.torrent.now.layout in
     let rows = c.in_ok-rows.rows in
     let i = c.loop-piece.piece in
-    let n = piece_count t in
-    let all = rows_long t rows c.in_ok-rows.ensures in
-    let lt : i < n = omega (arith, c.loop-piece-test.true, c.piece_count-piece-end.ensures.count) in
-    let row = piece_row rows i in
-    let blocks = few_cells t c.piece_count.ensures.layout rows i c.in_ok-rows.ensures lt in
-    let sum = sum_step (take i rows) row i c.loop-piece.invariant.1 blocks in
-    let stands : c.standing-standing.result ≡ standing_of row =
-    c.standing-standing.ensures.is
-    ∙ (ap (λ (r : PieceState). standing_of (shown_row 0 r)) c.row.ensures ∙ unshown t rows i c.in_ok-rows.ensures lt) in
-    rw (c.loop-piece.invariant.0, stands)
-    (shelf_fits (take i rows) row (n - i) (let long = length-take i rows in omega (arith, long, c.loop-piece-test.true))
+    let lt : i < piece_count t = omega (arith, c.loop-piece-test.true, c.piece_count-piece-end.ensures.count) in
+    let sum = sum_next t c.piece_count.ensures.layout rows i c.in_ok-rows.ensures lt c.loop-piece.invariant.1 in
+    rw (c.loop-piece.invariant.0, stands_new t rows i _ _ c.in_ok-rows.ensures lt c.row.ensures c.standing-standing.ensures.is)
+    (shelf_fits (take i rows) (piece_row rows i) _ (omega (arith, length-take i rows, c.loop-piece-test.true))
     (omega (arith, sum, c.loop-piece-test.true)))
 
 pub loop-piece-preserved : goal.loop-piece-preserved
@@ -109,49 +127,40 @@ loop-piece-preserved c =
     let t = c.args.torrent.now.layout in
     let rows = c.in_ok-rows.rows in
     let i = c.loop-piece.piece in
-    let n = piece_count t in
-    let all = rows_long t rows c.in_ok-rows.ensures in
-    let lt : i < n = omega (arith, c.loop-piece-test.true, c.piece_count-piece-end.ensures.count) in
-    let row = piece_row rows i in
-    let blocks = few_cells t c.piece_count.ensures.layout rows i c.in_ok-rows.ensures lt in
-    let sum = sum_step (take i rows) row i c.loop-piece.invariant.1 blocks in
-    let stands : c.standing-standing.result ≡ standing_of row =
-    c.standing-standing.ensures.is
-    ∙ (ap (λ (r : PieceState). standing_of (shown_row 0 r)) c.row.ensures ∙ unshown t rows i c.in_ok-rows.ensures lt) in
+    let lt : i < piece_count t = omega (arith, c.loop-piece-test.true, c.piece_count-piece-end.ensures.count) in
+    let sum = sum_next t c.piece_count.ensures.layout rows i c.in_ok-rows.ensures lt c.loop-piece.invariant.1 in
+    let stands = stands_new t rows i _ _ c.in_ok-rows.ensures lt c.row.ensures c.standing-standing.ensures.is in
     let put = rw (c.loop-piece.invariant.0, stands) at c.put.ensures in
-    let more : take i rows ++ row ∷ [] ≡ take (i + 1) rows = sym (take_more rows i (fresh_piece 0) (omega (arith, all, lt))) in
-    let long : length (take i rows) ≡ i = (let is = length-take i rows in omega (arith, is, all, lt)) in
-    let less : n - i - 1 ≡ n - (i + 1) = omega arith in (
-      put ∙ (shelf_more (take i rows) row (n - i) i long (omega (arith, lt)) ∙ (λ j. filling (more j) (less j))),
-      rw (← more) sum,
-    )
+    (put ∙ shelf_next t rows i c.in_ok-rows.ensures lt, rw (← take_next t rows i c.in_ok-rows.ensures lt) sum)
+
+-- the counts that are made are zeros
+zeros : (c : goal.In_ok-vec) → c.in_ok-vec.field-0.items ≡ replicate (piece_count c.args.torrent.now.layout) 0
+zeros c = c.in_ok-vec.ensures.items_if_clones_equal (λ y same. same) ∙ ap (λ (k : ℕ). replicate k 0) c.piece_count-2.ensures.count
+
+-- all rows are on the shelf then
+shelved : (c : goal.In_ok-vec) → AreShelved c.loop-piece.shelf c.in_ok-rows.rows
+shelved c =
+    let t = c.args.torrent.now.layout in
+    let rows = c.in_ok-rows.rows in
+    let all = rows_long t rows c.in_ok-rows.ensures in
+    let done : c.loop-piece.piece ≡ piece_count t =
+    omega (arith, c.loop-piece-test.false, c.loop-piece.auto.piece-end, c.piece_count-piece-end.ensures.count) in
+    let whole : take c.loop-piece.piece rows ≡ rows = take_all c.loop-piece.piece rows (omega (arith, all, done)) in
+    record {
+      is = (rw whole at c.loop-piece.invariant.0) ∙ shelf_whole rows (piece_count t - c.loop-piece.piece) (omega (arith, done));
+      short = omega (arith, all, done, c.loop-piece.auto.piece-end);
+      fit = omega (arith, (rw whole at c.loop-piece.invariant.1), c.loop-piece.auto.piece-end);
+    }
 
 pub invariant_of-result : goal.invariant_of-result
 invariant_of-result c =
     let t = c.args.torrent.now.layout in
-    let rows = c.in_ok-rows.rows in
-    let n = piece_count t in
-    let all = rows_long t rows c.in_ok-rows.ensures in
-    let zeros : c.in_ok-vec.field-0.items ≡ replicate n 0 =
-    c.in_ok-vec.ensures.items_if_clones_equal (λ y same. same) ∙ ap (λ (k : ℕ). replicate k 0) c.piece_count-2.ensures.count in
-    let done : c.loop-piece.piece ≡ n = omega (arith, c.loop-piece-test.false, c.loop-piece.auto.piece-end, c.piece_count-piece-end.ensures.count) in
-    let whole : take c.loop-piece.piece rows ≡ rows = take_all c.loop-piece.piece rows (omega (arith, all, done)) in
-    let shelf = rw whole at c.loop-piece.invariant.0 in
-    let sum = rw whole at c.loop-piece.invariant.1 in
-    let shelved : AreShelved c.loop-piece.shelf rows = record {
-      is = shelf ∙ shelf_whole rows (n - c.loop-piece.piece) (omega (arith, done));
-      short = omega (arith, all, done, c.loop-piece.auto.piece-end);
-      fit = omega (arith, sum, c.loop-piece.auto.piece-end);
-    } in (
-      subst (AreShelved c.loop-piece.shelf) (sym (counted t rows _ c.in_ok-rows.ensures zeros)) shelved,
-      ap length zeros ∙ (length-replicate {A = ℕ} n 0 ∙ sym all),
-      subst AreApart (sym c.in_ok-rows.ensures) (fresh_apart n (block_count t)),
+    let rows = c.in_ok-rows.rows in (
+      subst (AreShelved c.loop-piece.shelf) (sym (counted t rows _ c.in_ok-rows.ensures (zeros c))) (shelved c),
+      ap length (zeros c) ∙ (length-replicate {A = ℕ} (piece_count t) 0 ∙ sym (rows_long t rows c.in_ok-rows.ensures)),
+      subst AreApart (sym c.in_ok-rows.ensures) (fresh_apart (piece_count t) (block_count t)),
       λ p before within. absurd (omega (arith, before)),
     )
 
 pub returns : goal.returns
-returns c =
-    let t = c.args.torrent.now.layout in
-    let zeros : c.in_ok-vec.field-0.items ≡ replicate (piece_count t) 0 =
-    c.in_ok-vec.ensures.items_if_clones_equal (λ y same. same) ∙ ap (λ (k : ℕ). replicate k 0) c.piece_count-2.ensures.count in
-    counted t c.in_ok-rows.rows _ c.in_ok-rows.ensures zeros ∙ c.in_ok-rows.ensures
+returns c = counted c.args.torrent.now.layout c.in_ok-rows.rows _ c.in_ok-rows.ensures (zeros c) ∙ c.in_ok-rows.ensures

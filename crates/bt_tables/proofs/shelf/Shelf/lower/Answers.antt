@@ -1,21 +1,18 @@
-use Rattle.std.proofs.Common.{◌≡◌, ◌<◌, ◌-◌, ◌∙◌, length, ap, arith, sym, ne_eqb}
+use Rattle.std.proofs.Common.{◌≡◌, ◌<◌, ◌-◌, ◌∙◌, length, ap, arith, sym}
 use Rattle.bt_tables.specs.Orders.{at}
-use Rattle.bt_tables.specs.declared.piece.Stage.TheVariants.{Open}
-use Rattle.bt_tables.specs.Standings.{ShelfState, place_in, place_of}
-use Rattle.bt_tables.proofs.Opened.{open_kept}
+use Rattle.bt_tables.specs.Standings.{ShelfState}
+use Rattle.bt_tables.proofs.Opened.{open_apart}
 use Rattle.bt_tables.proofs.shelf.Shelf.lower.Goals as goal
 
 pub invariant_of-self : goal.invariant_of-self
 invariant_of-self c =
     let o = c.self.inside in
-    let p = c.args.piece in
     let groups = ap (λ (s : ShelfState). s.groups) c.self.view_is in
-    let lp : p < length o.order.group_of = omega (arith, c.requires, ap length groups) in
-    let g = at o.order.group_of p in
-    let read : c.group_of.result ≡ g = c.group_of.ensures ∙ ap (λ (gs : _). at gs p) (sym groups) in
+    let lp : c.args.piece < length o.order.group_of = omega (arith, c.requires, ap length groups) in
+    let read : c.group_of.result ≡ at o.order.group_of c.args.piece = c.group_of.ensures ∙ ap (λ (gs : _). at gs c.args.piece) (sym groups) in
+    let above = c.if-group_of-gt-UNBEGUN.true in
     rw c.lower.ensures (
       c.self.invariant.0,
-      open_kept o.order.group_of o.open_pieces.numbers o.open_pieces.bound p (g - 1) c.self.invariant.1 lp
-          (ne_eqb (place_in g) (place_of Open) (λ e. omega (arith, e, read, c.if-group_of-gt-UNBEGUN.true)) ∙
-          sym (ne_eqb (place_in (g - 1)) (place_of Open) (λ e. omega (arith, e, read, c.if-group_of-gt-UNBEGUN.true)))),
+      open_apart o.order.group_of o.open_pieces.numbers o.open_pieces.bound c.args.piece (at o.order.group_of c.args.piece - 1) c.self.invariant.1 lp
+          (λ e. omega (arith, e, read, above)) (λ e. omega (arith, e, read, above)),
     )

@@ -4,7 +4,7 @@ use Rattle.bt_tables.specs.Tables.{PieceState, edit, have_row, less_available, m
 use Rattle.bt_tables.proofs.Changes.{edited_counted}
 use Rattle.bt_tables.proofs.FloorSteps.{edit_piece, farther, have_floor, less_floor, new_floor}
 use Rattle.bt_tables.proofs.Tabled.{length_edit}
-use Rattle.bt_tables.specs.Floors.{is_fresh, rank_of_row}
+use Rattle.bt_tables.specs.Floors.{AreFloors, is_fresh, rank_of_row}
 use Rattle.bt_tables.specs.Standings.{apart}
 use Rattle.bt_tables.specs.Orders.{at}
 use Rattle.bt_tables.proofs.tables.Tables.put_have.Goals as goal
@@ -21,28 +21,40 @@ row-requires c =
     let long = ap length c.announce.ensures ∙ length_edit c.self.inside.pieces c.args.piece _ in
     omega (arith, lp, long)
 
+-- the rows once the piece is shown by one peer more
+abbrev rows : goal.After-put_have → List PieceState
+rows c = edit c.self.inside.pieces c.args.piece (λ row. more_available (not c.shows-is_new.result) (less_available false row))
+
+worker_within : (c : goal.After-put_have) → c.args.worker < length c.self.inside.peers
+worker_within c = rw (← c.self.view_is) at c.requires.worker
+
+-- the floors hold of them too
+grown : (c : goal.After-put_have) → AreFloors c.self.inside.floors c.self.inside.peers (rows c)
+grown c =
+    let o = c.self.inside in
+    edit_piece o.floors o.peers o.pieces c.args.piece _ c.self.invariant (rw (← c.self.view_is) at c.requires.piece)
+    (λ fresh. (fresh, farther (piece_row o.pieces c.args.piece) (not c.shows-is_new.result)))
+
+-- and the new floor is none too high for the piece
+low : (c : goal.After-put_have) → is_fresh (piece_row (rows c) c.args.piece) ≡ true →
+    c.floor_with-floor.result ≤ rank_of_row (piece_row (rows c) c.args.piece)
+low c fresh =
+    let row : c.row.result ≡ apart (piece_row (rows c) c.args.piece) =
+    c.row.ensures ∙ ap (λ (all : List PieceState). apart (piece_row all c.args.piece)) c.announce.ensures in
+    let rank : c.rank.result ≡ rank_of_row (piece_row (rows c) c.args.piece) =
+    c.rank.ensures ∙ ap (λ (all : List PieceState). rank_of_row (piece_row all c.args.piece)) c.announce.ensures in
+    omega (arith, c.floor_with-floor.ensures.shown (ap is_fresh row ∙ fresh), rank)
+
 pub invariant_of-self : goal.invariant_of-self
 invariant_of-self c =
-    let w = c.args.worker in
-    let p = c.args.piece in
     let o = c.self.inside in
-    let lw = rw (← c.self.view_is) at c.requires.worker in
-    let lp = rw (← c.self.view_is) at c.requires.piece in
-    let f : PieceState → PieceState = λ row. more_available (not c.shows-is_new.result) (less_available false row) in
+    let w = c.args.worker in
     let n = c.floor_with-floor.result in
-    let old = peer_row o.peers w in
-    let grown = edit_piece o.floors o.peers o.pieces p f c.self.invariant lp
-    (λ fresh. (fresh, farther (piece_row o.pieces p) (not c.shows-is_new.result))) in
-    let row : c.row.result ≡ apart (piece_row (edit o.pieces p f) p) =
-    c.row.ensures ∙ ap (λ (rows : List PieceState). apart (piece_row rows p)) c.announce.ensures in
-    let rank : c.rank.result ≡ rank_of_row (piece_row (edit o.pieces p f) p) =
-    c.rank.ensures ∙ ap (λ (rows : List PieceState). rank_of_row (piece_row rows p)) c.announce.ensures in
-    let floor = less_floor (edit o.pieces p f) old (at o.floors w) n (omega (arith, c.floor_with-floor.ensures.most, c.of.ensures))
-    (grown.each w lw) in
-    let low : is_fresh (piece_row (edit o.pieces p f) p) ≡ true → n ≤ rank_of_row (piece_row (edit o.pieces p f) p) =
-    λ fresh. (let shown = c.floor_with-floor.ensures.shown (ap is_fresh row ∙ fresh) in omega (arith, shown, rank)) in
+    let most : n ≤ at o.floors w = omega (arith, c.floor_with-floor.ensures.most, c.of.ensures) in
+    let floor = less_floor (rows c) (peer_row o.peers w) (at o.floors w) n most ((grown c).each w (worker_within c)) in
     rw (c.announce.ensures, c.put_have.ensures, c.put.ensures)
-    (new_floor o.floors o.peers (edit o.pieces p f) w n (have_row p) grown lw (have_floor (edit o.pieces p f) old p n low floor))
+    (new_floor o.floors o.peers (rows c) w n (have_row c.args.piece) (grown c) (worker_within c)
+    (have_floor (rows c) (peer_row o.peers w) c.args.piece n (low c) floor))
 
 pub announce-requires-clause-few : goal.announce-requires-clause-few
 announce-requires-clause-few c =
