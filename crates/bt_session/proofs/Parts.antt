@@ -1,5 +1,8 @@
 -- The workers of a run before and after its work: those of its sessions, its checkers, and the last.
-use Rattle.std.proofs.Common.{◌≡◌, ◌<◌, ◌+◌, ℕ, Bool, true, List, [], ◌∷◌, ◌++◌, length, get_or, sym, subst, arith, Result}
+use Rattle.std.proofs.Common.{◌≡◌, ◌<◌, ◌+◌, ℕ, Bool, true, List, [], ◌∷◌, ◌++◌, length, get_or, map, sym, subst, arith, Result}
+use Rattle.std.specs.List.{list_any}
+use Rattle.std.proofs.lemmas.List.Folds.{list_any_at}
+use Rattle.std.proofs.lemmas.List.{get_or-map}
 use Rattle.bt_history.specs.Setting.{Setting}
 use Rattle.bt_peer.specs.declared.fault.End.{End}
 use Rattle.bt_peer.specs.declared.fault.SessionFault.{SessionFault}
@@ -31,6 +34,22 @@ plays_short outcome terms setting seed worker worker' old new short more up play
   number = plays.number;
   runs = plays.runs;
 }
+
+-- the sessions by what each gave back, part by part: one of them is short only where some is
+pub plays_among : {A X : Type 0} (end_of : A → Result End SessionFault) (worker_of : A → WorkerState) (stream_of : A → X) (short_of : A → Bool)
+    (record_of : X → StreamRecord) (terms : TermsState) (setting : Setting) (seed : ℕ) (all : List A) (i : ℕ) (d : A) (worker : WorkerState)
+    (old : StreamRecord) → i < length all →
+    Plays (end_of (get_or all i d)) terms setting seed worker old (worker_of (get_or all i d)) (record_of (stream_of (get_or all i d)))
+    (short_of (get_or all i d)) →
+    Plays (get_or (map end_of all) i (end_of d)) terms setting seed worker old (get_or (map worker_of all) i (worker_of d))
+    (record_of (get_or (map stream_of all) i (stream_of d))) (list_any short_of all)
+plays_among end_of worker_of stream_of short_of record_of terms setting seed all i d worker old below plays =
+    plays_short _ terms setting seed worker _ old _ (short_of (get_or all i d)) (list_any short_of all) (list_any_at short_of all i d below)
+    (rw (
+      get_or-map end_of all i d (end_of d) below,
+      get_or-map worker_of all i d (worker_of d) below,
+      get_or-map stream_of all i d (stream_of d) below,
+    ) plays)
 
 module _ {n m : ℕ} {all all' sessions checkers played checked : List WorkerState} {last last' : WorkerState}
     (parts : Parted n m all all' sessions checkers played checked last last') where

@@ -1,7 +1,8 @@
 use Rattle.std.proofs.Common.{◌≡◌, ◌+◌, [], ◌∷◌, length, length-append, Some, refl, ap, ◌∙◌, arith, rules}
 use Rattle.bt_session.proofs.Numbered.{first_is, none_numbered, one_more, rest_are, same_list}
 use Rattle.bt_session.proofs.Beginnings.{belongs, is_fresh}
-use Rattle.bt_session.specs.Beginnings.{IsFresh, IsNewPass, IsNewSeat}
+use Rattle.bt_session.specs.Beginnings.{AreFresh, IsFresh, IsNewPass, IsNewSeat}
+use Rattle.bt_session.proofs.fittings.enlist.Given as given
 use Rattle.bt_session.proofs.fittings.enlist.Goals as goal
 
 pub loop-pass-init : goal.loop-pass-init
@@ -29,20 +30,33 @@ new-requires g c =
     (first_is (IsNewSeat g.L.RunName.board) k _ _ c.in-Some-next.seat c.in-Some-next.ensures.items was.seats)
     (first_is (λ number pass. g.L.RunName.queue ≡ Some pass.queue) 0 _ _ c.in-Some-next-2.ticket_pass c.in-Some-next-2.ensures.items was.tickets)
 
+-- the next pass and the next seat are the next worker's
+pass_is : (g : given.Over) (c : goal.After-push_reserved g)
+    → IsNewPass g.L.RunName.desk g.L.RunName.setting (length c.loop-pass.workers.items) c.in-Some.pass
+pass_is g c =
+    first_is (IsNewPass g.L.RunName.desk g.L.RunName.setting) (length c.loop-pass.workers.items) _ _ c.in-Some.pass c.in-Some.ensures.steps.0
+    c.loop-pass.invariant.passes
+
+seat_is : (g : given.Over) (c : goal.After-push_reserved g) → IsNewSeat g.L.RunName.board (length c.loop-pass.workers.items) c.in-Some-next.seat
+seat_is g c =
+    first_is (IsNewSeat g.L.RunName.board) (length c.loop-pass.workers.items) _ _ c.in-Some-next.seat c.in-Some-next.ensures.items
+    c.loop-pass.invariant.seats
+
+-- so the workers with that one are fresh
+all_fresh : (g : given.Over) (c : goal.After-push_reserved g) → AreFresh g.L.RunName.setting c.push_reserved.new.self.items
+all_fresh g c =
+    one_more (IsFresh g.L.RunName.setting) c.loop-pass.workers.items c.push_reserved.new.self.items c.new.result c.push_reserved.ensures.items
+    c.loop-pass.invariant.fresh (rw c.new.ensures (is_fresh g.L.RunName.setting g.L.RunName.desk g.L.RunName.board
+    (length c.loop-pass.workers.items) c.in-Some.pass c.in-Some-next.seat c.in-Some-next-2.ticket_pass (pass_is g c) (seat_is g c)))
+
 pub loop-pass-preserved : goal.loop-pass-preserved
 loop-pass-preserved g c =
     let was = c.loop-pass.invariant in
     let k = length c.loop-pass.workers.items in
     let more : length c.push_reserved.new.self.items ≡ k + 1 =
     ap length c.push_reserved.ensures.items ∙ length-append c.loop-pass.workers.items (c.new.result ∷ []) in
-    let pass_is = first_is (IsNewPass g.L.RunName.desk g.L.RunName.setting) k _ _ c.in-Some.pass c.in-Some.ensures.steps.0 was.passes in
-    let new_seat = first_is (IsNewSeat g.L.RunName.board) k _ _ c.in-Some-next.seat c.in-Some-next.ensures.items was.seats in
     record {
-      fresh = one_more (IsFresh g.L.RunName.setting) c.loop-pass.workers.items c.push_reserved.new.self.items c.new.result
-          c.push_reserved.ensures.items was.fresh
-          (rw c.new.ensures (is_fresh g.L.RunName.setting g.L.RunName.desk g.L.RunName.board k c.in-Some.pass c.in-Some-next.seat
-          c.in-Some-next-2.ticket_pass
-          pass_is new_seat));
+      fresh = all_fresh g c;
       passes = same_list (IsNewPass g.L.RunName.desk g.L.RunName.setting) (k + 1) _ _ _ more refl
           (rest_are (IsNewPass g.L.RunName.desk g.L.RunName.setting) k _ _ c.in-Some.pass c.in-Some.ensures.steps.0 was.passes);
       seats = same_list (IsNewSeat g.L.RunName.board) (k + 1) _ _ _ more refl
