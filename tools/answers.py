@@ -7,8 +7,8 @@ LINES is 10 where it isn't said. An answer's lines are those of its body: its na
 there are of how many. Answers that `tools/examples.py` writes are left out.
 """
 
+import argparse
 import re
-import sys
 from pathlib import Path
 
 ROOT = Path(__file__).resolve().parent.parent
@@ -25,6 +25,8 @@ def answers(path):
             continue
         body = []
         for later in lines[number + 1 :]:
+            if later.startswith("unfolding "):
+                continue
             if not later.startswith((" ", "]", "}", ")", head.group(1))):
                 break
             body.append(later)
@@ -32,7 +34,9 @@ def answers(path):
 
 
 def main():
-    most = int(sys.argv[1]) if len(sys.argv) > 1 else 10
+    words = argparse.ArgumentParser(description=__doc__.splitlines()[0])
+    words.add_argument("lines", type=int, nargs="?", default=10)
+    most = words.parse_args().lines
     paths = [path for path in sorted(ROOT.glob("crates/*/proofs/**/Answers.antt")) if WRITTEN not in str(path)]
     found = [(lines, f"{path.relative_to(ROOT)}:{number}", name) for path in paths for name, number, lines in answers(path)]
     long = sorted((one for one in found if one[0] > most), reverse=True)

@@ -1,5 +1,5 @@
 #!/usr/bin/env python3
-"""Proves and builds the libraries that a crate stands on, each as soon as those below it are built, several at a time.
+"""Proves and builds the libraries that a crate stands on, lowest first, several at a time where they share none below.
 
     tools/build.py CRATE [--at-once N]
 
@@ -7,9 +7,9 @@ CRATE is a name of crates.txt. It itself isn't built, but all below it are. A li
 and how far the whole is. What `rt` prints goes to CRATE's out/build.log. Where a crate fails, the end of its output comes on standard
 error, and the status is 1.
 
-At most N crates are built at a time: 2 where it isn't said, or 1 on a machine of fewer than four processors. Two crates with a crate below
-both are built one after the other, since `rt` works for one of them alone in what they share. A crate gets all processors that no other
-may use, as far as there is memory for so many jobs.
+At most N crates are built at a time: 2 where it isn't said, or 1 on a machine of fewer than four processors. Two with a crate of this
+repository below both are built one after the other, since `rt` works for one at a time in what they share. When crates begin, the
+processors are shared among those that run, as far as there is memory for so many jobs.
 """
 
 import argparse
@@ -48,17 +48,18 @@ def needed(below, crate):
     return [name for name in below if name in found]
 
 
-def jobs_at(processors):
-    """How many jobs a crate may have on so many processors: one takes up to 3 GB, beside some 4 GB for the crate."""
+def jobs_for(crates):
+    """How many jobs each of so many crates may have: a job takes up to 3 GB, beside some 4 GB for its crate."""
     with open("/proc/meminfo", encoding="utf-8") as lines:
         free = next(int(line.split()[1]) for line in lines if line.startswith("MemAvailable:")) // 1_000_000
-    return max(1, min(processors, (free - 4) // 3))
+    return max(1, min((os.cpu_count() or 1) // crates, (free // crates - 4) // 3))
 
 
 def build(crate, jobs, log, lock):
     """Runs `rt lib` in the crate's folder. Gives the seconds that it took, or None where it failed."""
     start = time.monotonic()
-    ran = subprocess.run(["rt", "lib", "--jobs", str(jobs)], cwd=os.path.join(ROOT, "crates", crate), stdout=subprocess.PIPE, stderr=subprocess.STDOUT, text=True)
+    words = ["rt", "lib", "--jobs", str(jobs)]
+    ran = subprocess.run(words, cwd=os.path.join(ROOT, "crates", crate), stdout=subprocess.PIPE, stderr=subprocess.STDOUT, text=True)
     with lock:
         log.write(f"== {crate}\n{ran.stdout}")
         log.flush()
@@ -91,7 +92,7 @@ def run(crate, at_once):
         while waiting or running:
             ready = [name for name in waiting if all(other in built for other in below[name])]
             chosen = apart(families, ready, list(running.values()), at_once)
-            jobs = jobs_at((os.cpu_count() or 1) // max(1, len(running) + len(chosen)))
+            jobs = jobs_for(max(1, len(running) + len(chosen)))
             for name in chosen:
                 waiting.remove(name)
                 running[pool.submit(build, name, jobs, log, lock)] = name
