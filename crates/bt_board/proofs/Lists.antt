@@ -73,11 +73,15 @@ in_range a zero s h = absurd h
 in_range a (suc n) s h = ⊎_elim (λ (here : a ≡ s). (omega arith, omega arith))
     (λ there. let r = in_range (a + 1) n s there in let low = r.0 in let high = r.1 in (omega arith, omega arith)) h
 
+-- one item more makes a list longer by one
+pub longer : {A : Type 0} (xs ys : List A) (x : A) → ys ≡ xs ++ x ∷ [] → length ys ≡ length xs + 1
+longer xs ys x more = ap length more ∙ length-append xs (x ∷ [])
+
 -- one more item of a list whose k-th is g k
 pub listed_more : {A : Type 0} (g : ℕ → A) (xs ys : List A) (x : A) → ys ≡ xs ++ x ∷ [] → x ≡ g (length xs) →
     xs ≡ map g (range_with_len 0 (length xs))
     → ys ≡ map g (range_with_len 0 (length ys))
 listed_more g xs ys x more is so_far =
-    let n : length ys ≡ length xs + 1 = ap length more ∙ length-append xs (x ∷ []) in
+    let n = longer xs ys x more in
     more ∙ (λ i. so_far i ++ is i ∷ []) ∙ sym (map-range_with_len_more g 0 (length xs) (length xs) (zero-add (length xs))) ∙
     ap (λ (k : ℕ). map g (range_with_len 0 k)) (sym n)

@@ -296,7 +296,7 @@ pub dealt_stands : (k m : ℕ) (v : BoardView) → k < m → v ≡ view [] [] (r
 dealt_stands k m v lt is no_seat =
     let one : k ∷ [] ≡ [] = sym (ap (λ (u : BoardView). u.seats) (dealt_first k m v lt is)) ∙ no_seat in cc
 
--- a board's table has a bit for each piece of its torrent, by whatever name
+-- a board's table has a bit for each piece of its torrent, also where an equal layout names that
 pub table_words : {A : Type 0} {told about : A} {table : TableId} {layout torrent : Layout} → IsTable told about table (piece_count layout) →
     layout ≡ torrent → table.words ≡ words_of (piece_count torrent)
 table_words is same = is.words ∙ ap (λ (t : Layout). words_of (piece_count t)) same

@@ -89,7 +89,7 @@ pub record Ran {X : Type 0} (record_of : X → StreamRecord) (terms : TermsState
   pub checks : CheckersWork n m workers workers'
   pub last : (any : WorkerState) → ChecksLast (get_or workers (n + m) any).pass (get_or workers' (n + m) any).pass pieces
 
--- by what is said of the work, where the torrent has another name
+-- from what the calls of the run promise, of a torrent by another name
 pub ran_by : {X : Type 0} {record_of : X → StreamRecord} {made torrent : Metainfo} {depth : ℕ} {setting : Setting} {seed n m : ℕ}
     {workers workers' : List WorkerState} {streams streams' : List X} {ends : List (Result End SessionFault)} {short : Bool} → made ≡ torrent →
     1 ≤ n → AreFresh setting workers → length workers ≡ n + m + 1 → length workers' ≡ length workers → length streams ≡ n →

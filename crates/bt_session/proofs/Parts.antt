@@ -35,7 +35,7 @@ plays_short outcome terms setting seed worker worker' old new short more up play
   runs = plays.runs;
 }
 
--- the sessions by what each gave back, part by part: one of them is short only where some is
+-- A session whose results were split into lists, part by part. It is counted short where any of them is
 pub plays_among : {A X : Type 0} (end_of : A → Result End SessionFault) (worker_of : A → WorkerState) (stream_of : A → X) (short_of : A → Bool)
     (record_of : X → StreamRecord) (terms : TermsState) (setting : Setting) (seed : ℕ) (all : List A) (i : ℕ) (d : A) (worker : WorkerState)
     (old : StreamRecord) → i < length all →

@@ -91,10 +91,10 @@ goes_more s first old new pieces piece a b goes ends =
     goes_then s first old new pieces piece (a || b) (all_tell s first old pieces a (a || b) (or_left a b) goes)
     (one_tells s old new piece b (a || b) (or_right a b) ends)
 
--- four pieces
-pub four_more : (s : Setting) (w a b d e : WorkerState) (p q r t : ℕ) (x y z u : Bool) → SeesOrGivesUp s w p x a → SeesOrGivesUp s a q y b →
+-- four checks in a row, from no piece on
+pub four_in_a_row : (s : Setting) (w a b d e : WorkerState) (p q r t : ℕ) (x y z u : Bool) → SeesOrGivesUp s w p x a → SeesOrGivesUp s a q y b →
     SeesOrGivesUp s b r z d → SeesOrGivesUp s d t u e → GoesThrough s w (p ∷ q ∷ r ∷ t ∷ []) (((x || y) || z) || u) e
-four_more s w a b d e p q r t x y z u first second third fourth =
+four_in_a_row s w a b d e p q r t x y z u first second third fourth =
     let one = goes_more s w w a [] p false x (idle_same w) first in
     let two = goes_more s w a b (p ∷ []) q x y one second in
     let three = goes_more s w b d (p ∷ q ∷ []) r (x || y) z two third in

@@ -56,9 +56,9 @@ module _ (groups numbers : List ℕ) (bound p g : ℕ) (are : AreOpen groups bou
     all = λ q apart has. has;
   })
 
-  -- nor where it is in none of the open groups, before and after
-  pub open_apart : ¬ (place_in (at groups p) ≡ place_of Open) → ¬ (place_in g ≡ place_of Open) → AreOpen (set groups p g) bound numbers
-  open_apart before after =
+  -- the piece is open neither before nor after
+  pub open_outside : ¬ (place_in (at groups p) ≡ place_of Open) → ¬ (place_in g ≡ place_of Open) → AreOpen (set groups p g) bound numbers
+  open_outside before after =
       open_kept (ne_eqb (place_in (at groups p)) (place_of Open) before ∙ sym (ne_eqb (place_in g) (place_of Open) after))
 
 -- ---- a search that goes from the front

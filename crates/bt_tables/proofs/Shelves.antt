@@ -8,6 +8,7 @@ use Rattle.std.proofs.lemmas.List.{map-set, length-map, append-nil, map-append}
 use Rattle.std.proofs.lemmas.List.Sums.{sum_by-set, count_by-le-length, get_or-le-sum_by, sum_by-le-sum_by, sum_by_push}
 use Rattle.bt_tables.specs.Orders.{at}
 use Rattle.bt_tables.specs.declared.piece.Standing.{Standing}
+use Rattle.bt_tables.specs.declared.piece.TheConstants.Standing.{NONE}
 use Rattle.bt_tables.specs.declared.piece.Change.{Change}
 use Rattle.bt_tables.specs.declared.piece.Change.TheVariants.{Raise, Lower, Store, Pass, Fail, Level}
 use Rattle.bt_tables.specs.Tables.{PieceState, changed_row, one_if, one_less, one_more, unheld}
@@ -159,12 +160,8 @@ filling rows n = record {
   left = count_by (λ row. not (is_resting row)) rows;
 }
 
--- a piece that has not come yet counts for nothing
-abbrev pub unfiled : Standing
-unfiled = record { group = 0; unasked = 0; unheld = 0; had = false; left = false }
-
 pub shelf_more : (rows : List PieceState) (row : PieceState) (n p : ℕ) → length rows ≡ p → 0 < n
-    → refiled (filling rows n) p unfiled (standing_of row) ≡ filling (rows ++ row ∷ []) (n - 1)
+    → refiled (filling rows n) p NONE (standing_of row) ≡ filling (rows ++ row ∷ []) (n - 1)
 shelf_more rows row n p len some =
     let mapped = length-map rows group_of_row in
     let at : p ≡ length (map group_of_row rows) = omega arith in
@@ -181,7 +178,7 @@ shelf_more rows row n p len some =
 
 pub shelf_fits : (rows : List PieceState) (row : PieceState) (n : ℕ) → length rows + 1 < 2 ^ 32 →
     sum_by (λ r. length r.blocks) (rows ++ row ∷ []) < 2 ^ 64
-    → IsFiled (filling rows n) unfiled (standing_of row)
+    → IsFiled (filling rows n) NONE (standing_of row)
 shelf_fits rows row n short fit =
     let few = count_by-le-length (λ (r : PieceState). r.had) rows in
     let one : had_of row ≤ 1 = at_most (row.had) in

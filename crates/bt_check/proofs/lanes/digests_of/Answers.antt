@@ -1,7 +1,5 @@
-use Rattle.std.proofs.Common.{◌≡◌, ◌∙◌, ◌<◌, ◌+◌, ◌++◌, ℕ, List, ap, get_or, length, take}
-use Rattle.std.specs.List.{concat}
 use Rattle.bt_check.proofs.Alike.{alike_at, alike_below}
-use Rattle.bt_check.proofs.Blocks.{concat_more}
+use Rattle.bt_check.proofs.Blocks.{grown}
 use Rattle.bt_check.proofs.lanes.digests_of.Goals as goal
 
 pub update-requires-clause-b : goal.update-requires-clause-b
@@ -18,11 +16,6 @@ pub update-requires-clause-d : goal.update-requires-clause-d
 update-requires-clause-d c =
     rw (c.as_slice-in-loop-i-3.ensures, c.as_slice.ensures)
     (alike_at c.args.a.now c.args.d.now c.loop-i.i _ _ c.requires.d c.loop-i-test.true c.index-a-i.is c.index-d-i.is)
-
--- a list's blocks so far, joined, and the bytes of the next one
-grown : (blocks : List (List ℕ)) (i : ℕ) (block bytes : List ℕ) → bytes ≡ block → i < length blocks → block ≡ get_or blocks i block →
-    concat (take i blocks) ++ bytes ≡ concat (take (i + 1) blocks)
-grown blocks i block bytes read lt is = ap (λ (b : List ℕ). concat (take i blocks) ++ b) read ∙ concat_more blocks i block lt is
 
 pub loop-i-preserved : goal.loop-i-preserved
 loop-i-preserved c =

@@ -11,6 +11,13 @@ use Rattle.bt_shared.proofs.compare.first_difference.Goals as goal
 use Rattle.bt_shared.proofs.compare.first_difference.Goals.{then-entry-worker+else-next-log+else-ne, else-entry-worker}
 use Rattle.bt_shared.proofs.compare.first_difference.Goals.{then-next-log-via-then-next-log, then-next-log-via-else-next-log+then-ne}
 
+-- an entry of the worker leaves one mark more than the log has up to it
+one_mark_more : (j : List Entry) (worker k n : ℕ) (e : Entry) (log : List Mark) → slice_get j k ≡ Some e → e.worker ≡ worker
+    → take n log ≡ marks_of (history_of (take k j)) worker
+    → marks_of (history_of (take (k + 1) j)) worker ≡ take n log ++ mark_of k (event_of e) ∷ []
+one_mark_more j worker k n e log at own same =
+    mark_next j worker k e at own ∙ ap (λ ms. ms ++ mark_of k (event_of e) ∷ []) (sym same)
+
 -- the entry stands at its place of the journal
 entry_at : (c : goal.Joined-then-next-log) → slice_get c.args.journal.now c.loop-place.place ≡ Some c.index-journal-place.result
 entry_at c = slice_get_read c.args.journal.now _ _ _ refl c.loop-place-test.true c.index-journal-place.is
@@ -22,9 +29,9 @@ later c =
     let j = c.args.journal.now in
     let k = c.loop-place.place in
     let e = c.index-journal-place.result in
-    let here = mark_next j c.args.worker k e (entry_at c) c.if-entry-worker.true in
     let more = marks_take j (k + 1) c.args.worker in
-    (more.0, more.1 ∙ ap (λ ms. ms ++ more.0) (here ∙ ap (λ ms. ms ++ mark_of k (event_of e) ∷ []) (sym c.loop-place.invariant.same)))
+    let here = one_mark_more j c.args.worker k c.loop-place.next e c.args.log.now (entry_at c) c.if-entry-worker.true c.loop-place.invariant.same in
+    (more.0, more.1 ∙ ap (λ ms. ms ++ more.0) here)
 
 -- but the log has no such mark next
 lacking : (c : goal.Joined-then-next-log) → ¬ (slice_get c.args.log.now c.loop-place.next
@@ -44,13 +51,6 @@ returns-then-next-log-clause-some c =
     differs c.args.log.now c.loop-place.next c.loop-place.invariant.within _ (marks_of (history_of c.args.journal.now) c.args.worker) (later c).0
     (later c).1 (lacking c)
 
--- an entry of the worker that the log has is marked next
-marked : (j : List Entry) (worker k n : ℕ) (e : Entry) (log : List Mark) → slice_get j k ≡ Some e → e.worker ≡ worker → n < length log
-    → slice_get log n ≡ Some (mark_of k (event_of e)) → take n log ≡ marks_of (history_of (take k j)) worker
-    → take (n + 1) log ≡ marks_of (history_of (take (k + 1) j)) worker
-marked j worker k n e log at own within is same =
-    take_step log n (mark_of k (event_of e)) is ∙ (ap (λ l. l ++ mark_of k (event_of e) ∷ []) same ∙ sym (mark_next j worker k e at own))
-
 pub loop-place-preserved : goal.loop-place-preserved
 loop-place-preserved c =
     let j = c.args.journal.now in
@@ -64,7 +64,7 @@ loop-place-preserved c =
           let is = same_at log c.loop-place.next _ w.mark_at.result within (sym w.ne.ensures ∙ w.if-ne.false) ∙ ap Some w.mark_at.ensures in
           rw w.next-is record {
             within = omega (arith, within);
-            same = marked j c.args.worker k c.loop-place.next _ log at w.if-entry-worker.true within is old.same;
+            same = take_step log _ _ is ∙ sym (one_mark_more j c.args.worker k c.loop-place.next _ log at w.if-entry-worker.true old.same);
           }
       | else-entry-worker w ↦ rw w.next-is record {
         within = old.within;

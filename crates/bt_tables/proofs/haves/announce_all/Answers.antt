@@ -58,7 +58,7 @@ shown_within : (c : goal.Joined-has) → c.loop-piece.piece < length (peer_row c
 shown_within c =
     omega (arith, row_within c, ap length (late_shows _ _ c.args.worker c.requires.worker c.note_arrival.ensures), c.requires.pieces)
 
--- which the peer showed before the call, if it does now
+-- what the peer shows once the arrival was noted, it showed before
 shown_before : (c : goal.Joined-has) → slice_index_or (peer_row c.note_arrival.new.self c.args.worker).shows c.loop-piece.piece false ≡ true
     → slice_index_or (peer_row c.args.peers.now c.args.worker).shows c.loop-piece.piece false ≡ true
 shown_before c shown =

@@ -19,7 +19,7 @@ told g c = ap (λ (a : About). (arc_value a.torrent).layout) c.self.invariant.to
 named : (g : given.Over) (c : goal.After-fetch_or-arg-1 g) → g.M.Announced.added.piece ≡ c.piece-piece.result
 named g c = ap (λ (x : Mark). x.piece) c.requires.added ∙ sym c.piece-piece.ensures
 
--- and has bytes with the hash of it
+-- and is proven: the piece is one of the torrent, and the bytes have its hash
 proven : (g : given.Over) (c : goal.After-fetch_or-arg-1 g) → IsProven (arc_value c.self.inside.table.shared.key.torrent).layout g.M.Announced.added
 proven g c =
     subst (λ (t : Layout). IsProven t g.M.Announced.added) (sym (told g c ∙ ap (λ (b : BoardState). b.torrent) c.self.view_is))

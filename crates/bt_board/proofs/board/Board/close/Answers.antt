@@ -55,13 +55,13 @@ copied c =
     subst (λ (n : ℕ). Copied words pieces n c.loop-piece.bits) all
     (subst (λ (n : ℕ). Copied words n c.loop-piece.piece c.loop-piece.bits) count c.loop-piece.invariant)
 
--- the seat stands for all
+-- the seat stands for every seat of the board
 stands : (c : goal.After-free) (q : ℕ) → q < c.self.inside.about.seats → StandsFor c.into_parts-seat.result.0.me.0 q
 stands c q lt =
     subst (λ (v : BoardView). StandsFor v q) (ap (λ (s : SeatState). s.view) c.into_parts-seat.ensures.parts)
     (c.requires.all q (subst (λ (n : ℕ). q < n) (ap (λ (b : BoardState). b.seats) c.self.view_is) lt))
 
--- so the copied bits are the marked pieces, and those that it has seen are among them
+-- so the copied bits are the pieces that were marked, and each piece that the seat has seen is among them
 closed : (c : goal.After-free) → ((p : ℕ) → (get_or c.loop-piece.bits p false ≡ true) ↔ Marked c.into_parts-seat.result.0.me.0 p)
     × ((p : ℕ) → Seen c.into_parts-seat.result.0.me.0 p → get_or c.loop-piece.bits p false ≡ true)
 closed c =

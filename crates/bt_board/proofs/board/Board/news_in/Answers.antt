@@ -36,8 +36,8 @@ pub overflow_add-result : goal.overflow_add-result
 overflow_add-result c = let few = c.look-found.ensures.wide.1 in let word = c.requires.word in let bit = c.in-Some.ensures.some.0 in omega arith
 
 -- the word is one of the given ones
-inside : (c : goal.After-seat-1) → c.args.word < length c.seat.inside.given.items
-inside c =
+within : (c : goal.After-seat-1) → c.args.word < length c.seat.inside.given.items
+within c =
     omega (arith, ap (λ (s : SeatState). length s.given) c.seat.view_is ∙ c.look-found.ensures.wide.0, c.requires.word)
 
 -- the given words with one more bit
@@ -45,15 +45,15 @@ abbrev after : goal.After-seat-1 → List ℕ
 after c = set c.seat.inside.given.items c.args.word (bit_or c.index_mut.result.now (1 * 2 ^ c.in-Some.bit % 2 ^ 64))
 
 -- which is the least new bit of what was found
-gives : (c : goal.After-seat-1) → Gives c.args.word c.look-found.result c.seat.inside.given.items (after c) (c.args.word * 64 + c.in-Some.bit)
-gives c =
+gives_least : (c : goal.After-seat-1) → Gives c.args.word c.look-found.result c.seat.inside.given.items (after c) (c.args.word * 64 + c.in-Some.bit)
+gives_least c =
     let n = c.args.word in
     let words = c.seat.inside.given.items in
     let bit = c.in-Some.ensures.some in
-    let item : c.index.result.now ≡ slice_index words n = c.index.ensures ∙ any_default words n c.index.result.now 0 (inside c) in
-    let was : c.index_mut.result.now ≡ slice_index words n = c.index_mut.ensures.value ∙ any_default words n c.index_mut.result.now 0 (inside c) in
+    let item : c.index.result.now ≡ slice_index words n = c.index.ensures ∙ any_default words n c.index.result.now 0 (within c) in
+    let was : c.index_mut.result.now ≡ slice_index words n = c.index_mut.ensures.value ∙ any_default words n c.index_mut.result.now 0 (within c) in
     gives_bit words _ n c.in-Some.bit c.look-found.result _ bit.0 bit.1 (subst (λ (k : ℕ). bit_at k c.in-Some.bit ≡ 0) item bit.2)
-    (λ i lt is. subst (λ (k : ℕ). bit_at k i ≡ 1) item (c.in-Some.ensures.least i lt is)) (inside c) was refl
+    (λ i lt is. subst (λ (k : ℕ). bit_at k i ≡ 1) item (c.in-Some.ensures.least i lt is)) (within c) was refl
 
 pub returns-in-Some-clause-finds : goal.returns-in-Some-clause-finds
 returns-in-Some-clause-finds c =
@@ -63,7 +63,7 @@ returns-in-Some-clause-finds c =
       value,
       subst (λ (v : BoardView). Finds (piece_count c.args.self.now.torrent) c.args.seat.now.view n value v)
           (sym (ap (λ (s : SeatState). s.view) c.seat.view_is)) c.look-found.ensures.finds,
-      subst (λ (l : List ℕ). Gives n value l (after c) (n * 64 + c.in-Some.bit)) same (gives c),
+      subst (λ (l : List ℕ). Gives n value l (after c) (n * 64 + c.in-Some.bit)) same (gives_least c),
     )
 
 pub returns-in-None-clause-finds : goal.returns-in-None-clause-finds

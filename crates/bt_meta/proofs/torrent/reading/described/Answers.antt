@@ -9,8 +9,8 @@ count c = let bytes = c.in_ok-pieces.pieces.now in rw c.in_ok-digests.ensures (l
 
 pub invariant_of-result : goal.invariant_of-result
 invariant_of-result c =
-    let pieces = length c.in_ok-pieces.pieces.now / 20 in
-    let fit = sizes_fit c.in_ok-piece_length.piece_length c.in_ok-content.content.total pieces tt (sym c.in_ok-check_sizes.ensures) in
+    let many = length c.in_ok-pieces.pieces.now / 20 in
+    let fit = sizes_fit c.in_ok-piece_length.piece_length c.in_ok-content.content.total many tt (sym c.in_ok-check_sizes.ensures) in
     record {
       piece_length_low = omega (arith, c.in_ok-piece_length.ensures.bounds);
       piece_length_high = omega (arith, c.in_ok-piece_length.ensures.bounds);

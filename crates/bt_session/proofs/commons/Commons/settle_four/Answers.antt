@@ -1,5 +1,5 @@
 use Rattle.std.proofs.Common.{arith}
-use Rattle.bt_session.proofs.Through.{four_more}
+use Rattle.bt_session.proofs.Through.{four_in_a_row}
 use Rattle.bt_session.proofs.commons.Commons.settle_four.Goals as goal
 
 pub returns : goal.returns
@@ -9,7 +9,7 @@ returns g c =
     let b = c.settle_or_not-second in
     let d = c.settle_or_not-third in
     let e = c.settle_or_not-fourth in
-    four_more g.L.RunName.setting c.args.worker.now a.new.worker b.new.worker d.new.worker e.new.worker v.0.checked.piece v.1.checked.piece
+    four_in_a_row g.L.RunName.setting c.args.worker.now a.new.worker b.new.worker d.new.worker e.new.worker v.0.checked.piece v.1.checked.piece
     v.2.checked.piece v.3.checked.piece a.result b.result d.result e.result a.ensures b.ensures d.ensures e.ensures
 
 pub settle_or_not-second-requires : goal.settle_or_not-second-requires

@@ -3,7 +3,7 @@ use Rattle.bt_tables.specs.Orders.{at}
 use Rattle.bt_tables.proofs.Moves.{at_set, seen, set_more, states}
 use Rattle.bt_tables.proofs.order.Order.lower_to.Goals as goal
 
--- the groups, once the number stepped down as often as it did, and once more
+-- the groups after one step more
 stepped : (c : goal.After-lower) → c.lower.new.self.group_of
     ≡ set c.args.self.now.group_of c.args.number (at c.loop-group.self.group_of c.args.number - 1)
 stepped c =

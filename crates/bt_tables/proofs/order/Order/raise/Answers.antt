@@ -28,6 +28,7 @@ read c =
     is_read o.groups.items o.places.items o.ends.items c.args.self.now c.args.number c.index-group.result.now c.self.invariant.1 c.self.view_is
     c.requires.number c.index-group.ensures
 
+-- the end of that group is past 0, and is the one that was read
 last : (c : goal.After-self-4-1) → (1 ≤ c.index.result.now) × (c.index.result.now ≡ at c.self.inside.ends.items c.index-group.result.now)
 last c =
     let o = c.self.inside in

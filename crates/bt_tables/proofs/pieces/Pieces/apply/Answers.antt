@@ -85,18 +85,18 @@ put-requires-clause-fits c =
     let o = c.self.inside in
     can_change o.shelf o.rows o.shown_by.items c.args.piece (kept c) c.args.change c.from-shown_by.result _ _ (stands c)
 
--- the same, once it was put
-kept_after : (c : goal.After-put) → IsKept c.self.inside.shelf c.self.inside.rows c.self.inside.shown_by.items c.args.piece
-kept_after c =
+-- the same facts of the rows as they were, at the place behind the last call
+kept_at_end : (c : goal.After-put) → IsKept c.self.inside.shelf c.self.inside.rows c.self.inside.shown_by.items c.args.piece
+kept_at_end c =
     let o = c.self.inside in
     kept_piece o.shelf o.rows o.shown_by.items _ c.args.piece c.self.invariant.0 c.self.invariant.1 c.self.view_is c.requires.piece
 
-stands_after : (c : goal.After-put) → IsChange c.self.inside.rows c.self.inside.shown_by.items c.args.piece c.args.change c.from-shown_by.result
+stands_at_end : (c : goal.After-put) → IsChange c.self.inside.rows c.self.inside.shown_by.items c.args.piece c.args.change c.from-shown_by.result
     c.standing-before.result c.standing-after.result
-stands_after c =
-    let within = (kept_after c).within in
+stands_at_end c =
+    let within = (kept_at_end c).within in
     is_change c.self.inside.rows _ c.self.inside.shown_by.items c.args.piece c.args.change _ _ _ _ _ _ within
-    (omega (arith, (kept_after c).len, within)) c.from-shown_by.ensures c.index.ensures c.row.ensures c.apply.ensures c.row-3.ensures
+    (omega (arith, (kept_at_end c).len, within)) c.from-shown_by.ensures c.index.ensures c.row.ensures c.apply.ensures c.row-3.ensures
     c.standing-before.ensures.is c.standing-after.ensures.is
 
 -- whether the piece is fresh then
@@ -105,16 +105,16 @@ fresh_after c =
     let rows = c.self.inside.rows in
     let p = c.args.piece in
     c.is_fresh.ensures ∙ ap is_fresh (c.row-2.ensures
-    ∙ (ap (λ (l : List PieceState). piece_row l p) c.apply.ensures ∙ edited_row rows p c.args.change (kept_after c).within))
+    ∙ (ap (λ (l : List PieceState). piece_row l p) c.apply.ensures ∙ edited_row rows p c.args.change (kept_at_end c).within))
 
 pub invariant_of-self : goal.invariant_of-self
 invariant_of-self c =
     let o = c.self.inside in
     let p = c.args.piece in
-    let kept = kept_after c in
+    let kept = kept_at_end c in
     let new = changed_row c.args.change (piece_row o.rows p) in
     rw (c.apply.ensures ∙ edited_rows o.rows p c.args.change kept.within) (
-      changes o.shelf o.rows o.shown_by.items p kept c.put.new.self c.args.change c.from-shown_by.result _ _ (stands_after c) c.put.ensures,
+      changes o.shelf o.rows o.shown_by.items p kept c.put.new.self c.args.change c.from-shown_by.result _ _ (stands_at_end c) c.put.ensures,
       c.self.invariant.1 ∙ sym (length-set o.rows p new),
       changed_counts o.shelf o.rows o.shown_by.items p kept c.self.invariant.2 c.args.change _ new (own_row o.rows p kept.within) refl,
       front_kept o.rows p o.front _ new c.is_fresh.result c.self.invariant.3 (fresh_after c) c.front_with-self-inside.ensures,
@@ -124,7 +124,7 @@ pub returns : goal.returns
 returns c =
     let o = c.self.inside in
     let p = c.args.piece in
-    let within = (kept_after c).within in
+    let within = (kept_at_end c).within in
     rw (← c.self.view_is, c.apply.ensures ∙ edited_rows o.rows p c.args.change within)
-    (edit_is o.shelf o.rows o.shown_by.items p (kept_after c) c.args.change (piece_row o.rows p) _ c.from-shown_by.result
-    (own_row o.rows p within) (stands_after c).count refl)
+    (edit_is o.shelf o.rows o.shown_by.items p (kept_at_end c) c.args.change (piece_row o.rows p) _ c.from-shown_by.result
+    (own_row o.rows p within) (stands_at_end c).count refl)

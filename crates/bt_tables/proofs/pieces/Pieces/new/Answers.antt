@@ -8,12 +8,13 @@ use Rattle.bt_meta.specs.Layout.{IsLayout, Layout, block_count, piece_count}
 use Rattle.bt_history.specs.Counting.{table}
 use Rattle.bt_tables.specs.Orders.{at}
 use Rattle.bt_tables.specs.declared.piece.Standing.{Standing}
+use Rattle.bt_tables.specs.declared.piece.TheConstants.Standing.{NONE}
 use Rattle.bt_tables.specs.Apart.{AreApart}
 use Rattle.bt_tables.specs.Tables.{PieceState, empty_cell, fresh_piece, piece_row}
 use Rattle.bt_tables.specs.Standings.{AreShelved, ShelfState, group_of_row, refiled, shown_row, standing_of, whole_rows}
 use Rattle.bt_tables.proofs.Apart.{fresh_apart, whole_fresh}
 use Rattle.bt_tables.proofs.Blank.{few_blocks}
-use Rattle.bt_tables.proofs.Shelves.{filling, none_filed, shelf_fits, shelf_more, shelf_whole, unfiled}
+use Rattle.bt_tables.proofs.Shelves.{filling, none_filed, shelf_fits, shelf_more, shelf_whole}
 use Rattle.bt_tables.proofs.Tabled.{get_or_is_table, length_is_table}
 use Rattle.bt_tables.proofs.pieces.Pieces.new.Goals as goal
 
@@ -48,24 +49,25 @@ module _ (t : Layout) where
       let row = row_fresh rows p is lp in
       ap (λ (r : PieceState). standing_of (shown_row 0 r)) row ∙ sym (ap standing_of row)
 
-  -- with the row of one piece more the sum isn't too great
+  -- the sum stays in its bound with the next row
   sum_next : IsLayout t → (rows : List PieceState) (i : ℕ) → rows ≡ fresh → i < piece_count t
       → sum_by (λ r. length r.blocks) (take i rows) ≤ i * (2 ^ 32 - 1)
       → sum_by (λ r. length r.blocks) (take i rows ++ piece_row rows i ∷ []) ≤ (i + 1) * (2 ^ 32 - 1)
   sum_next layout rows i is lt le = sum_step (take i rows) (piece_row rows i) i le (few_cells layout rows i is lt)
 
-  -- how it stands, as it was read
+  -- the standing that was read is that of the row, since no peer shows the piece
   stands_new : (rows : List PieceState) (i : ℕ) (row : PieceState) (standing : Standing) → rows ≡ fresh → i < piece_count t → row ≡ piece_row rows i
       → standing ≡ standing_of (shown_row 0 row) → standing ≡ standing_of (piece_row rows i)
   stands_new rows i row standing is lt row_is read =
       read ∙ (ap (λ (r : PieceState). standing_of (shown_row 0 r)) row_is ∙ unshown rows i is lt)
 
+  -- the rows so far and the next one
   take_next : (rows : List PieceState) (i : ℕ) → rows ≡ fresh → i < piece_count t → take i rows ++ piece_row rows i ∷ [] ≡ take (i + 1) rows
   take_next rows i is lt = sym (take_more rows i (fresh_piece 0) (omega (arith, rows_long rows is, lt)))
 
-  -- and the shelf with it
+  -- the shelf of the rows so far, with the next one put on it
   shelf_next : (rows : List PieceState) (i : ℕ) → rows ≡ fresh → i < piece_count t
-      → refiled (filling (take i rows) (piece_count t - i)) i unfiled (standing_of (piece_row rows i))
+      → refiled (filling (take i rows) (piece_count t - i)) i NONE (standing_of (piece_row rows i))
       ≡ filling (take (i + 1) rows) (piece_count t - (i + 1))
   shelf_next rows i is lt =
       let long : length (take i rows) ≡ i = omega (arith, length-take i rows, rows_long rows is, lt) in
@@ -137,7 +139,7 @@ loop-piece-preserved c =
 zeros : (c : goal.In_ok-vec) → c.in_ok-vec.field-0.items ≡ replicate (piece_count c.args.torrent.now.layout) 0
 zeros c = c.in_ok-vec.ensures.items_if_clones_equal (λ y same. same) ∙ ap (λ (k : ℕ). replicate k 0) c.piece_count-2.ensures.count
 
--- all rows are on the shelf then
+-- then all rows are on the shelf
 shelved : (c : goal.In_ok-vec) → AreShelved c.loop-piece.shelf c.in_ok-rows.rows
 shelved c =
     let t = c.args.torrent.now.layout in

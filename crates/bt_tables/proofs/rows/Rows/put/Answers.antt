@@ -27,58 +27,59 @@ index_mut-requires c =
     omega (arith, c.requires.piece, o.counts.ok.0, ap length c.self.view_is, rows_length o.width o.counts.items o.cells.items)
 
 -- the row and the cell, as they were read
-row : (c : goal.After-index_mut) → IsRow c.self.inside.width c.self.inside.counts.items c.self.inside.cells.items c.args.piece c.index_mut.result.now
-row c =
+row_read : (c : goal.After-index_mut) → IsRow c.self.inside.width c.self.inside.counts.items c.self.inside.cells.items c.args.piece
+    c.index_mut.result.now
+row_read c =
     let o = c.self.inside in
     is_row o.width o.counts.items o.cells.items _ c.args.piece c.index_mut.result.now c.self.invariant c.self.view_is c.requires.piece
     c.index_mut.ensures.value
 
-cell : (c : goal.After-index_mut) → IsCell c.self.inside.width c.self.inside.cells.items c.args.piece c.args.index c.index-old.result.now
-cell c =
+cell_read : (c : goal.After-index_mut) → IsCell c.self.inside.width c.self.inside.cells.items c.args.piece c.args.index c.index-old.result.now
+cell_read c =
     let o = c.self.inside in
-    is_cell o.width o.counts.items o.cells.items _ c.args.piece c.args.index c.index_mut.result.now c.index-old.result.now (row c) c.self.view_is
+    is_cell o.width o.counts.items o.cells.items _ c.args.piece c.args.index c.index_mut.result.now c.index-old.result.now (row_read c) c.self.view_is
     c.requires.index c.index-old.ensures
 
 -- the cells of the piece
-abbrev cells : goal.After-index_mut → List CellState
-cells c = cells_at c.self.inside.width c.self.inside.cells.items c.args.piece
+abbrev piece_cells : goal.After-index_mut → List CellState
+piece_cells c = cells_at c.self.inside.width c.self.inside.cells.items c.args.piece
 
 pub note-requires-clause-held : goal.note-requires-clause-held
 note-requires-clause-held c =
     omega (
       arith,
-      (row c).keeps.are.held_is,
-      count_part is_held (cells c) c.args.index _ (cell_kept c.args.cell) (cell c).within (cell c).read,
+      (row_read c).keeps.are.held_is,
+      count_part is_held (piece_cells c) c.args.index _ (cell_kept c.args.cell) (cell_read c).within (cell_read c).read,
     )
 
 pub note-requires-clause-held_room : goal.note-requires-clause-held_room
 note-requires-clause-held_room c =
     omega (
       arith,
-      (row c).keeps.are.held_is,
-      (row c).keeps.are.short,
-      count_most is_held (cells c) c.args.index _ (cell_kept c.args.cell) (cell c).within (cell c).read,
+      (row_read c).keeps.are.held_is,
+      (row_read c).keeps.are.short,
+      count_most is_held (piece_cells c) c.args.index _ (cell_kept c.args.cell) (cell_read c).within (cell_read c).read,
     )
 
 pub note-requires-clause-touched : goal.note-requires-clause-touched
 note-requires-clause-touched c =
     omega (
       arith,
-      (row c).keeps.are.touched_is,
-      count_part is_touched (cells c) c.args.index _ (cell_kept c.args.cell) (cell c).within (cell c).read,
+      (row_read c).keeps.are.touched_is,
+      count_part is_touched (piece_cells c) c.args.index _ (cell_kept c.args.cell) (cell_read c).within (cell_read c).read,
     )
 
 pub note-requires-clause-touched_room : goal.note-requires-clause-touched_room
 note-requires-clause-touched_room c =
     omega (
       arith,
-      (row c).keeps.are.touched_is,
-      (row c).keeps.are.short,
-      count_most is_touched (cells c) c.args.index _ (cell_kept c.args.cell) (cell c).within (cell c).read,
+      (row_read c).keeps.are.touched_is,
+      (row_read c).keeps.are.short,
+      count_most is_touched (piece_cells c) c.args.index _ (cell_kept c.args.cell) (cell_read c).within (cell_read c).read,
     )
 
 pub note-requires-clause-index : goal.note-requires-clause-index
-note-requires-clause-index c = omega (arith, (row c).keeps.are.short, (cell c).within)
+note-requires-clause-index c = omega (arith, (row_read c).keeps.are.short, (cell_read c).within)
 
 pub index_mut-requires-2 : goal.index_mut-requires-2
 index_mut-requires-2 c =
@@ -86,18 +87,18 @@ index_mut-requires-2 c =
     let within = place_within o.width o.counts.items o.cells.items _ c.args.piece c.args.index c.self.view_is c.requires.piece c.requires.index in
     omega (arith, within, o.cells.ok.0)
 
--- the same, once the cell was put
-row_after : (c : goal.After-self-2-1) → IsRow c.self.inside.width c.self.inside.counts.items c.self.inside.cells.items c.args.piece
+-- the same facts of the rows as they were, at the place behind the assignment
+row_at_end : (c : goal.After-self-2-1) → IsRow c.self.inside.width c.self.inside.counts.items c.self.inside.cells.items c.args.piece
     c.index_mut.result.now
-row_after c =
+row_at_end c =
     let o = c.self.inside in
     is_row o.width o.counts.items o.cells.items _ c.args.piece c.index_mut.result.now c.self.invariant c.self.view_is c.requires.piece
     c.index_mut.ensures.value
 
-cell_after : (c : goal.After-self-2-1) → IsCell c.self.inside.width c.self.inside.cells.items c.args.piece c.args.index c.index-old.result.now
-cell_after c =
+cell_at_end : (c : goal.After-self-2-1) → IsCell c.self.inside.width c.self.inside.cells.items c.args.piece c.args.index c.index-old.result.now
+cell_at_end c =
     let o = c.self.inside in
-    is_cell o.width o.counts.items o.cells.items _ c.args.piece c.args.index c.index_mut.result.now c.index-old.result.now (row_after c)
+    is_cell o.width o.counts.items o.cells.items _ c.args.piece c.args.index c.index_mut.result.now c.index-old.result.now (row_at_end c)
     c.self.view_is c.requires.index c.index-old.ensures
 
 -- the rows with the new cell and the new counts
@@ -107,19 +108,19 @@ put : (c : goal.After-self-2-1) → rows_of c.self.inside.width (set c.self.insi
     (row_of c.note.new.self (set (cells_at c.self.inside.width c.self.inside.cells.items c.args.piece) c.args.index (cell_kept c.args.cell)))
 put c =
     let o = c.self.inside in
-    rows_set o.width o.counts.items o.cells.items c.args.piece c.args.index c.note.new.self c.args.cell (row_after c).within
-    (in_width o.width o.cells.items c.args.piece c.args.index (cell_after c).within)
+    rows_set o.width o.counts.items o.cells.items c.args.piece c.args.index c.note.new.self c.args.cell (row_at_end c).within
+    (in_width o.width o.cells.items c.args.piece c.args.index (cell_at_end c).within)
 
 pub invariant_of-self : goal.invariant_of-self
 invariant_of-self c =
     let o = c.self.inside in
     let p = c.args.piece in
     let k = c.args.index in
-    let row = row_after c in
+    let row = row_at_end c in
     kept_on o.width o.counts.items o.cells.items _ p c.note.new.self _ c.self.invariant row.within
     (length-set o.cells.items (p * o.width + k) c.args.cell) (put c)
-    (keeps_moved c.index_mut.result.now c.note.new.self (cells_at o.width o.cells.items p) k _ (cell_kept c.args.cell) (cell_after c).within
-    (cell_after c).read row.keeps c.note.ensures.held c.note.ensures.touched c.note.ensures.first)
+    (keeps_moved c.index_mut.result.now c.note.new.self (cells_at o.width o.cells.items p) k _ (cell_kept c.args.cell) (cell_at_end c).within
+    (cell_at_end c).read row.keeps c.note.ensures.held c.note.ensures.touched c.note.ensures.first)
 
 -- the row with the cell in it
 cell_put : (counts new : Counts) (cells : List CellState) (k : ℕ) (cell : CellState) → new.had ≡ counts.had → new.level ≡ counts.level
@@ -136,6 +137,6 @@ returns c =
     let now = cell_put c.index_mut.result.now c.note.new.self (cells_at o.width o.cells.items p) c.args.index kept c.note.ensures.had
     c.note.ensures.level in
     let within : p < length (rows_of o.width o.counts.items o.cells.items) =
-    omega (arith, (row_after c).within, rows_length o.width o.counts.items o.cells.items) in
+    omega (arith, (row_at_end c).within, rows_length o.width o.counts.items o.cells.items) in
     rw (← c.self.view_is)
-    (put c ∙ row_edited (rows_of o.width o.counts.items o.cells.items) p change _ within (now ∙ ap change (sym (row_after c).row)))
+    (put c ∙ row_edited (rows_of o.width o.counts.items o.cells.items) p change _ within (now ∙ ap change (sym (row_at_end c).row)))

@@ -1,7 +1,7 @@
-use Rattle.std.proofs.Common.{◌≡◌, ◌<◌, ◌-◌, ◌∙◌, length, ap, arith, sym}
+use Rattle.std.proofs.Common.{◌≡◌, ◌<◌, ◌∙◌, length, ap, arith, sym}
 use Rattle.bt_tables.specs.Orders.{at}
 use Rattle.bt_tables.specs.Standings.{ShelfState}
-use Rattle.bt_tables.proofs.Opened.{open_apart}
+use Rattle.bt_tables.proofs.Opened.{open_outside}
 use Rattle.bt_tables.proofs.shelf.Shelf.lower.Goals as goal
 
 pub invariant_of-self : goal.invariant_of-self
@@ -13,6 +13,6 @@ invariant_of-self c =
     let above = c.if-group_of-gt-UNBEGUN.true in
     rw c.lower.ensures (
       c.self.invariant.0,
-      open_apart o.order.group_of o.open_pieces.numbers o.open_pieces.bound c.args.piece (at o.order.group_of c.args.piece - 1) c.self.invariant.1 lp
+      open_outside o.order.group_of o.open_pieces.numbers o.open_pieces.bound c.args.piece _ c.self.invariant.1 lp
           (λ e. omega (arith, e, read, above)) (λ e. omega (arith, e, read, above)),
     )

@@ -11,7 +11,7 @@ use Rattle.bt_tables.proofs.shelf.Shelf.put_in.Goals.{then-is_open-opens, else-i
 within : (c : goal.After-put-2) → c.args.piece < length c.self.inside.order.group_of
 within c = omega (arith, c.requires.piece, ap length (ap (λ (s : ShelfState). s.groups) c.self.view_is))
 
--- where it neither opens nor closes, its groups agree about it
+-- where the piece neither opens nor closes, its old and its new group are both open or both not
 still : (c : goal.After-put-2) → not (beq c.is_open.result c.is_open-opens.result) ≡ false
     → (place_in (at c.self.inside.order.group_of c.args.piece) == place_of Open) ≡ (place_in c.args.after == place_of Open)
 still c same =

@@ -21,7 +21,7 @@ row-requires c =
     let long = ap length c.announce.ensures ∙ length_edit c.self.inside.pieces c.args.piece _ in
     omega (arith, lp, long)
 
--- the rows once the piece is shown by one peer more
+-- the rows once this peer shows the piece, whether it did before or not
 abbrev rows : goal.After-put_have → List PieceState
 rows c = edit c.self.inside.pieces c.args.piece (λ row. more_available (not c.shows-is_new.result) (less_available false row))
 
@@ -35,7 +35,7 @@ grown c =
     edit_piece o.floors o.peers o.pieces c.args.piece _ c.self.invariant (rw (← c.self.view_is) at c.requires.piece)
     (λ fresh. (fresh, farther (piece_row o.pieces c.args.piece) (not c.shows-is_new.result)))
 
--- and the new floor is none too high for the piece
+-- and the new floor isn't too high for the piece
 low : (c : goal.After-put_have) → is_fresh (piece_row (rows c) c.args.piece) ≡ true →
     c.floor_with-floor.result ≤ rank_of_row (piece_row (rows c) c.args.piece)
 low c fresh =

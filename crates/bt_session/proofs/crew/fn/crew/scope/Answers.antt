@@ -12,13 +12,14 @@ use Rattle.bt_session.proofs.Parts.{plays_among}
 use Rattle.bt_session.proofs.crew.fn.crew.scope.Given as given
 use Rattle.bt_session.proofs.crew.fn.crew.scope.Goals as goal
 
--- a thread was started for each stream and each checker, and all were joined
+-- a thread was started for each stream, and for each checker
 many : (g : given.Over) (c : goal.In-Ok g) → length c.start_all-started.new.playing.items ≡ length c.captures.hands.streams.items
 many g c = sym (length-map c.start_all-started.new.playing.items (λ h. h.promise.stream.value)) ∙ ap length c.in-Ok.ensures.streams
 
 many_checkers : (g : given.Over) (c : goal.In-Ok g) → length c.start_all-started.new.checking.items ≡ length c.captures.hands.checkers.items
 many_checkers g c = sym (length-map c.start_all-started.new.checking.items (λ h. h.promise.worker.value)) ∙ ap length c.in-Ok.ensures.checkers
 
+-- all of them were joined
 joined : (g : given.Over) (c : goal.In-Ok g) → length c.join_each.new.all.items ≡ length c.start_all-started.new.playing.items
 joined g c = search rules
 
@@ -51,7 +52,7 @@ plays g c i worker stream end below =
     ) k.kept)
 
 -- and so did each checker
-checks : (g : given.Over) (c : goal.In-Ok g) → EachMakesChecks c.captures.hands.checkers.items (map (λ c. c.worker) c.join_each-2.new.all.items)
+checks : (g : given.Over) (c : goal.In-Ok g) → EachMakesChecks c.captures.hands.checkers.items (map (λ p. p.worker) c.join_each-2.new.all.items)
 checks g c i worker below =
     let ks = c.start_all-started.new.checking.items in
     let d : Checked g.row.L.Denot = record { worker = worker; short = c.stop-told.result } in
@@ -60,7 +61,7 @@ checks g c i worker below =
     let k = (c.join_each-2.ensures.each i d (omega (arith, there, whole))).1 in
     rw (
       part_at (λ h. h.promise.worker.value) ks _ c.in-Ok.ensures.checkers i k.handle worker there k.handle_is,
-      get_or-map (λ c. c.worker) c.join_each-2.new.all.items i d worker (omega (arith, there, joined_checkers g c)),
+      get_or-map (λ p. p.worker) c.join_each-2.new.all.items i d worker (omega (arith, there, joined_checkers g c)),
     ) k.kept
 
 pub returns-in-Ok : goal.returns-in-Ok
