@@ -1,6 +1,8 @@
 -- Several pieces that were seen to, one after the other.
-use Rattle.std.proofs.Common.{◌≡◌, ℕ, ◌+◌, Bool, true, false, List, [], ◌∷◌, ◌++◌, refl, sym, ap, subst, ◌∙◌, inl, inr, arith}
-use Rattle.std.specs.Prelude.{◌||◌}
+use Rattle.std.proofs.Common.{◌≡◌, ◌≤◌, ℕ, zero, suc, ◌+◌, Bool, true, false, List, [], ◌∷◌, ◌++◌, length, take, Option, refl, sym, ap, subst, ◌∙◌, inl, inr, arith}
+use Rattle.std.specs.Prelude.{◌||◌, if◌then◌else◌, nat_lt}
+use Rattle.std.proofs.lemmas.Bool.{lt-ltb}
+use Rattle.std.proofs.lemmas.List.{take_all}
 use Rattle.bt_history.specs.declared.mark.CallMark.TheVariants.{Settle}
 use Rattle.bt_history.specs.declared.mark.Mark.{Mark}
 use Rattle.bt_history.specs.Setting.{Setting}
@@ -10,7 +12,9 @@ use Rattle.bt_session.proofs.Rising.{goes_on}
 use Rattle.bt_session.specs.PieceChecks.{EndsRound, GoesThrough, IsIdle, IsQuiet, MakesChecks, MayCheck, SeesOrGivesUp, SeesTo}
 use Rattle.bt_session.specs.PieceChecks.{TakesPiece, TakesPieces, TakesRound}
 use Rattle.bt_session.specs.Runs.{ChecksLast, ChecksRise}
-use Rattle.bt_session.specs.Workers.{WorkerState}
+use Rattle.bt_session.specs.Workers.{AreChecksOf, BeginWith, WorkerState}
+use Rattle.bt_shared.specs.SharedJobs.{JobState}
+use Rattle.atomic_table.specs.Seated.{TableId}
 
 -- ---- steps that note nothing
 
@@ -91,14 +95,53 @@ goes_more s first old new pieces piece a b goes ends =
     goes_then s first old new pieces piece (a || b) (all_tell s first old pieces a (a || b) (or_left a b) goes)
     (one_tells s old new piece b (a || b) (or_right a b) ends)
 
--- four checks in a row, from no piece on
-pub four_in_a_row : (s : Setting) (w a b d e : WorkerState) (p q r t : ℕ) (x y z u : Bool) → SeesOrGivesUp s w p x a → SeesOrGivesUp s a q y b →
-    SeesOrGivesUp s b r z d → SeesOrGivesUp s d t u e → GoesThrough s w (p ∷ q ∷ r ∷ t ∷ []) (((x || y) || z) || u) e
-four_in_a_row s w a b d e p q r t x y z u first second third fourth =
+goes_both : (s : Setting) (first old new : WorkerState) (pieces others : List ℕ) (told : Bool) → GoesThrough s first pieces told old →
+    GoesThrough s old others told new → GoesThrough s first (pieces ++ others) told new
+goes_both s first old new [] others told one two = goes_after s first old new others told one two
+goes_both s first old new (piece ∷ pieces) others told one two =
+    record { between = one.between; sees = one.sees; rest = goes_both s one.between old new pieces others told one.rest two }
+
+-- some pieces, and then others
+pub goes_further : (s : Setting) (first old new : WorkerState) (pieces others : List ℕ) (a b : Bool) → GoesThrough s first pieces a old →
+    GoesThrough s old others b new → GoesThrough s first (pieces ++ others) (a || b) new
+goes_further s first old new pieces others a b one two =
+    goes_both s first old new pieces others (a || b) (all_tell s first old pieces a (a || b) (or_left a b) one)
+    (all_tell s old new others b (a || b) (or_right a b) two)
+
+-- the first of four pieces, two or more
+first_some : (p q r t n : ℕ) → 2 ≤ n →
+    ((p ∷ q ∷ []) ++ (if nat_lt 2 n then r ∷ [] else [])) ++ (if nat_lt 3 n then t ∷ [] else []) ≡ take n (p ∷ q ∷ r ∷ t ∷ [])
+first_some p q r t zero some = absurd (omega (arith, some))
+first_some p q r t (suc zero) some = absurd (omega (arith, some))
+first_some p q r t (suc (suc zero)) some = refl
+first_some p q r t (suc (suc (suc zero))) some = refl
+first_some p q r t (suc (suc (suc (suc n)))) some =
+    let all : ℕ = suc (suc (suc (suc n))) in
+    let third : nat_lt 2 all ≡ true = lt-ltb 2 all (omega arith) in
+    let fourth : nat_lt 3 all ≡ true = lt-ltb 3 all (omega arith) in
+    rw (third, fourth, take_all all (p ∷ q ∷ r ∷ t ∷ []) (omega arith)) refl
+
+-- two checks in a row, and two more where they are asked for
+pub first_in_a_row : (s : Setting) (w a b d e : WorkerState) (p q r t n : ℕ) (x y z u : Bool) → 2 ≤ n → SeesOrGivesUp s w p x a →
+    SeesOrGivesUp s a q y b → GoesThrough s b (if nat_lt 2 n then r ∷ [] else []) z d →
+    GoesThrough s d (if nat_lt 3 n then t ∷ [] else []) u e → GoesThrough s w (take n (p ∷ q ∷ r ∷ t ∷ [])) (((x || y) || z) || u) e
+first_in_a_row s w a b d e p q r t n x y z u some first second third fourth =
     let one = goes_more s w w a [] p false x (idle_same w) first in
     let two = goes_more s w a b (p ∷ []) q x y one second in
-    let three = goes_more s w b d (p ∷ q ∷ []) r (x || y) z two third in
-    goes_more s w d e (p ∷ q ∷ r ∷ []) t ((x || y) || z) u three fourth
+    let three = goes_further s w b d (p ∷ q ∷ []) (if nat_lt 2 n then r ∷ [] else []) (x || y) z two third in
+    subst (λ (pieces : List ℕ). GoesThrough s w pieces (((x || y) || z) || u) e) (first_some p q r t n some)
+    (goes_further s w d e ((p ∷ q ∷ []) ++ (if nat_lt 2 n then r ∷ [] else [])) (if nat_lt 3 n then t ∷ [] else []) ((x || y) || z) u three fourth)
+
+-- ---- pieces of the lanes
+
+-- the jobs of the lanes begin with those of the pieces that the lanes begin with
+pub begin_with : (desk : Option TableId) (setting : Setting) (pieces lanes : List ℕ) (jobs : List JobState) → 2 ≤ length pieces →
+    take (length pieces) lanes ≡ pieces → AreChecksOf desk setting lanes jobs → BeginWith desk setting pieces jobs
+begin_with desk setting pieces lanes jobs some first checks = record {
+  of_run = checks.0;
+  some = some;
+  first = subst (λ (ps : List ℕ). take (length pieces) ps ≡ pieces) checks.1 first;
+}
 
 -- ---- the log
 

@@ -1,5 +1,5 @@
 -- The workers of a run in threads: what each of them has, and what its seat knows.
-use Rattle.std.specs.Prelude.{◌≡◌, ◌==◌, ◌<◌, ◌+◌, if◌then◌else◌, ℕ, Bool, true, false, List, [], ◌∷◌, length, slice_get, slice_index_or, Option}
+use Rattle.std.specs.Prelude.{◌≡◌, ◌==◌, ◌<◌, ◌≤◌, ◌+◌, if◌then◌else◌, ℕ, Bool, true, false, List, [], ◌∷◌, length, take, slice_get, slice_index_or, Option}
 use Rattle.std.specs.Prelude.{Some, map}
 use Rattle.std.specs.List.{All}
 use Rattle.atomic_table.specs.Seated.{TableId}
@@ -48,6 +48,12 @@ pieces_of jobs = map (λ (job : JobState). job.checked.piece) jobs
 -- and they are of these pieces
 abbrev pub AreChecksOf : Option TableId → Setting → List ℕ → List JobState → Type 0
 AreChecksOf desk setting pieces jobs = AreOfRun desk setting jobs × (pieces ≡ pieces_of jobs)
+
+-- and the first of them are of these pieces, which are two or more
+pub record BeginWith (desk : Option TableId) (setting : Setting) (pieces : List ℕ) (jobs : List JobState) : Type 0 where
+  pub of_run : AreOfRun desk setting jobs
+  pub some : 2 ≤ length pieces
+  pub first : take (length pieces) (pieces_of jobs) ≡ pieces
 
 -- each of these passes is
 abbrev pub AreNamed : Option TableId → Setting → List PassState → Type 0

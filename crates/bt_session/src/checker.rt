@@ -16,6 +16,9 @@ pub struct Checked<L: RunName> {
 }
 
 /// Sees to the pieces of the tickets that it takes, until it is told to stop.
+///
+/// A checker that found fewer than four pieces keeps its turn while it hashes them. So the next ones gather meanwhile, and are hashed side by
+/// side. One that found four gives the turn on at once: where as many wait, another checker takes them.
 pub fn check_pieces<L: RunName, T: Wait>(
     rt: &T,
     alloc: Global,
@@ -27,8 +30,11 @@ pub fn check_pieces<L: RunName, T: Wait>(
     let mut worker = worker;
     let mut short = false;
     for _ in rt.forever() {
+        let turn = commons.turn(rt);
         let round = commons.next_round(rt, &mut worker);
+        let kept = (!round.pieces.is_full()).then_some(turn);
         short |= commons.check_all(rt, alloc, &mut worker, round.pieces.as_slice());
+        drop(kept);
         if round.is_last {
             break;
         }

@@ -29,7 +29,7 @@ use bt_picker::{Call, Reply};
 use bt_shared::{Book, Pass, SharedDesk, SharedJob, SharedVerdict};
 use std::alloc::{AllocError, Global};
 use std::marker::{Model, PhantomData};
-use std::sync::{Arc, Wait};
+use std::sync::{Arc, Mutex, MutexGuard, Wait};
 
 /// What a worker of a run has of its own. Contracts see the three parts.
 pub struct Worker<L: RunName> {
@@ -97,12 +97,13 @@ impl<L: RunName> Worker<L> {
 }
 
 /// What the threads of a run share: the torrent, its desk, the board of its finished pieces, and the queue of tickets for pieces to be
-/// checked. Contracts see the torrent.
+/// checked, at which one checker takes its round at a time. Contracts see the torrent.
 pub struct Commons<L: RunName> {
     torrent: Arc<Torrent>,
     desk: SharedDesk,
     board: Board,
     queue: Tickets,
+    turn: Mutex<()>,
     run: PhantomData<L>,
 }
 
@@ -114,6 +115,7 @@ impl<L: RunName> Drop for Commons<L> {
             desk: _desk,
             board: _board,
             queue: _queue,
+            turn: _turn,
             run: _,
         } = self;
     }
@@ -141,6 +143,7 @@ impl<L: RunName> Commons<L> {
             desk,
             board,
             queue,
+            turn: Mutex::new(()),
             run: PhantomData,
         }
     }
@@ -190,6 +193,11 @@ impl<L: RunName> Commons<L> {
         ensures { PutsIf result ticket worker.old worker.new }
     {
         self.queue.put(rt, &mut worker.tickets, ticket).is_ok()
+    }
+
+    /// A checker's turn at the queue. Waits while another has it.
+    pub fn turn<T: Wait>(&self, rt: &T) -> MutexGuard<'_, ()> {
+        self.turn.lock(rt)
     }
 
     /// The piece of the next ticket; none where it is Stop, or no ticket comes. Waits while the queue is empty.
@@ -316,6 +324,7 @@ impl<L: RunName> Commons<L> {
             desk,
             board,
             queue: _,
+            turn: _,
             run: _,
         } = self;
         let mut passes = Vec::with_capacity(alloc, workers.len())?;

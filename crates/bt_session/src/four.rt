@@ -1,8 +1,8 @@
-//! Checks of several pieces, four of them hashed side by side.
+//! Checks of several pieces, up to four of them hashed side by side.
 
-ghost use Rattle.std.specs.Prelude.{◌≡◌, [], ◌∷◌, IfSome};
+ghost use Rattle.std.specs.Prelude.{◌≡◌, ◌≤◌, [], ◌∷◌, if◌then◌else◌, length, take, IfSome};
 ghost use Rattle.bt_session.specs.PieceChecks.{GoesThrough, IsIdle, SeesOrGivesUp};
-ghost use Rattle.bt_session.specs.Workers.{AreChecksOf, AreOfRun, IsOfRun, pieces_of};
+ghost use Rattle.bt_session.specs.Workers.{AreChecksOf, AreOfRun, BeginWith, IsOfRun, pieces_of};
 
 use crate::commons::{Commons, Worker};
 use crate::run_name::RunName;
@@ -10,9 +10,23 @@ use bt_shared::{SharedJob, SharedVerdict};
 use std::alloc::Global;
 use std::sync::Wait;
 
+/// The pieces for the four lanes, if two to four wait: these, and the first of them once more where lanes are left. Two pieces take less time
+/// in four lanes than one after the other.
+fn lanes_of(pieces: &[u32]) -> Option<[u32; 4]>
+    ensures few { IfSome result (λ lanes. 2 ≤ length pieces.now) }
+    ensures first { IfSome result (λ lanes. take (length pieces.now) lanes ≡ pieces.now) }
+{
+    match *pieces {
+        [first, second] => Some([first, second, first, second]),
+        [first, second, third] => Some([first, second, third, first]),
+        [first, second, third, fourth] => Some([first, second, third, fourth]),
+        _ => None,
+    }
+}
+
 impl<L: RunName> Commons<L> {
-    /// Sees to the pieces, one after the other. Four that all wait for their checks are hashed side by side. Whether a check was given up for
-    /// want of memory; the others are made.
+    /// Sees to the pieces, one after the other. Two to four that all wait for their checks are hashed side by side. Whether a check was given up
+    /// for want of memory; the others are made.
     pub fn check_all<T: Wait>(
         &self,
         rt: &T,
@@ -22,14 +36,15 @@ impl<L: RunName> Commons<L> {
     ) -> bool
         ensures { GoesThrough L.setting worker.old pieces.now result worker.new }
     {
-        match self.verdicts_of_four(rt, alloc, worker, pieces) {
-            Some(verdicts) => self.settle_four(rt, worker, verdicts),
+        match self.verdicts_of(rt, alloc, worker, pieces) {
+            Some(verdicts) => self.settle_first(rt, worker, pieces.len(), verdicts),
             None => self.check_each(rt, alloc, worker, pieces),
         }
     }
 
-    /// The verdicts of the pieces, hashed side by side, if these are four and each waits for a check. None where there is no memory for one.
-    fn verdicts_of_four<T: Wait>(
+    /// The verdicts of the pieces in front of those of the lanes that were left, hashed side by side, if these are two to four and each waits
+    /// for a check. None where there is no memory for one.
+    fn verdicts_of<T: Wait>(
         &self,
         rt: &T,
         alloc: Global,
@@ -37,29 +52,27 @@ impl<L: RunName> Commons<L> {
         pieces: &[u32],
     ) -> Option<(SharedVerdict, SharedVerdict, SharedVerdict, SharedVerdict)>
         ensures idle { IsIdle worker.old worker.new }
-        ensures pieces { IfSome result (λ four. AreChecksOf L.desk L.setting pieces.now (four.0 ∷ four.1 ∷ four.2 ∷ four.3 ∷ [])) }
+        ensures pieces { IfSome result (λ four. BeginWith L.desk L.setting pieces.now (four.0 ∷ four.1 ∷ four.2 ∷ four.3 ∷ [])) }
     {
-        let (first, second, third, fourth) = self.jobs_of_four(rt, alloc, worker, pieces)?;
+        let lanes = lanes_of(pieces)?;
+        let (first, second, third, fourth) = self.jobs_of(rt, alloc, worker, lanes)?;
         match SharedJob::hash_four(alloc, first, second, third, fourth) {
             Ok(verdicts) => Some(verdicts),
             Err(_) => None,
         }
     }
 
-    /// The jobs of the pieces, if these are four and each waits for a check. None where there is no memory for one.
-    fn jobs_of_four<T: Wait>(
+    /// The jobs of the pieces, if each waits for a check. None where there is no memory for one.
+    fn jobs_of<T: Wait>(
         &self,
         rt: &T,
         alloc: Global,
         worker: &mut Worker<L>,
-        pieces: &[u32],
+        pieces: [u32; 4],
     ) -> Option<(SharedJob, SharedJob, SharedJob, SharedJob)>
         ensures idle { IsIdle worker.old worker.new }
-        ensures pieces { IfSome result (λ four. AreChecksOf L.desk L.setting pieces.now (four.0 ∷ four.1 ∷ four.2 ∷ four.3 ∷ [])) }
+        ensures pieces { IfSome result (λ four. AreChecksOf L.desk L.setting pieces (four.0 ∷ four.1 ∷ four.2 ∷ four.3 ∷ [])) }
     {
-        if pieces.len() != 4 {
-            return None;
-        }
         let first = self.job(rt, alloc, worker, pieces[0])?;
         let second = self.job(rt, alloc, worker, pieces[1])?;
         let third = self.job(rt, alloc, worker, pieces[2])?;
@@ -67,22 +80,38 @@ impl<L: RunName> Commons<L> {
         Some((first, second, third, fourth))
     }
 
-    /// Settles the verdicts, one after the other. Whether one was given up for want of memory.
-    fn settle_four<T: Wait>(
+    /// Settles the first verdicts, two or more, one after the other. Whether one was given up for want of memory.
+    fn settle_first<T: Wait>(
         &self,
         rt: &T,
         worker: &mut Worker<L>,
+        count: usize,
         four: (SharedVerdict, SharedVerdict, SharedVerdict, SharedVerdict),
     ) -> bool
-        requires { AreOfRun L.desk L.setting (four.0 ∷ four.1 ∷ four.2 ∷ four.3 ∷ []) }
-        ensures { GoesThrough L.setting worker.old (pieces_of (four.0 ∷ four.1 ∷ four.2 ∷ four.3 ∷ [])) result worker.new }
+        requires run { AreOfRun L.desk L.setting (four.0 ∷ four.1 ∷ four.2 ∷ four.3 ∷ []) }
+        requires some { 2 ≤ count }
+        ensures { GoesThrough L.setting worker.old (take count (pieces_of (four.0 ∷ four.1 ∷ four.2 ∷ four.3 ∷ []))) result worker.new }
     {
         let (first, second, third, fourth) = four;
         let first = self.settle_or_not(rt, worker, first);
         let second = self.settle_or_not(rt, worker, second);
-        let third = self.settle_or_not(rt, worker, third);
-        let fourth = self.settle_or_not(rt, worker, fourth);
+        let third = self.settle_if(rt, worker, count > 2, third);
+        let fourth = self.settle_if(rt, worker, count > 3, fourth);
         first | second | third | fourth
+    }
+
+    /// Settles the verdict if it is asked for. Whether it was given up for want of memory.
+    fn settle_if<T: Wait>(
+        &self,
+        rt: &T,
+        worker: &mut Worker<L>,
+        asked: bool,
+        verdict: SharedVerdict,
+    ) -> bool
+        requires { IsOfRun L.desk L.setting verdict }
+        ensures { GoesThrough L.setting worker.old (if asked then verdict.checked.piece ∷ [] else []) result worker.new }
+    {
+        asked && self.settle_or_not(rt, worker, verdict)
     }
 
     /// Settles the verdict. Whether it was given up for want of memory.
