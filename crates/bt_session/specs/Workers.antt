@@ -1,6 +1,6 @@
 -- The workers of a run in threads: what each of them has, and what its seat knows.
-use Rattle.std.specs.Prelude.{◌≡◌, ◌==◌, ◌<◌, ◌≤◌, ◌+◌, if◌then◌else◌, ℕ, Bool, true, false, List, [], ◌∷◌, length, take, slice_get, slice_index_or, Option}
-use Rattle.std.specs.Prelude.{Some, map}
+use Rattle.std.specs.Prelude.{◌≡◌, ◌==◌, ◌<◌, ◌≤◌, ◌+◌, if◌then◌else◌, ℕ, Bool, true, false, List, [], ◌∷◌, length, take}
+use Rattle.std.specs.Prelude.{slice_get, slice_index_or, Option, Some, map}
 use Rattle.std.specs.List.{All}
 use Rattle.atomic_table.specs.Seated.{TableId}
 use Rattle.bt_board.specs.Knowing.{has_seen, has_given}
