@@ -1,5 +1,5 @@
 -- Several pieces that were seen to, one after the other.
-use Rattle.std.proofs.Common.{◌≡◌, ◌≤◌, ℕ, zero, suc, ◌+◌, Bool, true, false, List, [], ◌∷◌, ◌++◌, length, take, Option}
+use Rattle.std.proofs.Common.{◌≡◌, ◌≤◌, ◌<◌, ℕ, zero, suc, ◌+◌, Bool, true, false, List, [], ◌∷◌, ◌++◌, get_or, length, take, Option}
 use Rattle.std.proofs.Common.{refl, sym, ap, subst, ◌∙◌, inl, inr, arith}
 use Rattle.std.specs.Prelude.{◌||◌, if◌then◌else◌, nat_lt}
 use Rattle.std.proofs.lemmas.Bool.{lt-ltb}
@@ -134,6 +134,15 @@ first_in_a_row s w a b d e p q r t n x y z u some first second third fourth =
     (goes_further s w d e ((p ∷ q ∷ []) ++ (if nat_lt 2 n then r ∷ [] else [])) (if nat_lt 3 n then t ∷ [] else []) ((x || y) || z) u three fourth)
 
 -- ---- pieces of the lanes
+
+-- three pieces stand in the first three lanes
+pub three_first : (pieces : List ℕ) → 3 ≤ length pieces → length pieces < 4 →
+    take (length pieces) (get_or pieces 0 0 ∷ get_or pieces 1 0 ∷ get_or pieces 2 0 ∷ get_or pieces 0 0 ∷ []) ≡ pieces
+three_first [] some few = absurd (omega (arith, some))
+three_first (a ∷ []) some few = absurd (omega (arith, some))
+three_first (a ∷ b ∷ []) some few = absurd (omega (arith, some))
+three_first (a ∷ b ∷ c ∷ []) some few = refl
+three_first (a ∷ b ∷ c ∷ d ∷ others) some few = absurd (omega (arith, few))
 
 -- the jobs of the lanes begin with those of the pieces that the lanes begin with
 pub begin_with : (desk : Option TableId) (setting : Setting) (pieces lanes : List ℕ) (jobs : List JobState) → 2 ≤ length pieces →
