@@ -196,7 +196,7 @@ impl<L: RunName> Commons<L> {
     }
 
     /// A checker's turn at the queue. Waits while another has it.
-    pub fn turn<T: Wait>(&self, rt: &T) -> MutexGuard<'_, ()> {
+    pub(crate) fn turn<T: Wait>(&self, rt: &T) -> MutexGuard<'_, ()> {
         self.turn.lock(rt)
     }
 
