@@ -54,6 +54,10 @@ impl<L: RunName> Commons<L> {
         ensures idle { IsIdle worker.old worker.new }
         ensures pieces { IfSome result (λ four. BeginWith L.desk L.setting pieces.now (four.0 ∷ four.1 ∷ four.2 ∷ four.3 ∷ [])) }
     {
+        // The last piece may be shorter than the others. Then nothing goes side by side, and lanes that repeat a piece would hash it twice.
+        if pieces.len() < 4 && pieces.contains(&self.piece_count().saturating_sub(1)) {
+            return None;
+        }
         let lanes = lanes_of(pieces)?;
         let (first, second, third, fourth) = self.jobs_of(rt, alloc, worker, lanes)?;
         match SharedJob::hash_four(alloc, first, second, third, fourth) {
