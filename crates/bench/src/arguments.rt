@@ -31,10 +31,77 @@ pub struct Arguments<'a> {
     pub crowd: Option<Crowd>,
 }
 
+/// An option that takes a number.
+#[derive(Clone, Copy)]
+struct Number {
+    name: &'static str,
+    /// How the help calls its value.
+    value: &'static str,
+    help: &'static str,
+    least: i64,
+    most: i64,
+    /// What it is where it isn't given, if that is some number.
+    usual: Option<&'static str>,
+}
+
+const NUMBERS: &[Number] = &[
+    Number {
+        name: "asks",
+        value: "N",
+        help: "Ends the download once so many asks were made",
+        least: 0,
+        most: i64::MAX,
+        usual: None,
+    },
+    Number {
+        name: "density",
+        value: "D",
+        help: "Each peer but the seed shows a piece with the probability 1/2^D",
+        least: 0,
+        most: 32,
+        usual: Some("1"),
+    },
+    Number {
+        name: "depth",
+        value: "D",
+        help: "Blocks outstanding at a peer; with 0 each block arrives as soon as it is asked for",
+        least: 0,
+        most: MOST_DEPTH as i64,
+        usual: Some("5"),
+    },
+    Number {
+        name: "runs",
+        value: "N",
+        help: "Times so many runs and prints the least times; with 0 it plays once and prints none",
+        least: 0,
+        most: u32::MAX as i64,
+        usual: Some("3"),
+    },
+    Number {
+        name: "threads",
+        value: "N",
+        help: "Has so many threads call one desk in the end, each for a peer of its own",
+        least: 1,
+        most: MOST_THREADS,
+        usual: None,
+    },
+    Number {
+        name: "pairs",
+        value: "N",
+        help: "Blocks that each of the threads asks for and brings",
+        least: 1,
+        most: MOST_PAIRS,
+        usual: Some("20000"),
+    },
+];
+
 /// The command with its arguments.
 pub fn command<'a>(alloc: Global) -> Result<Command<'a>, AllocError> {
-    let timing = with_timing(alloc, with_swarm(alloc, named(alloc))?)?;
-    with_threads(alloc, timing)?.arg(pieces(alloc))
+    let mut command = named(alloc);
+    for number in NUMBERS {
+        command = command.arg(number.option(alloc))?;
+    }
+    with_others(alloc, command)
 }
 
 /// The command before it has any argument.
@@ -45,58 +112,49 @@ fn named<'a>(alloc: Global) -> Command<'a> {
         .arg_required_else_help(true)
 }
 
-/// Adds the options that say what is downloaded, and how.
-fn with_swarm<'a>(alloc: Global, command: Command<'a>) -> Result<Command<'a>, AllocError> {
+/// Adds the arguments that are no options with a number.
+fn with_others<'a>(alloc: Global, command: Command<'a>) -> Result<Command<'a>, AllocError> {
     command
-        .arg(asks(alloc))?
-        .arg(density(alloc))?
-        .arg(depth(alloc))
-}
-
-/// Adds the options that say what is timed and told of it.
-fn with_timing<'a>(alloc: Global, command: Command<'a>) -> Result<Command<'a>, AllocError> {
-    command
-        .arg(runs(alloc))?
         .arg(trace(alloc))?
-        .arg(calls(alloc))
+        .arg(calls(alloc))?
+        .arg(pieces(alloc))
 }
 
-/// Adds the options that say which threads share a desk.
-fn with_threads<'a>(alloc: Global, command: Command<'a>) -> Result<Command<'a>, AllocError> {
-    command.arg(threads(alloc))?.arg(pairs(alloc))
-}
+impl Number {
+    /// As `clap` takes it.
+    fn option<'a>(&self, alloc: Global) -> Arg<'a> {
+        let option = self.without_usual(alloc);
+        match self.usual {
+            Some(usual) => option.default_value(usual),
+            None => option,
+        }
+    }
 
-/// What was asked for.
-pub fn read<'a>(matches: &ArgMatches<'a>) -> Arguments<'a> {
-    Arguments {
-        workload: Workload {
-            pieces: matches.get_one::<u32>("pieces").unwrap_or(1),
-            density: matches.get_one::<u32>("density").unwrap_or(1),
-            depth: matches.get_one::<u32>("depth").unwrap_or(5),
-            asks: matches.get_one::<u64>("asks").unwrap_or(u64::MAX),
-        },
-        runs: matches.get_one::<u32>("runs").unwrap_or(3),
-        trace: matches.get_str("trace"),
-        calls: matches.get_flag("calls"),
-        crowd: crowd(matches),
+    /// The same, where it may lack.
+    fn without_usual<'a>(&self, alloc: Global) -> Arg<'a> {
+        Arg::new(alloc, self.name)
+            .long(self.name)
+            .value_name(self.value)
+            .help(self.help)
+            .value_parser(value_parser!(u64).range(self.least..=self.most))
     }
 }
 
-/// The threads that were asked for, whose times are wanted if any are.
-fn crowd(matches: &ArgMatches<'_>) -> Option<Crowd> {
-    Some(Crowd {
-        threads: matches.get_one::<u32>("threads")?,
-        pairs: matches.get_one::<u32>("pairs").unwrap_or(20_000),
-        times: matches.get_one::<u32>("runs") != Some(0),
-    })
+fn trace<'a>(alloc: Global) -> Arg<'a> {
+    Arg::new(alloc, "trace")
+        .long("trace")
+        .value_name("FILE")
+        .help(
+            "Writes worker, piece and block of each request to this file, in a run that isn't timed",
+        )
+        .action(ArgAction::Set)
 }
 
-/// An option with a value of this name.
-fn option<'a>(alloc: Global, name: &'a str, value: &'a str, help: &'a str) -> Arg<'a> {
-    Arg::new(alloc, name)
-        .long(name)
-        .value_name(value)
-        .help(help)
+fn calls<'a>(alloc: Global) -> Arg<'a> {
+    Arg::new(alloc, "calls")
+        .long("calls")
+        .help("Times each kind of call alone")
+        .action(ArgAction::SetTrue)
 }
 
 fn pieces<'a>(alloc: Global) -> Arg<'a> {
@@ -107,83 +165,32 @@ fn pieces<'a>(alloc: Global) -> Arg<'a> {
         .required(true)
 }
 
-fn asks<'a>(alloc: Global) -> Arg<'a> {
-    option(
-        alloc,
-        "asks",
-        "N",
-        "Ends the download once so many asks were made",
-    )
-    .value_parser(value_parser!(u64))
+/// What was asked for.
+pub fn read<'a>(matches: &ArgMatches<'a>) -> Arguments<'a> {
+    Arguments {
+        workload: Workload {
+            pieces: matches.get_one::<u32>("pieces").unwrap_or(1),
+            density: number_of(matches, "density").unwrap_or(1),
+            depth: number_of(matches, "depth").unwrap_or(5),
+            asks: matches.get_one::<u64>("asks").unwrap_or(u64::MAX),
+        },
+        runs: number_of(matches, "runs").unwrap_or(3),
+        trace: matches.get_str("trace"),
+        calls: matches.get_flag("calls"),
+        crowd: crowd(matches),
+    }
 }
 
-fn density<'a>(alloc: Global) -> Arg<'a> {
-    option(
-        alloc,
-        "density",
-        "D",
-        "Each peer but the seed shows a piece with the probability 1/2^D",
-    )
-    .value_parser(value_parser!(u32).range(0..=32))
-    .default_value("1")
+/// The number of an option whose bounds are within 32 bits.
+fn number_of(matches: &ArgMatches<'_>, name: &str) -> Option<u32> {
+    u32::try_from(matches.get_one::<u64>(name)?).ok()
 }
 
-fn depth<'a>(alloc: Global) -> Arg<'a> {
-    option(
-        alloc,
-        "depth",
-        "D",
-        "Blocks outstanding at a peer; with 0 each block arrives as soon as it is asked for",
-    )
-    .value_parser(value_parser!(u32).range(0..=i64::from(MOST_DEPTH)))
-    .default_value("5")
-}
-
-fn runs<'a>(alloc: Global) -> Arg<'a> {
-    option(
-        alloc,
-        "runs",
-        "N",
-        "Times so many runs and prints the least times; with 0 it plays once and prints none",
-    )
-    .value_parser(value_parser!(u32))
-    .default_value("3")
-}
-
-fn trace<'a>(alloc: Global) -> Arg<'a> {
-    option(
-        alloc,
-        "trace",
-        "FILE",
-        "Writes worker, piece and block of each request to this file, in a run that isn't timed",
-    )
-    .action(ArgAction::Set)
-}
-
-fn calls<'a>(alloc: Global) -> Arg<'a> {
-    Arg::new(alloc, "calls")
-        .long("calls")
-        .help("Times each kind of call alone")
-        .action(ArgAction::SetTrue)
-}
-
-fn threads<'a>(alloc: Global) -> Arg<'a> {
-    option(
-        alloc,
-        "threads",
-        "N",
-        "Has so many threads call one desk in the end, each for a peer of its own",
-    )
-    .value_parser(value_parser!(u32).range(1..=MOST_THREADS))
-}
-
-fn pairs<'a>(alloc: Global) -> Arg<'a> {
-    option(
-        alloc,
-        "pairs",
-        "N",
-        "Blocks that each of the threads asks for and brings",
-    )
-    .value_parser(value_parser!(u32).range(1..=MOST_PAIRS))
-    .default_value("20000")
+/// The threads that were asked for, whose times are wanted if any are.
+fn crowd(matches: &ArgMatches<'_>) -> Option<Crowd> {
+    Some(Crowd {
+        threads: number_of(matches, "threads")?,
+        pairs: number_of(matches, "pairs").unwrap_or(20_000),
+        times: number_of(matches, "runs") != Some(0),
+    })
 }

@@ -1,5 +1,5 @@
 -- A run with recorded peers: what is printed of it, and how the command ends.
-use Rattle.std.specs.Prelude.{◌≡◌, ◌≢◌, ◌⊎◌, ◌↔◌, ◌<◌, ℕ, Bool, true, false, List, [], ◌∷◌, ◌++◌, length, map, codes, ◌||◌, Option, Some, None}
+use Rattle.std.specs.Prelude.{◌≡◌, ◌≢◌, ◌⊎◌, ◌↔◌, ◌<◌, ◌+◌, ℕ, Bool, true, false, List, [], ◌∷◌, ◌++◌, length, map, codes, ◌||◌, Option, Some, None}
 use Rattle.std.specs.Prelude.{option_map, Result, Ok, Err, IfOk, IfErr, IsErr}
 use Rattle.std.specs.List.{list_any}
 use Rattle.std.specs.Io.KnownBytes.{Appends}
@@ -9,6 +9,7 @@ use Rattle.bt_meta.specs.declared.fault.BitFault.TheVariants.{SpareBits, WrongCo
 use Rattle.bt_meta.specs.declared.fault.MetaFault.{MetaFault}
 use Rattle.bt_history.specs.declared.call.Entry.{Entry}
 use Rattle.bt_history.specs.Entries.{event_of, history_of}
+use Rattle.bt_history.specs.Setting.{AreRules, setting_of}
 use Rattle.bt_picker.specs.Checks.{waits}
 use Rattle.bt_picker.specs.Contents.{has_wanted}
 use Rattle.bt_picker.specs.Positions.{DeskState}
@@ -84,6 +85,19 @@ IsWant pieces None None = Unit {0}
 IsWant pieces None (Some flags) = ⊥
 IsWant pieces (Some bytes) None = ⊥
 IsWant pieces (Some bytes) (Some flags) = (length flags ≡ pieces) × IsSpelled flags bytes
+
+-- Streams were played in one thread, by options that fit the torrent of the bytes: at a desk of that torrent, with an end for each. The last
+-- worker told the wanted pieces, if any; and no piece waits for its check, unless the run is short.
+pub record IsPlayed {X : Type 0} (record_of : X → StreamRecord) (read : Result Metainfo MetaFault) (options : Options) (streams : List X)
+    (torrent : Metainfo) (short : Bool) (desk : DeskState) (streams' : List X) (ends : List (Result End SessionFault)) : Type 0 where
+  pub is_torrent : read ≡ Ok torrent
+  pub rules : AreRules torrent.layout options.rules
+  pub setting : desk.setting ≡ setting_of torrent.layout (length streams + 1) options.rules
+  pub count : length ends ≡ length streams
+  pub want : Option (List Bool)
+  pub is_want : IsWant (piece_count torrent.layout) (want_of options) want
+  pub ran : RanInTurns record_of (terms_of torrent options.rules.depth) options.seed want streams short desk streams' ends
+  pub none_waits : short ≡ false → (piece : ℕ) → waits desk.setting desk.history piece ≡ false
 
 -- A run of these streams came to this desk: an end for each stream, each as its session's, which asked for blocks by the depth of the
 -- options, and left after a fault, unless the run is short; the last worker told the pieces that the options want, if any, and made the last

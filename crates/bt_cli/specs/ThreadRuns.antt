@@ -2,7 +2,8 @@
 use Rattle.std.specs.Prelude.{◌≡◌, ◌⊎◌, ◌<◌, ◌≤◌, ◌+◌, ℕ, Bool, List, length, Option, Some, None, Result, Ok, Err}
 use Rattle.bt_meta.specs.Layout.{Metainfo, piece_count}
 use Rattle.bt_meta.specs.declared.fault.MetaFault.{MetaFault}
-use Rattle.bt_history.specs.Setting.{setting_of}
+use Rattle.bt_history.specs.Legal.{IsLegal}
+use Rattle.bt_history.specs.Setting.{AreRules, setting_of}
 use Rattle.bt_peer.specs.declared.fault.End.{End}
 use Rattle.bt_peer.specs.declared.fault.SessionFault.{SessionFault}
 use Rattle.bt_session.specs.declared.fault.SwarmFault.{SwarmFault}
@@ -13,11 +14,31 @@ use Rattle.bt_session.specs.Swarms.{EachSwarmed, MakesLastChecks}
 use Rattle.bt_session.specs.Runs.{LeavesNone}
 use Rattle.bt_peer.specs.SessionTerms.{terms_of}
 use Rattle.bt_shared.specs.declared.gather.Book.{Book}
+use Rattle.bt_shared.specs.Gathering.{EachAgrees}
 use Rattle.bt_text.specs.declared.fault.Fault.{Fault}
 use Rattle.bt_text.specs.declared.fault.Fault.TheVariants as faults
 use Rattle.bt_cli.specs.declared.options.Options.{Options}
 use Rattle.bt_cli.specs.Runs.{Ended, IsEndStatus}
 use Rattle.bt_text.specs.Statuses.{of_gather, of_metainfo, status_of}
+
+-- Streams were played in threads, by options that fit the torrent of the bytes: at a desk of that torrent, with an end and a log for each.
+-- The checkers made checks alone, and the last worker the last ones; the logs are the journal's.
+pub record IsPlayedInThreads {X : Type 0} (record_of : X → StreamRecord) (read : Result Metainfo MetaFault) (options : Options)
+    (streams : List X) (torrent : Metainfo) (short : Bool) (book : Book) (left : List X) (ends : List (Result End SessionFault)) : Type 0 where
+  pub is_torrent : read ≡ Ok torrent
+  pub rules : AreRules torrent.layout options.rules
+  pub setting : book.desk.setting ≡ setting_of torrent.layout (length streams + options.checkers + 1) options.rules
+  pub legal : IsLegal book.desk.setting book.desk.history
+  pub logs : length book.logs.items ≡ length streams + options.checkers + 1
+  pub agrees : EachAgrees book.desk.history book.logs.items
+  pub count : length ends ≡ length streams
+  pub all_left : length left ≡ length streams
+  pub sessions : EachSwarmed record_of (terms_of torrent options.rules.depth)
+      (setting_of torrent.layout (length streams + options.checkers + 1) options.rules) options.seed streams book.desk.history book.logs.items left
+      ends short
+  pub checks : CheckersCheck (length streams) options.checkers book.logs.items
+  pub finishes : MakesLastChecks (length streams + options.checkers) book.logs.items (piece_count torrent.layout)
+  pub waiting : LeavesNone short book.desk
 
 -- A run of these streams in threads came to this book: an end for each stream, each as its session's at its worker's log, which asked for
 -- blocks by the depth of the options; the checkers made checks alone, and the last worker the last ones; and it ended as `Ended` says.

@@ -11,7 +11,7 @@ ghost use Rattle.bt_cli.specs.Reports.{report_text, session_fault_number};
 use bt_meta::{DeviceFault, Sink};
 use bt_picker::Desk;
 use bt_session::{End, SessionFault};
-use bt_text::{print, print_number};
+use bt_text::{print, print_numbered};
 
 /// The number by which the end of a session is told.
 pub fn session_fault_number(fault: SessionFault) -> u8
@@ -79,13 +79,11 @@ fn print_end<O: Sink>(
     ensures ok { OnOk result (Appends (O.written out.old) (O.written out.new) (end_text stream end)) }
     ensures err { OnErr result (O.failed out.new ≡ true) }
 {
-    print(out, "stream ")?;
-    print_number(out, stream as u64)?;
+    print_numbered(out, "stream ", stream as u64)?;
     match end {
         Ok(_) => print(out, " end\n"),
         Err(fault) => {
-            print(out, " fault ")?;
-            print_number(out, u64::from(session_fault_number(fault)))?;
+            print_numbered(out, " fault ", u64::from(session_fault_number(fault)))?;
             print(out, "\n")
         }
     }
@@ -110,10 +108,8 @@ fn print_counts<O: Sink>(out: &mut O, pieces: u32, had: u32) -> Result<(), Devic
     ensures ok { OnOk result (Appends (O.written out.old) (O.written out.new) (counts_text pieces had)) }
     ensures err { OnErr result (O.failed out.new ≡ true) }
 {
-    print(out, "pieces ")?;
-    print_number(out, u64::from(pieces))?;
-    print(out, "\nhad ")?;
-    print_number(out, u64::from(had))?;
+    print_numbered(out, "pieces ", u64::from(pieces))?;
+    print_numbered(out, "\nhad ", u64::from(had))?;
     print(out, "\n")
 }
 
@@ -164,8 +160,7 @@ fn print_missing_piece<O: Sink>(out: &mut O, piece: u32, done: bool) -> Result<(
     if done {
         return Ok(());
     }
-    print(out, " ")?;
-    print_number(out, u64::from(piece))
+    print_numbered(out, " ", u64::from(piece))
 }
 
 /// The line of what the audit found.
@@ -176,8 +171,7 @@ fn print_judged<O: Sink>(out: &mut O, judged: Judged) -> Result<(), DeviceFault>
     match judged {
         Judged::Sound => print(out, "journal ok\n"),
         Judged::Wrong(place) => {
-            print(out, "journal bad ")?;
-            print_number(out, place as u64)?;
+            print_numbered(out, "journal bad ", place as u64)?;
             print(out, "\n")
         }
         Judged::Unjudged => Ok(()),

@@ -1,13 +1,11 @@
 //! The command `serial`.
 
-ghost use Rattle.std.specs.Prelude.{◌≡◌, ◌≤◌, ◌+◌, ℕ, Bool, List, Option, length, false, IfOk, IfErr, IsOk, OnOk, OnErr};
-ghost use Rattle.bt_meta.specs.Layout.{Metainfo, piece_count};
+ghost use Rattle.std.specs.Prelude.{◌≡◌, ◌≤◌, ◌+◌, length, IfOk, IfErr, IsOk, OnOk, OnErr};
+ghost use Rattle.bt_meta.specs.Layout.{Metainfo};
 ghost use Rattle.bt_meta.specs.Reading.{torrent_of_file};
-ghost use Rattle.bt_history.specs.Setting.{AreRules, setting_of};
-ghost use Rattle.bt_picker.specs.Checks.{waits};
-ghost use Rattle.bt_peer.specs.Serial.{RanInTurns, stream_record};
-ghost use Rattle.bt_peer.specs.SessionTerms.{terms_of};
-ghost use Rattle.bt_cli.specs.Runs.{IsStartFault, IsWant, Ran, run_status, want_of};
+ghost use Rattle.bt_history.specs.Setting.{setting_of};
+ghost use Rattle.bt_peer.specs.Serial.{stream_record};
+ghost use Rattle.bt_cli.specs.Runs.{IsPlayed, IsStartFault, Ran, run_status};
 
 use crate::options::{Options, fitting};
 use crate::telling::{Outcome, run_status, tell};
@@ -94,18 +92,8 @@ fn play<R: Source, W: Sink>(
 ) -> Result<PlayedRun, Fault>
     requires streams { (1 ≤ length streams.old) × (length streams.old ≤ MOST_STREAMS) }
     requires depth { (1 ≤ options.now.rules.depth) × (options.now.rules.depth ≤ MOST_DEPTH) }
-    ensures torrent { IfOk result (λ p. torrent_of_file meta.now ≡ Ok p.torrent.value) }
-    ensures rules { IfOk result (λ p. AreRules p.torrent.value.layout options.now.rules) }
-    ensures setting { IfOk result (λ p.
-        p.run.desk.setting ≡ setting_of p.torrent.value.layout (length streams.old + 1) options.now.rules) }
-    ensures count { IfOk result (λ p. length p.run.ends.items ≡ length streams.old) }
-    ensures ran { IfOk result (λ p. (want : Option (List Bool))
-        × IsWant (piece_count p.torrent.value.layout) (want_of options.now) want
-        × RanInTurns (stream_record R.left R.ended R.failed R.reads W.written W.failed)
-        (terms_of p.torrent.value options.now.rules.depth) options.now.seed want streams.old p.run.short p.run.desk streams.new
-        p.run.ends.items) }
-    ensures none_waits { IfOk result (λ p. p.run.short ≡ false → (piece : ℕ) →
-        waits p.run.desk.setting p.run.desk.history piece ≡ false) }
+    ensures played { IfOk result (λ p. IsPlayed (stream_record R.left R.ended R.failed R.reads W.written W.failed)
+        (torrent_of_file meta.now) options.now streams.old p.torrent.value p.run.short p.run.desk streams.new p.run.ends.items) }
     ensures err { IfErr result (IsStartFault (torrent_of_file meta.now) options.now) }
 {
     let torrent = Torrent::read(alloc, meta)?;

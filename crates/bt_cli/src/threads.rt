@@ -1,18 +1,14 @@
 //! The command `run`: sessions in threads of their own.
 
 ghost use Rattle.std.specs.Prelude.{◌≡◌, ◌≤◌, ◌+◌, length, IfOk, IfErr, IsOk, OnOk, OnErr};
-ghost use Rattle.bt_meta.specs.Layout.{Metainfo, piece_count};
+ghost use Rattle.bt_meta.specs.Layout.{Metainfo};
 ghost use Rattle.bt_meta.specs.Reading.{torrent_of_file};
 ghost use Rattle.bt_history.specs.Legal.{IsLegal};
-ghost use Rattle.bt_history.specs.Setting.{AreRules, setting_of};
-ghost use Rattle.bt_session.specs.Checking.{CheckersCheck};
+ghost use Rattle.bt_history.specs.Setting.{setting_of};
 ghost use Rattle.bt_peer.specs.Serial.{stream_record};
-ghost use Rattle.bt_session.specs.Swarms.{EachSwarmed, MakesLastChecks};
-ghost use Rattle.bt_session.specs.Runs.{LeavesNone};
-ghost use Rattle.bt_peer.specs.SessionTerms.{terms_of};
 ghost use Rattle.bt_shared.specs.Gathering.{EachAgrees};
 ghost use Rattle.bt_cli.specs.Runs.{run_status};
-ghost use Rattle.bt_cli.specs.ThreadRuns.{IsThreadsFault, RanThreads, of_swarm};
+ghost use Rattle.bt_cli.specs.ThreadRuns.{IsPlayedInThreads, IsThreadsFault, RanThreads, of_swarm};
 
 use crate::options::{Options, fit_random};
 use crate::telling::{Outcome, run_status, tell};
@@ -119,24 +115,8 @@ fn play<T: Threads + Wait + AllocGlobal + Sync, R: Source + Send + Drop, W: Sink
     requires streams { (1 ≤ length streams.items) × (length streams.items ≤ MOST_STREAMS) }
     requires depth { (1 ≤ options.now.rules.depth) × (options.now.rules.depth ≤ MOST_DEPTH) }
     requires checkers { (1 ≤ options.now.checkers) × (options.now.checkers ≤ MOST_CHECKERS) }
-    ensures torrent { IfOk result (λ p. torrent_of_file meta.now ≡ Ok p.torrent.value) }
-    ensures rules { IfOk result (λ p. AreRules p.torrent.value.layout options.now.rules) }
-    ensures setting { IfOk result (λ p.
-        p.run.book.desk.setting ≡ setting_of p.torrent.value.layout (length streams.items + options.now.checkers + 1) options.now.rules) }
-    ensures legal { IfOk result (λ p. IsLegal p.run.book.desk.setting p.run.book.desk.history) }
-    ensures logs { IfOk result (λ p. length p.run.book.logs.items ≡ length streams.items + options.now.checkers + 1) }
-    ensures agrees { IfOk result (λ p. EachAgrees p.run.book.desk.history p.run.book.logs.items) }
-    ensures count { IfOk result (λ p. length p.run.ends.items ≡ length streams.items) }
-    ensures left { IfOk result (λ p. length p.run.streams.items ≡ length streams.items) }
-    ensures sessions { IfOk result (λ p. EachSwarmed (stream_record R.left R.ended R.failed R.reads W.written W.failed)
-        (terms_of p.torrent.value options.now.rules.depth)
-        (setting_of p.torrent.value.layout (length streams.items + options.now.checkers + 1) options.now.rules) options.now.seed
-        streams.items p.run.book.desk.history p.run.book.logs.items p.run.streams.items p.run.ends.items
-        p.run.short) }
-    ensures checks { IfOk result (λ p. CheckersCheck (length streams.items) options.now.checkers p.run.book.logs.items) }
-    ensures finishes { IfOk result (λ p.
-        MakesLastChecks (length streams.items + options.now.checkers) p.run.book.logs.items (piece_count p.torrent.value.layout)) }
-    ensures waiting { IfOk result (λ p. LeavesNone p.run.short p.run.book.desk) }
+    ensures played { IfOk result (λ p. IsPlayedInThreads (stream_record R.left R.ended R.failed R.reads W.written W.failed)
+        (torrent_of_file meta.now) options.now streams.items p.torrent.value p.run.short p.run.book p.run.streams.items p.run.ends.items) }
     ensures err { IfErr result (IsThreadsFault (torrent_of_file meta.now) options.now) }
 {
     let torrent = Torrent::read(rt.alloc(), meta)?;

@@ -17,20 +17,6 @@ pub more : {X E : Type 0} (r : Result X E) (first then last : Option (List ℕ))
 more (Ok x) first then last xs ys wrote next = Appends-trans first then last xs ys wrote next
 more (Err e) first then last xs ys wrote next = tt
 
--- the same, where the whole text passes
-pub more_that : {X E : Type 0} (P : List ℕ → Type 0) (r : Result X E) (first then last : Option (List ℕ)) (xs ys : List ℕ) → P (xs ++ ys)
-    → Appends first then xs → OnOk r (Appends then last ys) → OnOk r ((text : List ℕ) × P text × Appends first last text)
-more_that P (Ok x) first then last xs ys is wrote next = (xs ++ ys, is, Appends-trans first then last xs ys wrote next)
-more_that P (Err e) first then last xs ys is wrote next = tt
-
--- the same, where the call's text is that of something which passes
-pub more_known : {X E : Type 0} (P Q : List ℕ → Type 0) (text : List ℕ → List ℕ) (r : Result X E) (first then last : Option (List ℕ)) (xs : List ℕ)
-    → ((y : List ℕ) → Q y → P (xs ++ text y)) → Appends first then xs
-    → OnOk r ((y : List ℕ) × Q y × Appends then last (text y)) → OnOk r ((whole : List ℕ) × P whole × Appends first last whole)
-more_known P Q text (Ok x) first then last xs is wrote next =
-    (xs ++ text next.0, is next.0 next.1, Appends-trans first then last xs (text next.0) wrote next.2)
-more_known P Q text (Err e) first then last xs is wrote next = tt
-
 -- a text that passes, and then its end
 pub ended : {X E : Type 0} (P : List ℕ → Type 0) (r : Result X E) (first then last : Option (List ℕ)) (xs end : List ℕ) → P xs
     → Appends first then xs → OnOk r (Appends then last end) → OnOk r ((text : List ℕ) × P text × Appends first last (text ++ end))

@@ -8,7 +8,7 @@ ghost use Rattle.bt_history.specs.Entries.{action_of, event_of};
 ghost use Rattle.bt_text.specs.Journals.{arrived_text, released_text, level_text, level_digit, level_digits};
 ghost use Rattle.bt_text.specs.Journals.{AreJournalLines, IsCallText, IsJournalLine};
 
-use crate::printing::{print, print_number, print_said};
+use crate::printing::{print, print_number, print_numbered, print_said};
 use crate::text::ReplyText;
 use bt_meta::{Bitfield, DeviceFault, Sink, write_all};
 use bt_picker::{Call, Entry};
@@ -48,14 +48,8 @@ fn print_call<O: Sink>(out: &mut O, call: &Call) -> Result<(), DeviceFault>
 {
     match call {
         Call::Join => print(out, "join"),
-        Call::Bits(flags) => {
-            print(out, "bits ")?;
-            print_bits(out, flags)
-        }
-        Call::Have(piece) => {
-            print(out, "have ")?;
-            print_number(out, u64::from(*piece))
-        }
+        Call::Bits(flags) => print_bits(out, "bits ", flags),
+        Call::Have(piece) => print_numbered(out, "have ", u64::from(*piece)),
         Call::Choke => print(out, "choke"),
         Call::Unchoke => print(out, "unchoke"),
         Call::Next(_) => print(out, "next"),
@@ -64,29 +58,14 @@ fn print_call<O: Sink>(out: &mut O, call: &Call) -> Result<(), DeviceFault>
             begin,
             bytes,
         } => print_arrived(out, *piece, *begin, bytes.len()),
-        Call::Settle(verdict) => {
-            print(out, "settle ")?;
-            print_number(out, u64::from(verdict.piece()))
-        }
+        Call::Settle(verdict) => print_numbered(out, "settle ", u64::from(verdict.piece())),
         Call::Leave => print(out, "leave"),
-        Call::Want(flags) => {
-            print(out, "want ")?;
-            print_bits(out, flags)
-        }
-        Call::Haves(flags) => {
-            print(out, "haves ")?;
-            print_bits(out, flags)
-        }
-        Call::Depth(depth) => {
-            print(out, "depth ")?;
-            print_number(out, u64::from(*depth))
-        }
+        Call::Want(flags) => print_bits(out, "want ", flags),
+        Call::Haves(flags) => print_bits(out, "haves ", flags),
+        Call::Depth(depth) => print_numbered(out, "depth ", u64::from(*depth)),
         Call::Release { piece, begin } => print_released(out, *piece, *begin),
         Call::Level { piece, level } => print_level(out, *piece, *level),
-        Call::Levels(levels) => {
-            print(out, "levels ")?;
-            print_levels(out, levels.as_slice())
-        }
+        Call::Levels(levels) => print_levels(out, levels.as_slice()),
         Call::InOrder(true) => print(out, "inorder yes"),
         Call::InOrder(false) => print(out, "inorder no"),
     }
@@ -97,10 +76,8 @@ fn print_released<O: Sink>(out: &mut O, piece: u32, begin: u32) -> Result<(), De
     ensures ok { OnOk result (Appends (O.written out.old) (O.written out.new) (released_text piece begin)) }
     ensures err { OnErr result (O.failed out.new ≡ true) }
 {
-    print(out, "release ")?;
-    print_number(out, u64::from(piece))?;
-    print(out, " ")?;
-    print_number(out, u64::from(begin))
+    print_numbered(out, "release ", u64::from(piece))?;
+    print_numbered(out, " ", u64::from(begin))
 }
 
 /// The level of one piece.
@@ -108,14 +85,21 @@ fn print_level<O: Sink>(out: &mut O, piece: u32, level: u8) -> Result<(), Device
     ensures ok { OnOk result (Appends (O.written out.old) (O.written out.new) (level_text piece level)) }
     ensures err { OnErr result (O.failed out.new ≡ true) }
 {
-    print(out, "level ")?;
-    print_number(out, u64::from(piece))?;
-    print(out, " ")?;
-    print_number(out, u64::from(level))
+    print_numbered(out, "level ", u64::from(piece))?;
+    print_numbered(out, " ", u64::from(level))
 }
 
-/// The level of each piece, a digit each.
+/// The level of each piece.
 fn print_levels<O: Sink>(out: &mut O, levels: &[u8]) -> Result<(), DeviceFault>
+    ensures ok { OnOk result (Appends (O.written out.old) (O.written out.new) (codes "levels " ++ level_digits levels.now)) }
+    ensures err { OnErr result (O.failed out.new ≡ true) }
+{
+    print(out, "levels ")?;
+    print_digits(out, levels)
+}
+
+/// These levels, a digit each.
+fn print_digits<O: Sink>(out: &mut O, levels: &[u8]) -> Result<(), DeviceFault>
     ensures ok { OnOk result (Appends (O.written out.old) (O.written out.new) (level_digits levels.now)) }
     ensures err { OnErr result (O.failed out.new ≡ true) }
 {
@@ -144,20 +128,18 @@ fn print_arrived<O: Sink>(
     ensures ok { OnOk result (Appends (O.written out.old) (O.written out.new) (arrived_text piece begin len)) }
     ensures err { OnErr result (O.failed out.new ≡ true) }
 {
-    print(out, "block ")?;
-    print_number(out, u64::from(piece))?;
-    print(out, " ")?;
-    print_number(out, u64::from(begin))?;
-    print(out, " ")?;
-    print_number(out, len as u64)
+    print_numbered(out, "block ", u64::from(piece))?;
+    print_numbered(out, " ", u64::from(begin))?;
+    print_numbered(out, " ", len as u64)
 }
 
-/// Prints a bitfield as its message spells it, in hexadecimal.
-fn print_bits<O: Sink>(out: &mut O, flags: &Bitfield) -> Result<(), DeviceFault>
+/// Prints the word, and a bitfield as its message spells it, in hexadecimal.
+fn print_bits<O: Sink>(out: &mut O, word: &str, flags: &Bitfield) -> Result<(), DeviceFault>
     ensures ok { OnOk result ((wire : List ℕ) × IsSpelled flags.now wire
-        × Appends (O.written out.old) (O.written out.new) (encode_lower wire)) }
+        × Appends (O.written out.old) (O.written out.new) (word.now ++ encode_lower wire)) }
     ensures err { OnErr result (O.failed out.new ≡ true) }
 {
+    print(out, word)?;
     print_hexadecimal(out, flags.as_wire())
 }
 

@@ -14,7 +14,7 @@ pub use commands::{conclude, run_info, run_script, script_to};
 pub use fault::{Fault, print_fault, tell_fault};
 pub use info::{describe, print_info};
 pub use journal::{print_entry, print_journal};
-pub use printing::{print, print_number};
+pub use printing::{print, print_numbered};
 pub use reason::explain_line;
 pub use script::{MOST_DEPTH, play_script, print_replies, read_hex};
 pub use text::{ReplyText, Tail};

@@ -40,10 +40,8 @@ pub fn print_block<O: Sink>(out: &mut O, block: Block) -> Result<(), DeviceFault
     ensures err { OnErr result (O.failed out.new ≡ true) }
 {
     print_number(out, u64::from(block.piece))?;
-    print(out, " ")?;
-    print_number(out, u64::from(block.begin))?;
-    print(out, " ")?;
-    print_number(out, u64::from(block.len))
+    print_numbered(out, " ", u64::from(block.begin))?;
+    print_numbered(out, " ", u64::from(block.len))
 }
 
 /// Writes what stands behind a word.
@@ -57,10 +55,7 @@ fn print_tail<O: Sink>(out: &mut O, tail: Tail) -> Result<(), DeviceFault>
             print(out, " ")?;
             print_block(out, block)
         }
-        Tail::Number(number) => {
-            print(out, " ")?;
-            print_number(out, u64::from(number))
-        }
+        Tail::Number(number) => print_numbered(out, " ", u64::from(number)),
     }
 }
 

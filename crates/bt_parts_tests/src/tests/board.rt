@@ -150,7 +150,31 @@ fn what_one_marks_the_other_sees(rt: HostRuntime) -> Result<(), Fail> {
 /// How many pieces the two threads share.
 const MANY: u32 = 10_000;
 
-/// Marks each piece, in an order that jumps to and fro, and notes it before.
+/// Marks the piece, and notes it before.
+fn marks_one(
+    alloc: Global,
+    torrent: &Torrent,
+    board: &Board,
+    seat: &mut BoardSeat,
+    noted: &[AtomicBool],
+    piece: u32,
+) -> Result<(), Wrong>
+    requires board { seat.old.table ≡ board.now.table }
+    requires torrent { board.now.torrent ≡ torrent.now.layout }
+    ensures { seat.new.table ≡ seat.old.table }
+{
+    let Some(proven) = proven(alloc, torrent, piece)? else {
+        return Err(Wrong::NotProven);
+    };
+    let Some(flag) = noted.get(piece as usize) else {
+        return Err(Wrong::NoSuchPiece);
+    };
+    flag.store(true, Ordering::SeqCst);
+    board.mark(seat, proven);
+    Ok(())
+}
+
+/// Marks each piece, in an order that jumps to and fro.
 fn marks_many(
     alloc: Global,
     torrent: &Torrent,
@@ -164,14 +188,7 @@ fn marks_many(
     for step in 0..MANY {
         // A prime that doesn't divide their number, so that each piece comes once.
         let piece = step * 7_919 % MANY;
-        let Some(proven) = proven(alloc, torrent, piece)? else {
-            return Err(Wrong::NotProven);
-        };
-        let Some(flag) = noted.get(piece as usize) else {
-            return Err(Wrong::NoSuchPiece);
-        };
-        flag.store(true, Ordering::SeqCst);
-        board.mark(&mut seat, proven);
+        marks_one(alloc, torrent, board, &mut seat, noted, piece)?;
     }
     Ok(())
 }
@@ -193,7 +210,47 @@ impl<'a> Listener<'a> {
 /// How often the news is taken before the other thread is given up.
 const TRIES: u64 = 1_000_000_000;
 
-/// Takes the news until each piece was given. An error where one comes twice, or before it was noted, or where they don't all come.
+/// Takes the news once, and says whether there was some. An error where a piece comes twice, or before it was noted.
+fn hears_one(
+    listener: &mut Listener<'_>,
+    heard: &mut [bool],
+    noted: &[AtomicBool],
+) -> Result<bool, Wrong> {
+    let Some(piece) = listener.news() else {
+        return Ok(false);
+    };
+    let (Some(flag), Some(before)) = (noted.get(piece as usize), heard.get_mut(piece as usize))
+    else {
+        return Err(Wrong::NoSuchPiece);
+    };
+    if *before || !flag.load(Ordering::SeqCst) {
+        return Err(Wrong::Given);
+    }
+    *before = true;
+    Ok(true)
+}
+
+/// Takes the news until each piece was given. An error where they don't all come.
+fn hears_each(
+    listener: &mut Listener<'_>,
+    heard: &mut [bool],
+    noted: &[AtomicBool],
+) -> Result<(), Wrong> {
+    let mut count = 0u32;
+    for _ in 0..TRIES {
+        if count == MANY {
+            return Ok(());
+        }
+        if hears_one(listener, heard, noted)? {
+            count = count.saturating_add(1);
+        } else {
+            thread::yield_now();
+        }
+    }
+    Err(Wrong::Missing)
+}
+
+/// The same by this seat.
 fn hears_many(
     alloc: Global,
     board: &Board,
@@ -202,28 +259,8 @@ fn hears_many(
 ) -> Result<(), Wrong>
     requires { seat.table ≡ board.now.table }
 {
-    let mut listener = Listener { board, seat };
     let mut heard = Vec::from_elem(alloc, false, MANY as usize)?;
-    let mut count = 0u32;
-    for _ in 0..TRIES {
-        if count == MANY {
-            return Ok(());
-        }
-        let Some(piece) = listener.news() else {
-            thread::yield_now();
-            continue;
-        };
-        let (Some(flag), Some(before)) = (noted.get(piece as usize), heard.get_mut(piece as usize))
-        else {
-            return Err(Wrong::NoSuchPiece);
-        };
-        if *before || !flag.load(Ordering::SeqCst) {
-            return Err(Wrong::Given);
-        }
-        *before = true;
-        count = count.saturating_add(1);
-    }
-    Err(Wrong::Missing)
+    hears_each(&mut Listener { board, seat }, &mut heard, noted)
 }
 
 fn in_two_threads<R: Threads + Wait + Abort + Sync>(rt: &R, alloc: Global) -> Result<(), Fail> {

@@ -24,20 +24,29 @@ fn is_row(file: &ListedFile, row: Row) -> bool {
     true
 }
 
-/// The bytes list these files. A call that found no memory is made once more.
-fn lists(alloc: Global, source: &[u8], rows: &[Row]) -> Result<(), Fail> {
-    let files = match ListedFile::read_all(alloc, source) {
+/// The files that the bytes list. A call that found no memory is made once more.
+fn files_of(alloc: Global, source: &[u8]) -> Result<Vec<ListedFile>, MetaFault> {
+    match ListedFile::read_all(alloc, source) {
         Err(MetaFault::NoMemory) => ListedFile::read_all(alloc, source),
         files => files,
-    };
-    let Ok(files) = files else {
-        return Err(Fail::new(format_args!("{:?}", files.err())));
-    };
+    }
+}
+
+/// These are the files.
+fn are_rows(files: &[ListedFile], rows: &[Row]) -> Result<(), Fail> {
     same_for(files.len(), rows.len(), "files")?;
     for index in 0..rows.len() {
         same_for(is_row(&files[index], rows[index]), true, index)?;
     }
     Ok(())
+}
+
+/// The bytes list these files.
+fn lists(alloc: Global, source: &[u8], rows: &[Row]) -> Result<(), Fail> {
+    match files_of(alloc, source) {
+        Ok(files) => are_rows(&files, rows),
+        Err(fault) => Err(Fail::new(format_args!("{fault:?}"))),
+    }
 }
 
 #[test]
@@ -77,11 +86,7 @@ fn no_files(rt: HostRuntime) -> Result<(), Fail> {
         ),
     ];
     for &(source, fault) in ROWS {
-        let found = match ListedFile::read_all(rt.alloc(), source).err() {
-            Some(MetaFault::NoMemory) => ListedFile::read_all(rt.alloc(), source).err(),
-            found => found,
-        };
-        same_for(found, Some(fault), source)?;
+        same_for(files_of(rt.alloc(), source).err(), Some(fault), source)?;
     }
     Ok(())
 }

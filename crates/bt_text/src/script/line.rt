@@ -105,23 +105,23 @@ fn short_command(alloc: Global, word: &[u8], argument: &[u8]) -> Result<Command,
     ensures { Reads seen_command result (short_command word.now argument.now) }
 {
     if is(word, "bits") {
-        Ok(Command::Bits(hex_bytes(alloc, argument)?))
+        hex_bytes(alloc, argument).map(Command::Bits)
     } else if is(word, "have") {
-        Ok(Command::Have(small_number(argument)?))
+        small_number(argument).map(Command::Have)
     } else if is(word, "next") {
-        Ok(Command::Next(number(argument)?))
+        number(argument).map(Command::Next)
     } else if is(word, "settle") {
-        Ok(Command::Settle(small_number(argument)?))
+        small_number(argument).map(Command::Settle)
     } else if is(word, "want") {
-        Ok(Command::Want(hex_bytes(alloc, argument)?))
+        hex_bytes(alloc, argument).map(Command::Want)
     } else if is(word, "haves") {
-        Ok(Command::Haves(hex_bytes(alloc, argument)?))
+        hex_bytes(alloc, argument).map(Command::Haves)
     } else if is(word, "depth") {
-        Ok(Command::Depth(small_number(argument)?))
+        small_number(argument).map(Command::Depth)
     } else if is(word, "levels") {
-        Ok(Command::Levels(digits(alloc, argument)?))
+        digits(alloc, argument).map(Command::Levels)
     } else if is(word, "inorder") {
-        Ok(Command::InOrder(yes_or_no(argument)?))
+        yes_or_no(argument).map(Command::InOrder)
     } else {
         Err(LineFault::NotAllowed)
     }

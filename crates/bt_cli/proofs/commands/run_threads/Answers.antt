@@ -1,3 +1,5 @@
+use Rattle.std.proofs.Common.{arith}
+use Rattle.std.proofs.lemmas.Grind.{common_steps}
 use Rattle.bt_cli.proofs.Runs.{end_status}
 use Rattle.bt_cli.proofs.commands.run_threads.Goals as goal
 
@@ -8,3 +10,6 @@ returns-in-Ok-clause-status g c =
 
 pub returns-in-Ok-clause-ran : goal.returns-in-Ok-clause-ran
 returns-in-Ok-clause-ran g c = λ t. λ is. (c.in-Ok.run'.ended, (c.conclude_run.ensures.status, c.in-Ok.ensures.ran t is))
+
+pub returns-in-Ok-clause-quiet : goal.returns-in-Ok-clause-quiet
+returns-in-Ok-clause-quiet g c = grind (arith, common_steps)

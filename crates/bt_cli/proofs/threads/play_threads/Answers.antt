@@ -1,17 +1,18 @@
-use Rattle.std.proofs.Common.{◌≡◌}
+use Rattle.std.proofs.Common.{◌≡◌, arith}
+use Rattle.std.proofs.lemmas.Grind.{common_steps}
 use Rattle.bt_cli.proofs.threads.play_threads.Goals as goal
 
 pub returns-clause-ran : goal.returns-clause-ran
 returns-clause-ran g c = λ t. λ is.
     let run = c.in_ok-played.played.run in
-    let made = c.in_ok-played.ensures in
-    let same : c.in_ok-played.played.torrent.value ≡ t = cc (is, made.torrent) in
+    let made = c.in_ok-played.ensures.played in
+    let same : c.in_ok-played.played.torrent.value ≡ t = cc (is, made.is_torrent) in
     rw (← same) record {
       ends = run.ends.items;
       short = run.short;
       left = run.streams.items;
       count = made.count;
-      all_left = made.left;
+      all_left = made.all_left;
       logs = made.logs;
       sessions = made.sessions;
       checks = made.checks;
@@ -19,3 +20,6 @@ returns-clause-ran g c = λ t. λ is.
       waiting = made.waiting;
       told = rw c.deref.ensures.value at c.tell-ended.ensures;
     }
+
+pub returns-clause-setting : goal.returns-clause-setting
+returns-clause-setting g c = grind (arith, common_steps)

@@ -1,3 +1,5 @@
+use Rattle.std.proofs.Common.{arith}
+use Rattle.std.proofs.lemmas.Grind.{common_steps}
 use Rattle.bt_peer.specs.Serial.{stream_of}
 use Rattle.bt_peer.proofs.EachStream.{TookTurns-join, TookTurns-refl}
 use Rattle.bt_peer.proofs.rounds.play.Goals as goal
@@ -10,3 +12,6 @@ rounds-preserved g c = TookTurns-join (stream_of g.R.Source g.W.Sink) _ _ _ _ _ 
 
 pub returns-clause-played : goal.returns-clause-played
 returns-clause-played g c = TookTurns-join (stream_of g.R.Source g.W.Sink) _ _ _ _ _ _ _ _ _ c.rounds.invariant c.round.ensures.played
+
+pub returns-clause-ended : goal.returns-clause-ended
+returns-clause-ended g c = grind (arith, common_steps)

@@ -1,4 +1,5 @@
 use Rattle.std.proofs.Common.{ℕ, Bool, length, map, arith, ap, subst, ◌∙◌}
+use Rattle.std.proofs.lemmas.Grind.{common_steps}
 use Rattle.std.specs.Prelude.{◌||◌}
 use Rattle.std.proofs.lemmas.List.{length-map}
 use Rattle.bt_peer.specs.declared.seat.Seat.{Seat}
@@ -33,3 +34,6 @@ returns-clause-ran g c = λ terms. λ seed. λ want. λ layout. λ new. λ opene
           c.last_checks-unfinished.new.desk c.last_checks-unfinished.result (omega arith) played.rest c.last_checks-unfinished.ensures.finishes));
       short_is = ap (λ (lacked : Bool). c.last_checks-unfinished.result || lacked) c.fell_short.ensures;
     }
+
+pub returns-clause-none_waits : goal.returns-clause-none_waits
+returns-clause-none_waits g c = grind (arith, common_steps)

@@ -1,3 +1,5 @@
+use Rattle.std.proofs.Common.{arith}
+use Rattle.std.proofs.lemmas.Grind.{common_steps}
 use Rattle.bt_peer.specs.Serial.{stream_of}
 use Rattle.bt_peer.proofs.EachStream.{TookTurns-join, progress_on}
 use Rattle.bt_peer.proofs.rounds.round.Goals as goal
@@ -10,3 +12,6 @@ loop-i-preserved g c =
       played = TookTurns-join (stream_of g.R.Source g.W.Sink) _ _ _ _ _ _ _ _ _ before.played turn.played;
       progress = progress_on c.turn_of-turns.result c.loop-i.turns _ _ c.loop-i.seats _ before.progress turn.falls turn.same turn.ended;
     }
+
+pub returns-clause-ended : goal.returns-clause-ended
+returns-clause-ended g c = grind (arith, common_steps)

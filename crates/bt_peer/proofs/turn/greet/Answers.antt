@@ -1,4 +1,5 @@
-use Rattle.std.proofs.Common.{refl, rules, false}
+use Rattle.std.proofs.Common.{refl, rules, false, arith}
+use Rattle.std.proofs.lemmas.Grind.{common_steps}
 use Rattle.std.proofs.lemmas.Result.{err_from_is_err_and}
 use Rattle.bt_peer.specs.Reader.{source_state}
 use Rattle.bt_peer.specs.Steps.{start}
@@ -29,3 +30,12 @@ returns-in-Refused-clause-err g c =
 
 pub returns-in_default-2-clause-ok : goal.returns-in_default-2-clause-ok
 returns-in_default-2-clause-ok g c = search rules
+
+pub returns-in_err-write-clause-keeps : goal.returns-in_err-write-clause-keeps
+returns-in_err-write-clause-keeps g c = grind (arith, common_steps)
+
+pub returns-in_default-clause-err : goal.returns-in_default-clause-err
+returns-in_default-clause-err g c = grind (arith, common_steps)
+
+pub returns-in_default-message : goal.returns-in_default-message
+returns-in_default-message g c = grind (arith, common_steps)

@@ -72,3 +72,9 @@ returns-in_default-clause-leaves g c = record {
   gains = grind (arith, common_steps);
   wrote = search rules;
 }
+
+pub returns-in_err-reason-in-Ok-None-2-clause-keeps : goal.returns-in_err-reason-in-Ok-None-2-clause-keeps
+returns-in_err-reason-in-Ok-None-2-clause-keeps g c = grind (arith, common_steps)
+
+pub returns-clause-goes_on : goal.returns-clause-goes_on
+returns-clause-goes_on g c = grind (arith, common_steps)

@@ -1,4 +1,5 @@
 use Rattle.std.proofs.Common.{arith}
+use Rattle.std.proofs.lemmas.Grind.{common_steps}
 use Rattle.bt_session.proofs.Kept.{grown}
 use Rattle.bt_session.proofs.check_threads.start_checkers.Goals as goal
 
@@ -13,3 +14,6 @@ loop-worker-preserved g c =
       room = omega (arith, was.room, c.in-Some.ensures.steps.1, c.push_reserved.ensures.len, c.push_reserved.ensures.capacity);
       few = omega (arith, was.few, c.in-Some.ensures.steps.1, c.push_reserved.ensures.len);
     }
+
+pub returns-clause-workers : goal.returns-clause-workers
+returns-clause-workers g c = grind (arith, common_steps)

@@ -1,4 +1,5 @@
 use Rattle.std.proofs.Common.{◌≡◌, [], ◌∷◌, length, ap, ◌∙◌, arith, rules}
+use Rattle.std.proofs.lemmas.Grind.{common_steps}
 use Rattle.std.specs.Vec.Iter.{into_iter_items}
 use Rattle.bt_session.proofs.Seats.{all_taken, joins_first, joins_more}
 use Rattle.bt_session.specs.Workers.{WorkerState}
@@ -42,3 +43,12 @@ pub returns-clause-takes : goal.returns-clause-takes
 returns-clause-takes g c =
     let none : length (into_iter_items c.loop-worker.worker-iterator) ≡ 0 = search (rules, c.in-None.ensures.steps.0) in
     all_taken c.loop-worker.invariant.joins none
+
+pub returns-in_err-next-clause-passes : goal.returns-in_err-next-clause-passes
+returns-in_err-next-clause-passes g c = grind (arith, common_steps)
+
+pub returns-in_err-next-clause-none : goal.returns-in_err-next-clause-none
+returns-in_err-next-clause-none g c = grind (arith, common_steps)
+
+pub returns-clause-passes : goal.returns-clause-passes
+returns-clause-passes g c = grind (arith, common_steps)

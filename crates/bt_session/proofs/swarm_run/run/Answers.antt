@@ -1,4 +1,5 @@
-use Rattle.std.proofs.Common.{◌≡◌, ◌+◌, length, refl, ◌∙◌, rules}
+use Rattle.std.proofs.Common.{◌≡◌, ◌+◌, length, refl, ◌∙◌, rules, arith}
+use Rattle.std.proofs.lemmas.Grind.{common_steps}
 use Rattle.bt_meta.specs.Layout.{piece_count}
 use Rattle.bt_peer.specs.Serial.{stream_record}
 use Rattle.bt_peer.specs.SessionTerms.{terms_of}
@@ -42,3 +43,6 @@ pub returns-clause-finishes : goal.returns-clause-finishes
 returns-clause-finishes g c =
     let book = c.in_ok-book.ensures in
     finished (ran g c) c.in_ok-book.book.logs.items c.in_ok-book.book.desk.history book.logs (book.count ∙ (ran g c).many') book.had
+
+pub work-requires : goal.work-requires
+work-requires g c = grind (arith, common_steps)

@@ -1,4 +1,5 @@
 use Rattle.std.proofs.Common.{◌≡◌, ◌+◌, [], ◌∷◌, ◌++◌, length, get_or, vec_len, rules, arith, below_more, sym, ap, subst, ◌∙◌}
+use Rattle.std.proofs.lemmas.Grind.{common_steps}
 use Rattle.std.proofs.lemmas.List.{get_or_append_left}
 use Rattle.std.proofs.Math.Seq.{get_or-append_seam}
 use Rattle.std.specs.Vec.Iter.{into_iter_items}
@@ -27,3 +28,6 @@ loop-handle-preserved g c =
           here) k (omega (arith, below, grown))),
       omega (arith, was.3, step.1, grown, c.push_reserved.ensures.capacity),
     )
+
+pub returns-clause-each : goal.returns-clause-each
+returns-clause-each g c = grind (arith, common_steps)

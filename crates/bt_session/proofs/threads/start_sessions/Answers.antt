@@ -1,4 +1,5 @@
 use Rattle.std.proofs.Common.{◌≡◌, arith, rules, ap, ◌∙◌}
+use Rattle.std.proofs.lemmas.Grind.{common_steps}
 use Rattle.bt_meta.specs.Layout.{Metainfo}
 use Rattle.bt_peer.specs.SessionTerms.{terms_of}
 use Rattle.bt_session.proofs.Kept.{grown, all_grown}
@@ -23,3 +24,15 @@ loop-stream-preserved g c =
       few = omega (arith, was.few, c.in-Some.ensures.steps.1, c.push_reserved.ensures.len);
       same = search rules;
     }
+
+pub loop-stream-init : goal.loop-stream-init
+loop-stream-init g c = grind (arith, common_steps)
+
+pub start-requires : goal.start-requires
+start-requires g c = grind (arith, common_steps)
+
+pub returns-clause-workers : goal.returns-clause-workers
+returns-clause-workers g c = grind (arith, common_steps)
+
+pub returns-clause-streams : goal.returns-clause-streams
+returns-clause-streams g c = grind (arith, common_steps)

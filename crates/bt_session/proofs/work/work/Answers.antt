@@ -1,4 +1,5 @@
-use Rattle.std.proofs.Common.{◌≡◌, Bool, true, false, List, [], ◌∷◌, ◌++◌, length, map, refl, sym, ap, subst, ◌∙◌, rules}
+use Rattle.std.proofs.Common.{◌≡◌, Bool, true, false, List, [], ◌∷◌, ◌++◌, length, map, refl, sym, ap, subst, ◌∙◌, rules, arith}
+use Rattle.std.proofs.lemmas.Grind.{common_steps}
 use Rattle.std.specs.Prelude.{◌||◌}
 use Rattle.std.specs.List.{list_any}
 use Rattle.std.proofs.lemmas.List.{length-map, take-append-drop}
@@ -62,3 +63,21 @@ returns-clause-last g c =
     last_check (parted g c) pieces
     (subst (λ (p : PassState). ChecksLast p c.last_checks-unfinished.new.worker.pass pieces) c.in_ok-joined.ensures.last.0
     c.last_checks-unfinished.ensures)
+
+pub unreachable-requires : goal.unreachable-requires
+unreachable-requires g c = grind (arith, common_steps)
+
+pub crew-requires : goal.crew-requires
+crew-requires g c = grind (arith, common_steps)
+
+pub part-came_back-requires-clause-room : goal.part-came_back-requires-clause-room
+part-came_back-requires-clause-room g c = grind (arith, common_steps)
+
+pub part_checked-given_up-requires : goal.part_checked-given_up-requires
+part_checked-given_up-requires g c = grind (arith, common_steps)
+
+pub push_reserved-requires : goal.push_reserved-requires
+push_reserved-requires g c = grind (arith, common_steps)
+
+pub returns-clause-count : goal.returns-clause-count
+returns-clause-count g c = grind (arith, common_steps)

@@ -28,3 +28,15 @@ loop-played-preserved g c = record {
   short = or_assoc c.loop-played.given_up c.in-Some.played.short _
       ∙ (ap (λ items. c.loop-played.given_up || list_any (λ p. p.short) items) (sym c.in-Some.ensures.steps.0) ∙ c.loop-played.invariant.short);
 }
+
+pub returns-clause-ends : goal.returns-clause-ends
+returns-clause-ends g c = grind (arith, common_steps)
+
+pub returns-clause-workers : goal.returns-clause-workers
+returns-clause-workers g c = grind (arith, common_steps)
+
+pub returns-clause-streams : goal.returns-clause-streams
+returns-clause-streams g c = grind (arith, common_steps)
+
+pub returns-clause-short : goal.returns-clause-short
+returns-clause-short g c = grind (arith, common_steps)

@@ -1,4 +1,5 @@
 use Rattle.std.proofs.Common.{◌≡◌, ◌<◌, ◌≤◌, ◌+◌, ◌++◌, length, map, take, ap, sym, subst, ◌∙◌, arith}
+use Rattle.std.proofs.lemmas.Grind.{common_steps}
 use Rattle.std.specs.String.{string_bytes}
 use Rattle.std.proofs.lemmas.List.{length-map}
 use Rattle.bt_text.specs.Scripts.{line_at, Explains}
@@ -73,3 +74,18 @@ returns-clause-done c =
     IsScript-passed c.args.input.now texts c.in_ok-player.field-0.next c.loop-index.player.workers c.loop-index.player.pieces c.loop-index.index
     c.in_ok-lines.ensures c.loop-index.invariant.starts c.loop-index.invariant.pass
     (simp length-map (omega (arith, c.in_ok-lines.lines.ok.0)))
+
+pub returns-in_err-reply-clause-replies : goal.returns-in_err-reply-clause-replies
+returns-in_err-reply-clause-replies c = grind (arith, common_steps)
+
+pub returns-in_err-push_str-clause-done : goal.returns-in_err-push_str-clause-done
+returns-in_err-push_str-clause-done c = grind (arith, common_steps)
+
+pub returns-in_err-push_str-clause-fault : goal.returns-in_err-push_str-clause-fault
+returns-in_err-push_str-clause-fault c = grind (arith, common_steps)
+
+pub returns-in_err-push_str-clause-unprinted : goal.returns-in_err-push_str-clause-unprinted
+returns-in_err-push_str-clause-unprinted c = grind (arith, common_steps)
+
+pub returns-clause-replies : goal.returns-clause-replies
+returns-clause-replies c = grind (arith, common_steps)

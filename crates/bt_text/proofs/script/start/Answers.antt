@@ -1,4 +1,5 @@
-use Rattle.std.proofs.Common.{◌≡◌, ◌+◌, ◌∙◌, ℕ, map, subst, sym}
+use Rattle.std.proofs.Common.{◌≡◌, ◌+◌, ◌∙◌, ℕ, map, subst, sym, arith}
+use Rattle.std.proofs.lemmas.Grind.{common_steps}
 use Rattle.bt_text.specs.Scripts.{MaySetRules}
 use Rattle.bt_text.proofs.Taken.{takes_front}
 use Rattle.bt_text.proofs.script.start.Goals as goal
@@ -36,3 +37,9 @@ returns-clause-takes c =
     subst (λ (p : ℕ). MaySetRules texts p (first + 1) part.rules part.next) c.piece_count-pieces.ensures.count c.in_ok-rules.ensures.ok in
     takes_front texts first c.in_ok-setup.setup part.rules part.next c.in_ok-player.player.desk is.1 is.2 said may_set
     (record { setting = c.in_ok-player.ensures.setting; history = c.in_ok-player.ensures.history })
+
+pub line_at-requires : goal.line_at-requires
+line_at-requires c = grind (arith, common_steps)
+
+pub open-requires : goal.open-requires
+open-requires c = grind (arith, common_steps)

@@ -17,3 +17,6 @@ returns-then-branch-eq0 g c =
     let same : (c.next.new.self ≡ c.reads.self.inbound) × IsStuck c.reads.self.inbound = grind (arith, common_steps) in
     ended _ _ _ (waits_at _ _ c.reads.self.inbound c.reads.invariant.reading same c.reads.invariant.counted) c.reads.invariant.sound
     (rw c.if-branch-eq0.true at c.in_ok-read_on.ensures)
+
+pub returns-in-Some : goal.returns-in-Some
+returns-in-Some g c = grind (arith, common_steps)

@@ -1,4 +1,5 @@
-use Rattle.std.proofs.Common.{◌≡◌, List, length, sym, ap, subst, ◌∙◌}
+use Rattle.std.proofs.Common.{◌≡◌, List, length, sym, ap, subst, ◌∙◌, arith}
+use Rattle.std.proofs.lemmas.Grind.{common_steps}
 use Rattle.bt_meta.specs.Layout.{Layout, piece_count}
 use Rattle.bt_session.proofs.Seats.{all_had, all_stand, are_of}
 use Rattle.bt_shared.specs.Gathering.{EachFrom}
@@ -26,3 +27,9 @@ gather-requires-clause-passes g c =
     are_of c.self.inside.desk g.L.RunName.desk g.L.RunName.setting c.join_seats.new.passes.items c.self.invariant.desk_is
     c.self.invariant.desk_setting
     c.join_seats.ensures.named
+
+pub returns-in_err-gather-clause-err : goal.returns-in_err-gather-clause-err
+returns-in_err-gather-clause-err g c = grind (arith, common_steps)
+
+pub returns-clause-legal : goal.returns-clause-legal
+returns-clause-legal g c = grind (arith, common_steps)

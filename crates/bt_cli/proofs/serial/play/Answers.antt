@@ -1,0 +1,18 @@
+use Rattle.std.proofs.Common.{arith}
+use Rattle.std.proofs.lemmas.Grind.{common_steps}
+use Rattle.bt_cli.proofs.serial.play.Goals as goal
+
+pub returns-in_err-torrent-clause-err : goal.returns-in_err-torrent-clause-err
+returns-in_err-torrent-clause-err g c = grind (arith, common_steps)
+
+pub returns-in_err-torrent-2-clause-played : goal.returns-in_err-torrent-2-clause-played
+returns-in_err-torrent-2-clause-played g c = grind (arith, common_steps)
+
+pub returns-in_err-torrent-2-clause-err : goal.returns-in_err-torrent-2-clause-err
+returns-in_err-torrent-2-clause-err g c = grind (arith, common_steps)
+
+pub returns-in_err-clone-clause-err : goal.returns-in_err-clone-clause-err
+returns-in_err-clone-clause-err g c = grind (arith, common_steps)
+
+pub serial-requires-clause-want : goal.serial-requires-clause-want
+serial-requires-clause-want g c = grind (arith, common_steps)
