@@ -101,8 +101,7 @@ impl Trial {
         self.show_all(rt)?;
         let start = rt.thread_cpu_time()?;
         self.unchoke_all()?;
-        let took = rt.thread_cpu_time()?.saturating_sub(start);
-        self.table.note(Kind::Unchoke, SWARM, took)
+        self.table.note_since(rt, start, Kind::Unchoke, SWARM)
     }
 
     fn join_all<C: CpuClock>(&mut self, rt: &C) -> Result<()> {
@@ -110,16 +109,14 @@ impl Trial {
         for worker in 0..PEERS {
             self.swarm.call(worker, Call::Join)?;
         }
-        let took = rt.thread_cpu_time()?.saturating_sub(start);
-        self.table.note(Kind::Join, SWARM, took)
+        self.table.note_since(rt, start, Kind::Join, SWARM)
     }
 
     fn show_all<C: CpuClock>(&mut self, rt: &C) -> Result<()> {
         let shown = self.workload.bitfields(self.alloc)?;
         let start = rt.thread_cpu_time()?;
         self.tell_bitfields(shown)?;
-        let took = rt.thread_cpu_time()?.saturating_sub(start);
-        self.table.note(Kind::Bits, SWARM, took)
+        self.table.note_since(rt, start, Kind::Bits, SWARM)
     }
 
     /// The last peer has the last bitfield.
@@ -171,11 +168,10 @@ impl Trial {
             let reply = self.swarm.call(worker, Call::Next(self.rng.next_word()))?;
             others |= reply != expected;
         }
-        let took = rt.thread_cpu_time()?.saturating_sub(start);
         if others {
             return Ok(());
         }
-        self.table.note(kind, u64::from(REPEATS), took)
+        self.table.note_since(rt, start, kind, u64::from(REPEATS))
     }
 
     /// Rounds until half the pieces are had: all pipes are filled, then each block comes, then each full piece is checked. In the end
@@ -210,11 +206,11 @@ impl Trial {
             let reply = self.swarm.call(worker, Call::Next(self.rng.next_word()))?;
             others |= !matches!(reply, Reply::Request(_));
         }
-        let took = rt.thread_cpu_time()?.saturating_sub(start);
         if others {
             return Ok(());
         }
-        self.table.note(Kind::Request, u64::from(asks), took)
+        self.table
+            .note_since(rt, start, Kind::Request, u64::from(asks))
     }
 
     /// All outstanding blocks come. Gives the pieces that they complete.
@@ -259,8 +255,8 @@ impl Trial {
                 completed.push(block.piece)?;
             }
         }
-        let took = rt.thread_cpu_time()?.saturating_sub(start);
-        self.table.note(Kind::Arrived, blocks.len() as u64, took)
+        self.table
+            .note_since(rt, start, Kind::Arrived, blocks.len() as u64)
     }
 
     /// What is outstanding at the peer now.
@@ -302,9 +298,7 @@ impl Trial {
     fn tell_verdict<C: CpuClock>(&mut self, rt: &C, verdict: Verdict) -> Result<Reply> {
         let hashed = rt.thread_cpu_time()?;
         let reply = self.settle_by(verdict)?;
-        let settled = rt.thread_cpu_time()?;
-        self.table
-            .note(Kind::Settle, 1, settled.saturating_sub(hashed))?;
+        self.table.note_since(rt, hashed, Kind::Settle, 1)?;
         Ok(reply)
     }
 
@@ -329,11 +323,10 @@ impl Trial {
                 .call(LATECOMER, Call::Next(self.rng.next_word()))?;
             others |= self.told(kind) != before;
         }
-        let took = rt.thread_cpu_time()?.saturating_sub(start);
         if others {
             return Ok(());
         }
-        self.table.note(kind, u64::from(REPEATS), took)
+        self.table.note_since(rt, start, kind, u64::from(REPEATS))
     }
 
     /// What the desk says to a question of this kind.
@@ -403,8 +396,7 @@ impl Trial {
     {
         let start = rt.thread_cpu_time()?;
         self.tell(worker, pieces)?;
-        let took = rt.thread_cpu_time()?.saturating_sub(start);
-        self.table.note(kind, pieces.len() as u64, took)
+        self.table.note_since(rt, start, kind, pieces.len() as u64)
     }
 
     fn tell(&mut self, worker: u32, pieces: &[u32]) -> Result<()>
@@ -427,8 +419,7 @@ impl Trial {
     fn time_chokes<C: CpuClock>(&mut self, rt: &C, kind: Kind) -> Result<()> {
         let start = rt.thread_cpu_time()?;
         self.choke_all()?;
-        let took = rt.thread_cpu_time()?.saturating_sub(start);
-        self.table.note(kind, SWARM, took)
+        self.table.note_since(rt, start, kind, SWARM)
     }
 
     /// Wants of all pieces, and wants that change each of them.
@@ -468,8 +459,7 @@ impl Trial {
         for flags in wants {
             self.swarm.call(0, Call::Want(flags))?;
         }
-        let took = rt.thread_cpu_time()?.saturating_sub(start);
-        self.table.note(kind, count, took)
+        self.table.note_since(rt, start, kind, count)
     }
 
     /// All peers of the swarm go, come back, and go again.
@@ -482,8 +472,7 @@ impl Trial {
     fn go<C: CpuClock>(&mut self, rt: &C) -> Result<()> {
         let start = rt.thread_cpu_time()?;
         self.swarm.leave()?;
-        let took = rt.thread_cpu_time()?.saturating_sub(start);
-        self.table.note(Kind::Leave, SWARM, took)
+        self.table.note_since(rt, start, Kind::Leave, SWARM)
     }
 
     /// All peers come with these bitfields, and go again.

@@ -128,6 +128,18 @@ impl Table {
         Ok(())
     }
 
+    /// Adds so many calls of a kind, which took the time since this reading of the clock.
+    pub fn note_since<C: CpuClock>(
+        &mut self,
+        rt: &C,
+        start: Duration,
+        kind: Kind,
+        calls: u64,
+    ) -> Result<()> {
+        let took = rt.thread_cpu_time()?.saturating_sub(start);
+        self.note(kind, calls, took)
+    }
+
     /// Takes the rows of another table that are quicker, and those of kinds that this one lacks.
     pub fn take_lesser(&mut self, other: &Table) -> Result<()> {
         for row in &other.rows {

@@ -1,4 +1,5 @@
 use Rattle.std.proofs.Common.{◌≡◌, ◌<◌, ◌+◌, ◌++◌, ◌∷◌, ℕ, List, [], length, take, Some, slice_get, sym, ap, ◌∙◌, refl, arith}
+use Rattle.std.proofs.lemmas.Grind.{common_steps}
 use Rattle.std.proofs.lemmas.List.{take_all}
 use Rattle.std.proofs.lemmas.Option.{none-some, slice_get_past, slice_get_read}
 use Rattle.bt_history.specs.Entries.{event_of, history_of}
@@ -78,3 +79,6 @@ returns-then-next-log-2-clause-some c =
     let old = c.loop-place.invariant in
     let all = ap (λ entries. marks_of (history_of entries) c.args.worker) (take_all c.loop-place.place j c.loop-place-test.false) in
     goes_on c.args.log.now c.loop-place.next old.within (marks_of (history_of j) c.args.worker) (sym (old.same ∙ all)) c.if-next-log-2.true
+
+pub returns-else-next-log-2-clause-none : goal.returns-else-next-log-2-clause-none
+returns-else-next-log-2-clause-none c = grind (arith, common_steps)

@@ -1,4 +1,5 @@
 use Rattle.std.proofs.Common.{◌≡◌, length, drop, ap, arith, refl, subst}
+use Rattle.std.proofs.lemmas.Grind.{common_steps}
 use Rattle.std.proofs.lemmas.List.Sums.{sum_by-cons}
 use Rattle.bt_shared.specs.Passes.{PassState}
 use Rattle.bt_history.specs.Logs.{Agrees}
@@ -29,3 +30,6 @@ loop-pass-preserved c =
       room = old.room;
       logs = rw step.2 (each_from rest _ p c.loop-pass.logs.items c.pass.inside.log c.pass.view_is refl old.logs);
     }
+
+pub loop-pass-init : goal.loop-pass-init
+loop-pass-init c = grind (arith, common_steps)

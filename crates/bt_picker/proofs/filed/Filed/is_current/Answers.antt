@@ -1,4 +1,5 @@
 use Rattle.std.proofs.Common.{◌≡◌, ◌<◌, ◌++◌, ℕ, List, ap, sym, ◌∙◌, subst, arith}
+use Rattle.std.proofs.lemmas.Grind.{common_steps}
 use Rattle.bt_meta.specs.Layout.{block, block_count}
 use Rattle.bt_check.specs.Checked.{joined}
 use Rattle.bt_history.specs.Pieces.{content_of_block, joined_below}
@@ -31,3 +32,6 @@ returns c =
     read_whole (joined v) (joined_below (block_count d.setting.torrent v.piece) texts) c.loop-index.hashed c.is_done.result
     (subst (λ (n : ℕ). joined v ≡ joined_below n texts ++ c.loop-index.hashed) all c.loop-index.invariant)
     c.is_done.ensures.whole c.is_done.ensures.partly
+
+pub loop-index-preserved : goal.loop-index-preserved
+loop-index-preserved c = grind (arith, common_steps)

@@ -1,4 +1,5 @@
-use Rattle.std.proofs.Common.{◌<◌, ◌∙◌, Some, ap, subst, sym}
+use Rattle.std.proofs.Common.{arith, ◌<◌, ◌∙◌, Some, ap, subst, sym}
+use Rattle.std.proofs.lemmas.Grind.{common_steps}
 use Rattle.bt_meta.specs.Layout.{block, block_count, piece_count}
 use Rattle.bt_picker.specs.Places.{stored_place}
 use Rattle.bt_picker.specs.Positions.{DeskState}
@@ -20,3 +21,6 @@ returns-else-holds c =
     let n = c.self.inside.position in
     place_lacks n.history (block n.setting.torrent c.args.piece c.args.index) (sym c.holds.ensures ∙ c.if-holds.false)
     ∙ ap (λ (d : DeskState). stored_place d.history (block d.setting.torrent c.args.piece c.args.index)) c.self.view_is
+
+pub of-requires : goal.of-requires
+of-requires c = grind (arith, common_steps)

@@ -1,4 +1,5 @@
 use Rattle.std.proofs.Common.{◌≡◌, length, arith, ap, ◌∙◌, rules}
+use Rattle.std.proofs.lemmas.Grind.{common_steps}
 use Rattle.bt_history.specs.Setting.{Setting}
 use Rattle.bt_shared.specs.Guard.{Sat}
 use Rattle.bt_shared.specs.Passes.{PassState, SharedState, newcomer}
@@ -59,3 +60,6 @@ loop-worker-preserved c = record {
   fresh = λ w below. rw c.in_ok-push.ensures.items (one_more c.loop-worker.passes.items (pass c) (newcomer (desk c))
       (λ v lt. c.loop-worker.invariant.fresh v (omega (arith, next_worker c, lt))) (is_next c) w (omega (arith, next_worker c, below)));
 }
+
+pub loop-worker-init : goal.loop-worker-init
+loop-worker-init c = grind (arith, common_steps)

@@ -1,4 +1,5 @@
-use Rattle.std.proofs.Common.{◌∙◌, ap, refl, rules}
+use Rattle.std.proofs.Common.{arith, ◌∙◌, ap, refl, rules}
+use Rattle.std.proofs.lemmas.Grind.{common_steps}
 use Rattle.bt_shared.specs.Guard.{Sat}
 use Rattle.bt_shared.proofs.Checked.{settles_ok}
 use Rattle.bt_shared.proofs.Marked.{agrees_check, knows_continue, seat_may}
@@ -31,3 +32,6 @@ returns-clause-ok g c =
 
 pub lock-desk-requires-clause-may : goal.lock-desk-requires-clause-may
 lock-desk-requires-clause-may g c = seat_may c.pass.inside.worker c.pass.inside.seat.me c.pass.invariant.0
+
+pub unlock-requires-clause-taken : goal.unlock-requires-clause-taken
+unlock-requires-clause-taken g c = grind (arith, common_steps)
