@@ -1,12 +1,9 @@
-//! Whole command lines of the program, one after the other, with the files that they read and make. The tests of `bt_text` and `bt_cli` stand
-//! here too, so that they are checked without proving those again.
+//! Whole command lines of the program, one after the other, with the files that they read and make.
 #![tactic(auto)]
 
 mod closed;
 mod counts;
 mod decoding;
-#[cfg(test)]
-mod tests;
 
 use anyhow::{Context, Result};
 use bt_cli::obey;

@@ -1,5 +1,5 @@
-//! The tests of `bt_peer` and of `bt_session`'s runs in threads, in a crate of their own, so that they are checked without
-//! proving those again.
+//! The tests of `bt_peer`, `bt_session`, `bt_text` and `bt_cli`, in a crate of their own, so that they are checked without proving those
+//! again.
 #![tactic(auto)]
 
 #[cfg(test)]
