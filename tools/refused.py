@@ -31,7 +31,7 @@ ROOT = os.path.dirname(os.path.dirname(os.path.abspath(__file__)))
 PROGRAM = os.path.join(ROOT, "crates/piecepick/out/piecepick")
 DATA = os.path.join(ROOT, "crates/bt_cli_tests/data")
 KINDS = ("alloc", "read", "write", "thread")
-TESTED = ("bt_parts_tests", "bt_picker_tests", "bt_session_tests")
+TESTED = ("bt_picker_tests", "bt_session_tests")
 # What a test says that ends by an error of its own, and not by an assertion; there was no memory for a thread either.
 NO_MEMORY = re.compile(r"error: .*(NoMemory|NoThread|AllocError|AllocFailed|OutOfMemory|\bMemory\b).*\nthe test failed: its result gives status 1\n")
 

@@ -1,4 +1,4 @@
-//! The desk, by worked examples, random calls and calls without memory; and the desk that threads share.
+//! The desk, by worked examples, random calls and calls without memory; the desk that threads share; and the parts below the picker.
 
 mod audits;
 mod calls;
@@ -11,6 +11,7 @@ mod keeper;
 mod large;
 mod logs;
 mod meeting;
+mod parts;
 mod played;
 mod random;
 mod restored;

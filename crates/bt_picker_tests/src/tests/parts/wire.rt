@@ -64,28 +64,6 @@ fn rest(inbound: &Inbound) -> usize {
     inbound.rest()
 }
 
-/// Whether the message in front is a handshake.
-fn gives_hello(alloc: Global, inbound: &mut Inbound) -> Result<bool, WireFault> {
-    Ok(matches!(next_again(inbound, alloc)?, Some(Message::Hello(_))))
-}
-
-/// Takes a handshake, and gives it.
-fn greet(alloc: Global, inbound: &mut Inbound) -> Result<(), Fail> {
-    feed_again(inbound, &hello_bytes())?;
-    if gives_hello(alloc, inbound)? {
-        Ok(())
-    } else {
-        Err("no handshake")?
-    }
-}
-
-/// A stream whose handshake was given.
-fn greeted(alloc: Global) -> Result<Inbound, Fail> {
-    let mut inbound = opened(alloc);
-    greet(alloc, &mut inbound)?;
-    Ok(inbound)
-}
-
 /// Appends what stands in front: the messages, and then the fault if one follows.
 fn tell(alloc: Global, inbound: &mut Inbound, said: &mut String) -> Result<(), Fail> {
     for _ in 0..20 {
@@ -125,6 +103,13 @@ fn told(alloc: Global, inbound: &mut Inbound, piece: &[u8]) -> Result<String, Fa
 fn tells(alloc: Global, inbound: &mut Inbound, piece: &[u8], wanted: &str) -> Result<(), Fail> {
     let said = told(alloc, inbound, piece)?;
     same(said.as_str(), wanted)
+}
+
+/// A stream whose handshake was given.
+fn greeted(alloc: Global) -> Result<Inbound, Fail> {
+    let mut inbound = opened(alloc);
+    tells(alloc, &mut inbound, &hello_bytes(), HELLO_TOLD)?;
+    Ok(inbound)
 }
 
 /// What stands in front after each piece of so many bytes, with a stroke behind it.
@@ -182,6 +167,21 @@ const ROWS: &[(&[u8], usize, &str)] = &[
         &[0, 0, 0, 1, 5, 0, 0, 0, 1, 9],
         10,
         "Bits(b\"\") Unknown(9) | ",
+    ),
+    (
+        &EACH_KIND,
+        94,
+        "KeepAlive Choke Unchoke Interested NotInterested Have(2) Bits(b\"\\xe0\") \
+        Request { piece: 16909060, begin: 84281096, len: 16384 } Piece { piece: 0, begin: 0, bytes: b\"abc\" } \
+        Cancel { piece: 16909060, begin: 84281096, len: 16384 } Unknown(20) | ",
+    ),
+    (
+        &EACH_KIND,
+        7,
+        "KeepAlive | Choke Unchoke | Interested | NotInterested | Have(2) | Bits(b\"\\xe0\") | \
+        | Request { piece: 16909060, begin: 84281096, len: 16384 } | \
+        | | Piece { piece: 0, begin: 0, bytes: b\"abc\" } | \
+        | Cancel { piece: 16909060, begin: 84281096, len: 16384 } | Unknown(20) | ",
     ),
 ];
 
@@ -432,32 +432,6 @@ fn many_messages_in_one_feed(rt: HostRuntime) -> Result<(), Fail> {
     let mut stream = Vec::new(rt.alloc());
     put_haves(20_000, &mut stream)?;
     takes_many(&rt, rt.alloc(), &mut greeted(rt.alloc())?, &stream)
-}
-
-/// What `EACH_KIND` says.
-const EACH_KIND_TOLD: &str =
-    "KeepAlive Choke Unchoke Interested NotInterested Have(2) Bits(b\"\\xe0\") \
-    Request { piece: 16909060, begin: 84281096, len: 16384 } Piece { piece: 0, begin: 0, bytes: b\"abc\" } \
-    Cancel { piece: 16909060, begin: 84281096, len: 16384 } Unknown(20) ";
-
-/// What stands in front after all pieces of so many bytes, and how many bytes stand behind.
-fn told_of_each_kind(alloc: Global, len: usize) -> Result<(String, usize), Fail> {
-    let mut inbound = greeted(alloc)?;
-    let mut said = String::new(alloc);
-    for piece in EACH_KIND.chunks(len.max(1)) {
-        feed_and_tell(alloc, &mut inbound, piece, &mut said)?;
-    }
-    Ok((said, rest(&inbound)))
-}
-
-#[test]
-fn a_call_that_found_no_memory_is_made_once_more(rt: HostRuntime) -> Result<(), Fail> {
-    for len in [1, 7, 94] {
-        let (said, rest) = told_of_each_kind(rt.alloc(), len)?;
-        same_for(said.as_str(), EACH_KIND_TOLD, len)?;
-        same(rest, 0)?;
-    }
-    Ok(())
 }
 
 /// Checks that the bytes are a message of each of a hundred pieces.

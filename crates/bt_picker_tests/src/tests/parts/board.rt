@@ -7,6 +7,7 @@ ghost use Rattle.bt_meta.specs.Layout.{piece_count};
 
 use bt_board::{Board, BoardSeat};
 use bt_check::{Job, Proven, Verdict};
+use bt_expect::same;
 use bt_meta::{Bitfield, Torrent};
 use bytes::Bytes;
 use std::alloc::{AllocError, Global};
@@ -111,8 +112,8 @@ fn marks_and_sees(
     board.mark(first, last);
     assert!(rt; board.has(second, 2));
     assert!(rt; !board.has(second, 0));
-    assert_eq!(rt; board.news(second), Some(2));
-    assert_eq!(rt; board.news(second), None);
+    assert!(rt; board.news(second) == Some(2));
+    assert!(rt; board.news(second).is_none());
 }
 
 /// The bitfield of a board that is closed. Without memory it is closed once more.
@@ -137,14 +138,14 @@ fn what_one_marks_the_other_sees(rt: HostRuntime) -> Result<(), Fail> {
         return Err(Fail::from("the last piece is an a"));
     };
     let (board, mut seats) = Board::open(rt.alloc(), torrent, 2)?;
-    assert_eq!(rt; seats.len(), 2);
+    assert!(rt; seats.len() == 2);
     let mut second = seats.remove(1);
     let mut first = seats.remove(0);
     marks_and_sees(&rt, &board, &mut first, &mut second, last);
     let all = board.join(first, second);
     let bits = closed(rt.alloc(), board, all)?;
-    assert_eq!(rt; bits.to_wire(rt.alloc())?.as_slice(), [0x20].as_slice());
-    Ok(())
+    let wire = bits.to_wire(rt.alloc())?;
+    same(wire.as_slice(), [0x20].as_slice())
 }
 
 /// How many pieces the two threads share.
@@ -274,7 +275,7 @@ fn in_two_threads<R: Threads + Wait + Abort + Sync>(rt: &R, alloc: Global) -> Re
         noted.push(AtomicBool::new(false))?;
     }
     let (board, mut seats) = Board::open(alloc, torrent.clone()?, 2)?;
-    assert_eq!(rt; seats.len(), 2);
+    assert!(rt; seats.len() == 2);
     let second = seats.remove(1);
     let first = seats.remove(0);
     // Where the other thread can't be made, the second of these is done first, so that the first has something to hear.

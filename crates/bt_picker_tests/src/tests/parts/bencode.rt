@@ -27,10 +27,6 @@ fn written(alloc: Global, tree: &Tree) -> Result<Vec<u8>, AllocError> {
     write(alloc, tree)
 }
 
-fn span(tree: &Tree) -> Span {
-    tree.span()
-}
-
 /// The value of the dictionary's key.
 fn part<'a>(tree: &'a Tree, key: &[u8]) -> Option<&'a Tree> {
     tree.get(key)
@@ -149,8 +145,8 @@ fn is_written(alloc: Global, tree: &Tree, wanted: &[u8]) -> Result<(), Fail> {
 /// Checks that the bytes are written as they were read, and that the tree spans them.
 fn comes_back(alloc: Global, source: &[u8]) -> Result<(), Fail> {
     let tree = parse_again(alloc, source)?;
-    same(span(&tree).start, 0)?;
-    same(span(&tree).end, source.len())?;
+    let (start, end) = (0, source.len());
+    same(seen(&tree).0, Span { start, end })?;
     is_written(alloc, &tree, source)
 }
 
@@ -172,116 +168,153 @@ fn what_is_accepted_is_written_back(rt: HostRuntime) -> Result<(), Fail> {
     comes_back(rt.alloc(), &nested_lists(rt.alloc(), 64)?)
 }
 
-/// Checks where the tree stands.
-fn stands(tree: &Tree, start: usize, end: usize) -> Result<(), Fail> {
-    same(span(tree), Span { start, end })
+/// Where a tree stands, and what it is: its bytes, its number, or how many keys it has. A list is none of these.
+type Seen<'a> = (Span, Option<&'a [u8]>, Option<i64>, Option<usize>);
+
+fn seen(tree: &Tree) -> Seen<'_> {
+    let keys = match tree.as_dict() {
+        Some(entries) => Some(entries.len()),
+        None => None,
+    };
+    (tree.span(), tree.as_text(), tree.as_int(), keys)
 }
 
-/// Checks where a list stands, and its two items.
-fn list_stands(rt: &impl Abort, list: &Tree) -> Result<(), Fail> {
-    stands(list, 7, 16)?;
-    let items = items(list).ok_or("items")?;
-    assert!(rt; items.len() == 2);
-    stands(&items[0], 8, 11)?;
-    stands(&items[1], 11, 15)
+/// The tree at the dictionary's key, and behind it its items, if it is a list.
+fn seen_at<'a>(alloc: Global, tree: &'a Tree, key: &[u8]) -> Result<Vec<Seen<'a>>, AllocError> {
+    let mut all = Vec::new(alloc);
+    let Some(part) = part(tree, key) else {
+        return Ok(all);
+    };
+    all.push(seen(part))?;
+    for item in items(part).unwrap_or(&[]) {
+        all.push(seen(item))?;
+    }
+    Ok(all)
 }
 
-/// Checks where the parts of a dictionary stand.
-fn parts_stand(rt: &impl Abort, dict: &Tree) -> Result<(), Fail> {
-    list_stands(rt, part(dict, b"list").ok_or("a list")?)?;
-    stands(part(dict, b"name").ok_or("a dictionary")?, 22, 28)
+/// A key, the tree that stands there, and its items.
+type Row = (&'static [u8], &'static [Seen<'static>]);
+
+/// Checks what stands at each key.
+fn stand(alloc: Global, tree: &Tree, rows: &[Row]) -> Result<(), Fail> {
+    for &(key, wanted) in rows {
+        let found = seen_at(alloc, tree, key)?;
+        same_for(found.as_slice(), wanted, key)?;
+    }
+    Ok(())
 }
 
 #[test]
 fn parts_know_where_they_stand(rt: HostRuntime) -> Result<(), Fail> {
+    const ROWS: &[Row] = &[
+        (
+            b"list",
+            &[
+                (Span { start: 7, end: 16 }, None, None, None),
+                (Span { start: 8, end: 11 }, Some(b"x"), None, None),
+                (Span { start: 11, end: 15 }, None, Some(-3), None),
+            ],
+        ),
+        (
+            b"name",
+            &[(Span { start: 22, end: 28 }, None, None, Some(1))],
+        ),
+        (b"nam", &[]),
+    ];
     let tree = parse_again(rt.alloc(), b"d4:listl1:xi-3ee4:named0:0:ee")?;
-    parts_stand(&rt, &tree)
+    stand(rt.alloc(), &tree, ROWS)
+}
+
+/// Where a value stands, and what it is: its bytes, its number, or whether it is a dictionary. A list is none of these.
+type SeenInPlace<'a> = (Span, Option<&'a [u8]>, Option<i64>, bool);
+
+fn seen_in_place<'a>(value: &Value<'a>) -> SeenInPlace<'a> {
+    (
+        value.span(),
+        value.as_text(),
+        value.as_int(),
+        value.is_dict(),
+    )
 }
 
 /// The value of the dictionary's key.
-fn part_of<'a>(value: &Value<'a>, key: &[u8]) -> Option<Value<'a>> {
+fn part_in_place<'a>(value: &Value<'a>, key: &[u8]) -> Option<Value<'a>> {
     value.get(key)
 }
 
-fn items_of<'a>(value: &Value<'a>) -> Option<Items<'a>> {
-    value.as_list()
+/// What stands at the dictionary's key.
+fn seen_in_place_at<'a>(value: &Value<'a>, key: &[u8]) -> Option<SeenInPlace<'a>> {
+    match part_in_place(value, key) {
+        Some(part) => Some(seen_in_place(&part)),
+        None => None,
+    }
 }
 
-fn next<'a>(items: &mut Items<'a>) -> Option<Value<'a>> {
-    items.next()
+/// The items of the list at the dictionary's key.
+fn items_at<'a>(value: &Value<'a>, key: &[u8]) -> Option<Items<'a>> {
+    part_in_place(value, key)?.as_list()
 }
 
-fn text_of<'a>(value: &Value<'a>) -> Option<&'a [u8]> {
-    value.as_text()
+/// The next item, with what stands at its key `a`.
+type Item<'a> = (SeenInPlace<'a>, Option<SeenInPlace<'a>>);
+
+fn next_item<'a>(items: &mut Items<'a>) -> Option<Item<'a>> {
+    match items.next() {
+        Some(item) => Some((seen_in_place(&item), seen_in_place_at(&item, b"a"))),
+        None => None,
+    }
 }
 
-fn int_of(value: &Value<'_>) -> Option<i64> {
-    value.as_int()
-}
+/// A dictionary of a list, a dictionary and a number.
+const WITH_PARTS: &[u8] = b"d4:listl1:xi-3ed1:ai1eee4:named0:0:e5:otheri7ee";
 
-fn span_of(value: &Value<'_>) -> Span {
-    value.span()
-}
-
-fn is_dict(value: &Value<'_>) -> bool {
-    value.is_dict()
-}
-
-/// Checks that the next item is this string.
-fn next_is_text(items: &mut Items<'_>, wanted: &[u8]) -> Result<(), Fail> {
-    let text = next(items).ok_or("a string")?;
-    same(text_of(&text).ok_or("bytes")?, wanted)
-}
-
-/// Checks that the next item is this integer.
-fn next_is_int(items: &mut Items<'_>, wanted: i64) -> Result<(), Fail> {
-    let number = next(items).ok_or("an integer")?;
-    same(int_of(&number), Some(wanted))
-}
-
-/// Checks that the next item is a dictionary with 1 at `a`.
-fn next_is_dict(rt: &impl Abort, items: &mut Items<'_>) -> Result<(), Fail> {
-    let dict = next(items).ok_or("a dictionary")?;
-    assert!(rt; is_dict(&dict));
-    let one = part_of(&dict, b"a").ok_or("its value")?;
-    same(int_of(&one), Some(1))
-}
-
-/// Checks that three items follow, and no other.
-fn are_three(rt: &impl Abort, items: &mut Items<'_>) -> Result<(), Fail> {
-    next_is_text(items, b"x")?;
-    next_is_int(items, -3)?;
-    next_is_dict(rt, items)?;
-    assert!(rt; next(items).is_none());
+#[test]
+fn a_value_is_read_where_it_stands() -> Result<(), Fail> {
+    const ROWS: &[(&[u8], &[u8], Option<SeenInPlace<'static>>)] = &[
+        (
+            WITH_PARTS,
+            b"list",
+            Some((Span { start: 7, end: 24 }, None, None, false)),
+        ),
+        (
+            WITH_PARTS,
+            b"name",
+            Some((Span { start: 30, end: 36 }, None, None, true)),
+        ),
+        (
+            WITH_PARTS,
+            b"other",
+            Some((Span { start: 43, end: 46 }, None, Some(7), false)),
+        ),
+        (WITH_PARTS, b"nam", None),
+        (
+            b"d0:0:e",
+            b"",
+            Some((Span { start: 3, end: 5 }, Some(b""), None, false)),
+        ),
+    ];
+    for &(source, key, wanted) in ROWS {
+        same_for(seen_in_place_at(&value_of(source)?, key), wanted, key)?;
+    }
     Ok(())
 }
 
-/// Checks a list of three items.
-fn is_list_of_three(rt: &impl Abort, list: &Value<'_>) -> Result<(), Fail> {
-    same(span_of(list), Span { start: 7, end: 24 })?;
-    assert!(rt; !is_dict(list));
-    are_three(rt, &mut items_of(list).ok_or("items")?)
-}
-
-/// Checks a dictionary with the empty string at the empty key.
-fn is_named(name: &Value<'_>) -> Result<(), Fail> {
-    let nothing = part_of(name, b"").ok_or("the empty key")?;
-    same(text_of(&nothing).ok_or("no bytes")?, b"".as_slice())
-}
-
-/// Checks a dictionary with that list and that dictionary.
-fn has_both(rt: &impl Abort, value: &Value<'_>) -> Result<(), Fail> {
-    is_list_of_three(rt, &part_of(value, b"list").ok_or("a list")?)?;
-    is_named(&part_of(value, b"name").ok_or("a name")?)
-}
-
 #[test]
-fn a_value_is_read_where_it_stands(rt: HostRuntime) -> Result<(), Fail> {
-    let value = value_of(b"d4:listl1:xi-3ed1:ai1eee4:named0:0:e5:otheri7ee")?;
-    has_both(&rt, &value)?;
-    assert!(rt; part_of(&value, b"nam").is_none());
-    let other = part_of(&value, b"other").ok_or("the last")?;
-    same(span_of(&other), Span { start: 43, end: 46 })
+fn items_are_read_where_they_stand() -> Result<(), Fail> {
+    const ROWS: &[Option<Item<'static>>] = &[
+        Some(((Span { start: 8, end: 11 }, Some(b"x"), None, false), None)),
+        Some(((Span { start: 11, end: 15 }, None, Some(-3), false), None)),
+        Some((
+            (Span { start: 15, end: 23 }, None, None, true),
+            Some((Span { start: 19, end: 22 }, None, Some(1), false)),
+        )),
+        None,
+    ];
+    let mut items = items_at(&value_of(WITH_PARTS)?, b"list").ok_or("a list")?;
+    for wanted in ROWS {
+        same(next_item(&mut items), *wanted)?;
+    }
+    Ok(())
 }
 
 fn text(alloc: Global, bytes: &[u8]) -> Result<Tree, BenFault> {
@@ -307,65 +340,47 @@ fn made_by_hand(alloc: Global) -> Result<Tree, Fail> {
     Ok(dict(entries)?)
 }
 
-fn tree_text(tree: &Tree) -> Option<&[u8]> {
-    tree.as_text()
-}
-
-fn tree_int(tree: &Tree) -> Option<i64> {
-    tree.as_int()
-}
-
-/// How many keys the dictionary has.
-fn key_count(tree: &Tree) -> Option<usize> {
-    match tree.as_dict() {
-        Some(entries) => Some(entries.len()),
-        None => None,
-    }
-}
-
-/// Checks a list of `x` and -3.
-fn is_list_of_two(rt: &impl Abort, list: &Tree) -> Result<(), Fail> {
-    assert!(rt; key_count(list).is_none());
-    let items = items(list).ok_or("a list")?;
-    assert!(rt; items.len() == 2);
-    same(tree_text(&items[0]).ok_or("a string")?, b"x".as_slice())?;
-    same(tree_int(&items[1]), Some(-3))
-}
-
-/// Checks a dictionary with that list at `a`, and no other key.
-fn has_that_list(rt: &impl Abort, tree: &Tree) -> Result<(), Fail> {
-    is_list_of_two(rt, part(tree, b"a").ok_or("the list")?)?;
-    assert!(rt; part(tree, b"b").is_none());
-    same(key_count(tree), Some(1))?;
-    stands(tree, 0, 0)
-}
+/// Where a tree stands that nobody read.
+const NOWHERE: Span = Span { start: 0, end: 0 };
 
 #[test]
 fn trees_are_made_by_hand(rt: HostRuntime) -> Result<(), Fail> {
+    const ROWS: &[Row] = &[
+        (
+            b"a",
+            &[
+                (NOWHERE, None, None, None),
+                (NOWHERE, Some(b"x"), None, None),
+                (NOWHERE, None, Some(-3), None),
+            ],
+        ),
+        (b"b", &[]),
+    ];
     let tree = made_by_hand(rt.alloc())?;
     is_written(rt.alloc(), &tree, b"d1:al1:xi-3eee")?;
-    has_that_list(&rt, &tree)
+    same(seen(&tree), (NOWHERE, None, None, Some(1)))?;
+    stand(rt.alloc(), &tree, ROWS)
 }
 
-/// A dictionary of two keys, in this order.
-fn dict_of_two(alloc: Global, first: &[u8], second: &[u8]) -> Result<Result<Tree, BenFault>, Fail> {
+/// The fault of a dictionary of two keys, in this order.
+fn fault_of_two(alloc: Global, first: &[u8], second: &[u8]) -> Result<Option<BenFault>, Fail> {
     let mut entries = Vec::new(alloc);
     entries.push((Vec::from_slice(alloc, first)?, int(1)))?;
     entries.push((Vec::from_slice(alloc, second)?, int(2)))?;
-    Ok(dict(entries))
-}
-
-/// Checks that no dictionary has these keys, in this order.
-fn are_not_sorted(rt: &impl Abort, alloc: Global, first: &[u8], second: &[u8]) -> Result<(), Fail> {
-    let made = dict_of_two(alloc, first, second)?;
-    assert!(rt; matches!(made, Err(BenFault::KeyOrder)));
-    Ok(())
+    Ok(dict(entries).err())
 }
 
 #[test]
 fn a_dictionary_by_hand_has_sorted_keys(rt: HostRuntime) -> Result<(), Fail> {
-    are_not_sorted(&rt, rt.alloc(), b"b", b"a")?;
-    are_not_sorted(&rt, rt.alloc(), b"a", b"a")
+    const ROWS: &[(&[u8], &[u8], Option<BenFault>)] = &[
+        (b"a", b"b", None),
+        (b"b", b"a", Some(BenFault::KeyOrder)),
+        (b"a", b"a", Some(BenFault::KeyOrder)),
+    ];
+    for &(first, second, wanted) in ROWS {
+        same_for(fault_of_two(rt.alloc(), first, second)?, wanted, first)?;
+    }
+    Ok(())
 }
 
 /// A list of the tree alone.

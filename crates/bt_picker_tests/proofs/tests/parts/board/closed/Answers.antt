@@ -1,4 +1,4 @@
-use Rattle.bt_parts_tests.proofs.tests.board.closed.Goals as goal
+use Rattle.bt_picker_tests.proofs.tests.parts.board.closed.Goals as goal
 
 -- what is closed once more is what was
 pub close-requires-in-Err-clause-all : goal.close-requires-in-Err-clause-all
