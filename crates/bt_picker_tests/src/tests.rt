@@ -1,5 +1,6 @@
 //! The desk, by worked examples, random calls and calls without memory; the desk that threads share; and the parts below the picker.
 
+mod abc;
 mod audits;
 mod calls;
 mod content;

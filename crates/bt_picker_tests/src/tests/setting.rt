@@ -1,31 +1,19 @@
 //! A torrent, calls, and a shared desk with its passes.
 ghost use Rattle.std.specs.Prelude.{◌≡◌, ◌≤◌, length, IfOk, IfSome};
-ghost use Rattle.bt_meta.specs.Layout.{piece_count};
 ghost use Rattle.bt_shared.specs.Passes.{IsOf, IsSame};
 ghost use Rattle.bt_shared.specs.SharedJobs.{IsForDesk};
 
+use super::abc;
 use bt_expect::same;
-use bt_meta::{Bitfield, Torrent};
+use bt_meta::Bitfield;
 use bt_picker::{Call, CallMark, Mark, Reply, Rules};
 use bt_shared::{Book, GatherFault, Pass, SharedDesk, SharedJob, SharedVerdict};
 use bytes::Bytes;
 use std::alloc::{AllocError, Global};
 use std::marker::Model;
 use std::process::Abort;
-use std::sync::{Arc, Wait};
+use std::sync::Wait;
 use std::test::Fail;
-
-/// The SHA-1 of `abc` (FIPS 180-4, the first worked example).
-const ABC: [u8; 20] = [
-    0xa9, 0x99, 0x3e, 0x36, 0x47, 0x06, 0x81, 0x6a, 0xba, 0x3e, 0x25, 0x71, 0x78, 0x50, 0xc2, 0x6c,
-    0x9c, 0xd0, 0xd8, 0x9d,
-];
-
-/// The SHA-1 of `a`, by another program.
-const A: [u8; 20] = [
-    0x86, 0xf7, 0xe4, 0x37, 0xfa, 0xa5, 0xa7, 0xfc, 0xe1, 0x5d, 0x1d, 0xdc, 0xb9, 0xea, 0xea, 0xea,
-    0x37, 0x76, 0x67, 0xb8,
-];
 
 /// A call by the pass, whose seat the tests hold by this alone.
 pub fn called<R: Wait>(
@@ -141,7 +129,7 @@ impl Seated {
     pub fn open(rt: &impl Abort, alloc: Global, workers: u32) -> Result<Seated, Fail>
         requires { (1 ≤ workers) × (workers ≤ 1024) }
     {
-        let torrent = three_pieces(rt, alloc)?;
+        let torrent = abc::shared_torrent(rt, alloc)?;
         let (desk, passes) = SharedDesk::open(alloc, torrent, workers, Rules::usual())?;
         Ok(Seated { desk, passes })
     }
@@ -348,20 +336,6 @@ pub fn cause(gathered: Result<Book, GatherFault>) -> Result<Option<GatherFault>,
         Err(GatherFault::NoMemory) => Err(GatherFault::NoMemory)?,
         Err(fault) => Ok(Some(fault)),
     }
-}
-
-/// The digests of the pieces `abc`, `abc` and `a`.
-fn hashes(alloc: Global) -> Result<Vec<[u8; 20]>, AllocError> {
-    Ok(vec![in alloc; ABC, ABC, A]?)
-}
-
-/// The torrent of the pieces `abc`, `abc` and `a`.
-pub fn three_pieces(rt: &impl Abort, alloc: Global) -> Result<Arc<Torrent>, Fail>
-    ensures { IfOk result (λ torrent. piece_count torrent.value.layout ≡ 3) }
-{
-    let torrent = Torrent::of_parts(3, 7, hashes(alloc)?, [0; 20])?;
-    assert!(rt; torrent.piece_count() == 3);
-    Ok(Arc::new(alloc, torrent)?)
 }
 
 /// The bitfield of three pieces that has this byte on the wire.

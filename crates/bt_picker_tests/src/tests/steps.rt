@@ -1,6 +1,7 @@
 //! Histories as texts: a line for each call, `WORKER CALL = REPLY`, as in the program's scripts. Bytes are spelled as text; `whole` is a
 //! block of 16 KiB; `settle PIECE BYTES` is the verdict of these bytes; `levels` has a digit for each piece; a reason is told by its name.
 
+use super::abc::{A, ABC, MILLION};
 use bt_meta::{Bitfield, Block, Torrent};
 use bt_picker::*;
 use bytes::Bytes;
@@ -9,24 +10,6 @@ use std::process::Abort;
 use std::str::Split;
 use std::sync::Arc;
 use std::test::Fail;
-
-/// The SHA-1 of `abc` (FIPS 180-4, the first worked example).
-const ABC: [u8; 20] = [
-    0xa9, 0x99, 0x3e, 0x36, 0x47, 0x06, 0x81, 0x6a, 0xba, 0x3e, 0x25, 0x71, 0x78, 0x50, 0xc2, 0x6c,
-    0x9c, 0xd0, 0xd8, 0x9d,
-];
-
-/// The SHA-1 of `a`, by another program.
-const A: [u8; 20] = [
-    0x86, 0xf7, 0xe4, 0x37, 0xfa, 0xa5, 0xa7, 0xfc, 0xe1, 0x5d, 0x1d, 0xdc, 0xb9, 0xea, 0xea, 0xea,
-    0x37, 0x76, 0x67, 0xb8,
-];
-
-/// The SHA-1 of a million `a` (FIPS 180-4, the third worked example).
-const MILLION: [u8; 20] = [
-    0x34, 0xaa, 0x97, 0x3c, 0xd4, 0xc4, 0xda, 0xa4, 0xf6, 0x1e, 0xeb, 0x2b, 0xdb, 0xad, 0x27, 0x31,
-    0x65, 0x34, 0x01, 0x6f,
-];
 
 /// A whole block of `a`.
 const SIXTEENS: [u8; 16384] = [b'a'; 16384];

@@ -3,6 +3,7 @@ ghost use Rattle.std.specs.Prelude.{◌≡◌};
 ghost use Rattle.bt_meta.specs.Layout.{piece_count};
 ghost use Rattle.bt_shared.specs.Passes.{IsOf, IsSame};
 
+use super::abc;
 use super::setting::*;
 use bt_expect::same;
 use bt_meta::Torrent;
@@ -190,6 +191,6 @@ fn gathers_all_calls(
 /// The journal and the logs have all calls, and an audit finds no fault.
 fn has_all_calls(rt: &impl Abort, alloc: Global, book: &Book) -> Result<(), Fail> {
     is_whole(rt, book)?;
-    let torrent = three_pieces(rt, alloc)?;
+    let torrent = abc::shared_torrent(rt, alloc)?;
     Ok(is_legal(alloc, &torrent, book)?)
 }

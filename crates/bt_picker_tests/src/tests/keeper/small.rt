@@ -1,27 +1,14 @@
 //! A keeper of pieces `abc`, `abc` and `a`.
 
 use super::steps::*;
-use bt_meta::Torrent;
+use crate::tests::abc;
 use bt_picker::*;
 use std::alloc::Global;
 use std::process::Abort;
 use std::test::*;
 
-/// The SHA-1 of `abc` (FIPS 180-4, the first worked example).
-const ABC: [u8; 20] = [
-    0xa9, 0x99, 0x3e, 0x36, 0x47, 0x06, 0x81, 0x6a, 0xba, 0x3e, 0x25, 0x71, 0x78, 0x50, 0xc2, 0x6c,
-    0x9c, 0xd0, 0xd8, 0x9d,
-];
-
-/// The SHA-1 of `a`, by another program.
-const A: [u8; 20] = [
-    0x86, 0xf7, 0xe4, 0x37, 0xfa, 0xa5, 0xa7, 0xfc, 0xe1, 0x5d, 0x1d, 0xdc, 0xb9, 0xea, 0xea, 0xea,
-    0x37, 0x76, 0x67, 0xb8,
-];
-
 fn three_pieces(rt: &impl Abort, alloc: Global) -> Result<Keeper, Fail> {
-    let hashes = vec![in alloc; ABC, ABC, A]?;
-    keeper_of(rt, alloc, Torrent::of_parts(3, 7, hashes, [0; 20])?)
+    keeper_of(rt, alloc, abc::torrent(alloc)?)
 }
 
 /// Piece 0 is asked for, comes, is hashed and had, and its block is handed out.

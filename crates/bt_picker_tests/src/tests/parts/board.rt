@@ -5,6 +5,7 @@ ghost use Rattle.bt_board.specs.Story.{StandsFor};
 ghost use Rattle.bt_check.specs.Checked.{Fits};
 ghost use Rattle.bt_meta.specs.Layout.{piece_count};
 
+use crate::tests::abc;
 use bt_board::{Board, BoardSeat};
 use bt_check::{Job, Proven, Verdict};
 use bt_expect::same;
@@ -17,18 +18,6 @@ use std::sync::{Arc, Wait};
 use std::test::Fail;
 use std::thread;
 use std::thread::Threads;
-
-/// The SHA-1 of `abc` (FIPS 180-4, the first worked example of SHA-1).
-const ABC: [u8; 20] = [
-    0xa9, 0x99, 0x3e, 0x36, 0x47, 0x06, 0x81, 0x6a, 0xba, 0x3e, 0x25, 0x71, 0x78, 0x50, 0xc2, 0x6c,
-    0x9c, 0xd0, 0xd8, 0x9d,
-];
-
-/// The SHA-1 of `a`, by another program.
-const A: [u8; 20] = [
-    0x86, 0xf7, 0xe4, 0x37, 0xfa, 0xa5, 0xa7, 0xfc, 0xe1, 0x5d, 0x1d, 0xdc, 0xb9, 0xea, 0xea, 0xea,
-    0x37, 0x76, 0x67, 0xb8,
-];
 
 /// The one block of a piece that is the byte `a`.
 fn blocks(alloc: Global) -> Result<Vec<Bytes>, AllocError> {
@@ -76,24 +65,6 @@ impl From<AllocError> for Wrong {
     }
 }
 
-/// The digests of the pieces `abc`, `abc` and `a`.
-fn hashes(alloc: Global) -> Result<Vec<[u8; 20]>, AllocError> {
-    let mut hashes = Vec::new(alloc);
-    for digest in [ABC, ABC, A] {
-        hashes.push(digest)?;
-    }
-    Ok(hashes)
-}
-
-/// The torrent of the pieces `abc`, `abc` and `a`.
-fn three_pieces(rt: &impl Abort, alloc: Global) -> Result<Arc<Torrent>, Fail>
-    ensures { IfOk result (λ torrent. piece_count torrent.value.layout ≡ 3) }
-{
-    let torrent = Torrent::of_parts(3, 7, hashes(alloc)?, [0; 20])?;
-    assert!(rt; torrent.piece_count() == 3);
-    Ok(Arc::new(alloc, torrent)?)
-}
-
 /// Marks the last of three pieces by the first seat. The second sees it, and is given it once.
 fn marks_and_sees(
     rt: &impl Abort,
@@ -133,7 +104,7 @@ fn closed(alloc: Global, board: Board, all: BoardSeat) -> Result<Bitfield, Fail>
 /// Three pieces, the last of which is marked by one seat and seen by the other.
 #[test]
 fn what_one_marks_the_other_sees(rt: HostRuntime) -> Result<(), Fail> {
-    let torrent = three_pieces(&rt, rt.alloc())?;
+    let torrent = abc::shared_torrent(&rt, rt.alloc())?;
     let Some(last) = proven(rt.alloc(), &torrent, 2)? else {
         return Err(Fail::from("the last piece is an a"));
     };
@@ -265,7 +236,7 @@ fn hears_many(
 }
 
 fn in_two_threads<R: Threads + Wait + Abort + Sync>(rt: &R, alloc: Global) -> Result<(), Fail> {
-    let hashes = Vec::from_elem(alloc, A, MANY as usize)?;
+    let hashes = Vec::from_elem(alloc, abc::A, MANY as usize)?;
     let torrent = Arc::new(
         alloc,
         Torrent::of_parts(1, u64::from(MANY), hashes, [0; 20])?,

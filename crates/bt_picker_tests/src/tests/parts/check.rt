@@ -1,6 +1,7 @@
 //! Jobs, verdicts and what is proven, by the standard's example (FIPS 180-4). What is hashed and compared goes through functions without a
 //! contract, so that a test knows of what they give alone, and its proof is short.
 
+use crate::tests::abc;
 use bt_check::*;
 use bt_expect::same;
 use bt_meta::Torrent;
@@ -8,12 +9,6 @@ use bytes::Bytes;
 use std::alloc::Global;
 use std::sync::Arc;
 use std::test::Fail;
-
-/// The SHA-1 of `abc` (FIPS 180-4, the first worked example of SHA-1).
-const ABC: [u8; 20] = [
-    0xa9, 0x99, 0x3e, 0x36, 0x47, 0x06, 0x81, 0x6a, 0xba, 0x3e, 0x25, 0x71, 0x78, 0x50, 0xc2, 0x6c,
-    0x9c, 0xd0, 0xd8, 0x9d,
-];
 
 fn hashed(job: Job) -> Verdict {
     job.hash()
@@ -24,26 +19,14 @@ fn a_job_of_two_blocks(rt: HostRuntime) -> Result<(), Fail> {
     let blocks = vec![in rt.alloc(); Bytes::from_static(b"ab"), Bytes::from_static(b"c")]?;
     let verdict = hashed(Job { piece: 7, blocks });
     same(verdict.piece(), 7)?;
-    same(*verdict.digest(), ABC)?;
+    same(*verdict.digest(), abc::ABC)?;
     same(verdict.blocks().len(), 2)
 }
-
-/// The SHA-1 of `a`, by another program.
-const A: [u8; 20] = [
-    0x86, 0xf7, 0xe4, 0x37, 0xfa, 0xa5, 0xa7, 0xfc, 0xe1, 0x5d, 0x1d, 0xdc, 0xb9, 0xea, 0xea, 0xea,
-    0x37, 0x76, 0x67, 0xb8,
-];
 
 /// The verdict of a piece of one block.
 fn verdict(alloc: Global, piece: u32, block: &'static [u8]) -> Result<Arc<Verdict>, Fail> {
     let blocks = vec![in alloc; Bytes::from_static(block)]?;
     Ok(Arc::new(alloc, hashed(Job { piece, blocks }))?)
-}
-
-/// A torrent of pieces `abc`, `abc` and `a`.
-fn three_pieces(alloc: Global) -> Result<Torrent, Fail> {
-    let hashes = vec![in alloc; ABC, ABC, A]?;
-    Ok(Torrent::of_parts(3, 7, hashes, [0; 20])?)
 }
 
 /// The piece that is proven by this block, or the one whose verdict comes back.
@@ -70,7 +53,7 @@ fn what_fits_the_torrent_is_proven(rt: HostRuntime) -> Result<(), Fail> {
         (3, b"a", Err(3)),
         (u32::MAX, b"a", Err(u32::MAX)),
     ];
-    let torrent = three_pieces(rt.alloc())?;
+    let torrent = abc::torrent(rt.alloc())?;
     for &(piece, block, wanted) in ROWS {
         same(proven(rt.alloc(), &torrent, piece, block)?, wanted)?;
     }

@@ -168,21 +168,6 @@ const ROWS: &[(&[u8], usize, &str)] = &[
         10,
         "Bits(b\"\") Unknown(9) | ",
     ),
-    (
-        &EACH_KIND,
-        94,
-        "KeepAlive Choke Unchoke Interested NotInterested Have(2) Bits(b\"\\xe0\") \
-        Request { piece: 16909060, begin: 84281096, len: 16384 } Piece { piece: 0, begin: 0, bytes: b\"abc\" } \
-        Cancel { piece: 16909060, begin: 84281096, len: 16384 } Unknown(20) | ",
-    ),
-    (
-        &EACH_KIND,
-        7,
-        "KeepAlive | Choke Unchoke | Interested | NotInterested | Have(2) | Bits(b\"\\xe0\") | \
-        | Request { piece: 16909060, begin: 84281096, len: 16384 } | \
-        | | Piece { piece: 0, begin: 0, bytes: b\"abc\" } | \
-        | Cancel { piece: 16909060, begin: 84281096, len: 16384 } | Unknown(20) | ",
-    ),
 ];
 
 /// Checks what stands in front behind a handshake.
@@ -305,6 +290,31 @@ const EACH_KIND: [u8; 94] = [
     0, 0, 0, 13, 8, 1, 2, 3, 4, 5, 6, 7, 8, 0, 0, 64, 0, // cancel
     0, 0, 0, 1, 20, // unknown
 ];
+
+/// What `EACH_KIND` says.
+const EACH_KIND_TOLD: &str =
+    "KeepAlive Choke Unchoke Interested NotInterested Have(2) Bits(b\"\\xe0\") \
+    Request { piece: 16909060, begin: 84281096, len: 16384 } Piece { piece: 0, begin: 0, bytes: b\"abc\" } \
+    Cancel { piece: 16909060, begin: 84281096, len: 16384 } Unknown(20) ";
+
+/// Checks what stands in front as these messages come in pieces of so many bytes, and that no byte stands behind.
+fn each_kind_in(alloc: Global, len: usize) -> Result<(), Fail> {
+    let mut inbound = greeted(alloc)?;
+    let mut said = String::new(alloc);
+    for piece in EACH_KIND.chunks(len.max(1)) {
+        feed_and_tell(alloc, &mut inbound, piece, &mut said)?;
+    }
+    same_for(said.as_str(), EACH_KIND_TOLD, len)?;
+    same(rest(&inbound), 0)
+}
+
+#[test]
+fn each_kind_in_pieces(rt: HostRuntime) -> Result<(), Fail> {
+    for len in [1, 7, 94] {
+        each_kind_in(rt.alloc(), len)?;
+    }
+    Ok(())
+}
 
 fn put(message: &Message, out: &mut Vec<u8>) -> Result<(), AllocError>
     requires { CanEncode message.now }
