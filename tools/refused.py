@@ -11,8 +11,8 @@ no session found memory lacking, such a report has all pieces that the undisturb
 worker. Where a thread is refused, nothing is printed but `no thread`. RUNS, 1 where it isn't said, is how often each command line of `run`
 is tried, since its threads come in another order each time.
 
-With `tests` each test of these crates (those of TESTED where none is said) is run with its first, second .. allocation refused, to the
-last. It has to pass, or to end because there was no memory: no assertion fails, so that no answer changes in place of the refusal, and
+With `tests` each test of these crates (those of TESTED where none is said) but LONG is run with its first, second .. allocation refused, to
+the last. It has to pass, or to end because there was no memory: no assertion fails, so that no answer changes in place of the refusal, and
 a call that is made once more gives the answer that it would have had. `rt test` in a crate's folder leaves its tests built.
 """
 
@@ -32,6 +32,8 @@ PROGRAM = os.path.join(ROOT, "crates/piecepick/out/piecepick")
 DATA = os.path.join(ROOT, "crates/bt_cli_tests/data")
 KINDS = ("alloc", "read", "write", "thread")
 TESTED = ("bt_picker_tests", "bt_session_tests")
+# Each of its runs takes too long to refuse every allocation. `four_mib_from_one_peer` makes the same calls, and is tried in its place.
+LONG = "tests::keeper::large::four_gib_from_one_peer"
 # What a test says that ends by an error of its own, and not by an assertion; there was no memory for a thread either.
 NO_MEMORY = re.compile(r"error: .*(NoMemory|NoThread|AllocError|AllocFailed|OutOfMemory|\bMemory\b).*\nthe test failed: its result gives status 1\n")
 
@@ -200,7 +202,7 @@ def try_tests(trial, crates):
     for crate in crates:
         program = os.path.join(ROOT, f"crates/{crate}/out/{crate}_tests")
         listed = subprocess.run([program, "--list"], capture_output=True, check=True).stdout.decode()
-        tests = re.findall(r"tests::[\w:]+\w", listed)
+        tests = [test for test in re.findall(r"tests::[\w:]+\w", listed) if test != LONG]
         with concurrent.futures.ThreadPoolExecutor(os.cpu_count()) as pool:
             tried = list(pool.map(lambda test: refuse_in_test(trial, program, test), tests))
         print(f"{crate}: {len(tests)} tests, {sum(refused for refused, _ in tried):,} allocations refused")

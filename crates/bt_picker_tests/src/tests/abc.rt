@@ -27,16 +27,18 @@ pub const MILLION: [u8; 20] = [
 ];
 
 /// The torrent of the pieces `abc`, `abc` and `a`.
-pub fn torrent(alloc: Global) -> Result<Torrent, Fail> {
+pub fn torrent(rt: &impl Abort, alloc: Global) -> Result<Torrent, Fail>
+    ensures { IfOk result (λ torrent. piece_count torrent.layout ≡ 3) }
+{
     let hashes = vec![in alloc; ABC, ABC, A]?;
-    Ok(Torrent::of_parts(3, 7, hashes, [0; 20])?)
+    let torrent = Torrent::of_parts(3, 7, hashes, [0; 20])?;
+    assert!(rt; torrent.piece_count() == 3);
+    Ok(torrent)
 }
 
 /// The same torrent, which several may hold.
 pub fn shared_torrent(rt: &impl Abort, alloc: Global) -> Result<Arc<Torrent>, Fail>
     ensures { IfOk result (λ torrent. piece_count torrent.value.layout ≡ 3) }
 {
-    let torrent = torrent(alloc)?;
-    assert!(rt; torrent.piece_count() == 3);
-    Ok(Arc::new(alloc, torrent)?)
+    Ok(Arc::new(alloc, torrent(rt, alloc)?)?)
 }

@@ -1,7 +1,8 @@
 //! What a desk says and shows, call by call.
 
+use super::abc;
 use super::audits::finds;
-use super::played::{Played, three_pieces};
+use super::played::Played;
 use super::same::same;
 use super::steps::entries_of;
 use bt_meta::Torrent;
@@ -182,7 +183,7 @@ fn finish_settles_what_waits(rt: HostRuntime) -> Result<(), Fail> {
 
 #[test]
 fn an_audit_of_no_call(rt: HostRuntime) -> Result<(), Fail> {
-    let torrent = three_pieces(&rt, rt.alloc())?;
+    let torrent = abc::torrent(&rt, rt.alloc())?;
     finds_no_call(&rt, rt.alloc(), &torrent)
 }
 
@@ -227,7 +228,7 @@ fn add(entries: &mut Vec<Entry>, worker: u32, call: Call, reply: Reply) -> Resul
 
 #[test]
 fn an_audit_of_more_workers_than_a_desk_has(rt: HostRuntime) -> Result<(), Fail> {
-    let torrent = three_pieces(&rt, rt.alloc())?;
+    let torrent = abc::torrent(&rt, rt.alloc())?;
     finds_many_workers(&rt, rt.alloc(), &torrent)
 }
 

@@ -1,13 +1,14 @@
 //! A desk at which scripts are played: lines as in `steps`, `WORKER CALL = REPLY`, and lines that look at the desk, `QUESTION = ANSWER`. What
 //! it is asked goes through functions without a contract, so that a test knows of its replies alone, and its proof is short. A call that found
 //! no memory is made once more, with the answer that it would have had: so each test can be run with any one allocation refused.
-ghost use Rattle.std.specs.Prelude.{◌≡◌, IfOk};
+ghost use Rattle.std.specs.Prelude.{◌≡◌};
 ghost use Rattle.bt_meta.specs.Layout.{piece_count};
 
+use super::abc;
 use super::same::same;
 use super::shown::{Shown, count, pieces, yes_or_no};
-use super::steps::{cut, entry_of, hashed, next_number, number, reply_of, torrent_of};
-use bt_meta::{Block, Sink, Torrent};
+use super::steps::{cut, entry_of, hashed, next_number, number, reply_of};
+use bt_meta::{Block, Sink};
 use bt_picker::*;
 use std::alloc::{AllocError, Global};
 use std::process::Abort;
@@ -18,15 +19,6 @@ use std::test::*;
 const PIECES: u32 = 3;
 
 const WORKERS: u32 = 4;
-
-/// Pieces `abc`, `abc` and `a`.
-pub fn three_pieces(rt: &impl Abort, alloc: Global) -> Result<Torrent, Fail>
-    ensures { IfOk result (λ torrent. piece_count torrent.layout ≡ 3) }
-{
-    let torrent = torrent_of(rt, alloc, "3 7 abc abc a")?;
-    assert!(rt; torrent.piece_count() == PIECES);
-    Ok(torrent)
-}
 
 /// Checks that the answer is as the line says.
 fn is_answered(rt: &impl Abort, answer: Shown, wanted: &str, asked: &str) {
@@ -73,7 +65,7 @@ impl Drop for Played {
 
 impl Played {
     pub fn new(rt: &impl Abort, alloc: Global) -> Result<Played, Fail> {
-        let torrent = Arc::new(alloc, three_pieces(rt, alloc)?)?;
+        let torrent = abc::shared_torrent(rt, alloc)?;
         Ok(Played {
             desk: Desk::new(alloc, torrent, WORKERS, Rules::usual())?,
         })

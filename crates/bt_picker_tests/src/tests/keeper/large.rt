@@ -1,4 +1,4 @@
-//! A torrent of 4 GiB of zeros, played through.
+//! Torrents of 4 GiB and of 4 MiB of zeros, played through.
 
 use super::steps::*;
 use bt_meta::Torrent;
@@ -8,7 +8,11 @@ use std::alloc::Global;
 use std::process::Abort;
 use std::test::*;
 
+/// Pieces of 4 GiB.
 const PIECES: u32 = 16_384;
+
+/// Pieces of 4 MiB.
+const FEW_PIECES: u32 = 16;
 
 /// Blocks of a piece.
 const BLOCKS: u32 = 16;
@@ -21,20 +25,41 @@ const HASH: [u8; 20] = [
     0x81, 0xe4, 0x59, 0xa7,
 ];
 
-/// One peer has all of it. Each piece is had, and its blocks are handed out and let go: so what is held at any time is one piece.
-#[test]
-fn four_gib_from_one_peer(rt: HostRuntime) -> Result<(), Fail> {
-    let alloc = rt.alloc();
-    let hashes = vec![in alloc; HASH; PIECES as usize]?;
-    let total = u64::from(PIECE_LENGTH) * u64::from(PIECES);
+/// A keeper of so many pieces of zeros, and the block that each of them has sixteen times.
+fn keeper_of_zeros(rt: &impl Abort, alloc: Global, pieces: u32) -> Result<(Keeper, Bytes), Fail> {
+    let hashes = vec![in alloc; HASH; pieces as usize]?;
+    let total = u64::from(PIECE_LENGTH) * u64::from(pieces);
     let torrent = Torrent::of_parts(PIECE_LENGTH, total, hashes, [0; 20])?;
-    let mut keeper = keeper_of(&rt, alloc, torrent)?;
     let zeros = Bytes::from_vec(vec![in alloc; 0; 16_384]?)?;
-    for _ in 0..PIECES {
-        downloads(&rt, alloc, &mut keeper, &zeros)?;
+    Ok((keeper_of(rt, alloc, torrent)?, zeros))
+}
+
+/// One peer has all of it. Each piece is had, and its blocks are handed out and let go: so what is held at any time is one piece.
+fn plays_through(
+    rt: &impl Abort,
+    alloc: Global,
+    keeper: &mut Keeper,
+    zeros: &Bytes,
+    pieces: u32,
+) -> Result<(), Fail> {
+    for _ in 0..pieces {
+        downloads(rt, alloc, keeper, zeros)?;
     }
     assert!(rt; keeper.is_complete());
-    tells(&rt, alloc, &mut keeper, Told::Next(0), Reply::NothingLeft)
+    tells(rt, alloc, keeper, Told::Next(0), Reply::NothingLeft)
+}
+
+#[test]
+fn four_gib_from_one_peer(rt: HostRuntime) -> Result<(), Fail> {
+    let (mut keeper, zeros) = keeper_of_zeros(&rt, rt.alloc(), PIECES)?;
+    plays_through(&rt, rt.alloc(), &mut keeper, &zeros, PIECES)
+}
+
+/// The same of few pieces, so that each of its allocations can be refused in turn.
+#[test]
+fn four_mib_from_one_peer(rt: HostRuntime) -> Result<(), Fail> {
+    let (mut keeper, zeros) = keeper_of_zeros(&rt, rt.alloc(), FEW_PIECES)?;
+    plays_through(&rt, rt.alloc(), &mut keeper, &zeros, FEW_PIECES)
 }
 
 /// The next piece is downloaded, block by block, and its blocks are handed out.

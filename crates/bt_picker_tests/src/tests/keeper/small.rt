@@ -8,7 +8,7 @@ use std::process::Abort;
 use std::test::*;
 
 fn three_pieces(rt: &impl Abort, alloc: Global) -> Result<Keeper, Fail> {
-    keeper_of(rt, alloc, abc::torrent(alloc)?)
+    keeper_of(rt, alloc, abc::torrent(rt, alloc)?)
 }
 
 /// Piece 0 is asked for, comes, is hashed and had, and its block is handed out.

@@ -5,12 +5,12 @@ ghost use Rattle.bt_board.specs.Story.{StandsFor};
 ghost use Rattle.bt_check.specs.Checked.{Fits};
 ghost use Rattle.bt_meta.specs.Layout.{piece_count};
 
+use super::check::verdict;
 use crate::tests::abc;
 use bt_board::{Board, BoardSeat};
-use bt_check::{Job, Proven, Verdict};
+use bt_check::Proven;
 use bt_expect::same;
 use bt_meta::{Bitfield, Torrent};
-use bytes::Bytes;
 use std::alloc::{AllocError, Global};
 use std::process::Abort;
 use std::sync::atomic::{AtomicBool, Ordering};
@@ -19,31 +19,14 @@ use std::test::Fail;
 use std::thread;
 use std::thread::Threads;
 
-/// The one block of a piece that is the byte `a`.
-fn blocks(alloc: Global) -> Result<Vec<Bytes>, AllocError> {
-    let mut blocks = Vec::new(alloc);
-    blocks.push(Bytes::from_static(b"a"))?;
-    Ok(blocks)
-}
-
-/// The verdict on these blocks of the piece.
-fn hashed(piece: u32, blocks: Vec<Bytes>) -> Verdict {
-    Job { piece, blocks }.hash()
-}
-
-/// The verdict that the piece is the byte `a`.
-fn verdict(alloc: Global, piece: u32) -> Result<Arc<Verdict>, AllocError> {
-    Ok(Arc::new(alloc, hashed(piece, blocks(alloc)?))?)
-}
-
 /// The proof that the piece is the byte `a`; none where it isn't. Without memory it is tried once more: so the test still passes where a
 /// single allocation is refused, whichever it is.
 fn proven(alloc: Global, torrent: &Torrent, piece: u32) -> Result<Option<Proven>, AllocError>
     ensures { IfOk result (λ proven. IfSome proven (λ proven. Fits torrent.now.layout proven)) }
 {
-    let verdict = match verdict(alloc, piece) {
+    let verdict = match verdict(alloc, piece, b"a") {
         Ok(verdict) => verdict,
-        Err(AllocError) => verdict(alloc, piece)?,
+        Err(AllocError) => verdict(alloc, piece, b"a")?,
     };
     Ok(Proven::of(verdict, torrent).ok())
 }

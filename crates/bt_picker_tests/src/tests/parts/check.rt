@@ -6,7 +6,7 @@ use bt_check::*;
 use bt_expect::same;
 use bt_meta::Torrent;
 use bytes::Bytes;
-use std::alloc::Global;
+use std::alloc::{AllocError, Global};
 use std::sync::Arc;
 use std::test::Fail;
 
@@ -24,7 +24,11 @@ fn a_job_of_two_blocks(rt: HostRuntime) -> Result<(), Fail> {
 }
 
 /// The verdict of a piece of one block.
-fn verdict(alloc: Global, piece: u32, block: &'static [u8]) -> Result<Arc<Verdict>, Fail> {
+pub fn verdict(
+    alloc: Global,
+    piece: u32,
+    block: &'static [u8],
+) -> Result<Arc<Verdict>, AllocError> {
     let blocks = vec![in alloc; Bytes::from_static(block)]?;
     Ok(Arc::new(alloc, hashed(Job { piece, blocks }))?)
 }
@@ -53,7 +57,7 @@ fn what_fits_the_torrent_is_proven(rt: HostRuntime) -> Result<(), Fail> {
         (3, b"a", Err(3)),
         (u32::MAX, b"a", Err(u32::MAX)),
     ];
-    let torrent = abc::torrent(rt.alloc())?;
+    let torrent = abc::torrent(&rt, rt.alloc())?;
     for &(piece, block, wanted) in ROWS {
         same(proven(rt.alloc(), &torrent, piece, block)?, wanted)?;
     }
