@@ -6,6 +6,7 @@ pub mod Pieces
 pub mod Finished
 pub mod Next
 pub mod Legal
+pub mod Picks
 pub mod Entries
 pub mod Logs
 pub mod Examples
