@@ -1,9 +1,9 @@
 -- Endgame by what is counted of all rows, and the pieces whose lacking blocks are all asked.
-use Rattle.std.proofs.Common.{◌≡◌, ℕ, zero, suc, ◌+◌, ◌-◌, ◌*◌, ◌<◌, ◌≤◌, ◌==◌, Bool, true, false, not, ◌&&◌, ◌||◌, Option, None, Some, List, []}
-use Rattle.std.proofs.Common.{◌∷◌, ◌++◌, length, refl, ap, sym, ◌∙◌, subst, arith, ⊎_elim}
+use Rattle.std.proofs.Common.{◌≡◌, ℕ, zero, suc, ◌+◌, ◌-◌, ◌*◌, ◌<◌, ◌≤◌, ◌==◌, Bool, true, false, not, ◌&&◌, ◌||◌, ◌⊎◌, Option, None, Some, List, []}
+use Rattle.std.proofs.Common.{◌∷◌, ◌++◌, length, refl, ap, sym, ◌∙◌, subst, arith, inl, inr, ⊎_elim}
 use Rattle.std.specs.Prelude.{IfSome, IfNone, nat_lt, if◌then◌else◌}
 use Rattle.std.specs.List.{sum_by}
-use Rattle.std.proofs.lemmas.Bool.{cases_eq, cases_lt, eq-eqb, ne_eqb, le-ltb, lt-ltb, false≢true, false_from_ne_true, and_left, and_parts}
+use Rattle.std.proofs.lemmas.Bool.{cases_eq, cases_lt, eq-eqb, ne_eqb, le-ltb, lt-ltb, false≢true, false_from_ne_true, and_from, and_left, and_parts}
 use Rattle.std.proofs.lemmas.List.Sums.{sum_by_push, count_by-le-length}
 use Rattle.bt_meta.specs.declared.block.Block.{Block}
 use Rattle.bt_meta.specs.Layout.{piece_count, block_count, block, block_size}
@@ -11,7 +11,7 @@ use Rattle.bt_history.specs.Counting.{any_below, all_below, count_below, table}
 use Rattle.bt_history.specs.Setting.{Setting, is_block, some_block, some_block_of, each_block, each_block_of}
 use Rattle.bt_history.specs.History.{History}
 use Rattle.bt_history.specs.Peers.{shows, asked}
-use Rattle.bt_history.specs.Pieces.{had, asker_count, held, held_or_asked, chosen, level, wanted, endgame}
+use Rattle.bt_history.specs.Pieces.{had, asker_count, begun, held, held_or_asked, chosen, level, wanted, endgame}
 use Rattle.bt_history.specs.Legal.{IsLegal}
 use Rattle.bt_history.specs.Next.{doubles}
 use Rattle.bt_history.proofs.Below.{any_found, any_none, any_witness, all_found, all_at, any_same, count_at}
@@ -21,10 +21,10 @@ use Rattle.bt_picker.specs.Tables.{AreTables, piece_of, groups_of}
 use Rattle.bt_tables.specs.Standings.{group_number, group_of_row, place_of, stage_of_row, is_held, is_touched, standing_of, held_count, touched_count}
 use Rattle.bt_tables.specs.declared.piece.Stage.TheVariants.{AskedOut}
 use Rattle.bt_picker.proofs.Levelled.{Covers}
-use Rattle.bt_picker.proofs.Stages.{begun_stage, place_listed}
-use Rattle.bt_picker.specs.Search.{DoublesNone, FindsAmong, FindsListed, FindsOf}
+use Rattle.bt_picker.proofs.Stages.{begun_stage, listed_place, place_listed}
+use Rattle.bt_picker.specs.Search.{DoublesFirst, DoublesNone, FindsAmong, FindsLesser, FindsOf, IsLevel, NoneBeforeIn}
 use Rattle.bt_tables.specs.Orders.{at, ListsGroup}
-use Rattle.bt_picker.proofs.Scans.{finds_in_piece, none_in_pieces}
+use Rattle.bt_picker.proofs.Scans.{finds_in_piece, first_in_piece, none_in_pieces}
 use Rattle.bt_tables.proofs.Tabled.{length_table, table_more}
 use Rattle.bt_picker.proofs.Telling.{unchosen, wanted_chosen, full_row, all_touched_row, cells_long, counted_all, held_counted}
 
@@ -42,7 +42,7 @@ double_parts true true false d is = (refl, refl, refl)
 
 pub doubles_stage : (s : Setting) (h : History) (q p : ℕ) → IsLegal s h → p < piece_count s.torrent → endgame s h ≡ true →
     some_block_of s.torrent p (doubles s h q) ≡ true
-    → (shows h q p ≡ true) × (stage_of_row (piece_of s h p) ≡ AskedOut)
+    → (shows h q p ≡ true) × (stage_of_row (piece_of s h p) ≡ AskedOut) × (begun s h p ≡ true)
 doubles_stage s h q p legal lp ending some =
     let found = any_witness (block_count s.torrent p) (λ k. doubles s h q (block s.torrent p k)) some in
     let k = found.0 in
@@ -60,6 +60,7 @@ doubles_stage s h q p legal lp ending some =
     let picked = sym (wanted_chosen s h p lp) ∙ parts.2 in (
       parts.0,
       begun_stage s h p true not_had picked touched all_touched,
+      and_from (not (had h p)) _ (ap not not_had) touched,
     )
   where
     never : (x : Bool) → had h p ≡ x → (had h p ≡ true → ⊥) → had h p ≡ false
@@ -68,22 +69,86 @@ doubles_stage s h q p legal lp ending some =
 
 -- ---- the search among the pieces of that group
 
-pub among_step : (t : _) (test : Block → Bool) (pieces : List ℕ) (n : ℕ) (found next : Option Block) → FindsAmong t test pieces n found
-    → IfSome next (λ b. (is_block t b ≡ true) × (test b ≡ true))
-    → IfNone next ((found ≡ None) × (some_block_of t (at pieces n) test ≡ false))
-    → FindsAmong t test pieces (n + 1) next
-among_step t test pieces n found (Some b) so_far some none = some
-among_step t test pieces n found None so_far some none =
-    let before : FindsAmong t test pieces n None = subst (FindsAmong t test pieces n) none.0 so_far in
+pub among_step : (t : _) (test : Block → Bool) (pieces : List ℕ) (n : ℕ) (found next : Option Block) → at pieces n < piece_count t
+    → FindsAmong t test pieces n found → FindsLesser t test found (at pieces n) next → FindsAmong t test pieces (n + 1) next
+among_step t test pieces n found next lp so_far (inr (b, (is, (finds, later)))) =
+    let inside = finds_in_piece t test (at pieces n) b finds lp in
+    let own : b.piece ≡ at pieces n = ap (λ (c : Block). c.piece) finds.2 in
+    subst (FindsAmong t test pieces (n + 1)) (sym is) (
+      inside.0,
+      inside.1,
+      (n, omega arith, sym own),
+      λ i li. ⊎_elim
+          (λ (same : i ≡ n). subst (NoneBeforeIn t test b) (ap (λ (j : ℕ). at pieces j) (sym same)) (first_in_piece t (at pieces n) test b finds))
+          (λ (apart : i ≡ n → ⊥). among found so_far later i (omega (arith, li, apart)) own)
+          (cases_eq i n),
+    )
+  where
+    among : (f : Option Block) → FindsAmong t test pieces n f → ((c : Block) → f ≡ Some c → at pieces n ≤ c.piece) → (i : ℕ) → i < n
+        → b.piece ≡ at pieces n → NoneBeforeIn t test b (at pieces i)
+    among None none later i li own k lk passes =
+        absurd (false≢true (sym (none i li) ∙ any_found (block_count t (at pieces i)) (λ j. test (block t (at pieces i) j)) k lk passes))
+    among (Some c) some later i li own k lk passes =
+        let le = later c refl in ⊎_elim
+        (λ (more : c.piece < at pieces i). inl (omega (arith, le, own, more)))
+        (λ (here : (c.piece ≡ at pieces i) × (c.begin ≤ block_size * k)). ⊎_elim
+        (λ (equal : at pieces n ≡ at pieces i).
+        let index : k < block_count t (at pieces n) = subst (λ (p : ℕ). k < block_count t p) (sym equal) lk in
+        let passed : test (block t (at pieces n) k) ≡ true = ap (λ (p : ℕ). test (block t p k)) equal ∙ passes in
+        subst (λ (p : ℕ). (b.piece < p) ⊎ ((b.piece ≡ p) × (b.begin ≤ block_size * k))) equal
+        (first_in_piece t (at pieces n) test b finds k index passed))
+        (λ (apart : at pieces n ≡ at pieces i → ⊥). inl (omega (arith, le, own, here.0, apart)))
+        (cases_eq (at pieces n) (at pieces i)))
+        (some.3 i li k lk passes)
+among_step t test pieces n found next lp so_far (inl (is, why)) = subst (FindsAmong t test pieces (n + 1)) (sym is) (kept found so_far why) where
+  kept : (f : Option Block) → FindsAmong t test pieces n f
+      → (some_block_of t (at pieces n) test ≡ false) ⊎ ((b : Block) × (f ≡ Some b) × (b.piece < at pieces n))
+      → FindsAmong t test pieces (n + 1) f
+  kept None none why = λ i li. ⊎_elim
+      (λ (same : i ≡ n). ap (λ (j : ℕ). some_block_of t (at pieces j) test) same ∙ fails why)
+      (λ (apart : i ≡ n → ⊥). none i (omega (arith, li, apart)))
+      (cases_eq i n)
+    where
+      fails : (some_block_of t (at pieces n) test ≡ false) ⊎ ((b : Block) × (None ≡ Some b) × (b.piece < at pieces n))
+          → some_block_of t (at pieces n) test ≡ false
+      fails (inl none_of) = none_of
+      fails (inr some) = absurd (cc some.1)
+  kept (Some c) some why = (
+    some.0,
+    some.1,
+    (some.2.0, omega (arith, some.2.1), some.2.2),
     λ i li. ⊎_elim
-    (λ (same : i ≡ n). ap (λ (j : ℕ). some_block_of t (at pieces j) test) same ∙ none.1)
-    (λ (apart : i ≡ n → ⊥). before i (omega (arith, li, apart)))
-    (cases_eq i n)
+        (λ (same : i ≡ n). subst (NoneBeforeIn t test c) (ap (λ (j : ℕ). at pieces j) (sym same)) (last why))
+        (λ (apart : i ≡ n → ⊥). some.3 i (omega (arith, li, apart)))
+        (cases_eq i n),
+  )
+    where
+      last : (some_block_of t (at pieces n) test ≡ false) ⊎ ((b : Block) × (Some c ≡ Some b) × (b.piece < at pieces n))
+          → NoneBeforeIn t test c (at pieces n)
+      last (inl none_of) k lk passes =
+          absurd (false≢true (sym none_of ∙ any_found (block_count t (at pieces n)) (λ j. test (block t (at pieces n) j)) k lk passes))
+      last (inr (b, (same, less))) k lk passes =
+          let equal : c.piece ≡ b.piece = cc same in
+          inl (omega (arith, less, equal))
 
 pub among_some : (t : _) (test : Block → Bool) (pieces : List ℕ) (n : ℕ) (found : Option Block) → FindsAmong t test pieces n found
     → IfSome found (λ b. (is_block t b ≡ true) × (test b ≡ true))
 among_some t test pieces n None so_far = tt
-among_some t test pieces n (Some b) so_far = so_far
+among_some t test pieces n (Some b) so_far = (so_far.0, so_far.1)
+
+-- what was found among them is of that level, and the first block of it to ask again
+pub doubles_least : (s : Setting) (h : History) (q n : ℕ) (pieces : List ℕ) (b : Block) → IsLegal s h → IsLevel n → endgame s h ≡ true →
+    ListsGroup (groups_of s h) (group_number n AskedOut) pieces
+    → FindsAmong s.torrent (doubles s h q) pieces (length pieces) (Some b)
+    → DoublesFirst s h q n b
+doubles_least s h q n pieces b legal is_level ending lists found =
+    let place = listed_place s h n AskedOut pieces legal is_level (omega arith) lists found.2.0 found.2.1 in (
+      ap (level h) (sym found.2.2) ∙ place.1,
+      λ p lp same k lk is.
+          let stage = doubles_stage s h q p legal lp ending (any_found (block_count s.torrent p) (λ j. doubles s h q (block s.torrent p j)) k lk is) in
+          let listed = place_listed s h n AskedOut p pieces lists lp same (ap place_of stage.1) in
+          subst (NoneBeforeIn s.torrent (doubles s h q) b) listed.2 (found.3 listed.0 listed.1) k lk is,
+    )
 
 -- where nothing was found among the pieces of the level whose lacking blocks are all asked, no piece of the level has a block to ask again
 pub doubles_none : (s : Setting) (h : History) (q n : ℕ) (pieces : List ℕ) → IsLegal s h → endgame s h ≡ true →
@@ -229,13 +294,6 @@ endgame_rows t h are =
     ap (λ (rows : List PieceState). (sum_by (λ row. (standing_of row).unasked) rows == 0) && nat_lt 0 (sum_by (λ row. (standing_of row).unheld) rows))
     are.pieces_are
     ∙ (λ i. all_asked_rows t.setting h i && some_lacking_rows t.setting h i)
-
--- a shown piece of a group is found in the group's list
-pub listed_at : (s : Setting) (h : History) (q n : ℕ) (pieces : List ℕ) (p : ℕ) → ListsGroup (groups_of s h) n pieces → p < piece_count s.torrent →
-    shows h q p ≡ true → at (groups_of s h) p ≡ n
-    → FindsListed (shows h q) pieces (length pieces) (Some p)
-listed_at s h q n pieces p lists lp shown is =
-    (shown, lists.all p (omega (arith, length_table (piece_count s.torrent) (λ r. group_of_row (piece_of s h r)), lp)) is)
 
 -- ---- a piece that lacks one block
 

@@ -4,10 +4,10 @@ use Rattle.std.proofs.Common.{length, refl, ap, sym}
 use Rattle.std.proofs.Common.{◌∙◌, subst, arith, ⊎_elim, inl, inr, min}
 use Rattle.std.specs.Prelude.{IfSome, nat_le, nat_lt}
 use Rattle.std.proofs.Math.Nat.{min-eq_left, min-eq_right}
-use Rattle.std.proofs.lemmas.Bool.{and_from, and_parts, cases_Bool, cases_lt, eq-eqb, eqb-true, false≢true, false_from_ne_true, le-leb, not-true}
+use Rattle.std.proofs.lemmas.Bool.{and_from, and_parts, cases_Bool, cases_eq, cases_lt, eq-eqb, eqb-true, false≢true, false_from_ne_true, le-leb, not-true}
 use Rattle.std.proofs.lemmas.Bool.{or_left, or_right}
 use Rattle.bt_meta.specs.declared.block.Block.{Block}
-use Rattle.bt_meta.specs.Layout.{IsLayout, piece_count, block_count, block}
+use Rattle.bt_meta.specs.Layout.{IsLayout, piece_count, block_count, block, block_size}
 use Rattle.bt_history.specs.Setting.{Setting, each_block_of, is_block, some_block, some_block_of}
 use Rattle.bt_history.specs.History.{History}
 use Rattle.bt_history.specs.Legal.{IsLegal}
@@ -21,11 +21,11 @@ use Rattle.bt_history.proofs.LineLaws.{block_is_block, some_found}
 use Rattle.bt_tables.specs.Orders.{at}
 use Rattle.bt_tables.specs.declared.piece.Stage.TheVariants.{Open}
 use Rattle.bt_tables.specs.Standings.{ListsOpen, first_group, group_number, group_of_row, place_of, stage_of_row}
-use Rattle.bt_picker.specs.Search.{Finds, FindsLeast, FindsListed, FindsOf, IsLevel, NoneAbove, NoneAt, goes_on, is_candidate_at, lesser_of}
+use Rattle.bt_picker.specs.Search.{Finds, FindsLeast, FindsListed, FindsOf, IsLeast, IsLevel, NoneAbove, NoneAt, goes_on, is_candidate_at, lesser_of}
 use Rattle.bt_picker.specs.Search.{rank_of, shows_at}
 use Rattle.bt_picker.specs.Tables.{groups_of, piece_of}
 use Rattle.bt_picker.proofs.Rarest.{at_level}
-use Rattle.bt_picker.proofs.Scans.{candidate_usable, first_block, least_is_rarest, none_in_pieces}
+use Rattle.bt_picker.proofs.Scans.{candidate_usable, first_block, first_in_piece, least_is_rarest, none_in_pieces}
 use Rattle.bt_picker.proofs.Stages.{begun_stage, candidate_at, candidate_parts, candidate_stage, level_chosen, listed_open, open_listed, open_within}
 use Rattle.bt_picker.proofs.Stages.{stage_open}
 use Rattle.bt_tables.proofs.Apart.{place_few}
@@ -42,7 +42,7 @@ pub record Gives (s : Setting) (h : History) (q n p : ℕ) : Type 0 where
 
 -- ---- a piece with a usable block
 
-usable_parts : (u w v : Bool) → (u && (w && v)) ≡ true → (u ≡ true) × (w ≡ true) × (v ≡ true)
+pub usable_parts : (u w v : Bool) → (u && (w && v)) ≡ true → (u ≡ true) × (w ≡ true) × (v ≡ true)
 usable_parts true true true is = (refl, refl, refl)
 usable_parts true true false is = absurd (false≢true is)
 usable_parts true false v is = absurd (false≢true is)
@@ -279,22 +279,51 @@ goes_on_found s h q n p found layout is lp stage shown finds =
           (and_from (begun s h p) (level h p == n) begun_is (eq-eqb (level h p) n gives.level_is))),
     )
 
+-- a block that goes on is of an open piece that is listed and shown
+goes_on_listed : (s : Setting) (h : History) (q n : ℕ) (pieces : List ℕ) → IsLegal s h → ListsOpen (groups_of s h) pieces → (p k : ℕ)
+    → p < piece_count s.torrent → k < block_count s.torrent p → goes_on s h q n (block s.torrent p k) ≡ true
+    → (i : ℕ) × (i < length pieces) × (at pieces i ≡ p) × (shows_at h q n (at pieces i) ≡ true)
+goes_on_listed s h q n pieces legal lists p k lp lk on =
+    let parts = and_parts (usable s h q (block s.torrent p k)) _ on in
+    let rest = and_parts (begun s h p) (level h p == n) parts.1 in
+    let some = any_found (block_count s.torrent p) (λ j. usable s h q (block s.torrent p j)) k lk parts.0 in
+    let begun_parts = and_parts (not (had h p)) (some_block_of s.torrent p (held_or_asked s h)) rest.0 in
+    let stage = begun_stage s h p false (usable_lacks s h q p legal lp some) (usable_chosen s h q p legal lp some) begun_parts.1
+    (usable_left s h q p legal lp some) in
+    let listed = open_listed s h pieces p lists lp stage in (
+      listed.0,
+      listed.1,
+      listed.2,
+      ap (shows_at h q n) listed.2 ∙ and_from (shows h q p) (level h p == n) (usable_shown s h q p legal lp some) rest.1,
+    )
+
+-- of the least such piece the first unasked block comes before all that go on
+pub goes_on_least : (s : Setting) (h : History) (q n p : ℕ) (pieces : List ℕ) (found : Option Block) → IsLegal s h
+    → ListsOpen (groups_of s h) pieces
+    → ((i : ℕ) → i < length pieces → shows_at h q n (at pieces i) ≡ true → p ≤ at pieces i)
+    → FindsOf s.torrent p (unasked s h) found → IfSome found (IsLeast s.torrent (goes_on s h q n))
+goes_on_least s h q n p pieces None legal lists least finds = tt
+goes_on_least s h q n p pieces (Some b) legal lists least finds r lr k lk on =
+    let listed = goes_on_listed s h q n pieces legal lists r k lr lk on in
+    let low = least listed.0 listed.1 listed.3 in
+    let own : b.piece ≡ p = ap (λ (c : Block). c.piece) finds.2 in
+    ⊎_elim
+    (λ (same : p ≡ r).
+    let free = (and_parts (unasked s h (block s.torrent r k)) _ (and_parts (usable s h q (block s.torrent r k)) _ on).0).0 in
+    subst (λ (x : ℕ). (b.piece < x) ⊎ ((b.piece ≡ x) × (b.begin ≤ block_size * k))) same
+    (first_in_piece s.torrent p (unasked s h) b finds k (subst (λ (x : ℕ). k < block_count s.torrent x) (sym same) lk)
+    (ap (λ (x : ℕ). unasked s h (block s.torrent x k)) same ∙ free)))
+    (λ (apart : p ≡ r → ⊥). inl (omega (arith, own, low, listed.2, apart)))
+    (cases_eq p r)
+
 -- where no open piece of the level is shown nothing goes on
 pub goes_on_none : (s : Setting) (h : History) (q n : ℕ) (pieces : List ℕ) → IsLegal s h → ListsOpen (groups_of s h) pieces
     → FindsListed (shows_at h q n) pieces (length pieces) None → some_block s.torrent (goes_on s h q n) ≡ false
 goes_on_none s h q n pieces legal lists none = none_in_pieces s.torrent (goes_on s h q n) (λ p lp.
     any_none (block_count s.torrent p) (λ k. goes_on s h q n (block s.torrent p k)) (λ k lk.
     false_from_ne_true (goes_on s h q n (block s.torrent p k)) (λ on.
-    let b = block s.torrent p k in
-    let parts = and_parts (usable s h q b) _ on in
-    let rest = and_parts (begun s h p) (level h p == n) parts.1 in
-    let some = any_found (block_count s.torrent p) (λ j. usable s h q (block s.torrent p j)) k lk parts.0 in
-    let begun_parts = and_parts (not (had h p)) (some_block_of s.torrent p (held_or_asked s h)) rest.0 in
-    let stage = begun_stage s h p false (usable_lacks s h q p legal lp some) (usable_chosen s h q p legal lp some) begun_parts.1
-    (usable_left s h q p legal lp some) in
-    let listed = open_listed s h pieces p lists lp stage in
-    false≢true (sym (none listed.0 listed.1) ∙ (ap (shows_at h q n) listed.2
-    ∙ and_from (shows h q p) (level h p == n) (usable_shown s h q p legal lp some) rest.1)))))
+    let listed = goes_on_listed s h q n pieces legal lists p k lp lk on in
+    false≢true (sym (none listed.0 listed.1) ∙ listed.3))))
 
 -- ---- in order
 

@@ -24,12 +24,14 @@ pub mod Lasting
 pub mod Learning
 pub mod Levelled
 pub mod PeerSteps
+pub mod Picking
 pub mod PieceSteps
 pub mod Placing
 pub mod Rarest
 pub mod Reading
 pub mod Releasing
 pub mod Restoring
+pub mod Rounds
 pub mod Scans
 pub mod Stages
 pub mod StashRows

@@ -1,11 +1,13 @@
 //! Which piece to begin at a peer: rarest first, random first piece, or the least in rising order (Cohen 2003, "Piece selection").
-ghost use Rattle.std.specs.Prelude.{◌≡◌, ◌<◌, ◌≤◌, ◌==◌, ◌&&◌, ◌⊎◌, ℕ, true, false, length, IfSome, IfNone, IsTrue, Some, None};
+ghost use Rattle.std.specs.Prelude.{◌≡◌, ◌<◌, ◌≤◌, ◌%◌, ◌==◌, ◌&&◌, ℕ, true, false, length, nat_lt, IfSome};
 ghost use Rattle.bt_meta.specs.Layout.{piece_count};
 ghost use Rattle.bt_history.specs.Peers.{shows};
 ghost use Rattle.bt_history.specs.Pieces.{availability, level};
 ghost use Rattle.bt_history.specs.Next.{is_candidate};
+ghost use Rattle.bt_history.specs.Picks.{place_in_round};
 ghost use Rattle.bt_tables.specs.Orders.{at, ListsGroup};
-ghost use Rattle.bt_picker.specs.Search.{FindsListed, FindsRarest, IsLevel, IsRarer, FindsLeast, NoneRarer, is_candidate_at, rank_of};
+ghost use Rattle.bt_picker.specs.Search.{FindsFirst, FindsRarest, IsLevel, IsRarer, FindsLeast, NoneRarer, earlier_of, is_candidate_at};
+ghost use Rattle.bt_picker.specs.Search.{order_of, rank_of};
 ghost use Rattle.bt_picker.specs.Tables.{groups_of};
 
 use crate::position::Position;
@@ -41,10 +43,7 @@ impl<'a> Position<'a> {
     fn first_candidate(&self, worker: u32, level: u8, low: u32, high: u32) -> Option<u32>
         requires worker { worker < self.now.setting.workers }
         requires high { high ≤ piece_count self.now.setting.torrent }
-        ensures some { IfSome result (λ p. (p < piece_count self.now.setting.torrent)
-            × IsTrue (is_candidate_at self.now.setting self.now.history worker level p)) }
-        ensures first { IfSome result (λ p. (r : ℕ) → low ≤ r → r < p → is_candidate_at self.now.setting self.now.history worker level r ≡ false) }
-        ensures none { IfNone result ((p : ℕ) → low ≤ p → p < high → is_candidate_at self.now.setting self.now.history worker level p ≡ false) }
+        ensures { FindsFirst (is_candidate_at self.now.setting self.now.history worker level) low high result }
     {
         for piece in low..high {
             if self.is_candidate_at(worker, level, piece) {
@@ -54,12 +53,13 @@ impl<'a> Position<'a> {
         None
     }
 
-    /// The level's candidate to begin where the rarest come first: of those that rank first the nearest from `first` on, which no contract
-    /// says.
+    /// The level's candidate to begin where the rarest come first: of those that fewest peers show the first in a round from `first` on.
     pub(crate) fn rarest(&self, worker: u32, level: u8, first: u32) -> Option<u32>
         requires worker { worker < self.now.setting.workers }
         requires level { IsLevel level }
         requires first { first ≤ piece_count self.now.setting.torrent }
+        ensures first { FindsLeast (is_candidate_at self.now.setting self.now.history worker level)
+            (order_of self.now.setting self.now.history true first) 0 (piece_count self.now.setting.torrent) result }
         ensures least { FindsLeast (is_candidate_at self.now.setting self.now.history worker level)
             (rank_of self.now.setting self.now.history true) 0 (piece_count self.now.setting.torrent) result }
         ensures within { IfSome result (λ p. p < piece_count self.now.setting.torrent) }
@@ -78,7 +78,12 @@ impl<'a> Position<'a> {
                 return Some(piece);
             }
         }
-        self.rarest_of(worker, self.group(level, Stage::Unbegun(CROWD)))
+        self.first_shown(
+            worker,
+            self.group(level, Stage::Unbegun(CROWD)),
+            true,
+            first,
+        )
     }
 
     /// No candidate of the level is shown by fewer peers than this.
@@ -89,50 +94,72 @@ impl<'a> Position<'a> {
         self.floor(worker).saturating_sub(rank(level, 0))
     }
 
-    /// Of these pieces that the peer shows one that the fewest peers show. It is asked for the crowd's group, which is empty at a desk: only the
-    /// audit of a journal of more workers finds pieces there.
-    fn rarest_of(&self, worker: u32, pieces: &[u32]) -> Option<u32>
+    /// Of these pieces that the peer shows the one that ranks first. By rarity it is asked for the crowd's group alone, which is empty at a desk:
+    /// only the audit of a journal of more workers finds pieces there.
+    fn first_shown(&self, worker: u32, pieces: &[u32], rare: bool, first: u32) -> Option<u32>
         requires worker { worker < self.now.setting.workers }
         requires pieces { (i : ℕ) → i < length pieces.now → at pieces.now i < piece_count self.now.setting.torrent }
-        ensures { FindsRarest (shows self.now.history worker) (availability self.now.setting self.now.history)
+        ensures { FindsRarest (shows self.now.history worker) (order_of self.now.setting self.now.history rare first)
             pieces.now (length pieces.now) result }
     {
-        let mut rarest = None;
+        let mut best = None;
         for piece in pieces {
-            rarest = self.rarer_shown(worker, rarest, *piece);
+            best = self.earlier_shown(worker, best, *piece, rare, first);
         }
-        rarest
+        best
     }
 
-    /// The piece, where the peer shows it and fewer peers show it than the one found before.
-    fn rarer_shown(&self, worker: u32, found: Option<u32>, piece: u32) -> Option<u32>
+    /// The piece, where the peer shows it and it ranks before the one found before.
+    fn earlier_shown(
+        &self,
+        worker: u32,
+        found: Option<u32>,
+        piece: u32,
+        rare: bool,
+        first: u32,
+    ) -> Option<u32>
         requires worker { worker < self.now.setting.workers }
         requires piece { piece < piece_count self.now.setting.torrent }
         requires found { IfSome found (λ p. p < piece_count self.now.setting.torrent) }
-        ensures rarer { IsRarer (shows self.now.history worker) (availability self.now.setting self.now.history) found piece result }
+        ensures earlier { IsRarer (shows self.now.history worker) (order_of self.now.setting self.now.history rare first) found piece result }
         ensures within { IfSome result (λ p. p < piece_count self.now.setting.torrent) }
     {
         match found {
-            Some(rarest) if self.availability(rarest) <= self.availability(piece) => found,
+            Some(best) if !self.ranks_before(piece, best, rare, first) => found,
             _ if self.shows(worker, piece) => Some(piece),
             _ => found,
         }
     }
 
-    /// Of the pieces of the group that the peer shows the first from this piece on, or else the first of all: in a large group it is
-    /// mostly near. `pieces` are those of the group.
+    /// Whether a piece ranks before another one: fewer peers show it, where that counts, or as many, and it comes before in a round from
+    /// `first` on.
+    fn ranks_before(&self, piece: u32, other: u32, rare: bool, first: u32) -> bool
+        requires piece { piece < piece_count self.now.setting.torrent }
+        requires other { other < piece_count self.now.setting.torrent }
+        ensures { result ≡ nat_lt (order_of self.now.setting self.now.history rare first piece)
+            (order_of self.now.setting self.now.history rare first other) }
+    {
+        if rare && self.availability(piece) != self.availability(other) {
+            return self.availability(piece) < self.availability(other);
+        }
+        comes_before(piece, other, first)
+    }
+
+    /// Of the pieces of the group that the peer shows the first in a round from `first` on: in a large group it is mostly near. `pieces` are
+    /// those of the group.
     fn nearest_of(&self, worker: u32, group: u32, pieces: &[u32], first: u32) -> Option<u32>
         requires worker { worker < self.now.setting.workers }
         requires lists { ListsGroup (groups_of self.now.setting self.now.history) group pieces.now }
         requires first { first ≤ piece_count self.now.setting.torrent }
-        ensures { FindsListed (shows self.now.history worker) pieces.now (length pieces.now) result }
+        ensures { FindsRarest (shows self.now.history worker) (order_of self.now.setting self.now.history false first)
+            pieces.now (length pieces.now) result }
     {
         let most = pieces.len().saturating_mul(WALK) as u64;
         let behind = self.piece_count() - first;
         let steps = most.min(u64::from(behind)) as u32;
         match self.walk(worker, group, first, first + steps) {
             Some(piece) => Some(piece),
-            None => self.nearest_shown(worker, pieces, first),
+            None => self.first_shown(worker, pieces, false, first),
         }
     }
 
@@ -140,8 +167,8 @@ impl<'a> Position<'a> {
     fn walk(&self, worker: u32, group: u32, low: u32, high: u32) -> Option<u32>
         requires worker { worker < self.now.setting.workers }
         requires high { high ≤ piece_count self.now.setting.torrent }
-        ensures { IfSome result (λ p. (p < piece_count self.now.setting.torrent)
-            × IsTrue (shows self.now.history worker p) × (at (groups_of self.now.setting self.now.history) p ≡ group)) }
+        ensures { FindsFirst (λ p. (at (groups_of self.now.setting self.now.history) p == group) && shows self.now.history worker p)
+            low high result }
     {
         for piece in low..high {
             if self.group_of(piece) == group && self.shows(worker, piece) {
@@ -151,56 +178,28 @@ impl<'a> Position<'a> {
         None
     }
 
-    /// Of these pieces that the peer shows the first from this piece on, or else the first of all.
-    fn nearest_shown(&self, worker: u32, pieces: &[u32], first: u32) -> Option<u32>
-        requires worker { worker < self.now.setting.workers }
-        requires pieces { (i : ℕ) → i < length pieces.now → at pieces.now i < piece_count self.now.setting.torrent }
-        ensures { FindsListed (shows self.now.history worker) pieces.now (length pieces.now) result }
-    {
-        let mut nearest = None;
-        for piece in pieces {
-            nearest = self.nearer_shown(worker, nearest, *piece, first);
-        }
-        nearest
-    }
-
-    /// The piece, where the peer shows it and it comes before the one found before.
-    fn nearer_shown(&self, worker: u32, found: Option<u32>, piece: u32, first: u32) -> Option<u32>
-        requires worker { worker < self.now.setting.workers }
-        requires piece { piece < piece_count self.now.setting.torrent }
-        ensures { ((result ≡ Some piece) × IsTrue (shows self.now.history worker piece))
-            ⊎ ((result ≡ found) × (found ≡ None → shows self.now.history worker piece ≡ false)) }
-    {
-        match found {
-            Some(nearest) if !comes_before(piece, nearest, first) => found,
-            _ if self.shows(worker, piece) => Some(piece),
-            _ => found,
-        }
-    }
-
-    /// The level's candidate to begin where any may be: the nearest from `first` on, which no contract says. While many pieces are unbegun a
-    /// walk soon meets one, and once few are their lists are short.
+    /// The level's candidate to begin where any may be: the first in a round from `first` on. While many pieces are unbegun a walk soon meets
+    /// one, and once few are their lists are short. Only a walk that reached the last piece goes on at the first one.
     fn nearest(&self, worker: u32, level: u8, first: u32) -> Option<u32>
         requires worker { worker < self.now.setting.workers }
         requires level { IsLevel level }
         requires first { first ≤ piece_count self.now.setting.torrent }
-        ensures some { IfSome result (λ p. (p < piece_count self.now.setting.torrent)
-            × IsTrue (is_candidate_at self.now.setting self.now.history worker level p)) }
-        ensures none { IfNone result ((p : ℕ) → p < piece_count self.now.setting.torrent →
-            is_candidate_at self.now.setting self.now.history worker level p ≡ false) }
+        ensures first { FindsLeast (is_candidate_at self.now.setting self.now.history worker level)
+            (order_of self.now.setting self.now.history false first) 0 (piece_count self.now.setting.torrent) result }
+        ensures within { IfSome result (λ p. p < piece_count self.now.setting.torrent) }
     {
         let steps = self.unbegun_count(level);
-        let ahead = steps.min(self.piece_count() - first);
+        let behind = self.piece_count() - first;
+        let ahead = steps.min(behind);
         if let Some(piece) = self.first_candidate(worker, level, first, first + ahead) {
             return Some(piece);
         }
-        if let Some(piece) = self.first_candidate(worker, level, 0, steps.min(first)) {
-            return Some(piece);
+        if ahead == behind {
+            if let Some(piece) = self.first_candidate(worker, level, 0, steps.min(first)) {
+                return Some(piece);
+            }
         }
-        match self.rarest(worker, level, first) {
-            Some(piece) => Some(self.nearest_listed(worker, level, piece, first)),
-            None => None,
-        }
+        self.nearest_listed(worker, level, first)
     }
 
     /// At least so many pieces are unbegun: all but those of the level that are begun or at rest. No contract needs it.
@@ -216,44 +215,29 @@ impl<'a> Position<'a> {
         (self.piece_count() as usize).saturating_sub(others) as u32
     }
 
-    /// Of the level's unbegun pieces that the peer shows, and of this one, the first from `first` on, or else the first of all.
-    fn nearest_listed(&self, worker: u32, level: u8, piece: u32, first: u32) -> u32
+    /// Of the level's unbegun pieces that the peer shows the first in a round from `first` on.
+    fn nearest_listed(&self, worker: u32, level: u8, first: u32) -> Option<u32>
         requires worker { worker < self.now.setting.workers }
         requires level { IsLevel level }
-        requires within { piece < piece_count self.now.setting.torrent }
-        requires candidate { IsTrue (is_candidate_at self.now.setting self.now.history worker level piece) }
-        ensures within { result < piece_count self.now.setting.torrent }
-        ensures candidate { IsTrue (is_candidate_at self.now.setting self.now.history worker level result) }
+        requires first { first ≤ piece_count self.now.setting.torrent }
+        ensures first { FindsLeast (is_candidate_at self.now.setting self.now.history worker level)
+            (order_of self.now.setting self.now.history false first) 0 (piece_count self.now.setting.torrent) result }
+        ensures within { IfSome result (λ p. p < piece_count self.now.setting.torrent) }
     {
-        let mut nearest = piece;
-        for shown_by in self.floor_at(worker, level)..self.workers().min(CROWD - 1) + 1 {
-            nearest = self.nearer_of(
-                worker,
-                level,
-                nearest,
-                self.group(level, Stage::Unbegun(shown_by)),
-                first,
-            );
+        self.attest();
+        let mut nearest = None;
+        let most = self.workers().min(CROWD - 1);
+        for shown_by in self.floor_at(worker, level)..most + 1 {
+            let pieces = self.group(level, Stage::Unbegun(shown_by));
+            let other = self.first_shown(worker, pieces, false, first);
+            nearest = earlier(nearest, other, first);
         }
-        nearest
-    }
-
-    /// Of these pieces that may be begun at the peer, and of the one found before, the first from `first` on, or else the first of all.
-    fn nearer_of(&self, worker: u32, level: u8, found: u32, pieces: &[u32], first: u32) -> u32
-        requires worker { worker < self.now.setting.workers }
-        requires pieces { (i : ℕ) → i < length pieces.now → at pieces.now i < piece_count self.now.setting.torrent }
-        requires within { found < piece_count self.now.setting.torrent }
-        requires candidate { IsTrue (is_candidate_at self.now.setting self.now.history worker level found) }
-        ensures within { result < piece_count self.now.setting.torrent }
-        ensures candidate { IsTrue (is_candidate_at self.now.setting self.now.history worker level result) }
-    {
-        let mut nearest = found;
-        for piece in pieces {
-            if comes_before(*piece, nearest, first) && self.is_candidate_at(worker, level, *piece) {
-                nearest = *piece;
-            }
-        }
-        nearest
+        let crowd = self.group(level, Stage::Unbegun(CROWD));
+        earlier(
+            nearest,
+            self.first_shown(worker, crowd, false, first),
+            first,
+        )
     }
 
     /// Whether it is known that nothing of the level may be begun at the peer: no piece is shown by as many peers as its floor says.
@@ -271,6 +255,9 @@ impl<'a> Position<'a> {
         requires level { IsLevel level }
         ensures least { FindsLeast (is_candidate_at self.now.setting self.now.history worker level)
             (rank_of self.now.setting self.now.history rare) 0 (piece_count self.now.setting.torrent) result }
+        ensures first { FindsLeast (is_candidate_at self.now.setting self.now.history worker level)
+            (order_of self.now.setting self.now.history rare (word % piece_count self.now.setting.torrent))
+            0 (piece_count self.now.setting.torrent) result }
         ensures within { IfSome result (λ p. p < piece_count self.now.setting.torrent) }
     {
         let count = self.piece_count();
@@ -309,8 +296,22 @@ impl<'a> Position<'a> {
     }
 }
 
-/// Whether a piece comes before another one, from this piece on and then from the first of all.
-fn comes_before(piece: u32, other: u32, first: u32) -> bool {
+/// Of two pieces, where there are two, the one that comes before the other in a round from `first` on.
+fn earlier(one: Option<u32>, other: Option<u32>, first: u32) -> Option<u32>
+    ensures { (count : ℕ) → IfSome one (λ p. p < count) → IfSome other (λ p. p < count) → result ≡ earlier_of count first one other }
+{
+    match (one, other) {
+        (Some(found), Some(piece)) if comes_before(piece, found, first) => other,
+        (Some(_), _) => one,
+        (None, _) => other,
+    }
+}
+
+/// Whether a piece comes before another one in a round from `first` on.
+fn comes_before(piece: u32, other: u32, first: u32) -> bool
+    ensures { (count : ℕ) → piece < count → other < count →
+        result ≡ nat_lt (place_in_round count first piece) (place_in_round count first other) }
+{
     if (piece < first) == (other < first) {
         piece < other
     } else {

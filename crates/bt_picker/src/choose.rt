@@ -5,12 +5,14 @@ ghost use Rattle.std.specs.Prelude.{None, nat_le, nat_lt, Option};
 ghost use Rattle.bt_meta.specs.declared.block.Block.{Block};
 ghost use Rattle.bt_meta.specs.Layout.{piece_count, block_count, block};
 ghost use Rattle.bt_history.specs.Setting.{each_block, each_block_of, is_block, some_block, some_block_of};
-ghost use Rattle.bt_history.specs.Peers.{asked, asked_count, depth_of, due, shows};
+ghost use Rattle.bt_history.specs.Peers.{asked, asked_count, depth_of, due, dues, shows};
+ghost use Rattle.bt_history.specs.Picks.{is_first, leads};
 ghost use Rattle.bt_history.specs.Pieces.{asker_count, endgame, had_count, held, held_or_asked, interesting, level, unasked, wanted};
 ghost use Rattle.bt_history.specs.Next.{continues, doubles, next_answer, rises, starts, usable};
 ghost use Rattle.bt_tables.specs.Orders.{at};
 ghost use Rattle.bt_tables.specs.Risings.{Rises};
-ghost use Rattle.bt_picker.specs.Search.{FindsListed, Finds, FindsOf, IsLevel, IsRuling, LacksNone, MayAsk, NoneAbove, NoneAt};
+ghost use Rattle.bt_picker.specs.Search.{FindsListed, Finds, FindsOf, IsLeast, IsLevel, IsPickedBy, IsRuling, LacksNone, MayAsk};
+ghost use Rattle.bt_picker.specs.Search.{NoneAbove, NoneAt, NoneBeforeIn};
 ghost use Rattle.bt_picker.specs.Search.{goes_on, lesser_of, shows_at};
 
 use crate::position::Position;
@@ -38,7 +40,8 @@ impl<'a> Position<'a> {
     fn continuing(&self, worker: u32, level: u8) -> Option<Block>
         requires worker { worker < self.now.setting.workers }
         requires level { IsLevel level }
-        ensures { Finds self.now.setting.torrent (goes_on self.now.setting self.now.history worker level) result }
+        ensures found { Finds self.now.setting.torrent (goes_on self.now.setting self.now.history worker level) result }
+        ensures least { IfSome result (IsLeast self.now.setting.torrent (goes_on self.now.setting self.now.history worker level)) }
     {
         self.attest();
         match self.least_shown(worker, level, self.open_pieces()) {
@@ -97,6 +100,8 @@ impl<'a> Position<'a> {
         requires none_begun { some_block self.now.setting.torrent (goes_on self.now.setting self.now.history worker level) ≡ false }
         ensures some { IfSome result (λ b. IsTrue (is_block self.now.setting.torrent b)
             × IsTrue (starts self.now.setting self.now.history worker b)) }
+        ensures first { IfSome result (λ b.
+            IsTrue (is_first self.now.setting self.now.history word (starts self.now.setting self.now.history worker) b)) }
         ensures none_goes_on { IfSome result (λ b. some_block self.now.setting.torrent (continues self.now.setting self.now.history worker) ≡ false) }
         ensures none { IfNone result (NoneAt self.now.setting self.now.history worker level) }
     {
@@ -115,6 +120,7 @@ impl<'a> Position<'a> {
         requires above { NoneAbove self.now.setting self.now.history worker level }
         ensures some { IfSome result (λ b. IsTrue (is_block self.now.setting.torrent b)
             × IsTrue (rises self.now.setting self.now.history worker b)) }
+        ensures first { IfSome result (λ b. NoneBeforeIn self.now.setting.torrent (unasked self.now.setting self.now.history) b b.piece) }
         ensures none { IfNone result (NoneAt self.now.setting self.now.history worker level) }
     {
         self.attest();
@@ -226,6 +232,7 @@ impl<'a> Position<'a> {
         requires above { NoneAbove self.now.setting self.now.history worker level }
         requires may { MayAsk self.now.setting self.now.history worker }
         ensures some { IfSome result (IsRuling self.now.setting self.now.history worker (next_answer self.now.setting self.now.history worker)) }
+        ensures picked { IfSome result (IsPickedBy self.now.setting self.now.history worker word) }
         ensures none { IfNone result (NoneAt self.now.setting self.now.history worker level) }
     {
         if self.has_none_unasked(level) {
@@ -252,6 +259,7 @@ impl<'a> Position<'a> {
         requires worker { worker < self.now.setting.workers }
         requires may { MayAsk self.now.setting self.now.history worker }
         ensures some { IfSome result (IsRuling self.now.setting self.now.history worker (next_answer self.now.setting self.now.history worker)) }
+        ensures picked { IfSome result (IsPickedBy self.now.setting self.now.history worker word) }
         ensures none { IfNone result (some_block self.now.setting.torrent (usable self.now.setting self.now.history worker) ≡ false) }
     {
         self.attest();
@@ -267,7 +275,8 @@ impl<'a> Position<'a> {
     fn next_request(&self, worker: u32, word: u64) -> Ruling
         requires worker { worker < self.now.setting.workers }
         requires may { MayAsk self.now.setting self.now.history worker }
-        ensures { IsRuling self.now.setting self.now.history worker (next_answer self.now.setting self.now.history worker) result }
+        ensures ruled { IsRuling self.now.setting self.now.history worker (next_answer self.now.setting self.now.history worker) result }
+        ensures picked { IsPickedBy self.now.setting self.now.history worker word result }
     {
         if let Some(ruling) = self.new_request(worker, word) {
             return ruling;
@@ -285,7 +294,8 @@ impl<'a> Position<'a> {
     /// The block whose cancel came due first.
     fn first_due(&self, worker: u32) -> Option<Block>
         requires { worker < self.now.setting.workers }
-        ensures { Finds self.now.setting.torrent (due self.now.history worker) result }
+        ensures found { Finds self.now.setting.torrent (due self.now.history worker) result }
+        ensures first { IfSome result (λ b. IsTrue (leads b (dues self.now.history worker))) }
     {
         self.attest();
         self.dues(worker).first().copied()
@@ -300,11 +310,12 @@ impl<'a> Position<'a> {
         self.depth(worker) as usize <= self.outstanding(worker).len()
     }
 
-    /// Which rule answers Next. The word settles what the rules leave open.
+    /// Which rule answers Next, with the block that the pick names: the word settles what the rules leave open.
     #[tactic(auto, using(crate::proofs::Choices::at_choked, crate::proofs::Choices::at_full))]
     pub fn next_ruling(&self, worker: u32, word: u64) -> Ruling
         requires { worker < self.now.setting.workers }
-        ensures { IsRuling self.now.setting self.now.history worker (next_answer self.now.setting self.now.history worker) result }
+        ensures ruled { IsRuling self.now.setting self.now.history worker (next_answer self.now.setting self.now.history worker) result }
+        ensures picked { IsPickedBy self.now.setting self.now.history worker word result }
     {
         if let Some(block) = self.first_due(worker) {
             return Ruling::Cancelling(block);

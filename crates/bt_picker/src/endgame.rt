@@ -6,10 +6,12 @@ ghost use Rattle.bt_history.specs.Setting.{is_block, some_block, some_block_of};
 ghost use Rattle.bt_history.specs.History.{same_begin};
 ghost use Rattle.bt_history.specs.Legal.{place_at};
 ghost use Rattle.bt_history.specs.Peers.{asked, has_place};
+ghost use Rattle.bt_history.specs.Picks.{is_first};
 ghost use Rattle.bt_history.specs.Pieces.{asker_count, endgame, held};
 ghost use Rattle.bt_history.specs.Next.{doubles};
 ghost use Rattle.bt_tables.specs.Orders.{at};
-ghost use Rattle.bt_picker.specs.Search.{DoublesNone, Finds, FindsAmong, FindsFirst, FindsOf, IsLevel, has_room, has_room_for};
+ghost use Rattle.bt_picker.specs.Search.{DoublesFirst, DoublesNone, Finds, FindsAmong, FindsFirst, FindsLesser, FindsOf, IsLevel};
+ghost use Rattle.bt_picker.specs.Search.{has_room, has_room_for};
 
 use crate::position::Position;
 use bt_history::MOST_LEVEL;
@@ -113,15 +115,10 @@ impl<'a> Position<'a> {
     fn lesser_doubling(&self, worker: u32, found: Option<Block>, piece: u32) -> Option<Block>
         requires worker { worker < self.now.setting.workers }
         requires piece { piece < piece_count self.now.setting.torrent }
-        requires found { IfSome found (λ b. IsTrue (is_block self.now.setting.torrent b)
-            × IsTrue (doubles self.now.setting self.now.history worker b)) }
-        ensures some { IfSome result (λ b. IsTrue (is_block self.now.setting.torrent b)
-            × IsTrue (doubles self.now.setting self.now.history worker b)) }
-        ensures none { IfNone result ((found ≡ None)
-            × (some_block_of self.now.setting.torrent piece (doubles self.now.setting self.now.history worker) ≡ false)) }
+        ensures { FindsLesser self.now.setting.torrent (doubles self.now.setting self.now.history worker) found piece result }
     {
         match found {
-            Some(least) if least.piece <= piece => found,
+            Some(least) if least.piece < piece => found,
             _ => match self.doubling_in(worker, piece) {
                 Some(block) => Some(block),
                 None => found,
@@ -129,11 +126,13 @@ impl<'a> Position<'a> {
         }
     }
 
-    /// A block to ask of the peer too, though another may have been asked for it.
+    /// A block to ask of the peer too, though another may have been asked for it: of the highest level that has one the first.
     fn doubling(&self, worker: u32) -> Option<Block>
         requires worker { worker < self.now.setting.workers }
         requires endgame { IsTrue (endgame self.now.setting self.now.history) }
-        ensures { Finds self.now.setting.torrent (doubles self.now.setting self.now.history worker) result }
+        ensures found { Finds self.now.setting.torrent (doubles self.now.setting self.now.history worker) result }
+        ensures first { IfSome result (λ b. (word : ℕ) →
+            IsTrue (is_first self.now.setting self.now.history word (doubles self.now.setting self.now.history worker) b)) }
     {
         self.attest();
         for slot in self.first_slot()..self.last_slot() {
@@ -151,6 +150,7 @@ impl<'a> Position<'a> {
         requires endgame { IsTrue (endgame self.now.setting self.now.history) }
         ensures some { IfSome result (λ b. IsTrue (is_block self.now.setting.torrent b)
             × IsTrue (doubles self.now.setting self.now.history worker b)) }
+        ensures first { IfSome result (DoublesFirst self.now.setting self.now.history worker level) }
         ensures none { IfNone result (DoublesNone self.now.setting self.now.history worker level) }
     {
         self.attest();
@@ -184,6 +184,8 @@ impl<'a> Position<'a> {
             IsTrue (endgame self.now.setting self.now.history
             && some_block self.now.setting.torrent (doubles self.now.setting self.now.history worker))
             × IsTrue (is_block self.now.setting.torrent b) × IsTrue (doubles self.now.setting self.now.history worker b)) }
+        ensures first { IfSome result (λ b. (word : ℕ) →
+            IsTrue (is_first self.now.setting self.now.history word (doubles self.now.setting self.now.history worker) b)) }
         ensures none { IfNone result ((endgame self.now.setting self.now.history
             && some_block self.now.setting.torrent (doubles self.now.setting self.now.history worker)) ≡ false) }
     {

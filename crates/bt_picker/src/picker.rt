@@ -6,6 +6,7 @@ ghost use Rattle.bt_history.specs.declared.event.Action.TheVariants.{Arrived, Se
 ghost use Rattle.bt_history.specs.Entries.{action_of, event};
 ghost use Rattle.bt_history.specs.Epochs.{epoch, is_request};
 ghost use Rattle.bt_history.specs.Legal.{IsLegal};
+ghost use Rattle.bt_history.specs.Picks.{ArePicked};
 ghost use Rattle.bt_history.specs.Peers.{outstanding};
 ghost use Rattle.bt_history.specs.Pieces.{availability, content, had, in_order, level, sender, wanted};
 ghost use Rattle.bt_picker.specs.Search.{IsLevel};
@@ -59,13 +60,14 @@ impl Model for Picker {
     ghost use Rattle.bt_picker.specs.Tables.{AreTables};
     ghost use Rattle.std.specs.Prelude.{◌≡◌, ◌≤◌, ◌%◌, ◌^◌};
     ghost use Rattle.bt_history.specs.Epochs.{epoch};
+    ghost use Rattle.bt_history.specs.Picks.{ArePicked};
 
     ghost Value = { DeskState };
 
     ghost view = { λ p. record { setting = p.tables.setting; history = p.past.entries } };
 
     ghost invariant = { λ p. AreTables p.tables p.past.entries × (p.tables.setting.workers ≤ MOST_WORKERS)
-        × (p.stirred ≡ epoch p.tables.setting p.past.entries % 2 ^ 64) };
+        × (p.stirred ≡ epoch p.tables.setting p.past.entries % 2 ^ 64) × ArePicked p.tables.setting p.past.entries };
 }
 
 impl Picker {
@@ -100,6 +102,7 @@ impl Picker {
     /// Tells a proof what holds of each picker. Nothing is done.
     pub fn attest(&self)
         ensures legal { IsLegal self.now.setting self.now.history }
+        ensures picked { ArePicked self.now.setting self.now.history }
         ensures layout { IsLayout self.now.setting.torrent }
         ensures workers { self.now.setting.workers ≤ MOST_WORKERS }
     {

@@ -4,6 +4,8 @@ use Rattle.bt_history.specs.Epochs.{begins_endgame, epoch, is_request, stirs, st
 use Rattle.bt_history.specs.History.{History, counts}
 use Rattle.bt_history.specs.Pieces.{endgame}
 use Rattle.bt_history.specs.Legal.{IsAllowed}
+use Rattle.bt_history.specs.Picks.{IsPicked}
+use Rattle.bt_picker.proofs.Answering.{picks_more}
 use Rattle.bt_history.specs.Setting.{Setting}
 use Rattle.bt_picker.specs.Checks.{waits}
 use Rattle.bt_picker.specs.Positions.{DeskState}
@@ -36,6 +38,9 @@ invariant_of-self c =
       c.risen-self-inside.ensures
           ∙ (epoch_told s old e inside.stirred _ c.self.invariant.2 stirred
           ∙ (λ i. epoch (sym setting i) (sym c.then-self-inside.ensures i) % 2 ^ 64)),
+      picks_more s c.enter.new.tables.setting old _ e setting c.then-self-inside.ensures c.self.invariant.3
+          (subst (λ (n : DeskState). IsAllowed n.setting n.history e) is c.reply-reply.ensures.allowed)
+          (subst (λ (n : DeskState). IsPicked n.setting n.history e) is c.reply-reply.ensures.picked),
     )
 
 pub returns-clause-completes : goal.returns-clause-completes
@@ -46,7 +51,7 @@ returns-clause-completes c =
     let e = telling c.args.worker c.args.told.now c.reply-reply.result in
     let old = inside.past.entries in
     let is : d ≡ record { setting = inside.tables.setting; history = old } = c.position-before.ensures ∙ sym c.self.view_is in
-    let allowed = subst (λ (n : DeskState). IsAllowed n.setting n.history e) is c.reply-reply.ensures in
+    let allowed = subst (λ (n : DeskState). IsAllowed n.setting n.history e) is c.reply-reply.ensures.allowed in
     let waiting : waits inside.tables.setting (e ∷ old) piece ≡ true =
     completed_waits inside.tables.setting old e piece begin bytes c.self.invariant.0.legal allowed call completed in
     ap (λ (h : History). waits c.enter.new.tables.setting h piece) c.then-self-inside.ensures

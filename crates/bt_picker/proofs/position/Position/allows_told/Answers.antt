@@ -9,12 +9,12 @@ returns-clause-yes c =
     let call = action_told c.args.told.now in
     λ passes. allowed_made d.setting d.history c.args.worker call c.args.reply c.requires
     (c.permits.ensures.yes passes (answer_unless (refusal d.setting d.history c.args.worker call) (answer d.setting d.history c.args.worker call))
-    c.ruling.ensures)
+    c.ruling.ensures.ruled)
 
 pub returns-clause-no : goal.returns-clause-no
 returns-clause-no c =
     let d = c.args.self.now in
     let call = action_told c.args.told.now in
     λ allowed. c.permits.ensures.no (answer_unless (refusal d.setting d.history c.args.worker call) (answer d.setting d.history c.args.worker call))
-    c.ruling.ensures
+    c.ruling.ensures.ruled
     (allowed_permits d.setting d.history c.args.worker call c.args.reply allowed)

@@ -1,6 +1,7 @@
 use Rattle.std.proofs.Common.{◌∙◌, sym}
 use Rattle.bt_picker.proofs.Choices.{continuing_ruled, rising_ruled, starting_ruled}
 use Rattle.bt_picker.proofs.Levelled.{continues_at}
+use Rattle.bt_picker.proofs.Picking.{continues_first, rises_first}
 use Rattle.bt_picker.proofs.position.Position.request_at.Goals as goal
 
 pub returns-in-Some-clause-some : goal.returns-in-Some-clause-some
@@ -12,7 +13,7 @@ returns-in-Some-clause-some c =
 pub returns-in-Some-continuing-clause-some : goal.returns-in-Some-continuing-clause-some
 returns-in-Some-continuing-clause-some c =
     let d = c.args.self.now in
-    let on = c.in-Some-continuing.ensures in
+    let on = c.in-Some-continuing.ensures.found in
     continuing_ruled d.setting d.history c.args.worker c.requires.may (sym c.is_in_order.ensures ∙ c.if-is_in_order.false) c.in-Some-continuing.block
     on.0 (continues_at d.setting d.history c.args.worker c.args.level c.requires.above c.in-Some-continuing.block on.1)
 
@@ -22,3 +23,14 @@ returns-in-Some-starting-clause-some c =
     let first = c.in-Some-starting.ensures in
     starting_ruled d.setting d.history c.args.worker c.requires.may (sym c.is_in_order.ensures ∙ c.if-is_in_order.false) c.in-Some-starting.block
     first.none_goes_on first.some.0 first.some.1
+
+pub returns-in-Some-clause-picked : goal.returns-in-Some-clause-picked
+returns-in-Some-clause-picked c =
+    let d = c.args.self.now in
+    rises_first d.setting d.history c.args.worker c.args.word c.in-Some.block c.in-Some.ensures.some.0 c.in-Some.ensures.some.1 c.in-Some.ensures.first
+
+pub returns-in-Some-continuing-clause-picked : goal.returns-in-Some-continuing-clause-picked
+returns-in-Some-continuing-clause-picked c =
+    let d = c.args.self.now in
+    let on = c.in-Some-continuing.ensures in
+    continues_first d.setting d.history c.args.worker c.args.level c.requires.above c.args.word c.in-Some-continuing.block on.found.1 on.least

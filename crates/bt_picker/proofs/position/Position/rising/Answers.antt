@@ -1,10 +1,12 @@
-use Rattle.std.proofs.Common.{Option, sym, subst}
+use Rattle.std.proofs.Common.{Option, None, Some, ap, sym, subst}
 use Rattle.std.specs.Prelude.{IfNone, IfSome, IsTrue}
 use Rattle.bt_meta.specs.declared.block.Block.{Block}
 use Rattle.bt_history.specs.Next.{rises}
 use Rattle.bt_history.specs.Setting.{is_block}
-use Rattle.bt_picker.specs.Search.{NoneAt}
+use Rattle.bt_history.specs.Pieces.{unasked}
+use Rattle.bt_picker.specs.Search.{FindsOf, NoneAt, NoneBeforeIn}
 use Rattle.bt_picker.proofs.Levelled.{lesser_gives, rises_at, rises_none}
+use Rattle.bt_picker.proofs.Scans.{first_in_piece}
 use Rattle.bt_picker.proofs.Stages.{open_within}
 use Rattle.bt_picker.proofs.position.Position.rising.Goals as goal
 
@@ -30,6 +32,16 @@ returns-in-Some-clause-some c =
     c.least_candidate.ensures.within c.unasked_in.ensures in
     subst (λ (o : Option Block). IfSome o (λ b. IsTrue (is_block d.setting.torrent b) × IsTrue (rises d.setting d.history c.args.worker b)))
     (sym up.1) (up.2, up.3)
+
+pub returns-in-Some-clause-first : goal.returns-in-Some-clause-first
+returns-in-Some-clause-first c = first c.unasked_in.result c.unasked_in.ensures where
+  first : (o : Option Block) → FindsOf c.args.self.now.setting.torrent c.in-Some.piece (unasked c.args.self.now.setting c.args.self.now.history) o
+      → IfSome o (λ b. NoneBeforeIn c.args.self.now.setting.torrent (unasked c.args.self.now.setting c.args.self.now.history) b b.piece)
+  first None none = tt
+  first (Some b) some =
+      let d = c.args.self.now in
+      subst (NoneBeforeIn d.setting.torrent (unasked d.setting d.history) b) (ap (λ (x : Block). x.piece) (sym some.2))
+      (first_in_piece d.setting.torrent c.in-Some.piece (unasked d.setting d.history) b some)
 
 pub returns-in-Some-clause-none : goal.returns-in-Some-clause-none
 returns-in-Some-clause-none c =
