@@ -19,3 +19,4 @@ pub mod Idling
 pub mod Sending
 pub mod Levels
 pub mod Flat
+pub mod Picks
