@@ -20,3 +20,4 @@ pub mod Sending
 pub mod Levels
 pub mod Flat
 pub mod Picks
+pub mod Plain

@@ -1,6 +1,6 @@
 //! What holds after every legal history, whoever made it: laws of the definitions alone. Each is a function with an empty body
 //! whose contract is the law; a journal that a desk keeps, or that `audit` accepts, meets what they require.
-ghost use Rattle.std.specs.Prelude.{is_some, ◌≡◌, ◌≢◌, ◌≤◌, ◌<◌, ◌+◌, ◌∷◌, ◌++◌, ◌==◌, ◌&&◌, not, IsTrue, false};
+ghost use Rattle.std.specs.Prelude.{is_some, ◌≡◌, ◌↔◌, ◌≢◌, ◌≤◌, ◌<◌, ◌+◌, ◌∷◌, ◌++◌, ◌==◌, ◌&&◌, not, IsTrue, false};
 ghost use Rattle.std.specs.List.{filter};
 ghost use Rattle.sha1.specs.Sha1.{sha1};
 ghost use Rattle.bt_meta.specs.declared.block.Block.{Block};
@@ -19,6 +19,7 @@ ghost use Rattle.bt_history.specs.Peers.{dues, is_open, joined, told_depth};
 ghost use Rattle.bt_history.specs.Pieces.{asker_count, held, full, content, had, endgame, unasked, wanted, was_endgame, sender, chosen};
 ghost use Rattle.bt_history.specs.Pieces.{in_order, kept, level};
 ghost use Rattle.bt_history.specs.Legal.{IsLegal, place_at};
+ghost use Rattle.bt_history.specs.Plain.{IsLegalBefore};
 
 use crate::call::{Entry, Reply};
 use crate::rules::Rules;
@@ -293,4 +294,15 @@ pub fn flat_is_as_before(
     ensures chosen { chosen (history_of journal.now) piece ≡ chosen_before (history_of journal.now) piece }
     ensures answer { next_answer (setting_of torrent.now.layout workers rules) (history_of journal.now) worker
         ≡ next_before (setting_of torrent.now.layout workers rules) (history_of journal.now) worker }
+{}
+
+/// With none of the later calls, and a bound on askers that is none, a history is legal just where it was by the rules as they were.
+pub fn plain_is_as_before(torrent: &Torrent, workers: u32, rules: Rules, journal: &[Entry])
+    requires releases { IsTrue (never_releases (history_of journal.now)) }
+    requires depths { IsTrue (never_deepens (history_of journal.now)) }
+    requires adds { IsTrue (never_adds (history_of journal.now)) }
+    requires levels { IsTrue (never_levels (history_of journal.now)) }
+    requires wide { workers ≤ rules.askers }
+    ensures { IsLegal (setting_of torrent.now.layout workers rules) (history_of journal.now)
+        ↔ IsLegalBefore (setting_of torrent.now.layout workers rules) (history_of journal.now) }
 {}
