@@ -19,3 +19,5 @@ pub mod Idling
 pub mod Sending
 pub mod Levels
 pub mod Flat
+pub mod Picks
+pub mod Plain

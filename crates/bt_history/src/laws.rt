@@ -1,6 +1,7 @@
 //! What holds after every legal history, whoever made it: laws of the definitions alone. Each is a function with an empty body
 //! whose contract is the law; a journal that a desk keeps, or that `audit` accepts, meets what they require.
-ghost use Rattle.std.specs.Prelude.{is_some, ◌≡◌, ◌≢◌, ◌≤◌, ◌<◌, ◌+◌, ◌∷◌, ◌++◌, ◌==◌, ◌&&◌, not, IsTrue, false};
+ghost use Rattle.std.specs.Prelude.{is_some, ◌≡◌, ◌↔◌, ◌≢◌, ◌≤◌, ◌<◌, ◌+◌, ◌∷◌, ◌++◌, ◌==◌, ◌&&◌, not, IsTrue, false};
+ghost use Rattle.std.specs.List.{filter};
 ghost use Rattle.sha1.specs.Sha1.{sha1};
 ghost use Rattle.bt_meta.specs.declared.block.Block.{Block};
 ghost use Rattle.bt_meta.specs.Layout.{hash_of};
@@ -14,9 +15,11 @@ ghost use Rattle.bt_history.specs.History.{same_begin};
 ghost use Rattle.bt_history.specs.Epochs.{epoch, is_idle, pass_by};
 ghost use Rattle.bt_history.specs.Next.{Exactly, doubles, next_answer, usable};
 ghost use Rattle.bt_history.specs.Peers.{asked, asked_count, depth_of, depth_so_far, due, due_count, late, ListsAsked, outstanding, shows};
+ghost use Rattle.bt_history.specs.Peers.{dues, is_open, joined, told_depth};
 ghost use Rattle.bt_history.specs.Pieces.{asker_count, held, full, content, had, endgame, unasked, wanted, was_endgame, sender, chosen};
-ghost use Rattle.bt_history.specs.Pieces.{in_order, level};
+ghost use Rattle.bt_history.specs.Pieces.{in_order, kept, level};
 ghost use Rattle.bt_history.specs.Legal.{IsLegal, place_at};
+ghost use Rattle.bt_history.specs.Plain.{IsLegalBefore};
 
 use crate::call::{Entry, Reply};
 use crate::rules::Rules;
@@ -142,7 +145,8 @@ pub fn wide_is_as_before(
         ≡ doubles_before (setting_of torrent.now.layout workers rules) (history_of journal.now) worker block }
 {}
 
-/// A block that is released is asked of this peer no more, and all else is as it was: what is asked, which cancels are due, what is held.
+/// A block that is released is asked of this peer no more, and all else is as it was: what is asked and in which order, which cancels are
+/// due, the bytes that are held and who sent them, each peer and its depth, which pieces are complete, their levels and their order.
 pub fn release_frees_one(
     journal: &[Entry],
     worker: u32,
@@ -156,6 +160,20 @@ pub fn release_frees_one(
     ensures due { due (giving_up worker piece begin Reply.Quiet ∷ history_of journal.now) other block
         ≡ due (history_of journal.now) other block }
     ensures held { held (giving_up worker piece begin Reply.Quiet ∷ history_of journal.now) block ≡ held (history_of journal.now) block }
+    ensures line { outstanding (giving_up worker piece begin Reply.Quiet ∷ history_of journal.now) other
+        ≡ filter (λ b. not ((worker == other) && same_begin (place_at piece begin) b)) (outstanding (history_of journal.now) other) }
+    ensures cancels { dues (giving_up worker piece begin Reply.Quiet ∷ history_of journal.now) other ≡ dues (history_of journal.now) other }
+    ensures bytes { kept (giving_up worker piece begin Reply.Quiet ∷ history_of journal.now) block ≡ kept (history_of journal.now) block }
+    ensures sender { sender (giving_up worker piece begin Reply.Quiet ∷ history_of journal.now) block ≡ sender (history_of journal.now) block }
+    ensures depth { told_depth (giving_up worker piece begin Reply.Quiet ∷ history_of journal.now) other ≡ told_depth (history_of journal.now) other }
+    ensures shows { shows (giving_up worker piece begin Reply.Quiet ∷ history_of journal.now) other block.piece
+        ≡ shows (history_of journal.now) other block.piece }
+    ensures joined { joined (giving_up worker piece begin Reply.Quiet ∷ history_of journal.now) other ≡ joined (history_of journal.now) other }
+    ensures opened { is_open (giving_up worker piece begin Reply.Quiet ∷ history_of journal.now) other ≡ is_open (history_of journal.now) other }
+    ensures late { late (giving_up worker piece begin Reply.Quiet ∷ history_of journal.now) other ≡ late (history_of journal.now) other }
+    ensures had { had (giving_up worker piece begin Reply.Quiet ∷ history_of journal.now) block.piece ≡ had (history_of journal.now) block.piece }
+    ensures level { level (giving_up worker piece begin Reply.Quiet ∷ history_of journal.now) block.piece ≡ level (history_of journal.now) block.piece }
+    ensures order { in_order (giving_up worker piece begin Reply.Quiet ∷ history_of journal.now) ≡ in_order (history_of journal.now) }
 {}
 
 /// Where no block was released, what is asked is what it was before there was a release, and so are the lines of all peers.
@@ -276,4 +294,15 @@ pub fn flat_is_as_before(
     ensures chosen { chosen (history_of journal.now) piece ≡ chosen_before (history_of journal.now) piece }
     ensures answer { next_answer (setting_of torrent.now.layout workers rules) (history_of journal.now) worker
         ≡ next_before (setting_of torrent.now.layout workers rules) (history_of journal.now) worker }
+{}
+
+/// With none of the later calls, and a bound on askers that is none, a history is legal just where it was by the rules as they were.
+pub fn plain_is_as_before(torrent: &Torrent, workers: u32, rules: Rules, journal: &[Entry])
+    requires releases { IsTrue (never_releases (history_of journal.now)) }
+    requires depths { IsTrue (never_deepens (history_of journal.now)) }
+    requires adds { IsTrue (never_adds (history_of journal.now)) }
+    requires levels { IsTrue (never_levels (history_of journal.now)) }
+    requires wide { workers ≤ rules.askers }
+    ensures { IsLegal (setting_of torrent.now.layout workers rules) (history_of journal.now)
+        ↔ IsLegalBefore (setting_of torrent.now.layout workers rules) (history_of journal.now) }
 {}

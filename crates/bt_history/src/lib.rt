@@ -6,6 +6,7 @@ mod event;
 mod examples;
 pub mod laws;
 mod mark;
+pub mod pick_laws;
 mod rules;
 
 pub use call::{Call, Entry, Reason, Reply};

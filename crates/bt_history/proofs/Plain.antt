@@ -1,0 +1,164 @@
+-- A plain history is legal just where it was before there were later calls.
+use Rattle.std.proofs.Common.{◌≡◌, ◌↔◌, ℕ, ◌==◌, ◌<◌, ◌≤◌, Bool, true, not, ◌&&◌, ◌||◌, [], ◌∷◌, refl, sym, ◌∙◌, subst}
+use Rattle.std.specs.Prelude.{if◌then◌else◌, is_some, nat_lt, nat_le}
+use Rattle.std.proofs.lemmas.Bool.{and_parts, and_from}
+use Rattle.bt_meta.specs.declared.block.Block.{Block}
+use Rattle.bt_meta.specs.Layout.{piece_count}
+use Rattle.bt_history.specs.declared.call.Reason.TheVariants.{LateBits}
+use Rattle.bt_history.specs.declared.call.Reply.TheVariants.{Noted, Choked, PipeFull, Idle, NothingLeft}
+use Rattle.bt_history.specs.declared.event.Action.{Action}
+use Rattle.bt_history.specs.declared.event.Action.TheVariants.{Bits, Have, Next}
+use Rattle.bt_history.specs.declared.event.Event.{Event}
+use Rattle.bt_history.specs.Counting.{any_below, all_below, count_below}
+use Rattle.bt_history.specs.Setting.{Setting, some_block_of, some_block, each_block, count_blocks}
+use Rattle.bt_history.specs.History.{History, own_call, stored, cancelled}
+use Rattle.bt_history.specs.Peers.{flag, joined, shows, is_open, due, resets}
+use Rattle.bt_history.specs.Pieces.{held, held_or_asked, had, had_count, begun, unbegun, availability, wanted, endgame, lacks}
+use Rattle.bt_history.specs.Next.{Answer, Exactly, CancelOf, RequestOf, usable, is_candidate, doubles, next_answer}
+use Rattle.bt_history.specs.Legal.{first_cause, no_peer, no_count, refusal, answer, answer_unless, Permits, IsAllowed, IsLegal}
+use Rattle.bt_history.specs.Before.{continues_before, is_rarest_before, starts_before, next_before}
+use Rattle.bt_history.specs.Before.{is_release, never_releases, is_depth, never_deepens, is_haves, never_adds, is_levelling, never_levels}
+use Rattle.bt_history.specs.Plain.{plain_due, plain_held_or_asked, plain_begun, plain_unbegun, plain_availability, plain_wanted}
+use Rattle.bt_history.specs.Plain.{plain_endgame, plain_lacks, plain_usable, plain_continues, plain_candidate, plain_rarest, plain_starts}
+use Rattle.bt_history.specs.Plain.{plain_doubles, plain_next, plain_refusal, plain_answer, is_plain, IsAllowedBefore, IsLegalBefore}
+use Rattle.bt_history.proofs.Before.{asked_as_before, doubles_as_before, shows_as_before, late_as_before}
+use Rattle.bt_history.proofs.Depths.{depth_as_before}
+use Rattle.bt_history.proofs.Flat.{answer_as_before, chosen_as_before}
+
+-- no entry of the history is a later call
+pub record IsPlain (h : History) : Type 0 where
+  pub releases : never_releases h ≡ true
+  pub depths : never_deepens h ≡ true
+  pub adds : never_adds h ≡ true
+  pub levels : never_levels h ≡ true
+
+-- of a plain history the newest call is plain, and so are the older ones
+plain_newest : (e : Event) (h : History) → IsPlain (e ∷ h) → is_plain e.action ≡ true
+unfolding never_releases never_deepens never_adds never_levels
+plain_newest e h plain =
+    and_from (not (is_release e.action)) _ (and_parts _ (never_releases h) plain.releases).0
+    (and_from (not (is_depth e.action)) _ (and_parts _ (never_deepens h) plain.depths).0
+    (and_from (not (is_haves e.action)) (not (is_levelling e.action)) (and_parts _ (never_adds h) plain.adds).0
+    (and_parts _ (never_levels h) plain.levels).0))
+
+plain_older : (e : Event) (h : History) → IsPlain (e ∷ h) → IsPlain h
+unfolding never_releases never_deepens never_adds never_levels
+plain_older e h plain = record {
+  releases = (and_parts (not (is_release e.action)) (never_releases h) plain.releases).1;
+  depths = (and_parts (not (is_depth e.action)) (never_deepens h) plain.depths).1;
+  adds = (and_parts (not (is_haves e.action)) (never_adds h) plain.adds).1;
+  levels = (and_parts (not (is_levelling e.action)) (never_levels h) plain.levels).1;
+}
+
+due_is_plain : (h : History) (q : ℕ) (b : Block) → never_releases h ≡ true → due h q b ≡ plain_due h q b
+unfolding due plain_due never_releases
+due_is_plain [] q b never = refl
+due_is_plain (e ∷ h) q b never =
+    let older = (and_parts (not (is_release e.action)) (never_releases h) never).1 in
+    λ i. not (resets (own_call q e)) && (not (cancelled q e b)
+    && (due_is_plain h q b older i || (is_some (stored e b) && (not (e.worker == q) && asked_as_before h q b older i))))
+
+module _ (s : Setting) (h : History) (plain : IsPlain h) where
+  -- ---- peers, blocks and pieces
+
+  some_asked : (b : Block) → held_or_asked s h b ≡ plain_held_or_asked s h b
+  some_asked b = λ i. held h b || any_below s.workers (λ q. asked_as_before h q b plain.releases i)
+
+  begun_plain : (p : ℕ) → begun s h p ≡ plain_begun s h p
+  begun_plain p = λ i. not (had h p) && some_block_of s.torrent p (λ b. some_asked b i)
+
+  unbegun_plain : (p : ℕ) → unbegun s h p ≡ plain_unbegun s h p
+  unbegun_plain p = λ i. not (had h p) && not (some_block_of s.torrent p (λ b. some_asked b i))
+
+  availability_plain : (p : ℕ) → availability s h p ≡ plain_availability s h p
+  availability_plain p = λ i. count_below s.workers (λ q. joined h q && shows_as_before h q p plain.adds i)
+
+  wanted_plain : (p : ℕ) → wanted s h p ≡ plain_wanted s h p
+  wanted_plain p = λ i. nat_lt p (piece_count s.torrent) && chosen_as_before h p plain.levels i
+
+  endgame_plain : endgame s h ≡ plain_endgame s h
+  endgame_plain = λ i.
+      each_block s.torrent (λ b. not (wanted_plain b.piece i) || some_asked b i)
+      && some_block s.torrent (λ b. wanted_plain b.piece i && not (held h b))
+
+  lacks_plain : (shown older : ℕ → Bool) → ((p : ℕ) → shown p ≡ older p) → lacks s h shown ≡ plain_lacks s h older
+  lacks_plain shown older same = λ i. any_below (piece_count s.torrent) (λ p. wanted_plain p i && (same p i && not (had h p)))
+
+  -- ---- the answer to Next
+
+  usable_plain : (q : ℕ) (b : Block) → usable s h q b ≡ plain_usable s h q b
+  usable_plain q b = λ i. not (some_asked b i) && (wanted_plain b.piece i && shows_as_before h q b.piece plain.adds i)
+
+  candidate_plain : (q p : ℕ) → is_candidate s h q p ≡ plain_candidate s h q p
+  candidate_plain q p = λ i. wanted_plain p i && (shows_as_before h q p plain.adds i && unbegun_plain p i)
+
+  rarest_plain : (q p : ℕ) → is_rarest_before s h q p ≡ plain_rarest s h q p
+  rarest_plain q p = λ i. all_below (piece_count s.torrent) (λ r.
+      not (candidate_plain q r i) || nat_le (availability_plain p i) (availability_plain r i))
+
+  starts_plain : (q : ℕ) (b : Block) → starts_before s h q b ≡ plain_starts s h q b
+  starts_plain q b = λ i.
+      usable_plain q b i && (unbegun_plain b.piece i
+      && (nat_lt (had_count s h) s.random || rarest_plain q b.piece i))
+
+  continues_plain : (q : ℕ) (b : Block) → continues_before s h q b ≡ plain_continues s h q b
+  continues_plain q b = λ i. usable_plain q b i && begun_plain b.piece i
+
+  module _ (q : ℕ) (lt : q < s.workers) (wide : s.workers ≤ s.askers) where
+    doubles_plain : (b : Block) → doubles s h q b ≡ plain_doubles s h q b
+    doubles_plain b = doubles_as_before s h q b lt wide ∙ (λ i.
+        wanted_plain b.piece i && (shows_as_before h q b.piece plain.adds i && (not (held h b) && not (asked_as_before h q b plain.releases i))))
+
+    next_plain : next_answer s h q ≡ plain_next s h q
+    unfolding next_before plain_next
+    next_plain = answer_as_before s h q plain.levels ∙ (λ i.
+        if some_block s.torrent (λ b. due_is_plain h q b plain.releases i) then CancelOf (λ b. due_is_plain h q b plain.releases i)
+        else if not (is_open h q) then Exactly Choked
+        else if nat_le (depth_as_before s h q plain.depths i) (count_blocks s.torrent (λ b. asked_as_before h q b plain.releases i)) then Exactly PipeFull
+        else if some_block s.torrent (λ b. continues_plain q b i) then RequestOf (λ b. continues_plain q b i)
+        else if some_block s.torrent (λ b. usable_plain q b i) then RequestOf (λ b. starts_plain q b i)
+        else if endgame_plain i && some_block s.torrent (λ b. doubles_plain b i) then RequestOf (λ b. doubles_plain b i)
+        else if lacks_plain (shows h q) _ (λ p. shows_as_before h q p plain.adds) i then Exactly Idle
+        else Exactly NothingLeft)
+
+    -- ---- each call
+
+    refusal_plain : (call : Action) → refusal s h q call ≡ plain_refusal s h q call
+    unfolding refusal plain_refusal
+    refusal_plain (Bits flags) = λ i. first_cause (no_peer h q ∷ (late_as_before h q plain.adds i, LateBits) ∷ no_count s flags ∷ [])
+    refusal_plain _ = refl
+
+    answer_plain : (call : Action) → answer s h q call ≡ plain_answer s h q call
+    unfolding answer plain_answer
+    answer_plain (Bits flags) = λ i. Exactly (Noted (lacks_plain (λ p. flag flags p) (λ p. flag flags p) (λ p. refl) i))
+    answer_plain (Have p) = λ i. Exactly (Noted (lacks_plain (λ r. (p == r) || shows h q r) _ (λ r. λ j. (p == r) || shows_as_before h q r plain.adds j) i))
+    answer_plain (Next word) = next_plain
+    answer_plain _ = refl
+
+-- ---- whole histories
+
+module _ (s : Setting) (wide : s.workers ≤ s.askers) where
+  -- what is permitted is the same
+  answers_plain : (h : History) (e : Event) → IsPlain h → e.worker < s.workers
+      → answer_unless (refusal s h e.worker e.action) (answer s h e.worker e.action)
+      ≡ answer_unless (plain_refusal s h e.worker e.action) (plain_answer s h e.worker e.action)
+  answers_plain h e plain lt = λ i.
+      answer_unless (refusal_plain s h plain e.worker lt wide e.action i) (answer_plain s h plain e.worker lt wide e.action i)
+
+  allowed_plain : (h : History) (e : Event) → IsPlain (e ∷ h) → IsAllowed s h e ↔ IsAllowedBefore s h e
+  unfolding IsAllowed IsAllowedBefore
+  allowed_plain h e plain = (
+    λ now. (
+      plain_newest e h plain,
+      now.0,
+      subst (λ (a : Answer). Permits s.torrent a e.reply) (answers_plain h e (plain_older e h plain) now.0) now.1,
+    ),
+    λ before. (before.1, subst (λ (a : Answer). Permits s.torrent a e.reply) (sym (answers_plain h e (plain_older e h plain) before.1)) before.2),
+  )
+
+  pub legal_plain : (h : History) → IsPlain h → IsLegal s h ↔ IsLegalBefore s h
+  legal_plain [] plain = (λ now. tt, λ before. tt)
+  legal_plain (e ∷ h) plain =
+      let older = legal_plain h (plain_older e h plain) in
+      let newest = allowed_plain h e plain in
+      (λ now. (older.0 now.0, newest.0 now.1), λ before. (older.1 before.0, newest.1 before.1))
