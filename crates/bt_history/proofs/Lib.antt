@@ -21,3 +21,4 @@ pub mod Levels
 pub mod Flat
 pub mod Picks
 pub mod Plain
+pub mod Assured

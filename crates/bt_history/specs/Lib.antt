@@ -8,6 +8,7 @@ pub mod Next
 pub mod Legal
 pub mod Picks
 pub mod Plain
+pub mod Assured
 pub mod Entries
 pub mod Logs
 pub mod Examples

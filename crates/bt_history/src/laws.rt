@@ -20,6 +20,7 @@ ghost use Rattle.bt_history.specs.Pieces.{asker_count, held, full, content, had,
 ghost use Rattle.bt_history.specs.Pieces.{in_order, kept, level};
 ghost use Rattle.bt_history.specs.Legal.{IsLegal, place_at};
 ghost use Rattle.bt_history.specs.Plain.{IsLegalBefore};
+ghost use Rattle.bt_history.specs.Assured.{Assures};
 
 use crate::call::{Entry, Reply};
 use crate::rules::Rules;
@@ -305,4 +306,10 @@ pub fn plain_is_as_before(torrent: &Torrent, workers: u32, rules: Rules, journal
     requires wide { workers ≤ rules.askers }
     ensures { IsLegal (setting_of torrent.now.layout workers rules) (history_of journal.now)
         ↔ IsLegalBefore (setting_of torrent.now.layout workers rules) (history_of journal.now) }
+{}
+
+/// All laws in one: what a caller that has a picker, and no journal, is told of it.
+pub fn legal_histories_assure(torrent: &Torrent, workers: u32, rules: Rules, journal: &[Entry])
+    requires { IsLegal (setting_of torrent.now.layout workers rules) (history_of journal.now) }
+    ensures { Assures (setting_of torrent.now.layout workers rules) (history_of journal.now) }
 {}

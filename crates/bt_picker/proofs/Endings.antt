@@ -71,7 +71,7 @@ doubles_stage s h q p legal lp ending some =
 
 pub among_step : (t : _) (test : Block → Bool) (pieces : List ℕ) (n : ℕ) (found next : Option Block) → at pieces n < piece_count t
     → FindsAmong t test pieces n found → FindsLesser t test found (at pieces n) next → FindsAmong t test pieces (n + 1) next
-among_step t test pieces n found next lp so_far (inr (b, (is, (finds, later)))) =
+among_step t test pieces n found next lp so_far (inr (b, is, finds, later)) =
     let inside = finds_in_piece t test (at pieces n) b finds lp in
     let own : b.piece ≡ at pieces n = ap (λ (c : Block). c.piece) finds.2 in
     subst (FindsAmong t test pieces (n + 1)) (sym is) (
@@ -127,7 +127,7 @@ among_step t test pieces n found next lp so_far (inl (is, why)) = subst (FindsAm
           → NoneBeforeIn t test c (at pieces n)
       last (inl none_of) k lk passes =
           absurd (false≢true (sym none_of ∙ any_found (block_count t (at pieces n)) (λ j. test (block t (at pieces n) j)) k lk passes))
-      last (inr (b, (same, less))) k lk passes =
+      last (inr (b, same, less)) k lk passes =
           let equal : c.piece ≡ b.piece = cc same in
           inl (omega (arith, less, equal))
 

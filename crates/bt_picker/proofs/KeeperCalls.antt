@@ -1,7 +1,7 @@
 -- After each call, refused or not, what is kept is what is held.
-use Rattle.std.proofs.Common.{◌≡◌, ◌≢◌, ◌<◌, ◌/◌, ℕ, Bool, true, false, ◌||◌, List, [], ◌∷◌, length, get_or, set, refl, ap, sym, ◌∙◌, subst, arith}
+use Rattle.std.proofs.Common.{◌≡◌, ◌≢◌, ◌<◌, ◌≤◌, ◌/◌, ℕ, Bool, true, false, ◌||◌, List, [], ◌∷◌, length, get_or, set, refl, ap, sym, ◌∙◌, subst, arith}
 use Rattle.std.specs.Prelude.{if◌then◌else◌, nat_lt, replicate}
-use Rattle.std.proofs.lemmas.Bool.{eq-eqb, false≢true}
+use Rattle.std.proofs.lemmas.Bool.{eq-eqb, false≢true, le-ltb, lt-ltb}
 use Rattle.std.specs.Cmp.Lexicographic.{same_text}
 use Rattle.sha1.specs.Sha1.{sha1}
 use Rattle.bt_meta.specs.Layout.{block_count, block_size, hash_of, piece_count}
@@ -16,7 +16,9 @@ use Rattle.bt_history.specs.History.{is_failed, is_had, stores}
 use Rattle.bt_history.specs.Pieces.{content}
 use Rattle.bt_history.specs.Setting.{Setting}
 use Rattle.bt_history.proofs.Allowed.{no_cause, passed_hash}
+use Rattle.bt_history.specs.Picks.{IsPicked}
 use Rattle.bt_history.proofs.Arrivals.{ArrivalFacts, arrival_facts}
+use Rattle.bt_history.proofs.Picks.{same_reply}
 use Rattle.bt_picker.specs.Checks.{SettlesIf, arriving, settling, waits}
 use Rattle.bt_picker.specs.Positions.{DeskState, Gains}
 use Rattle.bt_picker.specs.Tables.{edit}
@@ -58,16 +60,21 @@ told_stash old new rows w a reply is tells = by_number (nat_lt w old.setting.wor
   by_number true gains = gained_stash old new rows w a reply is gains
   by_number false refused = refused_stash old new rows a reply NotJoined is refused.0 refused.1
 
--- what brings no block leaves the rows
+-- the row, with room, and with these bytes in it
+abbrev kept_by : Setting → ℕ → ℕ → List ℕ → List (List ℕ) → List (List ℕ)
+kept_by s p begin came row = set (with_room (block_count s.torrent p) row) (begin / block_size) came
+
+-- where no block is stored the rows stay
 pub plain_stash : (old new : DeskState) (rows : Rows) (w : ℕ) (told : Told) (reply : Reply)
-    → ((piece begin : ℕ) (bytes : _) → told ≢ kinds.Arrived piece begin bytes) → IsStash old.setting old.history rows
+    → ((piece begin : ℕ) (bytes : _) → told ≡ kinds.Arrived piece begin bytes → stores reply ≡ false) → IsStash old.setting old.history rows
     → Tells old new (telling w told reply) → IsStash new.setting new.history rows
 plain_stash old new rows w told reply plain is tells =
     subst (IsStash new.setting new.history) (left told plain) (told_stash old new rows w (action_told told) reply is tells)
   where
-    left : (t : Told) → ((piece begin : ℕ) (bytes : _) → t ≢ kinds.Arrived piece begin bytes)
+    left : (t : Told) → ((piece begin : ℕ) (bytes : _) → t ≡ kinds.Arrived piece begin bytes → stores reply ≡ false)
         → restashed_by old.setting rows reply (action_told t) ≡ rows
-    left (kinds.Arrived piece begin bytes) plain = absurd (plain piece begin bytes refl)
+    left (kinds.Arrived piece begin bytes) plain =
+        ap (λ (x : Bool). if x then edit rows piece (kept_by old.setting piece begin bytes.now) else rows) (plain piece begin bytes refl)
     left kinds.Join plain = refl
     left (kinds.Bits flags) plain = refl
     left (kinds.Have piece) plain = refl
@@ -90,11 +97,21 @@ told_gains old new e counts tells = by_number (nat_lt e.worker old.setting.worke
   by_number true gains = gains
   by_number false refused = absurd (counts NotJoined refused.1)
 
--- ---- a block that came
+-- a number that is no worker's keeps nothing
+pub stranger_keeps : (old new : DeskState) (e : Event) → old.setting.workers ≤ e.worker → Tells old new e → false ≡ stores e.reply
+stranger_keeps old new e le tells =
+    let refused = subst (λ (x : Bool). TellsIf x old new e) (le-ltb e.worker old.setting.workers le) tells in
+    sym (ap (λ (r : Reply). stores r) refused.1)
 
--- the row, with room, and with these bytes in it
-abbrev kept_by : Setting → ℕ → ℕ → List ℕ → List (List ℕ) → List (List ℕ)
-kept_by s p begin came row = set (with_room (block_count s.torrent p) row) (begin / block_size) came
+-- a worker's call has one pick, so what it keeps is known before
+pub known_keeps : (old new : DeskState) (w : ℕ) (a : Action) (one other : Reply) → w < old.setting.workers
+    → IsPicked old.setting old.history (entry w a one) → Tells old new (entry w a other) → stores one ≡ stores other
+known_keeps old new w a one other lt picked tells =
+    let gains = subst (λ (x : Bool). TellsIf x old new (entry w a other)) (lt-ltb w old.setting.workers lt) tells in
+    ap (λ (r : Reply). stores r)
+    (same_reply old.setting old.history (entry w a one) (entry w a other) refl refl picked gains.picked)
+
+-- ---- a block that came
 
 module _ (old new : DeskState) (rows : Rows) (w p begin : ℕ) (came : List ℕ) (reply : Reply) (room : List (List ℕ))
     (is : IsStash old.setting old.history rows) (tells : Tells old new (arriving w p begin came reply)) (storing : stores reply ≡ true)

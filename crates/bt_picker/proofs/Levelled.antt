@@ -1,5 +1,5 @@
 -- What may be asked of a peer of the pieces of one level, where no piece of a higher one has anything to ask.
-use Rattle.std.proofs.Common.{◌≡◌, ◌⊎◌, ℕ, zero, suc, ◌+◌, ◌-◌, ◌<◌, ◌≤◌, ◌==◌, Bool, true, false, not, ◌&&◌, ◌||◌, Option, None, Some, List}
+use Rattle.std.proofs.Common.{◌≡◌, ◌⊎◌, ℕ, zero, suc, ◌+◌, ◌-◌, ◌*◌, ◌<◌, ◌≤◌, ◌==◌, Bool, true, false, not, ◌&&◌, ◌||◌, Option, None, Some, List}
 use Rattle.std.proofs.Common.{length, refl, ap, sym}
 use Rattle.std.proofs.Common.{◌∙◌, subst, arith, ⊎_elim, inl, inr, min}
 use Rattle.std.specs.Prelude.{IfSome, nat_le, nat_lt}
@@ -303,7 +303,7 @@ pub goes_on_least : (s : Setting) (h : History) (q n p : ℕ) (pieces : List ℕ
     → ((i : ℕ) → i < length pieces → shows_at h q n (at pieces i) ≡ true → p ≤ at pieces i)
     → FindsOf s.torrent p (unasked s h) found → IfSome found (IsLeast s.torrent (goes_on s h q n))
 goes_on_least s h q n p pieces None legal lists least finds = tt
-goes_on_least s h q n p pieces (Some b) legal lists least finds r lr k lk on =
+goes_on_least s h q n p pieces (Some b) legal lists least finds = λ r lr k lk on.
     let listed = goes_on_listed s h q n pieces legal lists r k lr lk on in
     let low = least listed.0 listed.1 listed.3 in
     let own : b.piece ≡ p = ap (λ (c : Block). c.piece) finds.2 in

@@ -120,7 +120,7 @@ module _ (s : Setting) (h : History) (q n : ℕ) (above : NoneAbove s h q n) whe
         λ same. (
           parts.1,
           least p lp k lk (and_from (usable s h q c) _ usage (and_from (begun s h p) (level h p == n) parts.1
-          (eq-eqb (level h p) n (same ∙ level_is)))),
+              (eq-eqb (level h p) n (same ∙ level_is)))),
         ),
       ))
 
@@ -138,11 +138,11 @@ module _ (s : Setting) (h : History) (q n : ℕ) (above : NoneAbove s h q n) whe
       let parts = and_parts (tops s h q c) _ too in
       let rest = and_parts (unbegun s h k) _ parts.1 in
       let usage = top_usable s h q c parts.0 in
-      let use = usable_parts (unasked s h c) (wanted s h k) (shows h q k) usage in
+      let parts_of = usable_parts (unasked s h c) (wanted s h k) (shows h q k) usage in
       let low = usable_below s h q n above k lk (any_found (block_count s.torrent k) (λ j. usable s h q (block s.torrent k j)) i li usage) in
       let high = top_above s h q c b parts.0 own.0 own.1 in
       let level_is : level h k ≡ n = omega (arith, low, high, own.2) in
-      let may : is_candidate s h q k ≡ true = and_from (wanted s h k) _ use.1 (and_from (shows h q k) (unbegun s h k) use.2 rest.0) in
+      let may : is_candidate s h q k ≡ true = and_from (wanted s h k) _ parts_of.1 (and_from (shows h q k) (unbegun s h k) parts_of.2 rest.0) in
       let le = found.1 k (omega arith) lk (candidate_at s h q n k may level_is) in
       let ranks = no_rarer rare rare_is p k (level_is ∙ sym own.2) (at_level s h q n p found.0).0 lp rest.1 in
       let places = later_place (rank_of s h rare p) (rank_of s h rare k) (2 * piece_count s.torrent) _ _ ranks le in

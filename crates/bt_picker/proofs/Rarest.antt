@@ -68,6 +68,13 @@ module _ (workers told most n : ℕ) (told_is : told ≡ workers) (most_is : mos
       (λ (many : MOST_WORKERS ≤ told). (let same : min told MOST_WORKERS ≡ MOST_WORKERS = min-eq_right many in inr (omega (arith, same, le))))
       (cases_lt told MOST_WORKERS)
 
+-- what was found in a list of pieces is a piece
+pub listed_within : (s : Setting) (h : History) (g : ℕ) (test : ℕ → Bool) (rank : ℕ → ℕ) (pieces : List ℕ) (found : Option ℕ)
+    → ListsGroup (groups_of s h) g pieces → FindsRarest test rank pieces (length pieces) found → IfSome found (λ p. p < piece_count s.torrent)
+listed_within s h g test rank pieces None lists none = tt
+listed_within s h g test rank pieces (Some p) lists some =
+    subst (λ (m : ℕ). m < piece_count s.torrent) some.1.2 (group_within s h g pieces lists some.1.0 some.1.1)
+
 -- ---- the group of the pieces that k peers show, or in the crowd at least as many
 
 module _ (s : Setting) (h : History) (q n k : ℕ) (pieces : List ℕ) (legal : IsLegal s h) (is_level : IsLevel n)

@@ -128,8 +128,8 @@ module _ (test : ℕ → Bool) (n first : ℕ) (One Other Both : ℕ → Type 0)
         (each r said),
   )
   first_of_both (Some p) (Some r) one other =
-      elim cases_Bool (nat_lt (place_in_round n first r) (place_in_round n first p)) [
-        inl is ↦ rw is (
+      elim (cases_Bool (nat_lt (place_in_round n first r) (place_in_round n first p))) [
+        | inl is ↦ rw is (
           other.0,
           other.1,
           λ x lt said passes. ⊎_elim
@@ -140,7 +140,7 @@ module _ (test : ℕ → Bool) (n first : ℕ) (One Other Both : ℕ → Type 0)
               (λ (in_other : Other x). other.2 x lt in_other passes)
               (each x said),
         )
-      | inr is ↦ rw is (
+        | inr is ↦ rw is (
           one.0,
           one.1,
           λ x lt said passes. ⊎_elim
@@ -164,9 +164,9 @@ module _ (test : ℕ → Bool) (n first : ℕ) where
     λ r lt said passes. place_least n first p r some.0 (omega (arith, le, some.1)) (⊎_elim
         (λ (before : r < first). inl before)
         (λ (from : first ≤ r). ⊎_elim
-            (λ (in_front : r < p). absurd (false≢true (sym (some.3 r from in_front) ∙ passes)))
-            (λ (behind : p ≤ r). inr behind)
-            (cases_lt r p))
+        (λ (in_front : r < p). absurd (false≢true (sym (some.3 r from in_front) ∙ passes)))
+        (λ (behind : p ≤ r). inr behind)
+        (cases_lt r p))
         (cases_lt r first)),
   )
 
@@ -178,9 +178,9 @@ module _ (test : ℕ → Bool) (n first : ℕ) where
     some.2,
     λ r lt said passes. ⊎_elim
         (λ (before : r < first). ⊎_elim
-            (λ (in_front : r < p). absurd (false≢true (sym (some.3 r (omega arith) in_front) ∙ passes)))
-            (λ (behind : p ≤ r). place_least_before n first p r (omega (arith, le, some.1)) before behind)
-            (cases_lt r p))
+        (λ (in_front : r < p). absurd (false≢true (sym (some.3 r (omega arith) in_front) ∙ passes)))
+        (λ (behind : p ≤ r). place_least_before n first p r (omega (arith, le, some.1)) before behind)
+        (cases_lt r p))
         (λ (from : first ≤ r). absurd (false≢true (sym (none r from lt) ∙ passes)))
         (cases_lt r first),
   )
@@ -197,3 +197,8 @@ module _ (s : Setting) (h : History) (first : ℕ) (test : ℕ → Bool) where
       → (FindsLeast test (order_of s h false first) 0 (piece_count s.torrent) found) × IfSome found (λ p. p < piece_count s.torrent)
   order_first None none = (λ p low high. none p high tt, tt)
   order_first (Some p) some = ((some.1, λ r low high passes. (let le = some.2 r high tt passes in omega (arith, le))), some.0)
+
+pub found_within : (test : ℕ → Bool) (rank : ℕ → ℕ) (n : ℕ) (Said : ℕ → Type 0) (found : Option ℕ) → FirstWhere test rank n Said found
+    → IfSome found (λ p. p < n)
+found_within test rank n Said None none = tt
+found_within test rank n Said (Some p) some = some.0

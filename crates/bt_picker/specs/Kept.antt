@@ -1,14 +1,16 @@
 -- What becomes of the bytes that a keeper holds.
-use Rattle.std.specs.Prelude.{ℕ, ◌≡◌, ◌≢◌, true, List, [], ⊤, ◌⊎◌}
+use Rattle.std.specs.Prelude.{ℕ, ◌≡◌, ◌≢◌, true, IsTrue, List, [], ⊤, ◌⊎◌}
 use Rattle.bt_check.specs.Checked.{Checked}
 use Rattle.bt_history.specs.declared.call.Reason.TheVariants.{Stale}
 use Rattle.bt_history.specs.declared.call.Reply.{Reply}
 use Rattle.bt_history.specs.declared.call.Reply.TheVariants.{Had, Refused}
 use Rattle.bt_history.specs.declared.event.Action.{Action}
 use Rattle.bt_history.specs.declared.event.Action.TheVariants.{Arrived}
+use Rattle.bt_history.specs.declared.event.Event.{Event}
+use Rattle.bt_history.specs.History.{stores}
 use Rattle.bt_picker.specs.Checks.{blocks_of, waits}
 use Rattle.bt_picker.specs.Positions.{DeskState}
-use Rattle.bt_picker.specs.Told.{Settles}
+use Rattle.bt_picker.specs.Told.{Settles, Tells}
 
 -- the blocks of a piece that came to be had are handed out, in order, and else none
 abbrev pub HandsOut : DeskState → ℕ → Reply → List (List ℕ) → Type 0
@@ -37,3 +39,7 @@ SettlesOrStale old new w v reply =
 abbrev pub BringsNone : Action → Type 0
 BringsNone (Arrived p begin bytes) = ⊥
 BringsNone action = ⊤
+
+-- whatever the reply is, the entry with it tells that a block's bytes are kept
+abbrev pub WouldKeep : DeskState → (Reply → Event) → Type 0
+WouldKeep old entry = (new : DeskState) (reply : Reply) → Tells old new (entry reply) → IsTrue (stores reply)

@@ -139,10 +139,27 @@ impl<'a> Position<'a> {
         ensures { result ≡ nat_lt (order_of self.now.setting self.now.history rare first piece)
             (order_of self.now.setting self.now.history rare first other) }
     {
-        if rare && self.availability(piece) != self.availability(other) {
-            return self.availability(piece) < self.availability(other);
+        if rare {
+            self.is_rarer(piece, other, first)
+        } else {
+            comes_before(piece, other, first)
         }
-        comes_before(piece, other, first)
+    }
+
+    /// Whether fewer peers show the piece than the other one, or as many, and it comes before in a round from `first` on.
+    fn is_rarer(&self, piece: u32, other: u32, first: u32) -> bool
+        requires piece { piece < piece_count self.now.setting.torrent }
+        requires other { other < piece_count self.now.setting.torrent }
+        ensures { result ≡ nat_lt (order_of self.now.setting self.now.history true first piece)
+            (order_of self.now.setting self.now.history true first other) }
+    {
+        let shown = self.availability(piece);
+        let shown_other = self.availability(other);
+        if shown == shown_other {
+            comes_before(piece, other, first)
+        } else {
+            shown < shown_other
+        }
     }
 
     /// Of the pieces of the group that the peer shows the first in a round from `first` on: in a large group it is mostly near. `pieces` are

@@ -6,14 +6,16 @@ ghost use Rattle.bt_meta.specs.Layout.{block, block_count, hash_of, piece_count}
 ghost use Rattle.bt_history.specs.declared.call.Reply.{Reply};
 ghost use Rattle.bt_history.specs.declared.event.Action.TheVariants.{Arrived};
 ghost use Rattle.bt_history.specs.Epochs.{epoch};
+ghost use Rattle.bt_history.specs.Assured.{Assures};
 ghost use Rattle.bt_history.specs.Legal.{IsLegal};
+ghost use Rattle.bt_history.specs.Picks.{ArePicked};
 ghost use Rattle.bt_history.specs.Peers.{outstanding};
 ghost use Rattle.bt_history.specs.Pieces.{availability, content, content_of_block, had, in_order, level, sender, wanted};
 ghost use Rattle.bt_history.specs.Setting.{AreRules, setting_of};
 ghost use Rattle.bt_picker.specs.Checks.{IsJobOf, arriving, blocks_of, waits};
 ghost use Rattle.bt_picker.specs.Contents.{complete, has_wanted};
 ghost use Rattle.bt_picker.specs.Told.{Settles, Tells, action_told, telling};
-ghost use Rattle.bt_picker.specs.Kept.{BringsNone, HandsOut, IsFresh, IsStale, SettlesBy, SettlesOrStale};
+ghost use Rattle.bt_picker.specs.Kept.{BringsNone, HandsOut, IsFresh, IsStale, SettlesBy, SettlesOrStale, WouldKeep};
 
 use crate::picker::Picker;
 use crate::settled::Settled;
@@ -76,7 +78,7 @@ impl Keeper {
     }
 
     /// Answers what a worker tells of its peer, by the rules. The bytes of an arrival are copied, and kept where the reply says that they
-    /// are stored. Nothing else that is told takes memory. Without memory, nothing changes.
+    /// are stored. Nothing else that is told takes memory, nor does an arrival that is dropped or refused. Without memory, nothing changes.
     pub fn tell(&mut self, alloc: Global, worker: u32, told: Told<'_>) -> Result<Reply, AllocError>
         ensures ok { IfOk result (λ reply. Tells self.old self.new (telling worker told.entry reply)) }
         // Once its last block came, a piece waits for its check.
@@ -84,6 +86,7 @@ impl Keeper {
             action_told told.entry ≡ Arrived piece begin bytes → result ≡ Ok Reply.Completed →
             waits self.new.setting self.new.history piece ≡ true }
         ensures sure { BringsNone (action_told told.entry) → IsOk result }
+        ensures kept { OnErr result (WouldKeep self.old (telling worker told.entry)) }
         ensures err { OnErr result (self.new ≡ self.old) }
     {
         match told {
@@ -92,16 +95,45 @@ impl Keeper {
                 begin,
                 bytes,
             } => {
+                if !self.picker.keeps(worker, &told) {
+                    return Ok(self.picker.tell(worker, told));
+                }
                 let bytes = Bytes::copy_from_slice(alloc, bytes)?;
-                self.arrived(alloc, worker, piece, begin, bytes)
+                self.keep(alloc, worker, piece, begin, bytes)
             }
             _ => Ok(self.picker.tell(worker, told)),
         }
     }
 
     /// Answers that a block came, which begins so many bytes into the piece. Its bytes are kept as they are shared, with no copy, where the
-    /// reply says that they are stored. Without memory, nothing changes.
+    /// reply says that they are stored. A block that is dropped or refused takes no memory. Without memory, nothing changes.
     pub fn arrived(
+        &mut self,
+        alloc: Global,
+        worker: u32,
+        piece: u32,
+        begin: u32,
+        bytes: Bytes,
+    ) -> Result<Reply, AllocError>
+        ensures ok { IfOk result (λ reply. Tells self.old self.new (arriving worker piece begin bytes reply)) }
+        ensures completes { result ≡ Ok Reply.Completed → waits self.new.setting self.new.history piece ≡ true }
+        ensures kept { OnErr result (WouldKeep self.old (arriving worker piece begin bytes)) }
+        ensures err { OnErr result (self.new ≡ self.old) }
+    {
+        let told = Told::Arrived {
+            piece,
+            begin,
+            bytes: bytes.as_slice(),
+        };
+        let is_kept = self.picker.keeps(worker, &told);
+        if !is_kept {
+            return Ok(self.picker.tell(worker, told));
+        }
+        self.keep(alloc, worker, piece, begin, bytes)
+    }
+
+    /// Answers that a block came, with room for it taken first.
+    fn keep(
         &mut self,
         alloc: Global,
         worker: u32,
@@ -239,6 +271,8 @@ impl Keeper {
     /// Tells a proof what holds of each keeper. Nothing is done.
     pub fn attest(&self)
         ensures legal { IsLegal self.now.setting self.now.history }
+        ensures picked { ArePicked self.now.setting self.now.history }
+        ensures assured { Assures self.now.setting self.now.history }
     {
         self.picker.attest();
     }

@@ -5,6 +5,8 @@ ghost use Rattle.bt_history.specs.declared.call.Reply.{Reply};
 ghost use Rattle.bt_history.specs.declared.event.Action.TheVariants.{Arrived, Settle};
 ghost use Rattle.bt_history.specs.Entries.{action_of, event};
 ghost use Rattle.bt_history.specs.Epochs.{epoch, is_request};
+ghost use Rattle.bt_history.specs.Assured.{Assures};
+ghost use Rattle.bt_history.specs.History.{stores};
 ghost use Rattle.bt_history.specs.Legal.{IsLegal};
 ghost use Rattle.bt_history.specs.Picks.{ArePicked};
 ghost use Rattle.bt_history.specs.Peers.{outstanding};
@@ -16,7 +18,7 @@ ghost use Rattle.bt_picker.specs.Told.{Settles, Tells, action_told, checking, te
 ghost use Rattle.bt_check.specs.Checked as checked;
 ghost use Rattle.sha1.specs.Sha1.{sha1};
 ghost use Rattle.bt_picker.specs.Contents.{complete, has_wanted};
-ghost use Rattle.bt_picker.specs.Positions.{Gains};
+ghost use Rattle.bt_picker.specs.Positions.{DeskState, Gains};
 ghost use Rattle.bt_picker.specs.Tables.{AreTables};
 ghost use Rattle.bt_picker.specs.Unbegun.{ListsUnbegun, unasked_count};
 
@@ -103,6 +105,8 @@ impl Picker {
     pub fn attest(&self)
         ensures legal { IsLegal self.now.setting self.now.history }
         ensures picked { ArePicked self.now.setting self.now.history }
+        // The laws, for this picker.
+        ensures assured { Assures self.now.setting self.now.history }
         ensures layout { IsLayout self.now.setting.torrent }
         ensures workers { self.now.setting.workers ≤ MOST_WORKERS }
     {
@@ -261,6 +265,16 @@ impl Picker {
             return Reply::Refused(Reason::NotJoined);
         }
         self.hear(worker, &told)
+    }
+
+    /// Whether it would be answered to this that a block is stored. Nothing changes.
+    pub(crate) fn keeps(&self, worker: u32, told: &Told<'_>) -> bool
+        ensures { (new : DeskState) (reply : Reply) → Tells self.now new (telling worker told.now reply) → result ≡ stores reply }
+    {
+        if worker >= self.workers() {
+            return false;
+        }
+        self.position().reply(worker, told).is_stored()
     }
 
     /// The worker hashed what it holds of the piece: the picker believes it that this is the hash. A piece that doesn't wait for a check is

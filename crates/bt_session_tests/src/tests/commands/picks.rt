@@ -86,6 +86,50 @@ pub const PICKS: &[Example] = &[
             0 unchoke = quiet\n\
             0 next 2 = request 0 0 3",
     },
+    // Four pieces are begun, so three are looked at from piece 2 on: 2, 3 and 4, which are begun. Piece 5 is behind them.
+    Example {
+        name: "behind the pieces that are looked at first",
+        torrent: "torrent 3 21 1 a9993e364706816aba3e25717850c26c9cd0d89d a9993e364706816aba3e25717850c26c9cd0d89d a9993e364706816aba3e25717850c26c9cd0d89d a9993e364706816aba3e25717850c26c9cd0d89d a9993e364706816aba3e25717850c26c9cd0d89d a9993e364706816aba3e25717850c26c9cd0d89d a9993e364706816aba3e25717850c26c9cd0d89d",
+        lines: "0 join = joined\n\
+            0 bits fe = noted yes\n\
+            0 unchoke = quiet\n\
+            0 next 3 = request 3 0 3\n\
+            0 next 2 = request 2 0 3\n\
+            0 next 3 = request 4 0 3\n\
+            0 next 0 = request 0 0 3\n\
+            0 next 2 = request 5 0 3\n\
+            0 next 1 = pipefull",
+    },
+    // The same, but the peer has neither piece 5 nor piece 6, so the round goes on to piece 1.
+    Example {
+        name: "behind them round the end",
+        torrent: "torrent 3 21 1 a9993e364706816aba3e25717850c26c9cd0d89d a9993e364706816aba3e25717850c26c9cd0d89d a9993e364706816aba3e25717850c26c9cd0d89d a9993e364706816aba3e25717850c26c9cd0d89d a9993e364706816aba3e25717850c26c9cd0d89d a9993e364706816aba3e25717850c26c9cd0d89d a9993e364706816aba3e25717850c26c9cd0d89d",
+        lines: "0 join = joined\n\
+            0 bits f8 = noted yes\n\
+            0 unchoke = quiet\n\
+            0 next 3 = request 3 0 3\n\
+            0 next 2 = request 2 0 3\n\
+            0 next 3 = request 4 0 3\n\
+            0 next 0 = request 0 0 3\n\
+            0 next 2 = request 1 0 3",
+    },
+    // Two pieces are left, 3 and 4. From piece 5 on 5 and 6 are looked at, and then 0 and 1, which are begun.
+    Example {
+        name: "behind those that are looked at round the end",
+        torrent: "torrent 3 21 2 a9993e364706816aba3e25717850c26c9cd0d89d a9993e364706816aba3e25717850c26c9cd0d89d a9993e364706816aba3e25717850c26c9cd0d89d a9993e364706816aba3e25717850c26c9cd0d89d a9993e364706816aba3e25717850c26c9cd0d89d a9993e364706816aba3e25717850c26c9cd0d89d a9993e364706816aba3e25717850c26c9cd0d89d",
+        lines: "0 join = joined\n\
+            0 bits fe = noted yes\n\
+            0 unchoke = quiet\n\
+            0 next 5 = request 5 0 3\n\
+            0 next 6 = request 6 0 3\n\
+            0 next 0 = request 0 0 3\n\
+            0 next 1 = request 1 0 3\n\
+            0 next 2 = request 2 0 3\n\
+            1 join = joined\n\
+            1 bits fe = noted yes\n\
+            1 unchoke = quiet\n\
+            1 next 5 = request 3 0 3",
+    },
     // Pieces 1 and 4 are the rarest. Of all that are shown 2 and then 5 would come first by the word; the last word is 2 to the 32nd and
     // 2, which is 6 in sevens.
     Example {

@@ -5,5 +5,5 @@ use Rattle.bt_picker.proofs.position.Position.first_candidate.Goals as goal
 pub loop-piece-preserved : goal.loop-piece-preserved
 loop-piece-preserved c = grind (arith, common_steps)
 
-pub returns-clause-none : goal.returns-clause-none
-returns-clause-none c = grind (arith, common_steps)
+pub returns : goal.returns
+returns c = grind (arith, common_steps)

@@ -1,0 +1,26 @@
+-- The laws hold after every legal history.
+use Rattle.bt_history.specs.Setting.{Setting}
+use Rattle.bt_history.specs.History.{History}
+use Rattle.bt_history.specs.Legal.{IsLegal}
+use Rattle.bt_history.specs.Assured.{Assures}
+use Rattle.bt_history.proofs.Askers.{askers_few}
+use Rattle.bt_history.proofs.Depths.{so_far_bounded}
+use Rattle.bt_history.proofs.HeldLaws.{endgame_asks_all, had_facts, had_hash, held_unasked, second_in_endgame}
+use Rattle.bt_history.proofs.Levels.{higher_first, level_bounded}
+use Rattle.bt_history.proofs.LineLaws.{asked_and_due}
+use Rattle.bt_history.proofs.Listed.{lists_asked}
+use Rattle.bt_history.proofs.Sending.{sender_held}
+
+pub assured : (s : Setting) (h : History) → IsLegal s h → Assures s h
+assured s h legal = record {
+  hashed = λ p is. ((had_facts s h p legal is).is_full, had_hash s h p legal is);
+  spared = λ q b is. held_unasked s h q b legal is;
+  sent = sender_held h;
+  second = λ e b q allowed is too c inside want. endgame_asks_all s h c (second_in_endgame s h e q b legal allowed is too) inside want;
+  higher = λ e b allowed is. higher_first s h e b allowed is;
+  listed = λ q. lists_asked s h q legal;
+  few = λ q. asked_and_due s h q legal;
+  bounded = λ q. so_far_bounded s h q legal;
+  askers = λ b some. askers_few s h b legal some;
+  levels = λ p. level_bounded s h p legal;
+}

@@ -1,0 +1,39 @@
+-- What holds after every legal history, as one record: for callers that have a picker and no journal.
+use Rattle.std.specs.Prelude.{◌≡◌, ℕ, ◌+◌, ◌≤◌, IsTrue, false, is_some}
+use Rattle.sha1.specs.Sha1.{sha1}
+use Rattle.bt_meta.specs.declared.block.Block.{Block}
+use Rattle.bt_meta.specs.Layout.{hash_of}
+use Rattle.bt_history.specs.declared.call.Reply.TheVariants.{Request}
+use Rattle.bt_history.specs.declared.event.Event.{Event}
+use Rattle.bt_history.specs.declared.rules.TheConstants.{MOST_LEVEL}
+use Rattle.bt_history.specs.Setting.{Setting, deepest_line, is_block}
+use Rattle.bt_history.specs.History.{History}
+use Rattle.bt_history.specs.Peers.{asked, asked_count, depth_so_far, due_count, ListsAsked}
+use Rattle.bt_history.specs.Pieces.{asker_count, content, full, had, held, level, sender, unasked, wanted}
+use Rattle.bt_history.specs.Next.{usable}
+use Rattle.bt_history.specs.Legal.{IsAllowed}
+
+-- the laws, each for all pieces, blocks and peers; e is an entry that may come next
+pub record Assures (s : Setting) (h : History) : Type 0 where
+  -- a complete piece is full, and its bytes have the hash that the metainfo gives
+  pub hashed : (p : ℕ) → IsTrue (had h p) → IsTrue (full s h p) × (sha1 (content s h p) ≡ hash_of s.torrent p)
+  -- nobody is asked for a held block
+  pub spared : (q : ℕ) (b : Block) → IsTrue (held h b) → asked h q b ≡ false
+  -- a held block has a sender, and no other block has
+  pub sent : (b : Block) → is_some (sender h b) ≡ held h b
+  -- a block that another peer is asked for is requested only where no wanted block is unasked
+  pub second : (e : Event) (b : Block) (q : ℕ) → IsAllowed s h e → e.reply ≡ Request b → IsTrue (asked h q b)
+      → (c : Block) → IsTrue (is_block s.torrent c) → IsTrue (wanted s h c.piece) → unasked s h c ≡ false
+  -- no block is requested while one of a higher level could be
+  pub higher : (e : Event) (b : Block) → IsAllowed s h e → e.reply ≡ Request b
+      → (c : Block) → IsTrue (is_block s.torrent c) → IsTrue (usable s h e.worker c) → level h c.piece ≤ level h b.piece
+  -- the line of a peer lists exactly the blocks that are asked of it
+  pub listed : (q : ℕ) → ListsAsked s h q
+  -- what is asked of a peer and what is to be cancelled there are no more than its greatest depth so far
+  pub few : (q : ℕ) → asked_count s h q + due_count s h q ≤ depth_so_far s h q
+  -- and no depth is beyond what the rules let be told
+  pub bounded : (q : ℕ) → depth_so_far s h q ≤ deepest_line s
+  -- a block is asked of no more peers than the rules say
+  pub askers : (b : Block) → 1 ≤ s.askers → asker_count s h b ≤ s.askers
+  -- no level is above the highest
+  pub levels : (p : ℕ) → level h p ≤ MOST_LEVEL
