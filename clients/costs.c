@@ -1,4 +1,5 @@
-/* What each call costs, at 1,000 and at 100,000 pieces of 16 blocks, with 50 peers, where nothing is kept.
+/* What each call costs, at 1,000 and at 100,000 pieces of 16 blocks, with 50 peers, where nothing is kept. And what an arrival costs where the
+   blocks of begun pieces are kept, in pieces of 16 to 4,096 blocks.
        cc -O2 -I out costs.c out/libpiecepick.a -o costs && ./costs
    Prints a row for each call: nanoseconds, the least of five rounds. Each round makes the call as often as the second number says. */
 #define _POSIX_C_SOURCE 199309L
@@ -193,9 +194,36 @@ static void measure(uint32_t count) {
     free(levels);
 }
 
+/* The least that an arrival of 4,096 took, in whole pieces of so many blocks, where the blocks are kept. */
+static void measure_kept(uint32_t blocks) {
+    const uint32_t count = 4096 / blocks, piece_length = blocks * BLOCK;
+    const uint64_t total = (uint64_t)count * piece_length;
+    piecepick_options options = PIECEPICK_OPTIONS;
+    uint8_t *digests = calloc(20, count);
+    double least = 1e18;
+    if (!digests) exit(1);
+    options.keeps = PIECEPICK_KEEPS_BEGUN;
+    for (int round = 0; round < ROUNDS; round++) {
+        well(piecepick_open_parts(&picker, piece_length, total, digests, 20 * (size_t)count, &options));
+        well(piecepick_join(picker, 0, &answer));
+        double begin = now();
+        for (uint32_t piece = 0; piece < count; piece++)
+            for (uint32_t index = 0; index < blocks; index++) well(piecepick_arrived(picker, 0, piece, index * BLOCK, block, BLOCK, &answer));
+        double took = (now() - begin) / 4096;
+        if (took < least) least = took;
+        if (answer.kind != PIECEPICK_K_COMPLETED) exit(1);
+        piecepick_close(&picker);
+    }
+    printf("%12.0f ns  arrived where blocks are kept, in pieces of %u blocks\n", least, blocks);
+    free(digests);
+}
+
 int main(void) {
     digest_of_zeros();
     measure(1000);
     measure(100000);
+    measure_kept(16);
+    measure_kept(256);
+    measure_kept(4096);
     return 0;
 }

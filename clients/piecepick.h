@@ -3,11 +3,14 @@
    crates/bt_c/src/exports.
 
    A call returns a status, and writes its answer or its number in any case: kind 0, number 0 where the status isn't PIECEPICK_OK. A call whose
-   status isn't PIECEPICK_OK has changed nothing that a later call can tell, and may be made again. Of several causes the first is told, in the order in
-   which the call lists them. Lengths are in bytes.
+   status isn't PIECEPICK_OK has changed nothing that a later call can tell, and may be made again. A journal alone gets an entry more where
+   piecepick_job_settle says STALE or NOT_WAITING: the refusal. Of several causes the first is told, in the order in which the call lists them.
+   Lengths are in bytes.
 
    What the library can't test, and the caller must see to:
-   - A digest that is told is the SHA-1 of the bytes that it is told for (piecepick_settle, piecepick_restore).
+   - A digest that is told is the SHA-1 of the bytes that it is told for (piecepick_settle, piecepick_restore). Of a block that came twice these
+     are the bytes that came first. So where the picker keeps nothing, write a block's bytes where piecepick_arrived answers STORED or
+     COMPLETED, and at no other answer. What is DROPPED is thrown away. Else a good piece fails, and piecepick_sender names an honest peer.
    - A pointer to a picker or a job starts as NULL. It is filled and freed by its own two calls alone, and isn't NULL at any other.
    - Each other pointer is valid for its call: an answer and a number may be written, a buffer has the length that is given with it, isn't NULL
      (also at length 0: pass any valid pointer) and isn't freed meanwhile. What is written lies in nothing else that is passed.
@@ -83,9 +86,9 @@ typedef enum piecepick_kind {
     PIECEPICK_K_PIPE_FULL = 7,   /* nothing to ask: as many blocks as may be are asked of the peer */
     PIECEPICK_K_IDLE = 8,        /* nothing to ask now, though the peer has a wanted piece that isn't had */
     PIECEPICK_K_NOTHING_LEFT = 9,/* the peer shows no wanted piece that isn't had */
-    PIECEPICK_K_STORED = 10,
-    PIECEPICK_K_COMPLETED = 11,  /* stored, and its piece is full now: it waits for its check */
-    PIECEPICK_K_DROPPED = 12,    /* the block was held already: it came twice */
+    PIECEPICK_K_STORED = 10,     /* the block is held: where nothing is kept, write its bytes now */
+    PIECEPICK_K_COMPLETED = 11,  /* stored, and its piece is full now: write them too, and check the piece */
+    PIECEPICK_K_DROPPED = 12,    /* the block was held already: it came twice, and these bytes are written nowhere */
     PIECEPICK_K_HAD = 13,        /* the piece has its hash */
     PIECEPICK_K_FAILED = 14,     /* the piece has another hash: its blocks are held no more */
     PIECEPICK_K_REFUSED = 15     /* by a rule, which `reason` names: mostly the peer's fault, not the caller's */
@@ -157,7 +160,8 @@ PIECEPICK_MUST piecepick_status piecepick_bits(piecepick_picker *picker, uint32_
 /* The peer has these pieces too, at any time, spelled as in a `bitfield` message: a second `bitfield` came, or `have all` (BEP 6). What it had
    before stays, so `have none` needs no call. */
 PIECEPICK_MUST piecepick_status piecepick_haves(piecepick_picker *picker, uint32_t worker, const uint8_t *flags, size_t flags_len, piecepick_answer *answer);
-/* A block came. A picker that keeps nothing reads none of the bytes; another one keeps a copy. */
+/* A block came. A picker that keeps nothing reads none of the bytes, and the caller writes them at STORED and COMPLETED alone; another one keeps
+   a copy. */
 PIECEPICK_MUST piecepick_status piecepick_arrived(piecepick_picker *picker, uint32_t worker, uint32_t piece, uint32_t begin, const uint8_t *bytes,
                                                   size_t bytes_len, piecepick_answer *answer);
 /* The block that begins `begin` bytes into the piece is asked of the peer no more: the peer rejected it (BEP 6), it took too long, or the
@@ -180,7 +184,7 @@ PIECEPICK_MUST piecepick_status piecepick_set_levels(piecepick_picker *picker, c
 /* The pieces of one level come in rising order from now on; or, where `rising` is 0, the rarest first again. QUIET. */
 PIECEPICK_MUST piecepick_status piecepick_set_in_order(piecepick_picker *picker, uint32_t rising, piecepick_answer *answer);
 
-/* KEEPS_NOTHING: the piece is full, and this is the SHA-1 of what arrived of it. HAD or FAILED. KEEPS, PIECE, NOT_WAITING. */
+/* KEEPS_NOTHING: the piece is full, and this is the SHA-1 of its blocks as they were stored. HAD or FAILED. KEEPS, PIECE, NOT_WAITING. */
 PIECEPICK_MUST piecepick_status piecepick_settle(piecepick_picker *picker, uint32_t piece, const piecepick_digest *digest, piecepick_answer *answer);
 /* KEEPS_NOTHING: the whole piece is on a disk, for which this worker stands; it has joined, and shows nothing. The digest is the SHA-1 of the
    bytes, of which none is read: a mapping of the file costs no reading. HAD, FAILED, or REFUSED by NOT_JOINED. KEEPS, WORKER, PIECE, LENGTH,

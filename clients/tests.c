@@ -176,14 +176,21 @@ static void come(piecepick_picker *picker, uint32_t worker)
     QUIET(piecepick_unchoke(picker, worker, &answer));
 }
 
-/* The bytes of a block as the peer has them, or wrong ones. */
+/* The bytes of a block as the peer has them, or wrong ones; how many they are. */
+static uint32_t copy_of(uint8_t *block, uint32_t piece, uint32_t begin, int wrong)
+{
+    uint32_t rest = length_of(piece) - begin, length = rest < BLOCK ? rest : BLOCK;
+    memcpy(block, bytes_of(piece) + begin, length);
+    block[length - 1] = (uint8_t)(block[length - 1] + (wrong != 0));
+    return length;
+}
+
+/* They come. */
 static piecepick_kind bring(piecepick_picker *picker, uint32_t worker, uint32_t piece, uint32_t begin, int wrong)
 {
     uint8_t block[BLOCK];
     piecepick_answer answer;
-    uint32_t rest = length_of(piece) - begin, length = rest < BLOCK ? rest : BLOCK;
-    memcpy(block, bytes_of(piece) + begin, length);
-    block[length - 1] = (uint8_t)(block[length - 1] + (wrong != 0));
+    uint32_t length = copy_of(block, piece, begin, wrong);
     EQUAL(piecepick_arrived(picker, worker, piece, begin, block, length, &answer), PIECEPICK_OK);
     is_answer(__LINE__, "arrived", &answer, answer.kind, PIECEPICK_R_NONE, 0);
     return answer.kind;
@@ -1171,6 +1178,59 @@ static void try_senders(uint32_t keeps)
     piecepick_close(&picker);
 }
 
+/* ---- Blocks that come twice. */
+
+/* A block comes to a client that keeps the content itself: it writes the bytes where they are stored, and at no other answer. */
+static piecepick_kind bring_to(uint8_t *file, piecepick_picker *picker, uint32_t worker, uint32_t piece, uint32_t begin, int wrong)
+{
+    uint8_t block[BLOCK];
+    uint32_t length = copy_of(block, piece, begin, wrong);
+    piecepick_kind kind = bring(picker, worker, piece, begin, wrong);
+    if (kind == PIECEPICK_K_STORED || kind == PIECEPICK_K_COMPLETED) memcpy(file + begin, block, length);
+    return kind;
+}
+
+/* A check of the piece that the client has written, or of what the picker keeps. */
+static piecepick_kind settle_file(const uint8_t *file, piecepick_picker *picker, uint32_t keeps, uint32_t piece, int wrong)
+{
+    piecepick_answer answer;
+    piecepick_digest digest = sha1(file, length_of(piece));
+    if (keeps != PIECEPICK_KEEPS_NOTHING) return settle(picker, keeps, piece, wrong);
+    EQUAL(piecepick_settle(picker, piece, &digest, &answer), PIECEPICK_OK);
+    return answer.kind;
+}
+
+static void try_copies(uint32_t keeps)
+{
+    static uint8_t file[PIECE];
+    piecepick_picker *picker = open_for(keeps, 2);
+    uint32_t number;
+    come(picker, 0);
+    come(picker, 1);
+    /* Bad copies come second, before and behind the piece's last block: the piece has its hash, and the peer of the good ones is named. */
+    EQUAL(bring_to(file, picker, 0, 1, 0, 0), PIECEPICK_K_STORED);
+    EQUAL(bring_to(file, picker, 1, 1, 0, 1), PIECEPICK_K_DROPPED);
+    EQUAL(bring_to(file, picker, 0, 1, BLOCK, 0), PIECEPICK_K_COMPLETED);
+    EQUAL(bring_to(file, picker, 1, 1, BLOCK, 1), PIECEPICK_K_DROPPED);
+    NUMBER(piecepick_sender(picker, 1, 0, &number), 0);
+    NUMBER(piecepick_sender(picker, 1, 1, &number), 0);
+    EQUAL(memcmp(file, bytes_of(1), PIECE), 0);
+    EQUAL(settle_file(file, picker, keeps, 1, 0), PIECEPICK_K_HAD);
+    /* A bad copy comes first: it is the one that counts, and its peer is named until the check has failed. */
+    EQUAL(bring_to(file, picker, 0, 2, 0, 0), PIECEPICK_K_STORED);
+    EQUAL(bring_to(file, picker, 1, 2, BLOCK, 1), PIECEPICK_K_COMPLETED);
+    EQUAL(bring_to(file, picker, 0, 2, BLOCK, 0), PIECEPICK_K_DROPPED);
+    NUMBER(piecepick_sender(picker, 2, 0, &number), 0);
+    NUMBER(piecepick_sender(picker, 2, 1, &number), 1);
+    EQUAL(settle_file(file, picker, keeps, 2, 1), PIECEPICK_K_FAILED);
+    /* The piece comes again, and the copies of before are forgotten. */
+    EQUAL(bring_to(file, picker, 0, 2, BLOCK, 0), PIECEPICK_K_STORED);
+    EQUAL(bring_to(file, picker, 0, 2, 0, 0), PIECEPICK_K_COMPLETED);
+    EQUAL(settle_file(file, picker, keeps, 2, 0), PIECEPICK_K_HAD);
+    if (keeps == PIECEPICK_KEEPS_JOURNAL) EQUAL(piecepick_audit(picker), PIECEPICK_OK);
+    piecepick_close(&picker);
+}
+
 /* ---- A start from a disk. */
 
 static void try_restores(void)
@@ -1606,6 +1666,7 @@ int main(int argc, char **argv)
         {"epochs", try_epochs},
         {"epochs, in calls at random", try_epochs_at_random},
         {"senders", try_senders},
+        {"blocks that come twice", try_copies},
     };
     if (argc != 5) return 2;
     metainfo_len = read_file(argv[1], metainfo, sizeof metainfo);

@@ -113,6 +113,19 @@ int main()
     first.read(0, room);
     first.audit();
     well = well && room[0] == '0' && first.name().empty() && first.total() == 1 && first.epoch() > 0 && first.infohash().bytes[0] == 0;
+    /* A bad copy comes second. Where nothing is kept the caller writes a block's bytes at STORED and COMPLETED, and at no other answer. */
+    Picker bare(16384, 1, {digest.bytes, 20}, Options());
+    std::string file;
+    bare.join(0);
+    bare.join(1);
+    for (std::uint32_t worker = 0; worker < 2; worker++) {
+        const std::string block(1, static_cast<char>('0' + worker));
+        const Answer answer = bare.arrived(worker, 0, 0, block);
+        if (answer.kind == PIECEPICK_K_STORED || answer.kind == PIECEPICK_K_COMPLETED) file = block;
+        well = well && answer.kind == (worker == 0 ? PIECEPICK_K_COMPLETED : PIECEPICK_K_DROPPED);
+    }
+    well = well && bare.sender(0, 0) == 0 && file == "0";
+    well = well && bare.settle(0, hash4(file, std::string(), std::string(), std::string())[0]).kind == PIECEPICK_K_HAD;
     first = open();
     return well && !first.is_complete() && throws(PIECEPICK_E_NOT_HAD, [&] { first.read(0, room); }) ? 0 : 1;
 }

@@ -1,13 +1,20 @@
 #!/usr/bin/env python3
 """Feeds the built program mutated recordings, metainfo files and random scripts.
 
-    tools/fuzz.py [INPUTS [SEED]]
+    tools/fuzz.py [INPUTS [SEED]] [--program FILE]
+    tools/fuzz.py picks [N [SEED]] [--program FILE]
 
 10,000 inputs and the seed 1 where they aren't said. Each run has to end by a status of its command's list (docs/ERRORS.md), without a
-signal, and a run of recordings has to find its journal sound. An input that goes wrong is kept in the folder that is printed.
+signal. A run of recordings has to find its journal sound, and a script has to print just the replies of the plain model (tools/model.py).
+An input that goes wrong is kept in the folder that is printed.
+
+With `picks` random scripts of small torrents are played until N replies to `next` were judged, 100,000 where N isn't said. Each reply
+of a script has to be that of the model. The program is crates/piecepick/out/piecepick, or FILE.
 """
 
+import argparse
 import concurrent.futures
+import functools
 import os
 import random
 import shutil
@@ -16,6 +23,8 @@ import subprocess
 import sys
 import tempfile
 import time
+
+import picks
 
 ROOT = os.path.dirname(os.path.dirname(os.path.abspath(__file__)))
 PROGRAM = os.path.join(ROOT, "crates/piecepick/out/piecepick")
@@ -152,7 +161,17 @@ def script(rng, folder):
     return ["script"], mutate_bytes(rng, text) if rng.randrange(4) == 0 else text
 
 
-def judge(words, done):
+def judge_script(stdin, done):
+    """A script has to print the replies of the model, and to end by the status that it has."""
+    replies, status = picks.expected(stdin)
+    if done.stdout.decode("latin-1").split("\n")[:-1] != replies:
+        return "not the replies of the model"
+    if done.returncode != status or (done.stderr == b"") != (status == 0) or status != 0 and not done.stderr.startswith(b"line "):
+        return f"status {done.returncode}"
+    return None
+
+
+def judge(words, stdin, done):
     status, out, err = done.returncode, done.stdout, done.stderr
     if status < 0:
         return f"signal {-status}"
@@ -164,19 +183,17 @@ def judge(words, done):
         if status == 3 and err.startswith(b"metainfo fault ") and out == b"":
             return None
         return None if status == 0 and err == b"" else f"status {status}"
-    if status == 2 and err.startswith(b"line "):
-        return None
-    return None if status == 0 and err == b"" else f"status {status}"
+    return judge_script(stdin, done)
 
 
-def try_one(task):
+def try_one(program, task):
     index, seed = task
     rng = random.Random(f"{seed} {index}")
     folder = tempfile.mkdtemp(prefix="fuzz-")
     words, stdin = rng.choice([recording, recording, metainfo, script])(rng, folder)
     try:
-        done = subprocess.run([PROGRAM, *words], input=stdin, capture_output=True, timeout=60)
-        fault = judge(words, done)
+        done = subprocess.run([program, *words], input=stdin, capture_output=True, timeout=60)
+        fault = judge(words, stdin, done)
         status = done.returncode
     except subprocess.TimeoutExpired:
         fault, status = "no end within a minute", None
@@ -188,12 +205,11 @@ def try_one(task):
     return index, words[0], status, None
 
 
-def main():
-    inputs = int(sys.argv[1]) if len(sys.argv) > 1 else 10_000
-    seed = int(sys.argv[2]) if len(sys.argv) > 2 else 1
+def mutate(program, inputs, seed):
+    """Feeds so many inputs. Gives whether none of them went wrong."""
     begun, counts, wrong = time.time(), {}, 0
     with concurrent.futures.ThreadPoolExecutor(os.cpu_count()) as pool:
-        for index, command, status, fault in pool.map(try_one, ((i, seed) for i in range(inputs))):
+        for index, command, status, fault in pool.map(functools.partial(try_one, program), ((i, seed) for i in range(inputs))):
             counts[command, status] = counts.get((command, status), 0) + 1
             if fault:
                 wrong += 1
@@ -201,7 +217,18 @@ def main():
     for (command, status), count in sorted(counts.items(), key=str):
         print(f"{command}, status {status}: {count}")
     print(f"{inputs} inputs in {time.time() - begun:.0f} s, {wrong} of them wrong")
-    return 1 if wrong else 0
+    return wrong == 0
+
+
+def main():
+    words = argparse.ArgumentParser(description=__doc__.splitlines()[0])
+    words.add_argument("words", nargs="*", metavar="[picks] [N [SEED]]")
+    words.add_argument("--program", default=PROGRAM)
+    asked = words.parse_args()
+    just_picks = asked.words[:1] == ["picks"]
+    numbers = [int(word) for word in asked.words[just_picks:]]
+    count, seed = [*numbers, *[100_000 if just_picks else 10_000, 1][len(numbers):]]
+    return 0 if (picks.picks if just_picks else mutate)(os.path.abspath(asked.program), count, seed) else 1
 
 
 if __name__ == "__main__":

@@ -155,7 +155,12 @@ def refuse_each(trial, name, kind, words, stdin):
     wrong = 0
     whole, _ = trial.run(words, stdin, "")
     for call in itertools.count(1):
-        done, made = trial.run(words, stdin, f"{kind}:{call}")
+        try:
+            done, made = trial.run(words, stdin, f"{kind}:{call}")
+        except subprocess.TimeoutExpired:
+            wrong += 1
+            print(f"{name}, {kind} {call}: no end within a minute")
+            continue
         if made[kind] < call:
             return call - 1, wrong
         fault = judge(kind, words, done, whole)

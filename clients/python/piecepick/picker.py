@@ -339,7 +339,10 @@ class Picker:
         return self._told(LIBRARY.piecepick_haves, _u32(worker), data, length)
 
     def arrived(self, worker: int, piece: int, begin: int, block: BytesLike) -> Answer:
-        """A `piece` message came. A picker that keeps nothing reads none of the bytes; another one copies them once."""
+        """A `piece` message came. A picker that keeps nothing reads none of the bytes; another one copies them once.
+
+        Where nothing is kept, write the bytes at STORED and COMPLETED, and at no other answer: of two copies the first one counts.
+        """
         if (worker | piece | begin) >> 32:
             raise ValueError(f"{worker}, {piece} or {begin} isn't 0 to 2^32 - 1")
         data, length = lend(block)
@@ -399,7 +402,7 @@ class Picker:
     # Checks.
 
     def settle(self, piece: int, digest: BytesLike) -> Answer:
-        """Keeps.NOTHING: the piece is full, and this is the SHA-1 of what arrived of it. HAD or FAILED."""
+        """Keeps.NOTHING: the piece is full, and this is the SHA-1 of its blocks as they were stored. HAD or FAILED."""
         return self._told(LIBRARY.piecepick_settle, _u32(piece), byref(_digest(digest)))
 
     def restore(self, worker: int, piece: int, data: BytesLike, digest: BytesLike) -> Answer:

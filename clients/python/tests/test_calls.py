@@ -18,6 +18,14 @@ def refused(reason: Reason) -> Answer:
     return Answer(Kind.REFUSED, reason=reason)
 
 
+def bring_to(file: bytearray, made: Picker, worker: int, piece: int, begin: int, data: bytes) -> Kind:
+    """A block comes to a client that keeps the content itself: it writes the bytes where they are stored, and at no other answer."""
+    kind = made.arrived(worker, piece, begin, data).kind
+    if kind in STORED:
+        file[begin : begin + len(data)] = data
+    return kind
+
+
 class CallCase(unittest.TestCase):
     """A case that looks at statuses."""
 
@@ -196,6 +204,28 @@ class Nothing(CallCase):
             self.assertEqual((made.is_had(1), made.is_had(2), made.is_waiting(1)), (True, False, False))
             for digest in (b"", bytes(19), bytes(21)):
                 self.assertRaises(ValueError, made.settle, 1, digest)
+
+    def test_a_bad_copy_comes_second(self) -> None:
+        file, bad = bytearray(PIECE), bytes(BLOCK)
+        with with_peer() as made:
+            made.join(1)
+            self.assertIs(bring_to(file, made, 0, 1, 0, PARTS[1][:BLOCK]), Kind.STORED)
+            self.assertIs(bring_to(file, made, 1, 1, 0, bad), Kind.DROPPED)
+            self.assertIs(bring_to(file, made, 0, 1, BLOCK, PARTS[1][BLOCK:]), Kind.COMPLETED)
+            self.assertIs(bring_to(file, made, 1, 1, BLOCK, bad), Kind.DROPPED)
+            self.assertEqual([made.sender(1, 0), made.sender(1, 1)], [0, 0])
+            self.assertEqual(file, PARTS[1])
+            self.assertIs(made.settle(1, hashlib.sha1(file).digest()).kind, Kind.HAD)
+
+    def test_a_bad_copy_comes_first(self) -> None:
+        file, bad = bytearray(PIECE), bytes(BLOCK)
+        with with_peer() as made:
+            made.join(1)
+            self.assertIs(bring_to(file, made, 1, 1, 0, bad), Kind.STORED)
+            self.assertIs(bring_to(file, made, 0, 1, 0, PARTS[1][:BLOCK]), Kind.DROPPED)
+            self.assertIs(bring_to(file, made, 0, 1, BLOCK, PARTS[1][BLOCK:]), Kind.COMPLETED)
+            self.assertEqual([made.sender(1, 0), made.sender(1, 1)], [1, 0])
+            self.assertIs(made.settle(1, hashlib.sha1(file).digest()).kind, Kind.FAILED)
 
     def test_restore(self) -> None:
         with picker() as made:

@@ -108,6 +108,8 @@ impl Picker {
     }
 
     /// A block came. A picker that keeps nothing reads none of the bytes; another one keeps a copy.
+    ///
+    /// Where nothing is kept, write the bytes at `Stored` and `Completed`, and at no other answer: of two copies the first one counts.
     pub fn arrived(&mut self, worker: u32, piece: u32, begin: u32, bytes: &[u8]) -> Result<Answer, Error> {
         let (first, length) = (bytes.as_ptr(), bytes.len());
         self.answer(|picker, answer| unsafe { sys::piecepick_arrived(picker, worker, piece, begin, first, length, answer) })
@@ -153,8 +155,8 @@ impl Picker {
         self.answer(|picker, answer| unsafe { sys::piecepick_set_in_order(picker, rising, answer) })
     }
 
-    /// [`Keeps::Nothing`](crate::Keeps::Nothing): the piece is full, and this is the SHA-1 of what arrived of it. [`Answer::Had`] or
-    /// [`Answer::Failed`].
+    /// [`Keeps::Nothing`](crate::Keeps::Nothing): the piece is full, and this is the SHA-1 of its blocks as they were stored.
+    /// [`Answer::Had`] or [`Answer::Failed`].
     ///
     /// The digest has to be that of the bytes, which the library can't test. A wrong one breaks no memory, so this is safe. But the
     /// picker takes a bad piece for a good one then, or the other way round.

@@ -216,6 +216,42 @@ fn the_caller_hashes_what_it_keeps() {
     assert_eq!(picker.audit(), Err(Error::Keeps));
 }
 
+/// A block comes to a client that keeps the content itself: it writes the bytes where they are stored, and at no other answer.
+fn bring_to(file: &mut [u8], picker: &mut Picker, worker: u32, number: u32, begin: usize, block: &[u8]) -> Answer {
+    let answer = picker.arrived(worker, number, begin as u32, block).unwrap();
+    if matches!(answer, Answer::Stored | Answer::Completed) {
+        file[begin..begin + block.len()].copy_from_slice(block);
+    }
+    answer
+}
+
+#[test]
+fn a_bad_copy_that_comes_second_is_thrown_away() {
+    let content = content();
+    let (good, bad) = (piece(&content, 1), [0; BLOCK]);
+    let (mut picker, mut file) = (with_peer(Keeps::Nothing), [0; PIECE]);
+    picker.join(1).unwrap();
+    assert_eq!(bring_to(&mut file, &mut picker, 0, 1, 0, &good[..BLOCK]), Answer::Stored);
+    assert_eq!(bring_to(&mut file, &mut picker, 1, 1, 0, &bad), Answer::Dropped);
+    assert_eq!(bring_to(&mut file, &mut picker, 0, 1, BLOCK, &good[BLOCK..]), Answer::Completed);
+    assert_eq!(bring_to(&mut file, &mut picker, 1, 1, BLOCK, &bad), Answer::Dropped);
+    assert_eq!((picker.sender(1, 0), picker.sender(1, 1)), (Ok(0), Ok(0)));
+    assert_eq!(picker.settle(1, &sha1(&file)), Ok(Answer::Had));
+}
+
+#[test]
+fn a_bad_copy_that_comes_first_names_its_sender() {
+    let content = content();
+    let (good, bad) = (piece(&content, 1), [0; BLOCK]);
+    let (mut picker, mut file) = (with_peer(Keeps::Nothing), [0; PIECE]);
+    picker.join(1).unwrap();
+    assert_eq!(bring_to(&mut file, &mut picker, 1, 1, 0, &bad), Answer::Stored);
+    assert_eq!(bring_to(&mut file, &mut picker, 0, 1, 0, &good[..BLOCK]), Answer::Dropped);
+    assert_eq!(bring_to(&mut file, &mut picker, 0, 1, BLOCK, &good[BLOCK..]), Answer::Completed);
+    assert_eq!((picker.sender(1, 0), picker.sender(1, 1)), (Ok(1), Ok(0)));
+    assert_eq!(picker.settle(1, &sha1(&file)), Ok(Answer::Failed));
+}
+
 #[test]
 fn what_a_disk_has_is_restored() {
     let content = content();

@@ -93,10 +93,15 @@ fn much_at_once(rt: HostRuntime) -> Result<(), Fail> {
     takes_all(&rt, rt.alloc(), &stream)
 }
 
-/// Each of the keepalives is a message.
+/// As many reads as that many bytes and their handshake take where each has room for 16 KiB, and one that finds the end.
+const MOST_READS: u64 = 14;
+
+/// Each of the keepalives is a message, and no read had room for less than 16 KiB.
 fn takes_all(rt: &impl Abort, alloc: Global, stream: &[u8]) -> Result<(), Fail> {
-    let (end, calls, _) = told_of(alloc, &mut Sips::new(stream, &[65_535]))?;
+    let mut sips = Sips::new(stream, &[65_535]);
+    let (end, calls, _) = told_of(alloc, &mut sips)?;
     assert!(rt; end == Ok(End { messages: 50_000 }));
     assert!(rt; calls.as_str().ends_with("next = Choked; leave = Quiet; "));
+    assert!(rt; sips.reads <= MOST_READS);
     Ok(())
 }

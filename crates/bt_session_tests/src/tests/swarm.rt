@@ -12,7 +12,7 @@ use std::alloc::{AllocError, Global};
 use std::fmt::Write;
 use std::io::Cursor;
 use std::process::Abort;
-use std::sync::atomic::{AtomicBool, Ordering};
+use std::sync::atomic::{AtomicBool, AtomicU64, Ordering};
 use std::sync::{Arc, Wait};
 use std::test::Fail;
 use std::thread;
@@ -290,6 +290,56 @@ fn two_sessions_run(rt: HostRuntime) -> Result<(), Fail> {
     assert!(rt; !gate.gave_up.load(Ordering::SeqCst));
     both_ended(&rt, &run, 0, 0);
     same(run.book.desk.journal().len(), 4)
+}
+
+/// It counts the turns of two workers, and notes a turn that isn't the worker's next one.
+#[derive(Drop)]
+struct Counting {
+    first: AtomicU64,
+    second: AtomicU64,
+    skipped: AtomicBool,
+}
+
+impl Gate for Counting {
+    fn enter(&self, worker: u32, turn: u64) {
+        let turns = if worker == 0 {
+            &self.first
+        } else {
+            &self.second
+        };
+        if turns.load(Ordering::SeqCst) != turn {
+            self.skipped.store(true, Ordering::SeqCst);
+        }
+        turns.store(turn.saturating_add(1), Ordering::SeqCst);
+    }
+}
+
+/// A gate that nobody passed yet.
+fn no_turns() -> Counting {
+    Counting {
+        first: AtomicU64::new(0),
+        second: AtomicU64::new(0),
+        skipped: AtomicBool::new(false),
+    }
+}
+
+/// Checks how many turns each of the two workers had, one after the other from 0 on.
+fn had_turns(rt: &impl Abort, gate: &Counting, first: u64, second: u64) -> Result<(), Fail> {
+    assert!(rt; !gate.skipped.load(Ordering::SeqCst));
+    same(gate.first.load(Ordering::SeqCst), first)?;
+    same(gate.second.load(Ordering::SeqCst), second)
+}
+
+/// A session passes the gate before its handshakes, before each message and before its end: twice more often than there are messages.
+#[test]
+fn each_turn_passes_the_gate(rt: HostRuntime) -> Result<(), Fail> {
+    let first = peer(rt.alloc(), 1, &PEER)?;
+    let second = peer(rt.alloc(), 1, &[])?;
+    let gate = no_turns();
+    let torrent = two_pieces(rt.alloc())?;
+    let run = run_of_two(&rt, rt.alloc(), torrent, [&first, &second], &gate)?;
+    both_ended(&rt, &run, 3, 0);
+    had_turns(&rt, &gate, 5, 2)
 }
 
 /// Both pieces, the first with wrong bytes.

@@ -1,14 +1,18 @@
 //! Each command of the program over memory: what it prints, its status, and the file of `--out`.
 
-ghost use Rattle.std.specs.Prelude.{◌≡◌};
+ghost use Rattle.std.specs.Prelude.{◌≡◌, ◌≤◌};
 
 use super::saving::Kept;
-use super::serial::{FILE, FRAMES, INFOHASH, Recorded, recorded, stream, usual};
+use super::serial::{
+    FILE, FRAMES, INFOHASH, INFOHASH_OF_THREE, Recorded, THREE_PIECES, recorded, stream, usual,
+};
 use bt_cli::*;
 use bt_expect::same;
 use std::alloc::{AllocError, Global};
 use std::io::BufWriter;
+use std::sync::Wait;
 use std::test::*;
+use std::thread::Threads;
 
 /// An output in memory, behind the program's buffer.
 type Output<'a> = Device<&'a mut Vec<u8>>;
@@ -110,4 +114,39 @@ fn streams_are_played_at_once(rt: HostRuntime) -> Result<(), Fail> {
     drop(out);
     same(printed.as_slice(), REPORT)?;
     is_saved(&target)
+}
+
+/// How many requests stand in what was written to a peer.
+fn requests_in(written: &[u8]) -> usize {
+    let head = b"\0\0\0\x0d\x06".as_slice();
+    written.windows(5).filter(|bytes| *bytes == head).count()
+}
+
+/// How many requests a run to this depth makes of a peer that has three pieces, lets itself be asked, and gives none.
+fn asked_at_once<T: Threads + Wait + AllocGlobal + Sync>(rt: &T, depth: u32) -> Result<usize, Fail>
+    requires { (1 ≤ depth) × (depth ≤ MOST_DEPTH) }
+{
+    let mut options = usual();
+    options.rules.depth = depth;
+    let mut printed = Vec::new(rt.alloc());
+    let mut out = output(rt.alloc(), &mut printed)?;
+    let mut target: Option<Target<'static, Kept>> = None;
+    let frames = b"\0\0\0\x02\x05\xe0\0\0\0\x01\x01";
+    let sent = stream(rt.alloc(), INFOHASH_OF_THREE, frames)?;
+    let streams = vec![in rt.alloc(); recorded(rt.alloc(), &sent)?]?;
+    let came = threads_of(rt, THREE_PIECES, streams, &options, &mut out, &mut target)?;
+    same(status_of(came.done)?, Some(1))?;
+    let mut asked: usize = 0;
+    for stream in came.streams {
+        asked = asked.saturating_add(requests_in(&stream.writer.into_inner()));
+    }
+    Ok(asked)
+}
+
+/// With three pieces of a block each, two requests are in flight at depth 2, and at depth 5 as many as there are blocks.
+#[test]
+fn a_run_asks_to_its_depth(rt: HostRuntime) -> Result<(), Fail> {
+    same(asked_at_once(&rt, 1)?, 1)?;
+    same(asked_at_once(&rt, 2)?, 2)?;
+    same(asked_at_once(&rt, 5)?, 3)
 }

@@ -1,0 +1,423 @@
+"""The rules of the picker as a plain model: what the calls so far say, in sets and lists, and the one reply that each line of a script has.
+
+It is written from the rules (README.md, `piecepick script --help` and crates/bt_history/specs), and not from the picker's code. It is slow
+and short on purpose: each question is answered by looking at every block.
+"""
+
+from __future__ import annotations
+
+import hashlib
+from dataclasses import dataclass, field
+from typing import NamedTuple
+
+BLOCK_SIZE = 16384
+USUAL_LEVEL = 4
+MOST_LEVEL = 7
+MOST_WORKERS = 1024
+MOST_DEPTH = 64
+MOST_PIECE_LENGTH = 2**31
+
+NOT_JOINED, ALREADY_JOINED, LATE_BITS, WRONG_COUNT, NO_SUCH_PIECE, NO_SUCH_BLOCK = range(1, 7)
+WRONG_LENGTH, NOT_WAITING, STALE, NOT_ASKED, WRONG_DEPTH, WRONG_LEVEL = range(7, 13)
+
+
+class NotALine(Exception):
+    """The text is no line of a script of this torrent."""
+
+
+class Refused(Exception):
+    """The call isn't allowed, for the reason of this number."""
+
+
+class Block(NamedTuple):
+    """A block by its piece, the byte of the piece at which it begins, and its length."""
+
+    piece: int
+    begin: int
+    length: int
+
+    def __str__(self) -> str:
+        return f"{self.piece} {self.begin} {self.length}"
+
+
+@dataclass(frozen=True)
+class Rules:
+    """Blocks that may be in flight at a peer, pieces at random, peers of one block in endgame, and the greatest depth that may be told."""
+
+    depth: int = 5
+    random: int = 1
+    askers: int = MOST_WORKERS
+    deepest: int = MOST_DEPTH
+
+
+@dataclass(frozen=True)
+class Torrent:
+    """A content that is cut into pieces, with the SHA-1 of each."""
+
+    piece_length: int
+    total: int
+    hashes: tuple[bytes, ...]
+
+    def blocks(self) -> list[list[Block]]:
+        """The blocks of each piece, in order."""
+        return [self.blocks_of(piece) for piece in range(len(self.hashes))]
+
+    def blocks_of(self, piece: int) -> list[Block]:
+        """The blocks of one piece, in order."""
+        length = min(self.piece_length, self.total - piece * self.piece_length)
+        return [Block(piece, begin, min(BLOCK_SIZE, length - begin)) for begin in range(0, length, BLOCK_SIZE)]
+
+
+@dataclass
+class Peer:
+    """What is known of the peer of one worker."""
+
+    joined: bool = False
+    late: bool = False
+    opened: bool = False
+    depth: int | None = None
+    shows: set[int] = field(default_factory=set)
+    asked: list[Block] = field(default_factory=list)
+    due: list[Block] = field(default_factory=list)
+
+    def free(self) -> None:
+        """All that is in flight at it is taken back, and so are the cancels that it is owed."""
+        self.asked.clear()
+        self.due.clear()
+
+    def renew(self, joined: bool) -> None:
+        """The worker's next peer joins, or its peer is gone."""
+        self.joined, self.late, self.opened, self.depth = joined, False, False, None
+        self.shows = set()
+        self.free()
+
+
+class Model:
+    """All that a history says, and what is replied to its next call."""
+
+    def __init__(self, torrent: Torrent, workers: int, rules: Rules) -> None:
+        self.torrent = torrent
+        self.rules = rules
+        self.peers = [Peer() for _ in range(workers)]
+        self.blocks = torrent.blocks()
+        self.pieces = len(self.blocks)
+        self.held: dict[Block, bytes] = {}
+        self.had: set[int] = set()
+        self.levels = [USUAL_LEVEL] * self.pieces
+        self.in_order = False
+
+    # ---- what the calls so far say
+
+    def flying(self) -> set[Block]:
+        """The blocks that are in flight at some peer."""
+        return {block for peer in self.peers for block in peer.asked}
+
+    def is_full(self, piece: int) -> bool:
+        """Whether each block of the piece is held."""
+        return all(block in self.held for block in self.blocks[piece])
+
+    def waits(self, piece: int) -> bool:
+        """Whether the piece is full, and wasn't found to have its hash yet."""
+        return self.is_full(piece) and piece not in self.had
+
+    def is_interesting(self, peer: Peer) -> bool:
+        """Whether the peer shows a wanted piece that isn't complete."""
+        return any(self.levels[piece] > 0 and piece not in self.had for piece in peer.shows)
+
+    def availability(self, piece: int) -> int:
+        """How many connected peers show the piece."""
+        return sum(peer.joined and piece in peer.shows for peer in self.peers)
+
+    # ---- what is requested next
+
+    def usable(self, peer: Peer, flying: set[Block]) -> list[Block]:
+        """The wanted blocks that the peer has, which are neither held nor in flight anywhere; of those just the highest level."""
+        found = [
+            block
+            for piece in peer.shows
+            if self.levels[piece] > 0
+            for block in self.blocks[piece]
+            if block not in self.held and block not in flying
+        ]
+        highest = max((self.levels[block.piece] for block in found), default=0)
+        return [block for block in found if self.levels[block.piece] == highest]
+
+    def begun(self, flying: set[Block]) -> set[int]:
+        """The pieces that aren't complete, and of which a block is held or in flight."""
+        return {block.piece for block in flying.union(self.held)} - self.had
+
+    def picked(self, usable: list[Block], begun: set[int], word: int) -> Block:
+        """The block of these that is requested, all of one level."""
+        going_on = [block for block in usable if block.piece in begun]
+        if self.in_order or going_on:
+            return min(usable if self.in_order else going_on)
+        new = {block.piece for block in usable}
+        if len(self.had) >= self.rules.random:
+            fewest = min(self.availability(piece) for piece in new)
+            new = {piece for piece in new if self.availability(piece) == fewest}
+        first = word % self.pieces
+        piece = next(piece for piece in [*range(first, self.pieces), *range(first)] if piece in new)
+        return min(block for block in usable if block.piece == piece)
+
+    def doubled(self, peer: Peer, flying: set[Block]) -> Block | None:
+        """In endgame the block that is requested of one more peer."""
+        lacking = [block for blocks in self.blocks for block in blocks if self.levels[block.piece] > 0 and block not in self.held]
+        if any(block not in flying for block in lacking):
+            return None
+        fitting = [
+            block
+            for block in lacking
+            if block.piece in peer.shows
+            and block not in peer.asked
+            and sum(block in other.asked for other in self.peers) < self.rules.askers
+        ]
+        return min(fitting, key=lambda block: (-self.levels[block.piece], block), default=None)
+
+    def next(self, peer: Peer, word: int) -> str:
+        """What is said to the peer next: the first case that applies."""
+        if peer.due:
+            return f"cancel {peer.due[0]}"
+        if not peer.opened:
+            return "choked"
+        if len(peer.asked) >= (self.rules.depth if peer.depth is None else peer.depth):
+            return "pipefull"
+        flying = self.flying()
+        usable = self.usable(peer, flying)
+        block = self.picked(usable, self.begun(flying), word) if usable else self.doubled(peer, flying)
+        if block is not None:
+            return f"request {block}"
+        return "idle" if self.is_interesting(peer) else "nothing"
+
+    def follow(self, peer: Peer, reply: str) -> None:
+        """The reply to a Next was given."""
+        word, *numbers = reply.split(" ")
+        if word == "cancel":
+            peer.due.remove(Block(*map(int, numbers)))
+        elif word == "request":
+            peer.asked.append(Block(*map(int, numbers)))
+
+    # ---- the calls
+
+    def play(self, line: str, given: str | None = None) -> str:
+        """The reply that the line has. Where another one was given to a Next, the model goes on from that one."""
+        number, word, arguments = self.parse(line)
+        peer = self.peers[number]
+        try:
+            if word == "next":
+                self.need(peer.joined, NOT_JOINED)
+                reply = self.next(peer, arguments[0])
+                self.follow(peer, given or reply)
+                return reply
+            return getattr(self, f"call_{word}")(peer, *arguments)
+        except Refused as refused:
+            return f"refused {refused.args[0]}"
+
+    @staticmethod
+    def need(holds: bool, reason: int) -> None:
+        """Refuses the call for this reason where the condition doesn't hold."""
+        if not holds:
+            raise Refused(reason)
+
+    def noted(self, peer: Peer) -> str:
+        """The reply to a call that tells of the peer's pieces."""
+        peer.late = True
+        return "noted yes" if self.is_interesting(peer) else "noted no"
+
+    def call_join(self, peer: Peer) -> str:
+        self.need(not peer.joined, ALREADY_JOINED)
+        peer.renew(joined=True)
+        return "joined"
+
+    def call_leave(self, peer: Peer) -> str:
+        self.need(peer.joined, NOT_JOINED)
+        peer.renew(joined=False)
+        return "quiet"
+
+    def call_bits(self, peer: Peer, flags: set[int]) -> str:
+        self.need(peer.joined, NOT_JOINED)
+        self.need(not peer.late, LATE_BITS)
+        peer.shows = set(flags)
+        return self.noted(peer)
+
+    def call_have(self, peer: Peer, piece: int) -> str:
+        self.need(peer.joined, NOT_JOINED)
+        self.need(piece < self.pieces, NO_SUCH_PIECE)
+        peer.shows.add(piece)
+        return self.noted(peer)
+
+    def call_haves(self, peer: Peer, flags: set[int]) -> str:
+        self.need(peer.joined, NOT_JOINED)
+        peer.shows |= flags
+        return self.noted(peer)
+
+    def call_choke(self, peer: Peer) -> str:
+        self.need(peer.joined, NOT_JOINED)
+        peer.late, peer.opened = True, False
+        peer.free()
+        return "quiet"
+
+    def call_unchoke(self, peer: Peer) -> str:
+        self.need(peer.joined, NOT_JOINED)
+        peer.late, peer.opened = True, True
+        return "quiet"
+
+    def call_block(self, peer: Peer, piece: int, begin: int, data: bytes) -> str:
+        self.need(peer.joined, NOT_JOINED)
+        self.need(piece < self.pieces, NO_SUCH_PIECE)
+        block = next((block for block in self.blocks[piece] if block.begin == begin), None)
+        if block is None:
+            raise Refused(NO_SUCH_BLOCK)
+        self.need(block.length == len(data), WRONG_LENGTH)
+        peer.late = True
+        if block in self.held:
+            return "dropped"
+        self.held[block] = data
+        for other in self.peers:
+            if block in other.asked:
+                other.asked.remove(block)
+                if other is not peer:
+                    other.due.append(block)
+        return "completed" if self.is_full(piece) else "stored"
+
+    def call_settle(self, _peer: Peer, piece: int) -> str:
+        self.need(piece < self.pieces, NO_SUCH_PIECE)
+        self.need(self.waits(piece), NOT_WAITING)
+        content = b"".join(self.held[block] for block in self.blocks[piece])
+        if hashlib.sha1(content).digest() == self.torrent.hashes[piece]:
+            self.had.add(piece)
+            return "had"
+        for block in self.blocks[piece]:
+            del self.held[block]
+        return "failed"
+
+    def call_want(self, _peer: Peer, flags: set[int]) -> str:
+        self.levels = [USUAL_LEVEL if piece in flags else 0 for piece in range(self.pieces)]
+        return "quiet"
+
+    def call_depth(self, peer: Peer, depth: int) -> str:
+        self.need(peer.joined, NOT_JOINED)
+        self.need(1 <= depth <= self.rules.deepest, WRONG_DEPTH)
+        peer.depth = depth
+        return "quiet"
+
+    def call_release(self, peer: Peer, piece: int, begin: int) -> str:
+        self.need(peer.joined, NOT_JOINED)
+        block = next((block for block in peer.asked if (block.piece, block.begin) == (piece, begin)), None)
+        if block is None:
+            raise Refused(NOT_ASKED)
+        peer.asked.remove(block)
+        return "quiet"
+
+    def call_level(self, _peer: Peer, piece: int, level: int) -> str:
+        self.need(piece < self.pieces, NO_SUCH_PIECE)
+        self.need(level <= MOST_LEVEL, WRONG_LEVEL)
+        self.levels[piece] = level
+        return "quiet"
+
+    def call_levels(self, _peer: Peer, levels: list[int]) -> str:
+        self.need(len(levels) == self.pieces, WRONG_COUNT)
+        self.need(max(levels) <= MOST_LEVEL, WRONG_LEVEL)
+        self.levels = list(levels)
+        return "quiet"
+
+    def call_inorder(self, _peer: Peer, rising: bool) -> str:
+        self.in_order = rising
+        return "quiet"
+
+    # ---- lines
+
+    def parse(self, line: str) -> tuple[int, str, list]:
+        """The worker, the word and the arguments that the line says."""
+        worker, *rest = line.split(" ")
+        if number(worker, 32) >= len(self.peers) or not rest:
+            raise NotALine(line)
+        word, *texts = rest
+        forms = FORMS.get(word)
+        if forms is None or len(forms) != len(texts):
+            raise NotALine(line)
+        return int(worker), word, [self.argument(form, text) for form, text in zip(forms, texts)]
+
+    def argument(self, form: str, text: str) -> object:
+        """The value that a text of this form says."""
+        if form == "flags":
+            return self.flags(hexadecimal(text))
+        if form == "bytes":
+            return hexadecimal(text)
+        if form == "digits":
+            if not is_digits(text):
+                raise NotALine(text)
+            return [int(digit) for digit in text]
+        if form == "yes":
+            if text not in ("yes", "no"):
+                raise NotALine(text)
+            return text == "yes"
+        return number(text, int(form))
+
+    def flags(self, payload: bytes) -> set[int]:
+        """The pieces of a bitfield: the first piece is the highest bit of the first byte, and spare bits are 0."""
+        bits = "".join(f"{byte:08b}" for byte in payload)
+        if len(payload) != (self.pieces + 7) // 8 or "1" in bits[self.pieces:]:
+            raise NotALine(payload.hex())
+        return {piece for piece, bit in enumerate(bits) if bit == "1"}
+
+
+# what stands behind each word: numbers by their bits, bitfields, bytes, digits, yes or no
+FORMS: dict[str, list[str]] = {
+    "join": [], "leave": [], "choke": [], "unchoke": [],
+    "bits": ["flags"], "haves": ["flags"], "want": ["flags"],
+    "have": ["32"], "settle": ["32"], "depth": ["32"], "next": ["64"],
+    "block": ["32", "32", "bytes"], "release": ["32", "32"],
+    "level": ["32", "8"], "levels": ["digits"], "inorder": ["yes"],
+}
+
+
+def is_digits(text: str) -> bool:
+    """Whether it is digits of base ten alone, and at least one."""
+    return text.isascii() and text.isdigit()
+
+
+def number(text: str, bits: int) -> int:
+    """The number that the digits write, within so many bits."""
+    if not is_digits(text) or int(text) >= 2**bits:
+        raise NotALine(text)
+    return int(text)
+
+
+def hexadecimal(text: str) -> bytes:
+    """The bytes that hexadecimal digits write, at least one byte."""
+    if not text or len(text) % 2 or not set(text) <= set("0123456789abcdefABCDEF"):
+        raise NotALine(text)
+    return bytes.fromhex(text)
+
+
+def opened(line: str) -> tuple[Torrent, int]:
+    """The torrent and the number of workers that the first line says."""
+    word, *texts = line.split(" ")
+    if word != "torrent" or len(texts) < 3:
+        raise NotALine(line)
+    piece_length, total, workers = number(texts[0], 32), number(texts[1], 64), number(texts[2], 32)
+    hashes = tuple(hexadecimal(text) for text in texts[3:])
+    whole = 1 <= piece_length <= MOST_PIECE_LENGTH and 1 <= total < 2**63 and 1 <= workers <= MOST_WORKERS
+    if not whole or len(hashes) != -(-total // piece_length) or any(len(digest) != 20 for digest in hashes):
+        raise NotALine(line)
+    return Torrent(piece_length, total, hashes), workers
+
+
+def ruled(line: str, pieces: int) -> Rules | None:
+    """The rules that the line sets, if it sets any."""
+    word, *texts = line.split(" ")
+    if word != "rules" or len(texts) != 2 or not all(is_digits(text) for text in texts):
+        return None
+    depth, random = map(int, texts)
+    return Rules(depth, random) if 1 <= depth <= MOST_DEPTH and random <= pieces else None
+
+
+def open_model(lines: list[str]) -> tuple[Model, int]:
+    """The model that a script's first lines open, and how many lines that were, empty ones with them."""
+    at = next((at for at, line in enumerate(lines) if line), len(lines))
+    torrent, workers = opened(lines[at] if lines[at:] else "")
+    behind = next((more for more in range(at + 1, len(lines)) if lines[more]), None)
+    rules = ruled(lines[behind], len(torrent.hashes)) if behind is not None else None
+    if behind is None or rules is None:
+        return Model(torrent, workers, Rules()), at + 1
+    return Model(torrent, workers, rules), behind + 1

@@ -1,0 +1,275 @@
+"""Random scripts of small torrents, each reply of which is judged by the plain model (tools/model.py). `tools/fuzz.py picks` plays them."""
+
+from __future__ import annotations
+
+import concurrent.futures
+import hashlib
+import os
+import random
+import subprocess
+import tempfile
+import time
+from collections import Counter
+from typing import Callable, NamedTuple
+
+from model import BLOCK_SIZE, MOST_LEVEL, Block, Model, NotALine, Refused, Rules, Torrent, open_model
+
+PIECE_LENGTHS = [1, 1, 1, 2, 3, BLOCK_SIZE, BLOCK_SIZE + 1, BLOCK_SIZE + 1, 2 * BLOCK_SIZE + 1, 3 * BLOCK_SIZE + 1]
+WORD_EDGES = [2**64 - 1, 2**64 - 2, 2**63, 2**32, 2**32 - 1]
+MOST_STEPS = 90
+
+
+class Mood(NamedTuple):
+    """How often a script does what, by weights."""
+
+    next: int
+    block: int
+    settle: int
+    have: int
+    choke: int
+    unchoke: int
+    rejoin: int
+    release: int
+    depth: int
+    level: int
+    want: int
+    order: int
+    stray: int
+
+
+MOODS = [
+    # a download with all calls, one that completes nothing, two in which much is given up, one of levels and order, and one that is quick
+    Mood(40, 14, 6, 4, 2, 5, 2, 8, 2, 3, 1, 1, 4),
+    Mood(60, 5, 0, 3, 2, 5, 2, 6, 2, 1, 1, 0, 1),
+    Mood(45, 4, 1, 3, 2, 5, 2, 35, 3, 0, 0, 0, 1),
+    Mood(45, 4, 1, 3, 6, 9, 5, 20, 3, 2, 1, 1, 1),
+    Mood(40, 8, 3, 3, 1, 4, 1, 14, 2, 12, 2, 4, 1),
+    Mood(45, 25, 12, 2, 0, 2, 1, 4, 1, 0, 0, 0, 0),
+]
+
+
+class Script:
+    """A random script, written beside the model, with the reply that each of its lines has to have."""
+
+    def __init__(self, rng: random.Random) -> None:
+        self.rng = rng
+        self.mood = rng.choice(MOODS)
+        self.torrent = self.made_torrent()
+        workers = rng.randrange(1, 6)
+        self.rules = Rules(rng.choice([1, 2, 3, 5, 5, 8, 64]), rng.randrange(len(self.torrent.hashes) + 1))
+        self.model = Model(self.torrent, workers, self.rules)
+        digests = " ".join(digest.hex() for digest in self.torrent.hashes)
+        self.lines = [f"torrent {self.torrent.piece_length} {self.torrent.total} {workers} {digests}"]
+        self.lines.append(f"rules {self.rules.depth} {self.rules.random}")
+        self.replies: list[str] = []
+        self.first_steps()
+        for _ in range(rng.randrange(15, MOST_STEPS)):
+            self.step()
+
+    def made_torrent(self) -> Torrent:
+        """A torrent of 1 to 12 pieces, each of one byte over and over."""
+        pieces = self.rng.choice([*range(1, 13), 7, 8, 9, 10, 11, 12])
+        length = self.rng.choice(PIECE_LENGTHS)
+        total = length * (pieces - 1) + self.rng.randrange(1, length + 1)
+        sizes = [min(length, total - piece * length) for piece in range(pieces)]
+        return Torrent(length, total, tuple(hashlib.sha1(bytes([piece]) * size).digest() for piece, size in enumerate(sizes)))
+
+    def say(self, worker: int, words: str) -> None:
+        """Adds a line, with the reply that it has to have."""
+        self.lines.append(f"{worker} {words}")
+        self.replies.append(self.model.play(self.lines[-1]))
+
+    def first_steps(self) -> None:
+        """Most peers join, show pieces and unchoke us."""
+        for worker in range(len(self.model.peers)):
+            if self.rng.randrange(12):
+                self.say(worker, "join")
+                if self.rng.randrange(12):
+                    self.say(worker, f"bits {self.flags()}")
+                if self.rng.randrange(12):
+                    self.say(worker, "unchoke")
+
+    def step(self) -> None:
+        """Adds a line or two of any kind."""
+        kind = self.rng.choices(Mood._fields, self.mood)[0]
+        getattr(self, f"say_{kind}")(self.rng.randrange(len(self.model.peers)))
+
+    # ---- parts of lines
+
+    def flags(self) -> str:
+        """A bitfield: of some pieces, of most or of all."""
+        pieces = self.model.pieces
+        kept = self.rng.choice([1, 2, 3, 3, 4, 4, 4])
+        bits = "".join("1" if self.rng.randrange(4) < kept else "0" for _ in range(pieces))
+        size = (pieces + 7) // 8
+        return f"{int(bits.ljust(8 * size, '0'), 2):0{2 * size}x}"
+
+    def word(self) -> int:
+        """A random number of Next, small or large."""
+        if self.rng.randrange(3):
+            return self.rng.randrange(2 * self.model.pieces + 1)
+        return self.rng.choice([self.rng.randrange(2**64), self.rng.choice(WORD_EDGES)])
+
+    def piece(self) -> int:
+        """A piece, or now and then one that there isn't."""
+        return self.rng.randrange(self.model.pieces + (not self.rng.randrange(20)))
+
+    def some_block(self) -> Block:
+        """Any block of the torrent."""
+        return self.rng.choice(self.rng.choice(self.model.blocks))
+
+    def data(self, block: Block) -> str:
+        """The bytes of the block, or now and then others."""
+        byte = block.piece if self.rng.randrange(12) else 255
+        return f"{byte:02x}" * block.length
+
+    # ---- lines of each kind
+
+    def say_next(self, worker: int) -> None:
+        ready = [number for number, peer in enumerate(self.model.peers) if peer.opened]
+        if ready and self.rng.randrange(12):
+            worker = self.rng.choice(ready)
+        for _ in range(self.rng.choice([1, 2, 3, 5])):
+            self.say(worker, f"next {self.word()}")
+            if self.replies[-1] in ("nothing", "idle", "choked", "pipefull"):
+                break
+
+    def say_block(self, worker: int) -> None:
+        asked = self.model.peers[worker].asked
+        block = self.rng.choice(asked) if asked and self.rng.randrange(10) else self.some_block()
+        self.say(worker, f"block {block.piece} {block.begin} {self.data(block)}")
+
+    def say_settle(self, worker: int) -> None:
+        waiting = [piece for piece in range(self.model.pieces) if self.model.waits(piece)]
+        self.say(worker, f"settle {self.rng.choice(waiting) if waiting and self.rng.randrange(10) else self.piece()}")
+
+    def say_have(self, worker: int) -> None:
+        words = [lambda: f"have {self.piece()}", lambda: f"haves {self.flags()}", lambda: f"bits {self.flags()}"]
+        self.say(worker, self.rng.choices(words, [6, 3, 1])[0]())
+
+    def say_choke(self, worker: int) -> None:
+        self.say(worker, "choke")
+
+    def say_unchoke(self, worker: int) -> None:
+        self.say(worker, "unchoke")
+
+    def say_rejoin(self, worker: int) -> None:
+        self.say(worker, "leave")
+        self.say(worker, "join")
+        self.say(worker, f"bits {self.flags()}")
+        if self.rng.randrange(4):
+            self.say(worker, "unchoke")
+
+    def say_release(self, worker: int) -> None:
+        asked = list(self.model.peers[worker].asked)
+        self.rng.shuffle(asked)
+        some = asked[:self.rng.choice([1, 1, 2, len(asked)])] if asked and self.rng.randrange(10) else [self.some_block()]
+        for block in some:
+            self.say(worker, f"release {block.piece} {block.begin}")
+
+    def say_depth(self, worker: int) -> None:
+        self.say(worker, f"depth {self.rng.choice([0, 1, 1, 2, 2, 3, 4, 8, 64, 65])}")
+
+    def say_level(self, worker: int) -> None:
+        if self.rng.randrange(4):
+            self.say(worker, f"level {self.piece()} {self.rng.choice([0, 1, 2, 3, 4, 4, 4, 5, 6, 7, 7, 8])}")
+        else:
+            top = self.rng.choice([2, 5, MOST_LEVEL, MOST_LEVEL, 8])
+            count = self.model.pieces + self.rng.choice([0] * 20 + [1])
+            self.say(worker, f"levels {''.join(str(self.rng.randrange(top + 1)) for _ in range(count))}")
+
+    def say_want(self, worker: int) -> None:
+        self.say(worker, f"want {self.flags()}")
+
+    def say_order(self, worker: int) -> None:
+        self.say(worker, f"inorder {self.rng.choice(['yes', 'no'])}")
+
+    def say_stray(self, worker: int) -> None:
+        words: list[Callable[[], str]] = [
+            lambda: "join", lambda: "leave", lambda: f"block {self.piece()} {self.rng.choice([0, 1, BLOCK_SIZE])} 00",
+            lambda: f"release {self.piece()} {self.rng.choice([0, 1, BLOCK_SIZE])}", lambda: f"settle {self.piece()}",
+        ]
+        self.say(worker, self.rng.choice(words)())
+
+
+class Wrong(NamedTuple):
+    """A line whose reply isn't that of the model."""
+
+    line: str
+    wanted: str
+    given: str
+
+
+def expected(text: bytes) -> tuple[list[str], int]:
+    """The replies that a script has to have, and its status."""
+    lines = text.decode("latin-1").split("\n")
+    replies: list[str] = []
+    try:
+        model, at = open_model(lines)
+        for line in filter(None, lines[at:]):
+            replies.append(model.play(line))
+    except NotALine:
+        return replies, 2
+    return replies, 0
+
+
+def differences(lines: list[str], given: list[str]) -> list[Wrong]:
+    """The lines whose replies aren't those of the model, which goes on from what was given."""
+    model, at = open_model(lines)
+    found = []
+    for line, reply in zip((line for line in lines[at:] if line), given):
+        try:
+            wanted = model.play(line, reply)
+        except (Refused, ValueError):
+            return [*found, Wrong(line, "a reply that can be", reply)]
+        if wanted != reply:
+            found.append(Wrong(line, wanted, reply))
+    return found
+
+
+class Played(NamedTuple):
+    """What came of one script."""
+
+    index: int
+    picks: int
+    replies: Counter[str]
+    wrong: list[Wrong]
+    fault: str | None
+
+
+def play(program: str, seed: str, index: int) -> Played:
+    """Writes the script of this number, plays it and judges its replies."""
+    script = Script(random.Random(f"{seed} picks {index}"))
+    text = "\n".join(script.lines) + "\n"
+    done = subprocess.run([program, "script"], input=text.encode(), capture_output=True, timeout=300, check=False)
+    given = done.stdout.decode("latin-1").split("\n")[:-1]
+    fault = None if done.returncode == 0 and len(given) == len(script.replies) else f"status {done.returncode}, {len(given)} replies"
+    wrong = [] if given == script.replies else differences(script.lines, given)
+    if wrong or fault:
+        path = os.path.join(tempfile.mkdtemp(prefix="picks-"), "script")
+        with open(path, "w", encoding="ascii") as file:
+            file.write(text)
+        fault = f"{fault or 'wrong replies'}: {path}"
+    picks = sum(" next " in line[:8] for line in script.lines)
+    return Played(index, picks, Counter(reply.split(" ")[0] for reply in given), wrong, fault)
+
+
+def picks(program: str, wanted: int, seed: str) -> bool:
+    """Plays scripts until so many calls of Next were judged. Tells what was wrong, and gives whether nothing was."""
+    begun, done, scripts, wrong, faults = time.time(), 0, 0, 0, 0
+    replies: Counter[str] = Counter()
+    at_once = os.cpu_count() or 1
+    with concurrent.futures.ProcessPoolExecutor(at_once) as pool:
+        while done < wanted:
+            batch = range(scripts, scripts + 64 * at_once)
+            for played in pool.map(play, [program] * len(batch), [seed] * len(batch), batch, chunksize=8):
+                scripts, done, replies = scripts + 1, done + played.picks, replies + played.replies
+                wrong, faults = wrong + len(played.wrong), faults + (played.fault is not None)
+                if played.fault and faults <= 20:
+                    print(f"script {played.index}: {played.fault}")
+                    for line, should, reply in played.wrong[:3]:
+                        print(f"    {line[:60]}: {reply}, and not {should}")
+    seconds = time.time() - begun
+    print(", ".join(f"{word} {count:,}" for word, count in sorted(replies.items())))
+    print(f"{done:,} picks in {scripts:,} scripts in {seconds:.0f} s, {wrong} replies wrong in {faults} scripts")
+    return faults == 0
