@@ -8,7 +8,7 @@ from __future__ import annotations
 
 import hashlib
 from dataclasses import dataclass, field
-from typing import NamedTuple
+from typing import Any, NamedTuple
 
 BLOCK_SIZE = 16384
 USUAL_LEVEL = 4
@@ -196,7 +196,7 @@ class Model:
         elif word == "request":
             peer.asked.append(Block(*map(int, numbers)))
 
-    # ---- the calls
+    # ---- the calls, by the words of their lines
 
     def play(self, line: str, given: str | None = None) -> str:
         """The reply that the line has. Where another one was given to a Next, the model goes on from that one."""
@@ -326,7 +326,7 @@ class Model:
 
     # ---- lines
 
-    def parse(self, line: str) -> tuple[int, str, list]:
+    def parse(self, line: str) -> tuple[int, str, list[Any]]:
         """The worker, the word and the arguments that the line says."""
         worker, *rest = line.split(" ")
         if number(worker, 32) >= len(self.peers) or not rest:
@@ -337,7 +337,7 @@ class Model:
             raise NotALine(line)
         return int(worker), word, [self.argument(form, text) for form, text in zip(forms, texts)]
 
-    def argument(self, form: str, text: str) -> object:
+    def argument(self, form: str, text: str) -> Any:
         """The value that a text of this form says."""
         if form == "flags":
             return self.flags(hexadecimal(text))
@@ -385,9 +385,12 @@ def number(text: str, bits: int) -> int:
 
 def hexadecimal(text: str) -> bytes:
     """The bytes that hexadecimal digits write, at least one byte."""
-    if not text or len(text) % 2 or not set(text) <= set("0123456789abcdefABCDEF"):
+    if not (text.isascii() and text.isalnum()):
         raise NotALine(text)
-    return bytes.fromhex(text)
+    try:
+        return bytes.fromhex(text)
+    except ValueError as error:
+        raise NotALine(text) from error
 
 
 def opened(line: str) -> tuple[Torrent, int]:

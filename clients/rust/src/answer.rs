@@ -38,11 +38,11 @@ pub enum Answer {
     Idle,
     /// The peer shows no wanted piece that isn't had.
     NothingLeft,
-    /// The block is held.
+    /// The block is held: where nothing is kept, write its bytes now.
     Stored,
-    /// The block is held, and its piece is full now: it waits for its check.
+    /// The block is held, and its piece is full now: write its bytes too, and check the piece.
     Completed,
-    /// The block was held already: it came twice.
+    /// The block was held already: it came twice, and these bytes are written nowhere.
     Dropped,
     /// The piece has its hash.
     Had,
