@@ -2,12 +2,14 @@
 """Writes the worked examples of crates/bt_history and the texts of them in crates/bt_picker_tests from script lines.
 
 Each example is a torrent, a number of workers and lines `CALL = REPLY`, as a person writes them from the rules; nothing here runs the
-picker. The definitions in specs/ judge them: `worked_examples` proves each legal, `wrong_replies` proves each wrong reply not allowed.
-The same lines are the text of a test of `audit`. Run it from the top of the repository after an edit, then `rt tidy` in
-bt_history, which drops the imports that no example needs and lays the files out.
+picker. A plain model of the rules (tools/model.py) judges them first, and names the line that is wrong. The definitions in specs/ judge them
+too: `worked_examples` proves each legal, and each wrong reply not allowed. The same lines are the text of a test of `audit`. Run it from
+the top of the repository after an edit, then `rt tidy` in bt_history, which lays the files out.
 """
 
-import os
+import copy
+
+from model import Model, Refused, Rules, Torrent
 
 ABC = "a9993e364706816aba3e25717850c26c9cd0d89d"  # SHA-1 of abc
 A = "86f7e437faa5a7fce15d1ddcb9eaeaea377667b8"  # of a
@@ -400,14 +402,6 @@ def entry(line, torrent):
     return f"entry {call[0]} {action(call[1:], len(TORRENTS[torrent][2]))} {reply(said)}"
 
 
-def evidence(line):
-    """Why an entry is allowed: the block of a request or a cancel, else nothing."""
-    said = line.split("=")[1].split()
-    if said[0] in ("request", "cancel"):
-        return f"allowed_block {said[1]} {said[2]} {said[3]}"
-    return "allowed"
-
-
 def imports(line, width):
     """The import as lines that are not too long: of a list of names, so many on each."""
     if len(line) <= width:
@@ -428,90 +422,86 @@ def laid_out(text, width):
     return "\n".join(imports(line, width) if line.startswith(("use ", "ghost use ")) and line.rstrip(";").endswith("}") else line for line in text.split("\n"))
 
 
-def folded(line):
-    """A line of words, the next lines of it behind a margin."""
-    lines = [""]
-    for word in line.split(" "):
-        if len(lines[-1]) + len(word) > 155:
-            lines.append("   ")
-        lines[-1] += f" {word}" if lines[-1] else word
-    return "\n".join(lines)
-
-
 def digest(hexadecimal):
     """A digest in two rows."""
     rows = [" ∷ ".join(f"0x{hexadecimal[i:i + 2]}" for i in range(start, start + 20, 2)) for start in (0, 20)]
     return f"({rows[0]}\n          ∷ {rows[1]} ∷ [])"
 
 
+REASONS = ["NotJoined", "AlreadyJoined", "LateBits", "WrongCount", "NoSuchPiece", "NoSuchBlock", "WrongLength", "NotWaiting", "Stale",
+           "NotAsked", "WrongDepth", "WrongLevel"]
+
+
+def counted(model, worker, word, text):
+    """The reply to a call with so many flags, all of them off."""
+    peer = model.peers[int(worker)]
+    model.need(word == "wants" or peer.joined, 1)
+    model.need(word != "flags" or not peer.late, 3)
+    model.need(len(text) == model.pieces, 4)
+    return {"flags": model.call_bits, "wants": model.call_want, "shown": model.call_haves}[word](peer, set())
+
+
+def verdict(model, piece, text):
+    """The reply to a verdict of these bytes."""
+    if piece < model.pieces and model.waits(piece):
+        model.need(b"".join(model.held[block] for block in model.blocks[piece]) == bytes.fromhex(text), 9)
+    return model.call_settle(model.peers[0], piece)
+
+
+def allowed(model, call, given):
+    """The replies that the plain model allows to the call. It goes on from the one that was given."""
+    try:
+        match call.split():
+            case [worker, "next", _]:
+                peer = model.peers[int(worker)]
+                model.need(peer.joined, 1)
+                kind, blocks = model.options(peer)
+                replies = {f"{kind} {block}" for block in blocks} or {kind}
+                if given in replies:
+                    model.follow(peer, given)
+                return replies
+            case [worker, ("flags" | "wants" | "shown") as word, text]: return {counted(model, worker, word, text)}
+            case [_, "settle", piece, text]: return {verdict(model, int(piece), text)}
+            case [worker, "levels", digits]: return {model.call_levels(model.peers[int(worker)], [*map(int, digits)])}
+        reply = model.play(call.replace(" X", " " + "61" * 16384))
+    except Refused as refused:
+        reply = f"refused {refused.args[0]}"
+    return {f"refused {REASONS[int(reply.split()[1]) - 1]}" if reply.startswith("refused") else reply}
+
+
+def judge(name):
+    """Stops where the rules don't allow a line of the example, or allow a wrong one."""
+    torrent, workers, lines = EXAMPLES[name]
+    piece_length, total, hashes = TORRENTS[torrent]
+    model = Model(Torrent(piece_length, total, tuple(map(bytes.fromhex, hashes))), workers, Rules(*RULES.get(name, USUAL)))
+    wrongs = [(before, line) for example, before, line in WRONG.values() if example == name]
+    wrongs += [WRONG_IN_AUDITS[name]] if name in WRONG_IN_AUDITS else []
+    for at, line in enumerate([*lines, ""]):
+        for _, wrong in (pair for pair in wrongs if pair[0] == at):
+            call, reply = wrong.split(" = ")
+            if reply in allowed(copy.deepcopy(model), call, reply):
+                raise SystemExit(f"{name}: after {at} entries the wrong `{wrong}` is allowed")
+        if line:
+            call, reply = line.split(" = ")
+            replies = allowed(model, call, reply)
+            if reply not in replies:
+                raise SystemExit(f"{name}: after {at} entries `{line}` isn't allowed, but {', '.join(sorted(replies))}")
+
+
 def main():
     spec = open("tools/examples_head.antt.txt").read()
     for name, (piece_length, total, hashes) in TORRENTS.items():
         digests = "\n        ∷ ".join([*map(digest, hashes), "[]"])
-        spec += (f"abbrev pub torrent_{name} : Layout\ntorrent_{name} =\n    record {{\n      piece_length = {piece_length};\n"
+        spec += (f"abbrev torrent_{name} : Layout\ntorrent_{name} =\n    record {{\n      piece_length = {piece_length};\n"
                  f"      total = {total};\n      hashes = {digests};\n    }}\n\n")
-    proofs = open("tools/example_proofs_head.antt.txt").read()
-    for name, (torrent, workers, lines) in EXAMPLES.items():
-        spec += f"abbrev pub {name} : List Event\n{name} =\n    " + "\n    ∷ ".join(entry(line, torrent) for line in lines) + "\n    ∷ []\n\n"
-        proofs += f"pub {name}_legal : IsLegal {setting(name)} (reverse {name})\nUNFOLDING\n"
-        term = "tt"
-        for line in lines:
-            said = line.split("=")[1].split()
-            is_block = said[0] in ("request", "cancel")
-            term = f"({term}, (lit< tt, " + (f"(block_of {said[1]} {said[2]} {said[3]}, refl, refl, refl)" if is_block else "refl") + "))"
-        proofs += f"{name}_legal =\n" + "\n".join(wrapped(term)) + "\n\n"
-    for name, (example, before, line) in WRONG.items():
-        torrent = EXAMPLES[example][0]
-        spec += f"abbrev pub {name} : Event\n{name} = {entry(line, torrent)}\n\n"
-        proofs += (f"pub {name}_wrong :\n    ¬ IsAllowed {setting(example)} (reverse (take {before} {example})) {name}\nUNFOLDING\n"
-                   f"{name}_wrong h = {wrong(name, torrent, line)}\n\n")
-    unfolding = folded(open("tools/example_unfolding.txt").read().strip())
-    names = ["entry", "rules", "bounded_rules", "block_of", *(f"torrent_{name}" for name in TORRENTS), *EXAMPLES, *WRONG]
+    for name, (torrent, _, lines) in EXAMPLES.items():
+        wrongs = [(label, before, line) for label, (example, before, line) in WRONG.items() if example == name]
+        spec += "".join(f"-- {before}: {label.replace('_', ' ')}\n" for label, before, _ in wrongs)
+        spec += f"abbrev {name} : Example\n{name} = record {{\n  setting = {setting(name)[1:-1]};\n  entries =\n      "
+        spec += "\n      ∷ ".join([*(entry(line, torrent) for line in lines), "[]"]) + ";\n  wrong = "
+        spec += "\n      ∷ ".join([*(f"({before}, {entry(line, torrent)})" for _, before, line in wrongs), "[]"]) + ";\n}\n\n"
+    spec += "abbrev pub examples : List Example\nexamples =\n    " + "\n    ∷ ".join([*EXAMPLES, "[]"]) + "\n"
     open("crates/bt_history/specs/Examples.antt", "w").write(laid_out(spec.rstrip(), 150) + "\n")
-    proofs = proofs.replace("UNFOLDING", unfolding).replace("NAMES", ", ".join(names))
-    open("crates/bt_history/proofs/ExampleProofs.antt", "w").write(laid_out(proofs.rstrip(), 150) + "\n")
-    rust()
-
-
-def wrapped(term):
-    lines, line = [], "   "
-    for word in term.split(" "):
-        if len(line) + len(word) > 120:
-            lines.append(line)
-            line = "   "
-        line += " " + word
-    return lines + [line]
-
-
-def wrong(name, torrent, line):
-    """Why a wrong entry is not allowed."""
-    if name == "request_of_a_wrong_length":
-        return f"not_a_block torrent_{torrent} _ _ refl h.1"
-    if name not in WHERE_BLOCKS_MAY_BE_NAMED:
-        return "absurd (cc (h.1))"
-    return f"not_requested torrent_{torrent} _ _ refl h.1" if "request" in line else "absurd (cc (h.1.1))"
-
-
-def rust():
-    text = open("tools/examples_head.rt.txt").read()
-    text += "/// The worked examples are legal histories.\n#[tactic(auto)]\npub fn worked_examples()\n".replace("#[tactic(auto)]\n", "")
-    for name in EXAMPLES:
-        text += f"    ensures {name} {{ IsLegal {setting(name)} (reverse {name}) }}\n"
-    text += "{\n}\n\n/// One wrong reply to the next call of a worked example isn't allowed, for each way to go wrong.\npub fn wrong_replies()\n"
-    for name, (example, before, _) in WRONG.items():
-        text += (f"    ensures {name} {{ ¬ IsAllowed {setting(example)}\n"
-                 f"        (reverse (take {before} {example})) {name} }}\n")
-    text += "{\n}\n"
-    names = [*(f"torrent_{name}" for name in TORRENTS), *EXAMPLES, *WRONG]
-    text = text.replace("NAMES", ", ".join(names))
-    open("crates/bt_history/src/examples.rt", "w").write(laid_out(text, 140))
-    for function, suffix, group in (("worked_examples", "legal", EXAMPLES), ("wrong_replies", "wrong", WRONG)):
-        folder = f"crates/bt_history/proofs/examples/{function}"
-        os.makedirs(folder, exist_ok=True)
-        answers = f"use Rattle.bt_history.proofs.ExampleProofs.{{{', '.join(f'{name}_{suffix}' for name in group)}}}\n"
-        answers += f"use Rattle.bt_history.proofs.examples.{function}.Goals as goal\n\npub returns : goal.returns\nreturns c = record {{\n"
-        answers += "".join(f"  {name} = {name}_{suffix};\n" for name in group) + "}\n"
-        open(f"{folder}/Answers.antt", "w").write(laid_out(answers, 150))
 
 
 def plain(text):
@@ -552,5 +542,7 @@ def audits():
     open("crates/bt_picker_tests/src/tests/examples.rt", "w").write(text)
 
 
+for example in EXAMPLES:
+    judge(example)
 main()
 audits()

@@ -15,6 +15,7 @@ USUAL_LEVEL = 4
 MOST_LEVEL = 7
 MOST_WORKERS = 1024
 MOST_DEPTH = 64
+MOST_TOLD_DEPTH = 4096
 MOST_PIECE_LENGTH = 2**31
 
 NOT_JOINED, ALREADY_JOINED, LATE_BITS, WRONG_COUNT, NO_SUCH_PIECE, NO_SUCH_BLOCK = range(1, 7)
@@ -146,47 +147,60 @@ class Model:
         """The pieces that aren't complete, and of which a block is held or in flight."""
         return {block.piece for block in flying.union(self.held)} - self.had
 
-    def picked(self, usable: list[Block], begun: set[int], word: int) -> Block:
-        """The block of these that is requested, all of one level."""
+    def chosen(self, usable: list[Block], begun: set[int]) -> list[Block]:
+        """Those of these blocks, all of one level, that the rules let be requested."""
+        if self.in_order:
+            least = min((block.piece for block in usable), default=0)
+            return [block for block in usable if block.piece == least]
+        new = {block.piece for block in usable} - begun
         going_on = [block for block in usable if block.piece in begun]
-        if self.in_order or going_on:
-            return min(usable if self.in_order else going_on)
-        new = {block.piece for block in usable}
-        if len(self.had) >= self.rules.random:
-            fewest = min(self.availability(piece) for piece in new)
-            new = {piece for piece in new if self.availability(piece) == fewest}
-        first = word % self.pieces
-        piece = next(piece for piece in [*range(first, self.pieces), *range(first)] if piece in new)
-        return min(block for block in usable if block.piece == piece)
+        if going_on or not new or len(self.had) < self.rules.random:
+            return going_on or usable
+        fewest = min(self.availability(piece) for piece in new)
+        return [block for block in usable if self.availability(block.piece) == fewest]
 
-    def doubled(self, peer: Peer, flying: set[Block]) -> Block | None:
-        """In endgame the block that is requested of one more peer."""
+    def doubles(self, peer: Peer, flying: set[Block]) -> list[Block]:
+        """In endgame the blocks that may be requested of one more peer."""
         lacking = [block for blocks in self.blocks for block in blocks if self.levels[block.piece] > 0 and block not in self.held]
         if any(block not in flying for block in lacking):
-            return None
-        fitting = [
+            return []
+        return [
             block
             for block in lacking
             if block.piece in peer.shows
             and block not in peer.asked
             and sum(block in other.asked for other in self.peers) < self.rules.askers
         ]
-        return min(fitting, key=lambda block: (-self.levels[block.piece], block), default=None)
+
+    def options(self, peer: Peer) -> tuple[str, list[Block]]:
+        """What is said to the peer next, by the first case that applies, and the blocks of which it may name any."""
+        if peer.due:
+            return "cancel", list(peer.due)
+        if not peer.opened:
+            return "choked", []
+        if len(peer.asked) >= (self.rules.depth if peer.depth is None else peer.depth):
+            return "pipefull", []
+        flying = self.flying()
+        blocks = self.chosen(self.usable(peer, flying), self.begun(flying)) or self.doubles(peer, flying)
+        if blocks:
+            return "request", blocks
+        return ("idle" if self.is_interesting(peer) else "nothing"), []
 
     def next(self, peer: Peer, word: int) -> str:
-        """What is said to the peer next: the first case that applies."""
-        if peer.due:
-            return f"cancel {peer.due[0]}"
-        if not peer.opened:
-            return "choked"
-        if len(peer.asked) >= (self.rules.depth if peer.depth is None else peer.depth):
-            return "pipefull"
-        flying = self.flying()
-        usable = self.usable(peer, flying)
-        block = self.picked(usable, self.begun(flying), word) if usable else self.doubled(peer, flying)
-        if block is not None:
-            return f"request {block}"
-        return "idle" if self.is_interesting(peer) else "nothing"
+        """What is said to the peer next: the oldest cancel, or of the blocks that may be requested the one that the word picks."""
+        kind, blocks = self.options(peer)
+        if kind == "request":
+            blocks = [self.picked(blocks, self.begun(self.flying()), word)]
+        return f"{kind} {blocks[0]}" if blocks else kind
+
+    def picked(self, blocks: list[Block], begun: set[int], word: int) -> Block:
+        """Of begun pieces the least block of the highest level, and of others that of the first piece in a round from the word's on."""
+        first = word % self.pieces
+
+        def turn(piece: int) -> int:
+            return piece if piece in begun else self.pieces + (piece - first) % self.pieces
+
+        return min(blocks, key=lambda block: (-self.levels[block.piece], turn(block.piece), block))
 
     def follow(self, peer: Peer, reply: str) -> None:
         """The reply to a Next was given."""
@@ -296,7 +310,7 @@ class Model:
 
     def call_depth(self, peer: Peer, depth: int) -> str:
         self.need(peer.joined, NOT_JOINED)
-        self.need(1 <= depth <= self.rules.deepest, WRONG_DEPTH)
+        self.need(1 <= depth <= min(self.rules.deepest, MOST_TOLD_DEPTH), WRONG_DEPTH)
         peer.depth = depth
         return "quiet"
 

@@ -1,4 +1,4 @@
-pub mod ExampleProofs
+pub mod Judging
 pub mod Below
 pub mod SameBegin
 pub mod Lines

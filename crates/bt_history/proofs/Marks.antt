@@ -1,5 +1,5 @@
 -- Marks that are equal by `==` are the same.
-use Rattle.std.proofs.Common.{◌≡◌, ◌==◌, true, false, ◌&&◌, refl, ap, eqb-true}
+use Rattle.std.proofs.Common.{rules, ◌≡◌, ◌==◌, true, false, ◌&&◌, refl, ap, eqb-true}
 use Rattle.std.proofs.lemmas.Bool.{and_parts, false≢true}
 use Rattle.bt_meta.specs.declared.block.Block.{Block}
 use Rattle.bt_meta.specs.contracts.block.BlockPartialEq.TheImpl as blocks
@@ -43,7 +43,7 @@ same_block a b is =
     let len = eqb-true a.len b.len rest.1 in
     λ i. record { piece = piece i; begin = begin i; len = len i }
 
-same_reply : (a b : Reply) → replies.ghosts.eq a b ≡ true → a ≡ b
+pub same_reply : (a b : Reply) → replies.ghosts.eq a b ≡ true → a ≡ b
 same_reply Joined Joined is = refl
 same_reply (Noted true) (Noted true) is = refl
 same_reply (Noted false) (Noted false) is = refl
@@ -61,6 +61,13 @@ same_reply Had Had is = refl
 same_reply Failed Failed is = refl
 same_reply (Refused x) (Refused y) is = ap Refused (same_reason x y is)
 same_reply a b is = absurd (false≢true is)
+
+reason_is_itself : (a : Reason) → reasons.ghosts.eq a a ≡ true
+reason_is_itself a = search rules
+
+-- a reply equals itself
+pub reply_is_itself : (a : Reply) → replies.ghosts.eq a a ≡ true
+reply_is_itself a = search rules
 
 same_call : (a b : CallMark) → calls.ghosts.eq a b ≡ true → a ≡ b
 same_call Join Join is = refl

@@ -11,6 +11,6 @@ mod rules;
 
 pub use call::{Call, Entry, Reason, Reply};
 pub use event::{Action, Event};
-pub use examples::{worked_examples, wrong_replies};
+pub use examples::worked_examples;
 pub use mark::{CallMark, Mark};
 pub use rules::{MOST_DEPTH, MOST_LEVEL, MOST_TOLD_DEPTH, MOST_WORKERS, Rules, USUAL_LEVEL};
