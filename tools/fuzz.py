@@ -2,14 +2,15 @@
 """Feeds the built program mutated recordings, metainfo files and random scripts.
 
     tools/fuzz.py [INPUTS [SEED]] [--program FILE]
-    tools/fuzz.py picks [N [SEED]] [--program FILE]
+    tools/fuzz.py picks [N [SEED]] [--program FILE | --library]
 
 10,000 inputs and the seed 1 where they aren't said. Each run has to end by a status of its command's list (docs/ERRORS.md), without a
 signal. A run of recordings has to find its journal sound, and a script has to print just the replies of the plain model (tools/model.py).
 An input that goes wrong is kept in the folder that is printed.
 
 With `picks` random scripts of small torrents are played until N replies to `next` were judged, 100,000 where N isn't said. Each reply
-of a script has to be that of the model. The program is crates/piecepick/out/piecepick, or FILE.
+of a script has to be that of the model. The program is crates/piecepick/out/piecepick, or FILE. With `--library` the calls are made at the
+library instead (clients/build.sh), which is quicker. Then the rules also bound the askers of a block, and let greater depths be told.
 """
 
 import argparse
@@ -224,11 +225,19 @@ def main():
     words = argparse.ArgumentParser(description=__doc__.splitlines()[0])
     words.add_argument("words", nargs="*", metavar="[picks] [N [SEED]]")
     words.add_argument("--program", default=PROGRAM)
+    words.add_argument("--library", action="store_true")
     asked = words.parse_args()
     just_picks = asked.words[:1] == ["picks"]
     numbers = [int(word) for word in asked.words[just_picks:]]
     count, seed = [*numbers, *[100_000 if just_picks else 10_000, 1][len(numbers):]]
-    return 0 if (picks.picks if just_picks else mutate)(os.path.abspath(asked.program), count, seed) else 1
+    program = os.path.abspath(asked.program)
+    if not just_picks:
+        return 0 if mutate(program, count, seed) else 1
+    if asked.library:
+        import library_picks
+
+        return 0 if picks.judge_picks(library_picks.play, count, str(seed)) else 1
+    return 0 if picks.judge_picks(functools.partial(picks.play, program), count, str(seed)) else 1
 
 
 if __name__ == "__main__":

@@ -203,12 +203,13 @@ class Model:
         return min(blocks, key=lambda block: (-self.levels[block.piece], turn(block.piece), block))
 
     def follow(self, peer: Peer, reply: str) -> None:
-        """The reply to a Next was given."""
+        """The reply to a Next was given, one that may be wrong."""
         word, *numbers = reply.split(" ")
-        if word == "cancel":
-            peer.due.remove(Block(*map(int, numbers)))
-        elif word == "request":
-            peer.asked.append(Block(*map(int, numbers)))
+        block = Block(*map(int, numbers)) if word in ("cancel", "request") else None
+        if word == "cancel" and block in peer.due:
+            peer.due.remove(block)
+        elif word == "request" and block is not None:
+            peer.asked.append(block)
 
     # ---- the calls, by the words of their lines
 

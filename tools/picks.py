@@ -12,7 +12,7 @@ import time
 from collections import Counter
 from typing import Callable, NamedTuple
 
-from model import BLOCK_SIZE, MOST_LEVEL, Block, Model, NotALine, Refused, Rules, Torrent, open_model
+from model import BLOCK_SIZE, MOST_DEPTH, MOST_LEVEL, MOST_WORKERS, Block, Model, NotALine, Rules, Torrent, open_model
 
 PIECE_LENGTHS = [1, 1, 1, 2, 3, BLOCK_SIZE, BLOCK_SIZE + 1, BLOCK_SIZE + 1, 2 * BLOCK_SIZE + 1, 3 * BLOCK_SIZE + 1]
 WORD_EDGES = [2**64 - 1, 2**64 - 2, 2**63, 2**32, 2**32 - 1]
@@ -51,12 +51,14 @@ MOODS = [
 class Script:
     """A random script, written beside the model, with the reply that each of its lines has to have."""
 
-    def __init__(self, rng: random.Random) -> None:
+    def __init__(self, rng: random.Random, with_bounds: bool = False) -> None:
         self.rng = rng
         self.mood = rng.choice(MOODS)
         self.torrent = self.made_torrent()
         workers = rng.randrange(1, 6)
-        self.rules = Rules(rng.choice([1, 2, 3, 5, 5, 8, 64]), rng.randrange(len(self.torrent.hashes) + 1))
+        askers = rng.choice([1, 1, 2, 2, 3, 4, MOST_WORKERS]) if with_bounds else MOST_WORKERS
+        deepest = rng.choice([1, 2, 8, 64, 500]) if with_bounds else MOST_DEPTH
+        self.rules = Rules(rng.choice([1, 2, 3, 5, 5, 8, 64]), rng.randrange(len(self.torrent.hashes) + 1), askers, deepest)
         self.model = Model(self.torrent, workers, self.rules)
         digests = " ".join(digest.hex() for digest in self.torrent.hashes)
         self.lines = [f"torrent {self.torrent.piece_length} {self.torrent.total} {workers} {digests}"]
@@ -65,6 +67,10 @@ class Script:
         self.first_steps()
         for _ in range(rng.randrange(15, MOST_STEPS)):
             self.step()
+
+    def picks(self) -> int:
+        """How many calls of Next it makes."""
+        return sum(" next " in line[:8] for line in self.lines)
 
     def made_torrent(self) -> Torrent:
         """A torrent of 1 to 12 pieces, each of one byte over and over."""
@@ -168,7 +174,7 @@ class Script:
             self.say(worker, f"release {block.piece} {block.begin}")
 
     def say_depth(self, worker: int) -> None:
-        self.say(worker, f"depth {self.rng.choice([0, 1, 1, 2, 2, 3, 4, 8, 64, 65])}")
+        self.say(worker, f"depth {self.rng.choice([0, 1, 1, 2, 2, 3, 4, 8, 64, 65, 500])}")
 
     def say_level(self, worker: int) -> None:
         if self.rng.randrange(4):
@@ -218,10 +224,7 @@ def differences(lines: list[str], given: list[str]) -> list[Wrong]:
     model, at = open_model(lines)
     found = []
     for line, reply in zip((line for line in lines[at:] if line), given):
-        try:
-            wanted = model.play(line, reply)
-        except (Refused, ValueError):
-            return [*found, Wrong(line, "a reply that can be", reply)]
+        wanted = model.play(line, reply)
         if wanted != reply:
             found.append(Wrong(line, wanted, reply))
     return found
@@ -250,11 +253,10 @@ def play(program: str, seed: str, index: int) -> Played:
         with open(path, "w", encoding="ascii") as file:
             file.write(text)
         fault = f"{fault or 'wrong replies'}: {path}"
-    picks = sum(" next " in line[:8] for line in script.lines)
-    return Played(index, picks, Counter(reply.split(" ")[0] for reply in given), wrong, fault)
+    return Played(index, script.picks(), Counter(reply.split(" ")[0] for reply in given), wrong, fault)
 
 
-def picks(program: str, wanted: int, seed: str) -> bool:
+def judge_picks(play_one: Callable[[str, int], Played], wanted: int, seed: str) -> bool:
     """Plays scripts until so many calls of Next were judged. Tells what was wrong, and gives whether nothing was."""
     begun, done, scripts, wrong, faults = time.time(), 0, 0, 0, 0
     replies: Counter[str] = Counter()
@@ -262,7 +264,7 @@ def picks(program: str, wanted: int, seed: str) -> bool:
     with concurrent.futures.ProcessPoolExecutor(at_once) as pool:
         while done < wanted:
             batch = range(scripts, scripts + 64 * at_once)
-            for played in pool.map(play, [program] * len(batch), [seed] * len(batch), batch, chunksize=8):
+            for played in pool.map(play_one, [seed] * len(batch), batch, chunksize=8):
                 scripts, done, replies = scripts + 1, done + played.picks, replies + played.replies
                 wrong, faults = wrong + len(played.wrong), faults + (played.fault is not None)
                 if played.fault and faults <= 20:

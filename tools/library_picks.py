@@ -1,0 +1,84 @@
+"""Random scripts at the library (clients/build.sh), each reply of which is judged by the plain model. `tools/fuzz.py picks --library` plays them.
+
+Their rules also bound the askers of a block in endgame, and let greater depths be told: no script of the program says these.
+"""
+
+from __future__ import annotations
+
+import os
+import random
+import sys
+from collections import Counter
+
+sys.path.insert(0, os.path.join(os.path.dirname(os.path.dirname(os.path.abspath(__file__))), "clients/python"))
+
+from model import NO_SUCH_PIECE, NOT_WAITING, Model  # noqa: E402
+from picks import Played, Script, Wrong  # noqa: E402
+from piecepick import Answer, Keeps, Kind, Picker, PiecepickError, Status  # noqa: E402
+
+OTHER_WORDS = {Kind.PIPE_FULL: "pipefull", Kind.NOTHING_LEFT: "nothing"}
+# Causes that the library tells by a status, and the program as a refusal.
+STATUSES = {Status.PIECE: NO_SUCH_PIECE, Status.NOT_WAITING: NOT_WAITING}
+WITH_PIECE = ("have", "block", "settle", "release", "level")
+
+
+def words_of(answer: Answer) -> str:
+    """The answer as the program prints it."""
+    if answer.kind is Kind.NOTED:
+        return "noted yes" if answer.interesting else "noted no"
+    if answer.kind is Kind.REFUSED:
+        return f"refused {int(answer.reason)}"
+    if answer.kind in (Kind.REQUEST, Kind.CANCEL):
+        return " ".join([answer.kind.name.lower(), *map(str, answer.block)])
+    return OTHER_WORDS.get(answer.kind, answer.kind.name.lower())
+
+
+def answer_to(picker: Picker, model: Model, line: str) -> Answer:
+    """Makes the call that the line says."""
+    worker, word, arguments = model.parse(line)
+    if word in ("bits", "haves"):
+        return getattr(picker, word)(worker, bytes.fromhex(line.split(" ")[2]))
+    if word == "want":
+        return picker.want(bytes.fromhex(line.split(" ")[2]))
+    if word == "levels":
+        return picker.set_levels(bytes(arguments[0]))
+    if word == "block":
+        return picker.arrived(worker, *arguments)
+    if word in ("settle", "level", "inorder"):
+        call = {"settle": picker.settle_now, "level": picker.set_level, "inorder": picker.set_in_order}[word]
+        return call(*arguments)
+    return getattr(picker, word)(worker, *arguments)
+
+
+def reply_to(picker: Picker, model: Model, line: str) -> str:
+    """What the library says to the line."""
+    try:
+        return words_of(answer_to(picker, model, line))
+    except PiecepickError as error:
+        return f"refused {STATUSES[error.status]}" if error.status in STATUSES else f"status {error.status.name}"
+
+
+def names_no_piece(model: Model, line: str) -> bool:
+    """Whether the line names a piece that there isn't: the library tells that before other causes."""
+    _, word, arguments = model.parse(line)
+    return word in WITH_PIECE and arguments[0] >= model.pieces
+
+
+def play(seed: str, index: int) -> Played:
+    """Plays the script of this number, and judges each reply. The model goes on from what was given."""
+    script = Script(random.Random(f"{seed} library {index}"), with_bounds=True)
+    rules, workers = script.rules, len(script.model.peers)
+    model = Model(script.torrent, workers, rules)
+    options = {"depth": rules.depth, "deepest": rules.deepest, "random": rules.random, "askers": rules.askers}
+    digests = b"".join(script.torrent.hashes)
+    replies: Counter[str] = Counter()
+    wrong = []
+    with Picker.of_parts(script.torrent.piece_length, script.torrent.total, digests, keeps=Keeps.JOURNAL, workers=workers, **options) as picker:
+        for line in script.lines[2:]:
+            given = reply_to(picker, model, line)
+            wanted = f"refused {NO_SUCH_PIECE}" if names_no_piece(model, line) else model.play(line, given)
+            replies[given.split(" ")[0]] += 1
+            if given != wanted:
+                wrong.append(Wrong(line, wanted, given))
+        picker.audit()
+    return Played(index, script.picks(), replies, wrong, f"seed {seed}" if wrong else None)
