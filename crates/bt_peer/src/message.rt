@@ -4,9 +4,10 @@ ghost use Rattle.std.specs.Prelude.{◌≡◌, ◌⊎◌, None, Some, false, [],
 ghost use Rattle.bt_peer.specs.declared.fault.SessionFault.TheVariants.{NoMemory, BadBits};
 ghost use Rattle.rand_core.specs.Stream.{Stream};
 ghost use Rattle.bt_peer.specs.Conduct.{ConductsBy, given_number};
-ghost use Rattle.bt_peer.specs.Acts.{is_check, mark_of_call};
+ghost use Rattle.bt_history.specs.Entries.{action_of};
+ghost use Rattle.bt_peer.specs.Acts.{is_check};
 ghost use Rattle.bt_peer.specs.SessionTerms.{pieces_of};
-ghost use Rattle.bt_peer.specs.Turns.{call_of, arrived_piece as piece_of_mark, if_completed, IsAcceptable, IsLater};
+ghost use Rattle.bt_peer.specs.Turns.{call_of, arrived_piece as piece_of_call, if_completed, IsAcceptable, IsLater};
 ghost use Rattle.bt_peer.specs.Outlets.{outlet};
 ghost use Rattle.bt_peer.specs.Parts.{MessageStops, OpeningDone, OpeningStops, TurnDone, TurnStops};
 
@@ -21,7 +22,7 @@ use bt_wire::Message;
 use rand_core::Rng;
 use std::alloc::Global;
 
-/// The call that a message makes.
+/// The call that a message makes: of a bitfield with the flags that it spells, and of a block with its bytes.
 fn call_for(
     alloc: Global,
     terms: &SessionTerms,
@@ -29,7 +30,8 @@ fn call_for(
 ) -> Result<Option<Call>, SessionFault>
     requires { IsLater message }
     ensures ok { IfOk result (λ o. IsAcceptable (pieces_of terms.now) message
-        × MatchOption o (call_of message ≡ None) (λ call. call_of message ≡ Some (mark_of_call call))) }
+        × MatchOption o (call_of (pieces_of terms.now) message ≡ None)
+        (λ call. call_of (pieces_of terms.now) message ≡ Some (action_of call))) }
     ensures err { IfErr result (λ fault.
         ((fault ≡ NoMemory) × IsAcceptable (pieces_of terms.now) message)
         ⊎ ((fault ≡ BadBits) × ¬ IsAcceptable (pieces_of terms.now) message)) }
@@ -58,7 +60,7 @@ fn call_for(
 
 /// The piece of a block that arrived.
 fn arrived_piece(call: &Call) -> Option<u32>
-    ensures { result ≡ piece_of_mark (mark_of_call call.now) }
+    ensures { result ≡ piece_of_call (action_of call.now) }
 {
     match call {
         Call::Arrived { piece, .. } => Some(*piece),
@@ -86,7 +88,7 @@ fn open_turn<P: Place, W: Sink>(
 ) -> Result<(), SessionFault>
     requires { IsLater message }
     ensures acceptable { OnOk result (IsAcceptable (pieces_of terms.now) message) }
-    ensures ok { OnOk result (OpeningDone (call_of message)
+    ensures ok { OnOk result (OpeningDone (call_of (pieces_of terms.now) message)
         (outlet P.Place W.Sink place.old said.old) (outlet P.Place W.Sink place.new said.new)) }
     ensures err { IfErr result (λ fault. MessageStops fault (pieces_of terms.now) message
         (outlet P.Place W.Sink place.old said.old) (outlet P.Place W.Sink place.new said.new)) }
