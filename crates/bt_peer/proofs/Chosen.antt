@@ -11,9 +11,9 @@ use Rattle.bt_history.specs.declared.event.Event.{Event as Entry}
 use Rattle.bt_history.specs.declared.rules.TheConstants.{USUAL_LEVEL}
 use Rattle.bt_history.specs.History.{History, counted_call}
 use Rattle.bt_history.specs.Peers.{flag}
-use Rattle.bt_history.specs.Pieces.{chosen, level, level_after, level_if}
+use Rattle.bt_history.specs.Pieces.{level, level_after, level_if}
 use Rattle.bt_picker.specs.Checks.{FinishedBelow, FinishesOne, settling, waits}
-use Rattle.bt_picker.specs.Positions.{DeskState, Gains as Enters}
+use Rattle.bt_picker.specs.Positions.{DeskState}
 use Rattle.bt_peer.specs.Conduct.{Calls}
 use Rattle.bt_peer.specs.Desks.{calls_in}
 use Rattle.bt_peer.specs.Serial.{AreChosen, EachEnded, Finishes, StreamRecord, opening_of}
@@ -73,25 +73,28 @@ older_wish true h e other is none =
     wish_nothing-front (calls_in h other) ((e.action, e.reply) ∷ []) (subst WishNothing (calls_in-own h e other is) none)
 older_wish false h e other is none = subst WishNothing (calls_in-other h e other is) none
 
+level_more : (is : Bool) (h : History) (e : Entry) (worker piece : ℕ) → (e.worker == worker) ≡ is → OthersWishNothing worker (e ∷ h) →
+    level h piece ≡ level_by (calls_in h worker) piece USUAL_LEVEL →
+    level_after (counted_call e) piece (level h piece) ≡ level_by (calls_in (e ∷ h) worker) piece USUAL_LEVEL
+level_more true h e worker piece is none older =
+    ap (level_after (counted_call e) piece) older
+    ∙ sym (level_by-last (calls_in h worker) (e.action, e.reply) piece USUAL_LEVEL)
+    ∙ sym (ap (λ (calls : Calls). level_by calls piece USUAL_LEVEL) (calls_in-own h e worker is))
+level_more false h e worker piece is none older =
+    let apart : e.worker ≢ worker = λ same. absurd (cc (is, eq-eqb e.worker worker same)) in
+    let own : (e.worker == e.worker) ≡ true = eq-eqb e.worker e.worker refl in
+    let silent : is_wish e.action ≡ false =
+    last_wish (calls_in h e.worker) (e.action, e.reply) (subst WishNothing (calls_in-own h e e.worker own) (none e.worker apart)) in
+    same_level e piece (level h piece) silent ∙ older
+    ∙ sym (ap (λ (calls : Calls). level_by calls piece USUAL_LEVEL) (calls_in-other h e worker is))
+
 -- the levels are those that this worker's calls tell
 level_is : (h : History) (worker piece : ℕ) → OthersWishNothing worker h → level h piece ≡ level_by (calls_in h worker) piece USUAL_LEVEL
 unfolding level
 level_is [] worker piece none = refl
-level_is (e ∷ h) worker piece none = by_worker (e.worker == worker) refl where
-  older : level h piece ≡ level_by (calls_in h worker) piece USUAL_LEVEL
-  older = level_is h worker piece (λ other apart. older_wish (e.worker == other) h e other refl (none other apart))
-  by_worker : (is : Bool) → (e.worker == worker) ≡ is → level (e ∷ h) piece ≡ level_by (calls_in (e ∷ h) worker) piece USUAL_LEVEL
-  by_worker true is =
-      ap (level_after (counted_call e) piece) older
-      ∙ sym (level_by-last (calls_in h worker) (e.action, e.reply) piece USUAL_LEVEL)
-      ∙ sym (ap (λ (calls : Calls). level_by calls piece USUAL_LEVEL) (calls_in-own h e worker is))
-  by_worker false is =
-      let apart : e.worker ≢ worker = λ same. absurd (cc (is, eq-eqb e.worker worker same)) in
-      let own : (e.worker == e.worker) ≡ true = eq-eqb e.worker e.worker refl in
-      let silent : is_wish e.action ≡ false =
-      last_wish (calls_in h e.worker) (e.action, e.reply) (subst WishNothing (calls_in-own h e e.worker own) (none e.worker apart)) in
-      same_level e piece (level h piece) silent ∙ older
-      ∙ sym (ap (λ (calls : Calls). level_by calls piece USUAL_LEVEL) (calls_in-other h e worker is))
+level_is (e ∷ h) worker piece none =
+    level_more (e.worker == worker) h e worker piece refl none
+    (level_is h worker piece (λ other apart. older_wish (e.worker == other) h e other refl (none other apart)))
 
 above_none : (is_chosen : Bool) → nat_lt 0 (level_if is_chosen) ≡ is_chosen
 above_none true = refl

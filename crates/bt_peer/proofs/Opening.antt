@@ -2,7 +2,7 @@
 use Rattle.std.proofs.Common.{◌≡◌, ℕ, List, [], ◌∷◌, ◌++◌, Bool, true, false, Option, Some, None, refl, sym, ap, subst, inl, inr}
 use Rattle.std.specs.Prelude.{IsTrue, MatchOption, ◌||◌}
 use Rattle.bt_history.specs.Logs.{answers}
-use Rattle.bt_history.specs.declared.call.CallMark.TheVariants as marks
+use Rattle.bt_history.specs.declared.mark.CallMark.TheVariants as marks
 use Rattle.bt_history.specs.declared.event.Action.{Action}
 use Rattle.bt_history.specs.declared.event.Action.TheVariants as actions
 use Rattle.bt_history.specs.declared.call.Reply.{Reply}

@@ -1,11 +1,9 @@
 -- Sessions tell no wishes: which pieces are chosen, and at which level.
-use Rattle.std.proofs.Common.{◌≡◌, ℕ, List, [], ◌∷◌, ◌++◌, Bool, true, false, Option, Some, Result, Ok, Err, refl, sym, ap, subst, ◌∙◌, inl, inr}
-use Rattle.std.specs.Prelude.{◌||◌}
+use Rattle.std.proofs.Common.{◌≡◌, ℕ, List, [], ◌∷◌, ◌++◌, Bool, true, false, Some, Result, Ok, Err, refl, sym, ap, subst, ◌∙◌, inl, inr}
 use Rattle.std.specs.List.{list_any}
 use Rattle.bt_wire.specs.declared.message.Message.{Message}
 use Rattle.bt_wire.specs.declared.message.Message.TheVariants as messages
 use Rattle.bt_history.specs.declared.call.Reply.{Reply}
-use Rattle.bt_history.specs.declared.call.Reply.TheVariants as replies
 use Rattle.bt_history.specs.declared.event.Action.{Action}
 use Rattle.bt_history.specs.declared.event.Action.TheVariants as actions
 use Rattle.bt_peer.specs.declared.fault.End.{End}
@@ -16,7 +14,7 @@ use Rattle.bt_peer.specs.Conduct.{Calls}
 use Rattle.bt_peer.specs.Places.{PlaceRecord, GainsUpTo}
 use Rattle.bt_peer.specs.Reader.{SourceState}
 use Rattle.bt_peer.specs.Serial.{EndsAs}
-use Rattle.bt_peer.specs.Sessions.{SessionState, FailsWith, IsCutShort, IsWhole, Running}
+use Rattle.bt_peer.specs.Sessions.{SessionState, FailsWith, Running}
 use Rattle.bt_peer.specs.SessionTerms.{TermsState}
 use Rattle.bt_peer.specs.Steps.{Start, Surroundings, BreaksBy, Departs}
 use Rattle.bt_peer.specs.Turns.{call_of, TurnsOf, AreTurns}
