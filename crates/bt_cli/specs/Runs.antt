@@ -101,7 +101,7 @@ pub record IsPlayed {X : Type 0} (record_of : X → StreamRecord) (read : Result
 
 -- A run of these streams came to this desk: an end for each stream, each as its session's, which asked for blocks by the depth of the
 -- options, and left after a fault, unless the run is short; the last worker told the pieces that the options want, if any, and made the last
--- checks, and nothing else; and it ended as `Ended` says.
+-- checks, and nothing else, so that just those pieces are chosen; and it ended as `Ended` says.
 pub record Ran {X : Type 0} (record_of : X → StreamRecord) (torrent : Metainfo) (options : Options) (streams : List X) (desk : DeskState)
     (streams' : List X) (ended : Result Bool Fault) (old new : Option (List ℕ)) (failed : Bool) : Type 0 where
   pub ends : List (Result End SessionFault)

@@ -9,7 +9,7 @@ use Rattle.bt_peer.specs.declared.fault.SessionFault.{SessionFault}
 use Rattle.bt_session.specs.declared.fault.SwarmFault.{SwarmFault}
 use Rattle.bt_session.specs.declared.fault.SwarmFault.TheVariants as swarms
 use Rattle.bt_session.specs.Checking.{CheckersCheck}
-use Rattle.bt_peer.specs.Serial.{StreamRecord}
+use Rattle.bt_peer.specs.Serial.{AreChosen, StreamRecord}
 use Rattle.bt_session.specs.Swarms.{EachSwarmed, MakesLastChecks}
 use Rattle.bt_session.specs.Runs.{LeavesNone}
 use Rattle.bt_peer.specs.SessionTerms.{terms_of}
@@ -39,6 +39,8 @@ pub record IsPlayedInThreads {X : Type 0} (record_of : X → StreamRecord) (read
   pub checks : CheckersCheck (length streams) options.checkers book.logs.items
   pub finishes : MakesLastChecks (length streams + options.checkers) book.logs.items (piece_count torrent.layout)
   pub waiting : LeavesNone short book.desk
+  -- each piece is chosen
+  pub chosen : AreChosen None book.desk
 
 -- A run of these streams in threads came to this book: an end for each stream, each as its session's at its worker's log, which asked for
 -- blocks by the depth of the options; the checkers made checks alone, and the last worker the last ones; and it ended as `Ended` says.
@@ -57,6 +59,8 @@ pub record RanThreads {X : Type 0} (record_of : X → StreamRecord) (torrent : M
   pub checks : CheckersCheck (length streams) options.checkers book.logs.items
   pub finishes : MakesLastChecks (length streams + options.checkers) book.logs.items (piece_count torrent.layout)
   pub waiting : LeavesNone short book.desk
+  -- each piece is chosen
+  pub chosen : AreChosen None book.desk
   pub told : Ended short ends book.desk ended options.journal old new failed
 
 -- why a run in threads came to nothing, as a fault of the command

@@ -1,8 +1,10 @@
 //! The file of `--out`.
 
-ghost use Rattle.std.specs.Prelude.{◌≡◌, None, false, is_some, true};
+ghost use Rattle.std.specs.Prelude.{◌≡◌, ◌||◌, None, false, is_some, true};
 ghost use Rattle.std.specs.Io.{WritesAtMost};
 ghost use Rattle.std.specs.Io.KnownBytes.{WriteAppends};
+ghost use Rattle.bt_meta.specs.Devices.{is_refused};
+ghost use Rattle.bt_cli.specs.Saves.{HandsOn};
 
 use crate::saving::NewFile;
 use crate::target::Kept;
@@ -35,7 +37,8 @@ impl<'f, 'w, R: Files> OutFile<'f, 'w, R> {
 
     /// Keeps the first error.
     fn note(&mut self, error: io::Error)
-        ensures { is_some self.new.error ≡ true }
+        ensures failed { is_some self.new.error ≡ true }
+        ensures made { self.new.made ≡ self.old.made }
     {
         if self.error.is_none() {
             self.error = Some(error);
@@ -69,12 +72,21 @@ impl<R: Files> NewFile for OutFile<'_, '_, R> {
     }
 }
 
-impl<R: Files> Sink for OutFile<'_, '_, R> {
+impl<'f, 'w, R: Files> Sink for OutFile<'f, 'w, R> {
+    // No contract says what a file holds that was just made.
     ghost written = { λ _. None };
 
     ghost failed = { λ file. is_some file.error };
 
-    fn write(&mut self, bytes: &[u8]) -> Result<usize, DeviceFault> {
+    fn write(&mut self, bytes: &[u8]) -> Result<usize, DeviceFault>
+        ensures bound { WritesAtMost result bytes.now }
+        ensures bytes { WriteAppends (⟦<OutFile<'f, 'w, R> as Sink>⟧.written self.old)
+            (⟦<OutFile<'f, 'w, R> as Sink>⟧.written self.new) result bytes.now }
+        ensures failed { ⟦<OutFile<'f, 'w, R> as Sink>⟧.failed self.new
+            ≡ (⟦<OutFile<'f, 'w, R> as Sink>⟧.failed self.old || is_refused result bytes.now) }
+        // The file itself is handed the bytes that are said to be taken, as they are, and no others.
+        ensures handed { HandsOn R.File.contents self.old.made self.new.made result bytes.now }
+    {
         let written = match &mut self.made {
             Some(file) => write_to(file, bytes),
             None => Err(io::Error::from(ErrorKind::NotFound)),

@@ -6,8 +6,8 @@ use Rattle.std.proofs.lemmas.List.{append-nil}
 use Rattle.std.proofs.lemmas.Bool.{and_parts}
 use Rattle.rand_core.specs.Stream.{Stream, next_u64}
 use Rattle.bt_history.specs.declared.call.Reply.{Reply}
-use Rattle.bt_history.specs.declared.mark.CallMark.{CallMark}
-use Rattle.bt_history.specs.declared.mark.CallMark.TheVariants as marks
+use Rattle.bt_history.specs.declared.event.Action.{Action}
+use Rattle.bt_history.specs.declared.event.Action.TheVariants as actions
 use Rattle.bt_history.specs.declared.call.Reply.TheVariants as replies
 use Rattle.bt_wire.specs.declared.message.Message.{Message}
 use Rattle.bt_wire.specs.declared.message.Message.TheVariants as messages
@@ -113,30 +113,30 @@ none_completed replies.Completed = refl
 none_completed _ = refl
 
 -- a call that completed no piece
-one_checked : (call : CallMark) (reply : Reply) → if_completed (arrived_piece call) reply ≡ None → all_checked ((call, reply) ∷ []) ≡ true
+one_checked : (call : Action) (reply : Reply) → if_completed (arrived_piece call) reply ≡ None → all_checked ((call, reply) ∷ []) ≡ true
 one_checked call reply none = ap (λ (piece : Option ℕ). checks_first piece [] && true) none
 
 -- one Next, with the generator's next number
 pub asked_one : (settles : Bool) (a b : Stream) (word : ℕ) (reply : Reply) (old new : PlaceRecord) → (word, b) ≡ next_u64 a →
-    Gains old (Called (marks.Next word) reply ∷ []) new → Conducts settles a old.calls new.calls b
+    Gains old (Called (actions.Next word) reply ∷ []) new → Conducts settles a old.calls new.calls b
 asked_one settles a b word reply old new drawn gains = record {
-  gained = (marks.Next word, reply) ∷ [];
+  gained = (actions.Next word, reply) ∷ [];
   calls = gains.up_to.calls;
   drawn = (ap (λ (next : ℕ × Stream). next.0) drawn, ap (λ (next : ℕ × Stream). next.1) drawn);
-  checked = λ own. one_checked (marks.Next word) reply (none_completed reply);
+  checked = λ own. one_checked (actions.Next word) reply (none_completed reply);
 }
 
-drew_one : (a b : Stream) (word : ℕ) (reply : Reply) (old new : Calls) → (word, b) ≡ next_u64 a → new ≡ old ++ (marks.Next word, reply) ∷ [] →
+drew_one : (a b : Stream) (word : ℕ) (reply : Reply) (old new : Calls) → (word, b) ≡ next_u64 a → new ≡ old ++ (actions.Next word, reply) ∷ [] →
     DrawsNumbers a old new
 drew_one a b word reply old new drawn is = record {
-  gained = (marks.Next word, reply) ∷ [];
+  gained = (actions.Next word, reply) ∷ [];
   calls = is;
   left = b;
   drawn = (ap (λ (next : ℕ × Stream). next.0) drawn, ap (λ (next : ℕ × Stream). next.1) drawn);
 }
 
 -- the calls that a stopped call left: none, or itself
-stopped_calls : (call : CallMark) (fault : SessionFault) (acts : List Act) → StopsCall call fault acts →
+stopped_calls : (call : Action) (fault : SessionFault) (acts : List Act) → StopsCall call fault acts →
     (calls_of acts ≡ []) ⊎ ((reply : Reply) × (calls_of acts ≡ (call, reply) ∷ []))
 stopped_calls call fault acts stops =
     elim (stops_ways call fault acts stops) [
@@ -146,17 +146,17 @@ stopped_calls call fault acts stops =
 
 -- a Next that stopped
 pub asked_cut : (a b : Stream) (word : ℕ) (fault : SessionFault) (old new : Outlet) → (word, b) ≡ next_u64 a →
-    CallStops fault (marks.Next word) old new → DrawsNumbers a old.past.calls new.past.calls
+    CallStops fault (actions.Next word) old new → DrawsNumbers a old.past.calls new.past.calls
 asked_cut a b word fault old new drawn cut =
     let old_calls = old.past.calls in
     let gains = cut.performs.gains.calls in
-    elim (stopped_calls (marks.Next word) fault cut.acts cut.stops) [
+    elim (stopped_calls (actions.Next word) fault cut.acts cut.stops) [
       | inl none ↦ silent_draws a old_calls new.past.calls (calls_of cut.acts) gains (ap numbers_of none)
       | inr one ↦ drew_one a b word one.0 old_calls new.past.calls drawn (gains ∙ ap (λ (calls : Calls). old_calls ++ calls) one.1)
     ]
 
 -- another call that stopped
-pub other_cut : (s : Stream) (call : CallMark) (fault : SessionFault) (old new : Outlet) → given_number call ≡ [] →
+pub other_cut : (s : Stream) (call : Action) (fault : SessionFault) (old new : Outlet) → given_number call ≡ [] →
     CallStops fault call old new → DrawsNumbers s old.past.calls new.past.calls
 other_cut s call fault old new silent cut =
     let draws = silent_draws s old.past.calls new.past.calls (calls_of cut.acts) cut.performs.gains.calls in
@@ -166,18 +166,18 @@ other_cut s call fault old new silent cut =
     ]
 
 -- a call of a message is no Next
-pub own_number : (m : Message) (call : CallMark) → call_of m ≡ Some call → given_number call ≡ []
-own_number (messages.Hello h) call is = cc
-own_number messages.Choke call is = cc
-own_number messages.Unchoke call is = cc
-own_number (messages.Have piece) call is = cc
-own_number (messages.Bits bits) call is = cc
-own_number (messages.Piece piece begin bytes) call is = cc
-own_number _ call is = absurd cc
+pub own_number : (pieces : ℕ) (m : Message) (call : Action) → call_of pieces m ≡ Some call → given_number call ≡ []
+own_number pieces (messages.Hello h) call is = cc
+own_number pieces messages.Choke call is = cc
+own_number pieces messages.Unchoke call is = cc
+own_number pieces (messages.Have piece) call is = cc
+own_number pieces (messages.Bits bits) call is = cc
+own_number pieces (messages.Piece piece begin bytes) call is = cc
+own_number pieces _ call is = absurd cc
 
 departs_silently : (is_in short : Bool) (leave : List Act) → Departs is_in short leave → AreSilent leave
 departs_silently is_in short [] departs = refl
-departs_silently is_in short (Called marks.Leave reply ∷ []) departs = refl
+departs_silently is_in short (Called actions.Leave reply ∷ []) departs = refl
 departs_silently is_in short _ departs = absurd departs
 
 -- the departure draws no number

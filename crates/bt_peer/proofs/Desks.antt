@@ -2,7 +2,7 @@
 use Rattle.std.proofs.Common.{◌≡◌, ◌≢◌, ℕ, Bool, true, false, List, [], ◌∷◌, ◌++◌, length, refl, sym, ap, subst, ◌∙◌, inl, inr, ◌==◌, ◌<◌, eq-eqb}
 use Rattle.std.proofs.Common.{arith}
 use Rattle.std.specs.Prelude.{if◌then◌else◌, ◌||◌, ◌&&◌, nat_lt, slice_index_or, slice_set}
-use Rattle.std.proofs.lemmas.List.{append-nil, map-append, get_or-set_other}
+use Rattle.std.proofs.lemmas.List.{append-nil, get_or-set_other}
 use Rattle.std.proofs.lemmas.Grind.{get_or-set_at}
 use Rattle.std.proofs.lemmas.Bool.Decides.{nat_tests}
 use Rattle.std.specs.Borrow.{GName}
@@ -10,35 +10,36 @@ use Rattle.bt_meta.specs.Layout.{piece_count}
 use Rattle.bt_history.specs.declared.call.Reply.{Reply}
 use Rattle.bt_history.specs.declared.event.Action.{Action}
 use Rattle.bt_history.specs.declared.event.Event.{Event as Entry}
-use Rattle.bt_history.specs.declared.mark.CallMark.{CallMark}
-use Rattle.bt_history.specs.declared.mark.CallMark.TheVariants as marks
-use Rattle.bt_history.specs.declared.mark.Mark.{Mark}
+use Rattle.bt_history.specs.declared.event.Action.{Action}
+use Rattle.bt_history.specs.declared.event.Action.TheVariants as actions
 use Rattle.bt_history.specs.History.{History, passed}
-use Rattle.bt_history.specs.Logs.{answers, call_mark, mark_of, marks_of}
-use Rattle.bt_history.specs.Pieces.{had}
+use Rattle.bt_history.specs.Logs.{answers}
+use Rattle.bt_history.specs.declared.mark.CallMark.TheVariants as marks
+use Rattle.bt_history.specs.Pieces.{content, had}
 use Rattle.bt_history.specs.Finished.{finished, finished_by}
 use Rattle.bt_peer.specs.Acts.{Act, Called, News}
 use Rattle.bt_peer.specs.Places.{Extends, Gains}
 use Rattle.bt_history.proofs.Allowed.{allowed_answers}
 use Rattle.bt_picker.specs.Checks.{waits, settling, SettlesIf, SettlesNow}
 use Rattle.bt_picker.specs.Positions.{DeskState, Gains as Enters}
-use Rattle.bt_peer.specs.Desks.{calls_of_marks, calls_in, desk_record}
+use Rattle.bt_peer.specs.Desks.{calls_in, desk_record}
 use Rattle.bt_history.specs.Setting.{Setting}
 use Rattle.bt_peer.specs.Turns.{ChecksAtMost}
 use Rattle.bt_peer.proofs.Stretches.{Extends-refl, Gains-none}
 
 -- an entry's own worker made one call more
 pub calls_in-own : (h : History) (e : Entry) (worker : ℕ) → (e.worker == worker) ≡ true →
-    calls_in (e ∷ h) worker ≡ calls_in h worker ++ (call_mark e.action, e.reply) ∷ []
+    calls_in (e ∷ h) worker ≡ calls_in h worker ++ (e.action, e.reply) ∷ []
 calls_in-own h e worker own =
-    ap (λ (b : Bool). calls_of_marks (marks_of h worker ++ (if b then mark_of (length h) e ∷ [] else []))) own
-    ∙ map-append (λ (mark : Mark). (mark.call, mark.reply)) (marks_of h worker) (mark_of (length h) e ∷ [])
+    let nothing : List (Action × Reply) = [] in
+    ap (λ (b : Bool). calls_in h worker ++ (if b then (e.action, e.reply) ∷ [] else nothing)) own
 
 -- another worker made none
 pub calls_in-other : (h : History) (e : Entry) (worker : ℕ) → (e.worker == worker) ≡ false → calls_in (e ∷ h) worker ≡ calls_in h worker
 calls_in-other h e worker other =
-    ap (λ (b : Bool). calls_of_marks (marks_of h worker ++ (if b then mark_of (length h) e ∷ [] else []))) other
-    ∙ ap calls_of_marks (append-nil (marks_of h worker))
+    let nothing : List (Action × Reply) = [] in
+    ap (λ (b : Bool). calls_in h worker ++ (if b then (e.action, e.reply) ∷ [] else nothing)) other
+    ∙ append-nil (calls_in h worker)
 
 pub and-more : (a b c : Bool) → (b ≡ true → c ≡ true) → (a && b) ≡ true → (a && c) ≡ true
 and-more true b c more is = more is
@@ -56,11 +57,11 @@ had-more h e piece is = or-true (passed e piece) (had h piece) is
 kept_by : (same : Bool) (h : History) (e : Entry) (worker other : ℕ) → (other == worker) ≡ same → (e.worker == worker) ≡ true →
     (if other == worker then [] else calls_in (e ∷ h) other) ≡ (if other == worker then [] else calls_in h other)
 kept_by true h e worker other is own =
-    let nothing : List (CallMark × Reply) = [] in
+    let nothing : List (Action × Reply) = [] in
     ap (λ (b : Bool). if b then nothing else calls_in (e ∷ h) other) is ∙ sym (ap (λ (b : Bool). if b then nothing else calls_in h other) is)
 kept_by false h e worker other is own =
     let apart : (e.worker == other) ≡ false = grind (arith, nat_tests) in
-    let nothing : List (CallMark × Reply) = [] in
+    let nothing : List (Action × Reply) = [] in
     ap (λ (b : Bool). if b then nothing else calls_in (e ∷ h) other) is ∙ calls_in-other h e other apart
     ∙ sym (ap (λ (b : Bool). if b then nothing else calls_in h other) is)
 
@@ -80,14 +81,14 @@ finished_on h e = (finished_by e, refl)
 -- a call of the worker is entered
 pub called : (lent : List GName) (old new : DeskState) (worker : ℕ) (action : Action) (reply : Reply) (told : List Bool) (short : Bool) →
     Enters old new (record { worker = worker; action = action; reply = reply }) →
-    Gains (desk_record lent old worker told short) (Called (call_mark action) reply ∷ []) (desk_record lent new worker told short)
+    Gains (desk_record lent old worker told short) (Called action reply ∷ []) (desk_record lent new worker told short)
 called lent old new worker action reply told short enters =
     let h = old.history in
     let e : Entry = record { worker = worker; action = action; reply = reply } in
     let is : new ≡ record { setting = old.setting; history = e ∷ h } =
     ap (λ (setting : Setting). desk_of setting new.history) enters.setting ∙ ap (λ (history : History). desk_of old.setting history) enters.entered in
     let own : (e.worker == worker) ≡ true = eq-eqb worker worker refl in
-    let gained : Gains (desk_record lent old worker told short) (Called (call_mark action) reply ∷ [])
+    let gained : Gains (desk_record lent old worker told short) (Called action reply ∷ [])
     (desk_record lent (record old { history = e ∷ h }) worker told short) =
     record {
       up_to = record {
@@ -103,7 +104,7 @@ called lent old new worker action reply told short enters =
       };
       short = refl;
     } in
-    subst (λ (desk : DeskState). Gains (desk_record lent old worker told short) (Called (call_mark action) reply ∷ [])
+    subst (λ (desk : DeskState). Gains (desk_record lent old worker told short) (Called action reply ∷ [])
     (desk_record lent desk worker told short)) (sym is) gained
 
 pub told_by : (same : Bool) (piece other : ℕ) (told : List Bool) → (other == piece) ≡ same → piece < length told →
@@ -123,7 +124,9 @@ settled_if : (waits : Bool) (lent : List GName) (old new : DeskState) (worker pi
 settled_if true lent old new worker piece reply told short enters =
     let e = settling old.setting old.history worker piece reply in
     let fits : answers (marks.Settle piece) reply ≡ true = allowed_answers old.setting old.history e enters.allowed in
-    (Called (marks.Settle piece) reply ∷ [], (inr (reply, (fits, refl)), called lent old new worker e.action reply told short enters))
+    let hashed = content old.setting old.history piece in
+    let act : Act = Called (actions.Settle piece hashed) reply in
+    (act ∷ [], (inr (hashed, (reply, (fits, refl))), called lent old new worker e.action reply told short enters))
 settled_if false lent old new worker piece reply told short unchanged =
     let same = subst (λ (desk : DeskState). Gains (desk_record lent old worker told short) [] (desk_record lent desk worker told short))
     (sym unchanged.0) (Gains-none (desk_record lent old worker told short)) in

@@ -10,13 +10,13 @@ use Rattle.bt_wire.specs.declared.message.Message.TheVariants as messages
 use Rattle.bt_wire.specs.Stream.{InboundState}
 use Rattle.bt_history.specs.declared.call.Reason.{Reason}
 use Rattle.bt_history.specs.declared.call.Reply.TheVariants as replies
-use Rattle.bt_history.specs.declared.mark.CallMark.TheVariants as marks
+use Rattle.bt_history.specs.declared.event.Action.TheVariants as actions
 use Rattle.bt_peer.specs.declared.fault.SessionFault.{SessionFault}
 use Rattle.bt_peer.specs.declared.fault.SessionFault.TheVariants as faults
 use Rattle.bt_peer.specs.Acts.{Act, Called, is_in}
 use Rattle.bt_peer.specs.Places.{PlaceRecord, Gains, GainsUpTo, LacksMemory}
 use Rattle.bt_peer.specs.Writer.{greeting, says}
-use Rattle.bt_peer.specs.Turns.{IsLater, BeginsTurn}
+use Rattle.bt_peer.specs.Turns.{BeginsTurn}
 use Rattle.bt_peer.specs.Outlets.{Outlet, WroteFront, EndsCalls}
 use Rattle.bt_peer.specs.Parts.{GreetingFails, ListeningFails, TurnStops}
 use Rattle.bt_peer.specs.Reader.{Hears, HearsEnd, HearsFault, SourceState}
@@ -74,14 +74,14 @@ handshake_fails fault greeting interested old source past written written' wrote
 pub join_refused : (reason : Reason) (greeting : List ℕ) (interested : Bool) (hello : Hello) (stream : InboundState) (old : Start)
     (source : SourceState) (past past' : PlaceRecord) (written written' : Option (List ℕ)) →
     Appends written written' greeting → Hears old.stream old.left source.left (messages.Hello hello) stream →
-    Gains past (Called marks.Join (replies.Refused reason) ∷ []) past' →
+    Gains past (Called actions.Join (replies.Refused reason) ∷ []) past' →
     GreetingFails (faults.Refused reason) greeting interested old source past written past' written'
 join_refused reason greeting interested hello stream old source past past' written written' wrote hears gains =
-    let act : Act = Called marks.Join (replies.Refused reason) in
+    let act : Act = Called actions.Join (replies.Refused reason) in
     let begins : BeginsTurn old.terms (messages.Hello hello) (act ∷ []) =
-    ([], (refl, unchecked marks.Join (replies.Refused reason))) in
+    ([], (refl, unchecked actions.Join (replies.Refused reason))) in
     let ends : EndsCalls (faults.Refused reason) (act ∷ []) =
-    (marks.Join, record { before = []; accepted = refl; refused = refl; last = refl }) in
+    (actions.Join, record { before = []; accepted = refl; refused = refl; last = refl }) in
     record {
       acts = act ∷ [];
       gains = up_to past past' (act ∷ []) gains;
@@ -116,10 +116,10 @@ ends_within interested old source stream past past' written hears some left =
 pub leave_refused : (reason : Reason) (interested : Bool) (old : Start) (source : SourceState) (stream : InboundState) (past past' : PlaceRecord)
     (written : Option (List ℕ)) →
     HearsEnd old.stream old.left source.left source.ended stream → stream.bytes ≡ [] → old.joined ≡ true →
-    Gains past (Called marks.Leave (replies.Refused reason) ∷ []) past' →
+    Gains past (Called actions.Leave (replies.Refused reason) ∷ []) past' →
     ListeningFails (faults.Refused reason) interested old source past written past' written
 leave_refused reason interested old source stream past past' written hears empty joined gains =
-    let act : Act = Called marks.Leave (replies.Refused reason) in
+    let act : Act = Called actions.Leave (replies.Refused reason) in
     record {
       acts = act ∷ [];
       leave = [];
@@ -157,11 +157,10 @@ stopped_turn _ m stream old source acts hears stops = absurd stops.1
 -- a message's turn broke off
 pub attending_fails : (fault : SessionFault) (m : Message) (stream : InboundState) (old : Start) (source : SourceState) (a d : Outlet)
     (past' : PlaceRecord) →
-    IsLater m → Hears old.stream old.left source.left m stream →
-    TurnStops fault old.terms m a d → Leaves d.past past' →
+    Hears old.stream old.left source.left m stream → TurnStops fault old.terms m a d → Leaves d.past past' →
     ListeningFails fault a.said.interested old source a.past a.said.written past' d.said.written
-attending_fails fault m stream old source a d past' later hears h left =
-    let still = stays_in fault old.terms m h.acts later h.stops in
+attending_fails fault m stream old source a d past' hears h left =
+    let still = stays_in fault old.terms m h.acts h.stops in
     record {
       acts = h.acts;
       leave = left.leave;

@@ -209,7 +209,7 @@ ended_so terms seed worker stream now outcome is stands =
       most = stands.most;
     }
 
-first_of : {X : Type 0} (xs : List X) (i : ℕ) → i < length xs → X
+pub first_of : {X : Type 0} (xs : List X) (i : ℕ) → i < length xs → X
 first_of [] i within = absurd (omega arith)
 first_of (x ∷ xs) i within = x
 
@@ -243,7 +243,7 @@ each_ended record_of terms seed first mid last seats seats' streams streams' end
     (played.keeps i any stream within) (others_stand worker i mid last seat.session seat.told now seat.short (answers_of seat.rng) left apart) in
     let setting : first.setting ≡ last.setting = sym (left.setting ∙ played.rest.setting) in
     let layout' : last.setting.torrent ≡ terms.layout = sym (ap (λ (s : Setting). s.torrent) setting) ∙ layout in
-    let start = begun_in terms seed i last.setting first (get_or seats i any) old layout' setting (fresh.uncalled i within)
+    let start = begun_in terms seed i last.setting first (get_or seats i any) old layout' setting (fresh.uncalled i (λ same. omega (arith, within, same)))
     fresh.none_had (new i any within_seats) in
     let short : Seat → Bool = λ s. s.short in
     subst (λ (lacked : Bool). Ended (get_or ends i end) lacked terms seed i old last now) (sym (get_or-map short seats' i any lack within_seats'))

@@ -1,5 +1,7 @@
 pub mod Asked
 pub mod Asking
+pub mod CallKinds
+pub mod Chosen
 pub mod Conduct
 pub mod Desks
 pub mod EachStream
@@ -16,8 +18,10 @@ pub mod Ran
 pub mod Reading
 pub mod Runs
 pub mod Standing
+pub mod Spelled
 pub mod Staying
 pub mod Stretches
 pub mod Telling
 pub mod TurnParts
+pub mod Wishes
 pub mod Written

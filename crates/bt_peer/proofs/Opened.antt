@@ -30,7 +30,7 @@ use Rattle.bt_peer.proofs.News.{told_none_yet}
 pub fresh_empty : (count : ℕ) (desk : DeskState) → desk.history ≡ [] → IsFresh count desk
 unfolding had
 fresh_empty count desk empty = record {
-  uncalled = λ worker. λ within. ap (λ (h : History). calls_in h worker) empty;
+  uncalled = λ worker. λ apart. ap (λ (h : History). calls_in h worker) empty;
   none_had = λ piece. ap (λ (h : History). had h piece) empty;
 }
 
@@ -55,7 +55,7 @@ first_want setting worker flags =
     let e : Entry = record { worker = worker; action = Want flags; reply = Quiet } in
     record {
       fresh = record {
-        uncalled = λ other. λ within.
+        uncalled = λ other. λ apart.
             let differs : (e.worker == other) ≡ false = grind (arith, nat_tests) in
             calls_in-other [] e other differs;
         none_had = λ piece. refl;

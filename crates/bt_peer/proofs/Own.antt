@@ -6,7 +6,7 @@ use Rattle.std.specs.Borrow.{GName}
 use Rattle.bt_wire.specs.declared.message.Message.{Message}
 use Rattle.bt_wire.specs.declared.message.Message.TheVariants as messages
 use Rattle.bt_history.specs.declared.call.Reply.{Reply}
-use Rattle.bt_history.specs.declared.mark.CallMark.{CallMark}
+use Rattle.bt_history.specs.declared.event.Action.{Action}
 use Rattle.bt_picker.specs.Positions.{DeskState}
 use Rattle.bt_peer.specs.declared.fault.End.{End}
 use Rattle.bt_peer.specs.declared.fault.SessionFault.{SessionFault}
@@ -121,7 +121,7 @@ others_left lent lent' old new worker worker' told told' short short' acts gains
       let same = gains.worker in
       let differs : (other == worker) ≡ false = grind (arith, nat_tests) in
       let differs' : (other == worker') ≡ false = ap (λ (w : ℕ). other == w) same ∙ differs in
-      let nothing : List (CallMark × Reply) = [] in
+      let nothing : List (Action × Reply) = [] in
       sym (ap (λ (b : Bool). if b then nothing else calls_in new.history other) differs')
       ∙ gains.others other
       ∙ ap (λ (b : Bool). if b then nothing else calls_in old.history other) differs;

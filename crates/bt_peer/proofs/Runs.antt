@@ -8,7 +8,7 @@ use Rattle.bt_wire.specs.declared.message.Message.{Message}
 use Rattle.bt_wire.specs.declared.message.Message.TheVariants as messages
 use Rattle.bt_wire.specs.Limit.{frame_limit}
 use Rattle.bt_wire.specs.Stream.{InboundState, Spells, Begins, HasMessage}
-use Rattle.bt_history.specs.declared.mark.CallMark.TheVariants as marks
+use Rattle.bt_history.specs.declared.event.Action.TheVariants as actions
 use Rattle.bt_history.specs.declared.call.Reply.TheVariants as replies
 use Rattle.bt_peer.specs.declared.fault.End.{End}
 use Rattle.bt_peer.specs.declared.fault.SessionFault.{SessionFault}
@@ -47,7 +47,7 @@ TurnsOf-last terms (n ∷ ms) acts m es (first, (others, (own, accepted, turned,
     (first, (others ++ es, (own, accepted, TurnsOf-last terms ms others m es turned turn none, same)))
 
 abbrev last : List Act
-last = Called marks.Leave replies.Quiet ∷ []
+last = Called actions.Leave replies.Quiet ∷ []
 
 TurnsOf-left : (terms : TermsState) (ms : List Message) (acts : List Act) → TurnsOf terms ms acts → AreTurns terms ms (acts ++ last)
 TurnsOf-left terms [] acts turned = ap (λ (xs : List Act). xs ++ last) turned

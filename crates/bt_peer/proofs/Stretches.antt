@@ -4,7 +4,7 @@ use Rattle.std.specs.Prelude.{◌==◌, if◌then◌else◌}
 use Rattle.std.proofs.lemmas.List.{append-nil}
 use Rattle.bt_wire.specs.Messages.{spelling}
 use Rattle.bt_wire.specs.declared.message.Message.TheVariants as messages
-use Rattle.bt_history.specs.declared.mark.CallMark.{CallMark}
+use Rattle.bt_history.specs.declared.event.Action.{Action}
 use Rattle.bt_history.specs.declared.call.Reply.{Reply}
 use Rattle.bt_peer.specs.declared.fault.SessionFault.{SessionFault}
 use Rattle.bt_peer.specs.declared.fault.SessionFault.TheVariants as faults
@@ -17,7 +17,7 @@ use Rattle.std.proofs.KnownBytes.{Appends-nil, Appends-trans}
 
 calls_of-append : (es fs : List Act) → calls_of (es ++ fs) ≡ calls_of es ++ calls_of fs
 calls_of-append [] fs = refl
-calls_of-append (Called call reply ∷ es) fs = ap (λ (xs : List (CallMark × Reply)). (call, reply) ∷ xs) (calls_of-append es fs)
+calls_of-append (Called call reply ∷ es) fs = ap (λ (xs : List (Action × Reply)). (call, reply) ∷ xs) (calls_of-append es fs)
 calls_of-append (News piece ∷ es) fs = calls_of-append es fs
 
 news_of-append : (es fs : List Act) → news_of (es ++ fs) ≡ news_of es ++ news_of fs
@@ -75,8 +75,8 @@ GainsUpTo-join a b c es fs g h =
       lent = h.lent ∙ g.lent;
       worker = h.worker ∙ g.worker;
       setting = h.setting ∙ g.setting;
-      calls = h.calls ∙ ap (λ (xs : List (CallMark × Reply)). xs ++ calls_of fs) g.calls ∙ append_assoc a.calls (calls_of es) (calls_of fs)
-          ∙ ap (λ (xs : List (CallMark × Reply)). a.calls ++ xs) (sym (calls_of-append es fs));
+      calls = h.calls ∙ ap (λ (xs : List (Action × Reply)). xs ++ calls_of fs) g.calls ∙ append_assoc a.calls (calls_of es) (calls_of fs)
+          ∙ ap (λ (xs : List (Action × Reply)). a.calls ++ xs) (sym (calls_of-append es fs));
       others = λ other. h.others other ∙ g.others other;
       had = λ piece. λ before. h.had piece (g.had piece before);
       in_order = Extends-join a.in_order b.in_order c.in_order g.in_order h.in_order;
@@ -169,7 +169,7 @@ Performs-stops fault a b c es fs p q =
           (WritesUpTo-join fault a.said b.said c.said (says a.said.interested es) (says b.said.interested fs) p.writes q.writes);
     }
 
-cut_call : (call : CallMark) (reply : Reply) (fault : SessionFault) → is_refusal reply ≡ false → IsCut fault →
+cut_call : (call : Action) (reply : Reply) (fault : SessionFault) → is_refusal reply ≡ false → IsCut fault →
     StopsCall call fault (Called call reply ∷ [])
 cut_call call reply fault accepted cut =
     elim cut [
@@ -178,7 +178,7 @@ cut_call call reply fault accepted cut =
     ]
 
 -- a call whose answer was cut off
-pub call_cut : (a b : Outlet) (call : CallMark) (reply : Reply) (fault : SessionFault) → Gains a.past (Called call reply ∷ []) b.past →
+pub call_cut : (a b : Outlet) (call : Action) (reply : Reply) (fault : SessionFault) → Gains a.past (Called call reply ∷ []) b.past →
     is_refusal reply ≡ false → IsCut fault → WritesUpTo fault a.said (written_for a.said.interested reply) b.said → CallStops fault call a b
 call_cut a b call reply fault gains accepted cut wrote = record {
   acts = Called call reply ∷ [];
@@ -190,7 +190,7 @@ call_cut a b call reply fault gains accepted cut wrote = record {
 }
 
 -- a call that found no memory
-pub call_lacks : (past past' : PlaceRecord) (said : Saying) (call : CallMark) → LacksMemory past past' →
+pub call_lacks : (past past' : PlaceRecord) (said : Saying) (call : Action) → LacksMemory past past' →
     CallStops faults.NoMemory call (record { past = past; said = said }) (record { past = past'; said = said })
 call_lacks past past' said call lacks = record {
   acts = [];

@@ -6,7 +6,7 @@ use Rattle.std.specs.List.{list_any}
 use Rattle.std.proofs.lemmas.List.{append-nil}
 use Rattle.bt_wire.specs.declared.message.Message.{Message}
 use Rattle.bt_wire.specs.declared.message.Message.TheVariants as messages
-use Rattle.bt_history.specs.declared.mark.CallMark.{CallMark}
+use Rattle.bt_history.specs.declared.event.Action.{Action}
 use Rattle.bt_history.specs.declared.call.Reply.TheVariants as replies
 use Rattle.bt_peer.specs.declared.fault.SessionFault.{SessionFault}
 use Rattle.bt_peer.specs.declared.fault.SessionFault.TheVariants as faults
@@ -36,7 +36,7 @@ later_turn : (terms : TermsState) (m : Message) (es : List Act) → IsLater m �
 later_turn terms (messages.Hello hello) es later attends = absurd later
 later_turn terms _ es later attends = attends
 
-opens_some : (o : Option CallMark) → (rest : List Act) × Opens o rest
+opens_some : (o : Option Action) → (rest : List Act) × Opens o rest
 opens_some None = ([], refl)
 opens_some (Some call) = (Called call replies.Idle ∷ [], (refl, refl))
 
@@ -48,7 +48,7 @@ stops_at_once fault a other =
 pub nothing_came : (pieces : ℕ) (m : Message) (fault : SessionFault) (a : Outlet) →
     ((fault ≡ faults.NoMemory) × IsAcceptable pieces m) ⊎ ((fault ≡ faults.BadBits) × (IsAcceptable pieces m → ⊥)) → MessageStops fault pieces m a a
 nothing_came pieces m fault a cause =
-    let rest = opens_some (call_of m) in
+    let rest = opens_some (call_of pieces m) in
     elim cause [
       | inl memory ↦ subst (λ (f : SessionFault). MessageStops f pieces m a a) (sym memory.0) (record {
         acts = [];
@@ -63,15 +63,15 @@ nothing_came pieces m fault a cause =
     ]
 
 stops_opening : (fault : SessionFault) (pieces : ℕ) (m : Message) (es rest : List Act) → IsAcceptable pieces m →
-    Opens (call_of m) (es ++ rest) → EndsCalls fault es → StopsOpening fault pieces m es
+    Opens (call_of pieces m) (es ++ rest) → EndsCalls fault es → StopsOpening fault pieces m es
 stops_opening faults.BadBits pieces m es rest acceptable opens ends = absurd ends
 stops_opening _ pieces m es rest acceptable opens ends = (acceptable, (rest, (opens, ends)))
 
 -- a call's stop is a stop of the opening
-pub opened_stops : (fault : SessionFault) (pieces : ℕ) (m : Message) (o : Option CallMark) (a b : Outlet) → call_of m ≡ o → IsAcceptable pieces m →
+pub opened_stops : (fault : SessionFault) (pieces : ℕ) (m : Message) (o : Option Action) (a b : Outlet) → call_of pieces m ≡ o → IsAcceptable pieces m →
     OpeningStops fault o a b → MessageStops fault pieces m a b
 opened_stops fault pieces m o a b is acceptable h =
-    let opens = subst (λ (call : Option CallMark). Opens call (h.acts ++ h.rest)) (sym is) h.opens in
+    let opens = subst (λ (call : Option Action). Opens call (h.acts ++ h.rest)) (sym is) h.opens in
     record { acts = h.acts; stops = stops_opening fault pieces m h.acts h.rest acceptable opens h.ends; performs = h.performs }
 
 pub ends_after : (fault : SessionFault) (es fs : List Act) → NoneRefused es → EndsCalls fault fs → EndsCalls fault (es ++ fs)
@@ -91,7 +91,7 @@ ends_after _ es fs none h = absurd h
 
 -- a whole turn
 pub turn_done : (terms : TermsState) (m : Message) (a b c d : Outlet) → IsLater m → IsAcceptable (pieces_of terms) m →
-    OpeningDone (call_of m) a b → NewsDone (pieces_of terms) b c → AskingDone (most_next terms) c d → TurnDone terms m a d
+    OpeningDone (call_of (pieces_of terms) m) a b → NewsDone (pieces_of terms) b c → AskingDone (most_next terms) c d → TurnDone terms m a d
 turn_done terms m a b c d later acceptable opened told asked =
     let front = opened.acts ++ map News told.news in
     let does_front = Performs-join a b c opened.acts (map News told.news) opened.performs told.performs in
@@ -129,7 +129,7 @@ stops_turn faults.BadBits terms m es begins ends = absurd ends
 stops_turn _ terms m es begins ends = (begins, ends)
 
 opening_begins : (terms : TermsState) (m : Message) (es rest : List Act) → IsLater m → IsAcceptable (pieces_of terms) m →
-    Opens (call_of m) (es ++ rest) →
+    Opens (call_of (pieces_of terms) m) (es ++ rest) →
     BeginsTurn terms m es
 opening_begins terms m es rest later acceptable opens =
     let idle = asks_some (most_next terms) in
@@ -162,7 +162,7 @@ turn_stops_open fault terms m a b later h =
 
 -- news were cut off
 pub turn_stops_news : (fault : SessionFault) (terms : TermsState) (m : Message) (a b c : Outlet) → IsLater m → IsAcceptable (pieces_of terms) m →
-    OpeningDone (call_of m) a b → NewsStops fault (pieces_of terms) b c → TurnStops fault terms m a c
+    OpeningDone (call_of (pieces_of terms) m) a b → NewsStops fault (pieces_of terms) b c → TurnStops fault terms m a c
 turn_stops_news fault terms m a b c later acceptable opened told =
     let idle = asks_some (most_next terms) in
     let front = opened.acts ++ map News told.news in
@@ -185,7 +185,7 @@ turn_stops_news fault terms m a b c later acceptable opened told =
 
 -- a Next call stopped
 pub turn_stops_ask : (fault : SessionFault) (terms : TermsState) (m : Message) (a b c d : Outlet) → IsLater m → IsAcceptable (pieces_of terms) m →
-    OpeningDone (call_of m) a b → NewsDone (pieces_of terms) b c → AskingStops fault (most_next terms) c d → TurnStops fault terms m a d
+    OpeningDone (call_of (pieces_of terms) m) a b → NewsDone (pieces_of terms) b c → AskingStops fault (most_next terms) c d → TurnStops fault terms m a d
 turn_stops_ask fault terms m a b c d later acceptable opened told asked =
     let front = opened.acts ++ map News told.news in
     let does_front = Performs-join a b c opened.acts (map News told.news) opened.performs told.performs in

@@ -1,26 +1,19 @@
 -- What happens at a place: calls with their replies, and news of finished pieces.
 use Rattle.std.specs.Prelude.{ℕ, Bool, true, false, List, [], ◌∷◌}
-use Rattle.bt_history.specs.declared.call.Call.{Call}
 use Rattle.bt_history.specs.declared.call.Reply.{Reply}
 use Rattle.bt_history.specs.declared.call.Reply.TheVariants as replies
-use Rattle.bt_history.specs.declared.mark.CallMark.{CallMark}
-use Rattle.bt_history.specs.declared.mark.CallMark.TheVariants as marks
-use Rattle.bt_history.specs.Entries.{action_of}
-use Rattle.bt_history.specs.Logs.{call_mark}
-
--- a call without its bytes and its bitfield
-abbrev pub mark_of_call : Call → CallMark
-mark_of_call call = call_mark (action_of call)
+use Rattle.bt_history.specs.declared.event.Action.{Action}
+use Rattle.bt_history.specs.declared.event.Action.TheVariants as actions
 
 -- what a session does at its place
 pub data Act : Type 0 where
-  -- a call and its reply
-  Called : CallMark → Reply → Act
+  -- a call, with all that it tells, and its reply
+  Called : Action → Reply → Act
   -- a finished piece
   News : ℕ → Act
 
 -- the calls alone, with their replies: what the record of a place gains by these acts
-abbrev pub calls_of : List Act → List (CallMark × Reply)
+abbrev pub calls_of : List Act → List (Action × Reply)
 calls_of [] = []
 calls_of (Called call reply ∷ acts) = (call, reply) ∷ calls_of acts
 calls_of (News piece ∷ acts) = calls_of acts
@@ -37,19 +30,19 @@ is_refusal (replies.Refused reason) = true
 is_refusal _ = false
 
 -- the check of a piece
-abbrev pub is_check : CallMark → Bool
-is_check (marks.Settle piece) = true
+abbrev pub is_check : Action → Bool
+is_check (actions.Settle piece hashed) = true
 is_check _ = false
 
 -- a refused call that isn't a check
 abbrev pub is_refused_call : Act → Bool
-is_refused_call (Called (marks.Settle piece) reply) = false
+is_refused_call (Called (actions.Settle piece hashed) reply) = false
 is_refused_call (Called _ reply) = is_refusal reply
 is_refused_call (News piece) = false
 
 -- whether the peer is in, after these acts: it has joined, and Leave was not called since
 abbrev pub is_in : Bool → List Act → Bool
 is_in joined [] = joined
-is_in joined (Called marks.Join replies.Joined ∷ acts) = is_in true acts
-is_in joined (Called marks.Leave reply ∷ acts) = is_in false acts
+is_in joined (Called actions.Join replies.Joined ∷ acts) = is_in true acts
+is_in joined (Called actions.Leave reply ∷ acts) = is_in false acts
 is_in joined (act ∷ acts) = is_in joined acts

@@ -5,8 +5,8 @@ use Rattle.rand_core.specs.Stream.{Stream, next_u64}
 use Rattle.rand_pcg.specs.Lcg.{Lcg, started, increment_of}
 use Rattle.rand_pcg.specs.Pcg.{multiplier_64, pcg32}
 use Rattle.bt_history.specs.declared.call.Reply.{Reply}
-use Rattle.bt_history.specs.declared.mark.CallMark.{CallMark}
-use Rattle.bt_history.specs.declared.mark.CallMark.TheVariants as marks
+use Rattle.bt_history.specs.declared.event.Action.{Action}
+use Rattle.bt_history.specs.declared.event.Action.TheVariants as actions
 use Rattle.bt_peer.specs.declared.fault.SessionFault.{SessionFault}
 use Rattle.bt_peer.specs.Turns.{arrived_piece, if_completed}
 
@@ -20,7 +20,7 @@ generator_of seed number = answers_of (started 64 multiplier_64 seed (increment_
 
 -- calls with their replies, the oldest first
 abbrev pub Calls : Type 0
-Calls = List (CallMark × Reply)
+Calls = List (Action × Reply)
 
 -- these are the next numbers of a generator, and the last is what it answers after them
 abbrev pub Draws : Stream → List ℕ → Stream → Type 0
@@ -28,8 +28,8 @@ Draws generator [] left = left ≡ generator
 Draws generator (number ∷ numbers) left = (number ≡ (next_u64 generator).0) × Draws (next_u64 generator).1 numbers left
 
 -- the number that the call was given, if it is Next
-abbrev pub given_number : CallMark → List ℕ
-given_number (marks.Next word) = word ∷ []
+abbrev pub given_number : Action → List ℕ
+given_number (actions.Next word) = word ∷ []
 given_number call = []
 
 -- the numbers of the Next calls, in order
@@ -38,12 +38,12 @@ numbers_of [] = []
 numbers_of (made ∷ calls) = given_number made.0 ++ numbers_of calls
 
 -- the piece that this call completed, if it did
-abbrev pub completed_by : CallMark × Reply → Option ℕ
+abbrev pub completed_by : Action × Reply → Option ℕ
 completed_by made = if_completed (arrived_piece made.0) made.1
 
 -- the call tells the check of that piece
-abbrev pub checks_piece : ℕ → CallMark → Bool
-checks_piece piece (marks.Settle checked) = checked == piece
+abbrev pub checks_piece : ℕ → Action → Bool
+checks_piece piece (actions.Settle checked hashed) = checked == piece
 checks_piece piece call = false
 
 -- the first of the calls checks that piece, if there is one to check
@@ -59,8 +59,10 @@ all_checked (made ∷ calls) = checks_first (completed_by made) calls && all_che
 
 -- the check of this piece came behind the older calls, and nothing else
 pub record SettlesAtOnce (piece : ℕ) (old new : Calls) : Type 0 where
+  -- the bytes that were hashed
+  pub hashed : List ℕ
   pub reply : Reply
-  pub made : new ≡ old ++ (marks.Settle piece, reply) ∷ []
+  pub made : new ≡ old ++ (actions.Settle piece hashed, reply) ∷ []
 
 -- The calls of a stretch: the numbers of Next are the generator's next ones, in order, and, at a place that checks its pieces itself,
 -- each completed piece is checked at once.

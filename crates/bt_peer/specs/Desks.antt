@@ -1,10 +1,8 @@
 -- A place at a desk of its own: what its history says of its worker.
-use Rattle.std.specs.Prelude.{ℕ, ◌==◌, if◌then◌else◌, Bool, false, List, [], map, slice_index_or, nat_lt, ◌&&◌}
+use Rattle.std.specs.Prelude.{ℕ, ◌==◌, if◌then◌else◌, Bool, false, List, [], ◌∷◌, ◌++◌, slice_index_or, nat_lt, ◌&&◌}
 use Rattle.bt_history.specs.declared.call.Reply.{Reply}
-use Rattle.bt_history.specs.declared.mark.CallMark.{CallMark}
-use Rattle.bt_history.specs.declared.mark.Mark.{Mark}
+use Rattle.bt_history.specs.declared.event.Action.{Action}
 use Rattle.bt_history.specs.History.{History}
-use Rattle.bt_history.specs.Logs.{marks_of}
 use Rattle.bt_history.specs.Pieces.{had}
 use Rattle.bt_history.specs.Finished.{finished}
 use Rattle.std.specs.Borrow.{GName}
@@ -12,13 +10,10 @@ use Rattle.bt_picker.specs.Positions.{DeskState}
 use Rattle.bt_meta.specs.Layout.{piece_count}
 use Rattle.bt_peer.specs.Places.{PlaceRecord}
 
--- the calls of these marks, with their replies
-abbrev pub calls_of_marks : List Mark → List (CallMark × Reply)
-calls_of_marks marks = map (λ mark. (mark.call, mark.reply)) marks
-
--- a worker's calls in a history, the oldest first
-abbrev pub calls_in : History → ℕ → List (CallMark × Reply)
-calls_in h worker = calls_of_marks (marks_of h worker)
+-- a worker's calls in a history, with all that they told and their replies, the oldest first
+abbrev pub calls_in : History → ℕ → List (Action × Reply)
+calls_in [] worker = []
+calls_in (e ∷ h) worker = calls_in h worker ++ (if e.worker == worker then (e.action, e.reply) ∷ [] else [])
 
 -- what a place at this desk says of itself, with these pieces told as news
 abbrev pub desk_record : List GName → DeskState → ℕ → List Bool → Bool → PlaceRecord

@@ -7,7 +7,7 @@ use Rattle.bt_peer.specs.declared.fault.SessionFault.{SessionFault}
 use Rattle.bt_peer.specs.declared.fault.SessionFault.TheVariants as faults
 use Rattle.bt_peer.specs.declared.place.Place as places
 use Rattle.bt_peer.specs.declared.writer.Said.{Said}
-use Rattle.bt_history.specs.declared.mark.CallMark.{CallMark}
+use Rattle.bt_history.specs.declared.event.Action.{Action}
 use Rattle.bt_history.specs.declared.call.Reply.{Reply}
 use Rattle.bt_history.specs.declared.call.Reply.TheVariants as replies
 use Rattle.bt_peer.specs.Acts.{Act, Called, is_refusal, is_refused_call}
@@ -78,7 +78,7 @@ pub record PerformsUpTo (fault : SessionFault) (old : Outlet) (acts : List Act) 
   pub writes : WritesUpTo fault old.said (says old.said.interested acts) new.said
 
 -- these acts end in that call refused, and no other was
-pub record EndsRefused (call : CallMark) (reply : Reply) (acts : List Act) : Type 0 where
+pub record EndsRefused (call : Action) (reply : Reply) (acts : List Act) : Type 0 where
   pub before : List Act
   pub accepted : NoneRefused before
   pub refused : is_refused_call (Called call reply) ≡ true
@@ -86,13 +86,13 @@ pub record EndsRefused (call : CallMark) (reply : Reply) (acts : List Act) : Typ
 
 -- the last acts before a fault that calls end by: the refused call, or no refusal where a write failed or memory ran out
 abbrev pub EndsCalls : SessionFault → List Act → Type 0
-EndsCalls (faults.Refused reason) acts = (call : CallMark) × EndsRefused call (replies.Refused reason) acts
+EndsCalls (faults.Refused reason) acts = (call : Action) × EndsRefused call (replies.Refused reason) acts
 EndsCalls faults.WriteFault acts = NoneRefused acts
 EndsCalls faults.NoMemory acts = NoneRefused acts
 EndsCalls _ acts = ⊥
 
 -- a call that was made up to a fault: it was refused, or what its reply says was cut off, or there was no memory for it
-abbrev pub StopsCall : CallMark → SessionFault → List Act → Type 0
+abbrev pub StopsCall : Action → SessionFault → List Act → Type 0
 StopsCall call (faults.Refused reason) acts = acts ≡ Called call (replies.Refused reason) ∷ []
 StopsCall call fault acts =
     IsCut fault × ((acts ≡ []) ⊎ ((reply : Reply) × ((is_refusal reply ≡ false) × (acts ≡ Called call reply ∷ []))))

@@ -1,7 +1,7 @@
 -- The parts of a turn, each with the acts that it came to, where it was done or where a fault stopped it. Only contracts within the crate
 -- cite this module.
 use Rattle.std.specs.Prelude.{◌≡◌, ◌⊎◌, ℕ, ◌≤◌, Bool, true, false, List, ◌++◌, length, map, Option, Result, IfErr, OnOk}
-use Rattle.bt_history.specs.declared.mark.CallMark.{CallMark}
+use Rattle.bt_history.specs.declared.event.Action.{Action}
 use Rattle.bt_meta.specs.declared.devices.Sink as sinks
 use Rattle.bt_meta.specs.declared.devices.Source as sources
 use Rattle.bt_peer.specs.declared.fault.SessionFault.{SessionFault}
@@ -21,20 +21,20 @@ use Rattle.bt_peer.specs.Turns.{Opens, Asks, IsTurn, NoneRefused}
 use Rattle.bt_peer.specs.Writer.{says}
 
 -- a call
-pub record CallStops (fault : SessionFault) (call : CallMark) (old new : Outlet) : Type 0 where
+pub record CallStops (fault : SessionFault) (call : Action) (old new : Outlet) : Type 0 where
   pub acts : List Act
   pub stops : StopsCall call fault acts
   pub performs : PerformsUpTo fault old acts new
 
 -- the call of a message, and a check
-pub record OpeningDone (call : Option CallMark) (old new : Outlet) : Type 0 where
+pub record OpeningDone (call : Option Action) (old new : Outlet) : Type 0 where
   pub acts : List Act
   pub opens : Opens call acts
   pub accepted : NoneRefused acts
   pub performs : Performs old acts new
 
 -- a fault stopped the call of a message, or the check
-pub record OpeningStops (fault : SessionFault) (call : Option CallMark) (old new : Outlet) : Type 0 where
+pub record OpeningStops (fault : SessionFault) (call : Option Action) (old new : Outlet) : Type 0 where
   pub acts : List Act
   pub rest : List Act
   pub opens : Opens call (acts ++ rest)

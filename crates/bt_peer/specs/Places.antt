@@ -2,7 +2,7 @@
 use Rattle.std.specs.Prelude.{◌≡◌, ℕ, ◌==◌, if◌then◌else◌, Bool, true, false, List, [], ◌∷◌, ◌++◌}
 use Rattle.std.specs.Borrow.{GName}
 use Rattle.bt_history.specs.declared.call.Reply.{Reply}
-use Rattle.bt_history.specs.declared.mark.CallMark.{CallMark}
+use Rattle.bt_history.specs.declared.event.Action.{Action}
 use Rattle.bt_history.specs.Setting.{Setting}
 use Rattle.bt_peer.specs.Acts.{Act, calls_of, news_of}
 
@@ -29,9 +29,9 @@ pub record PlaceRecord : Type 0 where
   -- what its desk is judged by
   pub setting : Setting
   -- its worker's calls with their replies
-  pub calls : List (CallMark × Reply)
+  pub calls : List (Action × Reply)
   -- those of the other workers, where nobody else can make any
-  pub others : ℕ → List (CallMark × Reply)
+  pub others : ℕ → List (Action × Reply)
   -- the pieces that are known to be finished
   pub had : ℕ → Bool
   -- the same in the order in which they came to be finished, where the place keeps it

@@ -6,8 +6,9 @@ use Rattle.bt_meta.specs.declared.devices.Sink as sinks
 use Rattle.bt_meta.specs.declared.devices.Source as sources
 use Rattle.bt_meta.specs.Layout.{piece_count}
 use Rattle.bt_history.specs.declared.call.Reply.TheVariants as replies
-use Rattle.bt_history.specs.declared.mark.CallMark.TheVariants as marks
-use Rattle.bt_history.specs.Pieces.{had}
+use Rattle.bt_history.specs.declared.event.Action.TheVariants as actions
+use Rattle.bt_history.specs.Peers.{flag}
+use Rattle.bt_history.specs.Pieces.{chosen, had}
 use Rattle.bt_history.specs.Setting.{Setting}
 use Rattle.bt_picker.specs.Checks.{FinishedBelow, waits}
 use Rattle.bt_picker.specs.Positions.{DeskState}
@@ -133,7 +134,12 @@ EachEnded {X} record_of terms seed streams desk streams' ends lacks =
 -- the calls that the last worker makes before the first round: which pieces are wanted, if that is told
 abbrev pub opening_of : Option (List Bool) → Calls
 opening_of None = []
-opening_of (Some flags) = (marks.Want, replies.Quiet) ∷ []
+opening_of (Some flags) = (actions.Want flags, replies.Quiet) ∷ []
+
+-- just the pieces that were told are chosen, and where none were told each piece is
+abbrev pub AreChosen : Option (List Bool) → DeskState → Type 0
+AreChosen None desk = (piece : ℕ) → chosen desk.history piece ≡ true
+AreChosen (Some flags) desk = (piece : ℕ) → chosen desk.history piece ≡ flag flags piece
 
 -- A worker made these calls before all sessions had ended, then the last checks, and no other call: each piece that waited for a check was
 -- settled, the least first, or, where memory ran out, those below one that still waits.
@@ -156,4 +162,6 @@ pub record RanInTurns {X : Type 0} (record_of : X → StreamRecord) (terms : Ter
   pub count : length lacks ≡ length streams
   pub sessions : EachEnded record_of terms seed streams desk streams' ends lacks
   pub finishes : Finishes (length streams) (opening_of want) unfinished desk
+  -- the chosen pieces are still those that were told
+  pub chosen : AreChosen want desk
   pub short_is : short ≡ (unfinished || list_any (λ lacked. lacked) lacks)

@@ -119,9 +119,9 @@ pub record TookTurns {X : Type 0} (record_of : X → StreamRecord) (desk : DeskS
 abbrev pub HasEnded : Seat → Type 0
 HasEnded seat = seat.session.outcome ≢ None
 
--- so many workers called nothing at the desk, and no piece is had
-pub record IsFresh (count : ℕ) (desk : DeskState) : Type 0 where
-  pub uncalled : (worker : ℕ) → worker < count → calls_in desk.history worker ≡ []
+-- no worker but this one called anything at the desk, and no piece is had
+pub record IsFresh (last : ℕ) (desk : DeskState) : Type 0 where
+  pub uncalled : (worker : ℕ) → worker ≢ last → calls_in desk.history worker ≡ []
   pub none_had : (piece : ℕ) → had desk.history piece ≡ false
 
 -- a worker told these wanted pieces, and nothing else was called

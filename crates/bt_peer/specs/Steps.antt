@@ -5,7 +5,7 @@ use Rattle.bt_wire.specs.declared.hello.Hello.{Hello}
 use Rattle.bt_wire.specs.declared.message.Message.{Message}
 use Rattle.bt_wire.specs.declared.message.Message.TheVariants as messages
 use Rattle.bt_wire.specs.Stream.{InboundState}
-use Rattle.bt_history.specs.declared.mark.CallMark.TheVariants as marks
+use Rattle.bt_history.specs.declared.event.Action.TheVariants as actions
 use Rattle.bt_history.specs.declared.call.Reason.{Reason}
 use Rattle.bt_history.specs.declared.call.Reply.TheVariants as replies
 use Rattle.bt_peer.specs.declared.fault.SessionFault.{SessionFault}
@@ -73,8 +73,8 @@ pub record TellsAllNews (pieces : ℕ) (messages : List Message) (old : PlaceRec
   pub turns : List Act
   pub mid : PlaceRecord
   pub tells : EachAsksForNews pieces messages old turns mid
-  pub leaves : Gains mid (Called marks.Leave replies.Quiet ∷ []) new
-  pub parts : acts ≡ turns ++ Called marks.Leave replies.Quiet ∷ []
+  pub leaves : Gains mid (Called actions.Leave replies.Quiet ∷ []) new
+  pub parts : acts ≡ turns ++ Called actions.Leave replies.Quiet ∷ []
 
 -- A turn that goes on: one message was taken off the bytes held and read; the place gained what a turn makes of it; and what its acts
 -- say was written, after the greeting.
@@ -95,7 +95,7 @@ pub record TakesTurn (terms : TermsState) (greeting : List ℕ) (old : Reading) 
 pub record TakesLeave (old : Reading) (out : Surroundings) (has_ended : Bool) (new : Reading) (out' : Surroundings) : Type 0 where
   pub hears : HearsEnd old.stream out.left out'.left has_ended new.stream
   pub empty : new.stream.bytes ≡ []
-  pub gains : Gains out.past (Called marks.Leave replies.Quiet ∷ []) out'.past
+  pub gains : Gains out.past (Called actions.Leave replies.Quiet ∷ []) out'.past
   pub wrote : Appends out.written out'.written []
 
 -- what a turn begins with
@@ -143,7 +143,7 @@ pub record BreaksLeave (old : Start) (source : SourceState) (reason : Reason) (a
   pub hears : HearsEnd old.stream old.left source.left source.ended stream
   pub empty : stream.bytes ≡ []
   pub joined : old.joined ≡ true
-  pub refused : acts ≡ Called marks.Leave (replies.Refused reason) ∷ []
+  pub refused : acts ≡ Called actions.Leave (replies.Refused reason) ∷ []
 
 -- why a turn broke off, and after which acts
 abbrev pub BreaksBy : SessionFault → Start → SourceState → List Act → Type 0
@@ -163,7 +163,7 @@ BreaksBy faults.NoMemory old source acts = BreaksTurn old source faults.NoMemory
 -- What follows a fault: Leave where the peer is in, unless a call found no memory; none where the peer isn't in.
 abbrev pub Departs : Bool → Bool → List Act → Type 0
 Departs is_in short [] = is_in ≡ true → short ≡ true
-Departs is_in short (Called marks.Leave reply ∷ []) = is_in ≡ true
+Departs is_in short (Called actions.Leave reply ∷ []) = is_in ≡ true
 Departs is_in short _ = ⊥
 
 -- Leave was called, or there was no memory for it
@@ -175,7 +175,8 @@ pub record Leaves (old new : PlaceRecord) : Type 0 where
 -- the opening of a message's turn stopped after these acts: its bitfield was none, or they began the opening
 abbrev pub StopsOpening : SessionFault → ℕ → Message → List Act → Type 0
 StopsOpening faults.BadBits pieces m acts = (IsAcceptable pieces m → ⊥) × (acts ≡ [])
-StopsOpening fault pieces m acts = IsAcceptable pieces m × ((rest : List Act) × (Opens (call_of m) (acts ++ rest) × EndsCalls fault acts))
+StopsOpening fault pieces m acts =
+    IsAcceptable pieces m × ((rest : List Act) × (Opens (call_of pieces m) (acts ++ rest) × EndsCalls fault acts))
 
 -- a message's turn stopped after these acts: its bitfield was none, or they began the turn
 abbrev pub StopsTurn : SessionFault → TermsState → Message → List Act → Type 0

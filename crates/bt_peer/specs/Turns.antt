@@ -2,26 +2,27 @@
 use Rattle.std.specs.Prelude.{◌≡◌, ℕ, zero, suc, ◌≤◌, ◌⊎◌, Bool, true, false, IsTrue, MatchBool, MatchOption}
 use Rattle.std.specs.Prelude.{List, [], ◌∷◌, ◌++◌, length, map, Option, Some, None}
 use Rattle.std.specs.List.{list_any}
-use Rattle.bt_meta.specs.WireBits.{wire_len, HasSpareBit}
+use Rattle.bt_meta.specs.WireBits.{flags_of, wire_len, HasSpareBit}
 use Rattle.bt_wire.specs.declared.message.Message.{Message}
 use Rattle.bt_wire.specs.declared.message.Message.TheVariants as messages
-use Rattle.bt_history.specs.declared.mark.CallMark.{CallMark}
-use Rattle.bt_history.specs.declared.mark.CallMark.TheVariants as marks
+use Rattle.bt_history.specs.declared.event.Action.{Action}
+use Rattle.bt_history.specs.declared.event.Action.TheVariants as actions
 use Rattle.bt_history.specs.declared.call.Reply.{Reply}
 use Rattle.bt_history.specs.declared.call.Reply.TheVariants as replies
 use Rattle.bt_history.specs.Logs.{answers}
+use Rattle.bt_history.specs.declared.mark.CallMark.TheVariants as marks
 use Rattle.bt_peer.specs.SessionTerms.{TermsState, pieces_of, most_next}
 use Rattle.bt_peer.specs.Acts.{Act, Called, News, is_refused_call}
 
--- the call that a message makes
-abbrev pub call_of : Message → Option CallMark
-call_of (messages.Hello hello) = Some marks.Join
-call_of messages.Choke = Some marks.Choke
-call_of messages.Unchoke = Some marks.Unchoke
-call_of (messages.Have piece) = Some (marks.Have piece)
-call_of (messages.Bits bits) = Some marks.Bits
-call_of (messages.Piece piece begin bytes) = Some (marks.Arrived piece begin (length bytes))
-call_of _ = None
+-- the call that a message makes, of a peer of so many pieces: it tells the flags that the message spells, and the bytes that it brings
+abbrev pub call_of : ℕ → Message → Option Action
+call_of pieces (messages.Hello hello) = Some actions.Join
+call_of pieces messages.Choke = Some actions.Choke
+call_of pieces messages.Unchoke = Some actions.Unchoke
+call_of pieces (messages.Have piece) = Some (actions.Have piece)
+call_of pieces (messages.Bits bits) = Some (actions.Bits (flags_of pieces bits))
+call_of pieces (messages.Piece piece begin bytes) = Some (actions.Arrived piece begin bytes)
+call_of pieces _ = None
 
 -- a message after the handshake
 abbrev pub IsLater : Message → Type 0
@@ -41,11 +42,12 @@ IsAcceptable pieces _ = Unit {0}
 -- at most a check of that piece
 abbrev pub ChecksAtMost : ℕ → List Act → Type 0
 ChecksAtMost piece acts =
-    (acts ≡ []) ⊎ ((reply : Reply) × (IsTrue (answers (marks.Settle piece) reply) × (acts ≡ Called (marks.Settle piece) reply ∷ [])))
+    (acts ≡ []) ⊎ ((hashed : List ℕ) × ((reply : Reply) ×
+    (IsTrue (answers (marks.Settle piece) reply) × (acts ≡ Called (actions.Settle piece hashed) reply ∷ []))))
 
 -- the piece of a block that arrived
-abbrev pub arrived_piece : CallMark → Option ℕ
-arrived_piece (marks.Arrived piece begin len) = Some piece
+abbrev pub arrived_piece : Action → Option ℕ
+arrived_piece (actions.Arrived piece begin bytes) = Some piece
 arrived_piece _ = None
 
 -- that piece, where the reply completes it
@@ -54,15 +56,15 @@ if_completed piece replies.Completed = piece
 if_completed piece _ = None
 
 -- what follows the reply to a message's call: after a piece was completed, at most its check
-abbrev pub Checks : CallMark → Reply → List Act → Type 0
+abbrev pub Checks : Action → Reply → List Act → Type 0
 Checks call reply acts =
     MatchOption (if_completed (arrived_piece call) reply) (acts ≡ []) (λ piece. ChecksAtMost piece acts)
 
 -- the message's call with its reply, if it makes one, and a check that follows
-abbrev pub Opens : Option CallMark → List Act → Type 0
+abbrev pub Opens : Option Action → List Act → Type 0
 Opens None acts = acts ≡ []
 Opens (Some call) [] = ⊥
-Opens (Some call) (Called mark reply ∷ acts) = (mark ≡ call) × Checks call reply acts
+Opens (Some call) (Called made reply ∷ acts) = (made ≡ call) × Checks call reply acts
 Opens (Some call) (News piece ∷ acts) = ⊥
 
 -- there is more to ask for
@@ -74,7 +76,7 @@ has_more _ = false
 -- Next calls of which only the last is replied that there is no more, or as many as there may be
 abbrev pub Asks : ℕ → List Act → Type 0
 Asks zero acts = acts ≡ []
-Asks (suc most) (Called (marks.Next word) reply ∷ acts) = MatchBool (has_more reply) (Asks most acts) (acts ≡ [])
+Asks (suc most) (Called (actions.Next word) reply ∷ acts) = MatchBool (has_more reply) (Asks most acts) (acts ≡ [])
 Asks (suc most) _ = ⊥
 
 -- the acts of a message after the handshake: its call, then news, then Next calls
@@ -83,14 +85,14 @@ pub record Attends (terms : TermsState) (m : Message) (acts : List Act) : Type 0
   pub opening : List Act
   pub news : List ℕ
   pub asking : List Act
-  pub opens : Opens (call_of m) opening
+  pub opens : Opens (call_of (pieces_of terms) m) opening
   pub few : length news ≤ pieces_of terms
   pub asks : Asks (most_next terms) asking
   pub parts : acts ≡ opening ++ map News news ++ asking
 
 -- the acts of one turn
 abbrev pub IsTurn : TermsState → Message → List Act → Type 0
-IsTurn terms (messages.Hello hello) acts = Opens (Some marks.Join) acts
+IsTurn terms (messages.Hello hello) acts = Opens (Some actions.Join) acts
 IsTurn terms m acts = Attends terms m acts
 
 -- a turn may begin so
@@ -109,6 +111,6 @@ TurnsOf terms (m ∷ ms) acts = (first : List Act) × ((others : List Act) ×
 
 -- a turn for each message, in order, then Leave
 abbrev pub AreTurns : TermsState → List Message → List Act → Type 0
-AreTurns terms [] acts = acts ≡ Called marks.Leave replies.Quiet ∷ []
+AreTurns terms [] acts = acts ≡ Called actions.Leave replies.Quiet ∷ []
 AreTurns terms (m ∷ ms) acts = (first : List Act) × ((others : List Act) ×
     (IsTurn terms m first × NoneRefused first × AreTurns terms ms others × (acts ≡ first ++ others)))

@@ -2,7 +2,8 @@
 
 ghost use Rattle.std.specs.Prelude.{◌≡◌, ℕ, false, true, [], ◌∷◌, Some, IfErr, IfOk, OnOk};
 ghost use Rattle.bt_peer.specs.Conduct.{ConductsBy};
-ghost use Rattle.bt_peer.specs.Acts.{Called, is_refusal, mark_of_call};
+ghost use Rattle.bt_history.specs.Entries.{action_of};
+ghost use Rattle.bt_peer.specs.Acts.{Called, is_refusal};
 ghost use Rattle.bt_peer.specs.Turns.{arrived_piece, has_more as more_after, if_completed};
 ghost use Rattle.bt_peer.specs.Outlets.{outlet, Performs};
 ghost use Rattle.bt_peer.specs.Parts.{AskingDone, AskingStops, CallStops, NewsDone, NewsStops};
@@ -24,12 +25,12 @@ pub fn make_call<P: Place, W: Sink>(
     call: Call,
 ) -> Result<Reply, SessionFault>
     ensures ok { IfOk result (λ reply. Performs
-        (outlet P.Place W.Sink place.old said.old) (Called (mark_of_call call) reply ∷ [])
+        (outlet P.Place W.Sink place.old said.old) (Called (action_of call) reply ∷ [])
         (outlet P.Place W.Sink place.new said.new)) }
     ensures ok_accepted { IfOk result (λ reply. is_refusal reply ≡ false) }
     ensures completes { IfOk result (λ reply. P.settles ≡ true → (piece : ℕ) →
-        if_completed (arrived_piece (mark_of_call call)) reply ≡ Some piece → P.awaits place.new piece ≡ true) }
-    ensures err { IfErr result (λ fault. CallStops fault (mark_of_call call)
+        if_completed (arrived_piece (action_of call)) reply ≡ Some piece → P.awaits place.new piece ≡ true) }
+    ensures err { IfErr result (λ fault. CallStops fault (action_of call)
         (outlet P.Place W.Sink place.old said.old) (outlet P.Place W.Sink place.new said.new)) }
 {
     let reply = place.call(alloc, call)?;

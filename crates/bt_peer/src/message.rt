@@ -4,9 +4,12 @@ ghost use Rattle.std.specs.Prelude.{◌≡◌, ◌⊎◌, None, Some, false, [],
 ghost use Rattle.bt_peer.specs.declared.fault.SessionFault.TheVariants.{NoMemory, BadBits};
 ghost use Rattle.rand_core.specs.Stream.{Stream};
 ghost use Rattle.bt_peer.specs.Conduct.{ConductsBy, given_number};
-ghost use Rattle.bt_peer.specs.Acts.{is_check, mark_of_call};
+ghost use Rattle.bt_meta.specs.WireBits.{flags_of};
+ghost use Rattle.bt_history.specs.Entries.{action_of};
+ghost use Rattle.bt_history.specs.declared.event.Action.TheVariants as actions;
+ghost use Rattle.bt_peer.specs.Acts.{is_check};
 ghost use Rattle.bt_peer.specs.SessionTerms.{pieces_of};
-ghost use Rattle.bt_peer.specs.Turns.{call_of, arrived_piece as piece_of_mark, if_completed, IsAcceptable, IsLater};
+ghost use Rattle.bt_peer.specs.Turns.{call_of, arrived_piece as piece_of_call, if_completed, IsAcceptable, IsBitfield, IsLater};
 ghost use Rattle.bt_peer.specs.Outlets.{outlet};
 ghost use Rattle.bt_peer.specs.Parts.{MessageStops, OpeningDone, OpeningStops, TurnDone, TurnStops};
 
@@ -21,7 +24,21 @@ use bt_wire::Message;
 use rand_core::Rng;
 use std::alloc::Global;
 
-/// The call that a message makes.
+/// The call of a `bitfield` message: it tells the flags that the bytes spell, of a peer of so many pieces.
+#[tactic(auto, using(crate::proofs::Spelled::told_flags))]
+fn bitfield_call(alloc: Global, bits: &[u8], pieces: u32) -> Result<Call, SessionFault>
+    ensures ok { IfOk result (λ call. IsBitfield pieces bits.now × (action_of call ≡ actions.Bits (flags_of pieces bits.now))) }
+    ensures err { IfErr result (λ fault. ((fault ≡ NoMemory) × IsBitfield pieces bits.now)
+        ⊎ ((fault ≡ BadBits) × ¬ IsBitfield pieces bits.now)) }
+{
+    match Bitfield::from_wire(alloc, bits, pieces) {
+        Ok(bitfield) => Ok(Call::Bits(bitfield)),
+        Err(BitFault::NoMemory) => Err(SessionFault::NoMemory),
+        Err(_) => Err(SessionFault::BadBits),
+    }
+}
+
+/// The call that a message makes. That of a block tells its bytes.
 fn call_for(
     alloc: Global,
     terms: &SessionTerms,
@@ -29,7 +46,8 @@ fn call_for(
 ) -> Result<Option<Call>, SessionFault>
     requires { IsLater message }
     ensures ok { IfOk result (λ o. IsAcceptable (pieces_of terms.now) message
-        × MatchOption o (call_of message ≡ None) (λ call. call_of message ≡ Some (mark_of_call call))) }
+        × MatchOption o (call_of (pieces_of terms.now) message ≡ None)
+        (λ call. call_of (pieces_of terms.now) message ≡ Some (action_of call))) }
     ensures err { IfErr result (λ fault.
         ((fault ≡ NoMemory) × IsAcceptable (pieces_of terms.now) message)
         ⊎ ((fault ≡ BadBits) × ¬ IsAcceptable (pieces_of terms.now) message)) }
@@ -38,10 +56,9 @@ fn call_for(
         Message::Choke => Some(Call::Choke),
         Message::Unchoke => Some(Call::Unchoke),
         Message::Have(piece) => Some(Call::Have(piece)),
-        Message::Bits(bits) => match Bitfield::from_wire(alloc, &bits, terms.piece_count()) {
-            Ok(bitfield) => Some(Call::Bits(bitfield)),
-            Err(BitFault::NoMemory) => return Err(SessionFault::NoMemory),
-            Err(_) => return Err(SessionFault::BadBits),
+        Message::Bits(bits) => match bitfield_call(alloc, &bits, terms.piece_count()) {
+            Ok(call) => Some(call),
+            Err(fault) => return Err(fault),
         },
         Message::Piece {
             piece,
@@ -58,7 +75,7 @@ fn call_for(
 
 /// The piece of a block that arrived.
 fn arrived_piece(call: &Call) -> Option<u32>
-    ensures { result ≡ piece_of_mark (mark_of_call call.now) }
+    ensures { result ≡ piece_of_call (action_of call.now) }
 {
     match call {
         Call::Arrived { piece, .. } => Some(*piece),
@@ -86,7 +103,7 @@ fn open_turn<P: Place, W: Sink>(
 ) -> Result<(), SessionFault>
     requires { IsLater message }
     ensures acceptable { OnOk result (IsAcceptable (pieces_of terms.now) message) }
-    ensures ok { OnOk result (OpeningDone (call_of message)
+    ensures ok { OnOk result (OpeningDone (call_of (pieces_of terms.now) message)
         (outlet P.Place W.Sink place.old said.old) (outlet P.Place W.Sink place.new said.new)) }
     ensures err { IfErr result (λ fault. MessageStops fault (pieces_of terms.now) message
         (outlet P.Place W.Sink place.old said.old) (outlet P.Place W.Sink place.new said.new)) }

@@ -1,9 +1,10 @@
 //! Where a session makes its calls.
 
 ghost use Rattle.std.specs.Prelude.{◌≡◌, ℕ, Bool, true, List, [], ◌∷◌, Some, IsTrue, IfOk, IfSome, IfNone, OnOk, OnErr};
-ghost use Rattle.bt_history.specs.Logs.{answers};
+ghost use Rattle.bt_history.specs.Entries.{action_of};
+ghost use Rattle.bt_history.specs.Logs.{answers, call_mark};
 ghost use Rattle.bt_peer.specs.Conduct.{SettlesAtOnce};
-ghost use Rattle.bt_peer.specs.Acts.{Act, Called, News, mark_of_call};
+ghost use Rattle.bt_peer.specs.Acts.{Act, Called, News};
 ghost use Rattle.bt_peer.specs.Places.{PlaceRecord, Gains, AllTold, LacksMemory};
 ghost use Rattle.bt_peer.specs.Turns.{ChecksAtMost, arrived_piece, if_completed};
 
@@ -24,10 +25,10 @@ pub trait Place {
     /// Makes a call in the worker's name.
     fn call(&mut self, alloc: Global, call: Call) -> Result<Reply, AllocError>
         ensures ok { IfOk result (λ reply.
-            Gains (past self.old) (Called (mark_of_call call) reply ∷ []) (past self.new)) }
-        ensures fits { IfOk result (λ reply. IsTrue (answers (mark_of_call call) reply)) }
+            Gains (past self.old) (Called (action_of call) reply ∷ []) (past self.new)) }
+        ensures fits { IfOk result (λ reply. IsTrue (answers (call_mark (action_of call)) reply)) }
         ensures completes { IfOk result (λ reply. settles ≡ true → (piece : ℕ) →
-            if_completed (arrived_piece (mark_of_call call)) reply ≡ Some piece → awaits self.new piece ≡ true) }
+            if_completed (arrived_piece (action_of call)) reply ≡ Some piece → awaits self.new piece ≡ true) }
         ensures err { OnErr result (LacksMemory (past self.old) (past self.new)) };
 
     /// A finished piece that wasn't told before; none only if all that are known to be finished were told.

@@ -39,7 +39,7 @@ module _ (board : BoardState) (n : ℕ) (seats : List SeatState) (is : seats ≡
 
 -- a new desk's passes
 are_new_pass : (desk : SharedState) (number : ℕ) → IsNewPass (Some desk.table) desk.setting number (passes.newcomer desk number)
-are_new_pass desk number = record { named = record { desk_is = refl; setting_is = refl }; number_is = refl; log = refl }
+are_new_pass desk number = record { named = record { desk_is = refl; setting_is = refl }; number_is = refl; unseen = refl; log = refl }
 
 pub are_new_passes : (desk : SharedState) (setting : Setting) (ps : List PassState) → desk.setting ≡ setting →
     ((w : ℕ) → w < length ps → slice_get ps w ≡ Some (passes.newcomer desk w)) → AreNumbered (IsNewPass (Some desk.table) setting) 0 ps
@@ -63,4 +63,4 @@ belongs setting desk board queue number pass seat tickets is new queue_is = reco
 pub is_fresh : (setting : Setting) (desk board : Option TableId) (number : ℕ) (pass : PassState) (seat : SeatState) (tickets : TicketPassState) →
     IsNewPass desk setting number pass → IsNewSeat board number seat → IsFresh setting number (record { pass = pass; seat = seat; tickets = tickets })
 is_fresh setting desk board number pass seat tickets is new =
-    record { number_is = is.number_is; log = is.log; seen = new.seen setting; told = new.told }
+    record { number_is = is.number_is; unseen = is.unseen; log = is.log; seen = new.seen setting; told = new.told }

@@ -1,6 +1,6 @@
 -- The logs of a run's sessions, of its checkers and of its last worker, once they were gathered.
 use Rattle.std.proofs.Common.{◌≡◌, ◌⊎◌, inl, inr, ℕ, zero, suc, ◌+◌, ◌-◌, ◌==◌, ◌<◌, ◌≤◌, false, true, Bool, List, [], ◌∷◌, length, map, get_or}
-use Rattle.std.proofs.Common.{sym, ap, subst, ◌∙◌, arith, eq-eqb, ne_eqb, if◌then◌else◌, Some, slice_get, Result, Err}
+use Rattle.std.proofs.Common.{refl, sym, ap, subst, ◌∙◌, arith, eq-eqb, ne_eqb, if◌then◌else◌, Some, slice_get, Result, Err}
 use Rattle.std.proofs.lemmas.Option.{slice_get-get_or}
 use mathlib.Core.Logic.{dite}
 use native.Mathlib.Decide.{dec_le, ℕ_discrete}
@@ -27,10 +27,17 @@ use Rattle.bt_session.specs.Swarms.{EachPlays, EachSwarmed, MakesLastChecks, Swa
 use Rattle.bt_session.specs.Runs.{ChecksLast, ChecksRise, Plays}
 use Rattle.bt_session.specs.Beginnings.{AreFresh, IsFresh}
 use Rattle.bt_session.specs.Workers.{StandInOrder, WorkerState, knows, tells}
-use Rattle.bt_shared.specs.Gathering.{EachFrom, log_of}
+use Rattle.bt_history.specs.Logs.{Agrees}
+use Rattle.bt_peer.specs.Conduct.{Calls}
+use Rattle.bt_peer.specs.Desks.{calls_in}
+use Rattle.bt_session.proofs.Noted.{marks_calls, same_calls}
+use Rattle.bt_session.specs.Swarms.{calls_of_marks}
+use Rattle.bt_shared.specs.Closing.{EachKnows}
+use Rattle.bt_shared.specs.Gathering.{EachAgrees, EachFrom, log_of}
 use Rattle.bt_shared.specs.Passes.{PassState}
+use Rattle.bt_shared.specs.Seen.{Knows}
 
-abbrev pass_of : WorkerState → PassState
+abbrev pub pass_of : WorkerState → PassState
 pass_of worker = worker.pass
 
 -- the log of a worker among workers in order, the first of which has this number
@@ -48,6 +55,19 @@ log_at (w ∷ ws) low order (suc i) any below =
     ∙ (ap (λ (v : ℕ). log_of v (map pass_of ws)) next
     ∙ log_at ws (suc low) (λ k d less. order (suc k) d (omega (arith, less)) ∙ omega arith) i any (omega (arith, below)))
 
+-- what the journal knows of a worker's pass
+knows_at : (journal : History) (ws : List WorkerState) → EachKnows journal (map pass_of ws) → (i : ℕ) (any : WorkerState) → i < length ws →
+    let pass = (get_or ws i any).pass in Knows journal (pass.worker ∷ []) pass.seen
+knows_at journal [] each i any below = absurd (omega (arith, below))
+knows_at journal (w ∷ ws) each zero any below = each.0
+knows_at journal (w ∷ ws) each (suc i) any below = knows_at journal ws each.1 i any (omega (arith, below))
+
+-- and so of its calls
+journal_calls : (journal : History) (pass : PassState) (number : ℕ) → Knows journal (pass.worker ∷ []) pass.seen → pass.worker ≡ number →
+    calls_in pass.seen pass.worker ≡ calls_in journal number
+journal_calls journal pass number known is =
+    sym (same_calls pass.worker journal pass.seen (known.complete pass.worker (inl refl))) ∙ ap (calls_in journal) is
+
 some_of : {X : Type 0} (xs : List X) → 1 ≤ length xs → X
 some_of [] some = absurd (omega (arith, some))
 some_of (x ∷ xs) some = x
@@ -55,15 +75,18 @@ some_of (x ∷ xs) some = x
 -- a session from a fresh worker to what its worker has then
 swarmed_one : (journal : History) (outcome : Result End SessionFault) (terms : TermsState) (setting : Setting) (seed number : ℕ)
     (worker worker' : WorkerState) (old new : StreamRecord) (log : List Mark) (short : Bool) → IsFresh setting number worker →
-    Plays outcome terms setting seed worker old worker' new short → worker'.pass.log ≡ log →
-    ((piece : ℕ) → knows setting worker'.seat piece ≡ true → had journal piece ≡ true) →
+    Plays outcome terms setting seed worker old worker' new short → Knows journal (worker'.pass.worker ∷ []) worker'.pass.seen →
+    Agrees journal number log → ((piece : ℕ) → knows setting worker'.seat piece ≡ true → had journal piece ≡ true) →
     Swarmed journal outcome terms setting seed number old log new short
-swarmed_one journal outcome terms setting seed number worker worker' old new log short fresh plays logged known =
+swarmed_one journal outcome terms setting seed number worker worker' old new log short fresh plays seen agrees known =
+    let number' : worker'.pass.worker ≡ number = plays.number ∙ fresh.number_is in
+    let uncalled : calls_in worker.pass.seen worker.pass.worker ≡ [] = ap (λ (h : History). calls_in h worker.pass.worker) fresh.unseen in
+    let called : calls_in worker'.pass.seen worker'.pass.worker ≡ calls_in journal number = journal_calls journal worker'.pass number seen number' in
     let begun : worker_record setting worker false ≡ pass_record setting number [] no_piece no_piece false =
-    (λ i. pass_record setting (fresh.number_is i) (fresh.log i) (λ piece. fresh.seen piece i) (λ piece. fresh.told piece i) false) in
-    let ended : worker_record setting worker' plays.lacked ≡ pass_record setting number log (knows setting worker'.seat) (tells worker'.seat)
-    plays.lacked =
-    (λ i. pass_record setting ((plays.number ∙ fresh.number_is) i) (logged i) (knows setting worker'.seat) (tells worker'.seat) plays.lacked) in
+    (λ i. pass_record setting (fresh.number_is i) (uncalled i) (λ piece. fresh.seen piece i) (λ piece. fresh.told piece i) false) in
+    let ended : worker_record setting worker' plays.lacked ≡ pass_record setting number (calls_in journal number) (knows setting worker'.seat)
+    (tells worker'.seat) plays.lacked =
+    (λ i. pass_record setting (number' i) (called i) (knows setting worker'.seat) (tells worker'.seat) plays.lacked) in
     let Runs : ℕ → PlaceRecord → PlaceRecord → Type 0 = λ w first after. RunsTo outcome terms w (generator_of seed w) first old after new in
     record {
       known = knows setting worker'.seat;
@@ -71,6 +94,7 @@ swarmed_one journal outcome terms setting seed number worker worker' old new log
       lacked = plays.lacked;
       noted = plays.noted;
       finished = known;
+      logged = ap calls_of_marks agrees.exact ∙ marks_calls journal number;
       runs = subst (Runs number (pass_record setting number [] no_piece no_piece false)) ended
           (subst (λ (p : PlaceRecord). Runs number p (worker_record setting worker' plays.lacked)) begun
           (subst (λ (w : ℕ). Runs w (worker_record setting worker false) (worker_record setting worker' plays.lacked)) fresh.number_is plays.runs));
@@ -140,6 +164,8 @@ module _ {X : Type 0} {record_of : X → StreamRecord} {terms : TermsState} {set
 
   module _ (logs : List (Vec Mark)) (journal : History)
       (from : EachFrom (map pass_of workers') logs)
+      (agrees : EachAgrees journal logs)
+      (seen : EachKnows journal (map pass_of workers'))
       (room : length logs ≡ n + m + 1)
       (known : All (λ w. (piece : ℕ) → knows setting w.seat piece ≡ true → had journal piece ≡ true) workers') where
     log_is : (w : ℕ) (log : Vec Mark) (any : WorkerState) → w < n + m + 1 → slice_get logs w ≡ Some log →
@@ -159,7 +185,7 @@ module _ {X : Type 0} {record_of : X → StreamRecord} {terms : TermsState} {set
         swarmed_one journal (get_or ends i end) terms setting seed i (get_or workers i any) (get_or workers' i any)
         (record_of (get_or streams i stream)) (record_of (get_or streams' i stream)) (get_or logs i log).items whole
         (fresh_at i any (omega (arith, less))) (plays_short _ _ _ _ _ _ _ _ short whole up (ran.each i any stream end below))
-        (sym (log_is i (get_or logs i log) any (omega (arith, less)) at)) (known i any (omega (arith, less, ran.many')))
+        (knows_at journal workers' seen i any (omega (arith, less, ran.many'))) (agrees i (get_or logs i log) at) (known i any (omega (arith, less, ran.many')))
 
     pub checkers_check : CheckersCheck n m logs
     checkers_check i log below at =

@@ -7,7 +7,9 @@ pub mod Parts
 pub mod Passing
 pub mod PieceChecks
 pub mod Rising
+pub mod Rounds
 pub mod Rows
 pub mod Seats
 pub mod Through
 pub mod Told
+pub mod Wanted

@@ -10,7 +10,7 @@ use Rattle.bt_board.specs.Story.{IsSet, Seen, with_loads, words_of}
 use Rattle.bt_board.specs.declared.view.BoardView.{BoardView}
 use Rattle.bt_history.specs.Setting.{Setting}
 use Rattle.bt_meta.specs.Layout.{Layout, piece_count}
-use Rattle.bt_peer.specs.Desks.{calls_of_marks}
+use Rattle.bt_peer.specs.Desks.{calls_in}
 use Rattle.bt_peer.specs.Acts.{News}
 use Rattle.bt_peer.specs.Places.{AllTold, Gains}
 use Rattle.bt_check.specs.declared.ticket.Ticket.{Ticket}
@@ -73,7 +73,7 @@ module _ (setting : Setting) (old new : WorkerState) (short : Bool) (same : new.
       lent = refl;
       worker = ap (λ (p : PassState). p.worker) same;
       setting = refl;
-      calls = ap (λ (p : PassState). calls_of_marks p.log) same ∙ sym (append-nil (calls_of_marks old.pass.log));
+      calls = ap (λ (p : PassState). calls_in p.seen p.worker) same ∙ sym (append-nil (calls_in old.pass.seen old.pass.worker));
       others = λ worker. refl;
       had = one.stays;
       in_order = ([], refl);
@@ -91,7 +91,7 @@ module _ (setting : Setting) (old new : WorkerState) (short : Bool) (same : new.
         lent = refl;
         worker = ap (λ (p : PassState). p.worker) same;
         setting = refl;
-        calls = ap (λ (p : PassState). calls_of_marks p.log) same ∙ sym (append-nil (calls_of_marks old.pass.log));
+        calls = ap (λ (p : PassState). calls_in p.seen p.worker) same ∙ sym (append-nil (calls_in old.pass.seen old.pass.worker));
         others = λ worker. refl;
         had = nothing.stays;
         in_order = ([], refl);
@@ -111,7 +111,7 @@ gains_none setting worker short = record {
     lent = refl;
     worker = refl;
     setting = refl;
-    calls = sym (append-nil (calls_of_marks worker.pass.log));
+    calls = sym (append-nil (calls_in worker.pass.seen worker.pass.worker));
     others = λ worker. refl;
     had = λ piece is. is;
     in_order = ([], refl);

@@ -19,6 +19,7 @@ pub record IsNewSeat (board : Option TableId) (number : ℕ) (seat : SeatState) 
 pub record IsNewPass (desk : Option TableId) (setting : Setting) (number : ℕ) (pass : PassState) : Type 0 where
   pub named : IsNamed desk setting pass
   pub number_is : pass.worker ≡ number
+  pub unseen : pass.seen ≡ []
   pub log : pass.log ≡ []
 
 -- A desk of this setting, and a board and a queue for it: for each worker a pass that has made no call, a seat that has seen nothing, and a
@@ -37,6 +38,7 @@ pub record AreFittings (setting : Setting) (f : Fittings) : Type 0 where
 -- the worker of this number has made no call, has seen no piece, and has told none
 pub record IsFresh (setting : Setting) (number : ℕ) (worker : WorkerState) : Type 0 where
   pub number_is : worker.pass.worker ≡ number
+  pub unseen : worker.pass.seen ≡ []
   pub log : worker.pass.log ≡ []
   pub seen : (piece : ℕ) → knows setting worker.seat piece ≡ false
   pub told : (piece : ℕ) → tells worker.seat piece ≡ false

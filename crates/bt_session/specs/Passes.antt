@@ -2,24 +2,25 @@
 use Rattle.std.specs.Prelude.{◌≡◌, ◌⊎◌, ℕ, Bool, true, false, List, []}
 use Rattle.bt_check.specs.declared.ticket.Ticket.TheVariants.{Piece}
 use Rattle.bt_check.specs.Queues.{with_put}
-use Rattle.bt_history.specs.declared.mark.Mark.{Mark}
 use Rattle.bt_history.specs.Setting.{Setting}
-use Rattle.bt_peer.specs.Desks.{calls_of_marks}
+use Rattle.bt_peer.specs.Conduct.{Calls}
+use Rattle.bt_peer.specs.Desks.{calls_in}
 use Rattle.bt_peer.specs.Places.{PlaceRecord}
 use Rattle.bt_session.specs.Workers.{WorkerState, knows, tells, with_tickets}
+use Rattle.bt_shared.specs.Passes.{PassState}
 
 -- no piece at all
 abbrev pub no_piece : ℕ → Bool
 no_piece piece = false
 
--- what a place at a shared desk says of itself: the calls of its pass, and the pieces that are known to be finished and those told.
+-- what a place at a shared desk says of itself: its worker's calls, and the pieces that are known to be finished and those told.
 -- Of the other workers' calls it knows nothing
-abbrev pub pass_record : Setting → ℕ → List Mark → (ℕ → Bool) → (ℕ → Bool) → Bool → PlaceRecord
-pass_record setting worker log had told short = record {
+abbrev pub pass_record : Setting → ℕ → Calls → (ℕ → Bool) → (ℕ → Bool) → Bool → PlaceRecord
+pass_record setting worker calls had told short = record {
   lent = [];
   worker = worker;
   setting = setting;
-  calls = calls_of_marks log;
+  calls = calls;
   others = λ other. [];
   had = had;
   in_order = [];
@@ -27,9 +28,15 @@ pass_record setting worker log had told short = record {
   short = short;
 }
 
--- that of a worker: its seat has seen the finished pieces, and given those that were told
+-- that of a worker: its calls are those that its pass has seen of it, and its seat has seen the finished pieces, and given those that were told
 abbrev pub worker_record : Setting → WorkerState → Bool → PlaceRecord
-worker_record setting worker short = pass_record setting worker.pass.worker worker.pass.log (knows setting worker.seat) (tells worker.seat) short
+worker_record setting worker short =
+    pass_record setting worker.pass.worker (calls_in worker.pass.seen worker.pass.worker) (knows setting worker.seat) (tells worker.seat) short
+
+-- in what the pass has seen then its worker has made no call more
+pub record KeepsCalls (old new : PassState) : Type 0 where
+  pub worker : new.worker ≡ old.worker
+  pub calls : calls_in new.seen new.worker ≡ calls_in old.seen old.worker
 
 -- a place at a shared desk as its callers see it: its worker, whether a call has found no memory, and whether a ticket came back
 pub record PassPlaceState : Type 0 where

@@ -1,7 +1,7 @@
 //! Checkers in threads of their own.
 
 ghost use Rattle.std.specs.Prelude.{◌≡◌, ◌≤◌, [], map, length, vec_len, vec_capacity, IfOk, IfErr, OnOk};
-ghost use Rattle.bt_session.specs.PieceChecks.{MakesChecks};
+ghost use Rattle.bt_session.specs.Checking.{ChecksTickets};
 ghost use Rattle.bt_session.specs.declared.fault.SwarmFault.TheVariants.{NoThread};
 
 use crate::checker::{Checked, check_pieces};
@@ -15,14 +15,14 @@ use std::sync::Wait;
 use std::thread;
 use std::thread::{Promise, PromisedHandle, Threads};
 
-/// What the thread of a checker promises of what it gives back: its worker made checks alone.
+/// What the thread of a checker promises of what it gives back: its worker made checks alone, and saw to what it took.
 #[derive(Drop)]
 pub struct CheckOf<L: RunName> {
     pub worker: Snapshot<Worker<L>>,
 }
 
 impl<L: RunName> Promise<Checked<L>> for CheckOf<L> {
-    ghost kept_by = { λ p r. MakesChecks p.worker.value.pass r.worker.pass };
+    ghost kept_by = { λ p r. ChecksTickets L.setting p.worker.value r.short r.worker };
 }
 
 /// Starts the thread of a checker.
@@ -40,7 +40,7 @@ fn start<'s, 'e, L: RunName + Send + Sync + 'e, T: Threads + Wait + Sync + 'e>(
         worker: Snapshot::of(&worker),
     };
     let job = move || -> Checked<L>
-        ensures { MakesChecks worker.pass result.worker.pass }
+        ensures { ChecksTickets L.setting worker result.short result.worker }
     { check_pieces(rt, alloc, commons, worker) };
     match scope.spawn_with(promise, job) {
         Ok(handle) => Ok(handle),

@@ -1,6 +1,6 @@
 //! What the thread of a checker does.
 
-ghost use Rattle.bt_session.specs.PieceChecks.{MakesChecks};
+ghost use Rattle.bt_session.specs.Checking.{ChecksTickets};
 
 use crate::commons::{Commons, Worker};
 use crate::run_name::RunName;
@@ -25,7 +25,7 @@ pub fn check_pieces<L: RunName, T: Wait>(
     commons: &Commons<L>,
     worker: Worker<L>,
 ) -> Checked<L>
-    ensures { MakesChecks worker.pass result.worker.pass }
+    ensures { ChecksTickets L.setting worker result.short result.worker }
 {
     let mut worker = worker;
     let mut short = false;

@@ -12,10 +12,12 @@ ghost use Rattle.bt_history.specs.Logs.{answers, call_mark};
 ghost use Rattle.bt_history.specs.Pieces.{had};
 ghost use Rattle.bt_history.specs.declared.mark.CallMark.TheVariants.{Settle};
 ghost use Rattle.bt_meta.specs.Layout.{piece_count};
+ghost use Rattle.bt_session.specs.Passes.{KeepsCalls};
 ghost use Rattle.bt_session.specs.PieceChecks.{IsIdle, IsQuiet, MakesCheck, MayCheck, PutsIf, SeesTo, TakesNone, TakesPiece};
 ghost use Rattle.bt_session.specs.Runs.{IsRunFault};
 ghost use Rattle.bt_session.specs.Workers.{IsCheckOf, IsOfRun};
 ghost use Rattle.bt_session.specs.Workers.{AreNamed, Belongs, Shares, StandInOrder, Takes, TellsNone, TellsOne, WorkerState, knows, with_tickets};
+ghost use Rattle.bt_shared.specs.Closing.{EachKnows};
 ghost use Rattle.bt_shared.specs.Gathering.{EachAgrees, EachFrom};
 ghost use Rattle.bt_shared.specs.Passes.{Enters, Notes};
 ghost use Rattle.bt_shared.specs.SharedJobs.{checking};
@@ -175,6 +177,7 @@ impl<L: RunName> Commons<L> {
         ensures fits { IfOk result (λ reply. IsTrue (answers (call_mark (action_of call)) reply)) }
         ensures rest { (worker.new.seat ≡ worker.old.seat) × (worker.new.tickets ≡ worker.old.tickets) }
         ensures err { OnErr result (IsQuiet worker.old.pass worker.new.pass) }
+        ensures kept { OnErr result (KeepsCalls worker.old.pass worker.new.pass) }
     {
         self.desk.call(rt, &mut worker.pass, call)
     }
@@ -316,6 +319,8 @@ impl<L: RunName> Commons<L> {
         ensures logs { IfOk result (λ book. EachFrom (map (λ w. w.pass) workers.items) book.logs.items) }
         ensures agrees { IfOk result (λ book. EachAgrees book.desk.history book.logs.items) }
         ensures err { IfErr result IsRunFault }
+        // The journal begins with what each worker's pass has seen, and has no later entry of that worker.
+        ensures seen { IfOk result (λ book. EachKnows book.desk.history (map (λ w. w.pass) workers.items)) }
         ensures had { IfOk result (λ book. All (λ w. (piece : ℕ) → knows L.setting w.seat piece ≡ true → had book.desk.history piece ≡ true)
             workers.items) }
     {

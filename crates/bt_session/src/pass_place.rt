@@ -63,7 +63,7 @@ impl<'a, L: RunName, T: Wait> PassPlace<'a, L, T> {
         self.short
     }
 
-    /// The worker, with the marks of all calls made here and the news told.
+    /// The worker, with all calls made here and the news told.
     pub fn into_worker(self) -> Worker<L>
         ensures { result ≡ self.entry.worker }
     {

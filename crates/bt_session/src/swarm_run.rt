@@ -1,10 +1,10 @@
 //! Several recorded peers at one desk, each session in a thread of its own, and threads that check the pieces.
 
-ghost use Rattle.std.specs.Prelude.{◌≡◌, ◌≤◌, ◌+◌, Some, length, IfOk, IfErr};
+ghost use Rattle.std.specs.Prelude.{◌≡◌, ◌≤◌, ◌+◌, Some, None, length, IfOk, IfErr};
 ghost use Rattle.bt_history.specs.Legal.{IsLegal};
 ghost use Rattle.bt_history.specs.Setting.{AreRules, setting_of};
 ghost use Rattle.bt_meta.specs.Layout.{piece_count};
-ghost use Rattle.bt_peer.specs.Serial.{stream_record};
+ghost use Rattle.bt_peer.specs.Serial.{AreChosen, stream_record};
 ghost use Rattle.bt_peer.specs.SessionTerms.{terms_of};
 ghost use Rattle.bt_session.specs.Checking.{CheckersCheck};
 ghost use Rattle.bt_session.specs.Beginnings.{AreFittings};
@@ -84,6 +84,7 @@ fn run<
     ensures finishes { IfOk result (λ run.
         MakesLastChecks (length streams.items + plan.checkers) run.book.logs.items (piece_count torrent.value.layout)) }
     ensures waits { IfOk result (λ run. LeavesNone run.short run.book.desk) }
+    ensures chosen { IfOk result (λ run. AreChosen None run.book.desk) }
     ensures err { IfErr result IsRunFault }
 {
     let pieces = torrent.piece_count();
@@ -151,6 +152,8 @@ pub fn swarm<
     ensures finishes { IfOk result (λ run.
         MakesLastChecks (length streams.items + checkers) run.book.logs.items (piece_count torrent.value.layout)) }
     ensures waits { IfOk result (λ run. LeavesNone run.short run.book.desk) }
+    // Each piece is chosen: no worker told otherwise.
+    ensures chosen { IfOk result (λ run. AreChosen None run.book.desk) }
     ensures err { IfErr result IsRunFault }
 {
     let workers = streams.len() as u32 + checkers + 1;

@@ -18,6 +18,7 @@ returns-clause-ran g c = λ t. λ is.
       checks = made.checks;
       finishes = made.finishes;
       waiting = made.waiting;
+      chosen = made.chosen;
       told = rw c.deref.ensures.value at c.tell-ended.ensures;
     }
 

@@ -1,7 +1,8 @@
 use Rattle.std.proofs.Common.{◌≡◌, false, rules, arith}
 use Rattle.std.proofs.lemmas.Grind.{common_steps}
 use Rattle.std.proofs.lemmas.Result.{err_from_is_err_and}
-use Rattle.bt_peer.specs.Acts.{is_refusal, mark_of_call}
+use Rattle.bt_history.specs.Entries.{action_of}
+use Rattle.bt_peer.specs.Acts.{is_refusal}
 use Rattle.bt_peer.proofs.Stretches.{call_cut, call_lacks}
 use Rattle.bt_peer.proofs.calls.make_call.Goals as goal
 
@@ -20,7 +21,7 @@ returns-in_err-tell g c =
 pub returns-in_err-reply-clause-err : goal.returns-in_err-reply-clause-err
 returns-in_err-reply-clause-err g c =
     let p = err_from_is_err_and c.from_residual.result c.from_residual.ensures.1 in
-    rw (p.1, p.2) (call_lacks _ _ _ (mark_of_call c.args.call) c.in_err-reply.ensures.err)
+    rw (p.1, p.2) (call_lacks _ _ _ (action_of c.args.call) c.in_err-reply.ensures.err)
 
 pub returns-in-Refused-clause-err : goal.returns-in-Refused-clause-err
 returns-in-Refused-clause-err g c = grind (arith, common_steps)

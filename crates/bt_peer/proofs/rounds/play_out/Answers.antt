@@ -5,7 +5,8 @@ use Rattle.std.proofs.lemmas.List.{length-map}
 use Rattle.bt_peer.specs.declared.seat.Seat.{Seat}
 use Rattle.bt_peer.specs.Conduct.{Calls}
 use Rattle.bt_peer.specs.Desks.{calls_in}
-use Rattle.bt_peer.specs.Serial.{Finishes, stream_of}
+use Rattle.bt_peer.specs.Serial.{EachEnded, Finishes, opening_of, stream_of}
+use Rattle.bt_peer.proofs.Chosen.{rest_uncalled, run_chosen}
 use Rattle.bt_peer.proofs.EachStream.{ends_count}
 use Rattle.bt_peer.proofs.LastChecks.{each_ended, finishes_from}
 use Rattle.bt_peer.proofs.rounds.play_out.Goals as goal
@@ -19,19 +20,30 @@ pub returns-clause-ran : goal.returns-clause-ran
 returns-clause-ran g c = λ terms. λ seed. λ want. λ layout. λ new. λ opened.
     let played = c.play.ensures.played in
     let short : Seat → Bool = λ seat. seat.short in
+    let lacks = map short c.play.new.seats in
+    let unfinished = c.last_checks-unfinished.result in
+    let desk = c.last_checks-unfinished.new.desk in
+    let count = length c.args.streams.now in
+    let record_of = stream_of g.R.Source g.W.Sink in
+    let left = c.last_checks-unfinished.ensures.leaves in
+    let sessions : EachEnded record_of terms seed c.args.streams.now desk c.play.new.streams c.tell_ends.new.ends.items lacks =
+    each_ended record_of terms seed c.args.desk.now c.play.new.desk desk c.args.seats.now c.play.new.seats c.args.streams.now c.play.new.streams
+    c.tell_ends.new.ends.items layout c.requires.fresh new c.requires.may played _ (omega arith) left c.tell_ends.ensures in
+    let finishes : Finishes count (opening_of want) unfinished desk =
+    subst (λ (calls : Calls). Finishes count calls unfinished desk) opened
+    (subst (λ (n : ℕ). Finishes n (calls_in c.args.desk.now.history n) unfinished desk) c.play.auto.streams
+    (finishes_from count (length c.play.new.streams) c.args.desk.now c.play.new.desk desk unfinished (omega arith) played.rest
+    c.last_checks-unfinished.ensures.finishes)) in
+    let uncalled = rest_uncalled count (length c.play.new.streams) c.args.desk.now c.play.new.desk desk c.play.auto.streams c.requires.fresh
+    played.rest left in
     record {
-      lacks = map short c.play.new.seats;
-      unfinished = c.last_checks-unfinished.result;
+      lacks = lacks;
+      unfinished = unfinished;
       count = length-map c.play.new.seats short ∙ played.may.seated ∙ played.count;
-      sessions = each_ended (stream_of g.R.Source g.W.Sink) terms seed c.args.desk.now c.play.new.desk c.last_checks-unfinished.new.desk
-          c.args.seats.now c.play.new.seats c.args.streams.now c.play.new.streams c.tell_ends.new.ends.items
-          layout c.requires.fresh new c.requires.may played _ (omega arith) c.last_checks-unfinished.ensures.leaves c.tell_ends.ensures;
-      finishes = subst (λ (calls : Calls). Finishes (length c.args.streams.now) calls c.last_checks-unfinished.result
-          c.last_checks-unfinished.new.desk) opened
-          (subst (λ (n : ℕ). Finishes n (calls_in c.args.desk.now.history n) c.last_checks-unfinished.result c.last_checks-unfinished.new.desk)
-          c.play.auto.streams
-          (finishes_from (length c.args.streams.now) (length c.play.new.streams) c.args.desk.now c.play.new.desk
-          c.last_checks-unfinished.new.desk c.last_checks-unfinished.result (omega arith) played.rest c.last_checks-unfinished.ensures.finishes));
+      sessions = sessions;
+      finishes = finishes;
+      chosen = run_chosen record_of terms seed want c.args.streams.now c.play.new.streams unfinished desk c.tell_ends.new.ends.items lacks sessions
+          uncalled finishes;
       short_is = ap (λ (lacked : Bool). c.last_checks-unfinished.result || lacked) c.fell_short.ensures;
     }
 

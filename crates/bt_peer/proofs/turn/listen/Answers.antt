@@ -6,7 +6,6 @@ use Rattle.bt_peer.specs.Reader.{source_state}
 use Rattle.bt_peer.specs.Steps.{start}
 use Rattle.bt_peer.proofs.Conduct.{DrawsNumbers-none, left_draws}
 use Rattle.bt_peer.proofs.Failing.{hearing_fails, ends_within, leave_refused, leave_lacks_memory, attending_fails}
-use Rattle.bt_peer.proofs.Heard.{later}
 use Rattle.bt_peer.proofs.turn.listen.Goals as goal
 
 pub returns-in-Err-clause-err : goal.returns-in-Err-clause-err
@@ -46,8 +45,7 @@ returns-in-Err-attend-clause-err g c =
     let source = source_state g.R.Source.left g.R.Source.ended g.R.Source.failed c.next.new.reader c.next.new.self.reads in
     let hears = rw c.in-Ok-Some.field-0-is at c.in-Ok-Some.ensures.message in
     rw c.leave_by-in-Err-attend.ensures.fault
-    (attending_fails _ c.in-Ok-Some.message c.next.new.self.inbound old source _ _ _
-    (later _ _ _ _ _ c.requires.greeted hears) hears c.in-Err-attend.ensures.err
+    (attending_fails _ c.in-Ok-Some.message c.next.new.self.inbound old source _ _ _ hears c.in-Err-attend.ensures.err
     c.leave_by-in-Err-attend.ensures.leave)
 
 pub returns-in-Err-clause-conduct : goal.returns-in-Err-clause-conduct

@@ -1,8 +1,10 @@
-use Rattle.std.proofs.Common.{◌≡◌, ◌+◌, length, refl, ◌∙◌, rules, arith}
+use Rattle.std.proofs.Common.{◌≡◌, ◌+◌, length, refl, ap, ◌∙◌, rules, arith}
 use Rattle.std.proofs.lemmas.Grind.{common_steps}
 use Rattle.bt_meta.specs.Layout.{piece_count}
 use Rattle.bt_peer.specs.Serial.{stream_record}
 use Rattle.bt_peer.specs.SessionTerms.{terms_of}
+use Rattle.bt_history.specs.Setting.{Setting}
+use Rattle.bt_session.proofs.Wanted.{chosen_all}
 use Rattle.bt_session.proofs.Gathered.{Ran, checkers_check, finished, in_order, ran_by, swarmed}
 use Rattle.bt_session.proofs.swarm_run.run.Given as given
 use Rattle.bt_session.proofs.swarm_run.run.Goals as goal
@@ -31,18 +33,27 @@ ran g c =
 pub returns-clause-sessions : goal.returns-clause-sessions
 returns-clause-sessions g c =
     let book = c.in_ok-book.ensures in
-    swarmed (ran g c) c.in_ok-book.book.logs.items c.in_ok-book.book.desk.history book.logs (book.count ∙ (ran g c).many') book.had
+    swarmed (ran g c) c.in_ok-book.book.logs.items c.in_ok-book.book.desk.history book.logs book.agrees book.seen
+    (book.count ∙ (ran g c).many') book.had
     c.is_short-short.result c.is_short-short.ensures.noted
 
 pub returns-clause-checks : goal.returns-clause-checks
 returns-clause-checks g c =
     let book = c.in_ok-book.ensures in
-    checkers_check (ran g c) c.in_ok-book.book.logs.items c.in_ok-book.book.desk.history book.logs (book.count ∙ (ran g c).many') book.had
+    checkers_check (ran g c) c.in_ok-book.book.logs.items c.in_ok-book.book.desk.history book.logs book.agrees book.seen
+    (book.count ∙ (ran g c).many') book.had
 
 pub returns-clause-finishes : goal.returns-clause-finishes
 returns-clause-finishes g c =
     let book = c.in_ok-book.ensures in
-    finished (ran g c) c.in_ok-book.book.logs.items c.in_ok-book.book.desk.history book.logs (book.count ∙ (ran g c).many') book.had
+    finished (ran g c) c.in_ok-book.book.logs.items c.in_ok-book.book.desk.history book.logs book.agrees book.seen
+    (book.count ∙ (ran g c).many') book.had
 
 pub work-requires : goal.work-requires
 work-requires g c = grind (arith, common_steps)
+
+pub returns-clause-chosen : goal.returns-clause-chosen
+returns-clause-chosen g c =
+    let book = c.in_ok-book.ensures in
+    chosen_all (ran g c) c.in_ok-book.book.logs.items c.in_ok-book.book.desk book.logs book.agrees book.seen (book.count ∙ (ran g c).many') book.had
+    (ap (λ (s : Setting). s.workers) c.requires.setting) book.legal

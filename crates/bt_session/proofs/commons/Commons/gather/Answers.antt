@@ -2,6 +2,7 @@ use Rattle.std.proofs.Common.{◌≡◌, List, length, sym, ap, subst, ◌∙◌
 use Rattle.std.proofs.lemmas.Grind.{common_steps}
 use Rattle.bt_meta.specs.Layout.{Layout, piece_count}
 use Rattle.bt_session.proofs.Seats.{all_had, all_stand, are_of}
+use Rattle.bt_shared.specs.Closing.{EachKnows}
 use Rattle.bt_shared.specs.Gathering.{EachFrom}
 use Rattle.bt_shared.specs.Passes.{PassState}
 use Rattle.bt_session.proofs.commons.Commons.gather.Goals as goal
@@ -33,3 +34,7 @@ returns-in_err-gather-clause-err g c = grind (arith, common_steps)
 
 pub returns-clause-legal : goal.returns-clause-legal
 returns-clause-legal g c = grind (arith, common_steps)
+
+pub returns-clause-seen : goal.returns-clause-seen
+returns-clause-seen g c =
+    subst (λ (passes : List PassState). EachKnows c.in_ok-gather.field-0.desk.history passes) c.join_seats.ensures.passes c.in_ok-gather.ensures.seen

@@ -62,7 +62,7 @@ checks g c i worker below =
     rw (
       part_at (λ h. h.promise.worker.value) ks _ c.in-Ok.ensures.checkers i k.handle worker there k.handle_is,
       get_or-map (λ p. p.worker) c.join_each-2.new.all.items i d worker (omega (arith, there, joined_checkers g c)),
-    ) k.kept
+    ) k.kept.makes
 
 pub returns-in-Ok : goal.returns-in-Ok
 returns-in-Ok g c = record {
