@@ -12,17 +12,20 @@ use Rattle.bt_session.specs.Workers.{WorkerState}
 rounds_told : (s : Setting) (old new : WorkerState) (rounds : List (List ℕ)) (short more : Bool) → (short ≡ true → more ≡ true) →
     MakesRounds s old rounds short new → MakesRounds s old rounds more new
 rounds_told s old new [] short more up same = same
-rounds_told s old new (pieces ∷ rounds) short more up (mid, (round, rest)) = (mid, (
-  record {
-    taken = round.taken;
-    is_last = round.is_last;
-    given_up = round.given_up;
-    told = λ is. up (round.told is);
-    takes = round.takes;
-    sees = round.sees;
-  },
-  rounds_told s mid new rounds short more up rest,
-))
+rounds_told s old new (pieces ∷ rounds) short more up (mid, (round, rest)) = (
+  mid,
+  (
+    record {
+      taken = round.taken;
+      is_last = round.is_last;
+      given_up = round.given_up;
+      told = λ is. up (round.told is);
+      takes = round.takes;
+      sees = round.sees;
+    },
+    rounds_told s mid new rounds short more up rest,
+  ),
+)
 
 rounds_last : (s : Setting) (old mid new : WorkerState) (rounds : List (List ℕ)) (pieces : List ℕ) (short : Bool) →
     MakesRounds s old rounds short mid → MakesRound s mid pieces short new → MakesRounds s old (rounds ++ pieces ∷ []) short new
