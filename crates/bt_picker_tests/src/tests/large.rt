@@ -1,6 +1,7 @@
 //! Desks that scripts are too small for: a million calls, and a piece of 32 MiB.
 ghost use Rattle.std.specs.Prelude.{◌≡◌, ◌<◌};
 
+use super::audits::finds;
 use super::same::same;
 use super::steps::hashed;
 use bt_meta::{BLOCK_SIZE, Torrent};
@@ -77,6 +78,20 @@ impl Alone {
     fn entries(&self) -> usize {
         self.desk.journal().len()
     }
+
+    /// An audit finds no entry that isn't allowed.
+    fn is_a_journal(&self, rt: &impl Abort, alloc: Global) -> Result<(), Fail> {
+        let entries = self.desk.journal();
+        finds(
+            rt,
+            alloc,
+            self.desk.torrent(),
+            1,
+            Rules::usual(),
+            entries,
+            None,
+        )
+    }
 }
 
 /// The block of zeros with this number comes.
@@ -90,7 +105,7 @@ fn block(index: u32) -> Call
     }
 }
 
-/// A desk has an answer to each of a million calls, and an entry of each.
+/// A desk has an answer to each of a million calls, and an entry of each. All of them are a journal by the rules.
 #[test]
 fn a_million_calls(rt: HostRuntime) -> Result<(), Fail> {
     let mut alone = Alone::new(&rt, rt.alloc())?;
@@ -98,7 +113,7 @@ fn a_million_calls(rt: HostRuntime) -> Result<(), Fail> {
         alone.says(&rt, Call::Choke, Reply::Quiet)?;
     }
     same(&rt, alone.entries(), CALLS + 1, "entries");
-    Ok(())
+    alone.is_a_journal(&rt, rt.alloc())
 }
 
 /// The job of a piece of 32 MiB is handed out, and it is had.
