@@ -136,7 +136,7 @@ def resumed(place: Place, who: str) -> Outcome:
         leecher.process.wait()
         assert leecher.process.stdout
         leecher.process.stdout.close()
-        command, out = [str(word) for word in leecher.process.args], leecher.out  # type: ignore[union-attr]
+        command, out = [str(word) for word in leecher.process.args], leecher.out  # type: ignore[union-attr]  # a list, as it was given
         place.clients.remove(leecher)
         leecher = place.start("fetch", command, leecher.host, leecher.port, out, -1)
     leecher.began = began

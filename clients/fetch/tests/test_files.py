@@ -239,7 +239,7 @@ class Folders(Downloading):
 
     def test_name_behind_slash(self) -> None:
         """A slash behind the folder puts the torrent's own name there."""
-        self.out = f"{self.out}/"  # type: ignore[assignment]
+        self.out = f"{self.out}/"  # type: ignore[assignment]  # a path keeps no slash
         self.fetch(self.seeder())
         self.out = self.folder / "out" / "folder"
         self.assertEqual(self.found(), parts())

@@ -29,10 +29,10 @@ class Closed(unittest.TestCase):
         made = with_peer()
         made.close()
         made.close()
-        calls = [made.join, made.next, made.outstanding, made.level, made.piece_hash, made.audit]
+        calls: list[Callable[..., object]] = [made.join, made.next, made.outstanding, made.level, made.piece_hash, made.audit]
         for call, arguments in zip(calls, [(0,), (0,), (0,), (0,), (0,), ()]):
             with self.assertRaises(PiecepickError) as caught:
-                call(*arguments)  # type: ignore[operator]
+                call(*arguments)
             self.assertIs(caught.exception.status, Status.SHUT)
         self.assertRaises(PiecepickError, lambda: made.epoch)
         self.assertRaises(PiecepickError, lambda: made.name)
