@@ -7,10 +7,10 @@ import os
 import unittest
 
 from bencode import BencodeFault, Value, bdecode, bencode
-from fetch.download import open_picker
 from fetch.layout import Layout, levels_of, printable, safe_path
 from fetch.metainfo import MetainfoFault, files_of, is_folder, trackers_of
 from fetch.options import Options
+from fetch.parts import open_picker
 from fetch.storage import Storage
 from piecepick import Picker
 
