@@ -48,4 +48,4 @@ if has "cargo clippy" cargo clippy --version; then
     rust tools/swarm || bad "clippy, of tools/swarm,"
 fi
 [ "$found" = 0 ] || exit 1
-echo "lint.sh: clean"
+echo "lint.sh: nothing found"
