@@ -15,6 +15,7 @@ abi=$(sed -n 's/^#define PIECEPICK_ABI \([0-9][0-9]*\)u$/\1/p' "$here/piecepick.
 [ -f "$heap" ] || fail "there is no $heap: PIECEPICK_HEAP names the archive of the functions by which Rattle calls malloc"
 [ -n "$abi" ] || fail "piecepick.h has no line '#define PIECEPICK_ABI Nu'"
 "$here/../tools/build.py" bt_c
+# shellcheck disable=SC2086  # they are words
 (cd "$here/../crates/bt_c" && rt lib ${PIECEPICK_FLAGS:-})
 export LC_ALL=C
 work=$(mktemp -d)

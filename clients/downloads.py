@@ -136,7 +136,7 @@ def resumed(place: Place, who: str) -> Outcome:
         leecher.process.wait()
         assert leecher.process.stdout
         leecher.process.stdout.close()
-        command, out = [str(word) for word in leecher.process.args], leecher.out  # type: ignore[union-attr]
+        command, out = [str(word) for word in leecher.process.args], leecher.out  # type: ignore[union-attr]  # a list, as it was given
         place.clients.remove(leecher)
         leecher = place.start("fetch", command, leecher.host, leecher.port, out, -1)
     leecher.began = began
@@ -230,8 +230,8 @@ def picture(path: str) -> None:
         shares: list[list[tuple[float, float]]] = [[(0, 1)], [(0, 0.45), (0.6, 1)], [(0, 0.3), (0.45, 0.8)], [(0.8, 1)]]
         try:
             for share in shares:
-                parts = [range(int(first * count), int(last * count)) for first, last in share]
-                place.wait_ready(aria2(place, True, 700, keeps=lambda piece, parts=parts: any(piece in part for part in parts)))
+                kept = {piece for first, last in share for piece in range(int(first * count), int(last * count))}
+                place.wait_ready(aria2(place, True, 700, keeps=kept.__contains__))
             addresses = [client.address for client in place.clients]
             words = ("--no-tracker", "--slots", "0", "--picture", path)
             leecher = fetch(place, False, words=words, peers=tuple(addresses))

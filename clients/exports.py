@@ -23,7 +23,7 @@ NATIVE = HERE / "python" / "piecepick" / "_native.py"
 PREFIX = "piecepick_"
 
 # What a parameter of an export is in C; a slice is two, of which the second is its length. The allocator takes no room in a call.
-IN_C = {
+IN_C: dict[str, list[str]] = {
     "Global": [],
     "u32": ["uint32_t"],
     "u64": ["uint64_t"],

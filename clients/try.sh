@@ -1,8 +1,8 @@
 #!/bin/sh
 # Compiles the examples and the tests as C11 and as C++17 with all warnings as errors. It runs them under the address and undefined behaviour
 # checks, of the C side: the library is built without them. Run build.sh first. Before that it compares the header with what the library
-# exports, and sees that mistakes with the header don't compile. Behind that it plays downloads with delays, in virtual time, and runs the
-# tests of the Python package and of the Rust crate.
+# exports, and sees that mistakes with the header don't compile. Behind that it plays downloads with delays, in virtual time, runs the
+# tests of the Python package and of the Rust crate, and has the checkers of lint.sh look over the sources.
 set -eu
 here=$(cd "$(dirname "$0")" && pwd)
 fail() { echo "try.sh: $1" >&2; exit 1; }
@@ -25,8 +25,10 @@ open("try.torrent", "wb").write(file)
 # The info dictionary is the last value of the file.
 open("infohash", "w").write(hashlib.sha1(file[file.index(b"4:info") + 6 : -1]).hexdigest())
 PY
-plain="-Wall -Wextra -Werror -I$here"
-flags="$plain -g -fsanitize=address,undefined -fno-sanitize-recover=all"
+# warned COMPILER WORD..: all warnings are errors. COMPILER may be several words.
+warned() { compiler=$1; shift; $compiler -Wall -Wextra -Werror "-I$here" "$@"; }
+# checked COMPILER WORD..: with the checks of addresses and of undefined behaviour beside them.
+checked() { compiled_by=$1; shift; warned "$compiled_by" -g -fsanitize=address,undefined -fno-sanitize-recover=all "$@"; }
 
 # wrong WHAT MISTAKE RIGHT: each of these compilers that is there takes the line that is right, and doesn't take the mistake.
 each="gcc -std=c11,g++ -std=c++17 -x c++,clang++ -std=c++17 -x c++,clang -std=c11"
@@ -36,8 +38,8 @@ wrong() {
     echo "$each" | tr ',' '\n' > compilers
     while read -r language; do
         command -v "${language%% *}" > /dev/null || continue
-        $language $plain -c wrong.c -o wrong.o || fail "$language doesn't take what is right of: $1"
-        ! $language $plain -DMISTAKE -c wrong.c -o wrong.o 2> said || fail "$language takes $1"
+        warned "$language" -c wrong.c -o wrong.o || fail "$language doesn't take what is right of: $1"
+        ! warned "$language" -DMISTAKE -c wrong.c -o wrong.o 2> said || fail "$language takes $1"
     done < compilers
     echo "doesn't compile: $1"
 }
@@ -55,19 +57,19 @@ wrong "a picker in place of a job" 'return piecepick_job_hash(picker) != PIECEPI
 wrong "a picker in place of its pointer" 'piecepick_close(picker); return !answer;' 'piecepick_close(&picker); return !answer;'
 
 for language in "gcc -std=c11" "g++ -std=c++17 -x c++"; do
-    $language $flags -c "$here/example.c" -o example.o
+    checked "$language" -c "$here/example.c" -o example.o
     g++ -fsanitize=address,undefined example.o "$here/out/libpiecepick.a" -o example
     ./example try.torrent content
-    $language $flags -c "$here/tests.c" -o tests.o
+    checked "$language" -c "$here/tests.c" -o tests.o
     g++ -fsanitize=address,undefined -Wl,--wrap=malloc,--wrap=realloc tests.o "$here/out/libpiecepick.a" -lpthread -o tests
     ./tests try.torrent content "$(cat infohash)" content
-    $language $flags -c "$here/quick.c" -o quick.o
+    checked "$language" -c "$here/quick.c" -o quick.o
     g++ -fsanitize=address,undefined quick.o "$here/out/libpiecepick.a" -o quick
     ./quick
     echo "$language: well"
 done
 
-g++ -std=c++17 $flags -Wconversion -Wshadow "$here/example.cpp" "$here/out/libpiecepick.a" -o example
+checked "g++ -std=c++17" -Wconversion -Wshadow "$here/example.cpp" "$here/out/libpiecepick.a" -o example
 ./example try.torrent content
 # A picker and a job are moved and never copied, and an empty one throws.
 cat > moves.cpp <<'CPP'
@@ -130,12 +132,12 @@ int main()
     return well && !first.is_complete() && throws(PIECEPICK_E_NOT_HAD, [&] { first.read(0, room); }) ? 0 : 1;
 }
 CPP
-g++ -std=c++17 $flags moves.cpp "$here/out/libpiecepick.a" -o moves
+checked "g++ -std=c++17" moves.cpp "$here/out/libpiecepick.a" -o moves
 ./moves || fail "piecepick.hpp doesn't do what its words say"
 if command -v clang++ > /dev/null; then
-    clang++ -std=c++17 $plain "$here/example.cpp" "$here/out/libpiecepick.a" -o example
+    warned "clang++ -std=c++17" "$here/example.cpp" "$here/out/libpiecepick.a" -o example
     ./example try.torrent content
-    clang++ -std=c++17 $plain moves.cpp "$here/out/libpiecepick.a" -o moves
+    warned "clang++ -std=c++17" moves.cpp "$here/out/libpiecepick.a" -o moves
     ./moves || fail "piecepick.hpp by clang++ doesn't do what its words say"
 fi
 echo "piecepick.hpp: well"
@@ -153,3 +155,4 @@ if command -v cargo > /dev/null; then
 else
     echo "cargo isn't here: the Rust crate was passed over"
 fi
+"$here/lint.sh"

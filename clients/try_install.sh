@@ -35,25 +35,27 @@ run() {
     [ "$2$wanted" = "shared$soname" ] || [ "$2$wanted" = static ] || fail "the $2 example needs '$wanted' at run time"
 }
 
-# by_pkg_config LIB: the example with the flags that pkg-config gives now.
-by_pkg_config() {
-    flags=$(pkg-config --cflags piecepick) && libs=$(pkg-config --libs piecepick) || fail "pkg-config finds no piecepick"
+# by_pkg_config LIB [SYSROOT]: the example with the flags that pkg-config gives, in a subshell, so that its variables stay there.
+by_pkg_config() (
+    export PKG_CONFIG_LIBDIR="$1/pkgconfig"
+    [ $# -lt 2 ] || export PKG_CONFIG_SYSROOT_DIR="$2"
+    flags=$(pkg-config --cflags piecepick) || fail "pkg-config finds no piecepick"
+    libs=$(pkg-config --libs piecepick) || fail "pkg-config knows no libraries of piecepick"
     [ "$(pkg-config --modversion piecepick)" = "$version" ] || fail "pkg-config has another version than $version"
+    # shellcheck disable=SC2086  # what pkg-config gives are words
     $cc -std=c11 $flags "$here/example.c" -o "$work/shared" $libs -Wl,-rpath,"$1" || fail "no program by pkg-config"
     run "$work/shared" shared
+    # shellcheck disable=SC2086  # the same
     $cc -std=c11 $flags "$here/example.c" -o "$work/static" -Wl,-Bstatic $libs -Wl,-Bdynamic || fail "no static program by pkg-config"
     run "$work/static" static
-}
+)
 
 # As a package: below DESTDIR, whose name is in none of the files.
 stage=$work/stage lib=$work/stage/opt/piecepick/lib/any-linux
 package() { DESTDIR=$stage PREFIX=/opt/piecepick LIBDIR=/opt/piecepick/lib/any-linux "$here/install.sh" "$@" > "$work/said"; }
 package || fail "install.sh failed"
 ! grep -rlF "$work" "$stage" || fail "these files name the folder that they were put into"
-(
-    export PKG_CONFIG_LIBDIR="$lib/pkgconfig" PKG_CONFIG_SYSROOT_DIR="$stage"
-    by_pkg_config "$lib"
-)
+by_pkg_config "$lib" "$stage"
 echo "pkg-config, below a DESTDIR: shared and static"
 
 # The names.
@@ -90,10 +92,7 @@ echo "uninstall: nothing is left"
 DESTDIR=$work/first PREFIX=/here "$here/install.sh" --relocatable > "$work/said" || fail "install.sh --relocatable failed"
 root=$work/moved
 mv "$work/first/here" "$root"
-(
-    export PKG_CONFIG_LIBDIR="$root/lib/pkgconfig"
-    by_pkg_config "$root/lib"
-)
+by_pkg_config "$root/lib"
 echo "pkg-config, in a folder that was moved: shared and static"
 
 if ! command -v cmake > /dev/null; then

@@ -7,8 +7,11 @@ LINES is 10 where it isn't said. An answer's lines are those of its body: its na
 there are of how many. Answers that `tools/examples.py` writes are left out.
 """
 
+from __future__ import annotations
+
 import argparse
 import re
+from collections.abc import Iterator
 from pathlib import Path
 
 ROOT = Path(__file__).resolve().parent.parent
@@ -16,7 +19,7 @@ WRITTEN = "bt_history/proofs/examples/"
 HEAD = re.compile(r"pub (\S+) : goal\.")
 
 
-def answers(path):
+def answers(path: Path) -> Iterator[tuple[str, int, int]]:
     """The name of each answer of a file, with its first line and how many lines its body has."""
     lines = path.read_text(encoding="utf-8").splitlines()
     for number, line in enumerate(lines):
@@ -33,7 +36,7 @@ def answers(path):
         yield head.group(1), number + 1, len(body) - (1 if body and body[0].rstrip().endswith("=") else 0)
 
 
-def main():
+def main() -> None:
     words = argparse.ArgumentParser(description=__doc__.splitlines()[0])
     words.add_argument("lines", type=int, nargs="?", default=10)
     most = words.parse_args().lines

@@ -12,6 +12,8 @@ repository below both are built one after the other, since `rt` works for one at
 processors are shared among those that run, as far as there is memory for so many jobs.
 """
 
+from __future__ import annotations
+
 import argparse
 import concurrent.futures
 import os
@@ -19,13 +21,14 @@ import subprocess
 import sys
 import threading
 import time
+from typing import TextIO
 
 ROOT = os.path.dirname(os.path.dirname(os.path.abspath(__file__)))
 
 
-def graph():
+def graph() -> dict[str, list[str]]:
     """Each crate of this repository with those of it that it stands on, lowest first."""
-    below = {}
+    below: dict[str, list[str]] = {}
     with open(os.path.join(ROOT, "crates.txt"), encoding="utf-8") as lines:
         for line in lines:
             head, colon, rest = line.partition(":")
@@ -34,11 +37,11 @@ def graph():
     return {name: [other for other in others if other in below] for name, others in below.items()}
 
 
-def needed(below, crate):
+def needed(below: dict[str, list[str]], crate: str) -> list[str]:
     """The crates below this one, lowest first."""
-    found = set()
+    found: set[str] = set()
 
-    def visit(name):
+    def visit(name: str) -> None:
         for other in below[name]:
             if other not in found:
                 found.add(other)
@@ -48,14 +51,14 @@ def needed(below, crate):
     return [name for name in below if name in found]
 
 
-def jobs_for(crates):
+def jobs_for(crates: int) -> int:
     """How many jobs each of so many crates may have: a job takes up to 3 GB, beside some 4 GB for its crate."""
     with open("/proc/meminfo", encoding="utf-8") as lines:
         free = next(int(line.split()[1]) for line in lines if line.startswith("MemAvailable:")) // 1_000_000
     return max(1, min((os.cpu_count() or 1) // crates, (free // crates - 4) // 3))
 
 
-def build(crate, jobs, log, lock):
+def build(crate: str, jobs: int, log: TextIO, lock: threading.Lock) -> float | None:
     """Runs `rt lib` in the crate's folder. Gives the seconds that it took, or None where it failed."""
     start = time.monotonic()
     words = ["rt", "lib", "--jobs", str(jobs)]
@@ -69,23 +72,25 @@ def build(crate, jobs, log, lock):
     return time.monotonic() - start
 
 
-def apart(families, ready, running, at_once):
+def apart(families: dict[str, set[str]], ready: list[str], running: list[str], at_once: int) -> list[str]:
     """Those of the ready crates that may be begun beside the running ones: no two have a crate below both."""
-    chosen = []
+    chosen: list[str] = []
     for name in ready:
         if len(running) + len(chosen) < at_once and not any(families[name] & families[other] for other in [*running, *chosen]):
             chosen.append(name)
     return chosen
 
 
-def run(crate, at_once):
+def run(crate: str, at_once: int) -> bool:
     """Builds all that the crate stands on. Gives whether all could be built."""
     below = graph()
     if crate not in below:
         sys.exit(f"build: {crate} is no crate of crates.txt")
     waiting = needed(below, crate)
     families = {name: {name, *needed(below, name)} for name in waiting}
-    total, built, running, lock = len(waiting), set(), {}, threading.Lock()
+    total, lock = len(waiting), threading.Lock()
+    built: set[str] = set()
+    running: dict[concurrent.futures.Future[float | None], str] = {}
     folder = os.path.join(ROOT, "crates", crate, "out")
     os.makedirs(folder, exist_ok=True)
     with open(os.path.join(folder, "build.log"), "w", encoding="utf-8") as log, concurrent.futures.ThreadPoolExecutor(at_once) as pool:
@@ -107,7 +112,7 @@ def run(crate, at_once):
     return True
 
 
-def main():
+def main() -> None:
     words = argparse.ArgumentParser(description=__doc__.splitlines()[0])
     words.add_argument("crate")
     words.add_argument("--at-once", type=int, default=2 if (os.cpu_count() or 1) >= 4 else 1)

@@ -9,9 +9,12 @@ another file of its crate is the same. A public function of a private module is 
 Afterwards the status is 1 where a clause of it is gone: then either a contract is weaker, or a name in it has changed.
 """
 
+from __future__ import annotations
+
 import argparse
 import re
 import sys
+from collections.abc import Iterator
 from pathlib import Path
 
 ROOT = Path(__file__).resolve().parent.parent
@@ -20,15 +23,17 @@ FUNCTION = re.compile(r"^\s*pub(?P<scope>\([a-z]+\))? (?:const |unsafe |extern \
 CLAUSE = re.compile(r"^\s*(?:requires|ensures)\b")
 
 
-def owner_of(rest):
+def owner_of(rest: str) -> str:
     """The type that an impl is for, or the name of a trait."""
     rest = re.sub(r"^<[^{]*?>\s", "", rest).split(" where ")[0].split("{")[0].strip()
     return re.sub(r"<.*", "", rest.split(" for ")[-1]).strip()
 
 
-def clauses_of(path, crate):
+def clauses_of(path: Path, crate: str) -> Iterator[str]:
     """The clauses of the public functions of one file, each as one line."""
-    owner, function, clause = "", None, None
+    owner = ""
+    function: str | None = None
+    clause: str | None = None
     for line in path.read_text(encoding="utf-8").split("\n"):
         bare = line.strip()
         if not line.startswith(" ") and (found := OWNER.match(line)):
@@ -52,16 +57,16 @@ def clauses_of(path, crate):
             function = None
 
 
-def clauses():
+def clauses() -> list[str]:
     """Those of all crates, sorted."""
-    found = []
+    found: list[str] = []
     for source in sorted((ROOT / "crates").glob("*/src")):
         for path in sorted(source.rglob("*.rt")):
             found += clauses_of(path, source.parent.name)
     return sorted(found)
 
 
-def main():
+def main() -> None:
     words = argparse.ArgumentParser(description=__doc__.splitlines()[0])
     words.add_argument("--against", metavar="FILE")
     asked = words.parse_args()

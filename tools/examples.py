@@ -7,7 +7,10 @@ too: `worked_examples` proves each legal, and each wrong reply not allowed. The 
 the top of the repository after an edit, then `rt tidy` in bt_history, which lays the files out.
 """
 
+from __future__ import annotations
+
 import copy
+from collections.abc import Iterable
 
 from model import Model, Refused, Rules, Torrent
 
@@ -15,7 +18,7 @@ ABC = "a9993e364706816aba3e25717850c26c9cd0d89d"  # SHA-1 of abc
 A = "86f7e437faa5a7fce15d1ddcb9eaeaea377667b8"  # of a
 MILLION = "34aa973cd4c4daa4f61eeb2bdbad27316534016f"  # of a million a
 
-TORRENTS = {  # name: piece length, total, hashes
+TORRENTS: dict[str, tuple[int, int, list[str]]] = {  # name: piece length, total, hashes
     "short_last": (3, 7, [ABC, ABC, A]),
     "one_piece": (3, 3, [ABC]),
     "two_pieces": (3, 6, [ABC, ABC]),
@@ -28,15 +31,15 @@ USUAL = (5, 1)  # depth, random
 MOST_WORKERS, MOST_DEPTH = 1024, 64  # in endgame any number of peers for a block, and no depth told beyond 64: the usual rules
 
 
-def enters(worker, bits):
+def enters(worker: int, bits: str) -> list[str]:
     return [f"{worker} join = joined", f"{worker} bits {bits} = noted yes", f"{worker} unchoke = quiet"]
 
 
-def checked(worker, piece, hexadecimal, reply="had"):
+def checked(worker: int, piece: int, hexadecimal: str, reply: str = "had") -> list[str]:
     return [f"{worker} block {piece} 0 {hexadecimal} = completed", f"{worker} settle {piece} {hexadecimal} = {reply}"]
 
 
-def blocks_asked(count):
+def blocks_asked(count: int) -> list[str]:
     return enters(0, "80") + [f"0 next 0 = request 0 {16384 * k} 16384" for k in range(count)]
 
 
@@ -48,7 +51,7 @@ RARE_FIRST = enters(0, "e0") + ["1 join = joined", "1 bits c0 = noted yes", "0 n
 RAREST_FIRST = ["0 join = joined", "0 bits e0 = noted yes", "1 join = joined", "1 bits 40 = noted yes", "0 unchoke = quiet",
                 "0 next 2 = request 2 0 1"] + checked(0, 2, "61")
 
-RULES = {  # of the examples that don't go by the usual ones: depth, random, and where they matter askers, deepest
+RULES: dict[str, tuple[int, ...]] = {  # of the examples that don't go by the usual ones: depth, random, and where they matter askers, deepest
     "depth_two": (2, 1),
     "deep_pipe": (64, 1),
     "rarest_from_the_start": (5, 0),
@@ -64,7 +67,7 @@ RULES = {  # of the examples that don't go by the usual ones: depth, random, and
     "want_after_levels": (5, 0),
 }
 
-EXAMPLES = {  # name: torrent, workers, lines
+EXAMPLES: dict[str, tuple[str, int, list[str]]] = {  # name: torrent, workers, lines
     "first_request": ("short_last", 1, enters(0, "e0") + ["0 next 5 = request 2 0 1"]),
     "another_first_request": ("short_last", 1, enters(0, "e0") + ["0 next 5 = request 0 0 3"]),
     "one_peer_to_the_end": ("short_last", 1, enters(0, "e0") + [
@@ -121,8 +124,8 @@ EXAMPLES = {  # name: torrent, workers, lines
         "0 next 2 = request 2 0 3"] + checked(0, 2, "616263") + ["0 next 3 = request 1 0 3"]),
     "wants": ("short_last", 2, ["1 want 40 = quiet"] + enters(0, "e0") + [
         "0 next 0 = request 1 0 3", "0 next 0 = idle", "0 want a0 = quiet", "0 next 0 = request 0 0 3", "0 want 00 = quiet",
-        "0 next 0 = nothing"] + checked(0, 1, "616263") + ["0 want 40 = quiet", "0 have 2 = noted no",
-        "1 wants 0000 = refused WrongCount"]),
+        "0 next 0 = nothing"] + checked(0, 1, "616263") + [
+        "0 want 40 = quiet", "0 have 2 = noted no", "1 wants 0000 = refused WrongCount"]),
     "endgame_of_the_wanted": ("two_pieces", 2, enters(0, "c0") + enters(1, "c0") + [
         "0 next 0 = request 0 0 3", "1 want 80 = quiet", "1 next 0 = request 0 0 3", "1 want c0 = quiet", "0 next 0 = request 1 0 3"]),
     "want_before_the_bits": ("short_last", 1, ["0 join = joined", "0 want 40 = quiet", "0 bits e0 = noted yes"]),
@@ -209,8 +212,8 @@ EXAMPLES = {  # name: torrent, workers, lines
         "0 next 0 = request 0 0 3"]),
     "endgame_of_all_levels": ("two_pieces", 3, ["2 levels 71 = quiet"] + enters(0, "c0") + enters(1, "c0") + enters(2, "c0") + [
         "0 next 0 = request 0 0 3", "1 next 0 = request 1 0 3", "2 next 0 = request 1 0 3", "2 next 0 = request 0 0 3"]),
-    "asked_outlasts_its_level": ("two_pieces", 1, enters(0, "c0") + ["0 next 0 = request 0 0 3", "0 level 0 0 = quiet"]
-        + checked(0, 0, "616263") + ["0 next 0 = request 1 0 3"]),
+    "asked_outlasts_its_level": ("two_pieces", 1, enters(0, "c0") + [
+        "0 next 0 = request 0 0 3", "0 level 0 0 = quiet"] + checked(0, 0, "616263") + ["0 next 0 = request 1 0 3"]),
     "refusals_of_levels": ("short_last", 2, [
         "0 level 3 4 = refused NoSuchPiece", "0 level 0 8 = refused WrongLevel", "0 level 9 9 = refused NoSuchPiece",
         "1 levels 44 = refused WrongCount", "1 levels 4444 = refused WrongCount", "1 levels 484 = refused WrongLevel",
@@ -219,7 +222,7 @@ EXAMPLES = {  # name: torrent, workers, lines
         "0 next 0 = request 2 0 1", "0 next 0 = request 1 0 3", "0 next 0 = request 0 0 3"]),
 }
 
-WRONG = {  # name: example, how many entries of it came before, the wrong entry
+WRONG: dict[str, tuple[str, int, str]] = {  # name: example, how many entries of it came before, the wrong entry
     "idle_though_a_block_is_usable": ("one_peer_to_the_end", 3, "0 next 5 = idle"),
     "second_piece_started_while_a_begun_one_has_a_usable_block": ("strict_priority", 4, "0 next 1 = request 1 0 16384"),
     "availability_counts_a_peer_that_left": ("gone_peer_not_counted", 11, "0 next 1 = request 1 0 3"),
@@ -324,7 +327,7 @@ WHERE_BLOCKS_MAY_BE_NAMED = {  # wrong entries in whose place the rules allow a 
     "level_from_before_the_bits_forgotten", "endgame_though_a_low_level_is_unasked",
 }
 
-WRONG_IN_AUDITS = {  # example: how many entries of it came before, the wrong entry; for the examples that have none above
+WRONG_IN_AUDITS: dict[str, tuple[int, str]] = {  # example: how many entries of it came before, the wrong entry; for the examples that have none above
     "another_first_request": (3, "0 next 5 = nothing"),
     "failed_check": (7, "0 settle 0 616264 = refused Stale"),
     "block_by_block": (3, "0 block 0 16384 X = stored"),
@@ -337,30 +340,30 @@ WRONG_IN_AUDITS = {  # example: how many entries of it came before, the wrong en
 }
 
 
-def setting(name):
+def setting(name: str) -> str:
     """The setting of an example, by the definitions."""
     torrent, workers, _ = EXAMPLES[name]
     return f"(setting_of torrent_{torrent} {workers} {rules(name)})"
 
 
-def rules(name):
+def rules(name: str) -> str:
     """The rules of an example, by the definitions."""
     chosen = RULES.get(name, ())
     function = {0: "usual_rules", 2: "rules", 4: "bounded_rules"}[len(chosen)]
     return f"({' '.join([function, *map(str, chosen)])})" if chosen else function
 
 
-def items(xs):
+def items(xs: Iterable[str]) -> str:
     return " ∷ ".join([*xs, "[]"])
 
 
-def in_bytes(text):
+def in_bytes(text: str) -> str:
     if text == "X":
         return "(replicate 16384 97)"
     return "(" + items([str(b) for b in bytes.fromhex(text)]) + ")"
 
 
-def flags(text, count):
+def flags(text: str, count: int) -> str:
     value, width = int(text, 16), 4 * len(text)
     return "(" + items(["true" if value >> (width - 1 - p) & 1 else "false" for p in range(count)]) + ")"
 
@@ -369,7 +372,7 @@ PLAIN = {"joined": "Joined", "quiet": "Quiet", "idle": "Idle", "nothing": "Nothi
          "had": "Had", "failed": "Failed", "dropped": "Dropped", "choked": "Choked", "pipefull": "PipeFull"}
 
 
-def action(words, pieces):
+def action(words: list[str], pieces: int) -> str:
     match words:
         case ["bits", text]: return f"(Bits {flags(text, pieces)})"
         case ["flags", text]: return f"(Bits {flags(text, len(text))})"
@@ -387,28 +390,31 @@ def action(words, pieces):
         case ["block", piece, begin, text]: return f"(Arrived {piece} {begin} {in_bytes(text)})"
         case ["settle", piece, text]: return f"(Settle {piece} {in_bytes(text)})"
         case [word]: return word.capitalize()
+    raise ValueError(f"no call: {words}")
 
 
-def reply(words):
+def reply(words: list[str]) -> str:
     match words:
         case ["noted", answer]: return f"(Noted {'true' if answer == 'yes' else 'false'})"
         case ["refused", reason]: return f"(Refused {reason})"
         case ["request" | "cancel" as kind, piece, begin, length]: return f"({kind.capitalize()} (block_of {piece} {begin} {length}))"
         case [word]: return PLAIN[word]
+    raise ValueError(f"no reply: {words}")
 
 
-def entry(line, torrent):
+def entry(line: str, torrent: str) -> str:
     call, said = (side.split() for side in line.split("="))
     return f"entry {call[0]} {action(call[1:], len(TORRENTS[torrent][2]))} {reply(said)}"
 
 
-def imports(line, width):
+def imports(line: str, width: int) -> str:
     """The import as lines that are not too long: of a list of names, so many on each."""
     if len(line) <= width:
         return line
     path, names = line.rstrip("};").split("{")
     end = line[len(line.rstrip("};")):]
-    lines, row = [], []
+    lines: list[list[str]] = []
+    row: list[str] = []
     for name in names.split(", "):
         if row and len(path) + len(", ".join([*row, name])) + 1 + len(end) > width:
             lines.append(row)
@@ -417,12 +423,15 @@ def imports(line, width):
     return "\n".join(f"{path}{{{', '.join(row)}{end}" for row in [*lines, row])
 
 
-def laid_out(text, width):
+def laid_out(text: str, width: int) -> str:
     """The text with no import of a list that is too long."""
-    return "\n".join(imports(line, width) if line.startswith(("use ", "ghost use ")) and line.rstrip(";").endswith("}") else line for line in text.split("\n"))
+    def is_list(line: str) -> bool:
+        return line.startswith(("use ", "ghost use ")) and line.rstrip(";").endswith("}")
+
+    return "\n".join(imports(line, width) if is_list(line) else line for line in text.split("\n"))
 
 
-def digest(hexadecimal):
+def digest(hexadecimal: str) -> str:
     """A digest in two rows."""
     rows = [" ∷ ".join(f"0x{hexadecimal[i:i + 2]}" for i in range(start, start + 20, 2)) for start in (0, 20)]
     return f"({rows[0]}\n          ∷ {rows[1]} ∷ [])"
@@ -432,7 +441,7 @@ REASONS = ["NotJoined", "AlreadyJoined", "LateBits", "WrongCount", "NoSuchPiece"
            "NotAsked", "WrongDepth", "WrongLevel"]
 
 
-def counted(model, worker, word, text):
+def counted(model: Model, worker: str, word: str, text: str) -> str:
     """The reply to a call with so many flags, all of them off."""
     peer = model.peers[int(worker)]
     model.need(word == "wants" or peer.joined, 1)
@@ -441,14 +450,14 @@ def counted(model, worker, word, text):
     return {"flags": model.call_bits, "wants": model.call_want, "shown": model.call_haves}[word](peer, set())
 
 
-def verdict(model, piece, text):
+def verdict(model: Model, piece: int, text: str) -> str:
     """The reply to a verdict of these bytes."""
     if piece < model.pieces and model.waits(piece):
         model.need(b"".join(model.held[block] for block in model.blocks[piece]) == bytes.fromhex(text), 9)
     return model.call_settle(model.peers[0], piece)
 
 
-def allowed(model, call, given):
+def allowed(model: Model, call: str, given: str) -> set[str]:
     """The replies that the plain model allows to the call. It goes on from the one that was given."""
     try:
         match call.split():
@@ -469,7 +478,7 @@ def allowed(model, call, given):
     return {f"refused {REASONS[int(reply.split()[1]) - 1]}" if reply.startswith("refused") else reply}
 
 
-def judge(name):
+def judge(name: str) -> None:
     """Stops where the rules don't allow a line of the example, or allow a wrong one."""
     torrent, workers, lines = EXAMPLES[name]
     piece_length, total, hashes = TORRENTS[torrent]
@@ -488,7 +497,7 @@ def judge(name):
                 raise SystemExit(f"{name}: after {at} entries `{line}` isn't allowed, but {', '.join(sorted(replies))}")
 
 
-def main():
+def main() -> None:
     spec = open("tools/examples_head.antt.txt").read()
     for name, (piece_length, total, hashes) in TORRENTS.items():
         digests = "\n        ∷ ".join([*map(digest, hashes), "[]"])
@@ -504,12 +513,12 @@ def main():
     open("crates/bt_history/specs/Examples.antt", "w").write(laid_out(spec.rstrip(), 150) + "\n")
 
 
-def plain(text):
+def plain(text: str) -> str:
     """The bytes as the tests spell them."""
     return "whole" if text == "X" else bytes.fromhex(text).decode()
 
 
-def plain_line(line):
+def plain_line(line: str) -> str:
     """The line as the tests of `audit` spell it."""
     call, reply = line.split(" = ")
     match call.split():
@@ -521,7 +530,7 @@ def plain_line(line):
     return f"{call} = {reply}"
 
 
-def audits():
+def audits() -> None:
     texts = []
     for name, (torrent, workers, lines) in EXAMPLES.items():
         piece_length, total, hashes = TORRENTS[torrent]

@@ -13,6 +13,8 @@ blank line parts them. A region is one of these:
 Spaces that all lines of a region begin with are left out. With --check no page is written, and the status is 1 where one isn't as its files.
 """
 
+from __future__ import annotations
+
 import argparse
 import re
 import subprocess
@@ -25,7 +27,7 @@ PLACE = re.compile(r"^<!-- excerpt: (\S+) ([^>]*?) -->\n(.*?)^<!-- end of excerp
 LANGUAGES = {".rt": "rust", ".rs": "rust", ".c": "c", ".h": "c", ".cpp": "cpp", ".hpp": "cpp", ".py": "python", ".sh": "sh"}
 
 
-def comment_above(lines, first):
+def comment_above(lines: list[str], first: int) -> int:
     """The first line of the comment right above this line, or this line itself."""
     while first > 0:
         above = lines[first - 1].strip()
@@ -39,7 +41,7 @@ def comment_above(lines, first):
     return first
 
 
-def marked(lines, name):
+def marked(lines: list[str], name: str) -> list[str] | None:
     """The lines between the comments of this name, or None."""
     for first, line in enumerate(lines):
         if re.search(rf"excerpt: {re.escape(name)}(\W|$)", line):
@@ -50,7 +52,7 @@ def marked(lines, name):
     return None
 
 
-def function(lines, name):
+def function(lines: list[str], name: str) -> list[str] | None:
     """The lines of the function of this name with its comment, or None. A declaration is no function."""
     heads = (re.compile(rf"( *)(pub )?fn {re.escape(name)}\b"), re.compile(rf"()[A-Za-z].*\b{re.escape(name)}\([^;]*$"))
     for first, line in enumerate(lines):
@@ -62,7 +64,7 @@ def function(lines, name):
     return None
 
 
-def excerpt(file, names):
+def excerpt(file: str, names: list[str]) -> str:
     """The block of code that the page shows of the file."""
     path = ROOT / file
     if not path.is_file():
@@ -77,23 +79,23 @@ def excerpt(file, names):
     return f"```{LANGUAGES.get(path.suffix, '')}\n" + "\n\n".join(regions) + "\n```\n"
 
 
-def current(text):
+def current(text: str) -> str:
     """The page as its files have it."""
     return PLACE.sub(lambda place: f"<!-- excerpt: {place[1]} {place[2]} -->\n{excerpt(place[1], place[2].split())}<!-- end of excerpt -->", text)
 
 
-def pages(names):
+def pages(names: list[str]) -> list[Path]:
     if names:
         return [Path(name).resolve() for name in names]
     listed = subprocess.run(["git", "ls-files", "*.md"], cwd=ROOT, capture_output=True, text=True, check=True).stdout.split()
     return [ROOT / name for name in listed]
 
 
-def main():
-    options = argparse.ArgumentParser(description=__doc__.split("\n")[0])
-    options.add_argument("--check", action="store_true", help="write nothing; status 1 where a page isn't as its files")
-    options.add_argument("pages", nargs="*", metavar="PAGE")
-    options = options.parse_args()
+def main() -> None:
+    words = argparse.ArgumentParser(description=__doc__.split("\n")[0])
+    words.add_argument("--check", action="store_true", help="write nothing; status 1 where a page isn't as its files")
+    words.add_argument("pages", nargs="*", metavar="PAGE")
+    options = words.parse_args()
     is_well = True
     for page in pages(options.pages):
         name = page.relative_to(ROOT) if page.is_relative_to(ROOT) else page

@@ -6,10 +6,13 @@
     tools/figures.py [--libtorrent FOLDER] [--no-desk] [--halvings N] [--runs N] [PIECES ..]
 
 Prints a table, a row for each number of pieces: 1,000, 10,000 and 100,000 where none is given. Each figure is the least of so many runs in
-fresh processes, 3 where it isn't said. The plain C++ (tools/plain) is built by the machine's g++, where there is one. Times are processor time, of an ask with its arrival but for the columns that say otherwise. Memory is the most that a
-process held. The desk's run hashes each piece between the asks, so the caches are colder there; its hashing isn't in its time. The requests of
-picker and plain C++ have to be the same, in order; those of the desk are compared by their counts.
+fresh processes, 3 where it isn't said. The plain C++ (tools/plain) is built by the machine's g++, where there is one. Times are processor
+time, of an ask with its arrival but for the columns that say otherwise. Memory is the most that a process held. The desk's run hashes each
+piece between the asks, so the caches are colder there; its hashing isn't in its time. The requests of picker and plain C++ have to be the
+same, in order; those of the desk are compared by their counts.
 """
+
+from __future__ import annotations
 
 import argparse
 import os
@@ -18,13 +21,18 @@ import shutil
 import subprocess
 import sys
 import tempfile
+from collections.abc import Sequence
 
 ROOT = os.path.dirname(os.path.dirname(os.path.abspath(__file__)))
 BENCH = os.path.join(ROOT, "crates/bench/out/bench")
 TIME = "/usr/bin/time"
+COLUMNS = (
+    "Pieces", "Picker", "Desk", "Plain C++", "libtorrent", "Picker by libtorrent", "An ask that gives nothing", "A peer's way in",
+    "Memory of the picker",
+)  # fmt: skip
 
 
-def output(words):
+def output(words: Sequence[str]) -> str:
     """What the program prints."""
     ran = subprocess.run(words, stdout=subprocess.PIPE, text=True)
     if ran.returncode != 0:
@@ -32,7 +40,7 @@ def output(words):
     return ran.stdout
 
 
-def measured(words):
+def measured(words: Sequence[str]) -> tuple[str, float]:
     """What the program prints, and the most memory that it held, in megabytes. This process is larger, so a small one starts it."""
     if not os.path.exists(TIME):
         sys.exit(f"there is no {TIME}, which tells the memory of a process: Debian has it in the package time")
@@ -42,12 +50,12 @@ def measured(words):
     return ran.stdout, int(ran.stderr.split()[-1]) * 1024 / 1e6
 
 
-def numbers(text):
+def numbers(text: str) -> dict[str, float]:
     """The figures of a program's output: each word with the number behind it."""
     return {name: float(value) for name, value in re.findall(r"([a-z_]+)[ =]([0-9]+(?:\.[0-9]+)?)(?![0-9a-f])", text)}
 
 
-def built(folder):
+def built(folder: str) -> str | None:
     """The plain C++, built into the folder; None where there is no compiler."""
     compiler = shutil.which("g++")
     if not compiler:
@@ -57,15 +65,15 @@ def built(folder):
     return program
 
 
-def least(rows, name):
+def least(rows: list[dict[str, float]], name: str) -> float:
     return min(row[name] for row in rows)
 
 
-def time_of(nanoseconds):
+def time_of(nanoseconds: float) -> str:
     return f"{nanoseconds:.0f} ns" if nanoseconds < 1000 else f"{nanoseconds / 1000:.1f} µs"
 
 
-def row(pieces, plain_program, options):
+def row(pieces: int, plain_program: str | None, options: argparse.Namespace) -> str:
     """A line of the table, of runs by turns."""
     picker, desk, other, plain = [], [], [], []
     for _ in range(options.runs):
@@ -81,7 +89,7 @@ def row(pieces, plain_program, options):
         if options.libtorrent:
             program = os.path.join(options.libtorrent, "bench_libtorrent")
             words = [program, str(pieces), "--opts", "strict", "--depth", "5", "--density", str(options.halvings + 1)]
-            other.append(float(re.search(r"ns/ask\+arrival=([0-9.]+)", output(words)).group(1)))
+            other.append(float(output(words).partition("ns/ask+arrival=")[2].split()[0]))
     for found in desk:
         for count in ("asks", "requests"):
             if found[count] != picker[0][count]:
@@ -95,18 +103,17 @@ def row(pieces, plain_program, options):
     return "| " + " | ".join(cells) + " |"
 
 
-def main():
-    options = argparse.ArgumentParser(description=__doc__.split("\n")[0])
-    options.add_argument("--libtorrent", metavar="FOLDER", help="where tools/libtorrent/build.sh built its program")
-    options.add_argument("--no-desk", dest="desk", action="store_false", help="leaves out the desk's column, whose runs hash each piece")
-    options.add_argument("--halvings", type=int, default=0, help="how often the pieces of each peer are halved")
-    options.add_argument("--runs", type=int, default=3)
-    options.add_argument("pieces", type=int, nargs="*")
-    options = options.parse_args()
+def main() -> None:
+    words = argparse.ArgumentParser(description=__doc__.split("\n")[0])
+    words.add_argument("--libtorrent", metavar="FOLDER", help="where tools/libtorrent/build.sh built its program")
+    words.add_argument("--no-desk", dest="desk", action="store_false", help="leaves out the desk's column, whose runs hash each piece")
+    words.add_argument("--halvings", type=int, default=0, help="how often the pieces of each peer are halved")
+    words.add_argument("--runs", type=int, default=3)
+    words.add_argument("pieces", type=int, nargs="*")
+    options = words.parse_args()
     if not os.path.exists(BENCH):
         sys.exit("crates/bench isn't built: (cd crates/bench && rt run)")
-    print("| Pieces | Picker | Desk | Plain C++ | libtorrent | Picker by libtorrent | An ask that gives nothing | A peer's way in | Memory of the picker |")
-    print("|---|---|---|---|---|---|---|---|---|")
+    print(f"| {' | '.join(COLUMNS)} |\n|{'---|' * len(COLUMNS)}")
     with tempfile.TemporaryDirectory() as folder:
         program = built(folder)
         for pieces in options.pieces or (1_000, 10_000, 100_000):

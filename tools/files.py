@@ -4,10 +4,12 @@
     tools/files.py          writes the page
     tools/files.py --check  says whether the page is what it would write
 
-A file is listed by what its first comment says, up to the end of that sentence; of a long one, up to its first colon or semicolon. Files that have one place for each function
-(`Answers.antt`, `Invariants.antt`, `Proof.antt`) and lists of files (`Lib.antt`) are left out, and so are the modules of tests. The status
-is 1 where the page is another, or where a file has no head.
+A file is listed by what its first comment says, up to the end of that sentence; of a long one, up to its first colon or semicolon. Files
+that have one place for each function (`Answers.antt`, `Invariants.antt`, `Proof.antt`) and lists of files (`Lib.antt`) are left out, and so
+are the modules of tests. The status is 1 where the page is another, or where a file has no head.
 """
+
+from __future__ import annotations
 
 import re
 import subprocess
@@ -26,7 +28,7 @@ Neither are the modules of tests, of which [TESTS](TESTS.md) tells.
 """
 
 
-def head_of(path):
+def head_of(path: Path) -> str:
     """The first sentence of a file's first comment."""
     words = []
     for line in path.read_text(encoding="utf-8").splitlines():
@@ -39,22 +41,23 @@ def head_of(path):
     return sentence if len(sentence.split()) <= 25 else re.split(r"[:;] ", sentence)[0]
 
 
-def crates():
+def crates() -> list[str]:
     """The crates, lowest first, without those that are tests alone."""
     names = (line.split(":")[0].split()[0] for line in (ROOT / "crates.txt").read_text(encoding="utf-8").splitlines() if line[:1] != "#" and line)
     return [name for name in names if not name.endswith("_tests")]
 
 
-def files_of(crate, folder):
+def files_of(crate: str, folder: str) -> list[Path]:
     """The files of a crate's folder that the page lists, by their paths in it."""
     out = subprocess.run(["git", "ls-files", f"crates/{crate}/{folder}"], cwd=ROOT, capture_output=True, text=True, check=True).stdout
     paths = (Path(line) for line in out.splitlines() if line.endswith((".rt", ".antt")))
     return sorted(path for path in paths if path.name not in LEFT_OUT and "tests" not in path.parts and path.name != "tests.rt")
 
 
-def page():
+def page() -> tuple[str, list[str]]:
     """The page, and the files that have no head."""
-    lines, bare = [HEAD], []
+    lines = [HEAD]
+    bare: list[str] = []
     for crate in crates():
         lines.append(f"## {crate}\n")
         for folder, title in FOLDERS.items():
@@ -71,7 +74,7 @@ def page():
     return "\n".join(lines), bare
 
 
-def main():
+def main() -> None:
     text, bare = page()
     for path in bare:
         print(f"files: {path} has no head", file=sys.stderr)

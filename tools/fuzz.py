@@ -13,6 +13,8 @@ of a script has to be that of the model. The program is crates/piecepick/out/pie
 library instead (clients/build.sh), which is quicker. Then the rules also bound the askers of a block, and let greater depths be told.
 """
 
+from __future__ import annotations
+
 import argparse
 import concurrent.futures
 import functools
@@ -24,6 +26,9 @@ import subprocess
 import sys
 import tempfile
 import time
+from collections import Counter
+from collections.abc import Callable
+from typing import NamedTuple
 
 import picks
 
@@ -41,12 +46,12 @@ EDGES = [0, 1, 2, 4, 5, 9, 13, 16383, 16384, 16385, 131072, 2**31 - 1, 2**31, 2*
 HELLO = 68
 
 
-def load(folder, name):
+def load(folder: str, name: str) -> bytes:
     with open(os.path.join(folder, name), "rb") as file:
         return file.read()
 
 
-def frames(stream):
+def frames(stream: bytes) -> list[bytes]:
     """The handshake, then the messages with their lengths."""
     parts, at = [stream[:HELLO]], HELLO
     while at + 4 <= len(stream):
@@ -56,7 +61,7 @@ def frames(stream):
     return parts
 
 
-def made_frame(rng):
+def made_frame(rng: random.Random) -> bytes:
     """A message by the protocol's form, with numbers that a hostile peer would choose."""
     number = rng.choice([0, 1, 2, 3, 4, 5, 6, 7, 8, 9, 20, 255])
     body = b"".join(struct.pack(">I", rng.choice(EDGES)) for _ in range(rng.randrange(4)))
@@ -65,7 +70,7 @@ def made_frame(rng):
     return struct.pack(">IB", length, number) + body
 
 
-def mutate_frames(rng, stream):
+def mutate_frames(rng: random.Random, stream: bytes) -> bytes:
     parts = frames(stream)
     for _ in range(rng.randrange(1, 6)):
         at = rng.randrange(len(parts))
@@ -88,8 +93,8 @@ def mutate_frames(rng, stream):
     return b"".join(parts)
 
 
-def mutate_bytes(rng, text):
-    text = bytearray(text)
+def mutate_bytes(rng: random.Random, given: bytes) -> bytes:
+    text = bytearray(given)
     for _ in range(rng.randrange(1, 5)):
         at = rng.randrange(len(text) + 1)
         what = rng.randrange(4)
@@ -104,7 +109,7 @@ def mutate_bytes(rng, text):
     return bytes(text)
 
 
-def recording(rng, folder):
+def recording(rng: random.Random, folder: str) -> tuple[list[str], bytes]:
     metainfo, names = rng.choice(RECORDINGS)
     words = [rng.choice(["serial", "run"]), os.path.join(DATA, metainfo)]
     for i, name in enumerate(names):
@@ -121,7 +126,7 @@ def recording(rng, folder):
     return words, b""
 
 
-def metainfo(rng, folder):
+def metainfo(rng: random.Random, folder: str) -> tuple[list[str], bytes]:
     name = rng.choice(METAINFO)
     path = os.path.join(folder, "metainfo")
     with open(path, "wb") as file:
@@ -129,13 +134,13 @@ def metainfo(rng, folder):
     return ["info", path], b""
 
 
-def number(rng):
+def number(rng: random.Random) -> str:
     return str(rng.choice(EDGES + [rng.randrange(4)] * 20 + [-1, 2**64]))
 
 
-def line(rng):
+def line(rng: random.Random) -> str:
     worker = str(rng.choice([0, 0, 0, 1, 1, 2, 3]))
-    return worker + " " + rng.choice([
+    words: list[Callable[[], str]] = [
         lambda: "join", lambda: "leave", lambda: "choke", lambda: "unchoke",
         lambda: "bits " + rng.choice(["e0", "80", "00", "20", "c0", "ff", "e000", ""]),
         lambda: "have " + number(rng), lambda: "next " + str(rng.randrange(2**64)), lambda: "next " + number(rng),
@@ -147,10 +152,11 @@ def line(rng):
         lambda: f"level {rng.randrange(4)} {rng.randrange(9)}", lambda: f"level {number(rng)} {number(rng)}",
         lambda: "levels " + rng.choice(["444", "701", "070", "000", "448", "44", "4444", "4x4", ""]),
         lambda: "inorder " + rng.choice(["yes", "yes", "no", "maybe"]),
-    ])()
+    ]
+    return worker + " " + rng.choice(words)()
 
 
-def script(rng, folder):
+def script(rng: random.Random, folder: str) -> tuple[list[str], bytes]:
     head = load(os.path.join(ROOT, "crates/piecepick"), "stdin").split(b"\n")[0]
     words = head.split(b" ")
     words[3] = str(rng.randrange(1, 4)).encode()
@@ -162,7 +168,7 @@ def script(rng, folder):
     return ["script"], mutate_bytes(rng, text) if rng.randrange(4) == 0 else text
 
 
-def judge_script(stdin, done):
+def judge_script(stdin: bytes, done: subprocess.CompletedProcess[bytes]) -> str | None:
     """A script has to print the replies of the model, and to end by the status that it has."""
     replies, status = picks.expected(stdin)
     if done.stdout.decode("latin-1").split("\n")[:-1] != replies:
@@ -172,7 +178,7 @@ def judge_script(stdin, done):
     return None
 
 
-def judge(words, stdin, done):
+def judge(words: list[str], stdin: bytes, done: subprocess.CompletedProcess[bytes]) -> str | None:
     status, out, err = done.returncode, done.stdout, done.stderr
     if status < 0:
         return f"signal {-status}"
@@ -187,41 +193,52 @@ def judge(words, stdin, done):
     return judge_script(stdin, done)
 
 
-def try_one(program, task):
-    index, seed = task
+class Tried(NamedTuple):
+    """What came of one input: its command, the status if it ended, and what is wrong."""
+
+    number: int
+    command: str
+    status: int | None
+    fault: str | None
+
+
+def try_one(program: str, seed: int, index: int) -> Tried:
+    """Feeds the input of this number."""
     rng = random.Random(f"{seed} {index}")
     folder = tempfile.mkdtemp(prefix="fuzz-")
     words, stdin = rng.choice([recording, recording, metainfo, script])(rng, folder)
+    status: int | None = None
     try:
         done = subprocess.run([program, *words], input=stdin, capture_output=True, timeout=60)
         fault = judge(words, stdin, done)
         status = done.returncode
     except subprocess.TimeoutExpired:
-        fault, status = "no end within a minute", None
+        fault = "no end within a minute"
     if fault:
         with open(os.path.join(folder, "command"), "wb") as file:
             file.write(" ".join(words).encode() + b"\n" + stdin)
-        return index, words[0], status, f"{fault}: {folder}"
+        return Tried(index, words[0], status, f"{fault}: {folder}")
     shutil.rmtree(folder)
-    return index, words[0], status, None
+    return Tried(index, words[0], status, None)
 
 
-def mutate(program, inputs, seed):
+def mutate(program: str, inputs: int, seed: int) -> bool:
     """Feeds so many inputs. Gives whether none of them went wrong."""
-    begun, counts, wrong = time.time(), {}, 0
+    begun, wrong = time.time(), 0
+    counts: Counter[tuple[str, int | None]] = Counter()
     with concurrent.futures.ThreadPoolExecutor(os.cpu_count()) as pool:
-        for index, command, status, fault in pool.map(functools.partial(try_one, program), ((i, seed) for i in range(inputs))):
-            counts[command, status] = counts.get((command, status), 0) + 1
-            if fault:
+        for tried in pool.map(functools.partial(try_one, program, seed), range(inputs)):
+            counts[tried.command, tried.status] += 1
+            if tried.fault:
                 wrong += 1
-                print(f"input {index}, {command}: {fault}")
+                print(f"input {tried.number}, {tried.command}: {tried.fault}")
     for (command, status), count in sorted(counts.items(), key=str):
         print(f"{command}, status {status}: {count}")
     print(f"{inputs} inputs in {time.time() - begun:.0f} s, {wrong} of them wrong")
     return wrong == 0
 
 
-def main():
+def main() -> int:
     words = argparse.ArgumentParser(description=__doc__.splitlines()[0])
     words.add_argument("words", nargs="*", metavar="[picks] [N [SEED]]")
     words.add_argument("--program", default=PROGRAM)

@@ -9,12 +9,15 @@ library hashes one by one where the lengths differ, so a byte is left out there.
 second hashes a file of 256 MiB in memory (/dev/shm), and its start is counted too.
 """
 
+from __future__ import annotations
+
 import hashlib
 import os
 import shutil
 import subprocess
 import sys
 import time
+from collections.abc import Callable
 from pathlib import Path
 
 HERE = Path(__file__).resolve().parent
@@ -28,7 +31,7 @@ pieces = [os.urandom(length) for _ in range(4)]
 shorter = [*pieces[:3], pieces[3][:-1]]
 
 
-def best(work, given, times=runs):
+def best(work: Callable[[list[bytes]], object], given: list[bytes], times: int = runs) -> float:
     """The megabytes a second of the best run."""
     least = float("inf")
     for _ in range(times):
@@ -38,7 +41,7 @@ def best(work, given, times=runs):
     return sum(map(len, given)) / least / 1e6
 
 
-def one_by_one(given):
+def one_by_one(given: list[bytes]) -> list[bytes]:
     return [hashlib.sha1(piece).digest() for piece in given]
 
 

@@ -8,12 +8,15 @@ Memory has to stay within what was sent, one message of the longest kind, and wh
 a metainfo file within so many bytes for each of its own.
 """
 
+from __future__ import annotations
+
 import ctypes
 import os
 import struct
 import subprocess
 import sys
 import tempfile
+from collections.abc import Iterator
 
 ROOT = os.path.dirname(os.path.dirname(os.path.abspath(__file__)))
 PROGRAM = os.path.join(ROOT, "crates/piecepick/out/piecepick")
@@ -26,12 +29,12 @@ LONGEST = 2**20  # of a message whose torrent has few pieces
 HELLO = 68
 
 
-def frame(number, *words, length=None, tail=b""):
+def frame(number: int, *words: int, length: int | None = None, tail: bytes = b"") -> bytes:
     body = struct.pack(f">B{len(words)}I", number, *words) + tail
     return struct.pack(">I", len(body) if length is None else length) + body
 
 
-def once(bits, pieces):
+def once(bits: int, pieces: int) -> Iterator[tuple[str, bytes]]:
     """Single messages with a number at an edge."""
     yield "a length field of 2^32 - 1", frame(20, length=LARGEST)
     yield "a length field just over the longest message", frame(20, length=LONGEST + 1)
@@ -50,7 +53,7 @@ def once(bits, pieces):
         yield f"a block of {size:,} bytes", frame(7, 0, 0, tail=b"x" * size)
 
 
-def many():
+def many() -> Iterator[tuple[str, bytes, int]]:
     """Messages that come very often, with their number."""
     yield "a million keepalives", bytes(4) * MILLION, MILLION
     yield "a million unknown messages", frame(20, tail=b"x") * MILLION, MILLION
@@ -63,20 +66,20 @@ def many():
     yield "the same, each behind an unknown message of 48 KiB", (frame(20, tail=bytes(3 * BLOCK)) + block) * 1000, 2000
 
 
-def text(content):
+def text(content: bytes) -> bytes:
     return b"%d:%s" % (len(content), content)
 
 
-def metainfo(length=b"i1e", piece_length=b"i16384e", digests=1, name=b"x", before=b""):
+def metainfo(length: bytes = b"i1e", piece_length: bytes = b"i16384e", digests: int = 1, name: bytes = b"x", before: bytes = b"") -> bytes:
     pieces = text(bytes(20 * digests))
     return b"d4:infod" + before + b"6:length" + length + b"4:name" + text(name) + b"12:piece length" + piece_length + b"6:pieces" + pieces + b"ee"
 
 
-def files(content):
+def files(content: bytes) -> bytes:
     return b"d4:infod5:filesl" + content + b"e4:name1:x12:piece lengthi1048576e6:pieces" + text(bytes(20)) + b"ee"
 
 
-def metainfos():
+def metainfos() -> Iterator[tuple[str, bytes]]:
     yield "one piece of one byte", metainfo()
     yield "a string of 2^63 bytes", b"d4:info9223372036854775808:"
     yield "a string of 10^30 bytes", b"1" + b"0" * 30 + b":"
@@ -110,7 +113,7 @@ PR_SET_CHILD_SUBREAPER = 36
 class Play:
     """How the program ended: its status, the line that tells it, its peak memory in bytes, and whether its journal is sound."""
 
-    def __init__(self, words):
+    def __init__(self, words: list[str]) -> None:
         run = subprocess.run(["sh", "-c", LAUNCH, "sh", PROGRAM, *words], capture_output=True, timeout=300)
         pid, out = run.stdout.decode().split("\n", 1)
         _, code, usage = os.wait4(int(pid), 0)
@@ -125,12 +128,15 @@ class Play:
 
 
 class Table:
-    def __init__(self, folder, words, statuses):
+    """The rows of one command."""
+
+    def __init__(self, folder: str, words: list[str], statuses: tuple[int, ...]) -> None:
         self.path = os.path.join(folder, "sent")
         self.words, self.statuses = [*words, self.path], statuses
-        self.least, self.wrong = None, 0
+        self.least: int | None = None
+        self.wrong = 0
 
-    def row(self, name, sent, most):
+    def row(self, name: str, sent: bytes, most: int) -> None:
         """Most is how much memory it may take, in bytes."""
         with open(self.path, "wb") as file:
             file.write(sent)
@@ -148,7 +154,7 @@ PER_MESSAGE = 600  # two entries and two marks, in tables that double as they gr
 PER_BYTE = 3  # of a metainfo file: it itself, and what the torrent keeps and prints of it
 
 
-def main():
+def main() -> int:
     with open(RECORDED, "rb") as file:
         hello = file.read(HELLO)
     with open(TORRENT, "rb") as file:
@@ -164,10 +170,10 @@ def main():
             peer.row(name, hello + sent, 3 * len(sent) + SLACK)
         for name, sent, messages in many():
             peer.row(name, hello + sent, 3 * len(sent) + SLACK + PER_MESSAGE * messages)
-        file = Table(folder, ["info"], (0, 3))
+        described = Table(folder, ["info"], (0, 3))
         for name, sent in metainfos():
-            file.row(name, sent, PER_BYTE * len(sent) + SLACK)
-    wrong = peer.wrong + file.wrong
+            described.row(name, sent, PER_BYTE * len(sent) + SLACK)
+    wrong = peer.wrong + described.wrong
     print("all ends are clear" if wrong == 0 else f"{wrong} ends are not clear")
     return 1 if wrong else 0
 

@@ -9,6 +9,7 @@ import os
 import random
 import sys
 from collections import Counter
+from collections.abc import Callable
 
 sys.path.insert(0, os.path.join(os.path.dirname(os.path.dirname(os.path.abspath(__file__))), "clients/python"))
 
@@ -37,17 +38,21 @@ def answer_to(picker: Picker, model: Model, line: str) -> Answer:
     """Makes the call that the line says."""
     worker, word, arguments = model.parse(line)
     if word in ("bits", "haves"):
-        return getattr(picker, word)(worker, bytes.fromhex(line.split(" ")[2]))
+        shows: Callable[..., Answer] = getattr(picker, word)
+        return shows(worker, bytes.fromhex(line.split(" ")[2]))
     if word == "want":
         return picker.want(bytes.fromhex(line.split(" ")[2]))
     if word == "levels":
         return picker.set_levels(bytes(arguments[0]))
     if word == "block":
         return picker.arrived(worker, *arguments)
-    if word in ("settle", "level", "inorder"):
-        call = {"settle": picker.settle_now, "level": picker.set_level, "inorder": picker.set_in_order}[word]
-        return call(*arguments)
-    return getattr(picker, word)(worker, *arguments)
+    without_worker: dict[str, Callable[..., Answer]] = {
+        "settle": picker.settle_now, "level": picker.set_level, "inorder": picker.set_in_order,
+    }  # fmt: skip
+    if word in without_worker:
+        return without_worker[word](*arguments)
+    call: Callable[..., Answer] = getattr(picker, word)
+    return call(worker, *arguments)
 
 
 def reply_to(picker: Picker, model: Model, line: str) -> str:

@@ -6,25 +6,28 @@
 Goes over all pages of the repository where none is given. Code is passed over, and so are links to other hosts.
 """
 
+from __future__ import annotations
+
 import re
 import subprocess
 import sys
+from collections.abc import Iterator
 from pathlib import Path
 
 ROOT = Path(__file__).resolve().parent.parent
 LINK = re.compile(r"\]\(([^()\s]+(?:\([^()\s]*\)[^()\s]*)?)\)")
 
 
-def bare(text):
+def bare(text: str) -> str:
     """The page without blocks and pieces of code."""
     text = re.sub(r"^```.*?^```", "", text, flags=re.S | re.M)
     return re.sub(r"`[^`\n]*`", "X", text)
 
 
-def anchors(page):
+def anchors(page: Path) -> set[str]:
     """The names by which the headings of a page are reached."""
     text = re.sub(r"^```.*?^```", "", page.read_text(encoding="utf-8"), flags=re.S | re.M)
-    found = set()
+    found: set[str] = set()
     for heading in re.findall(r"^#+ (.*)$", text, flags=re.M):
         name = re.sub(r"[^\w\- ]", "", heading.strip().lower()).replace(" ", "-")
         count = 0
@@ -34,7 +37,7 @@ def anchors(page):
     return found
 
 
-def faults(page):
+def faults(page: Path) -> Iterator[str]:
     """What is wrong with the links of a page."""
     for link in LINK.findall(bare(page.read_text(encoding="utf-8"))):
         if re.match(r"[a-z]+:", link):
@@ -47,9 +50,10 @@ def faults(page):
             yield f"{link}: there is no such heading"
 
 
-def main():
+def main() -> None:
     listed = subprocess.run(["git", "ls-files", "*.md"], cwd=ROOT, capture_output=True, text=True, check=True).stdout.split()
-    found = [(page, fault) for page in map(Path, sys.argv[1:] or [ROOT / name for name in listed]) for fault in faults(page.resolve())]
+    pages = [Path(name) for name in sys.argv[1:]] or [ROOT / name for name in listed]
+    found = [(page, fault) for page in pages for fault in faults(page.resolve())]
     for page, fault in found:
         print(f"{page}: {fault}")
     sys.exit(1 if found else 0)

@@ -14,6 +14,8 @@ torrent. They tell of the same 1,000 pieces, or of as many different ones as the
 Each figure is the least of RUNS runs, 3 where it isn't said. `./piecepick --version` builds the program.
 """
 
+from __future__ import annotations
+
 import hashlib
 import os
 import resource
@@ -31,14 +33,14 @@ PEERS = 64
 EACH = 1_000
 
 
-def metainfo(pieces):
+def metainfo(pieces: int) -> tuple[bytes, bytes]:
     """A torrent of so many pieces of one block, and its infohash."""
     digests = hashlib.sha1(bytes(16384)).digest() * pieces
     info = b"d6:lengthi%de4:name5:zeros12:piece lengthi16384e6:pieces%d:%se" % (16384 * pieces, len(digests), digests)
     return b"d4:info" + info + b"e", hashlib.sha1(info).digest()
 
 
-def messages():
+def messages() -> dict[str, bytes]:
     """By kind: so many messages that a peer may send however often it likes."""
     return {
         "keepalive": bytes(4) * COUNT,
@@ -48,7 +50,7 @@ def messages():
     }
 
 
-def seconds(words):
+def seconds(words: list[str]) -> float:
     """The processor time that the program takes with these words."""
     before = resource.getrusage(resource.RUSAGE_CHILDREN)
     subprocess.run([PROGRAM, *words], stdout=subprocess.DEVNULL, check=False)
@@ -56,24 +58,24 @@ def seconds(words):
     return (after.ru_utime - before.ru_utime) + (after.ru_stime - before.ru_stime)
 
 
-def least(words, runs):
+def least(words: list[str], runs: int) -> float:
     return min(seconds(words) for _ in range(runs))
 
 
-def write(folder, name, text):
+def write(folder: str, name: str, text: bytes) -> str:
     path = os.path.join(folder, name)
     with open(path, "wb") as file:
         file.write(text)
     return path
 
 
-def write_torrent(folder, pieces):
+def write_torrent(folder: str, pieces: int) -> tuple[str, bytes]:
     """The path of such a torrent, and what a peer of it sends first."""
     meta, infohash = metainfo(pieces)
     return write(folder, "torrent", meta), b"\x13BitTorrent protocol" + bytes(8) + infohash + b"-XX0001-000000000000"
 
 
-def time_torrent(folder, pieces, runs):
+def time_torrent(folder: str, pieces: int, runs: int) -> None:
     torrent, hello = write_torrent(folder, pieces)
     streams = {kind: (write(folder, "stream-" + kind[:4], hello + sent), len(sent)) for kind, sent in messages().items()}
     alone = write(folder, "alone", hello)
@@ -84,18 +86,18 @@ def time_torrent(folder, pieces, runs):
             print(f"| {pieces:,} | `{command}` | {kind} | {1e9 * taken / COUNT:,.0f} | {1e9 * taken / size:,.0f} |", flush=True)
 
 
-def tell_messages(folder, runs):
+def tell_messages(folder: str, runs: int) -> None:
     print("| Pieces | Command | Message | ns a message | ns a byte |\n|---|---|---|---|---|")
     for pieces in PIECES:
         time_torrent(folder, pieces, runs)
 
 
-def haves(pieces, first):
+def haves(pieces: int, first: int) -> bytes:
     """So many haves of pieces that all differ, from one end of the torrent to the other."""
     return b"".join(struct.pack(">IBI", 5, 4, 7919 * (first + i) % pieces) for i in range(EACH))
 
 
-def time_haves(folder, pieces, runs):
+def time_haves(folder: str, pieces: int, runs: int) -> None:
     torrent, hello = write_torrent(folder, pieces)
     alone = [write(folder, "alone", hello)] * PEERS
     streams = [write(folder, f"stream-{i}", hello + haves(pieces, EACH * i)) for i in range(PEERS)]
@@ -106,13 +108,13 @@ def time_haves(folder, pieces, runs):
         print(f"| {pieces:,} | {count:,} | {1e9 * taken / (EACH * PEERS):,.0f} |", flush=True)
 
 
-def tell_haves(folder, runs):
+def tell_haves(folder: str, runs: int) -> None:
     print("| Pieces | Of these told | ns a have |\n|---|---|---|")
     for pieces in PIECES_OF_HAVES:
         time_haves(folder, pieces, runs)
 
 
-def main():
+def main() -> None:
     words = sys.argv[1:]
     of_haves = words[:1] == ["haves"]
     rest = words[1:] if of_haves else words

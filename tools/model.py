@@ -7,6 +7,7 @@ and short on purpose: each question is answered by looking at every block.
 from __future__ import annotations
 
 import hashlib
+from collections.abc import Callable
 from dataclasses import dataclass, field
 from typing import Any, NamedTuple
 
@@ -223,7 +224,8 @@ class Model:
                 reply = self.next(peer, arguments[0])
                 self.follow(peer, given or reply)
                 return reply
-            return getattr(self, f"call_{word}")(peer, *arguments)
+            call: Callable[..., str] = getattr(self, f"call_{word}")
+            return call(peer, *arguments)
         except Refused as refused:
             return f"refused {refused.args[0]}"
 

@@ -150,7 +150,7 @@ class Script:
         self.say(worker, f"settle {self.rng.choice(waiting) if waiting and self.rng.randrange(10) else self.piece()}")
 
     def say_have(self, worker: int) -> None:
-        words = [lambda: f"have {self.piece()}", lambda: f"haves {self.flags()}", lambda: f"bits {self.flags()}"]
+        words: list[Callable[[], str]] = [lambda: f"have {self.piece()}", lambda: f"haves {self.flags()}", lambda: f"bits {self.flags()}"]
         self.say(worker, self.rng.choices(words, [6, 3, 1])[0]())
 
     def say_choke(self, worker: int) -> None:
@@ -233,7 +233,7 @@ def differences(lines: list[str], given: list[str]) -> list[Wrong]:
 class Played(NamedTuple):
     """What came of one script."""
 
-    index: int
+    number: int
     picks: int
     replies: Counter[str]
     wrong: list[Wrong]
@@ -268,7 +268,7 @@ def judge_picks(play_one: Callable[[str, int], Played], wanted: int, seed: str) 
                 scripts, done, replies = scripts + 1, done + played.picks, replies + played.replies
                 wrong, faults = wrong + len(played.wrong), faults + (played.fault is not None)
                 if played.fault and faults <= 20:
-                    print(f"script {played.index}: {played.fault}")
+                    print(f"script {played.number}: {played.fault}")
                     for line, should, reply in played.wrong[:3]:
                         print(f"    {line[:60]}: {reply}, and not {should}")
     seconds = time.time() - begun

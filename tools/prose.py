@@ -7,20 +7,23 @@ Goes over README.md, docs, clients and each crate's README where no file is give
 no sentences, but each cell of a table is read as one. With a limit the status is 1 where a sentence is longer.
 """
 
+from __future__ import annotations
+
 import argparse
 import re
 import subprocess
 import sys
+from collections.abc import Iterator
 from pathlib import Path
 
 ROOT = Path(__file__).resolve().parent.parent
 END = re.compile(r"(?<=[.!?:;])\s+(?=[A-Z0-9`*\"(\[]|$)")
 
 
-def paragraphs(text):
+def paragraphs(text: str) -> Iterator[str]:
     """The paragraphs of a page, the items of its lists and the cells of its tables, each on one line."""
     text = re.sub(r"^```.*?^```", "", text, flags=re.S | re.M)
-    block = []
+    block: list[str] = []
     for line in text.split("\n") + [""]:
         bare = line.strip()
         if line.startswith(("    ", "\t")) and not block:
@@ -38,43 +41,43 @@ def paragraphs(text):
             block.append(re.sub(r"^([-*]|\d+\.) ", "", bare))
 
 
-def sentences(text):
+def sentences(text: str) -> Iterator[tuple[int, str]]:
     """The sentences of a page: a name or a piece of code counts as one word."""
     for paragraph in paragraphs(text):
         plain = re.sub(r"`[^`]*`", lambda code: "X" + ("." if code.group().endswith(".`") else ""), paragraph)
         plain = re.sub(r"\]\([^)]*\)", "]", plain)
-        pieces, shown = END.split(plain), paragraph
-        for piece in pieces:
+        for piece in END.split(plain):
             words = [word for word in piece.split() if re.search(r"\w", word)]
             if len(words) > 2:
-                yield len(words), piece, shown
+                yield len(words), piece
 
 
-def pages(names):
+def pages(names: list[str]) -> list[Path]:
     if names:
         return [Path(name).resolve() for name in names]
     listed = subprocess.run(["git", "ls-files", "*.md"], cwd=ROOT, capture_output=True, text=True, check=True).stdout.split()
     return [ROOT / name for name in listed]
 
 
-def main():
-    options = argparse.ArgumentParser(description=__doc__.split("\n")[0])
-    options.add_argument("--worst", type=int, default=10, help="so many of the longest sentences are shown")
-    options.add_argument("--limit", type=int, help="a sentence of more words is too long")
-    options.add_argument("files", nargs="*")
-    options = options.parse_args()
-    everything = []
+def main() -> None:
+    words = argparse.ArgumentParser(description=__doc__.split("\n")[0])
+    words.add_argument("--worst", type=int, default=10, help="so many of the longest sentences are shown")
+    words.add_argument("--limit", type=int, help="a sentence of more words is too long")
+    words.add_argument("files", nargs="*")
+    options = words.parse_args()
+    everything: list[tuple[int, Path, str]] = []
     for page in pages(options.files):
         found = list(sentences(page.read_text(encoding="utf-8")))
         if not found:
             continue
-        lengths = [count for count, _, _ in found]
+        lengths = [count for count, _ in found]
         name = page.relative_to(ROOT) if page.is_relative_to(ROOT) else page
         print(f"{name}: {len(found)} sentences, mean {sum(lengths) / len(lengths):.1f}, longest {max(lengths)}")
-        everything += [(count, name, piece) for count, piece, _ in found]
+        everything += [(count, name, piece) for count, piece in found]
     lengths = [count for count, _, _ in everything]
-    print(f"all: {len(lengths)} sentences, mean {sum(lengths) / len(lengths):.1f}, over 30: {sum(n > 30 for n in lengths)}, over 40: {sum(n > 40 for n in lengths)}")
-    for count, name, piece in sorted(everything, key=lambda found: -found[0])[: options.worst]:
+    over = ", ".join(f"over {limit}: {sum(count > limit for count in lengths)}" for limit in (30, 40))
+    print(f"all: {len(lengths)} sentences, mean {sum(lengths) / len(lengths):.1f}, {over}")
+    for count, name, piece in sorted(everything, key=lambda one: -one[0])[: options.worst]:
         print(f"{count} {name}: {piece[:150]}")
     if options.limit and max(lengths) > options.limit:
         sys.exit(1)

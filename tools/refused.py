@@ -16,9 +16,10 @@ the last. It has to pass, or to end because there was no memory: no assertion fa
 a call that is made once more gives the answer that it would have had. `rt test` in a crate's folder leaves its tests built.
 """
 
+from __future__ import annotations
+
 import concurrent.futures
 import hashlib
-import itertools
 import os
 import re
 import struct
@@ -26,6 +27,7 @@ import subprocess
 import sys
 import tempfile
 import threading
+from collections.abc import Sequence
 
 ROOT = os.path.dirname(os.path.dirname(os.path.abspath(__file__)))
 PROGRAM = os.path.join(ROOT, "crates/piecepick/out/piecepick")
@@ -38,7 +40,7 @@ LONG = "tests::keeper::large::four_gib_from_one_peer"
 NO_MEMORY = re.compile(r"error: .*(NoMemory|NoThread|AllocError|AllocFailed|OutOfMemory|\bMemory\b).*\nthe test failed: its result gives status 1\n")
 
 
-def data(*names):
+def data(*names: str) -> list[str]:
     return [os.path.join(DATA, name) for name in names]
 
 
@@ -48,7 +50,7 @@ SINGLE_FILE = data("single-file.torrent", "single-file-s0-transmission.bin", "si
 SCRIPT = os.path.join(ROOT, "crates/piecepick/stdin")
 
 
-def many_pieces(folder, count):
+def many_pieces(folder: str, count: int) -> list[str]:
     """A torrent of so many pieces of one block of zeros, and a stream that brings them all: more than the queue of tickets holds."""
     block = bytes(16384)
     info = b"d6:lengthi%de4:name5:zeros12:piece lengthi16384e6:pieces%d:%se" % (
@@ -64,7 +66,7 @@ def many_pieces(folder, count):
     return paths
 
 
-def commands(folder):
+def commands(folder: str) -> list[tuple[str, list[str], str | None]]:
     out = os.path.join(folder, "content")
     return [
         ("script", ["script"], SCRIPT),
@@ -79,13 +81,17 @@ def commands(folder):
 
 
 class Trial:
-    def __init__(self, folder):
+    """Runs a program with one call refused."""
+
+    def __init__(self, folder: str) -> None:
         self.shim = os.path.join(folder, "refuse.so")
         self.count = os.path.join(folder, "count")
         source = os.path.join(ROOT, "tools/refuse.c")
         subprocess.run(["cc", "-shared", "-fPIC", "-O2", "-o", self.shim, source, "-ldl"], check=True)
 
-    def run(self, words, stdin, refuse, program=PROGRAM):
+    def run(
+        self, words: list[str], stdin: str | None, refuse: str, program: str = PROGRAM
+    ) -> tuple[subprocess.CompletedProcess[bytes], dict[str, int]]:
         """What the program did, and how many calls of each kind it made."""
         counted = f"{self.count}-{threading.get_ident()}"
         with open(counted, "wb") as file:
@@ -97,25 +103,25 @@ class Trial:
             return done, dict(zip(KINDS, struct.unpack(f"<{len(KINDS)}Q", file.read())))
 
 
-def is_report(text):
-    """Whether it is the whole report of a run, behind its journal, with a sound journal and no fault of a session but for want of memory or of a read."""
+def is_report(text: str) -> bool:
+    """Whether it is the whole report of a run, behind its journal, which is sound, with no session's fault but of memory or of a read."""
     lines = text.split("\n")
     faults = [line.split()[3] for line in lines if line.startswith("stream ") and " fault " in line]
     return "journal ok" in lines and text.endswith("\n") and set(faults) <= {"5", "7"}
 
 
-def has_all(text, whole):
+def has_all(text: str, whole: str) -> bool:
     """Whether a report tells of the same pieces as the undisturbed run's, if no session found memory lacking."""
     told = [line for line in text.split("\n") if line.split(" ")[0] in ("pieces", "had", "missing", "complete")]
     lacking = any(re.fullmatch(r"stream \d+ fault 7", line) for line in text.split("\n"))
     return lacking or not told or all(line in whole.split("\n") for line in told)
 
 
-def is_front(text, whole):
+def is_front(text: str, whole: str) -> bool:
     return whole.startswith(text) and (text == "" or text.endswith("\n"))
 
 
-def judge_memory(words, status, first, out, whole):
+def judge_memory(words: list[str], status: int, first: str, out: str, whole: str) -> str | None:
     """The same where an allocation was refused."""
     is_run = words[0] in ("serial", "run")
     if status == 5 and first == "no thread" and words[0] == "run":
@@ -130,7 +136,7 @@ def judge_memory(words, status, first, out, whole):
     return f"status {status}, {first}"
 
 
-def judge(kind, words, done, whole):
+def judge(kind: str, words: list[str], done: subprocess.CompletedProcess[bytes], whole: subprocess.CompletedProcess[bytes]) -> str | None:
     """What is wrong with a run in which one call was refused, or None."""
     status, out, err = done.returncode, done.stdout.decode(), done.stderr.decode()
     first = err.split("\n")[0]
@@ -150,11 +156,12 @@ def judge(kind, words, done, whole):
     return f"status {status}, {first}"
 
 
-def refuse_each(trial, name, kind, words, stdin):
+def refuse_each(trial: Trial, name: str, kind: str, words: list[str], stdin: str | None) -> tuple[int, int]:
     """Refuses each call of the kind in turn. How many were refused, and how many runs went wrong."""
-    wrong = 0
+    wrong = call = 0
     whole, _ = trial.run(words, stdin, "")
-    for call in itertools.count(1):
+    while True:
+        call += 1
         try:
             done, made = trial.run(words, stdin, f"{kind}:{call}")
         except subprocess.TimeoutExpired:
@@ -169,7 +176,7 @@ def refuse_each(trial, name, kind, words, stdin):
             print(f"{name}, {kind} {call}: {fault}")
 
 
-def try_commands(trial, folder, runs):
+def try_commands(trial: Trial, folder: str, runs: int) -> int:
     """How many runs of the program went wrong."""
     wrong = 0
     for name, words, stdin in commands(folder):
@@ -183,15 +190,17 @@ def try_commands(trial, folder, runs):
     return wrong
 
 
-def judge_test(done):
+def judge_test(done: subprocess.CompletedProcess[bytes]) -> str | None:
+    """What is wrong with a run of a test, or None."""
     err = done.stderr.decode()
     return None if done.returncode == 0 or NO_MEMORY.fullmatch(err) else f"status {done.returncode}, {err.strip()}"
 
 
-def refuse_in_test(trial, program, test):
+def refuse_in_test(trial: Trial, program: str, test: str) -> tuple[int, int]:
     """How many allocations were refused, and how many runs went wrong."""
-    wrong = 0
-    for call in itertools.count(1):
+    wrong = call = 0
+    while True:
+        call += 1
         done, made = trial.run([test], None, f"alloc:{call}", program)
         if made["alloc"] < call:
             return call - 1, wrong
@@ -201,7 +210,7 @@ def refuse_in_test(trial, program, test):
             print(f"{test}, alloc {call}: {fault}")
 
 
-def try_tests(trial, crates):
+def try_tests(trial: Trial, crates: Sequence[str]) -> int:
     """How many runs of tests went wrong."""
     wrong = 0
     for crate in crates:
@@ -215,7 +224,7 @@ def try_tests(trial, crates):
     return wrong
 
 
-def main():
+def main() -> int:
     words = sys.argv[1:]
     with tempfile.TemporaryDirectory() as folder:
         trial = Trial(folder)

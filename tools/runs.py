@@ -6,6 +6,8 @@ are spelled out, with the fault that each has. The infohashes of those that have
 top of the repository after an edit. It also compares the toolchain that `--version` names with `rt version`.
 """
 
+from __future__ import annotations
+
 import hashlib
 import os
 import subprocess
@@ -18,13 +20,13 @@ ARGUMENTS = "crates/bt_cli/src/arguments.rt"
 BLOCK = 16384
 
 
-def metainfo(total, contents, piece_length=3):
+def metainfo(total: int, contents: list[bytes], piece_length: int = 3) -> tuple[bytes, bytes]:
     pieces = b"".join(hashlib.sha1(content).digest() for content in contents)
     info = b"d6:lengthi%de4:name1:s12:piece lengthi%de6:pieces%d:%se" % (total, piece_length, len(pieces), pieces)
     return b"d4:info" + info + b"e", hashlib.sha1(info).digest()
 
 
-def long_script():
+def long_script() -> tuple[str, str]:
     """A script of more than 64 KiB whose replies are more than 64 KiB too, and those replies: the peer shows its piece 8,000 times."""
     first = "torrent 3 3 1 %s\n0 join\n" % hashlib.sha1(b"abc").hexdigest()
     return first + "0 have 0\n" * 8000, "joined\n" + "noted yes\n" * 8000
@@ -33,7 +35,7 @@ def long_script():
 PIECES = b"".join(hashlib.sha1(content).digest() for content in (b"abc", b"abc", b"a"))
 
 
-def spelled(before, pieces=PIECES):
+def spelled(before: bytes, pieces: bytes = PIECES) -> bytes:
     """A metainfo file whose info dictionary begins so and ends with these hashes."""
     return b"d%s6:pieces%d:%see" % (before, len(pieces), pieces)
 
@@ -65,24 +67,24 @@ FAULTY = {
 }
 
 
-def handshake(infohash):
+def handshake(infohash: bytes) -> bytes:
     return b"\x13BitTorrent protocol" + bytes(8) + infohash + b"-made-up-by-hand-000"
 
 
-def message(kind, payload=b""):
+def message(kind: int, payload: bytes = b"") -> bytes:
     return (1 + len(payload)).to_bytes(4, "big") + bytes([kind]) + payload
 
 
-def piece(index, content):
+def piece(index: int, content: bytes) -> bytes:
     return message(7, index.to_bytes(4, "big") + (0).to_bytes(4, "big") + content)
 
 
-def peer(infohash, bits, pieces):
+def peer(infohash: bytes, bits: int, pieces: list[tuple[int, bytes]]) -> bytes:
     blocks = b"".join(piece(index, content) for index, content in pieces)
     return handshake(infohash) + message(5, bytes([bits])) + message(1) + blocks
 
 
-def main():
+def main() -> None:
     one, one_hash = metainfo(3, [b"abc"])
     three, three_hash = metainfo(7, [b"abc", b"abc", b"a"])
     whole = peer(one_hash, 0x80, [(0, b"abc")])

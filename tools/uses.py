@@ -4,6 +4,8 @@
     tools/uses.py [--check]
 """
 
+from __future__ import annotations
+
 import re
 import sys
 from pathlib import Path
@@ -13,9 +15,9 @@ PAGE = ROOT / "docs/ARCHITECTURE.md"
 BEGIN, END = "<!-- uses: made by tools/uses.py -->\n", "<!-- end of uses -->\n"
 
 
-def crates():
+def crates() -> dict[str, tuple[list[str], list[str]]]:
     """The repository's crates, lowest first, each with the crates of the repository and of the toolchain that it stands on."""
-    listed = {}
+    listed: dict[str, list[str]] = {}
     for line in (ROOT / "crates.txt").read_text(encoding="utf-8").splitlines():
         if line.strip() and not line.startswith("#"):
             name, _, below = line.partition(":")
@@ -23,7 +25,7 @@ def crates():
     return {name: ([b for b in below if b in listed], [b for b in below if b not in listed]) for name, below in listed.items()}
 
 
-def table():
+def table() -> str:
     listed = crates()
     rows = ["| Crate | Stands on | Is used by | Crates of the toolchain |", "|---|---|---|---|"]
     for name, (own, kit) in listed.items():
@@ -33,7 +35,7 @@ def table():
     return "\n".join(rows) + "\n"
 
 
-def main():
+def main() -> None:
     page = PAGE.read_text(encoding="utf-8")
     now = re.sub(re.escape(BEGIN) + ".*?" + re.escape(END), lambda _: BEGIN + table() + END, page, flags=re.S)
     if "--check" in sys.argv[1:]:

@@ -1,6 +1,7 @@
 """A downloader of torrents (BEP 3) over the piece picker: the library picks, and this speaks with disk, peers and trackers.
 
-    main, options, download     the program, its command line, and one download with all its parts
+    main, options               the program and its command line
+    parts, download             what one download is made of, and what runs it
     metainfo, layout            the files that a metainfo file names, and which bytes of the content lie where
     storage, checking, resume   the disk, the threads that hash what is on it, and the file that lets a killed download go on
     hashing                     four pieces at once, where the library is faster at it than hashlib
@@ -12,7 +13,7 @@
     progress, watch, serving    the progress line, the drawing in the terminal, and the files for a player
     trace, recorder, picture    the drawing of a whole download
 
-Only `swarm`, `serving` and the trackers use sockets, and `download` opens the one that listens. Only `content`, `session`, `serving` and
+Only `swarm`, `serving` and the trackers use sockets, and `parts` opens the one that listens. Only `content`, `session`, `serving` and
 `download` tell the picker something.
 """
 

@@ -42,7 +42,7 @@ class Addresses:
     def due(self, now: float) -> Known | None:
         """One that may be tried now: the one that waits for the longest time."""
         ready = [known for known in self.known.values() if not known.is_in_use and known.next_try <= now]
-        return min(ready, key=lambda known: (known.failures, known.next_try), default=None)
+        return min(ready, key=lambda known: (known.failures, known.next_try)) if ready else None
 
     def failed(self, address: Address, now: float) -> None:
         """There was no connection, or nothing came of it."""

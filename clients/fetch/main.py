@@ -11,10 +11,11 @@ from typing import Any
 from piecepick import MemoryFault
 
 from . import options as command_line
-from .download import Download, Interrupted, layout_of, open_picker
+from .download import Download, Interrupted
 from .layout import printable
 from .metainfo import MetainfoFault
 from .options import Options
+from .parts import layout_of, open_picker
 from .storage import StorageFault
 
 DONE, NOT_DONE, WRONG_LINE, WRONG_METAINFO, WRONG_DISK = range(5)
@@ -30,14 +31,15 @@ def list_files(metainfo: bytes, options: Options) -> None:
 
 def end_in_order(download: Download) -> None:
     """Has the first interrupt end the loop; the second one ends the program."""
+    swarm = download.parts.swarm
 
     def handle(number: int, frame: FrameType | None) -> None:
         signal.signal(number, signal.SIG_DFL)
-        download.swarm.is_stopping = True
+        swarm.is_stopping = True
 
     for number in (signal.SIGINT, signal.SIGTERM):
         signal.signal(number, handle)
-    signal.set_wakeup_fd(download.swarm.wake_handle, warn_on_full_buffer=False)
+    signal.set_wakeup_fd(swarm.wake_handle, warn_on_full_buffer=False)
 
 
 def show(figures: dict[str, Any], as_json: bool) -> None:

@@ -49,7 +49,6 @@ class Peer:
     epoch: int = -1  # the picker's, when the peer was asked last; -1 where it is to be asked in any case
     rests_until: float = 0.0
     timeouts: int = 0
-    bad_turns: int = 0
     wants: OrderedDict[tuple[int, int, int], None] = field(default_factory=OrderedDict)
 
     heard: float = 0.0
@@ -91,11 +90,6 @@ class Peer:
         self.late[block] = None
         if len(self.late) > MOST_LATE:
             self.late.popitem(last=False)
-
-    def forget_all(self) -> None:
-        """All requests were taken back."""
-        for block in list(self.asked):
-            self.forget(block)
 
     def takes(self, block: tuple[int, int]) -> bool:
         """Whether the block was asked for at some time; it is asked for no more."""

@@ -3,6 +3,7 @@
 from __future__ import annotations
 
 import time
+from collections.abc import Callable
 from dataclasses import dataclass
 from typing import Protocol
 
@@ -48,7 +49,6 @@ class Figures:
     rejects: int = 0
     late_bitfields: int = 0
     timeouts: int = 0
-    allowed_fast: int = 0
 
 
 class Session:
@@ -61,7 +61,7 @@ class Session:
         self.asks: dict[tuple[int, int], int] = {}  # of how many peers each block is asked now
         self.figures = Figures()
         self.now = time.monotonic()
-        self._hear = {
+        self._hear: dict[int, Callable[[Peer, memoryview], None]] = {
             Message.CHOKE: self._choke, Message.UNCHOKE: self._unchoke, Message.INTERESTED: self._interested,
             Message.NOT_INTERESTED: self._not_interested, Message.HAVE: self._have, Message.BITFIELD: self._bitfield,
             Message.REQUEST: self._request, Message.PIECE: self._piece, Message.CANCEL: self._cancel, Message.HAVE_ALL: self._have_all,
@@ -96,7 +96,7 @@ class Session:
         peer.heard = self.now
         try:
             for kind, payload in peer.inbound.messages(data):
-                if hear := self._hear.get(kind):  # type: ignore[call-overload]
+                if hear := self._hear.get(kind):
                     hear(peer, payload)
         except InputFault as fault:
             raise WireFault(str(fault)) from fault
@@ -214,9 +214,8 @@ class Session:
         peer.rests_until, peer.epoch = self.now + REJECT_REST, -1
 
     def _allowed_fast(self, peer: Peer, payload: memoryview) -> None:
-        """The picker asks nothing of a peer that chokes us, so this is read and counted alone."""
+        """The picker asks nothing of a peer that chokes us, so this is read alone."""
         numbers_of(Message.ALLOWED_FAST, payload)
-        self.figures.allowed_fast += 1
 
     # What is asked of the peer.
 

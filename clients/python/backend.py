@@ -44,7 +44,7 @@ def _metadata(project: dict[str, Any]) -> str:
         "Requires-Python": project["requires-python"],
         "Description-Content-Type": "text/markdown",
     }
-    return "".join(f"{name}: {value}\n" for name, value in heads.items()) + "\n" + (HERE / project["readme"]).read_text()
+    return "".join(f"{name}: {value}\n" for name, value in heads.items()) + "\n" + Path(HERE, project["readme"]).read_text()
 
 
 def _record(files: dict[str, bytes], name: str) -> str:

@@ -7,11 +7,16 @@ here=$(cd "$(dirname "$0")" && pwd)
 mkdir -p "$1" && cd "$1"
 mkdir -p apt/lists/partial apt/parts obj
 sed 's/^Types:.*/Types: deb-src/; s/bookworm/trixie/g' /etc/apt/sources.list.d/debian.sources >apt/parts/source.sources
-options="-o Dir::Etc::sourcelist=/dev/null -o Dir::Etc::sourceparts=$PWD/apt/parts -o Dir::State::lists=$PWD/apt/lists"
-[ -d lt ] || { apt-get $options -qq update; apt-get $options -qq source --download-only libtorrent-rasterbar; dpkg-source -x libtorrent-rasterbar_2.0.11*.dsc lt; }
+# by_sources WORD..: apt-get with these sources alone.
+by_sources() {
+    apt-get -o Dir::Etc::sourcelist=/dev/null -o "Dir::Etc::sourceparts=$PWD/apt/parts" -o "Dir::State::lists=$PWD/apt/lists" -qq "$@"
+}
+[ -d lt ] || { by_sources update; by_sources source --download-only libtorrent-rasterbar; dpkg-source -x libtorrent-rasterbar_2.0.11*.dsc lt; }
 [ -d boost ] || { apt-get -qq update; apt-get -qq download libboost1.74-dev; dpkg-deb -x libboost1.74-dev*.deb boost; }
-flags="-std=c++17 -O2 -DNDEBUG -ffunction-sections -fdata-sections -Ilt/include -Ilt/deps/try_signal -isystem boost/usr/include"
-for f in piece_picker random performance_counters bitfield error_code; do [ -f obj/$f.o ] || g++ $flags -c lt/src/$f.cpp -o obj/$f.o; done
-g++ $flags -c "$here/bench_libtorrent.cpp" -o obj/bench.o
+compile() {
+    g++ -std=c++17 -O2 -DNDEBUG -ffunction-sections -fdata-sections -Ilt/include -Ilt/deps/try_signal -isystem boost/usr/include "$@"
+}
+for f in piece_picker random performance_counters bitfield error_code; do [ -f obj/$f.o ] || compile -c lt/src/$f.cpp -o obj/$f.o; done
+compile -c "$here/bench_libtorrent.cpp" -o obj/bench.o
 g++ -Wl,--gc-sections obj/*.o -o bench_libtorrent -lpthread
 echo "$PWD/bench_libtorrent 10000 --opts strict --depth 5"

@@ -5,7 +5,10 @@
 set -eu
 cd "$(dirname "$0")"
 cargo build --release --offline
-[ $# -gt 0 ] || set -- $(target/release/swarm list | sed -n 's/^scenario \([a-z]*\) .*/\1/p')
-for name in "$@"; do
-    target/release/swarm page "$name"
+if [ $# -gt 0 ]; then
+    printf '%s\n' "$@"
+else
+    target/release/swarm list | sed -n 's/^scenario \([a-z]*\) .*/\1/p'
+fi | while read -r name; do
+    target/release/swarm page "$name" < /dev/null
 done

@@ -36,20 +36,20 @@ class Speaking(unittest.TestCase):
         self.download = Download(Options("", str(out), listens=False, asks_trackers=False, quiet=True, most_peers=self.most_peers), single_torrent())
         self.addCleanup(self.download.close)
         self.download.prepare()
-        self.session = self.download.session
+        self.session = self.download.parts.session
 
     def peer(self, is_fast: bool, port: int = 1) -> Peer:
         """A peer that has joined; what was said to it is looked at by `said`."""
         peer = Peer(cast(Any, None), ("127.0.0.1", port), True, Inbound(PIECES), self.session.now)
         peer.is_fast = is_fast
-        worker = self.download.swarm._free_worker()
+        worker = self.download.parts.swarm._free_worker()
         assert worker is not None
         self.session.join(peer, worker)
         return peer
 
     def leave(self, peer: Peer) -> None:
         """It goes."""
-        self.download.swarm.free_workers.append(peer.worker)
+        self.download.parts.swarm.free_workers.append(peer.worker)
         self.session.part(peer)
 
     def said(self, peer: Peer) -> bytes:

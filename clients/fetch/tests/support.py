@@ -16,6 +16,7 @@ import unittest
 from collections.abc import Iterator
 from dataclasses import dataclass, field
 from pathlib import Path
+from typing import Any
 
 from bencode import Value, bencode, metainfo
 from fetch import CLIENTS
@@ -185,9 +186,9 @@ class Downloading(unittest.TestCase):
         self.torrent_path.write_bytes(self.torrent)
         self.infohash = infohash_of(self.torrent)
 
-    def seeder(self, **manners: object) -> Seeder:
+    def seeder(self, **manners: Any) -> Seeder:
         """A seeder that is closed at the end of the test."""
-        seeder = Seeder(self.infohash, Manners(**manners))  # type: ignore[arg-type]
+        seeder = Seeder(self.infohash, Manners(**manners))
         self.addCleanup(seeder.close)
         return seeder
 

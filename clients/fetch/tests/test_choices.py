@@ -4,6 +4,8 @@ from __future__ import annotations
 
 import random
 import unittest
+from collections import Counter
+from collections.abc import Hashable
 
 from fetch.addresses import Addresses, delay, parse
 from fetch.blame import Blame
@@ -43,11 +45,11 @@ class Choking(unittest.TestCase):
 
     def test_new_ones(self) -> None:
         """A new connection is drawn three times as often as an old one."""
-        counts = {"old": 0, "new": 0}
+        counts: Counter[Hashable] = Counter()
         chance = random.Random(1)
         for _ in range(2000):
             (drawn,) = Choker(1, chance).choose([Candidate("old", 0.0, 61.0), Candidate("new", 0.0, 1.0)])
-            counts[drawn] += 1  # type: ignore[index]
+            counts[drawn] += 1
         self.assertAlmostEqual(counts["new"] / 2000, 0.75, delta=0.04)
 
 

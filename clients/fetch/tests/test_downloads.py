@@ -210,7 +210,6 @@ class FullDisk(Downloading):
         self.fetch(seeder)
         self.assert_same()
 
-
     def test_in_between(self) -> None:
         """Writing fails in the middle: what came before stays, and is not fetched again."""
         seeder = self.seeder(delay=0.01)

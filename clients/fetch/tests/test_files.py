@@ -6,11 +6,11 @@ import hashlib
 import os
 import unittest
 
-from bencode import BencodeFault, bdecode, bencode
-from fetch.download import open_picker
+from bencode import BencodeFault, Value, bdecode, bencode
 from fetch.layout import Layout, levels_of, printable, safe_path
 from fetch.metainfo import MetainfoFault, files_of, is_folder, trackers_of
 from fetch.options import Options
+from fetch.parts import open_picker
 from fetch.storage import Storage
 from piecepick import Picker
 
@@ -30,11 +30,12 @@ class Bencoded(unittest.TestCase):
     """The examples of BEP 3, and what it forbids."""
 
     def test_values(self) -> None:
-        for data, value in (
+        cases: list[tuple[bytes, Value]] = [
             (b"4:spam", b"spam"), (b"i3e", 3), (b"i-3e", -3), (b"i0e", 0), (b"l4:spam4:eggse", [b"spam", b"eggs"]),
             (b"d3:cow3:moo4:spam4:eggse", {b"cow": b"moo", b"spam": b"eggs"}), (b"d4:spaml1:a1:bee", {b"spam": [b"a", b"b"]}),
             (b"0:", b""), (b"le", []), (b"de", {}),
-        ):  # fmt: skip
+        ]  # fmt: skip
+        for data, value in cases:
             self.assertEqual(bdecode(data), value)
             self.assertEqual(bencode(value), data)
 
@@ -59,18 +60,20 @@ class Metainfo(unittest.TestCase):
             self.assertFalse(is_folder(picker))
 
     def test_trackers(self) -> None:
-        listed = {b"announce": b"http://a/", b"announce-list": [[b"http://b/", b"udp://c:1/"], [], [b"http://d/"], 3, [4]], b"info": {}}
+        tiers: list[Value] = [[b"http://b/", b"udp://c:1/"], [], [b"http://d/"], 3, [4]]
+        listed: dict[bytes, Value] = {b"announce": b"http://a/", b"announce-list": tiers, b"info": {}}
         self.assertEqual(trackers_of(bencode(listed)), [["http://b/", "udp://c:1/"], ["http://d/"]])
         self.assertEqual(trackers_of(bencode({b"announce": b"http://a/", b"info": {}})), [["http://a/"]])
         self.assertEqual(trackers_of(bencode({b"info": {}})), [])
 
     def test_nonsense(self) -> None:
         options = Options(torrent="", out="")
-        for info in (
+        cases: list[dict[bytes, Value]] = [
             {}, {b"length": -3}, {b"files": []}, {b"files": [3]}, {b"files": [{b"length": 3}]}, {b"files": [{b"length": -1, b"path": [b"a"]}]},
             {b"files": [{b"length": 3, b"path": []}]}, {b"files": [{b"length": 3, b"path": [3]}]}, {b"files": [{b"path": [b"a"]}]},
-        ):  # fmt: skip
-            whole = {b"name": b"a", b"piece length": 3, b"pieces": bytes(20)} | info
+        ]  # fmt: skip
+        for info in cases:
+            whole: dict[bytes, Value] = {b"name": b"a", b"piece length": 3, b"pieces": bytes(20), **info}
             with self.subTest(info), self.assertRaises(MetainfoFault):
                 open_picker(bencode({b"info": whole}), options)
         for data in (b"", b"le", b"de", b"d4:infolee"):
@@ -236,7 +239,7 @@ class Folders(Downloading):
 
     def test_name_behind_slash(self) -> None:
         """A slash behind the folder puts the torrent's own name there."""
-        self.out = f"{self.out}/"  # type: ignore[assignment]
+        self.out = f"{self.out}/"  # type: ignore[assignment]  # a path keeps no slash
         self.fetch(self.seeder())
         self.out = self.folder / "out" / "folder"
         self.assertEqual(self.found(), parts())

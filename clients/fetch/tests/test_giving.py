@@ -93,7 +93,7 @@ class Nothing(Answers):
         self.leave(self.session.peers[0])
         self.assertEqual(self.said(self.peer(False)), b"")
 
-    test_given = test_choke_rejects = test_cancel = test_interest = None  # type: ignore[assignment]
+    test_given = test_choke_rejects = test_cancel = test_interest = None  # type: ignore[assignment]  # tests of another state
 
 
 class All(Answers):
@@ -106,7 +106,7 @@ class All(Answers):
         self.leave(self.session.peers[0])
         self.assertEqual(self.said(self.peer(False)), message(BITFIELD, data=flags_of(range(PIECES))))
 
-    test_not_there = test_interest = None  # type: ignore[assignment]
+    test_not_there = test_interest = None  # type: ignore[assignment]  # tests of another state
 
 
 class Limits(unittest.TestCase):

@@ -97,19 +97,19 @@ class InProcess(unittest.TestCase):
         """A peer that has joined."""
         peer = Peer(cast(Any, None), ("127.0.0.1", number % 60000 + 1), True, Inbound(PIECES), 0.0)
         peer.is_fast = number % 2 == 0
-        worker = self.download.swarm._free_worker()
+        worker = self.download.parts.swarm._free_worker()
         assert worker is not None
-        self.download.session.join(peer, worker)
+        self.download.parts.session.join(peer, worker)
         return peer
 
     def leave(self, peer: Peer) -> None:
         """It goes."""
-        self.download.swarm.free_workers.append(peer.worker)
-        self.download.session.part(peer)
+        self.download.parts.swarm.free_workers.append(peer.worker)
+        self.download.parts.session.part(peer)
 
     def run_session(self, number: int) -> bool:
         """One hostile session; whether it kept to the protocol until its end."""
-        session, nonsense = self.download.session, Nonsense(number)
+        session, nonsense = self.download.parts.session, Nonsense(number)
         peer = self.peer(number)
         try:
             for _ in range(nonsense.chance.randrange(40)):
@@ -133,18 +133,18 @@ class InProcess(unittest.TestCase):
             outcomes[self.run_session(number)] += 1
         # Both kinds are there, so that the nonsense is neither too wild nor too tame.
         self.assertGreater(min(outcomes.values()), SESSIONS // 10)
-        session = self.download.session
+        session = self.download.parts.session
         self.assertEqual((session.peers, session.asks), ({}, {}))
         self.finish()
         self.assertEqual(hashlib.sha1(self.out.read_bytes()).digest(), hashlib.sha1(CONTENT).digest())
 
     def finish(self) -> None:
         """An honest peer brings what is missing."""
-        session = self.download.session
+        session = self.download.parts.session
         peer = self.peer(0)
         session.receive(peer, message(HAVE_ALL) + message(UNCHOKE))
         end = time.monotonic() + 30
-        while not self.download.picker.has_wanted and time.monotonic() < end:
+        while not self.download.parts.picker.has_wanted and time.monotonic() < end:
             session.now = time.monotonic() + 100.0  # no rest after rejects
             for piece, begin in list(peer.asked):
                 block = CONTENT[piece * PIECE + begin : piece * PIECE + begin + BLOCK]
@@ -152,11 +152,11 @@ class InProcess(unittest.TestCase):
             session.settle()
             session.ask_idle()
             time.sleep(0.001)
-        self.assertTrue(self.download.picker.has_wanted)
+        self.assertTrue(self.download.parts.picker.has_wanted)
 
     def test_deaf_peer(self) -> None:
         """Who asks and never reads is not answered without end."""
-        session = self.download.session
+        session = self.download.parts.session
         self.finish()
         for number in (0, 1):
             peer = self.peer(number)

@@ -32,7 +32,7 @@ class Asked(Speaking):
     def test_depth(self) -> None:
         peer = self.joined()
         self.assertEqual(len(peer.asked), FIRST_DEPTH)
-        self.assertEqual(self.download.picker.outstanding(peer.worker), FIRST_DEPTH)
+        self.assertEqual(self.download.parts.picker.outstanding(peer.worker), FIRST_DEPTH)
 
     def test_time_out(self) -> None:
         """A silent peer's requests are taken back; then it rests, and others may be asked."""
@@ -40,13 +40,13 @@ class Asked(Speaking):
         block = next(iter(peer.asked))
         self.session.now += SILENCE + 1
         self.assertTrue(self.session.time_out(peer))
-        self.assertEqual((len(peer.asked), self.download.picker.outstanding(peer.worker)), (0, 0))
+        self.assertEqual((len(peer.asked), self.download.parts.picker.outstanding(peer.worker)), (0, 0))
         self.session.ask_idle()
         self.assertEqual(len(peer.asked), 0)
         # A block that comes after all is kept, and ends the rest.
         self.bring(peer, block)
         self.assertEqual(self.session.figures.unasked, 0)
-        self.assertIn(block[0], self.download.content.held)
+        self.assertIn(block[0], self.download.parts.content.held)
         self.assertGreater(len(peer.asked), 0)
 
     def test_rests(self) -> None:
@@ -67,10 +67,10 @@ class Asked(Speaking):
         peer = self.joined()
         block = next(iter(peer.asked))
         said = self.hear(peer, message(REJECT, *block, BLOCK))
-        self.assertEqual((said, self.download.picker.outstanding(peer.worker)), (b"", FIRST_DEPTH - 1))
+        self.assertEqual((said, self.download.parts.picker.outstanding(peer.worker)), (b"", FIRST_DEPTH - 1))
         self.session.now += REJECT_REST
         self.session.ask_idle()
-        self.assertEqual(self.download.picker.outstanding(peer.worker), FIRST_DEPTH)
+        self.assertEqual(self.download.parts.picker.outstanding(peer.worker), FIRST_DEPTH)
 
     def test_choke(self) -> None:
         """All that was asked is free when a peer chokes us; a block that was under way is kept."""
@@ -79,13 +79,13 @@ class Asked(Speaking):
         self.hear(peer, message(CHOKE))
         self.assertEqual((len(peer.asked), self.session.asks), (0, {}))
         self.bring(peer, block)
-        self.assertIn(block[0], self.download.content.held)
+        self.assertIn(block[0], self.download.parts.content.held)
 
     def test_unasked(self) -> None:
         """A block that nobody asked for is no more than counted, so that nobody fills pieces with nonsense."""
         peer = self.peer(False)
         self.bring(peer, (7, 0))
-        self.assertEqual((self.session.figures.unasked, self.download.content.held, peer.down.total), (1, {}, 0))
+        self.assertEqual((self.session.figures.unasked, self.download.parts.content.held, peer.down.total), (1, {}, 0))
 
     def test_rising_rate(self) -> None:
         peer = self.joined()
@@ -146,7 +146,7 @@ class Numbers(Speaking):
             peer = self.peer(True, port)
             self.assertNotEqual(peer.worker, number)
             self.leave(peer)
-        self.assertEqual(self.download.content.owners[self.download.picker.sender(piece, begin // BLOCK)], ("127.0.0.1", 1))
+        self.assertEqual(self.download.parts.content.owners[self.download.parts.picker.sender(piece, begin // BLOCK)], ("127.0.0.1", 1))
 
 
 if __name__ == "__main__":

@@ -12,6 +12,7 @@ import subprocess
 import sys
 import unittest
 from pathlib import Path
+from typing import Any
 from xml.etree import ElementTree
 
 from fetch import CLIENTS
@@ -167,7 +168,7 @@ class Whole(Downloading):
         self.assertIn("▒", written)
         self.assertIn("100%", written)
 
-    def serving(self, **manners: object) -> http.client.HTTPConnection:
+    def serving(self, **manners: Any) -> http.client.HTTPConnection:
         """A download that serves, and a player's connection to it."""
         self.process = self.start("--serve", "0", seeders=(self.seeder(**manners),))
         self.addCleanup(self.process.communicate)

@@ -7,7 +7,7 @@ import threading
 import time
 import unittest
 
-from bencode import bencode
+from bencode import Value, bencode
 from fetch import announcing, tracker_http, tracker_udp
 from fetch.announcing import Announcer
 from fetch.tracker import Announce, Event, TrackerFault, compact_peers
@@ -57,7 +57,7 @@ class Http(unittest.TestCase):
         self.assertEqual((told.interval, told.peers), (900.0, [("10.0.0.1", 6881), ("192.168.1.2", 80)]))
 
     def test_dictionaries(self) -> None:
-        peers = [{b"ip": b"10.0.0.1", b"port": 6881}, {b"ip": b"no address", b"port": 1}, {b"ip": b"::1", b"port": 2}, {b"port": 1}, 7]
+        peers: list[Value] = [{b"ip": b"10.0.0.1", b"port": 6881}, {b"ip": b"no address", b"port": 1}, {b"ip": b"::1", b"port": 2}, {b"port": 1}, 7]
         told = tracker_http.read(bencode({b"interval": 60, b"peers": peers}))
         self.assertEqual(told.peers, [("10.0.0.1", 6881), ("::1", 2)])
 
@@ -97,13 +97,15 @@ class Http(unittest.TestCase):
 
     def test_intervals(self) -> None:
         """Whatever a tracker says, it isn't asked again and again, nor never."""
-        for said, seconds in ((-1, 1800.0), (0, 1800.0), (1, 30.0), (1 << 40, 7200.0), (b"x", 1800.0), (600, 600.0)):
+        cases: list[tuple[Value, float]] = [(-1, 1800.0), (0, 1800.0), (1, 30.0), (1 << 40, 7200.0), (b"x", 1800.0), (600, 600.0)]
+        for said, seconds in cases:
             self.assertEqual(tracker_http.read(bencode({b"interval": said})).interval, seconds)
 
     def test_shortest(self) -> None:
         """Without `min interval` the interval holds for all announces but events."""
-        for said, seconds in (({}, 600.0), ({b"min interval": 100}, 100.0), ({b"min interval": 900}, 600.0), ({b"min interval": 1}, 30.0)):
-            self.assertEqual(tracker_http.read(bencode({b"interval": 600} | said)).shortest, seconds)
+        self.assertEqual(tracker_http.read(bencode({b"interval": 600})).shortest, 600.0)
+        for said, seconds in ((100, 100.0), (900, 600.0), (1, 30.0)):
+            self.assertEqual(tracker_http.read(bencode({b"interval": 600, b"min interval": said})).shortest, seconds)
 
     def test_other_schemes(self) -> None:
         for url in ("file:///etc/hostname", "ftp://127.0.0.1/", "nonsense", ""):

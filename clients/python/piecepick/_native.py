@@ -98,6 +98,12 @@ class Keeps(IntEnum):
 class Answer(Structure):
     """struct piecepick_answer."""
 
+    kind: int
+    piece: int
+    begin: int
+    length: int
+    reason: int
+    interesting: int
     _fields_ = [(name, c_uint32) for name in ("kind", "piece", "begin", "length", "reason", "interesting")]
 
 

@@ -4,6 +4,7 @@ from __future__ import annotations
 
 import hashlib
 import unittest
+from collections.abc import Callable
 
 from support import ALL, BLOCK, CONTENT, DIGESTS, INFO, METAINFO, PARTS, PIECE, PIECES, SEVERAL, bring, picker, with_peer
 
@@ -29,10 +30,10 @@ def bring_to(file: bytearray, made: Picker, worker: int, piece: int, begin: int,
 class CallCase(unittest.TestCase):
     """A case that looks at statuses."""
 
-    def assert_status(self, status: Status, call: object, *arguments: object) -> None:
+    def assert_status(self, status: Status, call: Callable[..., object], *arguments: object) -> None:
         """The call raises just this status."""
         with self.assertRaises(PiecepickError) as caught:
-            call(*arguments)  # type: ignore[operator]
+            call(*arguments)
         self.assertIs(caught.exception.status, status)
 
 

@@ -9,6 +9,7 @@ import pickle
 import tempfile
 import threading
 import unittest
+from collections.abc import Callable
 from pathlib import Path
 
 from support import BLOCK, DIGESTS, METAINFO, PARTS, PIECE, PIECES, bring, picker, with_peer
@@ -28,10 +29,10 @@ class Closed(unittest.TestCase):
         made = with_peer()
         made.close()
         made.close()
-        calls = [made.join, made.next, made.outstanding, made.level, made.piece_hash, made.audit]
+        calls: list[Callable[..., object]] = [made.join, made.next, made.outstanding, made.level, made.piece_hash, made.audit]
         for call, arguments in zip(calls, [(0,), (0,), (0,), (0,), (0,), ()]):
             with self.assertRaises(PiecepickError) as caught:
-                call(*arguments)  # type: ignore[operator]
+                call(*arguments)
             self.assertIs(caught.exception.status, Status.SHUT)
         self.assertRaises(PiecepickError, lambda: made.epoch)
         self.assertRaises(PiecepickError, lambda: made.name)
@@ -60,8 +61,11 @@ class Numbers(unittest.TestCase):
 
     def test_range(self) -> None:
         with with_peer() as made:
+            calls: list[tuple[Callable[..., object], int]] = [
+                (made.join, 1), (made.next, 1), (made.have, 2), (made.depth, 2), (made.level, 1), (made.release, 3),
+            ]  # fmt: skip
             for number in (-1, 2**32, 2**64, -(2**32)):
-                for call, count in [(made.join, 1), (made.next, 1), (made.have, 2), (made.depth, 2), (made.level, 1), (made.release, 3)]:
+                for call, count in calls:
                     for place in range(count):
                         arguments = [0] * count
                         arguments[place] = number
@@ -90,7 +94,8 @@ class Buffers(unittest.TestCase):
             file.write(block)
             file.flush()
             with mmap.mmap(file.fileno(), 0, access=mmap.ACCESS_READ) as mapping:
-                for data in (block, bytearray(block), memoryview(PARTS[0])[:BLOCK], mapping):
+                kinds: list[bytes | bytearray | memoryview | mmap.mmap] = [block, bytearray(block), memoryview(PARTS[0])[:BLOCK], mapping]
+                for data in kinds:
                     with with_peer(Keeps.BEGUN) as made:
                         self.assertEqual(made.arrived(0, 0, 0, data).kind, Kind.STORED)
                         bring(made, 1, PARTS[1])

@@ -1,0 +1,118 @@
+"""The parts of one download, each built over those that it stands on. Nothing runs yet."""
+
+from __future__ import annotations
+
+import os
+import secrets
+import socket
+from typing import cast
+
+from piecepick import Keeps, Picker, PiecepickError, Status
+
+from .addresses import Addresses
+from .announcing import Announcer
+from .checking import Checker
+from .content import Content
+from .layout import File, Layout, safe_path
+from .metainfo import MetainfoFault, files_of, is_folder, trackers_of
+from .meter import Metered
+from .options import Options
+from .peer import FIRST_DEPTH, MOST_DEPTH
+from .recorder import Recorder
+from .session import Session
+from .storage import Storage
+from .swarm import Limits, Swarm
+from .tracker import Announce, Event
+from .uploads import Uploads
+
+CLIENT = b"-PP0003-"
+PORTS = range(6881, 6890)
+NO_PORT = 1  # is told a tracker by who takes no connections, since some refuse 0
+USUAL_LEVEL = 4
+STATE_SUFFIX = ".piecepick"
+
+
+def open_picker(metainfo: bytes, options: Options) -> Picker:
+    """The picker. Two numbers for each peer, since a number isn't given to another while it names a block's sender; and one for the disk."""
+    try:
+        return Picker(
+            metainfo, keeps=Keeps.NOTHING, workers=2 * options.most_peers + 1, depth=FIRST_DEPTH, deepest=MOST_DEPTH, askers=options.askers
+        )
+    except PiecepickError as error:
+        strict = "it isn't bencoded as strictly as BEP 3 has it"
+        cause = strict if error.status is Status.BENCODE else error.status.name.lower().replace("_", " ")
+        raise MetainfoFault(f"the library can't use the metainfo file: {cause}") from error
+
+
+def layout_of(picker: Picker) -> Layout:
+    """Where the files lie in the content."""
+    return Layout(files_of(picker), picker.piece_length(0), picker.total)
+
+
+def listener_of(options: Options) -> socket.socket | None:
+    """The socket at which peers connect to us. Raises OSError where the port that was told can't be had."""
+    if not options.listens:
+        return None
+    family = socket.AF_INET6 if ":" in options.bind else socket.AF_INET
+    if options.port is not None:
+        return socket.create_server((options.bind, options.port), family=family)
+    for port in PORTS:
+        try:
+            return socket.create_server((options.bind, port), family=family)
+        except OSError:
+            continue
+    return socket.create_server((options.bind, 0), family=family)
+
+
+def file_levels(layout: Layout, options: Options) -> dict[int, int]:
+    """The level of each file. Raises ValueError where a number has no file."""
+    numbers = {file.number for file in layout.files}
+    named = set(options.levels) | (options.only or set())
+    if unknown := named - numbers:
+        raise ValueError(f"there is no file {min(unknown)}: --list shows the numbers")
+    levels = {number: USUAL_LEVEL if options.only is None or number in options.only else 0 for number in numbers}
+    return levels | options.levels
+
+
+class Parts:
+    """What a download is made of. `metered` is the picker itself where its calls are counted."""
+
+    def __init__(self, options: Options, metainfo: bytes) -> None:
+        plain = open_picker(metainfo, options)
+        self.metered = Metered(plain) if options.meters else None
+        self.picker = cast(Picker, self.metered or plain)
+        self.layout = layout_of(plain)
+        self.levels = file_levels(self.layout, options)
+        self.root = os.path.join(options.out, safe_path([plain.name])) if options.out.endswith(os.sep) else options.out
+        self.storage = Storage(self.root, self.layout, is_folder(plain))
+        self.checker = Checker(self.storage, lambda: self.swarm.wake())
+        self.content = Content(self.picker, self.layout, self.storage, self.checker, self.root + STATE_SUFFIX)
+        self.uploads = Uploads(self.content, None if options.up_limit is None else 1000 * options.up_limit)
+        self.recorder = Recorder(self.picker, self.layout) if options.picture else None
+        self.session = Session(self.content, self.uploads, self.recorder)
+        listener = listener_of(options)
+        limits = Limits(CLIENT + secrets.token_bytes(12), options.most_peers, options.slots, options.bind)
+        self.swarm = Swarm(self.session, Addresses(), limits, listener)
+        tiers = trackers_of(metainfo) if options.asks_trackers else []
+        self.announcer = Announcer(tiers, self._announce, self.swarm.wake, options.bind)
+        self._key = secrets.randbits(32)
+
+    def _announce(self, event: Event) -> Announce:
+        """What a tracker is told now."""
+        listener = self.swarm.listener
+        port = listener.getsockname()[1] if listener else NO_PORT
+        return Announce(
+            self.content.infohash, self.swarm.limits.peer_id, port, self.uploads.total, self.session.figures.bytes, self.content.left,
+            event, self._key,
+        )  # fmt: skip
+
+    @property
+    def wanted_files(self) -> list[File]:
+        """The files that are downloaded."""
+        return [file for file in self.layout.files if self.levels[file.number] > 0]
+
+    def stop(self) -> None:
+        """Ends threads and connections. The disk stays, so that the state can be written."""
+        self.checker.close()
+        self.announcer.stop()
+        self.swarm.close()
