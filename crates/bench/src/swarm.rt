@@ -137,12 +137,12 @@ impl<const WORKERS: u32> Swarm<WORKERS> {
 
     /// Whether all pieces are had.
     pub fn is_complete(&self) -> bool {
-        self.desk.is_complete()
+        self.desk.picker().is_complete()
     }
 
     /// Whether all wanted pieces are had.
     pub fn has_wanted(&self) -> bool {
-        self.desk.has_wanted()
+        self.desk.picker().has_wanted()
     }
 
     /// How many pieces are listed as had.

@@ -152,7 +152,7 @@ impl Held {
 fn content_len(desk: &Desk, piece: u32) -> Result<u32, Fault>
     ensures { SaysOfContent desk.now piece result }
 {
-    if piece >= desk.torrent().piece_count() {
+    if piece >= desk.picker().torrent().piece_count() {
         return Err(Fault::Piece);
     }
     if !desk.had(piece) {
@@ -160,7 +160,7 @@ fn content_len(desk: &Desk, piece: u32) -> Result<u32, Fault>
     }
     // It is the piece's, since in a legal journal each block that is held has its length.
     let _legal = desk.journal();
-    Ok(desk.torrent().piece_len(piece))
+    Ok(desk.picker().torrent().piece_len(piece))
 }
 
 /// Writes the bytes of a piece that is had into a room of their number.
@@ -185,9 +185,9 @@ fn judge(alloc: Global, desk: &Desk) -> Result<(), Fault>
 {
     match audit(
         alloc,
-        desk.torrent(),
-        desk.workers(),
-        desk.rules(),
+        desk.picker().torrent(),
+        desk.picker().workers(),
+        desk.picker().rules(),
         desk.journal(),
     ) {
         Ok(()) => Ok(()),

@@ -155,10 +155,10 @@ impl Held {
         let Engine::Desk(desk) = &mut self.engine else {
             return Err(Fault::Keeps);
         };
-        if piece >= desk.torrent().piece_count() {
+        if piece >= desk.picker().torrent().piece_count() {
             return Err(Fault::Piece);
         }
-        if !desk.is_waiting(piece) {
+        if !desk.picker().is_waiting(piece) {
             return Err(Fault::NotWaiting);
         }
         match desk.settle_now(alloc, 0, piece) {

@@ -120,7 +120,7 @@ fn print_pieces<O: Sink>(out: &mut O, desk: &Desk, pieces: u32) -> Result<(), De
         (pieces_text pieces (is_done desk.now))) }
     ensures err { OnErr result (O.failed out.new ≡ true) }
 {
-    let complete = if desk.has_wanted() { "yes" } else { "no" };
+    let complete = if desk.picker().has_wanted() { "yes" } else { "no" };
     print(out, "missing")?;
     print_missing(out, desk, pieces)?;
     print(out, "\ncomplete ")?;
@@ -135,7 +135,7 @@ fn print_missing<O: Sink>(out: &mut O, desk: &Desk, pieces: u32) -> Result<(), D
         (missing_text pieces (is_done desk.now))) }
     ensures err { OnErr result (O.failed out.new ≡ true) }
 {
-    if desk.has_wanted() {
+    if desk.picker().has_wanted() {
         return print(out, " -");
     }
     for piece in 0..pieces {

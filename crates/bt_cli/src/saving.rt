@@ -27,7 +27,7 @@ pub fn save<F: NewFile>(desk: &Desk, file: &mut F) -> Result<(), DeviceFault>
         Appends F.blank (F.written file.new) (whole_content desk.now.setting desk.now.history)) }
     ensures failed { OnErr result ((complete desk.now.setting desk.now.history ≡ true) × (F.failed file.new ≡ true)) }
 {
-    if !desk.is_complete() {
+    if !desk.picker().is_complete() {
         return Ok(());
     }
     file.create()?;

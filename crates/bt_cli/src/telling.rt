@@ -61,7 +61,7 @@ pub fn tell<O: Sink>(
         return Err(Fault::Memory);
     }
     match printed {
-        Ok(()) => Ok(outcome.desk.has_wanted()),
+        Ok(()) => Ok(outcome.desk.picker().has_wanted()),
         Err(DeviceFault) => Err(Fault::File),
     }
 }

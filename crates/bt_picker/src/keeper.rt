@@ -77,6 +77,13 @@ impl Keeper {
         Ok(Keeper { picker, stash })
     }
 
+    /// The picker, which answers all that the keeper doesn't: what is had, wanted, asked, who brought a block, the rules.
+    pub fn picker(&self) -> &Picker
+        ensures { result.now ≡ self.now }
+    {
+        &self.picker
+    }
+
     /// Answers what a worker tells of its peer, by the rules. The bytes of an arrival are copied, and kept where the reply says that they
     /// are stored. Nothing else that is told takes memory, nor does an arrival that is dropped or refused. Without memory, nothing changes.
     pub fn tell(&mut self, alloc: Global, worker: u32, told: Told<'_>) -> Result<Reply, AllocError>
@@ -164,7 +171,7 @@ impl Keeper {
         ensures ok { IfOk result (λ job. IsJobOf self.now.setting self.now.history piece job) }
         ensures unasked { waits self.now.setting self.now.history piece ≡ false → result ≡ Ok None }
     {
-        if !self.is_waiting(piece) {
+        if !self.picker.is_waiting(piece) {
             return Ok(None);
         }
         let blocks = Vec::from_clones(alloc, self.waiting(piece))?;
@@ -197,7 +204,7 @@ impl Keeper {
         ensures hashed { result.reply ≡ Reply.Had →
             sha1 (concat result.blocks.items) ≡ hash_of self.old.setting.torrent piece }
     {
-        let digest = if self.is_waiting(piece) {
+        let digest = if self.picker.is_waiting(piece) {
             hash(self.waiting(piece))
         } else {
             [0; 20]
@@ -246,7 +253,7 @@ impl Keeper {
         ensures yes { result ≡ true → IsStale self.now verdict.now }
         ensures no { result ≡ false → IsFresh self.now verdict.now }
     {
-        self.is_waiting(verdict.piece()) && self.waiting(verdict.piece()) != verdict.blocks()
+        self.picker.is_waiting(verdict.piece()) && self.waiting(verdict.piece()) != verdict.blocks()
     }
 
     /// The blocks of a piece that waits for a check.
@@ -275,115 +282,6 @@ impl Keeper {
         ensures assured { Assures self.now.setting self.now.history }
     {
         self.picker.attest();
-    }
-
-    /// The torrent of the download.
-    pub fn torrent(&self) -> &Torrent
-        ensures { result.now.layout ≡ self.now.setting.torrent }
-    {
-        self.picker.torrent()
-    }
-
-    /// How many workers there are, 1 to 1,024: a worker's number is below it.
-    pub fn workers(&self) -> u32
-        ensures count { result ≡ self.now.setting.workers }
-        ensures bound { result ≤ MOST_WORKERS }
-    {
-        self.picker.workers()
-    }
-
-    /// The rules of the download.
-    pub fn rules(&self) -> Rules
-        ensures depth { result.depth ≡ self.now.setting.depth }
-        ensures random { result.random ≡ self.now.setting.random }
-        ensures askers { result.askers ≡ self.now.setting.askers }
-        ensures deepest { result.deepest ≡ self.now.setting.deepest }
-    {
-        self.picker.rules()
-    }
-
-    /// A number that rises when a peer that had nothing to be asked for may have another answer, as [`Picker::epoch`] says.
-    pub fn epoch(&self) -> u64
-        ensures { result ≡ epoch self.now.setting self.now.history % 2 ^ 64 }
-    {
-        self.picker.epoch()
-    }
-
-    /// The worker whose peer brought block `index` of the piece, counted from its front, if the block is held.
-    pub fn sender(&self, piece: u32, index: u32) -> Option<u32>
-        requires piece { piece < piece_count self.now.setting.torrent }
-        requires index { index < block_count self.now.setting.torrent piece }
-        ensures { result ≡ sender self.now.history (block self.now.setting.torrent piece index) }
-    {
-        self.picker.sender(piece, index)
-    }
-
-    /// Whether the piece was checked, and had its hash.
-    pub fn had(&self, piece: u32) -> bool
-        requires { piece < piece_count self.now.setting.torrent }
-        ensures { result ≡ had self.now.history piece }
-    {
-        self.picker.had(piece)
-    }
-
-    /// Whether the piece is to be downloaded: its level isn't 0.
-    pub fn wanted(&self, piece: u32) -> bool
-        requires { piece < piece_count self.now.setting.torrent }
-        ensures { result ≡ wanted self.now.setting self.now.history piece }
-    {
-        self.picker.wanted(piece)
-    }
-
-    /// The level of the piece, 0 to 7: the usual one until another is told, and 0 where it isn't wanted.
-    pub fn level(&self, piece: u32) -> u8
-        requires { piece < piece_count self.now.setting.torrent }
-        ensures { result ≡ level self.now.history piece }
-    {
-        self.picker.level(piece)
-    }
-
-    /// Whether pieces of one level come in rising order, or else the rarest first.
-    pub fn is_in_order(&self) -> bool
-        ensures { result ≡ in_order self.now.history }
-    {
-        self.picker.is_in_order()
-    }
-
-    /// How many joined peers show the piece.
-    pub fn availability(&self, piece: u32) -> u32
-        requires { piece < piece_count self.now.setting.torrent }
-        ensures { result ≡ availability self.now.setting self.now.history piece }
-    {
-        self.picker.availability(piece)
-    }
-
-    /// The blocks asked of the worker's peer, the oldest request first.
-    pub fn outstanding(&self, worker: u32) -> &[Block]
-        requires { worker < self.now.setting.workers }
-        ensures { result.now ≡ outstanding self.now.history worker }
-    {
-        self.picker.outstanding(worker)
-    }
-
-    /// Whether the piece is full and isn't had, and so waits for a check. No piece beyond the last does.
-    pub fn is_waiting(&self, piece: u32) -> bool
-        ensures { result ≡ waits self.now.setting self.now.history piece }
-    {
-        self.picker.is_waiting(piece)
-    }
-
-    /// Whether each piece is had, wanted or not.
-    pub fn is_complete(&self) -> bool
-        ensures { result ≡ complete self.now.setting self.now.history }
-    {
-        self.picker.is_complete()
-    }
-
-    /// Whether each wanted piece is had: there is nothing left to download, though the content may not be complete.
-    pub fn has_wanted(&self) -> bool
-        ensures { result ≡ has_wanted self.now.setting self.now.history }
-    {
-        self.picker.has_wanted()
     }
 }
 

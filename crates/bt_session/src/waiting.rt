@@ -12,7 +12,7 @@ fn is_waiting(desk: &Desk, pieces: u32) -> bool
     ensures { TellsWaiting result desk.now }
 {
     for piece in 0..pieces {
-        if desk.is_waiting(piece) {
+        if desk.picker().is_waiting(piece) {
             return true;
         }
     }

@@ -82,7 +82,7 @@ pub(crate) fn enter_check(
     ensures legal { IsLegal desk.new.setting desk.new.history }
 {
     let place = entries_of(desk);
-    if !desk.is_waiting(piece) {
+    if !desk.picker().is_waiting(piece) {
         let made = desk.settle_now(alloc, worker, piece);
         attest(desk);
         return made;

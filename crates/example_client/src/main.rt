@@ -65,7 +65,7 @@ fn tell<R: Runtime + AllocGlobal>(
     store: &Store,
 ) -> Result<()> {
     let asked = peer.asked();
-    let complete = keeper.is_complete();
+    let complete = keeper.picker().is_complete();
     println!(rt; "asked for {asked} blocks, complete: {complete}")?;
     let digest = hex::encode(rt.alloc(), Sha1::digest(store.content()).as_slice())?;
     println!(rt; "sha1 {digest}")?;

@@ -85,7 +85,7 @@ impl Alone {
         finds(
             rt,
             alloc,
-            self.desk.torrent(),
+            self.desk.picker().torrent(),
             1,
             Rules::usual(),
             entries,

@@ -57,7 +57,7 @@ const ONE_LOG: &[&[Mark]] = &[HAD];
 
 /// How many peers show the piece.
 fn peers_of(rt: &impl Abort, desk: &Desk, piece: u32) -> u32 {
-    assert!(rt; piece < desk.torrent().piece_count());
+    assert!(rt; piece < desk.picker().torrent().piece_count());
     desk.availability(piece)
 }
 

@@ -271,11 +271,11 @@ impl Played {
 
     fn level(&self, rt: &impl Abort, piece: u32) -> u8 {
         assert!(rt; piece < PIECES);
-        self.desk.level(piece)
+        self.desk.picker().level(piece)
     }
 
     fn is_in_order(&self) -> bool {
-        self.desk.is_in_order()
+        self.desk.picker().is_in_order()
     }
 
     fn wanted(&self, rt: &impl Abort) -> Shown {
@@ -312,7 +312,7 @@ impl Played {
 
     fn unbegun_at(&self, rt: &impl Abort, level: u8, shown_by: u32) -> &[u32] {
         assert!(rt; 1 <= level && level <= 7 && shown_by <= WORKERS);
-        self.desk.group_at(level, shown_by)
+        self.desk.picker().group_at(level, shown_by)
     }
 
     /// The unbegun pieces of the usual level that so many peers show.
@@ -334,18 +334,18 @@ impl Played {
     }
 
     fn has_wanted(&self) -> bool {
-        self.desk.has_wanted()
+        self.desk.picker().has_wanted()
     }
 
     fn is_complete(&self) -> bool {
-        self.desk.is_complete()
+        self.desk.picker().is_complete()
     }
 
     /// The workers, the depth and the pieces of the desk.
     pub fn made_of(&self) -> (u32, u32, u32) {
-        let torrent = self.desk.torrent();
-        let rules = self.desk.rules();
-        (self.desk.workers(), rules.depth, torrent.piece_count())
+        let torrent = self.desk.picker().torrent();
+        let rules = self.desk.picker().rules();
+        (self.desk.picker().workers(), rules.depth, torrent.piece_count())
     }
 
     pub fn write_piece<W: Sink>(

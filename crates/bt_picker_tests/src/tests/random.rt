@@ -409,19 +409,19 @@ impl Run {
                 self.level(rt, 2),
                 self.level(rt, 3),
             ],
-            rising: self.desk.is_in_order(),
+            rising: self.desk.picker().is_in_order(),
         };
         assert!(rt; shown.levels == wishes.levels && shown.rising == wishes.rising);
     }
 
     fn level(&self, rt: &impl Abort, piece: u32) -> u8 {
-        assert!(rt; piece < self.desk.torrent().piece_count());
-        self.desk.level(piece)
+        assert!(rt; piece < self.desk.picker().torrent().piece_count());
+        self.desk.picker().level(piece)
     }
 
     /// Who has all pieces has those that are wanted.
     fn has_wanted_at_the_end(&self) -> bool {
-        self.desk.has_wanted() || !self.desk.is_complete()
+        self.desk.picker().has_wanted() || !self.desk.picker().is_complete()
     }
 }
 

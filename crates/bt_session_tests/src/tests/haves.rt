@@ -113,7 +113,7 @@ fn run<'a, T: Threads + Wait + Sync>(
 fn ended_well(rt: &impl Abort, run: &SwarmRun<Patient<'_>, Listening<'_>>) {
     assert!(rt; run.ends.len() == 1);
     assert!(rt; run.ends[0].is_ok());
-    assert!(rt; run.book.desk.is_complete());
+    assert!(rt; run.book.desk.picker().is_complete());
     assert!(rt; !run.short);
 }
 

@@ -87,7 +87,7 @@ fn outcome_of(alloc: Global, run: SerialRun, streams: Vec<Recorded<'_>>) -> Resu
         ends,
         journal,
         written,
-        is_complete: desk.is_complete(),
+        is_complete: desk.picker().is_complete(),
         short,
     })
 }

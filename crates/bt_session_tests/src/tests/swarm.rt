@@ -199,7 +199,7 @@ fn two_of_three_ended(rt: &impl Abort, run: &Run<'_>) {
     assert!(rt; run.ends[0] == Ok(End { messages: 3 }));
     assert!(rt; run.ends[1] == Ok(End { messages: 3 }));
     assert!(rt; run.ends[2] == Err(SessionFault::WrongInfohash));
-    assert!(rt; run.book.desk.is_complete());
+    assert!(rt; run.book.desk.picker().is_complete());
 }
 
 /// What was written to each stream.
@@ -415,7 +415,7 @@ fn all_are_checked(rt: &impl Abort, logs: &[Vec<Mark>]) -> Result<(), Fail> {
 fn got_all(rt: &impl Abort, run: &Run<'_>) -> Result<(), Fail> {
     ended_alone(rt, run, 64);
     all_are_checked(rt, &run.book.logs)?;
-    assert!(rt; run.book.desk.is_complete());
+    assert!(rt; run.book.desk.picker().is_complete());
     Ok(())
 }
 
@@ -466,7 +466,7 @@ fn first_may_be_lacking<T: Threads + Wait + Abort + Sync>(
     let run = run_of_two(rt, alloc, three_pieces(alloc)?, sent, &OpenGate)?;
     both_ended(rt, &run, 3, 5);
     assert!(rt; !run.short);
-    let is_complete = run.book.desk.is_complete();
+    let is_complete = run.book.desk.picker().is_complete();
     assert!(rt; is_complete || !run.book.desk.had(0));
     checker_found(rt, &run.book.logs, if is_complete { 3 } else { 2 })
 }

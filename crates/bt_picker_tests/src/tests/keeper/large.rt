@@ -58,7 +58,7 @@ fn plays_through(
     for _ in 0..pieces {
         downloads(rt, alloc, keeper, zeros)?;
     }
-    assert!(rt; keeper.is_complete());
+    assert!(rt; keeper.picker().is_complete());
     tells(rt, alloc, keeper, Told::Next(0), Reply::NothingLeft)
 }
 
@@ -84,7 +84,7 @@ fn downloads(
 ) -> Result<(), Fail> {
     for _ in 1..BLOCKS {
         let piece = downloads_one(rt, alloc, keeper, zeros, Reply::Stored)?;
-        assert!(rt; !keeper.is_waiting(piece));
+        assert!(rt; !keeper.picker().is_waiting(piece));
     }
     let piece = downloads_one(rt, alloc, keeper, zeros, Reply::Completed)?;
     let settled = keeper.settle_now(0, piece);

@@ -38,7 +38,7 @@ fn all_pieces_by_what_is_told(rt: HostRuntime) -> Result<(), Fail> {
     comes(&rt, alloc, &mut keeper, 0, b"abc")?;
     comes(&rt, alloc, &mut keeper, 1, b"abc")?;
     comes(&rt, alloc, &mut keeper, 2, b"a")?;
-    assert!(rt; keeper.is_complete() && keeper.has_wanted());
+    assert!(rt; keeper.picker().is_complete() && keeper.picker().has_wanted());
     Ok(())
 }
 
@@ -68,7 +68,7 @@ fn a_wrong_block_is_asked_for_again(rt: HostRuntime) -> Result<(), Fail> {
     let first = asks(&rt, alloc, &mut keeper)?;
     brings(&rt, alloc, &mut keeper, 0, 0, b"xyz", Reply::Completed)?;
     settles(&rt, keeper.settle_now(0, 0), Reply::Failed, None);
-    assert!(rt; !keeper.is_waiting(0));
+    assert!(rt; !keeper.picker().is_waiting(0));
     let again = asks(&rt, alloc, &mut keeper)?;
     assert!(rt; again == first);
     Ok(())
@@ -89,7 +89,7 @@ fn a_verdict_of_replaced_bytes_is_refused(rt: HostRuntime) -> Result<(), Fail> {
         Reply::Refused(Reason::Stale),
         None,
     );
-    assert!(rt; keeper.is_waiting(0));
+    assert!(rt; keeper.picker().is_waiting(0));
     settles(&rt, keeper.settle_now(0, 0), Reply::Had, Some(b"abc"));
     Ok(())
 }
@@ -118,13 +118,13 @@ fn levels_and_order(rt: HostRuntime) -> Result<(), Fail> {
     let alloc = rt.alloc();
     let mut keeper = three_pieces(&rt, alloc)?;
     has_level(&rt, &keeper, 2, 4);
-    assert!(rt; !keeper.is_in_order());
+    assert!(rt; !keeper.picker().is_in_order());
     let raised = Told::Level { piece: 2, level: 5 };
     tells(&rt, alloc, &mut keeper, raised, Reply::Quiet)?;
     tells(&rt, alloc, &mut keeper, Told::InOrder(true), Reply::Quiet)?;
     has_level(&rt, &keeper, 2, 5);
     has_level(&rt, &keeper, 1, 4);
-    assert!(rt; keeper.is_in_order());
+    assert!(rt; keeper.picker().is_in_order());
     assert!(rt; asks(&rt, alloc, &mut keeper)?.piece == 2);
     assert!(rt; asks(&rt, alloc, &mut keeper)?.piece == 0);
     Ok(())

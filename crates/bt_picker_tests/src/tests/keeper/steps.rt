@@ -48,8 +48,8 @@ pub fn tells(
 
 /// The piece is there, and has this level.
 pub fn has_level(rt: &impl Abort, keeper: &Keeper, piece: u32, level: u8) {
-    assert!(rt; piece < keeper.torrent().piece_count());
-    assert_eq!(rt; keeper.level(piece), level);
+    assert!(rt; piece < keeper.picker().torrent().piece_count());
+    assert_eq!(rt; keeper.picker().level(piece), level);
 }
 
 /// The block that the first worker's peer is asked for, at the random number 0.
