@@ -9,8 +9,8 @@ use Rattle.std.proofs.lemmas.List.{drop_more, drop_all}
 use Rattle.std.proofs.lemmas.Bool.{ne_eqb}
 use Rattle.std.specs.Global.{Global}
 use Rattle.bt_bencode.specs.declared.fault.BenFault.{BenFault}
-use Rattle.bt_bencode.specs.declared.fault.BenFault.TheVariants.{Truncated, BadInteger, IntegerRange, BadLength, KeyOrder, KeyKind, TooDeep}
-use Rattle.bt_bencode.specs.declared.fault.BenFault.TheVariants.{Trailing, BadByte, NoMemory}
+use Rattle.bt_bencode.specs.declared.fault.BenFault.TheVariants.{Truncated, KeyOrder}
+use Rattle.bt_bencode.specs.declared.fault.BenFault.TheVariants.{NoMemory}
 use Rattle.bt_bencode.specs.Term.{Term, Terms, Entries, no_terms, more_terms, no_entries, more_entries}
 use Rattle.bt_bencode.specs.View.{terms_from, entries_from, last_key}
 use Rattle.bt_bencode.specs.Reading.{◌>>=◌, Fails, items_at, entries_at, string_at, is_late, no_key, key_at}
@@ -45,27 +45,11 @@ entries_left value source front place whole = (turns : ℕ) × (length source �
 pub fails_then : {A B : Type 0} (e : BenFault) (part : Result A BenFault) (whole : Result B BenFault) → (part ≡ Err e → whole ≡ Err e) →
     Fails e part → Fails e whole
 fails_then NoMemory part whole f h = tt
-fails_then Truncated part whole f h = f h
-fails_then BadInteger part whole f h = f h
-fails_then IntegerRange part whole f h = f h
-fails_then BadLength part whole f h = f h
-fails_then KeyOrder part whole f h = f h
-fails_then KeyKind part whole f h = f h
-fails_then TooDeep part whole f h = f h
-fails_then Trailing part whole f h = f h
-fails_then BadByte part whole f h = f h
+fails_then e part whole f h = f h
 
 pub fails_as : {A : Type 0} (e : BenFault) (whole : Result A BenFault) → whole ≡ Err e → Fails e whole
 fails_as NoMemory whole h = tt
-fails_as Truncated whole h = h
-fails_as BadInteger whole h = h
-fails_as IntegerRange whole h = h
-fails_as BadLength whole h = h
-fails_as KeyOrder whole h = h
-fails_as KeyKind whole h = h
-fails_as TooDeep whole h = h
-fails_as Trailing whole h = h
-fails_as BadByte whole h = h
+fails_as e whole h = h
 
 onto_none : (ts : List Term) → onto ts no_terms ≡ terms_from ts
 onto_none [] = refl

@@ -1,20 +1,17 @@
 -- What an entry that is allowed shows of the history before it.
 use Rattle.std.proofs.Common.{◌≡◌, ◌≢◌, ◌⊎◌, ℕ, ◌==◌, ◌<◌, Bool, true, false, not, ◌&&◌, ◌||◌, List, [], ◌∷◌, Option, None, Some, refl, ap, sym}
 use Rattle.std.proofs.Common.{◌∙◌, subst, inl, inr, ⊎_elim}
-use Rattle.std.specs.Prelude.{if◌then◌else◌, nat_le, nat_lt}
-use Rattle.std.proofs.lemmas.Bool.{and_parts, not-true, not-false, or_parts, leb-false, eqb-true}
+use Rattle.std.specs.Prelude.{if◌then◌else◌, nat_le, nat_lt, ⊤}
+use Rattle.std.proofs.lemmas.Bool.{and_parts, not-true, not-false, or_parts, leb-false, eqb-true, cases_Bool}
 use Rattle.bt_meta.specs.declared.block.Block.{Block}
 use Rattle.bt_meta.specs.Layout.{Layout, piece_count, hash_of}
 use Rattle.sha1.specs.Sha1.{sha1}
 use Rattle.bt_history.specs.declared.call.Reason.{Reason}
-use Rattle.bt_history.specs.declared.call.Reason.TheVariants.{NoSuchPiece, NotWaiting, Stale}
 use Rattle.bt_history.specs.declared.call.Reply.{Reply}
-use Rattle.bt_history.specs.declared.call.Reply.TheVariants.{Joined, Quiet, Cancel, Request, Choked, PipeFull, Idle, NothingLeft, Stored}
+use Rattle.bt_history.specs.declared.call.Reply.TheVariants.{Joined, Quiet, Request, Stored}
 use Rattle.bt_history.specs.declared.call.Reply.TheVariants.{Completed, Dropped, Had, Failed, Refused}
 use Rattle.bt_history.specs.declared.event.Action.{Action}
-use Rattle.bt_history.specs.declared.event.Action.TheVariants.{Join, Bits, Have, Choke, Unchoke, Next, Arrived, Settle, Leave, Want, Haves}
-use Rattle.bt_history.specs.declared.event.Action.TheVariants.{Depth, Release}
-use Rattle.bt_history.specs.declared.event.Action.TheVariants.{Level, Levels, InOrder}
+use Rattle.bt_history.specs.declared.event.Action.TheVariants.{Join, Bits, Have, Next, Arrived, Settle, Haves}
 use Rattle.bt_history.specs.declared.event.Event.{Event}
 use Rattle.bt_history.specs.Setting.{Setting, some_block, some_block_of, each_block_of, is_block}
 use Rattle.bt_history.specs.History.{History, settles, is_had, is_failed}
@@ -22,6 +19,7 @@ use Rattle.bt_history.specs.Peers.{asked, asked_count, due, depth_of}
 use Rattle.bt_history.specs.Pieces.{held, full, content, had, asked_of_some, asker_count, unasked, wanted, endgame, begun}
 use Rattle.bt_history.specs.Next.{Answer, Exactly, usable, tops, continues, starts, rises, doubles, next_answer}
 use Rattle.bt_history.specs.Legal.{same_bytes, first_cause, refusal, answer, answer_unless, arrived_answer, settled_answer, Permits, IsAllowed}
+use Rattle.bt_history.specs.Legal.{causes}
 use Rattle.bt_history.specs.Logs.{answers, answers_next, answers_arrived, call_mark}
 use Rattle.bt_history.proofs.Below.{any_fails}
 use Rattle.bt_history.proofs.NextCases.{next_is, next_answers, next_request}
@@ -51,36 +49,26 @@ next_fits : (t : Layout) (cause : Option Reason) (s : Setting) (h : History) (w 
 next_fits t None s h w word reply is = fits reply (next_answers t _ _ _ _ _ _ _ _ _ _ _ _ _ reply
     (subst (λ (a : Answer). Permits t a reply) (next_is s h w) is)) where
       fits : (r : Reply) → answers_next r ≡ true → answers (call_mark (Next word)) r ≡ true
-      fits (Cancel b) h = refl
-      fits (Request b) h = refl
-      fits Choked h = refl
-      fits PipeFull h = refl
-      fits Idle h = refl
-      fits NothingLeft h = refl
       fits (Refused reason) h = refl
       fits _ h = h
 next_fits t (Some reason) s h w word reply is = ap (answers (call_mark (Next word))) is
 
 -- a reply that is allowed is one that a call of its kind can have
 pub allowed_answers : (s : Setting) (h : History) (e : Event) → IsAllowed s h e → answers (call_mark e.action) e.reply ≡ true
-unfolding IsAllowed answer settled_answer
+unfolding IsAllowed settled_answer
 allowed_answers s h e allowed = by_call e.action allowed.1 where
   by_call : (call : Action) → Permits s.torrent (answer_unless (refusal s h e.worker call) (answer s h e.worker call)) e.reply →
       answers (call_mark call) e.reply ≡ true
   by_call Join is = exactly s.torrent (refusal s h e.worker Join) Joined e.reply Join refl is
   by_call (Bits flags) is = exactly s.torrent (refusal s h e.worker (Bits flags)) _ e.reply (Bits flags) refl is
   by_call (Have p) is = exactly s.torrent (refusal s h e.worker (Have p)) _ e.reply (Have p) refl is
-  by_call Choke is = exactly s.torrent (refusal s h e.worker Choke) Quiet e.reply Choke refl is
-  by_call Unchoke is = exactly s.torrent (refusal s h e.worker Unchoke) Quiet e.reply Unchoke refl is
+  by_call (Haves flags) is = exactly s.torrent (refusal s h e.worker (Haves flags)) _ e.reply (Haves flags) refl is
   by_call (Next word) is = next_fits s.torrent (refusal s h e.worker (Next word)) s h e.worker word e.reply is
   by_call (Arrived p begin bytes) is =
       let only = arrived_exactly s h p begin in
       exactly s.torrent (refusal s h e.worker (Arrived p begin bytes)) only.0 e.reply (Arrived p begin bytes) (arrived_fits only.0 only.2)
       (subst (λ (a : Answer). Permits s.torrent (answer_unless (refusal s h e.worker (Arrived p begin bytes)) a) e.reply) only.1 is) where
         arrived_fits : (r : Reply) → answers_arrived r ≡ true → answers (call_mark (Arrived p begin bytes)) r ≡ true
-        arrived_fits Stored h = refl
-        arrived_fits Completed h = refl
-        arrived_fits Dropped h = refl
         arrived_fits (Refused reason) h = refl
         arrived_fits _ h = h
   by_call (Settle p bytes) is = settled_fits (same_bytes (sha1 (content s h p)) (hash_of s.torrent p)) is where
@@ -89,16 +77,21 @@ allowed_answers s h e allowed = by_call e.action allowed.1 where
         → answers (call_mark (Settle p bytes)) e.reply ≡ true
     settled_fits true is = exactly s.torrent (refusal s h e.worker (Settle p bytes)) Had e.reply (Settle p bytes) refl is
     settled_fits false is = exactly s.torrent (refusal s h e.worker (Settle p bytes)) Failed e.reply (Settle p bytes) refl is
-  by_call Leave is = exactly s.torrent (refusal s h e.worker Leave) Quiet e.reply Leave refl is
-  by_call (Want flags) is = exactly s.torrent (refusal s h e.worker (Want flags)) Quiet e.reply (Want flags) refl is
-  by_call (Haves flags) is = exactly s.torrent (refusal s h e.worker (Haves flags)) _ e.reply (Haves flags) refl is
-  by_call (Depth n) is = exactly s.torrent (refusal s h e.worker (Depth n)) Quiet e.reply (Depth n) refl is
-  by_call (Release p begin) is = exactly s.torrent (refusal s h e.worker (Release p begin)) Quiet e.reply (Release p begin) refl is
-  by_call (Level p n) is = exactly s.torrent (refusal s h e.worker (Level p n)) Quiet e.reply (Level p n) refl is
-  by_call (Levels levels) is = exactly s.torrent (refusal s h e.worker (Levels levels)) Quiet e.reply (Levels levels) refl is
-  by_call (InOrder rising) is = exactly s.torrent (refusal s h e.worker (InOrder rising)) Quiet e.reply (InOrder rising) refl is
+  by_call call is = exactly s.torrent (refusal s h e.worker call) Quiet e.reply call refl is
 
 -- ---- refusals
+
+-- no cause of the list holds
+abbrev pub NoneHolds : List (Bool × Reason) → Type 0
+NoneHolds [] = ⊤
+NoneHolds (cause ∷ causes) = (cause.0 ≡ false) × NoneHolds causes
+
+pub none_holds : (causes : List (Bool × Reason)) → first_cause causes ≡ None → NoneHolds causes
+none_holds [] is = tt
+none_holds (cause ∷ causes) is = ⊎_elim
+    (λ (holds : cause.0 ≡ true). absurd (cc (holds, is)))
+    (λ (fails : cause.0 ≡ false). (fails, none_holds causes (sym (ap (λ (x : Bool). if x then Some cause.1 else first_cause causes) fails) ∙ is)))
+    (cases_Bool cause.0)
 
 -- a reply that is no refusal shows that no cause of refusal holds
 pub no_cause : (s : Setting) (h : History) (e : Event) → ((reason : Reason) → e.reply ≢ Refused reason) → IsAllowed s h e →
@@ -190,7 +183,6 @@ next_alone _ b is = absurd (cc is)
 -- a request is one that the rules for Next permit
 pub request_next : (s : Setting) (h : History) (e : Event) (b : Block) → IsAllowed s h e → e.reply ≡ Request b
     → Permits s.torrent (next_answer s h e.worker) (Request b)
-unfolding answer
 request_next s h e b allowed is =
     let call = next_alone e.action b (subst (λ (r : Reply). answers (call_mark e.action) r ≡ true) is (allowed_answers s h e allowed)) in
     let permitted = answered s h e (no_cause s h e (λ reason refused. absurd (cc (refused, is))) allowed) allowed in
@@ -201,14 +193,6 @@ pub request_facts : (s : Setting) (h : History) (e : Event) (b : Block) → IsAl
 request_facts s h e b allowed is = next_facts s h e.worker b (worker_below s h e allowed) (request_next s h e b allowed is)
 
 -- ---- checks
-
-waiting_cases : (a b c d : Bool) → first_cause ((a, NoSuchPiece) ∷ (not b || c, NotWaiting) ∷ (d, Stale) ∷ []) ≡ None →
-    (a ≡ false) × (b ≡ true) × (c ≡ false) × (d ≡ false)
-waiting_cases true b c d is = absurd (cc is)
-waiting_cases false false c d is = absurd (cc is)
-waiting_cases false true true d is = absurd (cc is)
-waiting_cases false true false true is = absurd (cc is)
-waiting_cases false true false false is = (refl, refl, refl, refl)
 
 settled : (call : Action) (p : ℕ) → settles call p ≡ true → (bytes : List ℕ) × (call ≡ Settle p bytes)
 settled (Settle r bytes) p is = (bytes, ap (λ (m : ℕ). Settle m bytes) (eqb-true r p is))
@@ -222,10 +206,10 @@ pub record CheckFacts (s : Setting) (h : History) (p : ℕ) (bytes : List ℕ) :
   pub current : same_bytes bytes (content s h p) ≡ true
 
 pub settle_facts : (s : Setting) (h : History) (w p : ℕ) (bytes : List ℕ) → refusal s h w (Settle p bytes) ≡ None → CheckFacts s h p bytes
-unfolding refusal
 settle_facts s h w p bytes is =
-    let parts = waiting_cases (nat_le (piece_count s.torrent) p) (full s h p) (had h p) (not (same_bytes bytes (content s h p))) is in
-    record { piece = parts.0; is_full = parts.1; not_had = parts.2; current = not-false _ parts.3 }
+    let none = none_holds (causes s h w (Settle p bytes)) is in
+    let waits = or_parts (not (full s h p)) (had h p) none.1.0 in
+    record { piece = none.0; is_full = not-false _ waits.0; not_had = waits.1; current = not-false _ none.1.1.0 }
 
 pub check_facts : (s : Setting) (h : History) (e : Event) (p : ℕ) → IsAllowed s h e → ((reason : Reason) → e.reply ≢ Refused reason) →
     settles e.action p ≡ true
@@ -238,7 +222,7 @@ check_facts s h e p allowed unrefused settling =
 -- a check that passed was of bytes with the hash of their piece
 pub passed_hash : (s : Setting) (h : History) (e : Event) (p : ℕ) → IsAllowed s h e → e.reply ≡ Had → settles e.action p ≡ true
     → same_bytes (sha1 (content s h p)) (hash_of s.torrent p) ≡ true
-unfolding answer settled_answer
+unfolding settled_answer
 passed_hash s h e p allowed is settling =
     let call = settled e.action p settling in
     let permitted = answered s h e (no_cause s h e (λ reason refused. absurd (cc (refused, is))) allowed) allowed in

@@ -1,12 +1,11 @@
 -- What an arrival that is allowed shows of the history before it.
-use Rattle.std.proofs.Common.{◌≡◌, ◌≢◌, ℕ, ◌==◌, ◌*◌, ◌<◌, Bool, true, false, not, ◌&&◌, ◌||◌, List, [], ◌∷◌, None, Some, length, refl, ap, sym}
+use Rattle.std.proofs.Common.{◌≡◌, ◌≢◌, ℕ, ◌==◌, ◌*◌, ◌<◌, Bool, true, false, ◌&&◌, ◌||◌, List, None, Some, length, refl, ap, sym}
 use Rattle.std.proofs.Common.{◌∙◌, subst}
-use Rattle.std.specs.Prelude.{is_some, if◌then◌else◌, nat_le}
-use Rattle.std.proofs.lemmas.Bool.{and_parts, and_from, leb-false, eqb-true, eq-eqb, false≢true}
+use Rattle.std.specs.Prelude.{is_some, if◌then◌else◌}
+use Rattle.std.proofs.lemmas.Bool.{and_parts, and_from, leb-false, eqb-true, eq-eqb, false≢true, not-false}
 use Rattle.bt_meta.specs.declared.block.Block.{Block}
 use Rattle.bt_meta.specs.Layout.{piece_count, block_count, block, block_size}
 use Rattle.bt_history.specs.declared.call.Reason.{Reason}
-use Rattle.bt_history.specs.declared.call.Reason.TheVariants.{NotJoined, NoSuchPiece, NoSuchBlock, WrongLength}
 use Rattle.bt_history.specs.declared.call.Reply.{Reply}
 use Rattle.bt_history.specs.declared.call.Reply.TheVariants.{Stored, Completed, Dropped, Refused}
 use Rattle.bt_history.specs.declared.event.Action.{Action}
@@ -17,19 +16,11 @@ use Rattle.bt_history.specs.History.{History, stores, stored, bytes_for}
 use Rattle.bt_history.specs.Peers.{joined}
 use Rattle.bt_history.specs.Pieces.{held}
 use Rattle.bt_history.specs.Next.{Exactly}
-use Rattle.bt_history.specs.Legal.{first_cause, refusal, answer, arrived_answer, Permits, IsAllowed}
+use Rattle.bt_history.specs.Legal.{refusal, answer, arrived_answer, Permits, IsAllowed, causes}
 use Rattle.bt_history.specs.Logs.{answers, call_mark}
 use Rattle.bt_history.proofs.Below.{any_fails, any_witness}
 use Rattle.bt_history.proofs.SameBegin.{held_at}
-use Rattle.bt_history.proofs.Allowed.{allowed_answers, no_cause, answered}
-
-arrived_cases : (a b c d : Bool) → first_cause ((not a, NotJoined) ∷ (b, NoSuchPiece) ∷ (not c, NoSuchBlock) ∷ (not d, WrongLength) ∷ []) ≡ None
-    → (a ≡ true) × (b ≡ false) × (c ≡ true) × (d ≡ true)
-arrived_cases false b c d is = absurd (cc is)
-arrived_cases true true c d is = absurd (cc is)
-arrived_cases true false false d is = absurd (cc is)
-arrived_cases true false true false is = absurd (cc is)
-arrived_cases true false true true is = (refl, refl, refl, refl)
+use Rattle.bt_history.proofs.Allowed.{allowed_answers, no_cause, answered, none_holds}
 
 -- an arrival that is not refused is of a block of the torrent, from a joined peer
 pub record ArrivalFacts (s : Setting) (h : History) (w p begin : ℕ) (bytes : List ℕ) : Type 0 where
@@ -42,16 +33,14 @@ pub record ArrivalFacts (s : Setting) (h : History) (w p begin : ℕ) (bytes : L
 
 pub arrival_facts : (s : Setting) (h : History) (w p begin : ℕ) (bytes : List ℕ) → refusal s h w (Arrived p begin bytes) ≡ None →
     ArrivalFacts s h w p begin bytes
-unfolding refusal
 arrival_facts s h w p begin bytes is =
-    let parts = arrived_cases (joined h w) (nat_le (piece_count s.torrent) p) (some_block_of s.torrent p (λ b. b.begin == begin))
-    (some_block_of s.torrent p (λ b. (b.begin == begin) && (b.len == length bytes))) is in
+    let none = none_holds (causes s h w (Arrived p begin bytes)) is in
     let found = any_witness (block_count s.torrent p) (λ k. ((block s.torrent p k).begin == begin) && ((block s.torrent p k).len == length bytes))
-    parts.3 in
+    (not-false _ none.1.1.1.0) in
     let both = and_parts ((block s.torrent p found.0).begin == begin) ((block s.torrent p found.0).len == length bytes) found.2 in
     record {
-      peer = parts.0;
-      piece = leb-false (piece_count s.torrent) p parts.1;
+      peer = not-false _ none.0;
+      piece = leb-false (piece_count s.torrent) p none.1.0;
       index = found.0;
       within = found.1;
       begins = sym (eqb-true (block s.torrent p found.0).begin begin both.0);
@@ -97,7 +86,6 @@ not_refused : (r : Reply) (reason : Reason) → stores r ≡ true → r ≢ Refu
 not_refused r reason storing is = false≢true (sym (ap stores is) ∙ storing)
 
 pub store_facts : (s : Setting) (h : History) (e : Event) → IsAllowed s h e → stores e.reply ≡ true → StoreFacts s h e
-unfolding answer
 store_facts s h e allowed storing =
     let call = arrived_alone e.action e.reply storing (allowed_answers s h e allowed) in
     let no_reason = no_cause s h e (λ reason. not_refused e.reply reason storing) allowed in

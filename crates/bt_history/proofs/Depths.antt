@@ -1,10 +1,8 @@
 -- What holds of the depth of a peer.
-use Rattle.std.proofs.Common.{◌≡◌, ℕ, ◌==◌, ◌<◌, ◌≤◌, Bool, true, false, not, ◌&&◌, ◌||◌, [], ◌∷◌, Option, None, Some, refl, ap, sym, ◌∙◌}
-use Rattle.std.proofs.Common.{⊎_elim}
+use Rattle.std.proofs.Common.{◌≡◌, ℕ, ◌==◌, ◌≤◌, Bool, true, false, not, ◌&&◌, [], ◌∷◌, Option, None, Some, refl, ap, sym, ◌∙◌, ltb-false}
 use Rattle.std.specs.Prelude.{if◌then◌else◌, nat_lt, unwrap_or, max}
 use Rattle.std.proofs.Math.Nat.{le_refl, le-max_left, le-max_right, le_trans, max-eq_left, max-le}
-use Rattle.std.proofs.lemmas.Bool.{and_parts, not-true, lt-ltb, cases_lt, false≢true}
-use Rattle.bt_history.specs.declared.call.Reason.TheVariants.{NotJoined, WrongDepth}
+use Rattle.std.proofs.lemmas.Bool.{and_parts, not-true, false≢true, or_parts}
 use Rattle.bt_history.specs.declared.call.Reply.{Reply}
 use Rattle.bt_history.specs.declared.call.Reply.TheVariants.{Refused}
 use Rattle.bt_history.specs.declared.event.Action.{Action}
@@ -12,10 +10,10 @@ use Rattle.bt_history.specs.declared.event.Action.TheVariants.{Join, Depth}
 use Rattle.bt_history.specs.declared.event.Event.{Event}
 use Rattle.bt_history.specs.Setting.{Setting, deepest_told, deepest_line}
 use Rattle.bt_history.specs.History.{History, counts, own_call}
-use Rattle.bt_history.specs.Peers.{joined, resets, told_depth, told_after, depth_of, depth_so_far}
-use Rattle.bt_history.specs.Legal.{IsLegal, IsAllowed, refusal, first_cause}
+use Rattle.bt_history.specs.Peers.{resets, told_depth, told_after, depth_of, depth_so_far}
+use Rattle.bt_history.specs.Legal.{IsLegal, IsAllowed, refusal, causes}
 use Rattle.bt_history.specs.Before.{is_depth, never_deepens}
-use Rattle.bt_history.proofs.Allowed.{no_cause}
+use Rattle.bt_history.proofs.Allowed.{no_cause, none_holds}
 
 -- ---- where none was told
 
@@ -58,17 +56,7 @@ so_far_as_before s (e ∷ h) q never =
 -- ---- no depth is beyond the deepest
 
 told_bound : (s : Setting) (h : History) (w n : ℕ) → refusal s h w (Depth n) ≡ None → n ≤ deepest_told s
-unfolding refusal
-told_bound s h w n is = by_cases (joined h w) (nat_lt n 1) (nat_lt (deepest_told s) n) refl is where
-  by_cases : (a b c : Bool) → nat_lt (deepest_told s) n ≡ c → first_cause ((not a, NotJoined) ∷ (b || c, WrongDepth) ∷ []) ≡ None
-      → n ≤ deepest_told s
-  by_cases false b c same none = absurd (cc none)
-  by_cases true true c same none = absurd (cc none)
-  by_cases true false true same none = absurd (cc none)
-  by_cases true false false same none = ⊎_elim
-      (λ (more : deepest_told s < n). absurd (false≢true (sym same ∙ lt-ltb (deepest_told s) n more)))
-      (λ (fits : n ≤ deepest_told s). fits)
-      (cases_lt (deepest_told s) n)
+told_bound s h w n is = ltb-false (deepest_told s) n (or_parts (nat_lt n 1) _ (none_holds (causes s h w (Depth n)) is).1.0).1
 
 -- where a call counts it was not refused
 counting : (s : Setting) (h : History) (q : ℕ) (e : Event) (a : Action) → IsAllowed s h e → own_call q e ≡ Some a → refusal s h e.worker a ≡ None

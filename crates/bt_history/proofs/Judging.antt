@@ -1,7 +1,6 @@
 -- Whether histories are legal, by a test that computes.
-use Rattle.std.proofs.Common.{◌≡◌, ℕ, ◌<◌, ◌&&◌, not, nat_lt, Bool, true, false, List, [], ◌∷◌, refl, reverse, take, ltb-true, lt-ltb, sym, subst}
+use Rattle.std.proofs.Common.{◌≡◌, ℕ, ◌&&◌, not, nat_lt, Bool, true, false, List, [], ◌∷◌, refl, reverse, take, ltb-true, lt-ltb, sym, subst}
 use Rattle.std.proofs.lemmas.Bool.{and_parts, false≢true}
-use Rattle.bt_meta.specs.declared.block.Block.{Block}
 use Rattle.bt_meta.specs.Layout.{Layout}
 use Rattle.bt_history.specs.contracts.call.ReplyPartialEq.TheImpl as replies
 use Rattle.bt_history.specs.declared.call.Reply.{Reply}

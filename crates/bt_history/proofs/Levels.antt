@@ -18,11 +18,11 @@ use Rattle.bt_history.specs.History.{History, counts, counted_call}
 use Rattle.bt_history.specs.Peers.{flag}
 use Rattle.bt_history.specs.Pieces.{begun, in_order, level, level_after, level_if}
 use Rattle.bt_history.specs.Next.{Answer, usable, tops, continues, starts, rises, next_answer}
-use Rattle.bt_history.specs.Legal.{IsLegal, IsAllowed, Permits, refusal, first_cause}
+use Rattle.bt_history.specs.Legal.{IsLegal, IsAllowed, Permits, refusal, causes}
 use Rattle.bt_history.proofs.Below.{all_at}
 use Rattle.bt_history.proofs.LineLaws.{block_index, some_found}
 use Rattle.bt_history.proofs.NextCases.{next_is, next_request}
-use Rattle.bt_history.proofs.Allowed.{no_cause, request_next}
+use Rattle.bt_history.proofs.Allowed.{no_cause, request_next, none_holds}
 
 -- ---- no level is beyond the highest
 
@@ -40,12 +40,6 @@ counted_unrefused s h e a allowed is =
       none : None ≡ Some a → ⊥
       none same = cc same
 
--- where no cause holds the second doesn't
-second_fails : (a b : Bool) (x y : Reason) → first_cause ((a, x) ∷ (b, y) ∷ []) ≡ None → b ≡ false
-second_fails true b x y none = absurd (cc none)
-second_fails false true x y none = absurd (cc none)
-second_fails false false x y none = refl
-
 -- each of these levels is one that there is
 none_beyond : (levels : List ℕ) (p : ℕ) → list_any (λ n. nat_lt MOST_LEVEL n) levels ≡ false → slice_index_or levels p 0 ≤ MOST_LEVEL
 none_beyond [] p none = omega arith
@@ -53,13 +47,11 @@ none_beyond (n ∷ levels) zero none = ltb-false MOST_LEVEL n (or_parts (nat_lt 
 none_beyond (n ∷ levels) (suc p) none = none_beyond levels p (or_parts (nat_lt MOST_LEVEL n) _ none).1
 
 told_alone : (s : Setting) (h : History) (w p n : ℕ) → refusal s h w (Level p n) ≡ None → n ≤ MOST_LEVEL
-unfolding refusal
-told_alone s h w p n none = ltb-false MOST_LEVEL n (second_fails (nat_le (piece_count s.torrent) p) (nat_lt MOST_LEVEL n) _ _ none)
+told_alone s h w p n none = ltb-false MOST_LEVEL n (none_holds (causes s h w (Level p n)) none).1.0
 
 told_all : (s : Setting) (h : History) (w : ℕ) (levels : List ℕ) (p : ℕ) → refusal s h w (Levels levels) ≡ None
     → slice_index_or levels p 0 ≤ MOST_LEVEL
-unfolding refusal
-told_all s h w levels p none = none_beyond levels p (second_fails _ (list_any (λ n. nat_lt MOST_LEVEL n) levels) _ _ none)
+told_all s h w levels p none = none_beyond levels p (none_holds (causes s h w (Levels levels)) none).1.0
 
 usual_bounded : (chosen : Bool) → level_if chosen ≤ MOST_LEVEL
 usual_bounded true = omega arith

@@ -11,8 +11,7 @@ use Rattle.std.proofs.lemmas.List.Filters.{length-filter_both}
 use Rattle.bt_meta.specs.declared.block.Block.{Block}
 use Rattle.bt_meta.specs.Layout.{Layout, piece_count, block_count, block, block_size}
 use Rattle.bt_history.specs.declared.call.Reply.{Reply}
-use Rattle.bt_history.specs.declared.call.Reply.TheVariants.{Joined, Noted, Quiet, Cancel, Request, Choked, PipeFull, Idle, NothingLeft, Stored}
-use Rattle.bt_history.specs.declared.call.Reply.TheVariants.{Completed, Dropped, Had, Failed, Refused}
+use Rattle.bt_history.specs.declared.call.Reply.TheVariants.{Request}
 use Rattle.bt_history.specs.declared.event.Event.{Event}
 use Rattle.bt_history.specs.Counting.{count_below}
 use Rattle.bt_history.specs.Setting.{Setting, some_block, some_block_of, is_block, count_blocks}
@@ -128,20 +127,7 @@ blocks_either t false bs are = are
 -- a reply is a request, or asks for nothing
 pub request_or_none : (r : Reply) → ((b : Block) × (r ≡ Request b)) ⊎ (requested_by r ≡ [])
 request_or_none (Request b) = inl (b, refl)
-request_or_none Joined = inr refl
-request_or_none (Noted x) = inr refl
-request_or_none Quiet = inr refl
-request_or_none (Cancel b) = inr refl
-request_or_none Choked = inr refl
-request_or_none PipeFull = inr refl
-request_or_none Idle = inr refl
-request_or_none NothingLeft = inr refl
-request_or_none Stored = inr refl
-request_or_none Completed = inr refl
-request_or_none Dropped = inr refl
-request_or_none Had = inr refl
-request_or_none Failed = inr refl
-request_or_none (Refused reason) = inr refl
+request_or_none r = inr refl
 
 -- what an entry asked of q: a block that its reply names, of q's own worker, or nothing
 pub record Asks (q : ℕ) (e : Event) (b : Block) : Type 0 where

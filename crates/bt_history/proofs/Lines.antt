@@ -7,8 +7,8 @@ use Rattle.std.proofs.lemmas.Map.Views.{any-filter_same}
 use Rattle.std.proofs.Math.Bool.{or_assoc}
 use Rattle.bt_meta.specs.declared.block.Block.{Block}
 use Rattle.bt_history.specs.declared.call.Reply.{Reply}
-use Rattle.bt_history.specs.declared.call.Reply.TheVariants.{Joined, Noted, Quiet, Cancel, Request, Choked, PipeFull, Idle, NothingLeft, Stored}
-use Rattle.bt_history.specs.declared.call.Reply.TheVariants.{Completed, Dropped, Had, Failed, Refused}
+use Rattle.bt_history.specs.declared.call.Reply.TheVariants.{Cancel, Stored}
+use Rattle.bt_history.specs.declared.call.Reply.TheVariants.{Completed}
 use Rattle.bt_history.specs.declared.event.Action.{Action}
 use Rattle.bt_history.specs.declared.event.Action.TheVariants.{Release}
 use Rattle.bt_history.specs.declared.event.Event.{Event}
@@ -52,21 +52,9 @@ asked_outstanding (e ∷ h) q b =
 
 -- an entry that cancels stores nothing
 cancel_stores_nothing : (reply : Reply) (b : Block) → cancelled_by reply b ≡ true → stores reply ≡ false
-cancel_stores_nothing (Cancel a) b is = refl
-cancel_stores_nothing Joined b is = refl
-cancel_stores_nothing (Noted x) b is = refl
-cancel_stores_nothing Quiet b is = refl
-cancel_stores_nothing (Request a) b is = refl
-cancel_stores_nothing Choked b is = refl
-cancel_stores_nothing PipeFull b is = refl
-cancel_stores_nothing Idle b is = refl
-cancel_stores_nothing NothingLeft b is = refl
 cancel_stores_nothing Stored b is = absurd (cc is)
 cancel_stores_nothing Completed b is = absurd (cc is)
-cancel_stores_nothing Dropped b is = refl
-cancel_stores_nothing Had b is = refl
-cancel_stores_nothing Failed b is = refl
-cancel_stores_nothing (Refused reason) b is = refl
+cancel_stores_nothing reply b is = refl
 
 cancelled_at : (q : ℕ) (e : Event) (a b : Block) → same_begin a b ≡ true → cancelled q e a ≡ cancelled q e b
 cancelled_at q e a b same = ap (λ (x : Bool). (e.worker == q) && x)
@@ -75,20 +63,7 @@ cancelled_at q e a b same = ap (λ (x : Bool). (e.worker == q) && x)
           cancelled_by reply (record { piece = c.piece; begin = c.begin; len = n }) ≡ cancelled_by reply
           c
       resized_reply (Cancel a) c n = refl
-      resized_reply Joined c n = refl
-      resized_reply (Noted x) c n = refl
-      resized_reply Quiet c n = refl
-      resized_reply (Request a) c n = refl
-      resized_reply Choked c n = refl
-      resized_reply PipeFull c n = refl
-      resized_reply Idle c n = refl
-      resized_reply NothingLeft c n = refl
-      resized_reply Stored c n = refl
-      resized_reply Completed c n = refl
-      resized_reply Dropped c n = refl
-      resized_reply Had c n = refl
-      resized_reply Failed c n = refl
-      resized_reply (Refused reason) c n = refl
+      resized_reply reply c n = refl
 
 -- the blocks whose cancel is due at a peer are those in its line of cancels
 pub due_dues : (h : History) (q : ℕ) (b : Block) → due h q b ≡ has_place b (dues h q)

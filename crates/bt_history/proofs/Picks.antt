@@ -52,7 +52,7 @@ next_cancels h q false true false false false false false true cancels risings o
 next_cancels h q false true false false false false false false cancels risings ons firsts seconds first = tt
 
 answer_cancels : (s : Setting) (h : History) (q : ℕ) (call : Action) → CancelsDue h q (answer s h q call)
-unfolding answer settled_answer
+unfolding settled_answer
 answer_cancels s h q (Next word) = subst (CancelsDue h q) (sym (next_is s h q))
     (next_cancels h q _ _ _ _ _ _ _ _ _ _ _ _ _ (leading_is_due h q))
 answer_cancels s h q (Arrived p begin bytes) =

@@ -124,12 +124,12 @@ module _ (s : Setting) (h : History) (plain : IsPlain h) where
     -- ---- each call
 
     refusal_plain : (call : Action) → refusal s h q call ≡ plain_refusal s h q call
-    unfolding refusal plain_refusal
+    unfolding plain_refusal
     refusal_plain (Bits flags) = λ i. first_cause (no_peer h q ∷ (late_as_before h q plain.adds i, LateBits) ∷ no_count s flags ∷ [])
     refusal_plain _ = refl
 
     answer_plain : (call : Action) → answer s h q call ≡ plain_answer s h q call
-    unfolding answer plain_answer
+    unfolding plain_answer
     answer_plain (Bits flags) = λ i. Exactly (Noted (lacks_plain (λ p. flag flags p) (λ p. flag flags p) (λ p. refl) i))
     answer_plain (Have p) = λ i. Exactly (Noted (lacks_plain (λ r. (p == r) || shows h q r) _ (λ r. λ j. (p == r) || shows_as_before h q r plain.adds j) i))
     answer_plain (Next word) = next_plain

@@ -12,7 +12,7 @@ use Rattle.bt_history.specs.declared.call.Reason.TheVariants.{NotWaiting, Stale,
 use Rattle.bt_history.specs.declared.call.Reply.{Reply}
 use Rattle.bt_history.specs.declared.call.Reply.TheVariants.{Joined, Noted, Quiet, Cancel, Request, Stored, Completed, Dropped, Had, Failed, Refused}
 use Rattle.bt_history.specs.declared.event.Action.{Action}
-use Rattle.bt_history.specs.declared.event.Action.TheVariants.{Join, Bits, Have, Choke, Unchoke, Next, Arrived, Settle, Leave, Want, Haves}
+use Rattle.bt_history.specs.declared.event.Action.TheVariants.{Join, Bits, Have, Next, Arrived, Settle, Want, Haves}
 use Rattle.bt_history.specs.declared.event.Action.TheVariants.{Depth, Release}
 use Rattle.bt_history.specs.declared.event.Action.TheVariants.{Level, Levels, InOrder}
 use Rattle.bt_history.specs.declared.rules.TheConstants.{MOST_LEVEL}
@@ -58,29 +58,29 @@ no_levels levels = (list_any (λ n. nat_lt MOST_LEVEL n) levels, WrongLevel)
 abbrev pub place_at : ℕ → ℕ → Block
 place_at p begin = record { piece = p; begin = begin; len = 0 }
 
--- why the call is refused, if it is: the causes are tried in order
-unfoldable pub refusal : Setting → History → ℕ → Action → Option Reason
-refusal s h w Join = first_cause ((joined h w, AlreadyJoined) ∷ [])
-refusal s h w (Bits flags) =
-    first_cause (no_peer h w ∷ (late h w, LateBits) ∷ no_count s flags ∷ [])
-refusal s h w (Have p) = first_cause (no_peer h w ∷ no_piece s p ∷ [])
-refusal s h w Choke = first_cause (no_peer h w ∷ [])
-refusal s h w Unchoke = first_cause (no_peer h w ∷ [])
-refusal s h w (Next word) = first_cause (no_peer h w ∷ [])
-refusal s h w (Arrived p begin bytes) = first_cause (
+-- what may speak against the call, in the order in which it is told
+abbrev pub causes : Setting → History → ℕ → Action → List (Bool × Reason)
+causes s h w Join = (joined h w, AlreadyJoined) ∷ []
+causes s h w (Bits flags) = no_peer h w ∷ (late h w, LateBits) ∷ no_count s flags ∷ []
+causes s h w (Have p) = no_peer h w ∷ no_piece s p ∷ []
+causes s h w (Arrived p begin bytes) =
     no_peer h w ∷ no_piece s p
     ∷ (not (some_block_of s.torrent p (λ b. b.begin == begin)), NoSuchBlock)
-    ∷ (not (some_block_of s.torrent p (λ b. (b.begin == begin) && (b.len == length bytes))), WrongLength) ∷ [])
-refusal s h w (Settle p bytes) = first_cause (
-    no_piece s p ∷ (not (full s h p) || had h p, NotWaiting) ∷ (not (same_bytes bytes (content s h p)), Stale) ∷ [])
-refusal s h w Leave = first_cause (no_peer h w ∷ [])
-refusal s h w (Want flags) = first_cause (no_count s flags ∷ [])
-refusal s h w (Haves flags) = first_cause (no_peer h w ∷ no_count s flags ∷ [])
-refusal s h w (Depth n) = first_cause (no_peer h w ∷ (nat_lt n 1 || nat_lt (deepest_told s) n, WrongDepth) ∷ [])
-refusal s h w (Release p begin) = first_cause (no_peer h w ∷ (not (asked h w (place_at p begin)), NotAsked) ∷ [])
-refusal s h w (Level p n) = first_cause (no_piece s p ∷ no_level n ∷ [])
-refusal s h w (Levels levels) = first_cause (no_count s levels ∷ no_levels levels ∷ [])
-refusal s h w (InOrder rising) = None
+    ∷ (not (some_block_of s.torrent p (λ b. (b.begin == begin) && (b.len == length bytes))), WrongLength) ∷ []
+causes s h w (Settle p bytes) =
+    no_piece s p ∷ (not (full s h p) || had h p, NotWaiting) ∷ (not (same_bytes bytes (content s h p)), Stale) ∷ []
+causes s h w (Want flags) = no_count s flags ∷ []
+causes s h w (Haves flags) = no_peer h w ∷ no_count s flags ∷ []
+causes s h w (Depth n) = no_peer h w ∷ (nat_lt n 1 || nat_lt (deepest_told s) n, WrongDepth) ∷ []
+causes s h w (Release p begin) = no_peer h w ∷ (not (asked h w (place_at p begin)), NotAsked) ∷ []
+causes s h w (Level p n) = no_piece s p ∷ no_level n ∷ []
+causes s h w (Levels levels) = no_count s levels ∷ no_levels levels ∷ []
+causes s h w (InOrder rising) = []
+causes s h w call = no_peer h w ∷ []
+
+-- why the call is refused, if it is
+abbrev pub refusal : Setting → History → ℕ → Action → Option Reason
+refusal s h w call = first_cause (causes s h w call)
 
 -- ---- answers
 
@@ -101,23 +101,15 @@ settled_answer s h p =
     Exactly (if same_bytes (sha1 (content s h p)) (hash_of s.torrent p) then Had else Failed)
 
 -- the answer to a call that isn't refused
-unfoldable pub answer : Setting → History → ℕ → Action → Answer
+abbrev pub answer : Setting → History → ℕ → Action → Answer
 answer s h w Join = Exactly Joined
 answer s h w (Bits flags) = Exactly (Noted (interesting_after s h w (Bits flags)))
 answer s h w (Have p) = Exactly (Noted (interesting_after s h w (Have p)))
-answer s h w Choke = Exactly Quiet
-answer s h w Unchoke = Exactly Quiet
+answer s h w (Haves flags) = Exactly (Noted (interesting_after s h w (Haves flags)))
 answer s h w (Next word) = next_answer s h w
 answer s h w (Arrived p begin bytes) = arrived_answer s h p begin
 answer s h w (Settle p bytes) = settled_answer s h p
-answer s h w Leave = Exactly Quiet
-answer s h w (Want flags) = Exactly Quiet
-answer s h w (Haves flags) = Exactly (Noted (interesting_after s h w (Haves flags)))
-answer s h w (Depth n) = Exactly Quiet
-answer s h w (Release p begin) = Exactly Quiet
-answer s h w (Level p n) = Exactly Quiet
-answer s h w (Levels levels) = Exactly Quiet
-answer s h w (InOrder rising) = Exactly Quiet
+answer s h w call = Exactly Quiet
 
 -- a refusal for this reason, if there is one, else the answer
 abbrev pub answer_unless : Option Reason → Answer → Answer

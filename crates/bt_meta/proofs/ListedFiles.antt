@@ -5,8 +5,8 @@ use Rattle.std.specs.Option.{ok_or}
 use Rattle.bt_bencode.specs.Term.{Term, items_of}
 use Rattle.bt_bencode.specs.Reading.{◌>>=◌}
 use Rattle.bt_meta.specs.declared.fault.MetaFault.{MetaFault}
-use Rattle.bt_meta.specs.declared.fault.MetaFault.TheVariants.{Bencode, NotDictionary, Missing, WrongKind, PieceLength, PiecesLength}
-use Rattle.bt_meta.specs.declared.fault.MetaFault.TheVariants.{BothLengthAndFiles, NoContent, CountMismatch, TooLarge, NoMemory}
+use Rattle.bt_meta.specs.declared.fault.MetaFault.TheVariants.{WrongKind}
+use Rattle.bt_meta.specs.declared.fault.MetaFault.TheVariants.{NoMemory}
 use Rattle.bt_meta.specs.declared.key.Key.TheVariants as key
 use Rattle.bt_meta.specs.Files.{Listed, file_in, files_at, files_within}
 use Rattle.bt_meta.specs.Reading.{Fails}
@@ -39,16 +39,7 @@ listed_fault files folder t ts fault is = rw is refl
 fails_then : {X Y : Type 0} (fault : MetaFault) (part : Result X MetaFault) (whole : Result Y MetaFault) → (part ≡ Err fault → whole ≡ Err fault)
     → Fails fault part → Fails fault whole
 fails_then NoMemory part whole follows is = tt
-fails_then (Bencode f) part whole follows is = follows is
-fails_then NotDictionary part whole follows is = follows is
-fails_then (Missing key) part whole follows is = follows is
-fails_then (WrongKind key) part whole follows is = follows is
-fails_then PieceLength part whole follows is = follows is
-fails_then PiecesLength part whole follows is = follows is
-fails_then BothLengthAndFiles part whole follows is = follows is
-fails_then NoContent part whole follows is = follows is
-fails_then CountMismatch part whole follows is = follows is
-fails_then TooLarge part whole follows is = follows is
+fails_then fault part whole follows is = follows is
 
 -- the loop ends where a file is none, or where memory runs out
 pub listed_fails : (files : List Listed) (folder : List ℕ) (t : Term) (ts : List Term) (fault : MetaFault) (whole : Result (List Listed) MetaFault)

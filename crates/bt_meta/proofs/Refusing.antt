@@ -3,25 +3,15 @@ use Rattle.std.proofs.Common.{◌≡◌, Ok, Err, Result, refl, subst}
 use Rattle.std.specs.Prelude.{MatchResult}
 use Rattle.bt_bencode.proofs.Results.{ok_is}
 use Rattle.bt_meta.specs.declared.fault.MetaFault.{MetaFault}
-use Rattle.bt_meta.specs.declared.fault.MetaFault.TheVariants.{Bencode, NotDictionary, Missing, WrongKind, PieceLength, PiecesLength}
-use Rattle.bt_meta.specs.declared.fault.MetaFault.TheVariants.{BothLengthAndFiles, NoContent, CountMismatch, TooLarge, NoMemory}
+use Rattle.bt_meta.specs.declared.fault.MetaFault.TheVariants.{NoMemory}
 use Rattle.bt_meta.specs.Reading.{Gives, Fails}
 
 abbrev given : {Y : Type 0} → Y → Result Y MetaFault
 given y = Ok y
 
 only_memory : {Y : Type 0} (fault : MetaFault) (y : Y) → Fails fault (given y) → fault ≡ NoMemory
-only_memory (Bencode fault) y h = absurd cc
-only_memory NotDictionary y h = absurd cc
-only_memory (Missing key) y h = absurd cc
-only_memory (WrongKind key) y h = absurd cc
-only_memory PieceLength y h = absurd cc
-only_memory PiecesLength y h = absurd cc
-only_memory BothLengthAndFiles y h = absurd cc
-only_memory NoContent y h = absurd cc
-only_memory CountMismatch y h = absurd cc
-only_memory TooLarge y h = absurd cc
 only_memory NoMemory y h = refl
+only_memory fault y h = absurd cc
 
 -- what holds of what is read holds of what is returned
 pub read_or_memory : {X Y : Type 0} (view : X → Y) (P : Y → Type 0) (r : Result X MetaFault) (y : Y) → Gives view r (given y) → P y

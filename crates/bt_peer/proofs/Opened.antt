@@ -37,7 +37,7 @@ fresh_empty count desk empty = record {
 -- a Want of as many pieces as there are is not refused
 want_quiet : (s : Setting) (h : History) (worker : ℕ) (flags : List Bool) (reply : Reply) → length flags ≡ piece_count s.torrent →
     IsAllowed s h (record { worker = worker; action = Want flags; reply = reply }) → reply ≡ Quiet
-unfolding IsAllowed refusal answer
+unfolding IsAllowed
 want_quiet s h worker flags reply same allowed =
     subst (λ (b : Bool). Permits s.torrent (answer_unless (first_cause ((not b, WrongCount) ∷ [])) (Exactly Quiet)) reply)
     (eq-eqb (length flags) (piece_count s.torrent) same) allowed.1

@@ -79,7 +79,7 @@ either_held false false held here is = is
 -- after the reply Completed the piece is full, and isn't had
 pub completed_waits : (s : Setting) (h : History) (e : Event) (p begin : ℕ) (bytes : List ℕ) → IsLegal s h → IsAllowed s h e →
     e.action ≡ Arrived p begin bytes → e.reply ≡ Completed → waits s (e ∷ h) p ≡ true
-unfolding answer had
+unfolding had
 completed_waits s h e p begin bytes legal allowed call completed =
     let not_refused : (reason : Reason) → e.reply ≢ Refused reason = λ reason. λ refused. absurd (cc (completed, refused)) in
     let accepted = no_cause s h e not_refused allowed in

@@ -1,7 +1,7 @@
 -- Endgame by what is counted of all rows, and the pieces whose lacking blocks are all asked.
 use Rattle.std.proofs.Common.{◌≡◌, ℕ, zero, suc, ◌+◌, ◌-◌, ◌*◌, ◌<◌, ◌≤◌, ◌==◌, Bool, true, false, not, ◌&&◌, ◌||◌, ◌⊎◌, Option, None, Some, List, []}
 use Rattle.std.proofs.Common.{◌∷◌, ◌++◌, length, refl, ap, sym, ◌∙◌, subst, arith, inl, inr, ⊎_elim}
-use Rattle.std.specs.Prelude.{IfSome, IfNone, nat_lt, if◌then◌else◌}
+use Rattle.std.specs.Prelude.{IfSome, nat_lt, if◌then◌else◌}
 use Rattle.std.specs.List.{sum_by}
 use Rattle.std.proofs.lemmas.Bool.{cases_eq, cases_lt, eq-eqb, ne_eqb, le-ltb, lt-ltb, false≢true, false_from_ne_true, and_from, and_left, and_parts}
 use Rattle.std.proofs.lemmas.List.Sums.{sum_by_push, count_by-le-length}
@@ -18,14 +18,14 @@ use Rattle.bt_history.proofs.Below.{any_found, any_none, any_witness, all_found,
 use Rattle.bt_history.proofs.HeldLaws.{had_full}
 use Rattle.bt_tables.specs.Tables.{one_if, TablesState, PieceState}
 use Rattle.bt_picker.specs.Tables.{AreTables, piece_of, groups_of}
-use Rattle.bt_tables.specs.Standings.{group_number, group_of_row, place_of, stage_of_row, is_held, is_touched, standing_of, held_count, touched_count}
+use Rattle.bt_tables.specs.Standings.{group_number, place_of, stage_of_row, is_held, is_touched, standing_of, held_count, touched_count}
 use Rattle.bt_tables.specs.declared.piece.Stage.TheVariants.{AskedOut}
 use Rattle.bt_picker.proofs.Levelled.{Covers}
 use Rattle.bt_picker.proofs.Stages.{begun_stage, listed_place, place_listed}
 use Rattle.bt_picker.specs.Search.{DoublesFirst, DoublesNone, FindsAmong, FindsLesser, FindsOf, IsLevel, NoneBeforeIn}
 use Rattle.bt_tables.specs.Orders.{at, ListsGroup}
 use Rattle.bt_picker.proofs.Scans.{finds_in_piece, first_in_piece, none_in_pieces}
-use Rattle.bt_tables.proofs.Tabled.{length_table, table_more}
+use Rattle.bt_tables.proofs.Tabled.{table_more}
 use Rattle.bt_picker.proofs.Telling.{unchosen, wanted_chosen, full_row, all_touched_row, cells_long, counted_all, held_counted}
 
 -- ---- in endgame a piece with a block to ask again has all its lacking blocks asked

@@ -75,20 +75,7 @@ plain_stash old new rows w told reply plain is tells =
         → restashed_by old.setting rows reply (action_told t) ≡ rows
     left (kinds.Arrived piece begin bytes) plain =
         ap (λ (x : Bool). if x then edit rows piece (kept_by old.setting piece begin bytes.now) else rows) (plain piece begin bytes refl)
-    left kinds.Join plain = refl
-    left (kinds.Bits flags) plain = refl
-    left (kinds.Have piece) plain = refl
-    left kinds.Choke plain = refl
-    left kinds.Unchoke plain = refl
-    left (kinds.Next word) plain = refl
-    left kinds.Leave plain = refl
-    left (kinds.Want flags) plain = refl
-    left (kinds.Haves flags) plain = refl
-    left (kinds.Depth n) plain = refl
-    left (kinds.Release piece begin) plain = refl
-    left (kinds.Level piece n) plain = refl
-    left (kinds.Levels levels) plain = refl
-    left (kinds.InOrder rising) plain = refl
+    left t plain = refl
 
 -- what is no refusal has an entry
 told_gains : (old new : DeskState) (e : Event) → ((reason : Reason) → e.reply ≢ Refused reason) → Tells old new e → Gains old new e

@@ -19,7 +19,7 @@ use Rattle.bt_history.specs.History.{History}
 use Rattle.bt_history.specs.Peers.{joined, shows}
 use Rattle.bt_history.specs.Pieces.{availability, begun, chosen, had, had_count, held_or_asked, in_order, level, unbegun, wanted}
 use Rattle.bt_history.specs.declared.call.Reply.TheVariants as said
-use Rattle.bt_history.specs.Legal.{IsAllowed, IsLegal, Permits, answer, interesting_after}
+use Rattle.bt_history.specs.Legal.{IsAllowed, IsLegal, Permits, interesting_after}
 use Rattle.bt_history.specs.Next.{continues, is_candidate, is_rarest, starts, tops, usable}
 use Rattle.bt_history.proofs.Levels.{higher_first, implied, level_bounded, top_above}
 use Rattle.bt_history.proofs.Allowed.{answered, no_cause}
@@ -176,7 +176,6 @@ module _ (s : Setting) (h : History) (w word : ℕ) (legal : IsLegal s h) (layou
   pub begun_first : (b : Block) → IsAllowed s h (record { worker = w; action = Next word; reply = Request b }) →
       in_order h ≡ false → nat_lt (had_count s h) s.random ≡ false
       → unbegun s h b.piece ≡ true → NoneBefore s h w (rank_at s h b.piece)
-  unfolding answer
   begun_first b allowed unordered settled fresh =
       let e : Event = record { worker = w; action = Next word; reply = Request b } in
       let permitted = answered s h e (no_cause s h e (λ reason refused. absurd (cc refused)) allowed) allowed in
@@ -193,7 +192,6 @@ module _ (s : Setting) (h : History) (w word : ℕ) (legal : IsLegal s h) (layou
   -- where nothing is to be asked there is no candidate
   pub idle_before : (n : ℕ) (reply : Reply) → (reply ≡ Idle) ⊎ (reply ≡ NothingLeft) →
       IsAllowed s h (record { worker = w; action = Next word; reply = reply }) → NoneBefore s h w n
-  unfolding answer
   idle_before n reply why allowed =
       let e : Event = record { worker = w; action = Next word; reply = reply } in
       let permitted = answered s h e (no_cause s h e (λ reason refused. unrefused reply reason why refused) allowed) allowed in
@@ -233,18 +231,7 @@ told_floor t h w word n Idle are allowed lw told = before_floor t h w are lw n
     (idle_before t.setting h w word are.legal are.layout (fewer t h are) n Idle (inl refl) allowed)
 told_floor t h w word n NothingLeft are allowed lw told = before_floor t h w are lw n
     (idle_before t.setting h w word are.legal are.layout (fewer t h are) n NothingLeft (inr refl) allowed)
-told_floor t h w word n said.Joined are allowed lw told = absurd told
-told_floor t h w word n (said.Noted x) are allowed lw told = absurd told
-told_floor t h w word n said.Quiet are allowed lw told = absurd told
-told_floor t h w word n (said.Cancel b) are allowed lw told = absurd told
-told_floor t h w word n said.Choked are allowed lw told = absurd told
-told_floor t h w word n said.PipeFull are allowed lw told = absurd told
-told_floor t h w word n said.Stored are allowed lw told = absurd told
-told_floor t h w word n said.Completed are allowed lw told = absurd told
-told_floor t h w word n said.Dropped are allowed lw told = absurd told
-told_floor t h w word n said.Had are allowed lw told = absurd told
-told_floor t h w word n said.Failed are allowed lw told = absurd told
-told_floor t h w word n (said.Refused reason) are allowed lw told = absurd told
+told_floor t h w word n reply are allowed lw told = absurd told
 
 -- ---- a peer that shows a had or unwanted piece more
 
@@ -264,7 +251,6 @@ counted_fresh rows p r x y lp =
 pub unnoted_floor : (t : TablesState) (h : History) (w p n : ℕ) → AreTables t h →
     IsAllowed t.setting h (record { worker = w; action = Have p; reply = said.Noted false })
     → w < t.setting.workers → p < piece_count t.setting.torrent → IsFloor (announced t w p).pieces (peer_row (announced t w p).peers w) n
-unfolding answer
 unnoted_floor t h w p n are allowed lw lp r lr shown fresh = absurd (false≢true (uninterested ∙ interested)) where
   s : Setting
   s = t.setting

@@ -9,9 +9,7 @@ use Rattle.bt_meta.specs.declared.block.Block.{Block}
 use Rattle.bt_meta.specs.Layout.{IsLayout, Layout, block, block_count, block_size, piece_count, piece_len}
 use Rattle.bt_history.specs.declared.call.Reply.{Reply}
 use Rattle.bt_history.specs.declared.event.Action.{Action}
-use Rattle.bt_history.specs.declared.event.Action.TheVariants.{Join, Bits, Have, Choke, Unchoke, Next, Arrived, Settle, Leave, Want, Haves}
-use Rattle.bt_history.specs.declared.event.Action.TheVariants.{Depth, Release}
-use Rattle.bt_history.specs.declared.event.Action.TheVariants.{Level, Levels, InOrder}
+use Rattle.bt_history.specs.declared.event.Action.TheVariants.{Arrived}
 use Rattle.bt_history.specs.declared.event.Event.{Event}
 use Rattle.bt_history.specs.Setting.{Setting}
 use Rattle.bt_history.specs.History.{History, bytes_for, failed, settles, stored, stores}
@@ -241,21 +239,6 @@ no_bytes false o none = refl
 pub places_more : (s : Setting) (h : History) (x : PlacesState) (w : ℕ) (call : Action) (reply : Reply) → ArePlaces s h x
     → IsAllowed s h (record { worker = w; action = call; reply = reply })
     → ArePlaces s (record { worker = w; action = call; reply = reply } ∷ h) (placed x call reply (length h))
-places_more s h x w Join reply are allowed = still s h x are _ (λ b. no_bytes (stores reply) None refl)
-places_more s h x w (Bits flags) reply are allowed = still s h x are _ (λ b. no_bytes (stores reply) None refl)
-places_more s h x w (Have p) reply are allowed = still s h x are _ (λ b. no_bytes (stores reply) None refl)
-places_more s h x w Choke reply are allowed = still s h x are _ (λ b. no_bytes (stores reply) None refl)
-places_more s h x w Unchoke reply are allowed = still s h x are _ (λ b. no_bytes (stores reply) None refl)
-places_more s h x w (Next word) reply are allowed = still s h x are _ (λ b. no_bytes (stores reply) None refl)
-places_more s h x w (Settle p bytes) reply are allowed = still s h x are _ (λ b. no_bytes (stores reply) None refl)
-places_more s h x w Leave reply are allowed = still s h x are _ (λ b. no_bytes (stores reply) None refl)
-places_more s h x w (Want flags) reply are allowed = still s h x are _ (λ b. no_bytes (stores reply) None refl)
-places_more s h x w (Haves flags) reply are allowed = still s h x are _ (λ b. no_bytes (stores reply) None refl)
-places_more s h x w (Depth n) reply are allowed = still s h x are _ (λ b. no_bytes (stores reply) None refl)
-places_more s h x w (Level p n) reply are allowed = still s h x are _ (λ b. no_bytes (stores reply) None refl)
-places_more s h x w (Levels levels) reply are allowed = still s h x are _ (λ b. no_bytes (stores reply) None refl)
-places_more s h x w (InOrder rising) reply are allowed = still s h x are _ (λ b. no_bytes (stores reply) None refl)
-places_more s h x w (Release p begin) reply are allowed = still s h x are _ (λ b. no_bytes (stores reply) None refl)
 places_more s h x w (Arrived p begin bytes) reply are allowed = by_reply (stores reply) refl where
   e : ℕ → Event
   e n = record { worker = w; action = Arrived p n bytes; reply = reply }
@@ -271,6 +254,7 @@ places_more s h x w (Arrived p begin bytes) reply are allowed = by_reply (stores
       (subst (λ (k : ℕ). ArePlaces s (e (block_size * facts.index) ∷ h) (record x { places = set x.places (slot x.width p k) (length h) }))
       (sym (quotient facts.index))
       (stored_there s h x are w p facts.index bytes reply storing facts.piece facts.within))
+places_more s h x w call reply are allowed = still s h x are _ (λ b. no_bytes (stores reply) None refl)
 
 -- ---- what is found
 

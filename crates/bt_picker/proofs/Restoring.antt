@@ -16,7 +16,7 @@ use Rattle.bt_history.specs.History.{History, bytes_for, counts, failed, is_fail
 use Rattle.bt_history.specs.Peers.{joined, joined_after}
 use Rattle.bt_history.specs.Pieces.{asked_of_some, content, full, had, held, held_or_asked, joined_below, kept, unbegun}
 use Rattle.bt_history.specs.Next.{Exactly}
-use Rattle.bt_history.specs.Legal.{IsAllowed, Permits, answer, answer_unless, arrived_answer, refusal}
+use Rattle.bt_history.specs.Legal.{IsAllowed, Permits, answer_unless, arrived_answer}
 use Rattle.bt_history.proofs.Below.{all_found, any_fails}
 use Rattle.bt_history.proofs.HeldLaws.{joined_same}
 use Rattle.bt_picker.specs.Checks.{arriving, waits}
@@ -30,7 +30,7 @@ use Rattle.bt_picker.proofs.Arriving.{arrival_causes, only_there}
 arrival_stores : (s : Setting) (h : History) (w p k : ℕ) (bytes : List ℕ) (reply : Reply) → IsAllowed s h (arriving w p (block_size * k) bytes reply)
     → joined h w ≡ true → p < piece_count s.torrent → k < block_count s.torrent p → (block s.torrent p k).len ≡ length bytes
     → held h (block s.torrent p k) ≡ false → stores reply ≡ true
-unfolding IsAllowed answer arrived_answer refusal
+unfolding IsAllowed arrived_answer
 arrival_stores s h w p k bytes reply allowed peer lp lk len lacking =
     by_cases (some_block_of s.torrent p (λ b. (b.begin == block_size * k) && held h b))
     (each_block_of s.torrent p (λ b. (b.begin == block_size * k) || held h b)) (only_there s.torrent p k (held h) lk ∙ lacking)

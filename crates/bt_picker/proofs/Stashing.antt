@@ -11,8 +11,8 @@ use Rattle.bt_history.specs.declared.call.Reason.{Reason}
 use Rattle.bt_history.specs.declared.call.Reply.{Reply}
 use Rattle.bt_history.specs.declared.call.Reply.TheVariants.{Refused}
 use Rattle.bt_history.specs.declared.event.Action.{Action}
-use Rattle.bt_history.specs.declared.event.Action.TheVariants.{Arrived, Bits, Choke, Depth, Have, Haves, InOrder, Join, Leave, Level, Levels}
-use Rattle.bt_history.specs.declared.event.Action.TheVariants.{Next, Release, Settle, Unchoke, Want}
+use Rattle.bt_history.specs.declared.event.Action.TheVariants.{Arrived}
+use Rattle.bt_history.specs.declared.event.Action.TheVariants.{Settle}
 use Rattle.bt_history.specs.declared.event.Event.{Event}
 use Rattle.bt_history.specs.History.{History, bytes_for, failed, is_failed, is_had, settles, stored, stores}
 use Rattle.bt_history.specs.Legal.{IsAllowed}
@@ -247,20 +247,7 @@ module _ (s : Setting) (h : History) (rows : Rows) (w : ℕ) (is : IsStash s h r
         second : (a b : Bool) → (a || b) ≡ false → b ≡ false
         second true b none = absurd (false≢true (sym none))
         second false b none = none
-  restash Join reply allowed = quiet Join reply (λ b. refl) (λ p. refl)
-  restash (Bits flags) reply allowed = quiet (Bits flags) reply (λ b. refl) (λ p. refl)
-  restash (Have p) reply allowed = quiet (Have p) reply (λ b. refl) (λ q. refl)
-  restash Choke reply allowed = quiet Choke reply (λ b. refl) (λ p. refl)
-  restash Unchoke reply allowed = quiet Unchoke reply (λ b. refl) (λ p. refl)
-  restash (Next word) reply allowed = quiet (Next word) reply (λ b. refl) (λ p. refl)
-  restash Leave reply allowed = quiet Leave reply (λ b. refl) (λ p. refl)
-  restash (Want flags) reply allowed = quiet (Want flags) reply (λ b. refl) (λ p. refl)
-  restash (Haves flags) reply allowed = quiet (Haves flags) reply (λ b. refl) (λ p. refl)
-  restash (Depth n) reply allowed = quiet (Depth n) reply (λ b. refl) (λ p. refl)
-  restash (Level p n) reply allowed = quiet (Level p n) reply (λ b. refl) (λ p. refl)
-  restash (Levels levels) reply allowed = quiet (Levels levels) reply (λ b. refl) (λ p. refl)
-  restash (InOrder rising) reply allowed = quiet (InOrder rising) reply (λ b. refl) (λ p. refl)
-  restash (Release p begin) reply allowed = quiet (Release p begin) reply (λ b. refl) (λ q. refl)
+  restash action reply allowed = quiet action reply (λ b. refl) (λ p. refl)
 
 abbrev no_blocks : List (List ℕ)
 no_blocks = []

@@ -1,13 +1,13 @@
 //! What each entry of a history makes of its tables: the one place where tables change, each time with the entry that they then tell of.
 
-ghost use Rattle.std.specs.Prelude.{◌≡◌, ◌<◌, ◌≤◌, ◌∷◌, [], true, IfOk};
+ghost use Rattle.std.specs.Prelude.{◌≡◌, ◌<◌, ◌≤◌, ◌∷◌, [], length, true, IfOk};
 ghost use Rattle.bt_history.specs.Setting.{setting_of};
 ghost use Rattle.bt_history.specs.Legal.{IsAllowed};
 ghost use Rattle.bt_history.specs.History.{counts};
 ghost use Rattle.bt_check.specs.Checked as checked;
 ghost use Rattle.bt_picker.specs.Checks.{settling};
-ghost use Rattle.bt_picker.specs.Told.{checking, telling};
-ghost use Rattle.bt_picker.specs.Tables.{AreTables};
+ghost use Rattle.bt_picker.specs.Told.{action_told, checking, telling};
+ghost use Rattle.bt_picker.specs.Tables.{AreTables, entered_call};
 
 use crate::past::Past;
 use crate::told::Told;
@@ -43,6 +43,19 @@ pub fn enter(tables: &mut Tables, past: &Past, worker: u32, told: &Told<'_>, rep
     if reply.is_refusal() {
         return;
     }
+    put(tables, past, worker, told, reply);
+}
+
+/// Puts into the tables what the worker told, with a reply that is no refusal.
+#[inline(always)]
+fn put(tables: &mut Tables, past: &Past, worker: u32, told: &Told<'_>, reply: Reply)
+    requires are { AreTables tables.old past.now.entries }
+    requires allowed { IsAllowed tables.old.setting past.now.entries (telling worker told.now reply) }
+    requires counts { counts reply ≡ true }
+    requires worker { worker < length tables.old.peers }
+    ensures entered { tables.new ≡ entered_call tables.old worker reply (action_told told.now) }
+    ensures setting { tables.new.setting ≡ tables.old.setting }
+{
     match told {
         Told::Join => tables.join(worker),
         Told::Bits(flags) => tables.put_bits(worker, flags),

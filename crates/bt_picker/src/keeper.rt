@@ -10,7 +10,7 @@ ghost use Rattle.bt_history.specs.Assured.{Assures};
 ghost use Rattle.bt_history.specs.Legal.{IsLegal};
 ghost use Rattle.bt_history.specs.Picks.{ArePicked};
 ghost use Rattle.bt_history.specs.Peers.{outstanding};
-ghost use Rattle.bt_history.specs.Pieces.{availability, content, content_of_block, had, in_order, level, sender, wanted};
+ghost use Rattle.bt_history.specs.Pieces.{content, content_of_block, had};
 ghost use Rattle.bt_history.specs.Setting.{AreRules, setting_of};
 ghost use Rattle.bt_picker.specs.Checks.{IsJobOf, arriving, blocks_of, waits};
 ghost use Rattle.bt_picker.specs.Contents.{complete, has_wanted};

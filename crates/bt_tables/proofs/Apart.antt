@@ -72,11 +72,8 @@ whole_fresh n blocks rows is =
 
 pub same_room : (change : Change) (n : ℕ) (row : PieceState) → HasRoomOf change (shown_row n row) → HasRoomOf change (apart row)
 same_room (Raise index) n row room = room
-same_room (Lower index) n row room = room
 same_room (Store index sender) n row room = room
-same_room Pass n row room = room
-same_room Fail n row room = room
-same_room (Level m) n row room = room
+same_room change n row room = room
 
 pub changed_apart : (change : Change) (n : ℕ) (row : PieceState) → shown_row n (changed_row change row) ≡ changed_row change (shown_row n row)
 changed_apart (Raise index) n row = refl

@@ -3,7 +3,7 @@ use Rattle.std.proofs.lemmas.Bool.{not-true}
 use Rattle.bt_check.specs.Checked.{joined}
 use Rattle.bt_history.specs.declared.event.Action.TheVariants.{Settle}
 use Rattle.bt_picker.proofs.Allowing.{counts_unrefused}
-use Rattle.bt_picker.proofs.Entered.{cause_none, enter_check, entered_refusal, settle_piece}
+use Rattle.bt_picker.proofs.Entered.{cause_none, entered_counted, entered_refusal, settle_piece}
 use Rattle.bt_picker.proofs.entries.enter_verdict.Goals as goal
 
 pub returns-then-is_refusal-clause-are : goal.returns-then-is_refusal-clause-are
@@ -14,14 +14,14 @@ returns-then-is_refusal-clause-are c =
 pub put_check-requires : goal.put_check-requires
 put_check-requires c =
     let v = c.args.verdict.now in
-    let cause = cause_none _ _ c.args.worker (Settle v.piece (joined v)) c.args.reply c.requires.allowed
+    let cause = cause_none c.args.tables.now.setting c.args.past.now.entries c.args.worker (Settle v.piece (joined v)) c.args.reply c.requires.allowed
     (counts_unrefused _ _ c.is_refusal.ensures c.if-is_refusal.false) in
-    let lp = settle_piece _ _ c.args.worker v.piece (joined v) cause in
+    let lp = settle_piece c.args.tables.now.setting c.args.past.now.entries c.args.worker v.piece (joined v) cause in
     omega (arith, lp, c.requires.are.pieces_len, c.piece.ensures)
 
 pub returns-clause-are : goal.returns-clause-are
 returns-clause-are c =
     let v = c.args.verdict.now in
     rw (c.put_check.ensures, c.piece.ensures)
-    (enter_check _ _ c.args.worker c.requires.are v.piece (joined v) c.args.reply c.requires.allowed
+    (entered_counted _ _ c.args.worker c.requires.are (Settle v.piece (joined v)) c.args.reply c.requires.allowed
     (counts_unrefused _ _ c.is_refusal.ensures c.if-is_refusal.false))

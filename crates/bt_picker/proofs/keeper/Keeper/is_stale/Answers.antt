@@ -9,7 +9,7 @@ returns-then-is_waiting-clause-yes c = λ differs.
     let d = c.args.self.now in
     let equal = same_blocks c.waiting.result.now c.blocks-then-is_waiting.result.now in
     let held = c.waiting.ensures ∙ ap (blocks_of d.setting d.history) c.piece-then-is_waiting.ensures in (
-      rw (← c.piece.ensures) (sym c.is_waiting.ensures ∙ c.if-is_waiting.true),
+      rw (← c.piece.ensures, ← c.self.view_is) (sym c.is_waiting.ensures ∙ c.if-is_waiting.true),
       λ same. false≢true (sym (ap not (equal.1 (held ∙ (sym same ∙ sym c.blocks-then-is_waiting.ensures)))) ∙ (sym c.ne.ensures ∙ differs)),
     )
 

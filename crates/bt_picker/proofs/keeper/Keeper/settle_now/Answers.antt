@@ -10,5 +10,5 @@ settle_by-requires c = λ waiting.
     let d = c.args.self.now in
     elim c.if-is_waiting.branch [
       | then-is_waiting w ↦ w.digest-is ∙ (w.hash-digest.ensures ∙ ap sha1 (joined_blocks d.setting d.history c.args.piece _ w.waiting.ensures))
-      | else-is_waiting w ↦ absurd (false≢true (sym w.if-is_waiting.false ∙ (c.is_waiting.ensures ∙ waiting)))
+      | else-is_waiting w ↦ absurd (false≢true (sym w.if-is_waiting.false ∙ (c.is_waiting.ensures ∙ rw c.self.view_is waiting)))
     ]

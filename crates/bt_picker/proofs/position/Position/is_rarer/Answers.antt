@@ -1,4 +1,4 @@
-use Rattle.std.proofs.Common.{◌≡◌, ◌∙◌, ◌*◌, sym}
+use Rattle.std.proofs.Common.{◌∙◌, ◌*◌, sym}
 use Rattle.std.specs.Prelude.{nat_lt}
 use Rattle.bt_meta.specs.Layout.{piece_count}
 use Rattle.bt_history.specs.Picks.{place_in_round}
