@@ -17,6 +17,7 @@ from model import Model, Refused, Rules, Torrent
 ABC = "a9993e364706816aba3e25717850c26c9cd0d89d"  # SHA-1 of abc
 A = "86f7e437faa5a7fce15d1ddcb9eaeaea377667b8"  # of a
 MILLION = "34aa973cd4c4daa4f61eeb2bdbad27316534016f"  # of a million a
+DIGESTS = {"abc": ABC, "a": A, "million": MILLION}
 
 TORRENTS: dict[str, tuple[int, int, list[str]]] = {  # name: piece length, total, hashes
     "short_last": (3, 7, [ABC, ABC, A]),
@@ -434,7 +435,17 @@ def laid_out(text: str, width: int) -> str:
 def digest(hexadecimal: str) -> str:
     """A digest in two rows."""
     rows = [" ∷ ".join(f"0x{hexadecimal[i:i + 2]}" for i in range(start, start + 20, 2)) for start in (0, 20)]
-    return f"({rows[0]}\n          ∷ {rows[1]} ∷ [])"
+    return f"{rows[0]}\n    ∷ {rows[1]} ∷ []"
+
+
+def named(hexadecimal: str) -> str:
+    """The name of the content that has this digest."""
+    return next(name for name, digest in DIGESTS.items() if digest == hexadecimal)
+
+
+def listed(rows: list[str]) -> str:
+    """The rows as a list in brackets, a line each."""
+    return "(" + "\n    ∷ ".join(rows) + " ∷ [])" if rows else "[]"
 
 
 REASONS = ["NotJoined", "AlreadyJoined", "LateBits", "WrongCount", "NoSuchPiece", "NoSuchBlock", "WrongLength", "NotWaiting", "Stale",
@@ -499,16 +510,18 @@ def judge(name: str) -> None:
 
 def main() -> None:
     spec = open("tools/examples_head.antt.txt").read()
+    for name, hexadecimal in DIGESTS.items():
+        spec += f"abbrev digest_of_{name} : List ℕ\ndigest_of_{name} =\n    {digest(hexadecimal)}\n\n"
     for name, (piece_length, total, hashes) in TORRENTS.items():
-        digests = "\n        ∷ ".join([*map(digest, hashes), "[]"])
-        spec += (f"abbrev torrent_{name} : Layout\ntorrent_{name} =\n    record {{\n      piece_length = {piece_length};\n"
-                 f"      total = {total};\n      hashes = {digests};\n    }}\n\n")
+        digests = " ∷ ".join([*(f"digest_of_{named(each)}" for each in hashes), "[]"])
+        spec += (f"abbrev torrent_{name} : Layout\n"
+                 f"torrent_{name} = record {{ piece_length = {piece_length}; total = {total}; hashes = {digests} }}\n\n")
     for name, (torrent, _, lines) in EXAMPLES.items():
         wrongs = [(label, before, line) for label, (example, before, line) in WRONG.items() if example == name]
         spec += "".join(f"-- {before}: {label.replace('_', ' ')}\n" for label, before, _ in wrongs)
-        spec += f"abbrev {name} : Example\n{name} = record {{\n  setting = {setting(name)[1:-1]};\n  entries =\n      "
-        spec += "\n      ∷ ".join([*(entry(line, torrent) for line in lines), "[]"]) + ";\n  wrong = "
-        spec += "\n      ∷ ".join([*(f"({before}, {entry(line, torrent)})" for _, before, line in wrongs), "[]"]) + ";\n}\n\n"
+        entries = listed([entry(line, torrent) for line in lines])
+        spec += f"abbrev {name} : Example\n{name} = example {setting(name)}\n    {entries}\n    "
+        spec += listed([f"({before}, {entry(line, torrent)})" for _, before, line in wrongs]) + "\n\n"
     spec += "abbrev pub examples : List Example\nexamples =\n    " + "\n    ∷ ".join([*EXAMPLES, "[]"]) + "\n"
     open("crates/bt_history/specs/Examples.antt", "w").write(laid_out(spec.rstrip(), 150) + "\n")
 
@@ -536,7 +549,7 @@ def audits() -> None:
         piece_length, total, hashes = TORRENTS[torrent]
         wrongs = [(before, line) for example, before, line in WRONG.values() if example == name]
         wrongs += [WRONG_IN_AUDITS[name]] if name in WRONG_IN_AUDITS else []
-        contents = " ".join({ABC: "abc", A: "a", MILLION: "million"}[h] for h in hashes)
+        contents = " ".join(map(named, hashes))
         depth, random, askers, deepest = (*RULES.get(name, USUAL), MOST_WORKERS, MOST_DEPTH)[:4]
         texts.append("\n".join([
             name.replace("_", " "),

@@ -22,6 +22,9 @@ pub record Example : Type 0 where
   pub entries : List Event
   pub wrong : List (ℕ × Event)
 
+abbrev example : Setting → List Event → List (ℕ × Event) → Example
+example setting entries wrong = record { setting = setting; entries = entries; wrong = wrong }
+
 -- none of these entries is allowed behind so many of the example's
 abbrev pub AreWrong : Example → List (ℕ × Event) → Type 0
 AreWrong x [] = Unit {0}
@@ -44,576 +47,414 @@ bounded_rules depth random askers deepest = record { depth = depth; random = ran
 abbrev block_of : ℕ → ℕ → ℕ → Block
 block_of piece begin len = record { piece = piece; begin = begin; len = len }
 
+abbrev digest_of_abc : List ℕ
+digest_of_abc =
+    0xa9 ∷ 0x99 ∷ 0x3e ∷ 0x36 ∷ 0x47 ∷ 0x06 ∷ 0x81 ∷ 0x6a ∷ 0xba ∷ 0x3e
+    ∷ 0x25 ∷ 0x71 ∷ 0x78 ∷ 0x50 ∷ 0xc2 ∷ 0x6c ∷ 0x9c ∷ 0xd0 ∷ 0xd8 ∷ 0x9d ∷ []
+
+abbrev digest_of_a : List ℕ
+digest_of_a =
+    0x86 ∷ 0xf7 ∷ 0xe4 ∷ 0x37 ∷ 0xfa ∷ 0xa5 ∷ 0xa7 ∷ 0xfc ∷ 0xe1 ∷ 0x5d
+    ∷ 0x1d ∷ 0xdc ∷ 0xb9 ∷ 0xea ∷ 0xea ∷ 0xea ∷ 0x37 ∷ 0x76 ∷ 0x67 ∷ 0xb8 ∷ []
+
+abbrev digest_of_million : List ℕ
+digest_of_million =
+    0x34 ∷ 0xaa ∷ 0x97 ∷ 0x3c ∷ 0xd4 ∷ 0xc4 ∷ 0xda ∷ 0xa4 ∷ 0xf6 ∷ 0x1e
+    ∷ 0xeb ∷ 0x2b ∷ 0xdb ∷ 0xad ∷ 0x27 ∷ 0x31 ∷ 0x65 ∷ 0x34 ∷ 0x01 ∷ 0x6f ∷ []
+
 abbrev torrent_short_last : Layout
-torrent_short_last =
-    record {
-      piece_length = 3;
-      total = 7;
-      hashes = (0xa9 ∷ 0x99 ∷ 0x3e ∷ 0x36 ∷ 0x47 ∷ 0x06 ∷ 0x81 ∷ 0x6a ∷ 0xba ∷ 0x3e
-          ∷ 0x25 ∷ 0x71 ∷ 0x78 ∷ 0x50 ∷ 0xc2 ∷ 0x6c ∷ 0x9c ∷ 0xd0 ∷ 0xd8 ∷ 0x9d ∷ [])
-          ∷ (0xa9 ∷ 0x99 ∷ 0x3e ∷ 0x36 ∷ 0x47 ∷ 0x06 ∷ 0x81 ∷ 0x6a ∷ 0xba ∷ 0x3e
-          ∷ 0x25 ∷ 0x71 ∷ 0x78 ∷ 0x50 ∷ 0xc2 ∷ 0x6c ∷ 0x9c ∷ 0xd0 ∷ 0xd8 ∷ 0x9d ∷ [])
-          ∷ (0x86 ∷ 0xf7 ∷ 0xe4 ∷ 0x37 ∷ 0xfa ∷ 0xa5 ∷ 0xa7 ∷ 0xfc ∷ 0xe1 ∷ 0x5d
-          ∷ 0x1d ∷ 0xdc ∷ 0xb9 ∷ 0xea ∷ 0xea ∷ 0xea ∷ 0x37 ∷ 0x76 ∷ 0x67 ∷ 0xb8 ∷ [])
-          ∷ [];
-    }
+torrent_short_last = record { piece_length = 3; total = 7; hashes = digest_of_abc ∷ digest_of_abc ∷ digest_of_a ∷ [] }
 
 abbrev torrent_one_piece : Layout
-torrent_one_piece =
-    record {
-      piece_length = 3;
-      total = 3;
-      hashes = (0xa9 ∷ 0x99 ∷ 0x3e ∷ 0x36 ∷ 0x47 ∷ 0x06 ∷ 0x81 ∷ 0x6a ∷ 0xba ∷ 0x3e
-          ∷ 0x25 ∷ 0x71 ∷ 0x78 ∷ 0x50 ∷ 0xc2 ∷ 0x6c ∷ 0x9c ∷ 0xd0 ∷ 0xd8 ∷ 0x9d ∷ [])
-          ∷ [];
-    }
+torrent_one_piece = record { piece_length = 3; total = 3; hashes = digest_of_abc ∷ [] }
 
 abbrev torrent_two_pieces : Layout
-torrent_two_pieces =
-    record {
-      piece_length = 3;
-      total = 6;
-      hashes = (0xa9 ∷ 0x99 ∷ 0x3e ∷ 0x36 ∷ 0x47 ∷ 0x06 ∷ 0x81 ∷ 0x6a ∷ 0xba ∷ 0x3e
-          ∷ 0x25 ∷ 0x71 ∷ 0x78 ∷ 0x50 ∷ 0xc2 ∷ 0x6c ∷ 0x9c ∷ 0xd0 ∷ 0xd8 ∷ 0x9d ∷ [])
-          ∷ (0xa9 ∷ 0x99 ∷ 0x3e ∷ 0x36 ∷ 0x47 ∷ 0x06 ∷ 0x81 ∷ 0x6a ∷ 0xba ∷ 0x3e
-          ∷ 0x25 ∷ 0x71 ∷ 0x78 ∷ 0x50 ∷ 0xc2 ∷ 0x6c ∷ 0x9c ∷ 0xd0 ∷ 0xd8 ∷ 0x9d ∷ [])
-          ∷ [];
-    }
+torrent_two_pieces = record { piece_length = 3; total = 6; hashes = digest_of_abc ∷ digest_of_abc ∷ [] }
 
 abbrev torrent_two_blocks : Layout
-torrent_two_blocks =
-    record {
-      piece_length = 32768;
-      total = 65536;
-      hashes = (0xa9 ∷ 0x99 ∷ 0x3e ∷ 0x36 ∷ 0x47 ∷ 0x06 ∷ 0x81 ∷ 0x6a ∷ 0xba ∷ 0x3e
-          ∷ 0x25 ∷ 0x71 ∷ 0x78 ∷ 0x50 ∷ 0xc2 ∷ 0x6c ∷ 0x9c ∷ 0xd0 ∷ 0xd8 ∷ 0x9d ∷ [])
-          ∷ (0xa9 ∷ 0x99 ∷ 0x3e ∷ 0x36 ∷ 0x47 ∷ 0x06 ∷ 0x81 ∷ 0x6a ∷ 0xba ∷ 0x3e
-          ∷ 0x25 ∷ 0x71 ∷ 0x78 ∷ 0x50 ∷ 0xc2 ∷ 0x6c ∷ 0x9c ∷ 0xd0 ∷ 0xd8 ∷ 0x9d ∷ [])
-          ∷ [];
-    }
+torrent_two_blocks = record { piece_length = 32768; total = 65536; hashes = digest_of_abc ∷ digest_of_abc ∷ [] }
 
 abbrev torrent_many_blocks : Layout
-torrent_many_blocks =
-    record {
-      piece_length = 1000000;
-      total = 1000000;
-      hashes = (0x34 ∷ 0xaa ∷ 0x97 ∷ 0x3c ∷ 0xd4 ∷ 0xc4 ∷ 0xda ∷ 0xa4 ∷ 0xf6 ∷ 0x1e
-          ∷ 0xeb ∷ 0x2b ∷ 0xdb ∷ 0xad ∷ 0x27 ∷ 0x31 ∷ 0x65 ∷ 0x34 ∷ 0x01 ∷ 0x6f ∷ [])
-          ∷ [];
-    }
+torrent_many_blocks = record { piece_length = 1000000; total = 1000000; hashes = digest_of_million ∷ [] }
 
 abbrev torrent_four_pieces : Layout
-torrent_four_pieces =
-    record {
-      piece_length = 3;
-      total = 12;
-      hashes = (0xa9 ∷ 0x99 ∷ 0x3e ∷ 0x36 ∷ 0x47 ∷ 0x06 ∷ 0x81 ∷ 0x6a ∷ 0xba ∷ 0x3e
-          ∷ 0x25 ∷ 0x71 ∷ 0x78 ∷ 0x50 ∷ 0xc2 ∷ 0x6c ∷ 0x9c ∷ 0xd0 ∷ 0xd8 ∷ 0x9d ∷ [])
-          ∷ (0xa9 ∷ 0x99 ∷ 0x3e ∷ 0x36 ∷ 0x47 ∷ 0x06 ∷ 0x81 ∷ 0x6a ∷ 0xba ∷ 0x3e
-          ∷ 0x25 ∷ 0x71 ∷ 0x78 ∷ 0x50 ∷ 0xc2 ∷ 0x6c ∷ 0x9c ∷ 0xd0 ∷ 0xd8 ∷ 0x9d ∷ [])
-          ∷ (0xa9 ∷ 0x99 ∷ 0x3e ∷ 0x36 ∷ 0x47 ∷ 0x06 ∷ 0x81 ∷ 0x6a ∷ 0xba ∷ 0x3e
-          ∷ 0x25 ∷ 0x71 ∷ 0x78 ∷ 0x50 ∷ 0xc2 ∷ 0x6c ∷ 0x9c ∷ 0xd0 ∷ 0xd8 ∷ 0x9d ∷ [])
-          ∷ (0xa9 ∷ 0x99 ∷ 0x3e ∷ 0x36 ∷ 0x47 ∷ 0x06 ∷ 0x81 ∷ 0x6a ∷ 0xba ∷ 0x3e
-          ∷ 0x25 ∷ 0x71 ∷ 0x78 ∷ 0x50 ∷ 0xc2 ∷ 0x6c ∷ 0x9c ∷ 0xd0 ∷ 0xd8 ∷ 0x9d ∷ [])
-          ∷ [];
-    }
+torrent_four_pieces = record { piece_length = 3; total = 12; hashes = digest_of_abc ∷ digest_of_abc ∷ digest_of_abc ∷ digest_of_abc ∷ [] }
 
 -- 1: noted from before the bits
 -- 3: request of a wrong length
 abbrev first_request : Example
-first_request = record {
-  setting = setting_of torrent_short_last 1 usual_rules;
-  entries =
-      entry 0 Join Joined
-      ∷ entry 0 (Bits (true ∷ true ∷ true ∷ [])) (Noted true)
-      ∷ entry 0 Unchoke Quiet
-      ∷ entry 0 (Next 5) (Request (block_of 2 0 1))
-      ∷ [];
-  wrong = (1, entry 0 (Bits (true ∷ true ∷ true ∷ [])) (Noted false))
-      ∷ (3, entry 0 (Next 5) (Request (block_of 2 0 3)))
-      ∷ [];
-}
+first_request = example (setting_of torrent_short_last 1 usual_rules)
+    (entry 0 Join Joined
+    ∷ entry 0 (Bits (true ∷ true ∷ true ∷ [])) (Noted true)
+    ∷ entry 0 Unchoke Quiet
+    ∷ entry 0 (Next 5) (Request (block_of 2 0 1)) ∷ [])
+    ((1, entry 0 (Bits (true ∷ true ∷ true ∷ [])) (Noted false))
+    ∷ (3, entry 0 (Next 5) (Request (block_of 2 0 3))) ∷ [])
 
 abbrev another_first_request : Example
-another_first_request = record {
-  setting = setting_of torrent_short_last 1 usual_rules;
-  entries =
-      entry 0 Join Joined
-      ∷ entry 0 (Bits (true ∷ true ∷ true ∷ [])) (Noted true)
-      ∷ entry 0 Unchoke Quiet
-      ∷ entry 0 (Next 5) (Request (block_of 0 0 3))
-      ∷ [];
-  wrong = [];
-}
+another_first_request = example (setting_of torrent_short_last 1 usual_rules)
+    (entry 0 Join Joined
+    ∷ entry 0 (Bits (true ∷ true ∷ true ∷ [])) (Noted true)
+    ∷ entry 0 Unchoke Quiet
+    ∷ entry 0 (Next 5) (Request (block_of 0 0 3)) ∷ [])
+    []
 
 -- 3: idle though a block is usable
 abbrev one_peer_to_the_end : Example
-one_peer_to_the_end = record {
-  setting = setting_of torrent_short_last 1 usual_rules;
-  entries =
-      entry 0 Join Joined
-      ∷ entry 0 (Bits (true ∷ true ∷ true ∷ [])) (Noted true)
-      ∷ entry 0 Unchoke Quiet
-      ∷ entry 0 (Next 5) (Request (block_of 2 0 1))
-      ∷ entry 0 (Next 0) (Request (block_of 0 0 3))
-      ∷ entry 0 (Next 0) (Request (block_of 1 0 3))
-      ∷ entry 0 (Next 0) Idle
-      ∷ entry 0 (Arrived 2 0 (97 ∷ [])) Completed
-      ∷ entry 0 (Settle 2 (97 ∷ [])) Had
-      ∷ entry 0 (Arrived 0 0 (97 ∷ 98 ∷ 99 ∷ [])) Completed
-      ∷ entry 0 (Settle 0 (97 ∷ 98 ∷ 99 ∷ [])) Had
-      ∷ entry 0 (Arrived 1 0 (97 ∷ 98 ∷ 99 ∷ [])) Completed
-      ∷ entry 0 (Settle 1 (97 ∷ 98 ∷ 99 ∷ [])) Had
-      ∷ entry 0 (Next 0) NothingLeft
-      ∷ [];
-  wrong = (3, entry 0 (Next 5) Idle)
-      ∷ [];
-}
+one_peer_to_the_end = example (setting_of torrent_short_last 1 usual_rules)
+    (entry 0 Join Joined
+    ∷ entry 0 (Bits (true ∷ true ∷ true ∷ [])) (Noted true)
+    ∷ entry 0 Unchoke Quiet
+    ∷ entry 0 (Next 5) (Request (block_of 2 0 1))
+    ∷ entry 0 (Next 0) (Request (block_of 0 0 3))
+    ∷ entry 0 (Next 0) (Request (block_of 1 0 3))
+    ∷ entry 0 (Next 0) Idle
+    ∷ entry 0 (Arrived 2 0 (97 ∷ [])) Completed
+    ∷ entry 0 (Settle 2 (97 ∷ [])) Had
+    ∷ entry 0 (Arrived 0 0 (97 ∷ 98 ∷ 99 ∷ [])) Completed
+    ∷ entry 0 (Settle 0 (97 ∷ 98 ∷ 99 ∷ [])) Had
+    ∷ entry 0 (Arrived 1 0 (97 ∷ 98 ∷ 99 ∷ [])) Completed
+    ∷ entry 0 (Settle 1 (97 ∷ 98 ∷ 99 ∷ [])) Had
+    ∷ entry 0 (Next 0) NothingLeft ∷ [])
+    ((3, entry 0 (Next 5) Idle) ∷ [])
 
 -- 8: commoner piece started
 abbrev rarest_first : Example
-rarest_first = record {
-  setting = setting_of torrent_short_last 2 usual_rules;
-  entries =
-      entry 0 Join Joined
-      ∷ entry 0 (Bits (true ∷ true ∷ true ∷ [])) (Noted true)
-      ∷ entry 1 Join Joined
-      ∷ entry 1 (Bits (false ∷ true ∷ false ∷ [])) (Noted true)
-      ∷ entry 0 Unchoke Quiet
-      ∷ entry 0 (Next 2) (Request (block_of 2 0 1))
-      ∷ entry 0 (Arrived 2 0 (97 ∷ [])) Completed
-      ∷ entry 0 (Settle 2 (97 ∷ [])) Had
-      ∷ entry 0 (Next 1) (Request (block_of 0 0 3))
-      ∷ [];
-  wrong = (8, entry 0 (Next 1) (Request (block_of 1 0 3)))
-      ∷ [];
-}
+rarest_first = example (setting_of torrent_short_last 2 usual_rules)
+    (entry 0 Join Joined
+    ∷ entry 0 (Bits (true ∷ true ∷ true ∷ [])) (Noted true)
+    ∷ entry 1 Join Joined
+    ∷ entry 1 (Bits (false ∷ true ∷ false ∷ [])) (Noted true)
+    ∷ entry 0 Unchoke Quiet
+    ∷ entry 0 (Next 2) (Request (block_of 2 0 1))
+    ∷ entry 0 (Arrived 2 0 (97 ∷ [])) Completed
+    ∷ entry 0 (Settle 2 (97 ∷ [])) Had
+    ∷ entry 0 (Next 1) (Request (block_of 0 0 3)) ∷ [])
+    ((8, entry 0 (Next 1) (Request (block_of 1 0 3))) ∷ [])
 
 -- 8: sixth request
 -- 7: pipe full after four
 abbrev full_pipe : Example
-full_pipe = record {
-  setting = setting_of torrent_many_blocks 2 usual_rules;
-  entries =
-      entry 0 Join Joined
-      ∷ entry 0 (Bits (true ∷ [])) (Noted true)
-      ∷ entry 0 Unchoke Quiet
-      ∷ entry 0 (Next 0) (Request (block_of 0 0 16384))
-      ∷ entry 0 (Next 0) (Request (block_of 0 16384 16384))
-      ∷ entry 0 (Next 0) (Request (block_of 0 32768 16384))
-      ∷ entry 0 (Next 0) (Request (block_of 0 49152 16384))
-      ∷ entry 0 (Next 0) (Request (block_of 0 65536 16384))
-      ∷ entry 0 (Next 0) PipeFull
-      ∷ [];
-  wrong = (8, entry 0 (Next 0) (Request (block_of 0 81920 16384)))
-      ∷ (7, entry 0 (Next 0) PipeFull)
-      ∷ [];
-}
+full_pipe = example (setting_of torrent_many_blocks 2 usual_rules)
+    (entry 0 Join Joined
+    ∷ entry 0 (Bits (true ∷ [])) (Noted true)
+    ∷ entry 0 Unchoke Quiet
+    ∷ entry 0 (Next 0) (Request (block_of 0 0 16384))
+    ∷ entry 0 (Next 0) (Request (block_of 0 16384 16384))
+    ∷ entry 0 (Next 0) (Request (block_of 0 32768 16384))
+    ∷ entry 0 (Next 0) (Request (block_of 0 49152 16384))
+    ∷ entry 0 (Next 0) (Request (block_of 0 65536 16384))
+    ∷ entry 0 (Next 0) PipeFull ∷ [])
+    ((8, entry 0 (Next 0) (Request (block_of 0 81920 16384)))
+    ∷ (7, entry 0 (Next 0) PipeFull) ∷ [])
 
 -- 13: pipe full though the choke freed it
 abbrev choke_frees : Example
-choke_frees = record {
-  setting = setting_of torrent_many_blocks 2 usual_rules;
-  entries =
-      entry 0 Join Joined
-      ∷ entry 0 (Bits (true ∷ [])) (Noted true)
-      ∷ entry 0 Unchoke Quiet
-      ∷ entry 0 (Next 0) (Request (block_of 0 0 16384))
-      ∷ entry 0 (Next 0) (Request (block_of 0 16384 16384))
-      ∷ entry 0 (Next 0) (Request (block_of 0 32768 16384))
-      ∷ entry 0 (Next 0) (Request (block_of 0 49152 16384))
-      ∷ entry 0 (Next 0) (Request (block_of 0 65536 16384))
-      ∷ entry 0 (Next 0) PipeFull
-      ∷ entry 0 Choke Quiet
-      ∷ entry 1 Join Joined
-      ∷ entry 1 (Bits (true ∷ [])) (Noted true)
-      ∷ entry 1 Unchoke Quiet
-      ∷ entry 1 (Next 0) (Request (block_of 0 0 16384))
-      ∷ entry 0 (Next 0) Choked
-      ∷ [];
-  wrong = (13, entry 0 (Next 0) PipeFull)
-      ∷ [];
-}
+choke_frees = example (setting_of torrent_many_blocks 2 usual_rules)
+    (entry 0 Join Joined
+    ∷ entry 0 (Bits (true ∷ [])) (Noted true)
+    ∷ entry 0 Unchoke Quiet
+    ∷ entry 0 (Next 0) (Request (block_of 0 0 16384))
+    ∷ entry 0 (Next 0) (Request (block_of 0 16384 16384))
+    ∷ entry 0 (Next 0) (Request (block_of 0 32768 16384))
+    ∷ entry 0 (Next 0) (Request (block_of 0 49152 16384))
+    ∷ entry 0 (Next 0) (Request (block_of 0 65536 16384))
+    ∷ entry 0 (Next 0) PipeFull
+    ∷ entry 0 Choke Quiet
+    ∷ entry 1 Join Joined
+    ∷ entry 1 (Bits (true ∷ [])) (Noted true)
+    ∷ entry 1 Unchoke Quiet
+    ∷ entry 1 (Next 0) (Request (block_of 0 0 16384))
+    ∷ entry 0 (Next 0) Choked ∷ [])
+    ((13, entry 0 (Next 0) PipeFull) ∷ [])
 
 -- 9: idle though a cancel is due
 abbrev cancel_in_endgame : Example
-cancel_in_endgame = record {
-  setting = setting_of torrent_one_piece 2 usual_rules;
-  entries =
-      entry 0 Join Joined
-      ∷ entry 0 (Bits (true ∷ [])) (Noted true)
-      ∷ entry 0 Unchoke Quiet
-      ∷ entry 1 Join Joined
-      ∷ entry 1 (Bits (true ∷ [])) (Noted true)
-      ∷ entry 1 Unchoke Quiet
-      ∷ entry 0 (Next 0) (Request (block_of 0 0 3))
-      ∷ entry 1 (Next 0) (Request (block_of 0 0 3))
-      ∷ entry 0 (Arrived 0 0 (97 ∷ 98 ∷ 99 ∷ [])) Completed
-      ∷ entry 1 (Next 0) (Cancel (block_of 0 0 3))
-      ∷ entry 1 (Next 0) Idle
-      ∷ entry 0 (Settle 0 (97 ∷ 98 ∷ 99 ∷ [])) Had
-      ∷ entry 1 (Next 0) NothingLeft
-      ∷ entry 1 (Arrived 0 0 (97 ∷ 98 ∷ 99 ∷ [])) Dropped
-      ∷ [];
-  wrong = (9, entry 1 (Next 0) Idle)
-      ∷ [];
-}
+cancel_in_endgame = example (setting_of torrent_one_piece 2 usual_rules)
+    (entry 0 Join Joined
+    ∷ entry 0 (Bits (true ∷ [])) (Noted true)
+    ∷ entry 0 Unchoke Quiet
+    ∷ entry 1 Join Joined
+    ∷ entry 1 (Bits (true ∷ [])) (Noted true)
+    ∷ entry 1 Unchoke Quiet
+    ∷ entry 0 (Next 0) (Request (block_of 0 0 3))
+    ∷ entry 1 (Next 0) (Request (block_of 0 0 3))
+    ∷ entry 0 (Arrived 0 0 (97 ∷ 98 ∷ 99 ∷ [])) Completed
+    ∷ entry 1 (Next 0) (Cancel (block_of 0 0 3))
+    ∷ entry 1 (Next 0) Idle
+    ∷ entry 0 (Settle 0 (97 ∷ 98 ∷ 99 ∷ [])) Had
+    ∷ entry 1 (Next 0) NothingLeft
+    ∷ entry 1 (Arrived 0 0 (97 ∷ 98 ∷ 99 ∷ [])) Dropped ∷ [])
+    ((9, entry 1 (Next 0) Idle) ∷ [])
 
 -- 7: second peer asked before endgame
 abbrev no_double_before_endgame : Example
-no_double_before_endgame = record {
-  setting = setting_of torrent_two_pieces 2 usual_rules;
-  entries =
-      entry 0 Join Joined
-      ∷ entry 0 (Bits (true ∷ true ∷ [])) (Noted true)
-      ∷ entry 0 Unchoke Quiet
-      ∷ entry 0 (Next 0) (Request (block_of 0 0 3))
-      ∷ entry 1 Join Joined
-      ∷ entry 1 (Bits (true ∷ false ∷ [])) (Noted true)
-      ∷ entry 1 Unchoke Quiet
-      ∷ entry 1 (Next 0) Idle
-      ∷ [];
-  wrong = (7, entry 1 (Next 0) (Request (block_of 0 0 3)))
-      ∷ [];
-}
+no_double_before_endgame = example (setting_of torrent_two_pieces 2 usual_rules)
+    (entry 0 Join Joined
+    ∷ entry 0 (Bits (true ∷ true ∷ [])) (Noted true)
+    ∷ entry 0 Unchoke Quiet
+    ∷ entry 0 (Next 0) (Request (block_of 0 0 3))
+    ∷ entry 1 Join Joined
+    ∷ entry 1 (Bits (true ∷ false ∷ [])) (Noted true)
+    ∷ entry 1 Unchoke Quiet
+    ∷ entry 1 (Next 0) Idle ∷ [])
+    ((7, entry 1 (Next 0) (Request (block_of 0 0 3))) ∷ [])
 
 -- 16: second peer asked while a block is unasked
 abbrev double_outlasts_endgame : Example
-double_outlasts_endgame = record {
-  setting = setting_of torrent_two_pieces 4 usual_rules;
-  entries =
-      entry 0 Join Joined
-      ∷ entry 0 (Bits (true ∷ false ∷ [])) (Noted true)
-      ∷ entry 0 Unchoke Quiet
-      ∷ entry 2 Join Joined
-      ∷ entry 2 (Bits (false ∷ true ∷ [])) (Noted true)
-      ∷ entry 2 Unchoke Quiet
-      ∷ entry 1 Join Joined
-      ∷ entry 1 (Bits (true ∷ false ∷ [])) (Noted true)
-      ∷ entry 1 Unchoke Quiet
-      ∷ entry 0 (Next 0) (Request (block_of 0 0 3))
-      ∷ entry 2 (Next 0) (Request (block_of 1 0 3))
-      ∷ entry 1 (Next 0) (Request (block_of 0 0 3))
-      ∷ entry 2 Choke Quiet
-      ∷ entry 3 Join Joined
-      ∷ entry 3 (Bits (true ∷ false ∷ [])) (Noted true)
-      ∷ entry 3 Unchoke Quiet
-      ∷ entry 3 (Next 0) Idle
-      ∷ entry 0 (Arrived 0 0 (97 ∷ 98 ∷ 99 ∷ [])) Completed
-      ∷ entry 1 (Next 0) (Cancel (block_of 0 0 3))
-      ∷ [];
-  wrong = (16, entry 3 (Next 0) (Request (block_of 0 0 3)))
-      ∷ [];
-}
+double_outlasts_endgame = example (setting_of torrent_two_pieces 4 usual_rules)
+    (entry 0 Join Joined
+    ∷ entry 0 (Bits (true ∷ false ∷ [])) (Noted true)
+    ∷ entry 0 Unchoke Quiet
+    ∷ entry 2 Join Joined
+    ∷ entry 2 (Bits (false ∷ true ∷ [])) (Noted true)
+    ∷ entry 2 Unchoke Quiet
+    ∷ entry 1 Join Joined
+    ∷ entry 1 (Bits (true ∷ false ∷ [])) (Noted true)
+    ∷ entry 1 Unchoke Quiet
+    ∷ entry 0 (Next 0) (Request (block_of 0 0 3))
+    ∷ entry 2 (Next 0) (Request (block_of 1 0 3))
+    ∷ entry 1 (Next 0) (Request (block_of 0 0 3))
+    ∷ entry 2 Choke Quiet
+    ∷ entry 3 Join Joined
+    ∷ entry 3 (Bits (true ∷ false ∷ [])) (Noted true)
+    ∷ entry 3 Unchoke Quiet
+    ∷ entry 3 (Next 0) Idle
+    ∷ entry 0 (Arrived 0 0 (97 ∷ 98 ∷ 99 ∷ [])) Completed
+    ∷ entry 1 (Next 0) (Cancel (block_of 0 0 3)) ∷ [])
+    ((16, entry 3 (Next 0) (Request (block_of 0 0 3))) ∷ [])
 
 abbrev failed_check : Example
-failed_check = record {
-  setting = setting_of torrent_short_last 1 usual_rules;
-  entries =
-      entry 0 Join Joined
-      ∷ entry 0 (Bits (true ∷ true ∷ true ∷ [])) (Noted true)
-      ∷ entry 0 Unchoke Quiet
-      ∷ entry 0 (Next 0) (Request (block_of 0 0 3))
-      ∷ entry 0 (Arrived 0 0 (97 ∷ 98 ∷ 100 ∷ [])) Completed
-      ∷ entry 0 (Settle 0 (97 ∷ 98 ∷ 100 ∷ [])) Failed
-      ∷ entry 0 (Next 0) (Request (block_of 0 0 3))
-      ∷ entry 0 (Settle 0 (97 ∷ 98 ∷ 100 ∷ [])) (Refused NotWaiting)
-      ∷ [];
-  wrong = [];
-}
+failed_check = example (setting_of torrent_short_last 1 usual_rules)
+    (entry 0 Join Joined
+    ∷ entry 0 (Bits (true ∷ true ∷ true ∷ [])) (Noted true)
+    ∷ entry 0 Unchoke Quiet
+    ∷ entry 0 (Next 0) (Request (block_of 0 0 3))
+    ∷ entry 0 (Arrived 0 0 (97 ∷ 98 ∷ 100 ∷ [])) Completed
+    ∷ entry 0 (Settle 0 (97 ∷ 98 ∷ 100 ∷ [])) Failed
+    ∷ entry 0 (Next 0) (Request (block_of 0 0 3))
+    ∷ entry 0 (Settle 0 (97 ∷ 98 ∷ 100 ∷ [])) (Refused NotWaiting) ∷ [])
+    []
 
 -- 9: had with another hash
 -- 9: replaced bytes settled
 abbrev failed_check_in_endgame : Example
-failed_check_in_endgame = record {
-  setting = setting_of torrent_one_piece 2 usual_rules;
-  entries =
-      entry 0 Join Joined
-      ∷ entry 0 (Bits (true ∷ [])) (Noted true)
-      ∷ entry 0 Unchoke Quiet
-      ∷ entry 1 Join Joined
-      ∷ entry 1 (Bits (true ∷ [])) (Noted true)
-      ∷ entry 1 Unchoke Quiet
-      ∷ entry 0 (Next 0) (Request (block_of 0 0 3))
-      ∷ entry 1 (Next 0) (Request (block_of 0 0 3))
-      ∷ entry 0 (Arrived 0 0 (97 ∷ 98 ∷ 100 ∷ [])) Completed
-      ∷ entry 0 (Settle 0 (97 ∷ 98 ∷ 100 ∷ [])) Failed
-      ∷ entry 1 (Next 0) (Cancel (block_of 0 0 3))
-      ∷ entry 1 (Next 0) (Request (block_of 0 0 3))
-      ∷ [];
-  wrong = (9, entry 0 (Settle 0 (97 ∷ 98 ∷ 100 ∷ [])) Had)
-      ∷ (9, entry 0 (Settle 0 (97 ∷ 98 ∷ 99 ∷ [])) Had)
-      ∷ [];
-}
+failed_check_in_endgame = example (setting_of torrent_one_piece 2 usual_rules)
+    (entry 0 Join Joined
+    ∷ entry 0 (Bits (true ∷ [])) (Noted true)
+    ∷ entry 0 Unchoke Quiet
+    ∷ entry 1 Join Joined
+    ∷ entry 1 (Bits (true ∷ [])) (Noted true)
+    ∷ entry 1 Unchoke Quiet
+    ∷ entry 0 (Next 0) (Request (block_of 0 0 3))
+    ∷ entry 1 (Next 0) (Request (block_of 0 0 3))
+    ∷ entry 0 (Arrived 0 0 (97 ∷ 98 ∷ 100 ∷ [])) Completed
+    ∷ entry 0 (Settle 0 (97 ∷ 98 ∷ 100 ∷ [])) Failed
+    ∷ entry 1 (Next 0) (Cancel (block_of 0 0 3))
+    ∷ entry 1 (Next 0) (Request (block_of 0 0 3)) ∷ [])
+    ((9, entry 0 (Settle 0 (97 ∷ 98 ∷ 100 ∷ [])) Had)
+    ∷ (9, entry 0 (Settle 0 (97 ∷ 98 ∷ 99 ∷ [])) Had) ∷ [])
 
 -- 2: block stored twice
 -- 2: late bits noted
 abbrev held_block_dropped : Example
-held_block_dropped = record {
-  setting = setting_of torrent_short_last 1 usual_rules;
-  entries =
-      entry 0 Join Joined
-      ∷ entry 0 (Arrived 2 0 (97 ∷ [])) Completed
-      ∷ entry 0 (Arrived 2 0 (97 ∷ [])) Dropped
-      ∷ [];
-  wrong = (2, entry 0 (Arrived 2 0 (97 ∷ [])) Completed)
-      ∷ (2, entry 0 (Bits (true ∷ true ∷ true ∷ [])) (Noted true))
-      ∷ [];
-}
+held_block_dropped = example (setting_of torrent_short_last 1 usual_rules)
+    (entry 0 Join Joined
+    ∷ entry 0 (Arrived 2 0 (97 ∷ [])) Completed
+    ∷ entry 0 (Arrived 2 0 (97 ∷ [])) Dropped ∷ [])
+    ((2, entry 0 (Arrived 2 0 (97 ∷ [])) Completed)
+    ∷ (2, entry 0 (Bits (true ∷ true ∷ true ∷ [])) (Noted true)) ∷ [])
 
 abbrev block_by_block : Example
-block_by_block = record {
-  setting = setting_of torrent_two_blocks 1 usual_rules;
-  entries =
-      entry 0 Join Joined
-      ∷ entry 0 (Arrived 0 0 (replicate 16384 97)) Stored
-      ∷ entry 0 (Arrived 0 0 (replicate 16384 97)) Dropped
-      ∷ entry 0 (Arrived 0 16384 (replicate 16384 97)) Completed
-      ∷ [];
-  wrong = [];
-}
+block_by_block = example (setting_of torrent_two_blocks 1 usual_rules)
+    (entry 0 Join Joined
+    ∷ entry 0 (Arrived 0 0 (replicate 16384 97)) Stored
+    ∷ entry 0 (Arrived 0 0 (replicate 16384 97)) Dropped
+    ∷ entry 0 (Arrived 0 16384 (replicate 16384 97)) Completed ∷ [])
+    []
 
 abbrev refusals : Example
-refusals = record {
-  setting = setting_of torrent_short_last 2 usual_rules;
-  entries =
-      entry 0 Leave (Refused NotJoined)
-      ∷ entry 1 (Arrived 9 9 (97 ∷ [])) (Refused NotJoined)
-      ∷ entry 0 Join Joined
-      ∷ entry 0 Join (Refused AlreadyJoined)
-      ∷ entry 0 (Have 0) (Noted true)
-      ∷ entry 0 (Bits (true ∷ true ∷ true ∷ [])) (Refused LateBits)
-      ∷ entry 0 (Have 3) (Refused NoSuchPiece)
-      ∷ entry 0 (Arrived 3 1 (97 ∷ [])) (Refused NoSuchPiece)
-      ∷ entry 0 (Arrived 0 1 (98 ∷ 99 ∷ [])) (Refused NoSuchBlock)
-      ∷ entry 0 (Arrived 0 0 (97 ∷ 98 ∷ [])) (Refused WrongLength)
-      ∷ entry 0 (Settle 0 (97 ∷ [])) (Refused NotWaiting)
-      ∷ entry 0 (Settle 3 (97 ∷ [])) (Refused NoSuchPiece)
-      ∷ entry 0 Leave Quiet
-      ∷ entry 0 Join Joined
-      ∷ entry 0 (Bits (true ∷ true ∷ true ∷ [])) (Noted true)
-      ∷ entry 1 Join Joined
-      ∷ entry 1 (Bits (false ∷ false ∷ false ∷ [])) (Noted false)
-      ∷ entry 1 Unchoke Quiet
-      ∷ entry 1 (Next 0) NothingLeft
-      ∷ [];
-  wrong = [];
-}
+refusals = example (setting_of torrent_short_last 2 usual_rules)
+    (entry 0 Leave (Refused NotJoined)
+    ∷ entry 1 (Arrived 9 9 (97 ∷ [])) (Refused NotJoined)
+    ∷ entry 0 Join Joined
+    ∷ entry 0 Join (Refused AlreadyJoined)
+    ∷ entry 0 (Have 0) (Noted true)
+    ∷ entry 0 (Bits (true ∷ true ∷ true ∷ [])) (Refused LateBits)
+    ∷ entry 0 (Have 3) (Refused NoSuchPiece)
+    ∷ entry 0 (Arrived 3 1 (97 ∷ [])) (Refused NoSuchPiece)
+    ∷ entry 0 (Arrived 0 1 (98 ∷ 99 ∷ [])) (Refused NoSuchBlock)
+    ∷ entry 0 (Arrived 0 0 (97 ∷ 98 ∷ [])) (Refused WrongLength)
+    ∷ entry 0 (Settle 0 (97 ∷ [])) (Refused NotWaiting)
+    ∷ entry 0 (Settle 3 (97 ∷ [])) (Refused NoSuchPiece)
+    ∷ entry 0 Leave Quiet
+    ∷ entry 0 Join Joined
+    ∷ entry 0 (Bits (true ∷ true ∷ true ∷ [])) (Noted true)
+    ∷ entry 1 Join Joined
+    ∷ entry 1 (Bits (false ∷ false ∷ false ∷ [])) (Noted false)
+    ∷ entry 1 Unchoke Quiet
+    ∷ entry 1 (Next 0) NothingLeft ∷ [])
+    []
 
 abbrev wrong_count : Example
-wrong_count = record {
-  setting = setting_of torrent_short_last 1 usual_rules;
-  entries =
-      entry 0 Join Joined
-      ∷ entry 0 (Bits (false ∷ false ∷ false ∷ false ∷ [])) (Refused WrongCount)
-      ∷ entry 0 (Bits (true ∷ true ∷ true ∷ [])) (Noted true)
-      ∷ [];
-  wrong = [];
-}
+wrong_count = example (setting_of torrent_short_last 1 usual_rules)
+    (entry 0 Join Joined
+    ∷ entry 0 (Bits (false ∷ false ∷ false ∷ false ∷ [])) (Refused WrongCount)
+    ∷ entry 0 (Bits (true ∷ true ∷ true ∷ [])) (Noted true) ∷ [])
+    []
 
 -- 4: replaced bytes failed
 abbrev stale_verdict : Example
-stale_verdict = record {
-  setting = setting_of torrent_short_last 1 usual_rules;
-  entries =
-      entry 0 Join Joined
-      ∷ entry 0 (Arrived 0 0 (97 ∷ 98 ∷ 100 ∷ [])) Completed
-      ∷ entry 0 (Settle 0 (97 ∷ 98 ∷ 100 ∷ [])) Failed
-      ∷ entry 0 (Arrived 0 0 (97 ∷ 98 ∷ 99 ∷ [])) Completed
-      ∷ entry 0 (Settle 0 (97 ∷ 98 ∷ 100 ∷ [])) (Refused Stale)
-      ∷ entry 0 (Settle 0 (97 ∷ 98 ∷ 99 ∷ [])) Had
-      ∷ entry 0 (Settle 0 (97 ∷ 98 ∷ 99 ∷ [])) (Refused NotWaiting)
-      ∷ entry 0 (Settle 9 (97 ∷ [])) (Refused NoSuchPiece)
-      ∷ entry 0 Choke Quiet
-      ∷ entry 0 Leave Quiet
-      ∷ [];
-  wrong = (4, entry 0 (Settle 0 (97 ∷ 98 ∷ 100 ∷ [])) Failed)
-      ∷ [];
-}
+stale_verdict = example (setting_of torrent_short_last 1 usual_rules)
+    (entry 0 Join Joined
+    ∷ entry 0 (Arrived 0 0 (97 ∷ 98 ∷ 100 ∷ [])) Completed
+    ∷ entry 0 (Settle 0 (97 ∷ 98 ∷ 100 ∷ [])) Failed
+    ∷ entry 0 (Arrived 0 0 (97 ∷ 98 ∷ 99 ∷ [])) Completed
+    ∷ entry 0 (Settle 0 (97 ∷ 98 ∷ 100 ∷ [])) (Refused Stale)
+    ∷ entry 0 (Settle 0 (97 ∷ 98 ∷ 99 ∷ [])) Had
+    ∷ entry 0 (Settle 0 (97 ∷ 98 ∷ 99 ∷ [])) (Refused NotWaiting)
+    ∷ entry 0 (Settle 9 (97 ∷ [])) (Refused NoSuchPiece)
+    ∷ entry 0 Choke Quiet
+    ∷ entry 0 Leave Quiet ∷ [])
+    ((4, entry 0 (Settle 0 (97 ∷ 98 ∷ 100 ∷ [])) Failed) ∷ [])
 
 abbrev random_first_piece : Example
-random_first_piece = record {
-  setting = setting_of torrent_short_last 2 usual_rules;
-  entries =
-      entry 0 Join Joined
-      ∷ entry 0 (Bits (true ∷ true ∷ true ∷ [])) (Noted true)
-      ∷ entry 0 Unchoke Quiet
-      ∷ entry 1 Join Joined
-      ∷ entry 1 (Bits (true ∷ true ∷ false ∷ [])) (Noted true)
-      ∷ entry 0 (Next 1) (Request (block_of 1 0 3))
-      ∷ [];
-  wrong = [];
-}
+random_first_piece = example (setting_of torrent_short_last 2 usual_rules)
+    (entry 0 Join Joined
+    ∷ entry 0 (Bits (true ∷ true ∷ true ∷ [])) (Noted true)
+    ∷ entry 0 Unchoke Quiet
+    ∷ entry 1 Join Joined
+    ∷ entry 1 (Bits (true ∷ true ∷ false ∷ [])) (Noted true)
+    ∷ entry 0 (Next 1) (Request (block_of 1 0 3)) ∷ [])
+    []
 
 abbrev rare_first_piece_too : Example
-rare_first_piece_too = record {
-  setting = setting_of torrent_short_last 2 usual_rules;
-  entries =
-      entry 0 Join Joined
-      ∷ entry 0 (Bits (true ∷ true ∷ true ∷ [])) (Noted true)
-      ∷ entry 0 Unchoke Quiet
-      ∷ entry 1 Join Joined
-      ∷ entry 1 (Bits (true ∷ true ∷ false ∷ [])) (Noted true)
-      ∷ entry 0 (Next 1) (Request (block_of 2 0 1))
-      ∷ [];
-  wrong = [];
-}
+rare_first_piece_too = example (setting_of torrent_short_last 2 usual_rules)
+    (entry 0 Join Joined
+    ∷ entry 0 (Bits (true ∷ true ∷ true ∷ [])) (Noted true)
+    ∷ entry 0 Unchoke Quiet
+    ∷ entry 1 Join Joined
+    ∷ entry 1 (Bits (true ∷ true ∷ false ∷ [])) (Noted true)
+    ∷ entry 0 (Next 1) (Request (block_of 2 0 1)) ∷ [])
+    []
 
 -- 4: second piece started while a begun one has a usable block
 abbrev strict_priority : Example
-strict_priority = record {
-  setting = setting_of torrent_two_blocks 1 usual_rules;
-  entries =
-      entry 0 Join Joined
-      ∷ entry 0 (Bits (true ∷ true ∷ [])) (Noted true)
-      ∷ entry 0 Unchoke Quiet
-      ∷ entry 0 (Next 0) (Request (block_of 0 0 16384))
-      ∷ entry 0 (Next 1) (Request (block_of 0 16384 16384))
-      ∷ entry 0 (Next 1) (Request (block_of 1 0 16384))
-      ∷ [];
-  wrong = (4, entry 0 (Next 1) (Request (block_of 1 0 16384)))
-      ∷ [];
-}
+strict_priority = example (setting_of torrent_two_blocks 1 usual_rules)
+    (entry 0 Join Joined
+    ∷ entry 0 (Bits (true ∷ true ∷ [])) (Noted true)
+    ∷ entry 0 Unchoke Quiet
+    ∷ entry 0 (Next 0) (Request (block_of 0 0 16384))
+    ∷ entry 0 (Next 1) (Request (block_of 0 16384 16384))
+    ∷ entry 0 (Next 1) (Request (block_of 1 0 16384)) ∷ [])
+    ((4, entry 0 (Next 1) (Request (block_of 1 0 16384))) ∷ [])
 
 -- 11: availability counts a peer that left
 abbrev gone_peer_not_counted : Example
-gone_peer_not_counted = record {
-  setting = setting_of torrent_short_last 3 usual_rules;
-  entries =
-      entry 0 Join Joined
-      ∷ entry 0 (Bits (true ∷ true ∷ true ∷ [])) (Noted true)
-      ∷ entry 1 Join Joined
-      ∷ entry 1 (Bits (true ∷ false ∷ false ∷ [])) (Noted true)
-      ∷ entry 2 Join Joined
-      ∷ entry 2 (Bits (false ∷ true ∷ false ∷ [])) (Noted true)
-      ∷ entry 1 Leave Quiet
-      ∷ entry 0 Unchoke Quiet
-      ∷ entry 0 (Next 2) (Request (block_of 2 0 1))
-      ∷ entry 0 (Arrived 2 0 (97 ∷ [])) Completed
-      ∷ entry 0 (Settle 2 (97 ∷ [])) Had
-      ∷ entry 0 (Next 1) (Request (block_of 0 0 3))
-      ∷ [];
-  wrong = (11, entry 0 (Next 1) (Request (block_of 1 0 3)))
-      ∷ [];
-}
+gone_peer_not_counted = example (setting_of torrent_short_last 3 usual_rules)
+    (entry 0 Join Joined
+    ∷ entry 0 (Bits (true ∷ true ∷ true ∷ [])) (Noted true)
+    ∷ entry 1 Join Joined
+    ∷ entry 1 (Bits (true ∷ false ∷ false ∷ [])) (Noted true)
+    ∷ entry 2 Join Joined
+    ∷ entry 2 (Bits (false ∷ true ∷ false ∷ [])) (Noted true)
+    ∷ entry 1 Leave Quiet
+    ∷ entry 0 Unchoke Quiet
+    ∷ entry 0 (Next 2) (Request (block_of 2 0 1))
+    ∷ entry 0 (Arrived 2 0 (97 ∷ [])) Completed
+    ∷ entry 0 (Settle 2 (97 ∷ [])) Had
+    ∷ entry 0 (Next 1) (Request (block_of 0 0 3)) ∷ [])
+    ((11, entry 0 (Next 1) (Request (block_of 1 0 3))) ∷ [])
 
 abbrev rejoin_in_endgame : Example
-rejoin_in_endgame = record {
-  setting = setting_of torrent_one_piece 2 usual_rules;
-  entries =
-      entry 0 Join Joined
-      ∷ entry 0 (Bits (true ∷ [])) (Noted true)
-      ∷ entry 0 Unchoke Quiet
-      ∷ entry 1 Join Joined
-      ∷ entry 1 (Bits (true ∷ [])) (Noted true)
-      ∷ entry 1 Unchoke Quiet
-      ∷ entry 0 (Next 0) (Request (block_of 0 0 3))
-      ∷ entry 1 (Next 0) (Request (block_of 0 0 3))
-      ∷ entry 0 Leave Quiet
-      ∷ entry 0 Join Joined
-      ∷ entry 0 (Next 0) Choked
-      ∷ entry 1 (Arrived 0 0 (97 ∷ 98 ∷ 100 ∷ [])) Completed
-      ∷ entry 1 (Settle 0 (97 ∷ 98 ∷ 100 ∷ [])) Failed
-      ∷ entry 0 (Bits (true ∷ [])) (Noted true)
-      ∷ entry 0 Unchoke Quiet
-      ∷ entry 0 (Next 0) (Request (block_of 0 0 3))
-      ∷ [];
-  wrong = [];
-}
+rejoin_in_endgame = example (setting_of torrent_one_piece 2 usual_rules)
+    (entry 0 Join Joined
+    ∷ entry 0 (Bits (true ∷ [])) (Noted true)
+    ∷ entry 0 Unchoke Quiet
+    ∷ entry 1 Join Joined
+    ∷ entry 1 (Bits (true ∷ [])) (Noted true)
+    ∷ entry 1 Unchoke Quiet
+    ∷ entry 0 (Next 0) (Request (block_of 0 0 3))
+    ∷ entry 1 (Next 0) (Request (block_of 0 0 3))
+    ∷ entry 0 Leave Quiet
+    ∷ entry 0 Join Joined
+    ∷ entry 0 (Next 0) Choked
+    ∷ entry 1 (Arrived 0 0 (97 ∷ 98 ∷ 100 ∷ [])) Completed
+    ∷ entry 1 (Settle 0 (97 ∷ 98 ∷ 100 ∷ [])) Failed
+    ∷ entry 0 (Bits (true ∷ [])) (Noted true)
+    ∷ entry 0 Unchoke Quiet
+    ∷ entry 0 (Next 0) (Request (block_of 0 0 3)) ∷ [])
+    []
 
 -- 5: third request at depth two
 -- 4: pipe full at depth two after one
 abbrev depth_two : Example
-depth_two = record {
-  setting = setting_of torrent_many_blocks 1 (rules 2 1);
-  entries =
-      entry 0 Join Joined
-      ∷ entry 0 (Bits (true ∷ [])) (Noted true)
-      ∷ entry 0 Unchoke Quiet
-      ∷ entry 0 (Next 0) (Request (block_of 0 0 16384))
-      ∷ entry 0 (Next 0) (Request (block_of 0 16384 16384))
-      ∷ entry 0 (Next 0) PipeFull
-      ∷ [];
-  wrong = (5, entry 0 (Next 0) (Request (block_of 0 32768 16384)))
-      ∷ (4, entry 0 (Next 0) PipeFull)
-      ∷ [];
-}
+depth_two = example (setting_of torrent_many_blocks 1 (rules 2 1))
+    (entry 0 Join Joined
+    ∷ entry 0 (Bits (true ∷ [])) (Noted true)
+    ∷ entry 0 Unchoke Quiet
+    ∷ entry 0 (Next 0) (Request (block_of 0 0 16384))
+    ∷ entry 0 (Next 0) (Request (block_of 0 16384 16384))
+    ∷ entry 0 (Next 0) PipeFull ∷ [])
+    ((5, entry 0 (Next 0) (Request (block_of 0 32768 16384)))
+    ∷ (4, entry 0 (Next 0) PipeFull) ∷ [])
 
 -- 8: pipe full at five though deep
 abbrev deep_pipe : Example
-deep_pipe = record {
-  setting = setting_of torrent_many_blocks 1 (rules 64 1);
-  entries =
-      entry 0 Join Joined
-      ∷ entry 0 (Bits (true ∷ [])) (Noted true)
-      ∷ entry 0 Unchoke Quiet
-      ∷ entry 0 (Next 0) (Request (block_of 0 0 16384))
-      ∷ entry 0 (Next 0) (Request (block_of 0 16384 16384))
-      ∷ entry 0 (Next 0) (Request (block_of 0 32768 16384))
-      ∷ entry 0 (Next 0) (Request (block_of 0 49152 16384))
-      ∷ entry 0 (Next 0) (Request (block_of 0 65536 16384))
-      ∷ entry 0 (Next 0) (Request (block_of 0 81920 16384))
-      ∷ entry 0 (Next 0) (Request (block_of 0 98304 16384))
-      ∷ entry 0 (Next 0) (Request (block_of 0 114688 16384))
-      ∷ [];
-  wrong = (8, entry 0 (Next 0) PipeFull)
-      ∷ [];
-}
+deep_pipe = example (setting_of torrent_many_blocks 1 (rules 64 1))
+    (entry 0 Join Joined
+    ∷ entry 0 (Bits (true ∷ [])) (Noted true)
+    ∷ entry 0 Unchoke Quiet
+    ∷ entry 0 (Next 0) (Request (block_of 0 0 16384))
+    ∷ entry 0 (Next 0) (Request (block_of 0 16384 16384))
+    ∷ entry 0 (Next 0) (Request (block_of 0 32768 16384))
+    ∷ entry 0 (Next 0) (Request (block_of 0 49152 16384))
+    ∷ entry 0 (Next 0) (Request (block_of 0 65536 16384))
+    ∷ entry 0 (Next 0) (Request (block_of 0 81920 16384))
+    ∷ entry 0 (Next 0) (Request (block_of 0 98304 16384))
+    ∷ entry 0 (Next 0) (Request (block_of 0 114688 16384)) ∷ [])
+    ((8, entry 0 (Next 0) PipeFull) ∷ [])
 
 -- 5: first piece at random though none is
 abbrev rarest_from_the_start : Example
-rarest_from_the_start = record {
-  setting = setting_of torrent_short_last 2 (rules 5 0);
-  entries =
-      entry 0 Join Joined
-      ∷ entry 0 (Bits (true ∷ true ∷ true ∷ [])) (Noted true)
-      ∷ entry 0 Unchoke Quiet
-      ∷ entry 1 Join Joined
-      ∷ entry 1 (Bits (true ∷ true ∷ false ∷ [])) (Noted true)
-      ∷ entry 0 (Next 1) (Request (block_of 2 0 1))
-      ∷ [];
-  wrong = (5, entry 0 (Next 1) (Request (block_of 1 0 3)))
-      ∷ [];
-}
+rarest_from_the_start = example (setting_of torrent_short_last 2 (rules 5 0))
+    (entry 0 Join Joined
+    ∷ entry 0 (Bits (true ∷ true ∷ true ∷ [])) (Noted true)
+    ∷ entry 0 Unchoke Quiet
+    ∷ entry 1 Join Joined
+    ∷ entry 1 (Bits (true ∷ true ∷ false ∷ [])) (Noted true)
+    ∷ entry 0 (Next 1) (Request (block_of 2 0 1)) ∷ [])
+    ((5, entry 0 (Next 1) (Request (block_of 1 0 3))) ∷ [])
 
 abbrev second_piece_at_random : Example
-second_piece_at_random = record {
-  setting = setting_of torrent_short_last 2 (rules 5 2);
-  entries =
-      entry 0 Join Joined
-      ∷ entry 0 (Bits (true ∷ true ∷ true ∷ [])) (Noted true)
-      ∷ entry 1 Join Joined
-      ∷ entry 1 (Bits (false ∷ true ∷ false ∷ [])) (Noted true)
-      ∷ entry 0 Unchoke Quiet
-      ∷ entry 0 (Next 2) (Request (block_of 2 0 1))
-      ∷ entry 0 (Arrived 2 0 (97 ∷ [])) Completed
-      ∷ entry 0 (Settle 2 (97 ∷ [])) Had
-      ∷ entry 0 (Next 1) (Request (block_of 1 0 3))
-      ∷ [];
-  wrong = [];
-}
+second_piece_at_random = example (setting_of torrent_short_last 2 (rules 5 2))
+    (entry 0 Join Joined
+    ∷ entry 0 (Bits (true ∷ true ∷ true ∷ [])) (Noted true)
+    ∷ entry 1 Join Joined
+    ∷ entry 1 (Bits (false ∷ true ∷ false ∷ [])) (Noted true)
+    ∷ entry 0 Unchoke Quiet
+    ∷ entry 0 (Next 2) (Request (block_of 2 0 1))
+    ∷ entry 0 (Arrived 2 0 (97 ∷ [])) Completed
+    ∷ entry 0 (Settle 2 (97 ∷ [])) Had
+    ∷ entry 0 (Next 1) (Request (block_of 1 0 3)) ∷ [])
+    []
 
 -- 11: third piece at random
 abbrev rarest_after_two_pieces : Example
-rarest_after_two_pieces = record {
-  setting = setting_of torrent_four_pieces 2 (rules 5 2);
-  entries =
-      entry 0 Join Joined
-      ∷ entry 0 (Bits (true ∷ true ∷ true ∷ true ∷ [])) (Noted true)
-      ∷ entry 0 Unchoke Quiet
-      ∷ entry 1 Join Joined
-      ∷ entry 1 (Bits (false ∷ false ∷ true ∷ true ∷ [])) (Noted true)
-      ∷ entry 0 (Next 0) (Request (block_of 0 0 3))
-      ∷ entry 0 (Arrived 0 0 (97 ∷ 98 ∷ 99 ∷ [])) Completed
-      ∷ entry 0 (Settle 0 (97 ∷ 98 ∷ 99 ∷ [])) Had
-      ∷ entry 0 (Next 2) (Request (block_of 2 0 3))
-      ∷ entry 0 (Arrived 2 0 (97 ∷ 98 ∷ 99 ∷ [])) Completed
-      ∷ entry 0 (Settle 2 (97 ∷ 98 ∷ 99 ∷ [])) Had
-      ∷ entry 0 (Next 3) (Request (block_of 1 0 3))
-      ∷ [];
-  wrong = (11, entry 0 (Next 3) (Request (block_of 3 0 3)))
-      ∷ [];
-}
+rarest_after_two_pieces = example (setting_of torrent_four_pieces 2 (rules 5 2))
+    (entry 0 Join Joined
+    ∷ entry 0 (Bits (true ∷ true ∷ true ∷ true ∷ [])) (Noted true)
+    ∷ entry 0 Unchoke Quiet
+    ∷ entry 1 Join Joined
+    ∷ entry 1 (Bits (false ∷ false ∷ true ∷ true ∷ [])) (Noted true)
+    ∷ entry 0 (Next 0) (Request (block_of 0 0 3))
+    ∷ entry 0 (Arrived 0 0 (97 ∷ 98 ∷ 99 ∷ [])) Completed
+    ∷ entry 0 (Settle 0 (97 ∷ 98 ∷ 99 ∷ [])) Had
+    ∷ entry 0 (Next 2) (Request (block_of 2 0 3))
+    ∷ entry 0 (Arrived 2 0 (97 ∷ 98 ∷ 99 ∷ [])) Completed
+    ∷ entry 0 (Settle 2 (97 ∷ 98 ∷ 99 ∷ [])) Had
+    ∷ entry 0 (Next 3) (Request (block_of 1 0 3)) ∷ [])
+    ((11, entry 0 (Next 3) (Request (block_of 3 0 3))) ∷ [])
 
 -- 5: unwanted block asked
 -- 9: older want still counts
@@ -622,369 +463,279 @@ rarest_after_two_pieces = record {
 -- 0: want of a stranger refused
 -- 14: want of a wrong count taken
 abbrev wants : Example
-wants = record {
-  setting = setting_of torrent_short_last 2 usual_rules;
-  entries =
-      entry 1 (Want (false ∷ true ∷ false ∷ [])) Quiet
-      ∷ entry 0 Join Joined
-      ∷ entry 0 (Bits (true ∷ true ∷ true ∷ [])) (Noted true)
-      ∷ entry 0 Unchoke Quiet
-      ∷ entry 0 (Next 0) (Request (block_of 1 0 3))
-      ∷ entry 0 (Next 0) Idle
-      ∷ entry 0 (Want (true ∷ false ∷ true ∷ [])) Quiet
-      ∷ entry 0 (Next 0) (Request (block_of 0 0 3))
-      ∷ entry 0 (Want (false ∷ false ∷ false ∷ [])) Quiet
-      ∷ entry 0 (Next 0) NothingLeft
-      ∷ entry 0 (Arrived 1 0 (97 ∷ 98 ∷ 99 ∷ [])) Completed
-      ∷ entry 0 (Settle 1 (97 ∷ 98 ∷ 99 ∷ [])) Had
-      ∷ entry 0 (Want (false ∷ true ∷ false ∷ [])) Quiet
-      ∷ entry 0 (Have 2) (Noted false)
-      ∷ entry 1 (Want (false ∷ false ∷ false ∷ false ∷ [])) (Refused WrongCount)
-      ∷ [];
-  wrong = (5, entry 0 (Next 0) (Request (block_of 0 0 3)))
-      ∷ (9, entry 0 (Next 0) (Request (block_of 2 0 1)))
-      ∷ (9, entry 0 (Next 0) Idle)
-      ∷ (13, entry 0 (Have 2) (Noted true))
-      ∷ (0, entry 1 (Want (false ∷ true ∷ false ∷ [])) (Refused NotJoined))
-      ∷ (14, entry 1 (Want (false ∷ false ∷ false ∷ false ∷ [])) Quiet)
-      ∷ [];
-}
+wants = example (setting_of torrent_short_last 2 usual_rules)
+    (entry 1 (Want (false ∷ true ∷ false ∷ [])) Quiet
+    ∷ entry 0 Join Joined
+    ∷ entry 0 (Bits (true ∷ true ∷ true ∷ [])) (Noted true)
+    ∷ entry 0 Unchoke Quiet
+    ∷ entry 0 (Next 0) (Request (block_of 1 0 3))
+    ∷ entry 0 (Next 0) Idle
+    ∷ entry 0 (Want (true ∷ false ∷ true ∷ [])) Quiet
+    ∷ entry 0 (Next 0) (Request (block_of 0 0 3))
+    ∷ entry 0 (Want (false ∷ false ∷ false ∷ [])) Quiet
+    ∷ entry 0 (Next 0) NothingLeft
+    ∷ entry 0 (Arrived 1 0 (97 ∷ 98 ∷ 99 ∷ [])) Completed
+    ∷ entry 0 (Settle 1 (97 ∷ 98 ∷ 99 ∷ [])) Had
+    ∷ entry 0 (Want (false ∷ true ∷ false ∷ [])) Quiet
+    ∷ entry 0 (Have 2) (Noted false)
+    ∷ entry 1 (Want (false ∷ false ∷ false ∷ false ∷ [])) (Refused WrongCount) ∷ [])
+    ((5, entry 0 (Next 0) (Request (block_of 0 0 3)))
+    ∷ (9, entry 0 (Next 0) (Request (block_of 2 0 1)))
+    ∷ (9, entry 0 (Next 0) Idle)
+    ∷ (13, entry 0 (Have 2) (Noted true))
+    ∷ (0, entry 1 (Want (false ∷ true ∷ false ∷ [])) (Refused NotJoined))
+    ∷ (14, entry 1 (Want (false ∷ false ∷ false ∷ false ∷ [])) Quiet) ∷ [])
 
 -- 8: unwanted block keeps endgame off
 abbrev endgame_of_the_wanted : Example
-endgame_of_the_wanted = record {
-  setting = setting_of torrent_two_pieces 2 usual_rules;
-  entries =
-      entry 0 Join Joined
-      ∷ entry 0 (Bits (true ∷ true ∷ [])) (Noted true)
-      ∷ entry 0 Unchoke Quiet
-      ∷ entry 1 Join Joined
-      ∷ entry 1 (Bits (true ∷ true ∷ [])) (Noted true)
-      ∷ entry 1 Unchoke Quiet
-      ∷ entry 0 (Next 0) (Request (block_of 0 0 3))
-      ∷ entry 1 (Want (true ∷ false ∷ [])) Quiet
-      ∷ entry 1 (Next 0) (Request (block_of 0 0 3))
-      ∷ entry 1 (Want (true ∷ true ∷ [])) Quiet
-      ∷ entry 0 (Next 0) (Request (block_of 1 0 3))
-      ∷ [];
-  wrong = (8, entry 1 (Next 0) Idle)
-      ∷ [];
-}
+endgame_of_the_wanted = example (setting_of torrent_two_pieces 2 usual_rules)
+    (entry 0 Join Joined
+    ∷ entry 0 (Bits (true ∷ true ∷ [])) (Noted true)
+    ∷ entry 0 Unchoke Quiet
+    ∷ entry 1 Join Joined
+    ∷ entry 1 (Bits (true ∷ true ∷ [])) (Noted true)
+    ∷ entry 1 Unchoke Quiet
+    ∷ entry 0 (Next 0) (Request (block_of 0 0 3))
+    ∷ entry 1 (Want (true ∷ false ∷ [])) Quiet
+    ∷ entry 1 (Next 0) (Request (block_of 0 0 3))
+    ∷ entry 1 (Want (true ∷ true ∷ [])) Quiet
+    ∷ entry 0 (Next 0) (Request (block_of 1 0 3)) ∷ [])
+    ((8, entry 1 (Next 0) Idle) ∷ [])
 
 -- 2: bits late by a want
 abbrev want_before_the_bits : Example
-want_before_the_bits = record {
-  setting = setting_of torrent_short_last 1 usual_rules;
-  entries =
-      entry 0 Join Joined
-      ∷ entry 0 (Want (false ∷ true ∷ false ∷ [])) Quiet
-      ∷ entry 0 (Bits (true ∷ true ∷ true ∷ [])) (Noted true)
-      ∷ [];
-  wrong = (2, entry 0 (Bits (true ∷ true ∷ true ∷ [])) (Refused LateBits))
-      ∷ [];
-}
+want_before_the_bits = example (setting_of torrent_short_last 1 usual_rules)
+    (entry 0 Join Joined
+    ∷ entry 0 (Want (false ∷ true ∷ false ∷ [])) Quiet
+    ∷ entry 0 (Bits (true ∷ true ∷ true ∷ [])) (Noted true) ∷ [])
+    ((2, entry 0 (Bits (true ∷ true ∷ true ∷ [])) (Refused LateBits)) ∷ [])
 
 -- 10: unwanted block freed
 abbrev asked_stays_asked : Example
-asked_stays_asked = record {
-  setting = setting_of torrent_two_pieces 2 usual_rules;
-  entries =
-      entry 0 Join Joined
-      ∷ entry 0 (Bits (true ∷ true ∷ [])) (Noted true)
-      ∷ entry 0 Unchoke Quiet
-      ∷ entry 1 Join Joined
-      ∷ entry 1 (Bits (true ∷ true ∷ [])) (Noted true)
-      ∷ entry 1 Unchoke Quiet
-      ∷ entry 0 (Next 0) (Request (block_of 0 0 3))
-      ∷ entry 0 (Want (false ∷ true ∷ [])) Quiet
-      ∷ entry 0 (Next 0) (Request (block_of 1 0 3))
-      ∷ entry 0 (Want (true ∷ true ∷ [])) Quiet
-      ∷ entry 1 (Next 0) (Request (block_of 0 0 3))
-      ∷ entry 0 (Arrived 0 0 (97 ∷ 98 ∷ 99 ∷ [])) Completed
-      ∷ entry 1 (Next 0) (Cancel (block_of 0 0 3))
-      ∷ [];
-  wrong = (10, entry 0 (Next 0) (Request (block_of 0 0 3)))
-      ∷ [];
-}
+asked_stays_asked = example (setting_of torrent_two_pieces 2 usual_rules)
+    (entry 0 Join Joined
+    ∷ entry 0 (Bits (true ∷ true ∷ [])) (Noted true)
+    ∷ entry 0 Unchoke Quiet
+    ∷ entry 1 Join Joined
+    ∷ entry 1 (Bits (true ∷ true ∷ [])) (Noted true)
+    ∷ entry 1 Unchoke Quiet
+    ∷ entry 0 (Next 0) (Request (block_of 0 0 3))
+    ∷ entry 0 (Want (false ∷ true ∷ [])) Quiet
+    ∷ entry 0 (Next 0) (Request (block_of 1 0 3))
+    ∷ entry 0 (Want (true ∷ true ∷ [])) Quiet
+    ∷ entry 1 (Next 0) (Request (block_of 0 0 3))
+    ∷ entry 0 (Arrived 0 0 (97 ∷ 98 ∷ 99 ∷ [])) Completed
+    ∷ entry 1 (Next 0) (Cancel (block_of 0 0 3)) ∷ [])
+    ((10, entry 0 (Next 0) (Request (block_of 0 0 3))) ∷ [])
 
 -- 9: idle though another peer released
 abbrev released_is_asked_elsewhere : Example
-released_is_asked_elsewhere = record {
-  setting = setting_of torrent_two_pieces 2 usual_rules;
-  entries =
-      entry 0 Join Joined
-      ∷ entry 0 (Bits (true ∷ true ∷ [])) (Noted true)
-      ∷ entry 0 Unchoke Quiet
-      ∷ entry 1 Join Joined
-      ∷ entry 1 (Bits (true ∷ false ∷ [])) (Noted true)
-      ∷ entry 1 Unchoke Quiet
-      ∷ entry 0 (Next 0) (Request (block_of 0 0 3))
-      ∷ entry 1 (Next 0) Idle
-      ∷ entry 0 (Release 0 0) Quiet
-      ∷ entry 1 (Next 0) (Request (block_of 0 0 3))
-      ∷ entry 0 (Next 0) (Request (block_of 1 0 3))
-      ∷ [];
-  wrong = (9, entry 1 (Next 0) Idle)
-      ∷ [];
-}
+released_is_asked_elsewhere = example (setting_of torrent_two_pieces 2 usual_rules)
+    (entry 0 Join Joined
+    ∷ entry 0 (Bits (true ∷ true ∷ [])) (Noted true)
+    ∷ entry 0 Unchoke Quiet
+    ∷ entry 1 Join Joined
+    ∷ entry 1 (Bits (true ∷ false ∷ [])) (Noted true)
+    ∷ entry 1 Unchoke Quiet
+    ∷ entry 0 (Next 0) (Request (block_of 0 0 3))
+    ∷ entry 1 (Next 0) Idle
+    ∷ entry 0 (Release 0 0) Quiet
+    ∷ entry 1 (Next 0) (Request (block_of 0 0 3))
+    ∷ entry 0 (Next 0) (Request (block_of 1 0 3)) ∷ [])
+    ((9, entry 1 (Next 0) Idle) ∷ [])
 
 -- 9: cancel of what another peer released
 -- 11: cancel of a released block
 abbrev released_in_endgame : Example
-released_in_endgame = record {
-  setting = setting_of torrent_one_piece 2 usual_rules;
-  entries =
-      entry 0 Join Joined
-      ∷ entry 0 (Bits (true ∷ [])) (Noted true)
-      ∷ entry 0 Unchoke Quiet
-      ∷ entry 1 Join Joined
-      ∷ entry 1 (Bits (true ∷ [])) (Noted true)
-      ∷ entry 1 Unchoke Quiet
-      ∷ entry 0 (Next 0) (Request (block_of 0 0 3))
-      ∷ entry 1 (Next 0) (Request (block_of 0 0 3))
-      ∷ entry 0 (Release 0 0) Quiet
-      ∷ entry 1 (Next 0) Idle
-      ∷ entry 1 (Arrived 0 0 (97 ∷ 98 ∷ 99 ∷ [])) Completed
-      ∷ entry 0 (Next 0) Idle
-      ∷ entry 1 (Settle 0 (97 ∷ 98 ∷ 99 ∷ [])) Had
-      ∷ entry 0 (Next 0) NothingLeft
-      ∷ [];
-  wrong = (9, entry 1 (Next 0) (Cancel (block_of 0 0 3)))
-      ∷ (11, entry 0 (Next 0) (Cancel (block_of 0 0 3)))
-      ∷ [];
-}
+released_in_endgame = example (setting_of torrent_one_piece 2 usual_rules)
+    (entry 0 Join Joined
+    ∷ entry 0 (Bits (true ∷ [])) (Noted true)
+    ∷ entry 0 Unchoke Quiet
+    ∷ entry 1 Join Joined
+    ∷ entry 1 (Bits (true ∷ [])) (Noted true)
+    ∷ entry 1 Unchoke Quiet
+    ∷ entry 0 (Next 0) (Request (block_of 0 0 3))
+    ∷ entry 1 (Next 0) (Request (block_of 0 0 3))
+    ∷ entry 0 (Release 0 0) Quiet
+    ∷ entry 1 (Next 0) Idle
+    ∷ entry 1 (Arrived 0 0 (97 ∷ 98 ∷ 99 ∷ [])) Completed
+    ∷ entry 0 (Next 0) Idle
+    ∷ entry 1 (Settle 0 (97 ∷ 98 ∷ 99 ∷ [])) Had
+    ∷ entry 0 (Next 0) NothingLeft ∷ [])
+    ((9, entry 1 (Next 0) (Cancel (block_of 0 0 3)))
+    ∷ (11, entry 0 (Next 0) (Cancel (block_of 0 0 3))) ∷ [])
 
 -- 6: released piece continued
 abbrev released_piece_is_unbegun : Example
-released_piece_is_unbegun = record {
-  setting = setting_of torrent_two_blocks 1 usual_rules;
-  entries =
-      entry 0 Join Joined
-      ∷ entry 0 (Bits (true ∷ true ∷ [])) (Noted true)
-      ∷ entry 0 Unchoke Quiet
-      ∷ entry 0 (Next 0) (Request (block_of 0 0 16384))
-      ∷ entry 0 (Release 0 0) Quiet
-      ∷ entry 0 (Next 1) (Request (block_of 1 0 16384))
-      ∷ entry 0 (Next 0) (Request (block_of 1 16384 16384))
-      ∷ entry 0 (Next 0) (Request (block_of 0 0 16384))
-      ∷ [];
-  wrong = (6, entry 0 (Next 0) (Request (block_of 0 16384 16384)))
-      ∷ [];
-}
+released_piece_is_unbegun = example (setting_of torrent_two_blocks 1 usual_rules)
+    (entry 0 Join Joined
+    ∷ entry 0 (Bits (true ∷ true ∷ [])) (Noted true)
+    ∷ entry 0 Unchoke Quiet
+    ∷ entry 0 (Next 0) (Request (block_of 0 0 16384))
+    ∷ entry 0 (Release 0 0) Quiet
+    ∷ entry 0 (Next 1) (Request (block_of 1 0 16384))
+    ∷ entry 0 (Next 0) (Request (block_of 1 16384 16384))
+    ∷ entry 0 (Next 0) (Request (block_of 0 0 16384)) ∷ [])
+    ((6, entry 0 (Next 0) (Request (block_of 0 16384 16384))) ∷ [])
 
 -- 6: idle though released
 abbrev released_is_asked_again : Example
-released_is_asked_again = record {
-  setting = setting_of torrent_one_piece 1 usual_rules;
-  entries =
-      entry 0 Join Joined
-      ∷ entry 0 (Bits (true ∷ [])) (Noted true)
-      ∷ entry 0 Unchoke Quiet
-      ∷ entry 0 (Next 0) (Request (block_of 0 0 3))
-      ∷ entry 0 (Next 0) Idle
-      ∷ entry 0 (Release 0 0) Quiet
-      ∷ entry 0 (Next 0) (Request (block_of 0 0 3))
-      ∷ [];
-  wrong = (6, entry 0 (Next 0) Idle)
-      ∷ [];
-}
+released_is_asked_again = example (setting_of torrent_one_piece 1 usual_rules)
+    (entry 0 Join Joined
+    ∷ entry 0 (Bits (true ∷ [])) (Noted true)
+    ∷ entry 0 Unchoke Quiet
+    ∷ entry 0 (Next 0) (Request (block_of 0 0 3))
+    ∷ entry 0 (Next 0) Idle
+    ∷ entry 0 (Release 0 0) Quiet
+    ∷ entry 0 (Next 0) (Request (block_of 0 0 3)) ∷ [])
+    ((6, entry 0 (Next 0) Idle) ∷ [])
 
 -- 5: released block dropped
 abbrev released_arrives_after_all : Example
-released_arrives_after_all = record {
-  setting = setting_of torrent_two_blocks 1 usual_rules;
-  entries =
-      entry 0 Join Joined
-      ∷ entry 0 (Bits (true ∷ true ∷ [])) (Noted true)
-      ∷ entry 0 Unchoke Quiet
-      ∷ entry 0 (Next 0) (Request (block_of 0 0 16384))
-      ∷ entry 0 (Release 0 0) Quiet
-      ∷ entry 0 (Arrived 0 0 (replicate 16384 97)) Stored
-      ∷ entry 0 (Next 0) (Request (block_of 0 16384 16384))
-      ∷ [];
-  wrong = (5, entry 0 (Arrived 0 0 (replicate 16384 97)) Dropped)
-      ∷ [];
-}
+released_arrives_after_all = example (setting_of torrent_two_blocks 1 usual_rules)
+    (entry 0 Join Joined
+    ∷ entry 0 (Bits (true ∷ true ∷ [])) (Noted true)
+    ∷ entry 0 Unchoke Quiet
+    ∷ entry 0 (Next 0) (Request (block_of 0 0 16384))
+    ∷ entry 0 (Release 0 0) Quiet
+    ∷ entry 0 (Arrived 0 0 (replicate 16384 97)) Stored
+    ∷ entry 0 (Next 0) (Request (block_of 0 16384 16384)) ∷ [])
+    ((5, entry 0 (Arrived 0 0 (replicate 16384 97)) Dropped) ∷ [])
 
 -- 5: second request at a depth of one
 abbrev depth_of_one : Example
-depth_of_one = record {
-  setting = setting_of torrent_many_blocks 1 usual_rules;
-  entries =
-      entry 0 Join Joined
-      ∷ entry 0 (Bits (true ∷ [])) (Noted true)
-      ∷ entry 0 Unchoke Quiet
-      ∷ entry 0 (Depth 1) Quiet
-      ∷ entry 0 (Next 0) (Request (block_of 0 0 16384))
-      ∷ entry 0 (Next 0) PipeFull
-      ∷ [];
-  wrong = (5, entry 0 (Next 0) (Request (block_of 0 16384 16384)))
-      ∷ [];
-}
+depth_of_one = example (setting_of torrent_many_blocks 1 usual_rules)
+    (entry 0 Join Joined
+    ∷ entry 0 (Bits (true ∷ [])) (Noted true)
+    ∷ entry 0 Unchoke Quiet
+    ∷ entry 0 (Depth 1) Quiet
+    ∷ entry 0 (Next 0) (Request (block_of 0 0 16384))
+    ∷ entry 0 (Next 0) PipeFull ∷ [])
+    ((5, entry 0 (Next 0) (Request (block_of 0 16384 16384))) ∷ [])
 
 -- 10: pipe full though deepened
 abbrev deepened : Example
-deepened = record {
-  setting = setting_of torrent_many_blocks 1 usual_rules;
-  entries =
-      entry 0 Join Joined
-      ∷ entry 0 (Bits (true ∷ [])) (Noted true)
-      ∷ entry 0 Unchoke Quiet
-      ∷ entry 0 (Next 0) (Request (block_of 0 0 16384))
-      ∷ entry 0 (Next 0) (Request (block_of 0 16384 16384))
-      ∷ entry 0 (Next 0) (Request (block_of 0 32768 16384))
-      ∷ entry 0 (Next 0) (Request (block_of 0 49152 16384))
-      ∷ entry 0 (Next 0) (Request (block_of 0 65536 16384))
-      ∷ entry 0 (Next 0) PipeFull
-      ∷ entry 0 (Depth 7) Quiet
-      ∷ entry 0 (Next 0) (Request (block_of 0 81920 16384))
-      ∷ entry 0 (Next 0) (Request (block_of 0 98304 16384))
-      ∷ entry 0 (Next 0) PipeFull
-      ∷ [];
-  wrong = (10, entry 0 (Next 0) PipeFull)
-      ∷ [];
-}
+deepened = example (setting_of torrent_many_blocks 1 usual_rules)
+    (entry 0 Join Joined
+    ∷ entry 0 (Bits (true ∷ [])) (Noted true)
+    ∷ entry 0 Unchoke Quiet
+    ∷ entry 0 (Next 0) (Request (block_of 0 0 16384))
+    ∷ entry 0 (Next 0) (Request (block_of 0 16384 16384))
+    ∷ entry 0 (Next 0) (Request (block_of 0 32768 16384))
+    ∷ entry 0 (Next 0) (Request (block_of 0 49152 16384))
+    ∷ entry 0 (Next 0) (Request (block_of 0 65536 16384))
+    ∷ entry 0 (Next 0) PipeFull
+    ∷ entry 0 (Depth 7) Quiet
+    ∷ entry 0 (Next 0) (Request (block_of 0 81920 16384))
+    ∷ entry 0 (Next 0) (Request (block_of 0 98304 16384))
+    ∷ entry 0 (Next 0) PipeFull ∷ [])
+    ((10, entry 0 (Next 0) PipeFull) ∷ [])
 
 -- 11: depth forgotten at a choke
 abbrev depth_outlasts_a_choke : Example
-depth_outlasts_a_choke = record {
-  setting = setting_of torrent_many_blocks 1 usual_rules;
-  entries =
-      entry 0 Join Joined
-      ∷ entry 0 (Bits (true ∷ [])) (Noted true)
-      ∷ entry 0 Unchoke Quiet
-      ∷ entry 0 (Depth 2) Quiet
-      ∷ entry 0 (Next 0) (Request (block_of 0 0 16384))
-      ∷ entry 0 (Next 0) (Request (block_of 0 16384 16384))
-      ∷ entry 0 (Next 0) PipeFull
-      ∷ entry 0 Choke Quiet
-      ∷ entry 0 Unchoke Quiet
-      ∷ entry 0 (Next 0) (Request (block_of 0 0 16384))
-      ∷ entry 0 (Next 0) (Request (block_of 0 16384 16384))
-      ∷ entry 0 (Next 0) PipeFull
-      ∷ [];
-  wrong = (11, entry 0 (Next 0) (Request (block_of 0 32768 16384)))
-      ∷ [];
-}
+depth_outlasts_a_choke = example (setting_of torrent_many_blocks 1 usual_rules)
+    (entry 0 Join Joined
+    ∷ entry 0 (Bits (true ∷ [])) (Noted true)
+    ∷ entry 0 Unchoke Quiet
+    ∷ entry 0 (Depth 2) Quiet
+    ∷ entry 0 (Next 0) (Request (block_of 0 0 16384))
+    ∷ entry 0 (Next 0) (Request (block_of 0 16384 16384))
+    ∷ entry 0 (Next 0) PipeFull
+    ∷ entry 0 Choke Quiet
+    ∷ entry 0 Unchoke Quiet
+    ∷ entry 0 (Next 0) (Request (block_of 0 0 16384))
+    ∷ entry 0 (Next 0) (Request (block_of 0 16384 16384))
+    ∷ entry 0 (Next 0) PipeFull ∷ [])
+    ((11, entry 0 (Next 0) (Request (block_of 0 32768 16384))) ∷ [])
 
 -- 11: depth outlasts its peer
 abbrev depth_goes_with_its_peer : Example
-depth_goes_with_its_peer = record {
-  setting = setting_of torrent_many_blocks 1 usual_rules;
-  entries =
-      entry 0 Join Joined
-      ∷ entry 0 (Bits (true ∷ [])) (Noted true)
-      ∷ entry 0 Unchoke Quiet
-      ∷ entry 0 (Depth 1) Quiet
-      ∷ entry 0 (Next 0) (Request (block_of 0 0 16384))
-      ∷ entry 0 (Next 0) PipeFull
-      ∷ entry 0 Leave Quiet
-      ∷ entry 0 Join Joined
-      ∷ entry 0 (Bits (true ∷ [])) (Noted true)
-      ∷ entry 0 Unchoke Quiet
-      ∷ entry 0 (Next 0) (Request (block_of 0 0 16384))
-      ∷ entry 0 (Next 0) (Request (block_of 0 16384 16384))
-      ∷ [];
-  wrong = (11, entry 0 (Next 0) PipeFull)
-      ∷ [];
-}
+depth_goes_with_its_peer = example (setting_of torrent_many_blocks 1 usual_rules)
+    (entry 0 Join Joined
+    ∷ entry 0 (Bits (true ∷ [])) (Noted true)
+    ∷ entry 0 Unchoke Quiet
+    ∷ entry 0 (Depth 1) Quiet
+    ∷ entry 0 (Next 0) (Request (block_of 0 0 16384))
+    ∷ entry 0 (Next 0) PipeFull
+    ∷ entry 0 Leave Quiet
+    ∷ entry 0 Join Joined
+    ∷ entry 0 (Bits (true ∷ [])) (Noted true)
+    ∷ entry 0 Unchoke Quiet
+    ∷ entry 0 (Next 0) (Request (block_of 0 0 16384))
+    ∷ entry 0 (Next 0) (Request (block_of 0 16384 16384)) ∷ [])
+    ((11, entry 0 (Next 0) PipeFull) ∷ [])
 
 -- 7: request beyond a smaller depth
 -- 11: pipe full though enough came
 abbrev smaller_depth : Example
-smaller_depth = record {
-  setting = setting_of torrent_many_blocks 1 usual_rules;
-  entries =
-      entry 0 Join Joined
-      ∷ entry 0 (Bits (true ∷ [])) (Noted true)
-      ∷ entry 0 Unchoke Quiet
-      ∷ entry 0 (Next 0) (Request (block_of 0 0 16384))
-      ∷ entry 0 (Next 0) (Request (block_of 0 16384 16384))
-      ∷ entry 0 (Next 0) (Request (block_of 0 32768 16384))
-      ∷ entry 0 (Depth 2) Quiet
-      ∷ entry 0 (Next 0) PipeFull
-      ∷ entry 0 (Arrived 0 0 (replicate 16384 97)) Stored
-      ∷ entry 0 (Next 0) PipeFull
-      ∷ entry 0 (Arrived 0 16384 (replicate 16384 97)) Stored
-      ∷ entry 0 (Next 0) (Request (block_of 0 49152 16384))
-      ∷ entry 0 (Next 0) PipeFull
-      ∷ [];
-  wrong = (7, entry 0 (Next 0) (Request (block_of 0 49152 16384)))
-      ∷ (11, entry 0 (Next 0) PipeFull)
-      ∷ [];
-}
+smaller_depth = example (setting_of torrent_many_blocks 1 usual_rules)
+    (entry 0 Join Joined
+    ∷ entry 0 (Bits (true ∷ [])) (Noted true)
+    ∷ entry 0 Unchoke Quiet
+    ∷ entry 0 (Next 0) (Request (block_of 0 0 16384))
+    ∷ entry 0 (Next 0) (Request (block_of 0 16384 16384))
+    ∷ entry 0 (Next 0) (Request (block_of 0 32768 16384))
+    ∷ entry 0 (Depth 2) Quiet
+    ∷ entry 0 (Next 0) PipeFull
+    ∷ entry 0 (Arrived 0 0 (replicate 16384 97)) Stored
+    ∷ entry 0 (Next 0) PipeFull
+    ∷ entry 0 (Arrived 0 16384 (replicate 16384 97)) Stored
+    ∷ entry 0 (Next 0) (Request (block_of 0 49152 16384))
+    ∷ entry 0 (Next 0) PipeFull ∷ [])
+    ((7, entry 0 (Next 0) (Request (block_of 0 49152 16384)))
+    ∷ (11, entry 0 (Next 0) PipeFull) ∷ [])
 
 -- 7: second asker of one
 abbrev one_asker : Example
-one_asker = record {
-  setting = setting_of torrent_one_piece 2 (bounded_rules 5 1 1 64);
-  entries =
-      entry 0 Join Joined
-      ∷ entry 0 (Bits (true ∷ [])) (Noted true)
-      ∷ entry 0 Unchoke Quiet
-      ∷ entry 1 Join Joined
-      ∷ entry 1 (Bits (true ∷ [])) (Noted true)
-      ∷ entry 1 Unchoke Quiet
-      ∷ entry 0 (Next 0) (Request (block_of 0 0 3))
-      ∷ entry 1 (Next 0) Idle
-      ∷ entry 0 (Release 0 0) Quiet
-      ∷ entry 1 (Next 0) (Request (block_of 0 0 3))
-      ∷ entry 0 (Next 0) Idle
-      ∷ [];
-  wrong = (7, entry 1 (Next 0) (Request (block_of 0 0 3)))
-      ∷ [];
-}
+one_asker = example (setting_of torrent_one_piece 2 (bounded_rules 5 1 1 64))
+    (entry 0 Join Joined
+    ∷ entry 0 (Bits (true ∷ [])) (Noted true)
+    ∷ entry 0 Unchoke Quiet
+    ∷ entry 1 Join Joined
+    ∷ entry 1 (Bits (true ∷ [])) (Noted true)
+    ∷ entry 1 Unchoke Quiet
+    ∷ entry 0 (Next 0) (Request (block_of 0 0 3))
+    ∷ entry 1 (Next 0) Idle
+    ∷ entry 0 (Release 0 0) Quiet
+    ∷ entry 1 (Next 0) (Request (block_of 0 0 3))
+    ∷ entry 0 (Next 0) Idle ∷ [])
+    ((7, entry 1 (Next 0) (Request (block_of 0 0 3))) ∷ [])
 
 -- 11: third asker of two
 -- 7: second asker of two idle
 abbrev two_askers : Example
-two_askers = record {
-  setting = setting_of torrent_one_piece 3 (bounded_rules 5 1 2 64);
-  entries =
-      entry 0 Join Joined
-      ∷ entry 0 (Bits (true ∷ [])) (Noted true)
-      ∷ entry 0 Unchoke Quiet
-      ∷ entry 1 Join Joined
-      ∷ entry 1 (Bits (true ∷ [])) (Noted true)
-      ∷ entry 1 Unchoke Quiet
-      ∷ entry 0 (Next 0) (Request (block_of 0 0 3))
-      ∷ entry 1 (Next 0) (Request (block_of 0 0 3))
-      ∷ entry 2 Join Joined
-      ∷ entry 2 (Bits (true ∷ [])) (Noted true)
-      ∷ entry 2 Unchoke Quiet
-      ∷ entry 2 (Next 0) Idle
-      ∷ entry 1 Choke Quiet
-      ∷ entry 2 (Next 0) (Request (block_of 0 0 3))
-      ∷ [];
-  wrong = (11, entry 2 (Next 0) (Request (block_of 0 0 3)))
-      ∷ (7, entry 1 (Next 0) Idle)
-      ∷ [];
-}
+two_askers = example (setting_of torrent_one_piece 3 (bounded_rules 5 1 2 64))
+    (entry 0 Join Joined
+    ∷ entry 0 (Bits (true ∷ [])) (Noted true)
+    ∷ entry 0 Unchoke Quiet
+    ∷ entry 1 Join Joined
+    ∷ entry 1 (Bits (true ∷ [])) (Noted true)
+    ∷ entry 1 Unchoke Quiet
+    ∷ entry 0 (Next 0) (Request (block_of 0 0 3))
+    ∷ entry 1 (Next 0) (Request (block_of 0 0 3))
+    ∷ entry 2 Join Joined
+    ∷ entry 2 (Bits (true ∷ [])) (Noted true)
+    ∷ entry 2 Unchoke Quiet
+    ∷ entry 2 (Next 0) Idle
+    ∷ entry 1 Choke Quiet
+    ∷ entry 2 (Next 0) (Request (block_of 0 0 3)) ∷ [])
+    ((11, entry 2 (Next 0) (Request (block_of 0 0 3)))
+    ∷ (7, entry 1 (Next 0) Idle) ∷ [])
 
 -- 1: depth told though none may be
 abbrev no_depth_may_be_told : Example
-no_depth_may_be_told = record {
-  setting = setting_of torrent_short_last 1 (bounded_rules 5 1 1024 0);
-  entries =
-      entry 0 Join Joined
-      ∷ entry 0 (Depth 1) (Refused WrongDepth)
-      ∷ [];
-  wrong = (1, entry 0 (Depth 1) Quiet)
-      ∷ [];
-}
+no_depth_may_be_told = example (setting_of torrent_short_last 1 (bounded_rules 5 1 1024 0))
+    (entry 0 Join Joined
+    ∷ entry 0 (Depth 1) (Refused WrongDepth) ∷ [])
+    ((1, entry 0 (Depth 1) Quiet) ∷ [])
 
 -- 1: depth beyond any
 abbrev greatest_depth : Example
-greatest_depth = record {
-  setting = setting_of torrent_short_last 1 (bounded_rules 5 1 1024 9999);
-  entries =
-      entry 0 Join Joined
-      ∷ entry 0 (Depth 4097) (Refused WrongDepth)
-      ∷ entry 0 (Depth 4096) Quiet
-      ∷ [];
-  wrong = (1, entry 0 (Depth 4097) Quiet)
-      ∷ [];
-}
+greatest_depth = example (setting_of torrent_short_last 1 (bounded_rules 5 1 1024 9999))
+    (entry 0 Join Joined
+    ∷ entry 0 (Depth 4097) (Refused WrongDepth)
+    ∷ entry 0 (Depth 4096) Quiet ∷ [])
+    ((1, entry 0 (Depth 4097) Quiet) ∷ [])
 
 -- 5: unasked block released
 -- 10: block of another peer released
@@ -992,375 +743,290 @@ greatest_depth = record {
 -- 14: depth beyond the rules told
 -- 17: block released twice
 abbrev refusals_of_release_and_depth : Example
-refusals_of_release_and_depth = record {
-  setting = setting_of torrent_short_last 2 usual_rules;
-  entries =
-      entry 0 (Release 0 0) (Refused NotJoined)
-      ∷ entry 0 (Depth 3) (Refused NotJoined)
-      ∷ entry 0 Join Joined
-      ∷ entry 0 (Bits (true ∷ true ∷ true ∷ [])) (Noted true)
-      ∷ entry 0 Unchoke Quiet
-      ∷ entry 0 (Release 0 0) (Refused NotAsked)
-      ∷ entry 0 (Next 0) (Request (block_of 0 0 3))
-      ∷ entry 1 Join Joined
-      ∷ entry 1 (Bits (true ∷ false ∷ false ∷ [])) (Noted true)
-      ∷ entry 1 Unchoke Quiet
-      ∷ entry 1 (Release 0 0) (Refused NotAsked)
-      ∷ entry 0 (Release 0 1) (Refused NotAsked)
-      ∷ entry 0 (Release 9 0) (Refused NotAsked)
-      ∷ entry 0 (Depth 0) (Refused WrongDepth)
-      ∷ entry 0 (Depth 65) (Refused WrongDepth)
-      ∷ entry 0 (Depth 64) Quiet
-      ∷ entry 0 (Release 0 0) Quiet
-      ∷ entry 0 (Release 0 0) (Refused NotAsked)
-      ∷ [];
-  wrong = (5, entry 0 (Release 0 0) Quiet)
-      ∷ (10, entry 1 (Release 0 0) Quiet)
-      ∷ (13, entry 0 (Depth 0) Quiet)
-      ∷ (14, entry 0 (Depth 65) Quiet)
-      ∷ (17, entry 0 (Release 0 0) Quiet)
-      ∷ [];
-}
+refusals_of_release_and_depth = example (setting_of torrent_short_last 2 usual_rules)
+    (entry 0 (Release 0 0) (Refused NotJoined)
+    ∷ entry 0 (Depth 3) (Refused NotJoined)
+    ∷ entry 0 Join Joined
+    ∷ entry 0 (Bits (true ∷ true ∷ true ∷ [])) (Noted true)
+    ∷ entry 0 Unchoke Quiet
+    ∷ entry 0 (Release 0 0) (Refused NotAsked)
+    ∷ entry 0 (Next 0) (Request (block_of 0 0 3))
+    ∷ entry 1 Join Joined
+    ∷ entry 1 (Bits (true ∷ false ∷ false ∷ [])) (Noted true)
+    ∷ entry 1 Unchoke Quiet
+    ∷ entry 1 (Release 0 0) (Refused NotAsked)
+    ∷ entry 0 (Release 0 1) (Refused NotAsked)
+    ∷ entry 0 (Release 9 0) (Refused NotAsked)
+    ∷ entry 0 (Depth 0) (Refused WrongDepth)
+    ∷ entry 0 (Depth 65) (Refused WrongDepth)
+    ∷ entry 0 (Depth 64) Quiet
+    ∷ entry 0 (Release 0 0) Quiet
+    ∷ entry 0 (Release 0 0) (Refused NotAsked) ∷ [])
+    ((5, entry 0 (Release 0 0) Quiet)
+    ∷ (10, entry 1 (Release 0 0) Quiet)
+    ∷ (13, entry 0 (Depth 0) Quiet)
+    ∷ (14, entry 0 (Depth 65) Quiet)
+    ∷ (17, entry 0 (Release 0 0) Quiet) ∷ [])
 
 -- 5: idle though the bitfield shows more
 -- 7: nothing left though the bitfield shows more
 abbrev haves_after_a_bitfield : Example
-haves_after_a_bitfield = record {
-  setting = setting_of torrent_short_last 1 usual_rules;
-  entries =
-      entry 0 Join Joined
-      ∷ entry 0 (Bits (true ∷ false ∷ false ∷ [])) (Noted true)
-      ∷ entry 0 (Haves (false ∷ true ∷ false ∷ [])) (Noted true)
-      ∷ entry 0 Unchoke Quiet
-      ∷ entry 0 (Next 0) (Request (block_of 1 0 3))
-      ∷ entry 0 (Arrived 1 0 (97 ∷ 98 ∷ 99 ∷ [])) Completed
-      ∷ entry 0 (Settle 1 (97 ∷ 98 ∷ 99 ∷ [])) Had
-      ∷ entry 0 (Next 0) (Request (block_of 0 0 3))
-      ∷ entry 0 (Next 0) Idle
-      ∷ [];
-  wrong = (5, entry 0 (Next 0) Idle)
-      ∷ (7, entry 0 (Next 0) NothingLeft)
-      ∷ [];
-}
+haves_after_a_bitfield = example (setting_of torrent_short_last 1 usual_rules)
+    (entry 0 Join Joined
+    ∷ entry 0 (Bits (true ∷ false ∷ false ∷ [])) (Noted true)
+    ∷ entry 0 (Haves (false ∷ true ∷ false ∷ [])) (Noted true)
+    ∷ entry 0 Unchoke Quiet
+    ∷ entry 0 (Next 0) (Request (block_of 1 0 3))
+    ∷ entry 0 (Arrived 1 0 (97 ∷ 98 ∷ 99 ∷ [])) Completed
+    ∷ entry 0 (Settle 1 (97 ∷ 98 ∷ 99 ∷ [])) Had
+    ∷ entry 0 (Next 0) (Request (block_of 0 0 3))
+    ∷ entry 0 (Next 0) Idle ∷ [])
+    ((5, entry 0 (Next 0) Idle)
+    ∷ (7, entry 0 (Next 0) NothingLeft) ∷ [])
 
 -- 3: bits after haves noted
 abbrev haves_after_a_have : Example
-haves_after_a_have = record {
-  setting = setting_of torrent_short_last 1 usual_rules;
-  entries =
-      entry 0 Join Joined
-      ∷ entry 0 (Have 2) (Noted true)
-      ∷ entry 0 (Haves (true ∷ false ∷ false ∷ [])) (Noted true)
-      ∷ entry 0 (Bits (true ∷ true ∷ true ∷ [])) (Refused LateBits)
-      ∷ entry 0 Unchoke Quiet
-      ∷ entry 0 (Next 0) (Request (block_of 2 0 1))
-      ∷ entry 0 (Next 0) (Request (block_of 0 0 3))
-      ∷ entry 0 (Next 0) Idle
-      ∷ [];
-  wrong = (3, entry 0 (Bits (true ∷ true ∷ true ∷ [])) (Noted true))
-      ∷ [];
-}
+haves_after_a_have = example (setting_of torrent_short_last 1 usual_rules)
+    (entry 0 Join Joined
+    ∷ entry 0 (Have 2) (Noted true)
+    ∷ entry 0 (Haves (true ∷ false ∷ false ∷ [])) (Noted true)
+    ∷ entry 0 (Bits (true ∷ true ∷ true ∷ [])) (Refused LateBits)
+    ∷ entry 0 Unchoke Quiet
+    ∷ entry 0 (Next 0) (Request (block_of 2 0 1))
+    ∷ entry 0 (Next 0) (Request (block_of 0 0 3))
+    ∷ entry 0 (Next 0) Idle ∷ [])
+    ((3, entry 0 (Bits (true ∷ true ∷ true ∷ [])) (Noted true)) ∷ [])
 
 -- 9: haves noted without the bits
 abbrev haves_of_none : Example
-haves_of_none = record {
-  setting = setting_of torrent_short_last 2 usual_rules;
-  entries =
-      entry 0 (Haves (true ∷ true ∷ true ∷ [])) (Refused NotJoined)
-      ∷ entry 0 Join Joined
-      ∷ entry 0 (Haves (false ∷ false ∷ false ∷ false ∷ [])) (Refused WrongCount)
-      ∷ entry 0 (Haves (false ∷ false ∷ false ∷ [])) (Noted false)
-      ∷ entry 0 (Bits (true ∷ true ∷ true ∷ [])) (Refused LateBits)
-      ∷ entry 0 Unchoke Quiet
-      ∷ entry 0 (Next 0) NothingLeft
-      ∷ entry 1 Join Joined
-      ∷ entry 1 (Bits (true ∷ false ∷ false ∷ [])) (Noted true)
-      ∷ entry 1 (Haves (false ∷ false ∷ false ∷ [])) (Noted true)
-      ∷ entry 1 Unchoke Quiet
-      ∷ entry 1 (Next 0) (Request (block_of 0 0 3))
-      ∷ [];
-  wrong = (9, entry 1 (Haves (false ∷ false ∷ false ∷ [])) (Noted false))
-      ∷ [];
-}
+haves_of_none = example (setting_of torrent_short_last 2 usual_rules)
+    (entry 0 (Haves (true ∷ true ∷ true ∷ [])) (Refused NotJoined)
+    ∷ entry 0 Join Joined
+    ∷ entry 0 (Haves (false ∷ false ∷ false ∷ false ∷ [])) (Refused WrongCount)
+    ∷ entry 0 (Haves (false ∷ false ∷ false ∷ [])) (Noted false)
+    ∷ entry 0 (Bits (true ∷ true ∷ true ∷ [])) (Refused LateBits)
+    ∷ entry 0 Unchoke Quiet
+    ∷ entry 0 (Next 0) NothingLeft
+    ∷ entry 1 Join Joined
+    ∷ entry 1 (Bits (true ∷ false ∷ false ∷ [])) (Noted true)
+    ∷ entry 1 (Haves (false ∷ false ∷ false ∷ [])) (Noted true)
+    ∷ entry 1 Unchoke Quiet
+    ∷ entry 1 (Next 0) (Request (block_of 0 0 3)) ∷ [])
+    ((9, entry 1 (Haves (false ∷ false ∷ false ∷ [])) (Noted false)) ∷ [])
 
 -- 6: availability without the haves
 abbrev haves_are_counted : Example
-haves_are_counted = record {
-  setting = setting_of torrent_short_last 2 (rules 5 0);
-  entries =
-      entry 0 Join Joined
-      ∷ entry 0 (Bits (true ∷ true ∷ true ∷ [])) (Noted true)
-      ∷ entry 0 Unchoke Quiet
-      ∷ entry 1 Join Joined
-      ∷ entry 1 (Bits (true ∷ false ∷ false ∷ [])) (Noted true)
-      ∷ entry 1 (Haves (false ∷ false ∷ true ∷ [])) (Noted true)
-      ∷ entry 0 (Next 0) (Request (block_of 1 0 3))
-      ∷ [];
-  wrong = (6, entry 0 (Next 0) (Request (block_of 2 0 1)))
-      ∷ [];
-}
+haves_are_counted = example (setting_of torrent_short_last 2 (rules 5 0))
+    (entry 0 Join Joined
+    ∷ entry 0 (Bits (true ∷ true ∷ true ∷ [])) (Noted true)
+    ∷ entry 0 Unchoke Quiet
+    ∷ entry 1 Join Joined
+    ∷ entry 1 (Bits (true ∷ false ∷ false ∷ [])) (Noted true)
+    ∷ entry 1 (Haves (false ∷ false ∷ true ∷ [])) (Noted true)
+    ∷ entry 0 (Next 0) (Request (block_of 1 0 3)) ∷ [])
+    ((6, entry 0 (Next 0) (Request (block_of 2 0 1))) ∷ [])
 
 -- 10: low level asked first
 -- 10: commoner piece of the level started
 -- 11: rarer piece of a lower level started
 -- 12: second peer asked though a low level is unasked
 abbrev two_levels : Example
-two_levels = record {
-  setting = setting_of torrent_four_pieces 3 (rules 5 0);
-  entries =
-      entry 2 (Levels (2 ∷ 7 ∷ 7 ∷ 2 ∷ [])) Quiet
-      ∷ entry 0 Join Joined
-      ∷ entry 0 (Bits (true ∷ true ∷ true ∷ true ∷ [])) (Noted true)
-      ∷ entry 0 Unchoke Quiet
-      ∷ entry 1 Join Joined
-      ∷ entry 1 (Bits (true ∷ true ∷ false ∷ false ∷ [])) (Noted true)
-      ∷ entry 1 Unchoke Quiet
-      ∷ entry 2 Join Joined
-      ∷ entry 2 (Bits (false ∷ true ∷ true ∷ true ∷ [])) (Noted true)
-      ∷ entry 2 Unchoke Quiet
-      ∷ entry 0 (Next 0) (Request (block_of 2 0 3))
-      ∷ entry 1 (Next 0) (Request (block_of 1 0 3))
-      ∷ entry 2 (Next 0) (Request (block_of 3 0 3))
-      ∷ entry 0 (Next 0) (Request (block_of 0 0 3))
-      ∷ entry 1 (Next 0) (Request (block_of 0 0 3))
-      ∷ [];
-  wrong = (10, entry 0 (Next 0) (Request (block_of 0 0 3)))
-      ∷ (10, entry 0 (Next 0) (Request (block_of 1 0 3)))
-      ∷ (11, entry 1 (Next 0) (Request (block_of 0 0 3)))
-      ∷ (12, entry 2 (Next 0) (Request (block_of 2 0 3)))
-      ∷ [];
-}
+two_levels = example (setting_of torrent_four_pieces 3 (rules 5 0))
+    (entry 2 (Levels (2 ∷ 7 ∷ 7 ∷ 2 ∷ [])) Quiet
+    ∷ entry 0 Join Joined
+    ∷ entry 0 (Bits (true ∷ true ∷ true ∷ true ∷ [])) (Noted true)
+    ∷ entry 0 Unchoke Quiet
+    ∷ entry 1 Join Joined
+    ∷ entry 1 (Bits (true ∷ true ∷ false ∷ false ∷ [])) (Noted true)
+    ∷ entry 1 Unchoke Quiet
+    ∷ entry 2 Join Joined
+    ∷ entry 2 (Bits (false ∷ true ∷ true ∷ true ∷ [])) (Noted true)
+    ∷ entry 2 Unchoke Quiet
+    ∷ entry 0 (Next 0) (Request (block_of 2 0 3))
+    ∷ entry 1 (Next 0) (Request (block_of 1 0 3))
+    ∷ entry 2 (Next 0) (Request (block_of 3 0 3))
+    ∷ entry 0 (Next 0) (Request (block_of 0 0 3))
+    ∷ entry 1 (Next 0) (Request (block_of 0 0 3)) ∷ [])
+    ((10, entry 0 (Next 0) (Request (block_of 0 0 3)))
+    ∷ (10, entry 0 (Next 0) (Request (block_of 1 0 3)))
+    ∷ (11, entry 1 (Next 0) (Request (block_of 0 0 3)))
+    ∷ (12, entry 2 (Next 0) (Request (block_of 2 0 3))) ∷ [])
 
 -- 5: begun piece of a lower level continued
 abbrev raised_in_mid_download : Example
-raised_in_mid_download = record {
-  setting = setting_of torrent_two_blocks 1 usual_rules;
-  entries =
-      entry 0 Join Joined
-      ∷ entry 0 (Bits (true ∷ true ∷ [])) (Noted true)
-      ∷ entry 0 Unchoke Quiet
-      ∷ entry 0 (Next 0) (Request (block_of 0 0 16384))
-      ∷ entry 0 (Level 1 5) Quiet
-      ∷ entry 0 (Next 0) (Request (block_of 1 0 16384))
-      ∷ entry 0 (Next 0) (Request (block_of 1 16384 16384))
-      ∷ entry 0 (Next 0) (Request (block_of 0 16384 16384))
-      ∷ [];
-  wrong = (5, entry 0 (Next 0) (Request (block_of 0 16384 16384)))
-      ∷ [];
-}
+raised_in_mid_download = example (setting_of torrent_two_blocks 1 usual_rules)
+    (entry 0 Join Joined
+    ∷ entry 0 (Bits (true ∷ true ∷ [])) (Noted true)
+    ∷ entry 0 Unchoke Quiet
+    ∷ entry 0 (Next 0) (Request (block_of 0 0 16384))
+    ∷ entry 0 (Level 1 5) Quiet
+    ∷ entry 0 (Next 0) (Request (block_of 1 0 16384))
+    ∷ entry 0 (Next 0) (Request (block_of 1 16384 16384))
+    ∷ entry 0 (Next 0) (Request (block_of 0 16384 16384)) ∷ [])
+    ((5, entry 0 (Next 0) (Request (block_of 0 16384 16384))) ∷ [])
 
 -- 5: in order before levels
 -- 6: in order by the wrong end
 -- 9: moved head passed over
 abbrev streaming : Example
-streaming = record {
-  setting = setting_of torrent_four_pieces 1 usual_rules;
-  entries =
-      entry 0 Join Joined
-      ∷ entry 0 (Bits (true ∷ true ∷ true ∷ true ∷ [])) (Noted true)
-      ∷ entry 0 Unchoke Quiet
-      ∷ entry 0 (InOrder true) Quiet
-      ∷ entry 0 (Level 2 5) Quiet
-      ∷ entry 0 (Next 0) (Request (block_of 2 0 3))
-      ∷ entry 0 (Next 0) (Request (block_of 0 0 3))
-      ∷ entry 0 (Level 2 4) Quiet
-      ∷ entry 0 (Level 3 5) Quiet
-      ∷ entry 0 (Next 0) (Request (block_of 3 0 3))
-      ∷ entry 0 (Next 0) (Request (block_of 1 0 3))
-      ∷ [];
-  wrong = (5, entry 0 (Next 0) (Request (block_of 0 0 3)))
-      ∷ (6, entry 0 (Next 0) (Request (block_of 3 0 3)))
-      ∷ (9, entry 0 (Next 0) (Request (block_of 1 0 3)))
-      ∷ [];
-}
+streaming = example (setting_of torrent_four_pieces 1 usual_rules)
+    (entry 0 Join Joined
+    ∷ entry 0 (Bits (true ∷ true ∷ true ∷ true ∷ [])) (Noted true)
+    ∷ entry 0 Unchoke Quiet
+    ∷ entry 0 (InOrder true) Quiet
+    ∷ entry 0 (Level 2 5) Quiet
+    ∷ entry 0 (Next 0) (Request (block_of 2 0 3))
+    ∷ entry 0 (Next 0) (Request (block_of 0 0 3))
+    ∷ entry 0 (Level 2 4) Quiet
+    ∷ entry 0 (Level 3 5) Quiet
+    ∷ entry 0 (Next 0) (Request (block_of 3 0 3))
+    ∷ entry 0 (Next 0) (Request (block_of 1 0 3)) ∷ [])
+    ((5, entry 0 (Next 0) (Request (block_of 0 0 3)))
+    ∷ (6, entry 0 (Next 0) (Request (block_of 3 0 3)))
+    ∷ (9, entry 0 (Next 0) (Request (block_of 1 0 3))) ∷ [])
 
 -- 6: begun piece continued though in order
 abbrev earlier_piece_in_order : Example
-earlier_piece_in_order = record {
-  setting = setting_of torrent_two_blocks 1 usual_rules;
-  entries =
-      entry 0 Join Joined
-      ∷ entry 0 (Bits (false ∷ true ∷ [])) (Noted true)
-      ∷ entry 0 Unchoke Quiet
-      ∷ entry 0 (Next 0) (Request (block_of 1 0 16384))
-      ∷ entry 0 (InOrder true) Quiet
-      ∷ entry 0 (Have 0) (Noted true)
-      ∷ entry 0 (Next 0) (Request (block_of 0 0 16384))
-      ∷ entry 0 (Next 0) (Request (block_of 0 16384 16384))
-      ∷ entry 0 (Next 0) (Request (block_of 1 16384 16384))
-      ∷ [];
-  wrong = (6, entry 0 (Next 0) (Request (block_of 1 16384 16384)))
-      ∷ [];
-}
+earlier_piece_in_order = example (setting_of torrent_two_blocks 1 usual_rules)
+    (entry 0 Join Joined
+    ∷ entry 0 (Bits (false ∷ true ∷ [])) (Noted true)
+    ∷ entry 0 Unchoke Quiet
+    ∷ entry 0 (Next 0) (Request (block_of 1 0 16384))
+    ∷ entry 0 (InOrder true) Quiet
+    ∷ entry 0 (Have 0) (Noted true)
+    ∷ entry 0 (Next 0) (Request (block_of 0 0 16384))
+    ∷ entry 0 (Next 0) (Request (block_of 0 16384 16384))
+    ∷ entry 0 (Next 0) (Request (block_of 1 16384 16384)) ∷ [])
+    ((6, entry 0 (Next 0) (Request (block_of 1 16384 16384))) ∷ [])
 
 -- 6: rarest though in order
 -- 8: in order though told off
 abbrev in_order_told_off : Example
-in_order_told_off = record {
-  setting = setting_of torrent_four_pieces 2 (rules 5 0);
-  entries =
-      entry 0 Join Joined
-      ∷ entry 0 (Bits (true ∷ true ∷ true ∷ true ∷ [])) (Noted true)
-      ∷ entry 0 Unchoke Quiet
-      ∷ entry 1 Join Joined
-      ∷ entry 1 (Bits (true ∷ true ∷ false ∷ false ∷ [])) (Noted true)
-      ∷ entry 0 (InOrder true) Quiet
-      ∷ entry 0 (Next 0) (Request (block_of 0 0 3))
-      ∷ entry 1 (InOrder false) Quiet
-      ∷ entry 0 (Next 0) (Request (block_of 2 0 3))
-      ∷ [];
-  wrong = (6, entry 0 (Next 0) (Request (block_of 2 0 3)))
-      ∷ (8, entry 0 (Next 0) (Request (block_of 1 0 3)))
-      ∷ [];
-}
+in_order_told_off = example (setting_of torrent_four_pieces 2 (rules 5 0))
+    (entry 0 Join Joined
+    ∷ entry 0 (Bits (true ∷ true ∷ true ∷ true ∷ [])) (Noted true)
+    ∷ entry 0 Unchoke Quiet
+    ∷ entry 1 Join Joined
+    ∷ entry 1 (Bits (true ∷ true ∷ false ∷ false ∷ [])) (Noted true)
+    ∷ entry 0 (InOrder true) Quiet
+    ∷ entry 0 (Next 0) (Request (block_of 0 0 3))
+    ∷ entry 1 (InOrder false) Quiet
+    ∷ entry 0 (Next 0) (Request (block_of 2 0 3)) ∷ [])
+    ((6, entry 0 (Next 0) (Request (block_of 2 0 3)))
+    ∷ (8, entry 0 (Next 0) (Request (block_of 1 0 3))) ∷ [])
 
 -- 7: idle though a low level is usable
 abbrev peer_of_low_levels : Example
-peer_of_low_levels = record {
-  setting = setting_of torrent_four_pieces 2 usual_rules;
-  entries =
-      entry 1 (Levels (7 ∷ 7 ∷ 1 ∷ 1 ∷ [])) Quiet
-      ∷ entry 0 Join Joined
-      ∷ entry 0 (Bits (true ∷ true ∷ true ∷ true ∷ [])) (Noted true)
-      ∷ entry 0 Unchoke Quiet
-      ∷ entry 1 Join Joined
-      ∷ entry 1 (Bits (false ∷ false ∷ true ∷ true ∷ [])) (Noted true)
-      ∷ entry 1 Unchoke Quiet
-      ∷ entry 1 (Next 0) (Request (block_of 2 0 3))
-      ∷ entry 0 (Next 0) (Request (block_of 0 0 3))
-      ∷ entry 1 (Next 0) (Request (block_of 3 0 3))
-      ∷ entry 0 (Next 0) (Request (block_of 1 0 3))
-      ∷ entry 1 (Next 0) Idle
-      ∷ [];
-  wrong = (7, entry 1 (Next 0) Idle)
-      ∷ [];
-}
+peer_of_low_levels = example (setting_of torrent_four_pieces 2 usual_rules)
+    (entry 1 (Levels (7 ∷ 7 ∷ 1 ∷ 1 ∷ [])) Quiet
+    ∷ entry 0 Join Joined
+    ∷ entry 0 (Bits (true ∷ true ∷ true ∷ true ∷ [])) (Noted true)
+    ∷ entry 0 Unchoke Quiet
+    ∷ entry 1 Join Joined
+    ∷ entry 1 (Bits (false ∷ false ∷ true ∷ true ∷ [])) (Noted true)
+    ∷ entry 1 Unchoke Quiet
+    ∷ entry 1 (Next 0) (Request (block_of 2 0 3))
+    ∷ entry 0 (Next 0) (Request (block_of 0 0 3))
+    ∷ entry 1 (Next 0) (Request (block_of 3 0 3))
+    ∷ entry 0 (Next 0) (Request (block_of 1 0 3))
+    ∷ entry 1 (Next 0) Idle ∷ [])
+    ((7, entry 1 (Next 0) Idle) ∷ [])
 
 -- 4: piece of level 0 asked
 -- 7: idle though wanted again
 abbrev unwanted_by_level : Example
-unwanted_by_level = record {
-  setting = setting_of torrent_two_pieces 1 usual_rules;
-  entries =
-      entry 0 Join Joined
-      ∷ entry 0 (Bits (true ∷ true ∷ [])) (Noted true)
-      ∷ entry 0 Unchoke Quiet
-      ∷ entry 0 (Level 0 0) Quiet
-      ∷ entry 0 (Next 0) (Request (block_of 1 0 3))
-      ∷ entry 0 (Next 0) Idle
-      ∷ entry 0 (Level 0 4) Quiet
-      ∷ entry 0 (Next 0) (Request (block_of 0 0 3))
-      ∷ entry 0 (Levels (0 ∷ 0 ∷ [])) Quiet
-      ∷ entry 0 (Next 0) NothingLeft
-      ∷ [];
-  wrong = (4, entry 0 (Next 0) (Request (block_of 0 0 3)))
-      ∷ (7, entry 0 (Next 0) Idle)
-      ∷ [];
-}
+unwanted_by_level = example (setting_of torrent_two_pieces 1 usual_rules)
+    (entry 0 Join Joined
+    ∷ entry 0 (Bits (true ∷ true ∷ [])) (Noted true)
+    ∷ entry 0 Unchoke Quiet
+    ∷ entry 0 (Level 0 0) Quiet
+    ∷ entry 0 (Next 0) (Request (block_of 1 0 3))
+    ∷ entry 0 (Next 0) Idle
+    ∷ entry 0 (Level 0 4) Quiet
+    ∷ entry 0 (Next 0) (Request (block_of 0 0 3))
+    ∷ entry 0 (Levels (0 ∷ 0 ∷ [])) Quiet
+    ∷ entry 0 (Next 0) NothingLeft ∷ [])
+    ((4, entry 0 (Next 0) (Request (block_of 0 0 3)))
+    ∷ (7, entry 0 (Next 0) Idle) ∷ [])
 
 -- 2: bits noted though of level 0
 -- 6: nothing left though a level rose
 abbrev levels_of_none : Example
-levels_of_none = record {
-  setting = setting_of torrent_short_last 1 usual_rules;
-  entries =
-      entry 0 (Levels (0 ∷ 0 ∷ 0 ∷ [])) Quiet
-      ∷ entry 0 Join Joined
-      ∷ entry 0 (Bits (true ∷ true ∷ true ∷ [])) (Noted false)
-      ∷ entry 0 Unchoke Quiet
-      ∷ entry 0 (Next 0) NothingLeft
-      ∷ entry 0 (Level 2 1) Quiet
-      ∷ entry 0 (Next 0) (Request (block_of 2 0 1))
-      ∷ entry 0 (Next 0) Idle
-      ∷ [];
-  wrong = (2, entry 0 (Bits (true ∷ true ∷ true ∷ [])) (Noted true))
-      ∷ (6, entry 0 (Next 0) NothingLeft)
-      ∷ [];
-}
+levels_of_none = example (setting_of torrent_short_last 1 usual_rules)
+    (entry 0 (Levels (0 ∷ 0 ∷ 0 ∷ [])) Quiet
+    ∷ entry 0 Join Joined
+    ∷ entry 0 (Bits (true ∷ true ∷ true ∷ [])) (Noted false)
+    ∷ entry 0 Unchoke Quiet
+    ∷ entry 0 (Next 0) NothingLeft
+    ∷ entry 0 (Level 2 1) Quiet
+    ∷ entry 0 (Next 0) (Request (block_of 2 0 1))
+    ∷ entry 0 (Next 0) Idle ∷ [])
+    ((2, entry 0 (Bits (true ∷ true ∷ true ∷ [])) (Noted true))
+    ∷ (6, entry 0 (Next 0) NothingLeft) ∷ [])
 
 -- 7: older level outlasts a want
 -- 10: level below the usual asked first
 abbrev want_after_levels : Example
-want_after_levels = record {
-  setting = setting_of torrent_four_pieces 2 (rules 5 0);
-  entries =
-      entry 0 (Levels (7 ∷ 1 ∷ 1 ∷ 5 ∷ [])) Quiet
-      ∷ entry 0 Join Joined
-      ∷ entry 0 (Bits (true ∷ true ∷ true ∷ true ∷ [])) (Noted true)
-      ∷ entry 0 Unchoke Quiet
-      ∷ entry 1 Join Joined
-      ∷ entry 1 (Bits (false ∷ false ∷ false ∷ true ∷ [])) (Noted true)
-      ∷ entry 0 (Want (false ∷ true ∷ true ∷ true ∷ [])) Quiet
-      ∷ entry 0 (Next 0) (Request (block_of 1 0 3))
-      ∷ entry 0 (Next 0) (Request (block_of 2 0 3))
-      ∷ entry 0 (Level 0 3) Quiet
-      ∷ entry 0 (Next 0) (Request (block_of 3 0 3))
-      ∷ entry 0 (Next 0) (Request (block_of 0 0 3))
-      ∷ [];
-  wrong = (7, entry 0 (Next 0) (Request (block_of 3 0 3)))
-      ∷ (10, entry 0 (Next 0) (Request (block_of 0 0 3)))
-      ∷ [];
-}
+want_after_levels = example (setting_of torrent_four_pieces 2 (rules 5 0))
+    (entry 0 (Levels (7 ∷ 1 ∷ 1 ∷ 5 ∷ [])) Quiet
+    ∷ entry 0 Join Joined
+    ∷ entry 0 (Bits (true ∷ true ∷ true ∷ true ∷ [])) (Noted true)
+    ∷ entry 0 Unchoke Quiet
+    ∷ entry 1 Join Joined
+    ∷ entry 1 (Bits (false ∷ false ∷ false ∷ true ∷ [])) (Noted true)
+    ∷ entry 0 (Want (false ∷ true ∷ true ∷ true ∷ [])) Quiet
+    ∷ entry 0 (Next 0) (Request (block_of 1 0 3))
+    ∷ entry 0 (Next 0) (Request (block_of 2 0 3))
+    ∷ entry 0 (Level 0 3) Quiet
+    ∷ entry 0 (Next 0) (Request (block_of 3 0 3))
+    ∷ entry 0 (Next 0) (Request (block_of 0 0 3)) ∷ [])
+    ((7, entry 0 (Next 0) (Request (block_of 3 0 3)))
+    ∷ (10, entry 0 (Next 0) (Request (block_of 0 0 3))) ∷ [])
 
 -- 2: bits late by a level
 -- 4: level from before the bits forgotten
 abbrev level_before_the_bits : Example
-level_before_the_bits = record {
-  setting = setting_of torrent_two_pieces 1 usual_rules;
-  entries =
-      entry 0 Join Joined
-      ∷ entry 0 (Level 1 7) Quiet
-      ∷ entry 0 (Bits (true ∷ true ∷ [])) (Noted true)
-      ∷ entry 0 Unchoke Quiet
-      ∷ entry 0 (Next 0) (Request (block_of 1 0 3))
-      ∷ entry 0 (Next 0) (Request (block_of 0 0 3))
-      ∷ [];
-  wrong = (2, entry 0 (Bits (true ∷ true ∷ [])) (Refused LateBits))
-      ∷ (4, entry 0 (Next 0) (Request (block_of 0 0 3)))
-      ∷ [];
-}
+level_before_the_bits = example (setting_of torrent_two_pieces 1 usual_rules)
+    (entry 0 Join Joined
+    ∷ entry 0 (Level 1 7) Quiet
+    ∷ entry 0 (Bits (true ∷ true ∷ [])) (Noted true)
+    ∷ entry 0 Unchoke Quiet
+    ∷ entry 0 (Next 0) (Request (block_of 1 0 3))
+    ∷ entry 0 (Next 0) (Request (block_of 0 0 3)) ∷ [])
+    ((2, entry 0 (Bits (true ∷ true ∷ [])) (Refused LateBits))
+    ∷ (4, entry 0 (Next 0) (Request (block_of 0 0 3))) ∷ [])
 
 -- 11: endgame though a low level is unasked
 abbrev endgame_of_all_levels : Example
-endgame_of_all_levels = record {
-  setting = setting_of torrent_two_pieces 3 usual_rules;
-  entries =
-      entry 2 (Levels (7 ∷ 1 ∷ [])) Quiet
-      ∷ entry 0 Join Joined
-      ∷ entry 0 (Bits (true ∷ true ∷ [])) (Noted true)
-      ∷ entry 0 Unchoke Quiet
-      ∷ entry 1 Join Joined
-      ∷ entry 1 (Bits (true ∷ true ∷ [])) (Noted true)
-      ∷ entry 1 Unchoke Quiet
-      ∷ entry 2 Join Joined
-      ∷ entry 2 (Bits (true ∷ true ∷ [])) (Noted true)
-      ∷ entry 2 Unchoke Quiet
-      ∷ entry 0 (Next 0) (Request (block_of 0 0 3))
-      ∷ entry 1 (Next 0) (Request (block_of 1 0 3))
-      ∷ entry 2 (Next 0) (Request (block_of 1 0 3))
-      ∷ entry 2 (Next 0) (Request (block_of 0 0 3))
-      ∷ [];
-  wrong = (11, entry 1 (Next 0) (Request (block_of 0 0 3)))
-      ∷ [];
-}
+endgame_of_all_levels = example (setting_of torrent_two_pieces 3 usual_rules)
+    (entry 2 (Levels (7 ∷ 1 ∷ [])) Quiet
+    ∷ entry 0 Join Joined
+    ∷ entry 0 (Bits (true ∷ true ∷ [])) (Noted true)
+    ∷ entry 0 Unchoke Quiet
+    ∷ entry 1 Join Joined
+    ∷ entry 1 (Bits (true ∷ true ∷ [])) (Noted true)
+    ∷ entry 1 Unchoke Quiet
+    ∷ entry 2 Join Joined
+    ∷ entry 2 (Bits (true ∷ true ∷ [])) (Noted true)
+    ∷ entry 2 Unchoke Quiet
+    ∷ entry 0 (Next 0) (Request (block_of 0 0 3))
+    ∷ entry 1 (Next 0) (Request (block_of 1 0 3))
+    ∷ entry 2 (Next 0) (Request (block_of 1 0 3))
+    ∷ entry 2 (Next 0) (Request (block_of 0 0 3)) ∷ [])
+    ((11, entry 1 (Next 0) (Request (block_of 0 0 3))) ∷ [])
 
 -- 5: asked block of level 0 dropped
 abbrev asked_outlasts_its_level : Example
-asked_outlasts_its_level = record {
-  setting = setting_of torrent_two_pieces 1 usual_rules;
-  entries =
-      entry 0 Join Joined
-      ∷ entry 0 (Bits (true ∷ true ∷ [])) (Noted true)
-      ∷ entry 0 Unchoke Quiet
-      ∷ entry 0 (Next 0) (Request (block_of 0 0 3))
-      ∷ entry 0 (Level 0 0) Quiet
-      ∷ entry 0 (Arrived 0 0 (97 ∷ 98 ∷ 99 ∷ [])) Completed
-      ∷ entry 0 (Settle 0 (97 ∷ 98 ∷ 99 ∷ [])) Had
-      ∷ entry 0 (Next 0) (Request (block_of 1 0 3))
-      ∷ [];
-  wrong = (5, entry 0 (Arrived 0 0 (97 ∷ 98 ∷ 99 ∷ [])) Dropped)
-      ∷ [];
-}
+asked_outlasts_its_level = example (setting_of torrent_two_pieces 1 usual_rules)
+    (entry 0 Join Joined
+    ∷ entry 0 (Bits (true ∷ true ∷ [])) (Noted true)
+    ∷ entry 0 Unchoke Quiet
+    ∷ entry 0 (Next 0) (Request (block_of 0 0 3))
+    ∷ entry 0 (Level 0 0) Quiet
+    ∷ entry 0 (Arrived 0 0 (97 ∷ 98 ∷ 99 ∷ [])) Completed
+    ∷ entry 0 (Settle 0 (97 ∷ 98 ∷ 99 ∷ [])) Had
+    ∷ entry 0 (Next 0) (Request (block_of 1 0 3)) ∷ [])
+    ((5, entry 0 (Arrived 0 0 (97 ∷ 98 ∷ 99 ∷ [])) Dropped) ∷ [])
 
 -- 0: level of no piece taken
 -- 1: level 8 taken
@@ -1370,36 +1036,31 @@ asked_outlasts_its_level = record {
 -- 8: level of a stranger refused
 -- 9: order of a stranger refused
 abbrev refusals_of_levels : Example
-refusals_of_levels = record {
-  setting = setting_of torrent_short_last 2 usual_rules;
-  entries =
-      entry 0 (Level 3 4) (Refused NoSuchPiece)
-      ∷ entry 0 (Level 0 8) (Refused WrongLevel)
-      ∷ entry 0 (Level 9 9) (Refused NoSuchPiece)
-      ∷ entry 1 (Levels (4 ∷ 4 ∷ [])) (Refused WrongCount)
-      ∷ entry 1 (Levels (4 ∷ 4 ∷ 4 ∷ 4 ∷ [])) (Refused WrongCount)
-      ∷ entry 1 (Levels (4 ∷ 8 ∷ 4 ∷ [])) (Refused WrongLevel)
-      ∷ entry 1 (Levels (8 ∷ 8 ∷ [])) (Refused WrongCount)
-      ∷ entry 1 (Levels (4 ∷ 7 ∷ 0 ∷ [])) Quiet
-      ∷ entry 1 (Level 2 7) Quiet
-      ∷ entry 0 (InOrder true) Quiet
-      ∷ entry 0 (InOrder false) Quiet
-      ∷ entry 0 Join Joined
-      ∷ entry 0 (Bits (true ∷ true ∷ true ∷ [])) (Noted true)
-      ∷ entry 0 Unchoke Quiet
-      ∷ entry 0 (Next 0) (Request (block_of 2 0 1))
-      ∷ entry 0 (Next 0) (Request (block_of 1 0 3))
-      ∷ entry 0 (Next 0) (Request (block_of 0 0 3))
-      ∷ [];
-  wrong = (0, entry 0 (Level 3 4) Quiet)
-      ∷ (1, entry 0 (Level 0 8) Quiet)
-      ∷ (3, entry 1 (Levels (4 ∷ 4 ∷ [])) Quiet)
-      ∷ (5, entry 1 (Levels (4 ∷ 8 ∷ 4 ∷ [])) Quiet)
-      ∷ (6, entry 1 (Levels (8 ∷ 8 ∷ [])) (Refused WrongLevel))
-      ∷ (8, entry 1 (Level 2 7) (Refused NotJoined))
-      ∷ (9, entry 0 (InOrder true) (Refused NotJoined))
-      ∷ [];
-}
+refusals_of_levels = example (setting_of torrent_short_last 2 usual_rules)
+    (entry 0 (Level 3 4) (Refused NoSuchPiece)
+    ∷ entry 0 (Level 0 8) (Refused WrongLevel)
+    ∷ entry 0 (Level 9 9) (Refused NoSuchPiece)
+    ∷ entry 1 (Levels (4 ∷ 4 ∷ [])) (Refused WrongCount)
+    ∷ entry 1 (Levels (4 ∷ 4 ∷ 4 ∷ 4 ∷ [])) (Refused WrongCount)
+    ∷ entry 1 (Levels (4 ∷ 8 ∷ 4 ∷ [])) (Refused WrongLevel)
+    ∷ entry 1 (Levels (8 ∷ 8 ∷ [])) (Refused WrongCount)
+    ∷ entry 1 (Levels (4 ∷ 7 ∷ 0 ∷ [])) Quiet
+    ∷ entry 1 (Level 2 7) Quiet
+    ∷ entry 0 (InOrder true) Quiet
+    ∷ entry 0 (InOrder false) Quiet
+    ∷ entry 0 Join Joined
+    ∷ entry 0 (Bits (true ∷ true ∷ true ∷ [])) (Noted true)
+    ∷ entry 0 Unchoke Quiet
+    ∷ entry 0 (Next 0) (Request (block_of 2 0 1))
+    ∷ entry 0 (Next 0) (Request (block_of 1 0 3))
+    ∷ entry 0 (Next 0) (Request (block_of 0 0 3)) ∷ [])
+    ((0, entry 0 (Level 3 4) Quiet)
+    ∷ (1, entry 0 (Level 0 8) Quiet)
+    ∷ (3, entry 1 (Levels (4 ∷ 4 ∷ [])) Quiet)
+    ∷ (5, entry 1 (Levels (4 ∷ 8 ∷ 4 ∷ [])) Quiet)
+    ∷ (6, entry 1 (Levels (8 ∷ 8 ∷ [])) (Refused WrongLevel))
+    ∷ (8, entry 1 (Level 2 7) (Refused NotJoined))
+    ∷ (9, entry 0 (InOrder true) (Refused NotJoined)) ∷ [])
 
 abbrev pub examples : List Example
 examples =
