@@ -14,7 +14,7 @@ use crate::told::Told;
 use bt_check::Verdict;
 use bt_history::{Reply, Rules};
 use bt_meta::Torrent;
-use bt_tables::{HELD, Tables};
+use bt_tables::{Dealing, HELD, Tables};
 use std::alloc::{AllocError, Global};
 use std::sync::Arc;
 
@@ -64,7 +64,7 @@ fn put(tables: &mut Tables, past: &Past, worker: u32, told: &Told<'_>, reply: Re
             tables.note_interest(worker, reply);
         }
         Told::Choke => tables.choke(worker),
-        Told::Unchoke => tables.unchoke(worker),
+        Told::Unchoke => tables.note(worker, Dealing::Unchoke),
         Told::Next(_) => {
             tables.learn(worker, reply);
             tables.put_next(worker, reply);
@@ -75,7 +75,7 @@ fn put(tables: &mut Tables, past: &Past, worker: u32, told: &Told<'_>, reply: Re
         Told::Leave => tables.leave(worker),
         Told::Want(flags) => tables.put_want(flags),
         Told::Haves(flags) => tables.put_haves(worker, flags),
-        Told::Depth(depth) => tables.put_depth(worker, *depth),
+        Told::Depth(depth) => tables.note(worker, Dealing::Depth(*depth)),
         Told::Release { piece, begin } => tables.put_release(worker, *piece, *begin),
         Told::Level { piece, level } => tables.put_level(*piece, *level),
         Told::Levels(levels) => tables.put_levels(levels),

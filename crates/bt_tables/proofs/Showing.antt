@@ -1,8 +1,10 @@
 -- The rows of the peers beside the pieces that they show: what is read of both, and what a change of one leaves of the other.
 use Rattle.std.proofs.Common.{◌≡◌, ℕ, zero, suc, ◌<◌, Bool, false, List, [], ◌∷◌, length, get_or, set, replicate, refl, ap, sym, ◌∙◌, arith}
 use Rattle.bt_history.specs.Counting.{table}
-use Rattle.bt_tables.specs.Showing.{Dealings, dealings, flags_at, showing, showing_rows}
-use Rattle.bt_tables.specs.Tables.{PeerState, edit, fresh_peer, peer_row}
+use Rattle.bt_tables.specs.declared.peer.Dealing.{Dealing}
+use Rattle.bt_tables.specs.declared.peer.Dealing.TheVariants.{Heard}
+use Rattle.bt_tables.specs.Showing.{Dealings, dealings, flags_at, showing, showing_rows, noted}
+use Rattle.bt_tables.specs.Tables.{PeerState, edit, fresh_peer, peer_row, noted_row}
 use Rattle.bt_tables.proofs.Tabled.{edit_none, get_or_table, length_table, table_from}
 
 pub length_showing : (rows : List Dealings) (shows : List (List Bool)) → length shows ≡ length rows
@@ -70,3 +72,12 @@ showing_fresh n room pieces rows shows is are =
 pub worker_within : (rows : List Dealings) (shows : List (List Bool)) (peers : List PeerState) (w : ℕ) → showing_rows rows shows ≡ peers
     → length shows ≡ length rows → w < length peers → w < length rows
 worker_within rows shows peers w is len lw = omega (arith, lw, len, ap length is, length_showing rows shows len)
+
+-- what comes to pass with a peer leaves what it shows
+pub noted_shown : (dealing : Dealing) (flags : List Bool) (row : Dealings) → showing flags (noted dealing row) ≡ noted_row dealing (showing flags row)
+noted_shown Heard flags row = refl
+noted_shown dealing flags row = refl
+
+pub noted_shows : (dealing : Dealing) (row : PeerState) → (noted_row dealing row).shows ≡ row.shows
+noted_shows Heard row = refl
+noted_shows dealing row = refl

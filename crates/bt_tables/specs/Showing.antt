@@ -1,7 +1,11 @@
 -- What is kept of the peers, with the pieces that they show in a table of their own. No public clause of the picker cites this module.
-use Rattle.std.specs.Prelude.{Option, ℕ, ◌<◌, Bool, List, [], ◌∷◌, length, map, slice_index_or}
+use Rattle.std.specs.List.{filter}
+use Rattle.std.specs.Prelude.{Option, Some, ℕ, ◌<◌, Bool, true, false, not, List, [], ◌∷◌, length, map, slice_index_or}
 use Rattle.bt_meta.specs.declared.block.Block.{Block}
 use Rattle.bt_meta.specs.WireBits.{IsPayload, flags_of}
+use Rattle.bt_history.specs.History.{same_begin}
+use Rattle.bt_tables.specs.declared.peer.Dealing.{Dealing}
+use Rattle.bt_tables.specs.declared.peer.Dealing.TheVariants.{Heard, Choke, Unchoke, Depth, Cancelled}
 use Rattle.bt_tables.specs.Stripes.{stripe}
 use Rattle.bt_tables.specs.Tables.{PeerState}
 
@@ -26,6 +30,14 @@ dealings row = record {
   asked = row.asked;
   due = row.due;
 }
+
+-- what is kept of a peer after what came to pass with it
+abbrev pub noted : Dealing → Dealings → Dealings
+noted Heard row = record row { late = true }
+noted Choke row = record row { late = true; is_open = false; asked = []; due = [] }
+noted Unchoke row = record row { late = true; is_open = true }
+noted (Depth n) row = record row { told = Some n }
+noted (Cancelled a) row = record row { due = filter (λ b. not (same_begin a b)) row.due }
 
 -- the row of a peer that shows these pieces
 abbrev pub showing : List Bool → Dealings → PeerState

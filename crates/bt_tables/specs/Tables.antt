@@ -13,6 +13,8 @@ use Rattle.bt_history.specs.History.{stores, is_had, same_begin}
 use Rattle.bt_history.specs.Legal.{place_at}
 use Rattle.bt_history.specs.Peers.{has_place}
 use Rattle.bt_tables.specs.declared.cell.TheConstants.{HELD}
+use Rattle.bt_tables.specs.declared.peer.Dealing.{Dealing}
+use Rattle.bt_tables.specs.declared.peer.Dealing.TheVariants.{Heard, Choke, Unchoke, Depth, Cancelled}
 use Rattle.bt_tables.specs.declared.piece.Change.{Change}
 use Rattle.bt_history.specs.declared.rules.TheConstants.{USUAL_LEVEL}
 use Rattle.bt_tables.specs.declared.piece.Change.TheVariants.{Raise, Lower, Store, Pass, Fail, Level}
@@ -79,17 +81,25 @@ unchoke_row row = record row { late = true; is_open = true }
 abbrev pub depth_row : ℕ → PeerState → PeerState
 depth_row n row = record row { told = Some n }
 
--- after Next, where block b is asked for
-abbrev pub request_row : Block → PeerState → PeerState
-request_row b row = record row { asked = row.asked ++ b ∷ [] }
+-- after an arrival
+abbrev pub late_row : PeerState → PeerState
+late_row row = record row { late = true }
 
 -- after Next, where block a is cancelled
 abbrev pub cancel_row : Block → PeerState → PeerState
 cancel_row a row = record row { due = filter (λ b. not (same_begin a b)) row.due }
 
--- after an arrival
-abbrev pub late_row : PeerState → PeerState
-late_row row = record row { late = true }
+-- after what came to pass with the peer, and changed nothing that it shows
+abbrev pub noted_row : Dealing → PeerState → PeerState
+noted_row Heard row = late_row row
+noted_row Choke row = choke_row row
+noted_row Unchoke row = unchoke_row row
+noted_row (Depth n) row = depth_row n row
+noted_row (Cancelled b) row = cancel_row b row
+
+-- after Next, where block b is asked for
+abbrev pub request_row : Block → PeerState → PeerState
+request_row b row = record row { asked = row.asked ++ b ∷ [] }
 
 -- after Leave
 abbrev pub leave_row : PeerState → PeerState

@@ -3,6 +3,7 @@
 ghost use Rattle.std.specs.Prelude.{ℕ, ◌≡◌, ◌<◌, ◌≤◌, ◌+◌, ◌^◌, EachIndex, true, false, length, slice_index_or};
 ghost use Rattle.bt_tables.specs.Tables.{bits_row, edit, have_row, joint, less_available, more_available, peer_row, piece_row, recounted};
 
+use crate::peer::Dealing;
 use crate::peers::Peers;
 use crate::pieces::Pieces;
 use bt_meta::Bitfield;
@@ -19,7 +20,7 @@ pub fn announce_all(pieces: &mut Pieces, peers: &mut Peers, worker: u32, flags: 
         ≡ recounted pieces.old (peer_row peers.old worker).shows (joint flags.now (peer_row peers.old worker).shows) }
     ensures peers { peers.new ≡ edit peers.old worker (bits_row (joint flags.now (peer_row peers.old worker).shows)) }
 {
-    peers.note_arrival(worker); // a set of no pieces is told too
+    peers.note(worker, Dealing::Heard); // a set of no pieces is told too
     for piece in 0..flags.count() {
         if flags.has(piece) {
             announce(pieces, peers, worker, piece);

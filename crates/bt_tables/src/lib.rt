@@ -24,7 +24,7 @@ mod tables;
 
 pub use cell::{Cell, HELD};
 pub use order::Order;
-pub use peer::Peer;
+pub use peer::{Dealing, Peer};
 pub use piece::{
     CROWD, GROUPS, Piece, RANKS, SPAN, Stage, UNBEGUN, first_group, group_number, rank,
 };

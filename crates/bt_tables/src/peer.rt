@@ -7,12 +7,27 @@ ghost use Rattle.std.specs.Prelude.{if◌then◌else◌};
 ghost use Rattle.std.specs.List.{filter, list_any};
 ghost use Rattle.bt_history.specs.History.{same_begin};
 ghost use Rattle.bt_history.specs.Peers.{AreApart, has_place};
-ghost use Rattle.bt_tables.specs.Showing.{Dealings, dealings};
+ghost use Rattle.bt_tables.specs.Showing.{Dealings, dealings, noted};
 ghost use Rattle.bt_tables.specs.Tables.{fresh_peer};
 
 use bt_meta::Block;
 use std::alloc::{AllocError, Global};
 use std::marker::Model;
+
+/// What comes to pass with a peer, and changes nothing that it shows.
+#[derive(Clone, Copy)]
+pub enum Dealing {
+    /// It told something, so that a bitfield of it would come too late.
+    Heard,
+    /// It chokes, which frees what was asked of it.
+    Choke,
+    /// It lets itself be asked.
+    Unchoke,
+    /// From now on so many blocks may be asked of it at a time.
+    Depth(u32),
+    /// The cancel of the block that begins there is told.
+    Cancelled(Block),
+}
 
 /// What is kept of a peer: the newest that it told of itself, and two lines of blocks. The pieces that it shows stand apart (`Shows`).
 ///
@@ -148,14 +163,6 @@ impl Peer {
         self.reset();
     }
 
-    /// The peer chokes, which frees what was asked of it.
-    pub fn choke(&mut self)
-        ensures { self.new ≡ record self.old { late = true; is_open = false; asked = []; due = [] } }
-    {
-        self.late = true;
-        self.reset();
-    }
-
     /// Takes back all that was asked of the peer, and with it the cancels that it is owed.
     fn reset(&mut self)
         ensures { self.new ≡ record self.old { is_open = false; asked = []; due = [] } }
@@ -165,26 +172,23 @@ impl Peer {
         self.due.clear();
     }
 
-    /// The peer lets itself be asked.
-    pub fn unchoke(&mut self)
-        ensures { self.new ≡ record self.old { late = true; is_open = true } }
+    /// Notes what came to pass with the peer.
+    pub fn note(&mut self, dealing: Dealing)
+        ensures { self.new ≡ noted dealing self.old }
     {
-        self.late = true;
-        self.unchoked = true;
-    }
-
-    /// From now on so many blocks may be asked of the peer at a time.
-    pub fn deepen(&mut self, depth: u32)
-        ensures { self.new ≡ record self.old { told = Some depth } }
-    {
-        self.told = Some(depth);
-    }
-
-    /// The peer told something, so that a bitfield of it would come too late.
-    pub fn note_message(&mut self)
-        ensures { self.new ≡ record self.old { late = true } }
-    {
-        self.late = true;
+        match dealing {
+            Dealing::Heard => self.late = true,
+            Dealing::Choke => {
+                self.late = true;
+                self.reset();
+            }
+            Dealing::Unchoke => {
+                self.late = true;
+                self.unchoked = true;
+            }
+            Dealing::Depth(depth) => self.told = Some(depth),
+            Dealing::Cancelled(block) => self.cancel(block),
+        }
     }
 
     /// The block is asked of the peer now.
@@ -197,7 +201,7 @@ impl Peer {
     }
 
     /// The cancel of the block that begins there is told.
-    pub fn cancel(&mut self, block: Block)
+    fn cancel(&mut self, block: Block)
         ensures { self.new ≡ record self.old { due = filter (λ b. not (same_begin block b)) self.old.due } }
     {
         self.due

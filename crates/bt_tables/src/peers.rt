@@ -5,11 +5,10 @@ ghost use Rattle.bt_meta.specs.WireBits.{FindsFirst};
 ghost use Rattle.bt_history.specs.Counting.{count_below, table};
 ghost use Rattle.bt_history.specs.Peers.{has_place};
 ghost use Rattle.bt_tables.specs.Showing.{dealings};
-ghost use Rattle.bt_tables.specs.Tables.{asks_at, bits_row, cancel_row, choke_row, depth_row, edit, fresh_peer, have_row, join_row, late_row};
-ghost use Rattle.bt_tables.specs.Tables.{leave_row};
-ghost use Rattle.bt_tables.specs.Tables.{HasShortLines, peer_row, request_row, unchoke_row, without_block};
+ghost use Rattle.bt_tables.specs.Tables.{asks_at, bits_row, noted_row, edit, fresh_peer, have_row, join_row, leave_row};
+ghost use Rattle.bt_tables.specs.Tables.{HasShortLines, peer_row, request_row, without_block};
 
-use crate::peer::Peer;
+use crate::peer::{Dealing, Peer};
 use crate::shows::Shows;
 use bt_meta::{Bitfield, Block};
 use std::alloc::{AllocError, Global};
@@ -113,28 +112,13 @@ impl Peers {
         self.shows.clear(worker); // what is gone shows nothing
     }
 
-    /// The peer chokes, which frees what was asked of it.
-    pub fn choke(&mut self, worker: u32)
+    /// Notes what came to pass with the worker's peer.
+    #[inline]
+    pub fn note(&mut self, worker: u32, dealing: Dealing)
         requires { worker < length self.old }
-        ensures { self.new ≡ edit self.old worker choke_row }
+        ensures { self.new ≡ edit self.old worker (noted_row dealing) }
     {
-        self.rows[worker as usize].choke();
-    }
-
-    /// The peer lets itself be asked.
-    pub fn unchoke(&mut self, worker: u32)
-        requires { worker < length self.old }
-        ensures { self.new ≡ edit self.old worker unchoke_row }
-    {
-        self.rows[worker as usize].unchoke();
-    }
-
-    /// From now on so many blocks may be asked of the peer at a time.
-    pub fn deepen(&mut self, worker: u32, depth: u32)
-        requires { worker < length self.old }
-        ensures { self.new ≡ edit self.old worker (depth_row depth) }
-    {
-        self.rows[worker as usize].deepen(depth);
+        self.rows[worker as usize].note(dealing);
     }
 
     /// The peer told its bitfield.
@@ -143,7 +127,7 @@ impl Peers {
         requires flags { length flags.now ≡ length (peer_row self.old worker).shows }
         ensures { self.new ≡ edit self.old worker (bits_row flags.now) }
     {
-        self.rows[worker as usize].note_message();
+        self.rows[worker as usize].note(Dealing::Heard);
         self.shows.put(worker, flags);
     }
 
@@ -153,16 +137,8 @@ impl Peers {
         requires piece { piece < length (peer_row self.old worker).shows }
         ensures { self.new ≡ edit self.old worker (have_row piece) }
     {
-        self.rows[worker as usize].note_message();
+        self.rows[worker as usize].note(Dealing::Heard);
         self.shows.set(worker, piece);
-    }
-
-    /// The peer brought a block.
-    pub fn note_arrival(&mut self, worker: u32)
-        requires { worker < length self.old }
-        ensures { self.new ≡ edit self.old worker late_row }
-    {
-        self.rows[worker as usize].note_message();
     }
 
     /// The block is asked of the peer now.
@@ -173,14 +149,6 @@ impl Peers {
         ensures { self.new ≡ edit self.old worker (request_row block) }
     {
         self.rows[worker as usize].ask(block);
-    }
-
-    /// The cancel of the block that begins there is told.
-    pub fn cancel(&mut self, worker: u32, block: Block)
-        requires { worker < length self.old }
-        ensures { self.new ≡ edit self.old worker (cancel_row block) }
-    {
-        self.rows[worker as usize].cancel(block);
     }
 
     /// The block that begins there was stored, brought by this peer or by another; with `own` it is as well one that is given up.

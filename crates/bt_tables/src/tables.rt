@@ -16,15 +16,15 @@ ghost use Rattle.bt_history.specs.Counting.{table};
 ghost use Rattle.bt_tables.specs.Floors.{IsFloor, IsRarestStart, NoneFresh, RequestTells, TellsFloor, is_fresh};
 ghost use Rattle.bt_tables.specs.Tables.{AreAskers, AreCounted, HasBlock, HasRoomFor, HasShortLines, bits_row, leave_row, TablesState};
 ghost use Rattle.bt_tables.specs.Tables.{after_arrival, after_check};
-ghost use Rattle.bt_tables.specs.Tables.{after_next, announced, cancel_row, depth_row, given_up, late_row, edit, failed_row, fresh_peer};
+ghost use Rattle.bt_tables.specs.Tables.{after_next, announced, given_up, edit, failed_row, fresh_peer};
 ghost use Rattle.bt_tables.specs.Tables.{fresh_piece, join_row, choke_row};
-ghost use Rattle.bt_tables.specs.Tables.{unchoke_row, joint, levelled, ordered, peer_row, piece_row, released, relevelled, reshown};
+ghost use Rattle.bt_tables.specs.Tables.{noted_row, joint, levelled, ordered, peer_row, piece_row, released, relevelled, reshown};
 ghost use Rattle.bt_tables.specs.Tables.{wanted_level, with_block, with_peer};
 
 use crate::cell::HELD;
 use crate::floors::Floors;
 use crate::haves::announce_all;
-use crate::peer::Peer;
+use crate::peer::{Dealing, Peer};
 use crate::peers::Peers;
 use crate::piece::{Change, GROUPS, Piece, Stage, rank};
 use crate::pieces::Pieces;
@@ -339,23 +339,16 @@ impl Tables {
         ensures { self.new ≡ with_peer (released self.old worker) worker choke_row }
     {
         self.release(worker);
-        self.peers.choke(worker);
+        self.peers.note(worker, Dealing::Choke);
     }
 
-    /// Unchoke.
-    pub fn unchoke(&mut self, worker: u32)
+    /// What comes to pass with the worker's peer and changes no piece's row: Unchoke, Depth, a cancel that is told, an arrival.
+    #[inline(always)]
+    pub fn note(&mut self, worker: u32, dealing: Dealing)
         requires { worker < length self.old.peers }
-        ensures { self.new ≡ with_peer self.old worker unchoke_row }
+        ensures { self.new ≡ with_peer self.old worker (noted_row dealing) }
     {
-        self.peers.unchoke(worker);
-    }
-
-    /// Depth.
-    pub fn put_depth(&mut self, worker: u32, depth: u32)
-        requires { worker < length self.old.peers }
-        ensures { self.new ≡ with_peer self.old worker (depth_row depth) }
-    {
-        self.peers.deepen(worker, depth);
+        self.peers.note(worker, dealing);
     }
 
     /// Release: the block that begins there, which is asked of the peer, is asked of it no more.
@@ -423,7 +416,7 @@ impl Tables {
     {
         match reply {
             Reply::Request(block) => self.ask(worker, block),
-            Reply::Cancel(block) => self.cancel(worker, block),
+            Reply::Cancel(block) => self.note(worker, Dealing::Cancelled(block)),
             _ => {}
         }
     }
@@ -447,14 +440,6 @@ impl Tables {
         if self.in_order {
             self.pieces.advance();
         }
-    }
-
-    /// The cancel of the block is told.
-    fn cancel(&mut self, worker: u32, block: Block)
-        requires { worker < length self.old.peers }
-        ensures { self.new ≡ with_peer self.old worker (cancel_row block) }
-    {
-        self.peers.cancel(worker, block);
     }
 
     /// Block `index` of the piece is held now, brought by the worker's peer.
@@ -493,15 +478,7 @@ impl Tables {
         if reply.is_stored() {
             self.put_block(worker, piece, begin / BLOCK_SIZE);
         }
-        self.note_arrival(worker);
-    }
-
-    /// The peer told something, so that a bitfield of it would come too late.
-    fn note_arrival(&mut self, worker: u32)
-        requires { worker < length self.old.peers }
-        ensures { self.new ≡ with_peer self.old worker late_row }
-    {
-        self.peers.note_arrival(worker);
+        self.note(worker, Dealing::Heard);
     }
 
     /// A check of the piece, by its reply.

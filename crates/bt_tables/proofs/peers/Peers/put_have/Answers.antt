@@ -27,7 +27,7 @@ set-requires-clause-piece c =
 pub invariant_of-self : goal.invariant_of-self
 invariant_of-self c =
     let o = c.self.inside in
-    rw c.set.ensures (length_edit o.shows c.args.worker _ ∙ (c.self.invariant ∙ sym (length-set o.rows.items c.args.worker c.note_message.new.self)))
+    rw c.set.ensures (length_edit o.shows c.args.worker _ ∙ (c.self.invariant ∙ sym (length-set o.rows.items c.args.worker c.note.new.self)))
 
 pub returns : goal.returns
 returns c =
@@ -35,7 +35,7 @@ returns c =
     let lw = worker_within o.rows.items o.shows _ c.args.worker c.self.view_is c.self.invariant c.requires.worker in
     let now : Dealings → Dealings = λ r. record r { late = true } in
     let flags : List Bool → List Bool = λ flags. set flags c.args.piece true in
-    rw (← c.self.view_is, c.set.ensures, c.note_message.ensures)
+    rw (← c.self.view_is, c.set.ensures, c.note.ensures)
     (showing_edit o.rows.items o.shows c.args.worker c.index_mut.result.now now flags (have_row c.args.piece)
     c.self.invariant lw c.index_mut.ensures.value
     (λ flags r. refl))
