@@ -4,6 +4,7 @@ ghost use Rattle.bt_c.specs.Handles.{handle_owns};
 ghost use Rattle.bt_c.specs.contracts.check.Check as away;
 
 use crate::check::Check;
+use crate::handle::Handle;
 use crate::loose::Loose;
 use std::alloc::Global;
 use std::marker::Model;
@@ -21,9 +22,13 @@ impl Model for JobHandle {
     ghost also_owns = { λ s. handle_owns away.the_row s.at s.alloc s.check };
 }
 
-impl JobHandle {
+impl Handle for JobHandle {
+    type Behind = Check;
+
+    ghost holds = { λ s. s.check };
+
     /// A null handle.
-    pub fn shut(alloc: Global) -> JobHandle
+    fn shut(alloc: Global) -> JobHandle
         ensures { result.check ≡ None }
     {
         JobHandle {
@@ -56,33 +61,6 @@ impl JobHandle {
                 alloc,
             })
         }
-    }
-}
-
-impl JobHandle {
-    /// A handle that owns the check.
-    pub fn of(check: Box<Check>) -> JobHandle
-        ensures { result.check ≡ Some check.value }
-    {
-        JobHandle::of_loose(Loose::of(check))
-    }
-
-    /// The check that the handle owned, unless it is null.
-    pub fn into_box(self) -> Option<Box<Check>>
-        ensures { MatchOption result (self.check ≡ None) (λ b. self.check ≡ Some b.value) }
-    {
-        match self.into_loose() {
-            None => None,
-            Some(loose) => Some(loose.into_box()),
-        }
-    }
-
-    /// Takes the check out of a handle, which is null then.
-    pub fn take(&mut self, alloc: Global) -> Option<Box<Check>>
-        ensures check { MatchOption result (self.old.check ≡ None) (λ b. self.old.check ≡ Some b.value) }
-        ensures shut { self.new.check ≡ None }
-    {
-        std::mem::replace(self, JobHandle::shut(alloc)).into_box()
     }
 }
 

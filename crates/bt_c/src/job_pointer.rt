@@ -3,6 +3,7 @@ ghost use Rattle.std.specs.Prelude.{◌≡◌, ℕ, None, Some, Option, MatchOpt
 ghost use Rattle.bt_c.specs.Handles.{handle_owns};
 ghost use Rattle.bt_c.specs.contracts.job_handle.JobHandle as behind;
 
+use crate::handle::Handle;
 use crate::job_handle::JobHandle;
 use crate::loose::Loose;
 use std::alloc::Global;
@@ -21,9 +22,13 @@ impl Model for JobPointer {
     ghost also_owns = { λ s. handle_owns behind.the_row s.at s.alloc s.job };
 }
 
-impl JobPointer {
+impl Handle for JobPointer {
+    type Behind = JobHandle;
+
+    ghost holds = { λ s. s.job };
+
     /// A null handle.
-    pub fn shut(alloc: Global) -> JobPointer
+    fn shut(alloc: Global) -> JobPointer
         ensures { result.job ≡ None }
     {
         JobPointer {
@@ -56,33 +61,6 @@ impl JobPointer {
                 alloc,
             })
         }
-    }
-}
-
-impl JobPointer {
-    /// A handle that owns the check.
-    pub fn of(check: Box<JobHandle>) -> JobPointer
-        ensures { result.job ≡ Some check.value }
-    {
-        JobPointer::of_loose(Loose::of(check))
-    }
-
-    /// The check that the handle owned, unless it is null.
-    pub fn into_box(self) -> Option<Box<JobHandle>>
-        ensures { MatchOption result (self.job ≡ None) (λ b. self.job ≡ Some b.value) }
-    {
-        match self.into_loose() {
-            None => None,
-            Some(loose) => Some(loose.into_box()),
-        }
-    }
-
-    /// Takes the check out of a handle, which is null then.
-    pub fn take(&mut self, alloc: Global) -> Option<Box<JobHandle>>
-        ensures check { MatchOption result (self.old.job ≡ None) (λ b. self.old.job ≡ Some b.value) }
-        ensures shut { self.new.job ≡ None }
-    {
-        std::mem::replace(self, JobPointer::shut(alloc)).into_box()
     }
 }
 

@@ -3,6 +3,7 @@ ghost use Rattle.std.specs.Prelude.{◌≡◌, ℕ, None, Some, Option, MatchOpt
 ghost use Rattle.bt_c.specs.Handles.{handle_owns};
 ghost use Rattle.bt_c.specs.contracts.held.Held as behind;
 
+use crate::handle::Handle;
 use crate::held::Held;
 use crate::loose::Loose;
 use std::alloc::Global;
@@ -21,9 +22,13 @@ impl Model for PickerHandle {
     ghost also_owns = { λ s. handle_owns behind.the_row s.at s.alloc s.held };
 }
 
-impl PickerHandle {
+impl Handle for PickerHandle {
+    type Behind = Held;
+
+    ghost holds = { λ s. s.held };
+
     /// A null handle.
-    pub fn shut(alloc: Global) -> PickerHandle
+    fn shut(alloc: Global) -> PickerHandle
         ensures { result.held ≡ None }
     {
         PickerHandle {
@@ -56,33 +61,6 @@ impl PickerHandle {
                 alloc,
             })
         }
-    }
-}
-
-impl PickerHandle {
-    /// A handle that owns the picker.
-    pub fn of(held: Box<Held>) -> PickerHandle
-        ensures { result.held ≡ Some held.value }
-    {
-        PickerHandle::of_loose(Loose::of(held))
-    }
-
-    /// The picker that the handle owned, unless it is null.
-    pub fn into_box(self) -> Option<Box<Held>>
-        ensures { MatchOption result (self.held ≡ None) (λ b. self.held ≡ Some b.value) }
-    {
-        match self.into_loose() {
-            None => None,
-            Some(loose) => Some(loose.into_box()),
-        }
-    }
-
-    /// Takes the picker out of a handle, which is null then.
-    pub fn take(&mut self, alloc: Global) -> Option<Box<Held>>
-        ensures held { MatchOption result (self.old.held ≡ None) (λ b. self.old.held ≡ Some b.value) }
-        ensures shut { self.new.held ≡ None }
-    {
-        std::mem::replace(self, PickerHandle::shut(alloc)).into_box()
     }
 }
 

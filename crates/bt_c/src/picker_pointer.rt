@@ -3,6 +3,7 @@ ghost use Rattle.std.specs.Prelude.{◌≡◌, ℕ, None, Some, Option, MatchOpt
 ghost use Rattle.bt_c.specs.Handles.{handle_owns};
 ghost use Rattle.bt_c.specs.contracts.picker_handle.PickerHandle as behind;
 
+use crate::handle::Handle;
 use crate::loose::Loose;
 use crate::picker_handle::PickerHandle;
 use std::alloc::Global;
@@ -21,9 +22,13 @@ impl Model for PickerPointer {
     ghost also_owns = { λ s. handle_owns behind.the_row s.at s.alloc s.picker };
 }
 
-impl PickerPointer {
+impl Handle for PickerPointer {
+    type Behind = PickerHandle;
+
+    ghost holds = { λ s. s.picker };
+
     /// A null handle.
-    pub fn shut(alloc: Global) -> PickerPointer
+    fn shut(alloc: Global) -> PickerPointer
         ensures { result.picker ≡ None }
     {
         PickerPointer {
@@ -56,33 +61,6 @@ impl PickerPointer {
                 alloc,
             })
         }
-    }
-}
-
-impl PickerPointer {
-    /// A handle that owns the picker.
-    pub fn of(held: Box<PickerHandle>) -> PickerPointer
-        ensures { result.picker ≡ Some held.value }
-    {
-        PickerPointer::of_loose(Loose::of(held))
-    }
-
-    /// The picker that the handle owned, unless it is null.
-    pub fn into_box(self) -> Option<Box<PickerHandle>>
-        ensures { MatchOption result (self.picker ≡ None) (λ b. self.picker ≡ Some b.value) }
-    {
-        match self.into_loose() {
-            None => None,
-            Some(loose) => Some(loose.into_box()),
-        }
-    }
-
-    /// Takes the picker out of a handle, which is null then.
-    pub fn take(&mut self, alloc: Global) -> Option<Box<PickerHandle>>
-        ensures held { MatchOption result (self.old.picker ≡ None) (λ b. self.old.picker ≡ Some b.value) }
-        ensures shut { self.new.picker ≡ None }
-    {
-        std::mem::replace(self, PickerPointer::shut(alloc)).into_box()
     }
 }
 

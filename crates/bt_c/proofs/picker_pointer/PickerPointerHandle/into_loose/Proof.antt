@@ -27,14 +27,14 @@ use Rattle.std_alloc.proofs.ResultValues.{and_tt}
 use Rattle.std.proofs.alloc.Global.TheLaws as heap_laws
 use Rattle.std.specs.contracts.impls.GlobalAllocator.TheImpl.{ghosts}
 use Rattle.std.proofs.raw_atomic.Walks.{proved_at, leaves}
-use Rattle.bt_c.specs.contracts.picker_handle.PickerHandle as handle
-use Rattle.bt_c.specs.contracts.held.Held.{the_row as R}
+use Rattle.bt_c.specs.contracts.picker_pointer.PickerPointer as handle
+use Rattle.bt_c.specs.contracts.picker_handle.PickerHandle.{the_row as R}
 use Rattle.bt_c.proofs.Values.{both, Loose, loose_good, loose_in}
 use Rattle.bt_c.proofs.Handles.{Z, handle_out, handle_good, either_handle}
-use Rattle.bt_c.specs.contracts.picker_handle.PickerHandle.into_loose.{ended, clauses}
-use Rattle.bt_c.specs.contracts.picker_handle.PickerHandle.into_loose.Key.{name as #self}
-use Rattle.bt_c.proofs.picker_handle.PickerHandle.into_loose.Statement.{statement}
-use Rattle.bt_c.proofs.picker_handle.PickerHandle.into_loose.Code as code
+use Rattle.bt_c.specs.contracts.picker_pointer.PickerPointerHandle.into_loose.{ended, clauses}
+use Rattle.bt_c.specs.contracts.picker_pointer.PickerPointerHandle.into_loose.Key.{name as #self}
+use Rattle.bt_c.proofs.picker_pointer.PickerPointerHandle.into_loose.Statement.{statement}
+use Rattle.bt_c.proofs.picker_pointer.PickerPointerHandle.into_loose.Code as code
 
 pub into_loose_spec : {M : Type 1} → statement M
 into_loose_spec 𝓤 𝓛 𝓜 𝓡 wired =
@@ -46,7 +46,7 @@ into_loose_spec 𝓤 𝓛 𝓜 𝓡 wired =
     let Run : List Val → SProp 𝓤 = λ ws. WpFn 𝓤 H 𝓣.C 𝓣.Λ fn ws Post in let Out : RattleType = type_at En.signature.result κs in
     qed 𝓛 ((‵ ftrue ⊛ ‵ (owns (types_at En.signature.params κs) z.0.3 z.0.4)) ∷ raw ((c κs z.0.3).requires z.1) ∷ []) ∵ split ! $ move ! (1 ∷ []) $
     fsplit ! $
-    handle_out R ! s.at s.alloc s.held z.0.4.0 (λ h ws fits. either_handle R ! s.at s.alloc s.held
+    handle_out R ! s.at s.alloc s.picker z.0.4.0 (λ h ws fits. either_handle R ! s.at s.alloc s.picker
     (λ none is. let w : Val = both (ptr_val null_ptr) h in let told : z.0.4.0 ≡ w ∷ [] = subst (λ (p : Ptr).
     z.0.4.0 ≡ both (ptr_val p) h ∷ []) is ws in
     suffices ! (Run (w ∷ [])) (subst (λ (us : List Val). ent 𝓤 (Run (w ∷ [])) (Run us)) (sym (λ i. told i ++ [])) (id⊢ 𝓤 (Run (w ∷ [])))) $
@@ -57,7 +57,7 @@ into_loose_spec 𝓤 𝓛 𝓜 𝓡 wired =
     (λ _. sets_last ! (agg ! (and_then ! (lit ! tt) (no_more !))) refl (tt, (record { fits = lit< tt }, tt)) $
     exec ! 𝓣.C 𝓣.Λ Ev (after 4 fn.body) (at_ret Ev Post) $ sets ! (of_opd ! (get ! refl)) refl (tt, (record { fits = lit< tt }, tt)) $
     use0 𝓛 (‵ (Out.own_val None (live 0 vnil ∷ []))) (none_of 𝓛 Lr) $
-    use0 𝓛 (raw (fact 𝓤 (s.held ≡ None))) (fact_i 𝓤 (s.held ≡ None) (emp 𝓤) none) $ nothing ! $ nothing ! $ fjoin ! $
+    use0 𝓛 (raw (fact 𝓤 (s.picker ≡ None))) (fact_i 𝓤 (s.picker ≡ None) (emp 𝓤) none) $ nothing ! $ nothing ! $ fjoin ! $
     returns ! (look_at ! 0 refl) $ free_all ! refl $ keep ! (5 ∷ 0 ∷ 2 ∷ 1 ∷ []) $
     by ! (leaves 𝓛 En hs c z (live 0 vnil) None (tt, tt) (tt, tt))) (λ wrong. absurd wrong)))
     (λ b o x some is t. let w : Val = both (vptr b o) h in let told : z.0.4.0 ≡ w ∷ [] = subst (λ (p : Ptr).
@@ -75,5 +75,5 @@ into_loose_spec 𝓤 𝓛 𝓜 𝓡 wired =
     sets_last ! (agg ! (and_then ! (lit ! tt) (and_then ! (get ! refl) (no_more !)))) refl good $
     exec ! 𝓣.C 𝓣.Λ Ev (after 4 fn.body) (at_ret Ev Post) $ sets ! (of_opd ! (get ! refl)) refl good $ loose_in R Z LZ ghosts ! b o h s.alloc x $
     use1 𝓛 (‵ (Out.own_val (Some d) (v₁ ∷ []))) (Some-of 𝓛 Lr d made) $
-    use0 𝓛 (raw (fact 𝓤 (s.held ≡ Some x))) (fact_i 𝓤 (s.held ≡ Some x) (emp 𝓤) some) $ nothing ! $ nothing ! $ fjoin ! $
+    use0 𝓛 (raw (fact 𝓤 (s.picker ≡ Some x))) (fact_i 𝓤 (s.picker ≡ Some x) (emp 𝓤) some) $ nothing ! $ nothing ! $ fjoin ! $
     returns ! (look_at ! 0 refl) $ free_all ! refl $ keep ! (4 ∷ 0 ∷ 2 ∷ 1 ∷ []) $ by ! (leaves 𝓛 En hs c z v₁ (Some d) (tt, tt) (tt, tt)))))))

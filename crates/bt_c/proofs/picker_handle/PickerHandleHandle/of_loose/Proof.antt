@@ -20,14 +20,14 @@ use Rattle.std.specs.Prelude.{Some}
 use Rattle.std.proofs.alloc.Global.TheLaws as heap_laws
 use Rattle.std.specs.contracts.impls.GlobalAllocator.TheImpl.{ghosts}
 use Rattle.std.proofs.raw_atomic.Walks.{proved_at, leaves}
-use Rattle.bt_c.specs.contracts.job_pointer.JobPointer as handle
-use Rattle.bt_c.specs.contracts.job_handle.JobHandle.{the_row as R}
+use Rattle.bt_c.specs.contracts.picker_handle.PickerHandle as handle
+use Rattle.bt_c.specs.contracts.held.Held.{the_row as R}
 use Rattle.bt_c.proofs.Values.{both, Loose, loose_good, loose_out}
 use Rattle.bt_c.proofs.Handles.{Z, handle_in, handle_good}
-use Rattle.bt_c.specs.contracts.job_pointer.JobPointer.of_loose.{ended, clauses}
-use Rattle.bt_c.specs.contracts.job_pointer.JobPointer.of_loose.Key.{name as #self}
-use Rattle.bt_c.proofs.job_pointer.JobPointer.of_loose.Statement.{statement}
-use Rattle.bt_c.proofs.job_pointer.JobPointer.of_loose.Code as code
+use Rattle.bt_c.specs.contracts.picker_handle.PickerHandleHandle.of_loose.{ended, clauses}
+use Rattle.bt_c.specs.contracts.picker_handle.PickerHandleHandle.of_loose.Key.{name as #self}
+use Rattle.bt_c.proofs.picker_handle.PickerHandleHandle.of_loose.Statement.{statement}
+use Rattle.bt_c.proofs.picker_handle.PickerHandleHandle.of_loose.Code as code
 
 pub of_loose_spec : {M : Type 1} → statement M
 of_loose_spec 𝓤 𝓛 𝓜 𝓡 wired =
@@ -44,15 +44,15 @@ of_loose_spec 𝓤 𝓛 𝓜 𝓡 wired =
     qed 𝓛 ((‵ ftrue ⊛ ‵ (owns (types_at En.signature.params κs) z.0.3 z.0.4)) ∷ raw ((c κs z.0.3).requires z.1) ∷ []) ∵ split ! $ move ! (1 ∷ []) $
     fsplit ! $
     loose_out R Z LZ ghosts ! v z.0.4.0 (λ b o h e ws fits. let w : Val = both (vptr b o) h in
-    let d : handle.the_row.Denot = record { at = block_ptr b o; alloc = v.alloc; job = Some v.value } in
+    let d : handle.the_row.Denot = record { at = block_ptr b o; alloc = v.alloc; held = Some v.value } in
     suffices ! (Run (w ∷ [])) (subst (λ (us : List Val). ent 𝓤 (Run (w ∷ [])) (Run us)) (sym (λ i. ws i ++ [])) (id⊢ 𝓤 (Run (w ∷ [])))) $
     enter ! 𝓣.C 𝓣.Λ fn (w ∷ []) Post $ alloc_all ! (λ l. pass_all ! refl (loose_good R Z LZ ghosts b o h fits, tt) $
     sets ! (of_opd ! (get_in ! (fld ! refl (stop !)) (sub ! 0 refl (whole !)))) refl (tt, tt) $
     sets ! (of_opd ! (get_in ! (fld ! refl (stop !)) (sub ! 1 refl (whole !)))) refl fits $
     sets ! (of_opd ! (get ! refl)) refl (tt, tt) $
     sets ! (agg ! (and_then ! (get ! refl) (and_then ! (get ! refl) (no_more !)))) refl (handle_good (block_ptr b o) h fits) $
-    handle_in R ! d.at d.alloc d.job h $
-    use0 𝓛 (raw (fact 𝓤 (d.job ≡ Some v.value))) (fact_i 𝓤 (d.job ≡ Some v.value) (emp 𝓤) refl) $ nothing ! $ nothing ! $
+    handle_in R ! d.at d.alloc d.held h $
+    use0 𝓛 (raw (fact 𝓤 (d.held ≡ Some v.value))) (fact_i 𝓤 (d.held ≡ Some v.value) (emp 𝓤) refl) $ nothing ! $ nothing ! $
     fjoin ! $
     returns ! (look_at ! 0 refl) $ free_all ! refl $ keep ! (4 ∷ 0 ∷ 2 ∷ 1 ∷ []) $
     by ! (leaves 𝓛 En hs c z (both (vptr b o) h) d (tt, tt) (tt, tt)))))

@@ -19,14 +19,14 @@ use denote.Triple.Walked.{Stays, stay_dropped, walk_of, Goes-dropped}
 use Rattle.std.specs.Prelude.{None}
 use Rattle.core.proofs.alloc.Calls.{handle_tells}
 use Rattle.std.proofs.raw_atomic.Walks.{proved_at, leaves}
-use Rattle.bt_c.specs.contracts.picker_pointer.PickerPointer as handle
-use Rattle.bt_c.specs.contracts.picker_handle.PickerHandle.{the_row as R}
+use Rattle.bt_c.specs.contracts.job_handle.JobHandle as handle
+use Rattle.bt_c.specs.contracts.check.Check.{the_row as R}
 use Rattle.bt_c.proofs.Values.{both}
 use Rattle.bt_c.proofs.Handles.{Z, al, handle_in, handle_good}
-use Rattle.bt_c.specs.contracts.picker_pointer.PickerPointer.shut.{ended, clauses}
-use Rattle.bt_c.specs.contracts.picker_pointer.PickerPointer.shut.Key.{name as #self}
-use Rattle.bt_c.proofs.picker_pointer.PickerPointer.shut.Statement.{statement}
-use Rattle.bt_c.proofs.picker_pointer.PickerPointer.shut.Code as code
+use Rattle.bt_c.specs.contracts.job_handle.JobHandleHandle.shut.{ended, clauses}
+use Rattle.bt_c.specs.contracts.job_handle.JobHandleHandle.shut.Key.{name as #self}
+use Rattle.bt_c.proofs.job_handle.JobHandleHandle.shut.Statement.{statement}
+use Rattle.bt_c.proofs.job_handle.JobHandleHandle.shut.Code as code
 
 pub shut_spec : {M : Type 1} → statement M
 shut_spec 𝓤 𝓛 𝓜 𝓡 wired =
@@ -38,10 +38,10 @@ shut_spec 𝓤 𝓛 𝓜 𝓡 wired =
     qed 𝓛 ((‵ ftrue ⊛ ‵ (owns (types_at En.signature.params κs) z.0.3 z.0.4)) ∷ raw ((c κs z.0.3).requires z.1) ∷ []) ∵ split ! $ move ! (1 ∷ []) $
     fsplit ! $
     handle_tells al ! a z.0.4.0 (λ h eh fits. let v : Val = both (ptr_val null_ptr) h in
-    let d : handle.the_row.Denot = record { at = null_ptr; alloc = a; picker = None } in
+    let d : handle.the_row.Denot = record { at = null_ptr; alloc = a; check = None } in
     suffices ! (Run (h ∷ [])) (subst (λ (us : List Val). ent 𝓤 (Run (h ∷ [])) (Run us)) (sym (λ i. eh i ++ [])) (id⊢ 𝓤 (Run (h ∷ [])))) $
     enter ! 𝓣.C 𝓣.Λ fn (h ∷ []) Post $ alloc_all ! (λ l. pass_all ! refl (fits, tt) $
     sets ! (agg ! (and_then ! (lit ! tt) (and_then ! (get ! refl) (no_more !)))) refl (handle_good null_ptr h fits) $
-    feq_i ! Ptr null_ptr null_ptr refl $ handle_in R ! d.at d.alloc d.picker h $
-    use0 𝓛 (raw (fact 𝓤 (d.picker ≡ None))) (fact_i 𝓤 (d.picker ≡ None) (emp 𝓤) refl) $ nothing ! $ nothing ! $ fjoin ! $
+    feq_i ! Ptr null_ptr null_ptr refl $ handle_in R ! d.at d.alloc d.check h $
+    use0 𝓛 (raw (fact 𝓤 (d.check ≡ None))) (fact_i 𝓤 (d.check ≡ None) (emp 𝓤) refl) $ nothing ! $ nothing ! $ fjoin ! $
     returns ! (look_at ! 0 refl) $ free_all ! refl $ keep ! (4 ∷ 0 ∷ 2 ∷ 1 ∷ []) $ by ! (leaves 𝓛 En hs c z v d (tt, tt) (tt, tt)))))
