@@ -1,14 +1,13 @@
 //! The handle that C holds.
-ghost use Rattle.std.specs.Prelude.{◌≡◌, ℕ, None, Some, Option, MatchOption};
+ghost use Rattle.std.specs.Prelude.{◌≡◌, Option};
 ghost use Rattle.bt_c.specs.Handles.{handle_owns};
 ghost use Rattle.bt_c.specs.contracts.check.Check as away;
 
 use crate::check::Check;
 use crate::handle::Handle;
-use crate::loose::Loose;
+use crate::kept::Kept;
 use std::alloc::Global;
 use std::marker::Model;
-use std::ptr::null_mut;
 
 /// What lies behind C's `piecepick_job *`: one pointer, of which C knows nothing. Null holds no job.
 #[repr(C)]
@@ -27,39 +26,23 @@ impl Handle for JobHandle {
 
     ghost holds = { λ s. s.check };
 
-    /// A null handle.
-    fn shut(alloc: Global) -> JobHandle
-        ensures { result.check ≡ None }
+    fn of_kept(kept: Kept<Check>) -> JobHandle
+        ensures { result.check ≡ kept.value }
     {
-        JobHandle {
-            at: null_mut(),
-            alloc,
-        }
-    }
-
-    /// A handle that owns the check of this pointer.
-    fn of_loose(check: Loose<Check, Global>) -> JobHandle
-        ensures { result.check ≡ Some check.value }
-    {
-        let Loose { at, alloc } = check;
+        let Kept { at, alloc } = kept;
         JobHandle {
             at: at as *mut u8,
             alloc,
         }
     }
 
-    /// The handle's pointer, which owns its check, unless the handle is null.
-    fn into_loose(self) -> Option<Loose<Check, Global>>
-        ensures { MatchOption result (self.check ≡ None) (λ l. self.check ≡ Some l.value) }
+    fn into_kept(self) -> Kept<Check>
+        ensures { result.value ≡ self.check }
     {
         let JobHandle { at, alloc } = self;
-        if at.is_null() {
-            None
-        } else {
-            Some(Loose {
-                at: at as *mut Check,
-                alloc,
-            })
+        Kept {
+            at: at as *mut Check,
+            alloc,
         }
     }
 }
@@ -67,7 +50,7 @@ impl Handle for JobHandle {
 // What C holds is freed by the export that closes it. Here a handle is dropped only where another takes its place.
 impl Drop for JobHandle {
     fn drop(self) {
-        drop(self.into_box());
+        drop(self.into_kept().into_box());
     }
 }
 

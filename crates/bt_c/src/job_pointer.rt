@@ -1,14 +1,13 @@
 //! The pointer that C holds of a job.
-ghost use Rattle.std.specs.Prelude.{◌≡◌, ℕ, None, Some, Option, MatchOption};
+ghost use Rattle.std.specs.Prelude.{◌≡◌, Option};
 ghost use Rattle.bt_c.specs.Handles.{handle_owns};
 ghost use Rattle.bt_c.specs.contracts.job_handle.JobHandle as behind;
 
 use crate::handle::Handle;
 use crate::job_handle::JobHandle;
-use crate::loose::Loose;
+use crate::kept::Kept;
 use std::alloc::Global;
 use std::marker::Model;
-use std::ptr::null_mut;
 
 /// A variable of type `piecepick_job *` in C. Null points to no job.
 #[repr(C)]
@@ -27,39 +26,23 @@ impl Handle for JobPointer {
 
     ghost holds = { λ s. s.job };
 
-    /// A null handle.
-    fn shut(alloc: Global) -> JobPointer
-        ensures { result.job ≡ None }
+    fn of_kept(kept: Kept<JobHandle>) -> JobPointer
+        ensures { result.job ≡ kept.value }
     {
-        JobPointer {
-            at: null_mut(),
-            alloc,
-        }
-    }
-
-    /// A handle that owns the check of this pointer.
-    fn of_loose(check: Loose<JobHandle, Global>) -> JobPointer
-        ensures { result.job ≡ Some check.value }
-    {
-        let Loose { at, alloc } = check;
+        let Kept { at, alloc } = kept;
         JobPointer {
             at: at as *mut u8,
             alloc,
         }
     }
 
-    /// The handle's pointer, which owns its check, unless the handle is null.
-    fn into_loose(self) -> Option<Loose<JobHandle, Global>>
-        ensures { MatchOption result (self.job ≡ None) (λ l. self.job ≡ Some l.value) }
+    fn into_kept(self) -> Kept<JobHandle>
+        ensures { result.value ≡ self.job }
     {
         let JobPointer { at, alloc } = self;
-        if at.is_null() {
-            None
-        } else {
-            Some(Loose {
-                at: at as *mut JobHandle,
-                alloc,
-            })
+        Kept {
+            at: at as *mut JobHandle,
+            alloc,
         }
     }
 }
@@ -67,7 +50,7 @@ impl Handle for JobPointer {
 // What C holds is freed by the export that closes it. Here a handle is dropped only where another takes its place.
 impl Drop for JobPointer {
     fn drop(self) {
-        drop(self.into_box());
+        drop(self.into_kept().into_box());
     }
 }
 

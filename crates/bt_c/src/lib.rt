@@ -15,6 +15,7 @@ mod held;
 mod job_handle;
 mod job_pointer;
 mod jobs;
+mod kept;
 mod lending;
 mod loose;
 mod opening;

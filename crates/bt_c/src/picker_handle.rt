@@ -1,14 +1,13 @@
 //! The handle that C holds.
-ghost use Rattle.std.specs.Prelude.{◌≡◌, ℕ, None, Some, Option, MatchOption};
+ghost use Rattle.std.specs.Prelude.{◌≡◌, Option};
 ghost use Rattle.bt_c.specs.Handles.{handle_owns};
 ghost use Rattle.bt_c.specs.contracts.held.Held as behind;
 
 use crate::handle::Handle;
 use crate::held::Held;
-use crate::loose::Loose;
+use crate::kept::Kept;
 use std::alloc::Global;
 use std::marker::Model;
-use std::ptr::null_mut;
 
 /// What lies behind C's `piecepick_picker *`: one pointer, of which C knows nothing. Null holds no picker.
 #[repr(C)]
@@ -27,39 +26,23 @@ impl Handle for PickerHandle {
 
     ghost holds = { λ s. s.held };
 
-    /// A null handle.
-    fn shut(alloc: Global) -> PickerHandle
-        ensures { result.held ≡ None }
+    fn of_kept(kept: Kept<Held>) -> PickerHandle
+        ensures { result.held ≡ kept.value }
     {
-        PickerHandle {
-            at: null_mut(),
-            alloc,
-        }
-    }
-
-    /// A handle that owns the picker of this pointer.
-    fn of_loose(held: Loose<Held, Global>) -> PickerHandle
-        ensures { result.held ≡ Some held.value }
-    {
-        let Loose { at, alloc } = held;
+        let Kept { at, alloc } = kept;
         PickerHandle {
             at: at as *mut u8,
             alloc,
         }
     }
 
-    /// The handle's pointer, which owns its picker, unless the handle is null.
-    fn into_loose(self) -> Option<Loose<Held, Global>>
-        ensures { MatchOption result (self.held ≡ None) (λ l. self.held ≡ Some l.value) }
+    fn into_kept(self) -> Kept<Held>
+        ensures { result.value ≡ self.held }
     {
         let PickerHandle { at, alloc } = self;
-        if at.is_null() {
-            None
-        } else {
-            Some(Loose {
-                at: at as *mut Held,
-                alloc,
-            })
+        Kept {
+            at: at as *mut Held,
+            alloc,
         }
     }
 }
@@ -67,7 +50,7 @@ impl Handle for PickerHandle {
 // What C holds is freed by the export that closes it. Here a handle is dropped only where another takes its place.
 impl Drop for PickerHandle {
     fn drop(self) {
-        drop(self.into_box());
+        drop(self.into_kept().into_box());
     }
 }
 

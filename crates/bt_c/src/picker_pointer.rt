@@ -1,14 +1,13 @@
 //! The pointer that C holds of a picker.
-ghost use Rattle.std.specs.Prelude.{◌≡◌, ℕ, None, Some, Option, MatchOption};
+ghost use Rattle.std.specs.Prelude.{◌≡◌, Option};
 ghost use Rattle.bt_c.specs.Handles.{handle_owns};
 ghost use Rattle.bt_c.specs.contracts.picker_handle.PickerHandle as behind;
 
 use crate::handle::Handle;
-use crate::loose::Loose;
+use crate::kept::Kept;
 use crate::picker_handle::PickerHandle;
 use std::alloc::Global;
 use std::marker::Model;
-use std::ptr::null_mut;
 
 /// A variable of type `piecepick_picker *` in C. Null points to no picker.
 #[repr(C)]
@@ -27,39 +26,23 @@ impl Handle for PickerPointer {
 
     ghost holds = { λ s. s.picker };
 
-    /// A null handle.
-    fn shut(alloc: Global) -> PickerPointer
-        ensures { result.picker ≡ None }
+    fn of_kept(kept: Kept<PickerHandle>) -> PickerPointer
+        ensures { result.picker ≡ kept.value }
     {
-        PickerPointer {
-            at: null_mut(),
-            alloc,
-        }
-    }
-
-    /// A handle that owns the picker of this pointer.
-    fn of_loose(held: Loose<PickerHandle, Global>) -> PickerPointer
-        ensures { result.picker ≡ Some held.value }
-    {
-        let Loose { at, alloc } = held;
+        let Kept { at, alloc } = kept;
         PickerPointer {
             at: at as *mut u8,
             alloc,
         }
     }
 
-    /// The handle's pointer, which owns its picker, unless the handle is null.
-    fn into_loose(self) -> Option<Loose<PickerHandle, Global>>
-        ensures { MatchOption result (self.picker ≡ None) (λ l. self.picker ≡ Some l.value) }
+    fn into_kept(self) -> Kept<PickerHandle>
+        ensures { result.value ≡ self.picker }
     {
         let PickerPointer { at, alloc } = self;
-        if at.is_null() {
-            None
-        } else {
-            Some(Loose {
-                at: at as *mut PickerHandle,
-                alloc,
-            })
+        Kept {
+            at: at as *mut PickerHandle,
+            alloc,
         }
     }
 }
@@ -67,7 +50,7 @@ impl Handle for PickerPointer {
 // What C holds is freed by the export that closes it. Here a handle is dropped only where another takes its place.
 impl Drop for PickerPointer {
     fn drop(self) {
-        drop(self.into_box());
+        drop(self.into_kept().into_box());
     }
 }
 
