@@ -1,5 +1,5 @@
 -- What the walks cite, of the logic and of the library.
-pub use Rattle.std.proofs.Common.{◌≡◌, ℕ, List, [], ◌∷◌, ◌++◌, refl, sym, ap, ◌∙◌, subst, lit<}
+pub use Rattle.std.proofs.Common.{◌≡◌, List, [], ◌∷◌, ◌++◌, refl, sym, ap, ◌∙◌, subst, lit<}
 pub use mir.Syntax.{a_type, dcons, dnil}
 pub use mir.Val.{Val, vptr, vstruct, vcons, vnil, of_list}
 pub use mir.MapTy.{inst_fn}

@@ -56,10 +56,3 @@ impl Drop for JobHandle {
 
 // It may go to another thread, as what it owns may: plain data, counted blocks of bytes, and a handle of the C heap.
 unsafe impl Send for JobHandle {}
-
-fn is_send<T: Send>(_value: &T) {}
-
-/// C may hand a handle to another thread.
-fn a_handle_is_send(handle: &JobHandle) {
-    is_send(handle)
-}

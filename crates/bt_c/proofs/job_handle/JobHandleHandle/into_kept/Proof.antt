@@ -1,24 +1,16 @@
 -- `into_kept` moves the pointer, which points to what the handle holds.
-use Rattle.bt_c.proofs.Walking.{◌≡◌, [], ◌∷◌, refl, emp, ftrue, ‵, raw, ◌⊛◌, ◌$◌, ◌∵◌, !, qed, by, move, keep, split, fsplit, fjoin, use0, fact, fact_i}
-use Rattle.bt_c.proofs.Walking.{tables, yes, owns, types_at, plain, ptr_val, nothing, Stays, stay_dropped, walk_of, Goes-dropped, proved_at, leaves}
+use Rattle.bt_c.proofs.Walking.{refl, emp, fact_i}
 use Rattle.bt_c.specs.contracts.kept.Kept as kept
 use Rattle.bt_c.specs.contracts.job_handle.JobHandle as handle
 use Rattle.bt_c.specs.contracts.check.Check.{the_row as R}
-use Rattle.bt_c.proofs.Values.{both}
-use Rattle.bt_c.proofs.Moves.{moved}
-use Rattle.bt_c.specs.contracts.job_handle.JobHandleHandle.into_kept.{ended, clauses}
+use Rattle.bt_c.proofs.Moves.{moving}
+use Rattle.bt_c.specs.contracts.job_handle.JobHandleHandle.into_kept.{clauses}
 use Rattle.bt_c.specs.contracts.job_handle.JobHandleHandle.into_kept.Key.{name as #self}
 use Rattle.bt_c.proofs.job_handle.JobHandleHandle.into_kept.Statement.{statement}
 use Rattle.bt_c.proofs.job_handle.JobHandleHandle.into_kept.Code as code
 
 pub into_kept_spec : {M : Type 1} → statement M
 into_kept_spec 𝓤 𝓛 𝓜 𝓡 wired =
-    let 𝓣 = tables 𝓤 𝓛.H 𝓜 𝓡 𝓡.env in let c = clauses 𝓛 𝓜.mem 𝓡.returns in
-    let hs : Stays ended.signature.params ended.kept = (stay_dropped (plain (λ _. handle.the_row)) yes, tt) in
-    proved_at 𝓛 ended hs c 𝓜 𝓡 (Goes-dropped 𝓛 0 (plain (λ _. handle.the_row)) yes (λ κs x f. refl), tt) #self code.function
-    (code.unfolded 𝓤 𝓛.H 𝓜 𝓡 wired) (λ z are.
-    let κs = z.0.0 in let s = z.0.3.0 in let d : (kept.the_row R).Denot = record { at = s.at; alloc = s.alloc; value = s.check } in
-    qed 𝓛 ((‵ ftrue ⊛ ‵ (owns (types_at ended.signature.params κs) z.0.3 z.0.4)) ∷ raw ((c κs z.0.3).requires z.1) ∷ []) ∵ split ! $ move ! (1 ∷ []) $
-    fsplit ! $ moved R ! 𝓣.C 𝓣.Λ _ _ s.at s.alloc s.check z.0.4.0 _ _ (λ h.
-    use0 𝓛 (raw (fact 𝓤 (d.value ≡ s.check))) (fact_i 𝓤 (d.value ≡ s.check) (emp 𝓤) refl) $ nothing ! $ nothing ! $ fjoin ! $
-    keep ! (4 ∷ 0 ∷ 2 ∷ 1 ∷ []) $ by ! (leaves 𝓛 ended hs c z (both (ptr_val s.at) h) d (tt, tt) (tt, tt))))
+    moving R handle.the_row (kept.the_row R) (λ s. s.at) (λ s. s.alloc) (λ s. s.check) (λ s. record { at = s.at; alloc = s.alloc; value = s.check })
+    (λ s vs. refl) (λ s vs. refl) (λ s. tt) 𝓤 𝓛 𝓜 𝓡 (clauses 𝓛 𝓜.mem 𝓡.returns) (λ κs s f. refl) (λ s g e. fact_i 𝓤 _ (emp 𝓤) refl) #self _ _
+    (code.unfolded 𝓤 𝓛.H 𝓜 𝓡 wired)
