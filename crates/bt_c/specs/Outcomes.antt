@@ -57,9 +57,7 @@ Lends P (Some h) (Some k) o = P h o k
 -- a call at a handle: a null one stays null and says so, and an open one stays open, its picker changed as P says
 abbrev pub AtHandle : {X : Type 0} → (Held → DeskState → Result X Fault → Type 0)
     → Option Held → Option Held → Result X Fault → Type 0
-AtHandle P None new o = (new ≡ None) × (o ≡ Err Shut)
-AtHandle P (Some h) None o = ⊥
-AtHandle P (Some h) (Some k) o = StaysItself h k × P h (state k) o
+AtHandle P = Lends (λ h o k. StaysItself h k × P h (state k) o)
 
 -- a question to a handle, which changes nothing: a null one has no answer
 abbrev pub AtOpen : {X : Type 0} → (Held → Result X Fault → Type 0) → Option Held → Result X Fault → Type 0

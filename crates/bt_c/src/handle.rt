@@ -1,11 +1,7 @@
 //! What the handles of C have in common.
 ghost use Rattle.std.specs.Prelude.{◌≡◌, None, Some, Option, MatchOption};
 
-use crate::job_handle::JobHandle;
-use crate::job_pointer::JobPointer;
 use crate::kept::Kept;
-use crate::picker_handle::PickerHandle;
-use crate::picker_pointer::PickerPointer;
 use std::alloc::Global;
 
 /// What C holds of a value on the heap: one pointer, of which C knows nothing. Null holds nothing.
@@ -37,19 +33,4 @@ pub fn holding<H: Handle>(value: Box<H::Behind>) -> H
     ensures { H.holds result ≡ Some value.value }
 {
     H::of_kept(Kept::of(value))
-}
-
-fn is_send<T: Send>(_value: &T) {}
-
-/// C may hand a handle, or a pointer to one, to another thread.
-fn handles_are_send(
-    picker: &PickerHandle,
-    pickers: &PickerPointer,
-    job: &JobHandle,
-    jobs: &JobPointer,
-) {
-    is_send(picker);
-    is_send(pickers);
-    is_send(job);
-    is_send(jobs);
 }

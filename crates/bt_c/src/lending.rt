@@ -1,5 +1,6 @@
 //! A picker is lent by its handle.
-ghost use Rattle.std.specs.Fn.{FnOnceReturnsAtMut};
+ghost use Rattle.std.specs.Prelude.{IfSome};
+ghost use Rattle.std.specs.Fn.{FnOnceReturnsAtMut, FnOnceTakesAtMut};
 ghost use Rattle.bt_c.specs.Outcomes.{Lends};
 
 use crate::fault::Fault;
@@ -14,7 +15,7 @@ pub fn lend<X, F: FnOnce(&mut Held) -> Result<X, Fault>>(
     picker: &mut PickerHandle,
     call: F,
 ) -> Result<X, Fault>
-    requires { F.IsAlwaysCallable call }
+    requires { IfSome picker.old.held (λ h. FnOnceTakesAtMut F.FnOnce call h) }
     ensures { Lends (λ h o k. FnOnceReturnsAtMut F.FnOnce call h o k) picker.old.held picker.new.held result }
 {
     let Some(mut held) = picker.take(alloc) else {

@@ -22,4 +22,5 @@ mod opening;
 mod options;
 mod picker_handle;
 mod picker_pointer;
+mod sending;
 mod torrents;
