@@ -1,10 +1,11 @@
 -- `into_loose` tests the pointer, and at a block has the box.
-use Rattle.bt_c.proofs.Walking.{◌≡◌, List, [], ◌∷◌, ◌++◌, refl, sym, subst, lit<, a_type, dcons, dnil, Val, vptr, vcons, vnil, inst_fn, SProp, ent, emp}
-use Rattle.bt_c.proofs.Walking.{id⊢, ftrue, flft, WpFn, ‵, raw, ◌⊛◌, at_ret, ◌$◌, ◌∵◌, !, qed, by, move, keep, split, fsplit, fjoin, suffices, use0, use1}
-use Rattle.bt_c.proofs.Walking.{stop, fld, lit, of_opd, bin, no_more, and_then, first, branches, exec, returns, enter, alloc_all, pass_all, free_all}
-use Rattle.bt_c.proofs.Walking.{look_at, get, get_in, sets, sets_last, env, agg, sub, whole, live, fact, fact_i, tables, no, RattleType, owns, types_at}
-use Rattle.bt_c.proofs.Walking.{type_at, plain, Ptr, block_ptr, null_ptr, ptr_val, tests_null, param, layout, bounded, nothing, Stays, stay_dropped}
-use Rattle.bt_c.proofs.Walking.{walk_of, Goes-blank, None, Some, after, Ptr-Good, Good, Some-of, none_of, and_tt, ghosts, proved_at, leaves}
+use Rattle.bt_c.proofs.Walking.{◌≡◌, List, [], ◌∷◌, ◌++◌, refl, sym, subst, lit<, a_type, dcons, dnil, Val, vptr, vcons, vnil, inst_fn, SProp, ent}
+use Rattle.bt_c.proofs.Walking.{emp, id⊢, ftrue, flft, WpFn, ‵, raw, ◌⊛◌, at_ret, ◌$◌, ◌∵◌, !, qed, by, move, keep, split, fsplit, fjoin, suffices}
+use Rattle.bt_c.proofs.Walking.{use0, use1, stop, fld, lit, of_opd, bin, no_more, and_then, first, branches, exec, returns, enter, alloc_all}
+use Rattle.bt_c.proofs.Walking.{pass_all, free_all, look_at, get, get_in, sets, sets_last, env, agg, sub, whole, live, fact, fact_i, tables, no}
+use Rattle.bt_c.proofs.Walking.{RattleType, owns, types_at, type_at, plain, Ptr, block_ptr, null_ptr, ptr_val, tests_null, param, layout, bounded}
+use Rattle.bt_c.proofs.Walking.{nothing, Stays, stay_dropped, walk_of, Goes-blank, None, Some, after, Ptr-Good, Good, Some-of, none_of, and_tt}
+use Rattle.bt_c.proofs.Walking.{ghosts, proved_at, leaves}
 use Rattle.std.proofs.alloc.Global.TheLaws as heap_laws
 use Rattle.bt_c.specs.contracts.kept.Kept as kept
 use Rattle.bt_c.proofs.Values.{both, Loose, loose_good, loose_in}

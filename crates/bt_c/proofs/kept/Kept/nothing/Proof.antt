@@ -1,9 +1,9 @@
 -- `nothing` makes a null pointer.
-use Rattle.bt_c.proofs.Walking.{◌≡◌, List, [], ◌∷◌, ◌++◌, refl, sym, subst, a_type, dcons, dnil, Val, inst_fn, SProp, ent, emp, id⊢, ftrue, flft, WpFn}
-use Rattle.bt_c.proofs.Walking.{‵, raw, ◌⊛◌, ◌$◌, ◌∵◌, !, qed, by, move, keep, split, fsplit, fjoin, suffices, use0, feq_i, lit, no_more, and_then}
-use Rattle.bt_c.proofs.Walking.{returns, enter, alloc_all, pass_all, free_all, look_at, get, sets, agg, fact, fact_i, tables, yes, RattleType, owns}
-use Rattle.bt_c.proofs.Walking.{types_at, plain, Ptr, null_ptr, ptr_val, param, bounded, nothing, Stays, stay_dropped, walk_of, Goes-dropped, None}
-use Rattle.bt_c.proofs.Walking.{handle_tells, proved_at, leaves}
+use Rattle.bt_c.proofs.Walking.{◌≡◌, List, [], ◌∷◌, ◌++◌, refl, sym, subst, a_type, dcons, dnil, Val, inst_fn, SProp, ent, emp, id⊢, ftrue, flft}
+use Rattle.bt_c.proofs.Walking.{WpFn, ‵, raw, ◌⊛◌, ◌$◌, ◌∵◌, !, qed, by, move, keep, split, fsplit, fjoin, suffices, use0, feq_i, lit, no_more}
+use Rattle.bt_c.proofs.Walking.{and_then, returns, enter, alloc_all, pass_all, free_all, look_at, get, sets, agg, fact, fact_i, tables, yes}
+use Rattle.bt_c.proofs.Walking.{RattleType, owns, types_at, plain, Ptr, null_ptr, ptr_val, param, bounded, nothing, Stays, stay_dropped, walk_of}
+use Rattle.bt_c.proofs.Walking.{Goes-dropped, None, handle_tells, proved_at, leaves}
 use Rattle.bt_c.specs.contracts.kept.Kept as kept
 use Rattle.bt_c.proofs.Values.{both}
 use Rattle.bt_c.proofs.Handles.{Z, al, handle_in, handle_good}

@@ -1,9 +1,9 @@
 -- `of_loose` moves the pointer.
-use Rattle.bt_c.proofs.Walking.{◌≡◌, List, [], ◌∷◌, ◌++◌, refl, sym, subst, a_type, dcons, dnil, Val, vptr, inst_fn, SProp, ent, emp, id⊢, ftrue, flft}
-use Rattle.bt_c.proofs.Walking.{WpFn, ‵, raw, ◌⊛◌, ◌$◌, ◌∵◌, !, qed, by, move, keep, split, fsplit, fjoin, suffices, use0, stop, fld, of_opd, no_more}
-use Rattle.bt_c.proofs.Walking.{and_then, returns, enter, alloc_all, pass_all, free_all, look_at, get, get_in, sets, agg, sub, whole, fact, fact_i}
-use Rattle.bt_c.proofs.Walking.{tables, no, RattleType, owns, types_at, plain, block_ptr, param, bounded, nothing, Stays, stay_dropped, walk_of}
-use Rattle.bt_c.proofs.Walking.{Goes-blank, Some, ghosts, proved_at, leaves}
+use Rattle.bt_c.proofs.Walking.{◌≡◌, List, [], ◌∷◌, ◌++◌, refl, sym, subst, a_type, dcons, dnil, Val, vptr, inst_fn, SProp, ent, emp, id⊢, ftrue}
+use Rattle.bt_c.proofs.Walking.{flft, WpFn, ‵, raw, ◌⊛◌, ◌$◌, ◌∵◌, !, qed, by, move, keep, split, fsplit, fjoin, suffices, use0, stop, fld, of_opd}
+use Rattle.bt_c.proofs.Walking.{no_more, and_then, returns, enter, alloc_all, pass_all, free_all, look_at, get, get_in, sets, agg, sub, whole, fact}
+use Rattle.bt_c.proofs.Walking.{fact_i, tables, no, RattleType, owns, types_at, plain, block_ptr, param, bounded, nothing, Stays, stay_dropped}
+use Rattle.bt_c.proofs.Walking.{walk_of, Goes-blank, Some, ghosts, proved_at, leaves}
 use Rattle.std.proofs.alloc.Global.TheLaws as heap_laws
 use Rattle.bt_c.specs.contracts.kept.Kept as kept
 use Rattle.bt_c.proofs.Values.{both, Loose, loose_good, loose_out}
