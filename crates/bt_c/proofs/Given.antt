@@ -1,6 +1,6 @@
 -- The check that a picker gives of a piece.
-use Rattle.std.specs.Prelude.{◌≡◌, ℕ, Option, None, Some, IfOk, true, false}
-use Rattle.std.proofs.Common.{ap, refl, sym, ◌∙◌}
+use Rattle.std.specs.Prelude.{◌≡◌, ℕ, Option, None, Some, IfOk, true}
+use Rattle.std.proofs.Common.{ap, sym, ◌∙◌}
 use Rattle.std.proofs.lemmas.Bool.{false≢true}
 use Rattle.std.specs.declared.alloc.AllocError.{AllocError}
 use Rattle.std.specs.declared.result.Result.{Result}
@@ -8,8 +8,7 @@ use Rattle.std.specs.declared.result.Result.TheVariants.{Ok, Err}
 use Rattle.bt_check.specs.declared.job.Job.{Job}
 use Rattle.bt_picker.specs.Checks.{IsJobOf}
 use Rattle.bt_c.specs.declared.engine.Engine.{Engine}
-use Rattle.bt_c.specs.declared.engine.Keeping.{Keeping}
-use Rattle.bt_c.specs.declared.engine.Keeping.TheVariants.{Begun, Journal, Nothing}
+use Rattle.bt_c.specs.declared.engine.Keeping.TheVariants.{Nothing}
 use Rattle.bt_c.specs.declared.held.Held.{Held}
 use Rattle.bt_c.specs.Behind.{keeping, state}
 use Rattle.bt_c.specs.Calling.{IsPiece}
@@ -27,11 +26,3 @@ is_check_of h p (Err f) within keeps given = keeps
 pub keeps_content : (h : Held) (e : Engine) → h.engine ≡ e → content_kept (keeping_of e) ≡ true → keeping h ≡ Nothing → ⊥
 keeps_content h e is some none =
     false≢true (sym (ap content_kept none) ∙ (ap (λ (x : Engine). content_kept (keeping_of x)) is ∙ some))
-
-pub keeps_some : (k : Keeping) → content_kept k ≡ true → k ≡ Nothing → ⊥
-keeps_some k some none = false≢true (sym (ap content_kept none) ∙ some)
-
-pub keeps_none : (k : Keeping) → content_kept k ≡ false → k ≡ Nothing
-keeps_none Nothing none = refl
-keeps_none Begun none = absurd (false≢true (sym none))
-keeps_none Journal none = absurd (false≢true (sym none))

@@ -8,3 +8,5 @@ pub mod Restoring
 pub mod Given
 pub mod Staying
 pub mod Joining
+pub mod Walking
+pub mod Moves

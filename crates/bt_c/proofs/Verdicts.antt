@@ -1,5 +1,5 @@
 -- What becomes of a verdict that is told to a picker which keeps content.
-use Rattle.std.specs.Prelude.{◌≡◌, ℕ, ◌≤◌, List, [], ◌∷◌, Option, Bool, true, false, not, ◌&&◌, ◌||◌, nat_le, nat_lt, if◌then◌else◌}
+use Rattle.std.specs.Prelude.{◌≡◌, ℕ, ◌≤◌, List, [], ◌∷◌, Bool, true, false, not, ◌&&◌, ◌||◌, nat_le, nat_lt, if◌then◌else◌}
 use Rattle.std.proofs.Common.{inl, inr, refl, subst, sym, ap, arith, ◌∙◌}
 use Rattle.std.proofs.lemmas.Bool.{and_from, and_left, and_right, false≢true, le-ltb, leb-false, leb-true, lt-ltb}
 use Rattle.std.specs.Cmp.Lexicographic.{bytes_decides}
@@ -8,9 +8,7 @@ use Rattle.bt_check.specs.Checked.{Checked, joined}
 use Rattle.bt_meta.specs.Layout.{hash_of, piece_count}
 use Rattle.bt_history.specs.History.{History}
 use Rattle.bt_history.specs.Legal.{IsAllowed, Permits, answer, answer_unless, first_cause, refusal, same_bytes, settled_answer}
-use Rattle.bt_history.specs.Next.{Answer}
 use Rattle.bt_history.specs.Setting.{Setting}
-use Rattle.bt_history.specs.declared.call.Reason.{Reason}
 use Rattle.bt_history.specs.declared.call.Reason.TheVariants.{NoSuchPiece, NotWaiting, Stale}
 use Rattle.bt_history.specs.declared.call.Reply.{Reply}
 use Rattle.bt_history.specs.declared.call.Reply.TheVariants.{Failed, Had, Refused}
@@ -18,7 +16,6 @@ use Rattle.bt_history.specs.declared.event.Action.TheVariants.{Settle}
 use Rattle.bt_history.specs.Pieces.{content, full, had}
 use Rattle.bt_picker.proofs.KeeperWaiting.{joined_blocks}
 use Rattle.bt_picker.specs.Kept.{SettlesOrStale}
-use Rattle.bt_picker.proofs.Answering.{answer_check, refuse_check}
 use Rattle.bt_picker.proofs.Checking.{settled_kinds}
 use Rattle.bt_picker.specs.Checks.{SettlesIf, unasked_check, waits}
 use Rattle.bt_picker.specs.Positions.{DeskState, Gains}
@@ -109,12 +106,9 @@ module _ (d e : DeskState) (v : Checked) where
 
   -- what a desk does: it enters the verdict
   pub entered : (reply : Reply) → Gains d e (checking 0 v.piece (joined v) reply) → SettlesVerdict Journal d e v (settled_of reply)
-  entered reply gains = by_cause _ _ _ reply refl refl refl
-      (subst (λ (o : Option Reason). Permits d.setting.torrent (answer_unless o (settled_answer d.setting d.history v.piece)) reply)
-      (refuse_check d.setting d.history 0 v.piece (joined v))
-      (subst (λ (a : Answer). Permits d.setting.torrent (answer_unless (refusal d.setting d.history 0 (Settle v.piece (joined v))) a) reply)
-      (answer_check d.setting d.history 0 v.piece (joined v)) (permitted d.setting d.history 0 v.piece (joined v) reply gains.allowed)))
-      gains
+  unfolding refusal answer
+  entered reply gains =
+      by_cause _ _ _ reply refl refl refl (permitted d.setting d.history 0 v.piece (joined v) reply gains.allowed) gains
 
   -- a piece that doesn't wait is refused by a keeper, and nothing changes
   refused : (beyond : Bool) (reply : Reply) → waits d.setting d.history v.piece ≡ false → e ≡ d

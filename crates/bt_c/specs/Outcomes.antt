@@ -48,12 +48,16 @@ pub record StaysItself (h k : Held) : Type 0 where
   pub files : k.files.items ≡ h.files.items
   pub keeping : keeping k ≡ keeping h
 
+-- a handle lends its picker to a call: a null one stays null and says so, and an open one stays open, its picker changed as P says
+abbrev pub Lends : {X : Type 0} → (Held → Result X Fault → Held → Type 0) → Option Held → Option Held → Result X Fault → Type 0
+Lends P None new o = (new ≡ None) × (o ≡ Err Shut)
+Lends P (Some h) None o = ⊥
+Lends P (Some h) (Some k) o = P h o k
+
 -- a call at a handle: a null one stays null and says so, and an open one stays open, its picker changed as P says
 abbrev pub AtHandle : {X : Type 0} → (Held → DeskState → Result X Fault → Type 0)
     → Option Held → Option Held → Result X Fault → Type 0
-AtHandle P None new o = (new ≡ None) × (o ≡ Err Shut)
-AtHandle P (Some h) None o = ⊥
-AtHandle P (Some h) (Some k) o = StaysItself h k × P h (state k) o
+AtHandle P = Lends (λ h o k. StaysItself h k × P h (state k) o)
 
 -- a question to a handle, which changes nothing: a null one has no answer
 abbrev pub AtOpen : {X : Type 0} → (Held → Result X Fault → Type 0) → Option Held → Result X Fault → Type 0

@@ -52,12 +52,13 @@ impl Held {
     pub fn ask(&self, question: Question) -> u32
         ensures { result ≡ number_of (state self.now) question }
     {
+        let picker = self.engine.picker();
         match question {
             Question::Pieces => self.torrent.piece_count(),
-            Question::Workers => self.engine.workers(),
-            Question::Complete => u32::from(self.engine.is_complete()),
-            Question::HasWanted => u32::from(self.engine.has_wanted()),
-            Question::InOrder => u32::from(self.engine.is_in_order()),
+            Question::Workers => picker.workers(),
+            Question::Complete => u32::from(picker.is_complete()),
+            Question::HasWanted => u32::from(picker.has_wanted()),
+            Question::InOrder => u32::from(picker.is_in_order()),
         }
     }
 
@@ -65,7 +66,7 @@ impl Held {
     pub fn epoch(&self) -> u64
         ensures { result ≡ epoch (state self.now).setting (state self.now).history % 2 ^ 64 }
     {
-        self.engine.epoch()
+        self.engine.picker().epoch()
     }
 
     /// Answers a question of a piece, a flag by 1 or 0.
@@ -75,11 +76,12 @@ impl Held {
         if piece >= self.torrent.piece_count() {
             return Err(Fault::Piece);
         }
+        let picker = self.engine.picker();
         let number = match question {
-            PieceQuestion::Had => u32::from(self.engine.had(piece)),
-            PieceQuestion::Waiting => u32::from(self.engine.is_waiting(piece)),
-            PieceQuestion::Level => u32::from(self.engine.level(piece)),
-            PieceQuestion::Availability => self.engine.availability(piece),
+            PieceQuestion::Had => u32::from(picker.had(piece)),
+            PieceQuestion::Waiting => u32::from(picker.is_waiting(piece)),
+            PieceQuestion::Level => u32::from(picker.level(piece)),
+            PieceQuestion::Availability => picker.availability(piece),
             PieceQuestion::Length => self.torrent.piece_len(piece),
             PieceQuestion::Blocks => self.torrent.block_count(piece),
         };
@@ -96,7 +98,7 @@ impl Held {
         if index >= self.torrent.block_count(piece) {
             return Err(Fault::Block);
         }
-        match self.engine.sender(piece, index) {
+        match self.engine.picker().sender(piece, index) {
             Some(worker) => Ok(worker),
             None => Err(Fault::NotHeld),
         }
@@ -106,22 +108,24 @@ impl Held {
     pub fn outstanding_count(&self, worker: u32) -> Result<u32, Fault>
         ensures { CountsOutstanding (state self.now) worker result }
     {
-        if worker >= self.engine.workers() {
+        let picker = self.engine.picker();
+        if worker >= picker.workers() {
             return Err(Fault::Worker);
         }
         // They fit, since in a legal history they are no more than the greatest depth that can be told.
-        self.engine.attest();
-        Ok(self.engine.outstanding(worker).len() as u32)
+        picker.attest();
+        Ok(picker.outstanding(worker).len() as u32)
     }
 
     /// The block at this place among those that are asked of the worker's peer, the oldest request first.
     pub fn outstanding(&self, worker: u32, place: u32) -> Result<Block, Fault>
         ensures { IsOutstanding (state self.now) worker place result }
     {
-        if worker >= self.engine.workers() {
+        let picker = self.engine.picker();
+        if worker >= picker.workers() {
             return Err(Fault::Worker);
         }
-        match self.engine.outstanding(worker).get(place as usize) {
+        match picker.outstanding(worker).get(place as usize) {
             Some(block) => Ok(*block),
             None => Err(Fault::Place),
         }
@@ -152,7 +156,8 @@ impl Held {
 fn content_len(desk: &Desk, piece: u32) -> Result<u32, Fault>
     ensures { SaysOfContent desk.now piece result }
 {
-    if piece >= desk.picker().torrent().piece_count() {
+    let torrent = desk.picker().torrent();
+    if piece >= torrent.piece_count() {
         return Err(Fault::Piece);
     }
     if !desk.had(piece) {
@@ -160,7 +165,7 @@ fn content_len(desk: &Desk, piece: u32) -> Result<u32, Fault>
     }
     // It is the piece's, since in a legal journal each block that is held has its length.
     let _legal = desk.journal();
-    Ok(desk.picker().torrent().piece_len(piece))
+    Ok(torrent.piece_len(piece))
 }
 
 /// Writes the bytes of a piece that is had into a room of their number.
@@ -183,11 +188,12 @@ fn judge(alloc: Global, desk: &Desk) -> Result<(), Fault>
     requires { AreRules desk.now.setting.torrent (rules_of_setting desk.now.setting) }
     ensures { AuditsBy desk.now result }
 {
+    let picker = desk.picker();
     match audit(
         alloc,
-        desk.picker().torrent(),
-        desk.picker().workers(),
-        desk.picker().rules(),
+        picker.torrent(),
+        picker.workers(),
+        picker.rules(),
         desk.journal(),
     ) {
         Ok(()) => Ok(()),

@@ -46,13 +46,10 @@ impl Held {
         ensures same { StaysItself self.old self.new }
         ensures makes { Makes self.old (state self.new) worker (action_told told.entry) result }
     {
-        if worker >= self.engine.workers() {
+        if worker >= self.engine.picker().workers() {
             return Err(Fault::Worker);
         }
-        match self.engine.tell(alloc, worker, told) {
-            Ok(reply) => Ok(reply),
-            Err(_) => Err(Fault::NoMemory),
-        }
+        Ok(self.engine.tell(alloc, worker, told)?)
     }
 
     /// Makes a call of the worker that names the piece, where there are both.
@@ -66,13 +63,13 @@ impl Held {
         ensures same { StaysItself self.old self.new }
         ensures makes { MakesAt self.old (state self.new) worker piece (action_told told.entry) result }
     {
-        if worker >= self.engine.workers() {
+        if worker >= self.engine.picker().workers() {
             return Err(Fault::Worker);
         }
         if piece >= self.torrent.piece_count() {
             return Err(Fault::Piece);
         }
-        self.call(alloc, worker, told)
+        Ok(self.engine.tell(alloc, worker, told)?)
     }
 
     /// Tells the set of pieces that the payload of a `bitfield` message spells.
@@ -80,11 +77,11 @@ impl Held {
         ensures same { StaysItself self.old self.new }
         ensures makes { MakesFlags self.old (state self.new) worker bytes.now actions.Bits result }
     {
-        if worker >= self.engine.workers() {
+        if worker >= self.engine.picker().workers() {
             return Err(Fault::Worker);
         }
         let flags = flags_of(alloc, bytes, self.torrent.piece_count())?;
-        self.call(alloc, worker, Told::Bits(&flags))
+        Ok(self.engine.tell(alloc, worker, Told::Bits(&flags))?)
     }
 
     /// Tells which pieces the peer has too, spelled as a `bitfield` message spells them.
@@ -92,11 +89,11 @@ impl Held {
         ensures same { StaysItself self.old self.new }
         ensures makes { MakesFlags self.old (state self.new) worker bytes.now actions.Haves result }
     {
-        if worker >= self.engine.workers() {
+        if worker >= self.engine.picker().workers() {
             return Err(Fault::Worker);
         }
         let flags = flags_of(alloc, bytes, self.torrent.piece_count())?;
-        self.call(alloc, worker, Told::Haves(&flags))
+        Ok(self.engine.tell(alloc, worker, Told::Haves(&flags))?)
     }
 
     /// Tells which pieces are wanted, spelled as a `bitfield` message spells them.
@@ -105,7 +102,7 @@ impl Held {
         ensures makes { MakesFlags self.old (state self.new) 0 bytes.now actions.Want result }
     {
         let flags = flags_of(alloc, bytes, self.torrent.piece_count())?;
-        self.call(alloc, 0, Told::Want(&flags))
+        Ok(self.engine.tell(alloc, 0, Told::Want(&flags))?)
     }
 
     /// Settles a piece of a picker that keeps no content, by the digest of what arrived.
@@ -161,9 +158,6 @@ impl Held {
         if !desk.picker().is_waiting(piece) {
             return Err(Fault::NotWaiting);
         }
-        match desk.settle_now(alloc, 0, piece) {
-            Ok(reply) => Ok(reply),
-            Err(_) => Err(Fault::NoMemory),
-        }
+        Ok(desk.settle_now(alloc, 0, piece)?)
     }
 }

@@ -1,13 +1,13 @@
 //! The handle that C holds.
-ghost use Rattle.std.specs.Prelude.{◌≡◌, ℕ, None, Some, Option, MatchOption};
+ghost use Rattle.std.specs.Prelude.{◌≡◌, Option};
 ghost use Rattle.bt_c.specs.Handles.{handle_owns};
 ghost use Rattle.bt_c.specs.contracts.check.Check as away;
 
 use crate::check::Check;
-use crate::loose::Loose;
+use crate::handle::Handle;
+use crate::kept::Kept;
 use std::alloc::Global;
 use std::marker::Model;
-use std::ptr::null_mut;
 
 /// What lies behind C's `piecepick_job *`: one pointer, of which C knows nothing. Null holds no job.
 #[repr(C)]
@@ -21,84 +21,38 @@ impl Model for JobHandle {
     ghost also_owns = { λ s. handle_owns away.the_row s.at s.alloc s.check };
 }
 
-impl JobHandle {
-    /// A null handle.
-    pub fn shut(alloc: Global) -> JobHandle
-        ensures { result.check ≡ None }
-    {
-        JobHandle {
-            at: null_mut(),
-            alloc,
-        }
-    }
+impl Handle for JobHandle {
+    type Behind = Check;
 
-    /// A handle that owns the check of this pointer.
-    fn of_loose(check: Loose<Check, Global>) -> JobHandle
-        ensures { result.check ≡ Some check.value }
+    ghost holds = { λ s. s.check };
+
+    fn of_kept(kept: Kept<Check>) -> JobHandle
+        ensures { result.check ≡ kept.value }
     {
-        let Loose { at, alloc } = check;
+        let Kept { at, alloc } = kept;
         JobHandle {
             at: at as *mut u8,
             alloc,
         }
     }
 
-    /// The handle's pointer, which owns its check, unless the handle is null.
-    fn into_loose(self) -> Option<Loose<Check, Global>>
-        ensures { MatchOption result (self.check ≡ None) (λ l. self.check ≡ Some l.value) }
+    fn into_kept(self) -> Kept<Check>
+        ensures { result.value ≡ self.check }
     {
         let JobHandle { at, alloc } = self;
-        if at.is_null() {
-            None
-        } else {
-            Some(Loose {
-                at: at as *mut Check,
-                alloc,
-            })
+        Kept {
+            at: at as *mut Check,
+            alloc,
         }
-    }
-}
-
-impl JobHandle {
-    /// A handle that owns the check.
-    pub fn of(check: Box<Check>) -> JobHandle
-        ensures { result.check ≡ Some check.value }
-    {
-        JobHandle::of_loose(Loose::of(check))
-    }
-
-    /// The check that the handle owned, unless it is null.
-    pub fn into_box(self) -> Option<Box<Check>>
-        ensures { MatchOption result (self.check ≡ None) (λ b. self.check ≡ Some b.value) }
-    {
-        match self.into_loose() {
-            None => None,
-            Some(loose) => Some(loose.into_box()),
-        }
-    }
-
-    /// Takes the check out of a handle, which is null then.
-    pub fn take(&mut self, alloc: Global) -> Option<Box<Check>>
-        ensures check { MatchOption result (self.old.check ≡ None) (λ b. self.old.check ≡ Some b.value) }
-        ensures shut { self.new.check ≡ None }
-    {
-        std::mem::replace(self, JobHandle::shut(alloc)).into_box()
     }
 }
 
 // What C holds is freed by the export that closes it. Here a handle is dropped only where another takes its place.
 impl Drop for JobHandle {
     fn drop(self) {
-        drop(self.into_box());
+        drop(self.into_kept().into_box());
     }
 }
 
 // It may go to another thread, as what it owns may: plain data, counted blocks of bytes, and a handle of the C heap.
 unsafe impl Send for JobHandle {}
-
-fn is_send<T: Send>(_value: &T) {}
-
-/// C may hand a handle to another thread.
-fn a_handle_is_send(handle: &JobHandle) {
-    is_send(handle)
-}

@@ -1,13 +1,13 @@
 //! The pointer that C holds of a job.
-ghost use Rattle.std.specs.Prelude.{◌≡◌, ℕ, None, Some, Option, MatchOption};
+ghost use Rattle.std.specs.Prelude.{◌≡◌, Option};
 ghost use Rattle.bt_c.specs.Handles.{handle_owns};
 ghost use Rattle.bt_c.specs.contracts.job_handle.JobHandle as behind;
 
+use crate::handle::Handle;
 use crate::job_handle::JobHandle;
-use crate::loose::Loose;
+use crate::kept::Kept;
 use std::alloc::Global;
 use std::marker::Model;
-use std::ptr::null_mut;
 
 /// A variable of type `piecepick_job *` in C. Null points to no job.
 #[repr(C)]
@@ -21,84 +21,38 @@ impl Model for JobPointer {
     ghost also_owns = { λ s. handle_owns behind.the_row s.at s.alloc s.job };
 }
 
-impl JobPointer {
-    /// A null handle.
-    pub fn shut(alloc: Global) -> JobPointer
-        ensures { result.job ≡ None }
-    {
-        JobPointer {
-            at: null_mut(),
-            alloc,
-        }
-    }
+impl Handle for JobPointer {
+    type Behind = JobHandle;
 
-    /// A handle that owns the check of this pointer.
-    fn of_loose(check: Loose<JobHandle, Global>) -> JobPointer
-        ensures { result.job ≡ Some check.value }
+    ghost holds = { λ s. s.job };
+
+    fn of_kept(kept: Kept<JobHandle>) -> JobPointer
+        ensures { result.job ≡ kept.value }
     {
-        let Loose { at, alloc } = check;
+        let Kept { at, alloc } = kept;
         JobPointer {
             at: at as *mut u8,
             alloc,
         }
     }
 
-    /// The handle's pointer, which owns its check, unless the handle is null.
-    fn into_loose(self) -> Option<Loose<JobHandle, Global>>
-        ensures { MatchOption result (self.job ≡ None) (λ l. self.job ≡ Some l.value) }
+    fn into_kept(self) -> Kept<JobHandle>
+        ensures { result.value ≡ self.job }
     {
         let JobPointer { at, alloc } = self;
-        if at.is_null() {
-            None
-        } else {
-            Some(Loose {
-                at: at as *mut JobHandle,
-                alloc,
-            })
+        Kept {
+            at: at as *mut JobHandle,
+            alloc,
         }
-    }
-}
-
-impl JobPointer {
-    /// A handle that owns the check.
-    pub fn of(check: Box<JobHandle>) -> JobPointer
-        ensures { result.job ≡ Some check.value }
-    {
-        JobPointer::of_loose(Loose::of(check))
-    }
-
-    /// The check that the handle owned, unless it is null.
-    pub fn into_box(self) -> Option<Box<JobHandle>>
-        ensures { MatchOption result (self.job ≡ None) (λ b. self.job ≡ Some b.value) }
-    {
-        match self.into_loose() {
-            None => None,
-            Some(loose) => Some(loose.into_box()),
-        }
-    }
-
-    /// Takes the check out of a handle, which is null then.
-    pub fn take(&mut self, alloc: Global) -> Option<Box<JobHandle>>
-        ensures check { MatchOption result (self.old.job ≡ None) (λ b. self.old.job ≡ Some b.value) }
-        ensures shut { self.new.job ≡ None }
-    {
-        std::mem::replace(self, JobPointer::shut(alloc)).into_box()
     }
 }
 
 // What C holds is freed by the export that closes it. Here a handle is dropped only where another takes its place.
 impl Drop for JobPointer {
     fn drop(self) {
-        drop(self.into_box());
+        drop(self.into_kept().into_box());
     }
 }
 
 // It may go to another thread, as what it owns may: plain data, counted blocks of bytes, and a handle of the C heap.
 unsafe impl Send for JobPointer {}
-
-fn is_send<T: Send>(_value: &T) {}
-
-/// C may hand a handle to another thread.
-fn a_handle_is_send(handle: &JobPointer) {
-    is_send(handle)
-}

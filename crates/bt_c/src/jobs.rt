@@ -9,6 +9,7 @@ ghost use Rattle.bt_c.specs.Outcomes.{StaysItself};
 use crate::check::Check;
 use crate::engine::Engine;
 use crate::fault::Fault;
+use crate::handle::{Handle, holding};
 use crate::held::Held;
 use crate::job_handle::JobHandle;
 use crate::job_pointer::JobPointer;
@@ -61,11 +62,7 @@ impl Held {
     fn job_handle(&self, alloc: Global, piece: u32) -> Result<JobHandle, Fault>
         ensures { IsHandleOf self.now piece result }
     {
-        let check = self.check(alloc, piece)?;
-        match Box::new(alloc, check) {
-            Ok(check) => Ok(JobHandle::of(check)),
-            Err(_) => Err(Fault::NoMemory),
-        }
+        Ok(holding(Box::new(alloc, self.check(alloc, piece)?)?))
     }
 
     /// Puts the check of the piece into an empty pointer.
@@ -73,14 +70,10 @@ impl Held {
         ensures { TakesJob job.old.job job.new.job self.now piece result }
     {
         if let Some(handle) = job.take(alloc) {
-            *job = JobPointer::of(handle);
+            *job = holding(handle);
             return Err(Fault::Open);
         }
-        let handle = self.job_handle(alloc, piece)?;
-        match Box::new(alloc, handle) {
-            Ok(handle) => *job = JobPointer::of(handle),
-            Err(_) => return Err(Fault::NoMemory),
-        }
+        *job = holding(Box::new(alloc, self.job_handle(alloc, piece)?)?);
         Ok(())
     }
 
@@ -116,11 +109,9 @@ impl Held {
         ensures kept { job.new.check ≡ job.old.check }
         ensures tells { TellsVerdict job.old.check self.old (state self.new) result }
     {
-        let Some(check) = job.take(alloc) else {
-            return Err(Fault::NoJob);
-        };
+        let check = job.take(alloc).ok_or(Fault::NoJob)?;
         let outcome = self.settle_check(&check);
-        *job = JobHandle::of(check);
+        *job = holding(check);
         outcome
     }
 }
@@ -129,11 +120,9 @@ impl Held {
 pub fn hash(alloc: Global, job: &mut JobHandle) -> Result<(), Fault>
     ensures { Hashes job.old.check job.new.check result }
 {
-    let Some(mut check) = job.take(alloc) else {
-        return Err(Fault::NoJob);
-    };
+    let mut check = job.take(alloc).ok_or(Fault::NoJob)?;
     let done = check.hash(alloc);
-    *job = JobHandle::of(check);
+    *job = holding(check);
     done
 }
 
@@ -142,11 +131,9 @@ pub fn read(alloc: Global, job: &mut JobHandle, room: &mut [u8]) -> Result<(), F
     ensures kept { job.new.check ≡ job.old.check }
     ensures reads { ReadsJob job.old.check room.old room.new result }
 {
-    let Some(check) = job.take(alloc) else {
-        return Err(Fault::NoJob);
-    };
+    let check = job.take(alloc).ok_or(Fault::NoJob)?;
     let done = put_blocks(check.blocks(), room);
-    *job = JobHandle::of(check);
+    *job = holding(check);
     done
 }
 

@@ -6,6 +6,7 @@ ghost use Rattle.bt_c.specs.Opening.{described_by, described_in, digests_in, kee
 
 use crate::engine::{Engine, Keeping};
 use crate::fault::Fault;
+use crate::handle::{Handle, holding};
 use crate::held::Held;
 use crate::options::{Options, SIZE};
 use crate::picker_handle::PickerHandle;
@@ -113,7 +114,7 @@ impl Held {
 fn handle_of(alloc: Global, opened: Result<Held, Fault>) -> Result<PickerHandle, Fault>
     ensures { MakesHandle opened result }
 {
-    Ok(PickerHandle::of(Box::new(alloc, opened?)?))
+    Ok(holding(Box::new(alloc, opened?)?))
 }
 
 /// Puts a new picker into an empty pointer.
@@ -125,9 +126,9 @@ pub fn fill(
     ensures { PutsIn opened pointer.old.picker pointer.new.picker result }
 {
     if let Some(handle) = pointer.take(alloc) {
-        *pointer = PickerPointer::of(handle);
+        *pointer = holding(handle);
         return Err(Fault::Open);
     }
-    *pointer = PickerPointer::of(Box::new(alloc, handle_of(alloc, opened)?)?);
+    *pointer = holding(Box::new(alloc, handle_of(alloc, opened)?)?);
     Ok(())
 }

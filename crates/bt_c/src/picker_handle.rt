@@ -1,13 +1,13 @@
 //! The handle that C holds.
-ghost use Rattle.std.specs.Prelude.{◌≡◌, ℕ, None, Some, Option, MatchOption};
+ghost use Rattle.std.specs.Prelude.{◌≡◌, Option};
 ghost use Rattle.bt_c.specs.Handles.{handle_owns};
 ghost use Rattle.bt_c.specs.contracts.held.Held as behind;
 
+use crate::handle::Handle;
 use crate::held::Held;
-use crate::loose::Loose;
+use crate::kept::Kept;
 use std::alloc::Global;
 use std::marker::Model;
-use std::ptr::null_mut;
 
 /// What lies behind C's `piecepick_picker *`: one pointer, of which C knows nothing. Null holds no picker.
 #[repr(C)]
@@ -21,84 +21,38 @@ impl Model for PickerHandle {
     ghost also_owns = { λ s. handle_owns behind.the_row s.at s.alloc s.held };
 }
 
-impl PickerHandle {
-    /// A null handle.
-    pub fn shut(alloc: Global) -> PickerHandle
-        ensures { result.held ≡ None }
-    {
-        PickerHandle {
-            at: null_mut(),
-            alloc,
-        }
-    }
+impl Handle for PickerHandle {
+    type Behind = Held;
 
-    /// A handle that owns the picker of this pointer.
-    fn of_loose(held: Loose<Held, Global>) -> PickerHandle
-        ensures { result.held ≡ Some held.value }
+    ghost holds = { λ s. s.held };
+
+    fn of_kept(kept: Kept<Held>) -> PickerHandle
+        ensures { result.held ≡ kept.value }
     {
-        let Loose { at, alloc } = held;
+        let Kept { at, alloc } = kept;
         PickerHandle {
             at: at as *mut u8,
             alloc,
         }
     }
 
-    /// The handle's pointer, which owns its picker, unless the handle is null.
-    fn into_loose(self) -> Option<Loose<Held, Global>>
-        ensures { MatchOption result (self.held ≡ None) (λ l. self.held ≡ Some l.value) }
+    fn into_kept(self) -> Kept<Held>
+        ensures { result.value ≡ self.held }
     {
         let PickerHandle { at, alloc } = self;
-        if at.is_null() {
-            None
-        } else {
-            Some(Loose {
-                at: at as *mut Held,
-                alloc,
-            })
+        Kept {
+            at: at as *mut Held,
+            alloc,
         }
-    }
-}
-
-impl PickerHandle {
-    /// A handle that owns the picker.
-    pub fn of(held: Box<Held>) -> PickerHandle
-        ensures { result.held ≡ Some held.value }
-    {
-        PickerHandle::of_loose(Loose::of(held))
-    }
-
-    /// The picker that the handle owned, unless it is null.
-    pub fn into_box(self) -> Option<Box<Held>>
-        ensures { MatchOption result (self.held ≡ None) (λ b. self.held ≡ Some b.value) }
-    {
-        match self.into_loose() {
-            None => None,
-            Some(loose) => Some(loose.into_box()),
-        }
-    }
-
-    /// Takes the picker out of a handle, which is null then.
-    pub fn take(&mut self, alloc: Global) -> Option<Box<Held>>
-        ensures held { MatchOption result (self.old.held ≡ None) (λ b. self.old.held ≡ Some b.value) }
-        ensures shut { self.new.held ≡ None }
-    {
-        std::mem::replace(self, PickerHandle::shut(alloc)).into_box()
     }
 }
 
 // What C holds is freed by the export that closes it. Here a handle is dropped only where another takes its place.
 impl Drop for PickerHandle {
     fn drop(self) {
-        drop(self.into_box());
+        drop(self.into_kept().into_box());
     }
 }
 
 // It may go to another thread, as what it owns may: plain data, counted blocks of bytes, and a handle of the C heap.
 unsafe impl Send for PickerHandle {}
-
-fn is_send<T: Send>(_value: &T) {}
-
-/// C may hand a handle to another thread.
-fn a_handle_is_send(handle: &PickerHandle) {
-    is_send(handle)
-}

@@ -1,13 +1,13 @@
 //! The pointer that C holds of a picker.
-ghost use Rattle.std.specs.Prelude.{◌≡◌, ℕ, None, Some, Option, MatchOption};
+ghost use Rattle.std.specs.Prelude.{◌≡◌, Option};
 ghost use Rattle.bt_c.specs.Handles.{handle_owns};
 ghost use Rattle.bt_c.specs.contracts.picker_handle.PickerHandle as behind;
 
-use crate::loose::Loose;
+use crate::handle::Handle;
+use crate::kept::Kept;
 use crate::picker_handle::PickerHandle;
 use std::alloc::Global;
 use std::marker::Model;
-use std::ptr::null_mut;
 
 /// A variable of type `piecepick_picker *` in C. Null points to no picker.
 #[repr(C)]
@@ -21,84 +21,38 @@ impl Model for PickerPointer {
     ghost also_owns = { λ s. handle_owns behind.the_row s.at s.alloc s.picker };
 }
 
-impl PickerPointer {
-    /// A null handle.
-    pub fn shut(alloc: Global) -> PickerPointer
-        ensures { result.picker ≡ None }
-    {
-        PickerPointer {
-            at: null_mut(),
-            alloc,
-        }
-    }
+impl Handle for PickerPointer {
+    type Behind = PickerHandle;
 
-    /// A handle that owns the picker of this pointer.
-    fn of_loose(held: Loose<PickerHandle, Global>) -> PickerPointer
-        ensures { result.picker ≡ Some held.value }
+    ghost holds = { λ s. s.picker };
+
+    fn of_kept(kept: Kept<PickerHandle>) -> PickerPointer
+        ensures { result.picker ≡ kept.value }
     {
-        let Loose { at, alloc } = held;
+        let Kept { at, alloc } = kept;
         PickerPointer {
             at: at as *mut u8,
             alloc,
         }
     }
 
-    /// The handle's pointer, which owns its picker, unless the handle is null.
-    fn into_loose(self) -> Option<Loose<PickerHandle, Global>>
-        ensures { MatchOption result (self.picker ≡ None) (λ l. self.picker ≡ Some l.value) }
+    fn into_kept(self) -> Kept<PickerHandle>
+        ensures { result.value ≡ self.picker }
     {
         let PickerPointer { at, alloc } = self;
-        if at.is_null() {
-            None
-        } else {
-            Some(Loose {
-                at: at as *mut PickerHandle,
-                alloc,
-            })
+        Kept {
+            at: at as *mut PickerHandle,
+            alloc,
         }
-    }
-}
-
-impl PickerPointer {
-    /// A handle that owns the picker.
-    pub fn of(held: Box<PickerHandle>) -> PickerPointer
-        ensures { result.picker ≡ Some held.value }
-    {
-        PickerPointer::of_loose(Loose::of(held))
-    }
-
-    /// The picker that the handle owned, unless it is null.
-    pub fn into_box(self) -> Option<Box<PickerHandle>>
-        ensures { MatchOption result (self.picker ≡ None) (λ b. self.picker ≡ Some b.value) }
-    {
-        match self.into_loose() {
-            None => None,
-            Some(loose) => Some(loose.into_box()),
-        }
-    }
-
-    /// Takes the picker out of a handle, which is null then.
-    pub fn take(&mut self, alloc: Global) -> Option<Box<PickerHandle>>
-        ensures held { MatchOption result (self.old.picker ≡ None) (λ b. self.old.picker ≡ Some b.value) }
-        ensures shut { self.new.picker ≡ None }
-    {
-        std::mem::replace(self, PickerPointer::shut(alloc)).into_box()
     }
 }
 
 // What C holds is freed by the export that closes it. Here a handle is dropped only where another takes its place.
 impl Drop for PickerPointer {
     fn drop(self) {
-        drop(self.into_box());
+        drop(self.into_kept().into_box());
     }
 }
 
 // It may go to another thread, as what it owns may: plain data, counted blocks of bytes, and a handle of the C heap.
 unsafe impl Send for PickerPointer {}
-
-fn is_send<T: Send>(_value: &T) {}
-
-/// C may hand a handle to another thread.
-fn a_handle_is_send(handle: &PickerPointer) {
-    is_send(handle)
-}

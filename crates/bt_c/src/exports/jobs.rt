@@ -6,6 +6,7 @@ ghost use Rattle.bt_c.specs.Outcomes.{AtHandle, Tells};
 use super::tell::{tell, tell_done};
 use crate::answer::Answer;
 use crate::fault::Fault;
+use crate::handle::{Handle, holding};
 use crate::job_handle::JobHandle;
 use crate::job_pointer::JobPointer;
 use crate::jobs::{hash, read};
@@ -23,11 +24,9 @@ fn take_job(
     ensures same { picker.new.held ≡ picker.old.held }
     ensures puts { PutsJob picker.old.held job.old.job job.new.job piece result }
 {
-    let Some(held) = picker.take(alloc) else {
-        return Err(Fault::Shut);
-    };
+    let held = picker.take(alloc).ok_or(Fault::Shut)?;
     let done = held.take_job(alloc, piece, job);
-    *picker = PickerHandle::of(held);
+    *picker = holding(held);
     done
 }
 
@@ -36,11 +35,9 @@ fn settle(alloc: Global, picker: &mut PickerHandle, job: &mut JobHandle) -> Resu
     ensures same { job.new.check ≡ job.old.check }
     ensures tells { AtHandle (λ h e o. TellsVerdict job.old.check h e o) picker.old.held picker.new.held result }
 {
-    let Some(mut held) = picker.take(alloc) else {
-        return Err(Fault::Shut);
-    };
+    let mut held = picker.take(alloc).ok_or(Fault::Shut)?;
     let outcome = held.settle_job(alloc, job);
-    *picker = PickerHandle::of(held);
+    *picker = holding(held);
     outcome
 }
 

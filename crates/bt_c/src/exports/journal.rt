@@ -3,26 +3,15 @@ ghost use Rattle.std.specs.Prelude.{◌≡◌, None};
 ghost use Rattle.bt_c.specs.declared.engine.Keeping.TheVariants as keeps;
 ghost use Rattle.bt_c.specs.Asking.{Audits, Reads};
 ghost use Rattle.bt_c.specs.Calling.{Settles};
-ghost use Rattle.bt_c.specs.Outcomes.{AtHandle, AtOpen, Tells, TellsDone};
+ghost use Rattle.bt_c.specs.Outcomes.{AtOpen, Tells, TellsDone};
 
 use super::tell::{tell, tell_done};
 use crate::answer::Answer;
 use crate::fault::Fault;
+use crate::handle::{Handle, holding};
+use crate::lending::lend;
 use crate::picker_handle::PickerHandle;
-use bt_picker::Reply;
 use std::alloc::Global;
-
-/// Checks the piece here and now.
-fn settle_now(alloc: Global, picker: &mut PickerHandle, piece: u32) -> Result<Reply, Fault>
-    ensures { AtHandle (λ h e o. Settles keeps.Journal h e piece o) picker.old.held picker.new.held result }
-{
-    let Some(mut held) = picker.take(alloc) else {
-        return Err(Fault::Shut);
-    };
-    let outcome = held.settle_now(alloc, piece);
-    *picker = PickerHandle::of(held);
-    outcome
-}
 
 /// Writes the piece into the room, if it is had.
 fn read(alloc: Global, picker: &mut PickerHandle, piece: u32, room: &mut [u8]) -> Result<(), Fault>
@@ -30,24 +19,9 @@ fn read(alloc: Global, picker: &mut PickerHandle, piece: u32, room: &mut [u8]) -
     ensures shut { picker.old.held ≡ None → room.new ≡ room.old }
     ensures reads { AtOpen (λ h o. Reads h piece room.old room.new o) picker.old.held result }
 {
-    let Some(held) = picker.take(alloc) else {
-        return Err(Fault::Shut);
-    };
+    let held = picker.take(alloc).ok_or(Fault::Shut)?;
     let done = held.read(piece, room);
-    *picker = PickerHandle::of(held);
-    done
-}
-
-/// Judges the journal.
-fn audit(alloc: Global, picker: &mut PickerHandle) -> Result<(), Fault>
-    ensures same { picker.new.held ≡ picker.old.held }
-    ensures audits { AtOpen Audits picker.old.held result }
-{
-    let Some(held) = picker.take(alloc) else {
-        return Err(Fault::Shut);
-    };
-    let done = held.audit(alloc);
-    *picker = PickerHandle::of(held);
+    *picker = holding(held);
     done
 }
 
@@ -62,7 +36,10 @@ pub extern "C" fn piecepick_settle_now(
     ensures { Tells (λ h e o. Settles keeps.Journal h e piece o)
         picker.old.held picker.new.held result answer.new }
 {
-    tell(settle_now(alloc, picker, piece), answer)
+    tell(
+        lend(alloc, picker, |held| held.settle_now(alloc, piece)),
+        answer,
+    )
 }
 
 /// Writes the bytes of a piece that is had into a room of their number. Takes no memory.
@@ -86,5 +63,5 @@ pub extern "C" fn piecepick_audit(alloc: Global, picker: &mut PickerHandle) -> u
     ensures same { picker.new.held ≡ picker.old.held }
     ensures audits { TellsDone Audits picker.old.held result }
 {
-    tell_done(audit(alloc, picker))
+    tell_done(lend(alloc, picker, |held| held.audit(alloc)))
 }

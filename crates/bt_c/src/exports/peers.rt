@@ -9,6 +9,8 @@ ghost use Rattle.bt_c.specs.Outcomes.{AtHandle, Tells};
 use super::tell::tell;
 use crate::answer::Answer;
 use crate::fault::Fault;
+use crate::handle::{Handle, holding};
+use crate::lending::lend;
 use crate::picker_handle::PickerHandle;
 use bt_picker::{Reply, Told};
 use std::alloc::Global;
@@ -22,11 +24,9 @@ pub fn call(
 ) -> Result<Reply, Fault>
     ensures { AtHandle (λ h e o. Makes h e worker (action_told told.entry) o) picker.old.held picker.new.held result }
 {
-    let Some(mut held) = picker.take(alloc) else {
-        return Err(Fault::Shut);
-    };
+    let mut held = picker.take(alloc).ok_or(Fault::Shut)?;
     let outcome = held.call(alloc, worker, told);
-    *picker = PickerHandle::of(held);
+    *picker = holding(held);
     outcome
 }
 
@@ -40,40 +40,9 @@ pub fn call_at(
 ) -> Result<Reply, Fault>
     ensures { AtHandle (λ h e o. MakesAt h e worker piece (action_told told.entry) o) picker.old.held picker.new.held result }
 {
-    let Some(mut held) = picker.take(alloc) else {
-        return Err(Fault::Shut);
-    };
+    let mut held = picker.take(alloc).ok_or(Fault::Shut)?;
     let outcome = held.call_at(alloc, worker, piece, told);
-    *picker = PickerHandle::of(held);
-    outcome
-}
-
-/// Bits, with the payload of a bitfield.
-fn bits(alloc: Global, picker: &mut PickerHandle, worker: u32, bytes: &[u8]) -> Result<Reply, Fault>
-    ensures { AtHandle (λ h e o. MakesFlags h e worker bytes.now actions.Bits o) picker.old.held picker.new.held result }
-{
-    let Some(mut held) = picker.take(alloc) else {
-        return Err(Fault::Shut);
-    };
-    let outcome = held.bits(alloc, worker, bytes);
-    *picker = PickerHandle::of(held);
-    outcome
-}
-
-/// Haves, with the payload of a bitfield.
-fn haves(
-    alloc: Global,
-    picker: &mut PickerHandle,
-    worker: u32,
-    bytes: &[u8],
-) -> Result<Reply, Fault>
-    ensures { AtHandle (λ h e o. MakesFlags h e worker bytes.now actions.Haves o) picker.old.held picker.new.held result }
-{
-    let Some(mut held) = picker.take(alloc) else {
-        return Err(Fault::Shut);
-    };
-    let outcome = held.haves(alloc, worker, bytes);
-    *picker = PickerHandle::of(held);
+    *picker = holding(held);
     outcome
 }
 
@@ -163,7 +132,10 @@ pub extern "C" fn piecepick_bits(
     ensures { Tells (λ h e o. MakesFlags h e worker payload.now actions.Bits o)
         picker.old.held picker.new.held result answer.new }
 {
-    tell(bits(alloc, picker, worker, payload), answer)
+    tell(
+        lend(alloc, picker, |held| held.bits(alloc, worker, payload)),
+        answer,
+    )
 }
 
 /// The peer has these pieces too, at any time: a second `bitfield` message came, or `have all` or `have none` (BEP 6). Spelled as in a
@@ -179,7 +151,10 @@ pub extern "C" fn piecepick_haves(
     ensures { Tells (λ h e o. MakesFlags h e worker flags.now actions.Haves o)
         picker.old.held picker.new.held result answer.new }
 {
-    tell(haves(alloc, picker, worker, flags), answer)
+    tell(
+        lend(alloc, picker, |held| held.haves(alloc, worker, flags)),
+        answer,
+    )
 }
 
 /// From now on so many blocks may be asked of the peer at a time, until another number is told or the worker's next peer joins.

@@ -3,6 +3,7 @@ ghost use Rattle.std.specs.Prelude.{◌≡◌, None};
 ghost use Rattle.bt_c.specs.Opening.{Opens, described_by, described_in};
 
 use super::tell::tell_done;
+use crate::handle::Handle;
 use crate::held::Held;
 use crate::opening::fill;
 use crate::options::Options;

@@ -2,74 +2,23 @@
 ghost use Rattle.std.specs.Prelude.{◌≡◌, ◌==◌, min, not, IfSome};
 ghost use Rattle.bt_history.specs.declared.event.Action.TheVariants as actions;
 ghost use Rattle.bt_c.specs.declared.engine.Keeping.TheVariants as keeps;
-ghost use Rattle.bt_c.specs.Behind.{state};
 ghost use Rattle.bt_c.specs.Calling.{Makes, MakesAt, MakesFlags, Restores, Settles, Vouches, VouchesFor};
-ghost use Rattle.bt_c.specs.Outcomes.{AtHandle, Tells};
+ghost use Rattle.bt_c.specs.Outcomes.{Tells};
 
 use super::peers::{call, call_at};
 use super::tell::tell;
 use crate::answer::Answer;
 use crate::digest::Digest;
-use crate::fault::Fault;
+use crate::lending::lend;
 use crate::picker_handle::PickerHandle;
-use bt_picker::{Reply, Told};
+use bt_picker::Told;
 use std::alloc::Global;
-
-/// Want, with the payload of a bitfield.
-fn want(alloc: Global, picker: &mut PickerHandle, bytes: &[u8]) -> Result<Reply, Fault>
-    ensures { AtHandle (λ h e o. MakesFlags h e 0 bytes.now actions.Want o) picker.old.held picker.new.held result }
-{
-    let Some(mut held) = picker.take(alloc) else {
-        return Err(Fault::Shut);
-    };
-    let outcome = held.want(alloc, bytes);
-    *picker = PickerHandle::of(held);
-    outcome
-}
 
 /// The level that a number tells: one beyond 255 is told as 255, which is refused like it.
 fn level_of(number: u32) -> u8
     ensures { result ≡ min number 255 }
 {
     number.min(255) as u8
-}
-
-/// Settles the piece by the digest of what arrived.
-fn settle(
-    alloc: Global,
-    picker: &mut PickerHandle,
-    piece: u32,
-    digest: &Digest,
-) -> Result<Reply, Fault>
-    requires { IfSome picker.old.held (λ h. Vouches h piece digest.now.bytes) }
-    ensures { AtHandle (λ h e o. Settles keeps.Nothing h e piece o) picker.old.held picker.new.held result }
-{
-    let Some(mut held) = picker.take(alloc) else {
-        return Err(Fault::Shut);
-    };
-    let outcome = held.settle(piece, &digest.bytes);
-    *picker = PickerHandle::of(held);
-    outcome
-}
-
-/// Restores the piece, whose bytes have this digest.
-fn restore(
-    alloc: Global,
-    picker: &mut PickerHandle,
-    worker: u32,
-    piece: u32,
-    bytes: &[u8],
-    digest: &Digest,
-) -> Result<Reply, Fault>
-    requires { IfSome picker.old.held (λ h. VouchesFor h bytes.now digest.now.bytes) }
-    ensures { AtHandle (λ h e o. Restores h e worker piece bytes.now o) picker.old.held picker.new.held result }
-{
-    let Some(mut held) = picker.take(alloc) else {
-        return Err(Fault::Shut);
-    };
-    let outcome = held.restore(worker, piece, bytes, &digest.bytes);
-    *picker = PickerHandle::of(held);
-    outcome
 }
 
 /// From now on just these pieces are to be downloaded, spelled as in a `bitfield` message.
@@ -83,7 +32,7 @@ pub extern "C" fn piecepick_want(
     ensures { Tells (λ h e o. MakesFlags h e 0 flags.now actions.Want o)
         picker.old.held picker.new.held result answer.new }
 {
-    tell(want(alloc, picker, flags), answer)
+    tell(lend(alloc, picker, |held| held.want(alloc, flags)), answer)
 }
 
 /// From now on the piece has this level, 0 to 7: 0 isn't downloaded, and of the others a higher one comes before a lower one.
@@ -146,7 +95,10 @@ pub extern "C" fn piecepick_settle(
     ensures { Tells (λ h e o. Settles keeps.Nothing h e piece o)
         picker.old.held picker.new.held result answer.new }
 {
-    tell(settle(alloc, picker, piece, digest), answer)
+    tell(
+        lend(alloc, picker, |held| held.settle(piece, &digest.bytes)),
+        answer,
+    )
 }
 
 /// A picker that keeps nothing is told that a whole piece is there already, on a disk for which this worker stands, with the SHA-1 of its
@@ -165,5 +117,10 @@ pub extern "C" fn piecepick_restore(
     ensures { Tells (λ h e o. Restores h e worker piece bytes.now o)
         picker.old.held picker.new.held result answer.new }
 {
-    tell(restore(alloc, picker, worker, piece, bytes, digest), answer)
+    let outcome = lend(
+        alloc,
+        picker,
+        |held| held.restore(worker, piece, bytes, &digest.bytes),
+    );
+    tell(outcome, answer)
 }

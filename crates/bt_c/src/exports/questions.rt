@@ -11,8 +11,8 @@ use super::tell::{tell, tell_large, tell_number};
 use crate::answer::Answer;
 use crate::asking::{PieceQuestion, Question};
 use crate::fault::Fault;
+use crate::lending::lend;
 use crate::picker_handle::PickerHandle;
-use bt_meta::Block;
 use bt_picker::Reply;
 use std::alloc::Global;
 
@@ -21,12 +21,7 @@ fn ask(alloc: Global, picker: &mut PickerHandle, question: Question) -> Result<u
     ensures same { picker.new.held ≡ picker.old.held }
     ensures says { AtOpen (λ h o. Says (number_of (state h) question) o) picker.old.held result }
 {
-    let Some(held) = picker.take(alloc) else {
-        return Err(Fault::Shut);
-    };
-    let number = held.ask(question);
-    *picker = PickerHandle::of(held);
-    Ok(number)
+    lend(alloc, picker, |held| Ok(held.ask(question)))
 }
 
 /// A question about a piece.
@@ -39,69 +34,7 @@ fn ask_of_piece(
     ensures same { picker.new.held ≡ picker.old.held }
     ensures says { AtOpen (λ h o. SaysOfPiece (state h) piece (number_of_piece (state h) question piece) o) picker.old.held result }
 {
-    let Some(held) = picker.take(alloc) else {
-        return Err(Fault::Shut);
-    };
-    let number = held.ask_of_piece(question, piece);
-    *picker = PickerHandle::of(held);
-    number
-}
-
-/// The number by which a client knows when to ask again.
-fn ask_epoch(alloc: Global, picker: &mut PickerHandle) -> Result<u64, Fault>
-    ensures same { picker.new.held ≡ picker.old.held }
-    ensures says { AtOpen (λ h o. Says (epoch (state h).setting (state h).history % 2 ^ 64) o) picker.old.held result }
-{
-    let Some(held) = picker.take(alloc) else {
-        return Err(Fault::Shut);
-    };
-    let number = held.epoch();
-    *picker = PickerHandle::of(held);
-    Ok(number)
-}
-
-/// Who sent a block.
-fn sender(alloc: Global, picker: &mut PickerHandle, piece: u32, index: u32) -> Result<u32, Fault>
-    ensures same { picker.new.held ≡ picker.old.held }
-    ensures says { AtOpen (λ h o. SaysSender (state h) piece index o) picker.old.held result }
-{
-    let Some(held) = picker.take(alloc) else {
-        return Err(Fault::Shut);
-    };
-    let worker = held.sender(piece, index);
-    *picker = PickerHandle::of(held);
-    worker
-}
-
-/// How many blocks are asked of the worker's peer.
-fn outstanding_count(alloc: Global, picker: &mut PickerHandle, worker: u32) -> Result<u32, Fault>
-    ensures same { picker.new.held ≡ picker.old.held }
-    ensures says { AtOpen (λ h o. CountsOutstanding (state h) worker o) picker.old.held result }
-{
-    let Some(held) = picker.take(alloc) else {
-        return Err(Fault::Shut);
-    };
-    let count = held.outstanding_count(worker);
-    *picker = PickerHandle::of(held);
-    count
-}
-
-/// One of the blocks that are asked of the worker's peer.
-fn outstanding(
-    alloc: Global,
-    picker: &mut PickerHandle,
-    worker: u32,
-    place: u32,
-) -> Result<Block, Fault>
-    ensures same { picker.new.held ≡ picker.old.held }
-    ensures says { AtOpen (λ h o. IsOutstanding (state h) worker place o) picker.old.held result }
-{
-    let Some(held) = picker.take(alloc) else {
-        return Err(Fault::Shut);
-    };
-    let block = held.outstanding(worker, place);
-    *picker = PickerHandle::of(held);
-    block
+    lend(alloc, picker, |held| held.ask_of_piece(question, piece))
 }
 
 /// How many pieces the torrent has.
@@ -283,7 +216,7 @@ pub extern "C" fn piecepick_epoch(alloc: Global, picker: &mut PickerHandle, numb
     ensures same { picker.new.held ≡ picker.old.held }
     ensures says { TellsNumber (λ h o. Says (epoch (state h).setting (state h).history % 2 ^ 64) o) picker.old.held result number.new }
 {
-    tell_large(ask_epoch(alloc, picker), number)
+    tell_large(lend(alloc, picker, |held| Ok(held.epoch())), number)
 }
 
 /// The worker whose peer brought a block that is held: the one of this index, counted from the front of its piece.
@@ -298,7 +231,10 @@ pub extern "C" fn piecepick_sender(
     ensures same { picker.new.held ≡ picker.old.held }
     ensures says { TellsNumber (λ h o. SaysSender (state h) piece index o) picker.old.held result worker.new }
 {
-    tell_number(sender(alloc, picker, piece, index), worker)
+    tell_number(
+        lend(alloc, picker, |held| held.sender(piece, index)),
+        worker,
+    )
 }
 
 /// How many blocks are asked of the worker's peer.
@@ -312,7 +248,10 @@ pub extern "C" fn piecepick_outstanding(
     ensures same { picker.new.held ≡ picker.old.held }
     ensures says { TellsNumber (λ h o. CountsOutstanding (state h) worker o) picker.old.held result number.new }
 {
-    tell_number(outstanding_count(alloc, picker, worker), number)
+    tell_number(
+        lend(alloc, picker, |held| held.outstanding_count(worker)),
+        number,
+    )
 }
 
 /// One of these blocks, by its place from 0, the oldest request first: an answer of kind `Request`.
@@ -327,7 +266,7 @@ pub extern "C" fn piecepick_outstanding_at(
     ensures same { picker.new.held ≡ picker.old.held }
     ensures says { TellsBlock (λ h o. IsOutstanding (state h) worker place o) picker.old.held result answer.new }
 {
-    match outstanding(alloc, picker, worker, place) {
+    match lend(alloc, picker, |held| held.outstanding(worker, place)) {
         Ok(block) => tell(Ok(Reply::Request(block)), answer),
         Err(fault) => tell(Err(fault), answer),
     }

@@ -7,6 +7,7 @@ ghost use Rattle.bt_c.specs.Torrents.{PutsBytes, PutsHash, PutsIfAny, PutsInfoha
 use super::tell::{tell_done, tell_large};
 use crate::digest::Digest;
 use crate::fault::Fault;
+use crate::handle::{Handle, holding};
 use crate::picker_handle::PickerHandle;
 use crate::torrents::TorrentQuestion;
 use std::alloc::Global;
@@ -16,11 +17,9 @@ fn ask(alloc: Global, picker: &mut PickerHandle, question: TorrentQuestion) -> R
     ensures same { picker.new.held ≡ picker.old.held }
     ensures says { AtOpen (λ h o. o ≡ number_of_torrent h question) picker.old.held result }
 {
-    let Some(held) = picker.take(alloc) else {
-        return Err(Fault::Shut);
-    };
+    let held = picker.take(alloc).ok_or(Fault::Shut)?;
     let outcome = held.ask_of_torrent(question);
-    *picker = PickerHandle::of(held);
+    *picker = holding(held);
     outcome
 }
 
@@ -30,11 +29,9 @@ fn put_name(alloc: Global, picker: &mut PickerHandle, room: &mut [u8]) -> Result
     ensures shut { picker.old.held ≡ None → room.new ≡ room.old }
     ensures puts { AtOpen (λ h o. PutsBytes h.torrent.value.name room.old room.new o) picker.old.held result }
 {
-    let Some(held) = picker.take(alloc) else {
-        return Err(Fault::Shut);
-    };
+    let held = picker.take(alloc).ok_or(Fault::Shut)?;
     let done = held.put_name(room);
-    *picker = PickerHandle::of(held);
+    *picker = holding(held);
     done
 }
 
@@ -50,11 +47,9 @@ fn put_part(
     ensures shut { picker.old.held ≡ None → room.new ≡ room.old }
     ensures puts { AtOpen (λ h o. PutsIfAny (part_at h.files.items file part) room.old room.new o) picker.old.held result }
 {
-    let Some(held) = picker.take(alloc) else {
-        return Err(Fault::Shut);
-    };
+    let held = picker.take(alloc).ok_or(Fault::Shut)?;
     let done = held.put_part(file, part, room);
-    *picker = PickerHandle::of(held);
+    *picker = holding(held);
     done
 }
 
@@ -64,11 +59,9 @@ fn put_infohash(alloc: Global, picker: &mut PickerHandle, digest: &mut Digest) -
     ensures shut { picker.old.held ≡ None → digest.new ≡ digest.old }
     ensures puts { AtOpen (λ h o. PutsInfohash h.torrent.value digest.new.bytes o) picker.old.held result }
 {
-    let Some(held) = picker.take(alloc) else {
-        return Err(Fault::Shut);
-    };
+    let held = picker.take(alloc).ok_or(Fault::Shut)?;
     digest.bytes = *held.torrent.infohash();
-    *picker = PickerHandle::of(held);
+    *picker = holding(held);
     Ok(())
 }
 
@@ -83,11 +76,9 @@ fn put_hash(
     ensures shut { picker.old.held ≡ None → digest.new ≡ digest.old }
     ensures puts { AtOpen (λ h o. PutsHash h.torrent.value piece digest.old.bytes digest.new.bytes o) picker.old.held result }
 {
-    let Some(held) = picker.take(alloc) else {
-        return Err(Fault::Shut);
-    };
+    let held = picker.take(alloc).ok_or(Fault::Shut)?;
     let done = held.put_hash(piece, digest);
-    *picker = PickerHandle::of(held);
+    *picker = holding(held);
     done
 }
 
