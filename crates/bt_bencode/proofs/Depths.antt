@@ -5,10 +5,6 @@ use Rattle.bt_bencode.specs.declared.tree.TheConstants.{MAX_DEPTH}
 use Rattle.bt_bencode.specs.Term.{Term, depth, depth_of_terms, depth_of_entries}
 use Rattle.bt_bencode.specs.View.{terms_from, entries_from}
 
--- a tree has 64 levels at most
-pub deepest : MAX_DEPTH ≡ 64
-deepest = refl
-
 at_item : (ts : List Term) (i : ℕ) (d : Term) → i < length ts → depth (get_or ts i d) ≤ depth_of_terms (terms_from ts)
 at_item [] i d h = absurd (omega arith)
 at_item (t ∷ ts) zero d h = omega arith

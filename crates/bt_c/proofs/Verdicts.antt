@@ -106,7 +106,6 @@ module _ (d e : DeskState) (v : Checked) where
 
   -- what a desk does: it enters the verdict
   pub entered : (reply : Reply) → Gains d e (checking 0 v.piece (joined v) reply) → SettlesVerdict Journal d e v (settled_of reply)
-  unfolding refusal answer
   entered reply gains =
       by_cause _ _ _ reply refl refl refl (permitted d.setting d.history 0 v.piece (joined v) reply gains.allowed) gains
 

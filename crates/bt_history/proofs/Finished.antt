@@ -86,12 +86,6 @@ finished_more [] older = sym (append-nil (finished older))
 finished_more (e ∷ newer) older =
     ap (λ (xs : List ℕ). xs ++ finished_by e) (finished_more newer older) ∙ append_assoc (finished older) (finished newer) (finished_by e)
 
--- what stood at a place stays there
-pub finished_stays : (newer older : History) (k : ℕ) → k < length (finished older)
-    → slice_index_or (finished (newer ++ older)) k 0 ≡ slice_index_or (finished older) k 0
-finished_stays newer older k lk =
-    ap (λ (xs : List ℕ). slice_index_or xs k 0) (finished_more newer older) ∙ get_or-append (finished older) (finished newer) 0 k lk
-
 -- ---- in a legal history it has each piece once, so there are no more than pieces
 
 -- an entry that says Had is the check of a piece that wasn't had

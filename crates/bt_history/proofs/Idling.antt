@@ -68,10 +68,6 @@ calm_levels (Levels levels) true p before is = absurd (cc is)
 calm_levels (Level piece n) true p before is = absurd (cc is)
 calm_levels call true p before is = refl
 
--- the place of a block, whatever its length
-at_place : (p begin : ℕ) (b : Block) → ((p == b.piece) && (begin == b.begin)) ≡ true → same_begin (place_at p begin) b ≡ true
-at_place p begin b is = is
-
 -- a refused entry changes nothing
 refused_calm : (s : Setting) (h : History) (e : Event) → counts e.reply ≡ false → Calm s h e
 refused_calm s h e refused = record {

@@ -62,9 +62,6 @@ same_reply Failed Failed is = refl
 same_reply (Refused x) (Refused y) is = ap Refused (same_reason x y is)
 same_reply a b is = absurd (false≢true is)
 
-reason_is_itself : (a : Reason) → reasons.ghosts.eq a a ≡ true
-reason_is_itself a = search rules
-
 -- a reply equals itself
 pub reply_is_itself : (a : Reply) → replies.ghosts.eq a a ≡ true
 reply_is_itself a = search rules

@@ -29,6 +29,21 @@ same_bytes xs ys = pointwise ◌==◌ xs ys
 
 -- ---- refusals
 
+-- the number of a reason, by which it is told: its place in the order of tests
+abbrev pub reason_number : Reason → ℕ
+reason_number NotJoined = 1
+reason_number AlreadyJoined = 2
+reason_number LateBits = 3
+reason_number WrongCount = 4
+reason_number NoSuchPiece = 5
+reason_number NoSuchBlock = 6
+reason_number WrongLength = 7
+reason_number NotWaiting = 8
+reason_number Stale = 9
+reason_number NotAsked = 10
+reason_number WrongDepth = 11
+reason_number WrongLevel = 12
+
 -- the first cause that holds
 abbrev pub first_cause : List (Bool × Reason) → Option Reason
 first_cause [] = None

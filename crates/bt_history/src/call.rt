@@ -2,6 +2,7 @@
 
 ghost use Rattle.std.specs.Prelude.{◌≡◌, not};
 ghost use Rattle.bt_history.specs.Entries.{action_of};
+ghost use Rattle.bt_history.specs.Legal.{reason_number};
 ghost use Rattle.bt_history.specs.Logs.{call_mark};
 
 use crate::mark::CallMark;
@@ -118,6 +119,28 @@ pub enum Reply {
     /// The piece has another hash; its blocks are held no more.
     Failed,
     Refused(Reason),
+}
+
+impl Reason {
+    /// The number by which the reason is told: its place in the order in which reasons are looked for.
+    pub fn number(self) -> u8
+        ensures { result ≡ reason_number self }
+    {
+        match self {
+            Reason::NotJoined => 1,
+            Reason::AlreadyJoined => 2,
+            Reason::LateBits => 3,
+            Reason::WrongCount => 4,
+            Reason::NoSuchPiece => 5,
+            Reason::NoSuchBlock => 6,
+            Reason::WrongLength => 7,
+            Reason::NotWaiting => 8,
+            Reason::Stale => 9,
+            Reason::NotAsked => 10,
+            Reason::WrongDepth => 11,
+            Reason::WrongLevel => 12,
+        }
+    }
 }
 
 impl Call {

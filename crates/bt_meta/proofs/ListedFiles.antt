@@ -57,10 +57,3 @@ pub at_list : (folder : List ℕ) (several : Term) (items : List Term) → ok_or
     → files_at folder several ≡ files_within folder items
 unfolding files_at
 at_list folder several items is = rw is refl
-
--- none so far
-pub listed_none : (folder : List ℕ) (ts : List Term) → listed_with [] folder ts ≡ files_within folder ts
-listed_none folder ts = plain (files_within folder ts) where
-  plain : (r : Result (List Listed) MetaFault) → (r >>= λ more. Ok more) ≡ r
-  plain (Ok more) = refl
-  plain (Err fault) = refl

@@ -12,10 +12,6 @@ use Rattle.bt_peer.specs.Hearing.{Hearing, HearsNext, ReadsOn, StaysCounted, Sto
 use Rattle.bt_peer.specs.Reader.{fed, Hears, IsStuck, SourceState, StopsHearing}
 use Rattle.bt_peer.specs.Turns.{IsLater}
 
-pub Consumes-none : (a : Option (List ℕ)) → Consumes a a []
-Consumes-none None = tt
-Consumes-none (Some xs) = refl
-
 pub Consumes-join : (a b c : Option (List ℕ)) (xs ys : List ℕ) → Consumes a b xs → Consumes b c ys → Consumes a c (xs ++ ys)
 Consumes-join None b c xs ys p q = tt
 Consumes-join (Some us) None c xs ys p q = absurd p
@@ -30,20 +26,6 @@ pub record BytesRead (old new : Option (List ℕ)) (held held' : InboundState) :
 
 pub fed-none : (held : InboundState) → fed held [] ≡ held
 fed-none held = ap (λ (xs : List ℕ). record held { bytes = xs }) (append-nil held.bytes)
-
--- a message has four bytes at least
-text_len : (greeted : Bool) (limit : ℕ) (m : Message) (text : List ℕ) → Spells greeted limit m text → 4 ≤ length text
-text_len false limit (messages.Hello h) text is = rw is.1 (simp length-append (omega arith))
-text_len false limit _ text is = absurd is
-text_len true limit m text (bytes, (body, short, is)) = rw is (omega arith)
-
-shorter : (old new : InboundState) (m : Message) → Gives old m new → length new.bytes + 4 ≤ length old.bytes
-shorter old new m gives =
-    omega (arith, text_len old.greeted old.limit m gives.text gives.spells, ap length gives.bytes, length-append gives.text new.bytes)
-
-framed : (limit : ℕ) (m : Message) (text : List ℕ) → Spells true limit m text → IsLater m
-framed limit (messages.Hello h) text is = is.1.0
-framed limit _ text is = tt
 
 -- so many bytes, and no more: none
 nothing : (xs : List ℕ) → length xs ≡ 0 → xs ≡ []
@@ -122,9 +104,3 @@ stopped old now new fault waits reads = record {
   sound = tt;
   counted = λ same. reads.counted (waits.counted same);
 }
-
--- a message after the handshake is no handshake
-pub later : (old : InboundState) (left left' : Option (List ℕ)) (m : Message) (new : InboundState) → old.greeted ≡ true → Hears old left left' m new →
-    IsLater m
-later old left left' m new greeted hears =
-    framed old.limit m hears.gives.text (subst (λ (b : Bool). Spells b old.limit m hears.gives.text) greeted hears.gives.spells)

@@ -20,53 +20,6 @@ use Rattle.bt_peer.specs.Places.{Extends}
 use Rattle.bt_peer.specs.Serial.{had_at}
 use Rattle.bt_peer.proofs.Desks.{finished_on, told_by}
 
--- one more piece was looked at
-pub finds_more : (told : List Bool) (pieces : List ℕ) (i : ℕ) (found result : Option ℕ) → FindsUntold told pieces i found →
-    IsLesser told found (slice_index_or pieces i 0) result → FindsUntold told pieces (i + 1) result
-finds_more told pieces i None result finds (inl new) =
-    let at = slice_index_or pieces in
-    let piece = at i 0 in
-    subst (FindsUntold told pieces (i + 1)) (sym new.0) (
-      new.1,
-      new.2,
-      (i, omega arith, refl),
-      λ k lt. below_more (λ (k : ℕ). at k 0 < piece → has_told told (at k 0) ≡ true) i
-          (λ k low less. finds k low (omega (arith, less, new.1))) (λ less. absurd (omega (arith, less))) k (omega (arith, lt)),
-    )
-finds_more told pieces i (Some least) result finds (inl new) =
-    let at = slice_index_or pieces in
-    let piece = at i 0 in
-    let lower : piece < least = new.3 least refl in
-    subst (FindsUntold told pieces (i + 1)) (sym new.0) (
-      new.1,
-      new.2,
-      (i, omega arith, refl),
-      λ k lt. below_more (λ (k : ℕ). at k 0 < piece → has_told told (at k 0) ≡ true) i
-          (λ k low less. finds.3 k low (omega (arith, less, lower))) (λ less. absurd (omega (arith, less))) k (omega (arith, lt)),
-    )
-finds_more told pieces i None result finds (inr (same, inl done)) =
-    subst (FindsUntold told pieces (i + 1)) (sym same)
-    (λ k lt. below_more (λ (k : ℕ). slice_index_or pieces k 0 < length told → has_told told (slice_index_or pieces k 0) ≡ true) i finds done k
-    (omega (arith, lt)))
-finds_more told pieces i None result finds (inr (same, inr (least, is, low))) = absurd (cc is)
-finds_more told pieces i (Some first) result finds (inr (same, inl done)) =
-    subst (FindsUntold told pieces (i + 1)) (sym same) (
-      finds.0,
-      finds.1,
-      (finds.2.0, omega (arith, finds.2.1), finds.2.2),
-      λ k lt. below_more (λ (k : ℕ). slice_index_or pieces k 0 < first → has_told told (slice_index_or pieces k 0) ≡ true) i finds.3
-          (λ less. done (omega (arith, less, finds.0))) k (omega (arith, lt)),
-    )
-finds_more told pieces i (Some first) result finds (inr (same, inr (least, is, low))) =
-    let equal : first ≡ least = cc is in
-    subst (FindsUntold told pieces (i + 1)) (sym same) (
-      finds.0,
-      finds.1,
-      (finds.2.0, omega (arith, finds.2.1), finds.2.2),
-      λ k lt. below_more (λ (k : ℕ). slice_index_or pieces k 0 < first → has_told told (slice_index_or pieces k 0) ≡ true) i finds.3
-          (λ less. absurd (omega (arith, less, low, equal))) k (omega (arith, lt)),
-    )
-
 -- before any was told
 pub told_none_yet : (told : List Bool) (pieces : List ℕ) → AreTold told 0 pieces
 told_none_yet told pieces = record { within = omega arith; each = λ k lt. absurd (omega (arith, lt)) }
@@ -82,24 +35,6 @@ told_later told count old new more are =
           ap (λ (ps : List ℕ). slice_index_or ps k 0) more.1 ∙ get_or-append old more.0 0 k (omega (arith, lt, are.within)) in
           subst (λ (p : ℕ). has_told told p ≡ true) (sym same) (are.each k lt (subst (λ (p : ℕ). p < length told) same within));
     }
-
--- and while more is told
-pub told_more : (told : List Bool) (piece count : ℕ) (pieces : List ℕ) → piece < length told → AreTold told count pieces →
-    AreTold (slice_set told piece true) count pieces
-told_more told piece count pieces below are =
-    let same : length (slice_set told piece true) ≡ length told = length-set told piece true in
-    record {
-      within = are.within;
-      each = λ k lt within.
-          let at = slice_index_or pieces k 0 in
-          still (at == piece) told piece at refl below (are.each k lt (omega (arith, within, same)));
-    } where
-      still : (is : Bool) (told : List Bool) (piece other : ℕ) → (other == piece) ≡ is → piece < length told → has_told told other ≡ true →
-          has_told (slice_set told piece true) other ≡ true
-      still true told piece other is below was = told_by true piece other told is below
-          ∙ ap (λ (b : Bool). if b then true else has_told told other) is
-      still false told piece other is below was =
-          told_by false piece other told is below ∙ ap (λ (b : Bool). if b then true else has_told told other) is ∙ was
 
 -- a piece that was found is finished
 pub untold_had : (told : List Bool) (h : History) (piece : ℕ) → FindsUntold told (finished h) (length (finished h)) (Some piece) →

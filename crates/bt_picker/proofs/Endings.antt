@@ -281,11 +281,6 @@ some_lacking_rows s h =
     above_zero zero = refl
     above_zero (suc m) = lt-ltb 0 (suc m) (omega arith) ∙ ap not (sym (ne_eqb (suc m) 0 (λ same. omega (arith, same))))
 
--- a block found in a piece of the torrent is one of the torrent
-pub found_doubling : (t : _) (test : Block → Bool) (p : ℕ) (b : Block) → p < piece_count t → FindsOf t p test (Some b) →
-    (is_block t b ≡ true) × (test b ≡ true)
-found_doubling t test p b lp found = finds_in_piece t test p b found lp
-
 -- endgame by what is counted of the rows
 pub endgame_rows : (t : TablesState) (h : History) → AreTables t h
     → ((sum_by (λ row. (standing_of row).unasked) t.pieces == 0) && nat_lt 0 (sum_by (λ row. (standing_of row).unheld) t.pieces)) ≡ endgame t.setting

@@ -124,14 +124,6 @@ Covers s h slot = (p : ℕ) → p < piece_count s.torrent → 0 < level h p → 
 pub covers_more : (s : Setting) (h : History) (last slot : ℕ) → last ≤ slot → Covers s h last → Covers s h slot
 covers_more s h last slot le covers p lp some = (let high = covers p lp some in omega (arith, high, le))
 
--- levels are gone through from the highest down: what holds of the pieces above a level and of those at it holds above the next
-pub above_more : (P : ℕ → Type 0) (h : History) (count slot : ℕ) → slot < 7 → ((p : ℕ) → p < count → 7 - slot < level h p → P p)
-    → ((p : ℕ) → p < count → level h p ≡ 7 - slot → P p) → (p : ℕ) → p < count → 7 - (slot + 1) < level h p → P p
-above_more P h count slot lt above here p lp more = ⊎_elim
-    (λ (high : 7 - slot < level h p). above p lp high)
-    (λ (low : level h p ≤ 7 - slot). here p lp (omega (arith, low, more, lt)))
-    (cases_lt (7 - slot) (level h p))
-
 -- what holds of no wanted piece holds of none
 pub none_usable : (s : Setting) (h : History) (q slot : ℕ) → IsLegal s h → Covers s h slot → NoneAbove s h q (7 - slot)
     → some_block s.torrent (usable s h q) ≡ false

@@ -233,15 +233,3 @@ walked s h q g first high pieces p lists le found =
     )
 
 -- ---- the least candidate
-
--- one that none before it is, and before one that is
-pub least_found : (s : Setting) (h : History) (q n p : ℕ) → is_candidate_at s h q n p ≡ true
-    → ((r : ℕ) → 0 ≤ r → r < p → is_candidate_at s h q n r ≡ false)
-    → FindsLeast (is_candidate_at s h q n) (λ r. r) 0 (piece_count s.torrent) (Some p)
-least_found s h q n p is none = (
-  is,
-  λ r low high fits. ⊎_elim
-      (λ (before : r < p). absurd (false≢true (sym (none r (omega arith) before) ∙ fits)))
-      (λ (behind : p ≤ r). behind)
-      (cases_lt r p),
-)

@@ -31,24 +31,8 @@ place_least n first p r from lt where_ =
     (λ (behind : p ≤ r). (let is = place_from n first r (omega (arith, from, behind)) in omega (arith, is, own, behind)))
     where_
 
--- before it the pieces in front of the first one keep their order
-pub place_least_before : (n first p r : ℕ) → p < first → r < first → p ≤ r → place_in_round n first p ≤ place_in_round n first r
-place_least_before n first p r lp lr le =
-    let own = place_before n first p lp in
-    let other = place_before n first r lr in
-    omega (arith, own, other, le)
-
 -- two pieces on one side of the first one are in rising order, and of others the one that isn't before it comes first
 module _ (n first p o : ℕ) (lp : p < n) (lo : o < n) where
-  pub both_before : p < first → o < first → nat_lt p o ≡ nat_lt (place_in_round n first p) (place_in_round n first o)
-  both_before own other = rw (place_before n first p own, place_before n first o other) (⊎_elim
-      (λ (less : p < o). lt-ltb p o less ∙ sym (lt-ltb (n + p) (n + o) (omega (arith, less))))
-      (λ (more : o ≤ p). le-ltb p o more ∙ sym (le-ltb (n + p) (n + o) (omega (arith, more))))
-      (cases_lt p o))
-
-  pub both_from : first ≤ p → first ≤ o → nat_lt p o ≡ nat_lt (place_in_round n first p) (place_in_round n first o)
-  both_from own other = rw (place_from n first p own, place_from n first o other) refl
-
   pub in_front : first ≤ p → o < first → nat_lt (place_in_round n first p) (place_in_round n first o) ≡ true
   in_front own other = rw (place_from n first p own, place_before n first o other) (lt-ltb p (n + o) (omega (arith, lp)))
 
@@ -168,21 +152,6 @@ module _ (test : ℕ → Bool) (n first : ℕ) where
         (λ (behind : p ≤ r). inr behind)
         (cases_lt r p))
         (cases_lt r first)),
-  )
-
-  -- where none passes from there on, the first one of all does
-  pub walk_again : (high p : ℕ) → high ≤ first → first ≤ n → FindsFirst test first n None → FindsFirst test 0 high (Some p)
-      → FirstWhere test (place_in_round n first) n (λ r. Unit {0}) (Some p)
-  walk_again high p le within none some = (
-    omega (arith, le, within, some.1),
-    some.2,
-    λ r lt said passes. ⊎_elim
-        (λ (before : r < first). ⊎_elim
-        (λ (in_front : r < p). absurd (false≢true (sym (some.3 r (omega arith) in_front) ∙ passes)))
-        (λ (behind : p ≤ r). place_least_before n first p r (omega (arith, le, some.1)) before behind)
-        (cases_lt r p))
-        (λ (from : first ≤ r). absurd (false≢true (sym (none r from lt) ∙ passes)))
-        (cases_lt r first),
   )
 
 module _ (s : Setting) (h : History) (first : ℕ) (test : ℕ → Bool) where

@@ -134,10 +134,6 @@ group_is : (s : Setting) (h : History) (p n : ℕ) (stage : Stage) → level h p
     → group_of_row (piece_of s h p) ≡ group_number n stage
 group_is s h p n stage level_is place = λ i. first_group (level_is i) + place i
 
--- a wanted piece has a level
-pub chosen_level : (s : Setting) (h : History) (p : ℕ) → IsLegal s h → chosen h p ≡ true → IsLevel (level h p)
-chosen_level s h p legal picked = (ltb-true 0 (level h p) picked, level_bounded s h p legal)
-
 pub level_chosen : (h : History) (p n : ℕ) → IsLevel n → level h p ≡ n → chosen h p ≡ true
 level_chosen h p n is same = lt-ltb 0 (level h p) (omega (arith, is.0, same))
 

@@ -119,20 +119,6 @@ had_rows s h = count_table (piece_count s.torrent) (piece_of s h) (λ row. row.h
 
 -- ---- the search among listed pieces
 
-pub listed_step : (test : ℕ → Bool) (pieces : List ℕ) (n piece : ℕ) (found next : Option ℕ) → piece ≡ at pieces n → FindsListed test pieces n found
-    → ((next ≡ Some piece) × (test piece ≡ true)) ⊎ ((next ≡ found) × (found ≡ None → test piece ≡ false)) → FindsListed test pieces (n + 1) next
-listed_step test pieces n piece found next here so_far step = ⊎_elim
-    (λ (new : (next ≡ Some piece) × (test piece ≡ true)). subst (FindsListed test pieces (n + 1)) (sym new.0) (new.1, (n, omega arith, sym here)))
-    (λ (old : (next ≡ found) × (found ≡ None → test piece ≡ false)). subst (FindsListed test pieces (n + 1)) (sym old.0) (kept found so_far old.1))
-    step
-  where
-    kept : (f : Option ℕ) → FindsListed test pieces n f → (f ≡ None → test piece ≡ false) → FindsListed test pieces (n + 1) f
-    kept None none fails = λ i li. ⊎_elim
-        (λ (same : i ≡ n). ap (λ (j : ℕ). test (at pieces j)) same ∙ (ap test (sym here) ∙ fails refl))
-        (λ (apart : i ≡ n → ⊥). none i (omega (arith, apart)))
-        (cases_eq i n)
-    kept (Some p) some fails = (some.0, (some.1.0, omega (arith, some.1.1), some.1.2))
-
 -- ---- the search for one that ranks first
 
 pub rarer_step : (test : ℕ → Bool) (rank : ℕ → ℕ) (pieces : List ℕ) (n piece : ℕ) (found next : Option ℕ) → piece ≡ at pieces n →

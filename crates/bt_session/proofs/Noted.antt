@@ -110,20 +110,6 @@ entered_call setting old new short call reply enters same =
     (pass_record setting new.pass.worker (calls_in new.pass.seen new.pass.worker) (knows setting seat) (tells seat) short)) (sym same)
     (entered setting old.pass new.pass (knows setting old.seat) (tells old.seat) short call reply enters)
 
--- an entry is noted by its mark
-pub notes_entered : {E : Type 0} (result : Result Reply E) (worker : ℕ) (call : Call) (old new : PassState) →
-    IfOk result (λ reply. Enters (event worker call reply) old new)
-    → IfOk result (λ reply. Notes old (call_mark (action_of call)) reply new)
-notes_entered (Ok reply) worker call old new enters = record { place = length enters.0; worker = enters.1.same.worker; log = enters.1.log }
-notes_entered (Err e) worker call old new enters = tt
-
-pub quiet_rests : (old new : PassState) → Rests old new → IsQuiet old new
-quiet_rests old new rests = record { worker = rests.same.worker; log = rests.log }
-
-pub quiet_err : {A E : Type 0} (result : Result A E) (old new : PassState) → OnErr result (Rests old new) → OnErr result (IsQuiet old new)
-quiet_err (Ok a) old new rests = tt
-quiet_err (Err e) old new rests = quiet_rests old new rests
-
 -- a pass that made no entry made no call
 pub kept_err : {A E : Type 0} (result : Result A E) (old new : PassState) → OnErr result (Rests old new) → OnErr result (KeepsCalls old new)
 kept_err (Ok a) old new rests = tt

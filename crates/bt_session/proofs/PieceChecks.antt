@@ -25,8 +25,3 @@ checks_on first old new piece makes may =
         checks = λ none. subst AreChecks (sym more.1.log) (checks_more old.log _ piece refl (makes.checks none));
       }
     ]
-
--- a ticket taken leaves the log as it is
-pub checks_same : (first : PassState) (old new : WorkerState) (piece : ℕ) → MakesChecks first old.pass → TakesPiece old piece new →
-    MakesChecks first new.pass
-checks_same first old new piece makes taken = subst (λ (w : WorkerState). MakesChecks first w.pass) (sym taken) makes

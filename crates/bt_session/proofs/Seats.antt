@@ -27,18 +27,6 @@ use Rattle.bt_shared.specs.Passes.{AreOf, IsSame, PassState, SharedState}
 pub same_table : (name : Option TableId) (a b : TableId) → name ≡ Some a → name ≡ Some b → a ≡ b
 same_table name a b is_a is_b = same_Some a b (sym is_a ∙ is_b)
 
--- a worker belongs to its run whatever its pass has seen
-pub belongs_on : (setting : Setting) (desk board : Option TableId) (queue : Option Queue) (old new : PassState) (seat : SeatState)
-    (tickets : TicketPassState) →
-    IsSame old new → Belongs setting desk board queue (record { pass = old; seat = seat; tickets = tickets }) →
-    Belongs setting desk board queue (record { pass = new; seat = seat; tickets = tickets })
-belongs_on setting desk board queue old new seat tickets same was = record {
-  pass = record { desk_is = was.pass.desk_is ∙ ap (λ (t : TableId). Some t) (sym same.table); setting_is = same.setting ∙ was.pass.setting_is };
-  seat = was.seat;
-  own = was.own ∙ ap (λ (w : ℕ). w ∷ []) (sym same.worker);
-  tickets = was.tickets;
-}
-
 -- the passes of a run's desk
 pub are_of : (desk : SharedState) (name : Option TableId) (setting : Setting) (ps : List PassState) → name ≡ Some desk.table →
     desk.setting ≡ setting →

@@ -206,38 +206,6 @@ lowered_beside floors now peers rows p beside low = record {
       (λ other. (let least = beside.each q lq r other lr shown fresh in omega (arith, least, low.most q)));
 }
 
-pub lowered_none : (floors : List ℕ) (peers : List PeerState) (p n : ℕ) → AreLowered floors floors peers 0 p n
-lowered_none floors peers p n = record { len = refl; most = λ q. omega arith; shown = λ q lq shown. absurd (omega (arith, lq)) }
-
--- the floor of one peer more that shows the piece is low enough
-pub lowered_more : (floors now : List ℕ) (peers : List PeerState) (k p n m : ℕ) → AreLowered floors now peers k p n → k < length now
-    → m ≤ at now k → m ≤ n → AreLowered floors (set now k m) peers (k + 1) p n
-lowered_more floors now peers k p n m low lk least most = record {
-  len = length-set now k m ∙ low.len;
-  most = λ q. dite (ℕ_discrete q k)
-      (λ same. (let is = here q same in let before = low.most q in let own = ap (at now) same in omega (arith, is, least, before, own)))
-      (λ other. (let is = apart q other in omega (arith, is, low.most q)));
-  shown = λ q lq shown. dite (ℕ_discrete q k)
-      (λ same. (let is = here q same in omega (arith, is, most)))
-      (λ other. (let is = apart q other in let before = low.shown q (omega (arith, lq, other)) shown in omega (arith, is, before)));
-} where
-  here : (q : ℕ) → q ≡ k → at (set now k m) q ≡ m
-  here q same = ap (at (set now k m)) same ∙ get_or-set_same now k m 0 lk
-
-  apart : (q : ℕ) → q ≢ k → at (set now k m) q ≡ at now q
-  apart q other = get_or-set_other now k q m 0 other
-
--- one that doesn't show it needs none
-pub lowered_past : (floors now : List ℕ) (peers : List PeerState) (k p n : ℕ) → AreLowered floors now peers k p n
-    → slice_index_or (peer_row peers k).shows p false ≡ false → AreLowered floors now peers (k + 1) p n
-lowered_past floors now peers k p n low hidden = record {
-  len = low.len;
-  most = low.most;
-  shown = λ q lq shown. dite (ℕ_discrete q k)
-      (λ same. absurd (false≢true (sym (ap (λ (m : ℕ). slice_index_or (peer_row peers m).shows p false) same ∙ hidden) ∙ shown)))
-      (λ other. low.shown q (omega (arith, lq, other)) shown);
-}
-
 -- ---- one peer less may show each piece
 
 pub eased_floors : (floors now : List ℕ) (peers : List PeerState) (rows : List PieceState) (before after : List Bool) → AreFloors floors peers rows

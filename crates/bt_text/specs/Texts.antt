@@ -7,8 +7,7 @@ use Rattle.bt_text.specs.declared.text.ReplyText.{ReplyText}
 use Rattle.bt_text.specs.declared.text.Tail.{Tail}
 use Rattle.bt_text.specs.declared.text.Tail.TheVariants.{Nothing, Block, Number}
 use Rattle.bt_history.specs.declared.call.Reason.{Reason}
-use Rattle.bt_history.specs.declared.call.Reason.TheVariants.{NotJoined, AlreadyJoined, LateBits, WrongCount, NoSuchPiece, NoSuchBlock, WrongLength}
-use Rattle.bt_history.specs.declared.call.Reason.TheVariants.{NotWaiting, Stale, NotAsked, WrongDepth, WrongLevel}
+use Rattle.bt_history.specs.Legal.{reason_number}
 use Rattle.bt_history.specs.declared.call.Reply.{Reply}
 use Rattle.bt_history.specs.declared.call.Reply.TheVariants.{Joined, Noted, Quiet, Cancel, Request, Choked, PipeFull, Idle, NothingLeft, Stored}
 use Rattle.bt_history.specs.declared.call.Reply.TheVariants.{Completed, Dropped, Had, Failed, Refused}
@@ -28,21 +27,6 @@ name_byte byte = if is_plain byte then byte ∷ [] else 37 ∷ hex_byte byte
 -- a name, byte by byte
 abbrev pub name_text : List ℕ → List ℕ
 name_text name = flat_map name_byte name
-
--- the number of a reason, which is also its place in the order of tests
-abbrev pub reason_number : Reason → ℕ
-reason_number NotJoined = 1
-reason_number AlreadyJoined = 2
-reason_number LateBits = 3
-reason_number WrongCount = 4
-reason_number NoSuchPiece = 5
-reason_number NoSuchBlock = 6
-reason_number WrongLength = 7
-reason_number NotWaiting = 8
-reason_number Stale = 9
-reason_number NotAsked = 10
-reason_number WrongDepth = 11
-reason_number WrongLevel = 12
 
 -- where a block stands: piece, beginning and length
 abbrev pub block_text : blocks.Block → List ℕ

@@ -1,9 +1,9 @@
 //! Values as the program prints them.
 
 ghost use Rattle.std.specs.Prelude.{◌≡◌, Some};
-ghost use Rattle.bt_text.specs.Texts.{is_plain, name_byte, name_text, reason_number, reply_text, block_text, said_text, tail_text};
+ghost use Rattle.bt_text.specs.Texts.{is_plain, name_byte, name_text, reply_text, block_text, said_text, tail_text};
 
-use bt_history::{Reason, Reply};
+use bt_history::Reply;
 use bt_meta::Block;
 use std::fmt;
 
@@ -47,26 +47,6 @@ fn is_plain(byte: u8) -> bool
     ensures { result ≡ is_plain byte }
 {
     byte > b' ' && byte < 0x7f && byte != b'%'
-}
-
-/// The number by which a reason is told.
-pub fn reason_number(reason: Reason) -> u8
-    ensures { result ≡ reason_number reason }
-{
-    match reason {
-        Reason::NotJoined => 1,
-        Reason::AlreadyJoined => 2,
-        Reason::LateBits => 3,
-        Reason::WrongCount => 4,
-        Reason::NoSuchPiece => 5,
-        Reason::NoSuchBlock => 6,
-        Reason::WrongLength => 7,
-        Reason::NotWaiting => 8,
-        Reason::Stale => 9,
-        Reason::NotAsked => 10,
-        Reason::WrongDepth => 11,
-        Reason::WrongLevel => 12,
-    }
 }
 
 /// What stands behind the word of a reply.
@@ -139,7 +119,7 @@ impl ReplyText {
             Reply::Failed => ReplyText::bare("failed"),
             Reply::Refused(reason) => ReplyText {
                 word: "refused",
-                tail: Tail::Number(reason_number(reason)),
+                tail: Tail::Number(reason.number()),
             },
         }
     }
