@@ -10,6 +10,7 @@ the top of the repository after an edit, then `rt tidy` in bt_history, which lay
 from __future__ import annotations
 
 import copy
+import re
 from collections.abc import Iterable
 
 from model import Model, Refused, Rules, Torrent
@@ -443,6 +444,16 @@ def named(hexadecimal: str) -> str:
     return next(name for name, digest in DIGESTS.items() if digest == hexadecimal)
 
 
+def entered(rows: list[str]) -> str:
+    """The entries as a list. Where a peer joins, shows pieces and unchokes us, the three stand as one row."""
+    if not rows:
+        return "[]"
+    head = re.match(r"entry (\d+) Join Joined\nentry \1 \(Bits (\(.*\))\) \(Noted true\)\nentry \1 Unchoke Quiet$", "\n".join(rows[:3]))
+    if head:
+        return f"enters {head[1]} {head[2]}\n    ({entered(rows[3:])})"
+    return f"{rows[0]} ∷ []" if len(rows) == 1 else f"{rows[0]}\n    ∷ {entered(rows[1:])}"
+
+
 def listed(rows: list[str]) -> str:
     """The rows as a list in brackets, a line each."""
     return "(" + "\n    ∷ ".join(rows) + " ∷ [])" if rows else "[]"
@@ -519,7 +530,7 @@ def main() -> None:
     for name, (torrent, _, lines) in EXAMPLES.items():
         wrongs = [(label, before, line) for label, (example, before, line) in WRONG.items() if example == name]
         spec += "".join(f"-- {before}: {label.replace('_', ' ')}\n" for label, before, _ in wrongs)
-        entries = listed([entry(line, torrent) for line in lines])
+        entries = f"({entered([entry(line, torrent) for line in lines])})"
         spec += f"abbrev {name} : Example\n{name} = example {setting(name)}\n    {entries}\n    "
         spec += listed([f"({before}, {entry(line, torrent)})" for _, before, line in wrongs]) + "\n\n"
     spec += "abbrev pub examples : List Example\nexamples =\n    " + "\n    ∷ ".join([*EXAMPLES, "[]"]) + "\n"

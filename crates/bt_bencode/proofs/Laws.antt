@@ -1,6 +1,6 @@
 -- What is read is spelled so, and what is spelled so is read.
-use Rattle.std.proofs.Common.{◌≡◌, ℕ, zero, suc, ◌+◌, ◌-◌, ◌≤◌, ◌<◌, ◌^◌, List, [], ◌∷◌, ◌++◌, length, get_or, drop, Option, None}
-use Rattle.std.proofs.Common.{Some, Result, Ok, Err, refl, sym, ap, ◌∙◌, append_assoc, arith, eqb, ltb, cond, true, false}
+use Rattle.std.proofs.Common.{◌≡◌, ℕ, zero, suc, ◌+◌, ◌-◌, ◌≤◌, ◌<◌, ◌^◌, List, [], ◌∷◌, ◌++◌, length, get_or, drop, Option, None, Some, Result, Ok}
+use Rattle.std.proofs.Common.{Err, refl, sym, ap, ◌∙◌, append_assoc, arith, eqb, ltb, cond, true, false}
 use Rattle.std.specs.Prelude.{not, decimal}
 use Rattle.std.specs.Fmt.{signed_decimal}
 use Rattle.std.proofs.lemmas.Bool.{ne_eqb, le-ltb}
@@ -11,13 +11,12 @@ use Rattle.std.specs.Char.{is_ascii_digit}
 use Rattle.bt_bencode.specs.declared.fault.BenFault.{BenFault}
 use Rattle.bt_bencode.specs.declared.fault.BenFault.TheVariants.{KeyOrder}
 use Rattle.bt_bencode.specs.declared.tree.TheConstants.{MAX_DEPTH}
-use Rattle.bt_bencode.specs.Term.{Term, Terms, Entries, int, text, list, dict, no_terms, more_terms, no_entries, more_entries, depth}
-use Rattle.bt_bencode.specs.Term.{depth_of_terms, depth_of_entries}
-use Rattle.bt_bencode.specs.Grammar.{IsSound, AreSound, EntriesAreSound, IsTree, spelling, spelling_of_terms, spelling_of_entries, string}
-use Rattle.bt_bencode.specs.Grammar.{keys_rise, comes_before}
+use Rattle.bt_bencode.specs.Term.{Term, Terms, Entries, int, text, list, dict, no_terms, more_terms, no_entries, more_entries, depth, depth_of_terms}
+use Rattle.bt_bencode.specs.Term.{depth_of_entries}
+use Rattle.bt_bencode.specs.Grammar.{IsSound, AreSound, EntriesAreSound, IsTree, spelling, spelling_of_terms, spelling_of_entries, string, keys_rise}
+use Rattle.bt_bencode.specs.Grammar.{comes_before}
 use Rattle.bt_bencode.specs.Placed.{placed, terms_placed, entries_placed}
-use Rattle.bt_bencode.specs.Reading.{◌>>=◌, value_at, items_at, items_behind, entries_at, tree_of, string_at}
-use Rattle.bt_bencode.specs.Reading.{is_late}
+use Rattle.bt_bencode.specs.Reading.{◌>>=◌, value_at, items_at, items_behind, entries_at, tree_of, string_at, is_late}
 use Rattle.bt_bencode.proofs.Strings.{own, string_again, integer_again, drop_behind, byte_at, first_of, first_digit}
 use Rattle.bt_bencode.proofs.Values.{value_here, value_string, items_within, entries_within}
 use Rattle.bt_bencode.proofs.Loops.{key_turn}

@@ -1,6 +1,6 @@
 -- Items and entries that are read one after the other, as a loop does.
-use Rattle.std.proofs.Common.{◌≡◌, ℕ, zero, suc, ◌+◌, ◌≤◌, ◌<◌, List, [], ◌∷◌, ◌++◌, length, Option, None, Some, Result, Ok, Err, refl, sym}
-use Rattle.std.proofs.Common.{ap, ◌∙◌, ◌≢◌, arith, get_or, Vec, true, false, cond, eqb, Bool, inl, inr}
+use Rattle.std.proofs.Common.{◌≡◌, ℕ, zero, suc, ◌+◌, ◌≤◌, ◌<◌, List, [], ◌∷◌, ◌++◌, length, Option, None, Some, Result, Ok, Err, refl, sym, ap, ◌∙◌}
+use Rattle.std.proofs.Common.{◌≢◌, arith, get_or, Vec, true, false, cond, eqb, Bool, inl, inr}
 use Rattle.std.specs.Char.{is_ascii_digit}
 use Rattle.std.proofs.lemmas.Bool.Decides.{nat_tests}
 use Rattle.bt_bencode.proofs.Lists.{last_push}
@@ -9,8 +9,7 @@ use Rattle.std.proofs.lemmas.List.{drop_more, drop_all}
 use Rattle.std.proofs.lemmas.Bool.{ne_eqb}
 use Rattle.std.specs.Global.{Global}
 use Rattle.bt_bencode.specs.declared.fault.BenFault.{BenFault}
-use Rattle.bt_bencode.specs.declared.fault.BenFault.TheVariants.{Truncated, KeyOrder}
-use Rattle.bt_bencode.specs.declared.fault.BenFault.TheVariants.{NoMemory}
+use Rattle.bt_bencode.specs.declared.fault.BenFault.TheVariants.{Truncated, KeyOrder, NoMemory}
 use Rattle.bt_bencode.specs.Term.{Term, Terms, Entries, no_terms, more_terms, no_entries, more_entries}
 use Rattle.bt_bencode.specs.View.{terms_from, entries_from, last_key}
 use Rattle.bt_bencode.specs.Reading.{◌>>=◌, Fails, items_at, entries_at, string_at, is_late, no_key, key_at}

@@ -1,11 +1,10 @@
 -- A part of a placed tree stands where its span says.
-use Rattle.std.proofs.Common.{◌≡◌, ℕ, ◌+◌, ◌-◌, ◌<◌, List, [], ◌∷◌, ◌++◌, length, drop, Some, refl, sym, ap}
-use Rattle.std.proofs.Common.{subst, ◌∙◌, append_assoc, arith, inl, inr}
+use Rattle.std.proofs.Common.{◌≡◌, ℕ, ◌+◌, ◌-◌, ◌<◌, List, [], ◌∷◌, ◌++◌, length, drop, Some, refl, sym, ap, subst, ◌∙◌, append_assoc, arith, inl}
+use Rattle.std.proofs.Common.{inr}
 use Rattle.std.specs.Str.{bytes_eq}
 use Rattle.std.proofs.lemmas.List.{length-append, length-drop, take_at}
 use Rattle.bt_bencode.specs.declared.span.Span.{Span}
-use Rattle.bt_bencode.specs.Term.{Term, Entries, int, text, list, dict, no_entries, more_entries, span_of, get}
-use Rattle.bt_bencode.specs.Term.{entry_at}
+use Rattle.bt_bencode.specs.Term.{Term, Entries, int, text, list, dict, no_entries, more_entries, span_of, get, entry_at}
 use Rattle.bt_bencode.specs.Grammar.{spelling, spelling_of_entries, string}
 use Rattle.bt_bencode.specs.Placed.{placed, entries_placed, span, StandsAt}
 use Rattle.bt_bencode.proofs.Strings.{drop_behind}

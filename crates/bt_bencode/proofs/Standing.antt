@@ -1,14 +1,13 @@
 -- What stands at a place where a value was read.
-use Rattle.std.proofs.Common.{◌≡◌, ◌≢◌, ℕ, zero, suc, ◌+◌, ◌-◌, ◌≤◌, ◌<◌, ℤ, List, ◌∷◌, length, get_or, drop, None, Some}
-use Rattle.std.proofs.Common.{Result, Ok, Err, refl, sym, ap, ◌∙◌, arith, eqb, true, false, inl, inr}
+use Rattle.std.proofs.Common.{◌≡◌, ◌≢◌, ℕ, zero, suc, ◌+◌, ◌-◌, ◌≤◌, ◌<◌, ℤ, List, ◌∷◌, length, get_or, drop, None, Some, Result, Ok, Err, refl, sym}
+use Rattle.std.proofs.Common.{ap, ◌∙◌, arith, eqb, true, false, inl, inr}
 use Rattle.std.specs.Prelude.{is_some}
 use Rattle.std.specs.Char.{is_ascii_digit}
 use Rattle.std.proofs.lemmas.Bool.{cases_lt, eqb-true, ne_eqb}
 use Rattle.std.proofs.lemmas.Bool.Decides.{nat_tests}
 use Rattle.bt_bencode.specs.declared.fault.BenFault.{BenFault}
 use Rattle.bt_bencode.specs.declared.fault.BenFault.TheVariants.{Truncated, TooDeep, BadByte}
-use Rattle.bt_bencode.specs.Term.{Term, Terms, Entries, int, text, list, dict, span_of, int_of, text_of, items_of, entries_of, get}
-use Rattle.bt_bencode.specs.Term.{list_of_terms}
+use Rattle.bt_bencode.specs.Term.{Term, Terms, Entries, int, text, list, dict, span_of, int_of, text_of, items_of, entries_of, get, list_of_terms}
 use Rattle.bt_bencode.specs.Placed.{span}
 use Rattle.bt_bencode.specs.Reading.{value_at, items_at, entries_at, items_in, entries_in, integer_at, string_at, value_behind, end_of}
 use Rattle.bt_bencode.specs.Standing.{term_read, term_at}

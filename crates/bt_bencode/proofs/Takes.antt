@@ -1,23 +1,20 @@
 -- What is read as a string or an integer is spelled so.
-use Rattle.std.proofs.Common.{◌≡◌, ℕ, zero, suc, ◌+◌, ◌-◌, ◌≤◌, ◌<◌, ◌^◌, ℤ, List, [], ◌∷◌, ◌++◌, length, get_or, drop, take}
-use Rattle.std.proofs.Common.{Ok, refl, sym, ap, subst, ◌∙◌, append_assoc, arith, eqb, ltb, cond, true, false}
-use Rattle.std.proofs.Common.{Bool, inl, inr}
+use Rattle.std.proofs.Common.{◌≡◌, ℕ, zero, suc, ◌+◌, ◌-◌, ◌≤◌, ◌<◌, ◌^◌, ℤ, List, [], ◌∷◌, ◌++◌, length, get_or, drop, take, Ok, refl, sym, ap}
+use Rattle.std.proofs.Common.{subst, ◌∙◌, append_assoc, arith, eqb, ltb, cond, true, false, Bool, inl, inr}
 use Rattle.std.specs.Prelude.{decimal, take_while, ◌||◌, ◌&&◌}
 use Rattle.std.specs.Fmt.{signed_decimal}
 use Rattle.std.specs.List.{prefix_len}
 use Rattle.std.specs.Str.{all_ascii_digits}
 use Rattle.std.specs.Str.Parse.{digits_value}
 use Rattle.std.proofs.lemmas.Bool.{cases_lt, eqb-true, eqb-false, eq-eqb, lt-ltb, ltb-false, ltb-true}
-use Rattle.std.proofs.lemmas.List.{length-append, length-drop, length-take, drop_more, drop-drop, take-append-drop}
-use Rattle.std.proofs.lemmas.List.{get_or_past}
+use Rattle.std.proofs.lemmas.List.{length-append, length-drop, length-take, drop_more, drop-drop, take-append-drop, get_or_past}
 use Rattle.std.proofs.lemmas.List.Folds.{length-prefix_len}
 use Rattle.std.proofs.lemmas.List.Sums.{take_while-cons}
 use Rattle.std.proofs.lemmas.Fmt.{decimal-digits_value, decimal_digit}
 use Rattle.std.specs.Char.{is_ascii_digit}
 use Rattle.bt_bencode.specs.declared.fault.BenFault.TheVariants.{Truncated, BadLength, BadInteger, IntegerRange}
 use Rattle.bt_bencode.specs.Grammar.{string}
-use Rattle.bt_bencode.specs.Reading.{string_at}
-use Rattle.bt_bencode.specs.Reading.{string_behind, bytes_at, integer_at, integer_behind, integer_of, signed_of, run_at, is_padded}
+use Rattle.bt_bencode.specs.Reading.{string_at, string_behind, bytes_at, integer_at, integer_behind, integer_of, signed_of, run_at, is_padded}
 use Rattle.bt_bencode.proofs.Strings.{own}
 use Rattle.bt_bencode.proofs.Results.{bind_ok, chosen, done, ok_is, never}
 

@@ -1,7 +1,6 @@
 -- What is read as a value is spelled so, and its parts have the spans where they stand.
-use Rattle.std.proofs.Common.{◌≡◌, ℕ, zero, suc, ◌+◌, ◌<◌, ◌^◌, List, [], ◌∷◌, ◌++◌, length, drop}
-use Rattle.std.proofs.Common.{Option, None, Some, Result, Ok, Err, refl, sym, ap, subst, ◌∙◌, append_assoc, arith, eqb, ltb, cond, true}
-use Rattle.std.proofs.Common.{inl, inr}
+use Rattle.std.proofs.Common.{◌≡◌, ℕ, zero, suc, ◌+◌, ◌<◌, ◌^◌, List, [], ◌∷◌, ◌++◌, length, drop, Option, None, Some, Result, Ok, Err, refl, sym, ap}
+use Rattle.std.proofs.Common.{subst, ◌∙◌, append_assoc, arith, eqb, ltb, cond, true, inl, inr}
 use Rattle.std.specs.Prelude.{take_while}
 use Rattle.std.specs.Fmt.{signed_decimal}
 use Rattle.std.proofs.lemmas.Bool.{eqb-true, ltb-false}
@@ -15,8 +14,7 @@ use Rattle.bt_bencode.specs.Term.{Term, Terms, Entries, int, text, list, dict, n
 use Rattle.bt_bencode.specs.Grammar.{spelling, spelling_of_terms, spelling_of_entries, string}
 use Rattle.bt_bencode.specs.Placed.{placed, terms_placed, entries_placed, span}
 use Rattle.bt_bencode.specs.Reading.{◌>>=◌, value_at, items_at, items_behind, entries_at, entries_behind, value_behind, tree_of, string_at}
-use Rattle.bt_bencode.specs.Reading.{integer_at, run_at, is_late}
-use Rattle.bt_bencode.specs.Reading.{no_key}
+use Rattle.bt_bencode.specs.Reading.{integer_at, run_at, is_late, no_key}
 use Rattle.bt_bencode.proofs.Results.{bind_ok, chosen, ok_is, never}
 use Rattle.bt_bencode.proofs.Takes.{Takes, then_takes, byte_takes, string_takes, integer_takes}
 

@@ -1,8 +1,7 @@
 -- Each child is less deep than its parent.
 use Rattle.std.specs.Prelude.{ℕ, suc, List, [], ◌∷◌, ◌≤◌, ◌+◌, max}
-use Rattle.std.proofs.Common.{Vec}
+use Rattle.std.proofs.Common.{Vec, arith}
 use Rattle.std.specs.Global.{Global}
-use Rattle.std.proofs.Common.{arith}
 use denote.Param.Weighed.{most}
 use Rattle.bt_bencode.specs.declared.span.Span.{Span}
 use Rattle.bt_bencode.specs.declared.tree.Node.{Node}

@@ -1,8 +1,7 @@
 //! A tree of bencoding, which owns what it has.
 
 ghost use Rattle.std.specs.Prelude.{◌≡◌, ◌<◌, ◌≤◌, IfOk, IfErr, option_map};
-ghost use Rattle.bt_bencode.specs.Term.{int, text, int_of, text_of, items_of, entries_of, span_of, get, entry_at, depth_of_terms};
-ghost use Rattle.bt_bencode.specs.Term.{depth_of_entries};
+ghost use Rattle.bt_bencode.specs.Term.{int, text, int_of, text_of, items_of, entries_of, span_of, get, entry_at, depth_of_terms, depth_of_entries};
 ghost use Rattle.bt_bencode.specs.Grammar.{AreSound, EntriesAreSound, keys_rise};
 ghost use Rattle.bt_bencode.specs.Made.{no_span, list_made, dict_made};
 ghost use Rattle.bt_bencode.specs.View.{terms_from, entries_from, pairs};

@@ -4,9 +4,8 @@ use Rattle.bt_meta.specs.declared.fault.MetaFault.{MetaFault}
 use Rattle.bt_meta.specs.declared.fault.MetaFault.TheVariants as metainfo
 use Rattle.bt_meta.specs.Faults as meta
 use Rattle.bt_c.specs.declared.fault.Fault.{Fault}
-use Rattle.bt_c.specs.declared.fault.Fault.TheVariants.{Shut, Open, Worker, Piece, BitsLength, SpareBits, Room, NoMemory, NotHad}
-use Rattle.bt_c.specs.declared.fault.Fault.TheVariants.{Rules, NotWaiting, NoJob, NotHashed, Place, Keeps, Options, Stale, Block}
-use Rattle.bt_c.specs.declared.fault.Fault.TheVariants.{NotHeld, Begun, File, Part, Metainfo}
+use Rattle.bt_c.specs.declared.fault.Fault.TheVariants.{Shut, Open, Worker, Piece, BitsLength, SpareBits, Room, NoMemory, NotHad, Rules, NotWaiting}
+use Rattle.bt_c.specs.declared.fault.Fault.TheVariants.{NoJob, NotHashed, Place, Keeps, Options, Stale, Block, NotHeld, Begun, File, Part, Metainfo}
 
 -- the status that tells a fault; 0 tells that there was none
 abbrev pub fault_number : Fault → ℕ

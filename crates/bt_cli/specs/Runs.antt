@@ -86,8 +86,9 @@ IsWant pieces None (Some flags) = ⊥
 IsWant pieces (Some bytes) None = ⊥
 IsWant pieces (Some bytes) (Some flags) = (length flags ≡ pieces) × IsSpelled flags bytes
 
--- Streams were played in one thread, by options that fit the torrent of the bytes: at a desk of that torrent, with an end for each. The last
--- worker told the wanted pieces, if any; and no piece waits for its check, unless the run is short.
+-- Streams were played in one thread, by options that fit the torrent of the bytes: at a desk of that torrent, with an end for each, each as
+-- its session's, which asked for blocks by the depth of the options, and left after a fault, unless the run is short. The last worker told
+-- the wanted pieces, if any, and made the last checks, and nothing else; and no piece waits for its check, unless the run is short.
 pub record IsPlayed {X : Type 0} (record_of : X → StreamRecord) (read : Result Metainfo MetaFault) (options : Options) (streams : List X)
     (torrent : Metainfo) (short : Bool) (desk : DeskState) (streams' : List X) (ends : List (Result End SessionFault)) : Type 0 where
   pub is_torrent : read ≡ Ok torrent
@@ -99,18 +100,12 @@ pub record IsPlayed {X : Type 0} (record_of : X → StreamRecord) (read : Result
   pub ran : RanInTurns record_of (terms_of torrent options.rules.depth) options.seed want streams short desk streams' ends
   pub none_waits : short ≡ false → (piece : ℕ) → waits desk.setting desk.history piece ≡ false
 
--- A run of these streams came to this desk: an end for each stream, each as its session's, which asked for blocks by the depth of the
--- options, and left after a fault, unless the run is short; the last worker told the pieces that the options want, if any, and made the last
--- checks, and nothing else, so that just those pieces are chosen; and it ended as `Ended` says.
+-- A run of these streams came to this desk: it was played so, and ended as `Ended` says.
 pub record Ran {X : Type 0} (record_of : X → StreamRecord) (torrent : Metainfo) (options : Options) (streams : List X) (desk : DeskState)
     (streams' : List X) (ended : Result Bool Fault) (old new : Option (List ℕ)) (failed : Bool) : Type 0 where
   pub ends : List (Result End SessionFault)
   pub short : Bool
-  pub want : Option (List Bool)
-  pub is_want : IsWant (piece_count torrent.layout) (want_of options) want
-  pub count : length ends ≡ length streams
-  pub ran : RanInTurns record_of (terms_of torrent options.rules.depth) options.seed want streams short desk streams' ends
-  pub none_waits : short ≡ false → (piece : ℕ) → waits desk.setting desk.history piece ≡ false
+  pub played : IsPlayed record_of (Ok torrent) options streams torrent short desk streams' ends
   pub told : Ended short ends desk ended options.journal old new failed
 
 -- why these bytes spell no flags of so many pieces

@@ -1,6 +1,6 @@
 -- What an entry that is allowed shows of the history before it.
-use Rattle.std.proofs.Common.{◌≡◌, ◌≢◌, ◌⊎◌, ℕ, ◌==◌, ◌<◌, Bool, true, false, not, ◌&&◌, ◌||◌, List, [], ◌∷◌, Option, None, Some, refl, ap, sym}
-use Rattle.std.proofs.Common.{◌∙◌, subst, inl, inr, ⊎_elim}
+use Rattle.std.proofs.Common.{◌≡◌, ◌≢◌, ◌⊎◌, ℕ, ◌==◌, ◌<◌, Bool, true, false, not, ◌&&◌, ◌||◌, List, [], ◌∷◌, Option, None, Some, refl, ap, sym, ◌∙◌}
+use Rattle.std.proofs.Common.{subst, inl, inr, ⊎_elim}
 use Rattle.std.specs.Prelude.{if◌then◌else◌, nat_le, nat_lt, ⊤}
 use Rattle.std.proofs.lemmas.Bool.{and_parts, not-true, not-false, or_parts, leb-false, eqb-true, cases_Bool}
 use Rattle.bt_meta.specs.declared.block.Block.{Block}
@@ -8,8 +8,7 @@ use Rattle.bt_meta.specs.Layout.{Layout, piece_count, hash_of}
 use Rattle.sha1.specs.Sha1.{sha1}
 use Rattle.bt_history.specs.declared.call.Reason.{Reason}
 use Rattle.bt_history.specs.declared.call.Reply.{Reply}
-use Rattle.bt_history.specs.declared.call.Reply.TheVariants.{Joined, Quiet, Request, Stored}
-use Rattle.bt_history.specs.declared.call.Reply.TheVariants.{Completed, Dropped, Had, Failed, Refused}
+use Rattle.bt_history.specs.declared.call.Reply.TheVariants.{Joined, Quiet, Request, Stored, Completed, Dropped, Had, Failed, Refused}
 use Rattle.bt_history.specs.declared.event.Action.{Action}
 use Rattle.bt_history.specs.declared.event.Action.TheVariants.{Join, Bits, Have, Next, Arrived, Settle, Haves}
 use Rattle.bt_history.specs.declared.event.Event.{Event}
@@ -59,10 +58,6 @@ unfolding IsAllowed settled_answer
 allowed_answers s h e allowed = by_call e.action allowed.1 where
   by_call : (call : Action) → Permits s.torrent (answer_unless (refusal s h e.worker call) (answer s h e.worker call)) e.reply →
       answers (call_mark call) e.reply ≡ true
-  by_call Join is = exactly s.torrent (refusal s h e.worker Join) Joined e.reply Join refl is
-  by_call (Bits flags) is = exactly s.torrent (refusal s h e.worker (Bits flags)) _ e.reply (Bits flags) refl is
-  by_call (Have p) is = exactly s.torrent (refusal s h e.worker (Have p)) _ e.reply (Have p) refl is
-  by_call (Haves flags) is = exactly s.torrent (refusal s h e.worker (Haves flags)) _ e.reply (Haves flags) refl is
   by_call (Next word) is = next_fits s.torrent (refusal s h e.worker (Next word)) s h e.worker word e.reply is
   by_call (Arrived p begin bytes) is =
       let only = arrived_exactly s h p begin in
@@ -77,7 +72,7 @@ allowed_answers s h e allowed = by_call e.action allowed.1 where
         → answers (call_mark (Settle p bytes)) e.reply ≡ true
     settled_fits true is = exactly s.torrent (refusal s h e.worker (Settle p bytes)) Had e.reply (Settle p bytes) refl is
     settled_fits false is = exactly s.torrent (refusal s h e.worker (Settle p bytes)) Failed e.reply (Settle p bytes) refl is
-  by_call call is = exactly s.torrent (refusal s h e.worker call) Quiet e.reply call refl is
+  by_call call is = exactly s.torrent (refusal s h e.worker call) _ e.reply call refl is
 
 -- ---- refusals
 

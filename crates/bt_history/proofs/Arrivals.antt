@@ -1,6 +1,5 @@
 -- What an arrival that is allowed shows of the history before it.
-use Rattle.std.proofs.Common.{◌≡◌, ◌≢◌, ℕ, ◌==◌, ◌*◌, ◌<◌, Bool, true, false, ◌&&◌, ◌||◌, List, None, Some, length, refl, ap, sym}
-use Rattle.std.proofs.Common.{◌∙◌, subst}
+use Rattle.std.proofs.Common.{◌≡◌, ◌≢◌, ℕ, ◌==◌, ◌*◌, ◌<◌, Bool, true, false, ◌&&◌, ◌||◌, List, None, Some, length, refl, ap, sym, ◌∙◌, subst}
 use Rattle.std.specs.Prelude.{is_some, if◌then◌else◌}
 use Rattle.std.proofs.lemmas.Bool.{and_parts, and_from, leb-false, eqb-true, eq-eqb, false≢true, not-false}
 use Rattle.bt_meta.specs.declared.block.Block.{Block}

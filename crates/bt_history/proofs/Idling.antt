@@ -1,11 +1,10 @@
 -- A peer that has nothing to be asked for stays so until the epoch rises.
-use Rattle.std.proofs.Common.{◌≡◌, ◌≢◌, ◌⊎◌, ℕ, zero, suc, ◌==◌, ◌+◌, ◌<◌, ◌≤◌, Bool, true, false, not, ◌&&◌, ◌||◌, List, [], ◌∷◌, ◌++◌, Option}
-use Rattle.std.proofs.Common.{None, Some}
-use Rattle.std.proofs.Common.{refl, ap, sym, ◌∙◌, arith, ⊎_elim, inl, inr}
+use Rattle.std.proofs.Common.{◌≡◌, ◌≢◌, ◌⊎◌, ℕ, zero, suc, ◌==◌, ◌+◌, ◌<◌, ◌≤◌, Bool, true, false, not, ◌&&◌, ◌||◌, List, [], ◌∷◌, ◌++◌, Option, None}
+use Rattle.std.proofs.Common.{Some, refl, ap, sym, ◌∙◌, arith, ⊎_elim, inl, inr}
 use Rattle.std.specs.Prelude.{if◌then◌else◌, is_none, is_some, nat_lt, nat_le, unwrap_or}
 use Rattle.std.specs.List.{list_any}
-use Rattle.std.proofs.lemmas.Bool.{and_parts, and_from, and_left, and_right, or_parts, or_cases, or_left, or_right, not-true, not-false}
-use Rattle.std.proofs.lemmas.Bool.{eq-eqb, eqb-true, ne_eqb, false≢true, ltb-true, lt-ltb}
+use Rattle.std.proofs.lemmas.Bool.{and_parts, and_from, and_left, and_right, or_parts, or_cases, or_left, or_right, not-true, not-false, eq-eqb}
+use Rattle.std.proofs.lemmas.Bool.{eqb-true, ne_eqb, false≢true, ltb-true, lt-ltb}
 use Rattle.bt_meta.specs.declared.block.Block.{Block}
 use Rattle.bt_meta.specs.Layout.{Layout, piece_count, block_count, block}
 use Rattle.bt_history.specs.declared.call.Reply.{Reply}
@@ -16,12 +15,11 @@ use Rattle.bt_history.specs.declared.event.Event.{Event}
 use Rattle.bt_history.specs.Counting.{any_below, count_below}
 use Rattle.bt_history.specs.Setting.{Setting, some_block, some_block_of, each_block, each_block_of, count_blocks}
 use Rattle.bt_history.specs.History.{History, counts, counted_call, own_call, same_begin, stores, stored, bytes_for, requested, requested_by}
-use Rattle.bt_history.specs.History.{cancelled, cancelled_by}
-use Rattle.bt_history.specs.History.{failed, passed, is_failed, is_had, settles}
+use Rattle.bt_history.specs.History.{cancelled, cancelled_by, failed, passed, is_failed, is_had, settles}
 use Rattle.bt_history.specs.Peers.{asked, asks, asked_count, resets, releases, lasts, shows, shows_after, is_open, is_open_after, told_depth}
 use Rattle.bt_history.specs.Peers.{told_after, depth_of, due}
-use Rattle.bt_history.specs.Pieces.{kept, held, had, in_order, level, level_after, wanted, interesting, asked_of_some, asker_count}
-use Rattle.bt_history.specs.Pieces.{held_or_asked, unasked, endgame, begun}
+use Rattle.bt_history.specs.Pieces.{kept, held, had, in_order, level, level_after, wanted, interesting, asked_of_some, asker_count, held_or_asked}
+use Rattle.bt_history.specs.Pieces.{unasked, endgame, begun}
 use Rattle.bt_history.specs.Next.{Exactly, usable, tops, continues, starts, rises, doubles, next_answer}
 use Rattle.bt_history.specs.Legal.{IsLegal, IsAllowed, place_at}
 use Rattle.bt_history.specs.Logs.{answers, call_mark}
@@ -68,29 +66,35 @@ calm_levels (Levels levels) true p before is = absurd (cc is)
 calm_levels (Level piece n) true p before is = absurd (cc is)
 calm_levels call true p before is = refl
 
+-- the reply asks, stores, cancels and checks nothing
+record SaysNothing (r : Reply) : Type 0 where
+  pub asks : requested_by r ≡ []
+  pub stores_none : stores r ≡ false
+  pub fails : is_failed r ≡ false
+  pub passes : is_had r ≡ false
+  pub cancels : (b : Block) → cancelled_by r b ≡ false
+
+refused_says : (r : Reply) → counts r ≡ false → SaysNothing r
+refused_says (Refused reason) is = record { asks = refl; stores_none = refl; fails = refl; passes = refl; cancels = λ b. refl }
+refused_says r is = absurd (cc is)
+
+idle_says : (r : Reply) → is_idle r ≡ true → SaysNothing r
+idle_says Idle is = record { asks = refl; stores_none = refl; fails = refl; passes = refl; cancels = λ b. refl }
+idle_says NothingLeft is = record { asks = refl; stores_none = refl; fails = refl; passes = refl; cancels = λ b. refl }
+idle_says r is = absurd (cc is)
+
 -- a refused entry changes nothing
 refused_calm : (s : Setting) (h : History) (e : Event) → counts e.reply ≡ false → Calm s h e
 refused_calm s h e refused = record {
   resets_none = λ q. ap (λ (x : Bool). resets (if x && (e.worker == q) then Some e.action else None)) refused;
   releases_none = λ q b. ap (λ (x : Bool). releases (if x && (e.worker == q) then Some e.action else None) b) refused;
-  fails_none = λ p. and_left (is_failed e.reply) _ (none_failed e.reply refused);
-  passes_none = λ p. and_left (is_had e.reply) _ (none_had e.reply refused);
+  fails_none = λ p. and_left (is_failed e.reply) _ (refused_says e.reply refused).fails;
+  passes_none = λ p. and_left (is_had e.reply) _ (refused_says e.reply refused).passes;
   levels_same = λ p before. ap (λ (x : Bool). level_after (if x then Some e.action else None) p before) refused;
   stores_awaited = λ b is. absurd
-      (false≢true (sym (ap (λ (x : Bool). is_some (if x then bytes_for b e.action else None)) (none_stored e.reply refused)) ∙ is));
+      (false≢true (sym (ap (λ (x : Bool). is_some (if x then bytes_for b e.action else None)) (refused_says e.reply refused).stores_none) ∙ is));
   begins_none = λ b is. absurd (false≢true (sym refused ∙ ap counts is));
-} where
-  none_failed : (r : Reply) → counts r ≡ false → is_failed r ≡ false
-  none_failed (Refused reason) is = refl
-  none_failed r is = absurd (cc is)
-
-  none_had : (r : Reply) → counts r ≡ false → is_had r ≡ false
-  none_had (Refused reason) is = refl
-  none_had r is = absurd (cc is)
-
-  none_stored : (r : Reply) → counts r ≡ false → stores r ≡ false
-  none_stored (Refused reason) is = refl
-  none_stored r is = absurd (cc is)
+}
 
 -- a stored block that its own peer alone was asked for
 awaited : (s : Setting) (h : History) (e : Event) (b : Block) (call : Action) → stores_beyond s h e call ≡ false
@@ -314,43 +318,10 @@ module _ (s : Setting) (h : History) (e : Event) (allowed : IsAllowed s h e) (st
 
 -- only Next is answered so
 idle_next : (call : Action) (r : Reply) → is_idle r ≡ true → answers (call_mark call) r ≡ true → (word : ℕ) × (call ≡ Next word)
-idle_next call Idle is fits = by_call call fits where
-  by_call : (a : Action) → answers (call_mark a) Idle ≡ true → (word : ℕ) × (a ≡ Next word)
-  by_call (Next word) fits = (word, refl)
-  by_call _ fits = absurd (cc fits)
-idle_next call NothingLeft is fits = by_call call fits where
-  by_call : (a : Action) → answers (call_mark a) NothingLeft ≡ true → (word : ℕ) × (a ≡ Next word)
-  by_call (Next word) fits = (word, refl)
-  by_call _ fits = absurd (cc fits)
+idle_next (Next word) r is fits = (word, refl)
+idle_next call Idle is fits = absurd (cc fits)
+idle_next call NothingLeft is fits = absurd (cc fits)
 idle_next call r is fits = absurd (cc is)
-
--- it asked nothing, cancelled nothing and stored nothing
-idle_asks : (r : Reply) → is_idle r ≡ true → requested_by r ≡ []
-idle_asks Idle is = refl
-idle_asks NothingLeft is = refl
-idle_asks r is = absurd (cc is)
-
-idle_cancels : (r : Reply) (b : Block) → is_idle r ≡ true → cancelled_by r b ≡ false
-idle_cancels Idle b is = refl
-idle_cancels NothingLeft b is = refl
-idle_cancels r b is = absurd (cc is)
-
-idle_stores : (r : Reply) → is_idle r ≡ true → stores r ≡ false
-idle_stores Idle is = refl
-idle_stores NothingLeft is = refl
-idle_stores r is = absurd (cc is)
-
-refused_asks : (r : Reply) → counts r ≡ false → requested_by r ≡ []
-refused_asks (Refused reason) is = refl
-refused_asks r is = absurd (cc is)
-
-refused_cancels : (r : Reply) (b : Block) → counts r ≡ false → cancelled_by r b ≡ false
-refused_cancels (Refused reason) b is = refl
-refused_cancels r b is = absurd (cc is)
-
-refused_stores : (r : Reply) → counts r ≡ false → stores r ≡ false
-refused_stores (Refused reason) is = refl
-refused_stores r is = absurd (cc is)
 
 -- what the entry leaves of q
 record Silent (h : History) (e : Event) (q : ℕ) : Type 0 where
@@ -393,9 +364,9 @@ silent s h e q allowed still lq is = ⊎_elim
     (λ (refused : not (counts e.reply) ≡ true).
     let none = not-true (counts e.reply) refused in record {
       call = inl (ap (λ (x : Bool). if x && (e.worker == q) then Some e.action else None) none);
-      asks_none = nothing (e.worker == q) (requested_by e.reply) (refused_asks e.reply none);
-      cancels_none = λ b. and_right (e.worker == q) (cancelled_by e.reply b) (refused_cancels e.reply b none);
-      stores_none = λ b some. absurd (false≢true (sym (unstored e b (refused_stores e.reply none)) ∙ some));
+      asks_none = nothing (e.worker == q) (requested_by e.reply) (refused_says e.reply none).asks;
+      cancels_none = λ b. and_right (e.worker == q) (cancelled_by e.reply b) ((refused_says e.reply none).cancels b);
+      stores_none = λ b some. absurd (false≢true (sym (unstored e b (refused_says e.reply none).stores_none) ∙ some));
     })
     (λ rest. ⊎_elim
     (λ (other : not (e.worker == q) ≡ true).
@@ -411,9 +382,9 @@ silent s h e q allowed still lq is = ⊎_elim
     (λ (nothing_to_ask : is_idle e.reply ≡ true).
     let next = idle_next e.action e.reply nothing_to_ask (allowed_answers s h e allowed) in record {
       call = by_own (counts e.reply && (e.worker == q)) e.action next.0 next.1;
-      asks_none = nothing (e.worker == q) (requested_by e.reply) (idle_asks e.reply nothing_to_ask);
-      cancels_none = λ b. and_right (e.worker == q) (cancelled_by e.reply b) (idle_cancels e.reply b nothing_to_ask);
-      stores_none = λ b some. absurd (false≢true (sym (unstored e b (idle_stores e.reply nothing_to_ask)) ∙ some));
+      asks_none = nothing (e.worker == q) (requested_by e.reply) (idle_says e.reply nothing_to_ask).asks;
+      cancels_none = λ b. and_right (e.worker == q) (cancelled_by e.reply b) ((idle_says e.reply nothing_to_ask).cancels b);
+      stores_none = λ b some. absurd (false≢true (sym (unstored e b (idle_says e.reply nothing_to_ask).stores_none) ∙ some));
     })
     (or_cases (not (e.worker == q)) (is_idle e.reply) rest))
     (or_cases (not (counts e.reply)) (not (e.worker == q) || is_idle e.reply) is)

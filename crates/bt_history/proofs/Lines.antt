@@ -7,8 +7,7 @@ use Rattle.std.proofs.lemmas.Map.Views.{any-filter_same}
 use Rattle.std.proofs.Math.Bool.{or_assoc}
 use Rattle.bt_meta.specs.declared.block.Block.{Block}
 use Rattle.bt_history.specs.declared.call.Reply.{Reply}
-use Rattle.bt_history.specs.declared.call.Reply.TheVariants.{Cancel, Stored}
-use Rattle.bt_history.specs.declared.call.Reply.TheVariants.{Completed}
+use Rattle.bt_history.specs.declared.call.Reply.TheVariants.{Cancel, Stored, Completed}
 use Rattle.bt_history.specs.declared.event.Action.{Action}
 use Rattle.bt_history.specs.declared.event.Action.TheVariants.{Release}
 use Rattle.bt_history.specs.declared.event.Event.{Event}

@@ -10,9 +10,8 @@ use Rattle.bt_history.specs.declared.call.Reply.{Reply}
 use Rattle.bt_history.specs.declared.call.Reply.TheVariants.{Joined, Noted, Quiet, Cancel, Request, Choked, PipeFull, Idle, NothingLeft, Stored}
 use Rattle.bt_history.specs.declared.call.Reply.TheVariants.{Completed, Dropped, Had, Failed, Refused}
 use Rattle.bt_history.specs.declared.mark.CallMark.{CallMark}
-use Rattle.bt_history.specs.declared.mark.CallMark.TheVariants.{Join, Bits, Have, Choke, Unchoke, Next, Arrived, Settle, Leave, Want, Haves}
-use Rattle.bt_history.specs.declared.mark.CallMark.TheVariants.{Depth, Release}
-use Rattle.bt_history.specs.declared.mark.CallMark.TheVariants.{Level, Levels, InOrder}
+use Rattle.bt_history.specs.declared.mark.CallMark.TheVariants.{Join, Bits, Have, Choke, Unchoke, Next, Arrived, Settle, Leave, Want, Haves, Depth}
+use Rattle.bt_history.specs.declared.mark.CallMark.TheVariants.{Release, Level, Levels, InOrder}
 use Rattle.bt_history.specs.declared.mark.Mark.{Mark}
 use Rattle.bt_history.specs.contracts.call.ReasonPartialEq.TheImpl as reasons
 use Rattle.bt_history.specs.contracts.call.ReplyPartialEq.TheImpl as replies

@@ -1,5 +1,5 @@
 -- Worked examples, written anew by each run of tools/examples.py.
-use Rattle.std.specs.Prelude.{ℕ, List, [], ◌∷◌, true, false, replicate, reverse, take}
+use Rattle.std.specs.Prelude.{Bool, ℕ, List, [], ◌∷◌, true, false, replicate, reverse, take}
 use Rattle.bt_meta.specs.declared.block.Block.{Block}
 use Rattle.bt_meta.specs.Layout.{Layout}
 use Rattle.bt_history.specs.declared.call.Reason.TheVariants.{NotJoined, AlreadyJoined, LateBits, WrongCount, NoSuchPiece, NoSuchBlock, WrongLength}
@@ -37,6 +37,10 @@ AreJudged (x ∷ xs) = IsLegal x.setting (reverse x.entries) × AreWrong x x.wro
 
 abbrev entry : ℕ → Action → Reply → Event
 entry w call reply = record { worker = w; action = call; reply = reply }
+
+-- a peer joins, shows these pieces, of which we lack some, and unchokes us
+abbrev enters : ℕ → List Bool → List Event → List Event
+enters w flags rest = entry w Join Joined ∷ entry w (Bits flags) (Noted true) ∷ entry w Unchoke Quiet ∷ rest
 
 abbrev rules : ℕ → ℕ → Rules
 rules depth random = record { depth = depth; random = random; askers = MOST_WORKERS; deepest = MOST_DEPTH }
@@ -84,28 +88,22 @@ torrent_four_pieces = record { piece_length = 3; total = 12; hashes = digest_of_
 -- 3: request of a wrong length
 abbrev first_request : Example
 first_request = example (setting_of torrent_short_last 1 usual_rules)
-    (entry 0 Join Joined
-    ∷ entry 0 (Bits (true ∷ true ∷ true ∷ [])) (Noted true)
-    ∷ entry 0 Unchoke Quiet
-    ∷ entry 0 (Next 5) (Request (block_of 2 0 1)) ∷ [])
+    (enters 0 (true ∷ true ∷ true ∷ [])
+    (entry 0 (Next 5) (Request (block_of 2 0 1)) ∷ []))
     ((1, entry 0 (Bits (true ∷ true ∷ true ∷ [])) (Noted false))
     ∷ (3, entry 0 (Next 5) (Request (block_of 2 0 3))) ∷ [])
 
 abbrev another_first_request : Example
 another_first_request = example (setting_of torrent_short_last 1 usual_rules)
-    (entry 0 Join Joined
-    ∷ entry 0 (Bits (true ∷ true ∷ true ∷ [])) (Noted true)
-    ∷ entry 0 Unchoke Quiet
-    ∷ entry 0 (Next 5) (Request (block_of 0 0 3)) ∷ [])
+    (enters 0 (true ∷ true ∷ true ∷ [])
+    (entry 0 (Next 5) (Request (block_of 0 0 3)) ∷ []))
     []
 
 -- 3: idle though a block is usable
 abbrev one_peer_to_the_end : Example
 one_peer_to_the_end = example (setting_of torrent_short_last 1 usual_rules)
-    (entry 0 Join Joined
-    ∷ entry 0 (Bits (true ∷ true ∷ true ∷ [])) (Noted true)
-    ∷ entry 0 Unchoke Quiet
-    ∷ entry 0 (Next 5) (Request (block_of 2 0 1))
+    (enters 0 (true ∷ true ∷ true ∷ [])
+    (entry 0 (Next 5) (Request (block_of 2 0 1))
     ∷ entry 0 (Next 0) (Request (block_of 0 0 3))
     ∷ entry 0 (Next 0) (Request (block_of 1 0 3))
     ∷ entry 0 (Next 0) Idle
@@ -115,7 +113,7 @@ one_peer_to_the_end = example (setting_of torrent_short_last 1 usual_rules)
     ∷ entry 0 (Settle 0 (97 ∷ 98 ∷ 99 ∷ [])) Had
     ∷ entry 0 (Arrived 1 0 (97 ∷ 98 ∷ 99 ∷ [])) Completed
     ∷ entry 0 (Settle 1 (97 ∷ 98 ∷ 99 ∷ [])) Had
-    ∷ entry 0 (Next 0) NothingLeft ∷ [])
+    ∷ entry 0 (Next 0) NothingLeft ∷ []))
     ((3, entry 0 (Next 5) Idle) ∷ [])
 
 -- 8: commoner piece started
@@ -136,122 +134,94 @@ rarest_first = example (setting_of torrent_short_last 2 usual_rules)
 -- 7: pipe full after four
 abbrev full_pipe : Example
 full_pipe = example (setting_of torrent_many_blocks 2 usual_rules)
-    (entry 0 Join Joined
-    ∷ entry 0 (Bits (true ∷ [])) (Noted true)
-    ∷ entry 0 Unchoke Quiet
-    ∷ entry 0 (Next 0) (Request (block_of 0 0 16384))
+    (enters 0 (true ∷ [])
+    (entry 0 (Next 0) (Request (block_of 0 0 16384))
     ∷ entry 0 (Next 0) (Request (block_of 0 16384 16384))
     ∷ entry 0 (Next 0) (Request (block_of 0 32768 16384))
     ∷ entry 0 (Next 0) (Request (block_of 0 49152 16384))
     ∷ entry 0 (Next 0) (Request (block_of 0 65536 16384))
-    ∷ entry 0 (Next 0) PipeFull ∷ [])
+    ∷ entry 0 (Next 0) PipeFull ∷ []))
     ((8, entry 0 (Next 0) (Request (block_of 0 81920 16384)))
     ∷ (7, entry 0 (Next 0) PipeFull) ∷ [])
 
 -- 13: pipe full though the choke freed it
 abbrev choke_frees : Example
 choke_frees = example (setting_of torrent_many_blocks 2 usual_rules)
-    (entry 0 Join Joined
-    ∷ entry 0 (Bits (true ∷ [])) (Noted true)
-    ∷ entry 0 Unchoke Quiet
-    ∷ entry 0 (Next 0) (Request (block_of 0 0 16384))
+    (enters 0 (true ∷ [])
+    (entry 0 (Next 0) (Request (block_of 0 0 16384))
     ∷ entry 0 (Next 0) (Request (block_of 0 16384 16384))
     ∷ entry 0 (Next 0) (Request (block_of 0 32768 16384))
     ∷ entry 0 (Next 0) (Request (block_of 0 49152 16384))
     ∷ entry 0 (Next 0) (Request (block_of 0 65536 16384))
     ∷ entry 0 (Next 0) PipeFull
     ∷ entry 0 Choke Quiet
-    ∷ entry 1 Join Joined
-    ∷ entry 1 (Bits (true ∷ [])) (Noted true)
-    ∷ entry 1 Unchoke Quiet
-    ∷ entry 1 (Next 0) (Request (block_of 0 0 16384))
-    ∷ entry 0 (Next 0) Choked ∷ [])
+    ∷ enters 1 (true ∷ [])
+    (entry 1 (Next 0) (Request (block_of 0 0 16384))
+    ∷ entry 0 (Next 0) Choked ∷ [])))
     ((13, entry 0 (Next 0) PipeFull) ∷ [])
 
 -- 9: idle though a cancel is due
 abbrev cancel_in_endgame : Example
 cancel_in_endgame = example (setting_of torrent_one_piece 2 usual_rules)
-    (entry 0 Join Joined
-    ∷ entry 0 (Bits (true ∷ [])) (Noted true)
-    ∷ entry 0 Unchoke Quiet
-    ∷ entry 1 Join Joined
-    ∷ entry 1 (Bits (true ∷ [])) (Noted true)
-    ∷ entry 1 Unchoke Quiet
-    ∷ entry 0 (Next 0) (Request (block_of 0 0 3))
+    (enters 0 (true ∷ [])
+    (enters 1 (true ∷ [])
+    (entry 0 (Next 0) (Request (block_of 0 0 3))
     ∷ entry 1 (Next 0) (Request (block_of 0 0 3))
     ∷ entry 0 (Arrived 0 0 (97 ∷ 98 ∷ 99 ∷ [])) Completed
     ∷ entry 1 (Next 0) (Cancel (block_of 0 0 3))
     ∷ entry 1 (Next 0) Idle
     ∷ entry 0 (Settle 0 (97 ∷ 98 ∷ 99 ∷ [])) Had
     ∷ entry 1 (Next 0) NothingLeft
-    ∷ entry 1 (Arrived 0 0 (97 ∷ 98 ∷ 99 ∷ [])) Dropped ∷ [])
+    ∷ entry 1 (Arrived 0 0 (97 ∷ 98 ∷ 99 ∷ [])) Dropped ∷ [])))
     ((9, entry 1 (Next 0) Idle) ∷ [])
 
 -- 7: second peer asked before endgame
 abbrev no_double_before_endgame : Example
 no_double_before_endgame = example (setting_of torrent_two_pieces 2 usual_rules)
-    (entry 0 Join Joined
-    ∷ entry 0 (Bits (true ∷ true ∷ [])) (Noted true)
-    ∷ entry 0 Unchoke Quiet
-    ∷ entry 0 (Next 0) (Request (block_of 0 0 3))
-    ∷ entry 1 Join Joined
-    ∷ entry 1 (Bits (true ∷ false ∷ [])) (Noted true)
-    ∷ entry 1 Unchoke Quiet
-    ∷ entry 1 (Next 0) Idle ∷ [])
+    (enters 0 (true ∷ true ∷ [])
+    (entry 0 (Next 0) (Request (block_of 0 0 3))
+    ∷ enters 1 (true ∷ false ∷ [])
+    (entry 1 (Next 0) Idle ∷ [])))
     ((7, entry 1 (Next 0) (Request (block_of 0 0 3))) ∷ [])
 
 -- 16: second peer asked while a block is unasked
 abbrev double_outlasts_endgame : Example
 double_outlasts_endgame = example (setting_of torrent_two_pieces 4 usual_rules)
-    (entry 0 Join Joined
-    ∷ entry 0 (Bits (true ∷ false ∷ [])) (Noted true)
-    ∷ entry 0 Unchoke Quiet
-    ∷ entry 2 Join Joined
-    ∷ entry 2 (Bits (false ∷ true ∷ [])) (Noted true)
-    ∷ entry 2 Unchoke Quiet
-    ∷ entry 1 Join Joined
-    ∷ entry 1 (Bits (true ∷ false ∷ [])) (Noted true)
-    ∷ entry 1 Unchoke Quiet
-    ∷ entry 0 (Next 0) (Request (block_of 0 0 3))
+    (enters 0 (true ∷ false ∷ [])
+    (enters 2 (false ∷ true ∷ [])
+    (enters 1 (true ∷ false ∷ [])
+    (entry 0 (Next 0) (Request (block_of 0 0 3))
     ∷ entry 2 (Next 0) (Request (block_of 1 0 3))
     ∷ entry 1 (Next 0) (Request (block_of 0 0 3))
     ∷ entry 2 Choke Quiet
-    ∷ entry 3 Join Joined
-    ∷ entry 3 (Bits (true ∷ false ∷ [])) (Noted true)
-    ∷ entry 3 Unchoke Quiet
-    ∷ entry 3 (Next 0) Idle
+    ∷ enters 3 (true ∷ false ∷ [])
+    (entry 3 (Next 0) Idle
     ∷ entry 0 (Arrived 0 0 (97 ∷ 98 ∷ 99 ∷ [])) Completed
-    ∷ entry 1 (Next 0) (Cancel (block_of 0 0 3)) ∷ [])
+    ∷ entry 1 (Next 0) (Cancel (block_of 0 0 3)) ∷ [])))))
     ((16, entry 3 (Next 0) (Request (block_of 0 0 3))) ∷ [])
 
 abbrev failed_check : Example
 failed_check = example (setting_of torrent_short_last 1 usual_rules)
-    (entry 0 Join Joined
-    ∷ entry 0 (Bits (true ∷ true ∷ true ∷ [])) (Noted true)
-    ∷ entry 0 Unchoke Quiet
-    ∷ entry 0 (Next 0) (Request (block_of 0 0 3))
+    (enters 0 (true ∷ true ∷ true ∷ [])
+    (entry 0 (Next 0) (Request (block_of 0 0 3))
     ∷ entry 0 (Arrived 0 0 (97 ∷ 98 ∷ 100 ∷ [])) Completed
     ∷ entry 0 (Settle 0 (97 ∷ 98 ∷ 100 ∷ [])) Failed
     ∷ entry 0 (Next 0) (Request (block_of 0 0 3))
-    ∷ entry 0 (Settle 0 (97 ∷ 98 ∷ 100 ∷ [])) (Refused NotWaiting) ∷ [])
+    ∷ entry 0 (Settle 0 (97 ∷ 98 ∷ 100 ∷ [])) (Refused NotWaiting) ∷ []))
     []
 
 -- 9: had with another hash
 -- 9: replaced bytes settled
 abbrev failed_check_in_endgame : Example
 failed_check_in_endgame = example (setting_of torrent_one_piece 2 usual_rules)
-    (entry 0 Join Joined
-    ∷ entry 0 (Bits (true ∷ [])) (Noted true)
-    ∷ entry 0 Unchoke Quiet
-    ∷ entry 1 Join Joined
-    ∷ entry 1 (Bits (true ∷ [])) (Noted true)
-    ∷ entry 1 Unchoke Quiet
-    ∷ entry 0 (Next 0) (Request (block_of 0 0 3))
+    (enters 0 (true ∷ [])
+    (enters 1 (true ∷ [])
+    (entry 0 (Next 0) (Request (block_of 0 0 3))
     ∷ entry 1 (Next 0) (Request (block_of 0 0 3))
     ∷ entry 0 (Arrived 0 0 (97 ∷ 98 ∷ 100 ∷ [])) Completed
     ∷ entry 0 (Settle 0 (97 ∷ 98 ∷ 100 ∷ [])) Failed
     ∷ entry 1 (Next 0) (Cancel (block_of 0 0 3))
-    ∷ entry 1 (Next 0) (Request (block_of 0 0 3)) ∷ [])
+    ∷ entry 1 (Next 0) (Request (block_of 0 0 3)) ∷ [])))
     ((9, entry 0 (Settle 0 (97 ∷ 98 ∷ 100 ∷ [])) Had)
     ∷ (9, entry 0 (Settle 0 (97 ∷ 98 ∷ 99 ∷ [])) Had) ∷ [])
 
@@ -320,33 +290,27 @@ stale_verdict = example (setting_of torrent_short_last 1 usual_rules)
 
 abbrev random_first_piece : Example
 random_first_piece = example (setting_of torrent_short_last 2 usual_rules)
-    (entry 0 Join Joined
-    ∷ entry 0 (Bits (true ∷ true ∷ true ∷ [])) (Noted true)
-    ∷ entry 0 Unchoke Quiet
-    ∷ entry 1 Join Joined
+    (enters 0 (true ∷ true ∷ true ∷ [])
+    (entry 1 Join Joined
     ∷ entry 1 (Bits (true ∷ true ∷ false ∷ [])) (Noted true)
-    ∷ entry 0 (Next 1) (Request (block_of 1 0 3)) ∷ [])
+    ∷ entry 0 (Next 1) (Request (block_of 1 0 3)) ∷ []))
     []
 
 abbrev rare_first_piece_too : Example
 rare_first_piece_too = example (setting_of torrent_short_last 2 usual_rules)
-    (entry 0 Join Joined
-    ∷ entry 0 (Bits (true ∷ true ∷ true ∷ [])) (Noted true)
-    ∷ entry 0 Unchoke Quiet
-    ∷ entry 1 Join Joined
+    (enters 0 (true ∷ true ∷ true ∷ [])
+    (entry 1 Join Joined
     ∷ entry 1 (Bits (true ∷ true ∷ false ∷ [])) (Noted true)
-    ∷ entry 0 (Next 1) (Request (block_of 2 0 1)) ∷ [])
+    ∷ entry 0 (Next 1) (Request (block_of 2 0 1)) ∷ []))
     []
 
 -- 4: second piece started while a begun one has a usable block
 abbrev strict_priority : Example
 strict_priority = example (setting_of torrent_two_blocks 1 usual_rules)
-    (entry 0 Join Joined
-    ∷ entry 0 (Bits (true ∷ true ∷ [])) (Noted true)
-    ∷ entry 0 Unchoke Quiet
-    ∷ entry 0 (Next 0) (Request (block_of 0 0 16384))
+    (enters 0 (true ∷ true ∷ [])
+    (entry 0 (Next 0) (Request (block_of 0 0 16384))
     ∷ entry 0 (Next 1) (Request (block_of 0 16384 16384))
-    ∷ entry 0 (Next 1) (Request (block_of 1 0 16384)) ∷ [])
+    ∷ entry 0 (Next 1) (Request (block_of 1 0 16384)) ∷ []))
     ((4, entry 0 (Next 1) (Request (block_of 1 0 16384))) ∷ [])
 
 -- 11: availability counts a peer that left
@@ -368,13 +332,9 @@ gone_peer_not_counted = example (setting_of torrent_short_last 3 usual_rules)
 
 abbrev rejoin_in_endgame : Example
 rejoin_in_endgame = example (setting_of torrent_one_piece 2 usual_rules)
-    (entry 0 Join Joined
-    ∷ entry 0 (Bits (true ∷ [])) (Noted true)
-    ∷ entry 0 Unchoke Quiet
-    ∷ entry 1 Join Joined
-    ∷ entry 1 (Bits (true ∷ [])) (Noted true)
-    ∷ entry 1 Unchoke Quiet
-    ∷ entry 0 (Next 0) (Request (block_of 0 0 3))
+    (enters 0 (true ∷ [])
+    (enters 1 (true ∷ [])
+    (entry 0 (Next 0) (Request (block_of 0 0 3))
     ∷ entry 1 (Next 0) (Request (block_of 0 0 3))
     ∷ entry 0 Leave Quiet
     ∷ entry 0 Join Joined
@@ -383,47 +343,41 @@ rejoin_in_endgame = example (setting_of torrent_one_piece 2 usual_rules)
     ∷ entry 1 (Settle 0 (97 ∷ 98 ∷ 100 ∷ [])) Failed
     ∷ entry 0 (Bits (true ∷ [])) (Noted true)
     ∷ entry 0 Unchoke Quiet
-    ∷ entry 0 (Next 0) (Request (block_of 0 0 3)) ∷ [])
+    ∷ entry 0 (Next 0) (Request (block_of 0 0 3)) ∷ [])))
     []
 
 -- 5: third request at depth two
 -- 4: pipe full at depth two after one
 abbrev depth_two : Example
 depth_two = example (setting_of torrent_many_blocks 1 (rules 2 1))
-    (entry 0 Join Joined
-    ∷ entry 0 (Bits (true ∷ [])) (Noted true)
-    ∷ entry 0 Unchoke Quiet
-    ∷ entry 0 (Next 0) (Request (block_of 0 0 16384))
+    (enters 0 (true ∷ [])
+    (entry 0 (Next 0) (Request (block_of 0 0 16384))
     ∷ entry 0 (Next 0) (Request (block_of 0 16384 16384))
-    ∷ entry 0 (Next 0) PipeFull ∷ [])
+    ∷ entry 0 (Next 0) PipeFull ∷ []))
     ((5, entry 0 (Next 0) (Request (block_of 0 32768 16384)))
     ∷ (4, entry 0 (Next 0) PipeFull) ∷ [])
 
 -- 8: pipe full at five though deep
 abbrev deep_pipe : Example
 deep_pipe = example (setting_of torrent_many_blocks 1 (rules 64 1))
-    (entry 0 Join Joined
-    ∷ entry 0 (Bits (true ∷ [])) (Noted true)
-    ∷ entry 0 Unchoke Quiet
-    ∷ entry 0 (Next 0) (Request (block_of 0 0 16384))
+    (enters 0 (true ∷ [])
+    (entry 0 (Next 0) (Request (block_of 0 0 16384))
     ∷ entry 0 (Next 0) (Request (block_of 0 16384 16384))
     ∷ entry 0 (Next 0) (Request (block_of 0 32768 16384))
     ∷ entry 0 (Next 0) (Request (block_of 0 49152 16384))
     ∷ entry 0 (Next 0) (Request (block_of 0 65536 16384))
     ∷ entry 0 (Next 0) (Request (block_of 0 81920 16384))
     ∷ entry 0 (Next 0) (Request (block_of 0 98304 16384))
-    ∷ entry 0 (Next 0) (Request (block_of 0 114688 16384)) ∷ [])
+    ∷ entry 0 (Next 0) (Request (block_of 0 114688 16384)) ∷ []))
     ((8, entry 0 (Next 0) PipeFull) ∷ [])
 
 -- 5: first piece at random though none is
 abbrev rarest_from_the_start : Example
 rarest_from_the_start = example (setting_of torrent_short_last 2 (rules 5 0))
-    (entry 0 Join Joined
-    ∷ entry 0 (Bits (true ∷ true ∷ true ∷ [])) (Noted true)
-    ∷ entry 0 Unchoke Quiet
-    ∷ entry 1 Join Joined
+    (enters 0 (true ∷ true ∷ true ∷ [])
+    (entry 1 Join Joined
     ∷ entry 1 (Bits (true ∷ true ∷ false ∷ [])) (Noted true)
-    ∷ entry 0 (Next 1) (Request (block_of 2 0 1)) ∷ [])
+    ∷ entry 0 (Next 1) (Request (block_of 2 0 1)) ∷ []))
     ((5, entry 0 (Next 1) (Request (block_of 1 0 3))) ∷ [])
 
 abbrev second_piece_at_random : Example
@@ -442,10 +396,8 @@ second_piece_at_random = example (setting_of torrent_short_last 2 (rules 5 2))
 -- 11: third piece at random
 abbrev rarest_after_two_pieces : Example
 rarest_after_two_pieces = example (setting_of torrent_four_pieces 2 (rules 5 2))
-    (entry 0 Join Joined
-    ∷ entry 0 (Bits (true ∷ true ∷ true ∷ true ∷ [])) (Noted true)
-    ∷ entry 0 Unchoke Quiet
-    ∷ entry 1 Join Joined
+    (enters 0 (true ∷ true ∷ true ∷ true ∷ [])
+    (entry 1 Join Joined
     ∷ entry 1 (Bits (false ∷ false ∷ true ∷ true ∷ [])) (Noted true)
     ∷ entry 0 (Next 0) (Request (block_of 0 0 3))
     ∷ entry 0 (Arrived 0 0 (97 ∷ 98 ∷ 99 ∷ [])) Completed
@@ -453,7 +405,7 @@ rarest_after_two_pieces = example (setting_of torrent_four_pieces 2 (rules 5 2))
     ∷ entry 0 (Next 2) (Request (block_of 2 0 3))
     ∷ entry 0 (Arrived 2 0 (97 ∷ 98 ∷ 99 ∷ [])) Completed
     ∷ entry 0 (Settle 2 (97 ∷ 98 ∷ 99 ∷ [])) Had
-    ∷ entry 0 (Next 3) (Request (block_of 1 0 3)) ∷ [])
+    ∷ entry 0 (Next 3) (Request (block_of 1 0 3)) ∷ []))
     ((11, entry 0 (Next 3) (Request (block_of 3 0 3))) ∷ [])
 
 -- 5: unwanted block asked
@@ -465,10 +417,8 @@ rarest_after_two_pieces = example (setting_of torrent_four_pieces 2 (rules 5 2))
 abbrev wants : Example
 wants = example (setting_of torrent_short_last 2 usual_rules)
     (entry 1 (Want (false ∷ true ∷ false ∷ [])) Quiet
-    ∷ entry 0 Join Joined
-    ∷ entry 0 (Bits (true ∷ true ∷ true ∷ [])) (Noted true)
-    ∷ entry 0 Unchoke Quiet
-    ∷ entry 0 (Next 0) (Request (block_of 1 0 3))
+    ∷ enters 0 (true ∷ true ∷ true ∷ [])
+    (entry 0 (Next 0) (Request (block_of 1 0 3))
     ∷ entry 0 (Next 0) Idle
     ∷ entry 0 (Want (true ∷ false ∷ true ∷ [])) Quiet
     ∷ entry 0 (Next 0) (Request (block_of 0 0 3))
@@ -478,7 +428,7 @@ wants = example (setting_of torrent_short_last 2 usual_rules)
     ∷ entry 0 (Settle 1 (97 ∷ 98 ∷ 99 ∷ [])) Had
     ∷ entry 0 (Want (false ∷ true ∷ false ∷ [])) Quiet
     ∷ entry 0 (Have 2) (Noted false)
-    ∷ entry 1 (Want (false ∷ false ∷ false ∷ false ∷ [])) (Refused WrongCount) ∷ [])
+    ∷ entry 1 (Want (false ∷ false ∷ false ∷ false ∷ [])) (Refused WrongCount) ∷ []))
     ((5, entry 0 (Next 0) (Request (block_of 0 0 3)))
     ∷ (9, entry 0 (Next 0) (Request (block_of 2 0 1)))
     ∷ (9, entry 0 (Next 0) Idle)
@@ -489,17 +439,13 @@ wants = example (setting_of torrent_short_last 2 usual_rules)
 -- 8: unwanted block keeps endgame off
 abbrev endgame_of_the_wanted : Example
 endgame_of_the_wanted = example (setting_of torrent_two_pieces 2 usual_rules)
-    (entry 0 Join Joined
-    ∷ entry 0 (Bits (true ∷ true ∷ [])) (Noted true)
-    ∷ entry 0 Unchoke Quiet
-    ∷ entry 1 Join Joined
-    ∷ entry 1 (Bits (true ∷ true ∷ [])) (Noted true)
-    ∷ entry 1 Unchoke Quiet
-    ∷ entry 0 (Next 0) (Request (block_of 0 0 3))
+    (enters 0 (true ∷ true ∷ [])
+    (enters 1 (true ∷ true ∷ [])
+    (entry 0 (Next 0) (Request (block_of 0 0 3))
     ∷ entry 1 (Want (true ∷ false ∷ [])) Quiet
     ∷ entry 1 (Next 0) (Request (block_of 0 0 3))
     ∷ entry 1 (Want (true ∷ true ∷ [])) Quiet
-    ∷ entry 0 (Next 0) (Request (block_of 1 0 3)) ∷ [])
+    ∷ entry 0 (Next 0) (Request (block_of 1 0 3)) ∷ [])))
     ((8, entry 1 (Next 0) Idle) ∷ [])
 
 -- 2: bits late by a want
@@ -513,113 +459,91 @@ want_before_the_bits = example (setting_of torrent_short_last 1 usual_rules)
 -- 10: unwanted block freed
 abbrev asked_stays_asked : Example
 asked_stays_asked = example (setting_of torrent_two_pieces 2 usual_rules)
-    (entry 0 Join Joined
-    ∷ entry 0 (Bits (true ∷ true ∷ [])) (Noted true)
-    ∷ entry 0 Unchoke Quiet
-    ∷ entry 1 Join Joined
-    ∷ entry 1 (Bits (true ∷ true ∷ [])) (Noted true)
-    ∷ entry 1 Unchoke Quiet
-    ∷ entry 0 (Next 0) (Request (block_of 0 0 3))
+    (enters 0 (true ∷ true ∷ [])
+    (enters 1 (true ∷ true ∷ [])
+    (entry 0 (Next 0) (Request (block_of 0 0 3))
     ∷ entry 0 (Want (false ∷ true ∷ [])) Quiet
     ∷ entry 0 (Next 0) (Request (block_of 1 0 3))
     ∷ entry 0 (Want (true ∷ true ∷ [])) Quiet
     ∷ entry 1 (Next 0) (Request (block_of 0 0 3))
     ∷ entry 0 (Arrived 0 0 (97 ∷ 98 ∷ 99 ∷ [])) Completed
-    ∷ entry 1 (Next 0) (Cancel (block_of 0 0 3)) ∷ [])
+    ∷ entry 1 (Next 0) (Cancel (block_of 0 0 3)) ∷ [])))
     ((10, entry 0 (Next 0) (Request (block_of 0 0 3))) ∷ [])
 
 -- 9: idle though another peer released
 abbrev released_is_asked_elsewhere : Example
 released_is_asked_elsewhere = example (setting_of torrent_two_pieces 2 usual_rules)
-    (entry 0 Join Joined
-    ∷ entry 0 (Bits (true ∷ true ∷ [])) (Noted true)
-    ∷ entry 0 Unchoke Quiet
-    ∷ entry 1 Join Joined
-    ∷ entry 1 (Bits (true ∷ false ∷ [])) (Noted true)
-    ∷ entry 1 Unchoke Quiet
-    ∷ entry 0 (Next 0) (Request (block_of 0 0 3))
+    (enters 0 (true ∷ true ∷ [])
+    (enters 1 (true ∷ false ∷ [])
+    (entry 0 (Next 0) (Request (block_of 0 0 3))
     ∷ entry 1 (Next 0) Idle
     ∷ entry 0 (Release 0 0) Quiet
     ∷ entry 1 (Next 0) (Request (block_of 0 0 3))
-    ∷ entry 0 (Next 0) (Request (block_of 1 0 3)) ∷ [])
+    ∷ entry 0 (Next 0) (Request (block_of 1 0 3)) ∷ [])))
     ((9, entry 1 (Next 0) Idle) ∷ [])
 
 -- 9: cancel of what another peer released
 -- 11: cancel of a released block
 abbrev released_in_endgame : Example
 released_in_endgame = example (setting_of torrent_one_piece 2 usual_rules)
-    (entry 0 Join Joined
-    ∷ entry 0 (Bits (true ∷ [])) (Noted true)
-    ∷ entry 0 Unchoke Quiet
-    ∷ entry 1 Join Joined
-    ∷ entry 1 (Bits (true ∷ [])) (Noted true)
-    ∷ entry 1 Unchoke Quiet
-    ∷ entry 0 (Next 0) (Request (block_of 0 0 3))
+    (enters 0 (true ∷ [])
+    (enters 1 (true ∷ [])
+    (entry 0 (Next 0) (Request (block_of 0 0 3))
     ∷ entry 1 (Next 0) (Request (block_of 0 0 3))
     ∷ entry 0 (Release 0 0) Quiet
     ∷ entry 1 (Next 0) Idle
     ∷ entry 1 (Arrived 0 0 (97 ∷ 98 ∷ 99 ∷ [])) Completed
     ∷ entry 0 (Next 0) Idle
     ∷ entry 1 (Settle 0 (97 ∷ 98 ∷ 99 ∷ [])) Had
-    ∷ entry 0 (Next 0) NothingLeft ∷ [])
+    ∷ entry 0 (Next 0) NothingLeft ∷ [])))
     ((9, entry 1 (Next 0) (Cancel (block_of 0 0 3)))
     ∷ (11, entry 0 (Next 0) (Cancel (block_of 0 0 3))) ∷ [])
 
 -- 6: released piece continued
 abbrev released_piece_is_unbegun : Example
 released_piece_is_unbegun = example (setting_of torrent_two_blocks 1 usual_rules)
-    (entry 0 Join Joined
-    ∷ entry 0 (Bits (true ∷ true ∷ [])) (Noted true)
-    ∷ entry 0 Unchoke Quiet
-    ∷ entry 0 (Next 0) (Request (block_of 0 0 16384))
+    (enters 0 (true ∷ true ∷ [])
+    (entry 0 (Next 0) (Request (block_of 0 0 16384))
     ∷ entry 0 (Release 0 0) Quiet
     ∷ entry 0 (Next 1) (Request (block_of 1 0 16384))
     ∷ entry 0 (Next 0) (Request (block_of 1 16384 16384))
-    ∷ entry 0 (Next 0) (Request (block_of 0 0 16384)) ∷ [])
+    ∷ entry 0 (Next 0) (Request (block_of 0 0 16384)) ∷ []))
     ((6, entry 0 (Next 0) (Request (block_of 0 16384 16384))) ∷ [])
 
 -- 6: idle though released
 abbrev released_is_asked_again : Example
 released_is_asked_again = example (setting_of torrent_one_piece 1 usual_rules)
-    (entry 0 Join Joined
-    ∷ entry 0 (Bits (true ∷ [])) (Noted true)
-    ∷ entry 0 Unchoke Quiet
-    ∷ entry 0 (Next 0) (Request (block_of 0 0 3))
+    (enters 0 (true ∷ [])
+    (entry 0 (Next 0) (Request (block_of 0 0 3))
     ∷ entry 0 (Next 0) Idle
     ∷ entry 0 (Release 0 0) Quiet
-    ∷ entry 0 (Next 0) (Request (block_of 0 0 3)) ∷ [])
+    ∷ entry 0 (Next 0) (Request (block_of 0 0 3)) ∷ []))
     ((6, entry 0 (Next 0) Idle) ∷ [])
 
 -- 5: released block dropped
 abbrev released_arrives_after_all : Example
 released_arrives_after_all = example (setting_of torrent_two_blocks 1 usual_rules)
-    (entry 0 Join Joined
-    ∷ entry 0 (Bits (true ∷ true ∷ [])) (Noted true)
-    ∷ entry 0 Unchoke Quiet
-    ∷ entry 0 (Next 0) (Request (block_of 0 0 16384))
+    (enters 0 (true ∷ true ∷ [])
+    (entry 0 (Next 0) (Request (block_of 0 0 16384))
     ∷ entry 0 (Release 0 0) Quiet
     ∷ entry 0 (Arrived 0 0 (replicate 16384 97)) Stored
-    ∷ entry 0 (Next 0) (Request (block_of 0 16384 16384)) ∷ [])
+    ∷ entry 0 (Next 0) (Request (block_of 0 16384 16384)) ∷ []))
     ((5, entry 0 (Arrived 0 0 (replicate 16384 97)) Dropped) ∷ [])
 
 -- 5: second request at a depth of one
 abbrev depth_of_one : Example
 depth_of_one = example (setting_of torrent_many_blocks 1 usual_rules)
-    (entry 0 Join Joined
-    ∷ entry 0 (Bits (true ∷ [])) (Noted true)
-    ∷ entry 0 Unchoke Quiet
-    ∷ entry 0 (Depth 1) Quiet
+    (enters 0 (true ∷ [])
+    (entry 0 (Depth 1) Quiet
     ∷ entry 0 (Next 0) (Request (block_of 0 0 16384))
-    ∷ entry 0 (Next 0) PipeFull ∷ [])
+    ∷ entry 0 (Next 0) PipeFull ∷ []))
     ((5, entry 0 (Next 0) (Request (block_of 0 16384 16384))) ∷ [])
 
 -- 10: pipe full though deepened
 abbrev deepened : Example
 deepened = example (setting_of torrent_many_blocks 1 usual_rules)
-    (entry 0 Join Joined
-    ∷ entry 0 (Bits (true ∷ [])) (Noted true)
-    ∷ entry 0 Unchoke Quiet
-    ∷ entry 0 (Next 0) (Request (block_of 0 0 16384))
+    (enters 0 (true ∷ [])
+    (entry 0 (Next 0) (Request (block_of 0 0 16384))
     ∷ entry 0 (Next 0) (Request (block_of 0 16384 16384))
     ∷ entry 0 (Next 0) (Request (block_of 0 32768 16384))
     ∷ entry 0 (Next 0) (Request (block_of 0 49152 16384))
@@ -628,16 +552,14 @@ deepened = example (setting_of torrent_many_blocks 1 usual_rules)
     ∷ entry 0 (Depth 7) Quiet
     ∷ entry 0 (Next 0) (Request (block_of 0 81920 16384))
     ∷ entry 0 (Next 0) (Request (block_of 0 98304 16384))
-    ∷ entry 0 (Next 0) PipeFull ∷ [])
+    ∷ entry 0 (Next 0) PipeFull ∷ []))
     ((10, entry 0 (Next 0) PipeFull) ∷ [])
 
 -- 11: depth forgotten at a choke
 abbrev depth_outlasts_a_choke : Example
 depth_outlasts_a_choke = example (setting_of torrent_many_blocks 1 usual_rules)
-    (entry 0 Join Joined
-    ∷ entry 0 (Bits (true ∷ [])) (Noted true)
-    ∷ entry 0 Unchoke Quiet
-    ∷ entry 0 (Depth 2) Quiet
+    (enters 0 (true ∷ [])
+    (entry 0 (Depth 2) Quiet
     ∷ entry 0 (Next 0) (Request (block_of 0 0 16384))
     ∷ entry 0 (Next 0) (Request (block_of 0 16384 16384))
     ∷ entry 0 (Next 0) PipeFull
@@ -645,34 +567,28 @@ depth_outlasts_a_choke = example (setting_of torrent_many_blocks 1 usual_rules)
     ∷ entry 0 Unchoke Quiet
     ∷ entry 0 (Next 0) (Request (block_of 0 0 16384))
     ∷ entry 0 (Next 0) (Request (block_of 0 16384 16384))
-    ∷ entry 0 (Next 0) PipeFull ∷ [])
+    ∷ entry 0 (Next 0) PipeFull ∷ []))
     ((11, entry 0 (Next 0) (Request (block_of 0 32768 16384))) ∷ [])
 
 -- 11: depth outlasts its peer
 abbrev depth_goes_with_its_peer : Example
 depth_goes_with_its_peer = example (setting_of torrent_many_blocks 1 usual_rules)
-    (entry 0 Join Joined
-    ∷ entry 0 (Bits (true ∷ [])) (Noted true)
-    ∷ entry 0 Unchoke Quiet
-    ∷ entry 0 (Depth 1) Quiet
+    (enters 0 (true ∷ [])
+    (entry 0 (Depth 1) Quiet
     ∷ entry 0 (Next 0) (Request (block_of 0 0 16384))
     ∷ entry 0 (Next 0) PipeFull
     ∷ entry 0 Leave Quiet
-    ∷ entry 0 Join Joined
-    ∷ entry 0 (Bits (true ∷ [])) (Noted true)
-    ∷ entry 0 Unchoke Quiet
-    ∷ entry 0 (Next 0) (Request (block_of 0 0 16384))
-    ∷ entry 0 (Next 0) (Request (block_of 0 16384 16384)) ∷ [])
+    ∷ enters 0 (true ∷ [])
+    (entry 0 (Next 0) (Request (block_of 0 0 16384))
+    ∷ entry 0 (Next 0) (Request (block_of 0 16384 16384)) ∷ [])))
     ((11, entry 0 (Next 0) PipeFull) ∷ [])
 
 -- 7: request beyond a smaller depth
 -- 11: pipe full though enough came
 abbrev smaller_depth : Example
 smaller_depth = example (setting_of torrent_many_blocks 1 usual_rules)
-    (entry 0 Join Joined
-    ∷ entry 0 (Bits (true ∷ [])) (Noted true)
-    ∷ entry 0 Unchoke Quiet
-    ∷ entry 0 (Next 0) (Request (block_of 0 0 16384))
+    (enters 0 (true ∷ [])
+    (entry 0 (Next 0) (Request (block_of 0 0 16384))
     ∷ entry 0 (Next 0) (Request (block_of 0 16384 16384))
     ∷ entry 0 (Next 0) (Request (block_of 0 32768 16384))
     ∷ entry 0 (Depth 2) Quiet
@@ -681,44 +597,34 @@ smaller_depth = example (setting_of torrent_many_blocks 1 usual_rules)
     ∷ entry 0 (Next 0) PipeFull
     ∷ entry 0 (Arrived 0 16384 (replicate 16384 97)) Stored
     ∷ entry 0 (Next 0) (Request (block_of 0 49152 16384))
-    ∷ entry 0 (Next 0) PipeFull ∷ [])
+    ∷ entry 0 (Next 0) PipeFull ∷ []))
     ((7, entry 0 (Next 0) (Request (block_of 0 49152 16384)))
     ∷ (11, entry 0 (Next 0) PipeFull) ∷ [])
 
 -- 7: second asker of one
 abbrev one_asker : Example
 one_asker = example (setting_of torrent_one_piece 2 (bounded_rules 5 1 1 64))
-    (entry 0 Join Joined
-    ∷ entry 0 (Bits (true ∷ [])) (Noted true)
-    ∷ entry 0 Unchoke Quiet
-    ∷ entry 1 Join Joined
-    ∷ entry 1 (Bits (true ∷ [])) (Noted true)
-    ∷ entry 1 Unchoke Quiet
-    ∷ entry 0 (Next 0) (Request (block_of 0 0 3))
+    (enters 0 (true ∷ [])
+    (enters 1 (true ∷ [])
+    (entry 0 (Next 0) (Request (block_of 0 0 3))
     ∷ entry 1 (Next 0) Idle
     ∷ entry 0 (Release 0 0) Quiet
     ∷ entry 1 (Next 0) (Request (block_of 0 0 3))
-    ∷ entry 0 (Next 0) Idle ∷ [])
+    ∷ entry 0 (Next 0) Idle ∷ [])))
     ((7, entry 1 (Next 0) (Request (block_of 0 0 3))) ∷ [])
 
 -- 11: third asker of two
 -- 7: second asker of two idle
 abbrev two_askers : Example
 two_askers = example (setting_of torrent_one_piece 3 (bounded_rules 5 1 2 64))
-    (entry 0 Join Joined
-    ∷ entry 0 (Bits (true ∷ [])) (Noted true)
-    ∷ entry 0 Unchoke Quiet
-    ∷ entry 1 Join Joined
-    ∷ entry 1 (Bits (true ∷ [])) (Noted true)
-    ∷ entry 1 Unchoke Quiet
-    ∷ entry 0 (Next 0) (Request (block_of 0 0 3))
+    (enters 0 (true ∷ [])
+    (enters 1 (true ∷ [])
+    (entry 0 (Next 0) (Request (block_of 0 0 3))
     ∷ entry 1 (Next 0) (Request (block_of 0 0 3))
-    ∷ entry 2 Join Joined
-    ∷ entry 2 (Bits (true ∷ [])) (Noted true)
-    ∷ entry 2 Unchoke Quiet
-    ∷ entry 2 (Next 0) Idle
+    ∷ enters 2 (true ∷ [])
+    (entry 2 (Next 0) Idle
     ∷ entry 1 Choke Quiet
-    ∷ entry 2 (Next 0) (Request (block_of 0 0 3)) ∷ [])
+    ∷ entry 2 (Next 0) (Request (block_of 0 0 3)) ∷ []))))
     ((11, entry 2 (Next 0) (Request (block_of 0 0 3)))
     ∷ (7, entry 1 (Next 0) Idle) ∷ [])
 
@@ -746,22 +652,18 @@ abbrev refusals_of_release_and_depth : Example
 refusals_of_release_and_depth = example (setting_of torrent_short_last 2 usual_rules)
     (entry 0 (Release 0 0) (Refused NotJoined)
     ∷ entry 0 (Depth 3) (Refused NotJoined)
-    ∷ entry 0 Join Joined
-    ∷ entry 0 (Bits (true ∷ true ∷ true ∷ [])) (Noted true)
-    ∷ entry 0 Unchoke Quiet
-    ∷ entry 0 (Release 0 0) (Refused NotAsked)
+    ∷ enters 0 (true ∷ true ∷ true ∷ [])
+    (entry 0 (Release 0 0) (Refused NotAsked)
     ∷ entry 0 (Next 0) (Request (block_of 0 0 3))
-    ∷ entry 1 Join Joined
-    ∷ entry 1 (Bits (true ∷ false ∷ false ∷ [])) (Noted true)
-    ∷ entry 1 Unchoke Quiet
-    ∷ entry 1 (Release 0 0) (Refused NotAsked)
+    ∷ enters 1 (true ∷ false ∷ false ∷ [])
+    (entry 1 (Release 0 0) (Refused NotAsked)
     ∷ entry 0 (Release 0 1) (Refused NotAsked)
     ∷ entry 0 (Release 9 0) (Refused NotAsked)
     ∷ entry 0 (Depth 0) (Refused WrongDepth)
     ∷ entry 0 (Depth 65) (Refused WrongDepth)
     ∷ entry 0 (Depth 64) Quiet
     ∷ entry 0 (Release 0 0) Quiet
-    ∷ entry 0 (Release 0 0) (Refused NotAsked) ∷ [])
+    ∷ entry 0 (Release 0 0) (Refused NotAsked) ∷ [])))
     ((5, entry 0 (Release 0 0) Quiet)
     ∷ (10, entry 1 (Release 0 0) Quiet)
     ∷ (13, entry 0 (Depth 0) Quiet)
@@ -817,13 +719,11 @@ haves_of_none = example (setting_of torrent_short_last 2 usual_rules)
 -- 6: availability without the haves
 abbrev haves_are_counted : Example
 haves_are_counted = example (setting_of torrent_short_last 2 (rules 5 0))
-    (entry 0 Join Joined
-    ∷ entry 0 (Bits (true ∷ true ∷ true ∷ [])) (Noted true)
-    ∷ entry 0 Unchoke Quiet
-    ∷ entry 1 Join Joined
+    (enters 0 (true ∷ true ∷ true ∷ [])
+    (entry 1 Join Joined
     ∷ entry 1 (Bits (true ∷ false ∷ false ∷ [])) (Noted true)
     ∷ entry 1 (Haves (false ∷ false ∷ true ∷ [])) (Noted true)
-    ∷ entry 0 (Next 0) (Request (block_of 1 0 3)) ∷ [])
+    ∷ entry 0 (Next 0) (Request (block_of 1 0 3)) ∷ []))
     ((6, entry 0 (Next 0) (Request (block_of 2 0 1))) ∷ [])
 
 -- 10: low level asked first
@@ -833,20 +733,14 @@ haves_are_counted = example (setting_of torrent_short_last 2 (rules 5 0))
 abbrev two_levels : Example
 two_levels = example (setting_of torrent_four_pieces 3 (rules 5 0))
     (entry 2 (Levels (2 ∷ 7 ∷ 7 ∷ 2 ∷ [])) Quiet
-    ∷ entry 0 Join Joined
-    ∷ entry 0 (Bits (true ∷ true ∷ true ∷ true ∷ [])) (Noted true)
-    ∷ entry 0 Unchoke Quiet
-    ∷ entry 1 Join Joined
-    ∷ entry 1 (Bits (true ∷ true ∷ false ∷ false ∷ [])) (Noted true)
-    ∷ entry 1 Unchoke Quiet
-    ∷ entry 2 Join Joined
-    ∷ entry 2 (Bits (false ∷ true ∷ true ∷ true ∷ [])) (Noted true)
-    ∷ entry 2 Unchoke Quiet
-    ∷ entry 0 (Next 0) (Request (block_of 2 0 3))
+    ∷ enters 0 (true ∷ true ∷ true ∷ true ∷ [])
+    (enters 1 (true ∷ true ∷ false ∷ false ∷ [])
+    (enters 2 (false ∷ true ∷ true ∷ true ∷ [])
+    (entry 0 (Next 0) (Request (block_of 2 0 3))
     ∷ entry 1 (Next 0) (Request (block_of 1 0 3))
     ∷ entry 2 (Next 0) (Request (block_of 3 0 3))
     ∷ entry 0 (Next 0) (Request (block_of 0 0 3))
-    ∷ entry 1 (Next 0) (Request (block_of 0 0 3)) ∷ [])
+    ∷ entry 1 (Next 0) (Request (block_of 0 0 3)) ∷ []))))
     ((10, entry 0 (Next 0) (Request (block_of 0 0 3)))
     ∷ (10, entry 0 (Next 0) (Request (block_of 1 0 3)))
     ∷ (11, entry 1 (Next 0) (Request (block_of 0 0 3)))
@@ -855,14 +749,12 @@ two_levels = example (setting_of torrent_four_pieces 3 (rules 5 0))
 -- 5: begun piece of a lower level continued
 abbrev raised_in_mid_download : Example
 raised_in_mid_download = example (setting_of torrent_two_blocks 1 usual_rules)
-    (entry 0 Join Joined
-    ∷ entry 0 (Bits (true ∷ true ∷ [])) (Noted true)
-    ∷ entry 0 Unchoke Quiet
-    ∷ entry 0 (Next 0) (Request (block_of 0 0 16384))
+    (enters 0 (true ∷ true ∷ [])
+    (entry 0 (Next 0) (Request (block_of 0 0 16384))
     ∷ entry 0 (Level 1 5) Quiet
     ∷ entry 0 (Next 0) (Request (block_of 1 0 16384))
     ∷ entry 0 (Next 0) (Request (block_of 1 16384 16384))
-    ∷ entry 0 (Next 0) (Request (block_of 0 16384 16384)) ∷ [])
+    ∷ entry 0 (Next 0) (Request (block_of 0 16384 16384)) ∷ []))
     ((5, entry 0 (Next 0) (Request (block_of 0 16384 16384))) ∷ [])
 
 -- 5: in order before levels
@@ -870,17 +762,15 @@ raised_in_mid_download = example (setting_of torrent_two_blocks 1 usual_rules)
 -- 9: moved head passed over
 abbrev streaming : Example
 streaming = example (setting_of torrent_four_pieces 1 usual_rules)
-    (entry 0 Join Joined
-    ∷ entry 0 (Bits (true ∷ true ∷ true ∷ true ∷ [])) (Noted true)
-    ∷ entry 0 Unchoke Quiet
-    ∷ entry 0 (InOrder true) Quiet
+    (enters 0 (true ∷ true ∷ true ∷ true ∷ [])
+    (entry 0 (InOrder true) Quiet
     ∷ entry 0 (Level 2 5) Quiet
     ∷ entry 0 (Next 0) (Request (block_of 2 0 3))
     ∷ entry 0 (Next 0) (Request (block_of 0 0 3))
     ∷ entry 0 (Level 2 4) Quiet
     ∷ entry 0 (Level 3 5) Quiet
     ∷ entry 0 (Next 0) (Request (block_of 3 0 3))
-    ∷ entry 0 (Next 0) (Request (block_of 1 0 3)) ∷ [])
+    ∷ entry 0 (Next 0) (Request (block_of 1 0 3)) ∷ []))
     ((5, entry 0 (Next 0) (Request (block_of 0 0 3)))
     ∷ (6, entry 0 (Next 0) (Request (block_of 3 0 3)))
     ∷ (9, entry 0 (Next 0) (Request (block_of 1 0 3))) ∷ [])
@@ -888,30 +778,26 @@ streaming = example (setting_of torrent_four_pieces 1 usual_rules)
 -- 6: begun piece continued though in order
 abbrev earlier_piece_in_order : Example
 earlier_piece_in_order = example (setting_of torrent_two_blocks 1 usual_rules)
-    (entry 0 Join Joined
-    ∷ entry 0 (Bits (false ∷ true ∷ [])) (Noted true)
-    ∷ entry 0 Unchoke Quiet
-    ∷ entry 0 (Next 0) (Request (block_of 1 0 16384))
+    (enters 0 (false ∷ true ∷ [])
+    (entry 0 (Next 0) (Request (block_of 1 0 16384))
     ∷ entry 0 (InOrder true) Quiet
     ∷ entry 0 (Have 0) (Noted true)
     ∷ entry 0 (Next 0) (Request (block_of 0 0 16384))
     ∷ entry 0 (Next 0) (Request (block_of 0 16384 16384))
-    ∷ entry 0 (Next 0) (Request (block_of 1 16384 16384)) ∷ [])
+    ∷ entry 0 (Next 0) (Request (block_of 1 16384 16384)) ∷ []))
     ((6, entry 0 (Next 0) (Request (block_of 1 16384 16384))) ∷ [])
 
 -- 6: rarest though in order
 -- 8: in order though told off
 abbrev in_order_told_off : Example
 in_order_told_off = example (setting_of torrent_four_pieces 2 (rules 5 0))
-    (entry 0 Join Joined
-    ∷ entry 0 (Bits (true ∷ true ∷ true ∷ true ∷ [])) (Noted true)
-    ∷ entry 0 Unchoke Quiet
-    ∷ entry 1 Join Joined
+    (enters 0 (true ∷ true ∷ true ∷ true ∷ [])
+    (entry 1 Join Joined
     ∷ entry 1 (Bits (true ∷ true ∷ false ∷ false ∷ [])) (Noted true)
     ∷ entry 0 (InOrder true) Quiet
     ∷ entry 0 (Next 0) (Request (block_of 0 0 3))
     ∷ entry 1 (InOrder false) Quiet
-    ∷ entry 0 (Next 0) (Request (block_of 2 0 3)) ∷ [])
+    ∷ entry 0 (Next 0) (Request (block_of 2 0 3)) ∷ []))
     ((6, entry 0 (Next 0) (Request (block_of 2 0 3)))
     ∷ (8, entry 0 (Next 0) (Request (block_of 1 0 3))) ∷ [])
 
@@ -919,33 +805,27 @@ in_order_told_off = example (setting_of torrent_four_pieces 2 (rules 5 0))
 abbrev peer_of_low_levels : Example
 peer_of_low_levels = example (setting_of torrent_four_pieces 2 usual_rules)
     (entry 1 (Levels (7 ∷ 7 ∷ 1 ∷ 1 ∷ [])) Quiet
-    ∷ entry 0 Join Joined
-    ∷ entry 0 (Bits (true ∷ true ∷ true ∷ true ∷ [])) (Noted true)
-    ∷ entry 0 Unchoke Quiet
-    ∷ entry 1 Join Joined
-    ∷ entry 1 (Bits (false ∷ false ∷ true ∷ true ∷ [])) (Noted true)
-    ∷ entry 1 Unchoke Quiet
-    ∷ entry 1 (Next 0) (Request (block_of 2 0 3))
+    ∷ enters 0 (true ∷ true ∷ true ∷ true ∷ [])
+    (enters 1 (false ∷ false ∷ true ∷ true ∷ [])
+    (entry 1 (Next 0) (Request (block_of 2 0 3))
     ∷ entry 0 (Next 0) (Request (block_of 0 0 3))
     ∷ entry 1 (Next 0) (Request (block_of 3 0 3))
     ∷ entry 0 (Next 0) (Request (block_of 1 0 3))
-    ∷ entry 1 (Next 0) Idle ∷ [])
+    ∷ entry 1 (Next 0) Idle ∷ [])))
     ((7, entry 1 (Next 0) Idle) ∷ [])
 
 -- 4: piece of level 0 asked
 -- 7: idle though wanted again
 abbrev unwanted_by_level : Example
 unwanted_by_level = example (setting_of torrent_two_pieces 1 usual_rules)
-    (entry 0 Join Joined
-    ∷ entry 0 (Bits (true ∷ true ∷ [])) (Noted true)
-    ∷ entry 0 Unchoke Quiet
-    ∷ entry 0 (Level 0 0) Quiet
+    (enters 0 (true ∷ true ∷ [])
+    (entry 0 (Level 0 0) Quiet
     ∷ entry 0 (Next 0) (Request (block_of 1 0 3))
     ∷ entry 0 (Next 0) Idle
     ∷ entry 0 (Level 0 4) Quiet
     ∷ entry 0 (Next 0) (Request (block_of 0 0 3))
     ∷ entry 0 (Levels (0 ∷ 0 ∷ [])) Quiet
-    ∷ entry 0 (Next 0) NothingLeft ∷ [])
+    ∷ entry 0 (Next 0) NothingLeft ∷ []))
     ((4, entry 0 (Next 0) (Request (block_of 0 0 3)))
     ∷ (7, entry 0 (Next 0) Idle) ∷ [])
 
@@ -969,17 +849,15 @@ levels_of_none = example (setting_of torrent_short_last 1 usual_rules)
 abbrev want_after_levels : Example
 want_after_levels = example (setting_of torrent_four_pieces 2 (rules 5 0))
     (entry 0 (Levels (7 ∷ 1 ∷ 1 ∷ 5 ∷ [])) Quiet
-    ∷ entry 0 Join Joined
-    ∷ entry 0 (Bits (true ∷ true ∷ true ∷ true ∷ [])) (Noted true)
-    ∷ entry 0 Unchoke Quiet
-    ∷ entry 1 Join Joined
+    ∷ enters 0 (true ∷ true ∷ true ∷ true ∷ [])
+    (entry 1 Join Joined
     ∷ entry 1 (Bits (false ∷ false ∷ false ∷ true ∷ [])) (Noted true)
     ∷ entry 0 (Want (false ∷ true ∷ true ∷ true ∷ [])) Quiet
     ∷ entry 0 (Next 0) (Request (block_of 1 0 3))
     ∷ entry 0 (Next 0) (Request (block_of 2 0 3))
     ∷ entry 0 (Level 0 3) Quiet
     ∷ entry 0 (Next 0) (Request (block_of 3 0 3))
-    ∷ entry 0 (Next 0) (Request (block_of 0 0 3)) ∷ [])
+    ∷ entry 0 (Next 0) (Request (block_of 0 0 3)) ∷ []))
     ((7, entry 0 (Next 0) (Request (block_of 3 0 3)))
     ∷ (10, entry 0 (Next 0) (Request (block_of 0 0 3))) ∷ [])
 
@@ -1000,32 +878,24 @@ level_before_the_bits = example (setting_of torrent_two_pieces 1 usual_rules)
 abbrev endgame_of_all_levels : Example
 endgame_of_all_levels = example (setting_of torrent_two_pieces 3 usual_rules)
     (entry 2 (Levels (7 ∷ 1 ∷ [])) Quiet
-    ∷ entry 0 Join Joined
-    ∷ entry 0 (Bits (true ∷ true ∷ [])) (Noted true)
-    ∷ entry 0 Unchoke Quiet
-    ∷ entry 1 Join Joined
-    ∷ entry 1 (Bits (true ∷ true ∷ [])) (Noted true)
-    ∷ entry 1 Unchoke Quiet
-    ∷ entry 2 Join Joined
-    ∷ entry 2 (Bits (true ∷ true ∷ [])) (Noted true)
-    ∷ entry 2 Unchoke Quiet
-    ∷ entry 0 (Next 0) (Request (block_of 0 0 3))
+    ∷ enters 0 (true ∷ true ∷ [])
+    (enters 1 (true ∷ true ∷ [])
+    (enters 2 (true ∷ true ∷ [])
+    (entry 0 (Next 0) (Request (block_of 0 0 3))
     ∷ entry 1 (Next 0) (Request (block_of 1 0 3))
     ∷ entry 2 (Next 0) (Request (block_of 1 0 3))
-    ∷ entry 2 (Next 0) (Request (block_of 0 0 3)) ∷ [])
+    ∷ entry 2 (Next 0) (Request (block_of 0 0 3)) ∷ []))))
     ((11, entry 1 (Next 0) (Request (block_of 0 0 3))) ∷ [])
 
 -- 5: asked block of level 0 dropped
 abbrev asked_outlasts_its_level : Example
 asked_outlasts_its_level = example (setting_of torrent_two_pieces 1 usual_rules)
-    (entry 0 Join Joined
-    ∷ entry 0 (Bits (true ∷ true ∷ [])) (Noted true)
-    ∷ entry 0 Unchoke Quiet
-    ∷ entry 0 (Next 0) (Request (block_of 0 0 3))
+    (enters 0 (true ∷ true ∷ [])
+    (entry 0 (Next 0) (Request (block_of 0 0 3))
     ∷ entry 0 (Level 0 0) Quiet
     ∷ entry 0 (Arrived 0 0 (97 ∷ 98 ∷ 99 ∷ [])) Completed
     ∷ entry 0 (Settle 0 (97 ∷ 98 ∷ 99 ∷ [])) Had
-    ∷ entry 0 (Next 0) (Request (block_of 1 0 3)) ∷ [])
+    ∷ entry 0 (Next 0) (Request (block_of 1 0 3)) ∷ []))
     ((5, entry 0 (Arrived 0 0 (97 ∷ 98 ∷ 99 ∷ [])) Dropped) ∷ [])
 
 -- 0: level of no piece taken
@@ -1048,12 +918,10 @@ refusals_of_levels = example (setting_of torrent_short_last 2 usual_rules)
     ∷ entry 1 (Level 2 7) Quiet
     ∷ entry 0 (InOrder true) Quiet
     ∷ entry 0 (InOrder false) Quiet
-    ∷ entry 0 Join Joined
-    ∷ entry 0 (Bits (true ∷ true ∷ true ∷ [])) (Noted true)
-    ∷ entry 0 Unchoke Quiet
-    ∷ entry 0 (Next 0) (Request (block_of 2 0 1))
+    ∷ enters 0 (true ∷ true ∷ true ∷ [])
+    (entry 0 (Next 0) (Request (block_of 2 0 1))
     ∷ entry 0 (Next 0) (Request (block_of 1 0 3))
-    ∷ entry 0 (Next 0) (Request (block_of 0 0 3)) ∷ [])
+    ∷ entry 0 (Next 0) (Request (block_of 0 0 3)) ∷ []))
     ((0, entry 0 (Level 3 4) Quiet)
     ∷ (1, entry 0 (Level 0 8) Quiet)
     ∷ (3, entry 1 (Levels (4 ∷ 4 ∷ [])) Quiet)

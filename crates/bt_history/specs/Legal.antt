@@ -12,9 +12,8 @@ use Rattle.bt_history.specs.declared.call.Reason.TheVariants.{NotWaiting, Stale,
 use Rattle.bt_history.specs.declared.call.Reply.{Reply}
 use Rattle.bt_history.specs.declared.call.Reply.TheVariants.{Joined, Noted, Quiet, Cancel, Request, Stored, Completed, Dropped, Had, Failed, Refused}
 use Rattle.bt_history.specs.declared.event.Action.{Action}
-use Rattle.bt_history.specs.declared.event.Action.TheVariants.{Join, Bits, Have, Next, Arrived, Settle, Want, Haves}
-use Rattle.bt_history.specs.declared.event.Action.TheVariants.{Depth, Release}
-use Rattle.bt_history.specs.declared.event.Action.TheVariants.{Level, Levels, InOrder}
+use Rattle.bt_history.specs.declared.event.Action.TheVariants.{Join, Bits, Have, Next, Arrived, Settle, Want, Haves, Depth, Release, Level, Levels}
+use Rattle.bt_history.specs.declared.event.Action.TheVariants.{InOrder}
 use Rattle.bt_history.specs.declared.rules.TheConstants.{MOST_LEVEL}
 use Rattle.bt_history.specs.declared.event.Event.{Event}
 use Rattle.bt_history.specs.Setting.{Setting, deepest_told, some_block_of, each_block_of, is_block}

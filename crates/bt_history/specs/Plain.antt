@@ -16,8 +16,7 @@ use Rattle.bt_history.specs.Peers.{joined, is_open, resets}
 use Rattle.bt_history.specs.Pieces.{held, had, had_count}
 use Rattle.bt_history.specs.Next.{Answer, Exactly, CancelOf, RequestOf}
 use Rattle.bt_history.specs.Legal.{first_cause, no_peer, no_count, refusal, answer, answer_unless, Permits}
-use Rattle.bt_history.specs.Before.{asked_before, shows_before, shows_then, late_before, chosen_before}
-use Rattle.bt_history.specs.Before.{is_release, is_depth, is_haves, is_levelling}
+use Rattle.bt_history.specs.Before.{asked_before, shows_before, shows_then, late_before, chosen_before, is_release, is_depth, is_haves, is_levelling}
 
 -- ---- peers, blocks and pieces
 

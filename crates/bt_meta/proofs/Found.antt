@@ -1,6 +1,5 @@
 -- What reading finds, its faults aside, is what the metainfo file says.
-use Rattle.std.proofs.Common.{◌≡◌, ℕ, ℤ, pos, negsuc, List, [], ◌∷◌, Option, Some, None, Result, Ok, Err, refl, ap, ◌∙◌, Bool, true, false}
-use Rattle.std.proofs.Common.{cond}
+use Rattle.std.proofs.Common.{◌≡◌, ℕ, ℤ, pos, negsuc, List, [], ◌∷◌, Option, Some, None, Result, Ok, Err, refl, ap, ◌∙◌, Bool, true, false, cond}
 use Rattle.std.specs.Prelude.{option_and_then}
 use Rattle.std.specs.Option.{ok_or}
 use Rattle.std.specs.Result.{result_ok}
@@ -13,8 +12,8 @@ use Rattle.bt_meta.specs.declared.fault.MetaFault.TheVariants.{Missing, WrongKin
 use Rattle.bt_meta.specs.Keys.{key_name}
 use Rattle.bt_meta.specs.Metainfo.{int_at, text_at, items_at, natural, length_at, is_path, file_length, file_lengths, lengths}
 use Rattle.bt_meta.specs.Metainfo as says
-use Rattle.bt_meta.specs.Reading.{value_in, int_in, text_in, items_in, length_in, natural_of, dictionary, path_in, file_length_in}
-use Rattle.bt_meta.specs.Reading.{file_lengths_in, lengths_in}
+use Rattle.bt_meta.specs.Reading.{value_in, int_in, text_in, items_in, length_in, natural_of, dictionary, path_in, file_length_in, file_lengths_in}
+use Rattle.bt_meta.specs.Reading.{lengths_in}
 use Rattle.bt_meta.specs.Reading as reading
 
 -- a value that was found is in an `Ok`, and the other way round

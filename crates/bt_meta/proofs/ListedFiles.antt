@@ -5,8 +5,7 @@ use Rattle.std.specs.Option.{ok_or}
 use Rattle.bt_bencode.specs.Term.{Term, items_of}
 use Rattle.bt_bencode.specs.Reading.{◌>>=◌}
 use Rattle.bt_meta.specs.declared.fault.MetaFault.{MetaFault}
-use Rattle.bt_meta.specs.declared.fault.MetaFault.TheVariants.{WrongKind}
-use Rattle.bt_meta.specs.declared.fault.MetaFault.TheVariants.{NoMemory}
+use Rattle.bt_meta.specs.declared.fault.MetaFault.TheVariants.{WrongKind, NoMemory}
 use Rattle.bt_meta.specs.declared.key.Key.TheVariants as key
 use Rattle.bt_meta.specs.Files.{Listed, file_in, files_at, files_within}
 use Rattle.bt_meta.specs.Reading.{Fails}

@@ -1,8 +1,7 @@
 //! A torrent: how its content is cut into pieces and blocks, and the digest of each piece.
 
 ghost use Rattle.std.specs.Prelude.{◌≡◌, ◌<◌, ◌≤◌, ◌^◌, IfOk, IfErr, List, ℕ};
-ghost use Rattle.bt_meta.specs.Layout.{IsLayout, piece_count, piece_len, block_count, block, block_at, hash_of, torrent_of, pieces_in};
-ghost use Rattle.bt_meta.specs.Layout.{sizes_checked};
+ghost use Rattle.bt_meta.specs.Layout.{IsLayout, piece_count, piece_len, block_count, block, block_at, hash_of, torrent_of, pieces_in, sizes_checked};
 
 mod reading;
 

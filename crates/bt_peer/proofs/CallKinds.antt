@@ -34,6 +34,19 @@ Lacks-front kind [] fs lacks = refl
 Lacks-front kind (e ∷ es) fs lacks =
     both_false (is_of kind e) (list_any (is_of kind) (es ++ fs)) (list_any (is_of kind) es) lacks (λ rest. Lacks-front kind es fs rest)
 
+-- what all calls that messages make have in common is so of each
+pub of_message : {A : Type 0} (f : Action → A) (a : A) → f actions.Join ≡ a → f actions.Choke ≡ a → f actions.Unchoke ≡ a
+    → ((piece : ℕ) → f (actions.Have piece) ≡ a) → ((flags : List Bool) → f (actions.Bits flags) ≡ a)
+    → ((piece begin : ℕ) (bytes : List ℕ) → f (actions.Arrived piece begin bytes) ≡ a)
+    → (pieces : ℕ) (m : Message) (call : Action) → call_of pieces m ≡ Some call → f call ≡ a
+of_message f a join choke unchoke have bits arrived pieces (messages.Hello h) call is = cc (join, is)
+of_message f a join choke unchoke have bits arrived pieces messages.Choke call is = cc (choke, is)
+of_message f a join choke unchoke have bits arrived pieces messages.Unchoke call is = cc (unchoke, is)
+of_message f a join choke unchoke have bits arrived pieces (messages.Have piece) call is = cc (have piece, is)
+of_message f a join choke unchoke have bits arrived pieces (messages.Bits flags) call is = cc (bits (flags_of pieces flags), is)
+of_message f a join choke unchoke have bits arrived pieces (messages.Piece piece begin bytes) call is = cc (arrived piece begin bytes, is)
+of_message f a join choke unchoke have bits arrived pieces _ call is = absurd (cc is)
+
 -- the kind is of no call that a turn makes
 pub record IsOutside (kind : Action → Bool) : Type 0 where
   pub message : (pieces : ℕ) (m : Message) (call : Action) → call_of pieces m ≡ Some call → kind call ≡ false

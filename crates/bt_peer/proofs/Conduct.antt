@@ -1,6 +1,5 @@
 -- Stretches of a worker's calls, one after another: their numbers, and the checks of the pieces that they complete.
-use Rattle.std.proofs.Common.{◌≡◌, ℕ, Bool, true, false, ◌&&◌, List, [], ◌∷◌, ◌++◌, map, Option, Some, None, refl, sym, ap, subst}
-use Rattle.std.proofs.Common.{◌∙◌, ◌⊎◌}
+use Rattle.std.proofs.Common.{◌≡◌, ℕ, Bool, true, false, ◌&&◌, List, [], ◌∷◌, ◌++◌, map, Option, Some, None, refl, sym, ap, subst, ◌∙◌, ◌⊎◌}
 use Rattle.std.proofs.Common.{append_assoc, inl, inr}
 use Rattle.std.proofs.lemmas.List.{append-nil}
 use Rattle.std.proofs.lemmas.Bool.{and_parts}
@@ -13,14 +12,14 @@ use Rattle.bt_wire.specs.declared.message.Message.{Message}
 use Rattle.bt_wire.specs.declared.message.Message.TheVariants as messages
 use Rattle.bt_peer.specs.declared.fault.SessionFault.{SessionFault}
 use Rattle.bt_peer.specs.Acts.{Act, Called, News, calls_of}
-use Rattle.bt_peer.specs.Outlets.{StopsCall}
+use Rattle.bt_peer.specs.Outlets.{StopsCall, Outlet}
 use Rattle.bt_peer.specs.Places.{PlaceRecord, Gains, GainsUpTo}
 use Rattle.bt_peer.specs.Steps.{Leaves, Departs}
 use Rattle.bt_peer.specs.Turns.{call_of, arrived_piece, if_completed}
-use Rattle.bt_peer.specs.Outlets.{Outlet}
 use Rattle.bt_peer.specs.Parts.{CallStops}
 use Rattle.bt_peer.proofs.Asking.{stops_ways}
 use Rattle.bt_peer.specs.Conduct.{Calls, Draws, given_number, numbers_of, completed_by, checks_first, all_checked, Conducts, DrawsNumbers}
+use Rattle.bt_peer.proofs.CallKinds.{of_message}
 
 pub numbers_of-append : (xs ys : Calls) → numbers_of (xs ++ ys) ≡ numbers_of xs ++ numbers_of ys
 numbers_of-append [] ys = refl
@@ -167,13 +166,7 @@ other_cut s call fault old new silent cut =
 
 -- a call of a message is no Next
 pub own_number : (pieces : ℕ) (m : Message) (call : Action) → call_of pieces m ≡ Some call → given_number call ≡ []
-own_number pieces (messages.Hello h) call is = cc
-own_number pieces messages.Choke call is = cc
-own_number pieces messages.Unchoke call is = cc
-own_number pieces (messages.Have piece) call is = cc
-own_number pieces (messages.Bits bits) call is = cc
-own_number pieces (messages.Piece piece begin bytes) call is = cc
-own_number pieces _ call is = absurd cc
+own_number = of_message given_number [] refl refl refl (λ piece. refl) (λ flags. refl) (λ piece begin bytes. refl)
 
 departs_silently : (is_in short : Bool) (leave : List Act) → Departs is_in short leave → AreSilent leave
 departs_silently is_in short [] departs = refl

@@ -8,9 +8,8 @@ use Rattle.std.proofs.lemmas.Bool.Decides.{nat_tests}
 use Rattle.std.specs.Borrow.{GName}
 use Rattle.bt_meta.specs.Layout.{piece_count}
 use Rattle.bt_history.specs.declared.call.Reply.{Reply}
-use Rattle.bt_history.specs.declared.event.Action.{Action}
+use Rattle.bt_history.specs.declared.event.Action.{Action, Action}
 use Rattle.bt_history.specs.declared.event.Event.{Event as Entry}
-use Rattle.bt_history.specs.declared.event.Action.{Action}
 use Rattle.bt_history.specs.declared.event.Action.TheVariants as actions
 use Rattle.bt_history.specs.History.{History, passed}
 use Rattle.bt_history.specs.Logs.{answers}

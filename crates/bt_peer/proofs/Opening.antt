@@ -20,6 +20,7 @@ use Rattle.bt_peer.specs.Outlets.{Outlet, Performs, PerformsUpTo, IsCut, Writes}
 use Rattle.bt_peer.specs.Parts.{CallStops, OpeningDone, OpeningStops}
 use Rattle.bt_peer.proofs.Stretches.{Performs-join, Performs-stops, Writes-none, WritesUpTo-none}
 use Rattle.bt_peer.proofs.Asking.{stops_ways, ends_cut}
+use Rattle.bt_peer.proofs.CallKinds.{of_message}
 
 -- a call of a session's own is no check
 refused_call : (call : Action) (reason : Reason) → is_check call ≡ false → is_refused_call (Called call (replies.Refused reason)) ≡ true
@@ -72,13 +73,7 @@ stops_one fault call reply a c cut accepted stops = record {
 
 -- a message's call is no check
 pub no_check : (pieces : ℕ) (m : Message) (call : Action) → call_of pieces m ≡ Some call → is_check call ≡ false
-no_check pieces (messages.Hello h) call is = cc
-no_check pieces messages.Choke call is = cc
-no_check pieces messages.Unchoke call is = cc
-no_check pieces (messages.Have piece) call is = cc
-no_check pieces (messages.Bits bits) call is = cc
-no_check pieces (messages.Piece piece begin bytes) call is = cc
-no_check pieces _ call is = absurd cc
+no_check = of_message is_check false refl refl refl (λ piece. refl) (λ flags. refl) (λ piece begin bytes. refl)
 
 -- the call stopped
 pub opening_stops : (call : Action) (fault : SessionFault) (a c : Outlet) → is_check call ≡ false → CallStops fault call a c →

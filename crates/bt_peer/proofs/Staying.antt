@@ -11,7 +11,7 @@ use Rattle.bt_peer.specs.Acts.{Act, Called, is_in}
 use Rattle.bt_peer.specs.SessionTerms.{TermsState}
 use Rattle.bt_peer.specs.Turns.{call_of}
 use Rattle.bt_peer.specs.Steps.{StopsTurn}
-use Rattle.bt_peer.proofs.CallKinds.{IsOutside, Lacks, begun_lacks}
+use Rattle.bt_peer.proofs.CallKinds.{IsOutside, Lacks, begun_lacks, of_message}
 
 abbrev is_leave : Action → Bool
 is_leave actions.Leave = true
@@ -19,13 +19,7 @@ is_leave _ = false
 
 -- a message's call is no Leave
 own_call : (pieces : ℕ) (m : Message) (call : Action) → call_of pieces m ≡ Some call → is_leave call ≡ false
-own_call pieces (messages.Hello h) call is = cc
-own_call pieces messages.Choke call is = cc
-own_call pieces messages.Unchoke call is = cc
-own_call pieces (messages.Have piece) call is = cc
-own_call pieces (messages.Bits bits) call is = cc
-own_call pieces (messages.Piece piece begin bytes) call is = cc
-own_call pieces _ call is = absurd cc
+own_call = of_message is_leave false refl refl refl (λ piece. refl) (λ flags. refl) (λ piece begin bytes. refl)
 
 leave_outside : IsOutside is_leave
 leave_outside = record { message = own_call; check = λ piece hashed. refl; next = λ word. refl }

@@ -18,7 +18,7 @@ use Rattle.bt_peer.specs.Sessions.{SessionState, FailsWith, Running}
 use Rattle.bt_peer.specs.SessionTerms.{TermsState}
 use Rattle.bt_peer.specs.Steps.{Start, Surroundings, BreaksBy, Departs}
 use Rattle.bt_peer.specs.Turns.{call_of, TurnsOf, AreTurns}
-use Rattle.bt_peer.proofs.CallKinds.{IsOutside, Lacks, Lacks-append, begun_lacks, both_false, is_of, turn_lacks}
+use Rattle.bt_peer.proofs.CallKinds.{IsOutside, Lacks, Lacks-append, begun_lacks, both_false, is_of, turn_lacks, of_message}
 
 -- the call tells which pieces are chosen
 abbrev pub is_wish : Action → Bool
@@ -44,13 +44,7 @@ wish_nothing-front (made ∷ xs) ys none =
     (λ rest. wish_nothing-front xs ys rest)
 
 own_call : (pieces : ℕ) (m : Message) (call : Action) → call_of pieces m ≡ Some call → is_wish call ≡ false
-own_call pieces (messages.Hello h) call is = cc
-own_call pieces messages.Choke call is = cc
-own_call pieces messages.Unchoke call is = cc
-own_call pieces (messages.Have piece) call is = cc
-own_call pieces (messages.Bits bits) call is = cc
-own_call pieces (messages.Piece piece begin bytes) call is = cc
-own_call pieces _ call is = absurd cc
+own_call = of_message is_wish false refl refl refl (λ piece. refl) (λ flags. refl) (λ piece begin bytes. refl)
 
 wish_outside : IsOutside is_wish
 wish_outside = record { message = own_call; check = λ piece hashed. refl; next = λ word. refl }

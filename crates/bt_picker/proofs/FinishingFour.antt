@@ -1,6 +1,6 @@
 -- Settling pieces four at a time.
-use Rattle.std.proofs.Common.{◌≡◌, ◌≢◌, ℕ, zero, suc, ◌+◌, ◌≤◌, Bool, true, false, List, [], ◌∷◌, Option, None, Some, refl, arith, ap, sym}
-use Rattle.std.proofs.Common.{◌∙◌, subst}
+use Rattle.std.proofs.Common.{◌≡◌, ◌≢◌, ℕ, zero, suc, ◌+◌, ◌≤◌, Bool, true, false, List, [], ◌∷◌, Option, None, Some, refl, arith, ap, sym, ◌∙◌}
+use Rattle.std.proofs.Common.{subst}
 use Rattle.std.specs.Prelude.{if◌then◌else◌, nat_lt, unwrap_or, Result, Ok, Err, OnErr}
 use Rattle.std.proofs.lemmas.Bool.{and_left, and_parts, and_right, le-ltb, ltb-true, ne_eqb}
 use Rattle.bt_check.specs.Checked.{Checked}
@@ -12,8 +12,7 @@ use Rattle.bt_history.specs.History.{History, is_failed}
 use Rattle.bt_history.specs.Pieces.{content_of_block, kept}
 use Rattle.bt_tables.proofs.Tabled.{same_table}
 use Rattle.bt_picker.specs.Checks.{AreDue, FinishedBelow, FinishesOne, GivesUp, IsDue, IsJobOf, SettlesEach, SettlesIf, SettlesNow, StopsAfter}
-use Rattle.bt_picker.specs.Checks.{blocks_of}
-use Rattle.bt_picker.specs.Checks.{settling, waits}
+use Rattle.bt_picker.specs.Checks.{blocks_of, settling, waits}
 use Rattle.bt_picker.specs.Positions.{DeskState, Gains}
 use Rattle.bt_picker.proofs.Finishing.{Finishing, finishing_more, gained_waits, kept_after, waits_other}
 

@@ -1,7 +1,6 @@
 -- Interest by the groups: a wanted piece that isn't had is begun, with all its lacking blocks asked or not, or may begin.
-use Rattle.std.proofs.Common.{◌≡◌, ℕ, ◌-◌, ◌≤◌, ◌<◌, ◌==◌, Bool, true, false, not, ◌&&◌, ◌||◌, Option, None, Some, List, length, refl, ap}
-use Rattle.std.proofs.Common.{sym, ◌∙◌, subst}
-use Rattle.std.proofs.Common.{arith, ⊎_elim}
+use Rattle.std.proofs.Common.{◌≡◌, ℕ, ◌-◌, ◌≤◌, ◌<◌, ◌==◌, Bool, true, false, not, ◌&&◌, ◌||◌, Option, None, Some, List, length, refl, ap, sym, ◌∙◌}
+use Rattle.std.proofs.Common.{subst, arith, ⊎_elim}
 use Rattle.std.specs.Prelude.{IfSome, is_some}
 use Rattle.std.proofs.lemmas.Bool.{and_from, and_left, and_parts, and_right, cases_eq, cases_lt, eq-eqb, false≢true, le-ltb, ne_eqb, not-true}
 use Rattle.std.proofs.lemmas.Bool.{or_left}

@@ -1,7 +1,6 @@
 -- The stage of a piece and its group, by the history: each level has groups of its own, one for each stage.
-use Rattle.std.proofs.Common.{◌≡◌, ◌⊎◌, ℕ, ◌+◌, ◌-◌, ◌*◌, ◌<◌, ◌≤◌, ◌==◌, Bool, true, false, not, ◌&&◌, List, length, refl, ap}
-use Rattle.std.proofs.Common.{sym, ◌∙◌}
-use Rattle.std.proofs.Common.{subst, arith, ⊎_elim, inl, inr}
+use Rattle.std.proofs.Common.{◌≡◌, ◌⊎◌, ℕ, ◌+◌, ◌-◌, ◌*◌, ◌<◌, ◌≤◌, ◌==◌, Bool, true, false, not, ◌&&◌, List, length, refl, ap, sym, ◌∙◌, subst}
+use Rattle.std.proofs.Common.{arith, ⊎_elim, inl, inr}
 use Rattle.std.specs.Prelude.{nat_lt, min, if◌then◌else◌}
 use Rattle.std.proofs.lemmas.Bool.{and_from, and_parts, cases_eq, cases_lt, eq-eqb, lt-ltb, ltb-true}
 use Rattle.bt_meta.specs.Layout.{piece_count}

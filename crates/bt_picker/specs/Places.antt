@@ -1,7 +1,6 @@
 -- Where in a journal the bytes of held blocks stand. No public clause cites this module.
 use Rattle.std.specs.Prelude.{ℕ, ◌+◌, ◌*◌, ◌/◌, ◌<◌, ◌≤◌, ◌≡◌, List, [], ◌∷◌, Option, None, Some, is_some, length, replicate, slice_index_or}
-use Rattle.std.specs.Prelude.{slice_set}
-use Rattle.std.specs.Prelude.{if◌then◌else◌}
+use Rattle.std.specs.Prelude.{slice_set, if◌then◌else◌}
 use Rattle.bt_meta.specs.declared.block.Block.{Block}
 use Rattle.bt_meta.specs.Layout.{Layout, block, block_count, block_size, piece_count}
 use Rattle.bt_history.specs.declared.call.Reply.{Reply}

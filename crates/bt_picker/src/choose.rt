@@ -1,7 +1,7 @@
 //! What to say to a peer next: by the level of a piece, then strict priority and rarest first, or in order (Cohen 2003, "Piece selection";
 //! BEP 3).
-ghost use Rattle.std.specs.Prelude.{◌≡◌, ◌<◌, ◌≤◌, ◌+◌, ◌-◌, ◌&&◌, ◌||◌, ℕ, Bool, true, false, not, length, IfSome, IfNone, IsTrue, Some};
-ghost use Rattle.std.specs.Prelude.{None, nat_le, nat_lt, Option};
+ghost use Rattle.std.specs.Prelude.{◌≡◌, ◌<◌, ◌≤◌, ◌+◌, ◌-◌, ◌&&◌, ◌||◌, ℕ, Bool, true, false, not, length, IfSome, IfNone, IsTrue, Some, None};
+ghost use Rattle.std.specs.Prelude.{nat_le, nat_lt, Option};
 ghost use Rattle.bt_meta.specs.declared.block.Block.{Block};
 ghost use Rattle.bt_meta.specs.Layout.{piece_count, block_count, block};
 ghost use Rattle.bt_history.specs.Setting.{each_block, each_block_of, is_block, some_block, some_block_of};
@@ -11,9 +11,8 @@ ghost use Rattle.bt_history.specs.Pieces.{asker_count, endgame, had_count, held,
 ghost use Rattle.bt_history.specs.Next.{continues, doubles, next_answer, rises, starts, usable};
 ghost use Rattle.bt_tables.specs.Orders.{at};
 ghost use Rattle.bt_tables.specs.Risings.{Rises};
-ghost use Rattle.bt_picker.specs.Search.{FindsListed, Finds, FindsOf, IsLeast, IsLevel, IsPickedBy, IsRuling, LacksNone, MayAsk};
-ghost use Rattle.bt_picker.specs.Search.{NoneAbove, NoneAt, NoneBeforeIn};
-ghost use Rattle.bt_picker.specs.Search.{goes_on, lesser_of, shows_at};
+ghost use Rattle.bt_picker.specs.Search.{FindsListed, Finds, FindsOf, IsLeast, IsLevel, IsPickedBy, IsRuling, LacksNone, MayAsk, NoneAbove, NoneAt};
+ghost use Rattle.bt_picker.specs.Search.{NoneBeforeIn, goes_on, lesser_of, shows_at};
 
 use crate::position::Position;
 use crate::ruling::Ruling;

@@ -1,6 +1,6 @@
 -- The logs of a run's sessions, of its checkers and of its last worker, once they were gathered.
-use Rattle.std.proofs.Common.{◌≡◌, ◌⊎◌, inl, inr, ℕ, zero, suc, ◌+◌, ◌-◌, ◌==◌, ◌<◌, ◌≤◌, false, true, Bool, List, [], ◌∷◌, length, map, get_or}
-use Rattle.std.proofs.Common.{refl, sym, ap, subst, ◌∙◌, arith, eq-eqb, ne_eqb, if◌then◌else◌, Some, slice_get, Result, Err}
+use Rattle.std.proofs.Common.{◌≡◌, ◌⊎◌, inl, inr, ℕ, zero, suc, ◌+◌, ◌-◌, ◌==◌, ◌<◌, ◌≤◌, false, true, Bool, List, [], ◌∷◌, length, map, get_or, refl}
+use Rattle.std.proofs.Common.{sym, ap, subst, ◌∙◌, arith, eq-eqb, ne_eqb, if◌then◌else◌, Some, slice_get, Result, Err}
 use Rattle.std.proofs.lemmas.Option.{slice_get-get_or}
 use mathlib.Core.Logic.{dite}
 use native.Mathlib.Decide.{dec_le, ℕ_discrete}
@@ -13,7 +13,7 @@ use Rattle.bt_history.specs.Setting.{Setting}
 use Rattle.bt_peer.specs.declared.fault.End.{End}
 use Rattle.bt_peer.specs.declared.fault.SessionFault.{SessionFault}
 use Rattle.bt_peer.specs.declared.fault.SessionFault.TheVariants.{NoMemory}
-use Rattle.bt_peer.specs.Conduct.{generator_of}
+use Rattle.bt_peer.specs.Conduct.{generator_of, Calls}
 use Rattle.bt_peer.specs.Outcomes.{RunsTo}
 use Rattle.bt_peer.specs.Places.{PlaceRecord}
 use Rattle.bt_peer.specs.Serial.{StreamRecord}
@@ -23,15 +23,13 @@ use Rattle.bt_session.specs.Checking.{CheckersCheck, CheckersWork}
 use Rattle.bt_session.proofs.Parts.{plays_short}
 use Rattle.bt_session.specs.PieceChecks.{AreChecks}
 use Rattle.bt_session.specs.Passes.{no_piece, pass_record, worker_record}
-use Rattle.bt_session.specs.Swarms.{EachPlays, EachSwarmed, MakesLastChecks, Swarmed}
+use Rattle.bt_session.specs.Swarms.{EachPlays, EachSwarmed, MakesLastChecks, Swarmed, calls_of_marks}
 use Rattle.bt_session.specs.Runs.{ChecksLast, ChecksRise, Plays}
 use Rattle.bt_session.specs.Beginnings.{AreFresh, IsFresh}
 use Rattle.bt_session.specs.Workers.{StandInOrder, WorkerState, knows, tells}
 use Rattle.bt_history.specs.Logs.{Agrees}
-use Rattle.bt_peer.specs.Conduct.{Calls}
 use Rattle.bt_peer.specs.Desks.{calls_in}
 use Rattle.bt_session.proofs.Noted.{marks_calls, same_calls}
-use Rattle.bt_session.specs.Swarms.{calls_of_marks}
 use Rattle.bt_shared.specs.Closing.{EachKnows}
 use Rattle.bt_shared.specs.Gathering.{EachAgrees, EachFrom, log_of}
 use Rattle.bt_shared.specs.Passes.{PassState}

@@ -1,9 +1,9 @@
 -- At the end of a run in threads each piece is chosen: no worker told otherwise.
-use Rattle.std.proofs.Common.{◌≡◌, ◌≢◌, ◌⊎◌, inl, inr, ℕ, ◌+◌, ◌-◌, ◌==◌, ◌<◌, ◌≤◌, false, true, Bool, List, [], ◌∷◌, length, map, get_or, refl, sym, ap, subst}
-use Rattle.std.proofs.Common.{◌∙◌, arith, ne_eqb, slice_get, Some, None, Result, Err}
+use Rattle.std.proofs.Common.{◌≡◌, ◌≢◌, ◌⊎◌, inl, inr, ℕ, ◌+◌, ◌-◌, ◌==◌, ◌<◌, ◌≤◌, false, true, Bool, List, [], ◌∷◌, length, map, get_or, refl, sym}
+use Rattle.std.proofs.Common.{ap, subst, ◌∙◌, arith, ne_eqb, slice_get, Some, None, Result, Err}
 use Rattle.std.proofs.lemmas.Option.{slice_get-get_or}
 use Rattle.std.specs.Prelude.{◌||◌}
-use Rattle.std.specs.List.{list_any}
+use Rattle.std.specs.List.{list_any, All}
 use mathlib.Core.Logic.{dite}
 use native.Mathlib.Decide.{dec_le, ℕ_discrete}
 use Rattle.std.specs.Global.{Vec}
@@ -31,7 +31,6 @@ use Rattle.bt_peer.proofs.Desks.{calls_in-other}
 use Rattle.bt_peer.proofs.Wishes.{WishNothing, ended_wish, is_wish}
 use Rattle.bt_session.proofs.Noted.{marks_calls}
 use Rattle.bt_history.specs.Pieces.{had}
-use Rattle.std.specs.List.{All}
 use Rattle.bt_session.proofs.Gathered.{Ran, checkers_check, finished, pass_of, swarmed}
 use Rattle.bt_session.specs.PieceChecks.{AreChecks}
 use Rattle.bt_session.specs.Runs.{ChecksRise}

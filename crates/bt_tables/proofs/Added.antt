@@ -5,9 +5,8 @@ use Rattle.bt_history.specs.Counting.{table}
 use Rattle.bt_tables.specs.Tables.{PeerState, PieceState, bits_row, edit, fresh_peer, fresh_piece, have_row, joint, late_row, less_available}
 use Rattle.bt_tables.specs.Tables.{more_available, one_if, peer_row, piece_row, recounted}
 use Rattle.bt_tables.specs.Floors.{AreFloors, is_fresh, rank_of_row}
-use Rattle.bt_tables.proofs.Tabled.{edit_none, edit_same, edit_twice, get_or_edit_same, get_or_table, length_edit, length_table, rows_edit}
-use Rattle.bt_tables.proofs.Tabled.{rows_init, rows_more}
-use Rattle.bt_tables.proofs.Tabled.{same_table, upto, upto_above, rows_done}
+use Rattle.bt_tables.proofs.Tabled.{edit_none, edit_same, edit_twice, get_or_edit_same, get_or_table, length_edit, length_table, rows_edit, rows_init}
+use Rattle.bt_tables.proofs.Tabled.{rows_more, same_table, upto, upto_above, rows_done}
 
 -- a row of the table stays as it is
 kept : {A : Type 0} (ys : List A) (n i : ℕ) (g f : ℕ → A) (d : A) → ys ≡ table n (upto i g f) → i < n → f i ≡ g i → ys ≡ table n (upto (i + 1) g f)

@@ -10,12 +10,10 @@ use Rattle.bt_tables.specs.Orders.{at}
 use Rattle.bt_tables.specs.declared.piece.Change.{Change}
 use Rattle.bt_tables.specs.declared.piece.Change.TheVariants.{Raise, Lower, Store, Pass, Fail, Level}
 use Rattle.bt_tables.specs.Tables.{HasRoomOf, PieceState, changed_row, edit, fresh_piece, less_available, more_available, one_if, piece_row}
-use Rattle.bt_tables.specs.Standings.{AreShelved, IsFiled, ShelfState, apart, group_of_row, is_resting, lowered_group, raised_group}
-use Rattle.bt_tables.specs.Standings.{refiled, shown_row, slot_of}
-use Rattle.bt_tables.specs.Standings.{place_in, place_of, standing_of}
+use Rattle.bt_tables.specs.Standings.{AreShelved, IsFiled, ShelfState, apart, group_of_row, is_resting, lowered_group, raised_group, refiled}
+use Rattle.bt_tables.specs.Standings.{shown_row, slot_of, place_in, place_of, standing_of, touched_count, whole_rows}
 use Rattle.bt_tables.specs.declared.piece.Stage.{Stage}
 use Rattle.bt_tables.specs.declared.piece.Stage.TheVariants.{AskedOut, Open, Resting, Unbegun}
-use Rattle.bt_tables.specs.Standings.{touched_count, whole_rows}
 use Rattle.bt_tables.specs.Apart.{AreApart}
 use Rattle.bt_tables.specs.declared.piece.Standing.{Standing}
 use Rattle.bt_tables.proofs.Shelves.{can_file, files, same_length}

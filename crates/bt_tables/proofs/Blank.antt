@@ -1,7 +1,6 @@
 -- The rows of a torrent of which nothing is known.
-use Rattle.std.proofs.Common.{◌≡◌, ◌<◌, ◌≤◌, ◌+◌, ◌*◌, ◌-◌, ◌/◌, ◌^◌, ◌∙◌, ℕ, zero, suc, List, ◌∷◌, get_or, take, min}
-use Rattle.std.proofs.Common.{replicate, ap, arith}
-use Rattle.std.proofs.Common.{refl, sym, ⊎_elim}
+use Rattle.std.proofs.Common.{◌≡◌, ◌<◌, ◌≤◌, ◌+◌, ◌*◌, ◌-◌, ◌/◌, ◌^◌, ◌∙◌, ℕ, zero, suc, List, ◌∷◌, get_or, take, min, replicate, ap, arith, refl}
+use Rattle.std.proofs.Common.{sym, ⊎_elim}
 use Rattle.std.proofs.Math.Nat.{div-mul-le_self, mul-le-mul_right, suc-mul}
 use Rattle.std.proofs.lemmas.Bool.{cases_lt}
 use Rattle.std.proofs.lemmas.Nat.{le-div}

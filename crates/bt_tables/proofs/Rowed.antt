@@ -1,13 +1,11 @@
 -- Rows as they are kept: what is read of one, and what a change of its counts and its cells makes of all.
-use Rattle.std.proofs.Common.{◌≡◌, ◌<◌, ◌≤◌, ◌+◌, ◌*◌, ◌-◌, ◌∙◌, ℕ, zero, suc, List, [], ◌∷◌, length, get_or, set, take, drop, min, ap}
-use Rattle.std.proofs.Common.{arith}
-use Rattle.std.proofs.Common.{refl, subst, sym, length-set, ⊎_elim}
+use Rattle.std.proofs.Common.{◌≡◌, ◌<◌, ◌≤◌, ◌+◌, ◌*◌, ◌-◌, ◌∙◌, ℕ, zero, suc, List, [], ◌∷◌, length, get_or, set, take, drop, min, ap, arith, refl}
+use Rattle.std.proofs.Common.{subst, sym, length-set, ⊎_elim}
 use Rattle.std.proofs.Math.Nat.{min-le_left, min-le_right, mul-le-mul_right, suc-mul, zero-mul}
 use Rattle.std.proofs.Math.Seq.{take-set-lt}
 use Rattle.std.proofs.lemmas.Bool.{cases_eq, cases_lt}
-use Rattle.std.proofs.lemmas.List.{get_or_default}
-use Rattle.std.proofs.lemmas.List.{drop-drop, drop-set-add, drop-set-lt, get_or-drop, get_or-map, get_or-set_other, get_or-set_same, get_or-take}
-use Rattle.std.proofs.lemmas.List.{length-drop, length-map, length-take, map-set, take-set-le, take_all}
+use Rattle.std.proofs.lemmas.List.{get_or_default, drop-drop, drop-set-add, drop-set-lt, get_or-drop, get_or-map, get_or-set_other, get_or-set_same}
+use Rattle.std.proofs.lemmas.List.{get_or-take, length-drop, length-map, length-take, map-set, take-set-le, take_all}
 use Rattle.bt_tables.specs.declared.cell.Cell.{Cell}
 use Rattle.bt_tables.specs.declared.counts.Counts.{Counts}
 use Rattle.bt_tables.specs.Rows.{AreKept, Keeps, counts_at, no_counts, row_of, rows_of, said}

@@ -1,7 +1,6 @@
 -- What the rows of all pieces amount to, as one row changes.
-use Rattle.std.proofs.Common.{Some, not, ◌≡◌, ℕ, zero, suc, ◌+◌, ◌-◌, ◌<◌, ◌≤◌, ◌^◌, ◌==◌, ◌++◌, Bool, true, false, List, [], ◌∷◌, length}
-use Rattle.std.proofs.Common.{get_or, set, map}
-use Rattle.std.proofs.Common.{replicate, refl, ap, sym, ◌∙◌, arith, length-set}
+use Rattle.std.proofs.Common.{Some, not, ◌≡◌, ℕ, zero, suc, ◌+◌, ◌-◌, ◌<◌, ◌≤◌, ◌^◌, ◌==◌, ◌++◌, Bool, true, false, List, [], ◌∷◌, length, get_or}
+use Rattle.std.proofs.Common.{set, map, replicate, refl, ap, sym, ◌∙◌, arith, length-set}
 use Rattle.std.specs.Prelude.{if◌then◌else◌}
 use Rattle.std.specs.List.{sum_by, count_by}
 use Rattle.std.proofs.lemmas.List.{map-set, length-map, append-nil, map-append}

@@ -1,15 +1,13 @@
 -- The rows of all pieces, as those of a set change one after the other.
-use Rattle.std.proofs.Common.{◌≡◌, ℕ, ◌+◌, ◌-◌, ◌<◌, ◌≤◌, ◌^◌, Bool, true, false, List, length, ap, sym, ◌∙◌, arith, inl, inr}
-use Rattle.std.proofs.Common.{refl, get_or}
+use Rattle.std.proofs.Common.{◌≡◌, ℕ, ◌+◌, ◌-◌, ◌<◌, ◌≤◌, ◌^◌, Bool, true, false, List, length, ap, sym, ◌∙◌, arith, inl, inr, refl, get_or}
 use Rattle.std.specs.Prelude.{slice_index_or}
 use Rattle.std.proofs.lemmas.Bool.{cases_lt, false≢true}
 use Rattle.std.proofs.lemmas.List.{get_or_past}
 use Rattle.bt_history.specs.Counting.{table}
 use Rattle.bt_tables.specs.Tables.{AreCounted, PieceState, edit, fresh_piece, hidden_rows, less_available, more_available, one_if, piece_row}
 use Rattle.bt_tables.specs.Tables.{level_row, recounted, shown_rows}
-use Rattle.bt_tables.proofs.Tabled.{edit_none, edit_past, edit_read, edit_table, get_or_table, length_is_table, length_table, rows_more}
-use Rattle.bt_tables.proofs.Tabled.{rows_read, same_table, upto}
-use Rattle.bt_tables.proofs.Tabled.{edit_unmoved, upto_above, upto_below}
+use Rattle.bt_tables.proofs.Tabled.{edit_none, edit_past, edit_read, edit_table, get_or_table, length_is_table, length_table, rows_more, rows_read}
+use Rattle.bt_tables.proofs.Tabled.{same_table, upto, edit_unmoved, upto_above, upto_below}
 
 module _ {A : Type 0} (n : ℕ) (g f : ℕ → A) where
   -- where g and f agree from i up to j

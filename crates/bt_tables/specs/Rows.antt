@@ -1,7 +1,6 @@
 -- Rows as they are kept: what is counted of each piece, and the cells of all pieces one behind the other. No public clause of the picker
 -- cites this module.
-use Rattle.std.specs.Prelude.{ℕ, ◌+◌, ◌*◌, ◌<◌, ◌≤◌, ◌==◌, Bool, false, List, [], ◌∷◌, length, map, take, drop, min, slice_index_or}
-use Rattle.std.specs.Prelude.{if◌then◌else◌}
+use Rattle.std.specs.Prelude.{ℕ, ◌+◌, ◌*◌, ◌<◌, ◌≤◌, ◌==◌, Bool, false, List, [], ◌∷◌, length, map, take, drop, min, slice_index_or, if◌then◌else◌}
 use Rattle.bt_history.specs.declared.rules.TheConstants.{USUAL_LEVEL}
 use Rattle.bt_tables.specs.declared.cell.Cell.{Cell}
 use Rattle.bt_tables.specs.declared.counts.Counts.{Counts}

@@ -1,7 +1,6 @@
 -- The rows of the peers and of the pieces, and what each call makes of them. Nothing here knows a history.
-use Rattle.std.specs.Prelude.{ℕ, zero, suc, ◌+◌, ◌-◌, ◌*◌, ◌/◌, ◌^◌, ◌≡◌, ◌<◌, ◌≤◌, ◌==◌, ◌&&◌, ◌||◌, Bool, true, false, not, List, [], ◌∷◌}
-use Rattle.std.specs.Prelude.{◌++◌, map, length}
-use Rattle.std.specs.Prelude.{Option, None, Some, is_some, if◌then◌else◌, replicate, slice_index_or, slice_set, EachIndex, ⊤}
+use Rattle.std.specs.Prelude.{ℕ, zero, suc, ◌+◌, ◌-◌, ◌*◌, ◌/◌, ◌^◌, ◌≡◌, ◌<◌, ◌≤◌, ◌==◌, ◌&&◌, ◌||◌, Bool, true, false, not, List, [], ◌∷◌, ◌++◌}
+use Rattle.std.specs.Prelude.{map, length, Option, None, Some, is_some, if◌then◌else◌, replicate, slice_index_or, slice_set, EachIndex, ⊤}
 use Rattle.std.specs.List.{filter, list_any}
 use Rattle.bt_meta.specs.declared.block.Block.{Block}
 use Rattle.bt_meta.specs.Layout.{block_size}

@@ -1,9 +1,8 @@
 //! The row of a peer, beside the pieces that it shows.
 
 ghost use Rattle.std.specs.Prelude.{◌≡◌, ◌<◌, ◌≤◌, ◌+◌, ◌==◌, ◌&&◌, ◌∷◌, ◌++◌, [], true, false, not, length, slice_index_or, take, vec_capacity};
-ghost use Rattle.std.specs.Prelude.{IfNone, IfOk, IfSome, None, Some};
+ghost use Rattle.std.specs.Prelude.{IfNone, IfOk, IfSome, None, Some, if◌then◌else◌};
 ghost use Rattle.bt_meta.specs.declared.block.Block.{Block};
-ghost use Rattle.std.specs.Prelude.{if◌then◌else◌};
 ghost use Rattle.std.specs.List.{filter, list_any};
 ghost use Rattle.bt_history.specs.History.{same_begin};
 ghost use Rattle.bt_history.specs.Peers.{AreApart, has_place};

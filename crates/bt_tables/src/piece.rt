@@ -1,13 +1,12 @@
 //! The row of a piece as it is lent, and what it amounts to.
 
-ghost use Rattle.std.specs.Prelude.{◌≡◌, ◌<◌, ◌≤◌, ◌+◌, ◌-◌, ◌*◌, ◌^◌, ◌==◌, nat_lt, min, if◌then◌else◌, length, slice_index_or};
-ghost use Rattle.std.specs.Prelude.{slice_set, IfOk, Bool, true, false, replicate};
+ghost use Rattle.std.specs.Prelude.{◌≡◌, ◌<◌, ◌≤◌, ◌+◌, ◌-◌, ◌*◌, ◌^◌, ◌==◌, nat_lt, min, if◌then◌else◌, length, slice_index_or, slice_set, IfOk};
+ghost use Rattle.std.specs.Prelude.{Bool, true, false, replicate};
 ghost use Rattle.bt_tables.specs.Tables.{HasRoomOf, PieceState, changed_row, edit, empty_cell, failed_row, fresh_piece, one_if, one_less, one_more};
 ghost use Rattle.bt_tables.specs.Tables.{stored_row};
 ghost use Rattle.bt_tables.specs.Floors.{is_fresh};
 ghost use Rattle.bt_tables.specs.Standings.{AreTouched, cell_kept, is_held, is_resting, is_touched, held_count, touched_count, group_of_row};
-ghost use Rattle.bt_tables.specs.Standings.{shown_row};
-ghost use Rattle.bt_tables.specs.Standings.{first_group, group_number, place_in, place_of, stage_of_row, standing_of};
+ghost use Rattle.bt_tables.specs.Standings.{shown_row, first_group, group_number, place_in, place_of, stage_of_row, standing_of};
 ghost use Rattle.bt_tables.specs.declared.piece.Stage.TheVariants.{Open};
 ghost use Rattle.bt_tables.specs.Rows.{Keeps, row_of, said};
 

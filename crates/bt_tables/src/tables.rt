@@ -14,11 +14,9 @@ ghost use Rattle.bt_history.specs.History.{stores};
 ghost use Rattle.bt_meta.specs.declared.block.Block.{Block};
 ghost use Rattle.bt_history.specs.Counting.{table};
 ghost use Rattle.bt_tables.specs.Floors.{IsFloor, IsRarestStart, NoneFresh, RequestTells, TellsFloor, is_fresh};
-ghost use Rattle.bt_tables.specs.Tables.{AreAskers, AreCounted, HasBlock, HasRoomFor, HasShortLines, bits_row, leave_row, TablesState};
-ghost use Rattle.bt_tables.specs.Tables.{after_arrival, after_check};
-ghost use Rattle.bt_tables.specs.Tables.{after_next, announced, given_up, edit, failed_row, fresh_peer};
-ghost use Rattle.bt_tables.specs.Tables.{fresh_piece, join_row, choke_row};
-ghost use Rattle.bt_tables.specs.Tables.{noted_row, joint, levelled, ordered, peer_row, piece_row, released, relevelled, reshown};
+ghost use Rattle.bt_tables.specs.Tables.{AreAskers, AreCounted, HasBlock, HasRoomFor, HasShortLines, bits_row, leave_row, TablesState, after_arrival};
+ghost use Rattle.bt_tables.specs.Tables.{after_check, after_next, announced, given_up, edit, failed_row, fresh_peer, fresh_piece, join_row};
+ghost use Rattle.bt_tables.specs.Tables.{choke_row, noted_row, joint, levelled, ordered, peer_row, piece_row, released, relevelled, reshown};
 ghost use Rattle.bt_tables.specs.Tables.{wanted_level, with_block, with_peer};
 
 use crate::cell::HELD;

@@ -4,9 +4,8 @@ use Rattle.std.specs.Fmt.{decimal}
 use Rattle.hex.specs.Hex.{encode_lower}
 use Rattle.bt_meta.specs.WireBits.{IsSpelled}
 use Rattle.bt_history.specs.declared.event.Action.{Action}
-use Rattle.bt_history.specs.declared.event.Action.TheVariants.{Join, Bits, Have, Choke, Unchoke, Next, Arrived, Settle, Leave, Want, Haves}
-use Rattle.bt_history.specs.declared.event.Action.TheVariants.{Depth, Release}
-use Rattle.bt_history.specs.declared.event.Action.TheVariants.{Level, Levels, InOrder}
+use Rattle.bt_history.specs.declared.event.Action.TheVariants.{Join, Bits, Have, Choke, Unchoke, Next, Arrived, Settle, Leave, Want, Haves, Depth}
+use Rattle.bt_history.specs.declared.event.Action.TheVariants.{Release, Level, Levels, InOrder}
 use Rattle.bt_history.specs.declared.event.Event.{Event}
 use Rattle.bt_text.specs.Texts.{reply_text}
 

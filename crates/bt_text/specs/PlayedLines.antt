@@ -12,9 +12,8 @@ use Rattle.bt_picker.specs.Checks.{SettlesNow}
 use Rattle.bt_text.specs.Texts.{reply_text}
 use Rattle.bt_text.specs.declared.script.setup.Setup.{Setup}
 use Rattle.bt_text.specs.Setups.{setup_in}
-use Rattle.bt_text.specs.Lines.{Order, OrderLine, join, choke, unchoke, leave, bits, have, settle, next, block, want, haves, depth, release}
-use Rattle.bt_text.specs.Lines.{level, levels, in_order}
-use Rattle.bt_text.specs.Lines.{line_in}
+use Rattle.bt_text.specs.Lines.{Order, OrderLine, join, choke, unchoke, leave, bits, have, settle, next, block, want, haves, depth, release, level}
+use Rattle.bt_text.specs.Lines.{levels, in_order, line_in}
 use Rattle.bt_text.specs.RulesLines.{rules_in}
 
 -- the order is this call of a torrent of so many pieces

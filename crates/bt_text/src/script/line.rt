@@ -2,8 +2,7 @@
 
 ghost use Rattle.std.specs.Prelude.{map};
 ghost use Rattle.bt_text.specs.Fields.{Reads};
-ghost use Rattle.bt_text.specs.Lines.{line_in, seen_line, seen_command, bare_command, short_command, pair_command, block_command};
-ghost use Rattle.bt_text.specs.Lines.{command_in};
+ghost use Rattle.bt_text.specs.Lines.{line_in, seen_line, seen_command, bare_command, short_command, pair_command, block_command, command_in};
 
 use super::LineFault;
 use super::fields::{byte, digits, fields, hex_bytes, is, number, small_number, yes_or_no};

@@ -9,10 +9,6 @@ returns-clause-ran g c = λ t. λ is.
     rw (← same) record {
       ends = run.ends.items;
       short = run.short;
-      want = made.want;
-      is_want = made.is_want;
-      count = made.count;
-      ran = made.ran;
-      none_waits = made.none_waits;
+      played = rw made.is_torrent at made;
       told = rw c.deref.ensures.value at c.tell-ended.ensures;
     }

@@ -11,14 +11,7 @@ returns-clause-ran g c = λ t. λ is.
       ends = run.ends.items;
       short = run.short;
       left = run.streams.items;
-      count = made.count;
-      all_left = made.all_left;
-      logs = made.logs;
-      sessions = made.sessions;
-      checks = made.checks;
-      finishes = made.finishes;
-      waiting = made.waiting;
-      chosen = made.chosen;
+      played = rw made.is_torrent at made;
       told = rw c.deref.ensures.value at c.tell-ended.ensures;
     }
 

@@ -5,9 +5,8 @@ use Rattle.bt_tables.specs.Tables.{PeerState, TablesState, have_row}
 use Rattle.bt_tables.proofs.Tabled.{length_edit}
 use Rattle.bt_picker.proofs.Entering.{peer_row_is}
 use Rattle.bt_picker.proofs.PeerSteps.{shows_length}
-use Rattle.bt_picker.proofs.Entered.{level_piece}
-use Rattle.bt_picker.proofs.Entered.{cause_none, entered_counted, bits_facts, have_facts, haves_facts, lines_short}
-use Rattle.bt_picker.proofs.Entered.{pieces_few, pieces_short, shown_counted, arrival_askers, arrival_block, has_room}
+use Rattle.bt_picker.proofs.Entered.{level_piece, cause_none, entered_counted, bits_facts, have_facts, haves_facts, lines_short, pieces_few}
+use Rattle.bt_picker.proofs.Entered.{pieces_short, shown_counted, arrival_askers, arrival_block, has_room}
 use Rattle.bt_picker.proofs.Learning.{told_floor, unnoted_floor}
 use Rattle.bt_picker.proofs.entries.put.Goals as goal
 

@@ -1,7 +1,6 @@
-use Rattle.std.proofs.Common.{◌≡◌, ◌+◌, ◌≤◌, length, vec_len, vec_capacity}
+use Rattle.std.proofs.Common.{◌≡◌, ◌+◌, ◌≤◌, length, vec_len, vec_capacity, Some}
 use Rattle.std.specs.List.{All}
 use Rattle.std.specs.Vec.Iter.{into_iter_items, into_iter_len}
-use Rattle.std.proofs.Common.{Some}
 use Rattle.bt_session.specs.Beginnings.{AreFresh, IsNewPass, IsNewSeat}
 use Rattle.bt_session.specs.Workers.{AreNumbered}
 use Rattle.bt_session.proofs.fittings.enlist.Given as goal

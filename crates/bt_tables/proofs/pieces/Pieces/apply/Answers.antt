@@ -3,8 +3,7 @@ use Rattle.bt_tables.specs.declared.piece.Standing.{Standing}
 use Rattle.bt_tables.specs.Tables.{HasRoomOf, PieceState, changed_row, piece_row}
 use Rattle.bt_tables.specs.Standings.{whole_rows}
 use Rattle.bt_tables.proofs.Apart.{IsChange, IsKept, can_change, changed_counts, changes, edit_is, edited_row, edited_rows, in_groups, is_change}
-use Rattle.bt_tables.proofs.Apart.{kept_piece}
-use Rattle.bt_tables.proofs.Apart.{lent_row, own_row, same_room, stands_in}
+use Rattle.bt_tables.proofs.Apart.{kept_piece, lent_row, own_row, same_room, stands_in}
 use Rattle.bt_tables.specs.Floors.{is_fresh}
 use Rattle.bt_tables.proofs.Fronts.{front_kept}
 use Rattle.bt_tables.proofs.Tabled.{length_edit}
