@@ -33,7 +33,7 @@ pub fn make_call<P: Place, W: Sink>(
     ensures err { IfErr result (λ fault. CallStops fault (action_of call)
         (outlet P.Place W.Sink place.old said.old) (outlet P.Place W.Sink place.new said.new)) }
 {
-    let reply = place.call(alloc, call)?;
+    let reply = place.call(call)?;
     if let Reply::Refused(reason) = reply {
         return Err(SessionFault::Refused(reason));
     }

@@ -88,7 +88,7 @@ impl<'a> Place for DeskPlace<'a> {
 
     ghost awaits = { λ s piece. waits s.desk.now.setting s.desk.now.history piece };
 
-    fn call(&mut self, _alloc: Global, call: Call) -> Result<Reply, AllocError> {
+    fn call(&mut self, call: Call) -> Result<Reply, AllocError> {
         match self.desk.call(self.worker, call) {
             Ok(reply) => Ok(reply),
             Err(e) => {

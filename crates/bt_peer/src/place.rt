@@ -23,7 +23,7 @@ pub trait Place {
     ghost awaits: { Self → ℕ → Bool };
 
     /// Makes a call in the worker's name.
-    fn call(&mut self, alloc: Global, call: Call) -> Result<Reply, AllocError>
+    fn call(&mut self, call: Call) -> Result<Reply, AllocError>
         ensures ok { IfOk result (λ reply.
             Gains (past self.old) (Called (action_of call) reply ∷ []) (past self.new)) }
         ensures fits { IfOk result (λ reply. IsTrue (answers (call_mark (action_of call)) reply)) }

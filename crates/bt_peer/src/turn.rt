@@ -59,18 +59,18 @@ pub fn greet<R: Source, W: Sink, P: Place>(
         return Err(SessionFault::WrongInfohash);
     }
     // The reply to Join says nothing to the peer.
-    match place.call(alloc, Call::Join)? {
+    match place.call(Call::Join)? {
         Reply::Refused(reason) => Err(SessionFault::Refused(reason)),
         _ => Ok(()),
     }
 }
 
 /// Leaves the place before a session ends by a fault. Where there is no memory for it, the peer stays joined.
-fn leave_by<P: Place>(alloc: Global, place: &mut P, fault: SessionFault) -> SessionFault
+fn leave_by<P: Place>(place: &mut P, fault: SessionFault) -> SessionFault
     ensures fault { result ≡ fault }
     ensures leave { Leaves (P.past place.old) (P.past place.new) }
 {
-    let _ = place.call(alloc, Call::Leave);
+    let _ = place.call(Call::Leave);
     fault
 }
 
@@ -105,18 +105,18 @@ pub fn listen<R: Source, W: Sink, P: Place, N: Rng>(
     let message = match heard.next(alloc, reader) {
         Ok(Some(message)) => message,
         Ok(None) if heard.inbound.rest() > 0 => {
-            return Err(leave_by(alloc, place, SessionFault::Truncated));
+            return Err(leave_by(place, SessionFault::Truncated));
         }
         Ok(None) => {
-            return match place.call(alloc, Call::Leave)? {
+            return match place.call(Call::Leave)? {
                 Reply::Refused(reason) => Err(SessionFault::Refused(reason)),
                 _ => Ok(false),
             };
         }
-        Err(fault) => return Err(leave_by(alloc, place, fault)),
+        Err(fault) => return Err(leave_by(place, fault)),
     };
     if let Err(fault) = attend(alloc, terms, message, place, said, rng) {
-        return Err(leave_by(alloc, place, fault));
+        return Err(leave_by(place, fault));
     }
     Ok(true)
 }

@@ -86,7 +86,7 @@ impl<'a, L: RunName, T: Wait> Place for PassPlace<'a, L, T> {
 
     ghost awaits = { λ s piece. false };
 
-    fn call(&mut self, _alloc: Global, call: Call) -> Result<Reply, AllocError> {
+    fn call(&mut self, call: Call) -> Result<Reply, AllocError> {
         match self.commons.call(self.rt, &mut self.worker, call) {
             Ok(reply) => Ok(reply),
             Err(e) => {

@@ -1,20 +1,19 @@
 -- The lines of a script behind the first.
 use Rattle.std.specs.Prelude.{ℕ, Bool, List, [], ◌∷◌, Option, Some, None, option_map, codes, if◌then◌else◌}
 use Rattle.std.specs.Str.{bytes_eq}
+use Rattle.bt_history.specs.Entries.{action_of}
+use Rattle.bt_history.specs.declared.event.Action.{Action}
+use Rattle.bt_history.specs.declared.event.Action.TheVariants.{Join, Choke, Unchoke, Leave, Have, Next, Depth, Levels, InOrder, Release, Level, Arrived}
 use Rattle.bt_text.specs.declared.script.line.Command.{Command}
 use Rattle.bt_text.specs.declared.script.line.Command.TheVariants as commands
 use Rattle.bt_text.specs.declared.script.line.Line.{Line}
 use Rattle.bt_text.specs.Fields.{fields_of, number_in, small_number_in, byte_in, yes_or_no_in, bytes_in, digits_in}
 
--- what a worker does, by plain values
+-- what a worker does, by plain values: a call that the line says whole, one with the payload of a bitfield, or the check of a piece
 pub data Order : Type 0 where
-  join choke unchoke leave : Order
-  bits want haves levels : List ℕ → Order
-  have settle depth : ℕ → Order
-  next : ℕ → Order
-  block : ℕ → ℕ → List ℕ → Order
-  release level : ℕ → ℕ → Order
-  in_order : Bool → Order
+  makes : Action → Order
+  bits want haves : List ℕ → Order
+  settle : ℕ → Order
 
 -- who does what
 pub record OrderLine : Type 0 where
@@ -23,22 +22,11 @@ pub record OrderLine : Type 0 where
 
 -- a command that was read, as an order
 abbrev pub seen_command : Command → Order
-seen_command commands.Join = join
+seen_command (commands.Make call) = makes (action_of call)
 seen_command (commands.Bits bytes) = bits bytes.items
-seen_command (commands.Have piece) = have piece
-seen_command commands.Choke = choke
-seen_command commands.Unchoke = unchoke
-seen_command (commands.Next word) = next word
-seen_command (commands.Block piece begin bytes) = block piece begin bytes.items
-seen_command (commands.Settle piece) = settle piece
-seen_command commands.Leave = leave
 seen_command (commands.Want bytes) = want bytes.items
 seen_command (commands.Haves bytes) = haves bytes.items
-seen_command (commands.Depth n) = depth n
-seen_command (commands.Release piece begin) = release piece begin
-seen_command (commands.Level piece n) = level piece n
-seen_command (commands.Levels values) = levels values.items
-seen_command (commands.InOrder rising) = in_order rising
+seen_command (commands.Settle piece) = settle piece
 
 -- a line that was read, as an order of a worker
 abbrev pub seen_line : Line → OrderLine
@@ -47,34 +35,34 @@ seen_line line = record { worker = line.worker; order = seen_command line.comman
 -- a word alone
 abbrev pub bare_command : List ℕ → Option Order
 bare_command word =
-    if bytes_eq word (codes "join") then Some join
-    else (if bytes_eq word (codes "choke") then Some choke
-    else (if bytes_eq word (codes "unchoke") then Some unchoke
-    else (if bytes_eq word (codes "leave") then Some leave
+    if bytes_eq word (codes "join") then Some (makes Join)
+    else (if bytes_eq word (codes "choke") then Some (makes Choke)
+    else (if bytes_eq word (codes "unchoke") then Some (makes Unchoke)
+    else (if bytes_eq word (codes "leave") then Some (makes Leave)
     else None)))
 
 -- a word and one argument
 abbrev pub short_command : List ℕ → List ℕ → Option Order
 short_command word argument =
     if bytes_eq word (codes "bits") then option_map bits (bytes_in argument)
-    else (if bytes_eq word (codes "have") then option_map have (small_number_in argument)
-    else (if bytes_eq word (codes "next") then option_map next (number_in argument)
+    else (if bytes_eq word (codes "have") then option_map (λ piece. makes (Have piece)) (small_number_in argument)
+    else (if bytes_eq word (codes "next") then option_map (λ word. makes (Next word)) (number_in argument)
     else (if bytes_eq word (codes "settle") then option_map settle (small_number_in argument)
     else (if bytes_eq word (codes "want") then option_map want (bytes_in argument)
     else (if bytes_eq word (codes "haves") then option_map haves (bytes_in argument)
-    else (if bytes_eq word (codes "depth") then option_map depth (small_number_in argument)
-    else (if bytes_eq word (codes "levels") then option_map levels (digits_in argument)
-    else (if bytes_eq word (codes "inorder") then option_map in_order (yes_or_no_in argument)
+    else (if bytes_eq word (codes "depth") then option_map (λ n. makes (Depth n)) (small_number_in argument)
+    else (if bytes_eq word (codes "levels") then option_map (λ levels. makes (Levels levels)) (digits_in argument)
+    else (if bytes_eq word (codes "inorder") then option_map (λ rising. makes (InOrder rising)) (yes_or_no_in argument)
     else None))))))))
 
 -- what is given up: the piece, and where the block begins in it
 abbrev pub release_of : Option ℕ → Option ℕ → Option Order
-release_of (Some piece) (Some begin) = Some (release piece begin)
+release_of (Some piece) (Some begin) = Some (makes (Release piece begin))
 release_of piece begin = None
 
 -- the level of a piece
 abbrev pub level_of : Option ℕ → Option ℕ → Option Order
-level_of (Some piece) (Some n) = Some (level piece n)
+level_of (Some piece) (Some n) = Some (makes (Level piece n))
 level_of piece n = None
 
 -- a word and two arguments
@@ -86,7 +74,7 @@ pair_command word piece second =
 
 -- a block: its piece, where it begins in it, and its bytes
 abbrev pub block_of : Option ℕ → Option ℕ → Option (List ℕ) → Option Order
-block_of (Some piece) (Some begin) (Some bytes) = Some (block piece begin bytes)
+block_of (Some piece) (Some begin) (Some bytes) = Some (makes (Arrived piece begin bytes))
 block_of piece begin bytes = None
 
 -- a word and three arguments

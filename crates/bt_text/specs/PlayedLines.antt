@@ -12,27 +12,15 @@ use Rattle.bt_picker.specs.Checks.{SettlesNow}
 use Rattle.bt_text.specs.Texts.{reply_text}
 use Rattle.bt_text.specs.declared.script.setup.Setup.{Setup}
 use Rattle.bt_text.specs.Setups.{setup_in}
-use Rattle.bt_text.specs.Lines.{Order, OrderLine, join, choke, unchoke, leave, bits, have, settle, next, block, want, haves, depth, release, level}
-use Rattle.bt_text.specs.Lines.{levels, in_order, line_in}
+use Rattle.bt_text.specs.Lines.{Order, OrderLine, makes, bits, want, haves, settle, line_in}
 use Rattle.bt_text.specs.RulesLines.{rules_in}
 
 -- the order is this call of a torrent of so many pieces
 abbrev pub IsCall : ℕ → Order → Action → Type 0
-IsCall pieces join action = action ≡ actions.Join
-IsCall pieces choke action = action ≡ actions.Choke
-IsCall pieces unchoke action = action ≡ actions.Unchoke
-IsCall pieces leave action = action ≡ actions.Leave
-IsCall pieces (have p) action = action ≡ actions.Have p
-IsCall pieces (next word) action = action ≡ actions.Next word
-IsCall pieces (block p begin bytes) action = action ≡ actions.Arrived p begin bytes
+IsCall pieces (makes call) action = action ≡ call
 IsCall pieces (bits bytes) action = (flags : List Bool) × (action ≡ actions.Bits flags) × (length flags ≡ pieces) × IsSpelled flags bytes
 IsCall pieces (want bytes) action = (flags : List Bool) × (action ≡ actions.Want flags) × (length flags ≡ pieces) × IsSpelled flags bytes
 IsCall pieces (haves bytes) action = (flags : List Bool) × (action ≡ actions.Haves flags) × (length flags ≡ pieces) × IsSpelled flags bytes
-IsCall pieces (depth n) action = action ≡ actions.Depth n
-IsCall pieces (release p begin) action = action ≡ actions.Release p begin
-IsCall pieces (level p n) action = action ≡ actions.Level p n
-IsCall pieces (levels values) action = action ≡ actions.Levels values
-IsCall pieces (in_order rising) action = action ≡ actions.InOrder rising
 IsCall pieces (settle p) action = ⊥
 
 -- the desk made the call and gained its entry

@@ -6,45 +6,23 @@ ghost use Rattle.bt_text.specs.Lines.{line_in, seen_line, seen_command, bare_com
 
 use super::LineFault;
 use super::fields::{byte, digits, fields, hex_bytes, is, number, small_number, yes_or_no};
+use bt_picker::Call;
+use bytes::Bytes;
 use std::alloc::Global;
 
 /// What a worker does, as a script says it.
 #[derive(Drop)]
 pub enum Command {
-    Join,
-    /// The payload of a `bitfield` message.
+    /// A call that the line says whole.
+    Make(Call),
+    /// The payload of a `bitfield` message, whose length the torrent has to fit.
     Bits(Vec<u8>),
-    Have(u32),
-    Choke,
-    Unchoke,
-    Next(u64),
-    Block {
-        piece: u32,
-        begin: u32,
-        bytes: Vec<u8>,
-    },
-    Settle(u32),
-    Leave,
-    /// The pieces that are to be downloaded, as the payload of a `bitfield` message spells them.
+    /// The pieces that are to be downloaded, spelled so.
     Want(Vec<u8>),
     /// The pieces that the peer has too, spelled so.
     Haves(Vec<u8>),
-    /// So many blocks may be asked of the peer at a time.
-    Depth(u32),
-    /// A block that is asked of the peer no more.
-    Release {
-        piece: u32,
-        begin: u32,
-    },
-    /// The level of a piece.
-    Level {
-        piece: u32,
-        level: u8,
-    },
-    /// The level of each piece.
-    Levels(Vec<u8>),
-    /// Whether pieces of one level come in rising order.
-    InOrder(bool),
+    /// The check of a piece, here and now.
+    Settle(u32),
 }
 
 #[derive(Drop)]
@@ -87,13 +65,13 @@ fn bare_command(word: &[u8]) -> Result<Command, LineFault>
     ensures { Reads seen_command result (bare_command word.now) }
 {
     if is(word, "join") {
-        Ok(Command::Join)
+        Ok(Command::Make(Call::Join))
     } else if is(word, "choke") {
-        Ok(Command::Choke)
+        Ok(Command::Make(Call::Choke))
     } else if is(word, "unchoke") {
-        Ok(Command::Unchoke)
+        Ok(Command::Make(Call::Unchoke))
     } else if is(word, "leave") {
-        Ok(Command::Leave)
+        Ok(Command::Make(Call::Leave))
     } else {
         Err(LineFault::NotAllowed)
     }
@@ -106,9 +84,9 @@ fn short_command(alloc: Global, word: &[u8], argument: &[u8]) -> Result<Command,
     if is(word, "bits") {
         hex_bytes(alloc, argument).map(Command::Bits)
     } else if is(word, "have") {
-        small_number(argument).map(Command::Have)
+        Ok(Command::Make(Call::Have(small_number(argument)?)))
     } else if is(word, "next") {
-        number(argument).map(Command::Next)
+        Ok(Command::Make(Call::Next(number(argument)?)))
     } else if is(word, "settle") {
         small_number(argument).map(Command::Settle)
     } else if is(word, "want") {
@@ -116,11 +94,12 @@ fn short_command(alloc: Global, word: &[u8], argument: &[u8]) -> Result<Command,
     } else if is(word, "haves") {
         hex_bytes(alloc, argument).map(Command::Haves)
     } else if is(word, "depth") {
-        small_number(argument).map(Command::Depth)
+        Ok(Command::Make(Call::Depth(small_number(argument)?)))
     } else if is(word, "levels") {
-        digits(alloc, argument).map(Command::Levels)
+        let levels = Bytes::from_vec(digits(alloc, argument)?)?;
+        Ok(Command::Make(Call::Levels(levels)))
     } else if is(word, "inorder") {
-        yes_or_no(argument).map(Command::InOrder)
+        Ok(Command::Make(Call::InOrder(yes_or_no(argument)?)))
     } else {
         Err(LineFault::NotAllowed)
     }
@@ -131,15 +110,15 @@ fn pair_command(word: &[u8], piece: &[u8], second: &[u8]) -> Result<Command, Lin
     ensures { Reads seen_command result (pair_command word.now piece.now second.now) }
 {
     if is(word, "release") {
-        Ok(Command::Release {
+        Ok(Command::Make(Call::Release {
             piece: small_number(piece)?,
             begin: small_number(second)?,
-        })
+        }))
     } else if is(word, "level") {
-        Ok(Command::Level {
+        Ok(Command::Make(Call::Level {
             piece: small_number(piece)?,
             level: byte(second)?,
-        })
+        }))
     } else {
         Err(LineFault::NotAllowed)
     }
@@ -158,9 +137,9 @@ fn block_command(
     if !is(word, "block") {
         return Err(LineFault::NotAllowed);
     }
-    Ok(Command::Block {
+    Ok(Command::Make(Call::Arrived {
         piece: small_number(piece)?,
         begin: small_number(begin)?,
-        bytes: hex_bytes(alloc, hex)?,
-    })
+        bytes: Bytes::from_vec(hex_bytes(alloc, hex)?)?,
+    }))
 }

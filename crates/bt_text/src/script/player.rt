@@ -8,7 +8,6 @@ ghost use Rattle.bt_text.specs.Lines.{seen_command};
 use super::{Command, Line, LineFault, Setup};
 use bt_meta::Bitfield;
 use bt_picker::{Call, Desk, MOST_WORKERS, Reply, Rules};
-use bytes::Bytes;
 use std::alloc::{AllocError, Global};
 use std::sync::Arc;
 
@@ -83,32 +82,11 @@ impl Player {
         ensures pieces { self.new.pieces ≡ self.old.pieces }
     {
         match command {
-            Command::Join => self.make(worker, Call::Join),
+            Command::Make(call) => self.make(worker, call),
             Command::Bits(bytes) => {
                 let flags = Bitfield::from_wire(alloc, &bytes, self.pieces)?;
                 self.make(worker, Call::Bits(flags))
             }
-            Command::Have(piece) => self.make(worker, Call::Have(piece)),
-            Command::Choke => self.make(worker, Call::Choke),
-            Command::Unchoke => self.make(worker, Call::Unchoke),
-            Command::Next(word) => self.make(worker, Call::Next(word)),
-            Command::Block {
-                piece,
-                begin,
-                bytes,
-            } => {
-                let bytes = Bytes::from_vec(bytes)?;
-                self.make(
-                    worker,
-                    Call::Arrived {
-                        piece,
-                        begin,
-                        bytes,
-                    },
-                )
-            }
-            Command::Settle(piece) => self.settle(alloc, worker, piece),
-            Command::Leave => self.make(worker, Call::Leave),
             Command::Want(bytes) => {
                 let flags = Bitfield::from_wire(alloc, &bytes, self.pieces)?;
                 self.make(worker, Call::Want(flags))
@@ -117,14 +95,7 @@ impl Player {
                 let flags = Bitfield::from_wire(alloc, &bytes, self.pieces)?;
                 self.make(worker, Call::Haves(flags))
             }
-            Command::Depth(depth) => self.make(worker, Call::Depth(depth)),
-            Command::Release { piece, begin } => self.make(worker, Call::Release { piece, begin }),
-            Command::Level { piece, level } => self.make(worker, Call::Level { piece, level }),
-            Command::Levels(levels) => {
-                let levels = Bytes::from_vec(levels)?;
-                self.make(worker, Call::Levels(levels))
-            }
-            Command::InOrder(rising) => self.make(worker, Call::InOrder(rising)),
+            Command::Settle(piece) => self.settle(alloc, worker, piece),
         }
     }
 
