@@ -14,24 +14,14 @@ use Rattle.bt_history.specs.declared.mark.CallMark.TheVariants.{Join, Bits, Have
 use Rattle.bt_history.specs.declared.mark.CallMark.TheVariants.{Release, Level, Levels, InOrder}
 use Rattle.bt_history.specs.declared.mark.Mark.{Mark}
 use Rattle.bt_history.specs.contracts.call.ReasonPartialEq.TheImpl as reasons
+use denote.Enum.Bare.{same_true}
+use Rattle.bt_history.specs.contracts.call.Reason.{the_type}
 use Rattle.bt_history.specs.contracts.call.ReplyPartialEq.TheImpl as replies
 use Rattle.bt_history.specs.contracts.mark.CallMarkPartialEq.TheImpl as calls
 use Rattle.bt_history.specs.contracts.mark.MarkPartialEq.TheImpl as marks
 
 same_reason : (a b : Reason) → reasons.ghosts.eq a b ≡ true → a ≡ b
-same_reason NotJoined NotJoined is = refl
-same_reason AlreadyJoined AlreadyJoined is = refl
-same_reason LateBits LateBits is = refl
-same_reason WrongCount WrongCount is = refl
-same_reason NoSuchPiece NoSuchPiece is = refl
-same_reason NoSuchBlock NoSuchBlock is = refl
-same_reason WrongLength WrongLength is = refl
-same_reason NotWaiting NotWaiting is = refl
-same_reason Stale Stale is = refl
-same_reason NotAsked NotAsked is = refl
-same_reason WrongDepth WrongDepth is = refl
-same_reason WrongLevel WrongLevel is = refl
-same_reason a b is = absurd (false≢true is)
+same_reason a b is = same_true the_type (search rules) a b is
 
 same_block : (a b : Block) → blocks.ghosts.eq a b ≡ true → a ≡ b
 same_block a b is =
