@@ -43,6 +43,11 @@ marks_continue w seen h c =
 pub knows_continue : (h : History) (p : Part) (w : ℕ) → p.workers ≡ w ∷ [] → Knows h p.workers p.seen → Continues w p.seen h
 knows_continue h p w alone k = record { begins = k.begins; same = k.complete w (subst (IsAmong w) (sym alone) (inl refl)) }
 
+-- the same of the desk behind a reference, which is the one that was found
+pub there_continue : (w : ℕ) (seen : History) (there found : DeskState) → there ≡ found → Continues w seen found.history →
+    Continues w seen there.history
+there_continue w seen there found is c = subst (λ (d : DeskState). Continues w seen d.history) (sym is) c
+
 -- a pass's seat may take the word
 pub seat_may : (w : ℕ) (m : Sat) → IsSeatOf w m → MayTake m
 seat_may w m seat = record { idle = seat.idle; worker = w; speaks = subst (IsAmong w) (sym seat.alone) (inl refl) }

@@ -15,7 +15,7 @@ ghost use Rattle.bt_shared.specs.declared.gather.GatherFault.TheVariants.{NoMemo
 
 use crate::compare::{first_differing, first_other};
 use crate::entering::{attest, entries_of};
-use crate::lock::{DeskSeat, FREE, Guard, Meet, Words};
+use crate::lock::{DeskSeat, FREE, Guard, Held, Meet, Words};
 use crate::pass::Pass;
 use crate::view::{DeskTerms, DeskView};
 use atomic_table::{Closed, Table};
@@ -114,7 +114,7 @@ fn spread(
 }
 
 /// The desk out of its slot, if the word is free.
-fn desk_in(mut closed: Closed<Option<Desk>, Global>) -> Option<Desk>
+fn desk_in(mut closed: Closed<Option<Held>, Global>) -> Option<Desk>
     requires counts { (slots_len closed.words ≡ 1) × (slots_len closed.slots ≡ 1) }
     requires full { IsFull closed.words × IsFull closed.slots }
     ensures slot { (word : ℕ) (slot : Slot) → get_elem? (slots_items closed.words) 0 ≡ some word
@@ -127,15 +127,14 @@ fn desk_in(mut closed: Closed<Option<Desk>, Global>) -> Option<Desk>
     if word != FREE {
         return None;
     }
-    if let Some(desk) = &slot {
-        attest(desk);
-    }
-    slot
+    let Held { desk } = slot?;
+    attest(&desk);
+    Some(Box::into_inner(desk))
 }
 
 /// The desk, if the word is free, out of a table that this seat closes. It is free where the seat speaks for all workers.
 fn close_with(
-    table: Table<Option<Desk>, DeskView, DeskTerms, Guard, Global>,
+    table: Table<Option<Held>, DeskView, DeskTerms, Guard, Global>,
     seat: DeskSeat,
 ) -> Option<Desk>
     requires desk { IsDesk table.shared.table_id.words table.shared.table_id.slots }
@@ -151,7 +150,7 @@ fn close_with(
 
 /// The desk, if the word is free. It is free where the seat speaks for all workers.
 fn close(
-    table: Table<Option<Desk>, DeskView, DeskTerms, Guard, Global>,
+    table: Table<Option<Held>, DeskView, DeskTerms, Guard, Global>,
     all: Option<DeskSeat>,
 ) -> Option<Desk>
     requires desk { IsDesk table.shared.table_id.words table.shared.table_id.slots }
@@ -171,7 +170,7 @@ fn close(
 
 /// Puts each log at its worker's place, counts the marks, and takes the desk out of its slot, if the word is free.
 fn take_apart(
-    table: Table<Option<Desk>, DeskView, DeskTerms, Guard, Global>,
+    table: Table<Option<Held>, DeskView, DeskTerms, Guard, Global>,
     passes: Vec<Pass>,
     logs: &mut Vec<Vec<Mark>>,
 ) -> (usize, Option<Desk>)
@@ -220,7 +219,7 @@ fn difference(
 /// The desk of all calls, with a log for each worker, if the passes have all calls of the journal, each at its place, and the bitfield, if
 /// there is one, has exactly the pieces that are had.
 pub(crate) fn gather(
-    table: Table<Option<Desk>, DeskView, DeskTerms, Guard, Global>,
+    table: Table<Option<Held>, DeskView, DeskTerms, Guard, Global>,
     workers: u32,
     alloc: Global,
     passes: Vec<Pass>,

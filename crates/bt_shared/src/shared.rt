@@ -19,7 +19,7 @@ ghost use Rattle.bt_shared.specs.SharedJobs.{IsFor, IsSharedJobOf, checking};
 use crate::entering::{enter, enter_check, enter_verdict, job_of};
 use crate::gather::{Book, GatherFault, gather};
 use crate::job::{SharedJob, SharedVerdict, with_seen};
-use crate::lock::{DeskSeat, FREE, Guard, Make, Meet, Witness, lock, unlock};
+use crate::lock::{DeskSeat, FREE, Guard, Held, Make, Meet, Witness, lock, unlock};
 use crate::pass::Pass;
 use crate::view::{DeskTerms, DeskView};
 use atomic_table::Table;
@@ -35,7 +35,7 @@ use std::sync::{Arc, Wait};
 /// Contracts see which desk it is, and the setting that its history is judged by. A pass is handed to the desk with which it was opened,
 /// the caller's condition.
 pub struct SharedDesk {
-    table: Table<Option<Desk>, DeskView, DeskTerms, Guard, Global>,
+    table: Table<Option<Held>, DeskView, DeskTerms, Guard, Global>,
     workers: u32,
 }
 
@@ -81,7 +81,7 @@ fn lay(
     rules: Rules,
 ) -> Result<
     (
-        Table<Option<Desk>, DeskView, DeskTerms, Guard, Global>,
+        Table<Option<Held>, DeskView, DeskTerms, Guard, Global>,
         DeskSeat,
     ),
     AllocError,
@@ -94,9 +94,9 @@ fn lay(
         × (laid.1.me ≡ (maker (setting_of torrent.value.layout workers rules), []))) }
 {
     let terms = desk_terms(&torrent, workers, rules)?;
-    let desk = Desk::new(alloc, torrent, workers, rules)?;
+    let desk = Box::new(alloc, Desk::new(alloc, torrent, workers, rules)?)?;
     let mut slots = Vec::new(alloc);
-    slots.push(Some(desk))?;
+    slots.push(Some(Held { desk }))?;
     match Table::new(alloc, &[FREE], slots, &terms) {
         Ok(laid) => Ok(laid),
         Err(_) => Err(AllocError),

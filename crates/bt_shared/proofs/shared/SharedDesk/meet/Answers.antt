@@ -30,7 +30,7 @@ join_seat-requires g c =
 pub invariant_of-second : goal.invariant_of-second
 invariant_of-second g c =
     let old : Sat = c.second.inside.seat.me in
-    let h = c.lock-desk.result.history in
+    let h = c.lock-desk.result.value.history in
     let goes = met_continues h old c.split_seat-copy.result.me.0 c.join_seat.new.seat.me.0 c.second.inside.worker c.second.invariant.0
     (ap (λ (m : Sat). m.0) c.join_seat.ensures.2) c.lock-desk.ensures.found.0.parts in
     let is = ap (λ (m : Sat). m.0.part.seen) c.unlock.ensures.freed in (

@@ -17,11 +17,11 @@ split_seat-seen-requires g c = (
 pub invariant_of-pass : goal.invariant_of-pass
 invariant_of-pass g c =
     let old : Sat = c.pass.inside.seat.me in
-    let goes = knows_continue c.lock-desk.result.history old.0.part c.pass.inside.worker c.pass.invariant.0.alone c.lock-desk.ensures.found.0.part in
+    let h = c.lock-desk.result.value.history in
+    let goes = knows_continue h old.0.part c.pass.inside.worker c.pass.invariant.0.alone c.lock-desk.ensures.found.0.part in
     let is = ap (λ (m : Sat). m.0.part.seen) c.split_seat-seen.ensures.2 ∙ ap (λ (m : Sat). m.0.part.seen) c.unlock.ensures.freed in (
       search rules,
       search rules,
       search rules,
-      agrees_continue c.pass.inside.worker old.0.part.seen c.lock-desk.result.history _
-          c.pass.inside.log.items goes is c.pass.invariant.3,
+      agrees_continue c.pass.inside.worker old.0.part.seen h _ c.pass.inside.log.items goes is c.pass.invariant.3,
     )
