@@ -120,7 +120,11 @@ fn print_pieces<O: Sink>(out: &mut O, desk: &Desk, pieces: u32) -> Result<(), De
         (pieces_text pieces (is_done desk.now))) }
     ensures err { OnErr result (O.failed out.new ≡ true) }
 {
-    let complete = if desk.picker().has_wanted() { "yes" } else { "no" };
+    let complete = if desk.picker().has_wanted() {
+        "yes"
+    } else {
+        "no"
+    };
     print(out, "missing")?;
     print_missing(out, desk, pieces)?;
     print(out, "\ncomplete ")?;

@@ -345,7 +345,11 @@ impl Played {
     pub fn made_of(&self) -> (u32, u32, u32) {
         let torrent = self.desk.picker().torrent();
         let rules = self.desk.picker().rules();
-        (self.desk.picker().workers(), rules.depth, torrent.piece_count())
+        (
+            self.desk.picker().workers(),
+            rules.depth,
+            torrent.piece_count(),
+        )
     }
 
     pub fn write_piece<W: Sink>(
