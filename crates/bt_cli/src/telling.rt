@@ -6,13 +6,13 @@ ghost use Rattle.std.specs.Io.KnownBytes.{Appends};
 ghost use Rattle.bt_meta.specs.Layout.{piece_count};
 ghost use Rattle.bt_history.specs.Setting.{AreRules, setting_of};
 ghost use Rattle.bt_cli.specs.declared.report.Judged.TheVariants.{Sound, Unjudged};
-ghost use Rattle.bt_cli.specs.Runs.{Ended, IsPrelude, TellsRun, ended_short, gave_up, run_status};
+ghost use Rattle.bt_cli.specs.Runs.{Ended, IsPrelude, TellsRun, lacked_memory, gave_up, run_status};
 
 use crate::options::Options;
 use crate::report::{Judged, print_report};
 use bt_meta::{DeviceFault, Sink, Torrent};
+use bt_peer::{End, SessionFault};
 use bt_picker::{AuditFault, Desk, Rules, audit};
-use bt_session::{End, SessionFault};
 use bt_text::{Fault, print_journal};
 use std::alloc::Global;
 
@@ -83,15 +83,15 @@ fn judge(alloc: Global, torrent: &Torrent, workers: u32, rules: Rules, desk: &De
 fn lacks_memory(outcome: Outcome<'_>) -> bool
     ensures { result ≡ gave_up outcome.entry.short outcome.entry.ends.now }
 {
-    outcome.short || is_some_short(outcome.ends)
+    outcome.short || some_lacked(outcome.ends)
 }
 
 /// Whether a session ended for want of memory.
-fn is_some_short(ends: &[Result<End, SessionFault>]) -> bool
-    ensures { result ≡ list_any ended_short ends.now }
+fn some_lacked(ends: &[Result<End, SessionFault>]) -> bool
+    ensures { result ≡ list_any lacked_memory ends.now }
 {
     for end in ends {
-        if ended_short(*end) {
+        if lacked_memory(*end) {
             return true;
         }
     }
@@ -99,8 +99,8 @@ fn is_some_short(ends: &[Result<End, SessionFault>]) -> bool
 }
 
 /// Whether this one did.
-fn ended_short(end: Result<End, SessionFault>) -> bool
-    ensures { result ≡ ended_short end }
+fn lacked_memory(end: Result<End, SessionFault>) -> bool
+    ensures { result ≡ lacked_memory end }
 {
     match end {
         Err(SessionFault::NoMemory) => true,
