@@ -25,7 +25,7 @@ pub struct Outcome<'a> {
     /// How each stream's session ended, in the order of the streams.
     pub ends: &'a [Result<End, SessionFault>],
     pub desk: &'a Desk,
-    /// The last checks were given up for want of memory.
+    /// The run is short, as a `SerialRun` or a `SwarmRun` says.
     pub short: bool,
 }
 
@@ -57,7 +57,7 @@ pub fn tell<O: Sink>(
     let judged = judge(alloc, torrent, workers, options.rules, outcome.desk);
     let pieces = torrent.piece_count();
     let printed = print_run(outcome, pieces, judged, options.journal, out);
-    if judged == Judged::Unjudged || lacks_memory(outcome) {
+    if judged == Judged::Unjudged || gave_up(outcome) {
         return Err(Fault::Memory);
     }
     match printed {
@@ -80,7 +80,7 @@ fn judge(alloc: Global, torrent: &Torrent, workers: u32, rules: Rules, desk: &De
 }
 
 /// Whether something was given up for want of memory: the last checks, or a session.
-fn lacks_memory(outcome: Outcome<'_>) -> bool
+fn gave_up(outcome: Outcome<'_>) -> bool
     ensures { result ≡ gave_up outcome.entry.short outcome.entry.ends.now }
 {
     outcome.short || some_lacked(outcome.ends)

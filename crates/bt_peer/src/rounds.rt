@@ -152,7 +152,7 @@ fn some_lacked(seats: &[Seat]) -> bool
     seats.iter().map(|seat| seat.lacked).any(|lacked| lacked)
 }
 
-/// Rounds until all sessions have ended, how each ended, and the last checks. Answers whether memory lacked for these or for a session's call.
+/// The run: rounds until all sessions have ended, how each ended, and the last checks. Answers whether memory lacked for these or for a session's call.
 fn run<R: Source, W: Sink>(
     alloc: Global,
     desk: &mut Desk,
