@@ -46,14 +46,14 @@ pub record TellsRun (journal : Bool) (ends : List (Result End SessionFault)) (de
     pub wrote : Appends old new (prelude ++ report_text ends desk judged)
 
 -- a session ended for want of memory
-abbrev pub ended_short : Result End SessionFault → Bool
-ended_short (Ok end) = false
-ended_short (Err sessions.NoMemory) = true
-ended_short (Err fault) = false
+abbrev pub lacked_memory : Result End SessionFault → Bool
+lacked_memory (Ok end) = false
+lacked_memory (Err sessions.NoMemory) = true
+lacked_memory (Err fault) = false
 
 -- something was given up for want of memory: the last checks, or a session
 abbrev pub gave_up : Bool → List (Result End SessionFault) → Bool
-gave_up short ends = short || list_any ended_short ends
+gave_up short ends = short || list_any lacked_memory ends
 
 -- with which fault a run may end
 abbrev pub IsRunFault : Fault → Type 0
@@ -86,10 +86,10 @@ IsWant pieces None (Some flags) = ⊥
 IsWant pieces (Some bytes) None = ⊥
 IsWant pieces (Some bytes) (Some flags) = (length flags ≡ pieces) × IsSpelled flags bytes
 
--- Streams were played in one thread, by options that fit the torrent of the bytes: at a desk of that torrent, with an end for each, each as
+-- A run of these streams in one thread, by options that fit the torrent of the bytes: at a desk of that torrent, with an end for each, each as
 -- its session's, which asked for blocks by the depth of the options, and left after a fault, unless the run is short. The last worker told
 -- the wanted pieces, if any, and made the last checks, and nothing else; and no piece waits for its check, unless the run is short.
-pub record IsPlayed {X : Type 0} (record_of : X → StreamRecord) (read : Result Metainfo MetaFault) (options : Options) (streams : List X)
+pub record IsSerialRun {X : Type 0} (record_of : X → StreamRecord) (read : Result Metainfo MetaFault) (options : Options) (streams : List X)
     (torrent : Metainfo) (short : Bool) (desk : DeskState) (streams' : List X) (ends : List (Result End SessionFault)) : Type 0 where
   pub is_torrent : read ≡ Ok torrent
   pub rules : AreRules torrent.layout options.rules
@@ -100,12 +100,12 @@ pub record IsPlayed {X : Type 0} (record_of : X → StreamRecord) (read : Result
   pub ran : RanInTurns record_of (terms_of torrent options.rules.depth) options.seed want streams short desk streams' ends
   pub none_waits : short ≡ false → (piece : ℕ) → waits desk.setting desk.history piece ≡ false
 
--- A run of these streams came to this desk: it was played so, and ended as `Ended` says.
+-- A run of these streams came to this desk: it is such a run, and ended as `Ended` says.
 pub record Ran {X : Type 0} (record_of : X → StreamRecord) (torrent : Metainfo) (options : Options) (streams : List X) (desk : DeskState)
     (streams' : List X) (ended : Result Bool Fault) (old new : Option (List ℕ)) (failed : Bool) : Type 0 where
   pub ends : List (Result End SessionFault)
   pub short : Bool
-  pub played : IsPlayed record_of (Ok torrent) options streams torrent short desk streams' ends
+  pub run : IsSerialRun record_of (Ok torrent) options streams torrent short desk streams' ends
   pub told : Ended short ends desk ended options.journal old new failed
 
 -- why these bytes spell no flags of so many pieces

@@ -21,10 +21,10 @@ use Rattle.bt_cli.specs.declared.options.Options.{Options}
 use Rattle.bt_cli.specs.Runs.{Ended, IsEndStatus}
 use Rattle.bt_text.specs.Statuses.{of_gather, of_metainfo, status_of}
 
--- Streams were played in threads, by options that fit the torrent of the bytes: at a desk of that torrent, with an end and a log for each,
+-- A run of these streams in threads, by options that fit the torrent of the bytes: at a desk of that torrent, with an end and a log for each,
 -- each end as its session's at its worker's log, which asked for blocks by the depth of the options. The checkers made checks alone, and the
 -- last worker the last ones; the logs are the journal's.
-pub record IsPlayedInThreads {X : Type 0} (record_of : X → StreamRecord) (read : Result Metainfo MetaFault) (options : Options)
+pub record IsSwarmRun {X : Type 0} (record_of : X → StreamRecord) (read : Result Metainfo MetaFault) (options : Options)
     (streams : List X) (torrent : Metainfo) (short : Bool) (book : Book) (left : List X) (ends : List (Result End SessionFault)) : Type 0 where
   pub is_torrent : read ≡ Ok torrent
   pub rules : AreRules torrent.layout options.rules
@@ -43,14 +43,14 @@ pub record IsPlayedInThreads {X : Type 0} (record_of : X → StreamRecord) (read
   -- each piece is chosen
   pub chosen : AreChosen None book.desk
 
--- A run of these streams in threads came to this book: it was played so, and ended as `Ended` says.
+-- A run of these streams in threads came to this book: it is such a run, and ended as `Ended` says.
 pub record RanThreads {X : Type 0} (record_of : X → StreamRecord) (torrent : Metainfo) (options : Options) (streams : List X) (book : Book)
     (ended : Result Bool Fault) (old new : Option (List ℕ)) (failed : Bool) : Type 0 where
   pub ends : List (Result End SessionFault)
   pub short : Bool
   -- the streams as the sessions left them
   pub left : List X
-  pub played : IsPlayedInThreads record_of (Ok torrent) options streams torrent short book left ends
+  pub run : IsSwarmRun record_of (Ok torrent) options streams torrent short book left ends
   pub told : Ended short ends book.desk ended options.journal old new failed
 
 -- why a run in threads came to nothing, as a fault of the command

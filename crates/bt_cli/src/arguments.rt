@@ -1,7 +1,8 @@
 //! The command line.
 
 use crate::help;
-use bt_session::{MOST_CHECKERS, MOST_STREAMS};
+use bt_peer::MOST_STREAMS;
+use bt_session::MOST_CHECKERS;
 use bt_text::MOST_DEPTH;
 use clap::{Arg, ArgAction, Command, value_parser};
 use std::alloc::{AllocError, Global};

@@ -6,8 +6,9 @@ ghost use Rattle.bt_cli.specs.Asks.{IsWanted};
 use crate::failure::Failure;
 use crate::options::Options;
 use crate::wrong::Wrong;
+use bt_peer::MOST_STREAMS;
 use bt_picker::{MOST_WORKERS, Rules};
-use bt_session::{MOST_CHECKERS, MOST_STREAMS};
+use bt_session::MOST_CHECKERS;
 use bt_text::{MOST_DEPTH, read_hex};
 use std::alloc::Global;
 

@@ -1,7 +1,7 @@
 //! What is told on standard error of streams whose sessions ended by a fault.
 
 use crate::streams::Recording;
-use bt_session::{End, SessionFault};
+use bt_peer::{End, SessionFault};
 use std::alloc::Global;
 use std::io::Read;
 

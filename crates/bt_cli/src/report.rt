@@ -9,8 +9,8 @@ ghost use Rattle.bt_cli.specs.Reports.{counts_text, end_text, is_done, judged_te
 ghost use Rattle.bt_cli.specs.Reports.{report_text, session_fault_number};
 
 use bt_meta::{DeviceFault, Sink};
+use bt_peer::{End, SessionFault};
 use bt_picker::Desk;
-use bt_session::{End, SessionFault};
 use bt_text::{print, print_numbered};
 
 /// The number by which the end of a session is told.

@@ -5,13 +5,13 @@ ghost use Rattle.bt_meta.specs.Layout.{Metainfo};
 ghost use Rattle.bt_meta.specs.Reading.{torrent_of_file};
 ghost use Rattle.bt_history.specs.Setting.{setting_of};
 ghost use Rattle.bt_peer.specs.Serial.{stream_record};
-ghost use Rattle.bt_cli.specs.Runs.{IsPlayed, IsStartFault, Ran, run_status};
+ghost use Rattle.bt_cli.specs.Runs.{IsSerialRun, IsStartFault, Ran, run_status};
 
 use crate::options::{Options, fitting};
 use crate::telling::{Outcome, run_status, tell};
 use bt_meta::{Sink, Source, Torrent};
+use bt_peer::{End, MOST_STREAMS, SerialRun, SessionFault, Stream, serial};
 use bt_picker::Desk;
-use bt_session::{End, MOST_STREAMS, SerialRun, SessionFault, Stream, serial};
 use bt_text::{Fault, MOST_DEPTH};
 use std::alloc::Global;
 use std::sync::Arc;
@@ -60,14 +60,14 @@ pub fn play_streams<R: Source, W: Sink, O: Sink>(
     ensures unprinted { OnErr result (out.new ≡ out.old) }
 {
     let workers = streams.len() as u32 + 1;
-    let played = play(alloc, meta, streams, options)?;
+    let ran = run_sessions(alloc, meta, streams, options)?;
     let outcome = Outcome {
-        ends: &played.run.ends,
-        desk: &played.run.desk,
-        short: played.run.short,
+        ends: &ran.run.ends,
+        desk: &ran.run.desk,
+        short: ran.run.short,
     };
-    let ended = tell(alloc, &played.torrent, workers, options, outcome, out);
-    let PlayedRun { torrent: _, run } = played;
+    let ended = tell(alloc, &ran.torrent, workers, options, outcome, out);
+    let TorrentRun { torrent: _, run } = ran;
     let SerialRun {
         ends,
         desk,
@@ -78,21 +78,21 @@ pub fn play_streams<R: Source, W: Sink, O: Sink>(
 
 /// A run with recorded peers, and its torrent.
 #[derive(Drop)]
-struct PlayedRun {
+struct TorrentRun {
     torrent: Arc<Torrent>,
     run: SerialRun,
 }
 
-/// Plays the streams once the options were read.
-fn play<R: Source, W: Sink>(
+/// Runs the streams' sessions, once the options were read.
+fn run_sessions<R: Source, W: Sink>(
     alloc: Global,
     meta: &[u8],
     streams: &mut [Stream<R, W>],
     options: &Options,
-) -> Result<PlayedRun, Fault>
+) -> Result<TorrentRun, Fault>
     requires streams { (1 ≤ length streams.old) × (length streams.old ≤ MOST_STREAMS) }
     requires depth { (1 ≤ options.now.rules.depth) × (options.now.rules.depth ≤ MOST_DEPTH) }
-    ensures played { IfOk result (λ p. IsPlayed (stream_record R.left R.ended R.failed R.reads W.written W.failed)
+    ensures ran { IfOk result (λ p. IsSerialRun (stream_record R.left R.ended R.failed R.reads W.written W.failed)
         (torrent_of_file meta.now) options.now streams.old p.torrent.value p.run.short p.run.desk streams.new p.run.ends.items) }
     ensures err { IfErr result (IsStartFault (torrent_of_file meta.now) options.now) }
 {
@@ -107,5 +107,5 @@ fn play<R: Source, W: Sink>(
         want,
         options.rules,
     )?;
-    Ok(PlayedRun { torrent, run })
+    Ok(TorrentRun { torrent, run })
 }

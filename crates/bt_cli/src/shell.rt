@@ -16,7 +16,8 @@ use crate::streams::recorded;
 use crate::target::Target;
 use crate::wrong::{Wrong, refuse};
 use bt_meta::{Sink, ToWrite};
-use bt_session::{MOST_CHECKERS, MOST_STREAMS};
+use bt_peer::MOST_STREAMS;
+use bt_session::MOST_CHECKERS;
 use bt_text::{Fault, MOST_DEPTH, explain_line, print};
 use clap::ArgMatches;
 use clap::error::ErrorKind;
@@ -40,7 +41,7 @@ where
 {
     let mut err = ToWrite::new(err);
     let mut more = None;
-    let done = match play(rt, words, out, &mut err, &mut more) {
+    let done = match execute(rt, words, out, &mut err, &mut more) {
         Ok(done) => Ok(done.status()),
         Err(failure) => Err(failure),
     };
@@ -51,8 +52,8 @@ where
     status
 }
 
-/// Plays the command that the arguments say, with a buffer before its output.
-fn play<'w, R: Runtime + AllocGlobal + Threads + Wait + Sync, O: Write + Drop, E: Sink>(
+/// Executes the command that the arguments say, with a buffer before its output.
+fn execute<'w, R: Runtime + AllocGlobal + Threads + Wait + Sync, O: Write + Drop, E: Sink>(
     rt: &R,
     words: &'w [String],
     out: O,
@@ -63,13 +64,13 @@ where
     R::File: Send,
 {
     match BufWriter::new(rt.alloc(), out) {
-        Ok(out) => play_to(rt, words, &mut Device::new(out), err, more),
+        Ok(out) => execute_to(rt, words, &mut Device::new(out), err, more),
         Err(error) => Err(Failure::of_output(error)),
     }
 }
 
-/// Plays the command that the arguments say.
-fn play_to<'w, R: Runtime + AllocGlobal + Threads + Wait + Sync, O: Write + Drop, E: Sink>(
+/// Executes the command that the arguments say.
+fn execute_to<'w, R: Runtime + AllocGlobal + Threads + Wait + Sync, O: Write + Drop, E: Sink>(
     rt: &R,
     words: &'w [String],
     out: &mut Device<O>,
@@ -80,13 +81,13 @@ where
     R::File: Send,
 {
     match command(rt.alloc())?.try_get_matches_from(words) {
-        Ok(matches) => play_command(rt, &matches, out, err, more),
+        Ok(matches) => execute_command(rt, &matches, out, err, more),
         Err(error) => explain(rt.alloc(), &error, out, err),
     }
 }
 
-/// Plays the command that was found.
-fn play_command<'w, R: Runtime + AllocGlobal + Threads + Wait + Sync, O: Write + Drop, E: Sink>(
+/// Executes the command that was found.
+fn execute_command<'w, R: Runtime + AllocGlobal + Threads + Wait + Sync, O: Write + Drop, E: Sink>(
     rt: &R,
     matches: &ArgMatches<'w>,
     out: &mut Device<O>,
@@ -185,7 +186,7 @@ fn serial<'w, R: Runtime + AllocGlobal, O: Write + Drop, E: Sink>(
     };
     let streams = arguments.get_strs("STREAM").unwrap_or(&[]);
     match judged(rt, &asked, streams)? {
-        Ok(options) => play_in_turns(rt, &asked, streams, &options, out, more),
+        Ok(options) => run_in_turns(rt, &asked, streams, &options, out, more),
         Err(wrong) => Ok(refuse(wrong, err)),
     }
 }
@@ -231,8 +232,8 @@ fn target_of<'f, 'w, R: Runtime>(
     }
 }
 
-/// Plays the streams in one thread.
-fn play_in_turns<'w, R: Runtime + AllocGlobal, O: Write + Drop>(
+/// Runs the streams' sessions in one thread.
+fn run_in_turns<'w, R: Runtime + AllocGlobal, O: Write + Drop>(
     rt: &R,
     asked: &Asked<'w>,
     streams: &[&'w str],
@@ -274,13 +275,13 @@ where
     };
     let streams = arguments.get_strs("STREAM").unwrap_or(&[]);
     match judged(rt, &asked, streams)? {
-        Ok(options) => play_at_once(rt, &asked, streams, &options, out, more),
+        Ok(options) => run_at_once(rt, &asked, streams, &options, out, more),
         Err(wrong) => Ok(refuse(wrong, err)),
     }
 }
 
-/// Plays the streams in threads.
-fn play_at_once<'w, R: Runtime + AllocGlobal + Threads + Wait + Sync, O: Write + Drop>(
+/// Runs the streams' sessions in threads.
+fn run_at_once<'w, R: Runtime + AllocGlobal + Threads + Wait + Sync, O: Write + Drop>(
     rt: &R,
     asked: &Asked<'w>,
     streams: &[&'w str],

@@ -5,7 +5,7 @@ ghost use Rattle.std.specs.Prelude.{◌≡◌, length, map, IfOk};
 use crate::failure::Failure;
 use crate::in_file::InFile;
 use bt_meta::ToWrite;
-use bt_session::Stream;
+use bt_peer::Stream;
 use std::rt::Runtime;
 use std::{fs, io};
 

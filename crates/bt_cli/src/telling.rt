@@ -6,13 +6,13 @@ ghost use Rattle.std.specs.Io.KnownBytes.{Appends};
 ghost use Rattle.bt_meta.specs.Layout.{piece_count};
 ghost use Rattle.bt_history.specs.Setting.{AreRules, setting_of};
 ghost use Rattle.bt_cli.specs.declared.report.Judged.TheVariants.{Sound, Unjudged};
-ghost use Rattle.bt_cli.specs.Runs.{Ended, IsPrelude, TellsRun, ended_short, gave_up, run_status};
+ghost use Rattle.bt_cli.specs.Runs.{Ended, IsPrelude, TellsRun, lacked_memory, gave_up, run_status};
 
 use crate::options::Options;
 use crate::report::{Judged, print_report};
 use bt_meta::{DeviceFault, Sink, Torrent};
+use bt_peer::{End, SessionFault};
 use bt_picker::{AuditFault, Desk, Rules, audit};
-use bt_session::{End, SessionFault};
 use bt_text::{Fault, print_journal};
 use std::alloc::Global;
 
@@ -25,7 +25,7 @@ pub struct Outcome<'a> {
     /// How each stream's session ended, in the order of the streams.
     pub ends: &'a [Result<End, SessionFault>],
     pub desk: &'a Desk,
-    /// The last checks were given up for want of memory.
+    /// The run is short, as a `SerialRun` or a `SwarmRun` says.
     pub short: bool,
 }
 
@@ -57,7 +57,7 @@ pub fn tell<O: Sink>(
     let judged = judge(alloc, torrent, workers, options.rules, outcome.desk);
     let pieces = torrent.piece_count();
     let printed = print_run(outcome, pieces, judged, options.journal, out);
-    if judged == Judged::Unjudged || lacks_memory(outcome) {
+    if judged == Judged::Unjudged || gave_up(outcome) {
         return Err(Fault::Memory);
     }
     match printed {
@@ -80,18 +80,18 @@ fn judge(alloc: Global, torrent: &Torrent, workers: u32, rules: Rules, desk: &De
 }
 
 /// Whether something was given up for want of memory: the last checks, or a session.
-fn lacks_memory(outcome: Outcome<'_>) -> bool
+fn gave_up(outcome: Outcome<'_>) -> bool
     ensures { result ≡ gave_up outcome.entry.short outcome.entry.ends.now }
 {
-    outcome.short || is_some_short(outcome.ends)
+    outcome.short || some_lacked(outcome.ends)
 }
 
 /// Whether a session ended for want of memory.
-fn is_some_short(ends: &[Result<End, SessionFault>]) -> bool
-    ensures { result ≡ list_any ended_short ends.now }
+fn some_lacked(ends: &[Result<End, SessionFault>]) -> bool
+    ensures { result ≡ list_any lacked_memory ends.now }
 {
     for end in ends {
-        if ended_short(*end) {
+        if lacked_memory(*end) {
             return true;
         }
     }
@@ -99,8 +99,8 @@ fn is_some_short(ends: &[Result<End, SessionFault>]) -> bool
 }
 
 /// Whether this one did.
-fn ended_short(end: Result<End, SessionFault>) -> bool
-    ensures { result ≡ ended_short end }
+fn lacked_memory(end: Result<End, SessionFault>) -> bool
+    ensures { result ≡ lacked_memory end }
 {
     match end {
         Err(SessionFault::NoMemory) => true,

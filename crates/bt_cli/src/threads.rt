@@ -8,14 +8,13 @@ ghost use Rattle.bt_history.specs.Setting.{setting_of};
 ghost use Rattle.bt_peer.specs.Serial.{stream_record};
 ghost use Rattle.bt_shared.specs.Gathering.{EachAgrees};
 ghost use Rattle.bt_cli.specs.Runs.{run_status};
-ghost use Rattle.bt_cli.specs.ThreadRuns.{IsPlayedInThreads, IsThreadsFault, RanThreads, of_swarm};
+ghost use Rattle.bt_cli.specs.ThreadRuns.{IsSwarmRun, IsThreadsFault, RanThreads, of_swarm};
 
 use crate::options::{Options, fit_random};
 use crate::telling::{Outcome, run_status, tell};
 use bt_meta::{Sink, Source, Torrent};
-use bt_session::{
-    End, MOST_CHECKERS, MOST_STREAMS, OpenGate, SessionFault, Stream, SwarmFault, SwarmRun, swarm,
-};
+use bt_peer::{End, MOST_STREAMS, OpenGate, SessionFault, Stream};
+use bt_session::{MOST_CHECKERS, SwarmFault, SwarmRun, swarm};
 use bt_shared::Book;
 use bt_text::{Fault, MOST_DEPTH};
 use std::sync::{Arc, Wait};
@@ -76,14 +75,14 @@ pub fn play_threads<
     ensures unprinted { OnErr result (out.new ≡ out.old) }
 {
     let workers = streams.len() as u32 + options.checkers + 1;
-    let played = play(rt, meta, streams, options)?;
+    let ran = run_sessions(rt, meta, streams, options)?;
     let outcome = Outcome {
-        ends: &played.run.ends,
-        desk: &played.run.book.desk,
-        short: played.run.short,
+        ends: &ran.run.ends,
+        desk: &ran.run.book.desk,
+        short: ran.run.short,
     };
-    let ended = tell(rt.alloc(), &played.torrent, workers, options, outcome, out);
-    let PlayedRun { torrent: _, run } = played;
+    let ended = tell(rt.alloc(), &ran.torrent, workers, options, outcome, out);
+    let TorrentRun { torrent: _, run } = ran;
     let SwarmRun {
         ends,
         book,
@@ -100,22 +99,26 @@ pub fn play_threads<
 
 /// A run with recorded peers in threads, and its torrent.
 #[derive(Drop)]
-struct PlayedRun<R, W> {
+struct TorrentRun<R, W> {
     torrent: Arc<Torrent>,
     run: SwarmRun<R, W>,
 }
 
-/// Plays the streams in threads once the options were read.
-fn play<T: Threads + Wait + AllocGlobal + Sync, R: Source + Send + Drop, W: Sink + Send + Drop>(
+/// Runs the streams' sessions in threads, once the options were read.
+fn run_sessions<
+    T: Threads + Wait + AllocGlobal + Sync,
+    R: Source + Send + Drop,
+    W: Sink + Send + Drop,
+>(
     rt: &T,
     meta: &[u8],
     streams: Vec<Stream<R, W>>,
     options: &Options,
-) -> Result<PlayedRun<R, W>, Fault>
+) -> Result<TorrentRun<R, W>, Fault>
     requires streams { (1 ≤ length streams.items) × (length streams.items ≤ MOST_STREAMS) }
     requires depth { (1 ≤ options.now.rules.depth) × (options.now.rules.depth ≤ MOST_DEPTH) }
     requires checkers { (1 ≤ options.now.checkers) × (options.now.checkers ≤ MOST_CHECKERS) }
-    ensures played { IfOk result (λ p. IsPlayedInThreads (stream_record R.left R.ended R.failed R.reads W.written W.failed)
+    ensures ran { IfOk result (λ p. IsSwarmRun (stream_record R.left R.ended R.failed R.reads W.written W.failed)
         (torrent_of_file meta.now) options.now streams.items p.torrent.value p.run.short p.run.book p.run.streams.items p.run.ends.items) }
     ensures err { IfErr result (IsThreadsFault (torrent_of_file meta.now) options.now) }
 {
@@ -133,7 +136,7 @@ fn play<T: Threads + Wait + AllocGlobal + Sync, R: Source + Send + Drop, W: Sink
         &OpenGate,
     );
     match run {
-        Ok(run) => Ok(PlayedRun { torrent, run }),
+        Ok(run) => Ok(TorrentRun { torrent, run }),
         Err(fault) => Err(of_swarm(fault)),
     }
 }

@@ -18,7 +18,7 @@ use Rattle.bt_peer.specs.Conduct.{Calls}
 use Rattle.bt_peer.specs.Desks.{calls_in}
 use Rattle.bt_peer.specs.Serial.{AreChosen, EachEnded, Finishes, StreamRecord, opening_of}
 use Rattle.bt_peer.specs.SessionTerms.{TermsState}
-use Rattle.bt_peer.specs.Standing.{IsFresh, LeavesOthers, LeavesRest}
+use Rattle.bt_peer.specs.Course.{IsFresh, LeavesOthers, LeavesRest}
 use Rattle.bt_peer.specs.declared.fault.End.{End}
 use Rattle.bt_peer.specs.declared.fault.SessionFault.{SessionFault}
 use Rattle.bt_peer.specs.declared.fault.SessionFault.TheVariants as faults

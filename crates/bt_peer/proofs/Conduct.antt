@@ -168,13 +168,13 @@ other_cut s call fault old new silent cut =
 pub own_number : (pieces : ℕ) (m : Message) (call : Action) → call_of pieces m ≡ Some call → given_number call ≡ []
 own_number = of_message given_number [] refl refl refl (λ piece. refl) (λ flags. refl) (λ piece begin bytes. refl)
 
-departs_silently : (is_in short : Bool) (leave : List Act) → Departs is_in short leave → AreSilent leave
-departs_silently is_in short [] departs = refl
-departs_silently is_in short (Called actions.Leave reply ∷ []) departs = refl
-departs_silently is_in short _ departs = absurd departs
+departs_silently : (is_in lacked : Bool) (leave : List Act) → Departs is_in lacked leave → AreSilent leave
+departs_silently is_in lacked [] departs = refl
+departs_silently is_in lacked (Called actions.Leave reply ∷ []) departs = refl
+departs_silently is_in lacked _ departs = absurd departs
 
 -- the departure draws no number
 pub left_draws : (s : Stream) (a b c : PlaceRecord) → DrawsNumbers s a.calls b.calls → Leaves b c → DrawsNumbers s a.calls c.calls
 left_draws s a b c draws leaves =
     DrawsNumbers-silent s a.calls b.calls c.calls (calls_of leaves.leave) draws leaves.gains.calls
-    (departs_silently true c.short leaves.leave leaves.departs)
+    (departs_silently true c.lacked leaves.leave leaves.departs)

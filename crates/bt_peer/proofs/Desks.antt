@@ -78,17 +78,17 @@ unfolding finished
 finished_on h e = (finished_by e, refl)
 
 -- a call of the worker is entered
-pub called : (lent : List GName) (old new : DeskState) (worker : ℕ) (action : Action) (reply : Reply) (told : List Bool) (short : Bool) →
+pub called : (lent : List GName) (old new : DeskState) (worker : ℕ) (action : Action) (reply : Reply) (told : List Bool) (lacked : Bool) →
     Enters old new (record { worker = worker; action = action; reply = reply }) →
-    Gains (desk_record lent old worker told short) (Called action reply ∷ []) (desk_record lent new worker told short)
-called lent old new worker action reply told short enters =
+    Gains (desk_record lent old worker told lacked) (Called action reply ∷ []) (desk_record lent new worker told lacked)
+called lent old new worker action reply told lacked enters =
     let h = old.history in
     let e : Entry = record { worker = worker; action = action; reply = reply } in
     let is : new ≡ record { setting = old.setting; history = e ∷ h } =
     ap (λ (setting : Setting). desk_of setting new.history) enters.setting ∙ ap (λ (history : History). desk_of old.setting history) enters.entered in
     let own : (e.worker == worker) ≡ true = eq-eqb worker worker refl in
-    let gained : Gains (desk_record lent old worker told short) (Called action reply ∷ [])
-    (desk_record lent (record old { history = e ∷ h }) worker told short) =
+    let gained : Gains (desk_record lent old worker told lacked) (Called action reply ∷ [])
+    (desk_record lent (record old { history = e ∷ h }) worker told lacked) =
     record {
       up_to = record {
         lent = refl;
@@ -101,10 +101,10 @@ called lent old new worker action reply told short enters =
         told = λ piece. refl;
         finished = tt;
       };
-      short = refl;
+      lacked = refl;
     } in
-    subst (λ (desk : DeskState). Gains (desk_record lent old worker told short) (Called action reply ∷ [])
-    (desk_record lent desk worker told short)) (sym is) gained
+    subst (λ (desk : DeskState). Gains (desk_record lent old worker told lacked) (Called action reply ∷ [])
+    (desk_record lent desk worker told lacked)) (sym is) gained
 
 pub told_by : (same : Bool) (piece other : ℕ) (told : List Bool) → (other == piece) ≡ same → piece < length told →
     slice_index_or (slice_set told piece true) other false ≡ (if other == piece then true else slice_index_or told other false)
@@ -116,34 +116,34 @@ told_by false piece other told is within =
     get_or-set_other told piece other true false apart ∙ sym (ap (λ (b : Bool). if b then true else slice_index_or told other false) is)
 
 -- what a check leaves, for a piece that waits for one or doesn't
-settled_if : (waits : Bool) (lent : List GName) (old new : DeskState) (worker piece : ℕ) (reply : Reply) (told : List Bool) (short : Bool) →
+settled_if : (waits : Bool) (lent : List GName) (old new : DeskState) (worker piece : ℕ) (reply : Reply) (told : List Bool) (lacked : Bool) →
     SettlesIf waits old new worker piece reply →
     (acts : List Act) × (ChecksAtMost piece acts
-    × Gains (desk_record lent old worker told short) acts (desk_record lent new worker told short))
-settled_if true lent old new worker piece reply told short enters =
+    × Gains (desk_record lent old worker told lacked) acts (desk_record lent new worker told lacked))
+settled_if true lent old new worker piece reply told lacked enters =
     let e = settling old.setting old.history worker piece reply in
     let fits : answers (marks.Settle piece) reply ≡ true = allowed_answers old.setting old.history e enters.allowed in
     let hashed = content old.setting old.history piece in
     let act : Act = Called (actions.Settle piece hashed) reply in
-    (act ∷ [], (inr (hashed, (reply, (fits, refl))), called lent old new worker e.action reply told short enters))
-settled_if false lent old new worker piece reply told short unchanged =
-    let same = subst (λ (desk : DeskState). Gains (desk_record lent old worker told short) [] (desk_record lent desk worker told short))
-    (sym unchanged.0) (Gains-none (desk_record lent old worker told short)) in
+    (act ∷ [], (inr (hashed, (reply, (fits, refl))), called lent old new worker e.action reply told lacked enters))
+settled_if false lent old new worker piece reply told lacked unchanged =
+    let same = subst (λ (desk : DeskState). Gains (desk_record lent old worker told lacked) [] (desk_record lent desk worker told lacked))
+    (sym unchanged.0) (Gains-none (desk_record lent old worker told lacked)) in
     ([], (inl refl, same))
 
 -- a piece was settled now, where it waited for that
-pub settled : (lent : List GName) (old new : DeskState) (worker piece : ℕ) (reply : Reply) (told : List Bool) (short : Bool) →
+pub settled : (lent : List GName) (old new : DeskState) (worker piece : ℕ) (reply : Reply) (told : List Bool) (lacked : Bool) →
     SettlesNow old new worker piece reply →
     (acts : List Act) × (ChecksAtMost piece acts
-    × Gains (desk_record lent old worker told short) acts (desk_record lent new worker told short))
-settled lent old new worker piece reply told short settles =
-    settled_if (waits old.setting old.history piece) lent old new worker piece reply told short settles
+    × Gains (desk_record lent old worker told lacked) acts (desk_record lent new worker told lacked))
+settled lent old new worker piece reply told lacked settles =
+    settled_if (waits old.setting old.history piece) lent old new worker piece reply told lacked settles
 
 -- a finished piece that was not told is told
-pub told_one : (lent : List GName) (desk : DeskState) (worker piece : ℕ) (told : List Bool) (short : Bool) → piece < length told →
-    (desk_record lent desk worker told short).had piece ≡ true → slice_index_or told piece false ≡ false →
-    Gains (desk_record lent desk worker told short) (News piece ∷ []) (desk_record lent desk worker (slice_set told piece true) short)
-told_one lent desk worker piece told short within is_had new =
+pub told_one : (lent : List GName) (desk : DeskState) (worker piece : ℕ) (told : List Bool) (lacked : Bool) → piece < length told →
+    (desk_record lent desk worker told lacked).had piece ≡ true → slice_index_or told piece false ≡ false →
+    Gains (desk_record lent desk worker told lacked) (News piece ∷ []) (desk_record lent desk worker (slice_set told piece true) lacked)
+told_one lent desk worker piece told lacked within is_had new =
     record {
       up_to = record {
         lent = refl;
@@ -156,5 +156,5 @@ told_one lent desk worker piece told short within is_had new =
         told = (new, λ other. told_by (other == piece) piece other told refl within);
         finished = (is_had, tt);
       };
-      short = refl;
+      lacked = refl;
     }

@@ -15,48 +15,48 @@ use Rattle.bt_peer.specs.declared.fault.SessionFault.{SessionFault}
 use Rattle.bt_peer.specs.declared.seat.Seat.{Seat}
 use Rattle.bt_peer.specs.Conduct.{answers_of}
 use Rattle.bt_peer.specs.Serial.{StreamRecord}
-use Rattle.bt_peer.specs.Standing.{Standing, Keeps, LeavesOthers, HasEnded, IsNew, AreNew, MayPlay, NotesPieces, TookTurns, left_of, standing}
+use Rattle.bt_peer.specs.Course.{Course, Keeps, LeavesOthers, HasEnded, IsNew, AreNew, MayTakeTurns, NotesPieces, TookTurns, left_of, course_of}
 use Rattle.bt_peer.specs.SessionTerms.{TermsState}
 use Rattle.bt_history.specs.Finished.{finished}
 use Rattle.bt_peer.proofs.News.{told_later}
-use Rattle.bt_peer.proofs.Standing.{Keeps-join, Keeps-refl, others_stand}
+use Rattle.bt_peer.proofs.Course.{Keeps-join, Keeps-refl, others_keep}
 use Rattle.bt_peer.specs.Places.{Extends}
 
-Keeps-same : (worker : ℕ) (old old' new new' : Standing) → old' ≡ old → new' ≡ new → Keeps worker old new → Keeps worker old' new'
+Keeps-same : (worker : ℕ) (old old' new new' : Course) → old' ≡ old → new' ≡ new → Keeps worker old new → Keeps worker old' new'
 Keeps-same worker old old' new new' same same' keeps =
-    subst (λ (a : Standing). Keeps worker a new') (sym same) (subst (λ (b : Standing). Keeps worker old b) (sym same') keeps)
+    subst (λ (a : Course). Keeps worker a new') (sym same) (subst (λ (b : Course). Keeps worker old b) (sym same') keeps)
 
-standing-same : (desk : DeskState) (seat seat' : Seat) (stream stream' : StreamRecord) → seat ≡ seat' → stream ≡ stream' →
-    standing desk seat stream ≡ standing desk seat' stream'
-standing-same desk seat seat' stream stream' same same' =
-    subst (λ (s : Seat). standing desk seat stream ≡ standing desk s stream') same (ap (λ (s : StreamRecord). standing desk seat s) same')
+course-same : (desk : DeskState) (seat seat' : Seat) (stream stream' : StreamRecord) → seat ≡ seat' → stream ≡ stream' →
+    course_of desk seat stream ≡ course_of desk seat' stream'
+course-same desk seat seat' stream stream' same same' =
+    subst (λ (s : Seat). course_of desk seat stream ≡ course_of desk s stream') same (ap (λ (s : StreamRecord). course_of desk seat s) same')
 
 -- the stream whose turn it was, or another
 each_at : {X : Type 0} (record_of : X → StreamRecord) (desk new : DeskState) (seats : List Seat) (streams : List X) (i : ℕ) (seat seat' : Seat)
     (stream stream' : X) →
     i < length seats → i < length streams →
-    Keeps i (standing desk (get_or seats i seat) (record_of (get_or streams i stream))) (standing new seat' (record_of stream')) →
+    Keeps i (course_of desk (get_or seats i seat) (record_of (get_or streams i stream))) (course_of new seat' (record_of stream')) →
     LeavesOthers i desk new →
     (same : Bool) (j : ℕ) (s : Seat) (x : X) → (j == i) ≡ same →
-    Keeps j (standing desk (get_or seats j s) (record_of (get_or streams j x)))
-    (standing new (get_or (set seats i seat') j s) (record_of (get_or (set streams i stream') j x)))
+    Keeps j (course_of desk (get_or seats j s) (record_of (get_or streams j x)))
+    (course_of new (get_or (set seats i seat') j s) (record_of (get_or (set streams i stream') j x)))
 each_at record_of desk new seats streams i seat seat' stream stream' within within' keeps others true j s x test =
     let here : j ≡ i = grind (arith, nat_tests) in
     let was = get_or_default seats i s seat within in
     let was' = get_or_default streams i x stream within' in
     let now = get_or-set_at seats i i seat' s refl within in
     let now' = get_or-set_at streams i i stream' x refl within' in
-    subst (λ (k : ℕ). Keeps k (standing desk (get_or seats k s) (record_of (get_or streams k x)))
-    (standing new (get_or (set seats i seat') k s) (record_of (get_or (set streams i stream') k x))))
+    subst (λ (k : ℕ). Keeps k (course_of desk (get_or seats k s) (record_of (get_or streams k x)))
+    (course_of new (get_or (set seats i seat') k s) (record_of (get_or (set streams i stream') k x))))
     (sym here)
-    (Keeps-same i _ _ _ _ (standing-same desk _ _ _ _ was (ap record_of was')) (standing-same new _ _ _ _ now (ap record_of now')) keeps)
+    (Keeps-same i _ _ _ _ (course-same desk _ _ _ _ was (ap record_of was')) (course-same new _ _ _ _ now (ap record_of now')) keeps)
 each_at record_of desk new seats streams i seat seat' stream stream' within within' keeps others false j s x test =
     let apart : j ≢ i = grind (arith, nat_tests) in
     let kept = get_or-set_other seats i j seat' s apart in
     let kept' = get_or-set_other streams i j stream' x apart in
     let old = get_or seats j s in
-    Keeps-same j _ _ _ _ refl (standing-same new _ _ _ _ kept (ap record_of kept'))
-    (others_stand i j desk new old.session old.told (record_of (get_or streams j x)) old.short (answers_of old.rng) others apart)
+    Keeps-same j _ _ _ _ refl (course-same new _ _ _ _ kept (ap record_of kept'))
+    (others_keep i j desk new old.session old.told (record_of (get_or streams j x)) old.lacked (answers_of old.rng) others apart)
 
 -- while others take their turns
 notes_later : (desk new : DeskState) (seat : Seat) → new.setting ≡ desk.setting → Extends (finished desk.history) (finished new.history) →
@@ -66,10 +66,10 @@ notes_later desk new seat setting more notes = record {
   told = told_later seat.told seat.seen (finished desk.history) (finished new.history) more notes.told;
 }
 
-MayPlay-next : {X : Type 0} (desk new : DeskState) (seats seats' : List Seat) (streams streams' : List X) → MayPlay desk seats streams →
+MayTakeTurns-next : {X : Type 0} (desk new : DeskState) (seats seats' : List Seat) (streams streams' : List X) → MayTakeTurns desk seats streams →
     length seats' ≡ length seats → length streams' ≡ length streams → new.setting ≡ desk.setting →
-    All (NotesPieces new) seats' → MayPlay new seats' streams'
-MayPlay-next desk new seats seats' streams streams' may same same' setting fit = record {
+    All (NotesPieces new) seats' → MayTakeTurns new seats' streams'
+MayTakeTurns-next desk new seats seats' streams streams' may same same' setting fit = record {
   seated = same ∙ may.seated ∙ sym same';
   workers = subst (λ (s : Setting). length streams' < s.workers) (sym setting) (omega (arith, may.workers));
   few = omega (arith, may.few);
@@ -79,8 +79,8 @@ MayPlay-next desk new seats seats' streams streams' may same same' setting fit =
 -- after one stream's turn
 pub played_turn : {X : Type 0} (record_of : X → StreamRecord) (desk new : DeskState) (seats : List Seat) (streams : List X) (i : ℕ)
     (seat seat' : Seat) (stream stream' : X) →
-    MayPlay desk seats streams → i < length streams →
-    Keeps i (standing desk (get_or seats i seat) (record_of (get_or streams i stream))) (standing new seat' (record_of stream')) →
+    MayTakeTurns desk seats streams → i < length streams →
+    Keeps i (course_of desk (get_or seats i seat) (record_of (get_or streams i stream))) (course_of new seat' (record_of stream')) →
     LeavesOthers i desk new → NotesPieces new seat' →
     TookTurns record_of desk seats streams new (set seats i seat') (set streams i stream')
 played_turn record_of desk new seats streams i seat seat' stream stream' may within keeps others notes =
@@ -93,12 +93,12 @@ played_turn record_of desk new seats streams i seat seat' stream stream' may wit
       keeps = λ j. λ s. λ x. λ few.
           each_at record_of desk new seats streams i seat seat' stream stream' seated within keeps others (j == i) j s x refl;
       rest = record { setting = others.setting; calls = λ other. λ above. others.calls other (omega arith) };
-      may = MayPlay-next desk new seats (set seats i seat') streams (set streams i stream') may (length-set seats i seat')
+      may = MayTakeTurns-next desk new seats (set seats i seat') streams (set streams i stream') may (length-set seats i seat')
           (length-set streams i stream') others.setting fit;
     }
 
 pub TookTurns-refl : {X : Type 0} (record_of : X → StreamRecord) (desk : DeskState) (seats : List Seat) (streams : List X) →
-    MayPlay desk seats streams →
+    MayTakeTurns desk seats streams →
     TookTurns record_of desk seats streams desk seats streams
 TookTurns-refl record_of desk seats streams may = record {
   count = refl;

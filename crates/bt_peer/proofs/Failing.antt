@@ -137,7 +137,7 @@ leave_lacks_memory fault interested old source past past' written is lacks = rec
   acts = [];
   leave = [];
   gains = lacks.gains;
-  departs = λ is_in. lacks.short;
+  departs = λ is_in. lacks.lacked;
   wrote = wrote_nothing fault written;
   cause = subst (λ (f : SessionFault). BreaksBy f old source []) (sym is) (inr refl);
 }
@@ -165,7 +165,7 @@ attending_fails fault m stream old source a d past' hears h left =
       acts = h.acts;
       leave = left.leave;
       gains = GainsUpTo-join a.past d.past past' h.acts left.leave h.performs.gains left.gains;
-      departs = subst (λ (is_in : Bool). Departs is_in past'.short left.leave) (sym still) left.departs;
+      departs = subst (λ (is_in : Bool). Departs is_in past'.lacked left.leave) (sym still) left.departs;
       wrote = h.performs.writes.wrote;
       cause = stopped_turn fault m stream old source h.acts hears h.stops;
     }

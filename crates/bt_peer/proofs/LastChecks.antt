@@ -23,12 +23,12 @@ use Rattle.bt_peer.specs.Places.{PlaceRecord, Gains}
 use Rattle.bt_peer.specs.Sessions.{SessionState, Running}
 use Rattle.bt_peer.specs.Serial.{StreamRecord, Ended, EachEnded, ChecksAfter, Finishes, around, before_all, own_record, source_of}
 use Rattle.bt_peer.specs.SessionTerms.{TermsState}
-use Rattle.bt_peer.specs.Standing.{Standing, Stands, StandsBy, ConductBy, DevicesBy, LeavesOthers, LeavesRest, IsFresh, IsNew, AreNew}
-use Rattle.bt_peer.specs.Standing.{MayPlay, TookTurns, standing}
+use Rattle.bt_peer.specs.Course.{Course, IsCourse, SessionBy, ConductBy, DevicesBy, LeavesOthers, LeavesRest, IsFresh, IsNew, AreNew}
+use Rattle.bt_peer.specs.Course.{MayTakeTurns, TookTurns, course_of}
 use Rattle.bt_peer.proofs.Conduct.{Conducts-none, Conducts-draws}
 use Rattle.bt_peer.proofs.EachStream.{ends_count}
 use Rattle.bt_peer.proofs.Desks.{calls_in-other, and-more, finished_on, had-more}
-use Rattle.bt_peer.proofs.Standing.{Keeps-join, others_stand}
+use Rattle.bt_peer.proofs.Course.{Keeps-join, others_keep}
 use Rattle.bt_peer.proofs.Stretches.{Extends-join, Extends-refl, Gains-none}
 
 -- an entry of a worker leaves the others alone
@@ -101,10 +101,10 @@ by_result (Err e) worker before desk done given_up =
     }
 
 -- the last checks, whether memory ran out or not
-pub checks_finish : {E : Type 0} (result : Result Unit E) (short : Bool) (worker : ℕ) (before desk : DeskState) → short ≡ is_err result →
+pub checks_finish : {E : Type 0} (result : Result Unit E) (unfinished : Bool) (worker : ℕ) (before desk : DeskState) → unfinished ≡ is_err result →
     OnOk result (FinishedBelow before worker (piece_count before.setting.torrent) desk) →
-    OnErr result (GivesUp before worker desk) → Finishes worker (calls_in before.history worker) short desk
-checks_finish result short worker before desk is done given_up =
+    OnErr result (GivesUp before worker desk) → Finishes worker (calls_in before.history worker) unfinished desk
+checks_finish result unfinished worker before desk is done given_up =
     subst (λ (b : Bool). Finishes worker (calls_in before.history worker) b desk) (sym is) (by_result result worker before desk done given_up)
 
 -- they leave the sessions alone
@@ -115,10 +115,10 @@ checks_leave (Ok unit) worker before desk done given_up = finished_leaves before
 checks_leave (Err e) worker before desk done given_up = finished_leaves before worker given_up.piece desk given_up.below
 
 -- after turns of others a worker finishes from the calls that it had made before
-pub finishes_from : (count worker : ℕ) (first mid last : DeskState) (short : Bool) → count ≤ worker → LeavesRest count first mid →
-    Finishes worker (calls_in mid.history worker) short last → Finishes worker (calls_in first.history worker) short last
-finishes_from count worker first mid last short above rest finishes =
-    subst (λ (calls : Calls). Finishes worker calls short last) (rest.calls worker above) finishes
+pub finishes_from : (count worker : ℕ) (first mid last : DeskState) (unfinished : Bool) → count ≤ worker → LeavesRest count first mid →
+    Finishes worker (calls_in mid.history worker) unfinished last → Finishes worker (calls_in first.history worker) unfinished last
+finishes_from count worker first mid last unfinished above rest finishes =
+    subst (λ (calls : Calls). Finishes worker calls unfinished last) (rest.calls worker above) finishes
 
 -- a desk where a worker called nothing, and no piece is had, is to its session what an empty one is
 own_fresh : (desk : DeskState) (worker : ℕ) (told : List Bool) → calls_in desk.history worker ≡ [] →
@@ -135,14 +135,14 @@ own_fresh desk worker told uncalled none_had =
       had = λ piece. nat_lt piece (piece_count desk.setting.torrent) && sym (none_had piece) i;
       in_order = [];
       told = λ piece. slice_index_or told piece false;
-      short = false;
+      lacked = false;
     }
 
 -- what a stream's session began in
 begun_in : (terms : TermsState) (seed worker : ℕ) (setting : Setting) (desk : DeskState) (seat : Seat) (stream : StreamRecord) →
     setting.torrent ≡ terms.layout → desk.setting ≡ setting → calls_in desk.history worker ≡ [] →
     ((piece : ℕ) → had desk.history piece ≡ false) → IsNew terms seed worker seat →
-    Stands terms worker (generator_of seed worker) (before_all setting worker stream) stream (standing desk seat stream)
+    IsCourse terms worker (generator_of seed worker) (before_all setting worker stream) stream (course_of desk seat stream)
 begun_in terms seed worker setting desk seat stream layout same_setting uncalled none_had new =
     let first : DeskState = record { setting = setting; history = [] } in
     let is_first : first ≡ record { setting = desk.setting; history = [] } =
@@ -164,8 +164,8 @@ begun_in terms seed worker setting desk seat stream layout same_setting uncalled
     let running : Running terms worker (before_all setting worker stream) seat.session (around desk worker seat.told false stream) =
     inl (record { state = new.session; left = refl; gains = subst (Gains before []) same (Gains-none before); written = refl }) in
     record {
-      stands = subst (λ (o : Option (Result End SessionFault)). StandsBy o terms worker (before_all setting worker stream) seat.session source
-          (around desk worker seat.told false stream) (around desk worker seat.told seat.short stream)) (sym runs) running;
+      session = subst (λ (o : Option (Result End SessionFault)). SessionBy o terms worker (before_all setting worker stream) seat.session source
+          (around desk worker seat.told false stream) (around desk worker seat.told seat.lacked stream)) (sym runs) running;
       conduct = subst (λ (o : Option (Result End SessionFault)). ConductBy o (generator_of seed worker) [] (calls_in desk.history worker)
           (answers_of seat.rng)) (sym runs) conduct;
       devices = subst (λ (o : Option (Result End SessionFault)). DevicesBy o stream stream) (sym runs) (refl, refl);
@@ -173,7 +173,7 @@ begun_in terms seed worker setting desk seat stream layout same_setting uncalled
       most = subst (λ (n : ℕ). n ≤ most_reads) (sym unasked) (lit≤ tt);
     }
 
--- how a stream's session ended that stands
+-- how a stream's session ended, by its course
 numbers_after : (outcome : Result End SessionFault) (generator left : Numbers) (calls : Calls) → ConductBy (Some outcome) generator [] calls left →
     DrawsNumbers generator [] calls
 numbers_after (Ok end) generator left calls conduct = Conducts-draws conduct
@@ -184,29 +184,29 @@ checks_after : (outcome : Result End SessionFault) (generator left : Numbers) (c
 checks_after (Ok end) generator left calls conduct = ap all_checked conduct.calls ∙ conduct.checked refl
 checks_after (Err fault) generator left calls numbers = tt
 
-ended_so : (terms : TermsState) (seed worker : ℕ) (stream : StreamRecord) (now : Standing) (outcome : Result End SessionFault) →
+ended_so : (terms : TermsState) (seed worker : ℕ) (stream : StreamRecord) (now : Course) (outcome : Result End SessionFault) →
     now.session.outcome ≡ Some outcome →
-    Stands terms worker (generator_of seed worker) (before_all now.desk.setting worker stream) stream now →
-    Ended outcome now.short terms seed worker stream now.desk now.stream
-ended_so terms seed worker stream now outcome is stands =
+    IsCourse terms worker (generator_of seed worker) (before_all now.desk.setting worker stream) stream now →
+    Ended outcome now.lacked terms seed worker stream now.desk now.stream
+ended_so terms seed worker stream now outcome is course =
     let source = source_of now.stream now.session.reads in
     let unlacking = around now.desk worker now.told false now.stream in
-    let here = around now.desk worker now.told now.short now.stream in
-    let ends : StandsBy (Some outcome) terms worker (before_all now.desk.setting worker stream) now.session source unlacking here =
-    subst (λ (o : Option (Result End SessionFault)). StandsBy o terms worker (before_all now.desk.setting worker stream) now.session source
-    unlacking here) is stands.stands in
+    let here = around now.desk worker now.told now.lacked now.stream in
+    let ends : SessionBy (Some outcome) terms worker (before_all now.desk.setting worker stream) now.session source unlacking here =
+    subst (λ (o : Option (Result End SessionFault)). SessionBy o terms worker (before_all now.desk.setting worker stream) now.session source
+    unlacking here) is course.session in
     let conduct : ConductBy (Some outcome) (generator_of seed worker) [] (calls_in now.desk.history worker) now.generator =
     subst (λ (o : Option (Result End SessionFault)). ConductBy o (generator_of seed worker) [] (calls_in now.desk.history worker) now.generator)
-    is stands.conduct in
+    is course.conduct in
     record {
       told = now.told;
       reads = now.session.reads;
       ends = ends;
       numbers = numbers_after outcome (generator_of seed worker) now.generator (calls_in now.desk.history worker) conduct;
       checks = checks_after outcome (generator_of seed worker) now.generator (calls_in now.desk.history worker) conduct;
-      devices = subst (λ (o : Option (Result End SessionFault)). DevicesBy o stream now.stream) is stands.devices;
-      counted = stands.counted;
-      most = stands.most;
+      devices = subst (λ (o : Option (Result End SessionFault)). DevicesBy o stream now.stream) is course.devices;
+      counted = course.counted;
+      most = course.most;
     }
 
 pub first_of : {X : Type 0} (xs : List X) (i : ℕ) → i < length xs → X
@@ -226,26 +226,26 @@ end_at ends seats i end any told within =
 -- each stream's session ended so, once the last checks were made
 pub each_ended : {X : Type 0} (record_of : X → StreamRecord) (terms : TermsState) (seed : ℕ) (first mid last : DeskState) (seats seats' : List Seat)
     (streams streams' : List X) (ends : List (Result End SessionFault)) →
-    first.setting.torrent ≡ terms.layout → IsFresh (length streams) first → AreNew terms seed seats → MayPlay first seats streams →
+    first.setting.torrent ≡ terms.layout → IsFresh (length streams) first → AreNew terms seed seats → MayTakeTurns first seats streams →
     TookTurns record_of first seats streams mid seats' streams' → (worker : ℕ) → length streams ≤ worker → LeavesOthers worker mid last →
     map Some ends ≡ map (λ seat. seat.session.outcome) seats' → EachEnded record_of terms seed streams last streams' ends
-    (map (λ seat. seat.short) seats')
-each_ended record_of terms seed first mid last seats seats' streams streams' ends layout fresh new may played worker above left told =
+    (map (λ seat. seat.lacked) seats')
+each_ended record_of terms seed first mid last seats seats' streams streams' ends layout fresh new may took worker above left told =
     λ i. λ stream. λ end. λ lack. λ within.
     let within_seats : i < length seats = omega (arith, may.seated) in
-    let within_seats' : i < length seats' = omega (arith, played.may.seated, played.count) in
+    let within_seats' : i < length seats' = omega (arith, took.may.seated, took.count) in
     let any = first_of seats i within_seats in
     let apart : i ≢ worker = omega arith in
     let seat = get_or seats' i any in
     let old = record_of (get_or streams i stream) in
     let now = record_of (get_or streams' i stream) in
-    let kept = Keeps-join i (standing first (get_or seats i any) old) (standing mid seat now) (standing last seat now)
-    (played.keeps i any stream within) (others_stand worker i mid last seat.session seat.told now seat.short (answers_of seat.rng) left apart) in
-    let setting : first.setting ≡ last.setting = sym (left.setting ∙ played.rest.setting) in
+    let kept = Keeps-join i (course_of first (get_or seats i any) old) (course_of mid seat now) (course_of last seat now)
+    (took.keeps i any stream within) (others_keep worker i mid last seat.session seat.told now seat.lacked (answers_of seat.rng) left apart) in
+    let setting : first.setting ≡ last.setting = sym (left.setting ∙ took.rest.setting) in
     let layout' : last.setting.torrent ≡ terms.layout = sym (ap (λ (s : Setting). s.torrent) setting) ∙ layout in
     let start = begun_in terms seed i last.setting first (get_or seats i any) old layout' setting (fresh.uncalled i (λ same. omega (arith, within, same)))
     fresh.none_had (new i any within_seats) in
-    let short : Seat → Bool = λ s. s.short in
-    subst (λ (lacked : Bool). Ended (get_or ends i end) lacked terms seed i old last now) (sym (get_or-map short seats' i any lack within_seats'))
-    (ended_so terms seed i old (standing last seat now) (get_or ends i end) (end_at ends seats' i end any told within_seats')
+    let lacked : Seat → Bool = λ s. s.lacked in
+    subst (λ (lacked : Bool). Ended (get_or ends i end) lacked terms seed i old last now) (sym (get_or-map lacked seats' i any lack within_seats'))
+    (ended_so terms seed i old (course_of last seat now) (get_or ends i end) (end_at ends seats' i end any told within_seats')
     (kept.still terms (generator_of seed i) (before_all last.setting i old) old start))

@@ -12,4 +12,4 @@ pub left : {E : Type 0} (old new : PlaceRecord) (result : Result Reply E) →
     IfOk result (λ reply. Gains old (Called actions.Leave reply ∷ []) new) → OnErr result (LacksMemory old new) → Leaves old new
 left old new (Ok reply) ok err =
     record { leave = Called actions.Leave reply ∷ []; departs = refl; gains = up_to old new (Called actions.Leave reply ∷ []) ok }
-left old new (Err e) ok err = record { leave = []; departs = λ is_in. err.short; gains = err.gains }
+left old new (Err e) ok err = record { leave = []; departs = λ is_in. err.lacked; gains = err.gains }

@@ -17,7 +17,7 @@ pub mod OwnTurns
 pub mod Ran
 pub mod Reading
 pub mod Runs
-pub mod Standing
+pub mod Course
 pub mod Spelled
 pub mod Staying
 pub mod Stretches

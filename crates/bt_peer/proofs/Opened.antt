@@ -21,7 +21,7 @@ use Rattle.bt_peer.specs.Desks.{calls_in}
 use Rattle.bt_peer.specs.News.{AreTold}
 use Rattle.bt_peer.specs.declared.seat.Seat.{Seat}
 use Rattle.bt_peer.specs.declared.stream.TheConstants.{MOST_STREAMS}
-use Rattle.bt_peer.specs.Standing.{AreNew, IsFresh, HasOpened, MayPlay}
+use Rattle.bt_peer.specs.Course.{AreNew, IsFresh, HasOpened, MayTakeTurns}
 use Rattle.bt_peer.specs.SessionTerms.{TermsState, pieces_of}
 use Rattle.bt_peer.proofs.Desks.{calls_in-own, calls_in-other}
 use Rattle.bt_peer.proofs.News.{told_none_yet}
@@ -78,10 +78,10 @@ opened_by old new worker flags reply empty same enters =
     subst (HasOpened worker flags) (sym is) (first_want old.setting worker flags)
 
 -- a run with new seats may take turns
-pub AreNew-play : {X : Type 0} (terms : TermsState) (seed : ℕ) (desk : DeskState) (seats : List Seat) (streams : List X) →
+pub AreNew-may : {X : Type 0} (terms : TermsState) (seed : ℕ) (desk : DeskState) (seats : List Seat) (streams : List X) →
     desk.setting.torrent ≡ terms.layout → length streams < desk.setting.workers → length streams ≤ MOST_STREAMS → length seats ≡ length streams →
-    AreNew terms seed seats → MayPlay desk seats streams
-AreNew-play terms seed desk seats streams layout workers few seated new = record {
+    AreNew terms seed seats → MayTakeTurns desk seats streams
+AreNew-may terms seed desk seats streams layout workers few seated new = record {
   seated = seated;
   workers = workers;
   few = few;

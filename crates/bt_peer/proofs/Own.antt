@@ -15,7 +15,7 @@ use Rattle.bt_peer.specs.Acts.{Act}
 use Rattle.bt_peer.specs.Reader.{SourceState}
 use Rattle.bt_peer.specs.Places.{PlaceRecord, Gains, GainsUpTo}
 use Rattle.bt_peer.specs.Sessions.{SessionState, GoesOn, Ends, FailsWith}
-use Rattle.bt_peer.specs.Standing.{LeavesOthers}
+use Rattle.bt_peer.specs.Course.{LeavesOthers}
 use Rattle.bt_peer.specs.SessionTerms.{TermsState}
 use Rattle.bt_peer.specs.Steps.{Reading, Surroundings, TakesTurn, TellsNews, AsksForNews}
 
@@ -39,7 +39,7 @@ own_up_to a b acts gains = record {
 }
 
 own_gains : (a b : PlaceRecord) (acts : List Act) → Gains a acts b → Gains (own a) acts (own b)
-own_gains a b acts gains = record { up_to = own_up_to a b acts gains.up_to; short = gains.short }
+own_gains a b acts gains = record { up_to = own_up_to a b acts gains.up_to; lacked = gains.lacked }
 
 own_news : (pieces : ℕ) (old : PlaceRecord) (acts : List Act) (new : PlaceRecord) → TellsNews pieces old acts new →
     TellsNews pieces (own old) acts (own new)
@@ -112,10 +112,10 @@ own_fails fault old out source new out' fails = record {
 }
 
 -- what a worker gained at a desk leaves the others alone
-pub others_left : (lent lent' : List GName) (old new : DeskState) (worker worker' : ℕ) (told told' : List Bool) (short short' : Bool)
+pub others_left : (lent lent' : List GName) (old new : DeskState) (worker worker' : ℕ) (told told' : List Bool) (lacked lacked' : Bool)
     (acts : List Act) →
-    GainsUpTo (desk_record lent old worker told short) acts (desk_record lent' new worker' told' short') → LeavesOthers worker old new
-others_left lent lent' old new worker worker' told told' short short' acts gains = record {
+    GainsUpTo (desk_record lent old worker told lacked) acts (desk_record lent' new worker' told' lacked') → LeavesOthers worker old new
+others_left lent lent' old new worker worker' told told' lacked lacked' acts gains = record {
   setting = gains.setting;
   calls = λ other. λ apart.
       let same = gains.worker in

@@ -99,14 +99,14 @@ Gains-none a = record {
     told = λ piece. refl;
     finished = tt;
   };
-  short = refl;
+  lacked = refl;
 }
 
 pub up_to : (a b : PlaceRecord) (es : List Act) → Gains a es b → GainsUpTo a es b
 up_to a b es g = g.up_to
 
 pub Gains-join : (a b c : PlaceRecord) (es fs : List Act) → Gains a es b → Gains b fs c → Gains a (es ++ fs) c
-Gains-join a b c es fs g h = record { up_to = GainsUpTo-join a b c es fs g.up_to h.up_to; short = h.short ∙ g.short }
+Gains-join a b c es fs g h = record { up_to = GainsUpTo-join a b c es fs g.up_to h.up_to; lacked = h.lacked ∙ g.lacked }
 
 pub Writes-none : (a : Saying) → Writes a [] a
 Writes-none a = record { wrote = Appends-nil a.written; sound = refl; same_sink = refl }

@@ -93,10 +93,10 @@ breaks_wish faults.NoMemory old source acts by =
       | inr none ↦ none_wish acts none
     ]
 
-departs_wish : (is_in short : Bool) (leave : List Act) → Departs is_in short leave → Lacks is_wish leave
-departs_wish is_in short [] departs = refl
-departs_wish is_in short (Called actions.Leave reply ∷ []) departs = refl
-departs_wish is_in short _ departs = absurd departs
+departs_wish : (is_in lacked : Bool) (leave : List Act) → Departs is_in lacked leave → Lacks is_wish leave
+departs_wish is_in lacked [] departs = refl
+departs_wish is_in lacked (Called actions.Leave reply ∷ []) departs = refl
+departs_wish is_in lacked _ departs = absurd departs
 
 gained_wish : (old new : PlaceRecord) (acts : List Act) → GainsUpTo old acts new → Lacks is_wish acts → WishNothing old.calls → WishNothing new.calls
 gained_wish old new acts gains lacks was =

@@ -17,7 +17,7 @@ calls_in (e ∷ h) worker = calls_in h worker ++ (if e.worker == worker then (e.
 
 -- what a place at this desk says of itself, with these pieces told as news
 abbrev pub desk_record : List GName → DeskState → ℕ → List Bool → Bool → PlaceRecord
-desk_record lent desk worker told short = record {
+desk_record lent desk worker told lacked = record {
   lent = lent;
   worker = worker;
   setting = desk.setting;
@@ -26,5 +26,5 @@ desk_record lent desk worker told short = record {
   had = λ piece. nat_lt piece (piece_count desk.setting.torrent) && had desk.history piece;
   in_order = finished desk.history;
   told = λ piece. slice_index_or told piece false;
-  short = short;
+  lacked = lacked;
 }

@@ -9,7 +9,7 @@ pub mod Places
 pub mod Reader
 pub mod Serial
 pub mod Sessions
-pub mod Standing
+pub mod Course
 pub mod Steps
 pub mod SessionTerms
 pub mod Turns

@@ -122,6 +122,6 @@ pub record ListeningFails (fault : SessionFault) (interested : Bool) (old : Star
   pub acts : List Act
   pub leave : List Act
   pub gains : GainsUpTo past (acts ++ leave) past'
-  pub departs : Departs (is_in true acts) past'.short leave
+  pub departs : Departs (is_in true acts) past'.lacked leave
   pub wrote : WroteFront fault written (says interested acts) written'
   pub cause : BreaksBy fault old source acts

@@ -39,7 +39,7 @@ pub record PlaceRecord : Type 0 where
   -- the pieces that were told as news
   pub told : ℕ → Bool
   -- a call has found no memory
-  pub short : Bool
+  pub lacked : Bool
 
 -- each piece that is known to be finished was told
 abbrev pub AllTold : PlaceRecord → Type 0
@@ -60,9 +60,9 @@ pub record GainsUpTo (old : PlaceRecord) (acts : List Act) (new : PlaceRecord) :
 -- the place gained these acts, and no call found no memory
 pub record Gains (old : PlaceRecord) (acts : List Act) (new : PlaceRecord) : Type 0 where
   pub up_to : GainsUpTo old acts new
-  pub short : new.short ≡ old.short
+  pub lacked : new.lacked ≡ old.lacked
 
 -- a call found no memory, and gained nothing
 pub record LacksMemory (old new : PlaceRecord) : Type 0 where
   pub gains : GainsUpTo old [] new
-  pub short : new.short ≡ true
+  pub lacked : new.lacked ≡ true

@@ -61,7 +61,7 @@ had_at desk piece = nat_lt piece (piece_count desk.setting.torrent) && had desk.
 
 -- what a worker's session sees of a desk at which others have turns too: its own calls, and which pieces are had
 abbrev pub own_record : DeskState → ℕ → List Bool → Bool → PlaceRecord
-own_record desk worker told short = record {
+own_record desk worker told lacked = record {
   lent = [];
   worker = worker;
   setting = desk.setting;
@@ -70,13 +70,13 @@ own_record desk worker told short = record {
   had = had_at desk;
   in_order = [];
   told = λ piece. slice_index_or told piece false;
-  short = short;
+  lacked = lacked;
 }
 
 -- what is round a worker's session: its own of the desk, and its stream
 abbrev pub around : DeskState → ℕ → List Bool → Bool → StreamRecord → Surroundings
-around desk worker told short stream =
-    record { past = own_record desk worker told short; left = stream.left; written = stream.written }
+around desk worker told lacked stream =
+    record { past = own_record desk worker told lacked; left = stream.left; written = stream.written }
 
 -- that before a run: nothing was called, and no piece was told
 abbrev pub before_all : Setting → ℕ → StreamRecord → Surroundings
@@ -107,13 +107,13 @@ ChecksAfter (Err fault) calls = Unit {0}
 
 -- A stream's session ended so, and a call of it found no memory or none did: from the empty desk, and the stream as it was handed in, to
 -- this desk, and the stream as it was given back.
-pub record Ended (outcome : Result End SessionFault) (short : Bool) (terms : TermsState) (seed worker : ℕ)
+pub record Ended (outcome : Result End SessionFault) (lacked : Bool) (terms : TermsState) (seed worker : ℕ)
     (old : StreamRecord) (desk : DeskState) (new : StreamRecord) : Type 0 where
   -- the pieces that were told to the peer
   pub told : List Bool
   -- the reads that the session counted
   pub reads : ℕ
-  pub ends : EndsAs outcome terms worker (before_all desk.setting worker old) (source_of new reads) (around desk worker told short new)
+  pub ends : EndsAs outcome terms worker (before_all desk.setting worker old) (source_of new reads) (around desk worker told lacked new)
   -- the numbers of its Next calls are those of the generator of its number, made of the seed
   pub numbers : DrawsNumbers (generator_of seed worker) [] (calls_in desk.history worker)
   pub checks : ChecksAfter outcome (calls_in desk.history worker)
@@ -143,13 +143,13 @@ AreChosen (Some flags) desk = (piece : ℕ) → chosen desk.history piece ≡ fl
 
 -- A worker made these calls before all sessions had ended, then the last checks, and no other call: each piece that waited for a check was
 -- settled, the least first, or, where memory ran out, those below one that still waits.
-pub record Finishes (worker : ℕ) (opening : Calls) (short : Bool) (desk : DeskState) : Type 0 where
+pub record Finishes (worker : ℕ) (opening : Calls) (unfinished : Bool) (desk : DeskState) : Type 0 where
   pub before : DeskState
   pub opened : calls_in before.history worker ≡ opening
   pub count : ℕ
   pub finished : FinishedBelow before worker count desk
-  pub all : short ≡ false → count ≡ piece_count desk.setting.torrent
-  pub still : short ≡ true → waits desk.setting desk.history count ≡ true
+  pub all : unfinished ≡ false → count ≡ piece_count desk.setting.torrent
+  pub still : unfinished ≡ true → waits desk.setting desk.history count ≡ true
 
 -- What several sessions in one thread came to. Each session ended so; one more worker told what is wanted and made the last checks; and the
 -- run is short just where memory lacked for these, or for a call of a session: its Leave after a fault, or one that the fault tells of.

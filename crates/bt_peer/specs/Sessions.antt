@@ -88,7 +88,7 @@ pub record FailsWith (fault : SessionFault) (old : SessionState) (out : Surround
   pub acts : List Act
   pub leave : List Act
   pub gains : GainsUpTo out.past (acts ++ leave) out'.past
-  pub departs : Departs (is_in old.joined acts) out'.past.short leave
+  pub departs : Departs (is_in old.joined acts) out'.past.lacked leave
   pub wrote : WroteFront fault out.written (greeting_of old ++ says old.interested acts) out'.written
   pub cause : BreaksBy fault (start_of old out) source acts
   pub outcome : new.outcome ≡ Some (Err fault)

@@ -162,14 +162,14 @@ BreaksBy faults.NoMemory old source acts = BreaksTurn old source faults.NoMemory
 
 -- What follows a fault: Leave where the peer is in, unless a call found no memory; none where the peer isn't in.
 abbrev pub Departs : Bool → Bool → List Act → Type 0
-Departs is_in short [] = is_in ≡ true → short ≡ true
-Departs is_in short (Called actions.Leave reply ∷ []) = is_in ≡ true
-Departs is_in short _ = ⊥
+Departs is_in lacked [] = is_in ≡ true → lacked ≡ true
+Departs is_in lacked (Called actions.Leave reply ∷ []) = is_in ≡ true
+Departs is_in lacked _ = ⊥
 
 -- Leave was called, or there was no memory for it
 pub record Leaves (old new : PlaceRecord) : Type 0 where
   pub leave : List Act
-  pub departs : Departs true new.short leave
+  pub departs : Departs true new.lacked leave
   pub gains : GainsUpTo old leave new
 
 -- the opening of a message's turn stopped after these acts: its bitfield was none, or they began the opening

@@ -27,7 +27,7 @@ pub struct DeskPlace<'a> {
     told: &'a mut Bitfield,
     /// So many of the pieces that the desk lists as finished were told, from the first on: news are behind these.
     seen: usize,
-    short: bool,
+    lacked: bool,
     ghost worker_is: { worker < desk.now.setting.workers },
     ghost pieces: { length told.now ≡ piece_count desk.now.setting.torrent },
     ghost told_first: { AreTold told.now seen (finished desk.now.history) },
@@ -62,7 +62,7 @@ impl<'a> DeskPlace<'a> {
             worker,
             told,
             seen,
-            short: false,
+            lacked: false,
         }
     }
 
@@ -74,15 +74,15 @@ impl<'a> DeskPlace<'a> {
     }
 
     /// Whether a call has found no memory.
-    pub fn fell_short(&self) -> bool
-        ensures { result ≡ (⟦<DeskPlace<'a> as Place>⟧.past self.now).short }
+    pub fn lacked_memory(&self) -> bool
+        ensures { result ≡ (⟦<DeskPlace<'a> as Place>⟧.past self.now).lacked }
     {
-        self.short
+        self.lacked
     }
 }
 
 impl<'a> Place for DeskPlace<'a> {
-    ghost past = { λ s. desk_record (s.desk.ghost_name ∷ s.told.ghost_name ∷ []) s.desk.now s.worker s.told.now s.short };
+    ghost past = { λ s. desk_record (s.desk.ghost_name ∷ s.told.ghost_name ∷ []) s.desk.now s.worker s.told.now s.lacked };
 
     ghost settles = { true };
 
@@ -92,7 +92,7 @@ impl<'a> Place for DeskPlace<'a> {
         match self.desk.call(self.worker, call) {
             Ok(reply) => Ok(reply),
             Err(e) => {
-                self.short = true;
+                self.lacked = true;
                 Err(e)
             }
         }
@@ -127,7 +127,7 @@ impl<'a> Place for DeskPlace<'a> {
         match self.desk.settle_now(alloc, self.worker, piece) {
             Ok(_) => Ok(()),
             Err(e) => {
-                self.short = true;
+                self.lacked = true;
                 Err(e)
             }
         }

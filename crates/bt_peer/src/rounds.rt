@@ -10,7 +10,7 @@ ghost use Rattle.bt_meta.specs.Layout.{piece_count};
 ghost use Rattle.bt_picker.specs.Checks.{waits};
 ghost use Rattle.bt_peer.specs.Desks.{calls_in};
 ghost use Rattle.bt_peer.specs.Serial.{Finishes, RanInTurns, opening_of, stream_of, stream_record};
-ghost use Rattle.bt_peer.specs.Standing.{AreNew, HasEnded, HasOpened, IsFresh, IsNew, LeavesOthers, MayPlay, TookTurns, left_of};
+ghost use Rattle.bt_peer.specs.Course.{AreNew, HasEnded, HasOpened, IsFresh, IsNew, LeavesOthers, MayTakeTurns, TookTurns, left_of};
 ghost use Rattle.bt_peer.specs.SessionTerms.{TermsState, terms_of};
 
 use crate::fault::{End, SessionFault};
@@ -41,7 +41,7 @@ fn new_seat(
         told,
         seen: 0,
         rng: Lcg64Xsh32::new(seed, u64::from(worker)),
-        short: false,
+        lacked: false,
     })
 }
 
@@ -73,8 +73,8 @@ fn turn_of<R: Source, W: Sink>(
     i: usize,
 ) -> bool
     requires i { i < length streams.old }
-    requires may { MayPlay desk.old seats.old streams.old }
-    ensures played { TookTurns (stream_of R.Source W.Sink) desk.old seats.old streams.old desk.new seats.new streams.new }
+    requires may { MayTakeTurns desk.old seats.old streams.old }
+    ensures took { TookTurns (stream_of R.Source W.Sink) desk.old seats.old streams.old desk.new seats.new streams.new }
     ensures falls { result ≡ true → sum_by left_of seats.new < sum_by left_of seats.old }
     ensures same { result ≡ false → seats.new ≡ seats.old }
     ensures ended { result ≡ false → HoldsAt HasEnded seats.new i }
@@ -93,8 +93,8 @@ fn round<R: Source, W: Sink>(
     seats: &mut [Seat],
     streams: &mut [Stream<R, W>],
 ) -> bool
-    requires { MayPlay desk.old seats.old streams.old }
-    ensures played { TookTurns (stream_of R.Source W.Sink) desk.old seats.old streams.old desk.new seats.new streams.new }
+    requires { MayTakeTurns desk.old seats.old streams.old }
+    ensures took { TookTurns (stream_of R.Source W.Sink) desk.old seats.old streams.old desk.new seats.new streams.new }
     ensures falls { result ≡ true → sum_by left_of seats.new < sum_by left_of seats.old }
     ensures ended { result ≡ false → All HasEnded seats.new }
 {
@@ -106,14 +106,14 @@ fn round<R: Source, W: Sink>(
 }
 
 /// Rounds until all sessions have ended.
-fn play<R: Source, W: Sink>(
+fn all_rounds<R: Source, W: Sink>(
     alloc: Global,
     desk: &mut Desk,
     seats: &mut [Seat],
     streams: &mut [Stream<R, W>],
 )
-    requires { MayPlay desk.old seats.old streams.old }
-    ensures played { TookTurns (stream_of R.Source W.Sink) desk.old seats.old streams.old desk.new seats.new streams.new }
+    requires { MayTakeTurns desk.old seats.old streams.old }
+    ensures took { TookTurns (stream_of R.Source W.Sink) desk.old seats.old streams.old desk.new seats.new streams.new }
     ensures ended { All HasEnded seats.new }
 {
     'rounds: while round(alloc, desk, seats, streams) {}
@@ -146,21 +146,21 @@ fn last_checks(alloc: Global, desk: &mut Desk, worker: u32) -> bool
 }
 
 /// Whether a call of some session found no memory.
-fn fell_short(seats: &[Seat]) -> bool
-    ensures { result ≡ list_any (λ lacked. lacked) (map (λ seat. seat.short) seats.now) }
+fn some_lacked(seats: &[Seat]) -> bool
+    ensures { result ≡ list_any (λ lacked. lacked) (map (λ seat. seat.lacked) seats.now) }
 {
-    seats.iter().map(|seat| seat.short).any(|lacked| lacked)
+    seats.iter().map(|seat| seat.lacked).any(|lacked| lacked)
 }
 
-/// Rounds until all sessions have ended, how each ended, and the last checks. Answers whether memory lacked for these or for a session's call.
-fn play_out<R: Source, W: Sink>(
+/// The run: rounds until all sessions have ended, how each ended, and the last checks. Answers whether memory lacked for these or for a session's call.
+fn run<R: Source, W: Sink>(
     alloc: Global,
     desk: &mut Desk,
     seats: &mut [Seat],
     streams: &mut [Stream<R, W>],
     ends: &mut Vec<Result<End, SessionFault>>,
 ) -> bool
-    requires may { MayPlay desk.old seats.old streams.old }
+    requires may { MayTakeTurns desk.old seats.old streams.old }
     requires fresh { IsFresh (length streams.old) desk.old }
     requires empty { ends.old.items ≡ [] }
     requires room { length streams.old ≤ vec_capacity ends.old }
@@ -172,10 +172,10 @@ fn play_out<R: Source, W: Sink>(
         terms seed want streams.old result desk.new streams.new ends.new.items }
     ensures none_waits { result ≡ false → (piece : ℕ) → waits desk.new.setting desk.new.history piece ≡ false }
 {
-    play(alloc, desk, seats, streams);
+    all_rounds(alloc, desk, seats, streams);
     tell_ends(seats, ends);
     let unfinished = last_checks(alloc, desk, streams.len() as u32);
-    unfinished | fell_short(seats)
+    unfinished | some_lacked(seats)
 }
 
 /// Tells at a new desk, as its first call, which pieces are wanted.
@@ -247,6 +247,6 @@ pub fn serial<R: Source, W: Sink>(
     let mut ends = Vec::with_capacity(alloc, seats.len())?;
     // The desk is the largest, and stands last, where nothing can fail behind it.
     let mut desk = open_desk(alloc, torrent, count, want, rules)?;
-    let short = play_out(alloc, &mut desk, &mut seats, streams, &mut ends);
+    let short = run(alloc, &mut desk, &mut seats, streams, &mut ends);
     Ok(SerialRun { ends, desk, short })
 }

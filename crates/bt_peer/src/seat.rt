@@ -2,7 +2,7 @@
 
 ghost use Rattle.std.specs.Prelude.{◌≡◌, ◌<◌, None};
 ghost use Rattle.bt_peer.specs.Serial.{stream_of};
-ghost use Rattle.bt_peer.specs.Standing.{Keeps, LeavesOthers, NotesPieces, left_of, standing};
+ghost use Rattle.bt_peer.specs.Course.{Keeps, LeavesOthers, NotesPieces, left_of, course_of};
 
 use crate::desk_place::DeskPlace;
 use crate::session::Session;
@@ -23,7 +23,7 @@ pub struct Seat {
     /// It gives the numbers of Next.
     pub rng: Lcg64Xsh32,
     /// A call of its last turn found no memory; no turn follows such a one.
-    pub short: bool,
+    pub lacked: bool,
 }
 
 /// A turn of a stream's session, at the desk of the run. The session itself keeps how it ended.
@@ -38,8 +38,8 @@ pub fn take_turn<R: Source, W: Sink>(
     requires notes { NotesPieces desk.old seat.old }
     requires runs { seat.old.session.outcome ≡ None }
     ensures keeps { Keeps worker
-        (standing desk.old seat.old (stream_of R.Source W.Sink stream.old))
-        (standing desk.new seat.new (stream_of R.Source W.Sink stream.new)) }
+        (course_of desk.old seat.old (stream_of R.Source W.Sink stream.old))
+        (course_of desk.new seat.new (stream_of R.Source W.Sink stream.new)) }
     ensures others { LeavesOthers worker desk.old desk.new }
     ensures notes { NotesPieces desk.new seat.new }
     ensures shrinks { left_of seat.new < left_of seat.old }
@@ -53,5 +53,5 @@ pub fn take_turn<R: Source, W: Sink>(
         &mut seat.rng,
     );
     seat.seen = place.seen();
-    seat.short = place.fell_short();
+    seat.lacked = place.lacked_memory();
 }

@@ -100,6 +100,16 @@ impl Session {
         self.outcome
     }
 
+    /// What this writer is to say to the peer, with the interest that was told so far.
+    fn said_by<'a, W: Sink>(&self, writer: &'a mut W) -> Said<'a, W>
+        ensures { result ≡ record { writer = writer.entry; interested = self.now.interested } }
+    {
+        Said {
+            writer,
+            interested: self.interested,
+        }
+    }
+
     /// The first turn: our handshake, the peer's, and Join.
     fn first_turn<R: Source, W: Sink, P: Place>(
         &mut self,
@@ -128,10 +138,7 @@ impl Session {
         ensures failed { IfErr result (λ fault. fault ≡ WriteFault → W.failed writer.new ≡ true) }
     {
         let hello = greeting(self.terms.infohash(), self.worker);
-        let mut said = Said {
-            writer,
-            interested: self.interested,
-        };
+        let mut said = self.said_by(writer);
         let greeted = greet(
             alloc,
             &self.terms,
@@ -200,10 +207,7 @@ impl Session {
             self.first_turn(alloc, reader, writer, place)?;
             return Ok(None);
         }
-        let mut said = Said {
-            writer,
-            interested: self.interested,
-        };
+        let mut said = self.said_by(writer);
         let listened = listen(
             alloc,
             &self.terms,

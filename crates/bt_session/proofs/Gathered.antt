@@ -20,11 +20,11 @@ use Rattle.bt_peer.specs.Serial.{StreamRecord}
 use Rattle.bt_meta.specs.Layout.{Metainfo, piece_count}
 use Rattle.bt_peer.specs.SessionTerms.{TermsState, terms_of}
 use Rattle.bt_session.specs.Checking.{CheckersCheck, CheckersWork}
-use Rattle.bt_session.proofs.Parts.{plays_short}
+use Rattle.bt_session.proofs.Parts.{given_up_in_all}
 use Rattle.bt_session.specs.PieceChecks.{AreChecks}
 use Rattle.bt_session.specs.Passes.{no_piece, pass_record, worker_record}
-use Rattle.bt_session.specs.Swarms.{EachPlays, EachSwarmed, MakesLastChecks, Swarmed, calls_of_marks}
-use Rattle.bt_session.specs.Runs.{ChecksLast, ChecksRise, Plays}
+use Rattle.bt_session.specs.Swarms.{EachRunsSession, EachSwarmed, MakesLastChecks, Swarmed, calls_of_marks}
+use Rattle.bt_session.specs.Runs.{ChecksLast, ChecksRise, RunsSession}
 use Rattle.bt_session.specs.Beginnings.{AreFresh, IsFresh}
 use Rattle.bt_session.specs.Workers.{StandInOrder, WorkerState, knows, tells}
 use Rattle.bt_history.specs.Logs.{Agrees}
@@ -73,65 +73,65 @@ some_of (x ∷ xs) some = x
 -- a session from a fresh worker to what its worker has then
 swarmed_one : (journal : History) (outcome : Result End SessionFault) (terms : TermsState) (setting : Setting) (seed number : ℕ)
     (worker worker' : WorkerState) (old new : StreamRecord) (log : List Mark) (short : Bool) → IsFresh setting number worker →
-    Plays outcome terms setting seed worker old worker' new short → Knows journal (worker'.pass.worker ∷ []) worker'.pass.seen →
+    RunsSession outcome terms setting seed worker old worker' new short → Knows journal (worker'.pass.worker ∷ []) worker'.pass.seen →
     Agrees journal number log → ((piece : ℕ) → knows setting worker'.seat piece ≡ true → had journal piece ≡ true) →
     Swarmed journal outcome terms setting seed number old log new short
-swarmed_one journal outcome terms setting seed number worker worker' old new log short fresh plays seen agrees known =
-    let number' : worker'.pass.worker ≡ number = plays.number ∙ fresh.number_is in
+swarmed_one journal outcome terms setting seed number worker worker' old new log short fresh ran seen agrees known =
+    let number' : worker'.pass.worker ≡ number = ran.number ∙ fresh.number_is in
     let uncalled : calls_in worker.pass.seen worker.pass.worker ≡ [] = ap (λ (h : History). calls_in h worker.pass.worker) fresh.unseen in
     let called : calls_in worker'.pass.seen worker'.pass.worker ≡ calls_in journal number = journal_calls journal worker'.pass number seen number' in
     let begun : worker_record setting worker false ≡ pass_record setting number [] no_piece no_piece false =
     (λ i. pass_record setting (fresh.number_is i) (uncalled i) (λ piece. fresh.seen piece i) (λ piece. fresh.told piece i) false) in
-    let ended : worker_record setting worker' plays.lacked ≡ pass_record setting number (calls_in journal number) (knows setting worker'.seat)
-    (tells worker'.seat) plays.lacked =
-    (λ i. pass_record setting (number' i) (called i) (knows setting worker'.seat) (tells worker'.seat) plays.lacked) in
+    let ended : worker_record setting worker' ran.lacked ≡ pass_record setting number (calls_in journal number) (knows setting worker'.seat)
+    (tells worker'.seat) ran.lacked =
+    (λ i. pass_record setting (number' i) (called i) (knows setting worker'.seat) (tells worker'.seat) ran.lacked) in
     let Runs : ℕ → PlaceRecord → PlaceRecord → Type 0 = λ w first after. RunsTo outcome terms w (generator_of seed w) first old after new in
     record {
       known = knows setting worker'.seat;
       told = tells worker'.seat;
-      lacked = plays.lacked;
-      noted = plays.noted;
+      lacked = ran.lacked;
+      noted = ran.noted;
       finished = known;
       logged = ap calls_of_marks agrees.exact ∙ marks_calls journal number;
       runs = subst (Runs number (pass_record setting number [] no_piece no_piece false)) ended
-          (subst (λ (p : PlaceRecord). Runs number p (worker_record setting worker' plays.lacked)) begun
-          (subst (λ (w : ℕ). Runs w (worker_record setting worker false) (worker_record setting worker' plays.lacked)) fresh.number_is plays.runs));
+          (subst (λ (p : PlaceRecord). Runs number p (worker_record setting worker' ran.lacked)) begun
+          (subst (λ (w : ℕ). Runs w (worker_record setting worker false) (worker_record setting worker' ran.lacked)) fresh.number_is ran.runs));
     }
 
--- The workers before and after the work of a run: they were fresh, those of the streams played, the checkers checked, and the last made the
+-- The workers before and after the work of a run: they were fresh, those of the streams ran sessions, the checkers checked, and the last made the
 -- last checks
 pub record Ran {X : Type 0} (record_of : X → StreamRecord) (terms : TermsState) (setting : Setting) (seed n m pieces : ℕ)
-    (workers workers' : List WorkerState) (streams streams' : List X) (ends : List (Result End SessionFault)) (short : Bool) : Type 0 where
+    (workers workers' : List WorkerState) (streams streams' : List X) (ends : List (Result End SessionFault)) (given_up : Bool) : Type 0 where
   pub some : 1 ≤ n
   pub fresh : AreFresh setting workers
   pub many : length workers ≡ n + m + 1
   pub many' : length workers' ≡ n + m + 1
   pub many_streams : length streams ≡ n
-  pub each : EachPlays record_of terms setting seed workers streams ends workers' streams' short
+  pub each : EachRunsSession record_of terms setting seed workers streams ends workers' streams' given_up
   pub checks : CheckersWork n m workers workers'
   pub last : (any : WorkerState) → ChecksLast (get_or workers (n + m) any).pass (get_or workers' (n + m) any).pass pieces
 
 -- from what the calls of the run promise, of a torrent by another name
 pub ran_by : {X : Type 0} {record_of : X → StreamRecord} {made torrent : Metainfo} {depth : ℕ} {setting : Setting} {seed n m : ℕ}
-    {workers workers' : List WorkerState} {streams streams' : List X} {ends : List (Result End SessionFault)} {short : Bool} → made ≡ torrent →
+    {workers workers' : List WorkerState} {streams streams' : List X} {ends : List (Result End SessionFault)} {given_up : Bool} → made ≡ torrent →
     1 ≤ n → AreFresh setting workers → length workers ≡ n + m + 1 → length workers' ≡ length workers → length streams ≡ n →
-    EachPlays record_of (terms_of made depth) setting seed workers streams ends workers' streams' short → CheckersWork n m workers workers' →
+    EachRunsSession record_of (terms_of made depth) setting seed workers streams ends workers' streams' given_up → CheckersWork n m workers workers' →
     ((any : WorkerState) → ChecksLast (get_or workers (n + m) any).pass (get_or workers' (n + m) any).pass (piece_count made.layout)) →
-    Ran record_of (terms_of torrent depth) setting seed n m (piece_count torrent.layout) workers workers' streams streams' ends short
-ran_by is some fresh many same many_streams plays checks last = record {
+    Ran record_of (terms_of torrent depth) setting seed n m (piece_count torrent.layout) workers workers' streams streams' ends given_up
+ran_by is some fresh many same many_streams ran checks last = record {
   some = some;
   fresh = fresh;
   many = many;
   many' = same ∙ many;
   many_streams = many_streams;
-  each = rw (← is) plays;
+  each = rw (← is) ran;
   checks = checks;
   last = rw (← is) last;
 }
 
 module _ {X : Type 0} {record_of : X → StreamRecord} {terms : TermsState} {setting : Setting} {seed n m pieces : ℕ}
-    {workers workers' : List WorkerState} {streams streams' : List X} {ends : List (Result End SessionFault)} {short : Bool}
-    (ran : Ran record_of terms setting seed n m pieces workers workers' streams streams' ends short) where
+    {workers workers' : List WorkerState} {streams streams' : List X} {ends : List (Result End SessionFault)} {given_up : Bool}
+    (ran : Ran record_of terms setting seed n m pieces workers workers' streams streams' ends given_up) where
   fresh_at : (i : ℕ) (any : WorkerState) → i < n + m + 1 → IsFresh setting i (get_or workers i any)
   fresh_at i any below = let zeroth : 0 + i ≡ i = omega arith in
       subst (λ (k : ℕ). IsFresh setting k (get_or workers i any)) zeroth (ran.fresh i any (omega (arith, below, ran.many)))
@@ -173,8 +173,8 @@ module _ {X : Type 0} {record_of : X → StreamRecord} {terms : TermsState} {set
         from w log at
         ∙ (ap (λ (v : ℕ). log_of v (map pass_of workers')) zeroth ∙ log_at workers' 0 in_order w any (omega (arith, below, ran.many')))
 
-    -- whatever is short with the sessions
-    pub swarmed : (whole : Bool) → (short ≡ true → whole ≡ true) →
+    -- whatever gives something up with the sessions
+    pub swarmed : (whole : Bool) → (given_up ≡ true → whole ≡ true) →
         EachSwarmed record_of terms setting seed streams journal logs streams' ends whole
     swarmed whole up i stream log end below =
         let less : i < n = omega (arith, below, ran.many_streams) in
@@ -182,8 +182,9 @@ module _ {X : Type 0} {record_of : X → StreamRecord} {terms : TermsState} {set
         let at = slice_get-get_or logs i log (omega (arith, less, room)) in
         swarmed_one journal (get_or ends i end) terms setting seed i (get_or workers i any) (get_or workers' i any)
         (record_of (get_or streams i stream)) (record_of (get_or streams' i stream)) (get_or logs i log).items whole
-        (fresh_at i any (omega (arith, less))) (plays_short _ _ _ _ _ _ _ _ short whole up (ran.each i any stream end below))
-        (knows_at journal workers' seen i any (omega (arith, less, ran.many'))) (agrees i (get_or logs i log) at) (known i any (omega (arith, less, ran.many')))
+        (fresh_at i any (omega (arith, less))) (given_up_in_all _ _ _ _ _ _ _ _ given_up whole up (ran.each i any stream end below))
+        (knows_at journal workers' seen i any (omega (arith, less, ran.many'))) (agrees i (get_or logs i log) at)
+        (known i any (omega (arith, less, ran.many')))
 
     pub checkers_check : CheckersCheck n m logs
     checkers_check i log below at =

@@ -82,10 +82,10 @@ entered_calls call reply old new enters =
     ∙ calls_in-own found e old.worker (eq-eqb old.worker old.worker refl)
     ∙ ap (λ (calls : Calls). calls ++ (action_of call, reply) ∷ []) (same_calls old.worker found old.seen enters.1.seen.same)
 
-module _ (setting : Setting) (old new : PassState) (had told : ℕ → Bool) (short : Bool) where
+module _ (setting : Setting) (old new : PassState) (had told : ℕ → Bool) (lacked : Bool) where
   entered : (call : Call) (reply : Reply) → Enters (event old.worker call reply) old new
-      → Gains (pass_record setting old.worker (calls_in old.seen old.worker) had told short) (Called (action_of call) reply ∷ [])
-      (pass_record setting new.worker (calls_in new.seen new.worker) had told short)
+      → Gains (pass_record setting old.worker (calls_in old.seen old.worker) had told lacked) (Called (action_of call) reply ∷ [])
+      (pass_record setting new.worker (calls_in new.seen new.worker) had told lacked)
   entered call reply enters = record {
     up_to = record {
       lent = refl;
@@ -98,17 +98,17 @@ module _ (setting : Setting) (old new : PassState) (had told : ℕ → Bool) (sh
       told = λ piece. refl;
       finished = tt;
     };
-    short = refl;
+    lacked = refl;
   }
 
 -- a worker made a call, and its seat is as it was
-pub entered_call : (setting : Setting) (old new : WorkerState) (short : Bool) (call : Call) (reply : Reply) →
+pub entered_call : (setting : Setting) (old new : WorkerState) (lacked : Bool) (call : Call) (reply : Reply) →
     Enters (event old.pass.worker call reply) old.pass new.pass → new.seat ≡ old.seat →
-    Gains (worker_record setting old short) (Called (action_of call) reply ∷ []) (worker_record setting new short)
-entered_call setting old new short call reply enters same =
-    subst (λ (seat : SeatState). Gains (worker_record setting old short) (Called (action_of call) reply ∷ [])
-    (pass_record setting new.pass.worker (calls_in new.pass.seen new.pass.worker) (knows setting seat) (tells seat) short)) (sym same)
-    (entered setting old.pass new.pass (knows setting old.seat) (tells old.seat) short call reply enters)
+    Gains (worker_record setting old lacked) (Called (action_of call) reply ∷ []) (worker_record setting new lacked)
+entered_call setting old new lacked call reply enters same =
+    subst (λ (seat : SeatState). Gains (worker_record setting old lacked) (Called (action_of call) reply ∷ [])
+    (pass_record setting new.pass.worker (calls_in new.pass.seen new.pass.worker) (knows setting seat) (tells seat) lacked)) (sym same)
+    (entered setting old.pass new.pass (knows setting old.seat) (tells old.seat) lacked call reply enters)
 
 -- a pass that made no entry made no call
 pub kept_err : {A E : Type 0} (result : Result A E) (old new : PassState) → OnErr result (Rests old new) → OnErr result (KeepsCalls old new)

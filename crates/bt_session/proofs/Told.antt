@@ -65,9 +65,9 @@ module _ (setting : Setting) (t : Layout) (same : t ≡ setting.torrent) (old ne
 
 -- ---- what the worker's place gains
 
-module _ (setting : Setting) (old new : WorkerState) (short : Bool) (same : new.pass ≡ old.pass) where
+module _ (setting : Setting) (old new : WorkerState) (lacked : Bool) (same : new.pass ≡ old.pass) where
   pub told_one : (piece : ℕ) → TellsOne setting old.seat piece new.seat →
-      Gains (worker_record setting old short) (News piece ∷ []) (worker_record setting new short)
+      Gains (worker_record setting old lacked) (News piece ∷ []) (worker_record setting new lacked)
   told_one piece one = record {
     up_to = record {
       lent = refl;
@@ -80,11 +80,11 @@ module _ (setting : Setting) (old new : WorkerState) (short : Bool) (same : new.
       told = (one.untold, one.adds);
       finished = (one.finished, tt);
     };
-    short = refl;
+    lacked = refl;
   }
 
   pub told_none : TellsNone setting old.seat new.seat →
-      Gains (worker_record setting old short) [] (worker_record setting new short) × AllTold (worker_record setting new short)
+      Gains (worker_record setting old lacked) [] (worker_record setting new lacked) × AllTold (worker_record setting new lacked)
   told_none nothing = (
     record {
       up_to = record {
@@ -98,15 +98,15 @@ module _ (setting : Setting) (old new : WorkerState) (short : Bool) (same : new.
         told = nothing.same;
         finished = tt;
       };
-      short = refl;
+      lacked = refl;
     },
     nothing.all,
   )
 
 -- a ticket doesn't show at the place
-gains_none : (setting : Setting) (worker : WorkerState) (short : Bool) →
-    Gains (worker_record setting worker short) [] (worker_record setting worker short)
-gains_none setting worker short = record {
+gains_none : (setting : Setting) (worker : WorkerState) (lacked : Bool) →
+    Gains (worker_record setting worker lacked) [] (worker_record setting worker lacked)
+gains_none setting worker lacked = record {
   up_to = record {
     lent = refl;
     worker = refl;
@@ -118,12 +118,14 @@ gains_none setting worker short = record {
     told = λ piece. refl;
     finished = tt;
   };
-  short = refl;
+  lacked = refl;
 }
 
-pub puts_gains : (setting : Setting) (old new : WorkerState) (short told : Bool) (ticket : Ticket) → PutsIf told ticket old new →
-    Gains (worker_record setting old short) [] (worker_record setting new short)
-puts_gains setting old new short true ticket puts =
-    subst (λ (w : WorkerState). Gains (worker_record setting old short) [] (worker_record setting w short)) (sym puts) (gains_none setting old short)
-puts_gains setting old new short false ticket puts =
-    subst (λ (w : WorkerState). Gains (worker_record setting old short) [] (worker_record setting w short)) (sym puts) (gains_none setting old short)
+pub puts_gains : (setting : Setting) (old new : WorkerState) (lacked told : Bool) (ticket : Ticket) → PutsIf told ticket old new →
+    Gains (worker_record setting old lacked) [] (worker_record setting new lacked)
+puts_gains setting old new lacked true ticket puts =
+    subst (λ (w : WorkerState). Gains (worker_record setting old lacked) [] (worker_record setting w lacked)) (sym puts)
+    (gains_none setting old lacked)
+puts_gains setting old new lacked false ticket puts =
+    subst (λ (w : WorkerState). Gains (worker_record setting old lacked) [] (worker_record setting w lacked)) (sym puts)
+    (gains_none setting old lacked)

@@ -83,8 +83,8 @@ which n m w =
     (λ above. dite (ℕ_discrete w (n + m)) (λ at. inr (inr (inl at))) (λ apart. inr (inr (inr (omega (arith, above, apart)))))))
 
 module _ {X : Type 0} {record_of : X → StreamRecord} {terms : TermsState} {setting : Setting} {seed n m pieces : ℕ}
-    {workers workers' : List WorkerState} {streams streams' : List X} {ends : List (Result End SessionFault)} {short : Bool}
-    (ran : Ran record_of terms setting seed n m pieces workers workers' streams streams' ends short) (logs : List (Vec Mark)) (desk : DeskState)
+    {workers workers' : List WorkerState} {streams streams' : List X} {ends : List (Result End SessionFault)} {given_up : Bool}
+    (ran : Ran record_of terms setting seed n m pieces workers workers' streams streams' ends given_up) (logs : List (Vec Mark)) (desk : DeskState)
     (from : EachFrom (map pass_of workers') logs) (agrees : EachAgrees desk.history logs) (seen : EachKnows desk.history (map pass_of workers'))
     (room : length logs ≡ n + m + 1)
     (known : All (λ w. (piece : ℕ) → knows setting w.seat piece ≡ true → had desk.history piece ≡ true) workers')
@@ -93,7 +93,7 @@ module _ {X : Type 0} {record_of : X → StreamRecord} {terms : TermsState} {set
   wish_at w (inl session) =
       let stream = some_of streams (omega (arith, ran.some, ran.many_streams)) in
       let log = some_of logs (omega (arith, room)) in
-      let swarmed_at = swarmed ran logs desk.history from agrees seen room known short (λ is. is) w stream log (Err NoMemory)
+      let swarmed_at = swarmed ran logs desk.history from agrees seen room known given_up (λ is. is) w stream log (Err NoMemory)
       (omega (arith, session, ran.many_streams)) in
       ended_wish _ terms w _ _ _ swarmed_at.runs.ends refl
   wish_at w (inr (inl checker)) =

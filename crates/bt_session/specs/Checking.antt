@@ -7,9 +7,9 @@ use Rattle.bt_session.specs.PieceChecks.{AreChecks, MakesChecks, SeesToTickets}
 use Rattle.bt_session.specs.Workers.{WorkerState}
 
 -- A checker made checks alone, and it saw to each piece of which it took a ticket, or tells that it gave one up.
-pub record ChecksTickets (setting : Setting) (old : WorkerState) (short : Bool) (new : WorkerState) : Type 0 where
+pub record ChecksTickets (setting : Setting) (old : WorkerState) (in_all : Bool) (new : WorkerState) : Type 0 where
   pub makes : MakesChecks old.pass new.pass
-  pub sees : SeesToTickets setting old short new
+  pub sees : SeesToTickets setting old in_all new
 
 -- each of these workers made checks alone
 abbrev pub EachMakesChecks : List WorkerState → List WorkerState → Type 0

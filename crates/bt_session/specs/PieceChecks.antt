@@ -105,20 +105,20 @@ pub record MakesChecks (old new : PassState) : Type 0 where
 -- ---- rounds of a checker
 
 -- A round: the worker took the tickets of these pieces, and then it saw to each of them, in order, or gave it up, which is told.
-pub record MakesRound (setting : Setting) (old : WorkerState) (pieces : List ℕ) (short : Bool) (new : WorkerState) : Type 0 where
+pub record MakesRound (setting : Setting) (old : WorkerState) (pieces : List ℕ) (in_all : Bool) (new : WorkerState) : Type 0 where
   pub taken : WorkerState
   pub is_last : Bool
   pub given_up : Bool
-  pub told : given_up ≡ true → short ≡ true
+  pub told : given_up ≡ true → in_all ≡ true
   pub takes : TakesRound old pieces is_last taken
   pub sees : GoesThrough setting taken pieces given_up new
 
 -- rounds of these pieces, one after the other
 abbrev pub MakesRounds : Setting → WorkerState → List (List ℕ) → Bool → WorkerState → Type 0
-MakesRounds setting old [] short new = new ≡ old
-MakesRounds setting old (pieces ∷ rounds) short new =
-    (mid : WorkerState) × (MakesRound setting old pieces short mid × MakesRounds setting mid rounds short new)
+MakesRounds setting old [] in_all new = new ≡ old
+MakesRounds setting old (pieces ∷ rounds) in_all new =
+    (mid : WorkerState) × (MakesRound setting old pieces in_all mid × MakesRounds setting mid rounds in_all new)
 
 -- The worker saw to each piece of which it took a ticket, or gave it up, which is told: it made rounds, and nothing else.
 abbrev pub SeesToTickets : Setting → WorkerState → Bool → WorkerState → Type 0
-SeesToTickets setting old short new = (rounds : List (List ℕ)) × MakesRounds setting old rounds short new
+SeesToTickets setting old in_all new = (rounds : List (List ℕ)) × MakesRounds setting old rounds in_all new

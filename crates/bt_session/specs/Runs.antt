@@ -33,12 +33,13 @@ IsRunFault _ = Unit {0}
 
 -- ---- sessions
 
--- A session ran at a worker's place, with the numbers of the generator of its number, made of the seed. It is short if a call found no memory.
-pub record Plays (outcome : Result End SessionFault) (terms : TermsState) (setting : Setting) (seed : ℕ)
-    (worker : WorkerState) (old : StreamRecord) (worker' : WorkerState) (new : StreamRecord) (short : Bool) : Type 0 where
+-- A session ran at a worker's place, with the numbers of the generator of its number, made of the seed. Something was given up if a
+-- call found no memory.
+pub record RunsSession (outcome : Result End SessionFault) (terms : TermsState) (setting : Setting) (seed : ℕ)
+    (worker : WorkerState) (old : StreamRecord) (worker' : WorkerState) (new : StreamRecord) (given_up : Bool) : Type 0 where
   -- a call found no memory
   pub lacked : Bool
-  pub noted : lacked ≡ true → short ≡ true
+  pub noted : lacked ≡ true → given_up ≡ true
   pub number : worker'.pass.worker ≡ worker.pass.worker
   pub runs : RunsTo outcome terms worker.pass.worker (generator_of seed worker.pass.worker)
       (worker_record setting worker false) old (worker_record setting worker' lacked) new

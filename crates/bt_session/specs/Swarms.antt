@@ -16,16 +16,16 @@ use Rattle.bt_peer.specs.SessionTerms.{TermsState}
 use Rattle.bt_peer.specs.declared.fault.End.{End}
 use Rattle.bt_peer.specs.declared.fault.SessionFault.{SessionFault}
 use Rattle.bt_session.specs.Passes.{no_piece, pass_record}
-use Rattle.bt_session.specs.Runs.{ChecksRise, Plays}
+use Rattle.bt_session.specs.Runs.{ChecksRise, RunsSession}
 use Rattle.bt_session.specs.Workers.{WorkerState}
 
--- that of each stream, in order; all together are short if one is
-abbrev pub EachPlays : {X : Type 0} → (X → StreamRecord) → TermsState → Setting → ℕ →
+-- that of each stream, in order; all together gave something up if one did
+abbrev pub EachRunsSession : {X : Type 0} → (X → StreamRecord) → TermsState → Setting → ℕ →
     List WorkerState → List X → List (Result End SessionFault) → List WorkerState → List X → Bool → Type 0
-EachPlays {X} record_of terms setting seed workers streams ends workers' streams' short =
+EachRunsSession {X} record_of terms setting seed workers streams ends workers' streams' given_up =
     (i : ℕ) (worker : WorkerState) (stream : X) (end : Result End SessionFault) → i < length streams →
-    Plays (slice_index_or ends i end) terms setting seed (slice_index_or workers i worker) (record_of (slice_index_or streams i stream))
-    (slice_index_or workers' i worker) (record_of (slice_index_or streams' i stream)) short
+    RunsSession (slice_index_or ends i end) terms setting seed (slice_index_or workers i worker) (record_of (slice_index_or streams i stream))
+    (slice_index_or workers' i worker) (record_of (slice_index_or streams' i stream)) given_up
 
 -- the marks of calls, with their replies
 abbrev pub marked : Calls → List (CallMark × Reply)

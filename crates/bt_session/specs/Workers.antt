@@ -101,10 +101,10 @@ pub record TellsNone (setting : Setting) (old new : SeatState) : Type 0 where
   pub stays : (piece : ℕ) → knows setting old piece ≡ true → knows setting new piece ≡ true
   pub all : (piece : ℕ) → knows setting new piece ≡ true → tells new piece ≡ true
 
--- the view of a joined seat stands for this worker, and has seen what the worker's seat saw
-pub record Takes (joined : BoardView) (worker : WorkerState) : Type 0 where
-  pub stands : StandsFor joined worker.pass.worker
-  pub seen : (piece : ℕ) → Seen worker.seat.view piece → Seen joined piece
+-- the view of the seat that all were joined to stands for this worker, and has seen what the worker's seat saw
+pub record Takes (whole : BoardView) (worker : WorkerState) : Type 0 where
+  pub stands : StandsFor whole worker.pass.worker
+  pub seen : (piece : ℕ) → Seen worker.seat.view piece → Seen whole piece
 
 -- ---- the workers of a run
 

@@ -4,7 +4,7 @@ ghost use Rattle.std.specs.Prelude.{◌≡◌, ◌≤◌, [], map, length, vec_l
 ghost use Rattle.bt_session.specs.Checking.{ChecksTickets};
 ghost use Rattle.bt_session.specs.declared.fault.SwarmFault.TheVariants.{NoThread};
 
-use crate::checker::{Checked, check_pieces};
+use crate::checker::{StoppedChecker, check_pieces};
 use crate::commons::{Commons, Worker};
 use crate::fault::SwarmFault;
 use crate::run_name::RunName;
@@ -21,8 +21,8 @@ pub struct CheckOf<L: RunName> {
     pub worker: Snapshot<Worker<L>>,
 }
 
-impl<L: RunName> Promise<Checked<L>> for CheckOf<L> {
-    ghost kept_by = { λ p r. ChecksTickets L.setting p.worker.value r.short r.worker };
+impl<L: RunName> Promise<StoppedChecker<L>> for CheckOf<L> {
+    ghost kept_by = { λ p r. ChecksTickets L.setting p.worker.value r.given_up r.worker };
 }
 
 /// Starts the thread of a checker.
@@ -32,15 +32,15 @@ fn start<'s, 'e, L: RunName + Send + Sync + 'e, T: Threads + Wait + Sync + 'e>(
     scope: &thread::Scope<'s, &'e ()>,
     commons: &'e Commons<L>,
     worker: Worker<L>,
-) -> Result<PromisedHandle<Checked<L>, CheckOf<L>>, SwarmFault>
+) -> Result<PromisedHandle<StoppedChecker<L>, CheckOf<L>>, SwarmFault>
     ensures worker { IfOk result (λ h. h.promise.worker.value ≡ worker) }
     ensures err { IfErr result (λ fault. fault ≡ NoThread) }
 {
     let promise = CheckOf {
         worker: Snapshot::of(&worker),
     };
-    let job = move || -> Checked<L>
-        ensures { ChecksTickets L.setting worker result.short result.worker }
+    let job = move || -> StoppedChecker<L>
+        ensures { ChecksTickets L.setting worker result.given_up result.worker }
     { check_pieces(rt, alloc, commons, worker) };
     match scope.spawn_with(promise, job) {
         Ok(handle) => Ok(handle),
@@ -55,7 +55,7 @@ pub fn start_checkers<'s, 'e, L: RunName + Send + Sync + 'e, T: Threads + Wait +
     scope: &thread::Scope<'s, &'e ()>,
     commons: &'e Commons<L>,
     workers: Vec<Worker<L>>,
-    handles: &mut Vec<PromisedHandle<Checked<L>, CheckOf<L>>>,
+    handles: &mut Vec<PromisedHandle<StoppedChecker<L>, CheckOf<L>>>,
 ) -> Result<(), SwarmFault>
     requires room { (handles.old.items ≡ []) × (length workers.items ≤ vec_capacity handles.old) }
     ensures few { length handles.new.items ≤ length workers.items }

@@ -9,10 +9,10 @@ use std::sync::Wait;
 
 /// What the thread of a checker gives back.
 #[derive(Drop)]
-pub struct Checked<L: RunName> {
+pub struct StoppedChecker<L: RunName> {
     pub worker: Worker<L>,
     /// A check was given up for want of memory.
-    pub short: bool,
+    pub given_up: bool,
 }
 
 /// Sees to the pieces of the tickets that it takes, until it is told to stop.
@@ -24,20 +24,20 @@ pub fn check_pieces<L: RunName, T: Wait>(
     alloc: Global,
     commons: &Commons<L>,
     worker: Worker<L>,
-) -> Checked<L>
-    ensures { ChecksTickets L.setting worker result.short result.worker }
+) -> StoppedChecker<L>
+    ensures { ChecksTickets L.setting worker result.given_up result.worker }
 {
     let mut worker = worker;
-    let mut short = false;
+    let mut given_up = false;
     for _ in rt.forever() {
         let turn = commons.turn(rt);
         let round = commons.next_round(rt, &mut worker);
         let kept = (!round.pieces.is_full()).then_some(turn);
-        short |= commons.check_all(rt, alloc, &mut worker, round.pieces.as_slice());
+        given_up |= commons.check_all(rt, alloc, &mut worker, round.pieces.as_slice());
         drop(kept);
         if round.is_last {
             break;
         }
     }
-    Checked { worker, short }
+    StoppedChecker { worker, given_up }
 }

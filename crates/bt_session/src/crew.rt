@@ -5,17 +5,17 @@ ghost use Rattle.std.specs.List.{list_any};
 ghost use Rattle.bt_peer.specs.Serial.{stream_record};
 ghost use Rattle.bt_peer.specs.SessionTerms.{terms_of};
 ghost use Rattle.bt_session.specs.Checking.{EachMakesChecks};
-ghost use Rattle.bt_session.specs.Swarms.{EachPlays};
+ghost use Rattle.bt_session.specs.Swarms.{EachRunsSession};
 ghost use Rattle.bt_session.specs.Runs.{IsRunFault};
 
 use crate::check_threads::{CheckOf, start_checkers, stop};
-use crate::checker::Checked;
+use crate::checker::StoppedChecker;
 use crate::commons::{Commons, Worker};
 use crate::fault::SwarmFault;
 use crate::plan::Plan;
-use crate::played::Played;
 use crate::run_name::RunName;
-use crate::threads::{PlayOf, join_each, start_sessions};
+use crate::session_thread::EndedSession;
+use crate::threads::{SessionOf, join_each, start_sessions};
 use bt_history::MOST_DEPTH;
 use bt_meta::{Sink, Source};
 use bt_peer::{Gate, Stream};
@@ -34,21 +34,21 @@ pub struct Hands<L: RunName, R, W> {
 
 /// What the threads of a run gave back, each in the order of its workers.
 #[derive(Drop)]
-pub struct Joined<L: RunName, R, W> {
-    pub played: Vec<Played<L, R, W>>,
-    pub checked: Vec<Checked<L>>,
+pub struct Returned<L: RunName, R, W> {
+    pub ended: Vec<EndedSession<L, R, W>>,
+    pub stopped: Vec<StoppedChecker<L>>,
     /// The worker that told the checkers to stop.
     pub last: Worker<L>,
     /// A checker couldn't be told to stop.
-    pub short: bool,
+    pub unstopped: bool,
 }
 
 /// Room for the handles of a run's threads, and for what these give back.
 struct Rooms<L: RunName, R: Source, W: Sink> {
-    checking: Vec<PromisedHandle<Checked<L>, CheckOf<L>>>,
-    checked: Vec<Checked<L>>,
-    playing: Vec<PromisedHandle<Played<L, R, W>, PlayOf<L, R, W>>>,
-    played: Vec<Played<L, R, W>>,
+    checking: Vec<PromisedHandle<StoppedChecker<L>, CheckOf<L>>>,
+    stopped: Vec<StoppedChecker<L>>,
+    running: Vec<PromisedHandle<EndedSession<L, R, W>, SessionOf<L, R, W>>>,
+    ended: Vec<EndedSession<L, R, W>>,
 }
 
 /// The end of the rooms is one call for whoever owns them.
@@ -56,9 +56,9 @@ impl<L: RunName, R: Source + Drop, W: Sink + Drop> Drop for Rooms<L, R, W> {
     fn drop(self) {
         let Rooms {
             checking: _checking,
-            checked: _checked,
-            playing: _playing,
-            played: _played,
+            stopped: _stopped,
+            running: _running,
+            ended: _ended,
         } = self;
     }
 }
@@ -67,15 +67,15 @@ impl<L: RunName, R: Source + Drop, W: Sink + Drop> Rooms<L, R, W> {
     /// Room for so many checkers and sessions.
     fn new(alloc: Global, checkers: usize, sessions: usize) -> Result<Rooms<L, R, W>, AllocError>
         ensures checking { IfOk result (λ r. (r.checking.items ≡ []) × (checkers ≤ vec_capacity r.checking)) }
-        ensures checked { IfOk result (λ r. (r.checked.items ≡ []) × (checkers ≤ vec_capacity r.checked)) }
-        ensures playing { IfOk result (λ r. (r.playing.items ≡ []) × (sessions ≤ vec_capacity r.playing)) }
-        ensures played { IfOk result (λ r. (r.played.items ≡ []) × (sessions ≤ vec_capacity r.played)) }
+        ensures stopped { IfOk result (λ r. (r.stopped.items ≡ []) × (checkers ≤ vec_capacity r.stopped)) }
+        ensures running { IfOk result (λ r. (r.running.items ≡ []) × (sessions ≤ vec_capacity r.running)) }
+        ensures ended { IfOk result (λ r. (r.ended.items ≡ []) × (sessions ≤ vec_capacity r.ended)) }
     {
         let mut rooms = Rooms {
             checking: Vec::new(alloc),
-            checked: Vec::new(alloc),
-            playing: Vec::new(alloc),
-            played: Vec::new(alloc),
+            stopped: Vec::new(alloc),
+            running: Vec::new(alloc),
+            ended: Vec::new(alloc),
         };
         rooms.reserve(checkers, sessions)?;
         Ok(rooms)
@@ -84,14 +84,14 @@ impl<L: RunName, R: Source + Drop, W: Sink + Drop> Rooms<L, R, W> {
     /// Makes room for so many checkers and sessions.
     fn reserve(&mut self, checkers: usize, sessions: usize) -> Result<(), AllocError>
         ensures checking { OnOk result ((self.new.checking.items ≡ self.old.checking.items) × (checkers ≤ vec_capacity self.new.checking)) }
-        ensures checked { OnOk result ((self.new.checked.items ≡ self.old.checked.items) × (checkers ≤ vec_capacity self.new.checked)) }
-        ensures playing { OnOk result ((self.new.playing.items ≡ self.old.playing.items) × (sessions ≤ vec_capacity self.new.playing)) }
-        ensures played { OnOk result ((self.new.played.items ≡ self.old.played.items) × (sessions ≤ vec_capacity self.new.played)) }
+        ensures stopped { OnOk result ((self.new.stopped.items ≡ self.old.stopped.items) × (checkers ≤ vec_capacity self.new.stopped)) }
+        ensures running { OnOk result ((self.new.running.items ≡ self.old.running.items) × (sessions ≤ vec_capacity self.new.running)) }
+        ensures ended { OnOk result ((self.new.ended.items ≡ self.old.ended.items) × (sessions ≤ vec_capacity self.new.ended)) }
     {
         self.checking.reserve(checkers)?;
-        self.checked.reserve(checkers)?;
-        self.playing.reserve(sessions)?;
-        self.played.reserve(sessions)?;
+        self.stopped.reserve(checkers)?;
+        self.running.reserve(sessions)?;
+        self.ended.reserve(sessions)?;
         Ok(())
     }
 
@@ -99,20 +99,20 @@ impl<L: RunName, R: Source + Drop, W: Sink + Drop> Rooms<L, R, W> {
     fn into_parts(
         self,
     ) -> (
-        Vec<PromisedHandle<Checked<L>, CheckOf<L>>>,
-        Vec<Checked<L>>,
-        Vec<PromisedHandle<Played<L, R, W>, PlayOf<L, R, W>>>,
-        Vec<Played<L, R, W>>,
+        Vec<PromisedHandle<StoppedChecker<L>, CheckOf<L>>>,
+        Vec<StoppedChecker<L>>,
+        Vec<PromisedHandle<EndedSession<L, R, W>, SessionOf<L, R, W>>>,
+        Vec<EndedSession<L, R, W>>,
     )
-        ensures { self ≡ record { checking = result.0; checked = result.1; playing = result.2; played = result.3 } }
+        ensures { self ≡ record { checking = result.0; stopped = result.1; running = result.2; ended = result.3 } }
     {
         let Rooms {
             checking,
-            checked,
-            playing,
-            played,
+            stopped,
+            running,
+            ended,
         } = self;
-        (checking, checked, playing, played)
+        (checking, stopped, running, ended)
     }
 }
 
@@ -133,21 +133,21 @@ fn start_all<
     hands: Hands<L, R, W>,
     plan: Plan,
     gate: &'e G,
-    checking: &mut Vec<PromisedHandle<Checked<L>, CheckOf<L>>>,
-    playing: &mut Vec<PromisedHandle<Played<L, R, W>, PlayOf<L, R, W>>>,
+    checking: &mut Vec<PromisedHandle<StoppedChecker<L>, CheckOf<L>>>,
+    running: &mut Vec<PromisedHandle<EndedSession<L, R, W>, SessionOf<L, R, W>>>,
 ) -> Result<(), SwarmFault>
     requires count { length hands.sessions.items ≡ length hands.streams.items }
     requires depth { (1 ≤ plan.rules.depth) × (plan.rules.depth ≤ MOST_DEPTH) }
-    requires room { (playing.old.items ≡ []) × (length hands.streams.items ≤ vec_capacity playing.old) }
+    requires room { (running.old.items ≡ []) × (length hands.streams.items ≤ vec_capacity running.old) }
     requires checkers_room { (checking.old.items ≡ []) × (length hands.checkers.items ≤ vec_capacity checking.old) }
-    ensures few { length playing.new.items ≤ length hands.streams.items }
+    ensures few { length running.new.items ≤ length hands.streams.items }
     ensures few_checkers { length checking.new.items ≤ length hands.checkers.items }
     ensures checkers { OnOk result (map (λ h. h.promise.worker.value) checking.new.items ≡ hands.checkers.items) }
     ensures terms { OnOk result (All
-        (λ h. terms_of h.promise.torrent.value.value h.promise.depth ≡ terms_of commons.now plan.rules.depth) playing.new.items) }
-    ensures seeds { OnOk result (All (λ h. h.promise.seed ≡ plan.seed) playing.new.items) }
-    ensures sessions { OnOk result (map (λ h. h.promise.worker.value) playing.new.items ≡ hands.sessions.items) }
-    ensures streams { OnOk result (map (λ h. h.promise.stream.value) playing.new.items ≡ hands.streams.items) }
+        (λ h. terms_of h.promise.torrent.value.value h.promise.depth ≡ terms_of commons.now plan.rules.depth) running.new.items) }
+    ensures seeds { OnOk result (All (λ h. h.promise.seed ≡ plan.seed) running.new.items) }
+    ensures sessions { OnOk result (map (λ h. h.promise.worker.value) running.new.items ≡ hands.sessions.items) }
+    ensures streams { OnOk result (map (λ h. h.promise.stream.value) running.new.items ≡ hands.streams.items) }
     ensures err { IfErr result IsRunFault }
 {
     let Hands {
@@ -157,7 +157,7 @@ fn start_all<
     } = hands;
     start_checkers(rt, alloc, scope, commons, checkers, checking)?;
     start_sessions(
-        rt, alloc, scope, commons, sessions, streams, plan, gate, playing,
+        rt, alloc, scope, commons, sessions, streams, plan, gate, running,
     )
 }
 
@@ -179,38 +179,38 @@ pub fn crew<
     last: Worker<L>,
     plan: Plan,
     gate: &'e G,
-) -> Result<Joined<L, R, W>, SwarmFault>
+) -> Result<Returned<L, R, W>, SwarmFault>
     requires count { length hands.sessions.items ≡ length hands.streams.items }
     requires depth { (1 ≤ plan.rules.depth) × (plan.rules.depth ≤ MOST_DEPTH) }
-    ensures count { IfOk result (λ r. length r.played.items ≡ length hands.streams.items) }
-    ensures checkers { IfOk result (λ r. length r.checked.items ≡ length hands.checkers.items) }
-    ensures plays { IfOk result (λ r. EachPlays (stream_record R.left R.ended R.failed R.reads W.written W.failed)
+    ensures count { IfOk result (λ r. length r.ended.items ≡ length hands.streams.items) }
+    ensures checkers { IfOk result (λ r. length r.stopped.items ≡ length hands.checkers.items) }
+    ensures runs { IfOk result (λ r. EachRunsSession (stream_record R.left R.ended R.failed R.reads W.written W.failed)
         (terms_of commons.now plan.rules.depth) L.setting plan.seed hands.sessions.items hands.streams.items
-        (map (λ p. p.end) r.played.items) (map (λ p. p.worker) r.played.items) (map (λ p. p.stream) r.played.items)
-        (list_any (λ p. p.short) r.played.items)) }
-    ensures checks { IfOk result (λ r. EachMakesChecks hands.checkers.items (map (λ c. c.worker) r.checked.items)) }
+        (map (λ p. p.end) r.ended.items) (map (λ p. p.worker) r.ended.items) (map (λ p. p.stream) r.ended.items)
+        (list_any (λ p. p.given_up) r.ended.items)) }
+    ensures checks { IfOk result (λ r. EachMakesChecks hands.checkers.items (map (λ c. c.worker) r.stopped.items)) }
     ensures last { IfOk result (λ r. (r.last.pass ≡ last.pass) × (r.last.seat ≡ last.seat)) }
     ensures err { IfErr result IsRunFault }
 {
     thread::scope(
         thread::scope_env(),
         rt,
-        move |scope| -> Result<Joined<L, R, W>, SwarmFault>
+        move |scope| -> Result<Returned<L, R, W>, SwarmFault>
             requires count { length hands.sessions.items ≡ length hands.streams.items }
             requires depth { (1 ≤ plan.rules.depth) × (plan.rules.depth ≤ MOST_DEPTH) }
-            ensures count { IfOk result (λ r. length r.played.items ≡ length hands.streams.items) }
-            ensures checkers { IfOk result (λ r. length r.checked.items ≡ length hands.checkers.items) }
-            ensures plays { IfOk result (λ r. EachPlays (stream_record R.left R.ended R.failed R.reads W.written W.failed)
+            ensures count { IfOk result (λ r. length r.ended.items ≡ length hands.streams.items) }
+            ensures checkers { IfOk result (λ r. length r.stopped.items ≡ length hands.checkers.items) }
+            ensures runs { IfOk result (λ r. EachRunsSession (stream_record R.left R.ended R.failed R.reads W.written W.failed)
                 (terms_of commons.entry.now plan.rules.depth) L.setting plan.seed hands.sessions.items hands.streams.items
-                (map (λ p. p.end) r.played.items) (map (λ p. p.worker) r.played.items) (map (λ p. p.stream) r.played.items)
-                (list_any (λ p. p.short) r.played.items)) }
-            ensures checks { IfOk result (λ r. EachMakesChecks hands.checkers.items (map (λ c. c.worker) r.checked.items)) }
+                (map (λ p. p.end) r.ended.items) (map (λ p. p.worker) r.ended.items) (map (λ p. p.stream) r.ended.items)
+                (list_any (λ p. p.given_up) r.ended.items)) }
+            ensures checks { IfOk result (λ r. EachMakesChecks hands.checkers.items (map (λ c. c.worker) r.stopped.items)) }
             ensures last { IfOk result (λ r. (r.last.pass ≡ last.pass) × (r.last.seat ≡ last.seat)) }
             ensures err { IfErr result IsRunFault }
         {
             let mut last = last;
             let rooms = Rooms::new(alloc, hands.checkers.len(), hands.streams.len())?;
-            let (mut checking, mut checked, mut playing, mut played) = rooms.into_parts();
+            let (mut checking, mut stopped, mut running, mut ended) = rooms.into_parts();
             let started = start_all(
                 rt,
                 alloc,
@@ -220,17 +220,17 @@ pub fn crew<
                 plan,
                 gate,
                 &mut checking,
-                &mut playing,
+                &mut running,
             );
-            join_each(rt, playing, &mut played);
+            join_each(rt, running, &mut ended);
             let told = stop(rt, commons, &mut last, checking.len());
-            join_each(rt, checking, &mut checked);
+            join_each(rt, checking, &mut stopped);
             match started {
-                Ok(()) => Ok(Joined {
-                    played,
-                    checked,
+                Ok(()) => Ok(Returned {
+                    ended,
+                    stopped,
                     last,
-                    short: !told,
+                    unstopped: !told,
                 }),
                 Err(fault) => Err(fault),
             }

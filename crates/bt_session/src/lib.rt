@@ -13,9 +13,9 @@ mod fittings;
 mod four;
 mod pass_place;
 mod plan;
-mod played;
 mod round;
 mod run_name;
+mod session_thread;
 mod swarm_run;
 mod threads;
 mod waiting;
@@ -26,12 +26,12 @@ pub use bt_peer::{
     DeskPlace, End, Gate, MOST_STREAMS, OpenGate, Place, SerialRun, Session, SessionFault, Stream,
     serial, whole,
 };
-pub use checker::{Checked, check_pieces};
+pub use checker::{StoppedChecker, check_pieces};
 pub use commons::{Commons, Worker};
 pub use fault::SwarmFault;
 pub use pass_place::PassPlace;
-pub use played::{Played, play};
 pub use run_name::RunName;
+pub use session_thread::{EndedSession, run_session};
 pub use swarm_run::{MOST_CHECKERS, SwarmRun, swarm};
 pub use waiting::is_short;
-pub use worked::{Worked, last_checks, part, part_checked};
+pub use worked::{Worked, last_checks, part, part_checkers};

@@ -23,7 +23,7 @@ pub struct PassPlace<'a, L: RunName, T: Wait> {
     rt: &'a T,
     commons: &'a Commons<L>,
     worker: Worker<L>,
-    short: bool,
+    lacked: bool,
     given_up: bool,
 }
 
@@ -32,7 +32,7 @@ impl<'a, L: RunName, T: Wait> Model for PassPlace<'a, L, T> {
 
     ghost Value = { PassPlaceState };
 
-    ghost view = { λ s. record { worker = s.worker; short = s.short; given_up = s.given_up } };
+    ghost view = { λ s. record { worker = s.worker; lacked = s.lacked; given_up = s.given_up } };
 }
 
 impl<'a, L: RunName, T: Wait> PassPlace<'a, L, T> {
@@ -44,7 +44,7 @@ impl<'a, L: RunName, T: Wait> PassPlace<'a, L, T> {
             rt,
             commons,
             worker,
-            short: false,
+            lacked: false,
             given_up: false,
         }
     }
@@ -57,10 +57,10 @@ impl<'a, L: RunName, T: Wait> PassPlace<'a, L, T> {
     }
 
     /// Whether a call has found no memory.
-    pub fn fell_short(&self) -> bool
-        ensures { result ≡ self.now.short }
+    pub fn lacked_memory(&self) -> bool
+        ensures { result ≡ self.now.lacked }
     {
-        self.short
+        self.lacked
     }
 
     /// The worker, with all calls made here and the news told.
@@ -71,7 +71,7 @@ impl<'a, L: RunName, T: Wait> PassPlace<'a, L, T> {
             rt: _,
             commons: _,
             worker,
-            short: _,
+            lacked: _,
             given_up: _,
         } = self;
         worker
@@ -79,7 +79,7 @@ impl<'a, L: RunName, T: Wait> PassPlace<'a, L, T> {
 }
 
 impl<'a, L: RunName, T: Wait> Place for PassPlace<'a, L, T> {
-    ghost past = { λ s. worker_record L.setting s.worker s.short };
+    ghost past = { λ s. worker_record L.setting s.worker s.lacked };
 
     // A checker sees to the pieces that are completed here.
     ghost settles = { false };
@@ -90,7 +90,7 @@ impl<'a, L: RunName, T: Wait> Place for PassPlace<'a, L, T> {
         match self.commons.call(self.rt, &mut self.worker, call) {
             Ok(reply) => Ok(reply),
             Err(e) => {
-                self.short = true;
+                self.lacked = true;
                 Err(e)
             }
         }

@@ -4,14 +4,14 @@ ghost use Rattle.std.specs.Prelude.{◌≡◌, ◌≤◌, [], All, map, length, 
 ghost use Rattle.std.specs.PromisedHandle.{KeepsEach};
 ghost use Rattle.bt_peer.specs.Serial.{stream_record};
 ghost use Rattle.bt_peer.specs.SessionTerms.{terms_of};
-ghost use Rattle.bt_session.specs.Runs.{IsRunFault, Plays};
+ghost use Rattle.bt_session.specs.Runs.{IsRunFault, RunsSession};
 ghost use Rattle.bt_session.specs.declared.fault.SwarmFault.TheVariants.{NoThread};
 
 use crate::commons::{Commons, Worker};
 use crate::fault::SwarmFault;
 use crate::plan::Plan;
-use crate::played::{Played, play};
 use crate::run_name::RunName;
+use crate::session_thread::{EndedSession, run_session};
 use bt_history::MOST_DEPTH;
 use bt_meta::{Sink, Source, Torrent};
 use bt_peer::{Gate, Stream};
@@ -24,7 +24,7 @@ use std::thread::{Promise, PromisedHandle, Threads};
 /// What the thread of a session promises of what it gives back: a session of this torrent, to this depth and with this seed, from the worker
 /// and the stream that were handed to it.
 #[derive(Drop)]
-pub struct PlayOf<L: RunName, R, W> {
+pub struct SessionOf<L: RunName, R, W> {
     pub torrent: Snapshot<Arc<Torrent>>,
     pub depth: u32,
     pub seed: u64,
@@ -32,10 +32,10 @@ pub struct PlayOf<L: RunName, R, W> {
     pub stream: Snapshot<Stream<R, W>>,
 }
 
-impl<L: RunName, R: Source, W: Sink> Promise<Played<L, R, W>> for PlayOf<L, R, W> {
-    ghost kept_by = { λ p r. Plays r.end (terms_of p.torrent.value.value p.depth) L.setting p.seed
+impl<L: RunName, R: Source, W: Sink> Promise<EndedSession<L, R, W>> for SessionOf<L, R, W> {
+    ghost kept_by = { λ p r. RunsSession r.end (terms_of p.torrent.value.value p.depth) L.setting p.seed
         p.worker.value (stream_record R.left R.ended R.failed R.reads W.written W.failed p.stream.value)
-        r.worker (stream_record R.left R.ended R.failed R.reads W.written W.failed r.stream) r.short };
+        r.worker (stream_record R.left R.ended R.failed R.reads W.written W.failed r.stream) r.given_up };
 }
 
 /// Starts the thread of a session.
@@ -57,7 +57,7 @@ fn start<
     stream: Stream<R, W>,
     plan: Plan,
     gate: &'e G,
-) -> Result<PromisedHandle<Played<L, R, W>, PlayOf<L, R, W>>, SwarmFault>
+) -> Result<PromisedHandle<EndedSession<L, R, W>, SessionOf<L, R, W>>, SwarmFault>
     requires { (1 ≤ plan.rules.depth) × (plan.rules.depth ≤ MOST_DEPTH) }
     ensures terms { IfOk result (λ h.
         terms_of h.promise.torrent.value.value h.promise.depth ≡ terms_of torrent.value plan.rules.depth) }
@@ -66,20 +66,20 @@ fn start<
     ensures stream { IfOk result (λ h. h.promise.stream.value ≡ stream) }
     ensures err { IfErr result (λ fault. fault ≡ NoThread) }
 {
-    let promise = PlayOf {
+    let promise = SessionOf {
         torrent: Snapshot::of(&torrent),
         depth: plan.rules.depth,
         seed: plan.seed,
         worker: Snapshot::of(&worker),
         stream: Snapshot::of(&stream),
     };
-    let job = move || -> Played<L, R, W>
+    let job = move || -> EndedSession<L, R, W>
         requires { (1 ≤ plan.rules.depth) × (plan.rules.depth ≤ MOST_DEPTH) }
-        ensures { Plays result.end (terms_of torrent.value plan.rules.depth) L.setting plan.seed
+        ensures { RunsSession result.end (terms_of torrent.value plan.rules.depth) L.setting plan.seed
             worker (stream_record R.left R.ended R.failed R.reads W.written W.failed stream)
-            result.worker (stream_record R.left R.ended R.failed R.reads W.written W.failed result.stream) result.short }
+            result.worker (stream_record R.left R.ended R.failed R.reads W.written W.failed result.stream) result.given_up }
     {
-        play(
+        run_session(
             rt,
             alloc,
             torrent,
@@ -115,7 +115,7 @@ pub fn start_sessions<
     streams: Vec<Stream<R, W>>,
     plan: Plan,
     gate: &'e G,
-    handles: &mut Vec<PromisedHandle<Played<L, R, W>, PlayOf<L, R, W>>>,
+    handles: &mut Vec<PromisedHandle<EndedSession<L, R, W>, SessionOf<L, R, W>>>,
 ) -> Result<(), SwarmFault>
     requires count { length workers.items ≡ length streams.items }
     requires depth { (1 ≤ plan.rules.depth) × (plan.rules.depth ≤ MOST_DEPTH) }

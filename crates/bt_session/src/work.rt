@@ -5,16 +5,16 @@ ghost use Rattle.bt_meta.specs.Layout.{piece_count};
 ghost use Rattle.bt_peer.specs.Serial.{stream_record};
 ghost use Rattle.bt_peer.specs.SessionTerms.{terms_of};
 ghost use Rattle.bt_session.specs.Checking.{CheckersWork};
-ghost use Rattle.bt_session.specs.Swarms.{EachPlays};
+ghost use Rattle.bt_session.specs.Swarms.{EachRunsSession};
 ghost use Rattle.bt_session.specs.Runs.{ChecksLast, IsRunFault};
 ghost use Rattle.bt_session.specs.Workers.{WorkerState};
 
 use crate::commons::{Commons, Worker};
-use crate::crew::{Hands, Joined, crew};
+use crate::crew::{Hands, Returned, crew};
 use crate::fault::SwarmFault;
 use crate::plan::Plan;
 use crate::run_name::RunName;
-use crate::worked::{Worked, last_checks, part, part_checked};
+use crate::worked::{Worked, last_checks, part, part_checkers};
 use bt_history::MOST_DEPTH;
 use bt_meta::{Sink, Source};
 use bt_peer::{Gate, Stream};
@@ -44,7 +44,7 @@ pub fn work<
     requires depth { (1 ≤ plan.rules.depth) × (plan.rules.depth ≤ MOST_DEPTH) }
     ensures count { IfOk result (λ r. (length r.ends.items ≡ length streams.items) × (length r.streams.items ≡ length streams.items)
         × (length r.workers.items ≡ length workers.items)) }
-    ensures plays { IfOk result (λ r. EachPlays (stream_record R.left R.ended R.failed R.reads W.written W.failed)
+    ensures runs { IfOk result (λ r. EachRunsSession (stream_record R.left R.ended R.failed R.reads W.written W.failed)
         (terms_of commons.now plan.rules.depth) L.setting plan.seed workers.items streams.items r.ends.items r.workers.items r.streams.items
         r.given_up) }
     ensures checks { IfOk result (λ r. CheckersWork (length streams.items) plan.checkers workers.items r.workers.items) }
@@ -65,22 +65,22 @@ pub fn work<
         streams,
         checkers,
     };
-    let joined = crew(rt, alloc, commons, hands, last, plan, gate)?;
-    let Joined {
-        played,
-        checked,
+    let returned = crew(rt, alloc, commons, hands, last, plan, gate)?;
+    let Returned {
+        ended,
+        stopped,
         mut last,
-        short,
-    } = joined;
+        unstopped,
+    } = returned;
     let came_back = part(
-        played,
+        ended,
         &mut worked.ends,
         &mut worked.workers,
         &mut worked.streams,
     );
-    let given_up = part_checked(checked, &mut worked.workers);
+    let given_up = part_checkers(stopped, &mut worked.workers);
     let unfinished = last_checks(rt, alloc, commons, &mut last);
     worked.workers.push_reserved(last);
-    worked.given_up = short | came_back | given_up | unfinished;
+    worked.given_up = unstopped | came_back | given_up | unfinished;
     Ok(worked)
 }

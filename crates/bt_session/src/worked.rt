@@ -5,10 +5,10 @@ ghost use Rattle.std.specs.List.{list_any};
 ghost use Rattle.bt_meta.specs.Layout.{piece_count};
 ghost use Rattle.bt_session.specs.Runs.{ChecksLast};
 
-use crate::checker::Checked;
+use crate::checker::StoppedChecker;
 use crate::commons::{Commons, Worker};
-use crate::played::Played;
 use crate::run_name::RunName;
+use crate::session_thread::EndedSession;
 use bt_peer::{End, SessionFault, Stream};
 use std::alloc::{AllocError, Global};
 use std::sync::Wait;
@@ -45,9 +45,9 @@ impl<L: RunName, R: Drop, W: Drop> Worked<L, R, W> {
     }
 }
 
-/// Puts what the sessions gave back into three lists. Whether one was short.
+/// Puts what the sessions gave back into three lists. Whether something was given up.
 pub fn part<L: RunName, R: Drop, W: Drop>(
-    all: Vec<Played<L, R, W>>,
+    all: Vec<EndedSession<L, R, W>>,
     ends: &mut Vec<Result<End, SessionFault>>,
     workers: &mut Vec<Worker<L>>,
     streams: &mut Vec<Stream<R, W>>,
@@ -59,38 +59,38 @@ pub fn part<L: RunName, R: Drop, W: Drop>(
     ensures workers { workers.new.items ≡ map (λ p. p.worker) all.items }
     ensures streams { streams.new.items ≡ map (λ p. p.stream) all.items }
     ensures room { vec_capacity workers.new ≡ vec_capacity workers.old }
-    ensures short { result ≡ list_any (λ p. p.short) all.items }
+    ensures given_up { result ≡ list_any (λ p. p.given_up) all.items }
 {
-    let mut given_up = false;
-    for played in all {
-        let Played {
+    let mut any = false;
+    for session in all {
+        let EndedSession {
             end,
             worker,
             stream,
-            short,
-        } = played;
-        given_up |= short;
+            given_up,
+        } = session;
+        any |= given_up;
         ends.push_reserved(end);
         workers.push_reserved(worker);
         streams.push_reserved(stream);
     }
-    given_up
+    any
 }
 
 /// Puts the checkers behind the workers of the sessions. Whether a check was given up.
-pub fn part_checked<L: RunName>(all: Vec<Checked<L>>, workers: &mut Vec<Worker<L>>) -> bool
+pub fn part_checkers<L: RunName>(all: Vec<StoppedChecker<L>>, workers: &mut Vec<Worker<L>>) -> bool
     requires room { length workers.old.items + length all.items ≤ vec_capacity workers.old }
     ensures workers { workers.new.items ≡ workers.old.items ++ map (λ c. c.worker) all.items }
     ensures room { vec_capacity workers.new ≡ vec_capacity workers.old }
-    ensures short { result ≡ list_any (λ c. c.short) all.items }
+    ensures given_up { result ≡ list_any (λ c. c.given_up) all.items }
 {
-    let mut given_up = false;
-    for checked in all {
-        let Checked { worker, short } = checked;
-        given_up |= short;
+    let mut any = false;
+    for checker in all {
+        let StoppedChecker { worker, given_up } = checker;
+        any |= given_up;
         workers.push_reserved(worker);
     }
-    given_up
+    any
 }
 
 /// The last checks: each piece that waits for one, in rising order, is hashed and settled. Whether one was given up for want of memory.

@@ -108,7 +108,7 @@ fn play<R: Source, W: Sink>(
     let end = session(
         alloc, torrent, worker, reader, writer, &mut place, &mut rng, 5,
     );
-    had_memory(place.fell_short(), &[end])?;
+    had_memory(place.lacked_memory(), &[end])?;
     Ok(end)
 }
 

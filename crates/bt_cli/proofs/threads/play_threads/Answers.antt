@@ -4,14 +4,14 @@ use Rattle.bt_cli.proofs.threads.play_threads.Goals as goal
 
 pub returns-clause-ran : goal.returns-clause-ran
 returns-clause-ran g c = λ t. λ is.
-    let run = c.in_ok-played.played.run in
-    let made = c.in_ok-played.ensures.played in
-    let same : c.in_ok-played.played.torrent.value ≡ t = cc (is, made.is_torrent) in
+    let run = c.in_ok-ran.ran.run in
+    let made = c.in_ok-ran.ensures.ran in
+    let same : c.in_ok-ran.ran.torrent.value ≡ t = cc (is, made.is_torrent) in
     rw (← same) record {
       ends = run.ends.items;
       short = run.short;
       left = run.streams.items;
-      played = rw made.is_torrent at made;
+      run = rw made.is_torrent at made;
       told = rw c.deref.ensures.value at c.tell-ended.ensures;
     }
 

@@ -1,5 +1,5 @@
 use Rattle.std.proofs.Common.{◌≡◌, length}
-use Rattle.bt_peer.specs.Standing.{AreNew}
+use Rattle.bt_peer.specs.Course.{AreNew}
 use Rattle.bt_peer.specs.SessionTerms.{terms_of}
 use Rattle.bt_peer.proofs.rounds.new_seats.Given as goal
 

@@ -9,7 +9,7 @@ loop-i-preserved g c =
     let before = c.loop-i.invariant in
     let turn = c.turn_of-turns.ensures in
     record {
-      played = TookTurns-join (stream_of g.R.Source g.W.Sink) _ _ _ _ _ _ _ _ _ before.played turn.played;
+      took = TookTurns-join (stream_of g.R.Source g.W.Sink) _ _ _ _ _ _ _ _ _ before.took turn.took;
       progress = progress_on c.turn_of-turns.result c.loop-i.turns _ _ c.loop-i.seats _ before.progress turn.falls turn.same turn.ended;
     }
 

@@ -16,9 +16,9 @@ gather-requires-clause-order g c =
     let many : length c.in_ok-commons.all.items ≡ length c.args.streams.items + c.args.plan.checkers + 1 = search rules in
     in_order (ran_by
     {record_of = stream_record g.R.Source.left g.R.Source.ended g.R.Source.failed g.R.Source.reads g.W.Sink.written g.W.Sink.failed}
-    {streams' = c.in_ok-worked.worked.streams.items} made.torrent c.requires.streams.0 made.fresh many did.count.2 refl did.plays did.checks did.last)
+    {streams' = c.in_ok-worked.worked.streams.items} made.torrent c.requires.streams.0 made.fresh many did.count.2 refl did.runs did.checks did.last)
 
--- the sessions played, the checkers checked, and the last worker made the last checks
+-- the sessions ran, the checkers checked, and the last worker made the last checks
 ran : (g : given.Over) (c : goal.After-is_short-short g) → Ran
     (stream_record g.R.Source.left g.R.Source.ended g.R.Source.failed g.R.Source.reads g.W.Sink.written g.W.Sink.failed)
     (terms_of c.args.torrent.value c.args.plan.rules.depth) g.L.RunName.setting c.args.plan.seed (length c.args.streams.items) c.args.plan.checkers
@@ -28,7 +28,7 @@ ran g c =
     let made = c.in_ok-commons.ensures in
     let did = c.in_ok-worked.ensures in
     let many : length c.in_ok-commons.all.items ≡ length c.args.streams.items + c.args.plan.checkers + 1 = search rules in
-    ran_by made.torrent c.requires.streams.0 made.fresh many did.count.2 refl did.plays did.checks did.last
+    ran_by made.torrent c.requires.streams.0 made.fresh many did.count.2 refl did.runs did.checks did.last
 
 pub returns-clause-sessions : goal.returns-clause-sessions
 returns-clause-sessions g c =

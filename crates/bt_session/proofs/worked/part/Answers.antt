@@ -14,19 +14,19 @@ moved : {X Y : Type 0} (part : X → Y) (old new all : List Y) (items rest : Lis
 moved part old new all items rest x more left was =
     ap (λ l. l ++ map part rest) more ∙ append_assoc old (part x ∷ []) (map part rest) ∙ ap (λ l. old ++ map part l) (sym left) ∙ was
 
-pub loop-played-preserved : goal.loop-played-preserved
-loop-played-preserved g c = record {
-  ends = moved (λ p. p.end) _ _ _ _ _ c.in-Some.played c.push_reserved.ensures.items c.in-Some.ensures.steps.0 c.loop-played.invariant.ends;
-  workers = moved (λ p. p.worker) _ _ _ _ _ c.in-Some.played c.push_reserved-in-loop-played.ensures.items c.in-Some.ensures.steps.0
-      c.loop-played.invariant.workers;
-  streams = moved (λ p. p.stream) _ _ _ _ _ c.in-Some.played c.push_reserved-in-loop-played-2.ensures.items c.in-Some.ensures.steps.0
-      c.loop-played.invariant.streams;
+pub loop-session-preserved : goal.loop-session-preserved
+loop-session-preserved g c = record {
+  ends = moved (λ p. p.end) _ _ _ _ _ c.in-Some.session c.push_reserved.ensures.items c.in-Some.ensures.steps.0 c.loop-session.invariant.ends;
+  workers = moved (λ p. p.worker) _ _ _ _ _ c.in-Some.session c.push_reserved-in-loop-session.ensures.items c.in-Some.ensures.steps.0
+      c.loop-session.invariant.workers;
+  streams = moved (λ p. p.stream) _ _ _ _ _ c.in-Some.session c.push_reserved-in-loop-session-2.ensures.items c.in-Some.ensures.steps.0
+      c.loop-session.invariant.streams;
   room_ends = grind (arith, common_steps);
   room_workers = grind (arith, common_steps);
   same = grind (arith, common_steps);
   room_streams = grind (arith, common_steps);
-  short = or_assoc c.loop-played.given_up c.in-Some.played.short _
-      ∙ (ap (λ items. c.loop-played.given_up || list_any (λ p. p.short) items) (sym c.in-Some.ensures.steps.0) ∙ c.loop-played.invariant.short);
+  given_up = or_assoc c.loop-session.any c.in-Some.session.given_up _
+      ∙ (ap (λ items. c.loop-session.any || list_any (λ p. p.given_up) items) (sym c.in-Some.ensures.steps.0) ∙ c.loop-session.invariant.given_up);
 }
 
 pub returns-clause-ends : goal.returns-clause-ends
@@ -38,5 +38,5 @@ returns-clause-workers g c = grind (arith, common_steps)
 pub returns-clause-streams : goal.returns-clause-streams
 returns-clause-streams g c = grind (arith, common_steps)
 
-pub returns-clause-short : goal.returns-clause-short
-returns-clause-short g c = grind (arith, common_steps)
+pub returns-clause-given_up : goal.returns-clause-given_up
+returns-clause-given_up g c = grind (arith, common_steps)

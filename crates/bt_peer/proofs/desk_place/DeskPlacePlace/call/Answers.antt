@@ -8,7 +8,7 @@ pub returns-in-Ok-clause-ok : goal.returns-in-Ok-clause-ok
 returns-in-Ok-clause-ok c =
     let place = c.args.self.now in
     called (place.desk.ghost_name ∷ place.told.ghost_name ∷ []) place.desk.now c.call.new.self place.worker
-    (action_of c.args.call) c.in-Ok.reply place.told.now place.short c.in-Ok.ensures.ok
+    (action_of c.args.call) c.in-Ok.reply place.told.now place.lacked c.in-Ok.ensures.ok
 
 pub invariant_of-self : goal.invariant_of-self
 invariant_of-self c =

@@ -9,7 +9,7 @@ returns-in-Some-clause-some c =
     let place = c.args.self.now in
     let finds = c.in-Some.ensures in
     rw c.set.ensures (told_one (place.desk.ghost_name ∷ place.told.ghost_name ∷ []) place.desk.now place.worker c.in-Some.piece place.told.now
-    place.short finds.0 (found_had place.desk.now place.told.now c.in-Some.piece place.pieces finds) finds.1)
+    place.lacked finds.0 (found_had place.desk.now place.told.now c.in-Some.piece place.pieces finds) finds.1)
 
 pub returns-in-Some-clause-least : goal.returns-in-Some-clause-least
 returns-in-Some-clause-least c =

@@ -8,7 +8,7 @@ returns-then-not-puts-clause-ok g c =
       [],
       (
         inl refl,
-        puts_gains g.L.RunName.setting c.self.inside.worker c.puts.new.worker c.self.inside.short c.puts.result _
+        puts_gains g.L.RunName.setting c.self.inside.worker c.puts.new.worker c.self.inside.lacked c.puts.result _
             c.puts.ensures,
       ),
     )
@@ -19,7 +19,7 @@ returns-else-not-puts-clause-ok g c =
       [],
       (
         inl refl,
-        puts_gains g.L.RunName.setting c.self.inside.worker c.puts.new.worker c.self.inside.short c.puts.result _
+        puts_gains g.L.RunName.setting c.self.inside.worker c.puts.new.worker c.self.inside.lacked c.puts.result _
             c.puts.ensures,
       ),
     )

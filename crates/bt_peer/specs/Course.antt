@@ -1,4 +1,4 @@
--- How a session stands that takes its turns among others. Only contracts within the crate cite this module.
+-- The course of a session that takes its turns among others. Only contracts within the crate cite this module.
 use Rattle.std.specs.Prelude.{◌≡◌, ◌≢◌, ◌≤◌, ◌<◌, ℕ, Bool, true, false, List, [], All, length, replicate, slice_index_or, suc, Option, Some, None}
 use Rattle.std.specs.Prelude.{Result, Ok, Err}
 use Rattle.bt_meta.specs.Layout.{piece_count}
@@ -21,27 +21,27 @@ use Rattle.bt_peer.specs.Sessions.{SessionState, Running, begun, to_hear}
 use Rattle.bt_peer.specs.SessionTerms.{TermsState, pieces_of}
 use Rattle.bt_peer.specs.Steps.{Surroundings}
 
--- what a run knows of one of its streams
-pub record Standing : Type 0 where
+-- what a run knows of one of its streams: how far its session came
+pub record Course : Type 0 where
   pub desk : DeskState
   pub session : SessionState
   pub told : List Bool
   pub stream : StreamRecord
   -- a call of its last turn found no memory
-  pub short : Bool
+  pub lacked : Bool
   -- all that its generator will answer
   pub generator : Numbers
 
 -- desk, seat and stream together
-abbrev pub standing : DeskState → Seat → StreamRecord → Standing
-standing desk seat stream =
-    record { desk = desk; session = seat.session; told = seat.told; stream = stream; short = seat.short; generator = answers_of seat.rng }
+abbrev pub course_of : DeskState → Seat → StreamRecord → Course
+course_of desk seat stream =
+    record { desk = desk; session = seat.session; told = seat.told; stream = stream; lacked = seat.lacked; generator = answers_of seat.rng }
 
 -- the session runs, in surroundings that lacked no memory, or it ended so in these
-abbrev pub StandsBy : Option (Result End SessionFault) → TermsState → ℕ → Surroundings → SessionState → SourceState →
+abbrev pub SessionBy : Option (Result End SessionFault) → TermsState → ℕ → Surroundings → SessionState → SourceState →
     Surroundings → Surroundings → Type 0
-StandsBy None terms worker out session source unlacking here = Running terms worker out session unlacking
-StandsBy (Some outcome) terms worker out session source unlacking here = EndsAs outcome terms worker out source here
+SessionBy None terms worker out session source unlacking here = Running terms worker out session unlacking
+SessionBy (Some outcome) terms worker out session source unlacking here = EndsAs outcome terms worker out source here
 
 -- what the devices say of a session that runs, or that ended so
 abbrev pub DevicesBy : Option (Result End SessionFault) → StreamRecord → StreamRecord → Type 0
@@ -54,19 +54,19 @@ ConductBy None generator old new left = Conducts true generator old new left
 ConductBy (Some (Ok end)) generator old new left = Conducts true generator old new left
 ConductBy (Some (Err fault)) generator old new left = DrawsNumbers generator old new
 
--- a session that began in these surroundings, with that generator and that stream, stands so
-pub record Stands (terms : TermsState) (worker : ℕ) (generator : Numbers) (out : Surroundings) (first : StreamRecord) (now : Standing) : Type 0 where
-  pub stands : StandsBy now.session.outcome terms worker out now.session (source_of now.stream now.session.reads)
-      (around now.desk worker now.told false now.stream) (around now.desk worker now.told now.short now.stream)
+-- a session that began in these surroundings, with that generator and that stream, came so far
+pub record IsCourse (terms : TermsState) (worker : ℕ) (generator : Numbers) (out : Surroundings) (first : StreamRecord) (now : Course) : Type 0 where
+  pub session : SessionBy now.session.outcome terms worker out now.session (source_of now.stream now.session.reads)
+      (around now.desk worker now.told false now.stream) (around now.desk worker now.told now.lacked now.stream)
   pub conduct : ConductBy now.session.outcome generator out.past.calls (calls_in now.desk.history worker) now.generator
   pub devices : DevicesBy now.session.outcome first now.stream
   pub counted : first.reads ≡ 0 → now.stream.reads ≡ now.session.reads
   pub most : now.session.reads ≤ most_reads
 
--- a session that stood goes on standing
-pub record Keeps (worker : ℕ) (old new : Standing) : Type 0 where
+-- where a session came so far as before, it came so far as now
+pub record Keeps (worker : ℕ) (old new : Course) : Type 0 where
   pub still : (terms : TermsState) (generator : Numbers) (out : Surroundings) (first : StreamRecord) →
-      Stands terms worker generator out first old → Stands terms worker generator out first new
+      IsCourse terms worker generator out first old → IsCourse terms worker generator out first new
 
 -- a worker's turn leaves alone what the others called, and what is had stays had
 pub record LeavesOthers (worker : ℕ) (old new : DeskState) : Type 0 where
@@ -84,11 +84,11 @@ left_after (Some outcome) left = 0
 abbrev pub left_of : Seat → ℕ
 left_of seat = left_after seat.session.outcome (to_hear seat.session)
 
--- each stream's session goes on standing
+-- the course of each stream's session goes on
 abbrev pub EachKeeps : {X : Type 0} → (X → StreamRecord) → DeskState → List Seat → List X → DeskState → List Seat → List X → Type 0
 EachKeeps {X} record_of desk seats streams desk' seats' streams' = (i : ℕ) (seat : Seat) (stream : X) → i < length streams →
-    Keeps i (standing desk (slice_index_or seats i seat) (record_of (slice_index_or streams i stream)))
-    (standing desk' (slice_index_or seats' i seat) (record_of (slice_index_or streams' i stream)))
+    Keeps i (course_of desk (slice_index_or seats i seat) (record_of (slice_index_or streams i stream)))
+    (course_of desk' (slice_index_or seats' i seat) (record_of (slice_index_or streams' i stream)))
 
 -- turns of the first so many workers leave the others alone
 pub record LeavesRest (count : ℕ) (old new : DeskState) : Type 0 where
@@ -101,19 +101,19 @@ pub record NotesPieces (desk : DeskState) (seat : Seat) : Type 0 where
   pub told : AreTold seat.told seat.seen (finished desk.history)
 
 -- a run may take turns: each stream has a seat and a worker, and there is one worker more
-pub record MayPlay {X : Type 0} (desk : DeskState) (seats : List Seat) (streams : List X) : Type 0 where
+pub record MayTakeTurns {X : Type 0} (desk : DeskState) (seats : List Seat) (streams : List X) : Type 0 where
   pub seated : length seats ≡ length streams
   pub workers : length streams < desk.setting.workers
   pub few : length streams ≤ MOST_STREAMS
   pub fit : All (NotesPieces desk) seats
 
--- a run took turns: each stream's session goes on standing, the other workers are left alone, and the run may go on
+-- a run took turns: the course of each stream's session goes on, the other workers are left alone, and the run may go on
 pub record TookTurns {X : Type 0} (record_of : X → StreamRecord) (desk : DeskState) (seats : List Seat) (streams : List X)
     (desk' : DeskState) (seats' : List Seat) (streams' : List X) : Type 0 where
   pub count : length streams' ≡ length streams
   pub keeps : EachKeeps record_of desk seats streams desk' seats' streams'
   pub rest : LeavesRest (length streams) desk desk'
-  pub may : MayPlay desk' seats' streams'
+  pub may : MayTakeTurns desk' seats' streams'
 
 -- the session at a seat has ended
 abbrev pub HasEnded : Seat → Type 0

@@ -3,7 +3,7 @@
 ghost use Rattle.std.specs.Prelude.{◌≤◌};
 ghost use Rattle.bt_peer.specs.Serial.{stream_record};
 ghost use Rattle.bt_peer.specs.SessionTerms.{terms_of};
-ghost use Rattle.bt_session.specs.Runs.{Plays};
+ghost use Rattle.bt_session.specs.Runs.{RunsSession};
 
 use crate::commons::{Commons, Worker};
 use crate::pass_place::PassPlace;
@@ -18,16 +18,16 @@ use std::sync::{Arc, Wait};
 
 /// What the thread of a session gives back.
 #[derive(Drop)]
-pub struct Played<L: RunName, R, W> {
+pub struct EndedSession<L: RunName, R, W> {
     pub end: Result<End, SessionFault>,
     pub worker: Worker<L>,
     pub stream: Stream<R, W>,
     /// A ticket came back, and its piece was left to the last checks; or a call found no memory, the Leave after a fault perhaps.
-    pub short: bool,
+    pub given_up: bool,
 }
 
 /// A whole session at a shared desk, with the numbers of the generator of its worker's number.
-pub fn play<L: RunName, R: Source, W: Sink, T: Wait, G: Gate>(
+pub fn run_session<L: RunName, R: Source, W: Sink, T: Wait, G: Gate>(
     rt: &T,
     alloc: Global,
     torrent: Arc<Torrent>,
@@ -37,11 +37,11 @@ pub fn play<L: RunName, R: Source, W: Sink, T: Wait, G: Gate>(
     seed: u64,
     depth: u32,
     gate: &G,
-) -> Played<L, R, W>
+) -> EndedSession<L, R, W>
     requires { (1 ≤ depth) × (depth ≤ MOST_DEPTH) }
-    ensures { Plays result.end (terms_of torrent.value depth) L.setting seed
+    ensures { RunsSession result.end (terms_of torrent.value depth) L.setting seed
         worker (stream_record R.left R.ended R.failed R.reads W.written W.failed stream)
-        result.worker (stream_record R.left R.ended R.failed R.reads W.written W.failed result.stream) result.short }
+        result.worker (stream_record R.left R.ended R.failed R.reads W.written W.failed result.stream) result.given_up }
 {
     let number = worker.number();
     let mut rng = Lcg64Xsh32::new(seed, u64::from(number));
@@ -58,11 +58,11 @@ pub fn play<L: RunName, R: Source, W: Sink, T: Wait, G: Gate>(
         depth,
         gate,
     );
-    let short = place.gave_up() | place.fell_short();
-    Played {
+    let given_up = place.gave_up() | place.lacked_memory();
+    EndedSession {
         end,
         worker: place.into_worker(),
         stream,
-        short,
+        given_up,
     }
 }

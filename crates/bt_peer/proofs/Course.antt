@@ -1,4 +1,4 @@
--- How a session goes on standing while others take their turns.
+-- The course of a session goes on while others take their turns.
 use Rattle.std.proofs.Common.{◌≡◌, ◌≢◌, ℕ, Bool, false, List, [], ◌∷◌, ◌++◌, Option, Some, None, Result, Ok, Err, refl, sym, subst, ◌∙◌, inl, inr}
 use Rattle.std.proofs.lemmas.List.{append-nil}
 use Rattle.std.specs.Io.KnownBytes.{Appends, Consumes, IsAtEnd}
@@ -13,7 +13,7 @@ use Rattle.bt_peer.specs.Places.{PlaceRecord, Gains, GainsUpTo}
 use Rattle.bt_peer.specs.Outlets.{WroteFront}
 use Rattle.bt_peer.specs.Serial.{StreamRecord, EndsAs, around, source_of}
 use Rattle.bt_peer.specs.Sessions.{SessionState, FailsWith, IsWhole, IsUntouched, TookTurns, Running}
-use Rattle.bt_peer.specs.Standing.{Standing, StandsBy, ConductBy, Keeps, LeavesOthers}
+use Rattle.bt_peer.specs.Course.{Course, SessionBy, ConductBy, Keeps, LeavesOthers}
 use Rattle.bt_peer.specs.SessionTerms.{TermsState, pieces_of}
 use Rattle.bt_peer.specs.Steps.{Surroundings, Departs}
 use Rattle.bt_peer.proofs.Asked.{asked_later}
@@ -74,7 +74,7 @@ took_later terms worker out now old new later took = record {
   unended = took.unended;
 }
 
--- a session that runs on, one that came to its end, and one that a fault cut short (`stands_later` goes through the three)
+-- a session that runs on, one that came to its end, and one that a fault cut short (`session_later` goes through the three)
 running_later : (terms : TermsState) (worker : ℕ) (out : Surroundings) (now : SessionState) (old new : Surroundings) → HasIdled old new →
     Running terms worker out now old → Running terms worker out now new
 running_later terms worker out now old new later running =
@@ -113,7 +113,7 @@ fails_later fault state out source last old new later fails = record {
   acts = fails.acts;
   leave = fails.leave;
   gains = up_to_later out.past (fails.acts ++ fails.leave) old.past new.past fails.gains later.gains;
-  departs = subst (λ (short : Bool). Departs (is_in state.joined fails.acts) short fails.leave) (sym later.gains.short) fails.departs;
+  departs = subst (λ (lacked : Bool). Departs (is_in state.joined fails.acts) lacked fails.leave) (sym later.gains.lacked) fails.departs;
   wrote = front_later fault _ _ _ _ later.written fails.wrote;
   cause = fails.cause;
   outcome = fails.outcome;
@@ -131,23 +131,23 @@ ends_later (Err fault) terms worker out source old new later cut = record {
   fails = fails_later fault cut.now cut.mid source cut.new old new later cut.fails;
 }
 
-pub stands_later : (outcome : Option (Result End SessionFault)) (terms : TermsState) (worker : ℕ) (out : Surroundings) (now : SessionState)
-    (source : SourceState) (short : Bool) (old new : Bool → Surroundings) → ((short : Bool) → HasIdled (old short) (new short)) →
-    StandsBy outcome terms worker out now source (old false) (old short) → StandsBy outcome terms worker out now source (new false) (new short)
-stands_later None terms worker out now source short old new later stands =
-    running_later terms worker out now (old false) (new false) (later false) stands
-stands_later (Some outcome) terms worker out now source short old new later stands =
-    ends_later outcome terms worker out source (old short) (new short) (later short) stands
+pub session_later : (outcome : Option (Result End SessionFault)) (terms : TermsState) (worker : ℕ) (out : Surroundings) (now : SessionState)
+    (source : SourceState) (lacked : Bool) (old new : Bool → Surroundings) → ((lacked : Bool) → HasIdled (old lacked) (new lacked)) →
+    SessionBy outcome terms worker out now source (old false) (old lacked) → SessionBy outcome terms worker out now source (new false) (new lacked)
+session_later None terms worker out now source lacked old new later course =
+    running_later terms worker out now (old false) (new false) (later false) course
+session_later (Some outcome) terms worker out now source lacked old new later course =
+    ends_later outcome terms worker out source (old lacked) (new lacked) (later lacked) course
 
 -- while another worker takes a turn
-pub others_stand : (worker other : ℕ) (old new : DeskState) (session : SessionState) (told : List Bool) (stream : StreamRecord)
-    (short : Bool) (generator : Numbers) →
+pub others_keep : (worker other : ℕ) (old new : DeskState) (session : SessionState) (told : List Bool) (stream : StreamRecord)
+    (lacked : Bool) (generator : Numbers) →
     LeavesOthers worker old new → other ≢ worker →
-    Keeps other (record { desk = old; session = session; told = told; stream = stream; short = short; generator = generator })
-    (record { desk = new; session = session; told = told; stream = stream; short = short; generator = generator })
-others_stand worker other old new session told stream short generator left apart =
-    let later : (short : Bool) → HasIdled (around old other told short stream) (around new other told short stream) =
-    λ short. record {
+    Keeps other (record { desk = old; session = session; told = told; stream = stream; lacked = lacked; generator = generator })
+    (record { desk = new; session = session; told = told; stream = stream; lacked = lacked; generator = generator })
+others_keep worker other old new session told stream lacked generator left apart =
+    let later : (lacked : Bool) → HasIdled (around old other told lacked stream) (around new other told lacked stream) =
+    λ lacked. record {
       left = refl;
       gains = record {
         up_to = record {
@@ -161,28 +161,28 @@ others_stand worker other old new session told stream short generator left apart
           told = λ piece. refl;
           finished = tt;
         };
-        short = refl;
+        lacked = refl;
       };
       written = refl;
     } in
     record {
-      still = λ terms. λ begun. λ out. λ first. λ stands. record {
-        stands = stands_later session.outcome terms other out session (source_of stream session.reads) short
-            (λ short. around old other told short stream) (λ short. around new other told short stream) later stands.stands;
+      still = λ terms. λ begun. λ out. λ first. λ course. record {
+        session = session_later session.outcome terms other out session (source_of stream session.reads) lacked
+            (λ lacked. around old other told lacked stream) (λ lacked. around new other told lacked stream) later course.session;
         conduct = subst (λ (calls : Calls). ConductBy session.outcome begun out.past.calls calls generator) (sym (left.calls other apart))
-            stands.conduct;
-        devices = stands.devices;
-        counted = stands.counted;
-        most = stands.most;
+            course.conduct;
+        devices = course.devices;
+        counted = course.counted;
+        most = course.most;
       };
     }
 
-pub Keeps-refl : (worker : ℕ) (now : Standing) → Keeps worker now now
-Keeps-refl worker now = record { still = λ terms. λ generator. λ out. λ first. λ stands. stands }
+pub Keeps-refl : (worker : ℕ) (now : Course) → Keeps worker now now
+Keeps-refl worker now = record { still = λ terms. λ generator. λ out. λ first. λ course. course }
 
-pub Keeps-join : (worker : ℕ) (a b c : Standing) → Keeps worker a b → Keeps worker b c → Keeps worker a c
+pub Keeps-join : (worker : ℕ) (a b c : Course) → Keeps worker a b → Keeps worker b c → Keeps worker a c
 Keeps-join worker a b c first then =
     record {
-      still = λ terms. λ generator. λ out. λ stream. λ stands.
-          then.still terms generator out stream (first.still terms generator out stream stands);
+      still = λ terms. λ generator. λ out. λ stream. λ course.
+          then.still terms generator out stream (first.still terms generator out stream course);
     }

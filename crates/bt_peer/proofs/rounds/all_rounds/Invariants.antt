@@ -1,7 +1,7 @@
 use Rattle.std.proofs.Common.{sum_by}
 use Rattle.bt_peer.specs.Serial.{stream_of}
-use Rattle.bt_peer.specs.Standing.{TookTurns, left_of}
-use Rattle.bt_peer.proofs.rounds.play.Given as goal
+use Rattle.bt_peer.specs.Course.{TookTurns, left_of}
+use Rattle.bt_peer.proofs.rounds.all_rounds.Given as goal
 
 abbrev pub invariant-rounds : goal.invariant-rounds
 invariant-rounds g l = TookTurns (stream_of g.R.Source g.W.Sink) l.fn.desk l.fn.seats l.fn.streams l.desk l.seats l.streams
