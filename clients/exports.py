@@ -18,6 +18,7 @@ from pathlib import Path
 
 HERE = Path(__file__).resolve().parent
 SOURCES = HERE.parent / "crates" / "bt_c" / "src"
+REASONS = SOURCES.parent.parent / "bt_history/src/call.rt"
 HEADER = HERE / "piecepick.h"
 NATIVE = HERE / "python" / "piecepick" / "_native.py"
 PREFIX = "piecepick_"
@@ -198,7 +199,7 @@ def numbers() -> dict[str, Numbers]:
     return {
         "Status": status,
         "Kind": {"NONE": 0} | {snake(name): int(number) for name, number in kinds.items()},
-        "Reason": {"NONE": 0} | {snake(name): int(number) for name, number in arms(SOURCES / "answer.rt", r"\bReason::(\w+) => (\d+),")},
+        "Reason": {"NONE": 0} | {snake(name): int(number) for name, number in arms(REASONS, r"\bReason::(\w+) => (\d+),")},
         "Keeps": {snake(name): int(number) for number, name in arms(SOURCES / "options.rt", r"\b(\d+) => Some\(Keeping::(\w+)\)")},
     }
 
