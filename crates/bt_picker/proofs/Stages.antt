@@ -2,7 +2,7 @@
 use Rattle.std.proofs.Common.{◌≡◌, ◌⊎◌, ℕ, ◌+◌, ◌-◌, ◌*◌, ◌<◌, ◌≤◌, ◌==◌, Bool, true, false, not, ◌&&◌, List, length, refl, ap, sym, ◌∙◌, subst}
 use Rattle.std.proofs.Common.{arith, ⊎_elim, inl, inr}
 use Rattle.std.specs.Prelude.{nat_lt, min, if◌then◌else◌}
-use Rattle.std.proofs.lemmas.Bool.{and_from, and_parts, cases_eq, cases_lt, eq-eqb, lt-ltb, ltb-true}
+use Rattle.std.proofs.lemmas.Bool.{and_from, and_parts, cases_eq, cases_lt, eq-eqb, lt-ltb}
 use Rattle.bt_meta.specs.Layout.{piece_count}
 use Rattle.bt_history.specs.Setting.{Setting, some_block_of, each_block_of}
 use Rattle.bt_history.specs.History.{History}

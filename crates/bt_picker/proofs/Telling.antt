@@ -13,7 +13,7 @@ use Rattle.bt_history.specs.Pieces.{had, held, full, held_or_asked, availability
 use Rattle.bt_history.proofs.Below.{count_most, count_same}
 use Rattle.bt_history.proofs.Sending.{sender_held}
 use Rattle.bt_picker.specs.Tables.{piece_of, cell_of}
-use Rattle.bt_picker.specs.Search.{FindsListed, FindsRarest, IsRarer}
+use Rattle.bt_picker.specs.Search.{FindsRarest, IsRarer}
 use Rattle.bt_tables.specs.Standings.{is_held, is_touched, held_count, touched_count, stage_of_row}
 use Rattle.bt_tables.specs.declared.piece.Stage.{Stage}
 use Rattle.bt_tables.specs.declared.piece.Stage.TheVariants.{AskedOut, Open, Resting, Unbegun}

@@ -24,6 +24,20 @@ impl<'a> Position<'a> {
         self.asks(worker, &self.block(piece, index)) && self.asker_count(piece, index) == 1
     }
 
+    /// Whether a block is stored of which not its own peer alone was asked.
+    #[inline(always)]
+    fn stores_beyond(&self, worker: u32, told: &Told<'_>, reply: Reply) -> bool
+        requires worker { worker < self.now.setting.workers }
+        requires allowed { IsAllowed self.now.setting self.now.history (telling worker told.now reply) }
+        requires counted { counts reply ≡ true }
+        ensures { result ≡ stores_beyond self.now.setting self.now.history (telling worker told.now reply) (action_told told.now) }
+    {
+        let Told::Arrived { piece, begin, .. } = told else {
+            return false;
+        };
+        reply.is_stored() && !self.is_asked_alone(worker, *piece, *begin)
+    }
+
     /// Whether what is told, with this reply, frees blocks, changes what is wanted, or stores a block of which not its own peer alone was asked.
     #[inline(always)]
     pub fn stirs(&self, worker: u32, told: &Told<'_>, reply: Reply) -> bool
@@ -35,24 +49,6 @@ impl<'a> Position<'a> {
         if reply.is_refusal() {
             return false;
         }
-        match told {
-            Told::Join
-            | Told::Choke
-            | Told::Leave
-            | Told::Want(_)
-            | Told::Release { .. }
-            | Told::Level { .. }
-            | Told::Levels(_) => true,
-            Told::Arrived { piece, begin, .. } => {
-                reply.is_stored() && !self.is_asked_alone(worker, *piece, *begin)
-            }
-            Told::Bits(_)
-            | Told::Have(_)
-            | Told::Haves(_)
-            | Told::Unchoke
-            | Told::Depth(_)
-            | Told::InOrder(_)
-            | Told::Next(_) => false,
-        }
+        told.unsettles() || self.stores_beyond(worker, told, reply)
     }
 }

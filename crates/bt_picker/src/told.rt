@@ -2,7 +2,8 @@
 
 ghost use Rattle.std.specs.Prelude.{◌≡◌};
 ghost use Rattle.bt_history.specs.Entries.{action_of};
-ghost use Rattle.bt_picker.specs.Told.{action_lent};
+ghost use Rattle.bt_history.specs.Epochs.{unsettles};
+ghost use Rattle.bt_picker.specs.Told.{action_lent, action_told};
 
 use bt_check::Verdict;
 use bt_history::Call;
@@ -51,6 +52,25 @@ pub enum Told<'a> {
     Levels(&'a [u8]),
     /// From now on pieces of one level come in rising order, or the rarest first.
     InOrder(bool),
+}
+
+impl<'a> Told<'a> {
+    /// Whether the call frees blocks or changes what is wanted.
+    #[inline(always)]
+    pub fn unsettles(&self) -> bool
+        ensures { result ≡ unsettles (action_told self.now) }
+    {
+        match self {
+            Told::Join
+            | Told::Choke
+            | Told::Leave
+            | Told::Want(_)
+            | Told::Release { .. }
+            | Told::Level { .. }
+            | Told::Levels(_) => true,
+            _ => false,
+        }
+    }
 }
 
 /// A call with what it carries lent: the check of a piece, or what is told of a peer.
