@@ -12,6 +12,7 @@ from __future__ import annotations
 import copy
 import re
 from collections.abc import Iterable
+from dataclasses import astuple
 
 from model import Model, Refused, Rules, Torrent
 
@@ -27,10 +28,10 @@ TORRENTS: dict[str, tuple[int, int, list[str]]] = {  # name: piece length, total
     "two_blocks": (32768, 65536, [ABC, ABC]),
     "many_blocks": (1000000, 1000000, [MILLION]),
     "four_pieces": (3, 12, [ABC, ABC, ABC, ABC]),
+    "four_pairs": (32768, 131072, [ABC, ABC, ABC, ABC]),
+    "two_pairs_and_a_byte": (32768, 65537, [ABC, ABC, A]),
 }
 
-USUAL = (5, 1)  # depth, random
-MOST_WORKERS, MOST_DEPTH = 1024, 64  # in endgame any number of peers for a block, and no depth told beyond 64: the usual rules
 
 
 def enters(worker: int, bits: str) -> list[str]:
@@ -53,7 +54,12 @@ RARE_FIRST = enters(0, "e0") + ["1 join = joined", "1 bits c0 = noted yes", "0 n
 RAREST_FIRST = ["0 join = joined", "0 bits e0 = noted yes", "1 join = joined", "1 bits 40 = noted yes", "0 unchoke = quiet",
                 "0 next 2 = request 2 0 1"] + checked(0, 2, "61")
 
-RULES: dict[str, tuple[int, ...]] = {  # of the examples that don't go by the usual ones: depth, random, and where they matter askers, deepest
+TWO_BEGUN = enters(0, "f0") + enters(1, "80") + enters(2, "c0") + ["2 next 1 = request 1 0 16384", "1 next 0 = request 0 0 16384"]
+PAIR_ASKED = enters(0, "f0") + enters(1, "c0") + [
+    "1 next 0 = request 0 0 16384", "1 next 1 = request 0 16384 16384", "1 next 1 = request 1 0 16384"]
+
+# of the examples that don't go by the usual ones: depth, random, and where they matter askers and deepest, and open
+RULES: dict[str, tuple[int, ...]] = {
     "depth_two": (2, 1),
     "deep_pipe": (64, 1),
     "rarest_from_the_start": (5, 0),
@@ -67,6 +73,21 @@ RULES: dict[str, tuple[int, ...]] = {  # of the examples that don't go by the us
     "two_levels": (5, 0),
     "in_order_told_off": (5, 0),
     "want_after_levels": (5, 0),
+    "any_begun_piece_goes_on": (5, 0),
+    "rarest_while_few_are_open": (5, 0, 1024, 64, 1),
+    "as_many_open_as_may_be": (5, 0, 1024, 64, 2),
+    "rarest_of_the_open_goes_on": (5, 0, 1024, 64, 1),
+    "first_piece_before_rarity": (5, 1, 1024, 64, 8),
+    "rarest_of_the_begun_at_random": (5, 2, 1024, 64, 8),
+    "rarest_once_enough_are_had": (5, 1, 1024, 64, 8),
+    "open_counted_over_all_levels": (5, 0, 1024, 64, 1),
+    "wholly_requested_pieces_are_not_open": (5, 0, 1024, 64, 1),
+    "released_block_opens_its_piece": (5, 0, 1024, 64, 1),
+    "held_block_opens_its_piece": (5, 0, 1024, 64, 1),
+    "held_pieces_are_not_open": (5, 0, 1024, 64, 1),
+    "unwanted_pieces_are_not_open": (5, 0, 1024, 64, 1),
+    "none_of_the_open_is_shown": (5, 0, 1024, 64, 1),
+    "in_order_however_many_are_open": (5, 0, 1024, 64, 1),
 }
 
 EXAMPLES: dict[str, tuple[str, int, list[str]]] = {  # name: torrent, workers, lines
@@ -222,6 +243,36 @@ EXAMPLES: dict[str, tuple[str, int, list[str]]] = {  # name: torrent, workers, l
         "1 levels 88 = refused WrongCount", "1 levels 470 = quiet", "1 level 2 7 = quiet", "0 inorder yes = quiet",
         "0 inorder no = quiet"] + enters(0, "e0") + [
         "0 next 0 = request 2 0 1", "0 next 0 = request 1 0 3", "0 next 0 = request 0 0 3"]),
+    "any_begun_piece_goes_on": ("four_pairs", 3, TWO_BEGUN + ["0 next 2 = request 0 16384 16384", "0 next 2 = request 1 16384 16384"]),
+    "rarest_while_few_are_open": ("four_pairs", 2, enters(0, "f0") + enters(1, "c0") + [
+        "1 next 0 = request 0 0 16384", "0 next 2 = request 2 0 16384", "0 next 3 = request 2 16384 16384",
+        "1 next 1 = request 0 16384 16384"]),
+    "as_many_open_as_may_be": ("four_pairs", 3, TWO_BEGUN + ["0 next 2 = request 2 0 16384", "0 next 3 = request 2 16384 16384"]),
+    "rarest_of_the_open_goes_on": ("four_pairs", 3, TWO_BEGUN + ["0 next 2 = request 1 16384 16384", "0 next 2 = request 2 0 16384"]),
+    "first_piece_before_rarity": ("four_pairs", 2, enters(0, "f0") + [
+        "1 join = joined", "1 bits 80 = noted yes", "0 next 0 = request 0 0 16384", "0 next 0 = request 0 16384 16384",
+        "0 next 1 = request 1 0 16384"]),
+    "rarest_of_the_begun_at_random": ("four_pairs", 3, TWO_BEGUN + [
+        "0 next 3 = request 1 16384 16384", "0 next 3 = request 0 16384 16384", "0 next 3 = request 3 0 16384"]),
+    "rarest_once_enough_are_had": ("two_pairs_and_a_byte", 2, enters(0, "e0") + enters(1, "80") + [
+        "0 next 2 = request 2 0 1", "1 next 0 = request 0 0 16384"] + checked(0, 2, "61") + ["0 next 0 = request 1 0 16384"]),
+    "open_counted_over_all_levels": ("four_pairs", 2, enters(0, "f0") + enters(1, "90") + [
+        "1 next 0 = request 0 0 16384", "0 next 2 = request 2 0 16384", "0 level 3 5 = quiet", "1 next 0 = request 3 0 16384",
+        "0 level 1 5 = quiet", "0 next 0 = request 3 16384 16384"]),
+    "wholly_requested_pieces_are_not_open": ("four_pairs", 2, PAIR_ASKED + ["0 next 2 = request 2 0 16384"]),
+    "released_block_opens_its_piece": ("four_pairs", 2, PAIR_ASKED + [
+        "1 release 0 16384 = quiet", "0 next 2 = request 0 16384 16384"]),
+    "held_block_opens_its_piece": ("four_pairs", 2, enters(0, "f0") + enters(1, "c0") + [
+        "1 next 1 = request 1 0 16384", "1 block 0 0 X = stored", "0 next 2 = request 0 16384 16384"]),
+    "held_pieces_are_not_open": ("four_pairs", 2, enters(0, "f0") + enters(1, "c0") + [
+        "1 block 0 0 X = stored", "1 block 0 16384 X = completed", "1 next 1 = request 1 0 16384", "0 next 2 = request 2 0 16384"]),
+    "unwanted_pieces_are_not_open": ("four_pairs", 3, TWO_BEGUN + ["1 level 0 0 = quiet", "0 next 2 = request 2 0 16384"]),
+    "none_of_the_open_is_shown": ("four_pairs", 4, enters(0, "80") + enters(1, "c0") + enters(2, "30") + [
+        "3 join = joined", "3 bits 10 = noted yes", "1 next 1 = request 1 0 16384", "0 next 0 = request 0 0 16384",
+        "2 next 3 = request 2 0 16384"]),
+    "in_order_however_many_are_open": ("four_pairs", 2, enters(0, "f0") + enters(1, "30") + [
+        "1 next 2 = request 2 0 16384", "0 next 1 = request 1 0 16384", "0 inorder yes = quiet", "0 next 3 = request 0 0 16384",
+        "0 next 3 = request 0 16384 16384", "0 next 3 = request 1 16384 16384"]),
 }
 
 WRONG: dict[str, tuple[str, int, str]] = {  # name: example, how many entries of it came before, the wrong entry
@@ -312,6 +363,30 @@ WRONG: dict[str, tuple[str, int, str]] = {  # name: example, how many entries of
     "levels_refused_for_a_later_cause": ("refusals_of_levels", 6, "1 levels 88 = refused WrongLevel"),
     "level_of_a_stranger_refused": ("refusals_of_levels", 8, "1 level 2 7 = refused NotJoined"),
     "order_of_a_stranger_refused": ("refusals_of_levels", 9, "0 inorder yes = refused NotJoined"),
+    "rarer_piece_begun_though_begun_ones_come_first": ("any_begun_piece_goes_on", 11, "0 next 2 = request 2 0 16384"),
+    "begun_piece_continued_though_a_rarer_one_is_unbegun": ("rarest_while_few_are_open", 7, "0 next 2 = request 0 16384 16384"),
+    "piece_begun_though_more_are_open_than_may_be": ("rarest_while_few_are_open", 8, "0 next 3 = request 3 0 16384"),
+    "commoner_open_piece_continued": ("rarest_while_few_are_open", 8, "0 next 3 = request 0 16384 16384"),
+    "unbegun_piece_started_though_a_begun_one_is_as_rare": ("rarest_while_few_are_open", 9, "1 next 1 = request 1 0 16384"),
+    "as_many_open_as_may_be_are_too_many": ("as_many_open_as_may_be", 11, "0 next 2 = request 1 16384 16384"),
+    "as_rare_piece_begun_though_more_are_open": ("as_many_open_as_may_be", 12, "0 next 3 = request 3 0 16384"),
+    "open_piece_of_the_least_number_continued": ("rarest_of_the_open_goes_on", 11, "0 next 2 = request 0 16384 16384"),
+    "rarer_piece_begun_though_two_are_open": ("rarest_of_the_open_goes_on", 11, "0 next 2 = request 2 0 16384"),
+    "last_open_piece_continued_though_a_rarer_one_is_unbegun": ("rarest_of_the_open_goes_on", 12, "0 next 2 = request 0 16384 16384"),
+    "rarer_piece_begun_though_none_is_had": ("first_piece_before_rarity", 6, "0 next 0 = request 1 0 16384"),
+    "commoner_begun_piece_continued_at_random": ("rarest_of_the_begun_at_random", 11, "0 next 3 = request 0 16384 16384"),
+    "third_piece_begun_at_random": ("rarest_of_the_begun_at_random", 11, "0 next 3 = request 3 0 16384"),
+    "rarer_piece_begun_before_enough_are_had": ("rarest_once_enough_are_had", 8, "0 next 0 = request 1 0 16384"),
+    "begun_piece_continued_though_enough_are_had": ("rarest_once_enough_are_had", 10, "0 next 0 = request 0 16384 16384"),
+    "open_counted_on_one_level": ("open_counted_over_all_levels", 11, "0 next 0 = request 1 0 16384"),
+    "wholly_requested_piece_counted_as_open": ("wholly_requested_pieces_are_not_open", 9, "0 next 2 = request 1 16384 16384"),
+    "released_block_left_out_of_the_count": ("released_block_opens_its_piece", 10, "0 next 2 = request 2 0 16384"),
+    "held_block_left_out_of_the_count": ("held_block_opens_its_piece", 8, "0 next 2 = request 2 0 16384"),
+    "held_piece_counted_as_open": ("held_pieces_are_not_open", 9, "0 next 2 = request 1 16384 16384"),
+    "unwanted_piece_counted_as_open": ("unwanted_pieces_are_not_open", 12, "0 next 2 = request 1 16384 16384"),
+    "commoner_piece_begun_though_many_are_open": ("none_of_the_open_is_shown", 13, "2 next 3 = request 3 0 16384"),
+    "idle_though_no_open_piece_is_shown": ("none_of_the_open_is_shown", 13, "2 next 3 = idle"),
+    "open_piece_continued_though_in_order": ("in_order_however_many_are_open", 9, "0 next 3 = request 1 16384 16384"),
 }
 
 WHERE_BLOCKS_MAY_BE_NAMED = {  # wrong entries in whose place the rules allow a request or a cancel; elsewhere they allow one reply alone
@@ -351,8 +426,13 @@ def setting(name: str) -> str:
 def rules(name: str) -> str:
     """The rules of an example, by the definitions."""
     chosen = RULES.get(name, ())
-    function = {0: "usual_rules", 2: "rules", 4: "bounded_rules"}[len(chosen)]
+    function = {0: "usual_rules", 2: "rules", 4: "bounded_rules", 5: "open_rules"}[len(chosen)]
     return f"({' '.join([function, *map(str, chosen)])})" if chosen else function
+
+
+def rules_of(name: str) -> Rules:
+    """The rules of an example, by the model."""
+    return Rules(*RULES.get(name, ()))
 
 
 def items(xs: Iterable[str]) -> str:
@@ -504,7 +584,7 @@ def judge(name: str) -> None:
     """Stops where the rules don't allow a line of the example, or allow a wrong one."""
     torrent, workers, lines = EXAMPLES[name]
     piece_length, total, hashes = TORRENTS[torrent]
-    model = Model(Torrent(piece_length, total, tuple(map(bytes.fromhex, hashes))), workers, Rules(*RULES.get(name, USUAL)))
+    model = Model(Torrent(piece_length, total, tuple(map(bytes.fromhex, hashes))), workers, rules_of(name))
     wrongs = [(before, line) for example, before, line in WRONG.values() if example == name]
     wrongs += [WRONG_IN_AUDITS[name]] if name in WRONG_IN_AUDITS else []
     for at, line in enumerate([*lines, ""]):
@@ -561,11 +641,10 @@ def audits() -> None:
         wrongs = [(before, line) for example, before, line in WRONG.values() if example == name]
         wrongs += [WRONG_IN_AUDITS[name]] if name in WRONG_IN_AUDITS else []
         contents = " ".join(map(named, hashes))
-        depth, random, askers, deepest = (*RULES.get(name, USUAL), MOST_WORKERS, MOST_DEPTH)[:4]
         texts.append("\n".join([
             name.replace("_", " "),
             f"{piece_length} {total} {contents}",
-            f"{workers} {depth} {random} {askers} {deepest}",
+            " ".join(map(str, [workers, *astuple(rules_of(name))])),
             *(plain_line(line) for line in lines),
             "but",
             *(f"{before} {plain_line(line)}" for before, line in wrongs),

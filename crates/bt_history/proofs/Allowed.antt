@@ -8,14 +8,14 @@ use Rattle.bt_meta.specs.Layout.{Layout, piece_count, hash_of}
 use Rattle.sha1.specs.Sha1.{sha1}
 use Rattle.bt_history.specs.declared.call.Reason.{Reason}
 use Rattle.bt_history.specs.declared.call.Reply.{Reply}
-use Rattle.bt_history.specs.declared.call.Reply.TheVariants.{Joined, Quiet, Request, Stored, Completed, Dropped, Had, Failed, Refused}
+use Rattle.bt_history.specs.declared.call.Reply.TheVariants.{Request, Stored, Completed, Dropped, Had, Failed, Refused}
 use Rattle.bt_history.specs.declared.event.Action.{Action}
-use Rattle.bt_history.specs.declared.event.Action.TheVariants.{Join, Bits, Have, Next, Arrived, Settle, Haves}
+use Rattle.bt_history.specs.declared.event.Action.TheVariants.{Next, Arrived, Settle}
 use Rattle.bt_history.specs.declared.event.Event.{Event}
 use Rattle.bt_history.specs.Setting.{Setting, some_block, some_block_of, each_block_of, is_block}
 use Rattle.bt_history.specs.History.{History, settles, is_had, is_failed}
 use Rattle.bt_history.specs.Peers.{asked, asked_count, due, depth_of}
-use Rattle.bt_history.specs.Pieces.{held, full, content, had, asked_of_some, asker_count, unasked, wanted, endgame, begun}
+use Rattle.bt_history.specs.Pieces.{held, full, content, had, asked_of_some, asker_count, unasked, wanted, endgame}
 use Rattle.bt_history.specs.Next.{Answer, Exactly, usable, tops, continues, starts, rises, doubles, next_answer}
 use Rattle.bt_history.specs.Legal.{same_bytes, first_cause, refusal, answer, answer_unless, arrived_answer, settled_answer, Permits, IsAllowed}
 use Rattle.bt_history.specs.Legal.{causes}
@@ -137,7 +137,7 @@ request_kind : (s : Setting) (h : History) (w : ℕ) (b : Block) → w < s.worke
 request_kind s h w b lt kind = ⊎_elim
     (λ (up : rises s h w b ≡ true). from_top (and_parts (tops s h w b) _ up).0)
     (λ others. ⊎_elim
-    (λ (on : continues s h w b ≡ true). from_top (and_parts (tops s h w b) (begun s h b.piece) on).0)
+    (λ (on : continues s h w b ≡ true). from_top (and_parts (tops s h w b) _ on).0)
     (λ rest. ⊎_elim
     (λ (first : starts s h w b ≡ true). from_top (and_parts (tops s h w b) _ first).0)
     (λ (both : ((endgame s h && some_block s.torrent (doubles s h w)) ≡ true) × (doubles s h w b ≡ true)).

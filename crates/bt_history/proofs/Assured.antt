@@ -9,6 +9,7 @@ use Rattle.bt_history.proofs.HeldLaws.{endgame_asks_all, had_facts, had_hash, he
 use Rattle.bt_history.proofs.Levels.{higher_first, level_bounded}
 use Rattle.bt_history.proofs.LineLaws.{asked_and_due}
 use Rattle.bt_history.proofs.Listed.{lists_asked}
+use Rattle.bt_history.proofs.Opening.{few_open, leads_all}
 use Rattle.bt_history.proofs.Sending.{sender_held}
 
 pub assured : (s : Setting) (h : History) → IsLegal s h → Assures s h
@@ -18,6 +19,9 @@ assured s h legal = record {
   sent = sender_held h;
   second = λ e b q allowed is too c inside want. endgame_asks_all s h c (second_in_endgame s h e q b legal allowed is too) inside want;
   higher = λ e b allowed is. higher_first s h e b allowed is;
+  opened = λ e b allowed is unordered fresh many. few_open s h e b allowed is unordered many fresh;
+  rarest = λ e b allowed is unordered some room c inside fits same.
+      (leads_all s h e b allowed is unordered legal some room c inside fits same).0;
   listed = λ q. lists_asked s h q legal;
   few = λ q. asked_and_due s h q legal;
   bounded = λ q. so_far_bounded s h q legal;

@@ -1,6 +1,6 @@
 -- Tests and sums over the numbers below a bound.
 use Rattle.std.proofs.Common.{◌≡◌, ◌≢◌, ◌≤◌, ℕ, zero, suc, ◌+◌, ◌<◌, Bool, true, false, ◌||◌, refl, ap, sym, ◌∙◌, arith, ⊎_elim, subst}
-use Rattle.std.proofs.lemmas.Bool.{or_cases, or_from, or_left, or_right, or_parts, and_from, and_parts, cases_eq}
+use Rattle.std.proofs.lemmas.Bool.{or_cases, or_from, or_left, or_right, or_parts, and_from, and_parts, cases_eq, cases_lt, cases_Bool, false≢true}
 use Rattle.std.specs.Prelude.{if◌then◌else◌}
 use Rattle.bt_history.specs.Counting.{any_below, all_below, count_below, sum_below}
 
@@ -58,6 +58,62 @@ any_witness (suc n) test is =
     (λ (last : test n ≡ true). (n, omega arith, last))
     (or_cases (any_below n test) (test n) is)
 
+-- of the numbers that pass one that ranks least
+pub record Least (n : ℕ) (test : ℕ → Bool) (rank : ℕ → ℕ) : Type 0 where
+  pub number : ℕ
+  pub within : number < n
+  pub passes : test number ≡ true
+  pub least : (k : ℕ) → k < n → test k ≡ true → rank number ≤ rank k
+
+-- there is one where some number passes
+pub least_among : (n : ℕ) (test : ℕ → Bool) (rank : ℕ → ℕ) → any_below n test ≡ true → Least n test rank
+least_among zero test rank some = absurd (cc some)
+least_among (suc n) test rank some = ⊎_elim
+    (λ (before : any_below n test ≡ true). with_last (least_among n test rank before) (test n) refl)
+    (λ (none : any_below n test ≡ false).
+    let last : test n ≡ true = sym (ap (λ (x : Bool). x || test n) none) ∙ some in
+    record {
+      number = n;
+      within = omega arith;
+      passes = last;
+      least = λ k lk is. ⊎_elim
+          (λ (same : k ≡ n). (let here = ap rank same in omega (arith, here)))
+          (λ (apart : k ≡ n → ⊥). absurd (false≢true (sym (any_fails n test k none (omega (arith, lk, apart))) ∙ is)))
+          (cases_eq k n);
+    })
+    (cases_Bool (any_below n test))
+  where
+    with_last : Least n test rank → (x : Bool) → test n ≡ x → Least (suc n) test rank
+    with_last found false fails = record {
+      number = found.number;
+      within = (let low = found.within in omega (arith, low));
+      passes = found.passes;
+      least = λ k lk is. ⊎_elim
+          (λ (same : k ≡ n). absurd (false≢true (sym fails ∙ ap test (sym same) ∙ is)))
+          (λ (apart : k ≡ n → ⊥). found.least k (omega (arith, lk, apart)) is)
+          (cases_eq k n);
+    }
+    with_last found true last = ⊎_elim
+        (λ (less : rank n < rank found.number). record {
+          number = n;
+          within = omega arith;
+          passes = last;
+          least = λ k lk is. ⊎_elim
+              (λ (same : k ≡ n). (let here = ap rank same in omega (arith, here)))
+              (λ (apart : k ≡ n → ⊥). (let low = found.least k (omega (arith, lk, apart)) is in omega (arith, low, less)))
+              (cases_eq k n);
+        })
+        (λ (more : rank found.number ≤ rank n). record {
+          number = found.number;
+          within = (let low = found.within in omega (arith, low));
+          passes = found.passes;
+          least = λ k lk is. ⊎_elim
+              (λ (same : k ≡ n). (let here = ap rank same in omega (arith, here, more)))
+              (λ (apart : k ≡ n → ⊥). found.least k (omega (arith, lk, apart)) is)
+              (cases_eq k n);
+        })
+        (cases_lt (rank n) (rank found.number))
+
 -- 1 for a test that passes
 abbrev pub one_if : Bool → ℕ
 one_if b = if b then 1 else 0
@@ -112,6 +168,14 @@ count_short (suc n) f i lt fails =
     one_more : (b : Bool) → count_below n f < n → count_below n f + one_if b < suc n
     one_more true step = omega arith
     one_more false step = omega arith
+
+-- where some number passes, some are counted
+pub count_found : (n : ℕ) (f : ℕ → Bool) (k : ℕ) → k < n → f k ≡ true → 0 < count_below n f
+count_found zero f k lt is = absurd (omega arith)
+count_found (suc n) f k lt is = ⊎_elim
+    (λ (here : k ≡ n). (let last : one_if (f n) ≡ 1 = ap one_if (ap f (sym here) ∙ is) in omega (arith, last)))
+    (λ (before : k ≡ n → ⊥). (let step = count_found n f k (omega (arith, lt, before)) is in omega (arith, step)))
+    (cases_eq k n)
 
 pub count_none : (n : ℕ) (f : ℕ → Bool) → ((k : ℕ) → k < n → f k ≡ false) → count_below n f ≡ 0
 count_none zero f h = refl

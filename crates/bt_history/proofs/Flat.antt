@@ -15,8 +15,10 @@ use Rattle.bt_history.specs.History.{History, counts, counted_call}
 use Rattle.bt_history.specs.Peers.{shows, is_open, asked_count, depth_of, due}
 use Rattle.bt_history.specs.Pieces.{unasked, wanted, chosen, level, level_after, level_if, in_order, in_order_after}
 use Rattle.bt_history.specs.Pieces.{begun, unbegun, availability, endgame, interesting, had_count}
-use Rattle.bt_history.specs.Next.{Exactly, CancelOf, RequestOf, usable, tops, is_candidate, is_rarest, starts, rises, doubles, next_answer}
-use Rattle.bt_history.specs.Before.{chosen_then, chosen_before, is_rarest_before, starts_before, next_before, is_levelling, never_levels}
+use Rattle.bt_history.specs.Next.{Exactly, CancelOf, RequestOf, usable, tops, is_candidate, is_strict, none_rarer, resumes, continues, starts, rises}
+use Rattle.bt_history.specs.Next.{doubles, next_answer}
+use Rattle.bt_history.specs.Before.{chosen_then, chosen_before, none_rarer_before, continues_before, starts_before, next_before, is_levelling}
+use Rattle.bt_history.specs.Before.{never_levels}
 use Rattle.bt_history.proofs.Below.{all_found}
 
 -- ---- one level
@@ -94,24 +96,40 @@ module _ (s : Setting) (h : History) (q : ℕ) (never : never_levels h ≡ true)
         or_left (not (usable s h q (block s.torrent p k))) (nat_le (level h p) (level h b.piece)) (ap not fails))
         (cases_Bool (usable s h q (block s.torrent p k))))))
 
-  rarest_flat : (p : ℕ) → wanted s h p ≡ true → is_rarest s h q p ≡ is_rarest_before s h q p
-  rarest_flat p wants = all_same (piece_count s.torrent) _ _ (λ r lr. ⊎_elim
-      (λ (fits : is_candidate s h q r ≡ true).
-      let other = flat r (and_parts (wanted s h r) _ fits).0 in
-      let same : (level h r == level h p) ≡ true = eq-eqb (level h r) (level h p) (other ∙ sym (flat p wants)) in
+  -- among wanted pieces the rarest are so whatever their levels
+  rarer_flat : (test : ℕ → Bool) → ((r : ℕ) → test r ≡ true → wanted s h r ≡ true) → (p : ℕ) → wanted s h p ≡ true
+      → none_rarer s h test p ≡ none_rarer_before s h test p
+  rarer_flat test wanting p wants = all_same (piece_count s.torrent) _ _ (λ r lr. ⊎_elim
+      (λ (fits : test r ≡ true).
+      let same : (level h r == level h p) ≡ true = eq-eqb (level h r) (level h p) (flat r (wanting r fits) ∙ sym (flat p wants)) in
       (λ i. not (fits i && same i) || nat_le (availability s h p) (availability s h r))
       ∙ sym (ap (λ (x : Bool). not x || nat_le (availability s h p) (availability s h r)) fits))
-      (λ (fails : is_candidate s h q r ≡ false).
+      (λ (fails : test r ≡ false).
       ap (λ (x : Bool). not (x && (level h r == level h p)) || nat_le (availability s h p) (availability s h r)) fails
       ∙ sym (ap (λ (x : Bool). not x || nat_le (availability s h p) (availability s h r)) fails))
-      (cases_Bool (is_candidate s h q r)))
+      (cases_Bool (test r)))
+
+  candidates_flat : (p : ℕ) → wanted s h p ≡ true → none_rarer s h (is_candidate s h q) p ≡ none_rarer_before s h (is_candidate s h q) p
+  candidates_flat = rarer_flat (is_candidate s h q) (λ r is. (and_parts (wanted s h r) _ is).0)
+
+  resuming_flat : (p : ℕ) → wanted s h p ≡ true → none_rarer s h (resumes s h q) p ≡ none_rarer_before s h (resumes s h q) p
+  resuming_flat = rarer_flat (resumes s h q) (λ r is. (and_parts (wanted s h r) _ (and_parts _ (shows h q r) is).0).0)
+
+  continues_flat : (b : Block) → continues s h q b ≡ continues_before s h q b
+  continues_flat b = by_usable (usable s h q b) refl where
+    by_usable : (x : Bool) → usable s h q b ≡ x → continues s h q b ≡ continues_before s h q b
+    by_usable false is = and_left (tops s h q b) _ (tops_flat b ∙ is) ∙ sym (and_left (usable s h q b) _ is)
+    by_usable true is =
+        let wants = usable_wanted b is in
+        λ i. tops_flat b i && (begun s h b.piece
+        && ((s.most_open == 0) || (resuming_flat b.piece wants i && (is_strict s h || candidates_flat b.piece wants i))))
 
   starts_flat : (b : Block) → starts s h q b ≡ starts_before s h q b
   starts_flat b = by_usable (usable s h q b) refl where
     by_usable : (x : Bool) → usable s h q b ≡ x → starts s h q b ≡ starts_before s h q b
     by_usable false is = and_left (tops s h q b) _ (tops_flat b ∙ is) ∙ sym (and_left (usable s h q b) _ is)
     by_usable true is = λ i. tops_flat b i && (unbegun s h b.piece
-        && (nat_lt (had_count s h) s.random || rarest_flat b.piece (usable_wanted b is) i))
+        && (nat_lt (had_count s h) s.random || candidates_flat b.piece (usable_wanted b is) i))
 
   pub answer_as_before : next_answer s h q ≡ next_before s h q
   unfolding next_answer next_before
@@ -120,7 +138,7 @@ module _ (s : Setting) (h : History) (q : ℕ) (never : never_levels h ≡ true)
       else if not (is_open h q) then Exactly Choked
       else if nat_le (depth_of s h q) (asked_count s h q) then Exactly PipeFull
       else if unordered h never i && some_block s.torrent (usable s h q) then RequestOf (rises s h q)
-      else if some_block s.torrent (λ b. tops_flat b i && begun s h b.piece) then RequestOf (λ b. tops_flat b i && begun s h b.piece)
+      else if some_block s.torrent (λ b. continues_flat b i) then RequestOf (λ b. continues_flat b i)
       else if some_block s.torrent (usable s h q) then RequestOf (λ b. starts_flat b i)
       else if endgame s h && some_block s.torrent (doubles s h q) then RequestOf (doubles s h q)
       else if interesting s h q then Exactly Idle

@@ -19,7 +19,7 @@ use Rattle.bt_history.specs.History.{cancelled, cancelled_by, failed, passed, is
 use Rattle.bt_history.specs.Peers.{asked, asks, asked_count, resets, releases, lasts, shows, shows_after, is_open, is_open_after, told_depth}
 use Rattle.bt_history.specs.Peers.{told_after, depth_of, due}
 use Rattle.bt_history.specs.Pieces.{kept, held, had, in_order, level, level_after, wanted, interesting, asked_of_some, asker_count, held_or_asked}
-use Rattle.bt_history.specs.Pieces.{unasked, endgame, begun}
+use Rattle.bt_history.specs.Pieces.{unasked, endgame}
 use Rattle.bt_history.specs.Next.{Exactly, usable, tops, continues, starts, rises, doubles, next_answer}
 use Rattle.bt_history.specs.Legal.{IsLegal, IsAllowed, place_at}
 use Rattle.bt_history.specs.Logs.{answers, call_mark}
@@ -523,7 +523,7 @@ module _ (s : Setting) (h : History) (e : Event) (q : ℕ) (allowed : IsAllowed 
       none_stronger s.torrent (usable s h q) (usable s (e ∷ h) q) usable_before facts.first in
       let on : some_block s.torrent (continues s (e ∷ h) q) ≡ false =
       none_stronger s.torrent (usable s (e ∷ h) q) (continues s (e ∷ h) q)
-      (λ b both. top_usable s (e ∷ h) q b (and_parts (tops s (e ∷ h) q b) (begun s (e ∷ h) b.piece) both).0) first in
+      (λ b both. top_usable s (e ∷ h) q b (and_parts (tops s (e ∷ h) q b) _ both).0) first in
       let up : (in_order (e ∷ h) && some_block s.torrent (usable s (e ∷ h) q)) ≡ false =
       and_right (in_order (e ∷ h)) (some_block s.torrent (usable s (e ∷ h) q)) first in
       let again : (endgame s (e ∷ h) && some_block s.torrent (doubles s (e ∷ h) q)) ≡ false = none_again facts.again in

@@ -16,7 +16,7 @@ use Rattle.bt_history.specs.declared.rules.TheConstants.{MOST_LEVEL}
 use Rattle.bt_history.specs.Setting.{Setting, some_block, each_block, each_block_of, is_block}
 use Rattle.bt_history.specs.History.{History, counts, counted_call}
 use Rattle.bt_history.specs.Peers.{flag}
-use Rattle.bt_history.specs.Pieces.{begun, in_order, level, level_after, level_if}
+use Rattle.bt_history.specs.Pieces.{in_order, level, level_after, level_if}
 use Rattle.bt_history.specs.Next.{Answer, usable, tops, continues, starts, rises, next_answer}
 use Rattle.bt_history.specs.Legal.{IsLegal, IsAllowed, Permits, refusal, causes}
 use Rattle.bt_history.proofs.Below.{all_at}
@@ -100,7 +100,7 @@ module _ (s : Setting) (h : History) (q : ℕ) where
   top_asked b permitted = ⊎_elim
       (λ (up : rises s h q b ≡ true). inl (and_parts (tops s h q b) _ up).0)
       (λ others. ⊎_elim
-      (λ (on : continues s h q b ≡ true). inl (and_parts (tops s h q b) (begun s h b.piece) on).0)
+      (λ (on : continues s h q b ≡ true). inl (and_parts (tops s h q b) _ on).0)
       (λ rest. ⊎_elim
       (λ (first : starts s h q b ≡ true). inl (and_parts (tops s h q b) _ first).0)
       (λ (none : some_block s.torrent (usable s h q) ≡ false). inr none)

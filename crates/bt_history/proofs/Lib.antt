@@ -3,6 +3,7 @@ pub mod Below
 pub mod SameBegin
 pub mod Lines
 pub mod NextCases
+pub mod Opening
 pub mod Allowed
 pub mod Arrivals
 pub mod LineLaws

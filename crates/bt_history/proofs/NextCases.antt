@@ -54,7 +54,7 @@ next_answers t false true false false false false false true cancels risings ons
 next_answers t false true false false false false false false cancels risings ons firsts seconds reply h = ap answers_next h
 
 -- what a request shows of the tests: one that neither rises nor goes on nor begins also shows that no block is usable
-pub record Requests (t : Layout) (has_due full rises_one starts_one doubles_one : Bool) (risings ons firsts seconds : Block → Bool)
+pub record Requests (t : Layout) (has_due full rises_one goes_on starts_one doubles_one : Bool) (risings ons firsts seconds : Block → Bool)
     (b : Block) : Type 0 where
   pub none_due : has_due ≡ false
   pub room : full ≡ false
@@ -62,7 +62,7 @@ pub record Requests (t : Layout) (has_due full rises_one starts_one doubles_one 
   pub kind : (risings b ≡ true) ⊎ ((ons b ≡ true) ⊎ ((firsts b ≡ true) ⊎ ((doubles_one ≡ true) × (seconds b ≡ true))))
   pub usable : (risings b ≡ true) ⊎ ((ons b ≡ true) ⊎ ((firsts b ≡ true) ⊎ (starts_one ≡ false)))
   pub rising : rises_one ≡ true → risings b ≡ true
-  pub unordered : rises_one ≡ false → (ons b ≡ true) ⊎ ((firsts b ≡ true) ⊎ (starts_one ≡ false))
+  pub unordered : rises_one ≡ false → (ons b ≡ true) ⊎ (((goes_on ≡ false) × (firsts b ≡ true)) ⊎ (starts_one ≡ false))
 
 named : (test : Block → Bool) (b c : Block) → Request b ≡ Request c → test c ≡ true → test b ≡ true
 named test b c is passes = let same : b ≡ c = cc is in ap test same ∙ passes
@@ -70,7 +70,7 @@ named test b c is passes = let same : b ≡ c = cc is in ap test same ∙ passes
 pub next_request : (t : Layout) (has_due opened full rises_one goes_on starts_one doubles_one waits : Bool)
     (cancels risings ons firsts seconds : Block → Bool) (x : Block)
     → Permits t (next_cases has_due opened full rises_one goes_on starts_one doubles_one waits cancels risings ons firsts seconds) (Request x)
-    → Requests t has_due full rises_one starts_one doubles_one risings ons firsts seconds x
+    → Requests t has_due full rises_one goes_on starts_one doubles_one risings ons firsts seconds x
 unfolding next_cases
 next_request t true _ _ _ _ _ _ _ cancels risings ons firsts seconds x h = absurd (cc (h.1))
 next_request t false false _ _ _ _ _ _ cancels risings ons firsts seconds x h = absurd (cc h)
@@ -106,7 +106,7 @@ next_request t false true false false false true _ _ cancels risings ons firsts 
       kind = inr (inr (inl first));
       usable = inr (inr (inl first));
       rising = λ in_order. absurd (false≢true in_order);
-      unordered = λ no. inr (inl first);
+      unordered = λ no. inr (inl (refl, first));
     }
 next_request t false true false false false false true _ cancels risings ons firsts seconds x h =
     record {

@@ -14,9 +14,9 @@ use Rattle.bt_history.specs.Setting.{Setting, some_block_of, some_block, each_bl
 use Rattle.bt_history.specs.History.{History, own_call, stored, cancelled}
 use Rattle.bt_history.specs.Peers.{flag, joined, shows, is_open, due, resets}
 use Rattle.bt_history.specs.Pieces.{held, held_or_asked, had, had_count, begun, unbegun, availability, wanted, endgame, lacks}
-use Rattle.bt_history.specs.Next.{Answer, Exactly, CancelOf, RequestOf, usable, is_candidate, doubles, next_answer}
+use Rattle.bt_history.specs.Next.{Answer, Exactly, CancelOf, RequestOf, usable, is_candidate, is_strict, resumes, doubles, next_answer}
 use Rattle.bt_history.specs.Legal.{first_cause, no_peer, no_count, refusal, answer, answer_unless, Permits, IsAllowed, IsLegal}
-use Rattle.bt_history.specs.Before.{continues_before, is_rarest_before, starts_before, next_before}
+use Rattle.bt_history.specs.Before.{continues_before, goes_first_before, is_rarest_before, none_rarer_before, starts_before, next_before}
 use Rattle.bt_history.specs.Before.{is_release, never_releases, is_depth, never_deepens, is_haves, never_adds, is_levelling, never_levels}
 use Rattle.bt_history.specs.Plain.{plain_due, plain_held_or_asked, plain_begun, plain_unbegun, plain_availability, plain_wanted}
 use Rattle.bt_history.specs.Plain.{plain_endgame, plain_lacks, plain_usable, plain_continues, plain_candidate, plain_rarest, plain_starts}
@@ -24,6 +24,7 @@ use Rattle.bt_history.specs.Plain.{plain_doubles, plain_next, plain_refusal, pla
 use Rattle.bt_history.proofs.Before.{asked_as_before, doubles_as_before, shows_as_before, late_as_before}
 use Rattle.bt_history.proofs.Depths.{depth_as_before}
 use Rattle.bt_history.proofs.Flat.{answer_as_before, chosen_as_before}
+use Rattle.bt_history.proofs.Opening.{unbounded}
 
 -- no entry of the history is a later call
 pub record IsPlain (h : History) : Type 0 where
@@ -101,10 +102,13 @@ module _ (s : Setting) (h : History) (plain : IsPlain h) where
       usable_plain q b i && (unbegun_plain b.piece i
       && (nat_lt (had_count s h) s.random || rarest_plain q b.piece i))
 
-  continues_plain : (q : ℕ) (b : Block) → continues_before s h q b ≡ plain_continues s h q b
-  continues_plain q b = λ i. usable_plain q b i && begun_plain b.piece i
+  module _ (q : ℕ) (lt : q < s.workers) (wide : s.workers ≤ s.askers) (strict : s.most_open ≡ 0) where
+    continues_plain : (b : Block) → continues_before s h q b ≡ plain_continues s h q b
+    continues_plain b =
+        (λ i. usable_plain q b i && (begun_plain b.piece i && goes_first_before s h q b.piece))
+        ∙ (λ i. plain_usable s h q b && unbounded s.most_open (plain_begun s h b.piece)
+        (none_rarer_before s h (resumes s h q) b.piece && (is_strict s h || is_rarest_before s h q b.piece)) strict i)
 
-  module _ (q : ℕ) (lt : q < s.workers) (wide : s.workers ≤ s.askers) where
     doubles_plain : (b : Block) → doubles s h q b ≡ plain_doubles s h q b
     doubles_plain b = doubles_as_before s h q b lt wide ∙ (λ i.
         wanted_plain b.piece i && (shows_as_before h q b.piece plain.adds i && (not (held h b) && not (asked_as_before h q b plain.releases i))))
@@ -115,7 +119,7 @@ module _ (s : Setting) (h : History) (plain : IsPlain h) where
         if some_block s.torrent (λ b. due_is_plain h q b plain.releases i) then CancelOf (λ b. due_is_plain h q b plain.releases i)
         else if not (is_open h q) then Exactly Choked
         else if nat_le (depth_as_before s h q plain.depths i) (count_blocks s.torrent (λ b. asked_as_before h q b plain.releases i)) then Exactly PipeFull
-        else if some_block s.torrent (λ b. continues_plain q b i) then RequestOf (λ b. continues_plain q b i)
+        else if some_block s.torrent (λ b. continues_plain b i) then RequestOf (λ b. continues_plain b i)
         else if some_block s.torrent (λ b. usable_plain q b i) then RequestOf (λ b. starts_plain q b i)
         else if endgame_plain i && some_block s.torrent (λ b. doubles_plain b i) then RequestOf (λ b. doubles_plain b i)
         else if lacks_plain (shows h q) _ (λ p. shows_as_before h q p plain.adds) i then Exactly Idle
@@ -137,13 +141,13 @@ module _ (s : Setting) (h : History) (plain : IsPlain h) where
 
 -- ---- whole histories
 
-module _ (s : Setting) (wide : s.workers ≤ s.askers) where
+module _ (s : Setting) (wide : s.workers ≤ s.askers) (strict : s.most_open ≡ 0) where
   -- what is permitted is the same
   answers_plain : (h : History) (e : Event) → IsPlain h → e.worker < s.workers
       → answer_unless (refusal s h e.worker e.action) (answer s h e.worker e.action)
       ≡ answer_unless (plain_refusal s h e.worker e.action) (plain_answer s h e.worker e.action)
   answers_plain h e plain lt = λ i.
-      answer_unless (refusal_plain s h plain e.worker lt wide e.action i) (answer_plain s h plain e.worker lt wide e.action i)
+      answer_unless (refusal_plain s h plain e.worker lt wide strict e.action i) (answer_plain s h plain e.worker lt wide strict e.action i)
 
   allowed_plain : (h : History) (e : Event) → IsPlain (e ∷ h) → IsAllowed s h e ↔ IsAllowedBefore s h e
   unfolding IsAllowed IsAllowedBefore

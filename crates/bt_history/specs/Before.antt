@@ -12,8 +12,8 @@ use Rattle.bt_history.specs.Counting.{all_below}
 use Rattle.bt_history.specs.Setting.{Setting, some_block}
 use Rattle.bt_history.specs.History.{History, counted_call, own_call, stored, requested}
 use Rattle.bt_history.specs.Peers.{flag, shows, is_open, asks, asked, asked_count, due, depth_of, resets}
-use Rattle.bt_history.specs.Pieces.{held, wanted, begun, unbegun, availability, endgame, interesting, had_count}
-use Rattle.bt_history.specs.Next.{Answer, Exactly, CancelOf, RequestOf, usable, is_candidate, doubles}
+use Rattle.bt_history.specs.Pieces.{held, wanted, begun, unbegun, availability, endgame, in_order, interesting, had_count}
+use Rattle.bt_history.specs.Next.{Answer, Exactly, CancelOf, RequestOf, usable, tops, is_candidate, is_strict, resumes, rises, starts, doubles}
 
 -- block b is asked of q: requested, and since then neither stored from anybody nor freed
 unfoldable pub asked_before : History → ℕ → Block → Bool
@@ -100,14 +100,22 @@ unfoldable pub chosen_before : History → ℕ → Bool
 chosen_before [] p = true
 chosen_before (e ∷ h) p = chosen_then (counted_call e) p (chosen_before h p)
 
--- strict priority: a usable block whose piece has begun
-abbrev pub continues_before : Setting → History → ℕ → Block → Bool
-continues_before s h q b = usable s h q b && begun s h b.piece
+-- no piece that passes the test is shown by fewer peers than p
+abbrev pub none_rarer_before : Setting → History → (ℕ → Bool) → ℕ → Bool
+none_rarer_before s h test p = all_below (piece_count s.torrent) (λ r. not (test r) || nat_le (availability s h p) (availability s h r))
 
 -- rarest first: no candidate has less availability than p
 abbrev pub is_rarest_before : Setting → History → ℕ → ℕ → Bool
-is_rarest_before s h q p =
-    all_below (piece_count s.torrent) (λ r. not (is_candidate s h q r) || nat_le (availability s h p) (availability s h r))
+is_rarest_before s h q p = none_rarer_before s h (is_candidate s h q) p
+
+-- which begun pieces may go on: with 0 open ones all, else the rarest, and those alone that are as rare as any candidate where they aren't first
+abbrev pub goes_first_before : Setting → History → ℕ → ℕ → Bool
+goes_first_before s h q p =
+    (s.most_open == 0) || (none_rarer_before s h (resumes s h q) p && (is_strict s h || is_rarest_before s h q p))
+
+-- a usable block whose piece has begun and may go on
+abbrev pub continues_before : Setting → History → ℕ → Block → Bool
+continues_before s h q b = usable s h q b && (begun s h b.piece && goes_first_before s h q b.piece)
 
 -- a usable block that begins a piece: a rarest one, but the first pieces may be any
 abbrev pub starts_before : Setting → History → ℕ → Block → Bool
@@ -123,6 +131,23 @@ next_before s h q =
     else if nat_le (depth_of s h q) (asked_count s h q) then Exactly PipeFull
     else if some_block s.torrent (continues_before s h q) then RequestOf (continues_before s h q)
     else if some_block s.torrent (usable s h q) then RequestOf (starts_before s h q)
+    else if endgame s h && some_block s.torrent (doubles s h q) then RequestOf (doubles s h q)
+    else if interesting s h q then Exactly Idle
+    else Exactly NothingLeft
+
+-- strict priority without exception: a usable block of the highest level whose piece has begun
+abbrev pub continues_strictly : Setting → History → ℕ → Block → Bool
+continues_strictly s h q b = tops s h q b && begun s h b.piece
+
+-- the answer to Next of q before a number of open pieces could be set: the first case that applies
+unfoldable pub next_strict : Setting → History → ℕ → Answer
+next_strict s h q =
+    if some_block s.torrent (due h q) then CancelOf (due h q)
+    else if not (is_open h q) then Exactly Choked
+    else if nat_le (depth_of s h q) (asked_count s h q) then Exactly PipeFull
+    else if in_order h && some_block s.torrent (usable s h q) then RequestOf (rises s h q)
+    else if some_block s.torrent (continues_strictly s h q) then RequestOf (continues_strictly s h q)
+    else if some_block s.torrent (usable s h q) then RequestOf (starts s h q)
     else if endgame s h && some_block s.torrent (doubles s h q) then RequestOf (doubles s h q)
     else if interesting s h q then Exactly Idle
     else Exactly NothingLeft

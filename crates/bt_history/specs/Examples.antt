@@ -43,10 +43,14 @@ abbrev enters : ℕ → List Bool → List Event → List Event
 enters w flags rest = entry w Join Joined ∷ entry w (Bits flags) (Noted true) ∷ entry w Unchoke Quiet ∷ rest
 
 abbrev rules : ℕ → ℕ → Rules
-rules depth random = record { depth = depth; random = random; askers = MOST_WORKERS; deepest = MOST_DEPTH }
+rules depth random = record { depth = depth; random = random; askers = MOST_WORKERS; deepest = MOST_DEPTH; «open» = 0 }
 
 abbrev bounded_rules : ℕ → ℕ → ℕ → ℕ → Rules
-bounded_rules depth random askers deepest = record { depth = depth; random = random; askers = askers; deepest = deepest }
+bounded_rules depth random askers deepest = record { depth = depth; random = random; askers = askers; deepest = deepest; «open» = 0 }
+
+abbrev open_rules : ℕ → ℕ → ℕ → ℕ → ℕ → Rules
+open_rules depth random askers deepest most_open =
+    record { depth = depth; random = random; askers = askers; deepest = deepest; «open» = most_open }
 
 abbrev block_of : ℕ → ℕ → ℕ → Block
 block_of piece begin len = record { piece = piece; begin = begin; len = len }
@@ -83,6 +87,12 @@ torrent_many_blocks = record { piece_length = 1000000; total = 1000000; hashes =
 
 abbrev torrent_four_pieces : Layout
 torrent_four_pieces = record { piece_length = 3; total = 12; hashes = digest_of_abc ∷ digest_of_abc ∷ digest_of_abc ∷ digest_of_abc ∷ [] }
+
+abbrev torrent_four_pairs : Layout
+torrent_four_pairs = record { piece_length = 32768; total = 131072; hashes = digest_of_abc ∷ digest_of_abc ∷ digest_of_abc ∷ digest_of_abc ∷ [] }
+
+abbrev torrent_two_pairs_and_a_byte : Layout
+torrent_two_pairs_and_a_byte = record { piece_length = 32768; total = 65537; hashes = digest_of_abc ∷ digest_of_abc ∷ digest_of_a ∷ [] }
 
 -- 1: noted from before the bits
 -- 3: request of a wrong length
@@ -930,6 +940,202 @@ refusals_of_levels = example (setting_of torrent_short_last 2 usual_rules)
     ∷ (8, entry 1 (Level 2 7) (Refused NotJoined))
     ∷ (9, entry 0 (InOrder true) (Refused NotJoined)) ∷ [])
 
+-- 11: rarer piece begun though begun ones come first
+abbrev any_begun_piece_goes_on : Example
+any_begun_piece_goes_on = example (setting_of torrent_four_pairs 3 (rules 5 0))
+    (enters 0 (true ∷ true ∷ true ∷ true ∷ [])
+    (enters 1 (true ∷ false ∷ false ∷ false ∷ [])
+    (enters 2 (true ∷ true ∷ false ∷ false ∷ [])
+    (entry 2 (Next 1) (Request (block_of 1 0 16384))
+    ∷ entry 1 (Next 0) (Request (block_of 0 0 16384))
+    ∷ entry 0 (Next 2) (Request (block_of 0 16384 16384))
+    ∷ entry 0 (Next 2) (Request (block_of 1 16384 16384)) ∷ []))))
+    ((11, entry 0 (Next 2) (Request (block_of 2 0 16384))) ∷ [])
+
+-- 7: begun piece continued though a rarer one is unbegun
+-- 8: piece begun though more are open than may be
+-- 8: commoner open piece continued
+-- 9: unbegun piece started though a begun one is as rare
+abbrev rarest_while_few_are_open : Example
+rarest_while_few_are_open = example (setting_of torrent_four_pairs 2 (open_rules 5 0 1024 64 1))
+    (enters 0 (true ∷ true ∷ true ∷ true ∷ [])
+    (enters 1 (true ∷ true ∷ false ∷ false ∷ [])
+    (entry 1 (Next 0) (Request (block_of 0 0 16384))
+    ∷ entry 0 (Next 2) (Request (block_of 2 0 16384))
+    ∷ entry 0 (Next 3) (Request (block_of 2 16384 16384))
+    ∷ entry 1 (Next 1) (Request (block_of 0 16384 16384)) ∷ [])))
+    ((7, entry 0 (Next 2) (Request (block_of 0 16384 16384)))
+    ∷ (8, entry 0 (Next 3) (Request (block_of 3 0 16384)))
+    ∷ (8, entry 0 (Next 3) (Request (block_of 0 16384 16384)))
+    ∷ (9, entry 1 (Next 1) (Request (block_of 1 0 16384))) ∷ [])
+
+-- 11: as many open as may be are too many
+-- 12: as rare piece begun though more are open
+abbrev as_many_open_as_may_be : Example
+as_many_open_as_may_be = example (setting_of torrent_four_pairs 3 (open_rules 5 0 1024 64 2))
+    (enters 0 (true ∷ true ∷ true ∷ true ∷ [])
+    (enters 1 (true ∷ false ∷ false ∷ false ∷ [])
+    (enters 2 (true ∷ true ∷ false ∷ false ∷ [])
+    (entry 2 (Next 1) (Request (block_of 1 0 16384))
+    ∷ entry 1 (Next 0) (Request (block_of 0 0 16384))
+    ∷ entry 0 (Next 2) (Request (block_of 2 0 16384))
+    ∷ entry 0 (Next 3) (Request (block_of 2 16384 16384)) ∷ []))))
+    ((11, entry 0 (Next 2) (Request (block_of 1 16384 16384)))
+    ∷ (12, entry 0 (Next 3) (Request (block_of 3 0 16384))) ∷ [])
+
+-- 11: open piece of the least number continued
+-- 11: rarer piece begun though two are open
+-- 12: last open piece continued though a rarer one is unbegun
+abbrev rarest_of_the_open_goes_on : Example
+rarest_of_the_open_goes_on = example (setting_of torrent_four_pairs 3 (open_rules 5 0 1024 64 1))
+    (enters 0 (true ∷ true ∷ true ∷ true ∷ [])
+    (enters 1 (true ∷ false ∷ false ∷ false ∷ [])
+    (enters 2 (true ∷ true ∷ false ∷ false ∷ [])
+    (entry 2 (Next 1) (Request (block_of 1 0 16384))
+    ∷ entry 1 (Next 0) (Request (block_of 0 0 16384))
+    ∷ entry 0 (Next 2) (Request (block_of 1 16384 16384))
+    ∷ entry 0 (Next 2) (Request (block_of 2 0 16384)) ∷ []))))
+    ((11, entry 0 (Next 2) (Request (block_of 0 16384 16384)))
+    ∷ (11, entry 0 (Next 2) (Request (block_of 2 0 16384)))
+    ∷ (12, entry 0 (Next 2) (Request (block_of 0 16384 16384))) ∷ [])
+
+-- 6: rarer piece begun though none is had
+abbrev first_piece_before_rarity : Example
+first_piece_before_rarity = example (setting_of torrent_four_pairs 2 (open_rules 5 1 1024 64 8))
+    (enters 0 (true ∷ true ∷ true ∷ true ∷ [])
+    (entry 1 Join Joined
+    ∷ entry 1 (Bits (true ∷ false ∷ false ∷ false ∷ [])) (Noted true)
+    ∷ entry 0 (Next 0) (Request (block_of 0 0 16384))
+    ∷ entry 0 (Next 0) (Request (block_of 0 16384 16384))
+    ∷ entry 0 (Next 1) (Request (block_of 1 0 16384)) ∷ []))
+    ((6, entry 0 (Next 0) (Request (block_of 1 0 16384))) ∷ [])
+
+-- 11: commoner begun piece continued at random
+-- 11: third piece begun at random
+abbrev rarest_of_the_begun_at_random : Example
+rarest_of_the_begun_at_random = example (setting_of torrent_four_pairs 3 (open_rules 5 2 1024 64 8))
+    (enters 0 (true ∷ true ∷ true ∷ true ∷ [])
+    (enters 1 (true ∷ false ∷ false ∷ false ∷ [])
+    (enters 2 (true ∷ true ∷ false ∷ false ∷ [])
+    (entry 2 (Next 1) (Request (block_of 1 0 16384))
+    ∷ entry 1 (Next 0) (Request (block_of 0 0 16384))
+    ∷ entry 0 (Next 3) (Request (block_of 1 16384 16384))
+    ∷ entry 0 (Next 3) (Request (block_of 0 16384 16384))
+    ∷ entry 0 (Next 3) (Request (block_of 3 0 16384)) ∷ []))))
+    ((11, entry 0 (Next 3) (Request (block_of 0 16384 16384)))
+    ∷ (11, entry 0 (Next 3) (Request (block_of 3 0 16384))) ∷ [])
+
+-- 8: rarer piece begun before enough are had
+-- 10: begun piece continued though enough are had
+abbrev rarest_once_enough_are_had : Example
+rarest_once_enough_are_had = example (setting_of torrent_two_pairs_and_a_byte 2 (open_rules 5 1 1024 64 8))
+    (enters 0 (true ∷ true ∷ true ∷ [])
+    (enters 1 (true ∷ false ∷ false ∷ [])
+    (entry 0 (Next 2) (Request (block_of 2 0 1))
+    ∷ entry 1 (Next 0) (Request (block_of 0 0 16384))
+    ∷ entry 0 (Arrived 2 0 (97 ∷ [])) Completed
+    ∷ entry 0 (Settle 2 (97 ∷ [])) Had
+    ∷ entry 0 (Next 0) (Request (block_of 1 0 16384)) ∷ [])))
+    ((8, entry 0 (Next 0) (Request (block_of 1 0 16384)))
+    ∷ (10, entry 0 (Next 0) (Request (block_of 0 16384 16384))) ∷ [])
+
+-- 11: open counted on one level
+abbrev open_counted_over_all_levels : Example
+open_counted_over_all_levels = example (setting_of torrent_four_pairs 2 (open_rules 5 0 1024 64 1))
+    (enters 0 (true ∷ true ∷ true ∷ true ∷ [])
+    (enters 1 (true ∷ false ∷ false ∷ true ∷ [])
+    (entry 1 (Next 0) (Request (block_of 0 0 16384))
+    ∷ entry 0 (Next 2) (Request (block_of 2 0 16384))
+    ∷ entry 0 (Level 3 5) Quiet
+    ∷ entry 1 (Next 0) (Request (block_of 3 0 16384))
+    ∷ entry 0 (Level 1 5) Quiet
+    ∷ entry 0 (Next 0) (Request (block_of 3 16384 16384)) ∷ [])))
+    ((11, entry 0 (Next 0) (Request (block_of 1 0 16384))) ∷ [])
+
+-- 9: wholly requested piece counted as open
+abbrev wholly_requested_pieces_are_not_open : Example
+wholly_requested_pieces_are_not_open = example (setting_of torrent_four_pairs 2 (open_rules 5 0 1024 64 1))
+    (enters 0 (true ∷ true ∷ true ∷ true ∷ [])
+    (enters 1 (true ∷ true ∷ false ∷ false ∷ [])
+    (entry 1 (Next 0) (Request (block_of 0 0 16384))
+    ∷ entry 1 (Next 1) (Request (block_of 0 16384 16384))
+    ∷ entry 1 (Next 1) (Request (block_of 1 0 16384))
+    ∷ entry 0 (Next 2) (Request (block_of 2 0 16384)) ∷ [])))
+    ((9, entry 0 (Next 2) (Request (block_of 1 16384 16384))) ∷ [])
+
+-- 10: released block left out of the count
+abbrev released_block_opens_its_piece : Example
+released_block_opens_its_piece = example (setting_of torrent_four_pairs 2 (open_rules 5 0 1024 64 1))
+    (enters 0 (true ∷ true ∷ true ∷ true ∷ [])
+    (enters 1 (true ∷ true ∷ false ∷ false ∷ [])
+    (entry 1 (Next 0) (Request (block_of 0 0 16384))
+    ∷ entry 1 (Next 1) (Request (block_of 0 16384 16384))
+    ∷ entry 1 (Next 1) (Request (block_of 1 0 16384))
+    ∷ entry 1 (Release 0 16384) Quiet
+    ∷ entry 0 (Next 2) (Request (block_of 0 16384 16384)) ∷ [])))
+    ((10, entry 0 (Next 2) (Request (block_of 2 0 16384))) ∷ [])
+
+-- 8: held block left out of the count
+abbrev held_block_opens_its_piece : Example
+held_block_opens_its_piece = example (setting_of torrent_four_pairs 2 (open_rules 5 0 1024 64 1))
+    (enters 0 (true ∷ true ∷ true ∷ true ∷ [])
+    (enters 1 (true ∷ true ∷ false ∷ false ∷ [])
+    (entry 1 (Next 1) (Request (block_of 1 0 16384))
+    ∷ entry 1 (Arrived 0 0 (replicate 16384 97)) Stored
+    ∷ entry 0 (Next 2) (Request (block_of 0 16384 16384)) ∷ [])))
+    ((8, entry 0 (Next 2) (Request (block_of 2 0 16384))) ∷ [])
+
+-- 9: held piece counted as open
+abbrev held_pieces_are_not_open : Example
+held_pieces_are_not_open = example (setting_of torrent_four_pairs 2 (open_rules 5 0 1024 64 1))
+    (enters 0 (true ∷ true ∷ true ∷ true ∷ [])
+    (enters 1 (true ∷ true ∷ false ∷ false ∷ [])
+    (entry 1 (Arrived 0 0 (replicate 16384 97)) Stored
+    ∷ entry 1 (Arrived 0 16384 (replicate 16384 97)) Completed
+    ∷ entry 1 (Next 1) (Request (block_of 1 0 16384))
+    ∷ entry 0 (Next 2) (Request (block_of 2 0 16384)) ∷ [])))
+    ((9, entry 0 (Next 2) (Request (block_of 1 16384 16384))) ∷ [])
+
+-- 12: unwanted piece counted as open
+abbrev unwanted_pieces_are_not_open : Example
+unwanted_pieces_are_not_open = example (setting_of torrent_four_pairs 3 (open_rules 5 0 1024 64 1))
+    (enters 0 (true ∷ true ∷ true ∷ true ∷ [])
+    (enters 1 (true ∷ false ∷ false ∷ false ∷ [])
+    (enters 2 (true ∷ true ∷ false ∷ false ∷ [])
+    (entry 2 (Next 1) (Request (block_of 1 0 16384))
+    ∷ entry 1 (Next 0) (Request (block_of 0 0 16384))
+    ∷ entry 1 (Level 0 0) Quiet
+    ∷ entry 0 (Next 2) (Request (block_of 2 0 16384)) ∷ []))))
+    ((12, entry 0 (Next 2) (Request (block_of 1 16384 16384))) ∷ [])
+
+-- 13: commoner piece begun though many are open
+-- 13: idle though no open piece is shown
+abbrev none_of_the_open_is_shown : Example
+none_of_the_open_is_shown = example (setting_of torrent_four_pairs 4 (open_rules 5 0 1024 64 1))
+    (enters 0 (true ∷ false ∷ false ∷ false ∷ [])
+    (enters 1 (true ∷ true ∷ false ∷ false ∷ [])
+    (enters 2 (false ∷ false ∷ true ∷ true ∷ [])
+    (entry 3 Join Joined
+    ∷ entry 3 (Bits (false ∷ false ∷ false ∷ true ∷ [])) (Noted true)
+    ∷ entry 1 (Next 1) (Request (block_of 1 0 16384))
+    ∷ entry 0 (Next 0) (Request (block_of 0 0 16384))
+    ∷ entry 2 (Next 3) (Request (block_of 2 0 16384)) ∷ []))))
+    ((13, entry 2 (Next 3) (Request (block_of 3 0 16384)))
+    ∷ (13, entry 2 (Next 3) Idle) ∷ [])
+
+-- 9: open piece continued though in order
+abbrev in_order_however_many_are_open : Example
+in_order_however_many_are_open = example (setting_of torrent_four_pairs 2 (open_rules 5 0 1024 64 1))
+    (enters 0 (true ∷ true ∷ true ∷ true ∷ [])
+    (enters 1 (false ∷ false ∷ true ∷ true ∷ [])
+    (entry 1 (Next 2) (Request (block_of 2 0 16384))
+    ∷ entry 0 (Next 1) (Request (block_of 1 0 16384))
+    ∷ entry 0 (InOrder true) Quiet
+    ∷ entry 0 (Next 3) (Request (block_of 0 0 16384))
+    ∷ entry 0 (Next 3) (Request (block_of 0 16384 16384))
+    ∷ entry 0 (Next 3) (Request (block_of 1 16384 16384)) ∷ [])))
+    ((9, entry 0 (Next 3) (Request (block_of 1 16384 16384))) ∷ [])
+
 abbrev pub examples : List Example
 examples =
     first_request
@@ -994,4 +1200,19 @@ examples =
     ∷ endgame_of_all_levels
     ∷ asked_outlasts_its_level
     ∷ refusals_of_levels
+    ∷ any_begun_piece_goes_on
+    ∷ rarest_while_few_are_open
+    ∷ as_many_open_as_may_be
+    ∷ rarest_of_the_open_goes_on
+    ∷ first_piece_before_rarity
+    ∷ rarest_of_the_begun_at_random
+    ∷ rarest_once_enough_are_had
+    ∷ open_counted_over_all_levels
+    ∷ wholly_requested_pieces_are_not_open
+    ∷ released_block_opens_its_piece
+    ∷ held_block_opens_its_piece
+    ∷ held_pieces_are_not_open
+    ∷ unwanted_pieces_are_not_open
+    ∷ none_of_the_open_is_shown
+    ∷ in_order_however_many_are_open
     ∷ []

@@ -9,7 +9,7 @@ use Rattle.bt_history.specs.Setting.{Setting, each_block, some_block}
 use Rattle.bt_history.specs.History.{History}
 use Rattle.bt_history.specs.Peers.{shows, is_open, asked, asked_count, due, depth_of}
 use Rattle.bt_history.specs.Pieces.{held, asker_count, unasked, begun, unbegun, availability, wanted, endgame, interesting, had_count}
-use Rattle.bt_history.specs.Pieces.{in_order, level}
+use Rattle.bt_history.specs.Pieces.{in_order, is_open_piece, level, open_count}
 
 -- just this reply, or a Cancel or a Request of any block that passes the test
 pub data Answer : Type 0 where
@@ -25,9 +25,14 @@ usable s h q b = unasked s h b && (wanted s h b.piece && shows h q b.piece)
 abbrev pub tops : Setting → History → ℕ → Block → Bool
 tops s h q b = usable s h q b && each_block s.torrent (λ c. not (usable s h q c) || nat_le (level h c.piece) (level h b.piece))
 
--- strict priority: such a block whose piece has begun
-abbrev pub continues : Setting → History → ℕ → Block → Bool
-continues s h q b = tops s h q b && begun s h b.piece
+-- no piece of p's level that passes the test is shown by fewer peers than p
+abbrev pub none_rarer : Setting → History → (ℕ → Bool) → ℕ → Bool
+none_rarer s h test p = all_below (piece_count s.torrent) (λ r.
+    not (test r && (level h r == level h p)) || nat_le (availability s h p) (availability s h r))
+
+-- an open piece that q shows
+abbrev pub resumes : Setting → History → ℕ → ℕ → Bool
+resumes s h q p = is_open_piece s h p && shows h q p
 
 -- a wanted unbegun piece that q shows
 abbrev pub is_candidate : Setting → History → ℕ → ℕ → Bool
@@ -35,8 +40,19 @@ is_candidate s h q p = wanted s h p && (shows h q p && unbegun s h p)
 
 -- rarest first: no candidate of its level has less availability than p
 abbrev pub is_rarest : Setting → History → ℕ → ℕ → Bool
-is_rarest s h q p = all_below (piece_count s.torrent) (λ r.
-    not (is_candidate s h q r && (level h r == level h p)) || nat_le (availability s h p) (availability s h r))
+is_rarest s h q p = none_rarer s h (is_candidate s h q) p
+
+-- begun pieces come before all others: more are open than may be, or too few are had to tell which are rare
+abbrev pub is_strict : Setting → History → Bool
+is_strict s h = nat_lt s.most_open (open_count s h) || nat_lt (had_count s h) s.random
+
+-- which begun pieces may go on: with 0 open ones all, else the rarest, and those alone that are as rare as any candidate where they aren't first
+abbrev pub goes_first : Setting → History → ℕ → ℕ → Bool
+goes_first s h q p = (s.most_open == 0) || (none_rarer s h (resumes s h q) p && (is_strict s h || is_rarest s h q p))
+
+-- such a block whose piece has begun and may go on
+abbrev pub continues : Setting → History → ℕ → Block → Bool
+continues s h q b = tops s h q b && (begun s h b.piece && goes_first s h q b.piece)
 
 -- such a block that begins a piece: a rarest one, but the first pieces may be any
 abbrev pub starts : Setting → History → ℕ → Block → Bool

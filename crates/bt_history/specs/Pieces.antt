@@ -101,6 +101,14 @@ chosen h p = nat_lt 0 (level h p)
 abbrev pub wanted : Setting → History → ℕ → Bool
 wanted s h p = nat_lt p (piece_count s.torrent) && chosen h p
 
+-- piece p is open: it is wanted and under way, and one of its blocks is unasked
+abbrev pub is_open_piece : Setting → History → ℕ → Bool
+is_open_piece s h p = wanted s h p && (begun s h p && some_block_of s.torrent p (unasked s h))
+
+-- how many pieces are open
+abbrev pub open_count : Setting → History → ℕ
+open_count s h = count_below (piece_count s.torrent) (is_open_piece s h)
+
 -- whether pieces come in order after the newest call, from what it was before
 abbrev pub in_order_after : Option Action → Bool → Bool
 in_order_after (Some (InOrder rising)) before = rising

@@ -7,7 +7,8 @@ use Rattle.bt_history.specs.declared.rules.TheConstants.{MOST_DEPTH, MOST_TOLD_D
 use Rattle.bt_history.specs.Counting.{any_below, all_below, count_below, sum_below}
 
 -- the torrent, how many workers there are, how many blocks may be asked of one peer, how many pieces are picked at random before the
--- rarest come first, of how many peers one block may be asked in endgame, and which depth may be told of a peer at most
+-- rarest come first, of how many peers one block may be asked in endgame, which depth may be told of a peer at most, and how many pieces
+-- may be open before begun ones come first
 pub record Setting : Type 0 where
   pub torrent : Layout
   pub workers : ℕ
@@ -15,6 +16,7 @@ pub record Setting : Type 0 where
   pub random : ℕ
   pub askers : ℕ
   pub deepest : ℕ
+  pub most_open : ℕ
 
 -- the torrent with so many workers, by these rules
 abbrev pub setting_of : Layout → ℕ → Rules → Setting
@@ -25,6 +27,7 @@ setting_of t n rules = record {
   random = rules.random;
   askers = rules.askers;
   deepest = rules.deepest;
+  most_open = rules.«open»;
 }
 
 -- the greatest depth that may be told of a peer
@@ -35,9 +38,9 @@ deepest_told s = min s.deepest MOST_TOLD_DEPTH
 abbrev pub deepest_line : Setting → ℕ
 deepest_line s = max s.depth (deepest_told s)
 
--- the usual rules: five blocks in a peer's pipe, the first piece at random, any number of peers for a block in endgame
+-- the usual rules: five blocks in a peer's pipe, the first piece at random, any number of peers for a block in endgame, begun pieces first
 abbrev pub usual_rules : Rules
-usual_rules = record { depth = 5; random = 1; askers = MOST_WORKERS; deepest = MOST_DEPTH }
+usual_rules = record { depth = 5; random = 1; askers = MOST_WORKERS; deepest = MOST_DEPTH; «open» = 0 }
 
 -- a picker of this torrent may go by these rules
 pub record AreRules (t : Layout) (rules : Rules) : Type 0 where

@@ -10,14 +10,14 @@ ghost use Rattle.bt_history.specs.declared.rules.TheConstants.{MOST_LEVEL};
 ghost use Rattle.bt_history.specs.Setting.{deepest_line, is_block, setting_of};
 ghost use Rattle.bt_history.specs.Entries.{event_of, giving_up, history_of};
 ghost use Rattle.bt_history.specs.Before.{asked_before, chosen_before, doubles_before, late_before, next_before, outstanding_before, shows_before};
-ghost use Rattle.bt_history.specs.Before.{never_adds, never_deepens, never_levels, never_releases};
+ghost use Rattle.bt_history.specs.Before.{never_adds, never_deepens, never_levels, never_releases, next_strict};
 ghost use Rattle.bt_history.specs.History.{same_begin};
 ghost use Rattle.bt_history.specs.Epochs.{epoch, is_idle, pass_by};
-ghost use Rattle.bt_history.specs.Next.{Exactly, doubles, next_answer, usable};
+ghost use Rattle.bt_history.specs.Next.{Exactly, doubles, is_strict, next_answer, usable};
 ghost use Rattle.bt_history.specs.Peers.{asked, asked_count, depth_of, depth_so_far, due, due_count, late, ListsAsked, outstanding, shows};
 ghost use Rattle.bt_history.specs.Peers.{dues, is_open, joined, told_depth};
 ghost use Rattle.bt_history.specs.Pieces.{asker_count, held, full, content, had, endgame, unasked, wanted, was_endgame, sender, chosen};
-ghost use Rattle.bt_history.specs.Pieces.{in_order, kept, level};
+ghost use Rattle.bt_history.specs.Pieces.{availability, begun, in_order, kept, level, open_count, unbegun};
 ghost use Rattle.bt_history.specs.Legal.{IsLegal, place_at};
 ghost use Rattle.bt_history.specs.Plain.{IsLegalBefore};
 ghost use Rattle.bt_history.specs.Assured.{Assures};
@@ -282,6 +282,90 @@ pub fn rising_order(
         → level (history_of older.now) other.piece ≡ level (history_of older.now) block.piece → block.piece ≤ other.piece }
 {}
 
+/// With 0 open pieces the answer to Next is that of strict priority: any begun piece comes before all others of its level.
+pub fn no_open_is_strict(
+    torrent: &Torrent,
+    workers: u32,
+    rules: Rules,
+    journal: &[Entry],
+    worker: u32,
+)
+    requires { rules.«open» ≡ 0 }
+    ensures { next_answer (setting_of torrent.now.layout workers rules) (history_of journal.now) worker
+        ≡ next_strict (setting_of torrent.now.layout workers rules) (history_of journal.now) worker }
+{}
+
+/// Open pieces stay few. Where more are open than the rules say, a piece begins at a peer alone that shows no open one of its level. Each
+/// piece with 0 begins so.
+pub fn open_pieces_stay_few(
+    torrent: &Torrent,
+    workers: u32,
+    rules: Rules,
+    older: &[Entry],
+    entry: &Entry,
+    block: Block,
+)
+    requires legal { IsLegal (setting_of torrent.now.layout workers rules) (event_of entry.now ∷ history_of older.now) }
+    requires request { entry.now.reply ≡ Reply.Request block }
+    requires unordered { in_order (history_of older.now) ≡ false }
+    requires begins { IsTrue (unbegun (setting_of torrent.now.layout workers rules) (history_of older.now) block.piece) }
+    requires many { rules.«open» < open_count (setting_of torrent.now.layout workers rules) (history_of older.now) }
+    ensures { (other : Block) → IsTrue (is_block torrent.now.layout other)
+        → IsTrue (usable (setting_of torrent.now.layout workers rules) (history_of older.now) entry.now.worker other)
+        → level (history_of older.now) other.piece ≡ level (history_of older.now) block.piece
+        → begun (setting_of torrent.now.layout workers rules) (history_of older.now) other.piece ≡ false }
+{}
+
+/// While no more pieces are open than the rules say, and enough are had, the rarest piece leads. A request is of a piece that fewest peers
+/// show, of those with a block for the peer on its level. It is of a begun one where a begun one is as rare.
+pub fn rarest_leads(
+    torrent: &Torrent,
+    workers: u32,
+    rules: Rules,
+    older: &[Entry],
+    entry: &Entry,
+    block: Block,
+    other: Block,
+)
+    requires legal { IsLegal (setting_of torrent.now.layout workers rules) (event_of entry.now ∷ history_of older.now) }
+    requires request { entry.now.reply ≡ Reply.Request block }
+    requires unordered { in_order (history_of older.now) ≡ false }
+    requires some { 0 < rules.«open» }
+    requires few { is_strict (setting_of torrent.now.layout workers rules) (history_of older.now) ≡ false }
+    requires inside { IsTrue (is_block torrent.now.layout other) }
+    requires usable { IsTrue (usable (setting_of torrent.now.layout workers rules) (history_of older.now) entry.now.worker other) }
+    requires level { level (history_of older.now) other.piece ≡ level (history_of older.now) block.piece }
+    ensures rarest { availability (setting_of torrent.now.layout workers rules) (history_of older.now) block.piece
+        ≤ availability (setting_of torrent.now.layout workers rules) (history_of older.now) other.piece }
+    ensures begun { availability (setting_of torrent.now.layout workers rules) (history_of older.now) other.piece
+        ≡ availability (setting_of torrent.now.layout workers rules) (history_of older.now) block.piece
+        → IsTrue (begun (setting_of torrent.now.layout workers rules) (history_of older.now) other.piece)
+        → IsTrue (begun (setting_of torrent.now.layout workers rules) (history_of older.now) block.piece) }
+{}
+
+/// Of the open pieces one that fewest peers show goes on, however many are open.
+pub fn rarest_goes_on(
+    torrent: &Torrent,
+    workers: u32,
+    rules: Rules,
+    older: &[Entry],
+    entry: &Entry,
+    block: Block,
+    other: Block,
+)
+    requires legal { IsLegal (setting_of torrent.now.layout workers rules) (event_of entry.now ∷ history_of older.now) }
+    requires request { entry.now.reply ≡ Reply.Request block }
+    requires unordered { in_order (history_of older.now) ≡ false }
+    requires some { 0 < rules.«open» }
+    requires on { IsTrue (begun (setting_of torrent.now.layout workers rules) (history_of older.now) block.piece) }
+    requires inside { IsTrue (is_block torrent.now.layout other) }
+    requires usable { IsTrue (usable (setting_of torrent.now.layout workers rules) (history_of older.now) entry.now.worker other) }
+    requires level { level (history_of older.now) other.piece ≡ level (history_of older.now) block.piece }
+    requires begun { IsTrue (begun (setting_of torrent.now.layout workers rules) (history_of older.now) other.piece) }
+    ensures { availability (setting_of torrent.now.layout workers rules) (history_of older.now) block.piece
+        ≤ availability (setting_of torrent.now.layout workers rules) (history_of older.now) other.piece }
+{}
+
 /// Where no entry gave pieces a level or an order, the same pieces are chosen as before that could be, and the answers to Next are the same.
 pub fn flat_is_as_before(
     torrent: &Torrent,
@@ -297,13 +381,15 @@ pub fn flat_is_as_before(
         ≡ next_before (setting_of torrent.now.layout workers rules) (history_of journal.now) worker }
 {}
 
-/// With none of the later calls, and a bound on askers that is none, a history is legal just where it was by the rules as they were.
+/// With none of the later calls, a bound on askers that is none, and no number of open pieces, a history is legal just where it was by the
+/// rules as they were.
 pub fn plain_is_as_before(torrent: &Torrent, workers: u32, rules: Rules, journal: &[Entry])
     requires releases { IsTrue (never_releases (history_of journal.now)) }
     requires depths { IsTrue (never_deepens (history_of journal.now)) }
     requires adds { IsTrue (never_adds (history_of journal.now)) }
     requires levels { IsTrue (never_levels (history_of journal.now)) }
     requires wide { workers ≤ rules.askers }
+    requires strict { rules.«open» ≡ 0 }
     ensures { IsLegal (setting_of torrent.now.layout workers rules) (history_of journal.now)
         ↔ IsLegalBefore (setting_of torrent.now.layout workers rules) (history_of journal.now) }
 {}

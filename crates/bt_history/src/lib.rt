@@ -13,4 +13,6 @@ pub use call::{Call, Entry, Reason, Reply};
 pub use event::{Action, Event};
 pub use examples::worked_examples;
 pub use mark::{CallMark, Mark};
-pub use rules::{MOST_DEPTH, MOST_LEVEL, MOST_TOLD_DEPTH, MOST_WORKERS, Rules, USUAL_LEVEL};
+pub use rules::{
+    MOST_DEPTH, MOST_LEVEL, MOST_OPEN, MOST_TOLD_DEPTH, MOST_WORKERS, Rules, USUAL_LEVEL,
+};

@@ -9,6 +9,9 @@ pub const MOST_DEPTH: u32 = 64;
 /// The greatest depth that can be told of one peer.
 pub const MOST_TOLD_DEPTH: u32 = 4096;
 
+/// The greatest number of open pieces that a download may choose.
+pub const MOST_OPEN: u32 = 1024;
+
 /// The most workers, and so peers at a time, of one picker.
 pub const MOST_WORKERS: u32 = 1024;
 
@@ -19,8 +22,8 @@ pub const MOST_LEVEL: u8 = 7;
 pub const USUAL_LEVEL: u8 = 4;
 
 /// What a download may choose of the rules: how many blocks may be asked of one peer at a time, the cancels due at it included, how many
-/// pieces are picked at random before the rarest come first, and of how many peers one block is asked at the end (Cohen 2003, "Pipelining",
-/// "Random first piece" and "Endgame mode").
+/// pieces are picked at random before the rarest come first, of how many peers one block is asked at the end, and how many pieces may be
+/// open before begun ones come first (Cohen 2003, "Pipelining", "Random first piece", "Endgame mode" and "Strict policy").
 ///
 /// A depth of five keeps a slow line busy; a fast and distant peer wants more: five blocks of 16 KiB on a line with a round trip of
 /// 100 ms are 800 KB a second, 64 are 10 MB. A picker takes depths of 1 to [`MOST_DEPTH`].
@@ -35,10 +38,13 @@ pub struct Rules {
     /// The greatest depth that may be told of one peer ([`Call::Depth`]), up to [`MOST_TOLD_DEPTH`]; more counts as that, and with 0 none
     /// may be told. A picker takes the memory for lines so long when it is made: 24 bytes a peer for each block of depth.
     pub deepest: u32,
+    /// Pieces that may be open, which are wanted and begun and have an unrequested block. While more are, or too few pieces are had, those come
+    /// first that fewest peers show. Else a piece that fewest peers show comes first, begun or not. With 0 any begun piece comes first.
+    pub open: u32,
 }
 
 impl Rules {
-    /// Five blocks, the first piece at random, in endgame any number of peers for a block, and no depth beyond 64.
+    /// Five blocks, the first piece at random, in endgame any number of peers for a block, no depth beyond 64, and begun pieces first.
     pub fn usual() -> Rules
         ensures { result ≡ usual_rules }
     {
@@ -47,6 +53,7 @@ impl Rules {
             random: 1,
             askers: MOST_WORKERS,
             deepest: MOST_DEPTH,
+            open: 0,
         }
     }
 
