@@ -22,7 +22,7 @@ use Rattle.bt_tables.specs.Standings.{group_number, place_of, stage_of_row, is_h
 use Rattle.bt_tables.specs.declared.piece.Stage.TheVariants.{AskedOut}
 use Rattle.bt_picker.proofs.Levelled.{Covers}
 use Rattle.bt_picker.proofs.Stages.{begun_stage, listed_place, place_listed}
-use Rattle.bt_picker.specs.Search.{DoublesFirst, DoublesNone, FindsAmong, FindsLesser, FindsOf, IsLevel, NoneBeforeIn}
+use Rattle.bt_picker.specs.Search.{DoublesFirst, DoublesNone, FindsAmong, FindsLesser, IsLevel, NoneBeforeIn}
 use Rattle.bt_tables.specs.Orders.{at, ListsGroup}
 use Rattle.bt_picker.proofs.Scans.{finds_in_piece, first_in_piece, none_in_pieces}
 use Rattle.bt_tables.proofs.Tabled.{table_more}

@@ -180,9 +180,9 @@ module _ (s : Setting) (h : History) (w word : ℕ) (legal : IsLegal s h) (layou
       let permitted = answered s h e (no_cause s h e (λ reason refused. absurd (cc refused)) allowed) allowed in
       ⊎_elim
       (λ (on : continues s h w b ≡ true). absurd (never_both (had h b.piece) (some_block_of s.torrent b.piece (held_or_asked s h))
-      (and_parts (tops s h w b) (begun s h b.piece) on).1 fresh))
+      (and_parts (begun s h b.piece) _ (and_parts (tops s h w b) _ on).1).0 fresh))
       (λ rest. ⊎_elim
-      (λ (first : starts s h w b ≡ true). begins_first s h w b legal layout few first settled)
+      (λ (first : (some_block s.torrent (continues s h w) ≡ false) × (starts s h w b ≡ true)). begins_first s h w b legal layout few first.1 settled)
       (λ (none : some_block s.torrent (usable s h w) ≡ false). none_usable s h w (rank_at s h b.piece) layout none)
       rest)
       ((next_request s.torrent _ _ _ _ _ _ _ _ _ _ _ _ _ b (subst (λ (a : _). Permits s.torrent a (Request b)) (next_is s h w) permitted)).unordered

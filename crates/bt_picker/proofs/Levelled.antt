@@ -1,12 +1,12 @@
 -- What may be asked of a peer of the pieces of one level, where no piece of a higher one has anything to ask.
-use Rattle.std.proofs.Common.{◌≡◌, ◌⊎◌, ℕ, zero, suc, ◌+◌, ◌-◌, ◌*◌, ◌<◌, ◌≤◌, ◌==◌, Bool, true, false, not, ◌&&◌, ◌||◌, Option, None, Some, List}
+use Rattle.std.proofs.Common.{◌≡◌, ◌⊎◌, ℕ, zero, suc, ◌+◌, ◌-◌, ◌<◌, ◌≤◌, ◌==◌, Bool, true, false, not, ◌&&◌, ◌||◌, Option, None, Some, List}
 use Rattle.std.proofs.Common.{length, refl, ap, sym, ◌∙◌, subst, arith, ⊎_elim, inl, inr, min}
 use Rattle.std.specs.Prelude.{IfSome, nat_le, nat_lt}
 use Rattle.std.proofs.Math.Nat.{min-eq_left, min-eq_right}
-use Rattle.std.proofs.lemmas.Bool.{and_from, and_parts, cases_Bool, cases_eq, cases_lt, eq-eqb, eqb-true, false≢true, false_from_ne_true, le-leb}
+use Rattle.std.proofs.lemmas.Bool.{and_from, and_parts, cases_Bool, cases_lt, eq-eqb, eqb-true, false≢true, false_from_ne_true, le-leb}
 use Rattle.std.proofs.lemmas.Bool.{not-true, or_left, or_right}
 use Rattle.bt_meta.specs.declared.block.Block.{Block}
-use Rattle.bt_meta.specs.Layout.{IsLayout, piece_count, block_count, block, block_size}
+use Rattle.bt_meta.specs.Layout.{IsLayout, piece_count, block_count, block}
 use Rattle.bt_history.specs.Setting.{Setting, each_block_of, is_block, some_block, some_block_of}
 use Rattle.bt_history.specs.History.{History}
 use Rattle.bt_history.specs.Legal.{IsLegal}
@@ -20,11 +20,11 @@ use Rattle.bt_history.proofs.LineLaws.{block_is_block, some_found}
 use Rattle.bt_tables.specs.Orders.{at}
 use Rattle.bt_tables.specs.declared.piece.Stage.TheVariants.{Open}
 use Rattle.bt_tables.specs.Standings.{ListsOpen, first_group, group_number, group_of_row, place_of, stage_of_row}
-use Rattle.bt_picker.specs.Search.{Finds, FindsLeast, FindsListed, FindsOf, IsLeast, IsLevel, NoneAbove, NoneAt, goes_on, is_candidate_at, lesser_of}
+use Rattle.bt_picker.specs.Search.{FindsLeast, FindsListed, FindsOf, IsLevel, NoneAbove, NoneAt, goes_on, is_candidate_at, lesser_of}
 use Rattle.bt_picker.specs.Search.{rank_of, shows_at}
 use Rattle.bt_picker.specs.Tables.{groups_of, piece_of}
 use Rattle.bt_picker.proofs.Rarest.{at_level}
-use Rattle.bt_picker.proofs.Scans.{candidate_usable, first_block, first_in_piece, least_is_rarest, none_in_pieces}
+use Rattle.bt_picker.proofs.Scans.{candidate_usable, first_block, least_is_rarest, none_in_pieces}
 use Rattle.bt_picker.proofs.Stages.{begun_stage, candidate_at, candidate_parts, candidate_stage, level_chosen, listed_open, open_listed, open_within}
 use Rattle.bt_picker.proofs.Stages.{stage_open}
 use Rattle.bt_tables.proofs.Apart.{place_few}
@@ -158,27 +158,21 @@ module _ (s : Setting) (h : History) (q n : ℕ) (above : NoneAbove s h q n) whe
       (λ (isnt : usable s h q (block s.torrent p k) ≡ false). or_left (not (usable s h q (block s.torrent p k))) _ (ap not isnt))
       (cases_Bool (usable s h q (block s.torrent p k))))))
 
-  -- a block that goes on at this level continues
-  pub continues_at : (b : Block) → goes_on s h q n b ≡ true → continues s h q b ≡ true
-  continues_at b is =
-      let parts = and_parts (usable s h q b) _ is in
-      let rest = and_parts (begun s h b.piece) (level h b.piece == n) parts.1 in
-      and_from (tops s h q b) (begun s h b.piece) (tops_at b parts.0 (eqb-true (level h b.piece) n rest.1)) rest.0
-
-  -- and where none does, but a block of the level is usable, nothing continues
+  -- where no block of a begun piece is usable at this level, but another block of the level is, nothing continues
   pub none_continues : (b : Block) → is_block s.torrent b ≡ true → usable s h q b ≡ true → level h b.piece ≡ n
       → some_block s.torrent (goes_on s h q n) ≡ false → some_block s.torrent (continues s h q) ≡ false
   none_continues b inside fits same none = none_in_pieces s.torrent (continues s h q) (λ p lp.
       any_none (block_count s.torrent p) (λ k. continues s h q (block s.torrent p k)) (λ k lk.
       false_from_ne_true (continues s h q (block s.torrent p k)) (λ on.
       let c = block s.torrent p k in
-      let parts = and_parts (tops s h q c) (begun s h p) on in
+      let parts = and_parts (tops s h q c) _ on in
+      let under_way = (and_parts (begun s h p) _ parts.1).0 in
       let usage = (and_parts (usable s h q c) _ parts.0).0 in
       let low = usable_below p lp (any_found (block_count s.torrent p) (λ j. usable s h q (block s.torrent p j)) k lk usage) in
       let high = top_above s h q c b parts.0 inside fits in
       let level_is : level h p ≡ n = omega (arith, low, high, same) in
       false≢true (sym none ∙ some_found s.torrent (goes_on s h q n) c (block_is_block s.torrent p k lp lk)
-      (and_from (usable s h q c) _ usage (and_from (begun s h p) (level h p == n) parts.1 (eq-eqb (level h p) n level_is)))))))
+      (and_from (usable s h q c) _ usage (and_from (begun s h p) (level h p == n) under_way (eq-eqb (level h p) n level_is)))))))
 
   -- block 0 of the candidate that ranks first may be asked for
   pub candidate_starts : (p : ℕ) (rare : Bool) → IsLayout s.torrent → rare ≡ not (nat_lt (had_count s h) s.random) → p < piece_count s.torrent
@@ -254,22 +248,6 @@ given s h q n p (Some b) gives some = (
 
 -- ---- begun pieces
 
--- an unasked block of an open piece of the level goes on
-pub goes_on_found : (s : Setting) (h : History) (q n p : ℕ) (found : Option Block) → IsLayout s.torrent → IsLevel n → p < piece_count s.torrent
-    → stage_of_row (piece_of s h p) ≡ Open → shows_at h q n p ≡ true → FindsOf s.torrent p (unasked s h) found →
-    Finds s.torrent (goes_on s h q n) found
-goes_on_found s h q n p found layout is lp stage shown finds =
-    let gives = open_gives s h q n p layout is lp stage shown in
-    let block_is = given s h q n p found gives finds in
-    let b = block_is.0 in
-    let known = stage_open s h p stage in
-    let begun_is : begun s h p ≡ true = and_from (not (had h p)) _ (ap not known.0) known.2 in
-    subst (Finds s.torrent (goes_on s h q n)) (sym block_is.1) (
-      block_is.2,
-      and_from (usable s h q b) _ block_is.4 (subst (λ (r : ℕ). (begun s h r && (level h r == n)) ≡ true) (sym block_is.3)
-          (and_from (begun s h p) (level h p == n) begun_is (eq-eqb (level h p) n gives.level_is))),
-    )
-
 -- a block that goes on is of an open piece that is listed and shown
 goes_on_listed : (s : Setting) (h : History) (q n : ℕ) (pieces : List ℕ) → IsLegal s h → ListsOpen (groups_of s h) pieces → (p k : ℕ)
     → p < piece_count s.torrent → k < block_count s.torrent p → goes_on s h q n (block s.torrent p k) ≡ true
@@ -287,25 +265,6 @@ goes_on_listed s h q n pieces legal lists p k lp lk on =
       listed.2,
       ap (shows_at h q n) listed.2 ∙ and_from (shows h q p) (level h p == n) (usable_shown s h q p legal lp some) rest.1,
     )
-
--- of the least such piece the first unasked block comes before all that go on
-pub goes_on_least : (s : Setting) (h : History) (q n p : ℕ) (pieces : List ℕ) (found : Option Block) → IsLegal s h
-    → ListsOpen (groups_of s h) pieces
-    → ((i : ℕ) → i < length pieces → shows_at h q n (at pieces i) ≡ true → p ≤ at pieces i)
-    → FindsOf s.torrent p (unasked s h) found → IfSome found (IsLeast s.torrent (goes_on s h q n))
-goes_on_least s h q n p pieces None legal lists least finds = tt
-goes_on_least s h q n p pieces (Some b) legal lists least finds = λ r lr k lk on.
-    let listed = goes_on_listed s h q n pieces legal lists r k lr lk on in
-    let low = least listed.0 listed.1 listed.3 in
-    let own : b.piece ≡ p = ap (λ (c : Block). c.piece) finds.2 in
-    ⊎_elim
-    (λ (same : p ≡ r).
-    let free = (and_parts (unasked s h (block s.torrent r k)) _ (and_parts (usable s h q (block s.torrent r k)) _ on).0).0 in
-    subst (λ (x : ℕ). (b.piece < x) ⊎ ((b.piece ≡ x) × (b.begin ≤ block_size * k))) same
-    (first_in_piece s.torrent p (unasked s h) b finds k (subst (λ (x : ℕ). k < block_count s.torrent x) (sym same) lk)
-    (ap (λ (x : ℕ). unasked s h (block s.torrent x k)) same ∙ free)))
-    (λ (apart : p ≡ r → ⊥). inl (omega (arith, own, low, listed.2, apart)))
-    (cases_eq p r)
 
 -- where no open piece of the level is shown nothing goes on
 pub goes_on_none : (s : Setting) (h : History) (q n : ℕ) (pieces : List ℕ) → IsLegal s h → ListsOpen (groups_of s h) pieces

@@ -21,6 +21,7 @@ pub mod Interest
 pub mod KeeperCalls
 pub mod KeeperWaiting
 pub mod Lasting
+pub mod Leading
 pub mod Learning
 pub mod Levelled
 pub mod PeerSteps

@@ -8,7 +8,7 @@ use Rattle.bt_meta.specs.Layout.{IsLayout, block, block_count, block_size, piece
 use Rattle.bt_history.specs.Setting.{Setting, each_block_of, is_block, some_block_of}
 use Rattle.bt_history.specs.History.{History}
 use Rattle.bt_history.specs.Legal.{IsLegal}
-use Rattle.bt_history.specs.Next.{continues, doubles, is_candidate, is_rarest, rises, starts, tops, usable}
+use Rattle.bt_history.specs.Next.{doubles, is_candidate, is_rarest, rises, starts, tops, usable}
 use Rattle.bt_history.specs.Peers.{shows}
 use Rattle.bt_history.specs.Pieces.{availability, begun, endgame, had, had_count, held_or_asked, level, unasked, unbegun, wanted}
 use Rattle.bt_history.specs.Picks.{comes_before, is_first, place_in_round, turn}
@@ -16,9 +16,9 @@ use Rattle.bt_history.proofs.Allowed.{top_usable}
 use Rattle.bt_history.proofs.Below.{all_at, all_found, any_found}
 use Rattle.bt_history.proofs.Levels.{each_at, implied, top_above}
 use Rattle.bt_history.proofs.LineLaws.{block_index, block_is_block}
-use Rattle.bt_picker.specs.Search.{FindsLeast, IsLeast, NoneAbove, NoneBeforeIn, goes_on, is_candidate_at, order_of, rank_of}
+use Rattle.bt_picker.specs.Search.{FindsLeast, NoneAbove, NoneBeforeIn, is_candidate_at, order_of, rank_of}
 use Rattle.bt_picker.proofs.Endings.{doubles_stage}
-use Rattle.bt_picker.proofs.Levelled.{candidate_starts, continues_at, usable_below, usable_parts}
+use Rattle.bt_picker.proofs.Levelled.{candidate_starts, usable_below, usable_parts}
 use Rattle.bt_picker.proofs.Rarest.{at_level}
 use Rattle.bt_picker.proofs.Rounds.{later_place, order_least}
 use Rattle.bt_picker.proofs.Stages.{candidate_at}
@@ -104,26 +104,6 @@ least_first s h word test b passes own others = first_from s h word test b passe
 -- ---- each rule's pick
 
 module _ (s : Setting) (h : History) (q n : ℕ) (above : NoneAbove s h q n) where
-  -- of the blocks of begun pieces that go on at this level the least comes first
-  pub continues_first : (word : ℕ) (b : Block) → goes_on s h q n b ≡ true → IsLeast s.torrent (goes_on s h q n) b
-      → is_first s h word (continues s h q) b ≡ true
-  continues_first word b on least =
-      let own = and_parts (usable s h q b) _ on in
-      let mine = and_parts (begun s h b.piece) (level h b.piece == n) own.1 in
-      let level_is = eqb-true (level h b.piece) n mine.1 in
-      least_first s h word (continues s h q) b (continues_at s h q n above b on) mine.0 (λ p k lp lk too.
-      let c = block s.torrent p k in
-      let parts = and_parts (tops s h q c) (begun s h p) too in
-      let usage = top_usable s h q c parts.0 in
-      let low = usable_below s h q n above p lp (any_found (block_count s.torrent p) (λ j. usable s h q (block s.torrent p j)) k lk usage) in (
-        omega (arith, low, level_is),
-        λ same. (
-          parts.1,
-          least p lp k lk (and_from (usable s h q c) _ usage (and_from (begun s h p) (level h p == n) parts.1
-              (eq-eqb (level h p) n (same ∙ level_is)))),
-        ),
-      ))
-
   -- block 0 of the candidate that comes first in order is the first that starts
   pub starts_first : (word p : ℕ) (rare : Bool) → IsLayout s.torrent → rare ≡ not (nat_lt (had_count s h) s.random) → p < piece_count s.torrent
       → FindsLeast (is_candidate_at s h q n) (order_of s h rare (word % piece_count s.torrent)) 0 (piece_count s.torrent) (Some p)

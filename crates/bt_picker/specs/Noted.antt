@@ -11,7 +11,7 @@ use Rattle.bt_picker.specs.declared.past.Note.TheVariants.{Checked, Settled, Tol
 
 -- a setting of this torrent, of which nothing else is asked
 abbrev pub setting_with : Layout → Setting
-setting_with t = record { torrent = t; workers = 0; depth = 0; random = 0; askers = 0; deepest = 0 }
+setting_with t = record { torrent = t; workers = 0; depth = 0; random = 0; askers = 0; deepest = 0; most_open = 0 }
 
 -- the history with one entry more
 abbrev pub noted : History → Note → History

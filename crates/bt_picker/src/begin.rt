@@ -87,7 +87,7 @@ impl<'a> Position<'a> {
     }
 
     /// No candidate of the level is shown by fewer peers than this.
-    fn floor_at(&self, worker: u32, level: u8) -> u32
+    pub(crate) fn floor_at(&self, worker: u32, level: u8) -> u32
         requires { worker < self.now.setting.workers }
         ensures { NoneRarer self.now.setting self.now.history worker level result }
     {
@@ -147,7 +147,7 @@ impl<'a> Position<'a> {
     }
 
     /// Whether fewer peers show the piece than the other one, or as many, and it comes before in a round from `first` on.
-    fn is_rarer(&self, piece: u32, other: u32, first: u32) -> bool
+    pub(crate) fn is_rarer(&self, piece: u32, other: u32, first: u32) -> bool
         requires piece { piece < piece_count self.now.setting.torrent }
         requires other { other < piece_count self.now.setting.torrent }
         ensures { result ≡ nat_lt (order_of self.now.setting self.now.history true first piece)

@@ -7,12 +7,12 @@ ghost use Rattle.bt_meta.specs.Layout.{piece_count, block_count, block};
 ghost use Rattle.bt_history.specs.Setting.{each_block, each_block_of, is_block, some_block, some_block_of};
 ghost use Rattle.bt_history.specs.Peers.{asked, asked_count, depth_of, due, dues, shows};
 ghost use Rattle.bt_history.specs.Picks.{is_first, leads};
-ghost use Rattle.bt_history.specs.Pieces.{asker_count, endgame, had_count, held, held_or_asked, interesting, level, unasked, wanted};
-ghost use Rattle.bt_history.specs.Next.{continues, doubles, next_answer, rises, starts, usable};
+ghost use Rattle.bt_history.specs.Pieces.{asker_count, endgame, had_count, held, held_or_asked, in_order, interesting, level, open_count, unasked, wanted};
+ghost use Rattle.bt_history.specs.Next.{continues, doubles, is_rarest, is_strict, next_answer, rises, starts, usable};
 ghost use Rattle.bt_tables.specs.Orders.{at};
 ghost use Rattle.bt_tables.specs.Risings.{Rises};
-ghost use Rattle.bt_picker.specs.Search.{FindsListed, Finds, FindsOf, IsLeast, IsLevel, IsPickedBy, IsRuling, LacksNone, MayAsk, NoneAbove, NoneAt};
-ghost use Rattle.bt_picker.specs.Search.{NoneBeforeIn, goes_on, lesser_of, shows_at};
+ghost use Rattle.bt_picker.specs.Search.{FindsLeast, FindsListed, FindsRarest, Finds, FindsOf, IsLevel, IsPickedBy, IsRarer, IsRuling, LacksNone};
+ghost use Rattle.bt_picker.specs.Search.{MayAsk, NoneAbove, NoneAt, NoneBeforeIn, goes_on, lesser_of, order_of, resumes_at, resuming_order, shows_at};
 
 use crate::position::Position;
 use crate::ruling::Ruling;
@@ -35,17 +35,124 @@ impl<'a> Position<'a> {
         None
     }
 
-    /// A block of a begun piece of this level to ask of the peer: of the least such piece.
-    fn continuing(&self, worker: u32, level: u8) -> Option<Block>
+    /// The open piece of this level that goes on at the peer before its others: the least with 0 open ones, else of the rarest the least.
+    fn resuming(&self, worker: u32, level: u8) -> Option<u32>
         requires worker { worker < self.now.setting.workers }
         requires level { IsLevel level }
-        ensures found { Finds self.now.setting.torrent (goes_on self.now.setting self.now.history worker level) result }
-        ensures least { IfSome result (IsLeast self.now.setting.torrent (goes_on self.now.setting self.now.history worker level)) }
+        ensures first { FindsLeast (resumes_at self.now.setting self.now.history worker level)
+            (resuming_order self.now.setting self.now.history) 0 (piece_count self.now.setting.torrent) result }
+        ensures within { IfSome result (λ p. p < piece_count self.now.setting.torrent) }
     {
         self.attest();
-        match self.least_shown(worker, level, self.open_pieces()) {
-            Some(piece) => self.unasked_in(piece),
+        let pieces = self.open_pieces();
+        if self.most_open() == 0 {
+            self.least_shown(worker, level, pieces)
+        } else {
+            self.rarest_shown(worker, level, pieces)
+        }
+    }
+
+    /// Of these pieces that have this level and that the peer shows the least of those that fewest peers show.
+    fn rarest_shown(&self, worker: u32, level: u8, pieces: &[u32]) -> Option<u32>
+        requires worker { worker < self.now.setting.workers }
+        requires pieces { (i : ℕ) → i < length pieces.now → at pieces.now i < piece_count self.now.setting.torrent }
+        ensures { FindsRarest (shows_at self.now.history worker level) (order_of self.now.setting self.now.history true 0)
+            pieces.now (length pieces.now) result }
+    {
+        let mut rarest = None;
+        for piece in pieces {
+            rarest = self.rarer_shown(worker, level, rarest, *piece);
+        }
+        rarest
+    }
+
+    /// The piece, where it has this level, the peer shows it, and it ranks before the one found before.
+    fn rarer_shown(&self, worker: u32, level: u8, found: Option<u32>, piece: u32) -> Option<u32>
+        requires worker { worker < self.now.setting.workers }
+        requires piece { piece < piece_count self.now.setting.torrent }
+        requires found { IfSome found (λ p. p < piece_count self.now.setting.torrent) }
+        ensures rarer { IsRarer (shows_at self.now.history worker level) (order_of self.now.setting self.now.history true 0) found piece result }
+        ensures within { IfSome result (λ p. p < piece_count self.now.setting.torrent) }
+    {
+        match found {
+            Some(rarest) if !self.is_rarer(piece, rarest, 0) => found,
+            _ if self.shows_at(worker, level, piece) => Some(piece),
+            _ => found,
+        }
+    }
+
+    /// How many pieces are open.
+    fn open_count(&self) -> usize
+        ensures { result ≡ open_count self.now.setting self.now.history }
+    {
+        self.attest();
+        self.open_pieces().len()
+    }
+
+    /// Whether begun pieces come before all others: more are open than may be, or too few are had to tell which are rare.
+    fn is_strict(&self) -> bool
+        ensures { result ≡ is_strict self.now.setting self.now.history }
+    {
+        (self.most_open() as usize) < self.open_count() || self.is_random()
+    }
+
+    /// Whether it is known at once that no candidate keeps the open piece from going on: begun ones come first, or none is rarer.
+    fn goes_at_once(&self, worker: u32, level: u8, piece: u32) -> bool
+        requires worker { worker < self.now.setting.workers }
+        requires piece { piece < piece_count self.now.setting.torrent }
+        requires resumes { IsTrue (resumes_at self.now.setting self.now.history worker level piece) }
+        ensures yes { result ≡ true → (is_strict self.now.setting self.now.history
+            || is_rarest self.now.setting self.now.history worker piece) ≡ true }
+        ensures no { result ≡ false → is_strict self.now.setting self.now.history ≡ false }
+    {
+        self.is_strict() || self.availability(piece) <= self.floor_at(worker, level)
+    }
+
+    /// The open piece goes on with its first block that is lacking and that nobody is asked for.
+    fn going_on(&self, worker: u32, level: u8, word: u64, piece: u32) -> Option<Ruling>
+        requires worker { worker < self.now.setting.workers }
+        requires level { IsLevel level }
+        requires above { NoneAbove self.now.setting self.now.history worker level }
+        requires may { MayAsk self.now.setting self.now.history worker }
+        requires unordered { in_order self.now.history ≡ false }
+        requires within { piece < piece_count self.now.setting.torrent }
+        requires first { FindsLeast (resumes_at self.now.setting self.now.history worker level)
+            (resuming_order self.now.setting self.now.history) 0 (piece_count self.now.setting.torrent) (Some piece) }
+        requires leads { (is_strict self.now.setting self.now.history
+            || is_rarest self.now.setting self.now.history worker piece) ≡ true }
+        ensures some { IfSome result (IsRuling self.now.setting self.now.history worker (next_answer self.now.setting self.now.history worker)) }
+        ensures picked { IfSome result (IsPickedBy self.now.setting self.now.history worker word) }
+        ensures none { IfNone result (NoneAt self.now.setting self.now.history worker level) }
+    {
+        self.attest();
+        match self.unasked_in(piece) {
+            Some(block) => Some(Ruling::Continuing(block)),
             None => None,
+        }
+    }
+
+    /// The open piece goes on, or a candidate of the level begins that fewer peers show.
+    fn leading(&self, worker: u32, level: u8, word: u64, piece: u32) -> Option<Ruling>
+        requires worker { worker < self.now.setting.workers }
+        requires level { IsLevel level }
+        requires above { NoneAbove self.now.setting self.now.history worker level }
+        requires may { MayAsk self.now.setting self.now.history worker }
+        requires unordered { in_order self.now.history ≡ false }
+        requires loose { is_strict self.now.setting self.now.history ≡ false }
+        requires within { piece < piece_count self.now.setting.torrent }
+        requires first { FindsLeast (resumes_at self.now.setting self.now.history worker level)
+            (resuming_order self.now.setting self.now.history) 0 (piece_count self.now.setting.torrent) (Some piece) }
+        ensures some { IfSome result (IsRuling self.now.setting self.now.history worker (next_answer self.now.setting self.now.history worker)) }
+        ensures picked { IfSome result (IsPickedBy self.now.setting self.now.history worker word) }
+        ensures none { IfNone result (NoneAt self.now.setting self.now.history worker level) }
+    {
+        self.attest();
+        let shown_by = self.availability(piece);
+        match self.candidate(worker, level, true, word) {
+            Some(other) if self.availability(other) < shown_by => {
+                Some(Ruling::Starting(self.block(other, 0)))
+            }
+            _ => self.going_on(worker, level, word, piece),
         }
     }
 
@@ -243,8 +350,11 @@ impl<'a> Position<'a> {
                 None => None,
             };
         }
-        if let Some(block) = self.continuing(worker, level) {
-            return Some(Ruling::Continuing(block));
+        if let Some(piece) = self.resuming(worker, level) {
+            if self.goes_at_once(worker, level, piece) {
+                return self.going_on(worker, level, word, piece);
+            }
+            return self.leading(worker, level, word, piece);
         }
         match self.starting(worker, level, word) {
             Some(block) => Some(Ruling::Starting(block)),

@@ -31,8 +31,8 @@ mod unread;
 pub use auditing::{AuditFault, audit};
 pub use bt_check::{Job, Verdict};
 pub use bt_history::{
-    Action, Call, CallMark, Entry, Event, MOST_DEPTH, MOST_LEVEL, MOST_TOLD_DEPTH, MOST_WORKERS,
-    Mark, Reason, Reply, Rules, USUAL_LEVEL, laws,
+    Action, Call, CallMark, Entry, Event, MOST_DEPTH, MOST_LEVEL, MOST_OPEN, MOST_TOLD_DEPTH,
+    MOST_WORKERS, Mark, Reason, Reply, Rules, USUAL_LEVEL, laws,
 };
 pub use content::ContentFault;
 pub use desk::Desk;

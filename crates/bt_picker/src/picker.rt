@@ -134,6 +134,7 @@ impl Picker {
         ensures random { result.random ≡ self.now.setting.random }
         ensures askers { result.askers ≡ self.now.setting.askers }
         ensures deepest { result.deepest ≡ self.now.setting.deepest }
+        ensures most_open { result.«open» ≡ self.now.setting.most_open }
     {
         self.tables.rules()
     }

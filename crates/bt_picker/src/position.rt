@@ -102,6 +102,13 @@ impl<'a> Position<'a> {
         self.tables.rules().askers
     }
 
+    /// So many pieces may be open before begun ones come first.
+    pub fn most_open(&self) -> u32
+        ensures { result ≡ self.now.setting.most_open }
+    {
+        self.tables.rules().open
+    }
+
     pub fn piece_count(&self) -> u32
         ensures { result ≡ piece_count self.now.setting.torrent }
     {

@@ -1,5 +1,5 @@
 -- The floors of all peers, as a row of a peer or of a piece changes.
-use Rattle.std.proofs.Common.{Some, is_some, ◌≡◌, ◌≢◌, ℕ, zero, suc, ◌+◌, ◌<◌, ◌≤◌, ◌&&◌, ◌||◌, Bool, true, false, not, List, length, get_or, set}
+use Rattle.std.proofs.Common.{Some, is_some, ◌≡◌, ℕ, zero, suc, ◌+◌, ◌<◌, ◌≤◌, ◌&&◌, ◌||◌, Bool, true, false, not, List, length, get_or, set}
 use Rattle.std.proofs.Common.{replicate, refl, ap, sym, ◌∙◌, subst, arith, length-set, cond, ◌-◌, ◌*◌}
 use Rattle.std.specs.Prelude.{slice_index_or}
 use Rattle.std.proofs.lemmas.Bool.{false≢true, ne_eqb, lt-ltb, and_right, or_right}

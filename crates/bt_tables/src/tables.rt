@@ -115,6 +115,7 @@ impl Tables {
         ensures random { result.random ≡ self.now.setting.random }
         ensures askers { result.askers ≡ self.now.setting.askers }
         ensures deepest { result.deepest ≡ self.now.setting.deepest }
+        ensures most_open { result.«open» ≡ self.now.setting.most_open }
     {
         self.rules
     }

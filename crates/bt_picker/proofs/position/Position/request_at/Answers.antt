@@ -1,7 +1,7 @@
-use Rattle.std.proofs.Common.{◌∙◌, sym}
-use Rattle.bt_picker.proofs.Choices.{continuing_ruled, rising_ruled, starting_ruled}
-use Rattle.bt_picker.proofs.Levelled.{continues_at}
-use Rattle.bt_picker.proofs.Picking.{continues_first, rises_first}
+use Rattle.std.proofs.Common.{◌∙◌, sym, arith}
+use Rattle.bt_picker.proofs.Choices.{rising_ruled, starting_ruled}
+use Rattle.bt_picker.proofs.Picking.{rises_first}
+use Rattle.bt_picker.proofs.Leading.{none_resume}
 use Rattle.bt_picker.proofs.position.Position.request_at.Goals as goal
 
 pub returns-in-Some-clause-some : goal.returns-in-Some-clause-some
@@ -9,13 +9,6 @@ returns-in-Some-clause-some c =
     let d = c.args.self.now in
     let up = c.in-Some.ensures.some in
     rising_ruled d.setting d.history c.args.worker c.requires.may c.in-Some.block (sym c.is_in_order.ensures ∙ c.if-is_in_order.true) up.0 up.1
-
-pub returns-in-Some-continuing-clause-some : goal.returns-in-Some-continuing-clause-some
-returns-in-Some-continuing-clause-some c =
-    let d = c.args.self.now in
-    let on = c.in-Some-continuing.ensures.found in
-    continuing_ruled d.setting d.history c.args.worker c.requires.may (sym c.is_in_order.ensures ∙ c.if-is_in_order.false) c.in-Some-continuing.block
-    on.0 (continues_at d.setting d.history c.args.worker c.args.level c.requires.above c.in-Some-continuing.block on.1)
 
 pub returns-in-Some-starting-clause-some : goal.returns-in-Some-starting-clause-some
 returns-in-Some-starting-clause-some c =
@@ -29,8 +22,7 @@ returns-in-Some-clause-picked c =
     let d = c.args.self.now in
     rises_first d.setting d.history c.args.worker c.args.word c.in-Some.block c.in-Some.ensures.some.0 c.in-Some.ensures.some.1 c.in-Some.ensures.first
 
-pub returns-in-Some-continuing-clause-picked : goal.returns-in-Some-continuing-clause-picked
-returns-in-Some-continuing-clause-picked c =
+pub starting-requires-clause-none_begun : goal.starting-requires-clause-none_begun
+starting-requires-clause-none_begun c =
     let d = c.args.self.now in
-    let on = c.in-Some-continuing.ensures in
-    continues_first d.setting d.history c.args.worker c.args.level c.requires.above c.args.word c.in-Some-continuing.block on.found.1 on.least
+    none_resume d.setting d.history c.args.worker c.args.level (λ p lp. c.in_default.ensures.first p (omega arith) lp)
