@@ -1,8 +1,8 @@
 #!/usr/bin/env python3
 """Feeds the built program mutated recordings, metainfo files and random scripts.
 
-    tools/fuzz.py [INPUTS [SEED]] [--program FILE]
-    tools/fuzz.py picks [N [SEED]] [--program FILE | --library]
+    tools/fuzz.py [INPUTS [SEED]] [--program FILE] [--open]
+    tools/fuzz.py picks [N [SEED]] [--program FILE | --library] [--open]
 
 10,000 inputs and the seed 1 where they aren't said. Each run has to end by a status of its command's list (docs/ERRORS.md), without a
 signal. A run of recordings has to find its journal sound, and a script has to print just the replies of the plain model (tools/model.py).
@@ -11,6 +11,8 @@ An input that goes wrong is kept in the folder that is printed.
 With `picks` random scripts of small torrents are played until N replies to `next` were judged, 100,000 where N isn't said. Each reply
 of a script has to be that of the model. The program is crates/piecepick/out/piecepick, or FILE. With `--library` the calls are made at the
 library instead (clients/build.sh), which is quicker. Then the rules also bound the askers of a block, and let greater depths be told.
+
+With `--open` the rules also say how many pieces may be open. The program or the library has to know that number.
 """
 
 from __future__ import annotations
@@ -31,6 +33,7 @@ from collections.abc import Callable
 from typing import NamedTuple
 
 import picks
+from model import MOST_OPEN
 
 ROOT = os.path.dirname(os.path.dirname(os.path.abspath(__file__)))
 PROGRAM = os.path.join(ROOT, "crates/piecepick/out/piecepick")
@@ -156,13 +159,16 @@ def line(rng: random.Random) -> str:
     return worker + " " + rng.choice(words)()
 
 
-def script(rng: random.Random, folder: str) -> tuple[list[str], bytes]:
+def script(rng: random.Random, folder: str, with_open: bool = False) -> tuple[list[str], bytes]:
     head = load(os.path.join(ROOT, "crates/piecepick"), "stdin").split(b"\n")[0]
     words = head.split(b" ")
     words[3] = str(rng.randrange(1, 4)).encode()
     lines = [b" ".join(words)]
     if rng.randrange(3) == 0:
-        lines.append(f"rules {rng.choice([1, 2, 5, 64, 65])} {rng.choice([0, 1, 3, 4])}".encode())
+        rules = f"rules {rng.choice([1, 2, 5, 64, 65])} {rng.choice([0, 1, 3, 4])}"
+        if with_open and rng.randrange(3):
+            rules += f" {rng.choice([0, 1, 2, MOST_OPEN, MOST_OPEN + 1])}"
+        lines.append(rules.encode())
     lines += [line(rng).encode() for _ in range(rng.randrange(60))]
     text = b"\n".join(lines) + b"\n"
     return ["script"], mutate_bytes(rng, text) if rng.randrange(4) == 0 else text
@@ -202,11 +208,12 @@ class Tried(NamedTuple):
     fault: str | None
 
 
-def try_one(program: str, seed: int, index: int) -> Tried:
+def try_one(program: str, seed: int, with_open: bool, index: int) -> Tried:
     """Feeds the input of this number."""
     rng = random.Random(f"{seed} {index}")
     folder = tempfile.mkdtemp(prefix="fuzz-")
-    words, stdin = rng.choice([recording, recording, metainfo, script])(rng, folder)
+    kinds: list[Callable[[random.Random, str], tuple[list[str], bytes]]] = [recording, recording, metainfo]
+    words, stdin = rng.choice([*kinds, functools.partial(script, with_open=with_open)])(rng, folder)
     status: int | None = None
     try:
         done = subprocess.run([program, *words], input=stdin, capture_output=True, timeout=60)
@@ -222,12 +229,12 @@ def try_one(program: str, seed: int, index: int) -> Tried:
     return Tried(index, words[0], status, None)
 
 
-def mutate(program: str, inputs: int, seed: int) -> bool:
+def mutate(program: str, inputs: int, seed: int, with_open: bool) -> bool:
     """Feeds so many inputs. Gives whether none of them went wrong."""
     begun, wrong = time.time(), 0
     counts: Counter[tuple[str, int | None]] = Counter()
     with concurrent.futures.ThreadPoolExecutor(os.cpu_count()) as pool:
-        for tried in pool.map(functools.partial(try_one, program, seed), range(inputs)):
+        for tried in pool.map(functools.partial(try_one, program, seed, with_open), range(inputs)):
             counts[tried.command, tried.status] += 1
             if tried.fault:
                 wrong += 1
@@ -243,18 +250,19 @@ def main() -> int:
     words.add_argument("words", nargs="*", metavar="[picks] [N [SEED]]")
     words.add_argument("--program", default=PROGRAM)
     words.add_argument("--library", action="store_true")
+    words.add_argument("--open", action="store_true")
     asked = words.parse_args()
     just_picks = asked.words[:1] == ["picks"]
     numbers = [int(word) for word in asked.words[just_picks:]]
     count, seed = [*numbers, *[100_000 if just_picks else 10_000, 1][len(numbers):]]
     program = os.path.abspath(asked.program)
     if not just_picks:
-        return 0 if mutate(program, count, seed) else 1
+        return 0 if mutate(program, count, seed, asked.open) else 1
     if asked.library:
         import library_picks
 
-        return 0 if picks.judge_picks(library_picks.play, count, str(seed)) else 1
-    return 0 if picks.judge_picks(functools.partial(picks.play, program), count, str(seed)) else 1
+        return 0 if picks.judge_picks(functools.partial(library_picks.play, with_open=asked.open), count, str(seed)) else 1
+    return 0 if picks.judge_picks(functools.partial(picks.play, program, with_open=asked.open), count, str(seed)) else 1
 
 
 if __name__ == "__main__":

@@ -69,12 +69,12 @@ def names_no_piece(model: Model, line: str) -> bool:
     return word in WITH_PIECE and arguments[0] >= model.pieces
 
 
-def play(seed: str, index: int) -> Played:
+def play(seed: str, index: int, with_open: bool = False) -> Played:
     """Plays the script of this number, and judges each reply. The model goes on from what was given."""
-    script = Script(random.Random(f"{seed} library {index}"), with_bounds=True)
+    script = Script(random.Random(f"{seed} library {index}"), with_bounds=True, with_open=with_open)
     rules, workers = script.rules, len(script.model.peers)
     model = Model(script.torrent, workers, rules)
-    options = {"depth": rules.depth, "deepest": rules.deepest, "random": rules.random, "askers": rules.askers}
+    options = {"depth": rules.depth, "deepest": rules.deepest, "random": rules.random, "askers": rules.askers, "open": rules.open}
     digests = b"".join(script.torrent.hashes)
     replies: Counter[str] = Counter()
     wrong = []

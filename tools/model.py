@@ -17,6 +17,7 @@ MOST_LEVEL = 7
 MOST_WORKERS = 1024
 MOST_DEPTH = 64
 MOST_TOLD_DEPTH = 4096
+MOST_OPEN = 1024
 MOST_PIECE_LENGTH = 2**31
 
 NOT_JOINED, ALREADY_JOINED, LATE_BITS, WRONG_COUNT, NO_SUCH_PIECE, NO_SUCH_BLOCK = range(1, 7)
@@ -44,12 +45,14 @@ class Block(NamedTuple):
 
 @dataclass(frozen=True)
 class Rules:
-    """Blocks that may be in flight at a peer, pieces at random, peers of one block in endgame, and the greatest depth that may be told."""
+    """Blocks that may be in flight at a peer, pieces at random, peers of one block in endgame, the greatest depth that may be told, and how
+    many pieces may be open before begun ones come first: with 0 they always do."""
 
     depth: int = 5
     random: int = 1
     askers: int = MOST_WORKERS
     deepest: int = MOST_DEPTH
+    open: int = 0
 
 
 @dataclass(frozen=True)
@@ -148,17 +151,32 @@ class Model:
         """The pieces that aren't complete, and of which a block is held or in flight."""
         return {block.piece for block in flying.union(self.held)} - self.had
 
-    def chosen(self, usable: list[Block], begun: set[int]) -> list[Block]:
+    def open_pieces(self, flying: set[Block]) -> list[int]:
+        """The wanted pieces that have begun, and of which a block is neither held nor in flight."""
+        requested = flying.union(self.held)
+        return [piece for piece in self.begun(flying) if self.levels[piece] > 0 and not requested.issuperset(self.blocks[piece])]
+
+    def rarest(self, blocks: list[Block]) -> list[Block]:
+        """Those of these blocks whose pieces fewest peers show."""
+        fewest = min((self.availability(block.piece) for block in blocks), default=0)
+        return [block for block in blocks if self.availability(block.piece) == fewest]
+
+    def chosen(self, usable: list[Block], flying: set[Block]) -> list[Block]:
         """Those of these blocks, all of one level, that the rules let be requested."""
         if self.in_order:
             least = min((block.piece for block in usable), default=0)
             return [block for block in usable if block.piece == least]
-        new = {block.piece for block in usable} - begun
+        begun = self.begun(flying)
         going_on = [block for block in usable if block.piece in begun]
-        if going_on or not new or len(self.had) < self.rules.random:
-            return going_on or usable
-        fewest = min(self.availability(piece) for piece in new)
-        return [block for block in usable if self.availability(block.piece) == fewest]
+        new = [block for block in usable if block.piece not in begun]
+        at_random = len(self.had) < self.rules.random
+        first = new if at_random else self.rarest(new)
+        if self.rules.open == 0:
+            return going_on or first
+        if at_random or len(self.open_pieces(flying)) > self.rules.open:
+            return self.rarest(going_on) or first
+        rarest = self.rarest(usable)
+        return [block for block in rarest if block.piece in begun] or rarest
 
     def doubles(self, peer: Peer, flying: set[Block]) -> list[Block]:
         """In endgame the blocks that may be requested of one more peer."""
@@ -182,7 +200,7 @@ class Model:
         if len(peer.asked) >= (self.rules.depth if peer.depth is None else peer.depth):
             return "pipefull", []
         flying = self.flying()
-        blocks = self.chosen(self.usable(peer, flying), self.begun(flying)) or self.doubles(peer, flying)
+        blocks = self.chosen(self.usable(peer, flying), flying) or self.doubles(peer, flying)
         if blocks:
             return "request", blocks
         return ("idle" if self.is_interesting(peer) else "nothing"), []
@@ -424,12 +442,12 @@ def opened(line: str) -> tuple[Torrent, int]:
 
 
 def ruled(line: str, pieces: int) -> Rules | None:
-    """The rules that the line sets, if it sets any."""
+    """The rules that the line sets, if it sets any: the depth, the pieces at random, and the open ones, 0 where these are left out."""
     word, *texts = line.split(" ")
-    if word != "rules" or len(texts) != 2 or not all(is_digits(text) for text in texts):
+    if word != "rules" or len(texts) not in (2, 3) or not all(is_digits(text) for text in texts):
         return None
-    depth, random = map(int, texts)
-    return Rules(depth, random) if 1 <= depth <= MOST_DEPTH and random <= pieces else None
+    rules = Rules(int(texts[0]), int(texts[1]), open=int(texts[2]) if texts[2:] else 0)
+    return rules if 1 <= rules.depth <= MOST_DEPTH and rules.random <= pieces and rules.open <= MOST_OPEN else None
 
 
 def open_model(lines: list[str]) -> tuple[Model, int]:

@@ -12,7 +12,7 @@ import time
 from collections import Counter
 from typing import Callable, NamedTuple
 
-from model import BLOCK_SIZE, MOST_DEPTH, MOST_LEVEL, MOST_WORKERS, Block, Model, NotALine, Rules, Torrent, open_model
+from model import BLOCK_SIZE, MOST_DEPTH, MOST_LEVEL, MOST_OPEN, MOST_WORKERS, Block, Model, NotALine, Rules, Torrent, open_model
 
 PIECE_LENGTHS = [1, 1, 1, 2, 3, BLOCK_SIZE, BLOCK_SIZE + 1, BLOCK_SIZE + 1, 2 * BLOCK_SIZE + 1, 3 * BLOCK_SIZE + 1]
 WORD_EDGES = [2**64 - 1, 2**64 - 2, 2**63, 2**32, 2**32 - 1]
@@ -51,18 +51,22 @@ MOODS = [
 class Script:
     """A random script, written beside the model, with the reply that each of its lines has to have."""
 
-    def __init__(self, rng: random.Random, with_bounds: bool = False) -> None:
+    def __init__(self, rng: random.Random, with_bounds: bool = False, with_open: bool = False) -> None:
         self.rng = rng
         self.mood = rng.choice(MOODS)
         self.torrent = self.made_torrent()
         workers = rng.randrange(1, 6)
         askers = rng.choice([1, 1, 2, 2, 3, 4, MOST_WORKERS]) if with_bounds else MOST_WORKERS
         deepest = rng.choice([1, 2, 8, 64, 500]) if with_bounds else MOST_DEPTH
-        self.rules = Rules(rng.choice([1, 2, 3, 5, 5, 8, 64]), rng.randrange(len(self.torrent.hashes) + 1), askers, deepest)
+        depth, at_random = rng.choice([1, 2, 3, 5, 5, 8, 64]), rng.randrange(len(self.torrent.hashes) + 1)
+        if with_open and rng.randrange(2):
+            at_random = 0
+        most_open = rng.choice([0, 1, 1, 1, 2, 2, 3, MOST_OPEN]) if with_open else 0
+        self.rules = Rules(depth, at_random, askers, deepest, most_open)
         self.model = Model(self.torrent, workers, self.rules)
         digests = " ".join(digest.hex() for digest in self.torrent.hashes)
         self.lines = [f"torrent {self.torrent.piece_length} {self.torrent.total} {workers} {digests}"]
-        self.lines.append(f"rules {self.rules.depth} {self.rules.random}")
+        self.lines.append(f"rules {depth} {at_random}" + (f" {most_open}" if most_open > 0 else ""))
         self.replies: list[str] = []
         self.first_steps()
         for _ in range(rng.randrange(15, MOST_STEPS)):
@@ -240,9 +244,9 @@ class Played(NamedTuple):
     fault: str | None
 
 
-def play(program: str, seed: str, index: int) -> Played:
+def play(program: str, seed: str, index: int, with_open: bool = False) -> Played:
     """Writes the script of this number, plays it and judges its replies."""
-    script = Script(random.Random(f"{seed} picks {index}"))
+    script = Script(random.Random(f"{seed} picks {index}"), with_open=with_open)
     text = "\n".join(script.lines) + "\n"
     done = subprocess.run([program, "script"], input=text.encode(), capture_output=True, timeout=300, check=False)
     given = done.stdout.decode("latin-1").split("\n")[:-1]

@@ -13,9 +13,9 @@ const MOST_PAIRS: i64 = 1_000_000;
 
 /// What stands at the end of the help.
 const OF_PICKER: &str = "\
-Behind the word `picker` stands what is asked of the picker that keeps no content, with nothing hashed: five numbers,
+Behind the word `picker` stands what is asked of the picker that keeps no content, with nothing hashed: six numbers,
 the order `levels`, `order` or `stream`, and `times`. The numbers are of pieces, halvings of what a peer shows, peers,
-blocks asked of a peer at a time, and askers of a block in endgame. Each may be left out, numbers from the end.";
+blocks asked of a peer at a time, askers of a block in endgame, and open pieces. Each may be left out, from the end.";
 
 /// What the program is asked for.
 #[derive(Clone, Copy)]

@@ -31,6 +31,7 @@ struct Plan {
     peers: u32,
     depth: u32,
     askers: u32,
+    open: u32,
     manner: Manner,
     is_timed: bool,
 }
@@ -46,7 +47,14 @@ struct Times {
 /// Plays the download that these words ask for, and prints its counts.
 pub fn time_picker<R: Runtime + AllocGlobal + CpuClock>(rt: &R, words: &[String]) -> Result<()> {
     let plan = asked(words)?;
-    let mut swarm = Swarm::new(rt.alloc(), plan.pieces, plan.peers, plan.depth, plan.askers)?;
+    let mut swarm = Swarm::new(
+        rt.alloc(),
+        plan.pieces,
+        plan.peers,
+        plan.depth,
+        plan.askers,
+        plan.open,
+    )?;
     swarm.order(plan.manner);
     let come = come(rt, &plan, &mut swarm)?;
     let start = rt.thread_cpu_time()?;
@@ -68,8 +76,8 @@ pub fn time_picker<R: Runtime + AllocGlobal + CpuClock>(rt: &R, words: &[String]
 }
 
 /// The first word is `picker`. Those behind it are the number of pieces, how often the pieces that a peer shows are halved, the number of
-/// peers, how many blocks are asked of each at a time, and of how many peers one block is asked in endgame. Behind them stand the order,
-/// `levels`, `order` or `stream`, and `times`, with which times are printed too. Each may be left out.
+/// peers, how many blocks are asked of each at a time, of how many peers one block is asked in endgame, and how many pieces may be open.
+/// Behind them stand the order, `levels`, `order` or `stream`, and `times`, with which times are printed too. Each may be left out.
 fn asked(words: &[String]) -> Result<Plan> {
     let is_timed = match words.last() {
         Some(word) => word.as_str() == "times",
@@ -81,8 +89,8 @@ fn asked(words: &[String]) -> Result<Plan> {
         None => Manner::Rarest,
     };
     let numbers = &rest[..rest.len() - usize::from(manner != Manner::Rarest)];
-    if numbers.len() > 6 {
-        bail!("there are five numbers at most, an order and `times` behind them");
+    if numbers.len() > 7 {
+        bail!("there are six numbers at most, an order and `times` behind them");
     }
     Ok(Plan {
         pieces: number(numbers.get(1), USUAL_PIECES)?,
@@ -90,6 +98,7 @@ fn asked(words: &[String]) -> Result<Plan> {
         peers: number(numbers.get(3), USUAL_PEERS)?,
         depth: number(numbers.get(4), USUAL_DEPTH)?,
         askers: number(numbers.get(5), MOST_WORKERS)?,
+        open: number(numbers.get(6), 0)?,
         manner,
         is_timed,
     })

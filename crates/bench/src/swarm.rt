@@ -52,6 +52,7 @@ impl Workload {
             random: torrent.piece_count().min(1),
             askers: MOST_WORKERS,
             deepest: MOST_DEPTH,
+            open: 0,
         };
         Ok(Desk::new(alloc, Arc::new(alloc, torrent)?, workers, rules)?)
     }

@@ -9,7 +9,7 @@ use Rattle.bt_bencode.specs.Reading.{◌>>=◌}
 use Rattle.bt_meta.specs.Files.{Listed, files_of_file}
 use Rattle.bt_meta.specs.Layout.{Layout, Metainfo as Torrent, torrent_of}
 use Rattle.bt_meta.specs.Reading.{torrent_of_file}
-use Rattle.bt_history.specs.declared.rules.TheConstants.{MOST_TOLD_DEPTH, MOST_WORKERS}
+use Rattle.bt_history.specs.declared.rules.TheConstants.{MOST_OPEN, MOST_TOLD_DEPTH, MOST_WORKERS}
 use Rattle.bt_history.specs.Setting.{AreRules, setting_of}
 use Rattle.bt_c.specs.declared.engine.Keeping.{Keeping}
 use Rattle.bt_c.specs.declared.engine.Keeping.TheVariants.{Nothing, Begun, Journal}
@@ -33,11 +33,11 @@ keeping_by n = if n == 0 then Some Nothing else if n == 1 then Some Begun else i
 -- a picker of the torrent may go by these choices
 abbrev pub AreChoices : Layout → Choices → Type 0
 AreChoices t o = AreRules t (rules o)
-    × ((1 ≤ o.deepest) × (o.deepest ≤ MOST_TOLD_DEPTH) × ((1 ≤ o.askers) × (o.askers ≤ MOST_WORKERS)))
+    × ((1 ≤ o.deepest) × (o.deepest ≤ MOST_TOLD_DEPTH) × ((1 ≤ o.askers) × (o.askers ≤ MOST_WORKERS)) × (o.«open» ≤ MOST_OPEN))
 
 -- the options are of this interface, and say what is kept
 abbrev pub AreOptions : Choices → Type 0
-AreOptions o = (o.size ≡ 28) × (keeping_by o.keeps ≢ None)
+AreOptions o = (o.size ≡ 32) × (keeping_by o.keeps ≢ None)
 
 -- digests of 20 bytes, one behind the other
 abbrev pub digests_in : List ℕ → List (List ℕ)

@@ -5,8 +5,8 @@ use Rattle.bt_c.specs.declared.options.Options.{Options}
 
 -- the rules that the options say
 abbrev pub rules : Options → Rules
-rules o = record { depth = o.depth; random = o.random; askers = o.askers; deepest = o.deepest }
+rules o = record { depth = o.depth; random = o.random; askers = o.askers; deepest = o.deepest; «open» = o.«open» }
 
 -- the rules that a setting has
 abbrev pub rules_of_setting : Setting → Rules
-rules_of_setting s = record { depth = s.depth; random = s.random; askers = s.askers; deepest = s.deepest }
+rules_of_setting s = record { depth = s.depth; random = s.random; askers = s.askers; deepest = s.deepest; «open» = s.most_open }

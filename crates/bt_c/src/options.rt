@@ -5,7 +5,7 @@ ghost use Rattle.bt_c.specs.Rules.{rules};
 
 use crate::engine::Keeping;
 use bt_meta::Torrent;
-use bt_picker::{MOST_DEPTH, MOST_TOLD_DEPTH, MOST_WORKERS, Rules};
+use bt_picker::{MOST_DEPTH, MOST_OPEN, MOST_TOLD_DEPTH, MOST_WORKERS, Rules};
 
 /// The choices at open, as C has them.
 #[repr(C)]
@@ -25,10 +25,12 @@ pub struct Options {
     pub random: u32,
     /// Of how many peers one block is asked in endgame, 1 to 1,024.
     pub askers: u32,
+    /// How many pieces may be open before begun ones come first, 0 to 1,024.
+    pub open: u32,
 }
 
 /// The bytes of the choices.
-pub const SIZE: u32 = 28;
+pub const SIZE: u32 = 32;
 
 impl Options {
     /// What the picker keeps, if such a thing is kept.
@@ -52,6 +54,7 @@ impl Options {
             random: self.random,
             askers: self.askers,
             deepest: self.deepest,
+            open: self.open,
         }
     }
 
@@ -69,6 +72,7 @@ impl Options {
         let are_depths = 1 <= self.depth && self.depth <= MOST_DEPTH;
         let is_deepest = 1 <= self.deepest && self.deepest <= MOST_TOLD_DEPTH;
         let are_askers = 1 <= self.askers && self.askers <= MOST_WORKERS;
-        are_depths && is_deepest && are_askers && self.random <= torrent.piece_count()
+        let are_pieces = self.random <= torrent.piece_count() && self.open <= MOST_OPEN;
+        are_depths && is_deepest && are_askers && are_pieces
     }
 }

@@ -39,6 +39,7 @@ impl<'w> Asked<'w> {
         ensures random { IfOk result (λ judged. IfOk judged (λ options. options.rules.random ≡ self.now.random)) }
         ensures askers { IfOk result (λ judged. IfOk judged (λ options. options.rules.askers ≡ MOST_WORKERS)) }
         ensures deepest { IfOk result (λ judged. IfOk judged (λ options. options.rules.deepest ≡ MOST_DEPTH)) }
+        ensures strict { IfOk result (λ judged. IfOk judged (λ options. options.rules.«open» ≡ 0)) }
         ensures checkers { IfOk result (λ judged. IfOk judged (λ options. options.checkers ≡ self.now.checkers)) }
     {
         let want = match self.want {
@@ -57,6 +58,7 @@ impl<'w> Asked<'w> {
                 random: self.random,
                 askers: MOST_WORKERS,
                 deepest: MOST_DEPTH,
+                open: 0,
             },
             checkers: self.checkers,
         }))

@@ -3,9 +3,11 @@
 pub const SCRIPT: &str = "\
 Lines:
   torrent PIECE_LEN TOTAL WORKERS HASH..   the first line: lengths in bytes, and the SHA-1 of each piece
-  rules DEPTH RANDOM                       if it is there, the next one: 1 to 64 blocks are asked of a peer at a time, and
+  rules DEPTH RANDOM OPEN                  if it is there, the next one: 1 to 64 blocks are asked of a peer at a time, and
                                            pieces are picked at random until RANDOM are had, no more than there are;
-                                           else it is `rules 5 1`
+                                           OPEN may be left out: so many pieces may be open, 0 to 1,024, which are begun
+                                           and have an unrequested block, before begun ones come first;
+                                           else it is `rules 5 1 0`
   W join | W leave                         the peer of worker W has sent its handshake | is gone
   W bits HEX | W have P                    it shows the pieces of this bitfield | piece P
   W choke | W unchoke                      it chokes us | no longer

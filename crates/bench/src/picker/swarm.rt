@@ -57,14 +57,22 @@ pub struct Swarm {
 }
 
 impl Swarm {
-    /// With no peer yet, of so many. At most `depth` blocks are asked of each at a time, and one block of at most `askers` in endgame.
-    pub fn new(alloc: Global, pieces: u32, peers: u32, depth: u32, askers: u32) -> Result<Swarm> {
+    /// With no peer yet, of so many. At most `depth` blocks are asked of each at a time, and one block of at most `askers` in endgame. While no
+    /// more than `open` pieces are open, begun ones don't come first.
+    pub fn new(
+        alloc: Global,
+        pieces: u32,
+        peers: u32,
+        depth: u32,
+        askers: u32,
+        open: u32,
+    ) -> Result<Swarm> {
         let fresh = Peer {
             active: true,
             dry: false,
         };
         Ok(Swarm {
-            zeros: Zeros::new(alloc, pieces, peers, depth, askers)?,
+            zeros: Zeros::new(alloc, pieces, peers, depth, askers, open)?,
             rng: Mix::new(ASK_SEED),
             peers: vec![in alloc; fresh; peers as usize]?,
             counts: Counts {

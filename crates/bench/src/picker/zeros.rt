@@ -55,7 +55,14 @@ impl Model for Zeros {
 
 impl Zeros {
     /// With no peer yet.
-    pub fn new(alloc: Global, pieces: u32, workers: u32, depth: u32, askers: u32) -> Result<Zeros> {
+    pub fn new(
+        alloc: Global,
+        pieces: u32,
+        workers: u32,
+        depth: u32,
+        askers: u32,
+        open: u32,
+    ) -> Result<Zeros> {
         let digest = digest_of(alloc, PIECE_LEN)?;
         let hashes = vec![in alloc; digest; pieces as usize]?;
         let total = PIECE_BYTES * u64::from(pieces);
@@ -79,6 +86,7 @@ impl Zeros {
                     random,
                     askers,
                     deepest: depth,
+                    open,
                 },
             )?,
             block: zero_bytes(alloc, BLOCK_SIZE)?,

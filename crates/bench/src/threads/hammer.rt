@@ -41,6 +41,7 @@ pub fn open(alloc: Global, threads: u32, pieces: u32) -> Result<(SharedDesk, Vec
         random: torrent.piece_count().min(1),
         askers: MOST_WORKERS,
         deepest: MOST_DEPTH,
+        open: 0,
     };
     Ok(SharedDesk::open(alloc, Arc::new(alloc, torrent)?, threads, rules)?)
 }

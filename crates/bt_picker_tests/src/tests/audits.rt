@@ -59,6 +59,7 @@ fn terms_of(rt: &impl Abort, terms: &str) -> (u32, Rules) {
         random: next_number(rt, &mut terms),
         askers: next_number(rt, &mut terms),
         deepest: next_number(rt, &mut terms),
+        open: next_number(rt, &mut terms),
     };
     (workers, rules)
 }

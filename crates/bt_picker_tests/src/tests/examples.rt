@@ -1,15 +1,16 @@
 //! Written anew by each run of tools/examples.py: the worked examples of the rules as texts, each with replies that would be wrong in it.
 //!
 //! An example's first line is its name, the next ones are its torrent and how many workers it has, its depth, how many pieces it picks at
-//! random, of how many peers a block is asked in endgame, and which depth may be told at most; then come its lines, and behind `but`, each
-//! behind the number of lines that come before, those that mustn't come. Between two examples stands an empty line.
+//! random, of how many peers a block is asked in endgame, which depth may be told at most, and how many pieces may be open; then come its
+//! lines, and behind `but`, each behind the number of lines that come before, those that mustn't come. Between two examples stands an empty
+//! line.
 
-pub const COUNT: u32 = 62;
+pub const COUNT: u32 = 77;
 
 pub const EXAMPLES: &str = "\
 first request
 3 7 abc abc a
-1 5 1 1024 64
+1 5 1 1024 64 0
 0 join = joined
 0 bits e0 = noted yes
 0 unchoke = quiet
@@ -20,7 +21,7 @@ but
 
 another first request
 3 7 abc abc a
-1 5 1 1024 64
+1 5 1 1024 64 0
 0 join = joined
 0 bits e0 = noted yes
 0 unchoke = quiet
@@ -30,7 +31,7 @@ but
 
 one peer to the end
 3 7 abc abc a
-1 5 1 1024 64
+1 5 1 1024 64 0
 0 join = joined
 0 bits e0 = noted yes
 0 unchoke = quiet
@@ -50,7 +51,7 @@ but
 
 rarest first
 3 7 abc abc a
-2 5 1 1024 64
+2 5 1 1024 64 0
 0 join = joined
 0 bits e0 = noted yes
 1 join = joined
@@ -65,7 +66,7 @@ but
 
 full pipe
 1000000 1000000 million
-2 5 1 1024 64
+2 5 1 1024 64 0
 0 join = joined
 0 bits 80 = noted yes
 0 unchoke = quiet
@@ -81,7 +82,7 @@ but
 
 choke frees
 1000000 1000000 million
-2 5 1 1024 64
+2 5 1 1024 64 0
 0 join = joined
 0 bits 80 = noted yes
 0 unchoke = quiet
@@ -102,7 +103,7 @@ but
 
 cancel in endgame
 3 3 abc
-2 5 1 1024 64
+2 5 1 1024 64 0
 0 join = joined
 0 bits 80 = noted yes
 0 unchoke = quiet
@@ -122,7 +123,7 @@ but
 
 no double before endgame
 3 6 abc abc
-2 5 1 1024 64
+2 5 1 1024 64 0
 0 join = joined
 0 bits c0 = noted yes
 0 unchoke = quiet
@@ -136,7 +137,7 @@ but
 
 double outlasts endgame
 3 6 abc abc
-4 5 1 1024 64
+4 5 1 1024 64 0
 0 join = joined
 0 bits 80 = noted yes
 0 unchoke = quiet
@@ -161,7 +162,7 @@ but
 
 failed check
 3 7 abc abc a
-1 5 1 1024 64
+1 5 1 1024 64 0
 0 join = joined
 0 bits e0 = noted yes
 0 unchoke = quiet
@@ -175,7 +176,7 @@ but
 
 failed check in endgame
 3 3 abc
-2 5 1 1024 64
+2 5 1 1024 64 0
 0 join = joined
 0 bits 80 = noted yes
 0 unchoke = quiet
@@ -194,7 +195,7 @@ but
 
 held block dropped
 3 7 abc abc a
-1 5 1 1024 64
+1 5 1 1024 64 0
 0 join = joined
 0 block 2 0 a = completed
 0 block 2 0 a = dropped
@@ -204,7 +205,7 @@ but
 
 block by block
 32768 65536 abc abc
-1 5 1 1024 64
+1 5 1 1024 64 0
 0 join = joined
 0 block 0 0 whole = stored
 0 block 0 0 whole = dropped
@@ -214,7 +215,7 @@ but
 
 refusals
 3 7 abc abc a
-2 5 1 1024 64
+2 5 1 1024 64 0
 0 leave = refused NotJoined
 1 block 9 9 a = refused NotJoined
 0 join = joined
@@ -239,7 +240,7 @@ but
 
 wrong count
 3 7 abc abc a
-1 5 1 1024 64
+1 5 1 1024 64 0
 0 join = joined
 0 no-bits-of 4 = refused WrongCount
 0 bits e0 = noted yes
@@ -248,7 +249,7 @@ but
 
 stale verdict
 3 7 abc abc a
-1 5 1 1024 64
+1 5 1 1024 64 0
 0 join = joined
 0 block 0 0 abd = completed
 0 settle 0 abd = failed
@@ -264,7 +265,7 @@ but
 
 random first piece
 3 7 abc abc a
-2 5 1 1024 64
+2 5 1 1024 64 0
 0 join = joined
 0 bits e0 = noted yes
 0 unchoke = quiet
@@ -276,7 +277,7 @@ but
 
 rare first piece too
 3 7 abc abc a
-2 5 1 1024 64
+2 5 1 1024 64 0
 0 join = joined
 0 bits e0 = noted yes
 0 unchoke = quiet
@@ -288,7 +289,7 @@ but
 
 strict priority
 32768 65536 abc abc
-1 5 1 1024 64
+1 5 1 1024 64 0
 0 join = joined
 0 bits c0 = noted yes
 0 unchoke = quiet
@@ -300,7 +301,7 @@ but
 
 gone peer not counted
 3 7 abc abc a
-3 5 1 1024 64
+3 5 1 1024 64 0
 0 join = joined
 0 bits e0 = noted yes
 1 join = joined
@@ -318,7 +319,7 @@ but
 
 rejoin in endgame
 3 3 abc
-2 5 1 1024 64
+2 5 1 1024 64 0
 0 join = joined
 0 bits 80 = noted yes
 0 unchoke = quiet
@@ -340,7 +341,7 @@ but
 
 depth two
 1000000 1000000 million
-1 2 1 1024 64
+1 2 1 1024 64 0
 0 join = joined
 0 bits 80 = noted yes
 0 unchoke = quiet
@@ -353,7 +354,7 @@ but
 
 deep pipe
 1000000 1000000 million
-1 64 1 1024 64
+1 64 1 1024 64 0
 0 join = joined
 0 bits 80 = noted yes
 0 unchoke = quiet
@@ -370,7 +371,7 @@ but
 
 rarest from the start
 3 7 abc abc a
-2 5 0 1024 64
+2 5 0 1024 64 0
 0 join = joined
 0 bits e0 = noted yes
 0 unchoke = quiet
@@ -382,7 +383,7 @@ but
 
 second piece at random
 3 7 abc abc a
-2 5 2 1024 64
+2 5 2 1024 64 0
 0 join = joined
 0 bits e0 = noted yes
 1 join = joined
@@ -397,7 +398,7 @@ but
 
 rarest after two pieces
 3 12 abc abc abc abc
-2 5 2 1024 64
+2 5 2 1024 64 0
 0 join = joined
 0 bits f0 = noted yes
 0 unchoke = quiet
@@ -415,7 +416,7 @@ but
 
 wants
 3 7 abc abc a
-2 5 1 1024 64
+2 5 1 1024 64 0
 1 want 40 = quiet
 0 join = joined
 0 bits e0 = noted yes
@@ -441,7 +442,7 @@ but
 
 endgame of the wanted
 3 6 abc abc
-2 5 1 1024 64
+2 5 1 1024 64 0
 0 join = joined
 0 bits c0 = noted yes
 0 unchoke = quiet
@@ -458,7 +459,7 @@ but
 
 want before the bits
 3 7 abc abc a
-1 5 1 1024 64
+1 5 1 1024 64 0
 0 join = joined
 0 want 40 = quiet
 0 bits e0 = noted yes
@@ -467,7 +468,7 @@ but
 
 asked stays asked
 3 6 abc abc
-2 5 1 1024 64
+2 5 1 1024 64 0
 0 join = joined
 0 bits c0 = noted yes
 0 unchoke = quiet
@@ -486,7 +487,7 @@ but
 
 released is asked elsewhere
 3 6 abc abc
-2 5 1 1024 64
+2 5 1 1024 64 0
 0 join = joined
 0 bits c0 = noted yes
 0 unchoke = quiet
@@ -503,7 +504,7 @@ but
 
 released in endgame
 3 3 abc
-2 5 1 1024 64
+2 5 1 1024 64 0
 0 join = joined
 0 bits 80 = noted yes
 0 unchoke = quiet
@@ -524,7 +525,7 @@ but
 
 released piece is unbegun
 32768 65536 abc abc
-1 5 1 1024 64
+1 5 1 1024 64 0
 0 join = joined
 0 bits c0 = noted yes
 0 unchoke = quiet
@@ -538,7 +539,7 @@ but
 
 released is asked again
 3 3 abc
-1 5 1 1024 64
+1 5 1 1024 64 0
 0 join = joined
 0 bits 80 = noted yes
 0 unchoke = quiet
@@ -551,7 +552,7 @@ but
 
 released arrives after all
 32768 65536 abc abc
-1 5 1 1024 64
+1 5 1 1024 64 0
 0 join = joined
 0 bits c0 = noted yes
 0 unchoke = quiet
@@ -564,7 +565,7 @@ but
 
 depth of one
 1000000 1000000 million
-1 5 1 1024 64
+1 5 1 1024 64 0
 0 join = joined
 0 bits 80 = noted yes
 0 unchoke = quiet
@@ -576,7 +577,7 @@ but
 
 deepened
 1000000 1000000 million
-1 5 1 1024 64
+1 5 1 1024 64 0
 0 join = joined
 0 bits 80 = noted yes
 0 unchoke = quiet
@@ -595,7 +596,7 @@ but
 
 depth outlasts a choke
 1000000 1000000 million
-1 5 1 1024 64
+1 5 1 1024 64 0
 0 join = joined
 0 bits 80 = noted yes
 0 unchoke = quiet
@@ -613,7 +614,7 @@ but
 
 depth goes with its peer
 1000000 1000000 million
-1 5 1 1024 64
+1 5 1 1024 64 0
 0 join = joined
 0 bits 80 = noted yes
 0 unchoke = quiet
@@ -631,7 +632,7 @@ but
 
 smaller depth
 1000000 1000000 million
-1 5 1 1024 64
+1 5 1 1024 64 0
 0 join = joined
 0 bits 80 = noted yes
 0 unchoke = quiet
@@ -651,7 +652,7 @@ but
 
 one asker
 3 3 abc
-2 5 1 1 64
+2 5 1 1 64 0
 0 join = joined
 0 bits 80 = noted yes
 0 unchoke = quiet
@@ -668,7 +669,7 @@ but
 
 two askers
 3 3 abc
-3 5 1 2 64
+3 5 1 2 64 0
 0 join = joined
 0 bits 80 = noted yes
 0 unchoke = quiet
@@ -689,7 +690,7 @@ but
 
 no depth may be told
 3 7 abc abc a
-1 5 1 1024 0
+1 5 1 1024 0 0
 0 join = joined
 0 depth 1 = refused WrongDepth
 but
@@ -697,7 +698,7 @@ but
 
 greatest depth
 3 7 abc abc a
-1 5 1 1024 9999
+1 5 1 1024 9999 0
 0 join = joined
 0 depth 4097 = refused WrongDepth
 0 depth 4096 = quiet
@@ -706,7 +707,7 @@ but
 
 refusals of release and depth
 3 7 abc abc a
-2 5 1 1024 64
+2 5 1 1024 64 0
 0 release 0 0 = refused NotJoined
 0 depth 3 = refused NotJoined
 0 join = joined
@@ -734,7 +735,7 @@ but
 
 haves after a bitfield
 3 7 abc abc a
-1 5 1 1024 64
+1 5 1 1024 64 0
 0 join = joined
 0 bits 80 = noted yes
 0 haves 40 = noted yes
@@ -750,7 +751,7 @@ but
 
 haves after a have
 3 7 abc abc a
-1 5 1 1024 64
+1 5 1 1024 64 0
 0 join = joined
 0 have 2 = noted yes
 0 haves 80 = noted yes
@@ -764,7 +765,7 @@ but
 
 haves of none
 3 7 abc abc a
-2 5 1 1024 64
+2 5 1 1024 64 0
 0 haves e0 = refused NotJoined
 0 join = joined
 0 haves-none-of 4 = refused WrongCount
@@ -782,7 +783,7 @@ but
 
 haves are counted
 3 7 abc abc a
-2 5 0 1024 64
+2 5 0 1024 64 0
 0 join = joined
 0 bits e0 = noted yes
 0 unchoke = quiet
@@ -795,7 +796,7 @@ but
 
 two levels
 3 12 abc abc abc abc
-3 5 0 1024 64
+3 5 0 1024 64 0
 2 levels 2772 = quiet
 0 join = joined
 0 bits f0 = noted yes
@@ -819,7 +820,7 @@ but
 
 raised in mid download
 32768 65536 abc abc
-1 5 1 1024 64
+1 5 1 1024 64 0
 0 join = joined
 0 bits c0 = noted yes
 0 unchoke = quiet
@@ -833,7 +834,7 @@ but
 
 streaming
 3 12 abc abc abc abc
-1 5 1 1024 64
+1 5 1 1024 64 0
 0 join = joined
 0 bits f0 = noted yes
 0 unchoke = quiet
@@ -852,7 +853,7 @@ but
 
 earlier piece in order
 32768 65536 abc abc
-1 5 1 1024 64
+1 5 1 1024 64 0
 0 join = joined
 0 bits 40 = noted yes
 0 unchoke = quiet
@@ -867,7 +868,7 @@ but
 
 in order told off
 3 12 abc abc abc abc
-2 5 0 1024 64
+2 5 0 1024 64 0
 0 join = joined
 0 bits f0 = noted yes
 0 unchoke = quiet
@@ -883,7 +884,7 @@ but
 
 peer of low levels
 3 12 abc abc abc abc
-2 5 1 1024 64
+2 5 1 1024 64 0
 1 levels 7711 = quiet
 0 join = joined
 0 bits f0 = noted yes
@@ -901,7 +902,7 @@ but
 
 unwanted by level
 3 6 abc abc
-1 5 1 1024 64
+1 5 1 1024 64 0
 0 join = joined
 0 bits c0 = noted yes
 0 unchoke = quiet
@@ -918,7 +919,7 @@ but
 
 levels of none
 3 7 abc abc a
-1 5 1 1024 64
+1 5 1 1024 64 0
 0 levels 000 = quiet
 0 join = joined
 0 bits e0 = noted no
@@ -933,7 +934,7 @@ but
 
 want after levels
 3 12 abc abc abc abc
-2 5 0 1024 64
+2 5 0 1024 64 0
 0 levels 7115 = quiet
 0 join = joined
 0 bits f0 = noted yes
@@ -952,7 +953,7 @@ but
 
 level before the bits
 3 6 abc abc
-1 5 1 1024 64
+1 5 1 1024 64 0
 0 join = joined
 0 level 1 7 = quiet
 0 bits c0 = noted yes
@@ -965,7 +966,7 @@ but
 
 endgame of all levels
 3 6 abc abc
-3 5 1 1024 64
+3 5 1 1024 64 0
 2 levels 71 = quiet
 0 join = joined
 0 bits c0 = noted yes
@@ -985,7 +986,7 @@ but
 
 asked outlasts its level
 3 6 abc abc
-1 5 1 1024 64
+1 5 1 1024 64 0
 0 join = joined
 0 bits c0 = noted yes
 0 unchoke = quiet
@@ -999,7 +1000,7 @@ but
 
 refusals of levels
 3 7 abc abc a
-2 5 1 1024 64
+2 5 1 1024 64 0
 0 level 3 4 = refused NoSuchPiece
 0 level 0 8 = refused WrongLevel
 0 level 9 9 = refused NoSuchPiece
@@ -1024,4 +1025,276 @@ but
 5 1 levels 484 = quiet
 6 1 levels 88 = refused WrongLevel
 8 1 level 2 7 = refused NotJoined
-9 0 inorder yes = refused NotJoined";
+9 0 inorder yes = refused NotJoined
+
+any begun piece goes on
+32768 131072 abc abc abc abc
+3 5 0 1024 64 0
+0 join = joined
+0 bits f0 = noted yes
+0 unchoke = quiet
+1 join = joined
+1 bits 80 = noted yes
+1 unchoke = quiet
+2 join = joined
+2 bits c0 = noted yes
+2 unchoke = quiet
+2 next 1 = request 1 0 16384
+1 next 0 = request 0 0 16384
+0 next 2 = request 0 16384 16384
+0 next 2 = request 1 16384 16384
+but
+11 0 next 2 = request 2 0 16384
+
+rarest while few are open
+32768 131072 abc abc abc abc
+2 5 0 1024 64 1
+0 join = joined
+0 bits f0 = noted yes
+0 unchoke = quiet
+1 join = joined
+1 bits c0 = noted yes
+1 unchoke = quiet
+1 next 0 = request 0 0 16384
+0 next 2 = request 2 0 16384
+0 next 3 = request 2 16384 16384
+1 next 1 = request 0 16384 16384
+but
+7 0 next 2 = request 0 16384 16384
+8 0 next 3 = request 3 0 16384
+8 0 next 3 = request 0 16384 16384
+9 1 next 1 = request 1 0 16384
+
+as many open as may be
+32768 131072 abc abc abc abc
+3 5 0 1024 64 2
+0 join = joined
+0 bits f0 = noted yes
+0 unchoke = quiet
+1 join = joined
+1 bits 80 = noted yes
+1 unchoke = quiet
+2 join = joined
+2 bits c0 = noted yes
+2 unchoke = quiet
+2 next 1 = request 1 0 16384
+1 next 0 = request 0 0 16384
+0 next 2 = request 2 0 16384
+0 next 3 = request 2 16384 16384
+but
+11 0 next 2 = request 1 16384 16384
+12 0 next 3 = request 3 0 16384
+
+rarest of the open goes on
+32768 131072 abc abc abc abc
+3 5 0 1024 64 1
+0 join = joined
+0 bits f0 = noted yes
+0 unchoke = quiet
+1 join = joined
+1 bits 80 = noted yes
+1 unchoke = quiet
+2 join = joined
+2 bits c0 = noted yes
+2 unchoke = quiet
+2 next 1 = request 1 0 16384
+1 next 0 = request 0 0 16384
+0 next 2 = request 1 16384 16384
+0 next 2 = request 2 0 16384
+but
+11 0 next 2 = request 0 16384 16384
+11 0 next 2 = request 2 0 16384
+12 0 next 2 = request 0 16384 16384
+
+first piece before rarity
+32768 131072 abc abc abc abc
+2 5 1 1024 64 8
+0 join = joined
+0 bits f0 = noted yes
+0 unchoke = quiet
+1 join = joined
+1 bits 80 = noted yes
+0 next 0 = request 0 0 16384
+0 next 0 = request 0 16384 16384
+0 next 1 = request 1 0 16384
+but
+6 0 next 0 = request 1 0 16384
+
+rarest of the begun at random
+32768 131072 abc abc abc abc
+3 5 2 1024 64 8
+0 join = joined
+0 bits f0 = noted yes
+0 unchoke = quiet
+1 join = joined
+1 bits 80 = noted yes
+1 unchoke = quiet
+2 join = joined
+2 bits c0 = noted yes
+2 unchoke = quiet
+2 next 1 = request 1 0 16384
+1 next 0 = request 0 0 16384
+0 next 3 = request 1 16384 16384
+0 next 3 = request 0 16384 16384
+0 next 3 = request 3 0 16384
+but
+11 0 next 3 = request 0 16384 16384
+11 0 next 3 = request 3 0 16384
+
+rarest once enough are had
+32768 65537 abc abc a
+2 5 1 1024 64 8
+0 join = joined
+0 bits e0 = noted yes
+0 unchoke = quiet
+1 join = joined
+1 bits 80 = noted yes
+1 unchoke = quiet
+0 next 2 = request 2 0 1
+1 next 0 = request 0 0 16384
+0 block 2 0 a = completed
+0 settle 2 a = had
+0 next 0 = request 1 0 16384
+but
+8 0 next 0 = request 1 0 16384
+10 0 next 0 = request 0 16384 16384
+
+open counted over all levels
+32768 131072 abc abc abc abc
+2 5 0 1024 64 1
+0 join = joined
+0 bits f0 = noted yes
+0 unchoke = quiet
+1 join = joined
+1 bits 90 = noted yes
+1 unchoke = quiet
+1 next 0 = request 0 0 16384
+0 next 2 = request 2 0 16384
+0 level 3 5 = quiet
+1 next 0 = request 3 0 16384
+0 level 1 5 = quiet
+0 next 0 = request 3 16384 16384
+but
+11 0 next 0 = request 1 0 16384
+
+wholly requested pieces are not open
+32768 131072 abc abc abc abc
+2 5 0 1024 64 1
+0 join = joined
+0 bits f0 = noted yes
+0 unchoke = quiet
+1 join = joined
+1 bits c0 = noted yes
+1 unchoke = quiet
+1 next 0 = request 0 0 16384
+1 next 1 = request 0 16384 16384
+1 next 1 = request 1 0 16384
+0 next 2 = request 2 0 16384
+but
+9 0 next 2 = request 1 16384 16384
+
+released block opens its piece
+32768 131072 abc abc abc abc
+2 5 0 1024 64 1
+0 join = joined
+0 bits f0 = noted yes
+0 unchoke = quiet
+1 join = joined
+1 bits c0 = noted yes
+1 unchoke = quiet
+1 next 0 = request 0 0 16384
+1 next 1 = request 0 16384 16384
+1 next 1 = request 1 0 16384
+1 release 0 16384 = quiet
+0 next 2 = request 0 16384 16384
+but
+10 0 next 2 = request 2 0 16384
+
+held block opens its piece
+32768 131072 abc abc abc abc
+2 5 0 1024 64 1
+0 join = joined
+0 bits f0 = noted yes
+0 unchoke = quiet
+1 join = joined
+1 bits c0 = noted yes
+1 unchoke = quiet
+1 next 1 = request 1 0 16384
+1 block 0 0 whole = stored
+0 next 2 = request 0 16384 16384
+but
+8 0 next 2 = request 2 0 16384
+
+held pieces are not open
+32768 131072 abc abc abc abc
+2 5 0 1024 64 1
+0 join = joined
+0 bits f0 = noted yes
+0 unchoke = quiet
+1 join = joined
+1 bits c0 = noted yes
+1 unchoke = quiet
+1 block 0 0 whole = stored
+1 block 0 16384 whole = completed
+1 next 1 = request 1 0 16384
+0 next 2 = request 2 0 16384
+but
+9 0 next 2 = request 1 16384 16384
+
+unwanted pieces are not open
+32768 131072 abc abc abc abc
+3 5 0 1024 64 1
+0 join = joined
+0 bits f0 = noted yes
+0 unchoke = quiet
+1 join = joined
+1 bits 80 = noted yes
+1 unchoke = quiet
+2 join = joined
+2 bits c0 = noted yes
+2 unchoke = quiet
+2 next 1 = request 1 0 16384
+1 next 0 = request 0 0 16384
+1 level 0 0 = quiet
+0 next 2 = request 2 0 16384
+but
+12 0 next 2 = request 1 16384 16384
+
+none of the open is shown
+32768 131072 abc abc abc abc
+4 5 0 1024 64 1
+0 join = joined
+0 bits 80 = noted yes
+0 unchoke = quiet
+1 join = joined
+1 bits c0 = noted yes
+1 unchoke = quiet
+2 join = joined
+2 bits 30 = noted yes
+2 unchoke = quiet
+3 join = joined
+3 bits 10 = noted yes
+1 next 1 = request 1 0 16384
+0 next 0 = request 0 0 16384
+2 next 3 = request 2 0 16384
+but
+13 2 next 3 = request 3 0 16384
+13 2 next 3 = idle
+
+in order however many are open
+32768 131072 abc abc abc abc
+2 5 0 1024 64 1
+0 join = joined
+0 bits f0 = noted yes
+0 unchoke = quiet
+1 join = joined
+1 bits 30 = noted yes
+1 unchoke = quiet
+1 next 2 = request 2 0 16384
+0 next 1 = request 1 0 16384
+0 inorder yes = quiet
+0 next 3 = request 0 0 16384
+0 next 3 = request 0 16384 16384
+0 next 3 = request 1 16384 16384
+but
+9 0 next 3 = request 1 16384 16384";

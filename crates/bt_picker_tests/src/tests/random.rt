@@ -59,8 +59,8 @@ fn one_of(rng: &mut Lcg64Xsh32, cases: u32) -> u32
     rng.next_u32() % cases
 }
 
-/// Rules for that torrent: every other time such that a pipe fills soon, with a bound on the peers of a block or none, and with depths that
-/// may be told or none.
+/// Rules for that torrent: every other time such that a pipe fills soon, with a bound on the peers of a block or none, with depths that
+/// may be told or none, and with begun pieces first or the rarest.
 fn any_rules(rng: &mut Lcg64Xsh32) -> Rules
     ensures shallow { 1 ≤ result.depth }
     ensures deep { result.depth ≤ 64 }
@@ -72,6 +72,7 @@ fn any_rules(rng: &mut Lcg64Xsh32) -> Rules
         random: one_of(rng, 5),
         askers: [1, 2, MOST_WORKERS][one_of(rng, 3) as usize],
         deepest: [0, 3, MOST_DEPTH][one_of(rng, 3) as usize],
+        open: [0, 1, 8][one_of(rng, 3) as usize],
     }
 }
 

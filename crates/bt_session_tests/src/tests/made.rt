@@ -41,6 +41,7 @@ pub const RULES: Rules = Rules {
     random: 0,
     askers: MOST_WORKERS,
     deepest: MOST_DEPTH,
+    open: 0,
 };
 
 /// What a peer of one piece sends, after its handshake: its bitfield, unchoke, and the piece.

@@ -69,6 +69,7 @@ fn asked(alloc: Global, depth: u32, count: u32) -> Result<(usize, String), Fail>
         random: 1,
         askers: MOST_WORKERS,
         deepest: MOST_DEPTH,
+        open: 0,
     };
     let said = calls(alloc, blocks(alloc, count)?, &ONE, None, rules)?;
     let mut last = String::new(alloc);
