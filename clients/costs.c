@@ -85,7 +85,7 @@ static int ask_and_release(void) {
     return 1000;
 }
 static int full(void) {
-    for (int i = 0; i < 5; i++) well(piecepick_next(picker, 1, (uint64_t)i, &answer));
+    do well(piecepick_next(picker, 1, 0, &answer)); while (answer.kind == PIECEPICK_K_REQUEST);
     double begin = now();
     for (int i = 0; i < 1000; i++) well(piecepick_next(picker, 1, (uint64_t)i, &answer));
     return -(int)((now() - begin) / 1000);

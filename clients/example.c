@@ -7,7 +7,7 @@
 #include <stdlib.h>
 #include <string.h>
 
-enum { PEERS = 2, DEPTH = 5 };
+enum { PEERS = 2, DEPTH = 16 };
 
 /* What a peer was asked and hasn't sent, the oldest first. A client writes messages to a socket, and the peer does the rest. */
 struct peer {

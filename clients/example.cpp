@@ -3,6 +3,7 @@
    usage: example FILE.torrent CONTENT */
 #include "piecepick.hpp"
 #include <algorithm>
+#include <chrono>
 #include <cstdio>
 #include <cstring>
 #include <deque>
@@ -14,6 +15,20 @@ using namespace piecepick;
 
 /* What a peer was asked and hasn't sent, the oldest first. A client writes messages to a socket, and the peer does the rest. */
 using Line = std::deque<Answer>;
+
+/* Milliseconds of a clock that doesn't go back. */
+static std::uint64_t now()
+{
+    using namespace std::chrono;
+    return static_cast<std::uint64_t>(duration_cast<milliseconds>(steady_clock::now().time_since_epoch()).count());
+}
+
+/* The peer's depth follows the rate. A client does this once a second, or at each block. */
+static void follow(Picker &picker, std::uint32_t worker, DepthByRate &by_rate)
+{
+    const std::uint32_t told = by_rate.depth();
+    if (by_rate.follow(now()) != told) picker.depth(worker, by_rate.depth());
+}
 
 static std::vector<std::uint8_t> read_file(const char *path)
 {
@@ -67,6 +82,7 @@ static bool download(const char *torrent, const char *path)
     options.workers = static_cast<std::uint32_t>(lines.size());
     Picker picker(read_file(torrent), options);
     if (picker.total() != content.size()) throw std::runtime_error("the content has another length");
+    std::array<DepthByRate, 2> depths = {DepthByRate(options, now()), DepthByRate(options, now())};
     for (std::uint32_t worker = 0; worker < options.workers; worker++) come(picker, worker);
     for (std::uint32_t worker = 0; !picker.has_wanted(); worker = (worker + 1) % options.workers) {
         Line &line = lines[worker];
@@ -78,6 +94,8 @@ static bool download(const char *torrent, const char *path)
         /* The library keeps the copy that it stores. Where it keeps nothing, write the bytes at STORED and COMPLETED, and at no other answer. */
         const Answer answer = picker.arrived(worker, block.piece, block.begin, {&content[place + block.begin], block.length});
         if (answer.kind == PIECEPICK_K_COMPLETED) settle(picker, block.piece, &copy[place]);
+        depths[worker].came(block.length, now());
+        follow(picker, worker, depths[worker]);
         send_all(picker, worker, line);
     }
     for (std::uint32_t worker = 0; worker < options.workers; worker++) picker.leave(worker);

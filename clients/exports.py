@@ -78,6 +78,8 @@ MOST_METAINFO = 10
 LETTERS = {"Status": "E_", "Kind": "K_", "Reason": "R_", "Keeps": "KEEPS_"}
 # The structs, and where the crate has them.
 STRUCTS = {"Answer": "answer.rt", "Digest": "digest.rt", "Options": "options.rt"}
+# A struct that the header's own functions take, and no export.
+OWN_STRUCTS = {"depth_by_rate"}
 
 # A set of numbers, by their names.
 Numbers = dict[str, int]
@@ -245,6 +247,8 @@ def header_structs() -> dict[str, Fields]:
     """Those of the header."""
     found: dict[str, Fields] = {}
     for name, body in re.findall(r"^typedef struct piecepick_(\w+) \{([^}]*)\} piecepick_\1;", header(), flags=re.MULTILINE):
+        if name in OWN_STRUCTS:
+            continue
         fields: Fields = []
         for line in filter(None, (" ".join(part.split()) for part in body.split(";"))):
             kind, _, names = line.partition(" ")

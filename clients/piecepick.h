@@ -54,7 +54,7 @@ typedef enum piecepick_status {
     PIECEPICK_E_LENGTH = 7,       /* the buffer hasn't just the length of what it is for */
     PIECEPICK_E_MEMORY = 8,       /* out of memory */
     PIECEPICK_E_NOT_HAD = 9,      /* the piece isn't had */
-    PIECEPICK_E_RULES = 10,       /* depth, deepest, askers or random is out of its range */
+    PIECEPICK_E_RULES = 10,       /* depth, deepest, askers, random or open is out of its range */
     PIECEPICK_E_NOT_WAITING = 11, /* the piece isn't full, or is had: there is nothing to check */
     PIECEPICK_E_NO_JOB = 12,      /* the pointer leads to no job: likewise */
     PIECEPICK_E_NOT_HASHED = 13,  /* the job wasn't hashed yet */
@@ -133,8 +133,9 @@ typedef struct piecepick_options {
     uint32_t deepest; /* the greatest depth that may be told of a peer later, 1 to 4,096 */
     uint32_t random;  /* pieces that are had before the rarest come first, no more than there are */
     uint32_t askers;  /* of how many peers one block is asked at most in endgame, 1 (no endgame) to 1,024 (no bound) */
+    uint32_t open;    /* so many pieces may be begun and have unrequested blocks before those come first, 0 (they always do) to 1,024 */
 } piecepick_options;
-#define PIECEPICK_OPTIONS { sizeof(piecepick_options), PIECEPICK_KEEPS_NOTHING, 50, 5, 500, 1, 2 }
+#define PIECEPICK_OPTIONS { sizeof(piecepick_options), PIECEPICK_KEEPS_NOTHING, 50, 16, 500, 1, 2, 8 }
 
 uint32_t piecepick_abi(void);
 uint32_t piecepick_version(void);
@@ -256,6 +257,100 @@ PIECEPICK_MUST piecepick_status piecepick_read(piecepick_picker *picker, uint32_
 /* Goes over the journal of all calls by the picker's rules. No journal fails it: KEEPS, MEMORY. */
 PIECEPICK_MUST piecepick_status piecepick_audit(piecepick_picker *picker);
 
+/* ---- Depth by rate, of the header alone: how many blocks should be in flight at a peer, by what came of it. Tell it to piecepick_depth.
+
+   The depth is as many blocks of 16 KiB as come in a second, and 4 more. The rate is that of the last two seconds, or of the last eight if that is
+   greater: the two tell of a rate that rises, and the eight of one that comes in bursts. The depth is at most `deepest`, and in endgame at most
+   6, so that few blocks come twice. It rises at once. It falls by a quarter at most, and once a second. After a time-out it is 4, until a block
+   comes. Before the first block or time-out it is the options' `depth`.
+
+   Times are milliseconds of one clock that doesn't go back, such as CLOCK_MONOTONIC. A time that is earlier than the newest one counts as that.
+   A second begins where its time is a multiple of 1,000. It counts at most 2^32 - 1 bytes, for which each depth is the deepest. So any numbers
+   may be told, and each depth is 1 to 4,096. Nothing fails, takes memory, or calls the library. */
+typedef struct piecepick_depth_by_rate {
+    uint64_t begin, now;    /* when the peer came, and the newest time */
+    uint32_t counts[8];     /* bytes of the last eight seconds, each at its number modulo 8 */
+    uint32_t depth;         /* may be read at any time */
+    uint32_t deepest;
+    uint32_t is_begun;      /* a block or a time-out came: the depth follows */
+    uint32_t is_late;       /* a time-out came, and no block since */
+    uint32_t is_in_endgame;
+    uint32_t may_fall;      /* the depth hasn't fallen in this second */
+} piecepick_depth_by_rate;
+
+/* A peer comes, of a picker that was opened by these options. `deepest` counts as 1 to 4,096, and `depth` as 1 to that. */
+static inline void piecepick_depth_by_rate_begin(piecepick_depth_by_rate *peer, const piecepick_options *options, uint64_t now) {
+    piecepick_depth_by_rate fresh = {now, now, {0}, options->depth, options->deepest, 0, 0, 0, 1};
+    if (fresh.deepest == 0) fresh.deepest = 1;
+    if (fresh.deepest > 4096) fresh.deepest = 4096;
+    if (fresh.depth == 0) fresh.depth = 1;
+    if (fresh.depth > fresh.deepest) fresh.depth = fresh.deepest;
+    *peer = fresh;
+}
+
+/* For the calls below: the newest time is `now`, and the seconds that begin by it are empty. */
+static inline void piecepick_depth_by_rate_turn(piecepick_depth_by_rate *peer, uint64_t now) {
+    uint64_t second = peer->now / 1000;
+    const uint64_t newest = now / 1000;
+    if (now <= peer->now) return;
+    peer->now = now;
+    if (second < newest) peer->may_fall = 1;
+    if (newest - second > 8) second = newest - 8;
+    while (second < newest) peer->counts[++second % 8] = 0;
+}
+
+/* For `follow`: blocks a second in so many last seconds, of which the newest isn't over, or in those since the peer came. */
+static inline uint64_t piecepick_depth_by_rate_blocks(const piecepick_depth_by_rate *peer, uint32_t seconds) {
+    const uint64_t lasted = peer->now - peer->begin;
+    uint64_t passed = (uint64_t)1000 * (seconds - 1) + peer->now % 1000, bytes = 0;
+    if (passed > lasted) passed = lasted;
+    if (passed < 1000) passed = 1000; /* of a moment nothing can be told */
+    for (uint32_t back = 0; back < seconds; back++) bytes += peer->counts[(peer->now / 1000 + 8 - back) % 8];
+    return bytes * 1000 / (passed * 16384);
+}
+
+/* Bytes of blocks came. That none came changes nothing. */
+static inline void piecepick_depth_by_rate_came(piecepick_depth_by_rate *peer, uint64_t bytes, uint64_t now) {
+    uint32_t *count, room;
+    if (bytes == 0) return;
+    piecepick_depth_by_rate_turn(peer, now);
+    count = &peer->counts[peer->now / 1000 % 8];
+    room = UINT32_MAX - *count;
+    *count += bytes < room ? (uint32_t)bytes : room;
+    peer->is_begun = 1;
+    peer->is_late = 0;
+}
+
+/* A request took too long, and was released. */
+static inline void piecepick_depth_by_rate_timed_out(piecepick_depth_by_rate *peer) {
+    peer->is_begun = peer->is_late = 1;
+}
+
+/* Tell at each request whether another peer is asked for its block too. The depth is at most 6 at once where that is so. */
+static inline void piecepick_depth_by_rate_set_in_endgame(piecepick_depth_by_rate *peer, uint32_t is_in_endgame) {
+    peer->is_in_endgame = is_in_endgame;
+    if (is_in_endgame && peer->depth > 6) peer->depth = 6;
+}
+
+/* The depth now. Ask for it once a second, or at each block. */
+static inline uint32_t piecepick_depth_by_rate_follow(piecepick_depth_by_rate *peer, uint64_t now) {
+    uint64_t wanted = 4, newest, all;
+    const uint32_t most = peer->is_in_endgame && peer->deepest > 6 ? 6 : peer->deepest, less = peer->depth * 3 / 4;
+    piecepick_depth_by_rate_turn(peer, now);
+    if (!peer->is_begun) return peer->depth;
+    newest = piecepick_depth_by_rate_blocks(peer, 2);
+    all = piecepick_depth_by_rate_blocks(peer, 8);
+    if (!peer->is_late) wanted += newest > all ? newest : all;
+    if (wanted > most) wanted = most;
+    if (wanted >= peer->depth || peer->is_late) {
+        peer->depth = (uint32_t)wanted;
+    } else if (peer->may_fall) {
+        peer->depth = wanted > less ? (uint32_t)wanted : less;
+        peer->may_fall = 0;
+    }
+    return peer->depth;
+}
+
 /* ---- Texts, of the header alone. */
 
 static inline const char *piecepick_status_text(piecepick_status status) {
@@ -270,7 +365,7 @@ static inline const char *piecepick_status_text(piecepick_status status) {
     case PIECEPICK_E_LENGTH: return "the buffer has another length";
     case PIECEPICK_E_MEMORY: return "out of memory";
     case PIECEPICK_E_NOT_HAD: return "the piece isn't had";
-    case PIECEPICK_E_RULES: return "depth, deepest, askers or random is out of its range";
+    case PIECEPICK_E_RULES: return "depth, deepest, askers, random or open is out of its range";
     case PIECEPICK_E_NOT_WAITING: return "the piece doesn't wait for a check";
     case PIECEPICK_E_NO_JOB: return "the pointer leads to no job";
     case PIECEPICK_E_NOT_HASHED: return "the job wasn't hashed";

@@ -26,6 +26,28 @@ struct Options : piecepick_options {
     Options() noexcept : piecepick_options(PIECEPICK_OPTIONS) {}
 };
 
+/* How many blocks should be in flight at a peer, by what came of it: tell Picker::depth what `follow` answers. The rule, the units and the borders
+   stand in piecepick.h. It is no part of a picker, and calls no library. */
+class DepthByRate {
+public:
+    /* A peer comes, of a picker with these options. */
+    DepthByRate(const Options &options, std::uint64_t now) noexcept { piecepick_depth_by_rate_begin(&peer_, &options, now); }
+
+    /* Bytes of blocks came. That none came changes nothing. */
+    void came(std::uint64_t bytes, std::uint64_t now) noexcept { piecepick_depth_by_rate_came(&peer_, bytes, now); }
+    /* A request took too long, and was released. */
+    void timed_out() noexcept { piecepick_depth_by_rate_timed_out(&peer_); }
+    /* Tell at each request whether another peer is asked for its block too. */
+    void set_in_endgame(bool is_in_endgame) noexcept { piecepick_depth_by_rate_set_in_endgame(&peer_, std::uint32_t{is_in_endgame}); }
+    /* The depth now. Ask for it once a second, or at each block. */
+    std::uint32_t follow(std::uint64_t now) noexcept { return piecepick_depth_by_rate_follow(&peer_, now); }
+    /* The depth after the last call. */
+    [[nodiscard]] std::uint32_t depth() const noexcept { return peer_.depth; }
+
+private:
+    piecepick_depth_by_rate peer_;
+};
+
 class Error : public std::exception {
 public:
     explicit Error(piecepick_status status) noexcept : status_(status) {}

@@ -164,6 +164,7 @@ static piecepick_picker *open_for(uint32_t keeps, uint32_t workers)
     piecepick_options options = PIECEPICK_OPTIONS;
     options.keeps = keeps;
     options.workers = workers;
+    options.depth = 5; /* by the usual depth a peer would be asked for nearly all of so small a torrent */
     return open_by(&options);
 }
 
@@ -270,38 +271,41 @@ static uint64_t picture(piecepick_picker *picker)
 #define MORE UINT32_MAX
 
 static const struct { piecepick_options options; piecepick_status status; } OPTIONS[] = {
-    {{0, 0, 50, 5, 500, 1, 2}, PIECEPICK_E_OPTIONS},
-    {{24, 0, 50, 5, 500, 1, 2}, PIECEPICK_E_OPTIONS},
-    {{SIZE - 1, 0, 50, 5, 500, 1, 2}, PIECEPICK_E_OPTIONS},
-    {{SIZE + 1, 0, 50, 5, 500, 1, 2}, PIECEPICK_E_OPTIONS},
-    {{32, 0, 50, 5, 500, 1, 2}, PIECEPICK_E_OPTIONS},
-    {{MORE, 0, 50, 5, 500, 1, 2}, PIECEPICK_E_OPTIONS},
-    {{SIZE, 3, 50, 5, 500, 1, 2}, PIECEPICK_E_OPTIONS},
-    {{SIZE, MORE, 50, 5, 500, 1, 2}, PIECEPICK_E_OPTIONS},
-    {{SIZE, 0, 0, 5, 500, 1, 2}, PIECEPICK_E_WORKER},
-    {{SIZE, 1, 1025, 5, 500, 1, 2}, PIECEPICK_E_WORKER},
-    {{SIZE, 2, MORE, 5, 500, 1, 2}, PIECEPICK_E_WORKER},
-    {{SIZE, 0, 50, 0, 500, 1, 2}, PIECEPICK_E_RULES},
-    {{SIZE, 1, 50, 65, 500, 1, 2}, PIECEPICK_E_RULES},
-    {{SIZE, 2, 50, MORE, 500, 1, 2}, PIECEPICK_E_RULES},
-    {{SIZE, 0, 50, 5, 0, 1, 2}, PIECEPICK_E_RULES},
-    {{SIZE, 1, 50, 5, 4097, 1, 2}, PIECEPICK_E_RULES},
-    {{SIZE, 2, 50, 5, MORE, 1, 2}, PIECEPICK_E_RULES},
-    {{SIZE, 0, 50, 5, 500, 11, 2}, PIECEPICK_E_RULES},
-    {{SIZE, 2, 50, 5, 500, MORE, 2}, PIECEPICK_E_RULES},
-    {{SIZE, 0, 50, 5, 500, 1, 0}, PIECEPICK_E_RULES},
-    {{SIZE, 1, 50, 5, 500, 1, 1025}, PIECEPICK_E_RULES},
-    {{SIZE, 2, 50, 5, 500, 1, MORE}, PIECEPICK_E_RULES},
+    {{0, 0, 50, 5, 500, 1, 2, 0}, PIECEPICK_E_OPTIONS},
+    {{24, 0, 50, 5, 500, 1, 2, 0}, PIECEPICK_E_OPTIONS},
+    {{SIZE - 1, 0, 50, 5, 500, 1, 2, 0}, PIECEPICK_E_OPTIONS},
+    {{SIZE + 1, 0, 50, 5, 500, 1, 2, 0}, PIECEPICK_E_OPTIONS},
+    {{28, 0, 50, 5, 500, 1, 2, 0}, PIECEPICK_E_OPTIONS},
+    {{36, 0, 50, 5, 500, 1, 2, 0}, PIECEPICK_E_OPTIONS},
+    {{MORE, 0, 50, 5, 500, 1, 2, 0}, PIECEPICK_E_OPTIONS},
+    {{SIZE, 3, 50, 5, 500, 1, 2, 0}, PIECEPICK_E_OPTIONS},
+    {{SIZE, MORE, 50, 5, 500, 1, 2, 0}, PIECEPICK_E_OPTIONS},
+    {{SIZE, 0, 0, 5, 500, 1, 2, 0}, PIECEPICK_E_WORKER},
+    {{SIZE, 1, 1025, 5, 500, 1, 2, 0}, PIECEPICK_E_WORKER},
+    {{SIZE, 2, MORE, 5, 500, 1, 2, 0}, PIECEPICK_E_WORKER},
+    {{SIZE, 0, 50, 0, 500, 1, 2, 0}, PIECEPICK_E_RULES},
+    {{SIZE, 1, 50, 65, 500, 1, 2, 0}, PIECEPICK_E_RULES},
+    {{SIZE, 2, 50, MORE, 500, 1, 2, 0}, PIECEPICK_E_RULES},
+    {{SIZE, 0, 50, 5, 0, 1, 2, 0}, PIECEPICK_E_RULES},
+    {{SIZE, 1, 50, 5, 4097, 1, 2, 0}, PIECEPICK_E_RULES},
+    {{SIZE, 2, 50, 5, MORE, 1, 2, 0}, PIECEPICK_E_RULES},
+    {{SIZE, 0, 50, 5, 500, 11, 2, 0}, PIECEPICK_E_RULES},
+    {{SIZE, 2, 50, 5, 500, MORE, 2, 0}, PIECEPICK_E_RULES},
+    {{SIZE, 0, 50, 5, 500, 1, 0, 0}, PIECEPICK_E_RULES},
+    {{SIZE, 1, 50, 5, 500, 1, 1025, 0}, PIECEPICK_E_RULES},
+    {{SIZE, 2, 50, 5, 500, 1, MORE, 0}, PIECEPICK_E_RULES},
+    {{SIZE, 0, 2, 5, 500, 1, 2, 1025}, PIECEPICK_E_RULES},
+    {{SIZE, 0, 2, 5, 500, 1, 2, MORE}, PIECEPICK_E_RULES},
     /* Two causes: the one that the header has first. */
-    {{0, 0, 0, 0, 500, 1, 2}, PIECEPICK_E_OPTIONS},
-    {{SIZE, 0, 0, 0, 500, 1, 2}, PIECEPICK_E_WORKER},
+    {{0, 0, 0, 0, 500, 1, 2, 0}, PIECEPICK_E_OPTIONS},
+    {{SIZE, 0, 0, 0, 500, 1, 2, 0}, PIECEPICK_E_WORKER},
     /* The borders. */
-    {{SIZE, 0, 1, 1, 1, 0, 1}, PIECEPICK_OK},
-    {{SIZE, 1, 1, 1, 1, 0, 1}, PIECEPICK_OK},
-    {{SIZE, 2, 1, 1, 1, 0, 1}, PIECEPICK_OK},
-    {{SIZE, 0, 1024, 64, 4096, 10, 1024}, PIECEPICK_OK},
-    {{SIZE, 1, 1024, 64, 500, 10, 1024}, PIECEPICK_OK},
-    {{SIZE, 2, 1024, 64, 500, 10, 1024}, PIECEPICK_OK},
+    {{SIZE, 0, 1, 1, 1, 0, 1, 0}, PIECEPICK_OK},
+    {{SIZE, 1, 1, 1, 1, 0, 1, 0}, PIECEPICK_OK},
+    {{SIZE, 2, 1, 1, 1, 0, 1, 0}, PIECEPICK_OK},
+    {{SIZE, 0, 1024, 64, 4096, 10, 1024, 1024}, PIECEPICK_OK},
+    {{SIZE, 1, 1024, 64, 500, 10, 1024, 1024}, PIECEPICK_OK},
+    {{SIZE, 2, 1024, 64, 500, 10, 1024, 1024}, PIECEPICK_OK},
 };
 
 /* Reads the metainfo file, or takes the same torrent by its parts. */
@@ -316,6 +320,8 @@ static void try_options(void)
     const piecepick_options usual = PIECEPICK_OPTIONS;
     uint32_t number;
     EQUAL(usual.size, sizeof usual);
+    EQUAL(usual.depth, 16);
+    EQUAL(usual.open, 8);
     for (size_t at = 0; at < sizeof OPTIONS / sizeof *OPTIONS; at++)
         for (int by_parts = 0; by_parts < 2; by_parts++) {
             const piecepick_options *options = &OPTIONS[at].options;
@@ -886,6 +892,30 @@ static void try_levels(uint32_t keeps)
     EQUAL(piecepick_next(picker, 0, 0, &answer), PIECEPICK_OK); /* a piece that has begun comes first: 0 or 1 */
     EQUAL(answer.kind, PIECEPICK_K_REQUEST);
     EQUAL(answer.piece < 2 && answer.begin == BLOCK, 1);
+    if (keeps == PIECEPICK_KEEPS_JOURNAL) EQUAL(piecepick_audit(picker), PIECEPICK_OK);
+    piecepick_close(&picker);
+}
+
+/* With one open piece allowed: worker 1 has two pieces, and 0 has all. */
+static void try_open_pieces(uint32_t keeps)
+{
+    static const uint8_t two[MOST_PIECES / 8] = {0xc0};
+    piecepick_options options = PIECEPICK_OPTIONS;
+    piecepick_picker *picker;
+    piecepick_answer answer;
+    options.keeps = keeps;
+    options.workers = 2;
+    options.random = 0;
+    options.open = 1;
+    picker = open_by(&options);
+    come(picker, 0);
+    GETS(piecepick_join(picker, 1, &answer), PIECEPICK_K_JOINED);
+    NOTED(piecepick_bits(picker, 1, two, flags_len, &answer), 1);
+    QUIET(piecepick_unchoke(picker, 1, &answer));
+    BLOCKS(piecepick_next(picker, 1, 0, &answer), PIECEPICK_K_REQUEST, 0, 0);
+    BLOCKS(piecepick_next(picker, 0, 2, &answer), PIECEPICK_K_REQUEST, 2, 0);     /* rarer than the begun one */
+    BLOCKS(piecepick_next(picker, 0, 3, &answer), PIECEPICK_K_REQUEST, 2, BLOCK); /* two are open: the rarer one goes on */
+    BLOCKS(piecepick_next(picker, 1, 1, &answer), PIECEPICK_K_REQUEST, 0, BLOCK); /* as rare as one that hasn't begun */
     if (keeps == PIECEPICK_KEEPS_JOURNAL) EQUAL(piecepick_audit(picker), PIECEPICK_OK);
     piecepick_close(&picker);
 }
@@ -1661,6 +1691,7 @@ int main(int argc, char **argv)
         {"what comes on the wire, and what is asked", try_wire},
         {"pieces, and what is wanted", try_pieces},
         {"levels and order", try_levels},
+        {"open pieces", try_open_pieces},
         {"depths", try_depths},
         {"askers in endgame, and cancels", try_endgame},
         {"epochs", try_epochs},

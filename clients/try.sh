@@ -69,6 +69,14 @@ for language in "gcc -std=c11" "g++ -std=c++17 -x c++"; do
     echo "$language: well"
 done
 
+# Depth by rate is of the headers alone, so the library isn't linked. The other languages read the same table in their own tests.
+for language in "gcc -std=c99 -pedantic" "gcc -std=c11 -pedantic" "g++ -std=c++17 -x c++"; do
+    checked "$language" -Wconversion -Wshadow "$here/depths.c" -o depths
+    ./depths "$here/depths.txt"
+done
+checked "g++ -std=c++17" -Wconversion -Wshadow "$here/depths.cpp" -o depths
+./depths "$here/depths.txt"
+
 checked "g++ -std=c++17" -Wconversion -Wshadow "$here/example.cpp" "$here/out/libpiecepick.a" -o example
 ./example try.torrent content
 # A picker and a job are moved and never copied, and an empty one throws.

@@ -6,17 +6,21 @@ import socket
 from collections import OrderedDict
 from dataclasses import dataclass, field
 
+from piecepick import DepthByRate
+
 from .blame import Address
 from .rate import Rate
 from .wire import Inbound, Message, spell
 
 FIRST_DEPTH = 64
-LEAST_DEPTH = 4
 MOST_DEPTH = 500
-ENDGAME_DEPTH = 6  # while nothing is left that no peer is asked for, so that few blocks come twice
-LINE_SECONDS = 1.0  # so much of a peer's rate is asked of it at a time
 MOST_LATE = 2000  # requests that are remembered after they were taken back, since their blocks may come
 NO_WORKER = -1
+
+
+def milliseconds(now: float) -> int:
+    """A time, as the rule of depths takes it."""
+    return int(1000 * now)
 
 
 @dataclass(eq=False)
@@ -44,8 +48,7 @@ class Peer:
 
     asked: OrderedDict[tuple[int, int], float] = field(default_factory=OrderedDict)
     late: OrderedDict[tuple[int, int], None] = field(default_factory=OrderedDict)
-    depth: int = FIRST_DEPTH
-    is_in_endgame: bool = False  # by the last request
+    by_rate: DepthByRate = field(init=False)
     epoch: int = -1  # the picker's, when the peer was asked last; -1 where it is to be asked in any case
     rests_until: float = 0.0
     timeouts: int = 0
@@ -59,6 +62,7 @@ class Peer:
     twice: int = 0
 
     def __post_init__(self) -> None:
+        self.by_rate = DepthByRate(milliseconds(self.began), depth=FIRST_DEPTH, deepest=MOST_DEPTH)
         self.down, self.up = Rate(self.began), Rate(self.began)
         self.heard = self.said = self.block_came = self.began
 
@@ -66,6 +70,11 @@ class Peer:
     def is_joined(self) -> bool:
         """Whether the handshakes were exchanged, so that the picker knows it."""
         return self.worker != NO_WORKER
+
+    @property
+    def depth(self) -> int:
+        """How many blocks may be asked of the peer at a time."""
+        return self.by_rate.depth
 
     @property
     def program(self) -> str:
@@ -100,10 +109,3 @@ class Peer:
             del self.late[block]
             return True
         return False
-
-    def depth_for(self, rate: float, block: int) -> int:
-        """How many blocks should be in flight at this rate."""
-        if self.timeouts:
-            return LEAST_DEPTH
-        most = ENDGAME_DEPTH if self.is_in_endgame else MOST_DEPTH
-        return max(LEAST_DEPTH, min(most, LEAST_DEPTH + int(rate * LINE_SECONDS / block)))

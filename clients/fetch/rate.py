@@ -27,8 +27,8 @@ class Rate:
         self._sums[self._second % SECONDS] += count
         self.total += count
 
-    def per_second(self, now: float, seconds: int = SECONDS) -> float:
-        """The mean of so many last seconds, of which this one isn't over; or of those since the beginning."""
+    def per_second(self, now: float) -> float:
+        """The mean of the last seconds, of which this one isn't over; or of those since the beginning."""
         self._turn(now)
-        passed = min(seconds - 1 + now % 1, now - self._begin)
-        return sum(self._sums[(self._second - back) % SECONDS] for back in range(seconds)) / max(passed, 1.0)
+        passed = min(SECONDS - 1 + now % 1, now - self._begin)
+        return sum(self._sums) / max(passed, 1.0)

@@ -10,8 +10,7 @@ from typing import Protocol
 from piecepick import Answer, InputFault, Kind, Reason
 
 from .content import Content, Verdict
-from .layout import BLOCK
-from .peer import ENDGAME_DEPTH, NO_WORKER, Peer
+from .peer import NO_WORKER, Peer, milliseconds
 from .uploads import Uploads
 from .wire import Message, WireFault, block_of, numbers_of, spell, spell_bitfield
 
@@ -184,6 +183,7 @@ class Session:
             self.figures.unasked += 1
             return
         peer.down.add(len(data), self.now)
+        peer.by_rate.came(len(data), milliseconds(self.now))
         peer.block_came, peer.timeouts, peer.rests_until = self.now, 0, 0.0
         kind = self.content.arrived(peer.worker, piece, begin, data)
         if kind is Kind.REFUSED:
@@ -240,9 +240,10 @@ class Session:
         if self.record:
             self.record.requested(peer, block, others > 0)
         self.asks[block] = others + 1
-        peer.is_in_endgame = others > 0
-        if peer.is_in_endgame and peer.depth > ENDGAME_DEPTH:
-            self._set_depth(peer, ENDGAME_DEPTH)
+        before = peer.depth
+        peer.by_rate.set_in_endgame(others > 0)
+        if peer.depth != before:
+            self.picker.depth(peer.worker, peer.depth)
         self.figures.requests += 1
         self.figures.endgame_requests += others > 0
         peer.asked[block] = self.now
@@ -288,25 +289,16 @@ class Session:
             self.picker.release(peer.worker, *block)
         if late:
             peer.timeouts += 1
+            peer.by_rate.timed_out()
             peer.rests_until, peer.epoch = self.now + REST, -1
         return peer.timeouts < MOST_TIMEOUTS
 
     def follow_rate(self, peer: Peer) -> None:
-        """The peer's depth follows its rate: up at once, and down by steps."""
-        if not peer.down.total and not peer.timeouts:
-            return
-        # The last two seconds tell of a rate that rises, and all of them of one that comes in bursts.
-        rate = max(peer.down.per_second(self.now, 2), peer.down.per_second(self.now))
-        wanted = peer.depth_for(rate, BLOCK)
-        depth = wanted if peer.timeouts else max(wanted, peer.depth * 3 // 4)
-        if depth != peer.depth:
-            self._set_depth(peer, depth)
+        """The peer's depth follows its rate: up at once, and down by steps. What is asked stays asked."""
+        before = peer.depth
+        if peer.by_rate.follow(milliseconds(self.now)) != before:
+            self.picker.depth(peer.worker, peer.depth)
             self.ask(peer)
-
-    def _set_depth(self, peer: Peer, depth: int) -> None:
-        """So many blocks may be asked of the peer at a time; what is asked stays asked."""
-        peer.depth = depth
-        self.picker.depth(peer.worker, depth)
 
     def settle(self) -> list[Verdict]:
         """Settles the pieces that were checked, and tells the peers of those that are had."""

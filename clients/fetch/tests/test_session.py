@@ -4,13 +4,17 @@ from __future__ import annotations
 
 import unittest
 
-from fetch.peer import ENDGAME_DEPTH, FIRST_DEPTH, LEAST_DEPTH, Peer
+from fetch.peer import FIRST_DEPTH, Peer, milliseconds
 from fetch.session import MOST_TIMEOUTS, REJECT_REST, REST, SILENCE
 
 from .spoken import Speaking, message
 from .support import (
     BITFIELD, BLOCK, BLOCK_MESSAGE, CANCEL, CHOKE, CONTENT, HAVE, HAVE_ALL, INTERESTED, PIECE, PIECES, REJECT, REQUEST, UNCHOKE, flags_of,
 )  # fmt: skip
+
+
+LEAST_DEPTH = 4
+ENDGAME_DEPTH = 6
 
 
 class Asked(Speaking):
@@ -28,6 +32,12 @@ class Asked(Speaking):
         """The peer sends a block; what it is told then."""
         at = block[0] * PIECE + block[1]
         return self.hear(peer, message(BLOCK_MESSAGE, *block, data=CONTENT[at : at + BLOCK]))
+
+    def bring_much(self, peer: Peer) -> None:
+        """The rule of depths is told of 200 blocks in a second."""
+        peer.by_rate.came(200 * BLOCK, milliseconds(self.session.now))
+        self.session.now += 1.0
+        self.session.follow_rate(peer)
 
     def test_depth(self) -> None:
         peer = self.joined()
@@ -89,9 +99,7 @@ class Asked(Speaking):
 
     def test_rising_rate(self) -> None:
         peer = self.joined()
-        peer.down.add(200 * BLOCK, self.session.now)
-        self.session.now += 1.0
-        self.session.follow_rate(peer)
+        self.bring_much(peer)
         # 200 blocks in the first second, so as many are asked, and four more; there are 161 in all.
         self.assertEqual(peer.depth, 204)
         self.assertEqual(len(peer.asked), 161)
@@ -99,9 +107,7 @@ class Asked(Speaking):
     def test_endgame_depth(self) -> None:
         """The second peer is asked for few of the blocks that the first one was asked for."""
         first = self.joined()
-        first.down.add(200 * BLOCK, self.session.now)
-        self.session.now += 1.0
-        self.session.follow_rate(first)
+        self.bring_much(first)
         second = self.joined(2)
         self.assertEqual(len(second.asked), ENDGAME_DEPTH)
         self.assertTrue(set(second.asked) <= set(first.asked))

@@ -13,12 +13,14 @@ has changed nothing. A call that a rule refuses has the answer REFUSED: that is 
 """
 
 from ._native import Keeps, Kind, Reason, Status
+from .depth import DepthByRate
 from .picker import Answer, File, InputFault, Job, MemoryFault, Picker, PiecepickError, hash_four, version
 
 __version__ = "3.0.0"
 
 __all__ = [
     "Answer",
+    "DepthByRate",
     "File",
     "InputFault",
     "Job",

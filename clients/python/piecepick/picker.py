@@ -156,8 +156,8 @@ def _check(call: Any, *arguments: Any) -> None:
         _fail(call.__name__, status)
 
 
-def _options(keeps: int, workers: int, depth: int, deepest: int, random: int, askers: int) -> _native.Options:
-    numbers = map(_u32, (keeps, workers, depth, deepest, random, askers))
+def _options(keeps: int, workers: int, depth: int, deepest: int, random: int, askers: int, most_open: int) -> _native.Options:
+    numbers = map(_u32, (keeps, workers, depth, deepest, random, askers, most_open))
     return _native.Options(sizeof(_native.Options), *numbers)
 
 
@@ -208,13 +208,14 @@ class Picker:
         *,
         keeps: Keeps = Keeps.NOTHING,
         workers: int = 50,
-        depth: int = 5,
+        depth: int = 16,
         deepest: int = 500,
         random: int = 1,
         askers: int = 2,
+        open: int = 8,
     ) -> None:
         """A picker for the torrent of a metainfo file. The choices are those of the header's piecepick_options."""
-        options = _options(keeps, workers, depth, deepest, random, askers)
+        options = _options(keeps, workers, depth, deepest, random, askers, open)
         data, length = lend(metainfo)
         self._open(LIBRARY.piecepick_open, data, length, byref(options))
 
@@ -227,13 +228,14 @@ class Picker:
         *,
         keeps: Keeps = Keeps.NOTHING,
         workers: int = 50,
-        depth: int = 5,
+        depth: int = 16,
         deepest: int = 500,
         random: int = 1,
         askers: int = 2,
+        open: int = 8,
     ) -> Picker:
         """A picker for the torrent of these parts: lengths in bytes, and the SHA-1 of each piece in order, 20 bytes each."""
-        options = _options(keeps, workers, depth, deepest, random, askers)
+        options = _options(keeps, workers, depth, deepest, random, askers, open)
         data, length = lend(digests)
         picker = cls.__new__(cls)
         picker._open(LIBRARY.piecepick_open_parts, _u32(piece_length), _u64(total), data, length, byref(options))

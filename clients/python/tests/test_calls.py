@@ -84,6 +84,7 @@ class Opening(CallCase):
             ("depth", 65, Status.RULES),
             ("deepest", 4097, Status.RULES),
             ("askers", 0, Status.RULES),
+            ("open", 1025, Status.RULES),
             ("random", PIECES + 1, Status.RULES),
         ]:
             with self.subTest(name=name, number=number):
@@ -134,6 +135,13 @@ class Peers(CallCase):
             self.assertEqual(made.release(0, first.piece, first.begin).kind, Kind.QUIET)
             self.assertEqual(made.release(0, first.piece, first.begin), refused(Reason.NOT_ASKED))
             self.assertEqual(made.outstanding(0), 1)
+
+    def test_usual_depth(self) -> None:
+        with Picker.of_parts(20 * BLOCK, 20 * BLOCK, bytes(20)) as made:
+            made.join(0)
+            made.have(0, 0)
+            made.unchoke(0)
+            self.assertEqual([made.next(0).kind for _ in range(17)], [Kind.REQUEST] * 16 + [Kind.PIPE_FULL])
 
     def test_a_block_from_another_peer_is_cancelled(self) -> None:
         with with_peer() as made:

@@ -40,6 +40,7 @@
 #![forbid(unsafe_op_in_unsafe_fn)]
 
 mod answer;
+mod depth;
 mod error;
 mod file;
 mod hash;
@@ -49,6 +50,7 @@ mod picker;
 pub mod sys;
 
 pub use answer::{Answer, Block, Kind, Reason};
+pub use depth::DepthByRate;
 pub use error::Error;
 pub use file::File;
 pub use hash::{hash4, Digest};

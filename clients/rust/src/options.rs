@@ -25,11 +25,12 @@ pub struct Options {
     deepest: u32,
     random: u32,
     askers: u32,
+    open: u32,
 }
 
 impl Default for Options {
     fn default() -> Options {
-        Options { keeps: Keeps::Nothing, workers: 50, depth: 5, deepest: 500, random: 1, askers: 2 }
+        Options { keeps: Keeps::Nothing, workers: 50, depth: 16, deepest: 500, random: 1, askers: 2, open: 8 }
     }
 }
 
@@ -52,7 +53,7 @@ impl Options {
         Options { workers, ..self }
     }
 
-    /// Blocks asked of a peer at a time until another depth is told, 1 to 64. 5, where it isn't said.
+    /// Blocks asked of a peer at a time until another depth is told, 1 to 64. 16, where it isn't said.
     #[must_use]
     pub fn depth(self, depth: u32) -> Options {
         Options { depth, ..self }
@@ -76,6 +77,18 @@ impl Options {
         Options { askers, ..self }
     }
 
+    /// Pieces that may be open, begun and with an unrequested block, before those come first: 0, where they always do, to 1,024. 8, where it
+    /// isn't said. While no more are open, a piece that fewest peers have comes first.
+    #[must_use]
+    pub fn open(self, open: u32) -> Options {
+        Options { open, ..self }
+    }
+
+    /// The depth at first, and the greatest one that may be told.
+    pub(crate) fn depths(&self) -> (u32, u32) {
+        (self.depth, self.deepest)
+    }
+
     pub(crate) fn to_c(self) -> sys::piecepick_options {
         sys::piecepick_options {
             size: size_of::<sys::piecepick_options>() as u32,
@@ -85,6 +98,7 @@ impl Options {
             deepest: self.deepest,
             random: self.random,
             askers: self.askers,
+            open: self.open,
         }
     }
 }

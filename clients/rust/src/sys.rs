@@ -60,6 +60,7 @@ pub struct piecepick_options {
     pub deepest: u32,
     pub random: u32,
     pub askers: u32,
+    pub open: u32,
 }
 
 #[allow(missing_docs, clippy::too_many_arguments)]

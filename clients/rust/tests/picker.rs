@@ -64,7 +64,7 @@ fn bring(picker: &mut Picker, number: u32, bytes: &[u8]) {
 #[test]
 fn structs_are_those_of_c() {
     assert_eq!(size_of::<sys::piecepick_answer>(), 24);
-    assert_eq!(size_of::<sys::piecepick_options>(), 28);
+    assert_eq!(size_of::<sys::piecepick_options>(), 32);
     assert_eq!(size_of::<sys::piecepick_digest>(), 20);
     assert_eq!(piecepick::version(), 30_000);
 }
@@ -117,6 +117,7 @@ fn what_is_wrong_at_open_is_told() {
     assert_eq!(open(Options::new().depth(65)), Error::Rules);
     assert_eq!(open(Options::new().deepest(4097)), Error::Rules);
     assert_eq!(open(Options::new().askers(0)), Error::Rules);
+    assert_eq!(open(Options::new().open(1025)), Error::Rules);
     assert_eq!(open(Options::new().random(PIECES + 1)), Error::Rules);
     assert_eq!(Picker::open_parts(0, 1, &[[0; 20]], Options::new()).map(|_| ()), Err(Error::PieceLength));
     assert_eq!(Picker::open_parts(1, 0, &[], Options::new()).map(|_| ()), Err(Error::NoContent));
@@ -160,6 +161,16 @@ fn blocks_are_asked_and_released() {
     assert_eq!(picker.release(0, first.piece, first.begin), Ok(Answer::Quiet));
     assert_eq!(picker.release(0, first.piece, first.begin), Ok(Answer::Refused(Reason::NotAsked)));
     assert_eq!(picker.outstanding(0), Ok(1));
+}
+
+#[test]
+fn the_usual_depth_is_sixteen() {
+    let mut picker = Picker::open_parts(20 * BLOCK as u32, 20 * BLOCK as u64, &[[0; 20]], Options::new()).unwrap();
+    picker.join(0).unwrap();
+    picker.have(0, 0).unwrap();
+    picker.unchoke(0).unwrap();
+    let asked = (0..20).take_while(|word| picker.next(0, *word).unwrap().kind() == Kind::Request).count();
+    assert_eq!((asked, picker.next(0, 0).unwrap().kind()), (16, Kind::PipeFull));
 }
 
 #[test]
