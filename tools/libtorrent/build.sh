@@ -1,6 +1,7 @@
 #!/bin/sh
-# Builds bench_libtorrent: libtorrent-rasterbar 2.0.11's picker alone, on the workload of crates/bench/README.md. Takes Debian's source package of the
-# suite trixie and boost's headers by a private apt folder, so that the machine's own settings stay; about half a minute after the download.
+# Builds two things of libtorrent-rasterbar 2.0.11's picker: bench_libtorrent, the picker alone on the workload of crates/bench/README.md, and
+# libswarm_picker.a, the picker as one more rule of tools/swarm. Takes Debian's source package of the suite trixie and boost's headers by a private
+# apt folder, so that the machine's own settings stay; about half a minute after the download.
 # usage: build.sh FOLDER
 set -eu
 here=$(cd "$(dirname "$0")" && pwd)
@@ -16,7 +17,15 @@ by_sources() {
 compile() {
     g++ -std=c++17 -O2 -DNDEBUG -ffunction-sections -fdata-sections -Ilt/include -Ilt/deps/try_signal -isystem boost/usr/include "$@"
 }
-for f in piece_picker random performance_counters bitfield error_code; do [ -f obj/$f.o ] || compile -c lt/src/$f.cpp -o obj/$f.o; done
+shift
+for f in piece_picker random performance_counters bitfield error_code; do
+    [ -f obj/$f.o ] || compile -c lt/src/$f.cpp -o obj/$f.o
+    set -- "$@" obj/$f.o
+done
 compile -c "$here/bench_libtorrent.cpp" -o obj/bench.o
-g++ -Wl,--gc-sections obj/*.o -o bench_libtorrent -lpthread
+compile -Wall -Wextra -c "$here/swarm_picker.cpp" -o obj/swarm_picker.o
+g++ -Wl,--gc-sections obj/bench.o "$@" -o bench_libtorrent -lpthread
+rm -f libswarm_picker.a
+ar rcs libswarm_picker.a obj/swarm_picker.o "$@"
 echo "$PWD/bench_libtorrent 10000 --opts strict --depth 5"
+echo "SWARM_LIBTORRENT=$PWD cargo run --release --offline --features libtorrent -- run small --rule 'libtorrent itself'"

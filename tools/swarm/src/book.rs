@@ -32,6 +32,8 @@ pub struct Book {
     /// The blocks that are neither held nor asked.
     free: u64,
     neighbours: Vec<Neighbour>,
+    /// How many of them are there.
+    joined: usize,
     usual_depth: usize,
     askers: usize,
     epoch: u64,
@@ -50,6 +52,7 @@ impl Book {
             had: 0,
             free: content.all_blocks(),
             neighbours: vec![Neighbour::default(); SLOTS],
+            joined: 0,
             usual_depth: depth as usize,
             askers: askers as usize,
             epoch: 0,
@@ -61,9 +64,50 @@ impl Book {
         self.content.pieces
     }
 
+    /// The blocks of each piece.
+    pub fn blocks(&self) -> u32 {
+        self.content.blocks
+    }
+
     /// How many pieces are had.
     pub fn had(&self) -> u32 {
         self.had
+    }
+
+    /// How many neighbours there are.
+    pub fn joined(&self) -> usize {
+        self.joined
+    }
+
+    /// Whether a block of the piece is held or asked.
+    pub fn is_begun(&self, piece: u32) -> bool {
+        self.taken[piece as usize] != 0
+    }
+
+    /// How many pieces are open: begun, and with a free block.
+    pub fn open(&self) -> usize {
+        let full = self.full();
+        self.begun.iter().filter(|&&piece| self.taken[piece as usize] != full).count()
+    }
+
+    /// How many blocks of the piece aren't held.
+    pub fn lacking(&self, piece: u32) -> u32 {
+        self.content.blocks - self.held[piece as usize].count_ones()
+    }
+
+    /// How many blocks of the piece are neither held nor asked.
+    pub fn free(&self, piece: u32) -> u32 {
+        self.content.blocks - self.taken[piece as usize].count_ones()
+    }
+
+    /// Whether a block of the piece is asked of the neighbour.
+    pub fn is_asked(&self, slot: u8, piece: u32) -> bool {
+        self.neighbours[slot as usize].line.iter().any(|block| block.piece == piece)
+    }
+
+    /// Of how many neighbours blocks of the piece are asked.
+    pub fn asked_of(&self, piece: u32) -> usize {
+        (0..SLOTS as u8).filter(|&slot| self.is_asked(slot, piece)).count()
     }
 
     /// See [`Rule::epoch`](crate::rule::Rule::epoch).
@@ -157,6 +201,7 @@ impl Book {
 
     /// A neighbour comes, and shows these pieces.
     pub fn join(&mut self, slot: u8, flags: &[u8]) {
+        self.joined += 1;
         self.neighbours[slot as usize] = Neighbour { depth: self.usual_depth, ..Neighbour::default() };
         for piece in 0..self.content.pieces {
             if flags[piece as usize / 8] >> (7 - piece % 8) & 1 == 1 {
@@ -172,6 +217,7 @@ impl Book {
 
     /// The neighbour goes.
     pub fn leave(&mut self, slot: u8) {
+        self.joined -= 1;
         self.choke(slot, true);
         self.shown.iter_mut().for_each(|shown| *shown &= !(1 << slot));
     }

@@ -29,6 +29,8 @@ impl Swarm<'_> {
     fn request(&mut self, peer: u32, slot: u8, block: Block) {
         let asker = &mut self.peers[peer as usize];
         asker.word = self.random.word();
+        asker.begun.add(block.piece);
+        self.outcome.begun.note(asker.begun.count());
         let link = &mut asker.links[slot as usize];
         link.count(self.queue.now(), &mut self.outcome.open);
         link.asked.push(block);
@@ -37,7 +39,9 @@ impl Swarm<'_> {
     }
 
     fn cancel(&mut self, peer: u32, slot: u8, block: Block) {
-        let link = &mut self.peers[peer as usize].links[slot as usize];
+        let asker = &mut self.peers[peer as usize];
+        asker.begun.remove(block.piece);
+        let link = &mut asker.links[slot as usize];
         link.count(self.queue.now(), &mut self.outcome.open);
         link.asked.retain(|&asked| asked != block);
         self.say(peer, slot, 0, Message::Cancel(block));
@@ -68,7 +72,7 @@ impl Swarm<'_> {
         link.count(self.queue.now(), &mut self.outcome.open);
         link.is_open = !is_choked;
         if is_choked {
-            link.asked.clear();
+            link.asked.drain(..).for_each(|block| taker.begun.remove(block.piece));
             taker.dry &= !(1 << slot);
             taker.open &= !(1 << slot);
         } else {
@@ -104,13 +108,14 @@ impl Swarm<'_> {
         link.lately += 1;
         if let Some(place) = link.asked.iter().position(|&asked| asked == block) {
             link.asked.remove(place);
+            taker.begun.remove(block.piece);
         }
         let Some(picker) = &mut taker.picker else {
             self.outcome.blocks.twice += 1;
             return Ok(());
         };
         match picker.arrived(slot, block)? {
-            Came::Stored => (),
+            Came::Stored => taker.begun.add(block.piece),
             Came::Twice => self.outcome.blocks.twice += 1,
             Came::Completed => self.get_piece(peer, block.piece)?,
         }
@@ -124,6 +129,7 @@ impl Swarm<'_> {
         self.note_copy(piece);
         let taker = &mut self.peers[peer as usize];
         taker.get(piece);
+        taker.begun.finish(piece);
         let is_whole = taker.had_count == self.setup.content.pieces;
         for slot in slots(taker.shown[piece as usize]) {
             let link = &mut self.peers[peer as usize].links[slot as usize];

@@ -1,9 +1,14 @@
 //! Swarms of BitTorrent peers in one process, in virtual time: what a rule of piece picking brings to those who follow it.
 
+pub mod begun;
 pub mod book;
 pub mod choking;
 mod download;
+pub mod field;
+#[cfg(feature = "libtorrent")]
+pub mod libtorrent;
 pub mod meter;
+pub mod open;
 pub mod ours;
 pub mod page;
 pub mod peer;

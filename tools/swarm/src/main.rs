@@ -6,16 +6,18 @@ use std::process::ExitCode;
 use std::time::Instant;
 use std::{env, fs};
 use swarm::page;
-use swarm::report::{bounds, chart, mixes, table, Row};
+use swarm::report::{beside, bounds, chart, mixes, table, Row};
 use swarm::rules::{self, Chooser};
 use swarm::scenario::{self, Scenario};
 use swarm::swarm::run;
 
 const USAGE: &str = "usage: swarm list
        swarm run SCENARIO [--rule NAME].. [--guests N] [--pieces N] [--blocks N] [--runs N]
+       swarm compare SCENARIO.. [the same options]
        swarm page SCENARIO..
 
-list names the scenarios and the rules. run prints the table of a scenario, in another size if one is given.
+list names the scenarios and the rules. run prints the table of a scenario, in another size if one is given. The rule
+'all' stands for all of them. compare prints the medians of several scenarios beside each other.
 page runs scenarios at full size, and writes their tables and pictures into docs.";
 
 type Fallible<T> = Result<T, Box<dyn Error>>;
@@ -43,6 +45,11 @@ fn command(words: &[&str]) -> Fallible<()> {
             println!("{}", played(&scenario, &rules)?.1);
             Ok(())
         }
+        ["compare", words @ ..] => {
+            let options = words.iter().position(|word| word.starts_with("--")).unwrap_or(words.len());
+            println!("{}", compared(&words[..options], &words[options..])?);
+            Ok(())
+        }
         ["page", names @ ..] if !names.is_empty() => names.iter().try_for_each(|name| write_page(&named(name)?)),
         _ => Err(USAGE.into()),
     }
@@ -58,6 +65,7 @@ fn sized(mut scenario: Scenario, options: &[&str]) -> Fallible<(Scenario, Vec<Ch
     for pair in options.chunks(2) {
         let &[option, value] = pair else { return Err(USAGE.into()) };
         match option {
+            "--rule" if value == "all" => chosen.extend(all_rules()),
             "--rule" => chosen.push(rules::named(value).ok_or_else(|| format!("no rule is named {value}"))?),
             "--guests" => scenario.guests = value.parse()?,
             "--pieces" => scenario.content.pieces = value.parse()?,
@@ -75,11 +83,26 @@ fn sized(mut scenario: Scenario, options: &[&str]) -> Fallible<(Scenario, Vec<Ch
     Ok((scenario, rules))
 }
 
-/// The rules that the scenario names, or all but those that make the requests of another one.
+/// All rules but those that make the requests of another one.
+fn all_rules() -> impl Iterator<Item = Chooser> {
+    rules::all().into_iter().filter(|rule| !rule.is_twin())
+}
+
+/// The rules that the scenario names, or all.
 fn usual_rules(scenario: &Scenario) -> Vec<Chooser> {
-    let is_chosen = |rule: &Chooser| if scenario.rules.is_empty() { !rule.is_twin() } else { scenario.rules.contains(&rule.name) };
-    let mixes = rules::mixes().into_iter().filter(|_| !scenario.rules.is_empty());
-    rules::all().into_iter().chain(mixes).filter(is_chosen).collect()
+    if scenario.rules.is_empty() {
+        return all_rules().collect();
+    }
+    let named = all_rules().chain(rules::mixes());
+    named.filter(|rule| scenario.rules.contains(&rule.name)).collect()
+}
+
+/// The table of several scenarios with the same rules: those that are named, or those of the first scenario.
+fn compared(names: &[&str], options: &[&str]) -> Fallible<String> {
+    let sized: Vec<_> = names.iter().map(|name| sized(named(name)?, options)).collect::<Fallible<_>>()?;
+    let Some((_, rules)) = sized.first().cloned() else { return Err(USAGE.into()) };
+    let columns = sized.into_iter().map(|(scenario, _)| Ok((scenario, played(&scenario, &rules)?.0)));
+    Ok(beside(&columns.collect::<Fallible<Vec<_>>>()?))
 }
 
 /// Runs the rules one after the other. Gives their runs, and the table with what belongs to it.

@@ -1,5 +1,6 @@
 //! What a run tells.
 
+use crate::begun::BegunAtRequests;
 use crate::peer::OpenTime;
 use crate::queue::Micros;
 use crate::timed::Spent;
@@ -65,6 +66,8 @@ pub struct Outcome {
     pub blocks: Blocks,
     /// How many requests were sent.
     pub requests: u64,
+    /// The begun pieces of those who sent them.
+    pub begun: BegunAtRequests,
     pub open: OpenTime,
     pub samples: Vec<Sample>,
     /// The pickers' calls and their time.
@@ -101,6 +104,11 @@ impl Outcome {
     /// The percentage of the open time in which nothing was asked.
     pub fn idle(&self) -> f64 {
         share(self.open.idle, self.open.open)
+    }
+
+    /// How many pieces a downloader has begun when it makes a request, on average.
+    pub fn begun(&self) -> f64 {
+        self.begun.sum as f64 / self.requests.max(1) as f64
     }
 
     /// The percentage of the blocks that came which had come before.

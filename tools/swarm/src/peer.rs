@@ -1,5 +1,6 @@
 //! A peer and its connections.
 
+use crate::begun::Begun;
 use crate::queue::Micros;
 use crate::rule::{Block, Content, Rule, BLOCK};
 use std::collections::VecDeque;
@@ -106,6 +107,8 @@ pub struct Peer {
     pub shown: Vec<u64>,
     /// What chooses its requests, until it is whole.
     pub picker: Option<Box<dyn Rule>>,
+    /// What it has begun.
+    pub begun: Begun,
     /// The random word of its next request.
     pub word: u64,
     /// The slots whose neighbour unchokes it, and those of them that had nothing to ask, at this epoch.
@@ -138,6 +141,7 @@ impl Peer {
             had_count: 0,
             shown: Vec::new(),
             picker: None,
+            begun: Begun::default(),
             word: 0,
             open: 0,
             dry: 0,
@@ -160,6 +164,7 @@ impl Peer {
         self.had = vec![0; (content.pieces as usize).div_ceil(8)];
         self.shown = vec![0; content.pieces as usize];
         self.picker = picker;
+        self.begun = Begun::new(content.pieces);
     }
 
     /// Whether it has the piece.

@@ -83,33 +83,43 @@ impl Rarest {
         begun.or_else(|| {
             let fresh = book.fresh(slot).filter(test);
             let fresh = if book.had() < self.random { fresh.collect() } else { rarest(book, fresh) };
-            match self.fresh {
-                Ties::Any => any(fresh.into_iter(), word),
-                Ties::Least => first_from(&fresh, (word % u64::from(book.pieces())) as u32),
-            }
+            self.fresh.fresh(book, &fresh, word)
         })
     }
 }
 
 /// The pieces that fewest neighbours show.
-fn rarest(book: &Book, pieces: impl Iterator<Item = u32>) -> Vec<u32> {
-    let (mut least, mut rarest) = (u32::MAX, Vec::new());
-    for piece in pieces {
-        let availability = book.availability(piece);
-        if availability < least {
-            least = availability;
-            rarest.clear();
-        }
-        if availability == least {
-            rarest.push(piece);
-        }
-    }
-    rarest
+pub fn rarest(book: &Book, pieces: impl Iterator<Item = u32>) -> Vec<u32> {
+    least_by(pieces, |piece| book.availability(piece))
 }
 
-/// Of pieces in rising order the first that isn't below the start, round the end.
-fn first_from(pieces: &[u32], start: u32) -> Option<u32> {
-    pieces.iter().find(|&&piece| piece >= start).or(pieces.first()).copied()
+/// The pieces of the least key.
+pub fn least_by<K: Ord>(pieces: impl Iterator<Item = u32>, key: impl Fn(u32) -> K) -> Vec<u32> {
+    let (mut least, mut best) = (None, Vec::new());
+    for piece in pieces {
+        let key = key(piece);
+        if least.as_ref().map_or(true, |least| key < *least) {
+            best.clear();
+            best.push(piece);
+            least = Some(key);
+        } else if least.as_ref() == Some(&key) {
+            best.push(piece);
+        }
+    }
+    best
+}
+
+impl Ties {
+    /// One of several pieces to begin, which stand in rising order.
+    pub fn fresh(self, book: &Book, pieces: &[u32], word: u64) -> Option<u32> {
+        match self {
+            Ties::Any => any(pieces.iter().copied(), word),
+            Ties::Least => {
+                let start = (word % u64::from(book.pieces())) as u32;
+                pieces.iter().find(|&&piece| piece >= start).or(pieces.first()).copied()
+            }
+        }
+    }
 }
 
 /// A picker that follows an order, with the usual endgame behind it.

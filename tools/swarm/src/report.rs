@@ -27,11 +27,12 @@ pub enum View {
     Downloaders,
 }
 
-/// The rules in pictures. More lines can't be told apart.
-const SHOWN: [&str; 7] = ["ours", "ours, depth 64", "ours, in order", "ours, lone first", "ours, lone first by rate", "rarest", "random"];
+/// The rules in pictures. More lines can't be told apart. One of two with 8 open is there.
+const SHOWN: [&str; 8] =
+    ["ours", "ours, depth 64", "ours, in order", "ours, lone first", "ours, 8 open", "libtorrent's order", "random", "8 open"];
 
 /// The columns of a table.
-const HEAD: [&str; 12] = [
+const HEAD: [&str; 13] = [
     "Rule",
     "First, s",
     "Median, s",
@@ -40,6 +41,7 @@ const HEAD: [&str; 12] = [
     "Out of the seed, copies",
     "Interest, %",
     "Idle, %",
+    "Begun, mean and most",
     "Twice, %",
     "Calls, millions",
     "Their time, s",
@@ -112,21 +114,27 @@ pub fn table(content: Content, rows: &[Row]) -> String {
 /// The cells of a rule. It is compared with the runs of the first rule.
 fn cells(content: Content, runs: &[Outcome], rule: &str, first: &[Outcome]) -> Vec<String> {
     let time = |percent: usize| all(runs, |run| Some(seconds(run.percentile(percent)?)));
-    let copies = |run: &Outcome| Some(run.spread?.sent as f64 / content.all_blocks() as f64);
     vec![
         rule.to_string(),
         mean(&time(0), 0),
         format!("{}{}", mean(&time(50), 0), range(&time(50))),
         sooner(runs, first),
         last(runs),
-        mean(&all(runs, copies), 2),
+        copies(content, runs),
         mean(&all(runs, |run| Some(run.interest())), 1),
         mean(&all(runs, |run| Some(run.idle())), 1),
+        begun(runs),
         mean(&all(runs, |run| Some(run.twice())), 2),
         mean(&all(runs, |run| Some(run.spent.calls as f64 / 1e6)), 1),
         mean(&all(runs, |run| Some(run.spent.nanoseconds as f64 / 1e9)), 1),
         mean(&all(runs, |run| Some(run.spent.nanoseconds as f64 / run.spent.calls.max(1) as f64)), 0),
     ]
+}
+
+/// The begun pieces of a downloader when it makes a request.
+fn begun(runs: &[Outcome]) -> String {
+    let most = runs.iter().map(|run| run.begun.most).max().unwrap_or(0);
+    format!("{}, {most}", mean(&all(runs, |run| Some(run.begun())), 1))
 }
 
 /// In how many of several runs the median was less than with the first rule, in the same swarm.
@@ -177,6 +185,33 @@ fn range(figures: &[f64]) -> String {
     format!(" ({least:.0} to {greatest:.0})")
 }
 
+/// The table of several scenarios beside each other: of each the median, and in brackets the copies that the seed had sent when all pieces were
+/// out. Where not all got whole, it is what the column of the last peer says. The begun pieces are those of the first scenario.
+pub fn beside(columns: &[(Scenario, Vec<Row>)]) -> String {
+    let names: Vec<&str> = columns.iter().map(|(scenario, _)| scenario.name).collect();
+    let head = format!("| Rule | {} | Begun, mean and most |\n|{}\n", names.join(" | "), "---|".repeat(names.len() + 2));
+    let rules = columns.first().map_or(0, |(_, rows)| rows.len());
+    (0..rules).fold(head, |table, place| {
+        let cells = columns.iter().map(|(scenario, rows)| cell(scenario, &rows[place].runs));
+        let cells = cells.chain(columns.first().map(|(_, rows)| begun(&rows[place].runs)));
+        table + &format!("| {} | {} |\n", columns[0].1[place].rule, cells.collect::<Vec<_>>().join(" | "))
+    })
+}
+
+/// The cell of a rule in a scenario.
+fn cell(scenario: &Scenario, runs: &[Outcome]) -> String {
+    if runs.iter().any(|run| run.percentile(100).is_none()) {
+        return last(runs);
+    }
+    let medians = all(runs, |run| Some(seconds(run.percentile(50)?)));
+    format!("{} [{}]", mean(&medians, 0), copies(scenario.content, runs))
+}
+
+/// The copies that the seed had sent when all pieces were out.
+fn copies(content: Content, runs: &[Outcome]) -> String {
+    mean(&all(runs, |run| Some(run.spread?.sent as f64 / content.all_blocks() as f64)), 2)
+}
+
 /// Of each mixed swarm, what each of the two rules brought to those who follow it.
 pub fn mixes(rows: &[Row]) -> String {
     let lines = rows.iter().filter_map(|row| {
@@ -202,6 +237,8 @@ pub fn bounds(bounds: &[Bound]) -> String {
 #[cfg(test)]
 mod tests {
     use super::*;
+    use crate::begun::BegunAtRequests;
+    use crate::scenario;
 
     fn run(times: &[Micros], guests: u32, missing: u32) -> Outcome {
         Outcome { times: times.to_vec(), guests, missing, ..Outcome::default() }
@@ -217,6 +254,23 @@ mod tests {
         assert!(lines[2].starts_with("| one | 2 | 3 (3 to 3) | 0 | 4 | - |"), "{table}");
         assert!(lines[3].starts_with("| two | 2 | 3 (2 to 4) | 1 | 6 | - |"), "{table}");
         assert!(lines.iter().all(|line| line.matches('|').count() == HEAD.len() + 1), "{table}");
+    }
+
+    #[test]
+    fn scenarios_stand_beside_each_other() {
+        let spread = Some(crate::meter::Spread { at: 1, sent: 3 });
+        let whole = Outcome { spread, requests: 2, begun: BegunAtRequests { sum: 3, most: 2 }, ..run(&[2_000_000], 1, 0) };
+        let gone = Outcome { requests: 2, begun: BegunAtRequests { sum: 4, most: 5 }, ..run(&[], 1, 7) };
+        let rows = |first: &Outcome, second: &Outcome| {
+            let row = |rule, run: &Outcome| Row { rule, runs: vec![run.clone()] };
+            vec![row("one", first), row("two", second)]
+        };
+        let [mut small, fades] = ["small", "fades"].map(|name| scenario::named(name).unwrap());
+        small.content = Content { pieces: 1, blocks: 2 };
+        let table = beside(&[(small, rows(&whole, &gone)), (fades, rows(&gone, &whole))]);
+        let expected = "| Rule | small | fades | Begun, mean and most |\n|---|---|---|---|\n\
+            | one | 2 [1.50] | 0% whole; 7 pieces gone | 1.5, 2 |\n| two | 0% whole; 7 pieces gone | 2 [0.00] | 2.0, 5 |\n";
+        assert_eq!(table, expected);
     }
 
     #[test]

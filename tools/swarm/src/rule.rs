@@ -8,6 +8,7 @@ pub const BLOCK: u32 = 1 << 14;
 
 /// A block, by its piece and its place in it.
 #[derive(Clone, Copy, Debug, PartialEq, Eq, PartialOrd, Ord, Hash)]
+#[repr(C)]
 pub struct Block {
     /// The number of its piece.
     pub piece: u32,

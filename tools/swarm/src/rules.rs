@@ -1,8 +1,12 @@
 //! The rules that are put beside each other.
 
 use crate::book::Book;
+use crate::field::{Libtorrent, OnePiece, Transmission};
+#[cfg(feature = "libtorrent")]
+use crate::libtorrent::Client;
+use crate::open::{Begun, Open};
 use crate::ours::{First, Ours};
-use crate::plain::{AnyPiece, NotStrict, Plain, Rarest, Rising, Ties};
+use crate::plain::{AnyPiece, NotStrict, Order, Plain, Rarest, Rising, Ties};
 use crate::queue::{Micros, SECOND};
 use crate::rule::{Content, Fault, Rule};
 use crate::timed::{Spent, Timed};
@@ -34,11 +38,45 @@ impl Depths {
 
 #[derive(Clone, Copy, Debug)]
 enum Kind {
-    Ours { options: Options, first: First },
+    Ours {
+        options: Options,
+        first: First,
+    },
     AnyPiece,
     Rising,
     NotStrict,
     Rarest(Rarest),
+    Open(Open),
+    Libtorrent {
+        is_capped: bool,
+    },
+    Transmission,
+    OnePiece(OnePiece),
+    /// libtorrent's own class.
+    #[cfg(feature = "libtorrent")]
+    Client(Client),
+}
+
+impl Kind {
+    /// A picker for a downloader that has nothing.
+    fn picker(self, peer: u32, content: Content) -> Result<Box<dyn Rule>, Fault> {
+        let plain = |order: Box<dyn Order>, endgame| -> Result<Box<dyn Rule>, Fault> {
+            Ok(Box::new(Plain::new(Book::new(content, DEPTH, ASKERS), order, endgame)))
+        };
+        match self {
+            Kind::Ours { options, first } => Ok(Box::new(Ours::new(content, options, first)?)),
+            Kind::AnyPiece => plain(Box::new(AnyPiece), Ties::Any),
+            Kind::Rising => plain(Box::new(Rising), Ties::Least),
+            Kind::NotStrict => plain(Box::new(NotStrict), Ties::Any),
+            Kind::Rarest(rarest) => plain(Box::new(rarest), rarest.begun),
+            Kind::Open(open) => plain(Box::new(open), open.fresh),
+            Kind::Libtorrent { is_capped } => plain(Box::new(Libtorrent::new(peer, is_capped)), Ties::Any),
+            Kind::Transmission => plain(Box::new(Transmission::new(peer)), Ties::Any),
+            Kind::OnePiece(one_piece) => plain(Box::new(one_piece), Ties::Any),
+            #[cfg(feature = "libtorrent")]
+            Kind::Client(client) => Ok(client.picker(peer, content, DEPTH)),
+        }
+    }
 }
 
 /// A rule by its name.
@@ -61,15 +99,7 @@ impl Chooser {
     /// A picker for a downloader that has nothing.
     pub fn picker(&self, peer: u32, content: Content, spent: &Rc<Cell<Spent>>) -> Result<Box<dyn Rule>, Fault> {
         let kind = self.mixed.filter(|_| self.is_mixed_in(peer)).map_or(self.kind, |(_, kind)| kind);
-        let book = || Book::new(content, DEPTH, ASKERS);
-        let rule: Box<dyn Rule> = match kind {
-            Kind::Ours { options, first } => Box::new(Ours::new(content, options, first)?),
-            Kind::AnyPiece => Box::new(Plain::new(book(), Box::new(AnyPiece), Ties::Any)),
-            Kind::Rising => Box::new(Plain::new(book(), Box::new(Rising), Ties::Least)),
-            Kind::NotStrict => Box::new(Plain::new(book(), Box::new(NotStrict), Ties::Any)),
-            Kind::Rarest(rarest) => Box::new(Plain::new(book(), Box::new(rarest), rarest.begun)),
-        };
-        Ok(Box::new(Timed::new(rule, spent)))
+        Ok(Box::new(Timed::new(kind.picker(peer, content)?, spent)))
     }
 
     /// Whether it is a control that makes the requests of one of the library's rules.
@@ -84,12 +114,21 @@ impl Chooser {
 }
 
 /// Rules of the library, and controls that make the same requests.
-pub const TWINS: [(&str, &str); 3] =
-    [("ours", "rarest, ties of ours"), ("ours, in order", "rising"), ("ours, lone first", "lone first, ties of ours")];
+pub const TWINS: [(&str, &str); 6] = [
+    ("ours", "rarest, ties of ours"),
+    ("ours", "0 open"),
+    ("ours, in order", "rising"),
+    ("ours, lone first", "lone first, ties of ours"),
+    ("ours, 8 open", "8 open"),
+    ("ours, 16 open", "16 open"),
+];
+
+/// How many pieces may be open in rules of the library that don't say it. The controls with its ties are for strict priority.
+const OPEN: u32 = 0;
 
 /// The usual options of the library, for depths that aren't told. A greater `deepest` takes memory in each picker.
 fn usual() -> Options {
-    Options::new().depth(DEPTH).deepest(DEPTH).askers(ASKERS)
+    Options::new().depth(DEPTH).deepest(DEPTH).askers(ASKERS).open(OPEN)
 }
 
 fn ours(name: &'static str, options: Options) -> Chooser {
@@ -100,27 +139,55 @@ fn ours_with(name: &'static str, options: Options, first: First) -> Chooser {
     Chooser { name, kind: Kind::Ours { options, first }, depths: None, mixed: None }
 }
 
+/// Depths by rate: what came in the last second, and five beside.
+const BY_RATE: Depths = Depths { every: SECOND, most: 500 };
+
+fn by_rate(chooser: Chooser) -> Chooser {
+    Chooser { depths: Some(BY_RATE), ..chooser }
+}
+
 /// Rarest first, as plainly as it can be written, but for what is said otherwise.
 const RAREST: Rarest = Rarest { random: 1, lone_first: false, begun: Ties::Any, fresh: Ties::Any };
 
-fn control(name: &'static str, kind: Kind) -> Chooser {
+/// The rule `open` with the library's ties.
+const fn open(open: u32) -> Open {
+    Open { open, random: 1, begun: Begun::Least, fresh: Ties::Least }
+}
+
+const fn control(name: &'static str, kind: Kind) -> Chooser {
     Chooser { name, kind, depths: None, mixed: None }
 }
 
 /// All rules, the library's first.
 pub fn all() -> Vec<Chooser> {
-    let by_rate = Depths { every: SECOND, most: 500 };
+    [the_library(), with_open(), controls(), open_controls(), clients()].concat()
+}
+
+/// The rules of the library.
+fn the_library() -> Vec<Chooser> {
+    let deep = usual().deepest(BY_RATE.most);
     vec![
         ours("ours", usual()),
         ours("ours, depth 64", usual().depth(64).deepest(64)),
-        Chooser { depths: Some(by_rate), ..ours("ours, depth by rate", usual().deepest(by_rate.most)) },
+        by_rate(ours("ours, depth by rate", deep)),
         ours("ours, 1 asker", usual().askers(1)),
         ours("ours, no bound", usual().askers(NO_BOUND)),
         ours("ours, first rarest", usual().random(0)),
         ours("ours, 4 random", usual().random(4)),
         ours_with("ours, in order", usual(), First::Lowest),
         ours_with("ours, lone first", usual(), First::Lone),
-        Chooser { depths: Some(by_rate), ..ours_with("ours, lone first by rate", usual().deepest(by_rate.most), First::Lone) },
+        by_rate(ours_with("ours, lone first by rate", deep, First::Lone)),
+    ]
+}
+
+/// The library's rules with open pieces.
+fn with_open() -> Vec<Chooser> {
+    vec![ours("ours, 8 open", usual().open(8)), ours("ours, 16 open", usual().open(16))]
+}
+
+/// The plain orders.
+fn controls() -> Vec<Chooser> {
+    vec![
         control("rarest", Kind::Rarest(RAREST)),
         control("rarest, least begun", Kind::Rarest(Rarest { begun: Ties::Least, ..RAREST })),
         control("rarest, from a piece on", Kind::Rarest(Rarest { fresh: Ties::Least, ..RAREST })),
@@ -133,11 +200,51 @@ pub fn all() -> Vec<Chooser> {
     ]
 }
 
-/// Swarms in which some peers follow another rule of the library than the rest.
+/// The rule `open`, and what else may break its ties.
+fn open_controls() -> Vec<Chooser> {
+    vec![
+        control("0 open", Kind::Open(open(0))),
+        control("8 open", Kind::Open(open(8))),
+        by_rate(control("8 open, by rate", Kind::Open(open(8)))),
+        control("8 open, any begun", Kind::Open(Open { begun: Begun::Any, fresh: Ties::Any, ..open(8) })),
+        control("8 open, fewest lacking", Kind::Open(Open { begun: Begun::FewestLacking, ..open(8) })),
+        control("8 open, fewest free", Kind::Open(Open { begun: Begun::FewestFree, ..open(8) })),
+        control("16 open", Kind::Open(open(16))),
+        control("16 open, fewest lacking", Kind::Open(Open { begun: Begun::FewestLacking, ..open(16) })),
+    ]
+}
+
+/// The orders of other clients.
+fn clients() -> Vec<Chooser> {
+    vec![
+        control("libtorrent's order", Kind::Libtorrent { is_capped: true }),
+        by_rate(control("libtorrent's order, by rate", Kind::Libtorrent { is_capped: true })),
+        control("libtorrent's order, no cap", Kind::Libtorrent { is_capped: false }),
+        control("transmission's order", Kind::Transmission),
+        control("one piece a peer", Kind::OnePiece(OnePiece { random: 1 })),
+        #[cfg(feature = "libtorrent")]
+        control("libtorrent itself", Kind::Client(Client { by_pieces: false })),
+        #[cfg(feature = "libtorrent")]
+        by_rate(control("libtorrent itself, whole pieces", Kind::Client(Client { by_pieces: true }))),
+    ]
+}
+
+/// Swarms in which some peers follow another rule than the rest.
 pub fn mixes() -> Vec<Chooser> {
     let lone = Kind::Ours { options: usual(), first: First::Lone };
-    let mix = |name, of_ten| Chooser { mixed: Some((of_ten, lone)), ..ours(name, usual()) };
-    vec![mix("1 of 10 lone first", 1), mix("5 of 10 lone first", 5), mix("9 of 10 lone first", 9)]
+    let open = Kind::Open(open(8));
+    let mix = |name, of_ten, kind| Chooser { mixed: Some((of_ten, kind)), ..ours(name, usual()) };
+    let among_others = |name, kind| Chooser { mixed: Some((1, kind)), ..control(name, Kind::Libtorrent { is_capped: true }) };
+    vec![
+        mix("1 of 10 lone first", 1, lone),
+        mix("5 of 10 lone first", 5, lone),
+        mix("9 of 10 lone first", 9, lone),
+        mix("1 of 10 with 8 open", 1, open),
+        mix("5 of 10 with 8 open", 5, open),
+        mix("9 of 10 with 8 open", 9, open),
+        among_others("libtorrent's order, 1 of 10 ours", Kind::Ours { options: usual(), first: First::Rarest }),
+        among_others("libtorrent's order, 1 of 10 with 8 open", open),
+    ]
 }
 
 /// The rule or the mix of this name.

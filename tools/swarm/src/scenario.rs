@@ -46,10 +46,25 @@ pub struct Scenario {
 }
 
 /// The rules that differ most, for scenarios that take long.
-const FEW: [&str; 7] = ["ours", "ours, depth 64", "ours, in order", "ours, lone first", "rarest", "rarest, not strict", "random"];
+const FEW: [&str; 14] = [
+    "ours",
+    "ours, depth 64",
+    "ours, in order",
+    "ours, lone first",
+    "ours, 8 open",
+    "ours, 16 open",
+    "rarest",
+    "rarest, not strict",
+    "random",
+    "8 open",
+    "16 open",
+    "libtorrent's order",
+    "transmission's order",
+    "one piece a peer",
+];
 
 /// The rules that differ where the last peers wait for their last blocks.
-const LAST: [&str; 9] = [
+const LAST: [&str; 17] = [
     "ours",
     "ours, depth 64",
     "ours, depth by rate",
@@ -57,13 +72,37 @@ const LAST: [&str; 9] = [
     "ours, no bound",
     "ours, lone first",
     "ours, lone first by rate",
+    "ours, 8 open",
+    "ours, 16 open",
     "rarest",
     "random",
+    "8 open",
+    "8 open, by rate",
+    "16 open",
+    "libtorrent's order",
+    "transmission's order",
+    "one piece a peer",
 ];
 
 /// The rules that differ where a depth may be too small.
-const DEPTHS: [&str; 8] =
-    ["ours", "ours, depth 64", "ours, depth by rate", "ours, in order", "ours, lone first", "ours, lone first by rate", "rarest", "random"];
+const DEPTHS: [&str; 16] = [
+    "ours",
+    "ours, depth 64",
+    "ours, depth by rate",
+    "ours, in order",
+    "ours, lone first",
+    "ours, lone first by rate",
+    "ours, 8 open",
+    "ours, 16 open",
+    "rarest",
+    "random",
+    "8 open",
+    "8 open, by rate",
+    "16 open",
+    "libtorrent's order",
+    "transmission's order",
+    "one piece a peer",
+];
 
 const FLASH: Scenario = Scenario {
     name: "flash",
@@ -93,13 +132,27 @@ const SMALL: Scenario = Scenario {
 };
 
 /// All scenarios.
-pub const ALL: [Scenario; 11] = [
+pub const ALL: [Scenario; 12] = [
     FLASH,
     SMALL,
     Scenario {
         name: "mixed",
         title: "Mixed small flash crowds: some peers follow another rule",
-        rules: &["ours", "1 of 10 lone first", "5 of 10 lone first", "9 of 10 lone first", "ours, lone first"],
+        rules: &[
+            "ours",
+            "1 of 10 lone first",
+            "5 of 10 lone first",
+            "9 of 10 lone first",
+            "ours, lone first",
+            "1 of 10 with 8 open",
+            "5 of 10 with 8 open",
+            "9 of 10 with 8 open",
+            "8 open",
+            "ours, 8 open",
+            "libtorrent's order",
+            "libtorrent's order, 1 of 10 ours",
+            "libtorrent's order, 1 of 10 with 8 open",
+        ],
         views: &[],
         ..SMALL
     },
@@ -108,6 +161,15 @@ pub const ALL: [Scenario; 11] = [
         title: "Pieces of one block: 200 downloaders, 3,200 pieces",
         content: Content { pieces: 3_200, blocks: 1 },
         runs: 1,
+        views: &[],
+        rules: &FEW,
+        ..SMALL
+    },
+    Scenario {
+        name: "long",
+        title: "Pieces of 64 blocks: 200 downloaders, 50 pieces",
+        content: Content { pieces: 50, blocks: 64 },
+        runs: 3,
         views: &[],
         rules: &FEW,
         ..SMALL

@@ -115,7 +115,7 @@ impl Swarm<'_> {
         let links = std::mem::take(&mut leaver.links);
         let used = std::mem::take(&mut leaver.used);
         (leaver.is_here, leaver.picker, leaver.sending, leaver.ready) = (false, None, None, 0);
-        (leaver.shown, leaver.had) = (Vec::new(), Vec::new());
+        (leaver.shown, leaver.had, leaver.begun) = (Vec::new(), Vec::new(), Default::default());
         for link in slots(used).map(|slot| &links[slot as usize]) {
             self.part(link.peer, link.back)?;
         }
@@ -130,7 +130,8 @@ impl Swarm<'_> {
         let now = self.queue.now();
         let left = &mut self.peers[peer as usize];
         left.links[slot as usize].count(now, &mut self.outcome.open);
-        left.links[slot as usize] = Default::default();
+        let link = std::mem::take(&mut left.links[slot as usize]);
+        link.asked.iter().for_each(|block| left.begun.remove(block.piece));
         let mask = !(1 << slot);
         for set in [&mut left.used, &mut left.ready, &mut left.open, &mut left.dry] {
             *set &= mask;

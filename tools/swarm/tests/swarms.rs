@@ -43,6 +43,31 @@ fn the_library_and_a_control_with_its_ties_agree() {
     }
 }
 
+/// Strict priority is written twice: as an order of its own, and as the rule `open` with none.
+#[test]
+fn with_0_open_a_swarm_is_strict() {
+    for name in ["flash", "fast", "steady", "leaves", "short", "long"] {
+        let scenario = small(name);
+        let runs = ["rarest, ties of ours", "0 open"].map(|rule| facts(outcome(&scenario, rule, 3)));
+        assert_eq!(runs[0], runs[1], "{name}");
+    }
+}
+
+/// Pieces of one block are never open, so all that differs is which piece is rarest.
+#[test]
+fn with_pieces_of_one_block_open_pieces_make_no_difference() {
+    let runs = ["0 open", "8 open", "16 open", "8 open, fewest lacking"].map(|rule| facts(outcome(&small("short"), rule, 3)));
+    assert!(runs.iter().all(|run| *run == runs[0]));
+}
+
+#[test]
+fn more_pieces_are_begun_where_more_may_be_open() {
+    let scenario = small("flash");
+    let [strict, open] = ["0 open", "8 open"].map(|rule| outcome(&scenario, rule, 1));
+    assert!(1.0 <= strict.begun() && strict.begun() < open.begun(), "{}, {}", strict.begun(), open.begun());
+    assert!(open.begun() <= open.begun.most.into() && open.begun.most <= scenario.content.pieces);
+}
+
 #[test]
 fn each_peer_gets_each_block_and_none_is_lost_on_the_way() {
     for rule in rules::all() {
