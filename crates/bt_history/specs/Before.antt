@@ -108,7 +108,7 @@ none_rarer_before s h test p = all_below (piece_count s.torrent) (λ r. not (tes
 abbrev pub is_rarest_before : Setting → History → ℕ → ℕ → Bool
 is_rarest_before s h q p = none_rarer_before s h (is_candidate s h q) p
 
--- which begun pieces may go on: with 0 open ones all, else the rarest, and those alone that are as rare as any candidate where they aren't first
+-- which begun pieces may go on: with a bound of 0 all, else the rarest open ones, and unless begun ones come first only where no candidate is rarer
 abbrev pub goes_first_before : Setting → History → ℕ → ℕ → Bool
 goes_first_before s h q p =
     (s.most_open == 0) || (none_rarer_before s h (resumes s h q) p && (is_strict s h || is_rarest_before s h q p))

@@ -46,7 +46,7 @@ is_rarest s h q p = none_rarer s h (is_candidate s h q) p
 abbrev pub is_strict : Setting → History → Bool
 is_strict s h = nat_lt s.most_open (open_count s h) || nat_lt (had_count s h) s.random
 
--- which begun pieces may go on: with 0 open ones all, else the rarest, and those alone that are as rare as any candidate where they aren't first
+-- which begun pieces may go on: with a bound of 0 all, else the rarest open ones, and unless begun ones come first only where no candidate is rarer
 abbrev pub goes_first : Setting → History → ℕ → ℕ → Bool
 goes_first s h q p = (s.most_open == 0) || (none_rarer s h (resumes s h q) p && (is_strict s h || is_rarest s h q p))
 

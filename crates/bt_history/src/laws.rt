@@ -295,8 +295,8 @@ pub fn no_open_is_strict(
         ≡ next_strict (setting_of torrent.now.layout workers rules) (history_of journal.now) worker }
 {}
 
-/// Open pieces stay few. Where more are open than the rules say, a piece begins at a peer alone that shows no open one of its level. Each
-/// piece with 0 begins so.
+/// Open pieces stay few. Where more are open than the rules say, a piece begins only at a peer that has no block of a begun one of its level.
+/// With 0 that is strict priority.
 pub fn open_pieces_stay_few(
     torrent: &Torrent,
     workers: u32,
