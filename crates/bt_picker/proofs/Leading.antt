@@ -1,7 +1,7 @@
 -- Which open piece goes on at a peer, and when another piece begins before it.
 use Rattle.std.proofs.Common.{◌≡◌, ◌⊎◌, ℕ, zero, suc, ◌+◌, ◌*◌, ◌==◌, ◌<◌, ◌≤◌, Bool, true, false, not, ◌&&◌, ◌||◌, Option, None, Some, List, length, refl, ap}
-use Rattle.std.proofs.Common.{sym, ◌∙◌, arith, subst, ⊎_elim, inl}
-use Rattle.std.specs.Prelude.{IfSome, if◌then◌else◌, nat_lt}
+use Rattle.std.proofs.Common.{sym, ◌∙◌, arith, subst, ⊎_elim, inl, inr}
+use Rattle.std.specs.Prelude.{IfSome, if◌then◌else◌, is_some, nat_lt}
 use Rattle.std.proofs.lemmas.Bool.{and_from, and_parts, cases_eq, cases_lt, eq-eqb, eqb-true, false≢true, false_from_ne_true, ltb-false}
 use Rattle.std.proofs.lemmas.Bool.{ne_eqb, not-false, not-true, or_parts}
 use Rattle.bt_meta.specs.declared.block.Block.{Block}
@@ -13,7 +13,7 @@ use Rattle.bt_history.specs.Legal.{IsLegal}
 use Rattle.bt_history.specs.Peers.{shows}
 use Rattle.bt_history.specs.Pieces.{availability, begun, had, held_or_asked, is_open_piece, level, open_count, unasked, wanted}
 use Rattle.bt_history.specs.Next.{continues, goes_first, is_candidate, is_rarest, is_strict, none_rarer, resumes, tops, usable}
-use Rattle.bt_history.specs.Picks.{is_first}
+use Rattle.bt_history.specs.Picks.{is_first, place_in_round}
 use Rattle.bt_history.proofs.Allowed.{top_usable}
 use Rattle.bt_history.proofs.Below.{all_fails, all_found, any_fails, any_found, any_none, any_witness, count_found, one_if}
 use Rattle.bt_history.proofs.Levels.{top_above}
@@ -23,13 +23,13 @@ use Rattle.bt_tables.specs.Orders.{at}
 use Rattle.bt_tables.specs.Risings.{Rises}
 use Rattle.bt_tables.specs.Standings.{ListsOpen, stage_of_row}
 use Rattle.bt_tables.specs.declared.piece.Stage.TheVariants.{Open}
-use Rattle.bt_picker.specs.Search.{FindsLeast, FindsListed, FindsOf, FindsRarest, IsLevel, NoneAbove, goes_on, is_candidate_at, order_of, rank_of, resumes_at}
+use Rattle.bt_picker.specs.Search.{FindsLeast, FindsListed, FindsOf, FindsRarest, IsLevel, IsRarer, NoneAbove, goes_on, is_candidate_at, order_of, rank_of, resumes_at}
 use Rattle.bt_picker.specs.Search.{resuming_order, shows_at}
 use Rattle.bt_picker.specs.Tables.{groups_of, piece_of}
 use Rattle.bt_picker.proofs.Levelled.{given, open_gives, tops_at, usable_below}
 use Rattle.bt_picker.proofs.Picking.{least_first}
 use Rattle.bt_picker.proofs.Rarest.{at_level}
-use Rattle.bt_picker.proofs.Rounds.{later_place, order_rank, place_from}
+use Rattle.bt_picker.proofs.Rounds.{later_place, order_rank, place_bound, place_from, ranks_alike, ranks_first}
 use Rattle.bt_picker.proofs.Scans.{first_in_piece, none_in_pieces}
 use Rattle.bt_picker.proofs.Stages.{begun_stage, candidate_at, listed_open, open_listed, open_within, stage_open}
 use Rattle.bt_picker.proofs.Telling.{wanted_chosen}
@@ -115,6 +115,57 @@ pub listed_least : (test : ℕ → Bool) (pieces : List ℕ) (found : Option ℕ
     → FindsRarest test (λ p. p) pieces (length pieces) found
 listed_least test pieces None none least = none
 listed_least test pieces (Some p) some least = (some.0, some.1, least)
+
+-- ---- the rarest of a list that rises
+
+pub none_found : (found : Option ℕ) → is_some found ≡ false → found ≡ None
+none_found None is = refl
+none_found (Some p) is = absurd (false≢true (sym is))
+
+module _ (s : Setting) (h : History) (test : ℕ → Bool) (pieces : List ℕ) (i fewest : ℕ)
+    (within : (j : ℕ) → j < length pieces → at pieces j < piece_count s.torrent) (rise : (j k : ℕ) → Rises pieces j k) (li : i < length pieces) where
+  -- one that no more peers show, and that comes before, is no later in order
+  ordered : (p r : ℕ) → p < piece_count s.torrent → p ≤ r → availability s h p ≤ availability s h r → order_of s h true 0 p ≤ order_of s h true 0 r
+  ordered p r lp le few =
+      let own = place_from (piece_count s.torrent) 0 p (omega arith) in
+      let other = place_from (piece_count s.torrent) 0 r (omega arith) in
+      ⊎_elim
+      (λ (same : availability s h p ≡ availability s h r).
+      ranks_alike (availability s h p) (availability s h r) (2 * piece_count s.torrent) _ _ same (omega (arith, own, other, le)))
+      (λ (apart : availability s h p ≡ availability s h r → ⊥).
+      let less = ranks_first (availability s h p) (availability s h r) (2 * piece_count s.torrent)
+      (place_in_round (piece_count s.torrent) 0 p) (place_in_round (piece_count s.torrent) 0 r) (place_bound (piece_count s.torrent) 0 p lp)
+      (omega (arith, few, apart)) in
+      omega (arith, less))
+      (cases_eq (availability s h p) (availability s h r))
+
+  -- the one that was found stays where as many peers show the next one, or more
+  pub stays_rarest : (found : Option ℕ) → FindsRarest test (order_of s h true 0) pieces i found → IfSome found (λ p. fewest ≡ availability s h p)
+      → (found ≡ None → ⊥) → fewest ≤ availability s h (at pieces i) → IsRarer test (order_of s h true 0) found (at pieces i) found
+  stays_rarest None none is some more = absurd (some refl)
+  stays_rarest (Some p) found is some more =
+      let j = found.1.0 in
+      let less : at pieces j < at pieces i = ⊎_elim (λ up. up) (λ rest. ⊎_elim (λ back. absurd (let before = found.1.1 in omega (arith, before, back)))
+      (λ out. absurd (omega (arith, li, out))) rest) (rise j i) in
+      let lp : p < piece_count s.torrent =
+      subst (λ (m : ℕ). m < piece_count s.torrent) found.1.2 (let before = found.1.1 in within j (omega (arith, before, li))) in
+      inr (refl, inr (p, refl, ordered p (at pieces i) lp (let same = found.1.2 in omega (arith, less, same)) (omega (arith, is, more))))
+
+  -- the next one comes before where fewer peers show it
+  pub comes_rarest : (found : Option ℕ) → FindsRarest test (order_of s h true 0) pieces i found → IfSome found (λ p. fewest ≡ availability s h p)
+      → test (at pieces i) ≡ true → (found ≡ None) ⊎ (availability s h (at pieces i) < fewest)
+      → IsRarer test (order_of s h true 0) found (at pieces i) (Some (at pieces i))
+  comes_rarest None none is passes why = inl (refl, passes, λ b named. cc named)
+  comes_rarest (Some p) found is passes why = inl (refl, passes, λ b named.
+      let same : p ≡ b = cc named in
+      subst (λ (m : ℕ). order_of s h true 0 (at pieces i) ≤ order_of s h true 0 m) same (⊎_elim
+      (λ (none : Some p ≡ None). cc none)
+      (λ (fewer : availability s h (at pieces i) < fewest).
+      let less = ranks_first (availability s h (at pieces i)) (availability s h p) (2 * piece_count s.torrent)
+      (place_in_round (piece_count s.torrent) 0 (at pieces i)) (place_in_round (piece_count s.torrent) 0 p)
+      (place_bound (piece_count s.torrent) 0 (at pieces i) (within i li)) (omega (arith, fewer, is)) in
+      omega (arith, less))
+      why))
 
 -- ---- how many pieces are open
 

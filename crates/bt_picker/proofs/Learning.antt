@@ -1,8 +1,8 @@
 -- Floors by the history: no candidate ranks before; and what a reply tells of it.
 use Rattle.std.proofs.Common.{◌==◌, ◌≡◌, ◌⊎◌, ℕ, ◌-◌, ◌*◌, ◌<◌, ◌≤◌, Bool, true, false, not, ◌&&◌, ◌||◌, refl, ap, sym, ◌∙◌, subst, inl, inr, ⊎_elim}
-use Rattle.std.proofs.Common.{arith, List, length, set}
-use Rattle.std.specs.Prelude.{nat_le, nat_lt, slice_index_or}
-use Rattle.std.proofs.lemmas.Bool.{and_from, and_left, and_parts, cases_eq, eq-eqb, false_from_ne_true, false≢true, leb-true, le-ltb, or_left}
+use Rattle.std.proofs.Common.{arith, List, length, map, set}
+use Rattle.std.specs.Prelude.{nat_lt, slice_index_or}
+use Rattle.std.proofs.lemmas.Bool.{and_from, and_left, and_parts, cases_eq, eq-eqb, eqb-true, false_from_ne_true, false≢true, le-ltb, or_left}
 use Rattle.std.proofs.lemmas.Bool.{or_right}
 use Rattle.std.proofs.lemmas.List.{get_or-set_other, get_or-set_same}
 use mathlib.Core.Logic.{dite}
@@ -16,25 +16,29 @@ use Rattle.bt_history.specs.declared.event.Event.{Event}
 use Rattle.bt_history.specs.Setting.{Setting, is_block, some_block, some_block_of}
 use Rattle.bt_history.specs.History.{History}
 use Rattle.bt_history.specs.Peers.{joined, shows}
-use Rattle.bt_history.specs.Pieces.{availability, begun, chosen, had, had_count, held_or_asked, in_order, level, unbegun, wanted}
+use Rattle.bt_history.specs.Pieces.{begun, chosen, had, had_count, held_or_asked, in_order, is_open_piece, level, open_count, unbegun}
+use Rattle.bt_history.specs.Pieces.{wanted}
 use Rattle.bt_history.specs.declared.call.Reply.TheVariants as said
 use Rattle.bt_history.specs.Legal.{IsAllowed, IsLegal, Permits, interesting_after}
-use Rattle.bt_history.specs.Next.{continues, is_candidate, is_rarest, starts, tops, usable}
-use Rattle.bt_history.proofs.Levels.{higher_first, implied, level_bounded, top_above}
-use Rattle.bt_history.proofs.Allowed.{answered, no_cause}
-use Rattle.bt_history.proofs.Below.{all_at, count_most}
-use Rattle.bt_history.proofs.LineLaws.{block_is_block, some_found}
+use Rattle.bt_history.specs.Next.{continues, goes_first, is_candidate, is_rarest, is_strict, none_rarer, resumes, starts, tops, usable}
+use Rattle.bt_history.proofs.Levels.{higher_first, level_bounded, top_above}
+use Rattle.bt_history.proofs.Allowed.{answered, no_cause, top_usable}
+use Rattle.bt_history.proofs.Below.{count_found, count_most}
+use Rattle.bt_history.proofs.LineLaws.{block_index, block_is_block, some_found}
 use Rattle.bt_history.proofs.NextCases.{next_cases, next_is, next_request}
-use Rattle.bt_tables.specs.Floors.{IsFloor, NoneFresh, TellsFloor, is_fresh, rank_of_row}
+use Rattle.bt_history.proofs.Opening.{rarer_than, usable_resumes}
+use Rattle.bt_tables.specs.Floors.{FewOpen, IsFloor, NoneFresh, TellsFloor, is_fresh, rank_of_row}
+use Rattle.bt_tables.specs.Standings.{ListsOpen, group_of_row}
 use Rattle.bt_picker.specs.Search.{NoneBefore, NoneBegins, rank_at}
 use Rattle.std.specs.List.{count_by}
-use Rattle.bt_picker.specs.Tables.{AreTables, peer_of, piece_of}
+use Rattle.bt_picker.specs.Tables.{AreTables, groups_of, peer_of, piece_of}
 use Rattle.bt_tables.specs.Tables.{PeerState, PieceState, TablesState, announced, edit, fresh_peer, fresh_piece, have_row, less_available}
 use Rattle.bt_tables.specs.Tables.{more_available, peer_row, piece_row}
+use Rattle.bt_picker.proofs.Leading.{open_length}
 use Rattle.bt_picker.proofs.Stages.{candidate_parts}
 use Rattle.bt_picker.proofs.Telling.{had_rows, unchosen, untouched_row, wanted_chosen}
 use Rattle.bt_picker.proofs.Scans.{candidate_usable, first_block, lacks_found}
-use Rattle.bt_tables.proofs.Tabled.{edit_read, get_or_is_table, get_or_table, length_edit}
+use Rattle.bt_tables.proofs.Tabled.{edit_read, get_or_is_table, get_or_table, length_edit, map_table}
 
 -- ---- a fresh piece that the peer shows is a candidate, and there are no others
 
@@ -134,24 +138,17 @@ candidate_block s h w p layout lp fits =
     let some = first_block s.torrent p layout lp in
     (block_is_block s.torrent p 0 lp some, candidate_usable s h w p lp some fits)
 
--- a rarest one of the highest level that has a candidate ranks before all others
-begins_first : (s : Setting) (h : History) (w : ℕ) (b : Block) → IsLegal s h → IsLayout s.torrent → s.workers < 65536 → starts s h w b ≡ true
-    → nat_lt (had_count s h) s.random ≡ false → NoneBefore s h w (rank_at s h b.piece)
-begins_first s h w b legal layout few first settled r lr fits =
-    let parts = and_parts (tops s h w b) _ first in
-    let rare = (and_parts (unbegun s h b.piece) _ parts.1).1 in
-    let least = all_at (piece_count s.torrent)
-    (λ m. not (is_candidate s h w m && (level h m == level h b.piece)) || nat_le (availability s h b.piece) (availability s h m)) r
-    (subst (λ (x : Bool). (x || is_rarest s h w b.piece) ≡ true) settled rare) lr in
+-- a piece of the highest level that has a candidate, none of which is rarer, ranks before all others
+rarest_first : (s : Setting) (h : History) (w : ℕ) (b : Block) → IsLegal s h → IsLayout s.torrent → s.workers < 65536 → tops s h w b ≡ true
+    → is_rarest s h w b.piece ≡ true → NoneBefore s h w (rank_at s h b.piece)
+rarest_first s h w b legal layout few top rare r lr fits =
     let own = candidate_block s h w r layout lr fits in
-    let low = top_above s h w b (block s.torrent r 0) parts.0 own.0 own.1 in
+    let low = top_above s h w b (block s.torrent r 0) top own.0 own.1 in
     let most = count_most s.workers (λ q. joined h q && shows h q b.piece) in
     let bound = level_bounded s h b.piece legal in
     ⊎_elim
     (λ (same : level h r ≡ level h b.piece).
-    let at_it = and_from (is_candidate s h w r) (level h r == level h b.piece) fits (eq-eqb (level h r) (level h b.piece) same) in
-    let less = leb-true (availability s h b.piece) (availability s h r)
-    (implied (is_candidate s h w r && (level h r == level h b.piece)) _ least at_it) in
+    let less = rarer_than s h (is_candidate s h w) b.piece r rare lr fits same in
     let slot : (7 - level h r) * 65536 ≡ (7 - level h b.piece) * 65536 = ap (λ (m : ℕ). (7 - m) * 65536) same in
     omega (arith, slot, less))
     (λ (apart : level h r ≡ level h b.piece → ⊥). omega (arith, low, apart, most, bound, few))
@@ -170,23 +167,55 @@ never_both true t is other = cc is
 never_both false true is other = cc other
 never_both false false is other = cc is
 
+-- where no more pieces are open than may be, one that goes on is a rarest one
+going_rarest : (s : Setting) (h : History) (w : ℕ) (b : Block) → is_block s.torrent b ≡ true → continues s h w b ≡ true
+    → nat_lt (had_count s h) s.random ≡ false → open_count s h ≤ s.most_open → is_rarest s h w b.piece ≡ true
+going_rarest s h w b inside on settled few = by_bound (s.most_open == 0) refl goes.1 where
+  parts : (tops s h w b ≡ true) × ((begun s h b.piece && goes_first s h w b.piece) ≡ true)
+  parts = and_parts (tops s h w b) _ on
+
+  goes : (begun s h b.piece ≡ true) × (goes_first s h w b.piece ≡ true)
+  goes = and_parts (begun s h b.piece) (goes_first s h w b.piece) parts.1
+
+  loose : is_strict s h ≡ false
+  loose = λ i. le-ltb s.most_open (open_count s h) few i || settled i
+
+  by_bound : (x : Bool) → (s.most_open == 0) ≡ x
+      → (x || (none_rarer s h (resumes s h w) b.piece && (is_strict s h || is_rarest s h w b.piece))) ≡ true → is_rarest s h w b.piece ≡ true
+  by_bound true is first =
+      let resumed = usable_resumes s h w b inside (top_usable s h w b parts.0) goes.0 in
+      let some = count_found (piece_count s.torrent) (is_open_piece s h) b.piece (block_index s.torrent b inside).piece
+      (and_parts (is_open_piece s h b.piece) _ resumed).0 in
+      let none = eqb-true s.most_open 0 is in
+      absurd (omega (arith, some, none, few))
+  by_bound false is first =
+      sym (ap (λ (x : Bool). x || is_rarest s h w b.piece) loose)
+      ∙ (and_parts (none_rarer s h (resumes s h w) b.piece) (is_strict s h || is_rarest s h w b.piece) first).1
+
 module _ (s : Setting) (h : History) (w word : ℕ) (legal : IsLegal s h) (layout : IsLayout s.torrent) (few : s.workers < 65536) where
-  -- once enough pieces are had, and while pieces don't come in order, a piece that begins ranks first
-  pub begun_first : (b : Block) → IsAllowed s h (record { worker = w; action = Next word; reply = Request b }) →
+  -- once enough pieces are had, and while pieces don't come in order, a piece that begins ranks first, and so does one that goes on while no more
+  -- are open than may be
+  pub asked_first : (b : Block) → IsAllowed s h (record { worker = w; action = Next word; reply = Request b }) →
       in_order h ≡ false → nat_lt (had_count s h) s.random ≡ false
-      → unbegun s h b.piece ≡ true → NoneBefore s h w (rank_at s h b.piece)
-  begun_first b allowed unordered settled fresh =
+      → (unbegun s h b.piece ≡ true) ⊎ (open_count s h ≤ s.most_open) → NoneBefore s h w (rank_at s h b.piece)
+  asked_first b allowed unordered settled leads =
       let e : Event = record { worker = w; action = Next word; reply = Request b } in
       let permitted = answered s h e (no_cause s h e (λ reason refused. absurd (cc refused)) allowed) allowed in
+      let facts = next_request s.torrent _ _ _ _ _ _ _ _ _ _ _ _ _ b (subst (λ (a : _). Permits s.torrent a (Request b)) (next_is s h w) permitted) in
       ⊎_elim
-      (λ (on : continues s h w b ≡ true). absurd (never_both (had h b.piece) (some_block_of s.torrent b.piece (held_or_asked s h))
+      (λ (on : continues s h w b ≡ true). rarest_first s h w b legal layout few (and_parts (tops s h w b) _ on).0 (⊎_elim
+      (λ (fresh : unbegun s h b.piece ≡ true). absurd (never_both (had h b.piece) (some_block_of s.torrent b.piece (held_or_asked s h))
       (and_parts (begun s h b.piece) _ (and_parts (tops s h w b) _ on).1).0 fresh))
+      (λ (room : open_count s h ≤ s.most_open). going_rarest s h w b facts.block on settled room)
+      leads))
       (λ rest. ⊎_elim
-      (λ (first : (some_block s.torrent (continues s h w) ≡ false) × (starts s h w b ≡ true)). begins_first s h w b legal layout few first.1 settled)
+      (λ (first : (some_block s.torrent (continues s h w) ≡ false) × (starts s h w b ≡ true)).
+      let parts = and_parts (tops s h w b) _ first.1 in
+      rarest_first s h w b legal layout few parts.0 (sym (ap (λ (x : Bool). x || is_rarest s h w b.piece) settled)
+      ∙ (and_parts (unbegun s h b.piece) (nat_lt (had_count s h) s.random || is_rarest s h w b.piece) parts.1).1))
       (λ (none : some_block s.torrent (usable s h w) ≡ false). none_usable s h w (rank_at s h b.piece) layout none)
       rest)
-      ((next_request s.torrent _ _ _ _ _ _ _ _ _ _ _ _ _ b (subst (λ (a : _). Permits s.torrent a (Request b)) (next_is s h w) permitted)).unordered
-      (and_left (in_order h) _ unordered))
+      (facts.unordered (and_left (in_order h) _ unordered))
 
   -- where nothing is to be asked there is no candidate
   pub idle_before : (n : ℕ) (reply : Reply) → (reply ≡ Idle) ⊎ (reply ≡ NothingLeft) →
@@ -206,6 +235,13 @@ module _ (s : Setting) (h : History) (w word : ℕ) (legal : IsLegal s h) (layou
 fewer : (t : TablesState) (h : History) → AreTables t h → t.setting.workers < 65536
 fewer t h are = omega (arith, are.few)
 
+-- what the list of open pieces tells of how many there are
+few_open : (t : TablesState) (h : History) → AreTables t h → (found : List ℕ) → FewOpen t found → open_count t.setting h ≤ t.setting.most_open
+few_open t h are found few =
+    let rows : map group_of_row t.pieces ≡ groups_of t.setting h = ap (map group_of_row) are.pieces_are ∙ map_table group_of_row _ _ in
+    let length_is = open_length t.setting h found (subst (λ (groups : List ℕ). ListsOpen groups found) rows few.lists) few.rise in
+    subst (λ (m : ℕ). m ≤ t.setting.most_open) length_is few.few
+
 -- what a reply to Next tells is a floor
 pub told_floor : (t : TablesState) (h : History) (w word n : ℕ) (reply : Reply) → AreTables t h →
     IsAllowed t.setting h (record { worker = w; action = Next word; reply = reply })
@@ -214,11 +250,14 @@ told_floor t h w word n (Request b) are allowed lw (inl told) =
     let s = t.setting in
     let lp : b.piece < piece_count s.torrent = subst (λ (m : ℕ). b.piece < m) are.pieces_len told.0.within in
     let row = row_is t h w are lw b.piece lp in
-    let fresh = fresh_unbegun s h b.piece (ap is_fresh (sym row) ∙ told.0.unbegun) in
     let unordered = sym are.in_order_is ∙ told.0.unordered in
     let had = ap (count_by (λ (r : PieceState). r.had)) are.pieces_are ∙ had_rows s h in
     let settled = le-ltb (had_count s h) s.random (subst (λ (m : ℕ). s.random ≤ m) had told.0.settled) in
-    let first = begun_first s h w word are.legal are.layout (fewer t h are) b allowed unordered settled fresh in
+    let leads : (unbegun s h b.piece ≡ true) ⊎ (open_count s h ≤ s.most_open) = ⊎_elim
+    (λ (fresh : is_fresh (piece_row t.pieces b.piece) ≡ true). inl (fresh_unbegun s h b.piece (ap is_fresh (sym row) ∙ fresh)))
+    (λ (some : (found : List ℕ) × FewOpen t found). inr (few_open t h are some.0 some.1))
+    told.0.leads in
+    let first = asked_first s h w word are.legal are.layout (fewer t h are) b allowed unordered settled leads in
     let is : n ≡ rank_at s h b.piece = told.1 ∙ ap rank_of_row row in
     before_floor t h w are lw n (subst (NoneBefore s h w) (sym is) first)
 told_floor t h w word n (Request b) are allowed lw (inr told) =

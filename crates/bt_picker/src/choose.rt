@@ -52,33 +52,28 @@ impl<'a> Position<'a> {
         }
     }
 
-    /// Of these pieces that have this level and that the peer shows the least of those that fewest peers show.
+    /// Of these pieces that have this level and that the peer shows the least of those that fewest peers show: they rise, so of several it is the
+    /// first.
     fn rarest_shown(&self, worker: u32, level: u8, pieces: &[u32]) -> Option<u32>
         requires worker { worker < self.now.setting.workers }
         requires pieces { (i : ℕ) → i < length pieces.now → at pieces.now i < piece_count self.now.setting.torrent }
+        requires rise { (i j : ℕ) → Rises pieces.now i j }
         ensures { FindsRarest (shows_at self.now.history worker level) (order_of self.now.setting self.now.history true 0)
             pieces.now (length pieces.now) result }
     {
         let mut rarest = None;
+        let mut fewest = 0;
         for piece in pieces {
-            rarest = self.rarer_shown(worker, level, rarest, *piece);
+            let shown_by = self.availability(*piece);
+            if rarest.is_some() && fewest <= shown_by {
+                continue;
+            }
+            if self.shows_at(worker, level, *piece) {
+                rarest = Some(*piece);
+                fewest = shown_by;
+            }
         }
         rarest
-    }
-
-    /// The piece, where it has this level, the peer shows it, and it ranks before the one found before.
-    fn rarer_shown(&self, worker: u32, level: u8, found: Option<u32>, piece: u32) -> Option<u32>
-        requires worker { worker < self.now.setting.workers }
-        requires piece { piece < piece_count self.now.setting.torrent }
-        requires found { IfSome found (λ p. p < piece_count self.now.setting.torrent) }
-        ensures rarer { IsRarer (shows_at self.now.history worker level) (order_of self.now.setting self.now.history true 0) found piece result }
-        ensures within { IfSome result (λ p. p < piece_count self.now.setting.torrent) }
-    {
-        match found {
-            Some(rarest) if !self.is_rarer(piece, rarest, 0) => found,
-            _ if self.shows_at(worker, level, piece) => Some(piece),
-            _ => found,
-        }
     }
 
     /// How many pieces are open.

@@ -1,11 +1,12 @@
 -- From which level, and from how few peers on, the search for a rarest piece has to look. No public clause of the picker cites this module.
-use Rattle.std.specs.Prelude.{ℕ, ◌+◌, ◌-◌, ◌*◌, ◌≡◌, ◌≢◌, ◌<◌, ◌≤◌, ◌==◌, ◌&&◌, ◌⊎◌, ⊤, Bool, true, false, not, List, length, slice_index_or}
+use Rattle.std.specs.Prelude.{ℕ, ◌+◌, ◌-◌, ◌*◌, ◌≡◌, ◌≢◌, ◌<◌, ◌≤◌, ◌==◌, ◌&&◌, ◌⊎◌, ⊤, Bool, true, false, not, List, length, map, slice_index_or}
 use Rattle.bt_tables.specs.Orders.{at}
 use Rattle.std.specs.List.{count_by}
 use Rattle.bt_history.specs.declared.call.Reply.{Reply}
 use Rattle.bt_history.specs.declared.call.Reply.TheVariants.{Idle, NothingLeft, Request}
 use Rattle.bt_tables.specs.Tables.{PeerState, PieceState, TablesState, peer_row, piece_row}
-use Rattle.bt_tables.specs.Standings.{is_resting, touched_count}
+use Rattle.bt_tables.specs.Risings.{Rises}
+use Rattle.bt_tables.specs.Standings.{ListsOpen, group_of_row, is_resting, touched_count}
 use Rattle.bt_history.specs.declared.rules.TheConstants.{MOST_LEVEL}
 use Rattle.bt_tables.specs.declared.piece.TheConstants.{RANKS}
 
@@ -47,16 +48,23 @@ pub record AreLowered (before after : List ℕ) (peers : List PeerState) (k piec
   pub most : (q : ℕ) → at after q ≤ at before q
   pub shown : (q : ℕ) → q < k → slice_index_or (peer_row peers q).shows piece false ≡ true → at after q ≤ n
 
--- the piece is unbegun and wanted, and enough pieces are had for it to begin as a rarest one, where the rarest come first
-pub record IsRarestStart (t : TablesState) (piece : ℕ) : Type 0 where
+-- these are the open pieces, and no more than may be before begun ones come first
+pub record FewOpen (t : TablesState) (found : List ℕ) : Type 0 where
+  pub lists : ListsOpen (map group_of_row t.pieces) found
+  pub rise : (i j : ℕ) → Rises found i j
+  pub few : length found ≤ t.setting.most_open
+
+-- a block of the piece is asked for as one of a rarest piece: the rarest come first, enough pieces are had to tell which they are, and the piece
+-- begins, or begun ones don't come first
+pub record AsksRarest (t : TablesState) (piece : ℕ) : Type 0 where
   pub unordered : t.in_order ≡ false
   pub settled : t.setting.random ≤ count_by (λ row. row.had) t.pieces
   pub within : piece < length t.pieces
-  pub unbegun : is_fresh (piece_row t.pieces piece) ≡ true
+  pub leads : (is_fresh (piece_row t.pieces piece) ≡ true) ⊎ ((found : List ℕ) × FewOpen t found)
 
--- a request for a block of the piece tells this floor: that of the rarest piece that begins, or by the level of another
+-- a request for a block of the piece tells this floor: that of a rarest piece, or by the level of another
 abbrev pub RequestTells : TablesState → ℕ → ℕ → Type 0
-RequestTells t piece n = (IsRarestStart t piece × (n ≡ rank_of_row (piece_row t.pieces piece)))
+RequestTells t piece n = (AsksRarest t piece × (n ≡ rank_of_row (piece_row t.pieces piece)))
     ⊎ ((piece < length t.pieces) × (n ≡ (MOST_LEVEL - (piece_row t.pieces piece).level) * RANKS))
 
 -- the reply to Next tells this floor: by the request, or since nothing may begin

@@ -1,6 +1,6 @@
 //! All rows, and what each call makes of them.
 
-ghost use Rattle.std.specs.Prelude.{◌≡◌, ◌<◌, ◌≤◌, ◌+◌, ◌^◌, ◌*◌, ◌/◌, [], ℕ, false, length, map, slice_index_or, true, IfOk, IfSome, Some, IsTrue};
+ghost use Rattle.std.specs.Prelude.{◌≡◌, ◌<◌, ◌≤◌, ◌+◌, ◌^◌, ◌*◌, ◌/◌, [], ℕ, List, false, length, map, slice_index_or, true, IfOk, IfSome, Some, IsTrue};
 ghost use Rattle.std.specs.Prelude.{EachIndex, unwrap_or};
 ghost use Rattle.bt_meta.specs.Layout.{IsLayout, block_count, piece_count, block_size};
 ghost use Rattle.std.specs.Option.{option_copied};
@@ -13,7 +13,7 @@ ghost use Rattle.bt_history.specs.Setting.{deepest_line, setting_of};
 ghost use Rattle.bt_history.specs.History.{stores};
 ghost use Rattle.bt_meta.specs.declared.block.Block.{Block};
 ghost use Rattle.bt_history.specs.Counting.{table};
-ghost use Rattle.bt_tables.specs.Floors.{IsFloor, IsRarestStart, NoneFresh, RequestTells, TellsFloor, is_fresh};
+ghost use Rattle.bt_tables.specs.Floors.{AsksRarest, FewOpen, IsFloor, NoneFresh, RequestTells, TellsFloor, is_fresh};
 ghost use Rattle.bt_tables.specs.Tables.{AreAskers, AreCounted, HasBlock, HasRoomFor, HasShortLines, bits_row, leave_row, TablesState, after_arrival};
 ghost use Rattle.bt_tables.specs.Tables.{after_check, after_next, announced, given_up, edit, failed_row, fresh_peer, fresh_piece, join_row};
 ghost use Rattle.bt_tables.specs.Tables.{choke_row, noted_row, joint, levelled, ordered, peer_row, piece_row, released, relevelled, reshown};
@@ -245,14 +245,14 @@ impl Tables {
     }
 
     /// The floor that a reply to Next tells: in order nothing of a higher level is to be asked, and otherwise, once enough pieces are had, a
-    /// piece that begins is a rarest one of the highest level that has one. Where nothing is to be asked, the peer shows no unbegun wanted
-    /// piece.
+    /// piece that begins, or goes on though few are open, is a rarest one of the highest level that has one. Where nothing is to be asked, the
+    /// peer shows no unbegun wanted piece.
     fn floor_told(&self, reply: Reply) -> Option<u32>
         ensures { IfSome result (λ n. TellsFloor self.now reply n) }
     {
         match reply {
             Reply::Request(block) if self.in_order => self.level_told(block.piece),
-            Reply::Request(block) if self.begins(block.piece) => {
+            Reply::Request(block) if self.asks_rarest(block.piece) => {
                 Some(self.pieces.rank(block.piece))
             }
             Reply::Idle | Reply::NothingLeft => Some(u32::MAX),
@@ -293,14 +293,21 @@ impl Tables {
         }
     }
 
-    /// Whether the piece begins as a rarest one, if one of its blocks is asked for.
-    fn begins(&self, piece: u32) -> bool
-        ensures { result ≡ true → IsRarestStart self.now piece }
+    /// Whether a block of the piece is asked for as one of a rarest piece.
+    fn asks_rarest(&self, piece: u32) -> bool
+        ensures { result ≡ true → AsksRarest self.now piece }
     {
         !self.in_order
             && self.pieces.had() >= self.rules.random
             && (piece as usize) < self.pieces.len()
-            && self.pieces.row(piece).is_fresh()
+            && (self.has_few_open() || self.pieces.row(piece).is_fresh())
+    }
+
+    /// Whether no more pieces are open than may be before begun ones come first.
+    fn has_few_open(&self) -> bool
+        ensures { result ≡ true → (found : List ℕ) × FewOpen self.now found }
+    {
+        self.pieces.open_pieces().len() <= self.rules.open as usize
     }
 
     /// Frees what was asked of the worker's peer.
