@@ -1,6 +1,6 @@
-//! libtorrent's own picker (`tools/libtorrent/swarm_picker.cpp`), called as libtorrent's connections and its torrent call it, with the usual settings:
-//! strict endgame, and four random pieces first. Two things differ. A neighbour that had nothing is asked again as soon as it may have something, and
-//! not after five seconds. And a cancel takes a block out of what is asked at once.
+//! libtorrent's own picker (`tools/libtorrent/swarm_picker.cpp`), called as libtorrent's connections and its torrent call it. It has the usual
+//! settings: strict endgame, and four random pieces first. Two things differ. A neighbour that had nothing is asked again as soon as it may have
+//! something, and not after five seconds. And a cancel takes a block out of what is asked at once.
 
 use crate::rule::{Ask, Block, Came, Content, Fault, Rule};
 use std::collections::VecDeque;
@@ -172,7 +172,8 @@ impl Libtorrent {
         }
     }
 
-    /// Queues what the picker names. Where that is too little, a block that others are asked for, if nothing is asked of this neighbour and it is endgame.
+    /// Queues what the picker names. Where that is too little, a block that others are asked for, if nothing is asked of this neighbour and it is
+    /// endgame.
     fn fill(&mut self, slot: u8) {
         let neighbour = &self.neighbours[slot as usize];
         let wanted = neighbour.depth - neighbour.count();

@@ -88,13 +88,16 @@ fn all_rules() -> impl Iterator<Item = Chooser> {
     rules::all().into_iter().filter(|rule| !rule.is_twin())
 }
 
-/// The rules that the scenario names, or all.
+/// The rules that the scenario names. Those that link libtorrent are told and left out where its feature isn't compiled in.
 fn usual_rules(scenario: &Scenario) -> Vec<Chooser> {
-    if scenario.rules.is_empty() {
-        return all_rules().collect();
-    }
-    let named = all_rules().chain(rules::mixes());
-    named.filter(|rule| scenario.rules.contains(&rule.name)).collect()
+    let found = |name: &&str| {
+        let rule = rules::named(name);
+        if rule.is_none() {
+            eprintln!("{}, {name}: left out, since the feature libtorrent isn't compiled in", scenario.name);
+        }
+        rule
+    };
+    scenario.rules.iter().filter_map(found).collect()
 }
 
 /// The table of several scenarios with the same rules: those that are named, or those of the first scenario.

@@ -40,7 +40,7 @@ pub enum Ties {
     Least,
 }
 
-/// A block of a piece that fewest neighbours show, begun or not.
+/// A block of a piece that fewest neighbours show, begun or not. It prefers no begun piece even among equals, which no client does.
 #[derive(Clone, Copy, Debug)]
 pub struct NotStrict;
 

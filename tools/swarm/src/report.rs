@@ -27,9 +27,9 @@ pub enum View {
     Downloaders,
 }
 
-/// The rules in pictures. More lines can't be told apart. One of two with 8 open is there.
-const SHOWN: [&str; 8] =
-    ["ours", "ours, depth 64", "ours, in order", "ours, lone first", "ours, 8 open", "libtorrent's order", "random", "8 open"];
+/// The rules in pictures. More lines can't be told apart.
+const SHOWN: [&str; 7] =
+    ["ours, 8 open", "ours", "ours, 8 open by rate", "libtorrent's order", "random", "transmission's order", "one piece a peer"];
 
 /// The columns of a table.
 const HEAD: [&str; 13] = [
@@ -116,8 +116,8 @@ fn cells(content: Content, runs: &[Outcome], rule: &str, first: &[Outcome]) -> V
     let time = |percent: usize| all(runs, |run| Some(seconds(run.percentile(percent)?)));
     vec![
         rule.to_string(),
-        mean(&time(0), 0),
-        format!("{}{}", mean(&time(50), 0), range(&time(50))),
+        rounded(&time(0)),
+        format!("{}{}", rounded(&time(50)), range(&time(50))),
         sooner(runs, first),
         last(runs),
         copies(content, runs),
@@ -154,7 +154,7 @@ fn sooner(runs: &[Outcome], first: &[Outcome]) -> String {
 fn last(runs: &[Outcome]) -> String {
     let times = all(runs, |run| Some(seconds(run.percentile(100)?)));
     if !times.is_empty() {
-        return mean(&times, 0);
+        return rounded(&times);
     }
     let whole = |run: &Outcome| share(run.times.len() as u64, run.guests.into());
     let shares: Vec<f64> = runs.iter().map(whole).collect();
@@ -176,13 +176,24 @@ fn mean(figures: &[f64], digits: usize) -> String {
     format!("{:.digits$}", figures.iter().sum::<f64>() / figures.len() as f64)
 }
 
+/// The mean of times, with a digit behind the point where they are short.
+fn rounded(times: &[f64]) -> String {
+    mean(times, digits(times))
+}
+
+/// Times under 100 seconds have a digit behind the point.
+fn digits(times: &[f64]) -> usize {
+    usize::from(times.iter().sum::<f64>() < 100.0 * times.len() as f64)
+}
+
 /// The least and the greatest of several, in brackets.
 fn range(figures: &[f64]) -> String {
     if figures.len() < 2 {
         return String::new();
     }
     let (least, greatest) = figures.iter().fold((f64::MAX, 0f64), |(least, greatest), &figure| (least.min(figure), greatest.max(figure)));
-    format!(" ({least:.0} to {greatest:.0})")
+    let digits = digits(figures);
+    format!(" ({least:.digits$} to {greatest:.digits$})")
 }
 
 /// The table of several scenarios beside each other: of each the median, and in brackets the copies that the seed had sent when all pieces were
@@ -204,7 +215,7 @@ fn cell(scenario: &Scenario, runs: &[Outcome]) -> String {
         return last(runs);
     }
     let medians = all(runs, |run| Some(seconds(run.percentile(50)?)));
-    format!("{} [{}]", mean(&medians, 0), copies(scenario.content, runs))
+    format!("{} [{}]", rounded(&medians), copies(scenario.content, runs))
 }
 
 /// The copies that the seed had sent when all pieces were out.
@@ -218,14 +229,14 @@ pub fn mixes(rows: &[Row]) -> String {
         let medians: Vec<(Micros, Micros)> = row.runs.iter().map(Outcome::medians_of_mix).collect::<Option<_>>()?;
         let mixed: Vec<f64> = medians.iter().map(|&(mixed, _)| seconds(mixed)).collect();
         let rest: Vec<f64> = medians.iter().map(|&(_, rest)| seconds(rest)).collect();
-        Some(format!("- {}: the median of these is {} s, and that of the others {} s.\n", row.rule, mean(&mixed, 0), mean(&rest, 0)))
+        Some(format!("- {}: the median of these is {} s, and that of the others {} s.\n", row.rule, rounded(&mixed), rounded(&rest)))
     });
     lines.collect()
 }
 
 /// The three bounds in a sentence.
 pub fn bounds(bounds: &[Bound]) -> String {
-    let figure = |pick: fn(&Bound) -> f64| mean(&bounds.iter().map(|bound| pick(bound) / 1e6).collect::<Vec<_>>(), 0);
+    let figure = |pick: fn(&Bound) -> f64| rounded(&bounds.iter().map(|bound| pick(bound) / 1e6).collect::<Vec<_>>());
     format!(
         "Bounds: {} s by the slowest line down, {} s by the seed's line up, {} s by all lines up.",
         figure(|bound| bound.down),
@@ -251,8 +262,8 @@ mod tests {
         let rows = [Row { rule: "one", runs: first }, Row { rule: "two", runs }];
         let table = table(Content { pieces: 1, blocks: 1 }, &rows);
         let lines: Vec<&str> = table.lines().collect();
-        assert!(lines[2].starts_with("| one | 2 | 3 (3 to 3) | 0 | 4 | - |"), "{table}");
-        assert!(lines[3].starts_with("| two | 2 | 3 (2 to 4) | 1 | 6 | - |"), "{table}");
+        assert!(lines[2].starts_with("| one | 2.0 | 3.0 (3.0 to 3.0) | 0 | 4.0 | - |"), "{table}");
+        assert!(lines[3].starts_with("| two | 2.0 | 3.0 (2.0 to 4.0) | 1 | 5.5 | - |"), "{table}");
         assert!(lines.iter().all(|line| line.matches('|').count() == HEAD.len() + 1), "{table}");
     }
 
@@ -269,7 +280,7 @@ mod tests {
         small.content = Content { pieces: 1, blocks: 2 };
         let table = beside(&[(small, rows(&whole, &gone)), (fades, rows(&gone, &whole))]);
         let expected = "| Rule | small | fades | Begun, mean and most |\n|---|---|---|---|\n\
-            | one | 2 [1.50] | 0% whole; 7 pieces gone | 1.5, 2 |\n| two | 0% whole; 7 pieces gone | 2 [0.00] | 2.0, 5 |\n";
+            | one | 2.0 [1.50] | 0% whole; 7 pieces gone | 1.5, 2 |\n| two | 0% whole; 7 pieces gone | 2.0 [0.00] | 2.0, 5 |\n";
         assert_eq!(table, expected);
     }
 
@@ -279,7 +290,7 @@ mod tests {
         let times = vec![1_000_000, 2_000_000, 4_000_000, 5_000_000, 7_000_000, 9_000_000];
         let runs = vec![Outcome { mixed_in, ..run(&times, 6, 0) }];
         let rows = [Row { rule: "mix", runs }, Row { rule: "pure", runs: vec![run(&[1], 1, 0)] }];
-        assert_eq!(mixes(&rows), "- mix: the median of these is 5 s, and that of the others 4 s.\n");
+        assert_eq!(mixes(&rows), "- mix: the median of these is 5.0 s, and that of the others 4.0 s.\n");
     }
 
     #[test]

@@ -113,13 +113,17 @@ impl Chooser {
     }
 }
 
+/// The rules that are there with the feature `libtorrent` alone.
+pub const LINKED: [&str; 2] = ["libtorrent itself", "libtorrent itself, whole pieces"];
+
 /// Rules of the library, and controls that make the same requests.
-pub const TWINS: [(&str, &str); 6] = [
+pub const TWINS: [(&str, &str); 7] = [
     ("ours", "rarest, ties of ours"),
     ("ours", "0 open"),
     ("ours, in order", "rising"),
     ("ours, lone first", "lone first, ties of ours"),
     ("ours, 8 open", "8 open"),
+    ("ours, 8 open by rate", "8 open, by rate"),
     ("ours, 16 open", "16 open"),
 ];
 
@@ -182,7 +186,22 @@ fn the_library() -> Vec<Chooser> {
 
 /// The library's rules with open pieces.
 fn with_open() -> Vec<Chooser> {
-    vec![ours("ours, 8 open", usual().open(8)), ours("ours, 16 open", usual().open(16))]
+    let open = usual().open(8);
+    let deep = open.deepest(BY_RATE.most);
+    vec![
+        ours("ours, 8 open", open),
+        ours("ours, 16 open", usual().open(16)),
+        ours("ours, 64 open", usual().open(64)),
+        by_rate(ours("ours, 8 open by rate", deep)),
+        by_rate(ours("ours, 16 open by rate", deep.open(16))),
+        ours("ours, 8 open, depth 16", open.depth(16).deepest(16)),
+        ours("ours, 8 open, depth 64", open.depth(64).deepest(64)),
+        ours("ours, 8 open, 1 asker", open.askers(1)),
+        ours("ours, 8 open, no bound", open.askers(NO_BOUND)),
+        ours("ours, 8 open, first rarest", open.random(0)),
+        ours("ours, 8 open, 4 random", open.random(4)),
+        ours_with("ours, 8 open, lone first", open, First::Lone),
+    ]
 }
 
 /// The plain orders.
@@ -229,21 +248,19 @@ fn clients() -> Vec<Chooser> {
     ]
 }
 
-/// Swarms in which some peers follow another rule than the rest.
+/// Swarms in which some peers follow another rule than the rest: mostly the library's with 8 open pieces.
 pub fn mixes() -> Vec<Chooser> {
-    let lone = Kind::Ours { options: usual(), first: First::Lone };
-    let open = Kind::Open(open(8));
-    let mix = |name, of_ten, kind| Chooser { mixed: Some((of_ten, kind)), ..ours(name, usual()) };
-    let among_others = |name, kind| Chooser { mixed: Some((1, kind)), ..control(name, Kind::Libtorrent { is_capped: true }) };
+    let ours_with = |open| Kind::Ours { options: usual().open(open), first: First::Rarest };
+    let mix = |name, of_ten, rest| Chooser { mixed: Some((of_ten, ours_with(8))), ..control(name, rest) };
+    let (strict, libtorrent) = (ours_with(0), Kind::Libtorrent { is_capped: true });
     vec![
-        mix("1 of 10 lone first", 1, lone),
-        mix("5 of 10 lone first", 5, lone),
-        mix("9 of 10 lone first", 9, lone),
-        mix("1 of 10 with 8 open", 1, open),
-        mix("5 of 10 with 8 open", 5, open),
-        mix("9 of 10 with 8 open", 9, open),
-        among_others("libtorrent's order, 1 of 10 ours", Kind::Ours { options: usual(), first: First::Rarest }),
-        among_others("libtorrent's order, 1 of 10 with 8 open", open),
+        mix("1 of 10 with 8 open", 1, strict),
+        mix("5 of 10 with 8 open", 5, strict),
+        mix("9 of 10 with 8 open", 9, strict),
+        mix("libtorrent's order, 1 of 10 with 8 open", 1, libtorrent),
+        mix("libtorrent's order, 5 of 10 with 8 open", 5, libtorrent),
+        mix("libtorrent's order, 9 of 10 with 8 open", 9, libtorrent),
+        Chooser { mixed: Some((1, strict)), ..control("libtorrent's order, 1 of 10 ours", libtorrent) },
     ]
 }
 

@@ -34,7 +34,7 @@ pub struct Scenario {
     pub runs: u64,
     /// What is drawn.
     pub views: &'static [View],
-    /// The rules; all of them where none is named.
+    /// The rules.
     pub rules: &'static [&'static str],
     lines: &'static [(u64, u64)],
     seed: (u64, u64),
@@ -45,63 +45,86 @@ pub struct Scenario {
     sampled: Micros,
 }
 
-/// The rules that differ most, for scenarios that take long.
-const FEW: [&str; 14] = [
-    "ours",
-    "ours, depth 64",
-    "ours, in order",
-    "ours, lone first",
+/// The usual rule of the library with what it is put beside. The first rule of a list is the one that the others are compared with.
+const FEW: [&str; 9] = [
     "ours, 8 open",
     "ours, 16 open",
+    "ours",
     "rarest",
-    "rarest, not strict",
     "random",
-    "8 open",
-    "16 open",
     "libtorrent's order",
+    "libtorrent itself",
     "transmission's order",
     "one piece a peer",
 ];
 
-/// The rules that differ where the last peers wait for their last blocks.
-const LAST: [&str; 17] = [
-    "ours",
-    "ours, depth 64",
-    "ours, depth by rate",
-    "ours, 1 asker",
-    "ours, no bound",
-    "ours, lone first",
-    "ours, lone first by rate",
+/// The same where the content may be lost, and where pieces are many or few.
+const LOST: [&str; 12] = [
     "ours, 8 open",
     "ours, 16 open",
+    "ours, 8 open by rate",
+    "ours",
+    "ours, in order",
     "rarest",
     "random",
-    "8 open",
-    "8 open, by rate",
-    "16 open",
     "libtorrent's order",
+    "libtorrent itself",
+    "libtorrent itself, whole pieces",
+    "transmission's order",
+    "one piece a peer",
+];
+
+/// The same where the seed leaves before others have each piece.
+const LEAVES: [&str; 13] = [
+    "ours, 8 open",
+    "ours, 16 open",
+    "ours, 64 open",
+    "ours, 8 open by rate",
+    "ours",
+    "ours, in order",
+    "rarest",
+    "random",
+    "libtorrent's order",
+    "libtorrent itself",
+    "libtorrent itself, whole pieces",
     "transmission's order",
     "one piece a peer",
 ];
 
 /// The rules that differ where a depth may be too small.
-const DEPTHS: [&str; 16] = [
-    "ours",
-    "ours, depth 64",
-    "ours, depth by rate",
-    "ours, in order",
-    "ours, lone first",
-    "ours, lone first by rate",
+const DEPTHS: [&str; 14] = [
     "ours, 8 open",
     "ours, 16 open",
+    "ours, 8 open by rate",
+    "ours, 8 open, depth 64",
+    "ours",
+    "ours, depth by rate",
     "rarest",
     "random",
-    "8 open",
-    "8 open, by rate",
-    "16 open",
     "libtorrent's order",
+    "libtorrent's order, by rate",
+    "libtorrent itself",
+    "libtorrent itself, whole pieces",
     "transmission's order",
     "one piece a peer",
+];
+
+/// The usual rule of the library with its other options, and with other ties.
+const OPTIONS: [&str; 14] = [
+    "ours, 8 open",
+    "ours, 64 open",
+    "ours, 8 open, depth 16",
+    "ours, 8 open, depth 64",
+    "ours, 8 open by rate",
+    "ours, 8 open, 1 asker",
+    "ours, 8 open, no bound",
+    "ours, 8 open, first rarest",
+    "ours, 8 open, 4 random",
+    "ours, 8 open, lone first",
+    "ours, lone first",
+    "ours, in order",
+    "8 open, any begun",
+    "8 open, fewest lacking",
 ];
 
 const FLASH: Scenario = Scenario {
@@ -125,34 +148,33 @@ const SMALL: Scenario = Scenario {
     title: "Small flash crowd: 200 downloaders, 200 pieces",
     guests: 200,
     content: Content { pieces: 200, blocks: 16 },
-    runs: 10,
+    runs: 5,
     views: &[View::Interest],
-    rules: &[],
+    rules: &DEPTHS,
     ..FLASH
 };
 
 /// All scenarios.
-pub const ALL: [Scenario; 12] = [
+pub const ALL: [Scenario; 13] = [
     FLASH,
     SMALL,
+    Scenario { name: "options", title: "Small flash crowd, with other options of the library", rules: &OPTIONS, views: &[], ..SMALL },
     Scenario {
         name: "mixed",
         title: "Mixed small flash crowds: some peers follow another rule",
         rules: &[
+            "ours, 8 open",
             "ours",
-            "1 of 10 lone first",
-            "5 of 10 lone first",
-            "9 of 10 lone first",
-            "ours, lone first",
             "1 of 10 with 8 open",
             "5 of 10 with 8 open",
             "9 of 10 with 8 open",
-            "8 open",
-            "ours, 8 open",
             "libtorrent's order",
-            "libtorrent's order, 1 of 10 ours",
             "libtorrent's order, 1 of 10 with 8 open",
+            "libtorrent's order, 5 of 10 with 8 open",
+            "libtorrent's order, 9 of 10 with 8 open",
+            "libtorrent's order, 1 of 10 ours",
         ],
+        runs: 20,
         views: &[],
         ..SMALL
     },
@@ -171,25 +193,16 @@ pub const ALL: [Scenario; 12] = [
         content: Content { pieces: 50, blocks: 64 },
         runs: 3,
         views: &[],
-        rules: &FEW,
+        rules: &LOST,
         ..SMALL
     },
-    Scenario {
-        name: "strong",
-        title: "A seed of 4 MiB/s: 200 downloaders, 200 pieces",
-        seed: (4096, 4096),
-        rules: &LAST,
-        runs: 5,
-        views: &[],
-        ..SMALL
-    },
+    Scenario { name: "strong", title: "A seed of 4 MiB/s: 200 downloaders, 200 pieces", seed: (4096, 4096), runs: 3, views: &[], ..SMALL },
     Scenario {
         name: "fast",
         title: "Fast lines of 8 MiB/s up: 200 downloaders, 400 pieces",
         content: Content { pieces: 400, blocks: 16 },
         runs: 3,
         views: &[View::Content],
-        rules: &DEPTHS,
         lines: &FIBRES,
         seed: (8192, 32768),
         sampled: SECOND / 2,
@@ -208,8 +221,8 @@ pub const ALL: [Scenario; 12] = [
     Scenario {
         name: "leaves",
         title: "The seed leaves after 1.1 copies: 200 downloaders, 200 pieces",
-        runs: 3,
-        rules: &FEW,
+        runs: 10,
+        rules: &LEAVES,
         views: &[],
         seed_gives: Some(110),
         ..SMALL
@@ -218,7 +231,7 @@ pub const ALL: [Scenario; 12] = [
         name: "later",
         title: "The seed leaves after 3 copies: 200 downloaders, 200 pieces",
         runs: 3,
-        rules: &FEW,
+        rules: &LOST,
         views: &[],
         seed_gives: Some(300),
         ..SMALL
@@ -227,8 +240,8 @@ pub const ALL: [Scenario; 12] = [
         name: "fades",
         title: "One comes each 5 s and leaves when it is whole; the seed leaves after 4 copies",
         guests: 500,
-        runs: 20,
-        rules: &FEW,
+        runs: 10,
+        rules: &LOST,
         views: &[View::Downloaders],
         coming: Coming::Each(5 * SECOND),
         seed_gives: Some(400),
@@ -241,7 +254,7 @@ pub const ALL: [Scenario; 12] = [
         guests: 10_000,
         content: Content { pieces: 400, blocks: 16 },
         views: &[],
-        rules: &["ours"],
+        rules: &["ours, 8 open"],
         ..FLASH
     },
 ];

@@ -2,7 +2,7 @@
 
 use swarm::meter::Outcome;
 use swarm::rules;
-use swarm::scenario::{named, Scenario};
+use swarm::scenario::{named, Scenario, ALL};
 use swarm::swarm::run;
 
 fn small(name: &str) -> Scenario {
@@ -19,6 +19,27 @@ fn outcome(scenario: &Scenario, rule: &str, draw: u64) -> Outcome {
 /// All that doesn't depend on the machine, nor on how often a picker was asked in vain.
 fn facts(outcome: Outcome) -> Outcome {
     Outcome { spent: Default::default(), ..outcome }
+}
+
+/// All but those that need the feature `libtorrent`, and each of them once.
+#[test]
+fn the_rules_of_each_scenario_are_there() {
+    for scenario in ALL {
+        for (place, name) in scenario.rules.iter().enumerate() {
+            let is_linked = rules::LINKED.contains(name);
+            assert!(rules::named(name).is_some() || is_linked && !cfg!(feature = "libtorrent"), "{}: {name}", scenario.name);
+            assert!(!scenario.rules[..place].contains(name), "{}: {name}", scenario.name);
+        }
+    }
+}
+
+/// Who follows which rule of a mix.
+#[test]
+fn a_mix_has_its_share() {
+    for mix in rules::mixes() {
+        let share: u32 = mix.name.split_once(" of 10").unwrap().0.rsplit(' ').next().unwrap().parse().unwrap();
+        assert_eq!((0..100).filter(|&peer| mix.is_mixed_in(peer)).count() as u32, 10 * share, "{}", mix.name);
+    }
 }
 
 #[test]
