@@ -261,6 +261,8 @@ pub fn mixes() -> Vec<Chooser> {
         mix("libtorrent's order, 5 of 10 with 8 open", 5, libtorrent),
         mix("libtorrent's order, 9 of 10 with 8 open", 9, libtorrent),
         Chooser { mixed: Some((1, strict)), ..control("libtorrent's order, 1 of 10 ours", libtorrent) },
+        // Nobody differs: what the lines of those peers alone make.
+        Chooser { mixed: Some((9, libtorrent)), ..control("libtorrent's order, 9 of 10 the same", libtorrent) },
     ]
 }
 
