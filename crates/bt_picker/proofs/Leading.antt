@@ -156,16 +156,20 @@ module _ (s : Setting) (h : History) (test : ℕ → Bool) (pieces : List ℕ) (
       → test (at pieces i) ≡ true → (found ≡ None) ⊎ (availability s h (at pieces i) < fewest)
       → IsRarer test (order_of s h true 0) found (at pieces i) (Some (at pieces i))
   comes_rarest None none is passes why = inl (refl, passes, λ b named. cc named)
-  comes_rarest (Some p) found is passes why = inl (refl, passes, λ b named.
-      let same : p ≡ b = cc named in
-      subst (λ (m : ℕ). order_of s h true 0 (at pieces i) ≤ order_of s h true 0 m) same (⊎_elim
-      (λ (none : Some p ≡ None). cc none)
-      (λ (fewer : availability s h (at pieces i) < fewest).
-      let less = ranks_first (availability s h (at pieces i)) (availability s h p) (2 * piece_count s.torrent)
-      (place_in_round (piece_count s.torrent) 0 (at pieces i)) (place_in_round (piece_count s.torrent) 0 p)
-      (place_bound (piece_count s.torrent) 0 (at pieces i) (within i li)) (omega (arith, fewer, is)) in
-      omega (arith, less))
-      why))
+  comes_rarest (Some p) found is passes why = inl (
+    refl,
+    passes,
+    λ b named.
+        let same : p ≡ b = cc named in
+        subst (λ (m : ℕ). order_of s h true 0 (at pieces i) ≤ order_of s h true 0 m) same (⊎_elim
+        (λ (none : Some p ≡ None). cc none)
+        (λ (fewer : availability s h (at pieces i) < fewest).
+        let less = ranks_first (availability s h (at pieces i)) (availability s h p) (2 * piece_count s.torrent)
+        (place_in_round (piece_count s.torrent) 0 (at pieces i)) (place_in_round (piece_count s.torrent) 0 p)
+        (place_bound (piece_count s.torrent) 0 (at pieces i) (within i li)) (omega (arith, fewer, is)) in
+        omega (arith, less))
+        why),
+  )
 
 -- ---- how many pieces are open
 

@@ -39,8 +39,9 @@ loop-piece-preserved c =
           rw (w.rarest-is, w.fewest-is)
           (rarer_step test rank pieces l.piece-index _ l.rarest _ refl l.invariant.0 comes, c.availability-shown_by.ensures)
       | else-shows_at w ↦
-          rw (w.rarest-is, w.fewest-is)
-          (rarer_step test rank pieces l.piece-index _ l.rarest l.rarest refl l.invariant.0
-              (inr (refl, inl (sym c.shows_at.ensures ∙ w.if-shows_at.false))),
-            l.invariant.1)
+          rw (w.rarest-is, w.fewest-is) (
+            rarer_step test rank pieces l.piece-index _ l.rarest l.rarest refl l.invariant.0
+                (inr (refl, inl (sym c.shows_at.ensures ∙ w.if-shows_at.false))),
+            l.invariant.1,
+          )
     ]
