@@ -118,6 +118,7 @@ listed_least test pieces (Some p) some least = (some.0, some.1, least)
 
 -- ---- the rarest of a list that rises
 
+-- what isn't there is None
 pub none_found : (found : Option ℕ) → is_some found ≡ false → found ≡ None
 none_found None is = refl
 none_found (Some p) is = absurd (false≢true (sym is))

@@ -147,7 +147,7 @@ impl<'a> Position<'a> {
     }
 
     /// Whether fewer peers show the piece than the other one, or as many, and it comes before in a round from `first` on.
-    pub(crate) fn is_rarer(&self, piece: u32, other: u32, first: u32) -> bool
+    fn is_rarer(&self, piece: u32, other: u32, first: u32) -> bool
         requires piece { piece < piece_count self.now.setting.torrent }
         requires other { other < piece_count self.now.setting.torrent }
         ensures { result ≡ nat_lt (order_of self.now.setting self.now.history true first piece)

@@ -11,7 +11,7 @@ ghost use Rattle.bt_history.specs.Pieces.{asker_count, endgame, had_count, held,
 ghost use Rattle.bt_history.specs.Next.{continues, doubles, is_rarest, is_strict, next_answer, rises, starts, usable};
 ghost use Rattle.bt_tables.specs.Orders.{at};
 ghost use Rattle.bt_tables.specs.Risings.{Rises};
-ghost use Rattle.bt_picker.specs.Search.{FindsLeast, FindsListed, FindsRarest, Finds, FindsOf, IsLevel, IsPickedBy, IsRarer, IsRuling, LacksNone};
+ghost use Rattle.bt_picker.specs.Search.{FindsLeast, FindsListed, FindsRarest, Finds, FindsOf, IsLevel, IsPickedBy, IsRuling, LacksNone};
 ghost use Rattle.bt_picker.specs.Search.{MayAsk, NoneAbove, NoneAt, NoneBeforeIn, goes_on, lesser_of, order_of, resumes_at, resuming_order, shows_at};
 
 use crate::position::Position;
