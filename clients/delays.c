@@ -1,8 +1,10 @@
-/* Downloads through a wire with delays, in virtual time and without a network: how much of the seeders' capacity a depth of requests uses.
-   A request takes 25 ms to its seeder, and each block as long on its way back. A seeder sends one block at a time.
+/* Downloads through a wire with delays, in virtual time and without a network. They tell how much of the seeders' capacity a depth of requests
+   uses, and what a bound on endgame costs and saves. A request takes 25 ms to its seeder, and each block as long on its way back. A seeder sends
+   one block at a time.
 
    usage: delays
-   The status is 1 if a seeder waited for a request at depth 500, before it was asked for its last block. */
+   The status is 1 if a seeder waited for a request at depth 500, before it was asked for its last block. This goes for downloads whose `rush` is
+   no bound. With the usual one a seeder may wait in endgame, which asks few blocks twice. */
 #include "piecepick.h"
 #include <stdio.h>
 #include <stdlib.h>
@@ -13,7 +15,7 @@
 #define TOTAL 400000000u
 #define PIECES ((TOTAL + PIECE - 1) / PIECE)
 #define ONE_WAY 0.025 /* seconds: a round trip has 50 ms */
-enum { MOST_SEEDERS = 3, ROOM = 4096, ENOUGH = 500 };
+enum { MOST_SEEDERS = 4, ROOM = 4096, ENOUGH = 500, NO_BOUND = 4096 };
 
 /* What is under way, or waits, the oldest first: with the time at which it comes. */
 struct message {
@@ -37,7 +39,8 @@ struct seeder {
 static struct seeder seeders[MOST_SEEDERS];
 static uint8_t digests[20 * PIECES];
 static uint8_t zeros[PIECE];
-static uint64_t requests;
+static uint64_t requests, twice; /* of blocks: asked, and come though they were held */
+static int are_deaf;             /* the seeders pass over cancels, as one does that has handed all blocks to its socket */
 
 static void check(piecepick_status status)
 {
@@ -99,8 +102,8 @@ static void send_next(struct seeder *seeder, double now)
 static void hear(struct seeder *seeder)
 {
     struct message message = take(&seeder->sent);
-    if (message.block.kind == PIECEPICK_K_CANCEL) cancel(&seeder->waiting, &message.block);
-    else put(&seeder->waiting, &message.block, message.at);
+    if (message.block.kind != PIECEPICK_K_CANCEL) put(&seeder->waiting, &message.block, message.at);
+    else if (!are_deaf) cancel(&seeder->waiting, &message.block);
     send_next(seeder, message.at);
 }
 
@@ -135,6 +138,7 @@ static void receive(piecepick_picker *picker, uint32_t worker, uint32_t count)
     uint64_t before, after;
     check(piecepick_epoch(picker, &before));
     check(piecepick_arrived(picker, worker, message.block.piece, message.block.begin, zeros, message.block.length, &answer));
+    twice += answer.kind == PIECEPICK_K_DROPPED;
     if (answer.kind == PIECEPICK_K_COMPLETED) {
         memcpy(digest.bytes, digests + 20 * message.block.piece, sizeof digest.bytes);
         check(piecepick_settle(picker, message.block.piece, &digest, &answer));
@@ -171,36 +175,43 @@ static enum event next_event(uint32_t count, uint32_t *worker, double *now)
     return found;
 }
 
-static piecepick_picker *open_for(uint32_t count)
+static piecepick_picker *open_for(uint32_t count, uint32_t rush)
 {
     piecepick_options options = PIECEPICK_OPTIONS;
     piecepick_picker *picker = NULL;
     options.workers = count;
+    options.rush = rush;
     check(piecepick_open_parts(&picker, PIECE, TOTAL, digests, sizeof digests, &options));
     return picker;
 }
 
-/* A whole download. Gives whether no seeder ever waited. */
-static int download(const double *rates, uint32_t count, uint32_t depth)
+static const uint64_t BLOCKS = (TOTAL + BLOCK - 1) / BLOCK;
+
+/* All seeders come, show all pieces, and may be asked for so many blocks at a time. */
+static void join_all(piecepick_picker *picker, const double *rates, uint32_t count, uint32_t depth)
 {
     static uint8_t flags[(PIECES + 7) / 8];
-    piecepick_picker *picker = open_for(count);
     piecepick_answer answer;
-    uint32_t worker = 0, done = 0;
-    double now = 0, idle = 0, capacity = 0;
-    uint64_t blocks = (TOTAL + BLOCK - 1) / BLOCK;
-    memset(seeders, 0, sizeof seeders);
-    requests = 0;
     for (uint32_t piece = 0; piece < PIECES; piece++) flags[piece / 8] = (uint8_t)(flags[piece / 8] | 0x80 >> piece % 8);
     for (uint32_t at = 0; at < count; at++) {
         seeders[at].rate = rates[at];
-        capacity += rates[at];
         check(piecepick_join(picker, at, &answer));
         check(piecepick_bits(picker, at, flags, sizeof flags, &answer));
         check(piecepick_unchoke(picker, at, &answer));
         check(piecepick_depth(picker, at, depth, &answer));
         if (answer.kind != PIECEPICK_K_QUIET) exit(2);
     }
+}
+
+/* A whole download. Gives the seconds that it takes. */
+static double download(const double *rates, uint32_t count, uint32_t rush, uint32_t depth)
+{
+    piecepick_picker *picker = open_for(count, rush);
+    uint32_t worker = 0, done = 0;
+    double now = 0;
+    memset(seeders, 0, sizeof seeders);
+    requests = twice = 0;
+    join_all(picker, rates, count, depth);
     for (uint32_t at = 0; at < count; at++) say(picker, at, now);
     while (!done) {
         switch (next_event(count, &worker, &now)) {
@@ -211,13 +222,38 @@ static int download(const double *rates, uint32_t count, uint32_t depth)
         }
         check(piecepick_has_wanted(picker, &done));
     }
-    for (uint32_t at = 0; at < count; at++) idle += seeders[at].idle;
     piecepick_close(&picker);
-    printf("    depth %3u: %6.2f s, %.3f requests a block, %5.1f%% of the capacity; ", (unsigned)depth, now, (double)requests / (double)blocks,
-           100.0 * TOTAL / (capacity * now));
+    return now;
+}
+
+/* How much of the capacity a depth uses. Gives whether no seeder ever waited. */
+static int try_depth(const double *rates, uint32_t count, uint32_t rush, uint32_t depth)
+{
+    double seconds = download(rates, count, rush, depth), idle = 0, capacity = 0;
+    for (uint32_t at = 0; at < count; at++) {
+        capacity += rates[at];
+        idle += seeders[at].idle;
+    }
+    printf("    depth %3u: %6.2f s, %.3f requests a block, %5.1f%% of the capacity; ", (unsigned)depth, seconds,
+           (double)requests / (double)BLOCKS, 100.0 * TOTAL / (capacity * seconds));
     if (idle > 0) printf("seeders waited for %.2f s\n", idle);
     else printf("the pipe is never the limit\n");
     return idle == 0;
+}
+
+/* What bounds on endgame cost in time, and save of blocks that come twice, where one seeder of four is slow and pipes are deep. */
+static void try_endgames(void)
+{
+    static const double RATES[MOST_SEEDERS] = {6.5e6, 6.5e6, 6.5e6, 3.25e5};
+    static const uint32_t RUSHES[] = {4, 8, 16, 32, 64, 128, NO_BOUND};
+    for (are_deaf = 0; are_deaf <= 1; are_deaf++) {
+        printf("three seeders of 6.5 MB a second and one of 0.3, at depth %d%s:\n", ENOUGH, are_deaf ? ", that pass over cancels" : "");
+        for (size_t at = 0; at < sizeof RUSHES / sizeof *RUSHES; at++) {
+            double seconds = download(RATES, MOST_SEEDERS, RUSHES[at], ENOUGH);
+            printf("    rush %4u: %6.2f s, %5.2f%% of the blocks twice\n", (unsigned)RUSHES[at], seconds, 100.0 * (double)twice / (double)BLOCKS);
+        }
+    }
+    are_deaf = 0;
 }
 
 /* The digest of so many zeros. */
@@ -230,9 +266,11 @@ static void put_digest(uint32_t piece, size_t length)
 
 int main(void)
 {
-    static const struct { const char *what; uint32_t count; double rates[MOST_SEEDERS]; } SCENES[] = {
-        {"one seeder of 10 MB a second", 1, {1e7, 0, 0}},
-        {"three seeders of 10, 5 and 2 MB a second", 3, {1e7, 5e6, 2e6}},
+    static const piecepick_options USUAL = PIECEPICK_OPTIONS;
+    const struct { const char *what; uint32_t count, rush; double rates[MOST_SEEDERS]; } scenes[] = {
+        {"one seeder of 10 MB a second, 50 ms away, has 400 MB", 1, NO_BOUND, {1e7, 0, 0, 0}},
+        {"three seeders of 10, 5 and 2 MB a second, 50 ms away, have 400 MB", 3, NO_BOUND, {1e7, 5e6, 2e6, 0}},
+        {"the same three, with the usual bound on what endgame asks", 3, USUAL.rush, {1e7, 5e6, 2e6, 0}},
     };
     static const uint32_t DEPTHS[] = {5, 64, ENOUGH};
     int is_enough = 1;
@@ -240,12 +278,13 @@ int main(void)
     put_digest(0, PIECE);
     for (uint32_t piece = 1; piece + 1 < PIECES; piece++) memcpy(digests + 20 * piece, digests, 20);
     put_digest(PIECES - 1, TOTAL - (size_t)(PIECES - 1) * PIECE);
-    for (size_t scene = 0; scene < sizeof SCENES / sizeof *SCENES; scene++) {
-        printf("%s, 50 ms away, have 400 MB:\n", SCENES[scene].what);
+    for (size_t scene = 0; scene < sizeof scenes / sizeof *scenes; scene++) {
+        printf("%s:\n", scenes[scene].what);
         for (size_t at = 0; at < sizeof DEPTHS / sizeof *DEPTHS; at++) {
-            int never = download(SCENES[scene].rates, SCENES[scene].count, DEPTHS[at]);
-            if (DEPTHS[at] == ENOUGH) is_enough &= never;
+            int never = try_depth(scenes[scene].rates, scenes[scene].count, scenes[scene].rush, DEPTHS[at]);
+            if (DEPTHS[at] == ENOUGH && scenes[scene].rush == NO_BOUND) is_enough &= never;
         }
     }
+    try_endgames();
     return is_enough ? 0 : 1;
 }

@@ -54,7 +54,7 @@ typedef enum piecepick_status {
     PIECEPICK_E_LENGTH = 7,       /* the buffer hasn't just the length of what it is for */
     PIECEPICK_E_MEMORY = 8,       /* out of memory */
     PIECEPICK_E_NOT_HAD = 9,      /* the piece isn't had */
-    PIECEPICK_E_RULES = 10,       /* depth, deepest, askers, random or open is out of its range */
+    PIECEPICK_E_RULES = 10,       /* depth, deepest, askers, random, open, rush or shown is out of its range */
     PIECEPICK_E_NOT_WAITING = 11, /* the piece isn't full, or is had: there is nothing to check */
     PIECEPICK_E_NO_JOB = 12,      /* the pointer leads to no job: likewise */
     PIECEPICK_E_NOT_HASHED = 13,  /* the job wasn't hashed yet */
@@ -134,8 +134,10 @@ typedef struct piecepick_options {
     uint32_t random;  /* pieces that are had before the rarest come first, no more than there are */
     uint32_t askers;  /* of how many peers one block is asked at most in endgame, 1 (no endgame) to 1,024 (no bound) */
     uint32_t open;    /* so many pieces may be begun and have unrequested blocks before those come first, 0 (they always do) to 1,024 */
+    uint32_t rush;    /* in endgame a block is asked again only of a peer that is asked for fewer than so many, 0 (no endgame) to 4,096 (no bound) */
+    uint32_t shown;   /* 1 where endgame waits only for pieces that a joined peer shows, 0 where it waits for all wanted ones */
 } piecepick_options;
-#define PIECEPICK_OPTIONS { sizeof(piecepick_options), PIECEPICK_KEEPS_NOTHING, 50, 16, 500, 1, 2, 8 }
+#define PIECEPICK_OPTIONS { sizeof(piecepick_options), PIECEPICK_KEEPS_NOTHING, 50, 16, 500, 1, 2, 8, 32, 1 }
 
 uint32_t piecepick_abi(void);
 uint32_t piecepick_version(void);
@@ -365,7 +367,7 @@ static inline const char *piecepick_status_text(piecepick_status status) {
     case PIECEPICK_E_LENGTH: return "the buffer has another length";
     case PIECEPICK_E_MEMORY: return "out of memory";
     case PIECEPICK_E_NOT_HAD: return "the piece isn't had";
-    case PIECEPICK_E_RULES: return "depth, deepest, askers, random or open is out of its range";
+    case PIECEPICK_E_RULES: return "depth, deepest, askers, random, open, rush or shown is out of its range";
     case PIECEPICK_E_NOT_WAITING: return "the piece doesn't wait for a check";
     case PIECEPICK_E_NO_JOB: return "the pointer leads to no job";
     case PIECEPICK_E_NOT_HASHED: return "the job wasn't hashed";

@@ -141,6 +141,14 @@ static uint32_t length_of(uint32_t piece)
 }
 
 static uint32_t blocks_of(uint32_t piece) { return (length_of(piece) + BLOCK - 1) / BLOCK; }
+
+static uint32_t all_blocks(void)
+{
+    uint32_t blocks = 0;
+    for (uint32_t piece = 0; piece < pieces; piece++) blocks += blocks_of(piece);
+    return blocks;
+}
+
 static const uint8_t *bytes_of(uint32_t piece) { return content + (size_t)piece * PIECE; }
 
 static piecepick_digest sha1(const uint8_t *bytes, size_t length)
@@ -168,14 +176,16 @@ static piecepick_picker *open_for(uint32_t keeps, uint32_t workers)
     return open_by(&options);
 }
 
-/* A peer joins, shows each piece, and doesn't choke us. */
-static void come(piecepick_picker *picker, uint32_t worker)
+/* A peer joins, shows some pieces, or each, and doesn't choke us. */
+static void come_with(piecepick_picker *picker, uint32_t worker, const uint8_t *flags)
 {
     piecepick_answer answer;
     GETS(piecepick_join(picker, worker, &answer), PIECEPICK_K_JOINED);
-    NOTED(piecepick_bits(picker, worker, all, flags_len, &answer), 1);
+    NOTED(piecepick_bits(picker, worker, flags, flags_len, &answer), 1);
     QUIET(piecepick_unchoke(picker, worker, &answer));
 }
+
+static void come(piecepick_picker *picker, uint32_t worker) { come_with(picker, worker, all); }
 
 /* The bytes of a block as the peer has them, or wrong ones; how many they are. */
 static uint32_t copy_of(uint8_t *block, uint32_t piece, uint32_t begin, int wrong)
@@ -271,41 +281,47 @@ static uint64_t picture(piecepick_picker *picker)
 #define MORE UINT32_MAX
 
 static const struct { piecepick_options options; piecepick_status status; } OPTIONS[] = {
-    {{0, 0, 50, 5, 500, 1, 2, 0}, PIECEPICK_E_OPTIONS},
-    {{24, 0, 50, 5, 500, 1, 2, 0}, PIECEPICK_E_OPTIONS},
-    {{SIZE - 1, 0, 50, 5, 500, 1, 2, 0}, PIECEPICK_E_OPTIONS},
-    {{SIZE + 1, 0, 50, 5, 500, 1, 2, 0}, PIECEPICK_E_OPTIONS},
-    {{28, 0, 50, 5, 500, 1, 2, 0}, PIECEPICK_E_OPTIONS},
-    {{36, 0, 50, 5, 500, 1, 2, 0}, PIECEPICK_E_OPTIONS},
-    {{MORE, 0, 50, 5, 500, 1, 2, 0}, PIECEPICK_E_OPTIONS},
-    {{SIZE, 3, 50, 5, 500, 1, 2, 0}, PIECEPICK_E_OPTIONS},
-    {{SIZE, MORE, 50, 5, 500, 1, 2, 0}, PIECEPICK_E_OPTIONS},
-    {{SIZE, 0, 0, 5, 500, 1, 2, 0}, PIECEPICK_E_WORKER},
-    {{SIZE, 1, 1025, 5, 500, 1, 2, 0}, PIECEPICK_E_WORKER},
-    {{SIZE, 2, MORE, 5, 500, 1, 2, 0}, PIECEPICK_E_WORKER},
-    {{SIZE, 0, 50, 0, 500, 1, 2, 0}, PIECEPICK_E_RULES},
-    {{SIZE, 1, 50, 65, 500, 1, 2, 0}, PIECEPICK_E_RULES},
-    {{SIZE, 2, 50, MORE, 500, 1, 2, 0}, PIECEPICK_E_RULES},
-    {{SIZE, 0, 50, 5, 0, 1, 2, 0}, PIECEPICK_E_RULES},
-    {{SIZE, 1, 50, 5, 4097, 1, 2, 0}, PIECEPICK_E_RULES},
-    {{SIZE, 2, 50, 5, MORE, 1, 2, 0}, PIECEPICK_E_RULES},
-    {{SIZE, 0, 50, 5, 500, 11, 2, 0}, PIECEPICK_E_RULES},
-    {{SIZE, 2, 50, 5, 500, MORE, 2, 0}, PIECEPICK_E_RULES},
-    {{SIZE, 0, 50, 5, 500, 1, 0, 0}, PIECEPICK_E_RULES},
-    {{SIZE, 1, 50, 5, 500, 1, 1025, 0}, PIECEPICK_E_RULES},
-    {{SIZE, 2, 50, 5, 500, 1, MORE, 0}, PIECEPICK_E_RULES},
-    {{SIZE, 0, 2, 5, 500, 1, 2, 1025}, PIECEPICK_E_RULES},
-    {{SIZE, 0, 2, 5, 500, 1, 2, MORE}, PIECEPICK_E_RULES},
+    {{0, 0, 50, 5, 500, 1, 2, 0, 16, 1}, PIECEPICK_E_OPTIONS},
+    {{24, 0, 50, 5, 500, 1, 2, 0, 16, 1}, PIECEPICK_E_OPTIONS},
+    {{SIZE - 1, 0, 50, 5, 500, 1, 2, 0, 16, 1}, PIECEPICK_E_OPTIONS},
+    {{SIZE + 1, 0, 50, 5, 500, 1, 2, 0, 16, 1}, PIECEPICK_E_OPTIONS},
+    {{28, 0, 50, 5, 500, 1, 2, 0, 16, 1}, PIECEPICK_E_OPTIONS},
+    {{32, 0, 50, 5, 500, 1, 2, 0, 16, 1}, PIECEPICK_E_OPTIONS},
+    {{36, 0, 50, 5, 500, 1, 2, 0, 16, 1}, PIECEPICK_E_OPTIONS},
+    {{44, 0, 50, 5, 500, 1, 2, 0, 16, 1}, PIECEPICK_E_OPTIONS},
+    {{MORE, 0, 50, 5, 500, 1, 2, 0, 16, 1}, PIECEPICK_E_OPTIONS},
+    {{SIZE, 3, 50, 5, 500, 1, 2, 0, 16, 1}, PIECEPICK_E_OPTIONS},
+    {{SIZE, MORE, 50, 5, 500, 1, 2, 0, 16, 1}, PIECEPICK_E_OPTIONS},
+    {{SIZE, 0, 0, 5, 500, 1, 2, 0, 16, 1}, PIECEPICK_E_WORKER},
+    {{SIZE, 1, 1025, 5, 500, 1, 2, 0, 16, 1}, PIECEPICK_E_WORKER},
+    {{SIZE, 2, MORE, 5, 500, 1, 2, 0, 16, 1}, PIECEPICK_E_WORKER},
+    {{SIZE, 0, 50, 0, 500, 1, 2, 0, 16, 1}, PIECEPICK_E_RULES},
+    {{SIZE, 1, 50, 65, 500, 1, 2, 0, 16, 1}, PIECEPICK_E_RULES},
+    {{SIZE, 2, 50, MORE, 500, 1, 2, 0, 16, 1}, PIECEPICK_E_RULES},
+    {{SIZE, 0, 50, 5, 0, 1, 2, 0, 16, 1}, PIECEPICK_E_RULES},
+    {{SIZE, 1, 50, 5, 4097, 1, 2, 0, 16, 1}, PIECEPICK_E_RULES},
+    {{SIZE, 2, 50, 5, MORE, 1, 2, 0, 16, 1}, PIECEPICK_E_RULES},
+    {{SIZE, 0, 50, 5, 500, 11, 2, 0, 16, 1}, PIECEPICK_E_RULES},
+    {{SIZE, 2, 50, 5, 500, MORE, 2, 0, 16, 1}, PIECEPICK_E_RULES},
+    {{SIZE, 0, 50, 5, 500, 1, 0, 0, 16, 1}, PIECEPICK_E_RULES},
+    {{SIZE, 1, 50, 5, 500, 1, 1025, 0, 16, 1}, PIECEPICK_E_RULES},
+    {{SIZE, 2, 50, 5, 500, 1, MORE, 0, 16, 1}, PIECEPICK_E_RULES},
+    {{SIZE, 0, 2, 5, 500, 1, 2, 1025, 16, 1}, PIECEPICK_E_RULES},
+    {{SIZE, 0, 2, 5, 500, 1, 2, MORE, 16, 1}, PIECEPICK_E_RULES},
+    {{SIZE, 0, 2, 5, 500, 1, 2, 0, 4097, 1}, PIECEPICK_E_RULES},
+    {{SIZE, 1, 2, 5, 500, 1, 2, 0, MORE, 1}, PIECEPICK_E_RULES},
+    {{SIZE, 0, 2, 5, 500, 1, 2, 0, 16, 2}, PIECEPICK_E_RULES},
+    {{SIZE, 2, 2, 5, 500, 1, 2, 0, 16, MORE}, PIECEPICK_E_RULES},
     /* Two causes: the one that the header has first. */
-    {{0, 0, 0, 0, 500, 1, 2, 0}, PIECEPICK_E_OPTIONS},
-    {{SIZE, 0, 0, 0, 500, 1, 2, 0}, PIECEPICK_E_WORKER},
+    {{0, 0, 0, 0, 500, 1, 2, 0, 16, 1}, PIECEPICK_E_OPTIONS},
+    {{SIZE, 0, 0, 0, 500, 1, 2, 0, 16, 1}, PIECEPICK_E_WORKER},
     /* The borders. */
-    {{SIZE, 0, 1, 1, 1, 0, 1, 0}, PIECEPICK_OK},
-    {{SIZE, 1, 1, 1, 1, 0, 1, 0}, PIECEPICK_OK},
-    {{SIZE, 2, 1, 1, 1, 0, 1, 0}, PIECEPICK_OK},
-    {{SIZE, 0, 1024, 64, 4096, 10, 1024, 1024}, PIECEPICK_OK},
-    {{SIZE, 1, 1024, 64, 500, 10, 1024, 1024}, PIECEPICK_OK},
-    {{SIZE, 2, 1024, 64, 500, 10, 1024, 1024}, PIECEPICK_OK},
+    {{SIZE, 0, 1, 1, 1, 0, 1, 0, 0, 0}, PIECEPICK_OK},
+    {{SIZE, 1, 1, 1, 1, 0, 1, 0, 0, 0}, PIECEPICK_OK},
+    {{SIZE, 2, 1, 1, 1, 0, 1, 0, 0, 0}, PIECEPICK_OK},
+    {{SIZE, 0, 1024, 64, 4096, 10, 1024, 1024, 4096, 1}, PIECEPICK_OK},
+    {{SIZE, 1, 1024, 64, 500, 10, 1024, 1024, 4096, 1}, PIECEPICK_OK},
+    {{SIZE, 2, 1024, 64, 500, 10, 1024, 1024, 4096, 1}, PIECEPICK_OK},
 };
 
 /* Reads the metainfo file, or takes the same torrent by its parts. */
@@ -322,6 +338,8 @@ static void try_options(void)
     EQUAL(usual.size, sizeof usual);
     EQUAL(usual.depth, 16);
     EQUAL(usual.open, 8);
+    EQUAL(usual.rush, 32);
+    EQUAL(usual.shown, 1);
     for (size_t at = 0; at < sizeof OPTIONS / sizeof *OPTIONS; at++)
         for (int by_parts = 0; by_parts < 2; by_parts++) {
             const piecepick_options *options = &OPTIONS[at].options;
@@ -519,6 +537,7 @@ static void try_torrent(const char *infohash, const char *name)
     EQUAL(major * 10000 + minor * 100 + least, PIECEPICK_VERSION_NUMBER);
     EQUAL(major, PIECEPICK_ABI);
     EQUAL(strlen(infohash), 40);
+    EQUAL(sizeof(piecepick_options), 40);
     EQUAL(sizeof(piecepick_answer), 24);
     EQUAL(sizeof(piecepick_digest), 20);
     for (size_t kind = 0; kind < 3; kind++)
@@ -896,10 +915,11 @@ static void try_levels(uint32_t keeps)
     piecepick_close(&picker);
 }
 
+static const uint8_t two[MOST_PIECES / 8] = {0xc0}; /* flags: the first two pieces */
+
 /* With one open piece allowed: worker 1 has two pieces, and 0 has all. */
 static void try_open_pieces(uint32_t keeps)
 {
-    static const uint8_t two[MOST_PIECES / 8] = {0xc0};
     piecepick_options options = PIECEPICK_OPTIONS;
     piecepick_picker *picker;
     piecepick_answer answer;
@@ -909,9 +929,7 @@ static void try_open_pieces(uint32_t keeps)
     options.open = 1;
     picker = open_by(&options);
     come(picker, 0);
-    GETS(piecepick_join(picker, 1, &answer), PIECEPICK_K_JOINED);
-    NOTED(piecepick_bits(picker, 1, two, flags_len, &answer), 1);
-    QUIET(piecepick_unchoke(picker, 1, &answer));
+    come_with(picker, 1, two);
     BLOCKS(piecepick_next(picker, 1, 0, &answer), PIECEPICK_K_REQUEST, 0, 0);
     BLOCKS(piecepick_next(picker, 0, 2, &answer), PIECEPICK_K_REQUEST, 2, 0);     /* rarer than the begun one */
     BLOCKS(piecepick_next(picker, 0, 3, &answer), PIECEPICK_K_REQUEST, 2, BLOCK); /* two are open: the rarer one goes on */
@@ -979,11 +997,11 @@ static void try_endgame(uint32_t keeps)
         piecepick_options options = PIECEPICK_OPTIONS;
         piecepick_answer answer, block;
         piecepick_picker *picker;
-        uint32_t blocks = 0;
-        for (uint32_t piece = 0; piece < pieces; piece++) blocks += blocks_of(piece);
+        const uint32_t blocks = all_blocks();
         options.keeps = keeps;
         options.workers = 3;
         options.depth = 64;
+        options.rush = 4096;
         options.askers = BOUNDS[at];
         picker = open_by(&options);
         for (uint32_t worker = 0; worker < 3; worker++) come(picker, worker);
@@ -998,6 +1016,74 @@ static void try_endgame(uint32_t keeps)
             QUIET(piecepick_choke(picker, 0, &answer));
             EQUAL(asks_all(picker, 2, PIECEPICK_K_IDLE), blocks - 1);
             EQUAL(asks_all(picker, 1, PIECEPICK_K_IDLE), 0);
+        }
+        if (keeps == PIECEPICK_KEEPS_JOURNAL) EQUAL(piecepick_audit(picker), PIECEPICK_OK);
+        piecepick_close(&picker);
+    }
+}
+
+/* In endgame a block is asked again only of a peer that is asked for fewer than the bound says. What nobody was asked for has no such bound. */
+static void try_rush(uint32_t keeps)
+{
+    static const uint32_t BOUNDS[] = {0, 1, 2, 16, 4096};
+    const uint32_t blocks = all_blocks();
+    EQUAL(blocks > 16, 1);
+    for (size_t at = 0; at < sizeof BOUNDS / sizeof *BOUNDS; at++) {
+        const uint32_t again = BOUNDS[at] < blocks ? BOUNDS[at] : blocks;
+        piecepick_options options = PIECEPICK_OPTIONS;
+        piecepick_answer answer, block;
+        piecepick_picker *picker;
+        options.keeps = keeps;
+        options.workers = 2;
+        options.depth = 64;
+        options.rush = BOUNDS[at];
+        picker = open_by(&options);
+        come(picker, 0);
+        come(picker, 1);
+        EQUAL(asks_all(picker, 0, PIECEPICK_K_IDLE), blocks);
+        EQUAL(asks_all(picker, 1, PIECEPICK_K_IDLE), again);
+        if (BOUNDS[at] == 1) {
+            /* Its one block comes from the other peer. Then it is asked for none, and so for the next one. */
+            EQUAL(piecepick_outstanding_at(picker, 1, 0, &block), PIECEPICK_OK);
+            EQUAL(bring(picker, 0, block.piece, block.begin, 0) == PIECEPICK_K_DROPPED, 0);
+            BLOCKS(piecepick_next(picker, 1, 3, &answer), PIECEPICK_K_CANCEL, block.piece, block.begin);
+            EQUAL(asks_all(picker, 1, PIECEPICK_K_IDLE), 1);
+            /* A block that is given up is asked of a peer with any number of them. */
+            QUIET(piecepick_choke(picker, 0, &answer));
+            EQUAL(asks_all(picker, 1, PIECEPICK_K_IDLE), blocks - 2);
+        }
+        if (keeps == PIECEPICK_KEEPS_JOURNAL) EQUAL(piecepick_audit(picker), PIECEPICK_OK);
+        piecepick_close(&picker);
+    }
+}
+
+/* Two peers have two pieces, and nobody has the others. Where endgame waits for all of them, it doesn't begin. */
+static void try_shown(uint32_t keeps)
+{
+    for (uint32_t shown = 0; shown < 2; shown++) {
+        piecepick_options options = PIECEPICK_OPTIONS;
+        piecepick_answer answer;
+        piecepick_picker *picker;
+        options.keeps = keeps;
+        options.workers = 3;
+        options.shown = shown;
+        picker = open_by(&options);
+        come_with(picker, 0, two);
+        come_with(picker, 1, two);
+        EQUAL(asks_all(picker, 0, PIECEPICK_K_IDLE), 4);
+        EQUAL(asks_all(picker, 1, PIECEPICK_K_IDLE), shown ? 4 : 0);
+        if (shown) {
+            /* While a third peer has the others, endgame waits for them, though that peer chokes us. */
+            QUIET(piecepick_release(picker, 1, 0, BLOCK, &answer));
+            GETS(piecepick_join(picker, 2, &answer), PIECEPICK_K_JOINED);
+            NOTED(piecepick_bits(picker, 2, all, flags_len, &answer), 1);
+            GETS(piecepick_next(picker, 1, 3, &answer), PIECEPICK_K_IDLE);
+            QUIET(piecepick_leave(picker, 2, &answer));
+            BLOCKS(piecepick_next(picker, 1, 3, &answer), PIECEPICK_K_REQUEST, 0, BLOCK);
+        } else {
+            /* It does once the others aren't wanted. */
+            QUIET(piecepick_want(picker, two, flags_len, &answer));
+            EQUAL(asks_all(picker, 1, PIECEPICK_K_IDLE), 4);
         }
         if (keeps == PIECEPICK_KEEPS_JOURNAL) EQUAL(piecepick_audit(picker), PIECEPICK_OK);
         piecepick_close(&picker);
@@ -1019,11 +1105,16 @@ static uint64_t epoch(piecepick_picker *picker)
 
 static void try_epochs(uint32_t keeps)
 {
-    piecepick_picker *picker = open_for(keeps, 3);
+    piecepick_options options = PIECEPICK_OPTIONS;
+    piecepick_picker *picker;
     piecepick_answer answer;
     uint32_t piece, begin, number;
     uint8_t levels[MOST_PIECES];
     memset(levels, 4, sizeof levels);
+    options.keeps = keeps;
+    options.workers = 3;
+    options.shown = 0; /* nobody has most pieces, and no endgame is to begin */
+    picker = open_by(&options);
     EQUAL(epoch(picker), 0);
     RISES(GETS(piecepick_join(picker, 0, &answer), PIECEPICK_K_JOINED));
     RISES(GETS(piecepick_join(picker, 1, &answer), PIECEPICK_K_JOINED));
@@ -1093,22 +1184,38 @@ static void try_epochs(uint32_t keeps)
     EQUAL(asks_all(picker, 1, PIECEPICK_K_PIPE_FULL), 1);
     if (keeps == PIECEPICK_KEEPS_JOURNAL) EQUAL(piecepick_audit(picker), PIECEPICK_OK);
     piecepick_close(&picker);
+    /* The last one of those that are shown, where nobody has the other pieces. */
+    picker = open_for(keeps, 2);
+    come_with(picker, 0, two);
+    come_with(picker, 1, two);
+    for (uint32_t left = 4; left > 1; left--) STAYS(EQUAL(piecepick_next(picker, 0, left, &answer), PIECEPICK_OK));
+    RISES(EQUAL(piecepick_next(picker, 0, 0, &answer), PIECEPICK_OK));
+    EQUAL(answer.kind, PIECEPICK_K_REQUEST);
+    EQUAL(asks_all(picker, 1, PIECEPICK_K_IDLE), 4);
+    if (keeps == PIECEPICK_KEEPS_JOURNAL) EQUAL(piecepick_audit(picker), PIECEPICK_OK);
+    piecepick_close(&picker);
 }
 
 /* Calls at random. A peer that had nothing to be asked for has nothing while its own worker tells nothing, and the epoch stays. */
 static void try_epochs_at_random(uint32_t keeps)
 {
     enum { PEERS = 4, STEPS = 20000 };
+    piecepick_options options = PIECEPICK_OPTIONS;
     piecepick_picker *picker = NULL;
     piecepick_answer answer;
     uint64_t state = 1, idle_at[PEERS] = {0};
     uint32_t complete = 1, number;
     int is_idle[PEERS] = {0}, is_wrong[MOST_PIECES] = {0};
     long again = 0;
+    options.keeps = keeps;
+    options.workers = PEERS;
+    options.depth = 5;
+    options.rush = 1;
     for (long step = 0; step < STEPS; step++) {
         if (complete) {
             piecepick_close(&picker);
-            picker = open_for(keeps, PEERS);
+            picker = open_by(&options);
+            options.rush = 4 - options.rush; /* 1 and 3 by turns */
             memset(is_idle, 0, sizeof is_idle);
         }
         state = state * 6364136223846793005u + 1442695040888963407u;
@@ -1694,6 +1801,8 @@ int main(int argc, char **argv)
         {"open pieces", try_open_pieces},
         {"depths", try_depths},
         {"askers in endgame, and cancels", try_endgame},
+        {"how many blocks endgame asks of a peer", try_rush},
+        {"an endgame though nobody has a piece", try_shown},
         {"epochs", try_epochs},
         {"epochs, in calls at random", try_epochs_at_random},
         {"senders", try_senders},

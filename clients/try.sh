@@ -136,6 +136,23 @@ int main()
     }
     well = well && bare.sender(0, 0) == 0 && file == "0";
     well = well && bare.settle(0, hash4(file, std::string(), std::string(), std::string())[0]).kind == PIECEPICK_K_HAD;
+    /* Of three pieces one is nowhere. A second peer is asked for one block in endgame, or for none where endgame waits for all pieces. */
+    const std::uint8_t digests[60] = {}, two[1] = {0xc0};
+    for (std::uint32_t shown = 0; shown < 2; shown++) {
+        Options ending;
+        well = well && ending.rush == 32 && ending.shown == 1;
+        ending.rush = 1;
+        ending.shown = shown;
+        Picker picker(16384, 3 * 16384, digests, ending);
+        for (std::uint32_t worker = 0; worker < 2; worker++) {
+            picker.join(worker);
+            picker.bits(worker, two);
+            picker.unchoke(worker);
+        }
+        for (int block = 0; block < 2; block++) well = well && picker.next(0, 0).kind == PIECEPICK_K_REQUEST;
+        well = well && picker.next(1, 0).kind == (shown == 1 ? PIECEPICK_K_REQUEST : PIECEPICK_K_IDLE);
+        well = well && picker.next(1, 0).kind == PIECEPICK_K_IDLE;
+    }
     first = open();
     return well && !first.is_complete() && throws(PIECEPICK_E_NOT_HAD, [&] { first.read(0, room); }) ? 0 : 1;
 }

@@ -58,7 +58,7 @@ TWO_BEGUN = enters(0, "f0") + enters(1, "80") + enters(2, "c0") + ["2 next 1 = r
 PAIR_ASKED = enters(0, "f0") + enters(1, "c0") + [
     "1 next 0 = request 0 0 16384", "1 next 1 = request 0 16384 16384", "1 next 1 = request 1 0 16384"]
 
-# of the examples that don't go by the usual ones: depth, random, and where they matter askers and deepest, and open
+# of the examples that don't go by the usual ones: depth, random, and where they matter askers and deepest, open, and rush and shown
 RULES: dict[str, tuple[int, ...]] = {
     "depth_two": (2, 1),
     "deep_pipe": (64, 1),
@@ -88,6 +88,11 @@ RULES: dict[str, tuple[int, ...]] = {
     "unwanted_pieces_are_not_open": (5, 0, 1024, 64, 1),
     "none_of_the_open_is_shown": (5, 0, 1024, 64, 1),
     "in_order_however_many_are_open": (5, 0, 1024, 64, 1),
+    "endgame_at_few": (5, 1, 1024, 64, 0, 1, False),
+    "endgame_at_none": (5, 1, 1024, 64, 0, 0, False),
+    "endgame_over_what_is_shown": (5, 1, 1024, 64, 0, 4096, True),
+    "shown_piece_holds_up_endgame": (5, 1, 1024, 64, 0, 4096, True),
+    "lower_level_is_awaited_too": (5, 1, 1024, 64, 0, 4096, True),
 }
 
 EXAMPLES: dict[str, tuple[str, int, list[str]]] = {  # name: torrent, workers, lines
@@ -273,6 +278,21 @@ EXAMPLES: dict[str, tuple[str, int, list[str]]] = {  # name: torrent, workers, l
     "in_order_however_many_are_open": ("four_pairs", 2, enters(0, "f0") + enters(1, "30") + [
         "1 next 2 = request 2 0 16384", "0 next 1 = request 1 0 16384", "0 inorder yes = quiet", "0 next 3 = request 0 0 16384",
         "0 next 3 = request 0 16384 16384", "0 next 3 = request 1 16384 16384"]),
+    "endgame_at_few": ("two_pieces", 2, enters(0, "c0") + enters(1, "c0") + [
+        "0 next 0 = request 0 0 3", "0 next 0 = request 1 0 3", "1 next 0 = request 0 0 3", "1 next 0 = idle",
+        "0 block 0 0 616263 = completed", "1 next 0 = cancel 0 0 3", "1 next 0 = request 1 0 3"]),
+    "endgame_at_none": ("one_piece", 2, enters(0, "80") + enters(1, "80") + [
+        "0 next 0 = request 0 0 3", "1 next 0 = idle", "0 release 0 0 = quiet", "1 next 0 = request 0 0 3"]),
+    "unshown_piece_holds_up_endgame": ("two_pieces", 2, enters(0, "80") + enters(1, "80") + [
+        "0 next 0 = request 0 0 3", "1 next 0 = idle"]),
+    "endgame_over_what_is_shown": ("two_pieces", 2, enters(0, "80") + enters(1, "80") + [
+        "0 next 0 = request 0 0 3", "1 next 0 = request 0 0 3"]),
+    "shown_piece_holds_up_endgame": ("two_pieces", 3, enters(0, "80") + enters(1, "80") + [
+        "2 join = joined", "2 bits 40 = noted yes", "0 next 0 = request 0 0 3", "1 next 0 = idle", "2 leave = quiet",
+        "1 next 0 = request 0 0 3"]),
+    "lower_level_is_awaited_too": ("four_pieces", 3, ["2 levels 4710 = quiet"] + enters(0, "c0") + enters(1, "80") + [
+        "0 next 0 = request 1 0 3", "1 next 0 = request 0 0 3", "0 next 0 = request 0 0 3", "2 join = joined", "2 bits 30 = noted yes",
+        "1 have 1 = noted yes", "1 next 0 = idle", "2 unchoke = quiet", "2 next 0 = request 2 0 3", "1 next 0 = request 1 0 3"]),
 }
 
 WRONG: dict[str, tuple[str, int, str]] = {  # name: example, how many entries of it came before, the wrong entry
@@ -387,21 +407,14 @@ WRONG: dict[str, tuple[str, int, str]] = {  # name: example, how many entries of
     "commoner_piece_begun_though_many_are_open": ("none_of_the_open_is_shown", 13, "2 next 3 = request 3 0 16384"),
     "idle_though_no_open_piece_is_shown": ("none_of_the_open_is_shown", 13, "2 next 3 = idle"),
     "open_piece_continued_though_in_order": ("in_order_however_many_are_open", 9, "0 next 3 = request 1 16384 16384"),
-}
-
-WHERE_BLOCKS_MAY_BE_NAMED = {  # wrong entries in whose place the rules allow a request or a cancel; elsewhere they allow one reply alone
-    "idle_though_a_block_is_usable", "second_piece_started_while_a_begun_one_has_a_usable_block", "availability_counts_a_peer_that_left",
-    "commoner_piece_started", "idle_though_a_cancel_is_due", "pipe_full_after_four", "pipe_full_at_depth_two_after_one",
-    "pipe_full_at_five_though_deep", "first_piece_at_random_though_none_is", "third_piece_at_random",
-    "unwanted_block_keeps_endgame_off", "idle_though_another_peer_released", "released_piece_continued", "idle_though_released",
-    "pipe_full_though_deepened", "depth_outlasts_its_peer", "pipe_full_though_enough_came", "second_asker_of_two_idle",
-    "idle_though_the_bitfield_shows_more", "nothing_left_though_the_bitfield_shows_more", "availability_without_the_haves",
-    "low_level_asked_first", "commoner_piece_of_the_level_started", "rarer_piece_of_a_lower_level_started",
-    "second_peer_asked_though_a_low_level_is_unasked", "begun_piece_of_a_lower_level_continued", "in_order_before_levels",
-    "in_order_by_the_wrong_end", "moved_head_passed_over", "begun_piece_continued_though_in_order", "rarest_though_in_order",
-    "in_order_though_told_off", "idle_though_a_low_level_is_usable", "piece_of_level_0_asked", "idle_though_wanted_again",
-    "nothing_left_though_a_level_rose", "older_level_outlasts_a_want", "level_below_the_usual_asked_first",
-    "level_from_before_the_bits_forgotten", "endgame_though_a_low_level_is_unasked",
+    "second_peer_idle_though_it_has_few": ("endgame_at_few", 8, "1 next 0 = idle"),
+    "second_block_of_one_that_has_as_many_as_may_be": ("endgame_at_few", 9, "1 next 0 = request 1 0 3"),
+    "second_peer_asked_though_none_may_be": ("endgame_at_none", 7, "1 next 0 = request 0 0 3"),
+    "second_peer_asked_though_an_unshown_piece_is_wanted": ("unshown_piece_holds_up_endgame", 7, "1 next 0 = request 0 0 3"),
+    "idle_though_all_that_is_shown_is_asked": ("endgame_over_what_is_shown", 7, "1 next 0 = idle"),
+    "second_peer_asked_though_a_shown_block_is_unasked": ("shown_piece_holds_up_endgame", 9, "1 next 0 = request 0 0 3"),
+    "idle_though_nobody_shows_the_rest": ("shown_piece_holds_up_endgame", 11, "1 next 0 = idle"),
+    "second_peer_asked_though_a_shown_low_level_is_unasked": ("lower_level_is_awaited_too", 13, "1 next 0 = request 1 0 3"),
 }
 
 WRONG_IN_AUDITS: dict[str, tuple[int, str]] = {  # example: how many entries of it came before, the wrong entry; for the examples that have none above
@@ -426,8 +439,8 @@ def setting(name: str) -> str:
 def rules(name: str) -> str:
     """The rules of an example, by the definitions."""
     chosen = RULES.get(name, ())
-    function = {0: "usual_rules", 2: "rules", 4: "bounded_rules", 5: "open_rules"}[len(chosen)]
-    return f"({' '.join([function, *map(str, chosen)])})" if chosen else function
+    function = {0: "usual_rules", 2: "rules", 4: "bounded_rules", 5: "open_rules", 7: "ending_rules"}[len(chosen)]
+    return f"({' '.join([function, *(str(each).lower() for each in chosen)])})" if chosen else function
 
 
 def rules_of(name: str) -> Rules:
@@ -644,7 +657,7 @@ def audits() -> None:
         texts.append("\n".join([
             name.replace("_", " "),
             f"{piece_length} {total} {contents}",
-            " ".join(map(str, [workers, *astuple(rules_of(name))])),
+            " ".join(map(str, [workers, *map(int, astuple(rules_of(name)))])),
             *(plain_line(line) for line in lines),
             "but",
             *(f"{before} {plain_line(line)}" for before, line in wrongs),

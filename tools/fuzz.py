@@ -12,7 +12,8 @@ With `picks` random scripts of small torrents are played until N replies to `nex
 of a script has to be that of the model. The program is crates/piecepick/out/piecepick, or FILE. With `--library` the calls are made at the
 library instead (clients/build.sh), which is quicker. Then the rules also bound the askers of a block, and let greater depths be told.
 
-With `--open` the rules also say how many pieces may be open. The program or the library has to know that number.
+With `--open` the rules also say how many pieces may be open, below how many blocks in flight endgame asks a peer for one more, and whether it
+waits for shown pieces alone. The program or the library has to know these.
 """
 
 from __future__ import annotations
@@ -33,7 +34,7 @@ from collections.abc import Callable
 from typing import NamedTuple
 
 import picks
-from model import MOST_OPEN
+from model import MOST_OPEN, MOST_TOLD_DEPTH
 
 ROOT = os.path.dirname(os.path.dirname(os.path.abspath(__file__)))
 PROGRAM = os.path.join(ROOT, "crates/piecepick/out/piecepick")
@@ -166,8 +167,10 @@ def script(rng: random.Random, folder: str, with_open: bool = False) -> tuple[li
     lines = [b" ".join(words)]
     if rng.randrange(3) == 0:
         rules = f"rules {rng.choice([1, 2, 5, 64, 65])} {rng.choice([0, 1, 3, 4])}"
-        if with_open and rng.randrange(3):
-            rules += f" {rng.choice([0, 1, 2, MOST_OPEN, MOST_OPEN + 1])}"
+        if with_open:
+            more = [rng.choice([0, 1, 2, MOST_OPEN, MOST_OPEN + 1]), rng.choice([0, 1, 2, MOST_TOLD_DEPTH, MOST_TOLD_DEPTH + 1])]
+            words_behind = [*map(str, more), rng.choice(["yes", "yes", "no", "1"]), "yes"]
+            rules = " ".join([rules, *words_behind[:rng.choice([0, 1, 1, 2, 2, 3, 3, 3, 4])]])
         lines.append(rules.encode())
     lines += [line(rng).encode() for _ in range(rng.randrange(60))]
     text = b"\n".join(lines) + b"\n"

@@ -74,11 +74,13 @@ def play(seed: str, index: int, with_open: bool = False) -> Played:
     script = Script(random.Random(f"{seed} library {index}"), with_bounds=True, with_open=with_open)
     rules, workers = script.rules, len(script.model.peers)
     model = Model(script.torrent, workers, rules)
-    options = {"depth": rules.depth, "deepest": rules.deepest, "random": rules.random, "askers": rules.askers, "open": rules.open}
+    numbers = {name: getattr(rules, name) for name in ("depth", "deepest", "random", "askers", "open", "rush")}
     digests = b"".join(script.torrent.hashes)
     replies: Counter[str] = Counter()
     wrong = []
-    with Picker.of_parts(script.torrent.piece_length, script.torrent.total, digests, keeps=Keeps.JOURNAL, workers=workers, **options) as picker:
+    with Picker.of_parts(
+        script.torrent.piece_length, script.torrent.total, digests, keeps=Keeps.JOURNAL, workers=workers, shown=rules.shown, **numbers
+    ) as picker:
         for line in script.lines[2:]:
             given = reply_to(picker, model, line)
             wanted = f"refused {NO_SUCH_PIECE}" if names_no_piece(model, line) else model.play(line, given)

@@ -46,13 +46,16 @@ class Block(NamedTuple):
 @dataclass(frozen=True)
 class Rules:
     """Blocks that may be in flight at a peer, pieces at random, peers of one block in endgame, the greatest depth that may be told, and how
-    many pieces may be open before begun ones come first: with 0 they always do."""
+    many pieces may be open before begun ones come first: with 0 they always do. In endgame a block is requested again only of a peer with
+    fewer than `rush` in flight. With `shown` endgame waits only for pieces that a connected peer shows."""
 
     depth: int = 5
     random: int = 1
     askers: int = MOST_WORKERS
     deepest: int = MOST_DEPTH
     open: int = 0
+    rush: int = MOST_TOLD_DEPTH
+    shown: bool = False
 
 
 @dataclass(frozen=True)
@@ -181,7 +184,8 @@ class Model:
     def doubles(self, peer: Peer, flying: set[Block]) -> list[Block]:
         """In endgame the blocks that may be requested of one more peer."""
         lacking = [block for blocks in self.blocks for block in blocks if self.levels[block.piece] > 0 and block not in self.held]
-        if any(block not in flying for block in lacking):
+        awaited = [block for block in lacking if not self.rules.shown or self.availability(block.piece) > 0]
+        if any(block not in flying for block in awaited) or len(peer.asked) >= self.rules.rush:
             return []
         return [
             block
@@ -442,12 +446,15 @@ def opened(line: str) -> tuple[Torrent, int]:
 
 
 def ruled(line: str, pieces: int) -> Rules | None:
-    """The rules that the line sets, if it sets any: the depth, the pieces at random, and the open ones, 0 where these are left out."""
+    """The rules that the line sets, if it sets any: the depth and the pieces at random. Behind them may stand the open pieces, the bound `rush`,
+    and whether endgame waits for shown pieces alone: from the end each may be left out."""
     word, *texts = line.split(" ")
-    if word != "rules" or len(texts) not in (2, 3) or not all(is_digits(text) for text in texts):
+    numbers, answers = texts[:4], texts[4:]
+    if word != "rules" or not 2 <= len(texts) <= 5 or not all(is_digits(text) for text in numbers) or not {"yes", "no"}.issuperset(answers):
         return None
-    rules = Rules(int(texts[0]), int(texts[1]), open=int(texts[2]) if texts[2:] else 0)
-    return rules if 1 <= rules.depth <= MOST_DEPTH and rules.random <= pieces and rules.open <= MOST_OPEN else None
+    depth, at_random, most_open, rush = [*map(int, numbers), *(0, MOST_TOLD_DEPTH)[len(numbers) - 2:]]
+    is_allowed = 1 <= depth <= MOST_DEPTH and at_random <= pieces and most_open <= MOST_OPEN and rush <= MOST_TOLD_DEPTH
+    return Rules(depth, at_random, open=most_open, rush=rush, shown=answers == ["yes"]) if is_allowed else None
 
 
 def open_model(lines: list[str]) -> tuple[Model, int]:

@@ -12,7 +12,9 @@ import time
 from collections import Counter
 from typing import Callable, NamedTuple
 
-from model import BLOCK_SIZE, MOST_DEPTH, MOST_LEVEL, MOST_OPEN, MOST_WORKERS, Block, Model, NotALine, Rules, Torrent, open_model
+from model import (
+    BLOCK_SIZE, MOST_DEPTH, MOST_LEVEL, MOST_OPEN, MOST_TOLD_DEPTH, MOST_WORKERS, Block, Model, NotALine, Rules, Torrent, open_model,
+)  # fmt: skip
 
 PIECE_LENGTHS = [1, 1, 1, 2, 3, BLOCK_SIZE, BLOCK_SIZE + 1, BLOCK_SIZE + 1, 2 * BLOCK_SIZE + 1, 3 * BLOCK_SIZE + 1]
 WORD_EDGES = [2**64 - 1, 2**64 - 2, 2**63, 2**32, 2**32 - 1]
@@ -48,6 +50,14 @@ MOODS = [
 ]
 
 
+def line_of(rules: Rules) -> str:
+    """The line that sets the rules. From the end what is as usual is left out."""
+    words = [(str(rules.open), "0"), (str(rules.rush), str(MOST_TOLD_DEPTH)), ("yes" if rules.shown else "no", "no")]
+    while words and words[-1][0] == words[-1][1]:
+        words.pop()
+    return " ".join(["rules", str(rules.depth), str(rules.random), *(word for word, _ in words)])
+
+
 class Script:
     """A random script, written beside the model, with the reply that each of its lines has to have."""
 
@@ -62,11 +72,14 @@ class Script:
         if with_open and rng.randrange(2):
             at_random = 0
         most_open = rng.choice([0, 1, 1, 1, 2, 2, 3, MOST_OPEN]) if with_open else 0
-        self.rules = Rules(depth, at_random, askers, deepest, most_open)
+        rush = rng.choice([0, 1, 1, 2, 2, 3, 4, 16, MOST_TOLD_DEPTH, MOST_TOLD_DEPTH]) if with_open else MOST_TOLD_DEPTH
+        self.rules = Rules(depth, at_random, askers, deepest, most_open, rush, shown=with_open and rng.randrange(3) > 0)
+        # A piece that bitfields leave out, so that mostly nobody has it.
+        self.nowhere = rng.randrange(len(self.torrent.hashes)) if with_open and rng.randrange(2) else None
         self.model = Model(self.torrent, workers, self.rules)
         digests = " ".join(digest.hex() for digest in self.torrent.hashes)
         self.lines = [f"torrent {self.torrent.piece_length} {self.torrent.total} {workers} {digests}"]
-        self.lines.append(f"rules {depth} {at_random}" + (f" {most_open}" if most_open > 0 else ""))
+        self.lines.append(line_of(self.rules))
         self.replies: list[str] = []
         self.first_steps()
         for _ in range(rng.randrange(15, MOST_STEPS)):
@@ -95,7 +108,7 @@ class Script:
             if self.rng.randrange(12):
                 self.say(worker, "join")
                 if self.rng.randrange(12):
-                    self.say(worker, f"bits {self.flags()}")
+                    self.say(worker, f"bits {self.flags(self.nowhere)}")
                 if self.rng.randrange(12):
                     self.say(worker, "unchoke")
 
@@ -106,11 +119,11 @@ class Script:
 
     # ---- parts of lines
 
-    def flags(self) -> str:
-        """A bitfield: of some pieces, of most or of all."""
+    def flags(self, nowhere: int | None = None) -> str:
+        """A bitfield: of some pieces, of most or of all, but for one that may be told."""
         pieces = self.model.pieces
         kept = self.rng.choice([1, 2, 3, 3, 4, 4, 4])
-        bits = "".join("1" if self.rng.randrange(4) < kept else "0" for _ in range(pieces))
+        bits = "".join("1" if self.rng.randrange(4) < kept and piece != nowhere else "0" for piece in range(pieces))
         size = (pieces + 7) // 8
         return f"{int(bits.ljust(8 * size, '0'), 2):0{2 * size}x}"
 
@@ -154,7 +167,9 @@ class Script:
         self.say(worker, f"settle {self.rng.choice(waiting) if waiting and self.rng.randrange(10) else self.piece()}")
 
     def say_have(self, worker: int) -> None:
-        words: list[Callable[[], str]] = [lambda: f"have {self.piece()}", lambda: f"haves {self.flags()}", lambda: f"bits {self.flags()}"]
+        words: list[Callable[[], str]] = [
+            lambda: f"have {self.piece()}", lambda: f"haves {self.flags(self.nowhere)}", lambda: f"bits {self.flags(self.nowhere)}",
+        ]  # fmt: skip
         self.say(worker, self.rng.choices(words, [6, 3, 1])[0]())
 
     def say_choke(self, worker: int) -> None:
@@ -166,7 +181,7 @@ class Script:
     def say_rejoin(self, worker: int) -> None:
         self.say(worker, "leave")
         self.say(worker, "join")
-        self.say(worker, f"bits {self.flags()}")
+        self.say(worker, f"bits {self.flags(self.nowhere)}")
         if self.rng.randrange(4):
             self.say(worker, "unchoke")
 

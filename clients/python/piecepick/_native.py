@@ -116,7 +116,7 @@ class Digest(Structure):
 class Options(Structure):
     """struct piecepick_options."""
 
-    _fields_ = [(name, c_uint32) for name in ("size", "keeps", "workers", "depth", "deepest", "random", "askers", "open")]
+    _fields_ = [(name, c_uint32) for name in ("size", "keeps", "workers", "depth", "deepest", "random", "askers", "open", "rush", "shown")]
 
 
 # A buffer is untyped here, so that ctypes takes `bytes` where they lie, or an address.

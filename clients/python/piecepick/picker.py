@@ -156,8 +156,10 @@ def _check(call: Any, *arguments: Any) -> None:
         _fail(call.__name__, status)
 
 
-def _options(keeps: int, workers: int, depth: int, deepest: int, random: int, askers: int, most_open: int) -> _native.Options:
-    numbers = map(_u32, (keeps, workers, depth, deepest, random, askers, most_open))
+def _options(
+    keeps: int, workers: int, depth: int, deepest: int, random: int, askers: int, most_open: int, rush: int, shown: int
+) -> _native.Options:
+    numbers = map(_u32, (keeps, workers, depth, deepest, random, askers, most_open, rush, shown))
     return _native.Options(sizeof(_native.Options), *numbers)
 
 
@@ -213,9 +215,15 @@ class Picker:
         random: int = 1,
         askers: int = 2,
         open: int = 8,
+        rush: int = 32,
+        shown: bool = True,
     ) -> None:
-        """A picker for the torrent of a metainfo file. The choices are those of the header's piecepick_options."""
-        options = _options(keeps, workers, depth, deepest, random, askers, open)
+        """A picker for the torrent of a metainfo file. The choices are those of the header's piecepick_options.
+
+        In endgame a block is asked again only of a peer that is asked for fewer than `rush`: 0 is no endgame, and 4,096 no bound. With
+        `shown` endgame waits only for pieces that a joined peer shows, and without it for all wanted ones.
+        """
+        options = _options(keeps, workers, depth, deepest, random, askers, open, rush, shown)
         data, length = lend(metainfo)
         self._open(LIBRARY.piecepick_open, data, length, byref(options))
 
@@ -233,9 +241,11 @@ class Picker:
         random: int = 1,
         askers: int = 2,
         open: int = 8,
+        rush: int = 32,
+        shown: bool = True,
     ) -> Picker:
         """A picker for the torrent of these parts: lengths in bytes, and the SHA-1 of each piece in order, 20 bytes each."""
-        options = _options(keeps, workers, depth, deepest, random, askers, open)
+        options = _options(keeps, workers, depth, deepest, random, askers, open, rush, shown)
         data, length = lend(digests)
         picker = cls.__new__(cls)
         picker._open(LIBRARY.piecepick_open_parts, _u32(piece_length), _u64(total), data, length, byref(options))

@@ -5,6 +5,7 @@ from __future__ import annotations
 import hashlib
 import unittest
 from collections.abc import Callable
+from typing import Any
 
 from support import ALL, BLOCK, CONTENT, DIGESTS, INFO, METAINFO, PARTS, PIECE, PIECES, SEVERAL, bring, picker, with_peer
 
@@ -85,6 +86,8 @@ class Opening(CallCase):
             ("deepest", 4097, Status.RULES),
             ("askers", 0, Status.RULES),
             ("open", 1025, Status.RULES),
+            ("rush", 4097, Status.RULES),
+            ("shown", 2, Status.RULES),
             ("random", PIECES + 1, Status.RULES),
         ]:
             with self.subTest(name=name, number=number):
@@ -170,6 +173,51 @@ class Peers(CallCase):
             before = made.epoch
             made.leave(1)
             self.assertGreater(made.epoch, before)
+
+
+class Endgame(unittest.TestCase):
+    """What a second peer is asked for, of twenty pieces of a block each."""
+
+    def asked(self, made: Picker, worker: int) -> int:
+        """How many blocks the peer is asked for until it has none."""
+        count = 0
+        while (kind := made.next(worker).kind) is Kind.REQUEST:
+            count += 1
+        self.assertIs(kind, Kind.IDLE)
+        return count
+
+    def begin(self, flags: bytes, **choices: Any) -> Picker:
+        """Two peers that show these pieces, and have unchoked us."""
+        made = Picker.of_parts(BLOCK, 40 * BLOCK, bytes(800), workers=2, depth=64, **choices)
+        self.addCleanup(made.close)
+        for worker in range(2):
+            made.join(worker)
+            made.bits(worker, flags)
+            made.unchoke(worker)
+        return made
+
+    def test_rush(self) -> None:
+        choices: list[tuple[dict[str, int], int]] = [({}, 32), ({"rush": 0}, 0), ({"rush": 1}, 1), ({"rush": 33}, 33), ({"rush": 4096}, 40)]
+        for choice, again in choices:
+            with self.subTest(choice):
+                made = self.begin(b"\xff\xff\xff\xff\xff", **choice)
+                self.assertEqual((self.asked(made, 0), self.asked(made, 1)), (40, again))
+
+    def test_next_rush(self) -> None:
+        """With one in flight the peer gets a second one once the first came from the other peer."""
+        made = self.begin(b"\xff\xff\xff\xff\xff", rush=1)
+        self.assertEqual((self.asked(made, 0), self.asked(made, 1)), (40, 1))
+        block = made.outstanding_at(1, 0)
+        self.assertIs(made.arrived(0, block.piece, block.begin, bytes(BLOCK)).kind, Kind.COMPLETED)
+        self.assertEqual(made.next(1), block._replace(kind=Kind.CANCEL))
+        self.assertEqual(self.asked(made, 1), 1)
+
+    def test_shown(self) -> None:
+        choices: list[tuple[dict[str, bool], int]] = [({}, 3), ({"shown": True}, 3), ({"shown": False}, 0)]
+        for choice, again in choices:
+            with self.subTest(choice):
+                made = self.begin(b"\xe0\0\0\0\0", **choice)
+                self.assertEqual((self.asked(made, 0), self.asked(made, 1)), (3, again))
 
 
 class Pieces(CallCase):

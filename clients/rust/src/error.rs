@@ -43,7 +43,7 @@ errors! {
     Length = 7, "the buffer has another length";
     Memory = 8, "out of memory";
     NotHad = 9, "the piece isn't had";
-    Rules = 10, "depth, deepest, askers, random or open is out of its range";
+    Rules = 10, "depth, deepest, askers, random, open, rush or shown is out of its range";
     NotWaiting = 11, "the piece doesn't wait for a check";
     NotHashed = 13, "the job wasn't hashed";
     Place = 14, "fewer blocks than that are asked of the peer";

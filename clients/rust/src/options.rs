@@ -26,11 +26,13 @@ pub struct Options {
     random: u32,
     askers: u32,
     open: u32,
+    rush: u32,
+    shown: bool,
 }
 
 impl Default for Options {
     fn default() -> Options {
-        Options { keeps: Keeps::Nothing, workers: 50, depth: 16, deepest: 500, random: 1, askers: 2, open: 8 }
+        Options { keeps: Keeps::Nothing, workers: 50, depth: 16, deepest: 500, random: 1, askers: 2, open: 8, rush: 32, shown: true }
     }
 }
 
@@ -84,6 +86,19 @@ impl Options {
         Options { open, ..self }
     }
 
+    /// In endgame a block is asked again only of a peer that is asked for fewer than so many, 0 (no endgame) to 4,096 (no bound). 32, where it
+    /// isn't said.
+    #[must_use]
+    pub fn rush(self, rush: u32) -> Options {
+        Options { rush, ..self }
+    }
+
+    /// Whether endgame waits only for pieces that a joined peer shows, and not for all wanted ones. It does, where it isn't said.
+    #[must_use]
+    pub fn shown(self, shown: bool) -> Options {
+        Options { shown, ..self }
+    }
+
     /// The depth at first, and the greatest one that may be told.
     pub(crate) fn depths(&self) -> (u32, u32) {
         (self.depth, self.deepest)
@@ -99,6 +114,8 @@ impl Options {
             random: self.random,
             askers: self.askers,
             open: self.open,
+            rush: self.rush,
+            shown: self.shown.into(),
         }
     }
 }

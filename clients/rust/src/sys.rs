@@ -61,6 +61,8 @@ pub struct piecepick_options {
     pub random: u32,
     pub askers: u32,
     pub open: u32,
+    pub rush: u32,
+    pub shown: u32,
 }
 
 #[allow(missing_docs, clippy::too_many_arguments)]

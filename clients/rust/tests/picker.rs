@@ -64,7 +64,7 @@ fn bring(picker: &mut Picker, number: u32, bytes: &[u8]) {
 #[test]
 fn structs_are_those_of_c() {
     assert_eq!(size_of::<sys::piecepick_answer>(), 24);
-    assert_eq!(size_of::<sys::piecepick_options>(), 32);
+    assert_eq!(size_of::<sys::piecepick_options>(), 40);
     assert_eq!(size_of::<sys::piecepick_digest>(), 20);
     assert_eq!(piecepick::version(), 30_000);
 }
@@ -118,6 +118,7 @@ fn what_is_wrong_at_open_is_told() {
     assert_eq!(open(Options::new().deepest(4097)), Error::Rules);
     assert_eq!(open(Options::new().askers(0)), Error::Rules);
     assert_eq!(open(Options::new().open(1025)), Error::Rules);
+    assert_eq!(open(Options::new().rush(4097)), Error::Rules);
     assert_eq!(open(Options::new().random(PIECES + 1)), Error::Rules);
     assert_eq!(Picker::open_parts(0, 1, &[[0; 20]], Options::new()).map(|_| ()), Err(Error::PieceLength));
     assert_eq!(Picker::open_parts(1, 0, &[], Options::new()).map(|_| ()), Err(Error::NoContent));
@@ -171,6 +172,49 @@ fn the_usual_depth_is_sixteen() {
     picker.unchoke(0).unwrap();
     let asked = (0..20).take_while(|word| picker.next(0, *word).unwrap().kind() == Kind::Request).count();
     assert_eq!((asked, picker.next(0, 0).unwrap().kind()), (16, Kind::PipeFull));
+}
+
+/// Two peers that show these pieces of forty, of a block each, and have unchoked us.
+fn with_two_peers(options: Options, flags: [u8; 5]) -> Picker {
+    let mut picker = Picker::open_parts(BLOCK as u32, 40 * BLOCK as u64, &[[0; 20]; 40], options.workers(2).depth(64)).unwrap();
+    for worker in 0..2 {
+        picker.join(worker).unwrap();
+        picker.bits(worker, &flags).unwrap();
+        picker.unchoke(worker).unwrap();
+    }
+    picker
+}
+
+/// How many blocks the peer is asked for until it has none.
+fn asked(picker: &mut Picker, worker: u32) -> usize {
+    let asked = (0..).take_while(|word| picker.next(worker, *word).unwrap().kind() == Kind::Request).count();
+    assert_eq!(picker.next(worker, 0), Ok(Answer::Idle));
+    asked
+}
+
+#[test]
+fn endgame_asks_few_blocks_of_a_peer() {
+    let usual = Options::new();
+    for (options, again) in [(usual, 32), (usual.rush(0), 0), (usual.rush(1), 1), (usual.rush(33), 33), (usual.rush(4096), 40)] {
+        let mut picker = with_two_peers(options, [0xff; 5]);
+        assert_eq!((asked(&mut picker, 0), asked(&mut picker, 1)), (40, again));
+    }
+    // With one in flight it gets a second one once the first came from the other peer.
+    let mut picker = with_two_peers(usual.rush(1), [0xff; 5]);
+    assert_eq!((asked(&mut picker, 0), asked(&mut picker, 1)), (40, 1));
+    let block = picker.outstanding_at(1, 0).unwrap();
+    assert_eq!(picker.arrived(0, block.piece, block.begin, &[0; BLOCK]), Ok(Answer::Completed));
+    assert_eq!(picker.next(1, 0), Ok(Answer::Cancel(block)));
+    assert_eq!(asked(&mut picker, 1), 1);
+}
+
+#[test]
+fn endgame_waits_for_what_is_shown() {
+    let usual = Options::new();
+    for (options, again) in [(usual, 3), (usual.shown(true), 3), (usual.shown(false), 0)] {
+        let mut picker = with_two_peers(options, [0b1110_0000, 0, 0, 0, 0]);
+        assert_eq!((asked(&mut picker, 0), asked(&mut picker, 1)), (3, again));
+    }
 }
 
 #[test]

@@ -5,7 +5,7 @@ ghost use Rattle.std.specs.Prelude.{◌≡◌, ◌<◌, ◌≤◌, IfOk};
 use crate::mix::Mix;
 use anyhow::{Result, ensure};
 use bt_meta::{Bitfield, Block, Torrent};
-use bt_picker::{Call, Desk, Job, MOST_DEPTH, MOST_WORKERS, Reply, Rules};
+use bt_picker::{Call, Desk, Job, MOST_DEPTH, MOST_TOLD_DEPTH, MOST_WORKERS, Reply, Rules};
 use std::alloc::Global;
 use std::sync::Arc;
 
@@ -53,6 +53,8 @@ impl Workload {
             askers: MOST_WORKERS,
             deepest: MOST_DEPTH,
             open: 0,
+            rush: MOST_TOLD_DEPTH,
+            shown: false,
         };
         Ok(Desk::new(alloc, Arc::new(alloc, torrent)?, workers, rules)?)
     }

@@ -43,6 +43,15 @@ not_wrong s t xs i same legal wrong =
 -- a setting is told by its torrent, its workers and its rules
 pub setting_is : (s : Setting) (t : Layout) (w : ℕ) (rules : Rules) → t ≡ s.torrent → w ≡ s.workers
     → rules.depth ≡ s.depth → rules.random ≡ s.random → rules.askers ≡ s.askers → rules.deepest ≡ s.deepest → rules.«open» ≡ s.most_open
-    → setting_of t w rules ≡ s
-setting_is s t w rules a b c d e f g =
-    λ i. record { torrent = a i; workers = b i; depth = c i; random = d i; askers = e i; deepest = f i; most_open = g i }
+    → rules.rush ≡ s.rush → rules.shown ≡ s.shown → setting_of t w rules ≡ s
+setting_is s t w rules a b c d e f g h j = λ i. record {
+  torrent = a i;
+  workers = b i;
+  depth = c i;
+  random = d i;
+  askers = e i;
+  deepest = f i;
+  most_open = g i;
+  rush = h i;
+  shown = j i;
+}

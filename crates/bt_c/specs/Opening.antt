@@ -33,11 +33,12 @@ keeping_by n = if n == 0 then Some Nothing else if n == 1 then Some Begun else i
 -- a picker of the torrent may go by these choices
 abbrev pub AreChoices : Layout → Choices → Type 0
 AreChoices t o = AreRules t (rules o)
-    × ((1 ≤ o.deepest) × (o.deepest ≤ MOST_TOLD_DEPTH) × ((1 ≤ o.askers) × (o.askers ≤ MOST_WORKERS)) × (o.«open» ≤ MOST_OPEN))
+    × ((1 ≤ o.deepest) × (o.deepest ≤ MOST_TOLD_DEPTH) × ((1 ≤ o.askers) × (o.askers ≤ MOST_WORKERS)) × (o.«open» ≤ MOST_OPEN)
+    × ((o.rush ≤ MOST_TOLD_DEPTH) × (o.shown ≤ 1)))
 
 -- the options are of this interface, and say what is kept
 abbrev pub AreOptions : Choices → Type 0
-AreOptions o = (o.size ≡ 32) × (keeping_by o.keeps ≢ None)
+AreOptions o = (o.size ≡ 40) × (keeping_by o.keeps ≢ None)
 
 -- digests of 20 bytes, one behind the other
 abbrev pub digests_in : List ℕ → List (List ℕ)

@@ -26,7 +26,8 @@ pub enum Fault {
     NoMemory,
     /// The piece isn't had.
     NotHad,
-    /// A depth that isn't 1 to 64, a greatest one that isn't 1 to 4,096, no askers, or more pieces at random than there are.
+    /// A depth that isn't 1 to 64, a greatest one that isn't 1 to 4,096, no askers, more pieces at random than there are, more than 1,024 open
+    /// ones, a `rush` above 4,096, or a `shown` above 1.
     Rules,
     /// The piece isn't full, or is had already: there is nothing to check.
     NotWaiting,

@@ -27,10 +27,14 @@ pub struct Options {
     pub askers: u32,
     /// How many pieces may be open before begun ones come first, 0 to 1,024.
     pub open: u32,
+    /// In endgame a block is asked again only of a peer that is asked for fewer blocks than these, 0 to 4,096: 4,096 is no bound.
+    pub rush: u32,
+    /// Whether endgame waits only for pieces that a joined peer shows: 0 for all wanted ones, 1 for these.
+    pub shown: u32,
 }
 
 /// The bytes of the choices.
-pub const SIZE: u32 = 32;
+pub const SIZE: u32 = 40;
 
 impl Options {
     /// What the picker keeps, if such a thing is kept.
@@ -55,6 +59,8 @@ impl Options {
             askers: self.askers,
             deepest: self.deepest,
             open: self.open,
+            rush: self.rush,
+            shown: self.shown == 1,
         }
     }
 
@@ -73,6 +79,7 @@ impl Options {
         let is_deepest = 1 <= self.deepest && self.deepest <= MOST_TOLD_DEPTH;
         let are_askers = 1 <= self.askers && self.askers <= MOST_WORKERS;
         let are_pieces = self.random <= torrent.piece_count() && self.open <= MOST_OPEN;
-        are_depths && is_deepest && are_askers && are_pieces
+        let is_ending = self.rush <= MOST_TOLD_DEPTH && self.shown <= 1;
+        are_depths && is_deepest && are_askers && are_pieces && is_ending
     }
 }

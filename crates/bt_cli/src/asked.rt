@@ -1,13 +1,13 @@
 //! What the words of a command line that runs sessions say.
 
-ghost use Rattle.std.specs.Prelude.{◌≡◌, ◌≤◌, ◌<◌, ◌⊎◌, length, option_map, IfErr, IfOk, OnOk};
+ghost use Rattle.std.specs.Prelude.{◌≡◌, ◌≤◌, ◌<◌, ◌⊎◌, false, length, option_map, IfErr, IfOk, OnOk};
 ghost use Rattle.bt_cli.specs.Asks.{IsWanted};
 
 use crate::failure::Failure;
 use crate::options::Options;
 use crate::wrong::Wrong;
 use bt_peer::MOST_STREAMS;
-use bt_picker::{MOST_WORKERS, Rules};
+use bt_picker::{MOST_TOLD_DEPTH, MOST_WORKERS, Rules};
 use bt_session::MOST_CHECKERS;
 use bt_text::{MOST_DEPTH, read_hex};
 use std::alloc::Global;
@@ -40,6 +40,8 @@ impl<'w> Asked<'w> {
         ensures askers { IfOk result (λ judged. IfOk judged (λ options. options.rules.askers ≡ MOST_WORKERS)) }
         ensures deepest { IfOk result (λ judged. IfOk judged (λ options. options.rules.deepest ≡ MOST_DEPTH)) }
         ensures strict { IfOk result (λ judged. IfOk judged (λ options. options.rules.«open» ≡ 0)) }
+        ensures rush { IfOk result (λ judged. IfOk judged (λ options. options.rules.rush ≡ MOST_TOLD_DEPTH)) }
+        ensures shown { IfOk result (λ judged. IfOk judged (λ options. options.rules.shown ≡ false)) }
         ensures checkers { IfOk result (λ judged. IfOk judged (λ options. options.checkers ≡ self.now.checkers)) }
     {
         let want = match self.want {
@@ -59,6 +61,8 @@ impl<'w> Asked<'w> {
                 askers: MOST_WORKERS,
                 deepest: MOST_DEPTH,
                 open: 0,
+                rush: MOST_TOLD_DEPTH,
+                shown: false,
             },
             checkers: self.checkers,
         }))

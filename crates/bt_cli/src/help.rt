@@ -3,11 +3,14 @@
 pub const SCRIPT: &str = "\
 Lines:
   torrent PIECE_LEN TOTAL WORKERS HASH..   the first line: lengths in bytes, and the SHA-1 of each piece
-  rules DEPTH RANDOM OPEN                  if it is there, the next one: 1 to 64 blocks are asked of a peer at a time, and
+  rules DEPTH RANDOM OPEN RUSH yes|no      if it is there, the next one: 1 to 64 blocks are asked of a peer at a time, and
                                            pieces are picked at random until RANDOM are had, no more than there are;
-                                           OPEN may be left out: so many pieces may be open, 0 to 1,024, which are begun
-                                           and have an unrequested block, before begun ones come first;
-                                           else it is `rules 5 1 0`
+                                           the last three may be left out, from the end: so many pieces may be open, 0 to
+                                           1,024, which are begun and have an unrequested block, before begun ones come
+                                           first; in endgame a block is asked again only of a peer that is asked for fewer
+                                           than RUSH, 0 to 4,096; yes where endgame waits only for pieces that a joined
+                                           peer shows, no where it waits for all wanted ones;
+                                           else it is `rules 5 1 0 4096 no`
   W join | W leave                         the peer of worker W has sent its handshake | is gone
   W bits HEX | W have P                    it shows the pieces of this bitfield | piece P
   W choke | W unchoke                      it chokes us | no longer

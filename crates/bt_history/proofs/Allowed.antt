@@ -16,7 +16,7 @@ use Rattle.bt_history.specs.Setting.{Setting, some_block, some_block_of, each_bl
 use Rattle.bt_history.specs.History.{History, settles, is_had, is_failed}
 use Rattle.bt_history.specs.Peers.{asked, asked_count, due, depth_of}
 use Rattle.bt_history.specs.Pieces.{held, full, content, had, asked_of_some, asker_count, unasked, wanted, endgame}
-use Rattle.bt_history.specs.Next.{Answer, Exactly, usable, tops, continues, starts, rises, doubles, next_answer}
+use Rattle.bt_history.specs.Next.{Answer, Exactly, usable, tops, continues, starts, rises, doubles, rushes, next_answer}
 use Rattle.bt_history.specs.Legal.{same_bytes, first_cause, refusal, answer, answer_unless, arrived_answer, settled_answer, Permits, IsAllowed}
 use Rattle.bt_history.specs.Legal.{causes}
 use Rattle.bt_history.specs.Logs.{answers, answers_next, answers_arrived, call_mark}
@@ -121,6 +121,7 @@ pub record RequestFacts (s : Setting) (h : History) (w : ℕ) (b : Block) : Type
   pub room : asked_count s h w < depth_of s h w
   pub alone : (asked_of_some s h b ≡ false) ⊎ (endgame s h ≡ true)
   pub few : (asked_of_some s h b ≡ false) ⊎ (nat_lt (asker_count s h b) s.askers ≡ true)
+  pub rushing : (asked_of_some s h b ≡ false) ⊎ (rushes s h w ≡ true)
 
 unasked_facts : (s : Setting) (h : History) (b : Block) → unasked s h b ≡ true → (held h b ≡ false) × (asked_of_some s h b ≡ false)
 unasked_facts s h b is = or_parts (held h b) (asked_of_some s h b) (not-true _ is)
@@ -131,29 +132,32 @@ top_usable s h w b is = (and_parts (usable s h w b) _ is).0
 
 request_kind : (s : Setting) (h : History) (w : ℕ) (b : Block) → w < s.workers
     → (rises s h w b ≡ true) ⊎ ((continues s h w b ≡ true) ⊎ ((starts s h w b ≡ true) ⊎
-    (((endgame s h && some_block s.torrent (doubles s h w)) ≡ true) × (doubles s h w b ≡ true))))
+    (((rushes s h w && (endgame s h && some_block s.torrent (doubles s h w))) ≡ true) × (doubles s h w b ≡ true))))
     → (asked h w b ≡ false) × (held h b ≡ false) × ((asked_of_some s h b ≡ false) ⊎ (endgame s h ≡ true))
     × ((asked_of_some s h b ≡ false) ⊎ (nat_lt (asker_count s h b) s.askers ≡ true))
+    × ((asked_of_some s h b ≡ false) ⊎ (rushes s h w ≡ true))
 request_kind s h w b lt kind = ⊎_elim
     (λ (up : rises s h w b ≡ true). from_top (and_parts (tops s h w b) _ up).0)
     (λ others. ⊎_elim
     (λ (on : continues s h w b ≡ true). from_top (and_parts (tops s h w b) _ on).0)
     (λ rest. ⊎_elim
     (λ (first : starts s h w b ≡ true). from_top (and_parts (tops s h w b) _ first).0)
-    (λ (both : ((endgame s h && some_block s.torrent (doubles s h w)) ≡ true) × (doubles s h w b ≡ true)).
-    let ending = (and_parts (endgame s h) _ both.0).0 in
+    (λ (both : ((rushes s h w && (endgame s h && some_block s.torrent (doubles s h w))) ≡ true) × (doubles s h w b ≡ true)).
+    let rushing = and_parts (rushes s h w) _ both.0 in
+    let ending = (and_parts (endgame s h) _ rushing.1).0 in
     let lacking = and_parts (not (held h b)) (nat_lt (asker_count s h b) s.askers && not (asked h w b))
     (and_parts _ _ (and_parts (wanted s h b.piece) _ both.1).1).1 in
     let free = and_parts (nat_lt (asker_count s h b) s.askers) (not (asked h w b)) lacking.1 in
-    (not-true (asked h w b) free.1, not-true (held h b) lacking.0, inr ending, inr free.0))
+    (not-true (asked h w b) free.1, not-true (held h b) lacking.0, inr ending, inr free.0, inr rushing.0))
     rest)
     others)
     kind where
       from_top : tops s h w b ≡ true → (asked h w b ≡ false) × (held h b ≡ false) × ((asked_of_some s h b ≡ false) ⊎ (endgame s h ≡ true))
           × ((asked_of_some s h b ≡ false) ⊎ (nat_lt (asker_count s h b) s.askers ≡ true))
+          × ((asked_of_some s h b ≡ false) ⊎ (rushes s h w ≡ true))
       from_top is =
           let free = unasked_facts s h b (and_parts (unasked s h b) _ (top_usable s h w b is)).0 in
-          (any_fails s.workers (λ q. asked h q b) w free.1 lt, free.0, inl free.1, inl free.1)
+          (any_fails s.workers (λ q. asked h q b) w free.1 lt, free.0, inl free.1, inl free.1, inl free.1)
 
 next_facts : (s : Setting) (h : History) (w : ℕ) (b : Block) → w < s.workers → Permits s.torrent (next_answer s h w) (Request b) →
     RequestFacts s h w b
@@ -168,6 +172,7 @@ next_facts s h w b lt is =
       room = leb-false (depth_of s h w) (asked_count s h w) facts.room;
       alone = kind.2;
       few = kind.3;
+      rushing = kind.4;
     }
 
 -- only Next is replied by a request

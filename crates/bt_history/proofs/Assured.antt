@@ -5,6 +5,7 @@ use Rattle.bt_history.specs.Legal.{IsLegal}
 use Rattle.bt_history.specs.Assured.{Assures}
 use Rattle.bt_history.proofs.Askers.{askers_few}
 use Rattle.bt_history.proofs.Depths.{so_far_bounded}
+use Rattle.bt_history.proofs.Endgame.{second_has_few}
 use Rattle.bt_history.proofs.HeldLaws.{endgame_asks_all, had_facts, had_hash, held_unasked, second_in_endgame}
 use Rattle.bt_history.proofs.Levels.{higher_first, level_bounded}
 use Rattle.bt_history.proofs.LineLaws.{asked_and_due}
@@ -18,6 +19,7 @@ assured s h legal = record {
   spared = λ q b is. held_unasked s h q b legal is;
   sent = sender_held h;
   second = λ e b q allowed is too c inside want. endgame_asks_all s h c (second_in_endgame s h e q b legal allowed is too) inside want;
+  rushed = λ e b q allowed is too. second_has_few s h e q b legal allowed is too;
   higher = λ e b allowed is. higher_first s h e b allowed is;
   opened = λ e b allowed is unordered fresh many. few_open s h e b allowed is unordered many fresh;
   rarest = λ e b allowed is unordered some room c inside fits same.

@@ -1,5 +1,5 @@
 -- Tests and sums over the numbers below a bound.
-use Rattle.std.proofs.Common.{◌≡◌, ◌≢◌, ◌≤◌, ℕ, zero, suc, ◌+◌, ◌<◌, Bool, true, false, ◌||◌, refl, ap, sym, ◌∙◌, arith, ⊎_elim, subst}
+use Rattle.std.proofs.Common.{◌≡◌, ◌≢◌, ◌≤◌, ℕ, zero, suc, ◌+◌, ◌<◌, Bool, true, false, ◌&&◌, ◌||◌, refl, ap, sym, ◌∙◌, arith, ⊎_elim, subst}
 use Rattle.std.proofs.lemmas.Bool.{or_cases, or_from, or_left, or_right, or_parts, and_from, and_parts, cases_eq, cases_lt, cases_Bool, false≢true}
 use Rattle.std.specs.Prelude.{if◌then◌else◌}
 use Rattle.bt_history.specs.Counting.{any_below, all_below, count_below, sum_below}
@@ -30,6 +30,10 @@ pub any_same : (n : ℕ) (f g : ℕ → Bool) → ((k : ℕ) → k < n → f k �
 any_same zero f g h = refl
 any_same (suc n) f g h =
     ap (λ (b : Bool). b || f n) (any_same n f g (λ k lt. h k (omega arith))) ∙ ap (λ (b : Bool). any_below n g || b) (h n (omega arith))
+
+pub all_same : (n : ℕ) (f g : ℕ → Bool) → ((k : ℕ) → k < n → f k ≡ g k) → all_below n f ≡ all_below n g
+all_same zero f g h = refl
+all_same (suc n) f g h = λ i. all_same n f g (λ k lt. h k (omega (arith, lt))) i && h n (omega arith) i
 
 pub all_found : (n : ℕ) (test : ℕ → Bool) → ((k : ℕ) → k < n → test k ≡ true) → all_below n test ≡ true
 all_found zero test h = refl

@@ -59,7 +59,7 @@ told_bound : (s : Setting) (h : History) (w n : ℕ) → refusal s h w (Depth n)
 told_bound s h w n is = ltb-false (deepest_told s) n (or_parts (nat_lt n 1) _ (none_holds (causes s h w (Depth n)) is).1.0).1
 
 -- where a call counts it was not refused
-counting : (s : Setting) (h : History) (q : ℕ) (e : Event) (a : Action) → IsAllowed s h e → own_call q e ≡ Some a → refusal s h e.worker a ≡ None
+pub counting : (s : Setting) (h : History) (q : ℕ) (e : Event) (a : Action) → IsAllowed s h e → own_call q e ≡ Some a → refusal s h e.worker a ≡ None
 counting s h q e a allowed is =
     ap (refusal s h e.worker) (sym (own_is q e a is)) ∙ no_cause s h e (λ reason refused. unrefused reason refused) allowed
   where

@@ -9,17 +9,16 @@ use Rattle.bt_history.specs.declared.call.Reply.TheVariants.{Choked, PipeFull, I
 use Rattle.bt_history.specs.declared.event.Action.{Action}
 use Rattle.bt_history.specs.declared.event.Action.TheVariants.{Want, Level, Levels, InOrder}
 use Rattle.bt_history.specs.declared.rules.TheConstants.{USUAL_LEVEL}
-use Rattle.bt_history.specs.Counting.{all_below}
 use Rattle.bt_history.specs.Setting.{Setting, some_block, each_block_of}
 use Rattle.bt_history.specs.History.{History, counts, counted_call}
 use Rattle.bt_history.specs.Peers.{shows, is_open, asked_count, depth_of, due}
 use Rattle.bt_history.specs.Pieces.{unasked, wanted, chosen, level, level_after, level_if, in_order, in_order_after}
 use Rattle.bt_history.specs.Pieces.{begun, unbegun, availability, endgame, interesting, had_count}
 use Rattle.bt_history.specs.Next.{Exactly, CancelOf, RequestOf, usable, tops, is_candidate, is_strict, none_rarer, resumes, continues, starts, rises}
-use Rattle.bt_history.specs.Next.{doubles, next_answer}
+use Rattle.bt_history.specs.Next.{doubles, rushes, next_answer}
 use Rattle.bt_history.specs.Before.{chosen_then, chosen_before, none_rarer_before, continues_before, starts_before, next_before, is_levelling}
 use Rattle.bt_history.specs.Before.{never_levels}
-use Rattle.bt_history.proofs.Below.{all_found}
+use Rattle.bt_history.proofs.Below.{all_found, all_same}
 
 -- ---- one level
 
@@ -62,13 +61,6 @@ chosen_as_before h p never = ap (nat_lt 0) (level_flat h p never) ∙ above_none
 -- ---- the answers where all wanted pieces are of the usual level
 
 -- tests that agree below n
-all_same : (n : ℕ) (f g : ℕ → Bool) → ((k : ℕ) → k < n → f k ≡ g k) → all_below n f ≡ all_below n g
-all_same zero f g same = refl
-all_same (suc n) f g same =
-    let step = all_same n f g (λ k lk. same k (omega (arith, lk))) in
-    let last = same n (omega arith) in
-    λ i. step i && last i
-
 module _ (s : Setting) (h : History) (q : ℕ) (never : never_levels h ≡ true) where
   flat : (p : ℕ) → wanted s h p ≡ true → level h p ≡ USUAL_LEVEL
   flat p wants =
@@ -140,6 +132,6 @@ module _ (s : Setting) (h : History) (q : ℕ) (never : never_levels h ≡ true)
       else if unordered h never i && some_block s.torrent (usable s h q) then RequestOf (rises s h q)
       else if some_block s.torrent (λ b. continues_flat b i) then RequestOf (λ b. continues_flat b i)
       else if some_block s.torrent (usable s h q) then RequestOf (λ b. starts_flat b i)
-      else if endgame s h && some_block s.torrent (doubles s h q) then RequestOf (doubles s h q)
+      else if rushes s h q && (endgame s h && some_block s.torrent (doubles s h q)) then RequestOf (doubles s h q)
       else if interesting s h q then Exactly Idle
       else Exactly NothingLeft

@@ -14,7 +14,7 @@ use Rattle.bt_history.specs.declared.event.Event.{Event}
 use Rattle.bt_history.specs.Setting.{Setting, is_block, each_block, each_block_of}
 use Rattle.bt_history.specs.History.{History, own_call, same_begin, stored, stores, bytes_for, failed, is_failed, is_had, settles, passed, requested}
 use Rattle.bt_history.specs.Peers.{asked, asks, resets, lasts, outstanding}
-use Rattle.bt_history.specs.Pieces.{kept, held, content, joined_below, full, had, asked_of_some, held_or_asked, unasked, wanted, endgame, was_endgame}
+use Rattle.bt_history.specs.Pieces.{kept, held, content, joined_below, full, had, asked_of_some, held_or_asked, unasked, awaited, endgame, was_endgame}
 use Rattle.bt_history.specs.Legal.{IsLegal, IsAllowed, same_bytes}
 use Rattle.bt_history.proofs.Below.{any_fails, all_at, all_found}
 use Rattle.bt_history.proofs.SameBegin.{held_at}
@@ -222,18 +222,18 @@ second_in_endgame s h e other b legal allowed is two =
     (λ (ending : endgame s h ≡ true). ending)
     facts.alone
 
--- in endgame each wanted block is held, or asked of somebody
-pub endgame_asks_all : (s : Setting) (h : History) (b : Block) → endgame s h ≡ true → is_block s.torrent b ≡ true → wanted s h b.piece ≡ true
+-- in endgame each awaited block is held, or asked of somebody
+pub endgame_asks_all : (s : Setting) (h : History) (b : Block) → endgame s h ≡ true → is_block s.torrent b ≡ true → awaited s h b.piece ≡ true
     → unasked s h b ≡ false
 endgame_asks_all s h b ending is want =
-    let asks_all = and_parts (each_block s.torrent (λ c. not (wanted s h c.piece) || held_or_asked s h c)) _ ending in
+    let asks_all = and_parts (each_block s.torrent (λ c. not (awaited s h c.piece) || held_or_asked s h c)) _ ending in
     let place = block_index s.torrent b is in
     let of_piece = all_at (piece_count s.torrent)
-    (λ p. each_block_of s.torrent p (λ c. not (wanted s h c.piece) || held_or_asked s h c)) b.piece asks_all.0 place.piece in
+    (λ p. each_block_of s.torrent p (λ c. not (awaited s h c.piece) || held_or_asked s h c)) b.piece asks_all.0 place.piece in
     let here = all_at (block_count s.torrent b.piece)
-    (λ k. not (wanted s h (block s.torrent b.piece k).piece) || held_or_asked s h (block s.torrent b.piece k)) place.index of_piece place.within in
-    not_lacking (wanted s h b.piece) (held_or_asked s h b) want
-    (ap (λ (c : Block). not (wanted s h c.piece) || held_or_asked s h c) place.is ∙ here)
+    (λ k. not (awaited s h (block s.torrent b.piece k).piece) || held_or_asked s h (block s.torrent b.piece k)) place.index of_piece place.within in
+    not_lacking (awaited s h b.piece) (held_or_asked s h b) want
+    (ap (λ (c : Block). not (awaited s h c.piece) || held_or_asked s h c) place.is ∙ here)
   where
     not_lacking : (x y : Bool) → x ≡ true → (not x || y) ≡ true → not y ≡ false
     not_lacking true true want here = refl

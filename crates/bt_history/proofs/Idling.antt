@@ -19,14 +19,15 @@ use Rattle.bt_history.specs.History.{cancelled, cancelled_by, failed, passed, is
 use Rattle.bt_history.specs.Peers.{asked, asks, asked_count, resets, releases, lasts, shows, shows_after, is_open, is_open_after, told_depth}
 use Rattle.bt_history.specs.Peers.{told_after, depth_of, due}
 use Rattle.bt_history.specs.Pieces.{kept, held, had, in_order, level, level_after, wanted, interesting, asked_of_some, asker_count, held_or_asked}
-use Rattle.bt_history.specs.Pieces.{unasked, endgame}
-use Rattle.bt_history.specs.Next.{Exactly, usable, tops, continues, starts, rises, doubles, next_answer}
+use Rattle.bt_history.specs.Pieces.{unasked, awaited, endgame}
+use Rattle.bt_history.specs.Next.{Exactly, usable, tops, continues, starts, rises, doubles, rushes, next_answer}
 use Rattle.bt_history.specs.Legal.{IsLegal, IsAllowed, place_at}
 use Rattle.bt_history.specs.Logs.{answers, call_mark}
 use Rattle.bt_history.specs.Epochs.{asked_alone, begins_endgame, epoch, is_idle, is_request, pass_by, passes_by, stirs, stores_beyond, unsettles}
 use Rattle.bt_history.proofs.Below.{any_fails, any_found, any_witness, all_at, all_found, count_at, count_short, one_if}
 use Rattle.bt_history.proofs.Allowed.{allowed_answers, top_usable, worker_below}
 use Rattle.bt_history.proofs.Askers.{count_less}
+use Rattle.bt_history.proofs.Endgame.{awaited_on}
 use Rattle.bt_history.proofs.HeldLaws.{asked_at, asking}
 use Rattle.bt_history.proofs.NextCases.{next_cases, next_is}
 
@@ -39,7 +40,7 @@ record Calm (s : Setting) (h : History) (e : Event) : Type 0 where
   pub fails_none : (p : ℕ) → failed e p ≡ false
   pub passes_none : (p : ℕ) → passed e p ≡ false
   pub levels_same : (p before : ℕ) → level_after (counted_call e) p before ≡ before
-  pub stores_awaited : (b : Block) → is_some (stored e b) ≡ true → (asked h e.worker b ≡ true) × (asker_count s h b ≡ 1)
+  pub stores_own : (b : Block) → is_some (stored e b) ≡ true → (asked h e.worker b ≡ true) × (asker_count s h b ≡ 1)
   pub begins_none : (b : Block) → e.reply ≡ Request b → (not (endgame s h) && endgame s (e ∷ h)) ≡ false
 
 calm_resets : (call : Action) (x : Bool) → unsettles call ≡ false → resets (if x then Some call else None) ≡ false
@@ -91,15 +92,15 @@ refused_calm s h e refused = record {
   fails_none = λ p. and_left (is_failed e.reply) _ (refused_says e.reply refused).fails;
   passes_none = λ p. and_left (is_had e.reply) _ (refused_says e.reply refused).passes;
   levels_same = λ p before. ap (λ (x : Bool). level_after (if x then Some e.action else None) p before) refused;
-  stores_awaited = λ b is. absurd
+  stores_own = λ b is. absurd
       (false≢true (sym (ap (λ (x : Bool). is_some (if x then bytes_for b e.action else None)) (refused_says e.reply refused).stores_none) ∙ is));
   begins_none = λ b is. absurd (false≢true (sym refused ∙ ap counts is));
 }
 
 -- a stored block that its own peer alone was asked for
-awaited : (s : Setting) (h : History) (e : Event) (b : Block) (call : Action) → stores_beyond s h e call ≡ false
+stored_alone : (s : Setting) (h : History) (e : Event) (b : Block) (call : Action) → stores_beyond s h e call ≡ false
     → is_some (if stores e.reply then bytes_for b call else None) ≡ true → (asked h e.worker b ≡ true) × (asker_count s h b ≡ 1)
-awaited s h e b (Arrived p begin bytes) within is = by_reply (stores e.reply) within is where
+stored_alone s h e b (Arrived p begin bytes) within is = by_reply (stores e.reply) within is where
   by_place : (x : Bool) → ((p == b.piece) && (begin == b.begin)) ≡ x → asked_alone s h e.worker p begin ≡ true
       → is_some (if x then Some bytes else None) ≡ true → (asked h e.worker b ≡ true) × (asker_count s h b ≡ 1)
   by_place false here alone some = absurd (cc some)
@@ -112,7 +113,7 @@ awaited s h e b (Arrived p begin bytes) within is = by_reply (stores e.reply) wi
       → is_some (if x then bytes_for b (Arrived p begin bytes) else None) ≡ true → (asked h e.worker b ≡ true) × (asker_count s h b ≡ 1)
   by_reply false none some = absurd (cc some)
   by_reply true none some = by_place ((p == b.piece) && (begin == b.begin)) refl (not-false (asked_alone s h e.worker p begin) none) some
-awaited s h e b call within is = absurd (false≢true (sym (nothing (stores e.reply)) ∙ is)) where
+stored_alone s h e b call within is = absurd (false≢true (sym (nothing (stores e.reply)) ∙ is)) where
   nothing : (x : Bool) → is_some (if x then bytes_for b call else None) ≡ false
   nothing true = refl
   nothing false = refl
@@ -125,7 +126,7 @@ still_calm s h e settled begun_none within = record {
   fails_none = λ p. and_right (is_failed e.reply) (settles e.action p) (calm_settles e.action p settled);
   passes_none = λ p. and_right (is_had e.reply) (settles e.action p) (calm_settles e.action p settled);
   levels_same = λ p before. calm_levels e.action (counts e.reply) p before settled;
-  stores_awaited = λ b is. awaited s h e b e.action within is;
+  stores_own = λ b is. stored_alone s h e b e.action within is;
   begins_none = λ b is. sym (ap (λ (r : Reply). is_request r && (not (endgame s h) && endgame s (e ∷ h))) is) ∙ begun_none;
 }
 
@@ -256,7 +257,7 @@ module _ (s : Setting) (h : History) (e : Event) (allowed : IsAllowed s h e) (st
   fresh_held : (b : Block) → held_or_asked s h b ≡ false → held (e ∷ h) b ≡ true → ⊥
   fresh_held b none holds =
       let parts = or_parts (held h b) (asked_of_some s h b) none in
-      let asked_one = (still.stores_awaited b (newly_held b parts.0 holds)).0 in
+      let asked_one = (still.stores_own b (newly_held b parts.0 holds)).0 in
       false≢true (sym (any_fails s.workers (λ w. asked h w b) e.worker parts.1 (worker_below s h e allowed)) ∙ asked_one)
 
   -- nor is it asked of somebody, where an endgame came that wasn't: the entry would have begun it
@@ -288,29 +289,29 @@ module _ (s : Setting) (h : History) (e : Event) (allowed : IsAllowed s h e) (st
       and_from (wanted s h b.piece) (not (held h b)) (sym (wanted_same b.piece) ∙ both.0)
       (ap not (unheld_before b (not-true (held (e ∷ h) b) both.1)))
 
-  each_before : endgame s (e ∷ h) ≡ true → endgame s h ≡ false → (b : Block) → (not (wanted s (e ∷ h) b.piece) || held_or_asked s (e ∷ h) b) ≡ true
-      → (not (wanted s h b.piece) || held_or_asked s h b) ≡ true
-  each_before now older b is =
-      by_wanted (wanted s h b.piece) (sym (ap (λ (x : Bool). not x || held_or_asked s (e ∷ h) b) (wanted_same b.piece)) ∙ is) where
-        by_wanted : (x : Bool) → (not x || held_or_asked s (e ∷ h) b) ≡ true → (not x || held_or_asked s h b) ≡ true
-        by_wanted false touched = refl
-        by_wanted true touched = touched_before now older b touched
+  each_before : endgame s (e ∷ h) ≡ true → endgame s h ≡ false → (b : Block) → (not (awaited s (e ∷ h) b.piece) || held_or_asked s (e ∷ h) b) ≡ true
+      → (not (awaited s h b.piece) || held_or_asked s h b) ≡ true
+  each_before now older b is = by_awaited (awaited s h b.piece) refl where
+    by_awaited : (x : Bool) → awaited s h b.piece ≡ x → (not x || held_or_asked s h b) ≡ true
+    by_awaited false isnt = refl
+    by_awaited true before = touched_before now older b
+        (sym (ap (λ (x : Bool). not x || held_or_asked s (e ∷ h) b) (awaited_on s h e allowed still.resets_none b.piece (wanted_same b.piece) before)) ∙ is)
 
   -- an endgame now was one before
   endgame_before : endgame s (e ∷ h) ≡ true → endgame s h ≡ true
   endgame_before now = by_before (endgame s h) refl where
-    parts : (each_block s.torrent (λ b. not (wanted s (e ∷ h) b.piece) || held_or_asked s (e ∷ h) b) ≡ true)
+    parts : (each_block s.torrent (λ b. not (awaited s (e ∷ h) b.piece) || held_or_asked s (e ∷ h) b) ≡ true)
         × (some_block s.torrent (λ b. wanted s (e ∷ h) b.piece && not (held (e ∷ h) b)) ≡ true)
-    parts = and_parts (each_block s.torrent (λ b. not (wanted s (e ∷ h) b.piece) || held_or_asked s (e ∷ h) b))
+    parts = and_parts (each_block s.torrent (λ b. not (awaited s (e ∷ h) b.piece) || held_or_asked s (e ∷ h) b))
         (some_block s.torrent (λ b. wanted s (e ∷ h) b.piece && not (held (e ∷ h) b))) now
 
     by_before : (x : Bool) → endgame s h ≡ x → x ≡ true
     by_before true older = refl
     by_before false older =
-        sym older ∙ and_from (each_block s.torrent (λ b. not (wanted s h b.piece) || held_or_asked s h b))
+        sym older ∙ and_from (each_block s.torrent (λ b. not (awaited s h b.piece) || held_or_asked s h b))
         (some_block s.torrent (λ b. wanted s h b.piece && not (held h b)))
-        (each_stronger s.torrent (λ b. not (wanted s (e ∷ h) b.piece) || held_or_asked s (e ∷ h) b)
-        (λ b. not (wanted s h b.piece) || held_or_asked s h b) (each_before now older) parts.0)
+        (each_stronger s.torrent (λ b. not (awaited s (e ∷ h) b.piece) || held_or_asked s (e ∷ h) b)
+        (λ b. not (awaited s h b.piece) || held_or_asked s h b) (each_before now older) parts.0)
         (some_weaker s.torrent (λ b. wanted s (e ∷ h) b.piece && not (held (e ∷ h) b)) (λ b. wanted s h b.piece && not (held h b)) lacking_before
         parts.1)
 
@@ -375,7 +376,7 @@ silent s h e q allowed still lq is = ⊎_elim
       asks_none = ap (λ (x : Bool). if x then requested_by e.reply else []) apart;
       cancels_none = λ b. and_left (e.worker == q) (cancelled_by e.reply b) apart;
       stores_none = λ b some.
-          let awaited_by = still.stores_awaited b some in
+          let awaited_by = still.stores_own b some in
           one_alone s.workers (λ w. asked h w b) e.worker q (worker_below s h e allowed) lq
           (λ same. false≢true (sym apart ∙ eq-eqb e.worker q (sym same))) awaited_by.0 awaited_by.1;
     })
@@ -526,20 +527,30 @@ module _ (s : Setting) (h : History) (e : Event) (q : ℕ) (allowed : IsAllowed 
       (λ b both. top_usable s (e ∷ h) q b (and_parts (tops s (e ∷ h) q b) _ both).0) first in
       let up : (in_order (e ∷ h) && some_block s.torrent (usable s (e ∷ h) q)) ≡ false =
       and_right (in_order (e ∷ h)) (some_block s.torrent (usable s (e ∷ h) q)) first in
-      let again : (endgame s (e ∷ h) && some_block s.torrent (doubles s (e ∷ h) q)) ≡ false = none_again facts.again in
+      let again : (rushes s (e ∷ h) q && (endgame s (e ∷ h) && some_block s.torrent (doubles s (e ∷ h) q))) ≡ false = none_again facts.again in
       let waits : interesting s (e ∷ h) q ≡ interesting s h q =
       λ i. any_below (piece_count s.torrent)
       (λ p. wanted_same s h e allowed still p i && (shows_same p i && not (had_same s h e allowed still p i))) in
       rw (next_is s (e ∷ h) q, none_due, open_same ∙ facts.opened, room, up, on, first, again, waits) (by_waits (interesting s h q) facts.says)
     where
-      none_again : (endgame s h && some_block s.torrent (doubles s h q)) ≡ false
-          → (endgame s (e ∷ h) && some_block s.torrent (doubles s (e ∷ h) q)) ≡ false
-      none_again none = by_test (endgame s (e ∷ h)) refl where
-        by_test : (x : Bool) → endgame s (e ∷ h) ≡ x → (x && some_block s.torrent (doubles s (e ∷ h) q)) ≡ false
-        by_test false now = refl
-        by_test true now =
-            none_stronger s.torrent (doubles s h q) (doubles s (e ∷ h) q) doubles_before
-            (sym (ap (λ (x : Bool). x && some_block s.torrent (doubles s h q)) (endgame_before s h e allowed still now)) ∙ none)
+      rushes_same : rushes s (e ∷ h) q ≡ rushes s h q
+      rushes_same = λ i. nat_lt (count_blocks s.torrent (λ b. asked_same b i)) s.rush
+
+      none_again : (rushes s h q && (endgame s h && some_block s.torrent (doubles s h q))) ≡ false
+          → (rushes s (e ∷ h) q && (endgame s (e ∷ h) && some_block s.torrent (doubles s (e ∷ h) q))) ≡ false
+      none_again none = ap (λ (x : Bool). x && (endgame s (e ∷ h) && some_block s.torrent (doubles s (e ∷ h) q))) rushes_same
+          ∙ by_rush (rushes s h q) none where
+            by_test : (x : Bool) → endgame s (e ∷ h) ≡ x → (endgame s h && some_block s.torrent (doubles s h q)) ≡ false
+                → (x && some_block s.torrent (doubles s (e ∷ h) q)) ≡ false
+            by_test false now none = refl
+            by_test true now none =
+                none_stronger s.torrent (doubles s h q) (doubles s (e ∷ h) q) doubles_before
+                (sym (ap (λ (x : Bool). x && some_block s.torrent (doubles s h q)) (endgame_before s h e allowed still now)) ∙ none)
+
+            by_rush : (x : Bool) → (x && (endgame s h && some_block s.torrent (doubles s h q))) ≡ false
+                → (x && (endgame s (e ∷ h) && some_block s.torrent (doubles s (e ∷ h) q))) ≡ false
+            by_rush false none = refl
+            by_rush true none = by_test (endgame s (e ∷ h)) refl none
 
       by_waits : (x : Bool) → (if x then Idle else NothingLeft) ≡ reply → (if x then Exactly Idle else Exactly NothingLeft) ≡ Exactly reply
       by_waits true says = ap Exactly says

@@ -16,6 +16,7 @@ pub mod Finished
 pub mod Before
 pub mod Askers
 pub mod Depths
+pub mod Endgame
 pub mod Idling
 pub mod Sending
 pub mod Levels

@@ -10,7 +10,8 @@ use Rattle.bt_history.specs.Setting.{Setting, some_block, is_block}
 use Rattle.bt_history.specs.History.{History}
 use Rattle.bt_history.specs.Peers.{is_open, asked_count, due, depth_of}
 use Rattle.bt_history.specs.Pieces.{endgame, interesting, in_order}
-use Rattle.bt_history.specs.Next.{Answer, Exactly, CancelOf, RequestOf, usable, continues, starts, rises, doubles, next_answer}
+use Rattle.bt_history.specs.Next.{Answer, Exactly, CancelOf, RequestOf, usable, continues, starts, rises, doubles}
+use Rattle.bt_history.specs.Next.{rushes, next_answer}
 use Rattle.bt_history.specs.Legal.{Permits}
 use Rattle.bt_history.specs.Logs.{answers_next}
 
@@ -32,10 +33,22 @@ next_cases has_due opened full rises_one goes_on starts_one doubles_one waits ca
 pub next_is : (s : Setting) (h : History) (q : ℕ) → next_answer s h q
     ≡ next_cases (some_block s.torrent (due h q)) (is_open h q) (nat_le (depth_of s h q) (asked_count s h q))
     (in_order h && some_block s.torrent (usable s h q)) (some_block s.torrent (continues s h q)) (some_block s.torrent (usable s h q))
-    (endgame s h && some_block s.torrent (doubles s h q)) (interesting s h q)
+    (rushes s h q && (endgame s h && some_block s.torrent (doubles s h q))) (interesting s h q)
     (due h q) (rises s h q) (continues s h q) (starts s h q) (doubles s h q)
 unfolding next_answer next_cases
 next_is s h q = refl
+
+-- a test of few blocks that holds wherever the pipe isn't full makes no difference
+pub without_test : (few has_due opened full rises_one goes_on starts_one doubles_one waits : Bool) (cancels risings ons firsts seconds : Block → Bool)
+    → (full ≡ false → few ≡ true)
+    → next_cases has_due opened full rises_one goes_on starts_one (few && doubles_one) waits cancels risings ons firsts seconds
+    ≡ next_cases has_due opened full rises_one goes_on starts_one doubles_one waits cancels risings ons firsts seconds
+unfolding next_cases
+without_test few true _ _ _ _ _ _ _ cancels risings ons firsts seconds slow = refl
+without_test few false false _ _ _ _ _ _ cancels risings ons firsts seconds slow = refl
+without_test few false true true _ _ _ _ _ cancels risings ons firsts seconds slow = refl
+without_test few false true false rises_one goes_on starts_one doubles_one waits cancels risings ons firsts seconds slow =
+    ap (λ (x : Bool). next_cases false true false rises_one goes_on starts_one (x && doubles_one) waits cancels risings ons firsts seconds) (slow refl)
 
 -- the reply is one of those to Next
 pub next_answers : (t : Layout) (has_due opened full rises_one goes_on starts_one doubles_one waits : Bool)

@@ -14,7 +14,7 @@ use Rattle.bt_history.specs.Peers.{shows, is_open, asked_count, due, depth_of}
 use Rattle.bt_history.specs.Pieces.{availability, begun, endgame, had, had_count, held, held_or_asked, in_order, interesting, is_open_piece, level}
 use Rattle.bt_history.specs.Pieces.{open_count, unasked, unbegun, wanted}
 use Rattle.bt_history.specs.Next.{Answer, Exactly, CancelOf, RequestOf, usable, tops, none_rarer, resumes, is_candidate, is_rarest, is_strict}
-use Rattle.bt_history.specs.Next.{goes_first, continues, starts, rises, doubles, next_answer}
+use Rattle.bt_history.specs.Next.{goes_first, continues, starts, rises, doubles, rushes, next_answer}
 use Rattle.bt_history.specs.Before.{continues_strictly, next_strict}
 use Rattle.bt_history.specs.Legal.{IsAllowed, IsLegal, Permits}
 use Rattle.bt_history.proofs.Allowed.{request_next, top_usable}
@@ -39,7 +39,7 @@ strict_answer s h q none = λ i.
     else if in_order h && some_block s.torrent (usable s h q) then RequestOf (rises s h q)
     else if some_block s.torrent (λ b. on b i) then RequestOf (λ b. on b i)
     else if some_block s.torrent (usable s h q) then RequestOf (starts s h q)
-    else if endgame s h && some_block s.torrent (doubles s h q) then RequestOf (doubles s h q)
+    else if rushes s h q && (endgame s h && some_block s.torrent (doubles s h q)) then RequestOf (doubles s h q)
     else if interesting s h q then Exactly Idle
     else Exactly NothingLeft
   where

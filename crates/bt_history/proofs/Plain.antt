@@ -1,7 +1,9 @@
 -- A plain history is legal just where it was before there were later calls.
-use Rattle.std.proofs.Common.{◌≡◌, ◌↔◌, ℕ, ◌==◌, ◌<◌, ◌≤◌, Bool, true, not, ◌&&◌, ◌||◌, [], ◌∷◌, refl, sym, ◌∙◌, subst}
+use Rattle.std.proofs.Common.{◌≡◌, ◌↔◌, ℕ, ◌==◌, ◌<◌, ◌≤◌, Bool, true, false, not, ◌&&◌, ◌||◌, [], ◌∷◌, refl, sym, ◌∙◌}
+use Rattle.std.proofs.Common.{arith, subst}
 use Rattle.std.specs.Prelude.{if◌then◌else◌, is_some, nat_lt, nat_le}
-use Rattle.std.proofs.lemmas.Bool.{and_parts, and_from}
+use Rattle.std.proofs.lemmas.Bool.{and_parts, and_from, leb-false, lt-ltb}
+use Rattle.std.proofs.Math.Bool.{and-true}
 use Rattle.bt_meta.specs.declared.block.Block.{Block}
 use Rattle.bt_meta.specs.Layout.{piece_count}
 use Rattle.bt_history.specs.declared.call.Reason.TheVariants.{LateBits}
@@ -12,9 +14,9 @@ use Rattle.bt_history.specs.declared.event.Event.{Event}
 use Rattle.bt_history.specs.Counting.{any_below, all_below, count_below}
 use Rattle.bt_history.specs.Setting.{Setting, some_block_of, some_block, each_block, count_blocks}
 use Rattle.bt_history.specs.History.{History, own_call, stored, cancelled}
-use Rattle.bt_history.specs.Peers.{flag, joined, shows, is_open, due, resets}
-use Rattle.bt_history.specs.Pieces.{held, held_or_asked, had, had_count, begun, unbegun, availability, wanted, endgame, lacks}
-use Rattle.bt_history.specs.Next.{Answer, Exactly, CancelOf, RequestOf, usable, is_candidate, is_strict, resumes, doubles, next_answer}
+use Rattle.bt_history.specs.Peers.{flag, joined, shows, is_open, asked_count, depth_of, due, resets}
+use Rattle.bt_history.specs.Pieces.{held, held_or_asked, had, had_count, begun, unbegun, availability, wanted, awaited, endgame, interesting, lacks}
+use Rattle.bt_history.specs.Next.{Answer, Exactly, CancelOf, RequestOf, usable, is_candidate, is_strict, resumes, doubles, rushes, next_answer}
 use Rattle.bt_history.specs.Legal.{first_cause, no_peer, no_count, refusal, answer, answer_unless, Permits, IsAllowed, IsLegal}
 use Rattle.bt_history.specs.Before.{continues_before, goes_first_before, is_rarest_before, none_rarer_before, starts_before, next_before}
 use Rattle.bt_history.specs.Before.{is_release, never_releases, is_depth, never_deepens, is_haves, never_adds, is_levelling, never_levels}
@@ -24,6 +26,7 @@ use Rattle.bt_history.specs.Plain.{plain_doubles, plain_next, plain_refusal, pla
 use Rattle.bt_history.proofs.Before.{asked_as_before, doubles_as_before, shows_as_before, late_as_before}
 use Rattle.bt_history.proofs.Depths.{depth_as_before}
 use Rattle.bt_history.proofs.Flat.{answer_as_before, chosen_as_before}
+use Rattle.bt_history.proofs.NextCases.{next_cases, without_test}
 use Rattle.bt_history.proofs.Opening.{unbounded}
 
 -- no entry of the history is a later call
@@ -32,6 +35,14 @@ pub record IsPlain (h : History) : Type 0 where
   pub depths : never_deepens h ≡ true
   pub adds : never_adds h ≡ true
   pub levels : never_levels h ≡ true
+
+-- the rules have nothing that came with a later number: no bound on askers or on whom endgame asks, begun pieces first, and an endgame that
+-- waits for all that is wanted
+pub record AreOld (s : Setting) : Type 0 where
+  pub wide : s.workers ≤ s.askers
+  pub strict : s.most_open ≡ 0
+  pub deep : s.depth ≤ s.rush
+  pub all : s.shown ≡ false
 
 -- of a plain history the newest call is plain, and so are the older ones
 plain_newest : (e : Event) (h : History) → IsPlain (e ∷ h) → is_plain e.action ≡ true
@@ -77,9 +88,12 @@ module _ (s : Setting) (h : History) (plain : IsPlain h) where
   wanted_plain : (p : ℕ) → wanted s h p ≡ plain_wanted s h p
   wanted_plain p = λ i. nat_lt p (piece_count s.torrent) && chosen_as_before h p plain.levels i
 
-  endgame_plain : endgame s h ≡ plain_endgame s h
-  endgame_plain = λ i.
-      each_block s.torrent (λ b. not (wanted_plain b.piece i) || some_asked b i)
+  awaited_plain : s.shown ≡ false → (p : ℕ) → awaited s h p ≡ plain_wanted s h p
+  awaited_plain all p = (λ i. wanted_plain p i && (not (all i) || nat_lt 0 (availability s h p))) ∙ and-true (plain_wanted s h p)
+
+  endgame_plain : s.shown ≡ false → endgame s h ≡ plain_endgame s h
+  endgame_plain all = λ i.
+      each_block s.torrent (λ b. not (awaited_plain all b.piece i) || some_asked b i)
       && some_block s.torrent (λ b. wanted_plain b.piece i && not (held h b))
 
   lacks_plain : (shown older : ℕ → Bool) → ((p : ℕ) → shown p ≡ older p) → lacks s h shown ≡ plain_lacks s h older
@@ -102,26 +116,39 @@ module _ (s : Setting) (h : History) (plain : IsPlain h) where
       usable_plain q b i && (unbegun_plain b.piece i
       && (nat_lt (had_count s h) s.random || rarest_plain q b.piece i))
 
-  module _ (q : ℕ) (lt : q < s.workers) (wide : s.workers ≤ s.askers) (strict : s.most_open ≡ 0) where
+  module _ (q : ℕ) (lt : q < s.workers) (old : AreOld s) where
     continues_plain : (b : Block) → continues_before s h q b ≡ plain_continues s h q b
     continues_plain b =
         (λ i. usable_plain q b i && (begun_plain b.piece i && goes_first_before s h q b.piece))
         ∙ (λ i. plain_usable s h q b && unbounded s.most_open (plain_begun s h b.piece)
-        (none_rarer_before s h (resumes s h q) b.piece && (is_strict s h || is_rarest_before s h q b.piece)) strict i)
+        (none_rarer_before s h (resumes s h q) b.piece && (is_strict s h || is_rarest_before s h q b.piece)) old.strict i)
 
     doubles_plain : (b : Block) → doubles s h q b ≡ plain_doubles s h q b
-    doubles_plain b = doubles_as_before s h q b lt wide ∙ (λ i.
+    doubles_plain b = doubles_as_before s h q b lt old.wide ∙ (λ i.
         wanted_plain b.piece i && (shows_as_before h q b.piece plain.adds i && (not (held h b) && not (asked_as_before h q b plain.releases i))))
 
+    -- whom endgame asks makes no difference: a peer's pipe is full before it is asked for too many
+    few_plain : nat_le (depth_of s h q) (asked_count s h q) ≡ false → rushes s h q ≡ true
+    few_plain room =
+        let less = leb-false (depth_of s h q) (asked_count s h q) room in
+        let depth = depth_as_before s h q plain.depths in
+        let deep = old.deep in
+        lt-ltb (asked_count s h q) s.rush (omega (arith, less, depth, deep))
+
     next_plain : next_answer s h q ≡ plain_next s h q
-    unfolding next_before plain_next
-    next_plain = answer_as_before s h q plain.levels ∙ (λ i.
+    unfolding next_before next_cases plain_next
+    next_plain = answer_as_before s h q plain.levels
+        ∙ without_test (rushes s h q) (some_block s.torrent (due h q)) (is_open h q) (nat_le (depth_of s h q) (asked_count s h q)) false
+        (some_block s.torrent (continues_before s h q)) (some_block s.torrent (usable s h q))
+        (endgame s h && some_block s.torrent (doubles s h q)) (interesting s h q)
+        (due h q) (usable s h q) (continues_before s h q) (starts_before s h q) (doubles s h q) few_plain
+        ∙ (λ i.
         if some_block s.torrent (λ b. due_is_plain h q b plain.releases i) then CancelOf (λ b. due_is_plain h q b plain.releases i)
         else if not (is_open h q) then Exactly Choked
         else if nat_le (depth_as_before s h q plain.depths i) (count_blocks s.torrent (λ b. asked_as_before h q b plain.releases i)) then Exactly PipeFull
         else if some_block s.torrent (λ b. continues_plain b i) then RequestOf (λ b. continues_plain b i)
         else if some_block s.torrent (λ b. usable_plain q b i) then RequestOf (λ b. starts_plain q b i)
-        else if endgame_plain i && some_block s.torrent (λ b. doubles_plain b i) then RequestOf (λ b. doubles_plain b i)
+        else if endgame_plain old.all i && some_block s.torrent (λ b. doubles_plain b i) then RequestOf (λ b. doubles_plain b i)
         else if lacks_plain (shows h q) _ (λ p. shows_as_before h q p plain.adds) i then Exactly Idle
         else Exactly NothingLeft)
 
@@ -141,13 +168,13 @@ module _ (s : Setting) (h : History) (plain : IsPlain h) where
 
 -- ---- whole histories
 
-module _ (s : Setting) (wide : s.workers ≤ s.askers) (strict : s.most_open ≡ 0) where
+module _ (s : Setting) (old : AreOld s) where
   -- what is permitted is the same
   answers_plain : (h : History) (e : Event) → IsPlain h → e.worker < s.workers
       → answer_unless (refusal s h e.worker e.action) (answer s h e.worker e.action)
       ≡ answer_unless (plain_refusal s h e.worker e.action) (plain_answer s h e.worker e.action)
   answers_plain h e plain lt = λ i.
-      answer_unless (refusal_plain s h plain e.worker lt wide strict e.action i) (answer_plain s h plain e.worker lt wide strict e.action i)
+      answer_unless (refusal_plain s h plain e.worker lt old e.action i) (answer_plain s h plain e.worker lt old e.action i)
 
   allowed_plain : (h : History) (e : Event) → IsPlain (e ∷ h) → IsAllowed s h e ↔ IsAllowedBefore s h e
   unfolding IsAllowed IsAllowedBefore

@@ -10,7 +10,7 @@ use Rattle.bt_history.specs.Setting.{Setting, deepest_line, is_block}
 use Rattle.bt_history.specs.History.{History}
 use Rattle.bt_history.specs.Peers.{asked, asked_count, depth_so_far, due_count, ListsAsked}
 use Rattle.bt_history.specs.Pieces.{asker_count, availability, begun, content, full, had, held, in_order, level, open_count, sender, unasked, unbegun}
-use Rattle.bt_history.specs.Pieces.{wanted}
+use Rattle.bt_history.specs.Pieces.{awaited}
 use Rattle.bt_history.specs.Next.{is_strict, usable}
 use Rattle.bt_history.specs.Legal.{IsAllowed}
 
@@ -22,9 +22,11 @@ pub record Assures (s : Setting) (h : History) : Type 0 where
   pub spared : (q : ℕ) (b : Block) → IsTrue (held h b) → asked h q b ≡ false
   -- a held block has a sender, and no other block has
   pub sent : (b : Block) → is_some (sender h b) ≡ held h b
-  -- a block that another peer is asked for is requested only where no wanted block is unasked
+  -- a block that another peer is asked for is requested only where no awaited block is unasked
   pub second : (e : Event) (b : Block) (q : ℕ) → IsAllowed s h e → e.reply ≡ Request b → IsTrue (asked h q b)
-      → (c : Block) → IsTrue (is_block s.torrent c) → IsTrue (wanted s h c.piece) → unasked s h c ≡ false
+      → (c : Block) → IsTrue (is_block s.torrent c) → IsTrue (awaited s h c.piece) → unasked s h c ≡ false
+  -- and only of a peer that is asked for few
+  pub rushed : (e : Event) (b : Block) (q : ℕ) → IsAllowed s h e → e.reply ≡ Request b → IsTrue (asked h q b) → asked_count s h e.worker < s.rush
   -- no block is requested while one of a higher level could be
   pub higher : (e : Event) (b : Block) → IsAllowed s h e → e.reply ≡ Request b
       → (c : Block) → IsTrue (is_block s.torrent c) → IsTrue (usable s h e.worker c) → level h c.piece ≤ level h b.piece

@@ -9,11 +9,12 @@ use Rattle.bt_history.specs.declared.event.Action.{Action}
 use Rattle.bt_history.specs.declared.event.Action.TheVariants.{Join, Bits, Have, Choke, Unchoke, Arrived, Leave, Want, Haves, Depth, Release}
 use Rattle.bt_history.specs.declared.event.Action.TheVariants.{Level, Levels, InOrder}
 use Rattle.bt_history.specs.Counting.{all_below}
-use Rattle.bt_history.specs.Setting.{Setting, some_block}
+use Rattle.bt_history.specs.Setting.{Setting, some_block, each_block}
 use Rattle.bt_history.specs.History.{History, counted_call, own_call, stored, requested}
 use Rattle.bt_history.specs.Peers.{flag, shows, is_open, asks, asked, asked_count, due, depth_of, resets}
-use Rattle.bt_history.specs.Pieces.{held, wanted, begun, unbegun, availability, endgame, in_order, interesting, had_count}
+use Rattle.bt_history.specs.Pieces.{held, held_or_asked, wanted, begun, unbegun, availability, endgame, in_order, interesting, had_count}
 use Rattle.bt_history.specs.Next.{Answer, Exactly, CancelOf, RequestOf, usable, tops, is_candidate, is_strict, resumes, rises, starts, doubles}
+use Rattle.bt_history.specs.Next.{continues, rushes}
 
 -- block b is asked of q: requested, and since then neither stored from anybody nor freed
 unfoldable pub asked_before : History → ℕ → Block → Bool
@@ -131,7 +132,7 @@ next_before s h q =
     else if nat_le (depth_of s h q) (asked_count s h q) then Exactly PipeFull
     else if some_block s.torrent (continues_before s h q) then RequestOf (continues_before s h q)
     else if some_block s.torrent (usable s h q) then RequestOf (starts_before s h q)
-    else if endgame s h && some_block s.torrent (doubles s h q) then RequestOf (doubles s h q)
+    else if rushes s h q && (endgame s h && some_block s.torrent (doubles s h q)) then RequestOf (doubles s h q)
     else if interesting s h q then Exactly Idle
     else Exactly NothingLeft
 
@@ -148,9 +149,28 @@ next_strict s h q =
     else if in_order h && some_block s.torrent (usable s h q) then RequestOf (rises s h q)
     else if some_block s.torrent (continues_strictly s h q) then RequestOf (continues_strictly s h q)
     else if some_block s.torrent (usable s h q) then RequestOf (starts s h q)
+    else if rushes s h q && (endgame s h && some_block s.torrent (doubles s h q)) then RequestOf (doubles s h q)
+    else if interesting s h q then Exactly Idle
+    else Exactly NothingLeft
+
+-- the answer to Next of q before endgame could be kept from a peer that is asked for many blocks: the first case that applies
+unfoldable pub next_unrushed : Setting → History → ℕ → Answer
+next_unrushed s h q =
+    if some_block s.torrent (due h q) then CancelOf (due h q)
+    else if not (is_open h q) then Exactly Choked
+    else if nat_le (depth_of s h q) (asked_count s h q) then Exactly PipeFull
+    else if in_order h && some_block s.torrent (usable s h q) then RequestOf (rises s h q)
+    else if some_block s.torrent (continues s h q) then RequestOf (continues s h q)
+    else if some_block s.torrent (usable s h q) then RequestOf (starts s h q)
     else if endgame s h && some_block s.torrent (doubles s h q) then RequestOf (doubles s h q)
     else if interesting s h q then Exactly Idle
     else Exactly NothingLeft
+
+-- endgame as it was: every wanted block that is lacking is asked of somebody, and there is one that is lacking
+abbrev pub endgame_of_all : Setting → History → Bool
+endgame_of_all s h =
+    each_block s.torrent (λ b. not (wanted s h b.piece) || held_or_asked s h b)
+    && some_block s.torrent (λ b. wanted s h b.piece && not (held h b))
 
 -- the call gives pieces a level or an order
 abbrev pub is_levelling : Action → Bool

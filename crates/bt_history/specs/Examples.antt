@@ -14,7 +14,7 @@ use Rattle.bt_history.specs.declared.event.Event.{Event}
 use Rattle.bt_history.specs.declared.rules.Rules.{Rules}
 use Rattle.bt_history.specs.Setting.{Setting, setting_of, usual_rules}
 use Rattle.bt_history.specs.Legal.{IsLegal, IsAllowed}
-use Rattle.bt_history.specs.declared.rules.TheConstants.{MOST_DEPTH, MOST_WORKERS}
+use Rattle.bt_history.specs.declared.rules.TheConstants.{MOST_DEPTH, MOST_TOLD_DEPTH, MOST_WORKERS}
 
 -- a download with the oldest entry first, and wrong entries, each behind so many of these
 pub record Example : Type 0 where
@@ -42,15 +42,25 @@ entry w call reply = record { worker = w; action = call; reply = reply }
 abbrev enters : ℕ → List Bool → List Event → List Event
 enters w flags rest = entry w Join Joined ∷ entry w (Bits flags) (Noted true) ∷ entry w Unchoke Quiet ∷ rest
 
-abbrev rules : ℕ → ℕ → Rules
-rules depth random = record { depth = depth; random = random; askers = MOST_WORKERS; deepest = MOST_DEPTH; «open» = 0 }
-
-abbrev bounded_rules : ℕ → ℕ → ℕ → ℕ → Rules
-bounded_rules depth random askers deepest = record { depth = depth; random = random; askers = askers; deepest = deepest; «open» = 0 }
+abbrev ending_rules : ℕ → ℕ → ℕ → ℕ → ℕ → ℕ → Bool → Rules
+ending_rules depth random askers deepest most_open rush shown = record {
+  depth = depth;
+  random = random;
+  askers = askers;
+  deepest = deepest;
+  «open» = most_open;
+  rush = rush;
+  shown = shown;
+}
 
 abbrev open_rules : ℕ → ℕ → ℕ → ℕ → ℕ → Rules
-open_rules depth random askers deepest most_open =
-    record { depth = depth; random = random; askers = askers; deepest = deepest; «open» = most_open }
+open_rules depth random askers deepest most_open = ending_rules depth random askers deepest most_open MOST_TOLD_DEPTH false
+
+abbrev bounded_rules : ℕ → ℕ → ℕ → ℕ → Rules
+bounded_rules depth random askers deepest = open_rules depth random askers deepest 0
+
+abbrev rules : ℕ → ℕ → Rules
+rules depth random = bounded_rules depth random MOST_WORKERS MOST_DEPTH
 
 abbrev block_of : ℕ → ℕ → ℕ → Block
 block_of piece begin len = record { piece = piece; begin = begin; len = len }
@@ -1136,6 +1146,84 @@ in_order_however_many_are_open = example (setting_of torrent_four_pairs 2 (open_
     ∷ entry 0 (Next 3) (Request (block_of 1 16384 16384)) ∷ [])))
     ((9, entry 0 (Next 3) (Request (block_of 1 16384 16384))) ∷ [])
 
+-- 8: second peer idle though it has few
+-- 9: second block of one that has as many as may be
+abbrev endgame_at_few : Example
+endgame_at_few = example (setting_of torrent_two_pieces 2 (ending_rules 5 1 1024 64 0 1 false))
+    (enters 0 (true ∷ true ∷ [])
+    (enters 1 (true ∷ true ∷ [])
+    (entry 0 (Next 0) (Request (block_of 0 0 3))
+    ∷ entry 0 (Next 0) (Request (block_of 1 0 3))
+    ∷ entry 1 (Next 0) (Request (block_of 0 0 3))
+    ∷ entry 1 (Next 0) Idle
+    ∷ entry 0 (Arrived 0 0 (97 ∷ 98 ∷ 99 ∷ [])) Completed
+    ∷ entry 1 (Next 0) (Cancel (block_of 0 0 3))
+    ∷ entry 1 (Next 0) (Request (block_of 1 0 3)) ∷ [])))
+    ((8, entry 1 (Next 0) Idle)
+    ∷ (9, entry 1 (Next 0) (Request (block_of 1 0 3))) ∷ [])
+
+-- 7: second peer asked though none may be
+abbrev endgame_at_none : Example
+endgame_at_none = example (setting_of torrent_one_piece 2 (ending_rules 5 1 1024 64 0 0 false))
+    (enters 0 (true ∷ [])
+    (enters 1 (true ∷ [])
+    (entry 0 (Next 0) (Request (block_of 0 0 3))
+    ∷ entry 1 (Next 0) Idle
+    ∷ entry 0 (Release 0 0) Quiet
+    ∷ entry 1 (Next 0) (Request (block_of 0 0 3)) ∷ [])))
+    ((7, entry 1 (Next 0) (Request (block_of 0 0 3))) ∷ [])
+
+-- 7: second peer asked though an unshown piece is wanted
+abbrev unshown_piece_holds_up_endgame : Example
+unshown_piece_holds_up_endgame = example (setting_of torrent_two_pieces 2 usual_rules)
+    (enters 0 (true ∷ false ∷ [])
+    (enters 1 (true ∷ false ∷ [])
+    (entry 0 (Next 0) (Request (block_of 0 0 3))
+    ∷ entry 1 (Next 0) Idle ∷ [])))
+    ((7, entry 1 (Next 0) (Request (block_of 0 0 3))) ∷ [])
+
+-- 7: idle though all that is shown is asked
+abbrev endgame_over_what_is_shown : Example
+endgame_over_what_is_shown = example (setting_of torrent_two_pieces 2 (ending_rules 5 1 1024 64 0 4096 true))
+    (enters 0 (true ∷ false ∷ [])
+    (enters 1 (true ∷ false ∷ [])
+    (entry 0 (Next 0) (Request (block_of 0 0 3))
+    ∷ entry 1 (Next 0) (Request (block_of 0 0 3)) ∷ [])))
+    ((7, entry 1 (Next 0) Idle) ∷ [])
+
+-- 9: second peer asked though a shown block is unasked
+-- 11: idle though nobody shows the rest
+abbrev shown_piece_holds_up_endgame : Example
+shown_piece_holds_up_endgame = example (setting_of torrent_two_pieces 3 (ending_rules 5 1 1024 64 0 4096 true))
+    (enters 0 (true ∷ false ∷ [])
+    (enters 1 (true ∷ false ∷ [])
+    (entry 2 Join Joined
+    ∷ entry 2 (Bits (false ∷ true ∷ [])) (Noted true)
+    ∷ entry 0 (Next 0) (Request (block_of 0 0 3))
+    ∷ entry 1 (Next 0) Idle
+    ∷ entry 2 Leave Quiet
+    ∷ entry 1 (Next 0) (Request (block_of 0 0 3)) ∷ [])))
+    ((9, entry 1 (Next 0) (Request (block_of 0 0 3)))
+    ∷ (11, entry 1 (Next 0) Idle) ∷ [])
+
+-- 13: second peer asked though a shown low level is unasked
+abbrev lower_level_is_awaited_too : Example
+lower_level_is_awaited_too = example (setting_of torrent_four_pieces 3 (ending_rules 5 1 1024 64 0 4096 true))
+    (entry 2 (Levels (4 ∷ 7 ∷ 1 ∷ 0 ∷ [])) Quiet
+    ∷ enters 0 (true ∷ true ∷ false ∷ false ∷ [])
+    (enters 1 (true ∷ false ∷ false ∷ false ∷ [])
+    (entry 0 (Next 0) (Request (block_of 1 0 3))
+    ∷ entry 1 (Next 0) (Request (block_of 0 0 3))
+    ∷ entry 0 (Next 0) (Request (block_of 0 0 3))
+    ∷ entry 2 Join Joined
+    ∷ entry 2 (Bits (false ∷ false ∷ true ∷ true ∷ [])) (Noted true)
+    ∷ entry 1 (Have 1) (Noted true)
+    ∷ entry 1 (Next 0) Idle
+    ∷ entry 2 Unchoke Quiet
+    ∷ entry 2 (Next 0) (Request (block_of 2 0 3))
+    ∷ entry 1 (Next 0) (Request (block_of 1 0 3)) ∷ [])))
+    ((13, entry 1 (Next 0) (Request (block_of 1 0 3))) ∷ [])
+
 abbrev pub examples : List Example
 examples =
     first_request
@@ -1215,4 +1303,10 @@ examples =
     ∷ unwanted_pieces_are_not_open
     ∷ none_of_the_open_is_shown
     ∷ in_order_however_many_are_open
+    ∷ endgame_at_few
+    ∷ endgame_at_none
+    ∷ unshown_piece_holds_up_endgame
+    ∷ endgame_over_what_is_shown
+    ∷ shown_piece_holds_up_endgame
+    ∷ lower_level_is_awaited_too
     ∷ []

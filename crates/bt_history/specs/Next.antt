@@ -70,6 +70,10 @@ doubles s h q b =
     wanted s h b.piece && (shows h q b.piece
     && (not (held h b) && (nat_lt (asker_count s h b) s.askers && not (asked h q b))))
 
+-- q is asked for so few blocks that it may be asked for one that another peer is asked for
+abbrev pub rushes : Setting → History → ℕ → Bool
+rushes s h q = nat_lt (asked_count s h q) s.rush
+
 -- the answer to Next of q: the first case that applies
 unfoldable pub next_answer : Setting → History → ℕ → Answer
 next_answer s h q =
@@ -79,6 +83,6 @@ next_answer s h q =
     else if in_order h && some_block s.torrent (usable s h q) then RequestOf (rises s h q)
     else if some_block s.torrent (continues s h q) then RequestOf (continues s h q)
     else if some_block s.torrent (usable s h q) then RequestOf (starts s h q)
-    else if endgame s h && some_block s.torrent (doubles s h q) then RequestOf (doubles s h q)
+    else if rushes s h q && (endgame s h && some_block s.torrent (doubles s h q)) then RequestOf (doubles s h q)
     else if interesting s h q then Exactly Idle
     else Exactly NothingLeft

@@ -119,10 +119,14 @@ unfoldable pub in_order : History → Bool
 in_order [] = false
 in_order (e ∷ h) = in_order_after (counted_call e) (in_order h)
 
--- endgame: every wanted block that is lacking is asked of somebody, and there is one that is lacking
+-- endgame waits for piece p: it is wanted and, where the rules say so, a joined peer shows it
+abbrev pub awaited : Setting → History → ℕ → Bool
+awaited s h p = wanted s h p && (not s.shown || nat_lt 0 (availability s h p))
+
+-- endgame: every block that is awaited and lacking is asked of somebody, and there is a wanted one that is lacking
 abbrev pub endgame : Setting → History → Bool
 endgame s h =
-    each_block s.torrent (λ b. not (wanted s h b.piece) || held_or_asked s h b)
+    each_block s.torrent (λ b. not (awaited s h b.piece) || held_or_asked s h b)
     && some_block s.torrent (λ b. wanted s h b.piece && not (held h b))
 
 -- some point before the newest entry was endgame

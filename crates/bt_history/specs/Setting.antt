@@ -1,5 +1,5 @@
 -- What a history is judged by, and tests over the blocks of its torrent.
-use Rattle.std.specs.Prelude.{ℕ, ◌≤◌, Bool, ◌&&◌, ◌==◌, nat_lt, min, max}
+use Rattle.std.specs.Prelude.{ℕ, ◌≤◌, Bool, false, ◌&&◌, ◌==◌, nat_lt, min, max}
 use Rattle.bt_meta.specs.declared.block.Block.{Block}
 use Rattle.bt_meta.specs.Layout.{Layout, piece_count, block_count, block}
 use Rattle.bt_history.specs.declared.rules.Rules.{Rules}
@@ -7,8 +7,9 @@ use Rattle.bt_history.specs.declared.rules.TheConstants.{MOST_DEPTH, MOST_TOLD_D
 use Rattle.bt_history.specs.Counting.{any_below, all_below, count_below, sum_below}
 
 -- the torrent, how many workers there are, how many blocks may be asked of one peer, how many pieces are picked at random before the
--- rarest come first, of how many peers one block may be asked in endgame, which depth may be told of a peer at most, and how many pieces
--- may be open before begun ones come first
+-- rarest come first, of how many peers one block may be asked in endgame, which depth may be told of a peer at most, how many pieces may be
+-- open before begun ones come first, of how few blocks a peer is asked that may be asked for one again, and whether endgame waits for pieces
+-- alone that a joined peer shows
 pub record Setting : Type 0 where
   pub torrent : Layout
   pub workers : ℕ
@@ -17,6 +18,8 @@ pub record Setting : Type 0 where
   pub askers : ℕ
   pub deepest : ℕ
   pub most_open : ℕ
+  pub rush : ℕ
+  pub shown : Bool
 
 -- the torrent with so many workers, by these rules
 abbrev pub setting_of : Layout → ℕ → Rules → Setting
@@ -28,6 +31,8 @@ setting_of t n rules = record {
   askers = rules.askers;
   deepest = rules.deepest;
   most_open = rules.«open»;
+  rush = rules.rush;
+  shown = rules.shown;
 }
 
 -- the greatest depth that may be told of a peer
@@ -38,9 +43,18 @@ deepest_told s = min s.deepest MOST_TOLD_DEPTH
 abbrev pub deepest_line : Setting → ℕ
 deepest_line s = max s.depth (deepest_told s)
 
--- the usual rules: five blocks in a peer's pipe, the first piece at random, any number of peers for a block in endgame, begun pieces first
+-- the usual rules: five blocks in a peer's pipe, the first piece at random, begun pieces first; endgame waits for all wanted pieces, and asks
+-- any number of peers for a block, and a peer for any number of blocks
 abbrev pub usual_rules : Rules
-usual_rules = record { depth = 5; random = 1; askers = MOST_WORKERS; deepest = MOST_DEPTH; «open» = 0 }
+usual_rules = record {
+  depth = 5;
+  random = 1;
+  askers = MOST_WORKERS;
+  deepest = MOST_DEPTH;
+  «open» = 0;
+  rush = MOST_TOLD_DEPTH;
+  shown = false;
+}
 
 -- a picker of this torrent may go by these rules
 pub record AreRules (t : Layout) (rules : Rules) : Type 0 where

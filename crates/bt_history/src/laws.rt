@@ -1,6 +1,6 @@
 //! What holds after every legal history, whoever made it: laws of the definitions alone. Each is a function with an empty body
 //! whose contract is the law; a journal that a desk keeps, or that `audit` accepts, meets what they require.
-ghost use Rattle.std.specs.Prelude.{is_some, ◌≡◌, ◌↔◌, ◌≢◌, ◌≤◌, ◌<◌, ◌+◌, ◌∷◌, ◌++◌, ◌==◌, ◌&&◌, not, IsTrue, false};
+ghost use Rattle.std.specs.Prelude.{ℕ, is_some, ◌≡◌, ◌↔◌, ◌≢◌, ◌≤◌, ◌<◌, ◌+◌, ◌∷◌, ◌++◌, ◌==◌, ◌&&◌, not, IsTrue, false};
 ghost use Rattle.std.specs.List.{filter};
 ghost use Rattle.sha1.specs.Sha1.{sha1};
 ghost use Rattle.bt_meta.specs.declared.block.Block.{Block};
@@ -10,13 +10,13 @@ ghost use Rattle.bt_history.specs.declared.rules.TheConstants.{MOST_LEVEL};
 ghost use Rattle.bt_history.specs.Setting.{deepest_line, is_block, setting_of};
 ghost use Rattle.bt_history.specs.Entries.{event_of, giving_up, history_of};
 ghost use Rattle.bt_history.specs.Before.{asked_before, chosen_before, doubles_before, late_before, next_before, outstanding_before, shows_before};
-ghost use Rattle.bt_history.specs.Before.{never_adds, never_deepens, never_levels, never_releases, next_strict};
+ghost use Rattle.bt_history.specs.Before.{never_adds, never_deepens, never_levels, never_releases, next_strict, next_unrushed, endgame_of_all};
 ghost use Rattle.bt_history.specs.History.{same_begin};
 ghost use Rattle.bt_history.specs.Epochs.{epoch, is_idle, pass_by};
 ghost use Rattle.bt_history.specs.Next.{Exactly, doubles, is_strict, next_answer, usable};
 ghost use Rattle.bt_history.specs.Peers.{asked, asked_count, depth_of, depth_so_far, due, due_count, late, ListsAsked, outstanding, shows};
 ghost use Rattle.bt_history.specs.Peers.{dues, is_open, joined, told_depth};
-ghost use Rattle.bt_history.specs.Pieces.{asker_count, held, full, content, had, endgame, unasked, wanted, was_endgame, sender, chosen};
+ghost use Rattle.bt_history.specs.Pieces.{asker_count, held, full, content, had, endgame, unasked, awaited, wanted, was_endgame, sender, chosen};
 ghost use Rattle.bt_history.specs.Pieces.{availability, begun, in_order, kept, level, open_count, unbegun};
 ghost use Rattle.bt_history.specs.Legal.{IsLegal, place_at};
 ghost use Rattle.bt_history.specs.Plain.{IsLegalBefore};
@@ -98,8 +98,9 @@ pub fn doubles_come_of_endgame(
     ensures { IsTrue (was_endgame (setting_of torrent.now.layout workers rules) (history_of journal.now)) }
 {}
 
-/// No block is asked of a second peer while a wanted one is unasked: a request of a block that is asked of another peer already comes in
-/// endgame alone, where each wanted block is held or asked of somebody.
+/// No block is asked of a second peer while an awaited one is unasked: a request of a block that is asked of another peer already comes in
+/// endgame alone, where each awaited block is held or asked of somebody. Each wanted block is awaited, or by the rules each that a joined peer
+/// shows.
 pub fn second_peers_wait_for_endgame(
     torrent: &Torrent,
     workers: u32,
@@ -114,8 +115,50 @@ pub fn second_peers_wait_for_endgame(
     requires asked { IsTrue (asked (history_of older.now) other block) }
     ensures endgame { IsTrue (endgame (setting_of torrent.now.layout workers rules) (history_of older.now)) }
     ensures none { (lacking : Block) → IsTrue (is_block torrent.now.layout lacking)
-        → IsTrue (wanted (setting_of torrent.now.layout workers rules) (history_of older.now) lacking.piece)
+        → IsTrue (awaited (setting_of torrent.now.layout workers rules) (history_of older.now) lacking.piece)
         → unasked (setting_of torrent.now.layout workers rules) (history_of older.now) lacking ≡ false }
+{}
+
+/// A block that is asked of another peer already is requested only of a peer that is asked for fewer blocks than the rules say.
+pub fn second_peers_have_few(
+    torrent: &Torrent,
+    workers: u32,
+    rules: Rules,
+    older: &[Entry],
+    entry: &Entry,
+    block: Block,
+    other: u32,
+)
+    requires legal { IsLegal (setting_of torrent.now.layout workers rules) (event_of entry.now ∷ history_of older.now) }
+    requires request { entry.now.reply ≡ Reply.Request block }
+    requires asked { IsTrue (asked (history_of older.now) other block) }
+    ensures { asked_count (setting_of torrent.now.layout workers rules) (history_of older.now) entry.now.worker < rules.rush }
+{}
+
+/// Where that number is no less than any depth, it is no bound: the answer to Next is what it was before there was one.
+pub fn no_rush_is_as_before(
+    torrent: &Torrent,
+    workers: u32,
+    rules: Rules,
+    journal: &[Entry],
+    worker: u32,
+)
+    requires legal { IsLegal (setting_of torrent.now.layout workers rules) (history_of journal.now) }
+    requires none { deepest_line (setting_of torrent.now.layout workers rules) ≤ rules.rush }
+    ensures { next_answer (setting_of torrent.now.layout workers rules) (history_of journal.now) worker
+        ≡ next_unrushed (setting_of torrent.now.layout workers rules) (history_of journal.now) worker }
+{}
+
+/// Endgame waits for all that is wanted, as it did, where the rules don't have it otherwise, and where a joined peer shows each wanted piece
+/// that isn't complete.
+pub fn shown_endgame_is_as_before(torrent: &Torrent, workers: u32, rules: Rules, journal: &[Entry])
+    requires legal { IsLegal (setting_of torrent.now.layout workers rules) (history_of journal.now) }
+    requires shown { IsTrue rules.shown → (piece : ℕ)
+        → IsTrue (wanted (setting_of torrent.now.layout workers rules) (history_of journal.now) piece)
+        → had (history_of journal.now) piece ≡ false
+        → 0 < availability (setting_of torrent.now.layout workers rules) (history_of journal.now) piece }
+    ensures { endgame (setting_of torrent.now.layout workers rules) (history_of journal.now)
+        ≡ endgame_of_all (setting_of torrent.now.layout workers rules) (history_of journal.now) }
 {}
 
 /// A block is asked of no more peers than the rules say.
@@ -381,8 +424,8 @@ pub fn flat_is_as_before(
         ≡ next_before (setting_of torrent.now.layout workers rules) (history_of journal.now) worker }
 {}
 
-/// With none of the later calls, a bound on askers that is none, and no number of open pieces, a history is legal just where it was by the
-/// rules as they were.
+/// With none of the later calls, bounds on askers and on whom endgame asks that are none, no number of open pieces, and an endgame that waits
+/// for all that is wanted, a history is legal just where it was by the rules as they were.
 pub fn plain_is_as_before(torrent: &Torrent, workers: u32, rules: Rules, journal: &[Entry])
     requires releases { IsTrue (never_releases (history_of journal.now)) }
     requires depths { IsTrue (never_deepens (history_of journal.now)) }
@@ -390,6 +433,8 @@ pub fn plain_is_as_before(torrent: &Torrent, workers: u32, rules: Rules, journal
     requires levels { IsTrue (never_levels (history_of journal.now)) }
     requires wide { workers ≤ rules.askers }
     requires strict { rules.«open» ≡ 0 }
+    requires deep { rules.depth ≤ rules.rush }
+    requires all { rules.shown ≡ false }
     ensures { IsLegal (setting_of torrent.now.layout workers rules) (history_of journal.now)
         ↔ IsLegalBefore (setting_of torrent.now.layout workers rules) (history_of journal.now) }
 {}

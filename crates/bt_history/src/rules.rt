@@ -22,8 +22,9 @@ pub const MOST_LEVEL: u8 = 7;
 pub const USUAL_LEVEL: u8 = 4;
 
 /// What a download may choose of the rules: how many blocks may be asked of one peer at a time, the cancels due at it included, how many
-/// pieces are picked at random before the rarest come first, of how many peers one block is asked at the end, and how many pieces may be
-/// open before begun ones come first (Cohen 2003, "Pipelining", "Random first piece", "Endgame mode" and "Strict policy").
+/// pieces are picked at random before the rarest come first, of how many peers one block is asked at the end, how many pieces may be open
+/// before begun ones come first, and what endgame waits for (Cohen 2003, "Pipelining", "Random first piece", "Endgame mode" and "Strict
+/// policy").
 ///
 /// A depth of five keeps a slow line busy; a fast and distant peer wants more: five blocks of 16 KiB on a line with a round trip of
 /// 100 ms are 800 KB a second, 64 are 10 MB. A picker takes depths of 1 to [`MOST_DEPTH`].
@@ -41,10 +42,16 @@ pub struct Rules {
     /// Pieces that may be open, which are wanted and begun and have an unrequested block. While more are, or too few pieces are had, those come
     /// first that fewest peers show. Else a piece that fewest peers show comes first, begun or not. With 0 any begun piece comes first.
     pub open: u32,
+    /// In endgame a block is asked again only of a peer that is asked for fewer blocks than these. Lines of [`MOST_TOLD_DEPTH`] are the longest,
+    /// so that many are no bound. A peer far behind the others would else take a long line of blocks that all come twice.
+    pub rush: u32,
+    /// Whether endgame waits only for pieces that some joined peer shows. Without it one wanted piece that nobody has holds it up.
+    pub shown: bool,
 }
 
 impl Rules {
-    /// Five blocks, the first piece at random, in endgame any number of peers for a block, no depth beyond 64, and begun pieces first.
+    /// Five blocks, the first piece at random, in endgame any number of peers for a block and of blocks for a peer, no depth beyond 64, begun
+    /// pieces first, and an endgame that waits for all wanted pieces.
     pub fn usual() -> Rules
         ensures { result ≡ usual_rules }
     {
@@ -54,6 +61,8 @@ impl Rules {
             askers: MOST_WORKERS,
             deepest: MOST_DEPTH,
             open: 0,
+            rush: MOST_TOLD_DEPTH,
+            shown: false,
         }
     }
 

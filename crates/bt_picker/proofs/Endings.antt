@@ -1,4 +1,4 @@
--- Endgame by what is counted of all rows, and the pieces whose lacking blocks are all asked.
+-- What is counted of all rows for endgame, and the pieces whose lacking blocks are all asked.
 use Rattle.std.proofs.Common.{◌≡◌, ℕ, zero, suc, ◌+◌, ◌-◌, ◌*◌, ◌<◌, ◌≤◌, ◌==◌, Bool, true, false, not, ◌&&◌, ◌||◌, ◌⊎◌, Option, None, Some, List, []}
 use Rattle.std.proofs.Common.{◌∷◌, ◌++◌, length, refl, ap, sym, ◌∙◌, subst, arith, inl, inr, ⊎_elim}
 use Rattle.std.specs.Prelude.{IfSome, nat_lt, if◌then◌else◌}
@@ -11,13 +11,14 @@ use Rattle.bt_history.specs.Counting.{any_below, all_below, count_below, table}
 use Rattle.bt_history.specs.Setting.{Setting, is_block, some_block, some_block_of, each_block, each_block_of}
 use Rattle.bt_history.specs.History.{History}
 use Rattle.bt_history.specs.Peers.{shows, asked}
-use Rattle.bt_history.specs.Pieces.{had, asker_count, begun, held, held_or_asked, chosen, level, wanted, endgame}
+use Rattle.bt_history.specs.Pieces.{had, asker_count, begun, held, held_or_asked, awaited, chosen, level, wanted, endgame}
 use Rattle.bt_history.specs.Legal.{IsLegal}
 use Rattle.bt_history.specs.Next.{doubles}
 use Rattle.bt_history.proofs.Below.{any_found, any_none, any_witness, all_found, all_at, any_same, count_at}
+use Rattle.bt_history.proofs.Endgame.{shown_awaited}
 use Rattle.bt_history.proofs.HeldLaws.{had_full}
-use Rattle.bt_tables.specs.Tables.{one_if, TablesState, PieceState}
-use Rattle.bt_picker.specs.Tables.{AreTables, piece_of, groups_of}
+use Rattle.bt_tables.specs.Tables.{one_if, PieceState}
+use Rattle.bt_picker.specs.Tables.{piece_of, groups_of}
 use Rattle.bt_tables.specs.Standings.{group_number, place_of, stage_of_row, is_held, is_touched, standing_of, held_count, touched_count}
 use Rattle.bt_tables.specs.declared.piece.Stage.TheVariants.{AskedOut}
 use Rattle.bt_picker.proofs.Levelled.{Covers}
@@ -40,20 +41,20 @@ double_parts true false a d is = absurd (cc is)
 double_parts true true true d is = absurd (cc is)
 double_parts true true false d is = (refl, refl, refl)
 
-pub doubles_stage : (s : Setting) (h : History) (q p : ℕ) → IsLegal s h → p < piece_count s.torrent → endgame s h ≡ true →
+pub doubles_stage : (s : Setting) (h : History) (q p : ℕ) → IsLegal s h → q < s.workers → p < piece_count s.torrent → endgame s h ≡ true →
     some_block_of s.torrent p (doubles s h q) ≡ true
     → (shows h q p ≡ true) × (stage_of_row (piece_of s h p) ≡ AskedOut) × (begun s h p ≡ true)
-doubles_stage s h q p legal lp ending some =
+doubles_stage s h q p legal lq lp ending some =
     let found = any_witness (block_count s.torrent p) (λ k. doubles s h q (block s.torrent p k)) some in
     let k = found.0 in
     let b = block s.torrent p k in
     let parts = double_parts (wanted s h p) (shows h q p) (held h b) (nat_lt (asker_count s h b) s.askers && not (asked h q b)) found.2 in
-    let all = (and_parts (each_block s.torrent (λ c. not (wanted s h c.piece) || held_or_asked s h c))
+    let all = (and_parts (each_block s.torrent (λ c. not (awaited s h c.piece) || held_or_asked s h c))
     (some_block s.torrent (λ c. wanted s h c.piece && not (held h c))) ending).0 in
-    let mine = all_at (piece_count s.torrent) (λ r. each_block_of s.torrent r (λ c. not (wanted s h c.piece) || held_or_asked s h c)) p all lp in
+    let mine = all_at (piece_count s.torrent) (λ r. each_block_of s.torrent r (λ c. not (awaited s h c.piece) || held_or_asked s h c)) p all lp in
     let each : (j : ℕ) → j < block_count s.torrent p → held_or_asked s h (block s.torrent p j) ≡ true = λ j lj.
-    implied (wanted s h p) (held_or_asked s h (block s.torrent p j))
-    (all_at (block_count s.torrent p) (λ i. not (wanted s h p) || held_or_asked s h (block s.torrent p i)) j mine lj) parts.2 in
+    implied (awaited s h p) (held_or_asked s h (block s.torrent p j))
+    (all_at (block_count s.torrent p) (λ i. not (awaited s h p) || held_or_asked s h (block s.torrent p i)) j mine lj) (shown_awaited s h q p legal lq parts.0 parts.2) in
     let touched = any_found (block_count s.torrent p) (λ j. held_or_asked s h (block s.torrent p j)) k found.1 (each k found.1) in
     let all_touched = all_found (block_count s.torrent p) (λ j. held_or_asked s h (block s.torrent p j)) each in
     let not_had = never (had h p) refl (λ was. false≢true (sym parts.1 ∙ had_full s h p k legal was found.1)) in
@@ -137,25 +138,25 @@ among_some t test pieces n None so_far = tt
 among_some t test pieces n (Some b) so_far = (so_far.0, so_far.1)
 
 -- what was found among them is of that level, and the first block of it to ask again
-pub doubles_least : (s : Setting) (h : History) (q n : ℕ) (pieces : List ℕ) (b : Block) → IsLegal s h → IsLevel n → endgame s h ≡ true →
+pub doubles_least : (s : Setting) (h : History) (q n : ℕ) (pieces : List ℕ) (b : Block) → IsLegal s h → q < s.workers → IsLevel n → endgame s h ≡ true →
     ListsGroup (groups_of s h) (group_number n AskedOut) pieces
     → FindsAmong s.torrent (doubles s h q) pieces (length pieces) (Some b)
     → DoublesFirst s h q n b
-doubles_least s h q n pieces b legal is_level ending lists found =
+doubles_least s h q n pieces b legal lq is_level ending lists found =
     let place = listed_place s h n AskedOut pieces legal is_level (omega arith) lists found.2.0 found.2.1 in (
       ap (level h) (sym found.2.2) ∙ place.1,
       λ p lp same k lk is.
-          let stage = doubles_stage s h q p legal lp ending (any_found (block_count s.torrent p) (λ j. doubles s h q (block s.torrent p j)) k lk is) in
+          let stage = doubles_stage s h q p legal lq lp ending (any_found (block_count s.torrent p) (λ j. doubles s h q (block s.torrent p j)) k lk is) in
           let listed = place_listed s h n AskedOut p pieces lists lp same (ap place_of stage.1) in
           subst (NoneBeforeIn s.torrent (doubles s h q) b) listed.2 (found.3 listed.0 listed.1) k lk is,
     )
 
 -- where nothing was found among the pieces of the level whose lacking blocks are all asked, no piece of the level has a block to ask again
-pub doubles_none : (s : Setting) (h : History) (q n : ℕ) (pieces : List ℕ) → IsLegal s h → endgame s h ≡ true →
+pub doubles_none : (s : Setting) (h : History) (q n : ℕ) (pieces : List ℕ) → IsLegal s h → q < s.workers → endgame s h ≡ true →
     ListsGroup (groups_of s h) (group_number n AskedOut) pieces
     → FindsAmong s.torrent (doubles s h q) pieces (length pieces) None → DoublesNone s h q n
-doubles_none s h q n pieces legal ending lists none p lp same = false_from_ne_true (some_block_of s.torrent p (doubles s h q)) (λ is.
-    let stage = doubles_stage s h q p legal lp ending is in
+doubles_none s h q n pieces legal lq ending lists none p lp same = false_from_ne_true (some_block_of s.torrent p (doubles s h q)) (λ is.
+    let stage = doubles_stage s h q p legal lq lp ending is in
     let listed = place_listed s h n AskedOut p pieces lists lp same (ap place_of stage.1) in
     false≢true (sym (none listed.0 listed.1) ∙ (ap (λ (r : ℕ). some_block_of s.torrent r (doubles s h q)) listed.2 ∙ is)))
 
@@ -280,15 +281,6 @@ some_lacking_rows s h =
     above_zero : (m : ℕ) → nat_lt 0 m ≡ not (m == 0)
     above_zero zero = refl
     above_zero (suc m) = lt-ltb 0 (suc m) (omega arith) ∙ ap not (sym (ne_eqb (suc m) 0 (λ same. omega (arith, same))))
-
--- endgame by what is counted of the rows
-pub endgame_rows : (t : TablesState) (h : History) → AreTables t h
-    → ((sum_by (λ row. (standing_of row).unasked) t.pieces == 0) && nat_lt 0 (sum_by (λ row. (standing_of row).unheld) t.pieces)) ≡ endgame t.setting
-    h
-endgame_rows t h are =
-    ap (λ (rows : List PieceState). (sum_by (λ row. (standing_of row).unasked) rows == 0) && nat_lt 0 (sum_by (λ row. (standing_of row).unheld) rows))
-    are.pieces_are
-    ∙ (λ i. all_asked_rows t.setting h i && some_lacking_rows t.setting h i)
 
 -- ---- a piece that lacks one block
 

@@ -21,6 +21,11 @@ unfolding epoch
 epoch_more s h e x is =
     mod-add-mod (epoch s h) (2 ^ 64) (if x then 1 else 0) ∙ ap (λ (y : Bool). (epoch s h + (if y then 1 else 0)) % 2 ^ 64) is
 
+-- an endgame that is looked for at requests alone begins with a request
+pub only_requests : (asks was is : Bool) → (asks && (not (asks && was) && (asks && is))) ≡ (asks && (not was && is))
+only_requests true was is = refl
+only_requests false was is = refl
+
 -- the parts that a picker tells apart
 pub stirs_parts : (s : Setting) (h : History) (e : Event) → ((counts e.reply && (unsettles e.action || stores_beyond s h e e.action))
     || begins_endgame s h e) ≡ stirs s h e

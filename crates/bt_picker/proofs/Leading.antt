@@ -38,7 +38,7 @@ use Rattle.bt_picker.proofs.Telling.{wanted_chosen}
 
 module _ (s : Setting) (h : History) (p : ℕ) (lp : p < piece_count s.torrent) where
   -- an open piece has that stage
-  open_stage : is_open_piece s h p ≡ true → stage_of_row (piece_of s h p) ≡ Open
+  pub open_stage : is_open_piece s h p ≡ true → stage_of_row (piece_of s h p) ≡ Open
   open_stage is =
       let parts = and_parts (wanted s h p) _ is in
       let rest = and_parts (begun s h p) (some_block_of s.torrent p (unasked s h)) parts.1 in
@@ -49,7 +49,7 @@ module _ (s : Setting) (h : History) (p : ℕ) (lp : p < piece_count s.torrent) 
       (not-true (held_or_asked s h (block s.torrent p one.0)) one.2))
 
   -- and a piece of that stage is open
-  stage_opened : stage_of_row (piece_of s h p) ≡ Open → is_open_piece s h p ≡ true
+  pub stage_opened : stage_of_row (piece_of s h p) ≡ Open → is_open_piece s h p ≡ true
   stage_opened stage =
       let known = stage_open s h p stage in
       and_from (wanted s h p) _ (wanted_chosen s h p lp ∙ known.1)

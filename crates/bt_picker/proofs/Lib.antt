@@ -40,3 +40,4 @@ pub mod Stashing
 pub mod Tabled
 pub mod Telling
 pub mod Unbegun
+pub mod Waiting

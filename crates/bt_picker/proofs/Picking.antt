@@ -171,20 +171,20 @@ rises_first s h q word b inside up least = first_from s h word (rises s h q) b u
     )))
 
 -- in endgame the least block to ask again of the highest level that has one
-pub doubles_first : (s : Setting) (h : History) (q n : ℕ) → IsLegal s h → endgame s h ≡ true
+pub doubles_first : (s : Setting) (h : History) (q n : ℕ) → IsLegal s h → q < s.workers → endgame s h ≡ true
     → ((p : ℕ) → p < piece_count s.torrent → n < level h p → some_block_of s.torrent p (doubles s h q) ≡ false)
     → (b : Block) → is_block s.torrent b ≡ true → doubles s h q b ≡ true → level h b.piece ≡ n
     → ((p : ℕ) → p < piece_count s.torrent → level h p ≡ n → NoneBeforeIn s.torrent (doubles s h q) b p)
     → (word : ℕ) → is_first s h word (doubles s h q) b ≡ true
-doubles_first s h q n legal ends above b inside too level_is least word =
+doubles_first s h q n legal lq ends above b inside too level_is least word =
     let own = block_index s.torrent b inside in
     let some = any_found (block_count s.torrent b.piece) (λ j. doubles s h q (block s.torrent b.piece j)) own.index own.within
     (ap (doubles s h q) (sym own.is) ∙ too) in
-    least_first s h word (doubles s h q) b too (doubles_stage s h q b.piece legal own.piece ends some).2 (λ p k lp lk is.
+    least_first s h word (doubles s h q) b too (doubles_stage s h q b.piece legal lq own.piece ends some).2 (λ p k lp lk is.
     let any = any_found (block_count s.torrent p) (λ j. doubles s h q (block s.torrent p j)) k lk is in (
       ⊎_elim
           (λ (high : n < level h p). absurd (false≢true (sym (above p lp high) ∙ any)))
           (λ (low : level h p ≤ n). (omega (arith, low, level_is)))
           (cases_lt n (level h p)),
-      λ same. ((doubles_stage s h q p legal lp ends any).2, least p lp (same ∙ level_is) k lk is),
+      λ same. ((doubles_stage s h q p legal lq lp ends any).2, least p lp (same ∙ level_is) k lk is),
     ))

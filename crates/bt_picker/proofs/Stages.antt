@@ -19,7 +19,7 @@ use Rattle.bt_tables.proofs.Apart.{level_cases, place_few, place_in_slot, place_
 use Rattle.bt_tables.proofs.Tabled.{get_or_table, length_table}
 use Rattle.bt_picker.specs.Search.{IsLevel, is_candidate_at}
 use Rattle.bt_picker.specs.Tables.{groups_of, piece_of}
-use Rattle.bt_tables.specs.declared.piece.TheConstants.{CROWD, GROUPS, SPAN}
+use Rattle.bt_tables.specs.declared.piece.TheConstants.{CROWD, GROUPS, SPAN, UNBEGUN}
 use Rattle.bt_picker.proofs.Telling.{stage_by, stage_is, wanted_chosen}
 
 -- ---- what a stage tells of a piece
@@ -45,6 +45,14 @@ unbegun_by false true false u v n is = (refl, refl, refl, omega (arith, is))
 unbegun_by false true true true v n is = absurd (omega (arith, is))
 unbegun_by false true true false v n is = absurd (omega (arith, is))
 
+-- an unbegun piece that somebody shows stands behind those that nobody does
+shown_by : (d c t u : Bool) (v : ℕ) → UNBEGUN < place_of (stage_by d c t u v) → (d ≡ false) × (c ≡ true) × (t ≡ false) × (0 < v)
+shown_by true c t u v more = absurd (omega (arith, more))
+shown_by false false t u v more = absurd (omega (arith, more))
+shown_by false true false u v more = (refl, refl, refl, omega (arith, more))
+shown_by false true true true v more = absurd (omega (arith, more))
+shown_by false true true false v more = absurd (omega (arith, more))
+
 module _ (s : Setting) (h : History) (p : ℕ) where
   abbrev touched : Bool
   touched = some_block_of s.torrent p (held_or_asked s h)
@@ -63,6 +71,11 @@ module _ (s : Setting) (h : History) (p : ℕ) where
   pub stage_unbegun : (n : ℕ) → place_of (stage_of_row (piece_of s h p)) ≡ place_of (Unbegun n)
       → (had h p ≡ false) × (chosen h p ≡ true) × (touched ≡ false) × (min (availability s h p) CROWD ≡ min n CROWD)
   stage_unbegun n is = unbegun_by (had h p) (chosen h p) touched full (availability s h p) n (sym (ap place_of (stage_is s h p)) ∙ is)
+
+  pub stage_shown : UNBEGUN < place_of (stage_of_row (piece_of s h p))
+      → (had h p ≡ false) × (chosen h p ≡ true) × (touched ≡ false) × (0 < availability s h p)
+  stage_shown more =
+      shown_by (had h p) (chosen h p) touched full (availability s h p) (subst (λ (stage : Stage). UNBEGUN < place_of stage) (stage_is s h p) more)
 
   -- and the stage where the tests are known
   pub unbegun_stage : had h p ≡ false → chosen h p ≡ true → touched ≡ false → stage_of_row (piece_of s h p) ≡ Unbegun (availability s h p)
@@ -100,7 +113,7 @@ slot_same l n own is same = by_own (level_cases l) where
       (λ high there. absurd (omega (arith, there, high, less.1))) (λ low there. omega (arith, there, low, less.1))
 
 -- the level of a group, and the place among those of the level, can be told from its number
-same_place : (l n j k : ℕ) → l ≤ 7 → IsLevel n → j < SPAN → (l ≡ 0 → j ≡ 0) → 0 < k → k < SPAN
+pub same_place : (l n j k : ℕ) → l ≤ 7 → IsLevel n → j < SPAN → (l ≡ 0 → j ≡ 0) → 0 < k → k < SPAN
     → slot_of l * SPAN + j ≡ slot_of n * SPAN + k → (l ≡ n) × (j ≡ k)
 same_place l n j k few is low none some under same =
     let slot : slot_of l ≡ slot_of n = omega (arith, same, low, under) in
@@ -135,6 +148,29 @@ group_is s h p n stage level_is place = λ i. first_group (level_is i) + place i
 
 pub level_chosen : (h : History) (p n : ℕ) → IsLevel n → level h p ≡ n → chosen h p ≡ true
 level_chosen h p n is same = lt-ltb 0 (level h p) (omega (arith, is.0, same))
+
+-- a piece in the groups of the shown unbegun ones of a level has that level, and is one of them
+pub between_shown : (s : Setting) (h : History) (p n : ℕ) → IsLegal s h → IsLevel n → group_number n (Unbegun 1) ≤ group_of_row (piece_of s h p)
+    → group_of_row (piece_of s h p) < first_group n + SPAN
+    → (level h p ≡ n) × (had h p ≡ false) × (chosen h p ≡ true) × (touched s h p ≡ false) × (0 < availability s h p)
+between_shown s h p n legal is low high =
+    let own = stage_of_row (piece_of s h p) in
+    let few = place_few own in
+    let behind = group_of_row (piece_of s h p) - first_group n in
+    let place = same_place (level h p) n (place_of own) behind (level_bounded s h p legal) is few
+    (λ none. ap place_of (unchosen_rests s h p legal none)) (omega (arith, low)) (omega (arith, low, high)) (omega (arith, low)) in
+    let known = stage_shown s h p (omega (arith, place.1, low)) in
+    (place.0, known.0, known.1, known.2, known.3)
+
+-- and each such piece is in these groups
+pub shown_between : (s : Setting) (h : History) (p n : ℕ) → level h p ≡ n → had h p ≡ false → chosen h p ≡ true → touched s h p ≡ false
+    → 0 < availability s h p
+    → (group_number n (Unbegun 1) ≤ group_of_row (piece_of s h p)) × (group_of_row (piece_of s h p) < first_group n + SPAN)
+shown_between s h p n same lacks picked fresh some =
+    let stage = unbegun_stage s h p lacks picked fresh in
+    let group = group_is s h p n (Unbegun (availability s h p)) same (ap place_of stage) in
+    let few = place_few (Unbegun (availability s h p)) in
+    (omega (arith, group, some), omega (arith, group, few))
 
 -- where a piece is in no group of the higher levels it has none of them
 pub not_above : (s : Setting) (h : History) (p : ℕ) → IsLegal s h → (SPAN ≤ group_of_row (piece_of s h p) → 4 * SPAN ≤ group_of_row (piece_of s h p))

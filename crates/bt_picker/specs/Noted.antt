@@ -1,5 +1,5 @@
 -- What an entry more makes of a history that only proofs read.
-use Rattle.std.specs.Prelude.{◌∷◌}
+use Rattle.std.specs.Prelude.{false, ◌∷◌}
 use Rattle.bt_check.specs.Checked.{joined}
 use Rattle.bt_meta.specs.Layout.{Layout}
 use Rattle.bt_history.specs.History.{History}
@@ -11,7 +11,17 @@ use Rattle.bt_picker.specs.declared.past.Note.TheVariants.{Checked, Settled, Tol
 
 -- a setting of this torrent, of which nothing else is asked
 abbrev pub setting_with : Layout → Setting
-setting_with t = record { torrent = t; workers = 0; depth = 0; random = 0; askers = 0; deepest = 0; most_open = 0 }
+setting_with t = record {
+  torrent = t;
+  workers = 0;
+  depth = 0;
+  random = 0;
+  askers = 0;
+  deepest = 0;
+  most_open = 0;
+  rush = 0;
+  shown = false;
+}
 
 -- the history with one entry more
 abbrev pub noted : History → Note → History

@@ -3,18 +3,19 @@ ghost use Rattle.std.specs.Prelude.{◌≡◌, ◌<◌, ◌≤◌, ◌+◌, ◌-
 ghost use Rattle.std.specs.Prelude.{IsTrue, None, nat_lt};
 ghost use Rattle.bt_meta.specs.Layout.{piece_count, block_count, block, block_size};
 ghost use Rattle.bt_history.specs.Setting.{is_block, some_block, some_block_of};
+ghost use Rattle.bt_history.specs.Epochs.{is_request};
 ghost use Rattle.bt_history.specs.History.{same_begin};
 ghost use Rattle.bt_history.specs.Legal.{place_at};
 ghost use Rattle.bt_history.specs.Peers.{asked, has_place};
 ghost use Rattle.bt_history.specs.Picks.{is_first};
-ghost use Rattle.bt_history.specs.Pieces.{asker_count, endgame, held};
-ghost use Rattle.bt_history.specs.Next.{doubles};
+ghost use Rattle.bt_history.specs.Pieces.{asker_count, endgame, held, wanted};
+ghost use Rattle.bt_history.specs.Next.{doubles, rushes};
 ghost use Rattle.bt_tables.specs.Orders.{at};
 ghost use Rattle.bt_picker.specs.Search.{DoublesFirst, DoublesNone, Finds, FindsAmong, FindsFirst, FindsLesser, FindsOf, IsLevel};
 ghost use Rattle.bt_picker.specs.Search.{has_room, has_room_for};
 
 use crate::position::Position;
-use bt_history::MOST_LEVEL;
+use bt_history::{MOST_LEVEL, Reply};
 use bt_meta::{BLOCK_SIZE, Block};
 use bt_tables::Stage;
 
@@ -170,26 +171,50 @@ impl<'a> Position<'a> {
         least
     }
 
-    /// Whether each lacking block of a wanted piece is asked for, and there is one.
+    /// Whether each lacking block that endgame waits for is asked for, and a wanted block is lacking.
     pub fn is_endgame(&self) -> bool
         ensures { result ≡ endgame self.now.setting self.now.history }
     {
-        self.tables.unasked() == 0 && self.tables.unheld() > 0
+        self.are_awaited_asked() && self.is_some_lacking()
+    }
+
+    /// Whether the reply asks for a block, and there is an endgame. It isn't looked for at another reply, which begins none.
+    pub(crate) fn asks_in_endgame(&self, reply: Reply) -> bool
+        ensures { result ≡ (is_request reply && endgame self.now.setting self.now.history) }
+    {
+        reply.is_request() && self.is_endgame()
+    }
+
+    /// Whether some wanted block is lacking.
+    fn is_some_lacking(&self) -> bool
+        ensures { result ≡ some_block self.now.setting.torrent
+            (λ b. wanted self.now.setting self.now.history b.piece && not (held self.now.history b)) }
+    {
+        self.tables.unheld() > 0
+    }
+
+    /// Whether so few blocks are asked of the peer that it may be asked for one that another is asked for.
+    pub(crate) fn rushes(&self, worker: u32) -> bool
+        requires { worker < self.now.setting.workers }
+        ensures { result ≡ rushes self.now.setting self.now.history worker }
+    {
+        self.attest();
+        self.outstanding(worker).len() < self.rush() as usize
     }
 
     /// In endgame, a block to ask of the peer too.
     pub(crate) fn asking_again(&self, worker: u32) -> Option<Block>
         requires { worker < self.now.setting.workers }
         ensures some { IfSome result (λ b.
-            IsTrue (endgame self.now.setting self.now.history
-            && some_block self.now.setting.torrent (doubles self.now.setting self.now.history worker))
+            IsTrue (rushes self.now.setting self.now.history worker && (endgame self.now.setting self.now.history
+            && some_block self.now.setting.torrent (doubles self.now.setting self.now.history worker)))
             × IsTrue (is_block self.now.setting.torrent b) × IsTrue (doubles self.now.setting self.now.history worker b)) }
         ensures first { IfSome result (λ b. (word : ℕ) →
             IsTrue (is_first self.now.setting self.now.history word (doubles self.now.setting self.now.history worker) b)) }
-        ensures none { IfNone result ((endgame self.now.setting self.now.history
-            && some_block self.now.setting.torrent (doubles self.now.setting self.now.history worker)) ≡ false) }
+        ensures none { IfNone result ((rushes self.now.setting self.now.history worker && (endgame self.now.setting self.now.history
+            && some_block self.now.setting.torrent (doubles self.now.setting self.now.history worker))) ≡ false) }
     {
-        if self.is_endgame() {
+        if self.rushes(worker) && self.is_endgame() {
             self.doubling(worker)
         } else {
             None

@@ -6,6 +6,7 @@
 
 mod allow;
 mod auditing;
+mod awaiting;
 mod begin;
 mod choose;
 mod content;

@@ -135,6 +135,8 @@ impl Picker {
         ensures askers { result.askers ≡ self.now.setting.askers }
         ensures deepest { result.deepest ≡ self.now.setting.deepest }
         ensures most_open { result.«open» ≡ self.now.setting.most_open }
+        ensures rush { result.rush ≡ self.now.setting.rush }
+        ensures shown { result.shown ≡ self.now.setting.shown }
     {
         self.tables.rules()
     }
@@ -309,10 +311,10 @@ impl Picker {
         let before = self.position();
         let reply = before.reply(worker, told);
         let stirs = before.stirs(worker, told, reply);
-        let was_endgame = before.is_endgame();
+        let was_endgame = before.asks_in_endgame(reply);
         enter(&mut self.tables, &self.past, worker, told, reply);
         self.past = self.past.then(&Note::Told(worker, told, reply));
-        let is_endgame = Position::new(&self.tables, &self.past).is_endgame();
+        let is_endgame = Position::new(&self.tables, &self.past).asks_in_endgame(reply);
         let stirs = stirs | begins_endgame(reply, was_endgame, is_endgame);
         self.stirred = risen(self.stirred, stirs);
         reply

@@ -109,6 +109,20 @@ impl<'a> Position<'a> {
         self.tables.rules().open
     }
 
+    /// In endgame a peer is asked for a block that another is asked for only where it is asked for fewer blocks than these.
+    pub fn rush(&self) -> u32
+        ensures { result ≡ self.now.setting.rush }
+    {
+        self.tables.rules().rush
+    }
+
+    /// Whether endgame waits only for pieces that a joined peer shows.
+    pub fn waits_for_shown(&self) -> bool
+        ensures { result ≡ self.now.setting.shown }
+    {
+        self.tables.rules().shown
+    }
+
     pub fn piece_count(&self) -> u32
         ensures { result ≡ piece_count self.now.setting.torrent }
     {
@@ -159,9 +173,12 @@ impl<'a> Position<'a> {
     pub(crate) fn has_none(&self, low: u32, high: u32) -> bool
         requires low { low < high }
         requires high { high ≤ GROUPS }
-        ensures { result ≡ true → (p : ℕ) → p < piece_count self.now.setting.torrent
+        ensures none { result ≡ true → (p : ℕ) → p < piece_count self.now.setting.torrent
             → low ≤ group_of_row (piece_of self.now.setting self.now.history p)
             → high ≤ group_of_row (piece_of self.now.setting self.now.history p) }
+        ensures some { result ≡ false → (p : ℕ) × (p < piece_count self.now.setting.torrent)
+            × (low ≤ group_of_row (piece_of self.now.setting self.now.history p))
+            × (group_of_row (piece_of self.now.setting self.now.history p) < high) }
     {
         self.tables.has_none(low, high)
     }

@@ -125,7 +125,17 @@ meeting v u = record v { part = part (v.part.workers ++ u.part.workers) (longer 
 
 -- the setting of a seat that is no more
 abbrev pub no_setting : Setting
-no_setting = record { torrent = record { piece_length = 0; total = 0; hashes = [] }; workers = 0; depth = 0; random = 0; askers = 0; deepest = 0; most_open = 0 }
+no_setting = record {
+  torrent = record { piece_length = 0; total = 0; hashes = [] };
+  workers = 0;
+  depth = 0;
+  random = 0;
+  askers = 0;
+  deepest = 0;
+  most_open = 0;
+  rush = 0;
+  shown = false;
+}
 
 -- what is left of a seat that was joined into another
 abbrev pub spent_view : DeskView

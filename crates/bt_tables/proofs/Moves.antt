@@ -1,12 +1,12 @@
 -- What an exchange of two numbers, and the move of a border, leave of the arrays of an order.
 use Rattle.std.proofs.Common.{◌≡◌, ◌≢◌, ◌⊎◌, ℕ, zero, suc, ◌+◌, ◌-◌, ◌^◌, ◌<◌, ◌≤◌, List, [], ◌∷◌, length, get_or, set, take, drop, ◌++◌}
-use Rattle.std.proofs.Common.{replicate, refl, ap, sym, ◌∙◌, arith, length-set, ⊎_elim, inl, inr, subst}
-use Rattle.std.proofs.lemmas.Bool.{cases_eq, cases_lt}
+use Rattle.std.proofs.Common.{◌==◌, false, replicate, refl, ap, sym, ◌∙◌, arith, length-set, ⊎_elim, inl, inr, subst}
+use Rattle.std.proofs.lemmas.Bool.{cases_eq, cases_lt, eqb-false}
 use Rattle.std.proofs.lemmas.List.{get_or-set_same, get_or-set_other, get_or_read, length-replicate, get_or-replicate}
 use Rattle.std.specs.List.{range_with_len}
 use Rattle.std.proofs.lemmas.List.FromFn.{get_or-range_with_len, length-range_with_len}
 use Rattle.std.proofs.lemmas.Grind.{common_steps}
-use Rattle.bt_tables.specs.Orders.{at, AreInverse, AreSplit, Begins, ListsGroup, OrderState, Side}
+use Rattle.bt_tables.specs.Orders.{at, AreInverse, AreSplit, Begins, ListsGroup, OrderState, Side, SomeBetween}
 
 -- what is read at k of a list that was written at b
 abbrev Reads : List ℕ → ℕ → ℕ → ℕ → Type 0
@@ -129,6 +129,65 @@ module _ (groups places numbers ends : List ℕ) (p : ℕ) (are : AreInverse num
               omega (arith);
           side = λ r n lr ln. lowered_side r n (omega arith) (omega arith);
         }
+
+-- ---- groups that don't end where they begin
+
+module _ (groups numbers places ends : List ℕ) (are : AreInverse numbers places) (split : AreSplit groups places ends) (low top begin : ℕ)
+    (up : low ≤ top) (lt : top < length ends) (begins : Begins ends low begin) (apart : begin ≢ at ends top) where
+  -- they end behind where they begin
+  begins_before : begin < at ends top
+  begins_before = ⊎_elim
+      (λ (front : (low ≡ 0) × (begin ≡ 0)). omega (arith, front.0, front.1, apart))
+      (λ (behind : (m : ℕ) × (low ≡ m + 1) × (begin ≡ at ends m)). ⊎_elim
+      (λ (less : begin < at ends top). less)
+      (λ (le : at ends top ≤ begin).
+      let m = behind.0 in
+      let lm : m < length ends = omega (arith, behind.1, up, lt) in
+      let within = split.within m lm in
+      let inside : at ends top < length places = omega (arith, le, apart, behind.2, within) in
+      let known = are.number (at ends top) inside in
+      let place = are.forth (at ends top) inside in
+      let low_side = split.side (at numbers (at ends top)) m known lm in
+      let top_side = split.side (at numbers (at ends top)) top known lt in
+      absurd (omega (arith, le, apart, behind.1, behind.2, up, place, low_side, top_side)))
+      (cases_lt begin (at ends top)))
+      begins
+
+  -- so the number where they begin is in one of them
+  pub some_between : SomeBetween groups low (top + 1)
+  some_between =
+      let less = begins_before in
+      let within = split.within top lt in
+      let inside : begin < length places = omega (arith, less, within) in
+      let p = at numbers begin in
+      let known = are.number begin inside in
+      let place = are.forth begin inside in
+      let top_side = split.side p top known lt in (
+        p,
+        omega (arith, known, split.same),
+        ⊎_elim
+            (λ (front : (low ≡ 0) × (begin ≡ 0)). omega (arith, front.0))
+            (λ (behind : (m : ℕ) × (low ≡ m + 1) × (begin ≡ at ends m)).
+            let low_side = split.side p behind.0 known (omega (arith, behind.1, up, lt)) in
+            omega (arith, behind.1, behind.2, place, low_side))
+            begins,
+        omega (arith, less, place, top_side),
+      )
+
+-- the same of an order as contracts see it
+pub begins_apart : (groups numbers places ends : List ℕ) (view : OrderState) (low high begin end : ℕ) → AreInverse numbers places
+    → AreSplit groups places ends → record { count = length ends; group_of = groups } ≡ view → low < high → high ≤ view.count
+    → Begins ends low begin → end ≡ get_or ends (high - 1) end → (begin == end) ≡ false → SomeBetween view.group_of low high
+begins_apart groups numbers places ends view low high begin end are split is less few from end_is other =
+    let count : length ends ≡ view.count = ap (λ (v : OrderState). v.count) is in
+    let groups_is : groups ≡ view.group_of = ap (λ (v : OrderState). v.group_of) is in
+    let lt : high - 1 < length ends = omega arith in
+    let read : end ≡ at ends (high - 1) = get_or_read ends (high - 1) end lt end_is 0 in
+    let found = some_between groups numbers places ends are split low (high - 1) begin (omega arith) lt from
+    (λ same. eqb-false begin end other (same ∙ sym read)) in
+    let group = ap (λ (xs : List ℕ). at xs found.0) groups_is in
+    let long = ap length groups_is in
+    (found.0, omega (arith, found.1, long), omega (arith, found.2, group), omega (arith, found.3, group, less))
 
 -- ---- a slice that was lent and came back whole
 

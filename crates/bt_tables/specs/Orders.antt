@@ -17,6 +17,14 @@ pub record ListsGroup (group_of : List ℕ) (n : ℕ) (found : List ℕ) : Type 
   pub all : (p : ℕ) → p < length group_of → at group_of p ≡ n → (i : ℕ) × (i < length found) × (at found i ≡ p)
   pub once : (i j : ℕ) → i < j → j < length found → at found i ≡ at found j → ⊥
 
+-- no number is in the groups from low up to high
+abbrev pub NoneBetween : List ℕ → ℕ → ℕ → Type 0
+NoneBetween group_of low high = (p : ℕ) → p < length group_of → low ≤ at group_of p → high ≤ at group_of p
+
+-- some number is
+abbrev pub SomeBetween : List ℕ → ℕ → ℕ → Type 0
+SomeBetween group_of low high = (p : ℕ) × (p < length group_of) × (low ≤ at group_of p) × (at group_of p < high)
+
 -- ---- the arrays; no public clause cites what follows
 
 -- each place has a number and each number a place, and they tell of each other

@@ -1,8 +1,8 @@
 //! Numbers in groups: each group is listed, and a number moves between groups next to one another.
 
-ghost use Rattle.std.specs.Prelude.{◌≡◌, ◌<◌, ◌≤◌, ◌+◌, ◌-◌, ℕ, true, length, replicate, slice_set, IfOk};
+ghost use Rattle.std.specs.Prelude.{◌≡◌, ◌<◌, ◌≤◌, ◌+◌, ◌-◌, true, false, length, replicate, slice_set, IfOk};
 ghost use Rattle.std.specs.List.{range_with_len};
-ghost use Rattle.bt_tables.specs.Orders.{at, AreInverse, Begins, ListsGroup, OrderState};
+ghost use Rattle.bt_tables.specs.Orders.{at, AreInverse, Begins, ListsGroup, NoneBetween, OrderState, SomeBetween};
 
 use std::alloc::{AllocError, Global};
 use std::marker::Model;
@@ -75,7 +75,8 @@ impl Order {
     pub fn has_none(&self, low: u32, high: u32) -> bool
         requires low { low < high }
         requires high { high ≤ self.now.count }
-        ensures { result ≡ true → (p : ℕ) → p < length self.now.group_of → low ≤ at self.now.group_of p → high ≤ at self.now.group_of p }
+        ensures none { result ≡ true → NoneBetween self.now.group_of low high }
+        ensures some { result ≡ false → SomeBetween self.now.group_of low high }
     {
         begin_of(&self.ends, low) == self.ends[high as usize - 1]
     }

@@ -3,7 +3,7 @@
 ghost use Rattle.std.specs.Prelude.{◌≡◌, ◌<◌, ◌≤◌, ◌+◌, ◌^◌, ℕ, true, false, length, IfOk, map, min, if◌then◌else◌};
 ghost use Rattle.std.specs.List.{count_by, sum_by};
 ghost use Rattle.bt_meta.specs.Layout.{block_count, piece_count};
-ghost use Rattle.bt_tables.specs.Orders.{at, ListsGroup};
+ghost use Rattle.bt_tables.specs.Orders.{at, ListsGroup, NoneBetween, SomeBetween};
 ghost use Rattle.bt_tables.specs.Risings.{IsRising};
 ghost use Rattle.bt_tables.specs.Floors.{NoneFresh, rank_of_row};
 ghost use Rattle.bt_tables.specs.Standings.{ListsOpen, TellsRest, apart, group_number, group_of_row, standing_of};
@@ -135,8 +135,8 @@ impl Pieces {
     pub fn has_none(&self, low: u32, high: u32) -> bool
         requires low { low < high }
         requires high { high ≤ GROUPS }
-        ensures { result ≡ true → (p : ℕ) → p < length self.now → low ≤ at (map group_of_row self.now) p
-            → high ≤ at (map group_of_row self.now) p }
+        ensures none { result ≡ true → NoneBetween (map group_of_row self.now) low high }
+        ensures some { result ≡ false → SomeBetween (map group_of_row self.now) low high }
     {
         self.shelf.has_none(low, high)
     }

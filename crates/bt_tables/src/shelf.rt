@@ -1,7 +1,7 @@
 //! How all pieces stand to each other: in groups, in the list of the open ones, and in sums.
 
-ghost use Rattle.std.specs.Prelude.{◌≡◌, ◌<◌, ◌≤◌, ◌+◌, ◌-◌, ◌^◌, ℕ, true, length, replicate, slice_set, slice_index_or, IfOk};
-ghost use Rattle.bt_tables.specs.Orders.{at, ListsGroup};
+ghost use Rattle.std.specs.Prelude.{◌≡◌, ◌<◌, ◌≤◌, ◌+◌, ◌-◌, ◌^◌, true, false, length, replicate, slice_set, slice_index_or, IfOk};
+ghost use Rattle.bt_tables.specs.Orders.{at, ListsGroup, NoneBetween, SomeBetween};
 ghost use Rattle.bt_tables.specs.Risings.{IsRising};
 ghost use Rattle.bt_tables.specs.Standings.{IsFiled, ListsOpen, ShelfState, lowered_group, raised_group, refiled};
 
@@ -77,7 +77,8 @@ impl Shelf {
     pub fn has_none(&self, low: u32, high: u32) -> bool
         requires low { low < high }
         requires high { high ≤ GROUPS }
-        ensures { result ≡ true → (p : ℕ) → p < length self.now.groups → low ≤ at self.now.groups p → high ≤ at self.now.groups p }
+        ensures none { result ≡ true → NoneBetween self.now.groups low high }
+        ensures some { result ≡ false → SomeBetween self.now.groups low high }
     {
         self.order.has_none(low, high)
     }

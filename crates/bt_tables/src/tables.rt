@@ -5,7 +5,7 @@ ghost use Rattle.std.specs.Prelude.{EachIndex, unwrap_or};
 ghost use Rattle.bt_meta.specs.Layout.{IsLayout, block_count, piece_count, block_size};
 ghost use Rattle.std.specs.Option.{option_copied};
 ghost use Rattle.std.specs.List.{count_by, sum_by};
-ghost use Rattle.bt_tables.specs.Orders.{at, ListsGroup};
+ghost use Rattle.bt_tables.specs.Orders.{at, ListsGroup, NoneBetween, SomeBetween};
 ghost use Rattle.bt_tables.specs.Risings.{IsRising};
 ghost use Rattle.bt_tables.specs.Showing.{dealings};
 ghost use Rattle.bt_tables.specs.Standings.{ListsOpen, TellsRest, apart, group_number, group_of_row, standing_of};
@@ -116,6 +116,8 @@ impl Tables {
         ensures askers { result.askers ≡ self.now.setting.askers }
         ensures deepest { result.deepest ≡ self.now.setting.deepest }
         ensures most_open { result.«open» ≡ self.now.setting.most_open }
+        ensures rush { result.rush ≡ self.now.setting.rush }
+        ensures shown { result.shown ≡ self.now.setting.shown }
     {
         self.rules
     }
@@ -186,8 +188,8 @@ impl Tables {
     pub fn has_none(&self, low: u32, high: u32) -> bool
         requires low { low < high }
         requires high { high ≤ GROUPS }
-        ensures { result ≡ true → (p : ℕ) → p < length self.now.pieces → low ≤ at (map group_of_row self.now.pieces) p
-            → high ≤ at (map group_of_row self.now.pieces) p }
+        ensures none { result ≡ true → NoneBetween (map group_of_row self.now.pieces) low high }
+        ensures some { result ≡ false → SomeBetween (map group_of_row self.now.pieces) low high }
     {
         self.pieces.has_none(low, high)
     }

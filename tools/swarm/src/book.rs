@@ -6,6 +6,17 @@ use crate::rule::{Block, Came, Content};
 /// The slots of a book, and the most blocks of a piece: each set of them is a word of 64 bits.
 pub const SLOTS: usize = 64;
 
+/// How endgame goes, by the library's options of these names.
+#[derive(Clone, Copy, Debug)]
+pub struct Endgame {
+    /// Of how many neighbours a block is asked at most.
+    pub askers: u32,
+    /// A block is asked again only of a neighbour that is asked for fewer.
+    pub rush: u32,
+    /// Endgame waits only for pieces that a neighbour shows, and not for all.
+    pub shown: bool,
+}
+
 #[derive(Clone, Debug, Default)]
 struct Neighbour {
     is_open: bool,
@@ -29,19 +40,19 @@ pub struct Book {
     /// The pieces that aren't had, and of which a block is held or asked.
     begun: Vec<u32>,
     had: u32,
-    /// The blocks that are neither held nor asked.
+    /// The blocks that are neither held nor asked, of the pieces that endgame waits for.
     free: u64,
     neighbours: Vec<Neighbour>,
     /// How many of them are there.
     joined: usize,
     usual_depth: usize,
-    askers: usize,
+    endgame: Endgame,
     epoch: u64,
 }
 
 impl Book {
     /// The book of a downloader that has nothing.
-    pub fn new(content: Content, depth: u32, askers: u32) -> Book {
+    pub fn new(content: Content, depth: u32, endgame: Endgame) -> Book {
         let empty = vec![0; content.pieces as usize];
         Book {
             content,
@@ -50,11 +61,11 @@ impl Book {
             held: empty,
             begun: Vec::new(),
             had: 0,
-            free: content.all_blocks(),
+            free: if endgame.shown { 0 } else { content.all_blocks() },
             neighbours: vec![Neighbour::default(); SLOTS],
             joined: 0,
             usual_depth: depth as usize,
-            askers: askers as usize,
+            endgame,
             epoch: 0,
         }
     }
@@ -120,6 +131,11 @@ impl Book {
         self.shown[piece as usize].count_ones()
     }
 
+    /// Whether endgame waits for the piece.
+    fn is_awaited(&self, piece: u32) -> bool {
+        !self.endgame.shown || self.availability(piece) > 0
+    }
+
     /// All blocks of a piece.
     fn full(&self) -> u64 {
         u64::MAX >> (64 - self.content.blocks)
@@ -153,17 +169,18 @@ impl Book {
         Block { piece, index: (!self.taken[piece as usize]).trailing_zeros() }
     }
 
-    /// Endgame: the blocks that the neighbour may bring, and of which too few others were asked. There are none while a block is free.
+    /// Endgame: the blocks that the neighbour may bring, and of which too few others were asked. There are none while a block is free that
+    /// endgame waits for, nor where as many are asked of the neighbour as may be.
     pub fn doubles(&self, slot: u8) -> Vec<Block> {
-        if self.free > 0 {
+        let own = &self.neighbours[slot as usize].line;
+        if self.free > 0 || own.len() >= self.endgame.rush as usize {
             return Vec::new();
         }
         let mut asked: Vec<Block> = self.neighbours.iter().flat_map(|neighbour| &neighbour.line).copied().collect();
         asked.sort_unstable();
-        let own = &self.neighbours[slot as usize].line;
         let is_useful = |block: &Block| self.shown[block.piece as usize] >> slot & 1 == 1 && !own.contains(block);
         let runs = asked.chunk_by(|block, next| block == next);
-        runs.filter(|run| run.len() < self.askers && is_useful(&run[0])).map(|run| run[0]).collect()
+        runs.filter(|run| run.len() < self.endgame.askers as usize && is_useful(&run[0])).map(|run| run[0]).collect()
     }
 
     /// Whether another block may be asked of the neighbour now.
@@ -193,7 +210,14 @@ impl Book {
             self.begun.push(block.piece);
         }
         *taken |= 1 << block.index;
-        self.free -= 1;
+        if self.is_awaited(block.piece) {
+            self.lose_free(1);
+        }
+    }
+
+    /// Endgame waits for so many free blocks less. Without any left it begins.
+    fn lose_free(&mut self, count: u32) {
+        self.free -= u64::from(count);
         if self.free == 0 {
             self.epoch += 1;
         }
@@ -212,14 +236,24 @@ impl Book {
 
     /// The neighbour has one piece more.
     pub fn have(&mut self, slot: u8, piece: u32) {
+        let was_awaited = self.is_awaited(piece);
         self.shown[piece as usize] |= 1 << slot;
+        if !was_awaited {
+            self.free += u64::from(self.free(piece));
+        }
     }
 
     /// The neighbour goes.
     pub fn leave(&mut self, slot: u8) {
         self.joined -= 1;
         self.choke(slot, true);
-        self.shown.iter_mut().for_each(|shown| *shown &= !(1 << slot));
+        for piece in 0..self.content.pieces {
+            let was_awaited = self.is_awaited(piece);
+            self.shown[piece as usize] &= !(1 << slot);
+            if was_awaited && !self.is_awaited(piece) {
+                self.lose_free(self.free(piece));
+            }
+        }
     }
 
     /// The neighbour chokes us, which frees what was asked of it; or it does so no more.
@@ -243,10 +277,10 @@ impl Book {
     fn release(&mut self, block: Block) {
         let taken = &mut self.taken[block.piece as usize];
         *taken &= !(1 << block.index);
-        self.free += 1;
         if *taken == 0 {
             self.begun.retain(|&piece| piece != block.piece);
         }
+        self.free += u64::from(self.is_awaited(block.piece));
     }
 
     /// So many blocks may be asked of the neighbour.

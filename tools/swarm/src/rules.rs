@@ -1,6 +1,6 @@
 //! The rules that are put beside each other.
 
-use crate::book::Book;
+use crate::book::{Book, Endgame};
 use crate::field::{Libtorrent, OnePiece, Transmission};
 #[cfg(feature = "libtorrent")]
 use crate::libtorrent::Client;
@@ -14,12 +14,15 @@ use piecepick::Options;
 use std::cell::Cell;
 use std::rc::Rc;
 
-/// The usual depth, and the usual bound of those who are asked for one block in endgame.
+/// The usual depth.
 const DEPTH: u32 = 5;
-const ASKERS: u32 = 2;
 
-/// The greatest number of askers, which is no bound.
+/// The usual endgame, that of the library's usual options.
+pub const ENDGAME: Endgame = Endgame { askers: 2, rush: 32, shown: true };
+
+/// The greatest numbers of askers and of `rush`, which are no bounds.
 const NO_BOUND: u32 = 1024;
+const NO_RUSH: u32 = 4096;
 
 /// Depths that follow the rate: what came in a time, and the usual depth beside.
 #[derive(Clone, Copy, Debug)]
@@ -61,7 +64,7 @@ impl Kind {
     /// A picker for a downloader that has nothing.
     fn picker(self, peer: u32, content: Content) -> Result<Box<dyn Rule>, Fault> {
         let plain = |order: Box<dyn Order>, endgame| -> Result<Box<dyn Rule>, Fault> {
-            Ok(Box::new(Plain::new(Book::new(content, DEPTH, ASKERS), order, endgame)))
+            Ok(Box::new(Plain::new(Book::new(content, DEPTH, ENDGAME), order, endgame)))
         };
         match self {
             Kind::Ours { options, first } => Ok(Box::new(Ours::new(content, options, first)?)),
@@ -132,7 +135,8 @@ const OPEN: u32 = 0;
 
 /// The usual options of the library, for depths that aren't told. A greater `deepest` takes memory in each picker.
 fn usual() -> Options {
-    Options::new().depth(DEPTH).deepest(DEPTH).askers(ASKERS).open(OPEN)
+    let Endgame { askers, rush, shown } = ENDGAME;
+    Options::new().depth(DEPTH).deepest(DEPTH).askers(askers).rush(rush).shown(shown).open(OPEN)
 }
 
 fn ours(name: &'static str, options: Options) -> Chooser {
@@ -193,11 +197,13 @@ fn with_open() -> Vec<Chooser> {
         ours("ours, 16 open", usual().open(16)),
         ours("ours, 64 open", usual().open(64)),
         by_rate(ours("ours, 8 open by rate", deep)),
+        by_rate(ours("ours, 8 open by rate, any rush", deep.rush(NO_RUSH))),
         by_rate(ours("ours, 16 open by rate", deep.open(16))),
         ours("ours, 8 open, depth 16", open.depth(16).deepest(16)),
         ours("ours, 8 open, depth 64", open.depth(64).deepest(64)),
         ours("ours, 8 open, 1 asker", open.askers(1)),
         ours("ours, 8 open, no bound", open.askers(NO_BOUND)),
+        ours("ours, 8 open, awaits all", open.shown(false)),
         ours("ours, 8 open, first rarest", open.random(0)),
         ours("ours, 8 open, 4 random", open.random(4)),
         ours_with("ours, 8 open, lone first", open, First::Lone),

@@ -110,14 +110,16 @@ const DEPTHS: [&str; 14] = [
 ];
 
 /// The usual rule of the library with its other options, and with other ties.
-const OPTIONS: [&str; 14] = [
+const OPTIONS: [&str; 16] = [
     "ours, 8 open",
     "ours, 64 open",
     "ours, 8 open, depth 16",
     "ours, 8 open, depth 64",
     "ours, 8 open by rate",
+    "ours, 8 open by rate, any rush",
     "ours, 8 open, 1 asker",
     "ours, 8 open, no bound",
+    "ours, 8 open, awaits all",
     "ours, 8 open, first rarest",
     "ours, 8 open, 4 random",
     "ours, 8 open, lone first",

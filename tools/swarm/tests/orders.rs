@@ -5,6 +5,7 @@ use swarm::field::{Libtorrent, OnePiece, Transmission};
 use swarm::open::{Begun, Open};
 use swarm::plain::{Order, Plain, Ties};
 use swarm::rule::{Ask, Block, Came, Content, Rule};
+use swarm::rules::ENDGAME;
 
 /// The rule with the library's ties, and rarest first from the beginning.
 const OPEN: Open = Open { open: 1, random: 0, begun: Begun::Least, fresh: Ties::Least };
@@ -15,7 +16,7 @@ fn capped() -> Libtorrent {
 }
 
 fn plain(content: Content, order: impl Order + 'static) -> Plain {
-    Plain::new(Book::new(content, 64, 2), Box::new(order), Ties::Least)
+    Plain::new(Book::new(content, 64, ENDGAME), Box::new(order), Ties::Least)
 }
 
 /// Neighbours that show these pieces come and unchoke us, in slots from 0 on.

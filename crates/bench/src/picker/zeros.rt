@@ -87,6 +87,8 @@ impl Zeros {
                     askers,
                     deepest: depth,
                     open,
+                    rush: MOST_TOLD_DEPTH,
+                    shown: false,
                 },
             )?,
             block: zero_bytes(alloc, BLOCK_SIZE)?,

@@ -5,7 +5,7 @@ ghost use Rattle.bt_shared.specs.Passes.{IsSame};
 
 use crate::swarm::{ZEROS, full, torrent};
 use anyhow::{Result, ensure};
-use bt_picker::{Call, MOST_DEPTH, MOST_WORKERS, Reply, Rules};
+use bt_picker::{Call, MOST_DEPTH, MOST_TOLD_DEPTH, MOST_WORKERS, Reply, Rules};
 use bt_shared::{Pass, SharedDesk};
 use bytes::Bytes;
 use std::alloc::Global;
@@ -42,6 +42,8 @@ pub fn open(alloc: Global, threads: u32, pieces: u32) -> Result<(SharedDesk, Vec
         askers: MOST_WORKERS,
         deepest: MOST_DEPTH,
         open: 0,
+        rush: MOST_TOLD_DEPTH,
+        shown: false,
     };
     Ok(SharedDesk::open(alloc, Arc::new(alloc, torrent)?, threads, rules)?)
 }

@@ -60,6 +60,8 @@ fn terms_of(rt: &impl Abort, terms: &str) -> (u32, Rules) {
         askers: next_number(rt, &mut terms),
         deepest: next_number(rt, &mut terms),
         open: next_number(rt, &mut terms),
+        rush: next_number(rt, &mut terms),
+        shown: next_number(rt, &mut terms) == 1,
     };
     (workers, rules)
 }

@@ -1,16 +1,16 @@
 //! Written anew by each run of tools/examples.py: the worked examples of the rules as texts, each with replies that would be wrong in it.
 //!
 //! An example's first line is its name, the next ones are its torrent and how many workers it has, its depth, how many pieces it picks at
-//! random, of how many peers a block is asked in endgame, which depth may be told at most, and how many pieces may be open; then come its
-//! lines, and behind `but`, each behind the number of lines that come before, those that mustn't come. Between two examples stands an empty
-//! line.
+//! random, of how many peers a block is asked in endgame, which depth may be told at most, how many pieces may be open, of how few blocks a peer
+//! is asked that is asked for one again, and 1 where endgame waits for what is shown alone, else 0. Then come its lines, and behind `but`, each
+//! behind the number of lines that come before, those that mustn't come. Between two examples stands an empty line.
 
-pub const COUNT: u32 = 77;
+pub const COUNT: u32 = 83;
 
 pub const EXAMPLES: &str = "\
 first request
 3 7 abc abc a
-1 5 1 1024 64 0
+1 5 1 1024 64 0 4096 0
 0 join = joined
 0 bits e0 = noted yes
 0 unchoke = quiet
@@ -21,7 +21,7 @@ but
 
 another first request
 3 7 abc abc a
-1 5 1 1024 64 0
+1 5 1 1024 64 0 4096 0
 0 join = joined
 0 bits e0 = noted yes
 0 unchoke = quiet
@@ -31,7 +31,7 @@ but
 
 one peer to the end
 3 7 abc abc a
-1 5 1 1024 64 0
+1 5 1 1024 64 0 4096 0
 0 join = joined
 0 bits e0 = noted yes
 0 unchoke = quiet
@@ -51,7 +51,7 @@ but
 
 rarest first
 3 7 abc abc a
-2 5 1 1024 64 0
+2 5 1 1024 64 0 4096 0
 0 join = joined
 0 bits e0 = noted yes
 1 join = joined
@@ -66,7 +66,7 @@ but
 
 full pipe
 1000000 1000000 million
-2 5 1 1024 64 0
+2 5 1 1024 64 0 4096 0
 0 join = joined
 0 bits 80 = noted yes
 0 unchoke = quiet
@@ -82,7 +82,7 @@ but
 
 choke frees
 1000000 1000000 million
-2 5 1 1024 64 0
+2 5 1 1024 64 0 4096 0
 0 join = joined
 0 bits 80 = noted yes
 0 unchoke = quiet
@@ -103,7 +103,7 @@ but
 
 cancel in endgame
 3 3 abc
-2 5 1 1024 64 0
+2 5 1 1024 64 0 4096 0
 0 join = joined
 0 bits 80 = noted yes
 0 unchoke = quiet
@@ -123,7 +123,7 @@ but
 
 no double before endgame
 3 6 abc abc
-2 5 1 1024 64 0
+2 5 1 1024 64 0 4096 0
 0 join = joined
 0 bits c0 = noted yes
 0 unchoke = quiet
@@ -137,7 +137,7 @@ but
 
 double outlasts endgame
 3 6 abc abc
-4 5 1 1024 64 0
+4 5 1 1024 64 0 4096 0
 0 join = joined
 0 bits 80 = noted yes
 0 unchoke = quiet
@@ -162,7 +162,7 @@ but
 
 failed check
 3 7 abc abc a
-1 5 1 1024 64 0
+1 5 1 1024 64 0 4096 0
 0 join = joined
 0 bits e0 = noted yes
 0 unchoke = quiet
@@ -176,7 +176,7 @@ but
 
 failed check in endgame
 3 3 abc
-2 5 1 1024 64 0
+2 5 1 1024 64 0 4096 0
 0 join = joined
 0 bits 80 = noted yes
 0 unchoke = quiet
@@ -195,7 +195,7 @@ but
 
 held block dropped
 3 7 abc abc a
-1 5 1 1024 64 0
+1 5 1 1024 64 0 4096 0
 0 join = joined
 0 block 2 0 a = completed
 0 block 2 0 a = dropped
@@ -205,7 +205,7 @@ but
 
 block by block
 32768 65536 abc abc
-1 5 1 1024 64 0
+1 5 1 1024 64 0 4096 0
 0 join = joined
 0 block 0 0 whole = stored
 0 block 0 0 whole = dropped
@@ -215,7 +215,7 @@ but
 
 refusals
 3 7 abc abc a
-2 5 1 1024 64 0
+2 5 1 1024 64 0 4096 0
 0 leave = refused NotJoined
 1 block 9 9 a = refused NotJoined
 0 join = joined
@@ -240,7 +240,7 @@ but
 
 wrong count
 3 7 abc abc a
-1 5 1 1024 64 0
+1 5 1 1024 64 0 4096 0
 0 join = joined
 0 no-bits-of 4 = refused WrongCount
 0 bits e0 = noted yes
@@ -249,7 +249,7 @@ but
 
 stale verdict
 3 7 abc abc a
-1 5 1 1024 64 0
+1 5 1 1024 64 0 4096 0
 0 join = joined
 0 block 0 0 abd = completed
 0 settle 0 abd = failed
@@ -265,7 +265,7 @@ but
 
 random first piece
 3 7 abc abc a
-2 5 1 1024 64 0
+2 5 1 1024 64 0 4096 0
 0 join = joined
 0 bits e0 = noted yes
 0 unchoke = quiet
@@ -277,7 +277,7 @@ but
 
 rare first piece too
 3 7 abc abc a
-2 5 1 1024 64 0
+2 5 1 1024 64 0 4096 0
 0 join = joined
 0 bits e0 = noted yes
 0 unchoke = quiet
@@ -289,7 +289,7 @@ but
 
 strict priority
 32768 65536 abc abc
-1 5 1 1024 64 0
+1 5 1 1024 64 0 4096 0
 0 join = joined
 0 bits c0 = noted yes
 0 unchoke = quiet
@@ -301,7 +301,7 @@ but
 
 gone peer not counted
 3 7 abc abc a
-3 5 1 1024 64 0
+3 5 1 1024 64 0 4096 0
 0 join = joined
 0 bits e0 = noted yes
 1 join = joined
@@ -319,7 +319,7 @@ but
 
 rejoin in endgame
 3 3 abc
-2 5 1 1024 64 0
+2 5 1 1024 64 0 4096 0
 0 join = joined
 0 bits 80 = noted yes
 0 unchoke = quiet
@@ -341,7 +341,7 @@ but
 
 depth two
 1000000 1000000 million
-1 2 1 1024 64 0
+1 2 1 1024 64 0 4096 0
 0 join = joined
 0 bits 80 = noted yes
 0 unchoke = quiet
@@ -354,7 +354,7 @@ but
 
 deep pipe
 1000000 1000000 million
-1 64 1 1024 64 0
+1 64 1 1024 64 0 4096 0
 0 join = joined
 0 bits 80 = noted yes
 0 unchoke = quiet
@@ -371,7 +371,7 @@ but
 
 rarest from the start
 3 7 abc abc a
-2 5 0 1024 64 0
+2 5 0 1024 64 0 4096 0
 0 join = joined
 0 bits e0 = noted yes
 0 unchoke = quiet
@@ -383,7 +383,7 @@ but
 
 second piece at random
 3 7 abc abc a
-2 5 2 1024 64 0
+2 5 2 1024 64 0 4096 0
 0 join = joined
 0 bits e0 = noted yes
 1 join = joined
@@ -398,7 +398,7 @@ but
 
 rarest after two pieces
 3 12 abc abc abc abc
-2 5 2 1024 64 0
+2 5 2 1024 64 0 4096 0
 0 join = joined
 0 bits f0 = noted yes
 0 unchoke = quiet
@@ -416,7 +416,7 @@ but
 
 wants
 3 7 abc abc a
-2 5 1 1024 64 0
+2 5 1 1024 64 0 4096 0
 1 want 40 = quiet
 0 join = joined
 0 bits e0 = noted yes
@@ -442,7 +442,7 @@ but
 
 endgame of the wanted
 3 6 abc abc
-2 5 1 1024 64 0
+2 5 1 1024 64 0 4096 0
 0 join = joined
 0 bits c0 = noted yes
 0 unchoke = quiet
@@ -459,7 +459,7 @@ but
 
 want before the bits
 3 7 abc abc a
-1 5 1 1024 64 0
+1 5 1 1024 64 0 4096 0
 0 join = joined
 0 want 40 = quiet
 0 bits e0 = noted yes
@@ -468,7 +468,7 @@ but
 
 asked stays asked
 3 6 abc abc
-2 5 1 1024 64 0
+2 5 1 1024 64 0 4096 0
 0 join = joined
 0 bits c0 = noted yes
 0 unchoke = quiet
@@ -487,7 +487,7 @@ but
 
 released is asked elsewhere
 3 6 abc abc
-2 5 1 1024 64 0
+2 5 1 1024 64 0 4096 0
 0 join = joined
 0 bits c0 = noted yes
 0 unchoke = quiet
@@ -504,7 +504,7 @@ but
 
 released in endgame
 3 3 abc
-2 5 1 1024 64 0
+2 5 1 1024 64 0 4096 0
 0 join = joined
 0 bits 80 = noted yes
 0 unchoke = quiet
@@ -525,7 +525,7 @@ but
 
 released piece is unbegun
 32768 65536 abc abc
-1 5 1 1024 64 0
+1 5 1 1024 64 0 4096 0
 0 join = joined
 0 bits c0 = noted yes
 0 unchoke = quiet
@@ -539,7 +539,7 @@ but
 
 released is asked again
 3 3 abc
-1 5 1 1024 64 0
+1 5 1 1024 64 0 4096 0
 0 join = joined
 0 bits 80 = noted yes
 0 unchoke = quiet
@@ -552,7 +552,7 @@ but
 
 released arrives after all
 32768 65536 abc abc
-1 5 1 1024 64 0
+1 5 1 1024 64 0 4096 0
 0 join = joined
 0 bits c0 = noted yes
 0 unchoke = quiet
@@ -565,7 +565,7 @@ but
 
 depth of one
 1000000 1000000 million
-1 5 1 1024 64 0
+1 5 1 1024 64 0 4096 0
 0 join = joined
 0 bits 80 = noted yes
 0 unchoke = quiet
@@ -577,7 +577,7 @@ but
 
 deepened
 1000000 1000000 million
-1 5 1 1024 64 0
+1 5 1 1024 64 0 4096 0
 0 join = joined
 0 bits 80 = noted yes
 0 unchoke = quiet
@@ -596,7 +596,7 @@ but
 
 depth outlasts a choke
 1000000 1000000 million
-1 5 1 1024 64 0
+1 5 1 1024 64 0 4096 0
 0 join = joined
 0 bits 80 = noted yes
 0 unchoke = quiet
@@ -614,7 +614,7 @@ but
 
 depth goes with its peer
 1000000 1000000 million
-1 5 1 1024 64 0
+1 5 1 1024 64 0 4096 0
 0 join = joined
 0 bits 80 = noted yes
 0 unchoke = quiet
@@ -632,7 +632,7 @@ but
 
 smaller depth
 1000000 1000000 million
-1 5 1 1024 64 0
+1 5 1 1024 64 0 4096 0
 0 join = joined
 0 bits 80 = noted yes
 0 unchoke = quiet
@@ -652,7 +652,7 @@ but
 
 one asker
 3 3 abc
-2 5 1 1 64 0
+2 5 1 1 64 0 4096 0
 0 join = joined
 0 bits 80 = noted yes
 0 unchoke = quiet
@@ -669,7 +669,7 @@ but
 
 two askers
 3 3 abc
-3 5 1 2 64 0
+3 5 1 2 64 0 4096 0
 0 join = joined
 0 bits 80 = noted yes
 0 unchoke = quiet
@@ -690,7 +690,7 @@ but
 
 no depth may be told
 3 7 abc abc a
-1 5 1 1024 0 0
+1 5 1 1024 0 0 4096 0
 0 join = joined
 0 depth 1 = refused WrongDepth
 but
@@ -698,7 +698,7 @@ but
 
 greatest depth
 3 7 abc abc a
-1 5 1 1024 9999 0
+1 5 1 1024 9999 0 4096 0
 0 join = joined
 0 depth 4097 = refused WrongDepth
 0 depth 4096 = quiet
@@ -707,7 +707,7 @@ but
 
 refusals of release and depth
 3 7 abc abc a
-2 5 1 1024 64 0
+2 5 1 1024 64 0 4096 0
 0 release 0 0 = refused NotJoined
 0 depth 3 = refused NotJoined
 0 join = joined
@@ -735,7 +735,7 @@ but
 
 haves after a bitfield
 3 7 abc abc a
-1 5 1 1024 64 0
+1 5 1 1024 64 0 4096 0
 0 join = joined
 0 bits 80 = noted yes
 0 haves 40 = noted yes
@@ -751,7 +751,7 @@ but
 
 haves after a have
 3 7 abc abc a
-1 5 1 1024 64 0
+1 5 1 1024 64 0 4096 0
 0 join = joined
 0 have 2 = noted yes
 0 haves 80 = noted yes
@@ -765,7 +765,7 @@ but
 
 haves of none
 3 7 abc abc a
-2 5 1 1024 64 0
+2 5 1 1024 64 0 4096 0
 0 haves e0 = refused NotJoined
 0 join = joined
 0 haves-none-of 4 = refused WrongCount
@@ -783,7 +783,7 @@ but
 
 haves are counted
 3 7 abc abc a
-2 5 0 1024 64 0
+2 5 0 1024 64 0 4096 0
 0 join = joined
 0 bits e0 = noted yes
 0 unchoke = quiet
@@ -796,7 +796,7 @@ but
 
 two levels
 3 12 abc abc abc abc
-3 5 0 1024 64 0
+3 5 0 1024 64 0 4096 0
 2 levels 2772 = quiet
 0 join = joined
 0 bits f0 = noted yes
@@ -820,7 +820,7 @@ but
 
 raised in mid download
 32768 65536 abc abc
-1 5 1 1024 64 0
+1 5 1 1024 64 0 4096 0
 0 join = joined
 0 bits c0 = noted yes
 0 unchoke = quiet
@@ -834,7 +834,7 @@ but
 
 streaming
 3 12 abc abc abc abc
-1 5 1 1024 64 0
+1 5 1 1024 64 0 4096 0
 0 join = joined
 0 bits f0 = noted yes
 0 unchoke = quiet
@@ -853,7 +853,7 @@ but
 
 earlier piece in order
 32768 65536 abc abc
-1 5 1 1024 64 0
+1 5 1 1024 64 0 4096 0
 0 join = joined
 0 bits 40 = noted yes
 0 unchoke = quiet
@@ -868,7 +868,7 @@ but
 
 in order told off
 3 12 abc abc abc abc
-2 5 0 1024 64 0
+2 5 0 1024 64 0 4096 0
 0 join = joined
 0 bits f0 = noted yes
 0 unchoke = quiet
@@ -884,7 +884,7 @@ but
 
 peer of low levels
 3 12 abc abc abc abc
-2 5 1 1024 64 0
+2 5 1 1024 64 0 4096 0
 1 levels 7711 = quiet
 0 join = joined
 0 bits f0 = noted yes
@@ -902,7 +902,7 @@ but
 
 unwanted by level
 3 6 abc abc
-1 5 1 1024 64 0
+1 5 1 1024 64 0 4096 0
 0 join = joined
 0 bits c0 = noted yes
 0 unchoke = quiet
@@ -919,7 +919,7 @@ but
 
 levels of none
 3 7 abc abc a
-1 5 1 1024 64 0
+1 5 1 1024 64 0 4096 0
 0 levels 000 = quiet
 0 join = joined
 0 bits e0 = noted no
@@ -934,7 +934,7 @@ but
 
 want after levels
 3 12 abc abc abc abc
-2 5 0 1024 64 0
+2 5 0 1024 64 0 4096 0
 0 levels 7115 = quiet
 0 join = joined
 0 bits f0 = noted yes
@@ -953,7 +953,7 @@ but
 
 level before the bits
 3 6 abc abc
-1 5 1 1024 64 0
+1 5 1 1024 64 0 4096 0
 0 join = joined
 0 level 1 7 = quiet
 0 bits c0 = noted yes
@@ -966,7 +966,7 @@ but
 
 endgame of all levels
 3 6 abc abc
-3 5 1 1024 64 0
+3 5 1 1024 64 0 4096 0
 2 levels 71 = quiet
 0 join = joined
 0 bits c0 = noted yes
@@ -986,7 +986,7 @@ but
 
 asked outlasts its level
 3 6 abc abc
-1 5 1 1024 64 0
+1 5 1 1024 64 0 4096 0
 0 join = joined
 0 bits c0 = noted yes
 0 unchoke = quiet
@@ -1000,7 +1000,7 @@ but
 
 refusals of levels
 3 7 abc abc a
-2 5 1 1024 64 0
+2 5 1 1024 64 0 4096 0
 0 level 3 4 = refused NoSuchPiece
 0 level 0 8 = refused WrongLevel
 0 level 9 9 = refused NoSuchPiece
@@ -1029,7 +1029,7 @@ but
 
 any begun piece goes on
 32768 131072 abc abc abc abc
-3 5 0 1024 64 0
+3 5 0 1024 64 0 4096 0
 0 join = joined
 0 bits f0 = noted yes
 0 unchoke = quiet
@@ -1048,7 +1048,7 @@ but
 
 rarest while few are open
 32768 131072 abc abc abc abc
-2 5 0 1024 64 1
+2 5 0 1024 64 1 4096 0
 0 join = joined
 0 bits f0 = noted yes
 0 unchoke = quiet
@@ -1067,7 +1067,7 @@ but
 
 as many open as may be
 32768 131072 abc abc abc abc
-3 5 0 1024 64 2
+3 5 0 1024 64 2 4096 0
 0 join = joined
 0 bits f0 = noted yes
 0 unchoke = quiet
@@ -1087,7 +1087,7 @@ but
 
 rarest of the open goes on
 32768 131072 abc abc abc abc
-3 5 0 1024 64 1
+3 5 0 1024 64 1 4096 0
 0 join = joined
 0 bits f0 = noted yes
 0 unchoke = quiet
@@ -1108,7 +1108,7 @@ but
 
 first piece before rarity
 32768 131072 abc abc abc abc
-2 5 1 1024 64 8
+2 5 1 1024 64 8 4096 0
 0 join = joined
 0 bits f0 = noted yes
 0 unchoke = quiet
@@ -1122,7 +1122,7 @@ but
 
 rarest of the begun at random
 32768 131072 abc abc abc abc
-3 5 2 1024 64 8
+3 5 2 1024 64 8 4096 0
 0 join = joined
 0 bits f0 = noted yes
 0 unchoke = quiet
@@ -1143,7 +1143,7 @@ but
 
 rarest once enough are had
 32768 65537 abc abc a
-2 5 1 1024 64 8
+2 5 1 1024 64 8 4096 0
 0 join = joined
 0 bits e0 = noted yes
 0 unchoke = quiet
@@ -1161,7 +1161,7 @@ but
 
 open counted over all levels
 32768 131072 abc abc abc abc
-2 5 0 1024 64 1
+2 5 0 1024 64 1 4096 0
 0 join = joined
 0 bits f0 = noted yes
 0 unchoke = quiet
@@ -1179,7 +1179,7 @@ but
 
 wholly requested pieces are not open
 32768 131072 abc abc abc abc
-2 5 0 1024 64 1
+2 5 0 1024 64 1 4096 0
 0 join = joined
 0 bits f0 = noted yes
 0 unchoke = quiet
@@ -1195,7 +1195,7 @@ but
 
 released block opens its piece
 32768 131072 abc abc abc abc
-2 5 0 1024 64 1
+2 5 0 1024 64 1 4096 0
 0 join = joined
 0 bits f0 = noted yes
 0 unchoke = quiet
@@ -1212,7 +1212,7 @@ but
 
 held block opens its piece
 32768 131072 abc abc abc abc
-2 5 0 1024 64 1
+2 5 0 1024 64 1 4096 0
 0 join = joined
 0 bits f0 = noted yes
 0 unchoke = quiet
@@ -1227,7 +1227,7 @@ but
 
 held pieces are not open
 32768 131072 abc abc abc abc
-2 5 0 1024 64 1
+2 5 0 1024 64 1 4096 0
 0 join = joined
 0 bits f0 = noted yes
 0 unchoke = quiet
@@ -1243,7 +1243,7 @@ but
 
 unwanted pieces are not open
 32768 131072 abc abc abc abc
-3 5 0 1024 64 1
+3 5 0 1024 64 1 4096 0
 0 join = joined
 0 bits f0 = noted yes
 0 unchoke = quiet
@@ -1262,7 +1262,7 @@ but
 
 none of the open is shown
 32768 131072 abc abc abc abc
-4 5 0 1024 64 1
+4 5 0 1024 64 1 4096 0
 0 join = joined
 0 bits 80 = noted yes
 0 unchoke = quiet
@@ -1283,7 +1283,7 @@ but
 
 in order however many are open
 32768 131072 abc abc abc abc
-2 5 0 1024 64 1
+2 5 0 1024 64 1 4096 0
 0 join = joined
 0 bits f0 = noted yes
 0 unchoke = quiet
@@ -1297,4 +1297,110 @@ in order however many are open
 0 next 3 = request 0 16384 16384
 0 next 3 = request 1 16384 16384
 but
-9 0 next 3 = request 1 16384 16384";
+9 0 next 3 = request 1 16384 16384
+
+endgame at few
+3 6 abc abc
+2 5 1 1024 64 0 1 0
+0 join = joined
+0 bits c0 = noted yes
+0 unchoke = quiet
+1 join = joined
+1 bits c0 = noted yes
+1 unchoke = quiet
+0 next 0 = request 0 0 3
+0 next 0 = request 1 0 3
+1 next 0 = request 0 0 3
+1 next 0 = idle
+0 block 0 0 abc = completed
+1 next 0 = cancel 0 0 3
+1 next 0 = request 1 0 3
+but
+8 1 next 0 = idle
+9 1 next 0 = request 1 0 3
+
+endgame at none
+3 3 abc
+2 5 1 1024 64 0 0 0
+0 join = joined
+0 bits 80 = noted yes
+0 unchoke = quiet
+1 join = joined
+1 bits 80 = noted yes
+1 unchoke = quiet
+0 next 0 = request 0 0 3
+1 next 0 = idle
+0 release 0 0 = quiet
+1 next 0 = request 0 0 3
+but
+7 1 next 0 = request 0 0 3
+
+unshown piece holds up endgame
+3 6 abc abc
+2 5 1 1024 64 0 4096 0
+0 join = joined
+0 bits 80 = noted yes
+0 unchoke = quiet
+1 join = joined
+1 bits 80 = noted yes
+1 unchoke = quiet
+0 next 0 = request 0 0 3
+1 next 0 = idle
+but
+7 1 next 0 = request 0 0 3
+
+endgame over what is shown
+3 6 abc abc
+2 5 1 1024 64 0 4096 1
+0 join = joined
+0 bits 80 = noted yes
+0 unchoke = quiet
+1 join = joined
+1 bits 80 = noted yes
+1 unchoke = quiet
+0 next 0 = request 0 0 3
+1 next 0 = request 0 0 3
+but
+7 1 next 0 = idle
+
+shown piece holds up endgame
+3 6 abc abc
+3 5 1 1024 64 0 4096 1
+0 join = joined
+0 bits 80 = noted yes
+0 unchoke = quiet
+1 join = joined
+1 bits 80 = noted yes
+1 unchoke = quiet
+2 join = joined
+2 bits 40 = noted yes
+0 next 0 = request 0 0 3
+1 next 0 = idle
+2 leave = quiet
+1 next 0 = request 0 0 3
+but
+9 1 next 0 = request 0 0 3
+11 1 next 0 = idle
+
+lower level is awaited too
+3 12 abc abc abc abc
+3 5 1 1024 64 0 4096 1
+2 levels 4710 = quiet
+0 join = joined
+0 bits c0 = noted yes
+0 unchoke = quiet
+1 join = joined
+1 bits 80 = noted yes
+1 unchoke = quiet
+0 next 0 = request 1 0 3
+1 next 0 = request 0 0 3
+0 next 0 = request 0 0 3
+2 join = joined
+2 bits 30 = noted yes
+1 have 1 = noted yes
+1 next 0 = idle
+2 unchoke = quiet
+2 next 0 = request 2 0 3
+1 next 0 = request 1 0 3
+but
+13 1 next 0 = request 1 0 3";

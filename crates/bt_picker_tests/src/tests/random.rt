@@ -60,7 +60,7 @@ fn one_of(rng: &mut Lcg64Xsh32, cases: u32) -> u32
 }
 
 /// Rules for that torrent: every other time such that a pipe fills soon, with a bound on the peers of a block or none, with depths that
-/// may be told or none, and with begun pieces first or the rarest.
+/// may be told or none, with begun pieces first or the rarest, and with an endgame of any blocks or of few, over all pieces or the shown ones.
 fn any_rules(rng: &mut Lcg64Xsh32) -> Rules
     ensures shallow { 1 ≤ result.depth }
     ensures deep { result.depth ≤ 64 }
@@ -73,6 +73,8 @@ fn any_rules(rng: &mut Lcg64Xsh32) -> Rules
         askers: [1, 2, MOST_WORKERS][one_of(rng, 3) as usize],
         deepest: [0, 3, MOST_DEPTH][one_of(rng, 3) as usize],
         open: [0, 1, 8][one_of(rng, 3) as usize],
+        rush: [0, 2, MOST_TOLD_DEPTH][one_of(rng, 3) as usize],
+        shown: one_of(rng, 2) == 1,
     }
 }
 

@@ -2,7 +2,7 @@
 
 use bt_meta::{FromRead, ToWrite, Torrent};
 use bt_peer::{End, SessionFault, Stream};
-use bt_picker::{MOST_DEPTH, MOST_WORKERS, Rules};
+use bt_picker::{MOST_DEPTH, MOST_TOLD_DEPTH, MOST_WORKERS, Rules};
 use bt_wire::Hello;
 use std::alloc::{AllocError, Global};
 use std::io::Cursor;
@@ -42,6 +42,8 @@ pub const RULES: Rules = Rules {
     askers: MOST_WORKERS,
     deepest: MOST_DEPTH,
     open: 0,
+    rush: MOST_TOLD_DEPTH,
+    shown: false,
 };
 
 /// What a peer of one piece sends, after its handshake: its bitfield, unchoke, and the piece.

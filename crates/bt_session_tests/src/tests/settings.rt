@@ -5,7 +5,7 @@ use super::serial::{journal, run_by};
 use bt_expect::same;
 use bt_meta::{Bitfield, Torrent};
 use bt_peer::SerialRun;
-use bt_picker::{MOST_DEPTH, MOST_WORKERS, Rules};
+use bt_picker::{MOST_DEPTH, MOST_TOLD_DEPTH, MOST_WORKERS, Rules};
 use std::alloc::Global;
 use std::sync::Arc;
 use std::test::Fail;
@@ -70,6 +70,8 @@ fn asked(alloc: Global, depth: u32, count: u32) -> Result<(usize, String), Fail>
         askers: MOST_WORKERS,
         deepest: MOST_DEPTH,
         open: 0,
+        rush: MOST_TOLD_DEPTH,
+        shown: false,
     };
     let said = calls(alloc, blocks(alloc, count)?, &ONE, None, rules)?;
     let mut last = String::new(alloc);

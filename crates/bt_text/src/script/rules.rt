@@ -1,16 +1,17 @@
 //! The line of a script that sets the picker's rules.
 
-ghost use Rattle.std.specs.Prelude.{◌≡◌, ◌≤◌, map, IfOk, option_map};
+ghost use Rattle.std.specs.Prelude.{◌≡◌, ◌≤◌, map, IfOk, Some};
 ghost use Rattle.bt_text.specs.Fields.{Reads};
-ghost use Rattle.bt_text.specs.RulesLines.{depth_in, open_told, random_in, rules_in, rules_of_fields, rules_told};
+ghost use Rattle.bt_text.specs.RulesLines.{at_most, depth_in, opened, random_in, rules_in, rules_of_fields, rules_told, rushing, waiting};
 
 use super::LineFault;
-use super::fields::{fields, is, small_number};
-use bt_picker::{MOST_DEPTH, MOST_OPEN, MOST_WORKERS, Rules};
+use super::fields::{fields, is, small_number, yes_or_no};
+use bt_picker::{MOST_DEPTH, MOST_OPEN, MOST_TOLD_DEPTH, MOST_WORKERS, Rules};
 use std::alloc::Global;
 
-/// The rules that this text says for a torrent of so many pieces: `rules`, the depth, the number of pieces at random, and, if it is there,
-/// that of open pieces. The bound on the peers of one block and the greatest depth that may be told are the usual ones.
+/// The rules that this text says for a torrent of so many pieces: `rules`, the depth, and the number of pieces at random. Behind them may
+/// stand the number of open pieces, then that of blocks below which endgame asks a peer, then `yes` where endgame waits for shown pieces alone.
+/// The bound on the peers of one block and the greatest depth that may be told are the usual ones.
 pub fn read_rules(alloc: Global, text: &[u8], pieces: u32) -> Result<Rules, LineFault>
     ensures reads { Reads (λ rules. rules) result (rules_in pieces text.now) }
     ensures shallow { IfOk result (λ rules. 1 ≤ rules.depth) }
@@ -29,21 +30,26 @@ fn rules_of(fields: &[&[u8]], pieces: u32) -> Result<Rules, LineFault>
     ensures random { IfOk result (λ rules. rules.random ≤ pieces) }
 {
     match fields {
-        [word, depth, random] => rules_told(word, depth, random, None, pieces),
-        [word, depth, random, open] => rules_told(word, depth, random, Some(open), pieces),
+        [word, depth, random] => rules_told(word, depth, random, pieces),
+        [word, depth, random, open] => opened(rules_told(word, depth, random, pieces)?, open),
+        [word, depth, random, open, rush] => rushing(
+            opened(rules_told(word, depth, random, pieces)?, open)?,
+            rush,
+        ),
+        [word, depth, random, open, rush, shown] => waiting(
+            rushing(
+                opened(rules_told(word, depth, random, pieces)?, open)?,
+                rush,
+            )?,
+            shown,
+        ),
         _ => Err(LineFault::NotAllowed),
     }
 }
 
-/// The rules that the word and the numbers behind it say.
-fn rules_told(
-    word: &[u8],
-    depth: &[u8],
-    random: &[u8],
-    most_open: Option<&[u8]>,
-    pieces: u32,
-) -> Result<Rules, LineFault>
-    ensures reads { Reads (λ rules. rules) result (rules_told pieces word.now depth.now random.now (option_map (λ text. text.now) most_open.entry)) }
+/// The rules that the word and the first two numbers say.
+fn rules_told(word: &[u8], depth: &[u8], random: &[u8], pieces: u32) -> Result<Rules, LineFault>
+    ensures reads { Reads (λ rules. rules) result (rules_told pieces word.now depth.now random.now) }
     ensures shallow { IfOk result (λ rules. 1 ≤ rules.depth) }
     ensures deep { IfOk result (λ rules. rules.depth ≤ MOST_DEPTH) }
     ensures random { IfOk result (λ rules. rules.random ≤ pieces) }
@@ -56,22 +62,50 @@ fn rules_told(
         random: random_of(random, pieces)?,
         askers: MOST_WORKERS,
         deepest: MOST_DEPTH,
-        open: open_told(most_open)?,
+        open: 0,
+        rush: MOST_TOLD_DEPTH,
+        shown: false,
     })
 }
 
-/// How many pieces may be open: none where nothing is said.
-fn open_told(text: Option<&[u8]>) -> Result<u32, LineFault>
-    ensures { Reads (λ n. n) result (open_told (option_map (λ bytes. bytes.now) text.entry)) }
+/// The rules with as many open pieces as the text says.
+fn opened(mut rules: Rules, text: &[u8]) -> Result<Rules, LineFault>
+    ensures reads { Reads (λ told. told) result (opened (Some rules) text.now) }
+    ensures depth { IfOk result (λ told. told.depth ≡ rules.depth) }
+    ensures random { IfOk result (λ told. told.random ≡ rules.random) }
 {
-    let Some(text) = text else {
-        return Ok(0);
-    };
-    let open = small_number(text)?;
-    if open > MOST_OPEN {
+    rules.open = within(small_number(text)?, MOST_OPEN)?;
+    Ok(rules)
+}
+
+/// The rules by which endgame asks a block again only of a peer that is asked for fewer blocks than the text says.
+fn rushing(mut rules: Rules, text: &[u8]) -> Result<Rules, LineFault>
+    ensures reads { Reads (λ told. told) result (rushing (Some rules) text.now) }
+    ensures depth { IfOk result (λ told. told.depth ≡ rules.depth) }
+    ensures random { IfOk result (λ told. told.random ≡ rules.random) }
+{
+    rules.rush = within(small_number(text)?, MOST_TOLD_DEPTH)?;
+    Ok(rules)
+}
+
+/// The rules by which endgame waits only for shown pieces, where the text says so.
+fn waiting(mut rules: Rules, text: &[u8]) -> Result<Rules, LineFault>
+    ensures reads { Reads (λ told. told) result (waiting (Some rules) text.now) }
+    ensures depth { IfOk result (λ told. told.depth ≡ rules.depth) }
+    ensures random { IfOk result (λ told. told.random ≡ rules.random) }
+{
+    rules.shown = yes_or_no(text)?;
+    Ok(rules)
+}
+
+/// The number, if it is no more than this.
+fn within(number: u32, most: u32) -> Result<u32, LineFault>
+    ensures { Reads (λ n. n) result (at_most most number) }
+{
+    if number > most {
         return Err(LineFault::NotAllowed);
     }
-    Ok(open)
+    Ok(number)
 }
 
 /// How many blocks may be asked of a peer, within its limits.

@@ -13,7 +13,7 @@ unreachable-requires c =
     let t = setting_of c.torrent.result.now.layout c.workers.result c.rules.result in
     let same = setting_is s c.torrent.result.now.layout c.workers.result c.rules.result
     c.torrent.ensures c.workers.ensures.count c.rules.ensures.depth c.rules.ensures.random c.rules.ensures.askers c.rules.ensures.deepest
-    c.rules.ensures.most_open in
+    c.rules.ensures.most_open c.rules.ensures.rush c.rules.ensures.shown in
     let legal = subst (λ (d : DeskState). IsLegal d.setting (history_of xs)) (sym c.picker-picker.ensures)
     (subst (λ h. IsLegal c.args.desk.now.setting h) (sym c.journal.ensures.history) c.journal.ensures.legal) in
     not_wrong t s xs found.field-0-0 same legal (subst (IsFault t xs) found.field-0-is found.ensures.err)

@@ -12,7 +12,7 @@ use Rattle.bt_picker.specs.Positions.{DeskState}
 use Rattle.bt_picker.specs.Told.{telling}
 use Rattle.bt_picker.specs.Tables.{AreTables}
 use Rattle.bt_picker.proofs.Completing.{completed_waits}
-use Rattle.bt_picker.proofs.Epochs.{epoch_told, stirs_parts}
+use Rattle.bt_picker.proofs.Epochs.{epoch_told, only_requests, stirs_parts}
 use Rattle.bt_picker.proofs.picker.Picker.hear.Goals as goal
 
 pub invariant_of-self : goal.invariant_of-self
@@ -26,12 +26,14 @@ invariant_of-self c =
     let setting = c.enter.ensures.setting in
     let told : c.stirs-stirs.result ≡ (counts reply && (unsettles e.action || stores_beyond s old e e.action)) =
     c.stirs-stirs.ensures ∙ ap (λ (d : DeskState). counts reply && (unsettles e.action || stores_beyond d.setting d.history e e.action)) is in
-    let was : c.is_endgame-was_endgame.result ≡ endgame s old =
-    c.is_endgame-was_endgame.ensures ∙ ap (λ (d : DeskState). endgame d.setting d.history) is in
-    let now : c.is_endgame-is_endgame.result ≡ endgame s (e ∷ old) =
-    c.is_endgame-is_endgame.ensures ∙ (λ i. endgame ((c.new.ensures.setting ∙ setting) i) ((c.new.ensures.history ∙ c.then-self-inside.ensures) i)) in
+    let was : c.asks_in_endgame-was_endgame.result ≡ (is_request reply && endgame s old) =
+    c.asks_in_endgame-was_endgame.ensures ∙ ap (λ (d : DeskState). is_request reply && endgame d.setting d.history) is in
+    let now : c.asks_in_endgame-is_endgame.result ≡ (is_request reply && endgame s (e ∷ old)) =
+    c.asks_in_endgame-is_endgame.ensures
+    ∙ (λ i. is_request reply && endgame ((c.new.ensures.setting ∙ setting) i) ((c.new.ensures.history ∙ c.then-self-inside.ensures) i)) in
     let begins : c.begins_endgame.result ≡ begins_endgame s old e =
-    c.begins_endgame.ensures ∙ (λ i. is_request reply && (not (was i) && now i)) in
+    c.begins_endgame.ensures
+    ∙ ((λ i. is_request reply && (not (was i) && now i)) ∙ only_requests (is_request reply) (endgame s old) (endgame s (e ∷ old))) in
     let stirred : (c.stirs-stirs.result || c.begins_endgame.result) ≡ stirs s old e = (λ i. told i || begins i) ∙ stirs_parts s old e in (
       subst (AreTables c.enter.new.tables) (sym c.then-self-inside.ensures) c.enter.ensures.are,
       subst (λ (n : Setting). n.workers ≤ MOST_WORKERS) (sym setting) c.self.invariant.1,

@@ -26,8 +26,8 @@ returns-clause-first c = first c.least_doubling.result c.least_doubling.ensures 
   first None none = tt
   first (Some b) found =
       let d = c.args.self.now in
-      doubles_least d.setting d.history c.args.worker c.args.level c.group.result.now b c.attest.ensures.legal c.requires.level c.requires.endgame
-      c.group.ensures found
+      doubles_least d.setting d.history c.args.worker c.args.level c.group.result.now b c.attest.ensures.legal c.requires.worker c.requires.level
+      c.requires.endgame c.group.ensures found
 
 pub returns-clause-none : goal.returns-clause-none
 returns-clause-none c = missing c.least_doubling.result c.least_doubling.ensures where
@@ -37,5 +37,5 @@ returns-clause-none c = missing c.least_doubling.result c.least_doubling.ensures
   missing (Some b) found = tt
   missing None none =
       let d = c.args.self.now in
-      doubles_none d.setting d.history c.args.worker c.args.level c.group.result.now c.attest.ensures.legal c.requires.endgame
+      doubles_none d.setting d.history c.args.worker c.args.level c.group.result.now c.attest.ensures.legal c.requires.worker c.requires.endgame
       c.group.ensures none

@@ -7,4 +7,4 @@ pub returns : goal.returns
 returns c is q =
     let d = c.args.self.now in
     no_group d.setting d.history q c.args.level c.group_number.result (c.first_group.result + SPAN) c.attest.ensures.legal c.group_number.ensures.is
-    (ap (λ (g : ℕ). g + SPAN) c.first_group.ensures) (c.has_none.ensures is)
+    (ap (λ (g : ℕ). g + SPAN) c.first_group.ensures) (c.has_none.ensures.none is)
