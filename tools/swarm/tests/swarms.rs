@@ -116,6 +116,22 @@ fn no_swarm_beats_its_bound() {
     }
 }
 
+/// The seed leaves before all is out. What somebody has comes to everybody all the same. An endgame comes where it waits for no more than that:
+/// each peer gets a block twice or more, and otherwise hardly anybody one.
+#[test]
+fn a_piece_that_is_nowhere_holds_no_endgame_up() {
+    let scenario = small("leaves");
+    let mut setup = scenario.setup(1);
+    setup.seed_gives = Some(scenario.content.all_blocks() * 9 / 10);
+    let [shown, all] = ["ours, 8 open", "ours, 8 open, awaits all"].map(|rule| run(&setup, &rules::named(rule).unwrap(), 1).unwrap());
+    for outcome in [&shown, &all] {
+        let last = outcome.samples.last().unwrap();
+        assert!(outcome.missing > 0 && outcome.times.is_empty());
+        assert_eq!(last.copies, u64::from(last.peers * (scenario.content.pieces - outcome.missing)));
+    }
+    assert!(shown.blocks.twice > 40 && all.blocks.twice < 10, "{:?}, {:?}", shown.blocks, all.blocks);
+}
+
 #[test]
 fn with_one_asker_few_blocks_come_twice() {
     let scenario = small("flash");
