@@ -207,15 +207,11 @@ static piecepick_kind bring(piecepick_picker *picker, uint32_t worker, uint32_t 
     return answer.kind;
 }
 
-/* A full piece is checked in the way of its picker; its last block came with wrong bytes, or not. A journal has two ways. */
-static piecepick_kind settle(piecepick_picker *picker, uint32_t keeps, uint32_t piece, int wrong)
+/* A full piece is checked in the way of its picker, by the bytes that came. A journal has two ways. */
+static piecepick_kind settle_bytes(piecepick_picker *picker, uint32_t keeps, uint32_t piece, const uint8_t *bytes, uint32_t length)
 {
-    uint8_t bytes[PIECE];
-    uint32_t length = length_of(piece);
     piecepick_answer answer;
     piecepick_job *job = NULL;
-    memcpy(bytes, bytes_of(piece), length);
-    bytes[length - 1] = (uint8_t)(bytes[length - 1] + (wrong != 0));
     if (keeps == PIECEPICK_KEEPS_NOTHING) {
         piecepick_digest digest = sha1(bytes, length);
         EQUAL(piecepick_settle(picker, piece, &digest, &answer), PIECEPICK_OK);
@@ -232,6 +228,16 @@ static piecepick_kind settle(piecepick_picker *picker, uint32_t keeps, uint32_t 
     }
     is_answer(__LINE__, "a check", &answer, answer.kind, PIECEPICK_R_NONE, 0);
     return answer.kind;
+}
+
+/* The same of the torrent's piece, whose last block came with wrong bytes, or not. */
+static piecepick_kind settle(piecepick_picker *picker, uint32_t keeps, uint32_t piece, int wrong)
+{
+    uint8_t bytes[PIECE];
+    uint32_t length = length_of(piece);
+    memcpy(bytes, bytes_of(piece), length);
+    bytes[length - 1] = (uint8_t)(bytes[length - 1] + (wrong != 0));
+    return settle_bytes(picker, keeps, piece, bytes, length);
 }
 
 static piecepick_kind bring_whole(piecepick_picker *picker, uint32_t keeps, uint32_t worker, uint32_t piece)
@@ -1368,6 +1374,257 @@ static void try_copies(uint32_t keeps)
     piecepick_close(&picker);
 }
 
+/* ---- Extensions of the protocol, and what a client meets, as docs/CALLS.md has them. */
+
+/* How many blocks of the piece are in flight at the worker's peer. */
+static uint32_t in_flight_of(piecepick_picker *picker, uint32_t worker, uint32_t piece)
+{
+    piecepick_answer answer;
+    uint32_t count, found = 0;
+    EQUAL(piecepick_outstanding(picker, worker, &count), PIECEPICK_OK);
+    for (uint32_t place = 0; place < count; place++) {
+        EQUAL(piecepick_outstanding_at(picker, worker, place, &answer), PIECEPICK_OK);
+        found += answer.piece == piece;
+    }
+    return found;
+}
+
+/* A peer chokes us, and lets us fetch two pieces all the same (BEP 6). A second number stands for it, which shows these alone. Once the peer
+   unchokes us, that number shows the rest and the first one leaves, or the other way round. */
+static void try_allowed(uint32_t keeps)
+{
+    const uint32_t first = 0, second = 1;
+    for (int stays = 0; stays < 2; stays++) {
+        piecepick_picker *picker = open_for(keeps, 2);
+        piecepick_answer answer;
+        uint32_t number;
+        GETS(piecepick_join(picker, first, &answer), PIECEPICK_K_JOINED);
+        NOTED(piecepick_bits(picker, first, all, flags_len, &answer), 1);
+        GETS(piecepick_join(picker, second, &answer), PIECEPICK_K_JOINED);
+        NOTED(piecepick_haves(picker, second, two, flags_len, &answer), 1);
+        QUIET(piecepick_unchoke(picker, second, &answer));
+        GETS(piecepick_next(picker, first, 3, &answer), PIECEPICK_K_CHOKED);
+        EQUAL(asks_all(picker, second, PIECEPICK_K_IDLE), 4);
+        EQUAL(in_flight_of(picker, second, 0) + in_flight_of(picker, second, 1), 4);
+        /* The peer counts twice where its pieces are allowed. */
+        NUMBER(piecepick_availability(picker, 1, &number), 2);
+        NUMBER(piecepick_availability(picker, 2, &number), 1);
+        EQUAL(bring_whole(picker, keeps, second, 0), PIECEPICK_K_HAD);
+        GETS(piecepick_next(picker, second, 3, &answer), PIECEPICK_K_IDLE);
+        /* Two blocks are in flight when it unchokes us. They stay so, or are requested once more on the same connection. */
+        if (stays) {
+            NOTED(piecepick_haves(picker, second, all, flags_len, &answer), 1);
+            QUIET(piecepick_leave(picker, first, &answer));
+        } else {
+            QUIET(piecepick_unchoke(picker, first, &answer));
+            QUIET(piecepick_leave(picker, second, &answer));
+        }
+        NUMBER(piecepick_availability(picker, 1, &number), 1);
+        QUIET(piecepick_depth(picker, stays ? second : first, 64, &answer));
+        EQUAL(in_flight_of(picker, stays ? second : first, 1), stays ? 2 : 0);
+        EQUAL(asks_all(picker, stays ? second : first, PIECEPICK_K_IDLE), all_blocks() - (stays ? 4 : 2));
+        EQUAL(in_flight_of(picker, stays ? second : first, 1), 2);
+        EQUAL(bring_whole(picker, keeps, stays ? second : first, 1), PIECEPICK_K_HAD);
+        if (keeps == PIECEPICK_KEEPS_JOURNAL) EQUAL(piecepick_audit(picker), PIECEPICK_OK);
+        piecepick_close(&picker);
+    }
+}
+
+/* A peer suggests a piece (BEP 6). By its level all peers get it first; as the word of one peer it is begun next where nothing else comes
+   before it. */
+static void try_suggested(uint32_t keeps)
+{
+    piecepick_picker *picker = open_for(keeps, 2);
+    piecepick_answer answer;
+    come(picker, 0);
+    come(picker, 1);
+    BLOCKS(piecepick_next(picker, 0, 0, &answer), PIECEPICK_K_REQUEST, 0, 0);
+    QUIET(piecepick_set_level(picker, 6, 5, &answer));
+    BLOCKS(piecepick_next(picker, 0, 0, &answer), PIECEPICK_K_REQUEST, 6, 0);
+    BLOCKS(piecepick_next(picker, 1, 0, &answer), PIECEPICK_K_REQUEST, 6, BLOCK);
+    EQUAL(bring(picker, 0, 6, 0, 0), PIECEPICK_K_STORED);
+    EQUAL(bring(picker, 1, 6, BLOCK, 0), PIECEPICK_K_COMPLETED);
+    EQUAL(settle(picker, keeps, 6, 0), PIECEPICK_K_HAD);
+    /* Another suggestion ends before its piece is begun, as the peer is gone. */
+    QUIET(piecepick_set_level(picker, 8, 5, &answer));
+    QUIET(piecepick_set_level(picker, 8, 4, &answer));
+    BLOCKS(piecepick_next(picker, 0, 0, &answer), PIECEPICK_K_REQUEST, 0, BLOCK);
+    /* One peer's word is 7 from here on, and the other's stays 0. */
+    BLOCKS(piecepick_next(picker, 0, 7, &answer), PIECEPICK_K_REQUEST, 7, 0);
+    BLOCKS(piecepick_next(picker, 1, 0, &answer), PIECEPICK_K_REQUEST, 7, BLOCK);
+    BLOCKS(piecepick_next(picker, 1, 0, &answer), PIECEPICK_K_REQUEST, 1, 0);
+    BLOCKS(piecepick_next(picker, 0, 7, &answer), PIECEPICK_K_REQUEST, 1, BLOCK); /* a begun piece comes before the word's */
+    if (keeps == PIECEPICK_KEEPS_JOURNAL) EQUAL(piecepick_audit(picker), PIECEPICK_OK);
+    piecepick_close(&picker);
+}
+
+/* The word is the piece behind the last one that was begun. A lone seeder gives the pieces in rising order from there, and behind the last one
+   the first. */
+static void try_ranges(uint32_t keeps)
+{
+    static const uint32_t ORDER[] = {7, 8, 2, 3, 4, 5, 6, 9, 0, 1};
+    piecepick_options options = PIECEPICK_OPTIONS;
+    piecepick_picker *picker;
+    piecepick_answer answer;
+    uint32_t word = ORDER[0];
+    options.keeps = keeps;
+    options.workers = 2;
+    options.depth = 64;
+    picker = open_by(&options);
+    come(picker, 0);
+    EQUAL(pieces, sizeof ORDER / sizeof *ORDER);
+    for (uint32_t at = 0; at < pieces; at++) {
+        const uint32_t piece = ORDER[at];
+        if (at == 2) QUIET(piecepick_set_level(picker, piece, 5, &answer)); /* another range begins */
+        for (uint32_t begin = 0; begin < length_of(piece); begin += BLOCK) {
+            BLOCKS(piecepick_next(picker, 0, word, &answer), PIECEPICK_K_REQUEST, piece, begin);
+            word = piece + 1;
+        }
+    }
+    GETS(piecepick_next(picker, 0, word, &answer), PIECEPICK_K_IDLE);
+    piecepick_close(&picker);
+    /* A piece that another peer began comes before the word's. */
+    picker = open_by(&options);
+    come(picker, 0);
+    come(picker, 1);
+    BLOCKS(piecepick_next(picker, 1, 0, &answer), PIECEPICK_K_REQUEST, 0, 0);
+    BLOCKS(piecepick_next(picker, 0, 5, &answer), PIECEPICK_K_REQUEST, 0, BLOCK);
+    BLOCKS(piecepick_next(picker, 0, 5, &answer), PIECEPICK_K_REQUEST, 5, 0);
+    piecepick_close(&picker);
+    /* The first pieces may be any. Later ones are the rarest: the word's piece is passed over where more peers have it. */
+    for (uint32_t random = 0; random < 2; random++) {
+        options.random = random;
+        picker = open_by(&options);
+        come(picker, 0);
+        come_with(picker, 1, two);
+        BLOCKS(piecepick_next(picker, 0, 1, &answer), PIECEPICK_K_REQUEST, random ? 1 : 2, 0);
+        if (keeps == PIECEPICK_KEEPS_JOURNAL) EQUAL(piecepick_audit(picker), PIECEPICK_OK);
+        piecepick_close(&picker);
+    }
+}
+
+/* A torrent of two pieces with padding (BEP 47), which is zeros: the second block of piece 1, and the end of piece 0. A peer has both pieces,
+   and a disk has joined that shows nothing and stays. */
+static uint8_t padded[2 * PIECE];
+
+static piecepick_picker *open_padded(uint32_t keeps, uint32_t peer, uint32_t disk)
+{
+    const uint8_t both[1] = {0xc0};
+    uint8_t hashes[40];
+    piecepick_options options = PIECEPICK_OPTIONS;
+    piecepick_picker *picker = NULL;
+    piecepick_answer answer;
+    options.keeps = keeps;
+    options.workers = 2;
+    memcpy(padded, content, sizeof padded);
+    memset(padded + BLOCK + 100, 0, BLOCK - 100);
+    memset(padded + PIECE + BLOCK, 0, BLOCK);
+    for (size_t piece = 0; piece < 2; piece++) {
+        piecepick_digest digest = sha1(padded + piece * PIECE, PIECE);
+        memcpy(hashes + 20 * piece, digest.bytes, 20);
+    }
+    EQUAL(piecepick_open_parts(&picker, PIECE, sizeof padded, hashes, sizeof hashes, &options), PIECEPICK_OK);
+    GETS(piecepick_join(picker, disk, &answer), PIECEPICK_K_JOINED);
+    GETS(piecepick_join(picker, peer, &answer), PIECEPICK_K_JOINED);
+    NOTED(piecepick_bits(picker, peer, both, sizeof both, &answer), 1);
+    QUIET(piecepick_unchoke(picker, peer, &answer));
+    return picker;
+}
+
+static void try_padding(uint32_t keeps)
+{
+    static const uint8_t zeros[BLOCK] = {0};
+    const uint32_t peer = 0, disk = 1;
+    uint8_t bad[PIECE];
+    piecepick_picker *picker = open_padded(keeps, peer, disk);
+    piecepick_answer answer;
+    uint32_t number;
+    for (uint32_t begin = 0; begin < PIECE; begin += BLOCK) {
+        BLOCKS(piecepick_next(picker, peer, 0, &answer), PIECEPICK_K_REQUEST, 0, begin); /* padding in part is fetched */
+        GETS(piecepick_arrived(picker, peer, 0, begin, padded + begin, BLOCK, &answer), begin ? PIECEPICK_K_COMPLETED : PIECEPICK_K_STORED);
+    }
+    EQUAL(settle_bytes(picker, keeps, 0, padded, PIECE), PIECEPICK_K_HAD);
+    /* At the first request of the other piece its padding is told, and so once more after a check has failed. The disk makes no piece less
+       rare. */
+    memcpy(bad, padded + PIECE, PIECE);
+    bad[0]++;
+    for (int wrong = 1; wrong >= 0; wrong--) {
+        BLOCKS(piecepick_next(picker, peer, 0, &answer), PIECEPICK_K_REQUEST, 1, 0);
+        GETS(piecepick_arrived(picker, disk, 1, BLOCK, zeros, BLOCK, &answer), PIECEPICK_K_STORED);
+        GETS(piecepick_next(picker, peer, 0, &answer), PIECEPICK_K_IDLE);
+        NUMBER(piecepick_availability(picker, 1, &number), 1);
+        NUMBER(piecepick_sender(picker, 1, 1, &number), disk);
+        GETS(piecepick_arrived(picker, peer, 1, 0, wrong ? bad : padded + PIECE, BLOCK, &answer), PIECEPICK_K_COMPLETED);
+        EQUAL(settle_bytes(picker, keeps, 1, wrong ? bad : padded + PIECE, PIECE), wrong ? PIECEPICK_K_FAILED : PIECEPICK_K_HAD);
+    }
+    NUMBER(piecepick_is_complete(picker, &number), 1);
+    if (keeps == PIECEPICK_KEEPS_JOURNAL) EQUAL(piecepick_audit(picker), PIECEPICK_OK);
+    piecepick_close(&picker);
+    /* Told at the start it begins its piece, which comes first then. */
+    picker = open_padded(keeps, peer, disk);
+    GETS(piecepick_arrived(picker, disk, 1, BLOCK, zeros, BLOCK, &answer), PIECEPICK_K_STORED);
+    BLOCKS(piecepick_next(picker, peer, 0, &answer), PIECEPICK_K_REQUEST, 1, 0);
+    piecepick_close(&picker);
+    /* The padding itself is requested, where all before it is held. The request is given up first, so no cancel comes. */
+    for (int released = 0; released < 2; released++) {
+        picker = open_padded(keeps, peer, disk);
+        GETS(piecepick_arrived(picker, disk, 1, 0, padded + PIECE, BLOCK, &answer), PIECEPICK_K_STORED);
+        BLOCKS(piecepick_next(picker, peer, 0, &answer), PIECEPICK_K_REQUEST, 1, BLOCK);
+        if (released) QUIET(piecepick_release(picker, peer, 1, BLOCK, &answer));
+        GETS(piecepick_arrived(picker, disk, 1, BLOCK, zeros, BLOCK, &answer), PIECEPICK_K_COMPLETED);
+        if (!released) BLOCKS(piecepick_next(picker, peer, 0, &answer), PIECEPICK_K_CANCEL, 1, BLOCK);
+        BLOCKS(piecepick_next(picker, peer, 0, &answer), PIECEPICK_K_REQUEST, 0, 0);
+        EQUAL(settle_bytes(picker, keeps, 1, padded + PIECE, PIECE), PIECEPICK_K_HAD);
+        if (keeps == PIECEPICK_KEEPS_JOURNAL) EQUAL(piecepick_audit(picker), PIECEPICK_OK);
+        piecepick_close(&picker);
+    }
+}
+
+/* A peer chokes us while four blocks are in flight. By BEP 3 all are given up. With the fast extension (BEP 6) the choke isn't told, and each
+   block comes or is rejected. */
+static void try_chokes(uint32_t keeps)
+{
+    for (int is_fast = 0; is_fast < 2; is_fast++) {
+        piecepick_options options = PIECEPICK_OPTIONS;
+        piecepick_picker *picker;
+        piecepick_answer answer;
+        uint32_t number;
+        options.keeps = keeps;
+        options.workers = 2;
+        options.askers = 1; /* no endgame: the other peer is asked for what was given up alone */
+        picker = open_by(&options);
+        come_with(picker, 0, two);
+        come_with(picker, 1, two);
+        EQUAL(asks_all(picker, 0, PIECEPICK_K_IDLE), 4);
+        EQUAL(asks_all(picker, 1, PIECEPICK_K_IDLE), 0);
+        if (is_fast) {
+            QUIET(piecepick_release(picker, 0, 0, BLOCK, &answer));
+            QUIET(piecepick_release(picker, 0, 1, BLOCK, &answer));
+        } else {
+            QUIET(piecepick_choke(picker, 0, &answer));
+        }
+        EQUAL(asks_all(picker, 1, PIECEPICK_K_IDLE), is_fast ? 2 : 4);
+        EQUAL(in_flight_of(picker, 1, 0), is_fast ? 1 : 2);
+        /* What it sends all the same is stored. After a plain choke the other peer was asked for it too. */
+        for (uint32_t piece = 0; piece < 2; piece++) {
+            EQUAL(bring(picker, 0, piece, 0, 0), PIECEPICK_K_STORED);
+            if (!is_fast) BLOCKS(piecepick_next(picker, 1, 3, &answer), PIECEPICK_K_CANCEL, piece, 0);
+            GETS(piecepick_next(picker, 1, 3, &answer), PIECEPICK_K_IDLE);
+        }
+        /* Nothing is in flight there: the choke costs nothing now. */
+        NUMBER(piecepick_outstanding(picker, 0, &number), 0);
+        if (is_fast) QUIET(piecepick_choke(picker, 0, &answer));
+        GETS(piecepick_next(picker, 0, 3, &answer), PIECEPICK_K_CHOKED);
+        NUMBER(piecepick_outstanding(picker, 1, &number), 2);
+        for (uint32_t piece = 0; piece < 2; piece++) {
+            EQUAL(bring(picker, 1, piece, BLOCK, 0), PIECEPICK_K_COMPLETED);
+            EQUAL(settle(picker, keeps, piece, 0), PIECEPICK_K_HAD);
+        }
+        if (keeps == PIECEPICK_KEEPS_JOURNAL) EQUAL(piecepick_audit(picker), PIECEPICK_OK);
+        piecepick_close(&picker);
+    }
+}
+
 /* ---- A start from a disk. */
 
 static void try_restores(void)
@@ -1807,6 +2064,11 @@ int main(int argc, char **argv)
         {"epochs, in calls at random", try_epochs_at_random},
         {"senders", try_senders},
         {"blocks that come twice", try_copies},
+        {"pieces that a peer allows while it chokes us", try_allowed},
+        {"pieces that a peer suggests", try_suggested},
+        {"ranges of pieces, by the word", try_ranges},
+        {"padding, told by the disk", try_padding},
+        {"chokes, with and without the fast extension", try_chokes},
     };
     if (argc != 5) return 2;
     metainfo_len = read_file(argv[1], metainfo, sizeof metainfo);
