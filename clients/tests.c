@@ -1315,6 +1315,10 @@ static void try_senders(uint32_t keeps)
     QUIET(piecepick_leave(picker, 3, &answer));
     NUMBER(piecepick_sender(picker, pieces - 1, 0, &number), 3);
     NUMBER(piecepick_sender(picker, 0, 1, &number), 3);
+    /* They are so when the number is another peer's, which has brought nothing. */
+    come(picker, 3);
+    NUMBER(piecepick_sender(picker, pieces - 1, 0, &number), 3);
+    NUMBER(piecepick_sender(picker, 0, 1, &number), 3);
     EQUAL(settle(picker, keeps, pieces - 1, 0), PIECEPICK_K_HAD);
     EQUAL(bring(picker, 1, 0, 0, 0), PIECEPICK_K_COMPLETED);
     EQUAL(settle(picker, keeps, 0, 0), PIECEPICK_K_HAD);
@@ -1620,6 +1624,67 @@ static void try_chokes(uint32_t keeps)
             EQUAL(bring(picker, 1, piece, BLOCK, 0), PIECEPICK_K_COMPLETED);
             EQUAL(settle(picker, keeps, piece, 0), PIECEPICK_K_HAD);
         }
+        if (keeps == PIECEPICK_KEEPS_JOURNAL) EQUAL(piecepick_audit(picker), PIECEPICK_OK);
+        piecepick_close(&picker);
+    }
+}
+
+/* A lacking piece at level 0 isn't wanted, so each wanted one is had. */
+static void try_lowered(uint32_t keeps)
+{
+    const uint32_t last = pieces - 1;
+    piecepick_picker *picker = open_for(keeps, 1);
+    piecepick_answer answer;
+    uint32_t number;
+    come(picker, 0);
+    for (uint32_t piece = 0; piece < last; piece++) EQUAL(bring_whole(picker, keeps, 0, piece), PIECEPICK_K_HAD);
+    NUMBER(piecepick_has_wanted(picker, &number), 0);
+    QUIET(piecepick_set_level(picker, last, 0, &answer));
+    NUMBER(piecepick_has_wanted(picker, &number), 1);
+    NUMBER(piecepick_is_complete(picker, &number), 0);
+    GETS(piecepick_next(picker, 0, 3, &answer), PIECEPICK_K_NOTHING_LEFT);
+    QUIET(piecepick_set_level(picker, last, 4, &answer));
+    NUMBER(piecepick_has_wanted(picker, &number), 0);
+    BLOCKS(piecepick_next(picker, 0, 3, &answer), PIECEPICK_K_REQUEST, last, 0);
+    if (keeps == PIECEPICK_KEEPS_JOURNAL) EQUAL(piecepick_audit(picker), PIECEPICK_OK);
+    piecepick_close(&picker);
+}
+
+/* What a peer has may come by `haves` from its first word on. A bitfield is too late then. */
+static void try_first_word(uint32_t keeps)
+{
+    piecepick_picker *picker = open_for(keeps, 1);
+    piecepick_answer answer;
+    GETS(piecepick_join(picker, 0, &answer), PIECEPICK_K_JOINED);
+    NOTED(piecepick_haves(picker, 0, two, flags_len, &answer), 1);
+    QUIET(piecepick_unchoke(picker, 0, &answer));
+    EQUAL(asks_all(picker, 0, PIECEPICK_K_IDLE), 4);
+    EQUAL(in_flight_of(picker, 0, 0) + in_flight_of(picker, 0, 1), 4);
+    REFUSED(piecepick_bits(picker, 0, all, flags_len, &answer), PIECEPICK_R_LATE_BITS);
+    NOTED(piecepick_haves(picker, 0, all, flags_len, &answer), 1);
+    EQUAL(asks_all(picker, 0, PIECEPICK_K_PIPE_FULL), 1);
+    EQUAL(in_flight_of(picker, 0, 3), 1);
+    if (keeps == PIECEPICK_KEEPS_JOURNAL) EQUAL(piecepick_audit(picker), PIECEPICK_OK);
+    piecepick_close(&picker);
+}
+
+/* A block is in flight at two peers, and comes. A client that cancels by itself gives it up at the other peer before that. */
+static void try_own_cancels(uint32_t keeps)
+{
+    for (int before = 0; before < 2; before++) {
+        piecepick_picker *picker = open_for(keeps, 2);
+        piecepick_answer answer;
+        come_with(picker, 0, two);
+        come_with(picker, 1, two);
+        EQUAL(asks_all(picker, 0, PIECEPICK_K_IDLE), 4);
+        EQUAL(asks_all(picker, 1, PIECEPICK_K_IDLE), 4);
+        if (before) QUIET(piecepick_release(picker, 1, 0, 0, &answer));
+        EQUAL(bring(picker, 0, 0, 0, 0), PIECEPICK_K_STORED);
+        if (!before) {
+            REFUSED(piecepick_release(picker, 1, 0, 0, &answer), PIECEPICK_R_NOT_ASKED); /* too late */
+            BLOCKS(piecepick_next(picker, 1, 3, &answer), PIECEPICK_K_CANCEL, 0, 0);
+        }
+        GETS(piecepick_next(picker, 1, 3, &answer), PIECEPICK_K_IDLE);
         if (keeps == PIECEPICK_KEEPS_JOURNAL) EQUAL(piecepick_audit(picker), PIECEPICK_OK);
         piecepick_close(&picker);
     }
@@ -2069,6 +2134,9 @@ int main(int argc, char **argv)
         {"ranges of pieces, by the word", try_ranges},
         {"padding, told by the disk", try_padding},
         {"chokes, with and without the fast extension", try_chokes},
+        {"a lacking piece at level 0", try_lowered},
+        {"haves as a peer's first word", try_first_word},
+        {"cancels of the client's own", try_own_cancels},
     };
     if (argc != 5) return 2;
     metainfo_len = read_file(argv[1], metainfo, sizeof metainfo);
