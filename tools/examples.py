@@ -93,6 +93,11 @@ RULES: dict[str, tuple[int, ...]] = {
     "endgame_over_what_is_shown": (5, 1, 1024, 64, 0, 4096, True),
     "shown_piece_holds_up_endgame": (5, 1, 1024, 64, 0, 4096, True),
     "lower_level_is_awaited_too": (5, 1, 1024, 64, 0, 4096, True),
+    "window_comes_in_order": (5, 0),
+    "window_told_anew": (5, 0),
+    "lacked_is_asked_elsewhere": (3, 1),
+    "lack_makes_another_piece_rarest": (5, 0),
+    "lack_begins_endgame": (5, 1, 1024, 64, 0, 4096, True),
 }
 
 EXAMPLES: dict[str, tuple[str, int, list[str]]] = {  # name: torrent, workers, lines
@@ -293,6 +298,43 @@ EXAMPLES: dict[str, tuple[str, int, list[str]]] = {  # name: torrent, workers, l
     "lower_level_is_awaited_too": ("four_pieces", 3, ["2 levels 4710 = quiet"] + enters(0, "c0") + enters(1, "80") + [
         "0 next 0 = request 1 0 3", "1 next 0 = request 0 0 3", "0 next 0 = request 0 0 3", "2 join = joined", "2 bits 30 = noted yes",
         "1 have 1 = noted yes", "1 next 0 = idle", "2 unchoke = quiet", "2 next 0 = request 2 0 3", "1 next 0 = request 1 0 3"]),
+    "slow_peer_gets_low_levels": ("four_pieces", 2, ["1 levels 7542 = quiet"] + enters(0, "f0") + [
+        "0 reach 4 = quiet", "0 next 0 = request 2 0 3", "0 next 0 = request 3 0 3", "0 next 0 = idle", "0 reach 5 = quiet",
+        "0 next 0 = request 1 0 3", "0 reach 7 = quiet", "0 next 0 = request 0 0 3"]),
+    "reach_in_endgame": ("two_pieces", 3, ["2 levels 74 = quiet"] + enters(0, "c0") + enters(1, "c0") + [
+        "1 reach 4 = quiet", "0 next 0 = request 0 0 3", "0 next 0 = request 1 0 3", "1 next 0 = request 1 0 3", "1 next 0 = idle"]),
+    "reach_goes_with_its_peer": ("two_pieces", 1, [
+        "0 join = joined", "0 reach 3 = quiet", "0 bits c0 = noted yes", "0 unchoke = quiet", "0 next 0 = idle", "0 leave = quiet"]
+        + enters(0, "c0") + ["0 next 0 = request 0 0 3"]),
+    "refusals_of_reach_and_order": ("short_last", 2, [
+        "0 reach 3 = refused NotJoined", "0 reach 9 = refused NotJoined", "0 join = joined", "0 reach 8 = refused WrongLevel",
+        "0 reach 0 = quiet", "0 reach 7 = quiet", "1 inorderfrom 9 = refused WrongLevel", "1 inorderfrom 8 = quiet",
+        "1 inorderfrom 0 = quiet"]),
+    "window_comes_in_order": ("four_pieces", 2, ["1 inorderfrom 5 = quiet", "0 levels 4455 = quiet"] + enters(0, "f0") + [
+        "1 join = joined", "1 bits a0 = noted yes", "0 next 0 = request 2 0 3", "0 next 0 = request 3 0 3", "0 next 0 = request 1 0 3",
+        "0 next 0 = request 0 0 3"]),
+    "window_told_anew": ("four_pieces", 2, enters(0, "f0") + [
+        "1 join = joined", "1 bits c0 = noted yes", "1 inorderfrom 5 = quiet", "0 inorder yes = quiet", "0 next 3 = request 0 0 3",
+        "0 inorderfrom 8 = quiet", "0 next 3 = request 3 0 3"]),
+    "lacked_is_asked_elsewhere": ("two_blocks", 2, enters(0, "c0") + [
+        "0 next 0 = request 0 0 16384", "0 next 0 = request 0 16384 16384", "0 next 0 = request 1 0 16384", "0 next 0 = pipefull",
+        "0 lack 0 = noted yes"] + enters(1, "c0") + [
+        "1 next 0 = request 1 16384 16384", "1 next 0 = request 0 0 16384", "1 next 0 = request 0 16384 16384",
+        "0 next 0 = request 1 16384 16384", "0 next 0 = idle", "0 block 0 0 X = stored", "1 next 0 = cancel 0 0 16384"]),
+    "lack_makes_another_piece_rarest": ("short_last", 3, enters(0, "e0") + [
+        "1 join = joined", "1 bits c0 = noted yes", "2 join = joined", "2 bits 80 = noted yes", "0 next 1 = request 2 0 1",
+        "1 lack 0 = noted yes", "2 lack 0 = noted no", "0 next 1 = request 0 0 3"]),
+    "lack_of_the_only_piece": ("one_piece", 1, enters(0, "80") + [
+        "0 next 0 = request 0 0 3", "0 lack 0 = noted no", "0 next 0 = nothing", "0 have 0 = noted yes", "0 next 0 = request 0 0 3"]),
+    "cancel_outlasts_a_lack": ("one_piece", 3, ENDGAME + enters(2, "80") + [
+        "2 next 0 = request 0 0 3", "1 lack 0 = noted no", "0 block 0 0 616263 = completed", "2 lack 0 = noted no",
+        "1 next 0 = nothing", "2 next 0 = cancel 0 0 3", "2 next 0 = nothing"]),
+    "lack_begins_endgame": ("two_pieces", 3, enters(0, "80") + enters(1, "80") + [
+        "2 join = joined", "2 bits 40 = noted yes", "0 next 0 = request 0 0 3", "1 next 0 = idle", "2 lack 1 = noted no",
+        "1 next 0 = request 0 0 3"]),
+    "refusals_of_lack": ("short_last", 2, [
+        "0 lack 0 = refused NotJoined", "0 lack 9 = refused NotJoined", "0 join = joined", "0 lack 3 = refused NoSuchPiece",
+        "0 bits 80 = noted yes", "0 lack 2 = noted yes", "1 join = joined", "1 lack 2 = noted no", "1 bits e0 = refused LateBits"]),
 }
 
 WRONG: dict[str, tuple[str, int, str]] = {  # name: example, how many entries of it came before, the wrong entry
@@ -415,6 +457,37 @@ WRONG: dict[str, tuple[str, int, str]] = {  # name: example, how many entries of
     "second_peer_asked_though_a_shown_block_is_unasked": ("shown_piece_holds_up_endgame", 9, "1 next 0 = request 0 0 3"),
     "idle_though_nobody_shows_the_rest": ("shown_piece_holds_up_endgame", 11, "1 next 0 = idle"),
     "second_peer_asked_though_a_shown_low_level_is_unasked": ("lower_level_is_awaited_too", 13, "1 next 0 = request 1 0 3"),
+    "block_beyond_the_reach": ("slow_peer_gets_low_levels", 5, "0 next 0 = request 0 0 3"),
+    "next_level_beyond_the_reach": ("slow_peer_gets_low_levels", 7, "0 next 0 = request 1 0 3"),
+    "nothing_left_though_it_is_beyond_the_reach": ("slow_peer_gets_low_levels", 7, "0 next 0 = nothing"),
+    "idle_though_the_reach_rose": ("slow_peer_gets_low_levels", 9, "0 next 0 = idle"),
+    "second_peer_asked_beyond_its_reach": ("reach_in_endgame", 10, "1 next 0 = request 0 0 3"),
+    "request_before_the_reach_goes": ("reach_goes_with_its_peer", 4, "0 next 0 = request 0 0 3"),
+    "reach_of_the_peer_before": ("reach_goes_with_its_peer", 9, "0 next 0 = idle"),
+    "reach_of_a_stranger_taken": ("refusals_of_reach_and_order", 0, "0 reach 3 = quiet"),
+    "reach_8_taken": ("refusals_of_reach_and_order", 3, "0 reach 8 = quiet"),
+    "order_from_9_taken": ("refusals_of_reach_and_order", 6, "1 inorderfrom 9 = quiet"),
+    "order_from_of_a_stranger_refused": ("refusals_of_reach_and_order", 7, "1 inorderfrom 8 = refused NotJoined"),
+    "rarest_though_in_the_window": ("window_comes_in_order", 7, "0 next 0 = request 3 0 3"),
+    "in_order_though_below_the_window": ("window_comes_in_order", 9, "0 next 0 = request 0 0 3"),
+    "window_outlasts_an_order": ("window_told_anew", 7, "0 next 3 = request 3 0 3"),
+    "least_piece_though_none_comes_in_order": ("window_told_anew", 9, "0 next 3 = request 1 0 3"),
+    "lacked_piece_asked_again": ("lacked_is_asked_elsewhere", 8, "0 next 0 = request 0 0 16384"),
+    "lacked_piece_counts_as_begun": ("lacked_is_asked_elsewhere", 11, "1 next 0 = request 0 0 16384"),
+    "idle_though_both_blocks_were_freed": ("lacked_is_asked_elsewhere", 13, "1 next 0 = idle"),
+    "second_peer_asked_for_what_it_lacks": ("lacked_is_asked_elsewhere", 15, "0 next 0 = request 0 0 16384"),
+    "piece_counted_for_peers_that_lack_it": ("lack_makes_another_piece_rarest", 10, "0 next 1 = request 1 0 3"),
+    "interesting_though_it_lacks_the_only_piece": ("lack_of_the_only_piece", 4, "0 lack 0 = noted yes"),
+    "idle_though_it_lacks_the_only_piece": ("lack_of_the_only_piece", 5, "0 next 0 = idle"),
+    "nothing_left_though_it_has_the_piece_again": ("lack_of_the_only_piece", 7, "0 next 0 = nothing"),
+    "cancel_due_for_a_piece_that_was_lacked_before": ("cancel_outlasts_a_lack", 15, "1 next 0 = cancel 0 0 3"),
+    "cancel_forgotten_by_a_lack": ("cancel_outlasts_a_lack", 16, "2 next 0 = nothing"),
+    "idle_though_the_last_peer_lacks_the_rest": ("lack_begins_endgame", 11, "1 next 0 = idle"),
+    "lack_of_a_stranger_taken": ("refusals_of_lack", 0, "0 lack 0 = noted no"),
+    "lack_of_no_piece_taken": ("refusals_of_lack", 3, "0 lack 3 = noted no"),
+    "bitfield_late_by_a_refused_lack": ("refusals_of_lack", 4, "0 bits 80 = refused LateBits"),
+    "lack_of_an_unshown_piece_refused": ("refusals_of_lack", 5, "0 lack 2 = refused NoSuchPiece"),
+    "bitfield_after_a_lack_taken": ("refusals_of_lack", 8, "1 bits e0 = noted yes"),
 }
 
 WRONG_IN_AUDITS: dict[str, tuple[int, str]] = {  # example: how many entries of it came before, the wrong entry; for the examples that have none above
@@ -476,10 +549,13 @@ def action(words: list[str], pieces: int) -> str:
         case ["haves", text]: return f"(Haves {flags(text, pieces)})"
         case ["shown", text]: return f"(Haves {flags(text, len(text))})"
         case ["have", piece]: return f"(Have {piece})"
+        case ["lack", piece]: return f"(Lack {piece})"
         case ["depth", depth]: return f"(Depth {depth})"
         case ["release", piece, begin]: return f"(Release {piece} {begin})"
         case ["level", piece, level]: return f"(Level {piece} {level})"
         case ["levels", digits]: return f"(Levels ({items(digits)}))"
+        case ["inorderfrom", level]: return f"(InOrderFrom {level})"
+        case ["reach", level]: return f"(Reach {level})"
         case ["inorder", answer]: return f"(InOrder {'true' if answer == 'yes' else 'false'})"
         case ["next", word]: return f"(Next {word})"
         case ["block", piece, begin, text]: return f"(Arrived {piece} {begin} {in_bytes(text)})"
@@ -612,6 +688,14 @@ def judge(name: str) -> None:
                 raise SystemExit(f"{name}: after {at} entries `{line}` isn't allowed, but {', '.join(sorted(replies))}")
 
 
+def halves() -> list[tuple[str, list[str]]]:
+    """The names of the examples as two lists with about as many lines each: the prover computes each list by itself."""
+    lines = {name: len(example[2]) for name, example in EXAMPLES.items()}
+    names = list(EXAMPLES)
+    at = next(at for at in range(len(names)) if 2 * sum(lines[name] for name in names[:at]) >= sum(lines.values()))
+    return [("first_examples", names[:at]), ("later_examples", names[at:])]
+
+
 def main() -> None:
     spec = open("tools/examples_head.antt.txt").read()
     for name, hexadecimal in DIGESTS.items():
@@ -626,7 +710,9 @@ def main() -> None:
         entries = f"({entered([entry(line, torrent) for line in lines])})"
         spec += f"abbrev {name} : Example\n{name} = example {setting(name)}\n    {entries}\n    "
         spec += listed([f"({before}, {entry(line, torrent)})" for _, before, line in wrongs]) + "\n\n"
-    spec += "abbrev pub examples : List Example\nexamples =\n    " + "\n    ∷ ".join([*EXAMPLES, "[]"]) + "\n"
+    for name, names in halves():
+        spec += f"abbrev pub {name} : List Example\n{name} =\n    " + "\n    ∷ ".join([*names, "[]"]) + "\n\n"
+    spec += "abbrev pub examples : List Example\nexamples = first_examples ++ later_examples\n"
     open("crates/bt_history/specs/Examples.antt", "w").write(laid_out(spec.rstrip(), 150) + "\n")
 
 

@@ -147,7 +147,8 @@ def line(rng: random.Random) -> str:
     words: list[Callable[[], str]] = [
         lambda: "join", lambda: "leave", lambda: "choke", lambda: "unchoke",
         lambda: "bits " + rng.choice(["e0", "80", "00", "20", "c0", "ff", "e000", ""]),
-        lambda: "have " + number(rng), lambda: "next " + str(rng.randrange(2**64)), lambda: "next " + number(rng),
+        lambda: "have " + number(rng), lambda: f"lack {rng.randrange(4)}", lambda: "lack " + number(rng),
+        lambda: "next " + str(rng.randrange(2**64)), lambda: "next " + number(rng),
         lambda: f"block {number(rng)} {number(rng)} " + rng.choice(["616263", "616263", "61", "616264", "", "6"]),
         lambda: "settle " + number(rng), lambda: "want " + rng.choice(["e0", "40", "00", "c0", "e1"]),
         lambda: "haves " + rng.choice(["e0", "40", "00", "20", "e1", "e000", ""]),
@@ -156,6 +157,8 @@ def line(rng: random.Random) -> str:
         lambda: f"level {rng.randrange(4)} {rng.randrange(9)}", lambda: f"level {number(rng)} {number(rng)}",
         lambda: "levels " + rng.choice(["444", "701", "070", "000", "448", "44", "4444", "4x4", ""]),
         lambda: "inorder " + rng.choice(["yes", "yes", "no", "maybe"]),
+        lambda: f"inorderfrom {rng.randrange(10)}", lambda: "inorderfrom " + number(rng),
+        lambda: f"reach {rng.choice([0, 3, 4, 5, 6, 7, 7, 8, 255])}", lambda: "reach " + number(rng),
     ]
     return worker + " " + rng.choice(words)()
 

@@ -20,7 +20,7 @@ from piecepick import Answer, Keeps, Kind, Picker, PiecepickError, Status  # noq
 OTHER_WORDS = {Kind.PIPE_FULL: "pipefull", Kind.NOTHING_LEFT: "nothing"}
 # Causes that the library tells by a status, and the program as a refusal.
 STATUSES = {Status.PIECE: NO_SUCH_PIECE, Status.NOT_WAITING: NOT_WAITING}
-WITH_PIECE = ("have", "block", "settle", "release", "level")
+WITH_PIECE = ("have", "lack", "block", "settle", "release", "level")
 
 
 def words_of(answer: Answer) -> str:
@@ -47,7 +47,7 @@ def answer_to(picker: Picker, model: Model, line: str) -> Answer:
     if word == "block":
         return picker.arrived(worker, *arguments)
     without_worker: dict[str, Callable[..., Answer]] = {
-        "settle": picker.settle_now, "level": picker.set_level, "inorder": picker.set_in_order,
+        "settle": picker.settle_now, "level": picker.set_level, "inorder": picker.set_in_order, "inorderfrom": picker.set_in_order_from,
     }  # fmt: skip
     if word in without_worker:
         return without_worker[word](*arguments)

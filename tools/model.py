@@ -23,6 +23,8 @@ MOST_PIECE_LENGTH = 2**31
 NOT_JOINED, ALREADY_JOINED, LATE_BITS, WRONG_COUNT, NO_SUCH_PIECE, NO_SUCH_BLOCK = range(1, 7)
 WRONG_LENGTH, NOT_WAITING, STALE, NOT_ASKED, WRONG_DEPTH, WRONG_LEVEL = range(7, 13)
 
+IN_ORDER, BEGUN, RAREST, RANDOM, ENDGAME = range(1, 6)
+
 
 class NotALine(Exception):
     """The text is no line of a script of this torrent."""
@@ -84,6 +86,7 @@ class Peer:
     late: bool = False
     opened: bool = False
     depth: int | None = None
+    reach: int = MOST_LEVEL
     shows: set[int] = field(default_factory=set)
     asked: list[Block] = field(default_factory=list)
     due: list[Block] = field(default_factory=list)
@@ -95,7 +98,7 @@ class Peer:
 
     def renew(self, joined: bool) -> None:
         """The worker's next peer joins, or its peer is gone."""
-        self.joined, self.late, self.opened, self.depth = joined, False, False, None
+        self.joined, self.late, self.opened, self.depth, self.reach = joined, False, False, None, MOST_LEVEL
         self.shows = set()
         self.free()
 
@@ -112,7 +115,7 @@ class Model:
         self.held: dict[Block, bytes] = {}
         self.had: set[int] = set()
         self.levels = [USUAL_LEVEL] * self.pieces
-        self.in_order = False
+        self.order_from = MOST_LEVEL + 1
 
     # ---- what the calls so far say
 
@@ -139,11 +142,11 @@ class Model:
     # ---- what is requested next
 
     def usable(self, peer: Peer, flying: set[Block]) -> list[Block]:
-        """The wanted blocks that the peer has, which are neither held nor in flight anywhere; of those just the highest level."""
+        """The wanted blocks that the peer has, within its reach, which are neither held nor in flight anywhere; of those just the highest level."""
         found = [
             block
             for piece in peer.shows
-            if self.levels[piece] > 0
+            if 0 < self.levels[piece] <= peer.reach
             for block in self.blocks[piece]
             if block not in self.held and block not in flying
         ]
@@ -166,8 +169,8 @@ class Model:
 
     def chosen(self, usable: list[Block], flying: set[Block]) -> list[Block]:
         """Those of these blocks, all of one level, that the rules let be requested."""
-        if self.in_order:
-            least = min((block.piece for block in usable), default=0)
+        if usable and self.levels[usable[0].piece] >= self.order_from:
+            least = min(block.piece for block in usable)
             return [block for block in usable if block.piece == least]
         begun = self.begun(flying)
         going_on = [block for block in usable if block.piece in begun]
@@ -191,6 +194,7 @@ class Model:
             block
             for block in lacking
             if block.piece in peer.shows
+            and self.levels[block.piece] <= peer.reach
             and block not in peer.asked
             and sum(block in other.asked for other in self.peers) < self.rules.askers
         ]
@@ -224,6 +228,17 @@ class Model:
             return piece if piece in begun else self.pieces + (piece - first) % self.pieces
 
         return min(blocks, key=lambda block: (-self.levels[block.piece], turn(block.piece), block))
+
+    def rule_of(self, block: Block) -> int:
+        """The number of the rule by which the block was requested, where the newest reply requested it: the first that applies."""
+        requested = self.flying().union(self.held)
+        if sum(block in peer.asked for peer in self.peers) > 1:
+            return ENDGAME
+        if self.levels[block.piece] >= self.order_from:
+            return IN_ORDER
+        if len(requested.intersection(self.blocks[block.piece])) > 1:
+            return BEGUN
+        return RANDOM if len(self.had) < self.rules.random else RAREST
 
     def follow(self, peer: Peer, reply: str) -> None:
         """The reply to a Next was given, one that may be wrong."""
@@ -287,6 +302,13 @@ class Model:
     def call_haves(self, peer: Peer, flags: set[int]) -> str:
         self.need(peer.joined, NOT_JOINED)
         peer.shows |= flags
+        return self.noted(peer)
+
+    def call_lack(self, peer: Peer, piece: int) -> str:
+        self.need(peer.joined, NOT_JOINED)
+        self.need(piece < self.pieces, NO_SUCH_PIECE)
+        peer.shows.discard(piece)
+        peer.asked = [block for block in peer.asked if block.piece != piece]
         return self.noted(peer)
 
     def call_choke(self, peer: Peer) -> str:
@@ -360,7 +382,18 @@ class Model:
         return "quiet"
 
     def call_inorder(self, _peer: Peer, rising: bool) -> str:
-        self.in_order = rising
+        self.order_from = 0 if rising else MOST_LEVEL + 1
+        return "quiet"
+
+    def call_inorderfrom(self, _peer: Peer, level: int) -> str:
+        self.need(level <= MOST_LEVEL + 1, WRONG_LEVEL)
+        self.order_from = level
+        return "quiet"
+
+    def call_reach(self, peer: Peer, level: int) -> str:
+        self.need(peer.joined, NOT_JOINED)
+        self.need(level <= MOST_LEVEL, WRONG_LEVEL)
+        peer.reach = level
         return "quiet"
 
     # ---- lines
@@ -404,9 +437,9 @@ class Model:
 FORMS: dict[str, list[str]] = {
     "join": [], "leave": [], "choke": [], "unchoke": [],
     "bits": ["flags"], "haves": ["flags"], "want": ["flags"],
-    "have": ["32"], "settle": ["32"], "depth": ["32"], "next": ["64"],
+    "have": ["32"], "lack": ["32"], "settle": ["32"], "depth": ["32"], "next": ["64"],
     "block": ["32", "32", "bytes"], "release": ["32", "32"],
-    "level": ["32", "8"], "levels": ["digits"], "inorder": ["yes"],
+    "level": ["32", "8"], "levels": ["digits"], "inorder": ["yes"], "inorderfrom": ["8"], "reach": ["8"],
 }
 
 

@@ -28,6 +28,7 @@ class Mood(NamedTuple):
     block: int
     settle: int
     have: int
+    lack: int
     choke: int
     unchoke: int
     rejoin: int
@@ -36,17 +37,19 @@ class Mood(NamedTuple):
     level: int
     want: int
     order: int
+    reach: int
     stray: int
 
 
 MOODS = [
-    # a download with all calls, one that completes nothing, two in which much is given up, one of levels and order, and one that is quick
-    Mood(40, 14, 6, 4, 2, 5, 2, 8, 2, 3, 1, 1, 4),
-    Mood(60, 5, 0, 3, 2, 5, 2, 6, 2, 1, 1, 0, 1),
-    Mood(45, 4, 1, 3, 2, 5, 2, 35, 3, 0, 0, 0, 1),
-    Mood(45, 4, 1, 3, 6, 9, 5, 20, 3, 2, 1, 1, 1),
-    Mood(40, 8, 3, 3, 1, 4, 1, 14, 2, 12, 2, 4, 1),
-    Mood(45, 25, 12, 2, 0, 2, 1, 4, 1, 0, 0, 0, 0),
+    # a download with all calls, one that completes nothing, two in which much is given up, one of levels, orders and reaches,
+    # and one that is quick
+    Mood(40, 14, 6, 4, 3, 2, 5, 2, 8, 2, 3, 1, 1, 2, 4),
+    Mood(60, 5, 0, 3, 2, 2, 5, 2, 6, 2, 1, 1, 0, 1, 1),
+    Mood(45, 4, 1, 3, 2, 2, 5, 2, 35, 3, 0, 0, 0, 0, 1),
+    Mood(45, 4, 1, 6, 8, 6, 9, 5, 20, 3, 2, 1, 1, 2, 1),
+    Mood(40, 8, 3, 3, 2, 1, 4, 1, 14, 2, 12, 2, 6, 6, 1),
+    Mood(45, 25, 12, 2, 0, 0, 2, 1, 4, 1, 0, 0, 0, 0, 0),
 ]
 
 
@@ -172,6 +175,12 @@ class Script:
         ]  # fmt: skip
         self.say(worker, self.rng.choices(words, [6, 3, 1])[0]())
 
+    def say_lack(self, worker: int) -> None:
+        peer = self.model.peers[worker]
+        requested = {block.piece for block in peer.asked}
+        some = sorted(requested if requested and self.rng.randrange(3) else peer.shows)
+        self.say(worker, f"lack {self.rng.choice(some) if some and self.rng.randrange(10) else self.piece()}")
+
     def say_choke(self, worker: int) -> None:
         self.say(worker, "choke")
 
@@ -207,7 +216,13 @@ class Script:
         self.say(worker, f"want {self.flags()}")
 
     def say_order(self, worker: int) -> None:
-        self.say(worker, f"inorder {self.rng.choice(['yes', 'no'])}")
+        if self.rng.randrange(3):
+            self.say(worker, f"inorderfrom {self.rng.choice([0, 1, 2, 3, 4, 4, 5, 5, 5, 6, 7, 8, 8, 9])}")
+        else:
+            self.say(worker, f"inorder {self.rng.choice(['yes', 'no'])}")
+
+    def say_reach(self, worker: int) -> None:
+        self.say(worker, f"reach {self.rng.choice([0, 1, 2, 3, 3, 4, 4, 4, 5, 5, 6, 7, 7, 7, 8])}")
 
     def say_stray(self, worker: int) -> None:
         words: list[Callable[[], str]] = [

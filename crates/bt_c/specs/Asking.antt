@@ -5,13 +5,14 @@ use Rattle.std.specs.declared.result.Result.TheVariants.{Ok, Err}
 use Rattle.bt_meta.specs.declared.block.Block.{Block}
 use Rattle.bt_meta.specs.Layout.{block, block_count, piece_count, piece_len}
 use Rattle.bt_history.specs.Legal.{IsLegal}
+use Rattle.bt_history.specs.PickRules.{rule_number, rule_of}
 use Rattle.bt_history.specs.Peers.{outstanding, depth_so_far}
-use Rattle.bt_history.specs.Pieces.{availability, content, had, in_order, level, sender}
+use Rattle.bt_history.specs.Pieces.{availability, content, had, in_order, level, order_from, sender}
 use Rattle.bt_picker.specs.Checks.{waits}
 use Rattle.bt_picker.specs.Contents.{complete, has_wanted}
 use Rattle.bt_picker.specs.Positions.{DeskState}
 use Rattle.bt_c.specs.declared.asking.Question.{Question}
-use Rattle.bt_c.specs.declared.asking.Question.TheVariants.{Pieces, Workers, Complete, HasWanted, InOrder}
+use Rattle.bt_c.specs.declared.asking.Question.TheVariants.{Pieces, Workers, Complete, HasWanted, InOrder, OrderFrom}
 use Rattle.bt_c.specs.declared.asking.PieceQuestion.{PieceQuestion}
 use Rattle.bt_c.specs.declared.asking.PieceQuestion.TheVariants.{Had, Waiting, Level, Availability, Length, Blocks}
 use Rattle.bt_c.specs.declared.fault.Fault.{Fault}
@@ -29,6 +30,7 @@ number_of d Workers = d.setting.workers
 number_of d Complete = flag (complete d.setting d.history)
 number_of d HasWanted = flag (has_wanted d.setting d.history)
 number_of d InOrder = flag (in_order d.history)
+number_of d OrderFrom = order_from d.history
 
 -- what the desk is asked of piece p
 abbrev pub number_of_piece : DeskState → PieceQuestion → ℕ → ℕ
@@ -63,6 +65,14 @@ SaysSender d p k (Err BlockFault) = IsPiece d p × ((k < block_count d.setting.t
 SaysSender d p k (Err NotHeld) = IsPiece d p × (k < block_count d.setting.torrent p)
     × (sender d.history (block d.setting.torrent p k) ≡ None)
 SaysSender d p k (Err f) = ⊥
+
+-- the number of the rule by which block k of piece p was requested
+abbrev pub SaysRule : DeskState → ℕ → ℕ → Result ℕ Fault → Type 0
+SaysRule d p k (Ok n) = IsPiece d p × (k < block_count d.setting.torrent p)
+    × (n ≡ rule_number (rule_of d.setting d.history (block d.setting.torrent p k)))
+SaysRule d p k (Err Piece) = IsPiece d p → ⊥
+SaysRule d p k (Err BlockFault) = IsPiece d p × ((k < block_count d.setting.torrent p) → ⊥)
+SaysRule d p k (Err f) = ⊥
 
 -- how many blocks are asked of worker w's peer, which are no more than the greatest depth that it had since nothing was asked of it
 abbrev pub CountsOutstanding : DeskState → ℕ → Result ℕ Fault → Type 0

@@ -2,7 +2,7 @@
 ghost use Rattle.std.specs.Prelude.{◌≡◌, ◌%◌, ◌^◌};
 ghost use Rattle.bt_history.specs.Epochs.{epoch};
 ghost use Rattle.bt_c.specs.Asking.{Audits, AuditsBy, CountsOutstanding, IsOutstanding, Reads, ReadsFrom, SaysOfContent};
-ghost use Rattle.bt_c.specs.Asking.{SaysOfPiece, SaysSender, number_of, number_of_piece};
+ghost use Rattle.bt_c.specs.Asking.{SaysOfPiece, SaysRule, SaysSender, number_of, number_of_piece};
 ghost use Rattle.bt_history.specs.Setting.{AreRules};
 ghost use Rattle.bt_c.specs.Behind.{state};
 ghost use Rattle.bt_c.specs.Rules.{rules_of_setting};
@@ -26,8 +26,10 @@ pub enum Question {
     Complete,
     /// Whether each wanted piece is had.
     HasWanted,
-    /// Whether the pieces of one level come in rising order.
+    /// Whether all pieces of one level come in rising order.
     InOrder,
+    /// From which level on pieces come in rising order.
+    OrderFrom,
 }
 
 /// What a picker is asked of a piece.
@@ -59,6 +61,7 @@ impl Held {
             Question::Complete => u32::from(picker.is_complete()),
             Question::HasWanted => u32::from(picker.has_wanted()),
             Question::InOrder => u32::from(picker.is_in_order()),
+            Question::OrderFrom => u32::from(picker.order_from()),
         }
     }
 
@@ -102,6 +105,20 @@ impl Held {
             Some(worker) => Ok(worker),
             None => Err(Fault::NotHeld),
         }
+    }
+
+    /// The number of the rule by which the block of this index was requested, right after the answer that requests it.
+    pub fn rule(&self, piece: u32, index: u32) -> Result<u32, Fault>
+        ensures { SaysRule (state self.now) piece index result }
+    {
+        if piece >= self.torrent.piece_count() {
+            return Err(Fault::Piece);
+        }
+        if index >= self.torrent.block_count(piece) {
+            return Err(Fault::Block);
+        }
+        let rule = self.engine.picker().rule_of(piece, index);
+        Ok(u32::from(rule.number()))
     }
 
     /// How many blocks are asked of the worker's peer.

@@ -61,6 +61,9 @@ fn owned(alloc: Global, told: Told<'_>) -> Result<Call, AllocError>
         Told::Level { piece, level } => Call::Level { piece, level },
         Told::Levels(levels) => Call::Levels(Bytes::copy_from_slice(alloc, levels)?),
         Told::InOrder(rising) => Call::InOrder(rising),
+        Told::Reach(level) => Call::Reach(level),
+        Told::InOrderFrom(level) => Call::InOrderFrom(level),
+        Told::Lack(piece) => Call::Lack(piece),
     };
     Ok(call)
 }

@@ -20,11 +20,15 @@ Lines:
   W want HEX                               just the pieces of this bitfield are to be downloaded, and have level 4;
                                            until such a line, or one of levels, all are
   W haves HEX                              it has the pieces of this bitfield too, whenever it says so
+  W lack P                                 it has piece P no more, and is asked no more for blocks of it
   W depth N                                from now on it may be asked for N blocks at a time, 1 to 64
+  W reach L                                it is asked for blocks of level L, 0 to 7, and lower ones alone; 7 as it joins
   W release P BEGIN                        it is asked no more for the block of piece P that begins at byte BEGIN
   W level P L                              piece P has level L, 0 to 7: 0 isn't downloaded, and a higher level comes first
   W levels DIGITS                          each piece has the level of its digit, that of the first piece first
   W inorder yes | W inorder no             pieces of one level come in rising order | the rarest first, as at the start
+  W inorderfrom L                          pieces of level L, 0 to 8, and of higher ones come in rising order, the others
+                                           the rarest first; 0 says the same as inorder yes, and 8 as inorder no
   Numbers are in base ten; workers count from 0, and there are 1 to 1024. An empty line says nothing.
 
 Replies, a line each:
@@ -43,7 +47,7 @@ Replies, a line each:
     7 the block has another length         8 the piece doesn't wait for a check
     9 the piece has changed since it was hashed
     10 the block isn't asked of the peer   11 the depth is 0, or more than may be told
-    12 a level is above 7
+    12 a level or a reach is above 7, or the level of inorderfrom is above 8
 
 Status: 0 the whole script was played; 2 `line N`, the first line at fault, counted from 1 (another form, a number
 out of range, no such worker, a torrent or a bitfield that can't be, rules that stand elsewhere); 4 `file fault`,

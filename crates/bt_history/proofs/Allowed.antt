@@ -176,7 +176,7 @@ next_facts s h w b lt is =
     }
 
 -- only Next is replied by a request
-next_alone : (call : Action) (b : Block) → answers (call_mark call) (Request b) ≡ true → (word : ℕ) × (call ≡ Next word)
+pub next_alone : (call : Action) (b : Block) → answers (call_mark call) (Request b) ≡ true → (word : ℕ) × (call ≡ Next word)
 next_alone (Next word) b is = (word, refl)
 next_alone _ b is = absurd (cc is)
 

@@ -11,6 +11,8 @@ use Rattle.bt_history.proofs.Levels.{higher_first, level_bounded}
 use Rattle.bt_history.proofs.LineLaws.{asked_and_due}
 use Rattle.bt_history.proofs.Listed.{lists_asked}
 use Rattle.bt_history.proofs.Opening.{few_open, leads_all}
+use Rattle.bt_history.proofs.PickRules.{rule_told}
+use Rattle.bt_history.proofs.Reaching.{request_reached}
 use Rattle.bt_history.proofs.Sending.{sender_held}
 
 pub assured : (s : Setting) (h : History) → IsLegal s h → Assures s h
@@ -21,6 +23,8 @@ assured s h legal = record {
   second = λ e b q allowed is too c inside want. endgame_asks_all s h c (second_in_endgame s h e q b legal allowed is too) inside want;
   rushed = λ e b q allowed is too. second_has_few s h e q b legal allowed is too;
   higher = λ e b allowed is. higher_first s h e b allowed is;
+  reached = λ e b allowed is. request_reached s h e b allowed is;
+  ruled = λ e b allowed is. rule_told s h e b legal allowed is;
   opened = λ e b allowed is unordered fresh many. few_open s h e b allowed is unordered many fresh;
   rarest = λ e b allowed is unordered some room c inside fits same.
       (leads_all s h e b allowed is unordered legal some room c inside fits same).0;

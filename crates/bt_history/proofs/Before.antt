@@ -7,14 +7,14 @@ use Rattle.std.proofs.lemmas.Bool.{and_parts, not-true, lt-ltb}
 use Rattle.bt_meta.specs.declared.block.Block.{Block}
 use Rattle.bt_history.specs.declared.call.Reply.TheVariants.{Quiet}
 use Rattle.bt_history.specs.declared.event.Action.{Action}
-use Rattle.bt_history.specs.declared.event.Action.TheVariants.{Haves, Release}
+use Rattle.bt_history.specs.declared.event.Action.TheVariants.{Haves, Lack, Release}
 use Rattle.bt_history.specs.declared.event.Event.{Event}
 use Rattle.bt_history.specs.Entries.{giving_up}
 use Rattle.bt_history.specs.Setting.{Setting}
 use Rattle.bt_history.specs.History.{History, counts, own_call, same_begin, stored, requested}
 use Rattle.bt_history.specs.Peers.{joined, joined_after, shows, shows_after, is_open, is_open_after, late, late_after, asks, asked, outstanding}
-use Rattle.bt_history.specs.Peers.{due, dues, resets, releases, lasts, told_after, told_depth}
-use Rattle.bt_history.specs.Pieces.{held, kept, sender, had, level, in_order, wanted, asker_count}
+use Rattle.bt_history.specs.Peers.{due, dues, resets, releases, lasts, reach, reach_after, told_after, told_depth}
+use Rattle.bt_history.specs.Pieces.{held, kept, sender, had, level, order_from, gives, wanted, asker_count}
 use Rattle.bt_history.specs.Next.{doubles}
 use Rattle.bt_history.specs.Legal.{place_at}
 use Rattle.bt_history.specs.Before.{asked_before, outstanding_before, is_release, never_releases, doubles_before, shows_before, shows_then}
@@ -34,6 +34,7 @@ releases_none q e b isnt = by_call e.action (counts e.reply && (e.worker == q)) 
   by_call : (call : Action) (x : Bool) → is_release call ≡ false → releases (if x then Some call else None) b ≡ false
   by_call call false isnt = refl
   by_call (Release p begin) true isnt = absurd (cc isnt)
+  by_call (Lack p) true isnt = absurd (cc isnt)
   by_call call true isnt = refl
 
 lasts_unless : (q : ℕ) (e : Event) (b : Block) → is_release e.action ≡ false → lasts q e b ≡ is_none (stored e b)
@@ -140,6 +141,13 @@ module _ (h : History) (w p begin q : ℕ) where
     by_worker true = refl
     by_worker false = refl
 
+  pub reach_released : reach (giving_up w p begin Quiet ∷ h) q ≡ reach h q
+  unfolding reach own
+  reach_released = by_worker (w == q) where
+    by_worker : (x : Bool) → reach_after (own x) (reach h q) ≡ reach h q
+    by_worker true = refl
+    by_worker false = refl
+
   -- its line lacks the block, and is in the same order
   pub line_released : outstanding (giving_up w p begin Quiet ∷ h) q
       ≡ filter (λ b. not ((w == q) && same_begin (place_at p begin) b)) (outstanding h q)
@@ -170,8 +178,8 @@ module _ (h : History) (w p begin r : ℕ) where
   unfolding level
   level_released = refl
 
-  pub order_released : in_order (giving_up w p begin Quiet ∷ h) ≡ in_order h
-  unfolding in_order
+  pub order_released : order_from (giving_up w p begin Quiet ∷ h) ≡ order_from h
+  unfolding order_from
   order_released = refl
 
 -- ---- a bound on askers
@@ -180,7 +188,7 @@ module _ (h : History) (w p begin r : ℕ) where
 pub doubles_as_before : (s : Setting) (h : History) (q : ℕ) (b : Block) → q < s.workers → s.workers ≤ s.askers →
     doubles s h q b ≡ doubles_before s h q b
 doubles_as_before s h q b lq wide =
-    ap (λ (x : Bool). wanted s h b.piece && (shows h q b.piece && (not (held h b) && x))) (by_asked (asked h q b) refl) where
+    ap (λ (x : Bool). wanted s h b.piece && (gives h q b.piece && (not (held h b) && x))) (by_asked (asked h q b) refl) where
       by_asked : (x : Bool) → asked h q b ≡ x → (nat_lt (asker_count s h b) s.askers && not x) ≡ not x
       by_asked true is = none (nat_lt (asker_count s h b) s.askers) where
         none : (y : Bool) → (y && false) ≡ false
@@ -196,12 +204,14 @@ shows_same : (call : Action) (x : Bool) (p : ℕ) (before : Bool) → is_haves c
     → shows_after (if x then Some call else None) p before ≡ shows_then (if x then Some call else None) p before
 shows_same call false p before isnt = refl
 shows_same (Haves flags) true p before isnt = absurd (cc isnt)
+shows_same (Lack piece) true p before isnt = absurd (cc isnt)
 shows_same call true p before isnt = refl
 
 late_same : (call : Action) (x : Bool) (before : Bool) → is_haves call ≡ false
     → late_after (if x then Some call else None) before ≡ late_then (if x then Some call else None) before
 late_same call false before isnt = refl
 late_same (Haves flags) true before isnt = absurd (cc isnt)
+late_same (Lack piece) true before isnt = absurd (cc isnt)
 late_same call true before isnt = refl
 
 pub shows_as_before : (h : History) (q p : ℕ) → never_adds h ≡ true → shows h q p ≡ shows_before h q p

@@ -7,15 +7,15 @@ use Rattle.bt_meta.specs.declared.block.Block.{Block}
 use Rattle.bt_meta.specs.Layout.{piece_count, block_count, block}
 use Rattle.bt_history.specs.declared.call.Reply.TheVariants.{Request}
 use Rattle.bt_history.specs.declared.event.Action.{Action}
-use Rattle.bt_history.specs.declared.event.Action.TheVariants.{Join, Bits, Have, Choke, Unchoke, Arrived, Leave, Haves}
+use Rattle.bt_history.specs.declared.event.Action.TheVariants.{Join, Bits, Have, Choke, Unchoke, Arrived, Leave, Haves, Lack}
 use Rattle.bt_history.specs.declared.event.Event.{Event}
 use Rattle.bt_history.specs.Setting.{Setting, deepest_line, each_block_of, some_block}
 use Rattle.bt_history.specs.History.{History, counts, own_call}
-use Rattle.bt_history.specs.Peers.{asked, asked_count, depth_of, due, flag, is_open, joined, joined_after, late, late_after, resets, shows, shows_after}
-use Rattle.bt_history.specs.Pieces.{asked_of_some, availability, awaited, endgame, had, held, held_or_asked, in_order, interesting, wanted}
-use Rattle.bt_history.specs.Next.{continues, doubles, next_answer, rises, rushes, starts, usable}
+use Rattle.bt_history.specs.Peers.{asked, asked_count, depth_of, due, flag, is_open, joined, joined_after, late, late_after, releases, resets, shows, shows_after}
+use Rattle.bt_history.specs.Pieces.{asked_of_some, availability, awaited, endgame, had, held, held_or_asked, interesting, wanted}
+use Rattle.bt_history.specs.Next.{continues, doubles, next_answer, rises, rushes, tops_in_order, starts, usable}
 use Rattle.bt_history.specs.Before.{endgame_of_all, next_unrushed}
-use Rattle.bt_history.specs.Legal.{IsLegal, IsAllowed, causes}
+use Rattle.bt_history.specs.Legal.{IsLegal, IsAllowed, causes, place_at}
 use Rattle.bt_history.proofs.Below.{all_same, any_fails, count_found}
 use Rattle.bt_history.proofs.Allowed.{none_holds, request_facts}
 use Rattle.bt_history.proofs.Askers.{count_less}
@@ -31,7 +31,7 @@ unfolding next_cases next_unrushed
 unrushed_answer s h q legal none =
     next_is s h q
     ∙ without_test (rushes s h q) (some_block s.torrent (due h q)) (is_open h q) (nat_le (depth_of s h q) (asked_count s h q))
-    (in_order h && some_block s.torrent (usable s h q)) (some_block s.torrent (continues s h q)) (some_block s.torrent (usable s h q))
+    (some_block s.torrent (tops_in_order s h q)) (some_block s.torrent (continues s h q)) (some_block s.torrent (usable s h q))
     (endgame s h && some_block s.torrent (doubles s h q)) (interesting s h q)
     (due h q) (rises s h q) (continues s h q) (starts s h q) (doubles s h q) (λ room.
     let less = leb-false (depth_of s h q) (asked_count s h q) room in
@@ -62,6 +62,7 @@ late_shows (e ∷ h) q p early = by_call (own_call q e) early (late_shows h q p)
   by_call (Some (Bits flags)) early before = absurd (cc early)
   by_call (Some (Have piece)) early before = absurd (cc early)
   by_call (Some (Haves flags)) early before = absurd (cc early)
+  by_call (Some (Lack piece)) early before = absurd (cc early)
   by_call (Some Choke) early before = absurd (cc early)
   by_call (Some Unchoke) early before = absurd (cc early)
   by_call (Some (Arrived piece begin bytes)) early before = absurd (cc early)
@@ -80,20 +81,22 @@ own_worker q e a is = by_test (counts e.reply && (e.worker == q)) refl is where
   by_test false neither same = absurd (cc same)
 
 -- a peer that isn't reset shows what it showed: its bitfield comes before all that adds to it
-shows_on : (s : Setting) (h : History) (e : Event) (q p : ℕ) → IsAllowed s h e → resets (own_call q e) ≡ false → shows h q p ≡ true
-    → shows (e ∷ h) q p ≡ true
+shows_on : (s : Setting) (h : History) (e : Event) (q p : ℕ) → IsAllowed s h e → resets (own_call q e) ≡ false
+    → releases (own_call q e) (place_at p 0) ≡ false → shows h q p ≡ true → shows (e ∷ h) q p ≡ true
 unfolding shows
-shows_on s h e q p allowed none is = by_call (own_call q e) refl none where
-  by_call : (call : Option Action) → own_call q e ≡ call → resets call ≡ false → shows_after call p (shows h q p) ≡ true
-  by_call None own none = is
-  by_call (Some Join) own none = absurd (cc none)
-  by_call (Some Leave) own none = absurd (cc none)
-  by_call (Some (Bits flags)) own none =
+shows_on s h e q p allowed none kept is = by_call (own_call q e) refl none kept where
+  by_call : (call : Option Action) → own_call q e ≡ call → resets call ≡ false → releases call (place_at p 0) ≡ false
+      → shows_after call p (shows h q p) ≡ true
+  by_call None own none kept = is
+  by_call (Some Join) own none kept = absurd (cc none)
+  by_call (Some Leave) own none kept = absurd (cc none)
+  by_call (Some (Bits flags)) own none kept =
       let early = (none_holds (causes s h e.worker (Bits flags)) (counting s h q e (Bits flags) allowed own)).1.0 in
       absurd (false≢true (sym (late_shows h q p (ap (late h) (sym (own_worker q e (Bits flags) own)) ∙ early)) ∙ is))
-  by_call (Some (Have piece)) own none = or_right (piece == p) (shows h q p) is
-  by_call (Some (Haves flags)) own none = or_right (flag flags p) (shows h q p) is
-  by_call (Some call) own none = is
+  by_call (Some (Have piece)) own none kept = or_right (piece == p) (shows h q p) is
+  by_call (Some (Haves flags)) own none kept = or_right (flag flags p) (shows h q p) is
+  by_call (Some (Lack piece)) own none kept = and_from (not (piece == p)) (shows h q p) (ap not kept) is
+  by_call (Some call) own none kept = is
 
 -- only a joined peer shows a piece
 pub shower_joined : (s : Setting) (h : History) (q p : ℕ) → IsLegal s h → shows h q p ≡ true → joined h q ≡ true
@@ -111,17 +114,19 @@ shower_joined s (e ∷ h) q p legal is = by_call (own_call q e) refl is (shower_
   by_call (Some Leave) own showing before = absurd (cc showing)
   by_call (Some (Bits flags)) own showing before = was_in (Bits flags) own (none_holds (causes s h e.worker (Bits flags)) (counting s h q e (Bits flags) legal.1 own)).0
   by_call (Some (Have piece)) own showing before = was_in (Have piece) own (none_holds (causes s h e.worker (Have piece)) (counting s h q e (Have piece) legal.1 own)).0
+  by_call (Some (Lack piece)) own showing before = was_in (Lack piece) own (none_holds (causes s h e.worker (Lack piece)) (counting s h q e (Lack piece) legal.1 own)).0
   by_call (Some (Haves flags)) own showing before = was_in (Haves flags) own (none_holds (causes s h e.worker (Haves flags)) (counting s h q e (Haves flags) legal.1 own)).0
   by_call (Some call) own showing before = before showing
 
-module _ (s : Setting) (h : History) (e : Event) (allowed : IsAllowed s h e) (still : (q : ℕ) → resets (own_call q e) ≡ false) where
+module _ (s : Setting) (h : History) (e : Event) (allowed : IsAllowed s h e) (still : (q : ℕ) → resets (own_call q e) ≡ false)
+    (kept : (q : ℕ) (b : Block) → releases (own_call q e) b ≡ false) where
   -- so a piece is shown by no fewer
   availability_on : (p : ℕ) → availability s h p ≤ availability s (e ∷ h) p
   unfolding joined
   availability_on p = count_less s.workers (λ q. joined h q && shows h q p) (λ q. joined (e ∷ h) q && shows (e ∷ h) q p) (λ q lq both.
       let parts = and_parts (joined h q) (shows h q p) both in
       and_from (joined (e ∷ h) q) (shows (e ∷ h) q p) (joined_on (own_call q e) (joined h q) (still q) parts.0)
-      (shows_on s h e q p allowed (still q) parts.1))
+      (shows_on s h e q p allowed (still q) (kept q (place_at p 0)) parts.1))
 
   -- and endgame waits for it as before
   pub awaited_on : (p : ℕ) → wanted s (e ∷ h) p ≡ wanted s h p → awaited s h p ≡ true → awaited s (e ∷ h) p ≡ true

@@ -1,24 +1,24 @@
 -- Histories that give pieces no level and no order are judged as they were before there were these.
-use Rattle.std.proofs.Common.{◌≡◌, ℕ, zero, suc, ◌==◌, ◌<◌, Bool, true, false, not, ◌&&◌, ◌||◌, [], ◌∷◌, None, Some, refl, ap, sym, ◌∙◌, arith}
+use Rattle.std.proofs.Common.{◌≡◌, ℕ, zero, suc, ◌+◌, ◌==◌, ◌<◌, ◌≤◌, Bool, true, false, not, ◌&&◌, ◌||◌, [], ◌∷◌, None, Some, refl, ap, sym, ◌∙◌, arith}
 use Rattle.std.proofs.Common.{⊎_elim}
 use Rattle.std.specs.Prelude.{if◌then◌else◌, nat_lt, nat_le}
-use Rattle.std.proofs.lemmas.Bool.{and_parts, and_left, and_from, or_left, or_right, not-true, eq-eqb, le-leb, cases_Bool}
+use Rattle.std.proofs.lemmas.Bool.{and_parts, and_left, and_right, and_from, or_left, or_right, not-true, eq-eqb, le-leb, cases_Bool}
 use Rattle.bt_meta.specs.declared.block.Block.{Block}
 use Rattle.bt_meta.specs.Layout.{piece_count, block_count, block}
 use Rattle.bt_history.specs.declared.call.Reply.TheVariants.{Choked, PipeFull, Idle, NothingLeft}
 use Rattle.bt_history.specs.declared.event.Action.{Action}
-use Rattle.bt_history.specs.declared.event.Action.TheVariants.{Want, Level, Levels, InOrder}
-use Rattle.bt_history.specs.declared.rules.TheConstants.{USUAL_LEVEL}
-use Rattle.bt_history.specs.Setting.{Setting, some_block, each_block_of}
+use Rattle.bt_history.specs.declared.event.Action.TheVariants.{Want, Level, Levels, InOrder, InOrderFrom}
+use Rattle.bt_history.specs.declared.rules.TheConstants.{MOST_LEVEL, USUAL_LEVEL}
+use Rattle.bt_history.specs.Setting.{Setting, some_block, some_block_of, each_block_of}
 use Rattle.bt_history.specs.History.{History, counts, counted_call}
 use Rattle.bt_history.specs.Peers.{shows, is_open, asked_count, depth_of, due}
-use Rattle.bt_history.specs.Pieces.{unasked, wanted, chosen, level, level_after, level_if, in_order, in_order_after}
+use Rattle.bt_history.specs.Pieces.{unasked, wanted, chosen, level, level_after, level_if, comes_in_order, gives, order_from, order_after}
 use Rattle.bt_history.specs.Pieces.{begun, unbegun, availability, endgame, interesting, had_count}
 use Rattle.bt_history.specs.Next.{Exactly, CancelOf, RequestOf, usable, tops, is_candidate, is_strict, none_rarer, resumes, continues, starts, rises}
-use Rattle.bt_history.specs.Next.{doubles, rushes, next_answer}
+use Rattle.bt_history.specs.Next.{doubles, rushes, tops_in_order, next_answer}
 use Rattle.bt_history.specs.Before.{chosen_then, chosen_before, none_rarer_before, continues_before, starts_before, next_before, is_levelling}
 use Rattle.bt_history.specs.Before.{never_levels}
-use Rattle.bt_history.proofs.Below.{all_found, all_same}
+use Rattle.bt_history.proofs.Below.{all_found, all_same, any_none}
 
 -- ---- one level
 
@@ -30,9 +30,10 @@ level_same (Level piece n) true p before isnt = absurd (cc isnt)
 level_same (Levels levels) true p before isnt = absurd (cc isnt)
 level_same call true p before isnt = refl
 
-order_same : (call : Action) (x before : Bool) → is_levelling call ≡ false → in_order_after (if x then Some call else None) before ≡ before
+order_same : (call : Action) (x : Bool) (before : ℕ) → is_levelling call ≡ false → order_after (if x then Some call else None) before ≡ before
 order_same call false before isnt = refl
 order_same (InOrder rising) true before isnt = absurd (cc isnt)
+order_same (InOrderFrom n) true before isnt = absurd (cc isnt)
 order_same call true before isnt = refl
 
 -- each chosen piece is of the usual level
@@ -44,12 +45,29 @@ level_flat (e ∷ h) p never =
     ap (level_after (counted_call e) p) (level_flat h p parts.1)
     ∙ level_same e.action (counts e.reply) p (chosen_before h p) (not-true (is_levelling e.action) parts.0)
 
-unordered : (h : History) → never_levels h ≡ true → in_order h ≡ false
-unfolding in_order never_levels
+most_usual : (chosen : Bool) → level_if chosen ≤ MOST_LEVEL
+most_usual true = omega arith
+most_usual false = omega arith
+
+-- no level is beyond the highest
+pub flat_bounded : (h : History) (p : ℕ) → never_levels h ≡ true → level h p ≤ MOST_LEVEL
+flat_bounded h p never = (let same = level_flat h p never in let most = most_usual (chosen_before h p) in omega (arith, same, most))
+
+unordered : (h : History) → never_levels h ≡ true → order_from h ≡ MOST_LEVEL + 1
+unfolding order_from never_levels
 unordered [] never = refl
 unordered (e ∷ h) never =
     let parts = and_parts (not (is_levelling e.action)) (never_levels h) never in
-    ap (in_order_after (counted_call e)) (unordered h parts.1) ∙ order_same e.action (counts e.reply) false (not-true (is_levelling e.action) parts.0)
+    ap (order_after (counted_call e)) (unordered h parts.1)
+    ∙ order_same e.action (counts e.reply) (MOST_LEVEL + 1) (not-true (is_levelling e.action) parts.0)
+
+beyond_usual : (chosen : Bool) → nat_le (MOST_LEVEL + 1) (level_if chosen) ≡ false
+beyond_usual true = refl
+beyond_usual false = refl
+
+-- so no piece comes in order
+none_ordered : (h : History) (p : ℕ) → never_levels h ≡ true → comes_in_order h p ≡ false
+none_ordered h p never = (λ i. nat_le (unordered h never i) (level_flat h p never i)) ∙ beyond_usual (chosen_before h p)
 
 above_none : (chosen : Bool) → nat_lt 0 (level_if chosen) ≡ chosen
 above_none true = refl
@@ -68,7 +86,7 @@ module _ (s : Setting) (h : History) (q : ℕ) (never : never_levels h ≡ true)
 
   -- the piece of a usable block is wanted
   usable_wanted : (b : Block) → usable s h q b ≡ true → wanted s h b.piece ≡ true
-  usable_wanted b is = (and_parts (wanted s h b.piece) (shows h q b.piece) (and_parts (unasked s h b) _ is).1).0
+  usable_wanted b is = (and_parts (wanted s h b.piece) (gives h q b.piece) (and_parts (unasked s h b) _ is).1).0
 
   tops_flat : (b : Block) → tops s h q b ≡ usable s h q b
   tops_flat b = by_usable (usable s h q b) refl where
@@ -123,13 +141,18 @@ module _ (s : Setting) (h : History) (q : ℕ) (never : never_levels h ≡ true)
     by_usable true is = λ i. tops_flat b i && (unbegun s h b.piece
         && (nat_lt (had_count s h) s.random || candidates_flat b.piece (usable_wanted b is) i))
 
+  none_tops : some_block s.torrent (tops_in_order s h q) ≡ false
+  none_tops = any_none (piece_count s.torrent) (λ p. some_block_of s.torrent p (tops_in_order s h q)) (λ p lp.
+      any_none (block_count s.torrent p) (λ k. tops_in_order s h q (block s.torrent p k)) (λ k lk.
+      and_right (tops s h q (block s.torrent p k)) (comes_in_order h p) (none_ordered h p never)))
+
   pub answer_as_before : next_answer s h q ≡ next_before s h q
   unfolding next_answer next_before
   answer_as_before = λ i.
       if some_block s.torrent (due h q) then CancelOf (due h q)
       else if not (is_open h q) then Exactly Choked
       else if nat_le (depth_of s h q) (asked_count s h q) then Exactly PipeFull
-      else if unordered h never i && some_block s.torrent (usable s h q) then RequestOf (rises s h q)
+      else if none_tops i then RequestOf (rises s h q)
       else if some_block s.torrent (λ b. continues_flat b i) then RequestOf (λ b. continues_flat b i)
       else if some_block s.torrent (usable s h q) then RequestOf (λ b. starts_flat b i)
       else if rushes s h q && (endgame s h && some_block s.torrent (doubles s h q)) then RequestOf (doubles s h q)

@@ -10,17 +10,17 @@ use Rattle.bt_meta.specs.Layout.{Layout, piece_count, block_count, block}
 use Rattle.bt_history.specs.declared.call.Reply.{Reply}
 use Rattle.bt_history.specs.declared.call.Reply.TheVariants.{Request, Idle, NothingLeft, Refused}
 use Rattle.bt_history.specs.declared.event.Action.{Action}
-use Rattle.bt_history.specs.declared.event.Action.TheVariants.{Join, Choke, Next, Arrived, Settle, Leave, Want, Release, Level, Levels}
+use Rattle.bt_history.specs.declared.event.Action.TheVariants.{Join, Choke, Next, Arrived, Settle, Leave, Want, Release, Level, Levels, Lack}
 use Rattle.bt_history.specs.declared.event.Event.{Event}
 use Rattle.bt_history.specs.Counting.{any_below, count_below}
 use Rattle.bt_history.specs.Setting.{Setting, some_block, some_block_of, each_block, each_block_of, count_blocks}
 use Rattle.bt_history.specs.History.{History, counts, counted_call, own_call, same_begin, stores, stored, bytes_for, requested, requested_by}
 use Rattle.bt_history.specs.History.{cancelled, cancelled_by, failed, passed, is_failed, is_had, settles}
 use Rattle.bt_history.specs.Peers.{asked, asks, asked_count, resets, releases, lasts, shows, shows_after, is_open, is_open_after, told_depth}
-use Rattle.bt_history.specs.Peers.{told_after, depth_of, due}
-use Rattle.bt_history.specs.Pieces.{kept, held, had, in_order, level, level_after, wanted, interesting, asked_of_some, asker_count, held_or_asked}
+use Rattle.bt_history.specs.Peers.{told_after, depth_of, due, reach, reach_after}
+use Rattle.bt_history.specs.Pieces.{kept, held, had, gives, level, level_after, wanted, interesting, asked_of_some, asker_count, held_or_asked}
 use Rattle.bt_history.specs.Pieces.{unasked, awaited, endgame}
-use Rattle.bt_history.specs.Next.{Exactly, usable, tops, continues, starts, rises, doubles, rushes, next_answer}
+use Rattle.bt_history.specs.Next.{Exactly, usable, tops, tops_in_order, continues, starts, rises, doubles, rushes, next_answer}
 use Rattle.bt_history.specs.Legal.{IsLegal, IsAllowed, place_at}
 use Rattle.bt_history.specs.Logs.{answers, call_mark}
 use Rattle.bt_history.specs.Epochs.{asked_alone, begins_endgame, epoch, is_idle, is_request, pass_by, passes_by, stirs, stores_beyond, unsettles}
@@ -53,6 +53,7 @@ calm_resets call true is = refl
 calm_releases : (call : Action) (x : Bool) (b : Block) → unsettles call ≡ false → releases (if x then Some call else None) b ≡ false
 calm_releases call false b is = refl
 calm_releases (Release p begin) true b is = absurd (cc is)
+calm_releases (Lack p) true b is = absurd (cc is)
 calm_releases call true b is = refl
 
 calm_settles : (call : Action) (p : ℕ) → unsettles call ≡ false → settles call p ≡ false
@@ -295,7 +296,7 @@ module _ (s : Setting) (h : History) (e : Event) (allowed : IsAllowed s h e) (st
     by_awaited : (x : Bool) → awaited s h b.piece ≡ x → (not x || held_or_asked s h b) ≡ true
     by_awaited false isnt = refl
     by_awaited true before = touched_before now older b
-        (sym (ap (λ (x : Bool). not x || held_or_asked s (e ∷ h) b) (awaited_on s h e allowed still.resets_none b.piece (wanted_same b.piece) before)) ∙ is)
+        (sym (ap (λ (x : Bool). not x || held_or_asked s (e ∷ h) b) (awaited_on s h e allowed still.resets_none still.releases_none b.piece (wanted_same b.piece) before)) ∙ is)
 
   -- an endgame now was one before
   endgame_before : endgame s (e ∷ h) ≡ true → endgame s h ≡ true
@@ -424,6 +425,12 @@ depth_after call which before = ⊎_elim
     (λ (next : (word : ℕ) × (call ≡ Some (Next word))). ap (λ (c : Option Action). told_after c before) next.1)
     which
 
+near_after : (call : Option Action) → (call ≡ None) ⊎ ((word : ℕ) × (call ≡ Some (Next word))) → (before : ℕ) → reach_after call before ≡ before
+near_after call which before = ⊎_elim
+    (λ (none : call ≡ None). ap (λ (c : Option Action). reach_after c before) none)
+    (λ (next : (word : ℕ) × (call ≡ Some (Next word))). ap (λ (c : Option Action). reach_after c before) next.1)
+    which
+
 -- what an answer that there is nothing shows of the tests
 record NothingToAsk (has_due is_in full starts_one doubles_one waits : Bool) (reply : Reply) : Type 0 where
   pub due : has_due ≡ false
@@ -486,12 +493,16 @@ module _ (s : Setting) (h : History) (e : Event) (q : ℕ) (allowed : IsAllowed 
   unfolding told_depth
   depth_same = ap (λ (o : Option ℕ). unwrap_or o s.depth) (depth_after (own_call q e) quiet.call (told_depth h q))
 
+  gives_same : (p : ℕ) → gives (e ∷ h) q p ≡ gives h q p
+  unfolding level reach
+  gives_same p = λ i. shows_same p i && nat_le (still.levels_same p (level h p) i) (near_after (own_call q e) quiet.call (reach h q) i)
+
   usable_before : (b : Block) → usable s (e ∷ h) q b ≡ true → usable s h q b ≡ true
   usable_before b is =
-      let parts = and_parts (unasked s (e ∷ h) b) (wanted s (e ∷ h) b.piece && shows (e ∷ h) q b.piece) is in
-      and_from (unasked s h b) (wanted s h b.piece && shows h q b.piece)
+      let parts = and_parts (unasked s (e ∷ h) b) (wanted s (e ∷ h) b.piece && gives (e ∷ h) q b.piece) is in
+      and_from (unasked s h b) (wanted s h b.piece && gives h q b.piece)
       (by_touched (held_or_asked s h b) refl (not-true (held_or_asked s (e ∷ h) b) parts.0))
-      (sym (λ i. wanted_same s h e allowed still b.piece i && shows_same b.piece i) ∙ parts.1)
+      (sym (λ i. wanted_same s h e allowed still b.piece i && gives_same b.piece i) ∙ parts.1)
     where
       by_touched : (x : Bool) → held_or_asked s h b ≡ x → held_or_asked s (e ∷ h) b ≡ false → not x ≡ true
       by_touched true was none = absurd (false≢true (sym none ∙ touched_on s h e allowed still b was))
@@ -500,14 +511,14 @@ module _ (s : Setting) (h : History) (e : Event) (q : ℕ) (allowed : IsAllowed 
   doubles_before : (b : Block) → doubles s (e ∷ h) q b ≡ true → doubles s h q b ≡ true
   doubles_before b is =
       let wants = and_parts (wanted s (e ∷ h) b.piece) _ is in
-      let shown = and_parts (shows (e ∷ h) q b.piece) _ wants.1 in
+      let shown = and_parts (gives (e ∷ h) q b.piece) _ wants.1 in
       let lacking = and_parts (not (held (e ∷ h) b)) _ shown.1 in
       let few = and_parts (nat_lt (asker_count s (e ∷ h) b) s.askers) (not (asked (e ∷ h) q b)) lacking.1 in
       let unheld = not-true (held (e ∷ h) b) lacking.0 in
       let less = ltb-true (asker_count s (e ∷ h) b) s.askers few.0 in
       let most = askers_on s h e allowed still b unheld in
       and_from (wanted s h b.piece) _ (sym (wanted_same s h e allowed still b.piece) ∙ wants.0)
-      (and_from (shows h q b.piece) _ (sym (shows_same b.piece) ∙ shown.0)
+      (and_from (gives h q b.piece) _ (sym (gives_same b.piece) ∙ shown.0)
       (and_from (not (held h b)) _ (ap not (unheld_before s h e allowed still b unheld))
       (and_from (nat_lt (asker_count s h b) s.askers) (not (asked h q b)) (lt-ltb (asker_count s h b) s.askers (omega (arith, less, most)))
       (ap not (sym (asked_same b)) ∙ few.1))))
@@ -525,8 +536,9 @@ module _ (s : Setting) (h : History) (e : Event) (q : ℕ) (allowed : IsAllowed 
       let on : some_block s.torrent (continues s (e ∷ h) q) ≡ false =
       none_stronger s.torrent (usable s (e ∷ h) q) (continues s (e ∷ h) q)
       (λ b both. top_usable s (e ∷ h) q b (and_parts (tops s (e ∷ h) q b) _ both).0) first in
-      let up : (in_order (e ∷ h) && some_block s.torrent (usable s (e ∷ h) q)) ≡ false =
-      and_right (in_order (e ∷ h)) (some_block s.torrent (usable s (e ∷ h) q)) first in
+      let up : some_block s.torrent (tops_in_order s (e ∷ h) q) ≡ false =
+      none_stronger s.torrent (usable s (e ∷ h) q) (tops_in_order s (e ∷ h) q)
+      (λ b both. top_usable s (e ∷ h) q b (and_parts (tops s (e ∷ h) q b) _ both).0) first in
       let again : (rushes s (e ∷ h) q && (endgame s (e ∷ h) && some_block s.torrent (doubles s (e ∷ h) q))) ≡ false = none_again facts.again in
       let waits : interesting s (e ∷ h) q ≡ interesting s h q =
       λ i. any_below (piece_count s.torrent)

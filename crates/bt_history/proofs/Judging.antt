@@ -1,5 +1,5 @@
 -- Whether histories are legal, by a test that computes.
-use Rattle.std.proofs.Common.{◌≡◌, ℕ, ◌&&◌, not, nat_lt, Bool, true, false, List, [], ◌∷◌, refl, reverse, take, ltb-true, lt-ltb, sym, subst}
+use Rattle.std.proofs.Common.{◌≡◌, ℕ, ◌&&◌, not, nat_lt, Bool, true, false, List, [], ◌∷◌, ◌++◌, refl, reverse, take, ltb-true, lt-ltb, sym, subst}
 use Rattle.std.proofs.lemmas.Bool.{and_parts, false≢true}
 use Rattle.bt_meta.specs.Layout.{Layout}
 use Rattle.bt_history.specs.contracts.call.ReplyPartialEq.TheImpl as replies
@@ -90,3 +90,8 @@ judged (x ∷ xs) is =
     let p = and_parts (legal x.setting (reverse x.entries)) (refuses x x.wrong && judges xs) is in
     let q = and_parts (refuses x x.wrong) (judges xs) p.1 in
     (is_legal x.setting (reverse x.entries) p.0, are_wrong x x.wrong q.0, judged xs q.1)
+
+-- those of two lists are judged where both lists are
+pub both_judged : (xs ys : List Example) → AreJudged xs → AreJudged ys → AreJudged (xs ++ ys)
+both_judged [] ys first later = later
+both_judged (x ∷ xs) ys first later = (first.0, first.1, both_judged xs ys first.2 later)

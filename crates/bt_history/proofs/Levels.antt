@@ -3,7 +3,7 @@ use Rattle.std.proofs.Common.{◌≡◌, ◌⊎◌, ℕ, zero, suc, ◌==◌, �
 use Rattle.std.proofs.Common.{sym, ◌∙◌, arith, ⊎_elim, inl, inr, subst}
 use Rattle.std.specs.Prelude.{if◌then◌else◌, nat_lt, nat_le, slice_index_or, unwrap_or}
 use Rattle.std.specs.List.{list_any}
-use Rattle.std.proofs.lemmas.Bool.{and_parts, and_from, or_parts, ltb-false, leb-true, false≢true}
+use Rattle.std.proofs.lemmas.Bool.{and_parts, and_from, or_parts, ltb-false, leb-true, false≢true, false_from_ne_true}
 use Rattle.bt_meta.specs.declared.block.Block.{Block}
 use Rattle.bt_meta.specs.Layout.{piece_count, block_count, block}
 use Rattle.bt_history.specs.declared.call.Reason.{Reason}
@@ -13,14 +13,14 @@ use Rattle.bt_history.specs.declared.event.Action.{Action}
 use Rattle.bt_history.specs.declared.event.Action.TheVariants.{Want, Level, Levels}
 use Rattle.bt_history.specs.declared.event.Event.{Event}
 use Rattle.bt_history.specs.declared.rules.TheConstants.{MOST_LEVEL}
-use Rattle.bt_history.specs.Setting.{Setting, some_block, each_block, each_block_of, is_block}
+use Rattle.bt_history.specs.Setting.{Setting, some_block, some_block_of, each_block, each_block_of, is_block}
 use Rattle.bt_history.specs.History.{History, counts, counted_call}
 use Rattle.bt_history.specs.Peers.{flag}
-use Rattle.bt_history.specs.Pieces.{in_order, level, level_after, level_if}
-use Rattle.bt_history.specs.Next.{Answer, usable, tops, continues, starts, rises, next_answer}
+use Rattle.bt_history.specs.Pieces.{comes_in_order, level, level_after, level_if, order_from}
+use Rattle.bt_history.specs.Next.{Answer, usable, tops, tops_in_order, continues, starts, rises, next_answer}
 use Rattle.bt_history.specs.Legal.{IsLegal, IsAllowed, Permits, refusal, causes}
-use Rattle.bt_history.proofs.Below.{all_at}
-use Rattle.bt_history.proofs.LineLaws.{block_index, some_found}
+use Rattle.bt_history.proofs.Below.{all_at, any_witness}
+use Rattle.bt_history.proofs.LineLaws.{block_index, block_is_block, some_found}
 use Rattle.bt_history.proofs.NextCases.{next_is, next_request}
 use Rattle.bt_history.proofs.Allowed.{no_cause, request_next, none_holds}
 
@@ -108,12 +108,37 @@ module _ (s : Setting) (h : History) (q : ℕ) where
       others)
       (next_request s.torrent _ _ _ _ _ _ _ _ _ _ _ _ _ b (subst (λ (a : Answer). Permits s.torrent a (Request b)) (next_is s h q) permitted)).usable
 
-  -- what is asked for in order rises, if a block is usable
-  pub rising_asked : (b : Block) → Permits s.torrent (next_answer s h q) (Request b) → in_order h ≡ true → some_block s.torrent (usable s h q) ≡ true
+  -- what is asked for is a block
+  pub block_asked : (b : Block) → Permits s.torrent (next_answer s h q) (Request b) → is_block s.torrent b ≡ true
+  block_asked b permitted =
+      (next_request s.torrent _ _ _ _ _ _ _ _ _ _ _ _ _ b (subst (λ (a : Answer). Permits s.torrent a (Request b)) (next_is s h q) permitted)).block
+
+  -- what is asked for in order rises
+  pub rising_asked : (b : Block) → Permits s.torrent (next_answer s h q) (Request b) → some_block s.torrent (tops_in_order s h q) ≡ true
       → rises s h q b ≡ true
-  rising_asked b permitted ordered some =
+  rising_asked b permitted some =
       (next_request s.torrent _ _ _ _ _ _ _ _ _ _ _ _ _ b (subst (λ (a : Answer). Permits s.torrent a (Request b)) (next_is s h q) permitted)).rising
-      (and_from (in_order h) (some_block s.torrent (usable s h q)) ordered some)
+      some
+
+  -- all blocks that top are of one level
+  pub top_level : (b c : Block) → is_block s.torrent b ≡ true → is_block s.torrent c ≡ true → tops s h q b ≡ true → tops s h q c ≡ true
+      → level h c.piece ≡ level h b.piece
+  top_level b c inside other top too =
+      let low = top_above b c top other (and_parts (usable s h q c) _ too).0 in
+      let high = top_above c b too inside (and_parts (usable s h q b) _ top).0 in
+      omega (arith, low, high)
+
+  -- where what is asked for isn't of a level that comes in order, nothing that tops is
+  pub none_in_order : (b : Block) → Permits s.torrent (next_answer s h q) (Request b) → comes_in_order h b.piece ≡ false
+      → some_block s.torrent (tops_in_order s h q) ≡ false
+  none_in_order b permitted unordered = false_from_ne_true (some_block s.torrent (tops_in_order s h q)) (λ some.
+      let piece = any_witness (piece_count s.torrent) (λ p. some_block_of s.torrent p (tops_in_order s h q)) some in
+      let at = any_witness (block_count s.torrent piece.0) (λ k. tops_in_order s h q (block s.torrent piece.0 k)) piece.2 in
+      let c = block s.torrent piece.0 at.0 in
+      let parts = and_parts (tops s h q c) (comes_in_order h c.piece) at.2 in
+      let same = top_level b c (block_asked b permitted) (block_is_block s.torrent piece.0 at.0 piece.1 at.1)
+      (and_parts (tops s h q b) _ (rising_asked b permitted some)).0 parts.0 in
+      false≢true (sym unordered ∙ sym (ap (nat_le (order_from h)) same) ∙ parts.1))
 
   -- where a block is usable, another of the level of one that tops does too
   pub level_tops : (b c : Block) → tops s h q b ≡ true → usable s h q c ≡ true → level h c.piece ≡ level h b.piece → tops s h q c ≡ true
@@ -132,11 +157,17 @@ higher_first s h e b allowed is c inside fits = ⊎_elim
     (top_asked s h e.worker b (request_next s h e b allowed is))
 
 -- in order no block is asked for while one of an earlier piece of its level could be
-pub earlier_first : (s : Setting) (h : History) (e : Event) (b : Block) → IsAllowed s h e → e.reply ≡ Request b → in_order h ≡ true
+pub earlier_first : (s : Setting) (h : History) (e : Event) (b : Block) → IsAllowed s h e → e.reply ≡ Request b → comes_in_order h b.piece ≡ true
     → (c : Block) → is_block s.torrent c ≡ true → usable s h e.worker c ≡ true → level h c.piece ≡ level h b.piece → b.piece ≤ c.piece
 earlier_first s h e b allowed is ordered c inside fits same =
     let q = e.worker in
-    let up = rising_asked s h q b (request_next s h e b allowed is) ordered (some_found s.torrent (usable s h q) c inside fits) in
+    let permitted = request_next s h e b allowed is in
+    let top : tops s h q b ≡ true = ⊎_elim
+    (λ (top : tops s h q b ≡ true). top)
+    (λ (none : some_block s.torrent (usable s h q) ≡ false). absurd (false≢true (sym none ∙ some_found s.torrent (usable s h q) c inside fits)))
+    (top_asked s h q b permitted) in
+    let up = rising_asked s h q b permitted (some_found s.torrent (tops_in_order s h q) b (block_asked s h q b permitted)
+    (and_from (tops s h q b) (comes_in_order h b.piece) top ordered)) in
     let test : Block → Bool = λ d. not (tops s h q d) || nat_le b.piece d.piece in
     let parts = and_parts (tops s h q b) (each_block s.torrent test) up in
     leb-true b.piece c.piece

@@ -20,6 +20,10 @@ pub mod Endgame
 pub mod Idling
 pub mod Sending
 pub mod Levels
+pub mod Lacking
+pub mod Reaching
+pub mod PickRules
+pub mod Windows
 pub mod Flat
 pub mod Picks
 pub mod Plain

@@ -67,7 +67,7 @@ unfoldable pub AreBlocks : Layout → List Block → Type 0
 AreBlocks t [] = Unit {0}
 AreBlocks t (b ∷ bs) = (is_block t b ≡ true) × AreBlocks t bs
 
-blocks_filter : (t : Layout) (test : Block → Bool) (bs : List Block) → AreBlocks t bs → AreBlocks t (filter test bs)
+pub blocks_filter : (t : Layout) (test : Block → Bool) (bs : List Block) → AreBlocks t bs → AreBlocks t (filter test bs)
 unfolding AreBlocks
 blocks_filter t test [] are = tt
 blocks_filter t test (b ∷ bs) are = either (test b) (blocks_filter t test bs are.1) where

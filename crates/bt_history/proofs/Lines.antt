@@ -9,7 +9,7 @@ use Rattle.bt_meta.specs.declared.block.Block.{Block}
 use Rattle.bt_history.specs.declared.call.Reply.{Reply}
 use Rattle.bt_history.specs.declared.call.Reply.TheVariants.{Cancel, Stored, Completed}
 use Rattle.bt_history.specs.declared.event.Action.{Action}
-use Rattle.bt_history.specs.declared.event.Action.TheVariants.{Release}
+use Rattle.bt_history.specs.declared.event.Action.TheVariants.{Lack, Release}
 use Rattle.bt_history.specs.declared.event.Event.{Event}
 use Rattle.bt_history.specs.History.{History, own_call, same_begin, stored, stores, requested, cancelled, cancelled_by, bytes_for}
 use Rattle.bt_history.specs.Peers.{asked, asks, outstanding, has_place, due, dues, resets, releases, lasts}
@@ -26,6 +26,7 @@ any_either false test xs = refl
 
 releases_resized : (call : Option Action) (b : Block) (n : ℕ) → releases call (resized b n) ≡ releases call b
 releases_resized (Some (Release p begin)) b n = refl
+releases_resized (Some (Lack p)) b n = refl
 releases_resized _ b n = refl
 
 -- whether a block stays asked depends on where it begins alone

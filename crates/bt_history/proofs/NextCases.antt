@@ -9,13 +9,13 @@ use Rattle.bt_history.specs.declared.call.Reply.TheVariants.{Request, Choked, Pi
 use Rattle.bt_history.specs.Setting.{Setting, some_block, is_block}
 use Rattle.bt_history.specs.History.{History}
 use Rattle.bt_history.specs.Peers.{is_open, asked_count, due, depth_of}
-use Rattle.bt_history.specs.Pieces.{endgame, interesting, in_order}
+use Rattle.bt_history.specs.Pieces.{endgame, interesting}
 use Rattle.bt_history.specs.Next.{Answer, Exactly, CancelOf, RequestOf, usable, continues, starts, rises, doubles}
-use Rattle.bt_history.specs.Next.{rushes, next_answer}
+use Rattle.bt_history.specs.Next.{rushes, tops_in_order, next_answer}
 use Rattle.bt_history.specs.Legal.{Permits}
 use Rattle.bt_history.specs.Logs.{answers_next}
 
--- the answer by its tests: a cancel is due, the peer is open, its pipe is full, a block is usable and pieces come in order,
+-- the answer by its tests: a cancel is due, the peer is open, its pipe is full, a block tops of a level that comes in order,
 -- a begun piece goes on, a block is usable, a block may be asked twice, the peer is interesting
 unfoldable pub next_cases : (has_due opened full rises_one goes_on starts_one doubles_one waits : Bool)
     (cancels risings ons firsts seconds : Block → Bool) → Answer
@@ -32,7 +32,7 @@ next_cases has_due opened full rises_one goes_on starts_one doubles_one waits ca
 
 pub next_is : (s : Setting) (h : History) (q : ℕ) → next_answer s h q
     ≡ next_cases (some_block s.torrent (due h q)) (is_open h q) (nat_le (depth_of s h q) (asked_count s h q))
-    (in_order h && some_block s.torrent (usable s h q)) (some_block s.torrent (continues s h q)) (some_block s.torrent (usable s h q))
+    (some_block s.torrent (tops_in_order s h q)) (some_block s.torrent (continues s h q)) (some_block s.torrent (usable s h q))
     (rushes s h q && (endgame s h && some_block s.torrent (doubles s h q))) (interesting s h q)
     (due h q) (rises s h q) (continues s h q) (starts s h q) (doubles s h q)
 unfolding next_answer next_cases

@@ -10,16 +10,16 @@ use Rattle.bt_history.specs.declared.call.Reply.TheVariants.{Request, Choked, Pi
 use Rattle.bt_history.specs.declared.event.Event.{Event}
 use Rattle.bt_history.specs.Setting.{Setting, is_block, some_block, some_block_of}
 use Rattle.bt_history.specs.History.{History}
-use Rattle.bt_history.specs.Peers.{shows, is_open, asked_count, due, depth_of}
-use Rattle.bt_history.specs.Pieces.{availability, begun, endgame, had, had_count, held, held_or_asked, in_order, interesting, is_open_piece, level}
+use Rattle.bt_history.specs.Peers.{shows, is_open, asked_count, due, depth_of, reach}
+use Rattle.bt_history.specs.Pieces.{availability, begun, endgame, had, had_count, held, held_or_asked, comes_in_order, gives, interesting, is_open_piece, level}
 use Rattle.bt_history.specs.Pieces.{open_count, unasked, unbegun, wanted}
 use Rattle.bt_history.specs.Next.{Answer, Exactly, CancelOf, RequestOf, usable, tops, none_rarer, resumes, is_candidate, is_rarest, is_strict}
-use Rattle.bt_history.specs.Next.{goes_first, continues, starts, rises, doubles, rushes, next_answer}
+use Rattle.bt_history.specs.Next.{goes_first, continues, starts, rises, tops_in_order, doubles, rushes, next_answer}
 use Rattle.bt_history.specs.Before.{continues_strictly, next_strict}
 use Rattle.bt_history.specs.Legal.{IsAllowed, IsLegal, Permits}
 use Rattle.bt_history.proofs.Allowed.{request_next, top_usable}
 use Rattle.bt_history.proofs.Below.{all_at, all_found, any_found, any_witness, least_among}
-use Rattle.bt_history.proofs.Levels.{implied, level_tops}
+use Rattle.bt_history.proofs.Levels.{implied, level_tops, none_in_order}
 use Rattle.bt_history.proofs.HeldLaws.{had_full}
 use Rattle.bt_history.proofs.LineLaws.{block_index, block_is_block, some_found}
 use Rattle.bt_history.proofs.NextCases.{next_is, next_request}
@@ -36,7 +36,7 @@ strict_answer s h q none = λ i.
     if some_block s.torrent (due h q) then CancelOf (due h q)
     else if not (is_open h q) then Exactly Choked
     else if nat_le (depth_of s h q) (asked_count s h q) then Exactly PipeFull
-    else if in_order h && some_block s.torrent (usable s h q) then RequestOf (rises s h q)
+    else if some_block s.torrent (tops_in_order s h q) then RequestOf (rises s h q)
     else if some_block s.torrent (λ b. on b i) then RequestOf (λ b. on b i)
     else if some_block s.torrent (usable s h q) then RequestOf (starts s h q)
     else if rushes s h q && (endgame s h && some_block s.torrent (doubles s h q)) then RequestOf (doubles s h q)
@@ -72,17 +72,23 @@ rarer_than s h test p r none lr is same =
     (and_from (test r) (level h r == level h p) is (eq-eqb (level h r) (level h p) same)))
 
 module _ (s : Setting) (h : History) (q : ℕ) where
+  -- a usable block is of a level that the peer reaches
+  pub usable_near : (c : Block) → usable s h q c ≡ true → nat_le (level h c.piece) (reach h q) ≡ true
+  usable_near c fits = (and_parts (shows h q c.piece) (nat_le (level h c.piece) (reach h q))
+      (and_parts (wanted s h c.piece) (gives h q c.piece) (and_parts (unasked s h c) _ fits).1).1).1
+
   -- a usable block of a begun piece is of an open piece that the peer shows
   pub usable_resumes : (c : Block) → is_block s.torrent c ≡ true → usable s h q c ≡ true → begun s h c.piece ≡ true → resumes s h q c.piece ≡ true
   usable_resumes c inside fits on =
       let at = block_index s.torrent c inside in
       let parts = and_parts (unasked s h c) _ fits in
-      let rest = and_parts (wanted s h c.piece) (shows h q c.piece) parts.1 in
+      let rest = and_parts (wanted s h c.piece) (gives h q c.piece) parts.1 in
+      let given = and_parts (shows h q c.piece) (nat_le (level h c.piece) (reach h q)) rest.1 in
       and_from (is_open_piece s h c.piece) (shows h q c.piece)
       (and_from (wanted s h c.piece) _ rest.0 (and_from (begun s h c.piece) _ on
       (any_found (block_count s.torrent c.piece) (λ k. unasked s h (block s.torrent c.piece k)) at.index at.within
       (ap (unasked s h) (sym at.is) ∙ parts.0))))
-      rest.1
+      given.0
 
   -- where a usable block of a begun piece tops, one of an open piece of its level that fewest peers show goes on
   pub some_continues : (c : Block) → is_block s.torrent c ≡ true → tops s h q c ≡ true → begun s h c.piece ≡ true
@@ -103,7 +109,9 @@ module _ (s : Setting) (h : History) (q : ℕ) where
       let under_way = and_parts (begun s h p) (some_block_of s.torrent p (unasked s h)) wants.1 in
       let one = any_witness (block_count s.torrent p) (λ k. unasked s h (block s.torrent p k)) under_way.1 in
       let d = block s.torrent p one.0 in
-      let fits : usable s h q d ≡ true = and_from (unasked s h d) _ one.2 (and_from (wanted s h p) (shows h q p) wants.0 shown.1) in
+      let near : nat_le (level h p) (reach h q) ≡ true = ap (λ (n : ℕ). nat_le n (reach h q)) same ∙ (usable_near c (top_usable s h q c top)) in
+      let fits : usable s h q d ≡ true = and_from (unasked s h d) _ one.2 (and_from (wanted s h p) (gives h q p) wants.0
+      (and_from (shows h q p) (nat_le (level h p) (reach h q)) shown.1 near)) in
       let none : none_rarer s h (resumes s h q) p ≡ true = rarer_none s h (resumes s h q) p (λ r lr is level_is.
       found.least r lr (and_from (resumes s h q r) _ is (eq-eqb (level h r) (level h c.piece) (level_is ∙ same)))) in
       let before : (is_strict s h || is_rarest s h q p) ≡ true = ⊎_elim
@@ -129,15 +137,16 @@ Asking s h q b =
     (continues s h q b ≡ true)
     ⊎ (((some_block s.torrent (continues s h q) ≡ false) × (starts s h q b ≡ true)) ⊎ (some_block s.torrent (usable s h q) ≡ false))
 
-requested_kind : (s : Setting) (h : History) (e : Event) (b : Block) → IsAllowed s h e → e.reply ≡ Request b → in_order h ≡ false
+requested_kind : (s : Setting) (h : History) (e : Event) (b : Block) → IsAllowed s h e → e.reply ≡ Request b → comes_in_order h b.piece ≡ false
     → Asking s h e.worker b
 requested_kind s h e b allowed is unordered =
     let q = e.worker in
+    let permitted = request_next s h e b allowed is in
     let facts = next_request s.torrent _ _ _ _ _ _ _ _ _ _ _ _ _ b
-    (subst (λ (a : Answer). Permits s.torrent a (Request b)) (next_is s h q) (request_next s h e b allowed is)) in
-    facts.unordered (and_left (in_order h) (some_block s.torrent (usable s h q)) unordered)
+    (subst (λ (a : Answer). Permits s.torrent a (Request b)) (next_is s h q) permitted) in
+    facts.unordered (none_in_order s h q b permitted unordered)
 
-module _ (s : Setting) (h : History) (e : Event) (b : Block) (allowed : IsAllowed s h e) (is : e.reply ≡ Request b) (unordered : in_order h ≡ false)
+module _ (s : Setting) (h : History) (e : Event) (b : Block) (allowed : IsAllowed s h e) (is : e.reply ≡ Request b) (unordered : comes_in_order h b.piece ≡ false)
   where
     -- where more pieces are open than may be, none begins while one that is open could go on
     pub few_open : s.most_open < open_count s h → unbegun s h b.piece ≡ true → (c : Block) → is_block s.torrent c ≡ true
@@ -167,18 +176,19 @@ usable_kind : (s : Setting) (h : History) (q : ℕ) (c : Block) → IsLegal s h 
 usable_kind s h q c legal inside fits =
     let at = block_index s.torrent c inside in
     let parts = and_parts (unasked s h c) _ fits in
-    let rest = and_parts (wanted s h c.piece) (shows h q c.piece) parts.1 in
+    let rest = and_parts (wanted s h c.piece) (gives h q c.piece) parts.1 in
+    let given = and_parts (shows h q c.piece) (nat_le (level h c.piece) (reach h q)) rest.1 in
     let lacking : had h c.piece ≡ false = false_from_ne_true (had h c.piece) (λ was.
     let whole = ap (held h) at.is ∙ had_full s h c.piece at.index legal was at.within in
     false≢true (sym (or_parts (held h c) _ (not-true (held_or_asked s h c) parts.0)).0 ∙ whole)) in
     ⊎_elim
     (λ (touched : some_block_of s.torrent c.piece (held_or_asked s h) ≡ true). inl (and_from (not (had h c.piece)) _ (ap not lacking) touched))
     (λ (fresh : some_block_of s.torrent c.piece (held_or_asked s h) ≡ false).
-    inr (and_from (wanted s h c.piece) _ rest.0 (and_from (shows h q c.piece) _ rest.1
+    inr (and_from (wanted s h c.piece) _ rest.0 (and_from (shows h q c.piece) _ given.0
     (and_from (not (had h c.piece)) _ (ap not lacking) (ap not fresh)))))
     (cases_Bool (some_block_of s.torrent c.piece (held_or_asked s h)))
 
-module _ (s : Setting) (h : History) (e : Event) (b : Block) (allowed : IsAllowed s h e) (is : e.reply ≡ Request b) (unordered : in_order h ≡ false)
+module _ (s : Setting) (h : History) (e : Event) (b : Block) (allowed : IsAllowed s h e) (is : e.reply ≡ Request b) (unordered : comes_in_order h b.piece ≡ false)
     (legal : IsLegal s h) (some : 0 < s.most_open) where
   -- among begun pieces one that fewest peers show goes on
   pub goes_rarest : (c : Block) → continues s h e.worker b ≡ true → is_block s.torrent c ≡ true → usable s h e.worker c ≡ true

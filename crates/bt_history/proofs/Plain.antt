@@ -15,19 +15,22 @@ use Rattle.bt_history.specs.Counting.{any_below, all_below, count_below}
 use Rattle.bt_history.specs.Setting.{Setting, some_block_of, some_block, each_block, count_blocks}
 use Rattle.bt_history.specs.History.{History, own_call, stored, cancelled}
 use Rattle.bt_history.specs.Peers.{flag, joined, shows, is_open, asked_count, depth_of, due, resets}
-use Rattle.bt_history.specs.Pieces.{held, held_or_asked, had, had_count, begun, unbegun, availability, wanted, awaited, endgame, interesting, lacks}
+use Rattle.bt_history.specs.Pieces.{held, held_or_asked, had, had_count, begun, unbegun, availability, wanted, awaited, endgame, gives, interesting, lacks}
 use Rattle.bt_history.specs.Next.{Answer, Exactly, CancelOf, RequestOf, usable, is_candidate, is_strict, resumes, doubles, rushes, next_answer}
 use Rattle.bt_history.specs.Legal.{first_cause, no_peer, no_count, refusal, answer, answer_unless, Permits, IsAllowed, IsLegal}
 use Rattle.bt_history.specs.Before.{continues_before, goes_first_before, is_rarest_before, none_rarer_before, starts_before, next_before}
 use Rattle.bt_history.specs.Before.{is_release, never_releases, is_depth, never_deepens, is_haves, never_adds, is_levelling, never_levels}
+use Rattle.bt_history.specs.Before.{is_reach, never_reaches}
+use Rattle.bt_history.specs.Before.{shows_before}
 use Rattle.bt_history.specs.Plain.{plain_due, plain_held_or_asked, plain_begun, plain_unbegun, plain_availability, plain_wanted}
 use Rattle.bt_history.specs.Plain.{plain_endgame, plain_lacks, plain_usable, plain_continues, plain_candidate, plain_rarest, plain_starts}
 use Rattle.bt_history.specs.Plain.{plain_doubles, plain_next, plain_refusal, plain_answer, is_plain, IsAllowedBefore, IsLegalBefore}
 use Rattle.bt_history.proofs.Before.{asked_as_before, doubles_as_before, shows_as_before, late_as_before}
 use Rattle.bt_history.proofs.Depths.{depth_as_before}
-use Rattle.bt_history.proofs.Flat.{answer_as_before, chosen_as_before}
+use Rattle.bt_history.proofs.Flat.{answer_as_before, chosen_as_before, flat_bounded}
 use Rattle.bt_history.proofs.NextCases.{next_cases, without_test}
 use Rattle.bt_history.proofs.Opening.{unbounded}
+use Rattle.bt_history.proofs.Reaching.{gives_full}
 
 -- no entry of the history is a later call
 pub record IsPlain (h : History) : Type 0 where
@@ -35,6 +38,7 @@ pub record IsPlain (h : History) : Type 0 where
   pub depths : never_deepens h ≡ true
   pub adds : never_adds h ≡ true
   pub levels : never_levels h ≡ true
+  pub reaches : never_reaches h ≡ true
 
 -- the rules have nothing that came with a later number: no bound on askers or on whom endgame asks, begun pieces first, and an endgame that
 -- waits for all that is wanted
@@ -46,20 +50,22 @@ pub record AreOld (s : Setting) : Type 0 where
 
 -- of a plain history the newest call is plain, and so are the older ones
 plain_newest : (e : Event) (h : History) → IsPlain (e ∷ h) → is_plain e.action ≡ true
-unfolding never_releases never_deepens never_adds never_levels
+unfolding never_releases never_deepens never_adds never_levels never_reaches
 plain_newest e h plain =
     and_from (not (is_release e.action)) _ (and_parts _ (never_releases h) plain.releases).0
     (and_from (not (is_depth e.action)) _ (and_parts _ (never_deepens h) plain.depths).0
-    (and_from (not (is_haves e.action)) (not (is_levelling e.action)) (and_parts _ (never_adds h) plain.adds).0
-    (and_parts _ (never_levels h) plain.levels).0))
+    (and_from (not (is_haves e.action)) _ (and_parts _ (never_adds h) plain.adds).0
+    (and_from (not (is_levelling e.action)) (not (is_reach e.action)) (and_parts _ (never_levels h) plain.levels).0
+    (and_parts _ (never_reaches h) plain.reaches).0)))
 
 plain_older : (e : Event) (h : History) → IsPlain (e ∷ h) → IsPlain h
-unfolding never_releases never_deepens never_adds never_levels
+unfolding never_releases never_deepens never_adds never_levels never_reaches
 plain_older e h plain = record {
   releases = (and_parts (not (is_release e.action)) (never_releases h) plain.releases).1;
   depths = (and_parts (not (is_depth e.action)) (never_deepens h) plain.depths).1;
   adds = (and_parts (not (is_haves e.action)) (never_adds h) plain.adds).1;
   levels = (and_parts (not (is_levelling e.action)) (never_levels h) plain.levels).1;
+  reaches = (and_parts (not (is_reach e.action)) (never_reaches h) plain.reaches).1;
 }
 
 due_is_plain : (h : History) (q : ℕ) (b : Block) → never_releases h ≡ true → due h q b ≡ plain_due h q b
@@ -101,8 +107,11 @@ module _ (s : Setting) (h : History) (plain : IsPlain h) where
 
   -- ---- the answer to Next
 
+  gives_plain : (q p : ℕ) → gives h q p ≡ shows_before h q p
+  gives_plain q p = gives_full h q p plain.reaches (flat_bounded h p plain.levels) ∙ shows_as_before h q p plain.adds
+
   usable_plain : (q : ℕ) (b : Block) → usable s h q b ≡ plain_usable s h q b
-  usable_plain q b = λ i. not (some_asked b i) && (wanted_plain b.piece i && shows_as_before h q b.piece plain.adds i)
+  usable_plain q b = λ i. not (some_asked b i) && (wanted_plain b.piece i && gives_plain q b.piece i)
 
   candidate_plain : (q p : ℕ) → is_candidate s h q p ≡ plain_candidate s h q p
   candidate_plain q p = λ i. wanted_plain p i && (shows_as_before h q p plain.adds i && unbegun_plain p i)
@@ -125,7 +134,7 @@ module _ (s : Setting) (h : History) (plain : IsPlain h) where
 
     doubles_plain : (b : Block) → doubles s h q b ≡ plain_doubles s h q b
     doubles_plain b = doubles_as_before s h q b lt old.wide ∙ (λ i.
-        wanted_plain b.piece i && (shows_as_before h q b.piece plain.adds i && (not (held h b) && not (asked_as_before h q b plain.releases i))))
+        wanted_plain b.piece i && (gives_plain q b.piece i && (not (held h b) && not (asked_as_before h q b plain.releases i))))
 
     -- whom endgame asks makes no difference: a peer's pipe is full before it is asked for too many
     few_plain : nat_le (depth_of s h q) (asked_count s h q) ≡ false → rushes s h q ≡ true

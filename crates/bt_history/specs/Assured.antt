@@ -1,5 +1,5 @@
 -- What holds after every legal history, as one record: for callers that have a picker and no journal.
-use Rattle.std.specs.Prelude.{◌≡◌, ℕ, ◌+◌, ◌<◌, ◌≤◌, IsTrue, false, is_some}
+use Rattle.std.specs.Prelude.{◌≡◌, ◌∷◌, ℕ, ◌+◌, ◌<◌, ◌≤◌, IsTrue, false, is_some}
 use Rattle.sha1.specs.Sha1.{sha1}
 use Rattle.bt_meta.specs.declared.block.Block.{Block}
 use Rattle.bt_meta.specs.Layout.{hash_of}
@@ -8,10 +8,11 @@ use Rattle.bt_history.specs.declared.event.Event.{Event}
 use Rattle.bt_history.specs.declared.rules.TheConstants.{MOST_LEVEL}
 use Rattle.bt_history.specs.Setting.{Setting, deepest_line, is_block}
 use Rattle.bt_history.specs.History.{History}
-use Rattle.bt_history.specs.Peers.{asked, asked_count, depth_so_far, due_count, ListsAsked}
-use Rattle.bt_history.specs.Pieces.{asker_count, availability, begun, content, full, had, held, in_order, level, open_count, sender, unasked, unbegun}
-use Rattle.bt_history.specs.Pieces.{awaited}
+use Rattle.bt_history.specs.Peers.{asked, asked_count, depth_so_far, due_count, ListsAsked, reach}
+use Rattle.bt_history.specs.Pieces.{asker_count, availability, begun, content, full, had, held, level, open_count, sender, unasked, unbegun}
+use Rattle.bt_history.specs.Pieces.{awaited, comes_in_order}
 use Rattle.bt_history.specs.Next.{is_strict, usable}
+use Rattle.bt_history.specs.PickRules.{IsBy, rule_of}
 use Rattle.bt_history.specs.Legal.{IsAllowed}
 
 -- the laws, each for all pieces, blocks and peers; e is an entry that may come next
@@ -30,12 +31,16 @@ pub record Assures (s : Setting) (h : History) : Type 0 where
   -- no block is requested while one of a higher level could be
   pub higher : (e : Event) (b : Block) → IsAllowed s h e → e.reply ≡ Request b
       → (c : Block) → IsTrue (is_block s.torrent c) → IsTrue (usable s h e.worker c) → level h c.piece ≤ level h b.piece
+  -- no block is requested of a peer beyond its reach
+  pub reached : (e : Event) (b : Block) → IsAllowed s h e → e.reply ≡ Request b → level h b.piece ≤ reach h e.worker
+  -- a request tells the rule that it is by
+  pub ruled : (e : Event) (b : Block) → IsAllowed s h e → e.reply ≡ Request b → IsBy s h e.worker b (rule_of s (e ∷ h) b)
   -- where more pieces are open than may be, none begins while a begun one of its level could go on
-  pub opened : (e : Event) (b : Block) → IsAllowed s h e → e.reply ≡ Request b → in_order h ≡ false → IsTrue (unbegun s h b.piece)
+  pub opened : (e : Event) (b : Block) → IsAllowed s h e → e.reply ≡ Request b → comes_in_order h b.piece ≡ false → IsTrue (unbegun s h b.piece)
       → s.most_open < open_count s h
       → (c : Block) → IsTrue (is_block s.torrent c) → IsTrue (usable s h e.worker c) → level h c.piece ≡ level h b.piece → begun s h c.piece ≡ false
   -- where no more are, and enough are had, no request is of a piece that more peers show than another one of its level
-  pub rarest : (e : Event) (b : Block) → IsAllowed s h e → e.reply ≡ Request b → in_order h ≡ false → 0 < s.most_open → is_strict s h ≡ false
+  pub rarest : (e : Event) (b : Block) → IsAllowed s h e → e.reply ≡ Request b → comes_in_order h b.piece ≡ false → 0 < s.most_open → is_strict s h ≡ false
       → (c : Block) → IsTrue (is_block s.torrent c) → IsTrue (usable s h e.worker c) → level h c.piece ≡ level h b.piece
       → availability s h b.piece ≤ availability s h c.piece
   -- the line of a peer lists exactly the blocks that are asked of it

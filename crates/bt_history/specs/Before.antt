@@ -1,5 +1,6 @@
 -- The rules as they were before there were later calls: what the laws compare them with. The later calls release a block, bound its
--- askers, tell the depth of a peer, add to what it shows, and give pieces levels and an order.
+-- askers, tell the depth of a peer, add to what it shows and take from it, give pieces levels and an order, bound a peer's reach, and let a part of the levels
+-- come in order.
 use Rattle.std.specs.Prelude.{ℕ, Bool, true, false, not, ◌==◌, ◌&&◌, ◌||◌, List, [], ◌∷◌, ◌++◌, Option, Some, is_none, nat_lt, nat_le, if◌then◌else◌}
 use Rattle.std.specs.List.{filter}
 use Rattle.bt_meta.specs.declared.block.Block.{Block}
@@ -7,14 +8,14 @@ use Rattle.bt_meta.specs.Layout.{piece_count}
 use Rattle.bt_history.specs.declared.call.Reply.TheVariants.{Choked, PipeFull, Idle, NothingLeft}
 use Rattle.bt_history.specs.declared.event.Action.{Action}
 use Rattle.bt_history.specs.declared.event.Action.TheVariants.{Join, Bits, Have, Choke, Unchoke, Arrived, Leave, Want, Haves, Depth, Release}
-use Rattle.bt_history.specs.declared.event.Action.TheVariants.{Level, Levels, InOrder}
+use Rattle.bt_history.specs.declared.event.Action.TheVariants.{Level, Levels, InOrder, Reach, InOrderFrom, Lack}
 use Rattle.bt_history.specs.Counting.{all_below}
 use Rattle.bt_history.specs.Setting.{Setting, some_block, each_block}
 use Rattle.bt_history.specs.History.{History, counted_call, own_call, stored, requested}
 use Rattle.bt_history.specs.Peers.{flag, shows, is_open, asks, asked, asked_count, due, depth_of, resets}
-use Rattle.bt_history.specs.Pieces.{held, held_or_asked, wanted, begun, unbegun, availability, endgame, in_order, interesting, had_count}
+use Rattle.bt_history.specs.Pieces.{gives, asker_count, held, held_or_asked, wanted, begun, unbegun, availability, endgame, interesting, had_count, unasked}
 use Rattle.bt_history.specs.Next.{Answer, Exactly, CancelOf, RequestOf, usable, tops, is_candidate, is_strict, resumes, rises, starts, doubles}
-use Rattle.bt_history.specs.Next.{continues, rushes}
+use Rattle.bt_history.specs.Next.{continues, rushes, tops_in_order}
 
 -- block b is asked of q: requested, and since then neither stored from anybody nor freed
 unfoldable pub asked_before : History → ℕ → Block → Bool
@@ -29,9 +30,10 @@ outstanding_before (e ∷ h) q =
     if resets (own_call q e) then []
     else filter (λ b. is_none (stored e b)) (outstanding_before h q) ++ requested q e
 
--- the call gives up a block
+-- the call gives up blocks
 abbrev pub is_release : Action → Bool
 is_release (Release p begin) = true
+is_release (Lack p) = true
 is_release call = false
 
 -- no entry gives up a block
@@ -39,9 +41,9 @@ unfoldable pub never_releases : History → Bool
 never_releases [] = true
 never_releases (e ∷ h) = not (is_release e.action) && never_releases h
 
--- a wanted block that is lacking, which q could give and isn't asked for
+-- a wanted block that is lacking, which q could give and isn't asked for, with no bound on askers
 abbrev pub doubles_before : Setting → History → ℕ → Block → Bool
-doubles_before s h q b = wanted s h b.piece && (shows h q b.piece && (not (held h b) && not (asked h q b)))
+doubles_before s h q b = wanted s h b.piece && (gives h q b.piece && (not (held h b) && not (asked h q b)))
 
 -- the call tells a depth
 abbrev pub is_depth : Action → Bool
@@ -81,12 +83,13 @@ unfoldable pub late_before : History → ℕ → Bool
 late_before [] q = false
 late_before (e ∷ h) q = late_then (own_call q e) (late_before h q)
 
--- the call adds to the pieces that a peer shows
+-- the call adds to the pieces that a peer shows, or takes one from them
 abbrev pub is_haves : Action → Bool
 is_haves (Haves flags) = true
+is_haves (Lack p) = true
 is_haves call = false
 
--- no entry adds to them
+-- no entry adds to them, or takes from them
 unfoldable pub never_adds : History → Bool
 never_adds [] = true
 never_adds (e ∷ h) = not (is_haves e.action) && never_adds h
@@ -146,7 +149,7 @@ next_strict s h q =
     if some_block s.torrent (due h q) then CancelOf (due h q)
     else if not (is_open h q) then Exactly Choked
     else if nat_le (depth_of s h q) (asked_count s h q) then Exactly PipeFull
-    else if in_order h && some_block s.torrent (usable s h q) then RequestOf (rises s h q)
+    else if some_block s.torrent (tops_in_order s h q) then RequestOf (rises s h q)
     else if some_block s.torrent (continues_strictly s h q) then RequestOf (continues_strictly s h q)
     else if some_block s.torrent (usable s h q) then RequestOf (starts s h q)
     else if rushes s h q && (endgame s h && some_block s.torrent (doubles s h q)) then RequestOf (doubles s h q)
@@ -159,7 +162,7 @@ next_unrushed s h q =
     if some_block s.torrent (due h q) then CancelOf (due h q)
     else if not (is_open h q) then Exactly Choked
     else if nat_le (depth_of s h q) (asked_count s h q) then Exactly PipeFull
-    else if in_order h && some_block s.torrent (usable s h q) then RequestOf (rises s h q)
+    else if some_block s.torrent (tops_in_order s h q) then RequestOf (rises s h q)
     else if some_block s.torrent (continues s h q) then RequestOf (continues s h q)
     else if some_block s.torrent (usable s h q) then RequestOf (starts s h q)
     else if endgame s h && some_block s.torrent (doubles s h q) then RequestOf (doubles s h q)
@@ -177,9 +180,63 @@ abbrev pub is_levelling : Action → Bool
 is_levelling (Level p n) = true
 is_levelling (Levels levels) = true
 is_levelling (InOrder rising) = true
+is_levelling (InOrderFrom n) = true
 is_levelling call = false
 
 -- no entry gives pieces a level or an order
 unfoldable pub never_levels : History → Bool
 never_levels [] = true
 never_levels (e ∷ h) = not (is_levelling e.action) && never_levels h
+
+-- the call tells a reach
+abbrev pub is_reach : Action → Bool
+is_reach (Reach n) = true
+is_reach call = false
+
+-- no entry tells a reach
+unfoldable pub never_reaches : History → Bool
+never_reaches [] = true
+never_reaches (e ∷ h) = not (is_reach e.action) && never_reaches h
+
+-- a request of block b to q was of use before there was a reach: the block is unasked, and q shows its piece, which is wanted
+abbrev pub usable_unreached : Setting → History → ℕ → Block → Bool
+usable_unreached s h q b = unasked s h b && (wanted s h b.piece && shows h q b.piece)
+
+-- and of a lacking one in endgame: q shows its piece, which is wanted, and isn't asked for it, nor are as many others as may be
+abbrev pub doubles_unreached : Setting → History → ℕ → Block → Bool
+doubles_unreached s h q b =
+    wanted s h b.piece && (shows h q b.piece
+    && (not (held h b) && (nat_lt (asker_count s h b) s.askers && not (asked h q b))))
+
+-- the call tells from which level on pieces come in order
+abbrev pub is_window : Action → Bool
+is_window (InOrderFrom n) = true
+is_window call = false
+
+-- no entry tells it
+unfoldable pub never_windows : History → Bool
+never_windows [] = true
+never_windows (e ∷ h) = not (is_window e.action) && never_windows h
+
+-- whether pieces come in order after the newest call, from what it was before
+abbrev pub in_order_after : Option Action → Bool → Bool
+in_order_after (Some (InOrder rising)) before = rising
+in_order_after call before = before
+
+-- the newest InOrder, whoever made it, has pieces in rising order; until there is one, the rarest come first
+unfoldable pub in_order_before : History → Bool
+in_order_before [] = false
+in_order_before (e ∷ h) = in_order_after (counted_call e) (in_order_before h)
+
+-- the answer to Next of q before a part of the levels could come in order: the first case that applies
+unfoldable pub next_unwindowed : Setting → History → ℕ → Answer
+next_unwindowed s h q =
+    if some_block s.torrent (due h q) then CancelOf (due h q)
+    else if not (is_open h q) then Exactly Choked
+    else if nat_le (depth_of s h q) (asked_count s h q) then Exactly PipeFull
+    else if in_order_before h && some_block s.torrent (usable s h q) then RequestOf (rises s h q)
+    else if some_block s.torrent (continues s h q) then RequestOf (continues s h q)
+    else if some_block s.torrent (usable s h q) then RequestOf (starts s h q)
+    else if rushes s h q && (endgame s h && some_block s.torrent (doubles s h q)) then RequestOf (doubles s h q)
+    else if interesting s h q then Exactly Idle
+    else Exactly NothingLeft

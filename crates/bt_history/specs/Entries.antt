@@ -7,7 +7,7 @@ use Rattle.bt_history.specs.declared.call.Entry.{Entry}
 use Rattle.bt_history.specs.declared.call.Reply.{Reply}
 use Rattle.bt_history.specs.declared.event.Action.{Action}
 use Rattle.bt_history.specs.declared.event.Action.TheVariants.{Join, Bits, Have, Choke, Unchoke, Next, Arrived, Settle, Leave, Want, Haves, Depth}
-use Rattle.bt_history.specs.declared.event.Action.TheVariants.{Release, Level, Levels, InOrder}
+use Rattle.bt_history.specs.declared.event.Action.TheVariants.{Release, Level, Levels, InOrder, Reach, InOrderFrom, Lack}
 use Rattle.bt_history.specs.declared.event.Event.{Event}
 use Rattle.bt_history.specs.History.{History}
 
@@ -29,6 +29,9 @@ action_of (calls.Release p begin) = Release p begin
 action_of (calls.Level p n) = Level p n
 action_of (calls.Levels levels) = Levels levels
 action_of (calls.InOrder rising) = InOrder rising
+action_of (calls.Reach n) = Reach n
+action_of (calls.InOrderFrom n) = InOrderFrom n
+action_of (calls.Lack p) = Lack p
 
 -- the entry that this worker's call with this reply makes
 abbrev pub event : ℕ → Call → Reply → Event
@@ -37,6 +40,10 @@ event w call reply = record { worker = w; action = action_of call; reply = reply
 -- the block that begins there is given up at w
 abbrev pub giving_up : ℕ → ℕ → ℕ → Reply → Event
 giving_up w p begin reply = record { worker = w; action = Release p begin; reply = reply }
+
+-- w's peer has piece p no more
+abbrev pub lacking : ℕ → ℕ → Reply → Event
+lacking w p reply = record { worker = w; action = Lack p; reply = reply }
 
 -- what contracts see of an entry
 abbrev pub event_of : Entry → Event

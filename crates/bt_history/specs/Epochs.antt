@@ -3,7 +3,7 @@ use Rattle.std.specs.Prelude.{ℕ, ◌+◌, ◌==◌, Bool, true, false, not, �
 use Rattle.bt_history.specs.declared.call.Reply.{Reply}
 use Rattle.bt_history.specs.declared.call.Reply.TheVariants.{Request, Idle, NothingLeft}
 use Rattle.bt_history.specs.declared.event.Action.{Action}
-use Rattle.bt_history.specs.declared.event.Action.TheVariants.{Join, Choke, Arrived, Settle, Leave, Want, Release, Level, Levels}
+use Rattle.bt_history.specs.declared.event.Action.TheVariants.{Join, Choke, Arrived, Settle, Leave, Want, Release, Level, Levels, Lack}
 use Rattle.bt_history.specs.declared.event.Event.{Event}
 use Rattle.bt_history.specs.Setting.{Setting}
 use Rattle.bt_history.specs.History.{History, counts, stores}
@@ -34,6 +34,7 @@ unsettles (Want flags) = true
 unsettles (Level p n) = true
 unsettles (Levels levels) = true
 unsettles (Settle p bytes) = true
+unsettles (Lack p) = true
 unsettles call = false
 
 -- the call stores a block that its own peer wasn't asked for, or not alone

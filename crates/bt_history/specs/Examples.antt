@@ -1,5 +1,5 @@
 -- Worked examples, written anew by each run of tools/examples.py.
-use Rattle.std.specs.Prelude.{Bool, ℕ, List, [], ◌∷◌, true, false, replicate, reverse, take}
+use Rattle.std.specs.Prelude.{Bool, ℕ, List, [], ◌∷◌, ◌++◌, true, false, replicate, reverse, take}
 use Rattle.bt_meta.specs.declared.block.Block.{Block}
 use Rattle.bt_meta.specs.Layout.{Layout}
 use Rattle.bt_history.specs.declared.call.Reason.TheVariants.{NotJoined, AlreadyJoined, LateBits, WrongCount, NoSuchPiece, NoSuchBlock, WrongLength}
@@ -9,7 +9,7 @@ use Rattle.bt_history.specs.declared.call.Reply.TheVariants.{Joined, Noted, Quie
 use Rattle.bt_history.specs.declared.call.Reply.TheVariants.{Completed, Dropped, Had, Failed, Refused}
 use Rattle.bt_history.specs.declared.event.Action.{Action}
 use Rattle.bt_history.specs.declared.event.Action.TheVariants.{Join, Bits, Have, Choke, Unchoke, Next, Arrived, Settle, Leave, Want, Haves, Depth}
-use Rattle.bt_history.specs.declared.event.Action.TheVariants.{Release, Level, Levels, InOrder}
+use Rattle.bt_history.specs.declared.event.Action.TheVariants.{Release, Level, Levels, InOrder, Reach, InOrderFrom, Lack}
 use Rattle.bt_history.specs.declared.event.Event.{Event}
 use Rattle.bt_history.specs.declared.rules.Rules.{Rules}
 use Rattle.bt_history.specs.Setting.{Setting, setting_of, usual_rules}
@@ -1224,8 +1224,216 @@ lower_level_is_awaited_too = example (setting_of torrent_four_pieces 3 (ending_r
     ∷ entry 1 (Next 0) (Request (block_of 1 0 3)) ∷ [])))
     ((13, entry 1 (Next 0) (Request (block_of 1 0 3))) ∷ [])
 
-abbrev pub examples : List Example
-examples =
+-- 5: block beyond the reach
+-- 7: next level beyond the reach
+-- 7: nothing left though it is beyond the reach
+-- 9: idle though the reach rose
+abbrev slow_peer_gets_low_levels : Example
+slow_peer_gets_low_levels = example (setting_of torrent_four_pieces 2 usual_rules)
+    (entry 1 (Levels (7 ∷ 5 ∷ 4 ∷ 2 ∷ [])) Quiet
+    ∷ enters 0 (true ∷ true ∷ true ∷ true ∷ [])
+    (entry 0 (Reach 4) Quiet
+    ∷ entry 0 (Next 0) (Request (block_of 2 0 3))
+    ∷ entry 0 (Next 0) (Request (block_of 3 0 3))
+    ∷ entry 0 (Next 0) Idle
+    ∷ entry 0 (Reach 5) Quiet
+    ∷ entry 0 (Next 0) (Request (block_of 1 0 3))
+    ∷ entry 0 (Reach 7) Quiet
+    ∷ entry 0 (Next 0) (Request (block_of 0 0 3)) ∷ []))
+    ((5, entry 0 (Next 0) (Request (block_of 0 0 3)))
+    ∷ (7, entry 0 (Next 0) (Request (block_of 1 0 3)))
+    ∷ (7, entry 0 (Next 0) NothingLeft)
+    ∷ (9, entry 0 (Next 0) Idle) ∷ [])
+
+-- 10: second peer asked beyond its reach
+abbrev reach_in_endgame : Example
+reach_in_endgame = example (setting_of torrent_two_pieces 3 usual_rules)
+    (entry 2 (Levels (7 ∷ 4 ∷ [])) Quiet
+    ∷ enters 0 (true ∷ true ∷ [])
+    (enters 1 (true ∷ true ∷ [])
+    (entry 1 (Reach 4) Quiet
+    ∷ entry 0 (Next 0) (Request (block_of 0 0 3))
+    ∷ entry 0 (Next 0) (Request (block_of 1 0 3))
+    ∷ entry 1 (Next 0) (Request (block_of 1 0 3))
+    ∷ entry 1 (Next 0) Idle ∷ [])))
+    ((10, entry 1 (Next 0) (Request (block_of 0 0 3))) ∷ [])
+
+-- 4: request before the reach goes
+-- 9: reach of the peer before
+abbrev reach_goes_with_its_peer : Example
+reach_goes_with_its_peer = example (setting_of torrent_two_pieces 1 usual_rules)
+    (entry 0 Join Joined
+    ∷ entry 0 (Reach 3) Quiet
+    ∷ entry 0 (Bits (true ∷ true ∷ [])) (Noted true)
+    ∷ entry 0 Unchoke Quiet
+    ∷ entry 0 (Next 0) Idle
+    ∷ entry 0 Leave Quiet
+    ∷ enters 0 (true ∷ true ∷ [])
+    (entry 0 (Next 0) (Request (block_of 0 0 3)) ∷ []))
+    ((4, entry 0 (Next 0) (Request (block_of 0 0 3)))
+    ∷ (9, entry 0 (Next 0) Idle) ∷ [])
+
+-- 0: reach of a stranger taken
+-- 3: reach 8 taken
+-- 6: order from 9 taken
+-- 7: order from of a stranger refused
+abbrev refusals_of_reach_and_order : Example
+refusals_of_reach_and_order = example (setting_of torrent_short_last 2 usual_rules)
+    (entry 0 (Reach 3) (Refused NotJoined)
+    ∷ entry 0 (Reach 9) (Refused NotJoined)
+    ∷ entry 0 Join Joined
+    ∷ entry 0 (Reach 8) (Refused WrongLevel)
+    ∷ entry 0 (Reach 0) Quiet
+    ∷ entry 0 (Reach 7) Quiet
+    ∷ entry 1 (InOrderFrom 9) (Refused WrongLevel)
+    ∷ entry 1 (InOrderFrom 8) Quiet
+    ∷ entry 1 (InOrderFrom 0) Quiet ∷ [])
+    ((0, entry 0 (Reach 3) Quiet)
+    ∷ (3, entry 0 (Reach 8) Quiet)
+    ∷ (6, entry 1 (InOrderFrom 9) Quiet)
+    ∷ (7, entry 1 (InOrderFrom 8) (Refused NotJoined)) ∷ [])
+
+-- 7: rarest though in the window
+-- 9: in order though below the window
+abbrev window_comes_in_order : Example
+window_comes_in_order = example (setting_of torrent_four_pieces 2 (rules 5 0))
+    (entry 1 (InOrderFrom 5) Quiet
+    ∷ entry 0 (Levels (4 ∷ 4 ∷ 5 ∷ 5 ∷ [])) Quiet
+    ∷ enters 0 (true ∷ true ∷ true ∷ true ∷ [])
+    (entry 1 Join Joined
+    ∷ entry 1 (Bits (true ∷ false ∷ true ∷ false ∷ [])) (Noted true)
+    ∷ entry 0 (Next 0) (Request (block_of 2 0 3))
+    ∷ entry 0 (Next 0) (Request (block_of 3 0 3))
+    ∷ entry 0 (Next 0) (Request (block_of 1 0 3))
+    ∷ entry 0 (Next 0) (Request (block_of 0 0 3)) ∷ []))
+    ((7, entry 0 (Next 0) (Request (block_of 3 0 3)))
+    ∷ (9, entry 0 (Next 0) (Request (block_of 0 0 3))) ∷ [])
+
+-- 7: window outlasts an order
+-- 9: least piece though none comes in order
+abbrev window_told_anew : Example
+window_told_anew = example (setting_of torrent_four_pieces 2 (rules 5 0))
+    (enters 0 (true ∷ true ∷ true ∷ true ∷ [])
+    (entry 1 Join Joined
+    ∷ entry 1 (Bits (true ∷ true ∷ false ∷ false ∷ [])) (Noted true)
+    ∷ entry 1 (InOrderFrom 5) Quiet
+    ∷ entry 0 (InOrder true) Quiet
+    ∷ entry 0 (Next 3) (Request (block_of 0 0 3))
+    ∷ entry 0 (InOrderFrom 8) Quiet
+    ∷ entry 0 (Next 3) (Request (block_of 3 0 3)) ∷ []))
+    ((7, entry 0 (Next 3) (Request (block_of 3 0 3)))
+    ∷ (9, entry 0 (Next 3) (Request (block_of 1 0 3))) ∷ [])
+
+-- 8: lacked piece asked again
+-- 11: lacked piece counts as begun
+-- 13: idle though both blocks were freed
+-- 15: second peer asked for what it lacks
+abbrev lacked_is_asked_elsewhere : Example
+lacked_is_asked_elsewhere = example (setting_of torrent_two_blocks 2 (rules 3 1))
+    (enters 0 (true ∷ true ∷ [])
+    (entry 0 (Next 0) (Request (block_of 0 0 16384))
+    ∷ entry 0 (Next 0) (Request (block_of 0 16384 16384))
+    ∷ entry 0 (Next 0) (Request (block_of 1 0 16384))
+    ∷ entry 0 (Next 0) PipeFull
+    ∷ entry 0 (Lack 0) (Noted true)
+    ∷ enters 1 (true ∷ true ∷ [])
+    (entry 1 (Next 0) (Request (block_of 1 16384 16384))
+    ∷ entry 1 (Next 0) (Request (block_of 0 0 16384))
+    ∷ entry 1 (Next 0) (Request (block_of 0 16384 16384))
+    ∷ entry 0 (Next 0) (Request (block_of 1 16384 16384))
+    ∷ entry 0 (Next 0) Idle
+    ∷ entry 0 (Arrived 0 0 (replicate 16384 97)) Stored
+    ∷ entry 1 (Next 0) (Cancel (block_of 0 0 16384)) ∷ [])))
+    ((8, entry 0 (Next 0) (Request (block_of 0 0 16384)))
+    ∷ (11, entry 1 (Next 0) (Request (block_of 0 0 16384)))
+    ∷ (13, entry 1 (Next 0) Idle)
+    ∷ (15, entry 0 (Next 0) (Request (block_of 0 0 16384))) ∷ [])
+
+-- 10: piece counted for peers that lack it
+abbrev lack_makes_another_piece_rarest : Example
+lack_makes_another_piece_rarest = example (setting_of torrent_short_last 3 (rules 5 0))
+    (enters 0 (true ∷ true ∷ true ∷ [])
+    (entry 1 Join Joined
+    ∷ entry 1 (Bits (true ∷ true ∷ false ∷ [])) (Noted true)
+    ∷ entry 2 Join Joined
+    ∷ entry 2 (Bits (true ∷ false ∷ false ∷ [])) (Noted true)
+    ∷ entry 0 (Next 1) (Request (block_of 2 0 1))
+    ∷ entry 1 (Lack 0) (Noted true)
+    ∷ entry 2 (Lack 0) (Noted false)
+    ∷ entry 0 (Next 1) (Request (block_of 0 0 3)) ∷ []))
+    ((10, entry 0 (Next 1) (Request (block_of 1 0 3))) ∷ [])
+
+-- 4: interesting though it lacks the only piece
+-- 5: idle though it lacks the only piece
+-- 7: nothing left though it has the piece again
+abbrev lack_of_the_only_piece : Example
+lack_of_the_only_piece = example (setting_of torrent_one_piece 1 usual_rules)
+    (enters 0 (true ∷ [])
+    (entry 0 (Next 0) (Request (block_of 0 0 3))
+    ∷ entry 0 (Lack 0) (Noted false)
+    ∷ entry 0 (Next 0) NothingLeft
+    ∷ entry 0 (Have 0) (Noted true)
+    ∷ entry 0 (Next 0) (Request (block_of 0 0 3)) ∷ []))
+    ((4, entry 0 (Lack 0) (Noted true))
+    ∷ (5, entry 0 (Next 0) Idle)
+    ∷ (7, entry 0 (Next 0) NothingLeft) ∷ [])
+
+-- 15: cancel due for a piece that was lacked before
+-- 16: cancel forgotten by a lack
+abbrev cancel_outlasts_a_lack : Example
+cancel_outlasts_a_lack = example (setting_of torrent_one_piece 3 usual_rules)
+    (enters 0 (true ∷ [])
+    (enters 1 (true ∷ [])
+    (entry 0 (Next 0) (Request (block_of 0 0 3))
+    ∷ entry 1 (Next 0) (Request (block_of 0 0 3))
+    ∷ enters 2 (true ∷ [])
+    (entry 2 (Next 0) (Request (block_of 0 0 3))
+    ∷ entry 1 (Lack 0) (Noted false)
+    ∷ entry 0 (Arrived 0 0 (97 ∷ 98 ∷ 99 ∷ [])) Completed
+    ∷ entry 2 (Lack 0) (Noted false)
+    ∷ entry 1 (Next 0) NothingLeft
+    ∷ entry 2 (Next 0) (Cancel (block_of 0 0 3))
+    ∷ entry 2 (Next 0) NothingLeft ∷ []))))
+    ((15, entry 1 (Next 0) (Cancel (block_of 0 0 3)))
+    ∷ (16, entry 2 (Next 0) NothingLeft) ∷ [])
+
+-- 11: idle though the last peer lacks the rest
+abbrev lack_begins_endgame : Example
+lack_begins_endgame = example (setting_of torrent_two_pieces 3 (ending_rules 5 1 1024 64 0 4096 true))
+    (enters 0 (true ∷ false ∷ [])
+    (enters 1 (true ∷ false ∷ [])
+    (entry 2 Join Joined
+    ∷ entry 2 (Bits (false ∷ true ∷ [])) (Noted true)
+    ∷ entry 0 (Next 0) (Request (block_of 0 0 3))
+    ∷ entry 1 (Next 0) Idle
+    ∷ entry 2 (Lack 1) (Noted false)
+    ∷ entry 1 (Next 0) (Request (block_of 0 0 3)) ∷ [])))
+    ((11, entry 1 (Next 0) Idle) ∷ [])
+
+-- 0: lack of a stranger taken
+-- 3: lack of no piece taken
+-- 4: bitfield late by a refused lack
+-- 5: lack of an unshown piece refused
+-- 8: bitfield after a lack taken
+abbrev refusals_of_lack : Example
+refusals_of_lack = example (setting_of torrent_short_last 2 usual_rules)
+    (entry 0 (Lack 0) (Refused NotJoined)
+    ∷ entry 0 (Lack 9) (Refused NotJoined)
+    ∷ entry 0 Join Joined
+    ∷ entry 0 (Lack 3) (Refused NoSuchPiece)
+    ∷ entry 0 (Bits (true ∷ false ∷ false ∷ [])) (Noted true)
+    ∷ entry 0 (Lack 2) (Noted true)
+    ∷ entry 1 Join Joined
+    ∷ entry 1 (Lack 2) (Noted false)
+    ∷ entry 1 (Bits (true ∷ true ∷ true ∷ [])) (Refused LateBits) ∷ [])
+    ((0, entry 0 (Lack 0) (Noted false))
+    ∷ (3, entry 0 (Lack 3) (Noted false))
+    ∷ (4, entry 0 (Bits (true ∷ false ∷ false ∷ [])) (Refused LateBits))
+    ∷ (5, entry 0 (Lack 2) (Refused NoSuchPiece))
+    ∷ (8, entry 1 (Bits (true ∷ true ∷ true ∷ [])) (Noted true)) ∷ [])
+
+abbrev pub first_examples : List Example
+first_examples =
     first_request
     ∷ another_first_request
     ∷ one_peer_to_the_end
@@ -1277,7 +1485,11 @@ examples =
     ∷ haves_are_counted
     ∷ two_levels
     ∷ raised_in_mid_download
-    ∷ streaming
+    ∷ []
+
+abbrev pub later_examples : List Example
+later_examples =
+    streaming
     ∷ earlier_piece_in_order
     ∷ in_order_told_off
     ∷ peer_of_low_levels
@@ -1309,4 +1521,19 @@ examples =
     ∷ endgame_over_what_is_shown
     ∷ shown_piece_holds_up_endgame
     ∷ lower_level_is_awaited_too
+    ∷ slow_peer_gets_low_levels
+    ∷ reach_in_endgame
+    ∷ reach_goes_with_its_peer
+    ∷ refusals_of_reach_and_order
+    ∷ window_comes_in_order
+    ∷ window_told_anew
+    ∷ lacked_is_asked_elsewhere
+    ∷ lack_makes_another_piece_rarest
+    ∷ lack_of_the_only_piece
+    ∷ cancel_outlasts_a_lack
+    ∷ lack_begins_endgame
+    ∷ refusals_of_lack
     ∷ []
+
+abbrev pub examples : List Example
+examples = first_examples ++ later_examples

@@ -1,5 +1,5 @@
 -- Which reply is allowed after a history, and which histories are legal.
-use Rattle.std.specs.Prelude.{ℕ, ◌<◌, ◌≡◌, IsTrue, ◌==◌, nat_le, nat_lt, Bool, not, ◌&&◌, ◌||◌, List, [], ◌∷◌, Option, Some, None, length}
+use Rattle.std.specs.Prelude.{ℕ, ◌+◌, ◌<◌, ◌≡◌, IsTrue, ◌==◌, nat_le, nat_lt, Bool, not, ◌&&◌, ◌||◌, List, [], ◌∷◌, Option, Some, None, length}
 use Rattle.std.specs.Prelude.{if◌then◌else◌}
 use Rattle.std.specs.List.{list_any}
 use lib.Pointwise.{pointwise}
@@ -13,7 +13,7 @@ use Rattle.bt_history.specs.declared.call.Reply.{Reply}
 use Rattle.bt_history.specs.declared.call.Reply.TheVariants.{Joined, Noted, Quiet, Cancel, Request, Stored, Completed, Dropped, Had, Failed, Refused}
 use Rattle.bt_history.specs.declared.event.Action.{Action}
 use Rattle.bt_history.specs.declared.event.Action.TheVariants.{Join, Bits, Have, Next, Arrived, Settle, Want, Haves, Depth, Release, Level, Levels}
-use Rattle.bt_history.specs.declared.event.Action.TheVariants.{InOrder}
+use Rattle.bt_history.specs.declared.event.Action.TheVariants.{InOrder, Reach, InOrderFrom, Lack}
 use Rattle.bt_history.specs.declared.rules.TheConstants.{MOST_LEVEL}
 use Rattle.bt_history.specs.declared.event.Event.{Event}
 use Rattle.bt_history.specs.Setting.{Setting, deepest_told, some_block_of, each_block_of, is_block}
@@ -77,6 +77,7 @@ abbrev pub causes : Setting → History → ℕ → Action → List (Bool × Rea
 causes s h w Join = (joined h w, AlreadyJoined) ∷ []
 causes s h w (Bits flags) = no_peer h w ∷ (late h w, LateBits) ∷ no_count s flags ∷ []
 causes s h w (Have p) = no_peer h w ∷ no_piece s p ∷ []
+causes s h w (Lack p) = no_peer h w ∷ no_piece s p ∷ []
 causes s h w (Arrived p begin bytes) =
     no_peer h w ∷ no_piece s p
     ∷ (not (some_block_of s.torrent p (λ b. b.begin == begin)), NoSuchBlock)
@@ -90,6 +91,8 @@ causes s h w (Release p begin) = no_peer h w ∷ (not (asked h w (place_at p beg
 causes s h w (Level p n) = no_piece s p ∷ no_level n ∷ []
 causes s h w (Levels levels) = no_count s levels ∷ no_levels levels ∷ []
 causes s h w (InOrder rising) = []
+causes s h w (Reach n) = no_peer h w ∷ no_level n ∷ []
+causes s h w (InOrderFrom n) = (nat_lt (MOST_LEVEL + 1) n, WrongLevel) ∷ []
 causes s h w call = no_peer h w ∷ []
 
 -- why the call is refused, if it is
@@ -119,6 +122,7 @@ abbrev pub answer : Setting → History → ℕ → Action → Answer
 answer s h w Join = Exactly Joined
 answer s h w (Bits flags) = Exactly (Noted (interesting_after s h w (Bits flags)))
 answer s h w (Have p) = Exactly (Noted (interesting_after s h w (Have p)))
+answer s h w (Lack p) = Exactly (Noted (interesting_after s h w (Lack p)))
 answer s h w (Haves flags) = Exactly (Noted (interesting_after s h w (Haves flags)))
 answer s h w (Next word) = next_answer s h w
 answer s h w (Arrived p begin bytes) = arrived_answer s h p begin

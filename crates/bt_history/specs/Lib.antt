@@ -7,6 +7,7 @@ pub mod Finished
 pub mod Next
 pub mod Legal
 pub mod Picks
+pub mod PickRules
 pub mod Plain
 pub mod Assured
 pub mod Entries

@@ -8,7 +8,7 @@ use Rattle.bt_history.specs.declared.event.Action.TheVariants as actions
 use Rattle.bt_history.specs.declared.event.Event.{Event}
 use Rattle.bt_history.specs.declared.mark.CallMark.{CallMark}
 use Rattle.bt_history.specs.declared.mark.CallMark.TheVariants.{Join, Bits, Have, Choke, Unchoke, Next, Arrived, Settle, Leave, Want, Haves, Depth}
-use Rattle.bt_history.specs.declared.mark.CallMark.TheVariants.{Release, Level, Levels, InOrder}
+use Rattle.bt_history.specs.declared.mark.CallMark.TheVariants.{Release, Level, Levels, InOrder, Reach, InOrderFrom, Lack}
 use Rattle.bt_history.specs.declared.mark.Mark.{Mark}
 use Rattle.bt_history.specs.History.{History}
 
@@ -30,6 +30,9 @@ call_mark (actions.Release p begin) = Release p begin
 call_mark (actions.Level p n) = Level p n
 call_mark (actions.Levels levels) = Levels
 call_mark (actions.InOrder rising) = InOrder rising
+call_mark (actions.Reach n) = Reach n
+call_mark (actions.InOrderFrom n) = InOrderFrom n
+call_mark (actions.Lack p) = Lack p
 
 -- the mark of an entry that so many entries are older than
 abbrev pub mark_of : ℕ → Event → Mark
@@ -77,6 +80,9 @@ answers (Release p begin) Quiet = true
 answers (Level p n) Quiet = true
 answers Levels Quiet = true
 answers (InOrder rising) Quiet = true
+answers (Reach n) Quiet = true
+answers (InOrderFrom n) Quiet = true
+answers (Lack p) (Noted shown) = true
 answers (Next word) reply = answers_next reply
 answers (Arrived p begin len) reply = answers_arrived reply
 answers (Settle p) Had = true

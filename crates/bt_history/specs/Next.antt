@@ -9,7 +9,7 @@ use Rattle.bt_history.specs.Setting.{Setting, each_block, some_block}
 use Rattle.bt_history.specs.History.{History}
 use Rattle.bt_history.specs.Peers.{shows, is_open, asked, asked_count, due, depth_of}
 use Rattle.bt_history.specs.Pieces.{held, asker_count, unasked, begun, unbegun, availability, wanted, endgame, interesting, had_count}
-use Rattle.bt_history.specs.Pieces.{in_order, is_open_piece, level, open_count}
+use Rattle.bt_history.specs.Pieces.{comes_in_order, gives, is_open_piece, level, open_count}
 
 -- just this reply, or a Cancel or a Request of any block that passes the test
 pub data Answer : Type 0 where
@@ -17,9 +17,9 @@ pub data Answer : Type 0 where
   CancelOf : (test : Block → Bool) → Answer
   RequestOf : (test : Block → Bool) → Answer
 
--- a request of block b to q is of use: the block is unasked, and q shows its piece, which is wanted
+-- a request of block b to q is of use: the block is unasked, its piece is wanted, and q may be asked for it
 abbrev pub usable : Setting → History → ℕ → Block → Bool
-usable s h q b = unasked s h b && (wanted s h b.piece && shows h q b.piece)
+usable s h q b = unasked s h b && (wanted s h b.piece && gives h q b.piece)
 
 -- levels: a usable block of a level that no usable block is above
 abbrev pub tops : Setting → History → ℕ → Block → Bool
@@ -60,14 +60,18 @@ starts s h q b =
     tops s h q b && (unbegun s h b.piece
     && (nat_lt (had_count s h) s.random || is_rarest s h q b.piece))
 
+-- such a block of a level whose pieces come in order
+abbrev pub tops_in_order : Setting → History → ℕ → Block → Bool
+tops_in_order s h q b = tops s h q b && comes_in_order h b.piece
+
 -- in order: such a block of a piece that none of the others is before, begun or not
 abbrev pub rises : Setting → History → ℕ → Block → Bool
 rises s h q b = tops s h q b && each_block s.torrent (λ c. not (tops s h q c) || nat_le b.piece c.piece)
 
--- a wanted block that is lacking, which q could give and isn't asked for, nor are as many others as may be
+-- a wanted block that is lacking, which q may be asked for and isn't, nor are as many others as may be
 abbrev pub doubles : Setting → History → ℕ → Block → Bool
 doubles s h q b =
-    wanted s h b.piece && (shows h q b.piece
+    wanted s h b.piece && (gives h q b.piece
     && (not (held h b) && (nat_lt (asker_count s h b) s.askers && not (asked h q b))))
 
 -- q is asked for so few blocks that it may be asked for one that another peer is asked for
@@ -80,7 +84,7 @@ next_answer s h q =
     if some_block s.torrent (due h q) then CancelOf (due h q)
     else if not (is_open h q) then Exactly Choked
     else if nat_le (depth_of s h q) (asked_count s h q) then Exactly PipeFull
-    else if in_order h && some_block s.torrent (usable s h q) then RequestOf (rises s h q)
+    else if some_block s.torrent (tops_in_order s h q) then RequestOf (rises s h q)
     else if some_block s.torrent (continues s h q) then RequestOf (continues s h q)
     else if some_block s.torrent (usable s h q) then RequestOf (starts s h q)
     else if rushes s h q && (endgame s h && some_block s.torrent (doubles s h q)) then RequestOf (doubles s h q)

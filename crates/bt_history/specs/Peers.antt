@@ -4,8 +4,9 @@ use Rattle.std.specs.Prelude.{Option, None, Some, is_some, is_none, slice_index_
 use Rattle.std.specs.List.{filter, list_any}
 use Rattle.bt_meta.specs.declared.block.Block.{Block}
 use Rattle.bt_history.specs.declared.event.Action.{Action}
-use Rattle.bt_history.specs.declared.event.Action.TheVariants.{Join, Bits, Have, Choke, Unchoke, Arrived, Leave, Haves, Depth, Release}
+use Rattle.bt_history.specs.declared.event.Action.TheVariants.{Join, Bits, Have, Choke, Unchoke, Arrived, Leave, Haves, Depth, Release, Reach, Lack}
 use Rattle.bt_history.specs.declared.event.Event.{Event}
+use Rattle.bt_history.specs.declared.rules.TheConstants.{MOST_LEVEL}
 use Rattle.bt_history.specs.History.{History, own_call, same_begin, stored, requested, cancelled}
 use Rattle.bt_history.specs.Setting.{Setting, count_blocks, is_block}
 
@@ -26,6 +27,7 @@ late_after (Some Join) before = false
 late_after (Some (Bits flags)) before = true
 late_after (Some (Have p)) before = true
 late_after (Some (Haves flags)) before = true
+late_after (Some (Lack p)) before = true
 late_after (Some Choke) before = true
 late_after (Some Unchoke) before = true
 late_after (Some (Arrived piece begin bytes)) before = true
@@ -47,9 +49,10 @@ shows_after (Some Leave) p before = false
 shows_after (Some (Bits flags)) p before = flag flags p
 shows_after (Some (Have piece)) p before = (piece == p) || before
 shows_after (Some (Haves flags)) p before = flag flags p || before
+shows_after (Some (Lack piece)) p before = not (piece == p) && before
 shows_after call p before = before
 
--- q told that it has piece p
+-- q told that it has piece p, and has not told since that it hasn't
 unfoldable pub shows : History → ℕ → ℕ → Bool
 shows [] q p = false
 shows (e ∷ h) q p = shows_after (own_call q e) p (shows h q p)
@@ -74,9 +77,10 @@ resets (Some Join) = true
 resets (Some Leave) = true
 resets call = false
 
--- the call gives up block b at its peer
+-- the call gives up block b at its peer, or its peer has the piece no more
 abbrev pub releases : Option Action → Block → Bool
 releases (Some (Release piece begin)) b = (piece == b.piece) && (begin == b.begin)
+releases (Some (Lack piece)) b = piece == b.piece
 releases call b = false
 
 -- block b stays asked of q, if it was: the entry neither stored it, from anybody, nor gave it up at q
@@ -165,3 +169,16 @@ unfoldable pub depth_so_far : Setting → History → ℕ → ℕ
 depth_so_far s [] q = s.depth
 depth_so_far s (e ∷ h) q =
     if resets (own_call q e) then depth_of s (e ∷ h) q else max (depth_of s (e ∷ h) q) (depth_so_far s h q)
+
+-- ---- how high the levels are that may be asked of a peer
+
+-- the reach that was told of the peer then: a peer that joins has a full one
+abbrev pub reach_after : Option Action → ℕ → ℕ
+reach_after (Some (Reach n)) before = n
+reach_after (Some Join) before = MOST_LEVEL
+reach_after call before = before
+
+-- the highest level of which blocks are requested of q
+unfoldable pub reach : History → ℕ → ℕ
+reach [] q = MOST_LEVEL
+reach (e ∷ h) q = reach_after (own_call q e) (reach h q)

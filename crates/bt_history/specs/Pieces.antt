@@ -1,15 +1,15 @@
 -- What a history says of blocks and pieces.
-use Rattle.std.specs.Prelude.{ℕ, zero, suc, Bool, false, not, ◌&&◌, ◌||◌, List, [], ◌∷◌, ◌++◌, Option, None, Some, is_some, unwrap_or, nat_lt}
-use Rattle.std.specs.Prelude.{if◌then◌else◌, ◌==◌, slice_index_or}
+use Rattle.std.specs.Prelude.{ℕ, zero, suc, ◌+◌, Bool, false, not, ◌&&◌, ◌||◌, List, [], ◌∷◌, ◌++◌, Option, None, Some, is_some, unwrap_or, nat_lt}
+use Rattle.std.specs.Prelude.{if◌then◌else◌, ◌==◌, nat_le, slice_index_or}
 use Rattle.bt_meta.specs.declared.block.Block.{Block}
 use Rattle.bt_meta.specs.Layout.{piece_count, block_count, block}
 use Rattle.bt_history.specs.declared.event.Action.{Action}
-use Rattle.bt_history.specs.declared.event.Action.TheVariants.{Want, Level, Levels, InOrder}
-use Rattle.bt_history.specs.declared.rules.TheConstants.{USUAL_LEVEL}
+use Rattle.bt_history.specs.declared.event.Action.TheVariants.{Want, Level, Levels, InOrder, InOrderFrom}
+use Rattle.bt_history.specs.declared.rules.TheConstants.{MOST_LEVEL, USUAL_LEVEL}
 use Rattle.bt_history.specs.Counting.{any_below, count_below}
 use Rattle.bt_history.specs.Setting.{Setting, some_block_of, each_block_of, some_block, each_block}
 use Rattle.bt_history.specs.History.{History, counted_call, stored, failed, passed}
-use Rattle.bt_history.specs.Peers.{flag, joined, shows, asked}
+use Rattle.bt_history.specs.Peers.{flag, joined, shows, asked, reach}
 
 -- the bytes of block b, if it is held: stored, and its piece has not failed a check since
 unfoldable pub kept : History → Block → Option (List ℕ)
@@ -109,15 +109,28 @@ is_open_piece s h p = wanted s h p && (begun s h p && some_block_of s.torrent p 
 abbrev pub open_count : Setting → History → ℕ
 open_count s h = count_below (piece_count s.torrent) (is_open_piece s h)
 
--- whether pieces come in order after the newest call, from what it was before
-abbrev pub in_order_after : Option Action → Bool → Bool
-in_order_after (Some (InOrder rising)) before = rising
-in_order_after call before = before
+-- from which level on pieces come in order after the newest call, from what it was before
+abbrev pub order_after : Option Action → ℕ → ℕ
+order_after (Some (InOrder rising)) before = if rising then 0 else MOST_LEVEL + 1
+order_after (Some (InOrderFrom n)) before = n
+order_after call before = before
 
--- the newest InOrder, whoever made it, has pieces in rising order; until there is one, the rarest come first
-unfoldable pub in_order : History → Bool
-in_order [] = false
-in_order (e ∷ h) = in_order_after (counted_call e) (in_order h)
+-- pieces of this level and of higher ones come in rising order: the newest that was told, whoever told it; until there is one, none do
+unfoldable pub order_from : History → ℕ
+order_from [] = MOST_LEVEL + 1
+order_from (e ∷ h) = order_after (counted_call e) (order_from h)
+
+-- all pieces that are downloaded come in order
+abbrev pub in_order : History → Bool
+in_order h = nat_le (order_from h) 1
+
+-- piece p is of a level whose pieces come in order
+abbrev pub comes_in_order : History → ℕ → Bool
+comes_in_order h p = nat_le (order_from h) (level h p)
+
+-- q may be asked for blocks of piece p: it shows the piece, and the level of that isn't beyond its reach
+abbrev pub gives : History → ℕ → ℕ → Bool
+gives h q p = shows h q p && nat_le (level h p) (reach h q)
 
 -- endgame waits for piece p: it is wanted and, where the rules say so, a joined peer shows it
 abbrev pub awaited : Setting → History → ℕ → Bool

@@ -11,8 +11,8 @@ use bt_meta::{Bitfield, Block};
 use bytes::Bytes;
 use std::sync::Arc;
 
-/// What a peer's worker tells the picker of its peer, or asks of it. All but `Next`, `Settle`, `Want`, `Depth`, `Release`, `Level`, `Levels`
-/// and `InOrder` tell what came on the wire (BEP 3, BEP 6).
+/// What a peer's worker tells the picker of its peer, or asks of it. All but `Next`, `Settle`, `Want`, `Depth`, `Release`, `Level`, `Levels`,
+/// `InOrder`, `Reach` and `InOrderFrom` tell what came on the wire (BEP 3, BEP 6, BEP 54).
 #[derive(Drop)]
 pub enum Call {
     /// The handshakes were exchanged.
@@ -62,6 +62,15 @@ pub enum Call {
     Levels(Bytes),
     /// From now on pieces of one level come in rising order, or else the rarest first, as they do until this is told. Any worker may tell it.
     InOrder(bool),
+    /// From now on blocks of this level and of lower ones alone are requested of this peer, until another reach is told or the worker's next
+    /// peer joins: until there is one, blocks of each level are. A slow peer so gets nothing that is urgent. What is asked stays asked.
+    Reach(u8),
+    /// From now on pieces of this level and of higher ones come in rising order, and of the others the rarest first: with 0 all come in
+    /// order, with 8 none. Any worker may tell it, and it takes the place of what [`InOrder`](Call::InOrder) told, as that does of this.
+    InOrderFrom(u8),
+    /// An `lt_donthave` message (BEP 54): the peer has this piece no more. Blocks of it that were asked of the peer are asked of it no
+    /// more, no cancel comes due, and any peer may be asked for them again.
+    Lack(u32),
 }
 
 /// Why a call was refused.
@@ -85,7 +94,7 @@ pub enum Reason {
     NotAsked,
     /// A depth of 0, or a greater one than the rules let be told.
     WrongDepth,
-    /// A level above 7.
+    /// A level or a reach above 7, or an order from a level above 8.
     WrongLevel,
 }
 
@@ -179,6 +188,9 @@ impl Call {
             },
             Call::Levels(_) => CallMark::Levels,
             Call::InOrder(rising) => CallMark::InOrder(*rising),
+            Call::Reach(level) => CallMark::Reach(*level),
+            Call::InOrderFrom(level) => CallMark::InOrderFrom(*level),
+            Call::Lack(piece) => CallMark::Lack(*piece),
         }
     }
 }

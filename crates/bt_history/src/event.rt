@@ -34,6 +34,9 @@ pub enum Action {
     },
     Levels(LinkedList<u8>),
     InOrder(bool),
+    Reach(u8),
+    InOrderFrom(u8),
+    Lack(u32),
 }
 
 /// An entry by its plain values.

@@ -1,6 +1,6 @@
 //! What holds after every legal history, whoever made it: laws of the definitions alone. Each is a function with an empty body
 //! whose contract is the law; a journal that a desk keeps, or that `audit` accepts, meets what they require.
-ghost use Rattle.std.specs.Prelude.{ℕ, is_some, ◌≡◌, ◌↔◌, ◌≢◌, ◌≤◌, ◌<◌, ◌+◌, ◌∷◌, ◌++◌, ◌==◌, ◌&&◌, not, IsTrue, false};
+ghost use Rattle.std.specs.Prelude.{ℕ, if◌then◌else◌, is_some, ◌≡◌, ◌↔◌, ◌≢◌, ◌≤◌, ◌<◌, ◌+◌, ◌∷◌, ◌++◌, ◌==◌, ◌&&◌, not, IsTrue, false};
 ghost use Rattle.std.specs.List.{filter};
 ghost use Rattle.sha1.specs.Sha1.{sha1};
 ghost use Rattle.bt_meta.specs.declared.block.Block.{Block};
@@ -8,17 +8,19 @@ ghost use Rattle.bt_meta.specs.Layout.{hash_of};
 ghost use Rattle.bt_history.specs.declared.call.Reply.{Reply};
 ghost use Rattle.bt_history.specs.declared.rules.TheConstants.{MOST_LEVEL};
 ghost use Rattle.bt_history.specs.Setting.{deepest_line, is_block, setting_of};
-ghost use Rattle.bt_history.specs.Entries.{event_of, giving_up, history_of};
+ghost use Rattle.bt_history.specs.Entries.{event_of, giving_up, history_of, lacking};
 ghost use Rattle.bt_history.specs.Before.{asked_before, chosen_before, doubles_before, late_before, next_before, outstanding_before, shows_before};
 ghost use Rattle.bt_history.specs.Before.{never_adds, never_deepens, never_levels, never_releases, next_strict, next_unrushed, endgame_of_all};
+ghost use Rattle.bt_history.specs.Before.{doubles_unreached, in_order_before, never_reaches, never_windows, next_unwindowed, usable_unreached};
 ghost use Rattle.bt_history.specs.History.{same_begin};
 ghost use Rattle.bt_history.specs.Epochs.{epoch, is_idle, pass_by};
 ghost use Rattle.bt_history.specs.Next.{Exactly, doubles, is_strict, next_answer, usable};
 ghost use Rattle.bt_history.specs.Peers.{asked, asked_count, depth_of, depth_so_far, due, due_count, late, ListsAsked, outstanding, shows};
-ghost use Rattle.bt_history.specs.Peers.{dues, is_open, joined, told_depth};
+ghost use Rattle.bt_history.specs.Peers.{dues, is_open, joined, reach, told_depth};
 ghost use Rattle.bt_history.specs.Pieces.{asker_count, held, full, content, had, endgame, unasked, awaited, wanted, was_endgame, sender, chosen};
-ghost use Rattle.bt_history.specs.Pieces.{availability, begun, in_order, kept, level, open_count, unbegun};
+ghost use Rattle.bt_history.specs.Pieces.{availability, begun, comes_in_order, kept, level, open_count, order_from, unbegun};
 ghost use Rattle.bt_history.specs.Legal.{IsLegal, place_at};
+ghost use Rattle.bt_history.specs.PickRules.{IsBy, rule_of};
 ghost use Rattle.bt_history.specs.Plain.{IsLegalBefore};
 ghost use Rattle.bt_history.specs.Assured.{Assures};
 
@@ -217,7 +219,29 @@ pub fn release_frees_one(
     ensures late { late (giving_up worker piece begin Reply.Quiet ∷ history_of journal.now) other ≡ late (history_of journal.now) other }
     ensures had { had (giving_up worker piece begin Reply.Quiet ∷ history_of journal.now) block.piece ≡ had (history_of journal.now) block.piece }
     ensures level { level (giving_up worker piece begin Reply.Quiet ∷ history_of journal.now) block.piece ≡ level (history_of journal.now) block.piece }
-    ensures order { in_order (giving_up worker piece begin Reply.Quiet ∷ history_of journal.now) ≡ in_order (history_of journal.now) }
+    ensures reach { reach (giving_up worker piece begin Reply.Quiet ∷ history_of journal.now) other ≡ reach (history_of journal.now) other }
+    ensures order { order_from (giving_up worker piece begin Reply.Quiet ∷ history_of journal.now) ≡ order_from (history_of journal.now) }
+{}
+
+/// A peer that has a piece no more shows it no more and is asked for none of its blocks, and all else is as it was: what other peers show and are
+/// asked for, which cancels are due, the blocks that are held and the pieces that are complete.
+pub fn lack_takes_one(
+    journal: &[Entry],
+    worker: u32,
+    piece: u32,
+    interests: bool,
+    other: u32,
+    block: Block,
+)
+    ensures shows { shows (lacking worker piece (Reply.Noted interests) ∷ history_of journal.now) other block.piece
+        ≡ (not ((worker == other) && (piece == block.piece)) && shows (history_of journal.now) other block.piece) }
+    ensures asked { asked (lacking worker piece (Reply.Noted interests) ∷ history_of journal.now) other block
+        ≡ (not ((worker == other) && (piece == block.piece)) && asked (history_of journal.now) other block) }
+    ensures due { due (lacking worker piece (Reply.Noted interests) ∷ history_of journal.now) other block
+        ≡ due (history_of journal.now) other block }
+    ensures held { held (lacking worker piece (Reply.Noted interests) ∷ history_of journal.now) block ≡ held (history_of journal.now) block }
+    ensures had { had (lacking worker piece (Reply.Noted interests) ∷ history_of journal.now) block.piece
+        ≡ had (history_of journal.now) block.piece }
 {}
 
 /// Where no block was released, what is asked is what it was before there was a release, and so are the lines of all peers.
@@ -308,7 +332,8 @@ pub fn higher_levels_first(
         → level (history_of older.now) other.piece ≤ level (history_of older.now) block.piece }
 {}
 
-/// In order, no block is asked of a peer while an unasked one of an earlier piece of its level could be, whether that piece is begun or not.
+/// On a level whose pieces come in order, no block is asked of a peer while an unasked one of an earlier piece of that level could be, whether
+/// that piece is begun or not.
 pub fn rising_order(
     torrent: &Torrent,
     workers: u32,
@@ -319,7 +344,7 @@ pub fn rising_order(
 )
     requires legal { IsLegal (setting_of torrent.now.layout workers rules) (event_of entry.now ∷ history_of older.now) }
     requires request { entry.now.reply ≡ Reply.Request block }
-    requires in_order { IsTrue (in_order (history_of older.now)) }
+    requires in_order { IsTrue (comes_in_order (history_of older.now) block.piece) }
     ensures { (other : Block) → IsTrue (is_block torrent.now.layout other)
         → IsTrue (usable (setting_of torrent.now.layout workers rules) (history_of older.now) entry.now.worker other)
         → level (history_of older.now) other.piece ≡ level (history_of older.now) block.piece → block.piece ≤ other.piece }
@@ -350,7 +375,7 @@ pub fn open_pieces_stay_few(
 )
     requires legal { IsLegal (setting_of torrent.now.layout workers rules) (event_of entry.now ∷ history_of older.now) }
     requires request { entry.now.reply ≡ Reply.Request block }
-    requires unordered { in_order (history_of older.now) ≡ false }
+    requires unordered { comes_in_order (history_of older.now) block.piece ≡ false }
     requires begins { IsTrue (unbegun (setting_of torrent.now.layout workers rules) (history_of older.now) block.piece) }
     requires many { rules.«open» < open_count (setting_of torrent.now.layout workers rules) (history_of older.now) }
     ensures { (other : Block) → IsTrue (is_block torrent.now.layout other)
@@ -372,7 +397,7 @@ pub fn rarest_leads(
 )
     requires legal { IsLegal (setting_of torrent.now.layout workers rules) (event_of entry.now ∷ history_of older.now) }
     requires request { entry.now.reply ≡ Reply.Request block }
-    requires unordered { in_order (history_of older.now) ≡ false }
+    requires unordered { comes_in_order (history_of older.now) block.piece ≡ false }
     requires some { 0 < rules.«open» }
     requires few { is_strict (setting_of torrent.now.layout workers rules) (history_of older.now) ≡ false }
     requires inside { IsTrue (is_block torrent.now.layout other) }
@@ -398,7 +423,7 @@ pub fn rarest_goes_on(
 )
     requires legal { IsLegal (setting_of torrent.now.layout workers rules) (event_of entry.now ∷ history_of older.now) }
     requires request { entry.now.reply ≡ Reply.Request block }
-    requires unordered { in_order (history_of older.now) ≡ false }
+    requires unordered { comes_in_order (history_of older.now) block.piece ≡ false }
     requires some { 0 < rules.«open» }
     requires on { IsTrue (begun (setting_of torrent.now.layout workers rules) (history_of older.now) block.piece) }
     requires inside { IsTrue (is_block torrent.now.layout other) }
@@ -407,6 +432,68 @@ pub fn rarest_goes_on(
     requires begun { IsTrue (begun (setting_of torrent.now.layout workers rules) (history_of older.now) other.piece) }
     ensures { availability (setting_of torrent.now.layout workers rules) (history_of older.now) block.piece
         ≤ availability (setting_of torrent.now.layout workers rules) (history_of older.now) other.piece }
+{}
+
+/// No block is requested of a peer beyond its reach.
+pub fn no_request_beyond_reach(
+    torrent: &Torrent,
+    workers: u32,
+    rules: Rules,
+    older: &[Entry],
+    entry: &Entry,
+    block: Block,
+)
+    requires legal { IsLegal (setting_of torrent.now.layout workers rules) (event_of entry.now ∷ history_of older.now) }
+    requires request { entry.now.reply ≡ Reply.Request block }
+    ensures { level (history_of older.now) block.piece ≤ reach (history_of older.now) entry.now.worker }
+{}
+
+/// Where no reach was told each peer's is full, and what may be asked of a peer is what it was before there was a reach.
+pub fn full_reach_is_as_before(
+    torrent: &Torrent,
+    workers: u32,
+    rules: Rules,
+    journal: &[Entry],
+    worker: u32,
+    block: Block,
+)
+    requires legal { IsLegal (setting_of torrent.now.layout workers rules) (history_of journal.now) }
+    requires never { IsTrue (never_reaches (history_of journal.now)) }
+    ensures reach { reach (history_of journal.now) worker ≡ MOST_LEVEL }
+    ensures usable { usable (setting_of torrent.now.layout workers rules) (history_of journal.now) worker block
+        ≡ usable_unreached (setting_of torrent.now.layout workers rules) (history_of journal.now) worker block }
+    ensures doubles { doubles (setting_of torrent.now.layout workers rules) (history_of journal.now) worker block
+        ≡ doubles_unreached (setting_of torrent.now.layout workers rules) (history_of journal.now) worker block }
+{}
+
+/// A request tells the rule that it is by: what it makes of the history tells which of the rules let it be made.
+pub fn requests_tell_their_rule(
+    torrent: &Torrent,
+    workers: u32,
+    rules: Rules,
+    older: &[Entry],
+    entry: &Entry,
+    block: Block,
+)
+    requires legal { IsLegal (setting_of torrent.now.layout workers rules) (event_of entry.now ∷ history_of older.now) }
+    requires request { entry.now.reply ≡ Reply.Request block }
+    ensures { IsBy (setting_of torrent.now.layout workers rules) (history_of older.now) entry.now.worker block
+        (rule_of (setting_of torrent.now.layout workers rules) (event_of entry.now ∷ history_of older.now) block) }
+{}
+
+/// Where no part of the levels was told to come in order, all pieces do, or none does: the answer to Next is what it was before.
+pub fn no_window_is_as_before(
+    torrent: &Torrent,
+    workers: u32,
+    rules: Rules,
+    journal: &[Entry],
+    worker: u32,
+)
+    requires legal { IsLegal (setting_of torrent.now.layout workers rules) (history_of journal.now) }
+    requires never { IsTrue (never_windows (history_of journal.now)) }
+    ensures order { order_from (history_of journal.now) ≡ (if in_order_before (history_of journal.now) then 0 else MOST_LEVEL + 1) }
+    ensures answer { next_answer (setting_of torrent.now.layout workers rules) (history_of journal.now) worker
+        ≡ next_unwindowed (setting_of torrent.now.layout workers rules) (history_of journal.now) worker }
 {}
 
 /// Where no entry gave pieces a level or an order, the same pieces are chosen as before that could be, and the answers to Next are the same.
@@ -431,6 +518,7 @@ pub fn plain_is_as_before(torrent: &Torrent, workers: u32, rules: Rules, journal
     requires depths { IsTrue (never_deepens (history_of journal.now)) }
     requires adds { IsTrue (never_adds (history_of journal.now)) }
     requires levels { IsTrue (never_levels (history_of journal.now)) }
+    requires reaches { IsTrue (never_reaches (history_of journal.now)) }
     requires wide { workers ≤ rules.askers }
     requires strict { rules.«open» ≡ 0 }
     requires deep { rules.depth ≤ rules.rush }

@@ -21,6 +21,9 @@ pub enum CallMark {
     Level { piece: u32, level: u8 },
     Levels,
     InOrder(bool),
+    Reach(u8),
+    InOrderFrom(u8),
+    Lack(u32),
 }
 
 /// What a worker's log keeps of an entry: its place in the journal (the number of older entries), its call and its reply.

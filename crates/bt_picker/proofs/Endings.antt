@@ -1,7 +1,7 @@
 -- What is counted of all rows for endgame, and the pieces whose lacking blocks are all asked.
 use Rattle.std.proofs.Common.{◌≡◌, ℕ, zero, suc, ◌+◌, ◌-◌, ◌*◌, ◌<◌, ◌≤◌, ◌==◌, Bool, true, false, not, ◌&&◌, ◌||◌, ◌⊎◌, Option, None, Some, List, []}
 use Rattle.std.proofs.Common.{◌∷◌, ◌++◌, length, refl, ap, sym, ◌∙◌, subst, arith, inl, inr, ⊎_elim}
-use Rattle.std.specs.Prelude.{IfSome, nat_lt, if◌then◌else◌}
+use Rattle.std.specs.Prelude.{IfSome, nat_le, nat_lt, if◌then◌else◌}
 use Rattle.std.specs.List.{sum_by}
 use Rattle.std.proofs.lemmas.Bool.{cases_eq, cases_lt, eq-eqb, ne_eqb, le-ltb, lt-ltb, false≢true, false_from_ne_true, and_from, and_left, and_parts}
 use Rattle.std.proofs.lemmas.List.Sums.{sum_by_push, count_by-le-length}
@@ -10,8 +10,8 @@ use Rattle.bt_meta.specs.Layout.{piece_count, block_count, block, block_size}
 use Rattle.bt_history.specs.Counting.{any_below, all_below, count_below, table}
 use Rattle.bt_history.specs.Setting.{Setting, is_block, some_block, some_block_of, each_block, each_block_of}
 use Rattle.bt_history.specs.History.{History}
-use Rattle.bt_history.specs.Peers.{shows, asked}
-use Rattle.bt_history.specs.Pieces.{had, asker_count, begun, held, held_or_asked, awaited, chosen, level, wanted, endgame}
+use Rattle.bt_history.specs.Peers.{reach, shows, asked}
+use Rattle.bt_history.specs.Pieces.{had, asker_count, begun, gives, held, held_or_asked, awaited, chosen, level, wanted, endgame}
 use Rattle.bt_history.specs.Legal.{IsLegal}
 use Rattle.bt_history.specs.Next.{doubles}
 use Rattle.bt_history.proofs.Below.{any_found, any_none, any_witness, all_found, all_at, any_same, count_at}
@@ -48,18 +48,19 @@ doubles_stage s h q p legal lq lp ending some =
     let found = any_witness (block_count s.torrent p) (λ k. doubles s h q (block s.torrent p k)) some in
     let k = found.0 in
     let b = block s.torrent p k in
-    let parts = double_parts (wanted s h p) (shows h q p) (held h b) (nat_lt (asker_count s h b) s.askers && not (asked h q b)) found.2 in
+    let parts = double_parts (wanted s h p) (gives h q p) (held h b) (nat_lt (asker_count s h b) s.askers && not (asked h q b)) found.2 in
+    let shown = (and_parts (shows h q p) (nat_le (level h p) (reach h q)) parts.0).0 in
     let all = (and_parts (each_block s.torrent (λ c. not (awaited s h c.piece) || held_or_asked s h c))
     (some_block s.torrent (λ c. wanted s h c.piece && not (held h c))) ending).0 in
     let mine = all_at (piece_count s.torrent) (λ r. each_block_of s.torrent r (λ c. not (awaited s h c.piece) || held_or_asked s h c)) p all lp in
     let each : (j : ℕ) → j < block_count s.torrent p → held_or_asked s h (block s.torrent p j) ≡ true = λ j lj.
     implied (awaited s h p) (held_or_asked s h (block s.torrent p j))
-    (all_at (block_count s.torrent p) (λ i. not (awaited s h p) || held_or_asked s h (block s.torrent p i)) j mine lj) (shown_awaited s h q p legal lq parts.0 parts.2) in
+    (all_at (block_count s.torrent p) (λ i. not (awaited s h p) || held_or_asked s h (block s.torrent p i)) j mine lj) (shown_awaited s h q p legal lq shown parts.2) in
     let touched = any_found (block_count s.torrent p) (λ j. held_or_asked s h (block s.torrent p j)) k found.1 (each k found.1) in
     let all_touched = all_found (block_count s.torrent p) (λ j. held_or_asked s h (block s.torrent p j)) each in
     let not_had = never (had h p) refl (λ was. false≢true (sym parts.1 ∙ had_full s h p k legal was found.1)) in
     let picked = sym (wanted_chosen s h p lp) ∙ parts.2 in (
-      parts.0,
+      shown,
       begun_stage s h p true not_had picked touched all_touched,
       and_from (not (had h p)) _ (ap not not_had) touched,
     )

@@ -10,7 +10,7 @@ use Rattle.bt_history.specs.Counting.{count_below}
 use Rattle.bt_history.specs.Setting.{Setting, each_block_of, is_block, some_block, some_block_of}
 use Rattle.bt_history.specs.History.{History}
 use Rattle.bt_history.specs.Legal.{IsLegal}
-use Rattle.bt_history.specs.Peers.{shows}
+use Rattle.bt_history.specs.Peers.{reach, shows}
 use Rattle.bt_history.specs.Pieces.{availability, begun, had, held_or_asked, is_open_piece, level, open_count, unasked, wanted}
 use Rattle.bt_history.specs.Next.{continues, goes_first, is_candidate, is_rarest, is_strict, none_rarer, resumes, tops, usable}
 use Rattle.bt_history.specs.Picks.{is_first, place_in_round}
@@ -314,7 +314,7 @@ module _ (s : Setting) (h : History) (q n : ℕ) (above : NoneAbove s h q n) whe
       by_bound false is = and_from (none_rarer s h (resumes s h q) p) _ (rarer_none s h (resumes s h q) p (λ r lr on same.
           no_rarer s h p r is lr (least_among r lr on (same ∙ own_parts.2)))) leads
 
-    module _ (legal : IsLegal s h) (layout : IsLayout s.torrent) (is : IsLevel n) (leads : (is_strict s h || is_rarest s h q p) ≡ true) where
+    module _ (legal : IsLegal s h) (layout : IsLayout s.torrent) (is : IsLevel n) (near : n ≤ reach h q) (leads : (is_strict s h || is_rarest s h q p) ≡ true) where
       -- its first unasked block is there, continues, and is the pick
       pub going_on : (word : ℕ) (found : Option Block) → FindsOf s.torrent p (unasked s h) found
           → (b : Block) × (found ≡ Some b) × (is_block s.torrent b ≡ true) × (continues s h q b ≡ true)
@@ -322,7 +322,7 @@ module _ (s : Setting) (h : History) (q n : ℕ) (above : NoneAbove s h q n) whe
       going_on word found finds =
           let stage = open_stage s h p lp own_parts.0 in
           let shown = and_from (shows h q p) (level h p == n) own_parts.1 (eq-eqb (level h p) n own_parts.2) in
-          let known = given s h q n p found (open_gives s h q n p layout is lp stage shown) finds in
+          let known = given s h q n p found near (open_gives s h q n p layout is lp stage shown) finds in
           let b = known.0 in
           let level_is : level h b.piece ≡ n = ap (level h) known.3 ∙ own_parts.2 in
           let under_way : begun s h b.piece ≡ true =

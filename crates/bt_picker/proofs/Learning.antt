@@ -1,7 +1,7 @@
 -- Floors by the history: no candidate ranks before; and what a reply tells of it.
 use Rattle.std.proofs.Common.{◌==◌, ◌≡◌, ◌⊎◌, ℕ, ◌-◌, ◌*◌, ◌<◌, ◌≤◌, Bool, true, false, not, ◌&&◌, ◌||◌, refl, ap, sym, ◌∙◌, subst, inl, inr, ⊎_elim}
 use Rattle.std.proofs.Common.{arith, List, length, map, set}
-use Rattle.std.specs.Prelude.{nat_lt, slice_index_or}
+use Rattle.std.specs.Prelude.{nat_le, nat_lt, slice_index_or}
 use Rattle.std.proofs.lemmas.Bool.{and_from, and_left, and_parts, cases_eq, eq-eqb, eqb-true, false_from_ne_true, false≢true, le-ltb, or_left}
 use Rattle.std.proofs.lemmas.Bool.{or_right}
 use Rattle.std.proofs.lemmas.List.{get_or-set_other, get_or-set_same}
@@ -15,13 +15,14 @@ use Rattle.bt_history.specs.declared.event.Action.TheVariants.{Have, Next}
 use Rattle.bt_history.specs.declared.event.Event.{Event}
 use Rattle.bt_history.specs.Setting.{Setting, is_block, some_block, some_block_of}
 use Rattle.bt_history.specs.History.{History}
-use Rattle.bt_history.specs.Peers.{joined, shows}
-use Rattle.bt_history.specs.Pieces.{begun, chosen, had, had_count, held_or_asked, in_order, is_open_piece, level, open_count, unbegun}
+use Rattle.bt_history.specs.Peers.{joined, reach, shows}
+use Rattle.bt_history.specs.Pieces.{begun, chosen, comes_in_order, had, had_count, held_or_asked, is_open_piece, level, open_count, order_from, unbegun}
 use Rattle.bt_history.specs.Pieces.{wanted}
 use Rattle.bt_history.specs.declared.call.Reply.TheVariants as said
 use Rattle.bt_history.specs.Legal.{IsAllowed, IsLegal, Permits, interesting_after}
 use Rattle.bt_history.specs.Next.{continues, goes_first, is_candidate, is_rarest, is_strict, none_rarer, resumes, starts, tops, usable}
-use Rattle.bt_history.proofs.Levels.{higher_first, level_bounded, top_above}
+use Rattle.bt_history.proofs.Levels.{higher_first, level_bounded, none_in_order, top_above}
+use Rattle.bt_history.specs.declared.rules.TheConstants.{MOST_LEVEL}
 use Rattle.bt_history.proofs.Allowed.{answered, no_cause, top_usable}
 use Rattle.bt_history.proofs.Below.{count_found, count_most}
 use Rattle.bt_history.proofs.LineLaws.{block_index, block_is_block, some_found}
@@ -104,12 +105,16 @@ front_begins t h n are none q p before lp = false_from_ne_true (is_candidate t.s
 
 -- ---- what a reply to Next tells
 
+-- the reach of w is full: it reaches each piece
+abbrev pub ReachesAll : History → ℕ → Type 0
+ReachesAll h w = (p : ℕ) → level h p ≤ reach h w
+
 -- without a usable block there is no candidate
-pub none_usable : (s : Setting) (h : History) (w n : ℕ) → IsLayout s.torrent → some_block s.torrent (usable s h w) ≡ false → NoneBefore s h w n
-none_usable s h w n layout none p lp fits =
+pub none_usable : (s : Setting) (h : History) (w n : ℕ) → ReachesAll h w → IsLayout s.torrent → some_block s.torrent (usable s h w) ≡ false → NoneBefore s h w n
+none_usable s h w n near layout none p lp fits =
     let some = first_block s.torrent p layout lp in
     absurd (false≢true (sym none ∙ some_found s.torrent (usable s h w) (block s.torrent p 0) (block_is_block s.torrent p 0 lp some)
-    (candidate_usable s h w p lp some fits)))
+    (candidate_usable s h w p lp some (near p) fits)))
 
 -- where nothing is to be asked nothing is usable
 idle_cases : (t : Layout) (has_due opened full rises_one goes_on starts_one doubles_one waits : Bool)
@@ -132,17 +137,17 @@ idle_cases t false true false false false true _ _ cancels risings ons firsts se
 idle_cases t false true false false false false _ _ cancels risings ons firsts seconds reply why h = refl
 
 -- a candidate's first block is usable
-candidate_block : (s : Setting) (h : History) (w p : ℕ) → IsLayout s.torrent → p < piece_count s.torrent → is_candidate s h w p ≡ true
+candidate_block : (s : Setting) (h : History) (w p : ℕ) → ReachesAll h w → IsLayout s.torrent → p < piece_count s.torrent → is_candidate s h w p ≡ true
     → (is_block s.torrent (block s.torrent p 0) ≡ true) × (usable s h w (block s.torrent p 0) ≡ true)
-candidate_block s h w p layout lp fits =
+candidate_block s h w p near layout lp fits =
     let some = first_block s.torrent p layout lp in
-    (block_is_block s.torrent p 0 lp some, candidate_usable s h w p lp some fits)
+    (block_is_block s.torrent p 0 lp some, candidate_usable s h w p lp some (near p) fits)
 
 -- a piece of the highest level that has a candidate, none of which is rarer, ranks before all others
-rarest_first : (s : Setting) (h : History) (w : ℕ) (b : Block) → IsLegal s h → IsLayout s.torrent → s.workers < 65536 → tops s h w b ≡ true
+rarest_first : (s : Setting) (h : History) (w : ℕ) (b : Block) → ReachesAll h w → IsLegal s h → IsLayout s.torrent → s.workers < 65536 → tops s h w b ≡ true
     → is_rarest s h w b.piece ≡ true → NoneBefore s h w (rank_at s h b.piece)
-rarest_first s h w b legal layout few top rare r lr fits =
-    let own = candidate_block s h w r layout lr fits in
+rarest_first s h w b near legal layout few top rare r lr fits =
+    let own = candidate_block s h w r near layout lr fits in
     let low = top_above s h w b (block s.torrent r 0) top own.0 own.1 in
     let most = count_most s.workers (λ q. joined h q && shows h q b.piece) in
     let bound = level_bounded s h b.piece legal in
@@ -155,10 +160,10 @@ rarest_first s h w b legal layout few top rare r lr fits =
     (cases_eq (level h r) (level h b.piece))
 
 -- a request tells that no candidate is of a higher level
-level_before : (s : Setting) (h : History) (w word : ℕ) (b : Block) → IsLayout s.torrent
+level_before : (s : Setting) (h : History) (w word : ℕ) (b : Block) → ReachesAll h w → IsLayout s.torrent
     → IsAllowed s h (record { worker = w; action = Next word; reply = Request b }) → NoneBefore s h w ((7 - level h b.piece) * 65536)
-level_before s h w word b layout allowed r lr fits =
-    let own = candidate_block s h w r layout lr fits in
+level_before s h w word b near layout allowed r lr fits =
+    let own = candidate_block s h w r near layout lr fits in
     let low = higher_first s h (record { worker = w; action = Next word; reply = Request b }) b allowed refl (block s.torrent r 0) own.0 own.1 in
     omega (arith, low)
 
@@ -192,18 +197,18 @@ going_rarest s h w b inside on settled few = by_bound (s.most_open == 0) refl go
       sym (ap (λ (x : Bool). x || is_rarest s h w b.piece) loose)
       ∙ (and_parts (none_rarer s h (resumes s h w) b.piece) (is_strict s h || is_rarest s h w b.piece) first).1
 
-module _ (s : Setting) (h : History) (w word : ℕ) (legal : IsLegal s h) (layout : IsLayout s.torrent) (few : s.workers < 65536) where
+module _ (s : Setting) (h : History) (w word : ℕ) (near : ReachesAll h w) (legal : IsLegal s h) (layout : IsLayout s.torrent) (few : s.workers < 65536) where
   -- once enough pieces are had, and while pieces don't come in order, a piece that begins ranks first, and so does one that goes on while no more
   -- are open than may be
   pub asked_first : (b : Block) → IsAllowed s h (record { worker = w; action = Next word; reply = Request b }) →
-      in_order h ≡ false → nat_lt (had_count s h) s.random ≡ false
+      comes_in_order h b.piece ≡ false → nat_lt (had_count s h) s.random ≡ false
       → (unbegun s h b.piece ≡ true) ⊎ (open_count s h ≤ s.most_open) → NoneBefore s h w (rank_at s h b.piece)
   asked_first b allowed unordered settled leads =
       let e : Event = record { worker = w; action = Next word; reply = Request b } in
       let permitted = answered s h e (no_cause s h e (λ reason refused. absurd (cc refused)) allowed) allowed in
       let facts = next_request s.torrent _ _ _ _ _ _ _ _ _ _ _ _ _ b (subst (λ (a : _). Permits s.torrent a (Request b)) (next_is s h w) permitted) in
       ⊎_elim
-      (λ (on : continues s h w b ≡ true). rarest_first s h w b legal layout few (and_parts (tops s h w b) _ on).0 (⊎_elim
+      (λ (on : continues s h w b ≡ true). rarest_first s h w b near legal layout few (and_parts (tops s h w b) _ on).0 (⊎_elim
       (λ (fresh : unbegun s h b.piece ≡ true). absurd (never_both (had h b.piece) (some_block_of s.torrent b.piece (held_or_asked s h))
       (and_parts (begun s h b.piece) _ (and_parts (tops s h w b) _ on).1).0 fresh))
       (λ (room : open_count s h ≤ s.most_open). going_rarest s h w b facts.block on settled room)
@@ -211,11 +216,11 @@ module _ (s : Setting) (h : History) (w word : ℕ) (legal : IsLegal s h) (layou
       (λ rest. ⊎_elim
       (λ (first : (some_block s.torrent (continues s h w) ≡ false) × (starts s h w b ≡ true)).
       let parts = and_parts (tops s h w b) _ first.1 in
-      rarest_first s h w b legal layout few parts.0 (sym (ap (λ (x : Bool). x || is_rarest s h w b.piece) settled)
+      rarest_first s h w b near legal layout few parts.0 (sym (ap (λ (x : Bool). x || is_rarest s h w b.piece) settled)
       ∙ (and_parts (unbegun s h b.piece) (nat_lt (had_count s h) s.random || is_rarest s h w b.piece) parts.1).1))
-      (λ (none : some_block s.torrent (usable s h w) ≡ false). none_usable s h w (rank_at s h b.piece) layout none)
+      (λ (none : some_block s.torrent (usable s h w) ≡ false). none_usable s h w (rank_at s h b.piece) near layout none)
       rest)
-      (facts.unordered (and_left (in_order h) _ unordered))
+      (facts.unordered (none_in_order s h w b permitted unordered))
 
   -- where nothing is to be asked there is no candidate
   pub idle_before : (n : ℕ) (reply : Reply) → (reply ≡ Idle) ⊎ (reply ≡ NothingLeft) →
@@ -223,7 +228,7 @@ module _ (s : Setting) (h : History) (w word : ℕ) (legal : IsLegal s h) (layou
   idle_before n reply why allowed =
       let e : Event = record { worker = w; action = Next word; reply = reply } in
       let permitted = answered s h e (no_cause s h e (λ reason refused. unrefused reply reason why refused) allowed) allowed in
-      none_usable s h w n layout (idle_cases s.torrent _ _ _ _ _ _ _ _ _ _ _ _ _ reply why
+      none_usable s h w n near layout (idle_cases s.torrent _ _ _ _ _ _ _ _ _ _ _ _ _ reply why
       (subst (λ (a : _). Permits s.torrent a reply) (next_is s h w) permitted))
     where
       unrefused : (r : Reply) (reason : _) → (r ≡ Idle) ⊎ (r ≡ NothingLeft) → r ≡ said.Refused reason → ⊥
@@ -242,34 +247,42 @@ few_open t h are found few =
     let length_is = open_length t.setting h found (subst (λ (groups : List ℕ). ListsOpen groups found) rows few.lists) few.rise in
     subst (λ (m : ℕ). m ≤ t.setting.most_open) length_is few.few
 
--- what a reply to Next tells is a floor
+-- a peer whose row has a full reach reaches each piece
+reaches_all : (t : TablesState) (h : History) (w : ℕ) → AreTables t h → w < t.setting.workers → (peer_row t.peers w).reach ≡ MOST_LEVEL → ReachesAll h w
+reaches_all t h w are lw full p =
+    let row = get_or_is_table t.peers t.setting.workers (peer_of t.setting h) w (fresh_peer 0 0) are.peers_are lw in
+    let own : reach h w ≡ MOST_LEVEL = sym (ap (λ (r : PeerState). r.reach) row) ∙ full in
+    let most = level_bounded t.setting h p are.legal in
+    omega (arith, own, most)
+
+-- what a reply to Next tells is a floor, where the peer's reach is full
 pub told_floor : (t : TablesState) (h : History) (w word n : ℕ) (reply : Reply) → AreTables t h →
     IsAllowed t.setting h (record { worker = w; action = Next word; reply = reply })
-    → w < t.setting.workers → TellsFloor t reply n → IsFloor t.pieces (peer_row t.peers w) n
-told_floor t h w word n (Request b) are allowed lw (inl told) =
+    → w < t.setting.workers → (peer_row t.peers w).reach ≡ MOST_LEVEL → TellsFloor t reply n → IsFloor t.pieces (peer_row t.peers w) n
+told_floor t h w word n (Request b) are allowed lw full (inl told) =
     let s = t.setting in
     let lp : b.piece < piece_count s.torrent = subst (λ (m : ℕ). b.piece < m) are.pieces_len told.0.within in
     let row = row_is t h w are lw b.piece lp in
-    let unordered = sym are.in_order_is ∙ told.0.unordered in
+    let unordered = (λ i. nat_le (sym are.order_is i) (sym (ap (λ (r : PieceState). r.level) row) i)) ∙ told.0.unordered in
     let had = ap (count_by (λ (r : PieceState). r.had)) are.pieces_are ∙ had_rows s h in
     let settled = le-ltb (had_count s h) s.random (subst (λ (m : ℕ). s.random ≤ m) had told.0.settled) in
     let leads : (unbegun s h b.piece ≡ true) ⊎ (open_count s h ≤ s.most_open) = ⊎_elim
     (λ (fresh : is_fresh (piece_row t.pieces b.piece) ≡ true). inl (fresh_unbegun s h b.piece (ap is_fresh (sym row) ∙ fresh)))
     (λ (some : (found : List ℕ) × FewOpen t found). inr (few_open t h are some.0 some.1))
     told.0.leads in
-    let first = asked_first s h w word are.legal are.layout (fewer t h are) b allowed unordered settled leads in
+    let first = asked_first s h w word (reaches_all t h w are lw full) are.legal are.layout (fewer t h are) b allowed unordered settled leads in
     let is : n ≡ rank_at s h b.piece = told.1 ∙ ap rank_of_row row in
     before_floor t h w are lw n (subst (NoneBefore s h w) (sym is) first)
-told_floor t h w word n (Request b) are allowed lw (inr told) =
+told_floor t h w word n (Request b) are allowed lw full (inr told) =
     let s = t.setting in
     let row = row_is t h w are lw b.piece (subst (λ (m : ℕ). b.piece < m) are.pieces_len told.0) in
     let is : n ≡ (7 - level h b.piece) * 65536 = told.1 ∙ ap (λ (r : PieceState). (7 - r.level) * 65536) row in
-    before_floor t h w are lw n (subst (NoneBefore s h w) (sym is) (level_before s h w word b are.layout allowed))
-told_floor t h w word n Idle are allowed lw told = before_floor t h w are lw n
-    (idle_before t.setting h w word are.legal are.layout (fewer t h are) n Idle (inl refl) allowed)
-told_floor t h w word n NothingLeft are allowed lw told = before_floor t h w are lw n
-    (idle_before t.setting h w word are.legal are.layout (fewer t h are) n NothingLeft (inr refl) allowed)
-told_floor t h w word n reply are allowed lw told = absurd told
+    before_floor t h w are lw n (subst (NoneBefore s h w) (sym is) (level_before s h w word b (reaches_all t h w are lw full) are.layout allowed))
+told_floor t h w word n Idle are allowed lw full told = before_floor t h w are lw n
+    (idle_before t.setting h w word (reaches_all t h w are lw full) are.legal are.layout (fewer t h are) n Idle (inl refl) allowed)
+told_floor t h w word n NothingLeft are allowed lw full told = before_floor t h w are lw n
+    (idle_before t.setting h w word (reaches_all t h w are lw full) are.legal are.layout (fewer t h are) n NothingLeft (inr refl) allowed)
+told_floor t h w word n reply are allowed lw full told = absurd told
 
 -- ---- a peer that shows a had or unwanted piece more
 

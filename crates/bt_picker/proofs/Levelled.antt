@@ -3,16 +3,16 @@ use Rattle.std.proofs.Common.{◌≡◌, ◌⊎◌, ℕ, zero, suc, ◌+◌, ◌
 use Rattle.std.proofs.Common.{length, refl, ap, sym, ◌∙◌, subst, arith, ⊎_elim, inl, inr, min}
 use Rattle.std.specs.Prelude.{IfSome, nat_le, nat_lt}
 use Rattle.std.proofs.Math.Nat.{min-eq_left, min-eq_right}
-use Rattle.std.proofs.lemmas.Bool.{and_from, and_parts, cases_Bool, cases_lt, eq-eqb, eqb-true, false≢true, false_from_ne_true, le-leb}
+use Rattle.std.proofs.lemmas.Bool.{and_from, and_parts, cases_Bool, cases_lt, eq-eqb, eqb-true, false≢true, false_from_ne_true, le-leb, leb-false, leb-true}
 use Rattle.std.proofs.lemmas.Bool.{not-true, or_left, or_right}
 use Rattle.bt_meta.specs.declared.block.Block.{Block}
 use Rattle.bt_meta.specs.Layout.{IsLayout, piece_count, block_count, block}
 use Rattle.bt_history.specs.Setting.{Setting, each_block_of, is_block, some_block, some_block_of}
 use Rattle.bt_history.specs.History.{History}
 use Rattle.bt_history.specs.Legal.{IsLegal}
-use Rattle.bt_history.specs.Peers.{shows}
-use Rattle.bt_history.specs.Pieces.{asked_of_some, begun, chosen, had, had_count, held, held_or_asked, level, unasked, unbegun, wanted}
-use Rattle.bt_history.specs.Next.{continues, is_candidate, is_rarest, rises, starts, tops, usable}
+use Rattle.bt_history.specs.Peers.{reach, shows}
+use Rattle.bt_history.specs.Pieces.{asked_of_some, begun, chosen, comes_in_order, gives, had, had_count, held, held_or_asked, level, order_from, unasked, unbegun, wanted}
+use Rattle.bt_history.specs.Next.{continues, is_candidate, is_rarest, rises, starts, tops, tops_in_order, usable}
 use Rattle.bt_history.proofs.Below.{all_fails, all_found, any_fails, any_found, any_none, any_witness}
 use Rattle.bt_history.proofs.HeldLaws.{had_full}
 use Rattle.bt_history.proofs.Levels.{top_above}
@@ -52,8 +52,11 @@ module _ (s : Setting) (h : History) (q p : ℕ) (legal : IsLegal s h) (lp : p <
   found : (k : ℕ) × (k < block_count s.torrent p) × (usable s h q (block s.torrent p k) ≡ true)
   found = (let w = any_witness (block_count s.torrent p) (λ k. usable s h q (block s.torrent p k)) some in (w.0, w.1, w.2))
 
-  parts : (unasked s h (block s.torrent p found.0) ≡ true) × (wanted s h p ≡ true) × (shows h q p ≡ true)
-  parts = usable_parts (unasked s h (block s.torrent p found.0)) (wanted s h p) (shows h q p) found.2
+  parts : (unasked s h (block s.torrent p found.0) ≡ true) × (wanted s h p ≡ true) × (gives h q p ≡ true)
+  parts = usable_parts (unasked s h (block s.torrent p found.0)) (wanted s h p) (gives h q p) found.2
+
+  pub usable_shown : shows h q p ≡ true
+  usable_shown = (and_parts (shows h q p) (nat_le (level h p) (reach h q)) parts.2).0
 
   free : held_or_asked s h (block s.torrent p found.0) ≡ false
   free = not-true (held_or_asked s h (block s.torrent p found.0)) parts.0
@@ -75,11 +78,8 @@ module _ (s : Setting) (h : History) (q p : ℕ) (legal : IsLegal s h) (lp : p <
     by_touch : (x : Bool) → some_block_of s.torrent p (held_or_asked s h) ≡ x
         → ((begun s h p ≡ true) × (stage_of_row (piece_of s h p) ≡ Open)) ⊎ (is_candidate s h q p ≡ true)
     by_touch true is = inl (and_from (not (had h p)) _ (ap not usable_lacks) is, begun_stage s h p false usable_lacks usable_chosen is usable_left)
-    by_touch false is = inr (and_from (wanted s h p) _ parts.1 (and_from (shows h q p) _ parts.2 (and_from (not (had h p)) _ (ap not usable_lacks)
+    by_touch false is = inr (and_from (wanted s h p) _ parts.1 (and_from (shows h q p) _ usable_shown (and_from (not (had h p)) _ (ap not usable_lacks)
         (ap not is))))
-
-  pub usable_shown : shows h q p ≡ true
-  usable_shown = parts.2
 
   pub usable_block : (k : ℕ) × (k < block_count s.torrent p) × (usable s h q (block s.torrent p k) ≡ true)
   usable_block = found
@@ -98,6 +98,13 @@ none_at s h q n legal no_more no_start p lp same = false_from_ne_true (some_bloc
     (and_from (usable s h q b) _ found.2 (and_from (begun s h p) (level h p == n) on.0 (eq-eqb (level h p) n same)))))
     (λ (may : is_candidate s h q p ≡ true). false≢true (sym (no_start p lp) ∙ candidate_at s h q n p may same))
     (usable_piece s h q p legal lp some))
+
+-- beyond the peer's reach nothing is to be asked
+pub beyond_reach : (s : Setting) (h : History) (q n : ℕ) → nat_le n (reach h q) ≡ false → NoneAt s h q n
+beyond_reach s h q n far p lp same = false_from_ne_true (some_block_of s.torrent p (usable s h q)) (λ some.
+    let w = any_witness (block_count s.torrent p) (λ k. usable s h q (block s.torrent p k)) some in
+    let known = usable_parts (unasked s h (block s.torrent p w.0)) (wanted s h p) (gives h q p) w.2 in
+    false≢true (sym far ∙ (ap (λ (m : ℕ). nat_le m (reach h q)) (sym same) ∙ (and_parts (shows h q p) (nat_le (level h p) (reach h q)) known.2).1)))
 
 -- where no piece is in the groups of the open and the unbegun ones of a level
 pub no_group : (s : Setting) (h : History) (q n low high : ℕ) → IsLegal s h → low ≡ group_number n Open → high ≡ first_group n + SPAN
@@ -158,6 +165,19 @@ module _ (s : Setting) (h : History) (q n : ℕ) (above : NoneAbove s h q n) whe
       (λ (isnt : usable s h q (block s.torrent p k) ≡ false). or_left (not (usable s h q (block s.torrent p k))) _ (ap not isnt))
       (cases_Bool (usable s h q (block s.torrent p k))))))
 
+  -- where pieces of this level don't come in order nothing that tops is of a level that does
+  pub none_in_order_at : nat_le (order_from h) n ≡ false → some_block s.torrent (tops_in_order s h q) ≡ false
+  none_in_order_at unordered = none_in_pieces s.torrent (tops_in_order s h q) (λ p lp.
+      any_none (block_count s.torrent p) (λ k. tops_in_order s h q (block s.torrent p k)) (λ k lk.
+      false_from_ne_true (tops_in_order s h q (block s.torrent p k)) (λ both.
+      let c = block s.torrent p k in
+      let parts = and_parts (tops s h q c) (comes_in_order h p) both in
+      let usage = (and_parts (usable s h q c) _ parts.0).0 in
+      let low = usable_below p lp (any_found (block_count s.torrent p) (λ j. usable s h q (block s.torrent p j)) k lk usage) in
+      let from = leb-true (order_from h) (level h p) parts.1 in
+      let beyond = leb-false (order_from h) n unordered in
+      omega (arith, low, from, beyond))))
+
   -- where no block of a begun piece is usable at this level, but another block of the level is, nothing continues
   pub none_continues : (b : Block) → is_block s.torrent b ≡ true → usable s h q b ≡ true → level h b.piece ≡ n
       → some_block s.torrent (goes_on s h q n) ≡ false → some_block s.torrent (continues s h q) ≡ false
@@ -175,15 +195,15 @@ module _ (s : Setting) (h : History) (q n : ℕ) (above : NoneAbove s h q n) whe
       (and_from (usable s h q c) _ usage (and_from (begun s h p) (level h p == n) under_way (eq-eqb (level h p) n level_is)))))))
 
   -- block 0 of the candidate that ranks first may be asked for
-  pub candidate_starts : (p : ℕ) (rare : Bool) → IsLayout s.torrent → rare ≡ not (nat_lt (had_count s h) s.random) → p < piece_count s.torrent
+  pub candidate_starts : (p : ℕ) (rare : Bool) → n ≤ reach h q → IsLayout s.torrent → rare ≡ not (nat_lt (had_count s h) s.random) → p < piece_count s.torrent
       → FindsLeast (is_candidate_at s h q n) (rank_of s h rare) 0 (piece_count s.torrent) (Some p)
       → (is_block s.torrent (block s.torrent p 0) ≡ true) × (usable s h q (block s.torrent p 0) ≡ true) × (level h p ≡ n)
       × (starts s h q (block s.torrent p 0) ≡ true)
-  candidate_starts p rare layout rare_is lp found =
+  candidate_starts p rare near layout rare_is lp found =
       let some = first_block s.torrent p layout lp in
       let is = at_level s h q n p found.0 in
       let fresh = candidate_parts s h q p is.0 in
-      let fits = candidate_usable s h q p lp some is.0 in (
+      let fits = candidate_usable s h q p lp some (let same = is.1 in omega (arith, near, same)) is.0 in (
         block_is_block s.torrent p 0 lp some,
         fits,
         is.1,
@@ -228,22 +248,24 @@ module _ (s : Setting) (h : History) (q n p : ℕ) (layout : IsLayout s.torrent)
       }
 
 -- in a piece that gives an unasked block is found, and it is usable
-pub given : (s : Setting) (h : History) (q n p : ℕ) (found : Option Block) → Gives s h q n p → FindsOf s.torrent p (unasked s h) found
+pub given : (s : Setting) (h : History) (q n p : ℕ) (found : Option Block) → n ≤ reach h q → Gives s h q n p → FindsOf s.torrent p (unasked s h) found
     → (b : Block) × (found ≡ Some b) × (is_block s.torrent b ≡ true) × (b.piece ≡ p) × (usable s h q b ≡ true)
-given s h q n p None gives none = absurd (false≢true (sym gives.left ∙ all_found (block_count s.torrent p)
+given s h q n p None near has none = absurd (false≢true (sym has.left ∙ all_found (block_count s.torrent p)
     (λ k. held_or_asked s h (block s.torrent p k)) (λ k lk. touched (held_or_asked s h (block s.torrent p k))
     (any_fails (block_count s.torrent p) (λ j. unasked s h (block s.torrent p j)) k none lk))))
   where
     touched : (x : Bool) → not x ≡ false → x ≡ true
     touched true is = refl
     touched false is = absurd (false≢true (sym is))
-given s h q n p (Some b) gives some = (
+given s h q n p (Some b) near has some = (
   b,
   refl,
-  ap (is_block s.torrent) some.2 ∙ block_is_block s.torrent p some.0 gives.within some.1,
+  ap (is_block s.torrent) some.2 ∙ block_is_block s.torrent p some.0 has.within some.1,
   ap (λ (c : Block). c.piece) some.2,
   ap (usable s h q) some.2 ∙ and_from (unasked s h (block s.torrent p some.0)) _ (ap (unasked s h) (sym some.2) ∙ some.3)
-      (and_from (wanted s h p) (shows h q p) (wanted_chosen s h p gives.within ∙ gives.picked) gives.shown),
+      (and_from (wanted s h p) (gives h q p) (wanted_chosen s h p has.within ∙ has.picked)
+      (and_from (shows h q p) (nat_le (level h p) (reach h q)) has.shown
+      (le-leb (level h p) (reach h q) (let same = has.level_is in omega (arith, near, same))))),
 )
 
 -- ---- begun pieces
@@ -360,17 +382,18 @@ module _ (s : Setting) (h : History) (q n : ℕ) (pieces : List ℕ) (legal : Is
         (cases_lt p k)
 
   -- an unasked block of it rises
-  pub rises_at : (shown_one fresh : Option ℕ) (m : ℕ) (found : Option Block) → NoneAbove s h q n → lesser_of shown_one fresh ≡ Some m
+  pub rises_at : (shown_one fresh : Option ℕ) (m : ℕ) (found : Option Block) → NoneAbove s h q n → n ≤ reach h q → lesser_of shown_one fresh ≡ Some m
       → FindsListed (shows_at h q n) pieces (length pieces) shown_one
       → IfSome shown_one (λ p. (i : ℕ) → i < length pieces → shows_at h q n (at pieces i) ≡ true → p ≤ at pieces i)
       → FindsLeast (is_candidate_at s h q n) (λ r. r) 0 (piece_count s.torrent) fresh → IfSome fresh (λ p. p < piece_count s.torrent)
       → FindsOf s.torrent m (unasked s h) found
       → (b : Block) × (found ≡ Some b) × (is_block s.torrent b ≡ true) × (rises s h q b ≡ true)
-  rises_at shown_one fresh m found above lesser opens first begins within finds =
-      let gives = lesser_gives shown_one fresh m lesser opens begins within in
-      let block_is = given s h q n m found gives finds in
+      × (level h b.piece ≡ n)
+  rises_at shown_one fresh m found above near lesser opens first begins within finds =
+      let has = lesser_gives shown_one fresh m lesser opens begins within in
+      let block_is = given s h q n m found near has finds in
       let b = block_is.0 in
-      let level_is : level h b.piece ≡ n = ap (level h) block_is.3 ∙ gives.level_is in
+      let level_is : level h b.piece ≡ n = ap (level h) block_is.3 ∙ has.level_is in
       let top = tops_at s h q n above b block_is.4 level_is in (
         b,
         block_is.1,
@@ -390,6 +413,7 @@ module _ (s : Setting) (h : History) (q n : ℕ) (pieces : List ℕ) (legal : Is
             or_right (not (tops s h q c)) _ (le-leb b.piece p (omega (arith, before, block_is.3))))
             (λ (isnt : tops s h q (block s.torrent p k) ≡ false). or_left (not (tops s h q (block s.torrent p k))) _ (ap not isnt))
             (cases_Bool (tops s h q (block s.torrent p k)))))),
+        level_is,
       )
 
   -- and where there is neither nothing of the level is to be asked

@@ -31,6 +31,7 @@ pub mod Placing
 pub mod Rarest
 pub mod Reading
 pub mod Releasing
+pub mod Lacking
 pub mod Restoring
 pub mod Rounds
 pub mod Scans

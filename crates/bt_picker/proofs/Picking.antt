@@ -9,8 +9,8 @@ use Rattle.bt_history.specs.Setting.{Setting, each_block_of, is_block, some_bloc
 use Rattle.bt_history.specs.History.{History}
 use Rattle.bt_history.specs.Legal.{IsLegal}
 use Rattle.bt_history.specs.Next.{doubles, is_candidate, is_rarest, rises, starts, tops, usable}
-use Rattle.bt_history.specs.Peers.{shows}
-use Rattle.bt_history.specs.Pieces.{availability, begun, endgame, had, had_count, held_or_asked, level, unasked, unbegun, wanted}
+use Rattle.bt_history.specs.Peers.{reach, shows}
+use Rattle.bt_history.specs.Pieces.{availability, begun, endgame, gives, had, had_count, held_or_asked, level, unasked, unbegun, wanted}
 use Rattle.bt_history.specs.Picks.{comes_before, is_first, place_in_round, turn}
 use Rattle.bt_history.proofs.Allowed.{top_usable}
 use Rattle.bt_history.proofs.Below.{all_at, all_found, any_found}
@@ -105,24 +105,25 @@ least_first s h word test b passes own others = first_from s h word test b passe
 
 module _ (s : Setting) (h : History) (q n : ℕ) (above : NoneAbove s h q n) where
   -- block 0 of the candidate that comes first in order is the first that starts
-  pub starts_first : (word p : ℕ) (rare : Bool) → IsLayout s.torrent → rare ≡ not (nat_lt (had_count s h) s.random) → p < piece_count s.torrent
+  pub starts_first : (word p : ℕ) (rare : Bool) → n ≤ reach h q → IsLayout s.torrent → rare ≡ not (nat_lt (had_count s h) s.random) → p < piece_count s.torrent
       → FindsLeast (is_candidate_at s h q n) (order_of s h rare (word % piece_count s.torrent)) 0 (piece_count s.torrent) (Some p)
       → is_first s h word (starts s h q) (block s.torrent p 0) ≡ true
-  starts_first word p rare layout rare_is lp found =
+  starts_first word p rare near layout rare_is lp found =
       let first = word % piece_count s.torrent in
       let b = block s.torrent p 0 in
-      let own = candidate_starts s h q n above p rare layout rare_is lp (order_least s h rare first (is_candidate_at s h q n) (Some p) found) in
+      let own = candidate_starts s h q n above p rare near layout rare_is lp (order_least s h rare first (is_candidate_at s h q n) (Some p) found) in
       let fresh = and_parts (unbegun s h p) _ (and_parts (tops s h q b) _ own.3).1 in
       first_from s h word (starts s h q) b own.3 (λ k i lk li too.
       let c = block s.torrent k i in
       let parts = and_parts (tops s h q c) _ too in
       let rest = and_parts (unbegun s h k) _ parts.1 in
       let usage = top_usable s h q c parts.0 in
-      let parts_of = usable_parts (unasked s h c) (wanted s h k) (shows h q k) usage in
+      let parts_of = usable_parts (unasked s h c) (wanted s h k) (gives h q k) usage in
+      let shown = (and_parts (shows h q k) (nat_le (level h k) (reach h q)) parts_of.2).0 in
       let low = usable_below s h q n above k lk (any_found (block_count s.torrent k) (λ j. usable s h q (block s.torrent k j)) i li usage) in
       let high = top_above s h q c b parts.0 own.0 own.1 in
       let level_is : level h k ≡ n = omega (arith, low, high, own.2) in
-      let may : is_candidate s h q k ≡ true = and_from (wanted s h k) _ parts_of.1 (and_from (shows h q k) (unbegun s h k) parts_of.2 rest.0) in
+      let may : is_candidate s h q k ≡ true = and_from (wanted s h k) _ parts_of.1 (and_from (shows h q k) (unbegun s h k) shown rest.0) in
       let le = found.1 k (omega arith) lk (candidate_at s h q n k may level_is) in
       let ranks = no_rarer rare rare_is p k (level_is ∙ sym own.2) (at_level s h q n p found.0).0 lp rest.1 in
       let places = later_place (rank_of s h rare p) (rank_of s h rare k) (2 * piece_count s.torrent) _ _ ranks le in

@@ -5,9 +5,9 @@ ghost use Rattle.std.specs.Prelude.{nat_le, nat_lt, Option};
 ghost use Rattle.bt_meta.specs.declared.block.Block.{Block};
 ghost use Rattle.bt_meta.specs.Layout.{piece_count, block_count, block};
 ghost use Rattle.bt_history.specs.Setting.{each_block, each_block_of, is_block, some_block, some_block_of};
-ghost use Rattle.bt_history.specs.Peers.{asked, asked_count, depth_of, due, dues, shows};
+ghost use Rattle.bt_history.specs.Peers.{asked, asked_count, depth_of, due, dues, reach, shows};
 ghost use Rattle.bt_history.specs.Picks.{is_first, leads};
-ghost use Rattle.bt_history.specs.Pieces.{asker_count, endgame, had_count, held, held_or_asked, in_order, interesting, level, open_count, unasked, wanted};
+ghost use Rattle.bt_history.specs.Pieces.{asker_count, endgame, had_count, held, held_or_asked, comes_in_order, gives, interesting, level, open_count, order_from, unasked, wanted};
 ghost use Rattle.bt_history.specs.Next.{continues, doubles, is_rarest, is_strict, next_answer, rises, starts, usable};
 ghost use Rattle.bt_tables.specs.Orders.{at};
 ghost use Rattle.bt_tables.specs.Risings.{Rises};
@@ -109,7 +109,8 @@ impl<'a> Position<'a> {
         requires level { IsLevel level }
         requires above { NoneAbove self.now.setting self.now.history worker level }
         requires may { MayAsk self.now.setting self.now.history worker }
-        requires unordered { in_order self.now.history ≡ false }
+        requires near { level ≤ reach self.now.history worker }
+        requires unordered { nat_le (order_from self.now.history) level ≡ false }
         requires within { piece < piece_count self.now.setting.torrent }
         requires first { FindsLeast (resumes_at self.now.setting self.now.history worker level)
             (resuming_order self.now.setting self.now.history) 0 (piece_count self.now.setting.torrent) (Some piece) }
@@ -132,7 +133,8 @@ impl<'a> Position<'a> {
         requires level { IsLevel level }
         requires above { NoneAbove self.now.setting self.now.history worker level }
         requires may { MayAsk self.now.setting self.now.history worker }
-        requires unordered { in_order self.now.history ≡ false }
+        requires near { level ≤ reach self.now.history worker }
+        requires unordered { nat_le (order_from self.now.history) level ≡ false }
         requires loose { is_strict self.now.setting self.now.history ≡ false }
         requires within { piece < piece_count self.now.setting.torrent }
         requires first { FindsLeast (resumes_at self.now.setting self.now.history worker level)
@@ -198,6 +200,7 @@ impl<'a> Position<'a> {
         requires worker { worker < self.now.setting.workers }
         requires level { IsLevel level }
         requires above { NoneAbove self.now.setting self.now.history worker level }
+        requires near { level ≤ reach self.now.history worker }
         requires none_begun { some_block self.now.setting.torrent (goes_on self.now.setting self.now.history worker level) ≡ false }
         ensures some { IfSome result (λ b. IsTrue (is_block self.now.setting.torrent b)
             × IsTrue (starts self.now.setting self.now.history worker b)) }
@@ -219,8 +222,10 @@ impl<'a> Position<'a> {
         requires worker { worker < self.now.setting.workers }
         requires level { IsLevel level }
         requires above { NoneAbove self.now.setting self.now.history worker level }
+        requires near { level ≤ reach self.now.history worker }
         ensures some { IfSome result (λ b. IsTrue (is_block self.now.setting.torrent b)
             × IsTrue (rises self.now.setting self.now.history worker b)) }
+        ensures order { IfSome result (λ b. nat_le (order_from self.now.history) level ≡ true → comes_in_order self.now.history b.piece ≡ true) }
         ensures first { IfSome result (λ b. NoneBeforeIn self.now.setting.torrent (unasked self.now.setting self.now.history) b b.piece) }
         ensures none { IfNone result (NoneAt self.now.setting self.now.history worker level) }
     {
@@ -232,13 +237,13 @@ impl<'a> Position<'a> {
         }
     }
 
-    /// Whether the piece is wanted and the peer shows it.
+    /// Whether the piece is wanted and may be requested of the peer.
     pub fn is_wanted_of(&self, worker: u32, piece: u32) -> bool
         requires worker { worker < self.now.setting.workers }
         requires piece { piece < piece_count self.now.setting.torrent }
-        ensures { result ≡ (wanted self.now.setting self.now.history piece && shows self.now.history worker piece) }
+        ensures { result ≡ (wanted self.now.setting self.now.history piece && gives self.now.history worker piece) }
     {
-        self.is_wanted(piece) && self.shows(worker, piece)
+        self.is_wanted(piece) && self.gives(worker, piece)
     }
 
     /// One of these pieces that the peer shows.
@@ -324,6 +329,36 @@ impl<'a> Position<'a> {
         self.has_none(group_number(level, Stage::Open), first_group(level) + SPAN)
     }
 
+    /// Whether the level is within the peer's reach.
+    #[inline(always)]
+    fn reaches(&self, worker: u32, level: u8) -> bool
+        requires { worker < self.now.setting.workers }
+        ensures { result ≡ nat_le level (reach self.now.history worker) }
+    {
+        level <= self.reach(worker)
+    }
+
+    /// Whether it is known that no piece of this level has a block to ask of the peer: the level is beyond its reach, or no block of it is
+    /// unasked.
+    #[inline(always)]
+    #[tactic(auto, using(crate::proofs::Levelled::beyond_reach))]
+    fn gives_none(&self, worker: u32, level: u8) -> bool
+        requires worker { worker < self.now.setting.workers }
+        requires level { IsLevel level }
+        ensures none { result ≡ true → NoneAt self.now.setting self.now.history worker level }
+        ensures near { result ≡ false → level ≤ reach self.now.history worker }
+    {
+        !self.reaches(worker, level) || self.has_none_unasked(level)
+    }
+
+    /// Whether pieces of this level come in order.
+    #[inline(always)]
+    pub(crate) fn comes_in_order(&self, level: u8) -> bool
+        ensures { result ≡ nat_le (order_from self.now.history) level }
+    {
+        self.order_from() <= level
+    }
+
     /// Which rule asks for a block of a piece of this level, where no piece of a higher one has a block to ask, the peer is open and its
     /// pipe has room.
     #[inline(always)]
@@ -336,10 +371,10 @@ impl<'a> Position<'a> {
         ensures picked { IfSome result (IsPickedBy self.now.setting self.now.history worker word) }
         ensures none { IfNone result (NoneAt self.now.setting self.now.history worker level) }
     {
-        if self.has_none_unasked(level) {
+        if self.gives_none(worker, level) {
             return None;
         }
-        if self.is_in_order() {
+        if self.comes_in_order(level) {
             return match self.rising(worker, level) {
                 Some(block) => Some(Ruling::Rising(block)),
                 None => None,

@@ -12,7 +12,7 @@ ghost use Rattle.bt_picker.specs.Tables.{AreTables, entered_call};
 use crate::past::Past;
 use crate::told::Told;
 use bt_check::Verdict;
-use bt_history::{Reply, Rules};
+use bt_history::{MOST_LEVEL, Reply, Rules};
 use bt_meta::Torrent;
 use bt_tables::{Dealing, HELD, Tables};
 use std::alloc::{AllocError, Global};
@@ -79,7 +79,10 @@ fn put(tables: &mut Tables, past: &Past, worker: u32, told: &Told<'_>, reply: Re
         Told::Release { piece, begin } => tables.put_release(worker, *piece, *begin),
         Told::Level { piece, level } => tables.put_level(*piece, *level),
         Told::Levels(levels) => tables.put_levels(levels),
-        Told::InOrder(rising) => tables.put_order(*rising),
+        Told::InOrder(rising) => tables.put_order(if *rising { 0 } else { MOST_LEVEL + 1 }),
+        Told::Reach(level) => tables.note(worker, Dealing::Reach(*level)),
+        Told::InOrderFrom(level) => tables.put_order(*level),
+        Told::Lack(piece) => tables.put_lack(worker, *piece),
     }
 }
 

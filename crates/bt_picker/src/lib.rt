@@ -18,6 +18,7 @@ mod finished;
 mod jobs;
 mod keeper;
 mod past;
+mod picked;
 mod picker;
 mod places;
 mod position;
@@ -33,7 +34,7 @@ pub use auditing::{AuditFault, audit};
 pub use bt_check::{Job, Verdict};
 pub use bt_history::{
     Action, Call, CallMark, Entry, Event, MOST_DEPTH, MOST_LEVEL, MOST_OPEN, MOST_TOLD_DEPTH,
-    MOST_WORKERS, Mark, Reason, Reply, Rules, USUAL_LEVEL, laws,
+    MOST_WORKERS, Mark, PickRule, Reason, Reply, Rules, USUAL_LEVEL, laws,
 };
 pub use content::ContentFault;
 pub use desk::Desk;

@@ -9,8 +9,9 @@ ghost use Rattle.bt_history.specs.Assured.{Assures};
 ghost use Rattle.bt_history.specs.History.{stores};
 ghost use Rattle.bt_history.specs.Legal.{IsLegal};
 ghost use Rattle.bt_history.specs.Picks.{ArePicked};
-ghost use Rattle.bt_history.specs.Peers.{outstanding};
-ghost use Rattle.bt_history.specs.Pieces.{availability, content, had, in_order, level, sender, wanted};
+ghost use Rattle.bt_history.specs.PickRules.{rule_of};
+ghost use Rattle.bt_history.specs.Peers.{outstanding, reach};
+ghost use Rattle.bt_history.specs.Pieces.{availability, content, had, in_order, level, order_from, sender, wanted};
 ghost use Rattle.bt_picker.specs.Search.{IsLevel};
 ghost use Rattle.bt_history.specs.Setting.{AreRules, setting_of};
 ghost use Rattle.bt_picker.specs.Checks.{IsCurrent, settling, waits};
@@ -29,7 +30,7 @@ use crate::past::{Note, Past};
 use crate::position::Position;
 use crate::told::{Lent, Told, lend};
 use bt_check::Verdict;
-use bt_history::{Call, MOST_WORKERS, Reason, Reply, Rules, USUAL_LEVEL};
+use bt_history::{Call, MOST_WORKERS, PickRule, Reason, Reply, Rules, USUAL_LEVEL};
 use bt_meta::{Block, Torrent};
 use bt_tables::{Stage, Tables};
 pub use restoring::Restored;
@@ -191,11 +192,38 @@ impl Picker {
         self.position().level(piece)
     }
 
-    /// Whether pieces of one level come in rising order, or else the rarest first.
+    /// Whether all pieces of one level come in rising order. Else the rarest come first, or those of some levels in order ([`order_from`]).
+    ///
+    /// [`order_from`]: Picker::order_from
     pub fn is_in_order(&self) -> bool
         ensures { result ≡ in_order self.now.history }
     {
-        self.position().is_in_order()
+        self.position().order_from() <= 1
+    }
+
+    /// Pieces of this level, 0 to 8, and of higher ones come in rising order, and of the others the rarest first: 8 until another is told.
+    pub fn order_from(&self) -> u8
+        ensures { result ≡ order_from self.now.history }
+    {
+        self.position().order_from()
+    }
+
+    /// The highest level, 0 to 7, of which blocks are requested of the worker's peer: 7 until another is told.
+    pub fn reach(&self, worker: u32) -> u8
+        requires { worker < self.now.setting.workers }
+        ensures { result ≡ reach self.now.history worker }
+    {
+        self.position().reach(worker)
+    }
+
+    /// The rule by which block `index` of the piece was requested, right after the answer that requests it: for a log, or a user who asks why.
+    /// Later calls may change what it tells.
+    pub fn rule_of(&self, piece: u32, index: u32) -> PickRule
+        requires piece { piece < piece_count self.now.setting.torrent }
+        requires index { index < block_count self.now.setting.torrent piece }
+        ensures { result ≡ rule_of self.now.setting self.now.history (block self.now.setting.torrent piece index) }
+    {
+        self.position().rule_of(piece, index)
     }
 
     /// How many blocks of wanted pieces are neither held nor asked of a peer.

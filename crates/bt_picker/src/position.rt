@@ -7,9 +7,9 @@ ghost use Rattle.std.specs.List.{list_any};
 ghost use Rattle.bt_history.specs.Setting.{deepest_told, is_block, some_block_of};
 ghost use Rattle.bt_history.specs.History.{same_begin};
 ghost use Rattle.bt_history.specs.Legal.{IsLegal};
-ghost use Rattle.bt_history.specs.Peers.{depth_of, joined, late, shows, is_open, outstanding, asked, due, dues, flag};
+ghost use Rattle.bt_history.specs.Peers.{depth_of, joined, late, reach, shows, is_open, outstanding, asked, due, dues, flag};
 ghost use Rattle.bt_history.specs.Pieces.{asker_count, availability, asked_of_some, begun, full, had, held, held_or_asked, interesting, kept, lacks};
-ghost use Rattle.bt_history.specs.Pieces.{in_order, level, sender, unbegun, wanted};
+ghost use Rattle.bt_history.specs.Pieces.{gives, level, order_from, sender, unbegun, wanted};
 ghost use Rattle.bt_tables.specs.Orders.{at, ListsGroup};
 ghost use Rattle.bt_tables.specs.Risings.{Rises};
 ghost use Rattle.bt_picker.specs.Search.{NoneBefore, NoneBegins};
@@ -393,11 +393,30 @@ impl<'a> Position<'a> {
         self.level(piece) > 0
     }
 
-    /// Whether pieces of one level come in rising order.
-    pub fn is_in_order(&self) -> bool
-        ensures { result ≡ in_order self.now.history }
+    /// Pieces of this level and of higher ones come in rising order.
+    #[inline(always)]
+    pub fn order_from(&self) -> u8
+        ensures { result ≡ order_from self.now.history }
     {
-        self.tables.is_in_order()
+        self.tables.order_from()
+    }
+
+    /// The highest level of which blocks are requested of the worker's peer.
+    #[inline(always)]
+    pub fn reach(&self, worker: u32) -> u8
+        requires { worker < self.now.setting.workers }
+        ensures { result ≡ reach self.now.history worker }
+    {
+        self.peer(worker).reach()
+    }
+
+    /// Whether blocks of the piece may be requested of the worker's peer: it shows the piece, whose level isn't beyond its reach.
+    pub fn gives(&self, worker: u32, piece: u32) -> bool
+        requires worker { worker < self.now.setting.workers }
+        requires piece { piece < piece_count self.now.setting.torrent }
+        ensures { result ≡ gives self.now.history worker piece }
+    {
+        self.shows(worker, piece) && self.level(piece) <= self.reach(worker)
     }
 }
 

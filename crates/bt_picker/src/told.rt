@@ -52,6 +52,12 @@ pub enum Told<'a> {
     Levels(&'a [u8]),
     /// From now on pieces of one level come in rising order, or the rarest first.
     InOrder(bool),
+    /// From now on blocks of this level and of lower ones alone, 0 to 7, are requested of the peer.
+    Reach(u8),
+    /// From now on pieces of this level and of higher ones, 0 to 8, come in rising order, and the others the rarest first.
+    InOrderFrom(u8),
+    /// The peer has this piece no more.
+    Lack(u32),
 }
 
 impl<'a> Told<'a> {
@@ -67,7 +73,8 @@ impl<'a> Told<'a> {
             | Told::Want(_)
             | Told::Release { .. }
             | Told::Level { .. }
-            | Told::Levels(_) => true,
+            | Told::Levels(_)
+            | Told::Lack(_) => true,
             _ => false,
         }
     }
@@ -115,6 +122,9 @@ pub fn lend(call: &Call) -> Lent<'_>
         },
         Call::Levels(levels) => Told::Levels(levels.as_slice()),
         Call::InOrder(rising) => Told::InOrder(*rising),
+        Call::Reach(level) => Told::Reach(*level),
+        Call::InOrderFrom(level) => Told::InOrderFrom(*level),
+        Call::Lack(piece) => Told::Lack(*piece),
     };
     Lent::Told(told)
 }

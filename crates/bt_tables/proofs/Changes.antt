@@ -1,11 +1,11 @@
 -- One row of the tables changed, as the code writes it.
-use Rattle.std.proofs.Common.{◌≡◌, ℕ, ◌<◌, ◌^◌, Bool, List, length, ap, subst, arith}
+use Rattle.std.proofs.Common.{◌≡◌, ℕ, ◌<◌, ◌^◌, List, length, ap, subst, arith}
 use Rattle.bt_history.specs.Setting.{Setting}
 use Rattle.bt_tables.specs.Tables.{PeerState, PieceState, TablesState, AreCounted, edit, fresh_piece, piece_row}
 use Rattle.bt_tables.proofs.Tabled.{get_or_edit_same, length_edit}
 
-abbrev pub with_pieces : Setting → Bool → List PeerState → List PieceState → TablesState
-with_pieces s rising peers pieces = record { setting = s; in_order = rising; peers = peers; pieces = pieces }
+abbrev pub with_pieces : Setting → ℕ → List PeerState → List PieceState → TablesState
+with_pieces s order peers pieces = record { setting = s; order_from = order; peers = peers; pieces = pieces }
 
 -- the rows of peers of tables that are these
 pub peers_of : (t u : TablesState) (w : ℕ) → t ≡ u → w < length u.peers → w < length t.peers

@@ -15,5 +15,6 @@ pub mod Striped
 pub mod Showing
 pub mod Spelled
 pub mod Fronts
+pub mod Lacked
 pub mod Moves
 pub mod Places

@@ -1,5 +1,5 @@
 -- From which level, and from how few peers on, the search for a rarest piece has to look. No public clause of the picker cites this module.
-use Rattle.std.specs.Prelude.{ℕ, ◌+◌, ◌-◌, ◌*◌, ◌≡◌, ◌≢◌, ◌<◌, ◌≤◌, ◌==◌, ◌&&◌, ◌⊎◌, ⊤, Bool, true, false, not, List, length, map, slice_index_or}
+use Rattle.std.specs.Prelude.{ℕ, ◌+◌, ◌-◌, ◌*◌, ◌≡◌, ◌≢◌, ◌<◌, ◌≤◌, ◌==◌, ◌&&◌, ◌⊎◌, ⊤, Bool, true, false, not, List, length, map, nat_le, slice_index_or}
 use Rattle.bt_tables.specs.Orders.{at}
 use Rattle.std.specs.List.{count_by}
 use Rattle.bt_history.specs.declared.call.Reply.{Reply}
@@ -54,10 +54,10 @@ pub record FewOpen (t : TablesState) (found : List ℕ) : Type 0 where
   pub rise : (i j : ℕ) → Rises found i j
   pub few : length found ≤ t.setting.most_open
 
--- a block of the piece is asked for as one of a rarest piece: the rarest come first, enough pieces are had to tell which they are, and the piece
+-- a block of the piece is asked for as one of a rarest piece: the rarest of its level come first, enough pieces are had to tell which they are, and the piece
 -- begins, or begun ones don't come first
 pub record AsksRarest (t : TablesState) (piece : ℕ) : Type 0 where
-  pub unordered : t.in_order ≡ false
+  pub unordered : nat_le t.order_from (piece_row t.pieces piece).level ≡ false
   pub settled : t.setting.random ≤ count_by (λ row. row.had) t.pieces
   pub within : piece < length t.pieces
   pub leads : (is_fresh (piece_row t.pieces piece) ≡ true) ⊎ ((found : List ℕ) × FewOpen t found)

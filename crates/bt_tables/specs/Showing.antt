@@ -5,7 +5,7 @@ use Rattle.bt_meta.specs.declared.block.Block.{Block}
 use Rattle.bt_meta.specs.WireBits.{IsPayload, flags_of}
 use Rattle.bt_history.specs.History.{same_begin}
 use Rattle.bt_tables.specs.declared.peer.Dealing.{Dealing}
-use Rattle.bt_tables.specs.declared.peer.Dealing.TheVariants.{Heard, Choke, Unchoke, Depth, Cancelled}
+use Rattle.bt_tables.specs.declared.peer.Dealing.TheVariants.{Heard, Choke, Unchoke, Depth, Reach, Cancelled}
 use Rattle.bt_tables.specs.Stripes.{stripe}
 use Rattle.bt_tables.specs.Tables.{PeerState}
 
@@ -15,6 +15,7 @@ pub record Dealings : Type 0 where
   pub joined : Bool
   pub late : Bool
   pub told : Option ℕ
+  pub reach : ℕ
   pub is_open : Bool
   pub asked : List Block
   pub due : List Block
@@ -26,6 +27,7 @@ dealings row = record {
   joined = row.joined;
   late = row.late;
   told = row.told;
+  reach = row.reach;
   is_open = row.is_open;
   asked = row.asked;
   due = row.due;
@@ -37,6 +39,7 @@ noted Heard row = record row { late = true }
 noted Choke row = record row { late = true; is_open = false; asked = []; due = [] }
 noted Unchoke row = record row { late = true; is_open = true }
 noted (Depth n) row = record row { told = Some n }
+noted (Reach n) row = record row { reach = n }
 noted (Cancelled a) row = record row { due = filter (λ b. not (same_begin a b)) row.due }
 
 -- the row of a peer that shows these pieces
@@ -46,6 +49,7 @@ showing flags row = record {
   joined = row.joined;
   late = row.late;
   told = row.told;
+  reach = row.reach;
   is_open = row.is_open;
   shows = flags;
   asked = row.asked;

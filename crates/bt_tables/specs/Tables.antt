@@ -13,9 +13,9 @@ use Rattle.bt_history.specs.Legal.{place_at}
 use Rattle.bt_history.specs.Peers.{has_place}
 use Rattle.bt_tables.specs.declared.cell.TheConstants.{HELD}
 use Rattle.bt_tables.specs.declared.peer.Dealing.{Dealing}
-use Rattle.bt_tables.specs.declared.peer.Dealing.TheVariants.{Heard, Choke, Unchoke, Depth, Cancelled}
+use Rattle.bt_tables.specs.declared.peer.Dealing.TheVariants.{Heard, Choke, Unchoke, Depth, Reach, Cancelled}
 use Rattle.bt_tables.specs.declared.piece.Change.{Change}
-use Rattle.bt_history.specs.declared.rules.TheConstants.{USUAL_LEVEL}
+use Rattle.bt_history.specs.declared.rules.TheConstants.{MOST_LEVEL, USUAL_LEVEL}
 use Rattle.bt_tables.specs.declared.piece.Change.TheVariants.{Raise, Lower, Store, Pass, Fail, Level}
 
 -- 1 for a test that passes
@@ -30,6 +30,7 @@ pub record PeerState : Type 0 where
   pub joined : Bool
   pub late : Bool
   pub told : Option ℕ
+  pub reach : ℕ
   pub is_open : Bool
   pub shows : List Bool
   pub asked : List Block
@@ -42,6 +43,7 @@ fresh_peer room pieces = record {
   joined = false;
   late = false;
   told = None;
+  reach = MOST_LEVEL;
   is_open = false;
   shows = replicate pieces false;
   asked = [];
@@ -54,6 +56,7 @@ join_row row = record row {
   joined = true;
   late = false;
   told = None;
+  reach = MOST_LEVEL;
   is_open = false;
   shows = replicate (length row.shows) false;
   asked = [];
@@ -68,6 +71,14 @@ bits_row flags row = record row { late = true; shows = flags }
 abbrev pub have_row : ℕ → PeerState → PeerState
 have_row piece row = record row { late = true; shows = slice_set row.shows piece true }
 
+-- after Lack
+abbrev pub lack_row : ℕ → PeerState → PeerState
+lack_row piece row = record row {
+  late = true;
+  shows = slice_set row.shows piece false;
+  asked = filter (λ b. not (piece == b.piece)) row.asked;
+}
+
 -- after Choke
 abbrev pub choke_row : PeerState → PeerState
 choke_row row = record row { late = true; is_open = false; asked = []; due = [] }
@@ -79,6 +90,10 @@ unchoke_row row = record row { late = true; is_open = true }
 -- after Depth
 abbrev pub depth_row : ℕ → PeerState → PeerState
 depth_row n row = record row { told = Some n }
+
+-- after Reach
+abbrev pub reach_row : ℕ → PeerState → PeerState
+reach_row n row = record row { reach = n }
 
 -- after an arrival
 abbrev pub late_row : PeerState → PeerState
@@ -94,6 +109,7 @@ noted_row Heard row = late_row row
 noted_row Choke row = choke_row row
 noted_row Unchoke row = unchoke_row row
 noted_row (Depth n) row = depth_row n row
+noted_row (Reach n) row = reach_row n row
 noted_row (Cancelled b) row = cancel_row b row
 
 -- after Next, where block b is asked for
@@ -231,7 +247,7 @@ lowered_by (b ∷ bs) rows = lowered_by bs (lowered b rows)
 -- what contracts within the crate see of the tables
 pub record TablesState : Type 0 where
   pub setting : Setting
-  pub in_order : Bool
+  pub order_from : ℕ
   pub peers : List PeerState
   pub pieces : List PieceState
 
@@ -255,6 +271,18 @@ with_peer t w change = record t { peers = edit t.peers w change }
 -- what was asked of the worker's peer is freed
 abbrev pub released : TablesState → ℕ → TablesState
 released t w = record t { pieces = lowered_by (peer_row t.peers w).asked t.pieces }
+
+-- the blocks of the line that are of the piece
+abbrev pub of_piece : ℕ → List Block → List Block
+of_piece piece line = filter (λ b. piece == b.piece) line
+
+-- the worker's peer shows the piece no more, and is asked for none of its blocks
+abbrev pub lacked : TablesState → ℕ → ℕ → TablesState
+lacked t w piece =
+    with_peer (record t {
+      pieces = edit (lowered_by (of_piece piece (peer_row t.peers w).asked) t.pieces) piece
+          (less_available (slice_index_or (peer_row t.peers w).shows piece false));
+    }) w (lack_row piece)
 
 -- the block that begins there is asked of the worker's peer no more, and no cancel comes due
 abbrev pub given_up : TablesState → ℕ → ℕ → ℕ → TablesState
@@ -344,6 +372,6 @@ relevelled t level = record t { pieces = levelled_by level t.pieces }
 abbrev pub levelled : TablesState → ℕ → ℕ → TablesState
 levelled t piece n = record t { pieces = edit t.pieces piece (level_row n) }
 
--- the tables once pieces come in order, or the rarest first
-abbrev pub ordered : TablesState → Bool → TablesState
-ordered t rising = record t { in_order = rising }
+-- the tables once pieces of this level and of higher ones come in order
+abbrev pub ordered : TablesState → ℕ → TablesState
+ordered t n = record t { order_from = n }

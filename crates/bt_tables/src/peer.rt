@@ -9,6 +9,7 @@ ghost use Rattle.bt_history.specs.Peers.{AreApart, has_place};
 ghost use Rattle.bt_tables.specs.Showing.{Dealings, dealings, noted};
 ghost use Rattle.bt_tables.specs.Tables.{fresh_peer};
 
+use bt_history::MOST_LEVEL;
 use bt_meta::Block;
 use std::alloc::{AllocError, Global};
 use std::marker::Model;
@@ -24,6 +25,8 @@ pub enum Dealing {
     Unchoke,
     /// From now on so many blocks may be asked of it at a time.
     Depth(u32),
+    /// From now on blocks of this level and of lower ones alone are requested of it.
+    Reach(u8),
     /// The cancel of the block that begins there is told.
     Cancelled(Block),
 }
@@ -43,6 +46,7 @@ pub struct Peer {
     joined: bool,
     late: bool,
     told: Option<u32>,
+    reach: u8,
     unchoked: bool,
     asked: Vec<Block>,
     due: Vec<Block>,
@@ -56,6 +60,7 @@ impl Drop for Peer {
             joined: _,
             late: _,
             told: _,
+            reach: _,
             unchoked: _,
             asked: _asked,
             due: _due,
@@ -75,6 +80,7 @@ impl Model for Peer {
       joined = p.joined;
       late = p.late;
       told = p.told;
+      reach = p.reach;
       is_open = p.unchoked;
       asked = p.asked.items;
       due = p.due.items;
@@ -93,6 +99,7 @@ impl Peer {
             joined: false,
             late: false,
             told: None,
+            reach: MOST_LEVEL,
             unchoked: false,
             asked: Vec::with_capacity(alloc, room as usize)?,
             due: Vec::with_capacity(alloc, room as usize)?,
@@ -117,6 +124,14 @@ impl Peer {
         ensures { result ≡ self.now.told }
     {
         self.told
+    }
+
+    /// The highest level of which blocks are requested of the peer.
+    #[inline(always)]
+    pub fn reach(&self) -> u8
+        ensures { result ≡ self.now.reach }
+    {
+        self.reach
     }
 
     pub fn is_open(&self) -> bool
@@ -146,11 +161,12 @@ impl Peer {
 
     /// The peer joins: what an earlier one told or was asked is gone.
     pub fn join(&mut self)
-        ensures { self.new ≡ record self.old { joined = true; late = false; told = None; is_open = false; asked = []; due = [] } }
+        ensures { self.new ≡ record self.old { joined = true; late = false; told = None; reach = MOST_LEVEL; is_open = false; asked = []; due = [] } }
     {
         self.joined = true;
         self.late = false;
         self.told = None;
+        self.reach = MOST_LEVEL;
         self.reset();
     }
 
@@ -186,8 +202,17 @@ impl Peer {
                 self.unchoked = true;
             }
             Dealing::Depth(depth) => self.told = Some(depth),
+            Dealing::Reach(level) => self.reach = level,
             Dealing::Cancelled(block) => self.cancel(block),
         }
+    }
+
+    /// The peer has the piece no more: none of its blocks is asked of the peer.
+    pub fn lack(&mut self, piece: u32)
+        ensures { self.new ≡ record self.old { late = true; asked = filter (λ b. not (piece == b.piece)) self.old.asked } }
+    {
+        self.late = true;
+        self.asked.retain(|b| piece != b.piece);
     }
 
     /// The block is asked of the peer now.

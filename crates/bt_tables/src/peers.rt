@@ -5,7 +5,7 @@ ghost use Rattle.bt_meta.specs.WireBits.{FindsFirst};
 ghost use Rattle.bt_history.specs.Counting.{count_below, table};
 ghost use Rattle.bt_history.specs.Peers.{has_place};
 ghost use Rattle.bt_tables.specs.Showing.{dealings};
-ghost use Rattle.bt_tables.specs.Tables.{asks_at, bits_row, noted_row, edit, fresh_peer, have_row, join_row, leave_row};
+ghost use Rattle.bt_tables.specs.Tables.{asks_at, bits_row, noted_row, edit, fresh_peer, have_row, join_row, lack_row, leave_row};
 ghost use Rattle.bt_tables.specs.Tables.{HasShortLines, peer_row, request_row, without_block};
 
 use crate::peer::{Dealing, Peer};
@@ -139,6 +139,16 @@ impl Peers {
     {
         self.rows[worker as usize].note(Dealing::Heard);
         self.shows.set(worker, piece);
+    }
+
+    /// The peer has the piece no more.
+    pub fn lack(&mut self, worker: u32, piece: u32)
+        requires worker { worker < length self.old }
+        requires piece { piece < length (peer_row self.old worker).shows }
+        ensures { self.new ≡ edit self.old worker (lack_row piece) }
+    {
+        self.rows[worker as usize].lack(piece);
+        self.shows.unset(worker, piece);
     }
 
     /// The block is asked of the peer now.

@@ -242,6 +242,13 @@ impl<'a> Piece<'a> {
         self.counts.touched > 0
     }
 
+    /// How many blocks are held or asked.
+    pub fn touched(&self) -> u32
+        ensures { result ≡ touched_count self.now.blocks }
+    {
+        self.counts.touched
+    }
+
     /// Whether the piece is wanted and unbegun.
     pub fn is_fresh(&self) -> bool
         ensures { result ≡ is_fresh self.now }

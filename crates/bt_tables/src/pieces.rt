@@ -223,6 +223,16 @@ impl Pieces {
         self.shelf.lower(piece, u32::from(shown_by));
     }
 
+    /// A peer tells that it has the piece no more, which it showed before, or didn't.
+    pub fn withdraw(&mut self, piece: u32, was_shown: bool)
+        requires { piece < length self.old }
+        ensures { self.new ≡ edit self.old piece (less_available was_shown) }
+    {
+        if was_shown {
+            self.hide(piece);
+        }
+    }
+
     /// A peer tells that it has the piece, which it did not show before, or did.
     pub fn announce(&mut self, piece: u32, is_new: bool)
         requires piece { piece < length self.old }

@@ -79,6 +79,17 @@ impl Shows {
             .put(worker, piece as usize / 8, byte | 1 << (7 - piece % 8));
     }
 
+    /// The worker's peer shows the piece no more.
+    pub fn unset(&mut self, worker: u32, piece: u32)
+        requires worker { worker < length self.old }
+        requires piece { piece < length (flags_at self.old worker) }
+        ensures { self.new ≡ edit self.old worker (λ flags. slice_set flags piece false) }
+    {
+        let byte = self.stripes.byte(worker, piece as usize / 8);
+        self.stripes
+            .put(worker, piece as usize / 8, byte & !(1 << (7 - piece % 8)));
+    }
+
     /// The worker's peer shows nothing.
     pub fn clear(&mut self, worker: u32)
         requires { worker < length self.old }

@@ -1,10 +1,10 @@
 //! What goes over all pieces of a bitfield that comes or goes, or over all blocks of a line.
 
-ghost use Rattle.std.specs.Prelude.{◌≡◌, ◌<◌, ◌+◌, ◌^◌, [], false, true, length, slice_index_or, unwrap_or};
+ghost use Rattle.std.specs.Prelude.{◌≡◌, ◌<◌, ◌+◌, ◌^◌, ◌==◌, [], false, if◌then◌else◌, true, length, slice_index_or, unwrap_or};
 ghost use Rattle.std.specs.Option.{option_copied};
 ghost use Rattle.bt_tables.specs.Floors.{AreFloors};
 ghost use Rattle.bt_tables.specs.Tables.{AreCounted, edit, hidden_rows, less_available, lowered, lowered_by, more_available, peer_row, piece_row};
-ghost use Rattle.bt_tables.specs.Tables.{level_row, levelled_by, recounted, shown_rows, wanted_level};
+ghost use Rattle.bt_tables.specs.Tables.{level_row, levelled_by, of_piece, recounted, shown_rows, wanted_level};
 
 use crate::floors::Floors;
 use crate::peers::Peers;
@@ -155,5 +155,23 @@ pub fn lower(pieces: &mut Pieces, floors: &mut Floors, peers: &Peers, block: Blo
     if (block.piece as usize) < pieces.len() {
         pieces.apply(block.piece, Change::Lower(block.begin / BLOCK_SIZE));
         floors.admit(peers, pieces, block.piece);
+    }
+}
+
+/// Frees those blocks of the line that are of the piece. No floor is told of it.
+pub fn lower_piece(pieces: &mut Pieces, line: &[Block], piece: u32)
+    ensures { pieces.new ≡ lowered_by (of_piece piece line.now) pieces.old }
+{
+    for block in line {
+        lower_if(pieces, *block, piece == block.piece);
+    }
+}
+
+/// One peer less is asked for the block, if it is one of those.
+fn lower_if(pieces: &mut Pieces, block: Block, is_one: bool)
+    ensures { pieces.new ≡ (if is_one then lowered block pieces.old else pieces.old) }
+{
+    if is_one && (block.piece as usize) < pieces.len() {
+        pieces.apply(block.piece, Change::Lower(block.begin / BLOCK_SIZE));
     }
 }

@@ -16,8 +16,10 @@ ghost use Rattle.bt_history.specs.Counting.{table};
 ghost use Rattle.bt_tables.specs.Floors.{AsksRarest, FewOpen, IsFloor, NoneFresh, RequestTells, TellsFloor, is_fresh};
 ghost use Rattle.bt_tables.specs.Tables.{AreAskers, AreCounted, HasBlock, HasRoomFor, HasShortLines, bits_row, leave_row, TablesState, after_arrival};
 ghost use Rattle.bt_tables.specs.Tables.{after_check, after_next, announced, given_up, edit, failed_row, fresh_peer, fresh_piece, join_row};
-ghost use Rattle.bt_tables.specs.Tables.{choke_row, noted_row, joint, levelled, ordered, peer_row, piece_row, released, relevelled, reshown};
+ghost use Rattle.bt_tables.specs.Tables.{choke_row, lacked, noted_row, joint, levelled, ordered, peer_row, piece_row, released, relevelled, reshown};
 ghost use Rattle.bt_tables.specs.Tables.{wanted_level, with_block, with_peer};
+ghost use Rattle.bt_history.specs.declared.rules.TheConstants.{MOST_LEVEL};
+ghost use Rattle.std.specs.Prelude.{nat_le};
 
 use crate::cell::HELD;
 use crate::floors::Floors;
@@ -26,8 +28,8 @@ use crate::peer::{Dealing, Peer};
 use crate::peers::Peers;
 use crate::piece::{Change, GROUPS, Piece, Stage, rank};
 use crate::pieces::Pieces;
-use crate::sweep::{lower, lower_all, recount, relevel, rewant};
-use bt_history::{Reply, Rules};
+use crate::sweep::{lower, lower_all, lower_piece, recount, relevel, rewant};
+use bt_history::{MOST_LEVEL, Reply, Rules};
 use bt_meta::{BLOCK_SIZE, Bitfield, Block, Torrent};
 use std::alloc::{AllocError, Global};
 use std::marker::Model;
@@ -39,7 +41,7 @@ pub struct Tables {
     torrent: Arc<Torrent>,
     workers: u32,
     rules: Rules,
-    in_order: bool,
+    order_from: u8,
     peers: Peers,
     pieces: Pieces,
     floors: Floors,
@@ -52,7 +54,7 @@ impl Drop for Tables {
             torrent: _torrent,
             workers: _,
             rules: _,
-            in_order: _,
+            order_from: _,
             peers: _peers,
             pieces: _pieces,
             floors: _floors,
@@ -69,7 +71,7 @@ impl Model for Tables {
 
     ghost view = { λ t. record {
       setting = setting_of t.torrent.value.layout t.workers t.rules;
-      in_order = t.in_order;
+      order_from = t.order_from;
       peers = t.peers;
       pieces = t.pieces;
     } };
@@ -87,7 +89,7 @@ impl Tables {
     ) -> Result<Tables, AllocError>
         ensures setting { IfOk result (λ t. t.setting ≡ setting_of torrent.value.layout workers rules) }
         ensures layout { IfOk result (λ t. IsLayout t.setting.torrent) }
-        ensures in_order { IfOk result (λ t. t.in_order ≡ false) }
+        ensures order { IfOk result (λ t. t.order_from ≡ MOST_LEVEL + 1) }
         ensures peers { IfOk result (λ t. t.peers ≡ table workers
             (λ worker. fresh_peer (deepest_line (setting_of torrent.value.layout workers rules)) (piece_count torrent.value.layout))) }
         ensures pieces { IfOk result (λ t. t.pieces
@@ -100,7 +102,7 @@ impl Tables {
             torrent,
             workers,
             rules,
-            in_order: false,
+            order_from: MOST_LEVEL + 1,
         })
     }
 
@@ -122,11 +124,12 @@ impl Tables {
         self.rules
     }
 
-    /// Whether pieces of one level come in rising order.
-    pub fn is_in_order(&self) -> bool
-        ensures { result ≡ self.now.in_order }
+    /// Pieces of this level and of higher ones come in rising order.
+    #[inline(always)]
+    pub fn order_from(&self) -> u8
+        ensures { result ≡ self.now.order_from }
     {
-        self.in_order
+        self.order_from
     }
 
     pub fn torrent(&self) -> &Torrent
@@ -246,28 +249,32 @@ impl Tables {
         self.floors.of(worker)
     }
 
-    /// The floor that a reply to Next tells: in order nothing of a higher level is to be asked, and otherwise, once enough pieces are had, a
-    /// piece that begins, or goes on though few are open, is a rarest one of the highest level that has one. Where nothing is to be asked, the
-    /// peer shows no unbegun wanted piece.
+    /// The floor that a reply to Next tells, where the peer's reach is full: that of the piece that is asked for. Where nothing is to be asked,
+    /// the peer shows no unbegun wanted piece.
     fn floor_told(&self, reply: Reply) -> Option<u32>
         ensures { IfSome result (λ n. TellsFloor self.now reply n) }
     {
         match reply {
-            Reply::Request(block) if self.in_order => self.level_told(block.piece),
-            Reply::Request(block) if self.asks_rarest(block.piece) => {
-                Some(self.pieces.rank(block.piece))
+            Reply::Request(block) if (block.piece as usize) < self.pieces.len() => {
+                self.request_told(block.piece)
             }
             Reply::Idle | Reply::NothingLeft => Some(u32::MAX),
             _ => None,
         }
     }
 
-    /// The floor that a request for a block of the piece tells by its level alone: nothing of a higher one is to be asked.
-    fn level_told(&self, piece: u32) -> Option<u32>
+    /// The floor that a request for a block of the piece tells. On a level that comes in order nothing of a higher one is to be asked. On
+    /// another, once enough pieces are had, a piece that begins, or goes on though few are open, is a rarest one of the highest level that has
+    /// one.
+    fn request_told(&self, piece: u32) -> Option<u32>
+        requires { piece < length self.now.pieces }
         ensures { IfSome result (RequestTells self.now piece) }
     {
-        if (piece as usize) < self.pieces.len() {
-            Some(rank(self.pieces.row(piece).level(), 0))
+        let level = self.pieces.row(piece).level();
+        if self.order_from <= level {
+            Some(rank(level, 0))
+        } else if self.asks_rarest(piece) {
+            Some(self.pieces.rank(piece))
         } else {
             None
         }
@@ -284,24 +291,27 @@ impl Tables {
         }
     }
 
-    /// Notes the floor that the reply to Next tells.
+    /// Notes the floor that the reply to Next tells. Beyond the peer's reach there may be pieces that it shows, so nothing is told of them.
     pub fn learn(&mut self, worker: u32, reply: Reply)
         requires worker { worker < length self.old.peers }
-        requires told { (n : ℕ) → TellsFloor self.old reply n → IsFloor self.old.pieces (peer_row self.old.peers worker) n }
+        requires told { (peer_row self.old.peers worker).reach ≡ MOST_LEVEL → (n : ℕ) → TellsFloor self.old reply n
+            → IsFloor self.old.pieces (peer_row self.old.peers worker) n }
         ensures { self.new ≡ self.old }
     {
+        if self.peers.row(worker).reach() != MOST_LEVEL {
+            return;
+        }
         if let Some(floor) = self.floor_told(reply) {
             self.floors.raise(worker, floor);
         }
     }
 
-    /// Whether a block of the piece is asked for as one of a rarest piece.
+    /// Whether a block of the piece, which doesn't come in order, is asked for as one of a rarest piece.
     fn asks_rarest(&self, piece: u32) -> bool
-        ensures { result ≡ true → AsksRarest self.now piece }
+        requires { piece < length self.now.pieces }
+        ensures { result ≡ true → nat_le self.now.order_from (piece_row self.now.pieces piece).level ≡ false → AsksRarest self.now piece }
     {
-        !self.in_order
-            && self.pieces.had() >= self.rules.random
-            && (piece as usize) < self.pieces.len()
+        self.pieces.had() >= self.rules.random
             && (self.has_few_open() || self.pieces.row(piece).is_fresh())
     }
 
@@ -350,7 +360,7 @@ impl Tables {
         self.peers.note(worker, Dealing::Choke);
     }
 
-    /// What comes to pass with the worker's peer and changes no piece's row: Unchoke, Depth, a cancel that is told, an arrival.
+    /// What comes to pass with the worker's peer and changes no piece's row: Unchoke, Depth, Reach, a cancel that is told, an arrival.
     #[inline(always)]
     pub fn note(&mut self, worker: u32, dealing: Dealing)
         requires { worker < length self.old.peers }
@@ -372,6 +382,19 @@ impl Tables {
         };
         lower(&mut self.pieces, &mut self.floors, &self.peers, block);
         self.peers.forget_at(worker, piece, begin, true);
+    }
+
+    /// Lack: the peer has the piece no more, and blocks of it that were asked of the peer are free.
+    pub fn put_lack(&mut self, worker: u32, piece: u32)
+        requires worker { worker < length self.old.peers }
+        requires piece { piece < length self.old.pieces }
+        requires shown { piece < length (peer_row self.old.peers worker).shows }
+        ensures { self.new ≡ lacked self.old worker piece }
+    {
+        lower_piece(&mut self.pieces, self.peers.row(worker).asked(), piece);
+        self.pieces.withdraw(piece, self.peers.shows(worker, piece));
+        self.peers.lack(worker, piece);
+        self.floors.clear(); // the piece may be unbegun again, and fewer peers show it
     }
 
     /// Bits.
@@ -441,11 +464,11 @@ impl Tables {
         self.advance();
     }
 
-    /// Moves the front of the pieces when they are asked in order.
+    /// Moves the front of the pieces when some are asked in order.
     fn advance(&mut self)
         ensures { self.new ≡ self.old }
     {
-        if self.in_order {
+        if self.order_from <= MOST_LEVEL {
             self.pieces.advance();
         }
     }
@@ -525,11 +548,11 @@ impl Tables {
         self.floors.clear(); // any piece may come first now
     }
 
-    /// InOrder.
-    pub fn put_order(&mut self, rising: bool)
-        ensures { self.new ≡ ordered self.old rising }
+    /// InOrder and InOrderFrom: pieces of this level and of higher ones come in order.
+    pub fn put_order(&mut self, from: u8)
+        ensures { self.new ≡ ordered self.old from }
     {
-        self.in_order = rising;
+        self.order_from = from;
     }
 
     /// Level.

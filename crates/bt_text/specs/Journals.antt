@@ -5,7 +5,7 @@ use Rattle.hex.specs.Hex.{encode_lower}
 use Rattle.bt_meta.specs.WireBits.{IsSpelled}
 use Rattle.bt_history.specs.declared.event.Action.{Action}
 use Rattle.bt_history.specs.declared.event.Action.TheVariants.{Join, Bits, Have, Choke, Unchoke, Next, Arrived, Settle, Leave, Want, Haves, Depth}
-use Rattle.bt_history.specs.declared.event.Action.TheVariants.{Release, Level, Levels, InOrder}
+use Rattle.bt_history.specs.declared.event.Action.TheVariants.{Release, Level, Levels, InOrder, Reach, InOrderFrom, Lack}
 use Rattle.bt_history.specs.declared.event.Event.{Event}
 use Rattle.bt_text.specs.Texts.{reply_text}
 
@@ -48,6 +48,9 @@ IsCallText (Level p n) text = text ≡ level_text p n
 IsCallText (Levels levels) text = text ≡ codes "levels " ++ level_digits levels
 IsCallText (InOrder true) text = text ≡ codes "inorder yes"
 IsCallText (InOrder false) text = text ≡ codes "inorder no"
+IsCallText (Reach n) text = text ≡ codes "reach " ++ decimal n
+IsCallText (InOrderFrom n) text = text ≡ codes "inorderfrom " ++ decimal n
+IsCallText (Lack p) text = text ≡ codes "lack " ++ decimal p
 
 -- the line of an entry: the worker, the call and the reply
 pub record IsJournalLine (e : Event) (text : List ℕ) : Type 0 where

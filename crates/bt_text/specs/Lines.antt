@@ -3,7 +3,7 @@ use Rattle.std.specs.Prelude.{ℕ, Bool, List, [], ◌∷◌, Option, Some, None
 use Rattle.std.specs.Str.{bytes_eq}
 use Rattle.bt_history.specs.Entries.{action_of}
 use Rattle.bt_history.specs.declared.event.Action.{Action}
-use Rattle.bt_history.specs.declared.event.Action.TheVariants.{Join, Choke, Unchoke, Leave, Have, Next, Depth, Levels, InOrder, Release, Level, Arrived}
+use Rattle.bt_history.specs.declared.event.Action.TheVariants.{Join, Choke, Unchoke, Leave, Have, Next, Depth, Levels, InOrder, Reach, InOrderFrom, Lack, Release, Level, Arrived}
 use Rattle.bt_text.specs.declared.script.line.Command.{Command}
 use Rattle.bt_text.specs.declared.script.line.Command.TheVariants as commands
 use Rattle.bt_text.specs.declared.script.line.Line.{Line}
@@ -53,7 +53,10 @@ short_command word argument =
     else (if bytes_eq word (codes "depth") then option_map (λ n. makes (Depth n)) (small_number_in argument)
     else (if bytes_eq word (codes "levels") then option_map (λ levels. makes (Levels levels)) (digits_in argument)
     else (if bytes_eq word (codes "inorder") then option_map (λ rising. makes (InOrder rising)) (yes_or_no_in argument)
-    else None))))))))
+    else (if bytes_eq word (codes "reach") then option_map (λ n. makes (Reach n)) (byte_in argument)
+    else (if bytes_eq word (codes "inorderfrom") then option_map (λ n. makes (InOrderFrom n)) (byte_in argument)
+    else (if bytes_eq word (codes "lack") then option_map (λ piece. makes (Lack piece)) (small_number_in argument)
+    else None)))))))))))
 
 -- what is given up: the piece, and where the block begins in it
 abbrev pub release_of : Option ℕ → Option ℕ → Option Order

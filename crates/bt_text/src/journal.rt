@@ -68,6 +68,9 @@ fn print_call<O: Sink>(out: &mut O, call: &Call) -> Result<(), DeviceFault>
         Call::Levels(levels) => print_levels(out, levels.as_slice()),
         Call::InOrder(true) => print(out, "inorder yes"),
         Call::InOrder(false) => print(out, "inorder no"),
+        Call::Reach(level) => print_numbered(out, "reach ", u64::from(*level)),
+        Call::InOrderFrom(level) => print_numbered(out, "inorderfrom ", u64::from(*level)),
+        Call::Lack(piece) => print_numbered(out, "lack ", u64::from(*piece)),
     }
 }
 

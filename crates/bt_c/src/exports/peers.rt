@@ -1,5 +1,5 @@
 //! What a worker tells of its peer, and asks.
-ghost use Rattle.std.specs.Prelude.{◌≡◌};
+ghost use Rattle.std.specs.Prelude.{◌≡◌, min};
 ghost use Rattle.bt_history.specs.declared.event.Action.TheVariants as actions;
 ghost use Rattle.bt_picker.specs.Told.{action_told};
 ghost use Rattle.bt_c.specs.Behind.{state};
@@ -14,6 +14,13 @@ use crate::lending::lend;
 use crate::picker_handle::PickerHandle;
 use bt_picker::{Reply, Told};
 use std::alloc::Global;
+
+/// The level that a number tells: one beyond 255 is told as 255, which is refused like it.
+pub fn level_of(number: u32) -> u8
+    ensures { result ≡ min number 255 }
+{
+    number.min(255) as u8
+}
 
 /// Makes the worker's call.
 pub fn call(
@@ -157,6 +164,25 @@ pub extern "C" fn piecepick_haves(
     )
 }
 
+/// An `lt_donthave` message came (BEP 54): the peer has the piece no more. Blocks of the piece that were asked of the peer are asked of it
+/// no more, no cancel comes due, and any peer may be asked for them again.
+#[unsafe(no_mangle)]
+pub extern "C" fn piecepick_lack(
+    alloc: Global,
+    picker: &mut PickerHandle,
+    worker: u32,
+    piece: u32,
+    answer: &mut Answer,
+) -> u32
+    ensures { Tells (λ h e o. MakesAt h e worker piece (actions.Lack piece) o)
+        picker.old.held picker.new.held result answer.new }
+{
+    tell(
+        call_at(alloc, picker, worker, piece, Told::Lack(piece)),
+        answer,
+    )
+}
+
 /// From now on so many blocks may be asked of the peer at a time, until another number is told or the worker's next peer joins.
 #[unsafe(no_mangle)]
 pub extern "C" fn piecepick_depth(
@@ -170,6 +196,25 @@ pub extern "C" fn piecepick_depth(
         picker.old.held picker.new.held result answer.new }
 {
     tell(call(alloc, picker, worker, Told::Depth(depth)), answer)
+}
+
+/// From now on blocks of this level and of lower ones alone, 0 to 7, are requested of the peer, until another reach is told or the worker's next
+/// peer joins.
+#[unsafe(no_mangle)]
+pub extern "C" fn piecepick_reach(
+    alloc: Global,
+    picker: &mut PickerHandle,
+    worker: u32,
+    level: u32,
+    answer: &mut Answer,
+) -> u32
+    ensures { Tells (λ h e o. Makes h e worker (actions.Reach (min level 255)) o)
+        picker.old.held picker.new.held result answer.new }
+{
+    tell(
+        call(alloc, picker, worker, Told::Reach(level_of(level))),
+        answer,
+    )
 }
 
 /// What to say to the peer next. The word, a random number, settles what the rules leave to chance.

@@ -5,7 +5,7 @@ ghost use Rattle.bt_c.specs.declared.engine.Keeping.TheVariants as keeps;
 ghost use Rattle.bt_c.specs.Calling.{Makes, MakesAt, MakesFlags, Restores, Settles, Vouches, VouchesFor};
 ghost use Rattle.bt_c.specs.Outcomes.{Tells};
 
-use super::peers::{call, call_at};
+use super::peers::{call, call_at, level_of};
 use super::tell::tell;
 use crate::answer::Answer;
 use crate::digest::Digest;
@@ -13,13 +13,6 @@ use crate::lending::lend;
 use crate::picker_handle::PickerHandle;
 use bt_picker::Told;
 use std::alloc::Global;
-
-/// The level that a number tells: one beyond 255 is told as 255, which is refused like it.
-fn level_of(number: u32) -> u8
-    ensures { result ≡ min number 255 }
-{
-    number.min(255) as u8
-}
 
 /// From now on just these pieces are to be downloaded, spelled as in a `bitfield` message.
 #[unsafe(no_mangle)]
@@ -80,6 +73,23 @@ pub extern "C" fn piecepick_set_in_order(
         picker.old.held picker.new.held result answer.new }
 {
     tell(call(alloc, picker, 0, Told::InOrder(rising != 0)), answer)
+}
+
+/// From now on pieces of this level and of higher ones, 0 to 8, come in rising order, and of the others the rarest first.
+#[unsafe(no_mangle)]
+pub extern "C" fn piecepick_set_in_order_from(
+    alloc: Global,
+    picker: &mut PickerHandle,
+    level: u32,
+    answer: &mut Answer,
+) -> u32
+    ensures { Tells (λ h e o. Makes h e 0 (actions.InOrderFrom (min level 255)) o)
+        picker.old.held picker.new.held result answer.new }
+{
+    tell(
+        call(alloc, picker, 0, Told::InOrderFrom(level_of(level))),
+        answer,
+    )
 }
 
 /// A picker that keeps nothing is told the SHA-1 of what arrived of a full piece.

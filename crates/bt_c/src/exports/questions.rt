@@ -1,7 +1,7 @@
 //! The calls of C that ask a picker for a number.
 ghost use Rattle.std.specs.Prelude.{◌≡◌, ◌%◌, ◌^◌};
 ghost use Rattle.bt_history.specs.Epochs.{epoch};
-ghost use Rattle.bt_c.specs.Asking.{CountsOutstanding, IsOutstanding, Says, SaysOfPiece, SaysSender, number_of, number_of_piece};
+ghost use Rattle.bt_c.specs.Asking.{CountsOutstanding, IsOutstanding, Says, SaysOfPiece, SaysRule, SaysSender, number_of, number_of_piece};
 ghost use Rattle.bt_c.specs.Behind.{state};
 ghost use Rattle.bt_c.specs.declared.asking.Question.TheVariants as questions;
 ghost use Rattle.bt_c.specs.declared.asking.PieceQuestion.TheVariants as of_piece;
@@ -89,7 +89,7 @@ pub extern "C" fn piecepick_has_wanted(
     tell_number(ask(alloc, picker, Question::HasWanted), number)
 }
 
-/// Whether the pieces of one level come in rising order.
+/// Whether all pieces of one level come in rising order.
 #[unsafe(no_mangle)]
 pub extern "C" fn piecepick_is_in_order(
     alloc: Global,
@@ -100,6 +100,19 @@ pub extern "C" fn piecepick_is_in_order(
     ensures says { TellsNumber (λ h o. Says (number_of (state h) questions.InOrder) o) picker.old.held result number.new }
 {
     tell_number(ask(alloc, picker, Question::InOrder), number)
+}
+
+/// From which level on, 0 to 8, pieces come in rising order.
+#[unsafe(no_mangle)]
+pub extern "C" fn piecepick_order_from(
+    alloc: Global,
+    picker: &mut PickerHandle,
+    number: &mut u32,
+) -> u32
+    ensures same { picker.new.held ≡ picker.old.held }
+    ensures says { TellsNumber (λ h o. Says (number_of (state h) questions.OrderFrom) o) picker.old.held result number.new }
+{
+    tell_number(ask(alloc, picker, Question::OrderFrom), number)
 }
 
 /// Whether the piece was checked, and had its hash.
@@ -235,6 +248,22 @@ pub extern "C" fn piecepick_sender(
         lend(alloc, picker, |held| held.sender(piece, index)),
         worker,
     )
+}
+
+/// The number of the rule by which a block was requested, right after the answer that requests it: the one of this index, counted from the front
+/// of its piece.
+#[unsafe(no_mangle)]
+pub extern "C" fn piecepick_rule(
+    alloc: Global,
+    picker: &mut PickerHandle,
+    piece: u32,
+    index: u32,
+    number: &mut u32,
+) -> u32
+    ensures same { picker.new.held ≡ picker.old.held }
+    ensures says { TellsNumber (λ h o. SaysRule (state h) piece index o) picker.old.held result number.new }
+{
+    tell_number(lend(alloc, picker, |held| held.rule(piece, index)), number)
 }
 
 /// How many blocks are asked of the worker's peer.

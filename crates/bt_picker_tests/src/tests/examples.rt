@@ -5,7 +5,7 @@
 //! is asked that is asked for one again, and 1 where endgame waits for what is shown alone, else 0. Then come its lines, and behind `but`, each
 //! behind the number of lines that come before, those that mustn't come. Between two examples stands an empty line.
 
-pub const COUNT: u32 = 83;
+pub const COUNT: u32 = 95;
 
 pub const EXAMPLES: &str = "\
 first request
@@ -1403,4 +1403,235 @@ lower level is awaited too
 2 next 0 = request 2 0 3
 1 next 0 = request 1 0 3
 but
-13 1 next 0 = request 1 0 3";
+13 1 next 0 = request 1 0 3
+
+slow peer gets low levels
+3 12 abc abc abc abc
+2 5 1 1024 64 0 4096 0
+1 levels 7542 = quiet
+0 join = joined
+0 bits f0 = noted yes
+0 unchoke = quiet
+0 reach 4 = quiet
+0 next 0 = request 2 0 3
+0 next 0 = request 3 0 3
+0 next 0 = idle
+0 reach 5 = quiet
+0 next 0 = request 1 0 3
+0 reach 7 = quiet
+0 next 0 = request 0 0 3
+but
+5 0 next 0 = request 0 0 3
+7 0 next 0 = request 1 0 3
+7 0 next 0 = nothing
+9 0 next 0 = idle
+
+reach in endgame
+3 6 abc abc
+3 5 1 1024 64 0 4096 0
+2 levels 74 = quiet
+0 join = joined
+0 bits c0 = noted yes
+0 unchoke = quiet
+1 join = joined
+1 bits c0 = noted yes
+1 unchoke = quiet
+1 reach 4 = quiet
+0 next 0 = request 0 0 3
+0 next 0 = request 1 0 3
+1 next 0 = request 1 0 3
+1 next 0 = idle
+but
+10 1 next 0 = request 0 0 3
+
+reach goes with its peer
+3 6 abc abc
+1 5 1 1024 64 0 4096 0
+0 join = joined
+0 reach 3 = quiet
+0 bits c0 = noted yes
+0 unchoke = quiet
+0 next 0 = idle
+0 leave = quiet
+0 join = joined
+0 bits c0 = noted yes
+0 unchoke = quiet
+0 next 0 = request 0 0 3
+but
+4 0 next 0 = request 0 0 3
+9 0 next 0 = idle
+
+refusals of reach and order
+3 7 abc abc a
+2 5 1 1024 64 0 4096 0
+0 reach 3 = refused NotJoined
+0 reach 9 = refused NotJoined
+0 join = joined
+0 reach 8 = refused WrongLevel
+0 reach 0 = quiet
+0 reach 7 = quiet
+1 inorderfrom 9 = refused WrongLevel
+1 inorderfrom 8 = quiet
+1 inorderfrom 0 = quiet
+but
+0 0 reach 3 = quiet
+3 0 reach 8 = quiet
+6 1 inorderfrom 9 = quiet
+7 1 inorderfrom 8 = refused NotJoined
+
+window comes in order
+3 12 abc abc abc abc
+2 5 0 1024 64 0 4096 0
+1 inorderfrom 5 = quiet
+0 levels 4455 = quiet
+0 join = joined
+0 bits f0 = noted yes
+0 unchoke = quiet
+1 join = joined
+1 bits a0 = noted yes
+0 next 0 = request 2 0 3
+0 next 0 = request 3 0 3
+0 next 0 = request 1 0 3
+0 next 0 = request 0 0 3
+but
+7 0 next 0 = request 3 0 3
+9 0 next 0 = request 0 0 3
+
+window told anew
+3 12 abc abc abc abc
+2 5 0 1024 64 0 4096 0
+0 join = joined
+0 bits f0 = noted yes
+0 unchoke = quiet
+1 join = joined
+1 bits c0 = noted yes
+1 inorderfrom 5 = quiet
+0 inorder yes = quiet
+0 next 3 = request 0 0 3
+0 inorderfrom 8 = quiet
+0 next 3 = request 3 0 3
+but
+7 0 next 3 = request 3 0 3
+9 0 next 3 = request 1 0 3
+
+lacked is asked elsewhere
+32768 65536 abc abc
+2 3 1 1024 64 0 4096 0
+0 join = joined
+0 bits c0 = noted yes
+0 unchoke = quiet
+0 next 0 = request 0 0 16384
+0 next 0 = request 0 16384 16384
+0 next 0 = request 1 0 16384
+0 next 0 = pipefull
+0 lack 0 = noted yes
+1 join = joined
+1 bits c0 = noted yes
+1 unchoke = quiet
+1 next 0 = request 1 16384 16384
+1 next 0 = request 0 0 16384
+1 next 0 = request 0 16384 16384
+0 next 0 = request 1 16384 16384
+0 next 0 = idle
+0 block 0 0 whole = stored
+1 next 0 = cancel 0 0 16384
+but
+8 0 next 0 = request 0 0 16384
+11 1 next 0 = request 0 0 16384
+13 1 next 0 = idle
+15 0 next 0 = request 0 0 16384
+
+lack makes another piece rarest
+3 7 abc abc a
+3 5 0 1024 64 0 4096 0
+0 join = joined
+0 bits e0 = noted yes
+0 unchoke = quiet
+1 join = joined
+1 bits c0 = noted yes
+2 join = joined
+2 bits 80 = noted yes
+0 next 1 = request 2 0 1
+1 lack 0 = noted yes
+2 lack 0 = noted no
+0 next 1 = request 0 0 3
+but
+10 0 next 1 = request 1 0 3
+
+lack of the only piece
+3 3 abc
+1 5 1 1024 64 0 4096 0
+0 join = joined
+0 bits 80 = noted yes
+0 unchoke = quiet
+0 next 0 = request 0 0 3
+0 lack 0 = noted no
+0 next 0 = nothing
+0 have 0 = noted yes
+0 next 0 = request 0 0 3
+but
+4 0 lack 0 = noted yes
+5 0 next 0 = idle
+7 0 next 0 = nothing
+
+cancel outlasts a lack
+3 3 abc
+3 5 1 1024 64 0 4096 0
+0 join = joined
+0 bits 80 = noted yes
+0 unchoke = quiet
+1 join = joined
+1 bits 80 = noted yes
+1 unchoke = quiet
+0 next 0 = request 0 0 3
+1 next 0 = request 0 0 3
+2 join = joined
+2 bits 80 = noted yes
+2 unchoke = quiet
+2 next 0 = request 0 0 3
+1 lack 0 = noted no
+0 block 0 0 abc = completed
+2 lack 0 = noted no
+1 next 0 = nothing
+2 next 0 = cancel 0 0 3
+2 next 0 = nothing
+but
+15 1 next 0 = cancel 0 0 3
+16 2 next 0 = nothing
+
+lack begins endgame
+3 6 abc abc
+3 5 1 1024 64 0 4096 1
+0 join = joined
+0 bits 80 = noted yes
+0 unchoke = quiet
+1 join = joined
+1 bits 80 = noted yes
+1 unchoke = quiet
+2 join = joined
+2 bits 40 = noted yes
+0 next 0 = request 0 0 3
+1 next 0 = idle
+2 lack 1 = noted no
+1 next 0 = request 0 0 3
+but
+11 1 next 0 = idle
+
+refusals of lack
+3 7 abc abc a
+2 5 1 1024 64 0 4096 0
+0 lack 0 = refused NotJoined
+0 lack 9 = refused NotJoined
+0 join = joined
+0 lack 3 = refused NoSuchPiece
+0 bits 80 = noted yes
+0 lack 2 = noted yes
+1 join = joined
+1 lack 2 = noted no
+1 bits e0 = refused LateBits
+but
+0 0 lack 0 = noted no
+3 0 lack 3 = noted no
+4 0 bits 80 = refused LateBits
+5 0 lack 2 = refused NoSuchPiece
+8 1 bits e0 = noted yes";

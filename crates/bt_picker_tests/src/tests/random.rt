@@ -122,6 +122,8 @@ fn plain_call(rng: &mut Lcg64Xsh32, asked: &[Block], case: u32) -> Call {
         40..=42 => first_release(asked),
         43 => any_release(rng),
         44..=45 => Call::Depth([0, 1, 3, 7, 65][one_of(rng, 5) as usize]),
+        46..=47 => Call::Reach([0, 3, 4, 5, 7, 7, 8, 255][one_of(rng, 8) as usize]),
+        48..=49 => Call::Lack(one_of(rng, 5)),
         _ => Call::Next(rng.next_u64()),
     }
 }
@@ -199,7 +201,8 @@ fn any_wish(alloc: Global, rng: &mut Lcg64Xsh32) -> Result<Call, Fail> {
     match one_of(rng, 8) {
         0..=1 => any_want(alloc, rng),
         2..=3 => Ok(any_levels(rng)),
-        4..=5 => Ok(Call::InOrder(one_of(rng, 2) == 0)),
+        4 => Ok(Call::InOrder(one_of(rng, 2) == 0)),
+        5 => Ok(Call::InOrderFrom(one_of(rng, 11) as u8)),
         _ => Ok(any_level(rng)),
     }
 }
@@ -208,7 +211,7 @@ fn any_wish(alloc: Global, rng: &mut Lcg64Xsh32) -> Result<Call, Fail> {
 #[derive(Clone, Copy)]
 struct Wishes {
     levels: [u8; 4],
-    rising: bool,
+    order_from: u8,
 }
 
 impl Wishes {
@@ -219,7 +222,11 @@ impl Wishes {
         }
         match &entry.call {
             Call::InOrder(rising) => Wishes {
-                rising: *rising,
+                order_from: if *rising { 0 } else { 8 },
+                ..self
+            },
+            Call::InOrderFrom(level) => Wishes {
+                order_from: *level,
                 ..self
             },
             _ => Wishes {
@@ -400,7 +407,7 @@ impl Run {
     fn judge_wishes(&self, rt: &impl Abort) {
         let mut wishes = Wishes {
             levels: [4; 4],
-            rising: false,
+            order_from: 8,
         };
         for entry in self.desk.journal() {
             wishes = wishes.after(entry);
@@ -412,9 +419,9 @@ impl Run {
                 self.level(rt, 2),
                 self.level(rt, 3),
             ],
-            rising: self.desk.picker().is_in_order(),
+            order_from: self.desk.picker().order_from(),
         };
-        assert!(rt; shown.levels == wishes.levels && shown.rising == wishes.rising);
+        assert!(rt; shown.levels == wishes.levels && shown.order_from == wishes.order_from);
     }
 
     fn level(&self, rt: &impl Abort, piece: u32) -> u8 {

@@ -136,6 +136,7 @@ fn plain_call(rt: &impl Abort, name: &str, words: &mut Split<'static, char>) -> 
         "unchoke" => Call::Unchoke,
         "leave" => Call::Leave,
         "have" => Call::Have(next_number(rt, words)),
+        "lack" => Call::Lack(next_number(rt, words)),
         "next" => Call::Next(u64::from(next_number(rt, words))),
         "depth" => Call::Depth(next_number(rt, words)),
         "release" => Call::Release {
@@ -147,6 +148,8 @@ fn plain_call(rt: &impl Abort, name: &str, words: &mut Split<'static, char>) -> 
             level: next_level(rt, words),
         },
         "inorder" => Call::InOrder(words.next() == Some("yes")),
+        "reach" => Call::Reach(next_level(rt, words)),
+        "inorderfrom" => Call::InOrderFrom(next_level(rt, words)),
         "block" => arrival_of(rt, words),
         _ => panic!(rt; "no such call"),
     }

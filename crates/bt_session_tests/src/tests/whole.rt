@@ -37,6 +37,9 @@ fn word(call: &Call) -> &'static str {
         Call::Level { .. } => "level",
         Call::Levels(_) => "levels",
         Call::InOrder(_) => "inorder",
+        Call::Reach(_) => "reach",
+        Call::InOrderFrom(_) => "inorderfrom",
+        Call::Lack(_) => "lack",
     }
 }
 

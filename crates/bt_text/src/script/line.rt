@@ -100,6 +100,12 @@ fn short_command(alloc: Global, word: &[u8], argument: &[u8]) -> Result<Command,
         Ok(Command::Make(Call::Levels(levels)))
     } else if is(word, "inorder") {
         Ok(Command::Make(Call::InOrder(yes_or_no(argument)?)))
+    } else if is(word, "reach") {
+        Ok(Command::Make(Call::Reach(byte(argument)?)))
+    } else if is(word, "inorderfrom") {
+        Ok(Command::Make(Call::InOrderFrom(byte(argument)?)))
+    } else if is(word, "lack") {
+        Ok(Command::Make(Call::Lack(small_number(argument)?)))
     } else {
         Err(LineFault::NotAllowed)
     }

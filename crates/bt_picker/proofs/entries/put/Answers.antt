@@ -1,19 +1,19 @@
 use Rattle.std.proofs.Common.{◌∙◌, length, sym, ap, arith}
-use Rattle.bt_history.specs.declared.event.Action.TheVariants.{Bits, Have, Haves, Arrived, Leave, Level}
+use Rattle.bt_history.specs.declared.event.Action.TheVariants.{Bits, Have, Haves, Arrived, Lack, Leave, Level}
 use Rattle.bt_history.proofs.Allowed.{worker_below}
 use Rattle.bt_tables.specs.Tables.{PeerState, TablesState, have_row}
 use Rattle.bt_tables.proofs.Tabled.{length_edit}
 use Rattle.bt_picker.proofs.Entering.{peer_row_is}
 use Rattle.bt_picker.proofs.PeerSteps.{shows_length}
-use Rattle.bt_picker.proofs.Entered.{level_piece, cause_none, entered_counted, bits_facts, have_facts, haves_facts, lines_short, pieces_few}
+use Rattle.bt_picker.proofs.Entered.{level_piece, cause_none, entered_counted, bits_facts, have_facts, haves_facts, lack_facts, lines_short, pieces_few}
 use Rattle.bt_picker.proofs.Entered.{pieces_short, shown_counted, arrival_askers, arrival_block, has_room}
 use Rattle.bt_picker.proofs.Learning.{told_floor, unnoted_floor}
 use Rattle.bt_picker.proofs.entries.put.Goals as goal
 
 pub learn-requires-clause-told : goal.learn-requires-clause-told
-learn-requires-clause-told c n told =
+learn-requires-clause-told c full n told =
     told_floor _ _ c.args.worker c.in-Next.field-0 n c.args.reply c.requires.are (rw c.in-Next.is at c.requires.allowed)
-    (worker_below _ _ _ c.requires.allowed) told
+    (worker_below _ _ _ c.requires.allowed) full told
 
 pub note_interest-requires-clause-worker : goal.note_interest-requires-clause-worker
 note_interest-requires-clause-worker c =
@@ -135,3 +135,23 @@ put_level-requires c =
     c.requires.counts in
     let lp = level_piece c.args.tables.now.setting c.args.past.now.entries c.args.worker c.in-Level.piece c.in-Level.level cause in
     omega (arith, lp, c.requires.are.pieces_len)
+
+pub put_lack-requires-clause-piece : goal.put_lack-requires-clause-piece
+put_lack-requires-clause-piece c =
+    let cause = cause_none c.args.tables.now.setting c.args.past.now.entries c.args.worker (Lack c.in-Lack.piece) c.args.reply (rw c.in-Lack.is at c.requires.allowed)
+    c.requires.counts in
+    let facts = lack_facts c.args.tables.now.setting c.args.past.now.entries c.args.worker c.in-Lack.piece cause in
+    omega (arith, facts.1, c.requires.are.pieces_len)
+
+pub put_lack-requires-clause-shown : goal.put_lack-requires-clause-shown
+put_lack-requires-clause-shown c =
+    let cause = cause_none c.args.tables.now.setting c.args.past.now.entries c.args.worker (Lack c.in-Lack.piece) c.args.reply (rw c.in-Lack.is at c.requires.allowed)
+    c.requires.counts in
+    let facts = lack_facts c.args.tables.now.setting c.args.past.now.entries c.args.worker c.in-Lack.piece cause in
+    let row = peer_row_is _ _ c.args.worker c.requires.are (worker_below _ _ _ c.requires.allowed) in
+    omega (
+      arith,
+      facts.1,
+      ap (λ (r : PeerState). length r.shows) row,
+      shows_length c.args.tables.now.setting c.args.past.now.entries c.args.worker,
+    )

@@ -74,6 +74,19 @@ fn lines_of_levels(alloc: Global) -> Result<(), Fail> {
         Call::InOrder(false),
         Reply::Quiet,
         b"7 inorder no = quiet\n",
+    )?;
+    is_line(
+        alloc,
+        Call::InOrderFrom(5),
+        Reply::Quiet,
+        b"7 inorderfrom 5 = quiet\n",
+    )?;
+    let reply = Reply::Refused(Reason::WrongLevel);
+    is_line(
+        alloc,
+        Call::Reach(200),
+        reply,
+        b"7 reach 200 = refused 12\n",
     )
 }
 

@@ -10,7 +10,7 @@ use Rattle.bt_history.specs.Picks.{is_first}
 use Rattle.bt_history.specs.Pieces.{availability, had_count, open_count}
 use Rattle.bt_picker.proofs.Choices.{starting_ruled}
 use Rattle.bt_picker.proofs.Leading.{as_rare, none_goes_on, resumes_parts}
-use Rattle.bt_picker.proofs.Levelled.{candidate_starts}
+use Rattle.bt_picker.proofs.Levelled.{candidate_starts, none_in_order_at}
 use Rattle.bt_picker.proofs.Picking.{starts_first}
 use Rattle.bt_picker.proofs.position.Position.leading.Goals as goal
 use Rattle.bt_picker.proofs.position.Position.leading.Goals.{in_default-via-in-Some+else-availability-shown_by, in_default-via-in_default}
@@ -37,7 +37,7 @@ pub returns-in-Some-clause-some : goal.returns-in-Some-clause-some
 returns-in-Some-clause-some c =
     let d = c.args.self.now in
     let rare = settled d.setting d.history c.requires.loose in
-    let own = candidate_starts d.setting d.history c.args.worker c.args.level c.requires.above c.in-Some.other true c.attest.ensures.layout rare
+    let own = candidate_starts d.setting d.history c.args.worker c.args.level c.requires.above c.in-Some.other true c.requires.near c.attest.ensures.layout rare
     c.in-Some.ensures.within c.in-Some.ensures.least in
     let less : availability d.setting d.history c.in-Some.other < availability d.setting d.history c.args.piece =
     omega (arith, c.if-availability-shown_by.true, c.availability.ensures, c.availability-shown_by.ensures) in
@@ -46,11 +46,12 @@ returns-in-Some-clause-some c =
     own.2 in
     subst (λ (b : Block). (next_answer d.setting d.history c.args.worker ≡ RequestOf (starts d.setting d.history c.args.worker))
     × IsTrue (is_block d.setting.torrent b) × IsTrue (starts d.setting d.history c.args.worker b)) (sym c.block.ensures)
-    (starting_ruled d.setting d.history c.args.worker c.requires.may c.requires.unordered (block d.setting.torrent c.in-Some.other 0) none own.0 own.3)
+    (starting_ruled d.setting d.history c.args.worker c.requires.may
+    (none_in_order_at d.setting d.history c.args.worker c.args.level c.requires.above c.requires.unordered) (block d.setting.torrent c.in-Some.other 0) none own.0 own.3)
 
 pub returns-in-Some-clause-picked : goal.returns-in-Some-clause-picked
 returns-in-Some-clause-picked c =
     let d = c.args.self.now in
     ap (is_first d.setting d.history c.args.word (starts d.setting d.history c.args.worker)) c.block.ensures
-    ∙ starts_first d.setting d.history c.args.worker c.args.level c.requires.above c.args.word c.in-Some.other true
+    ∙ starts_first d.setting d.history c.args.worker c.args.level c.requires.above c.args.word c.in-Some.other true c.requires.near
     c.attest.ensures.layout (settled d.setting d.history c.requires.loose) c.in-Some.ensures.within c.in-Some.ensures.first

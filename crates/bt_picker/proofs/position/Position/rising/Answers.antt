@@ -1,9 +1,9 @@
-use Rattle.std.proofs.Common.{Option, None, Some, ap, sym, subst}
-use Rattle.std.specs.Prelude.{IfNone, IfSome, IsTrue}
+use Rattle.std.proofs.Common.{◌≡◌, ◌∙◌, true, Option, None, Some, ap, sym, subst}
+use Rattle.std.specs.Prelude.{IfNone, IfSome, IsTrue, nat_le}
 use Rattle.bt_meta.specs.declared.block.Block.{Block}
 use Rattle.bt_history.specs.Next.{rises}
 use Rattle.bt_history.specs.Setting.{is_block}
-use Rattle.bt_history.specs.Pieces.{unasked}
+use Rattle.bt_history.specs.Pieces.{comes_in_order, order_from, unasked}
 use Rattle.bt_picker.specs.Search.{FindsOf, NoneAt, NoneBeforeIn}
 use Rattle.bt_picker.proofs.Levelled.{lesser_gives, rises_at, rises_none}
 use Rattle.bt_picker.proofs.Scans.{first_in_piece}
@@ -27,11 +27,22 @@ returns-in-Some-clause-some c =
     let d = c.args.self.now in
     let up = rises_at d.setting d.history c.args.worker c.args.level c.open_pieces.result.now c.attest.ensures.legal c.attest.ensures.layout
     c.requires.level c.open_pieces.ensures.lists c.least_shown-open.result c.least_candidate.result c.in-Some.piece c.unasked_in.result
-    c.requires.above
+    c.requires.above c.requires.near
     (sym c.in-Some.ensures) c.least_shown-open.ensures.listed c.least_shown-open.ensures.least c.least_candidate.ensures.least
     c.least_candidate.ensures.within c.unasked_in.ensures in
     subst (λ (o : Option Block). IfSome o (λ b. IsTrue (is_block d.setting.torrent b) × IsTrue (rises d.setting d.history c.args.worker b)))
     (sym up.1) (up.2, up.3)
+
+pub returns-in-Some-clause-order : goal.returns-in-Some-clause-order
+returns-in-Some-clause-order c =
+    let d = c.args.self.now in
+    let up = rises_at d.setting d.history c.args.worker c.args.level c.open_pieces.result.now c.attest.ensures.legal c.attest.ensures.layout
+    c.requires.level c.open_pieces.ensures.lists c.least_shown-open.result c.least_candidate.result c.in-Some.piece c.unasked_in.result
+    c.requires.above c.requires.near
+    (sym c.in-Some.ensures) c.least_shown-open.ensures.listed c.least_shown-open.ensures.least c.least_candidate.ensures.least
+    c.least_candidate.ensures.within c.unasked_in.ensures in
+    subst (λ (o : Option Block). IfSome o (λ b. nat_le (order_from d.history) c.args.level ≡ true → comes_in_order d.history b.piece ≡ true))
+    (sym up.1) (λ ordered. ap (nat_le (order_from d.history)) up.4 ∙ ordered)
 
 pub returns-in-Some-clause-first : goal.returns-in-Some-clause-first
 returns-in-Some-clause-first c = first c.unasked_in.result c.unasked_in.ensures where
@@ -48,7 +59,7 @@ returns-in-Some-clause-none c =
     let d = c.args.self.now in
     let up = rises_at d.setting d.history c.args.worker c.args.level c.open_pieces.result.now c.attest.ensures.legal c.attest.ensures.layout
     c.requires.level c.open_pieces.ensures.lists c.least_shown-open.result c.least_candidate.result c.in-Some.piece c.unasked_in.result
-    c.requires.above
+    c.requires.above c.requires.near
     (sym c.in-Some.ensures) c.least_shown-open.ensures.listed c.least_shown-open.ensures.least c.least_candidate.ensures.least
     c.least_candidate.ensures.within c.unasked_in.ensures in
     subst (λ (o : Option Block). IfNone o (NoneAt d.setting d.history c.args.worker c.args.level)) (sym up.1) tt

@@ -15,6 +15,7 @@ lined o asked due = record {
   joined = o.joined;
   late = o.late;
   told = o.told;
+  reach = o.reach;
   is_open = o.unchoked;
   asked = asked;
   due = due;

@@ -1,4 +1,5 @@
 use Rattle.std.proofs.Common.{arith, refl, sym, ◌∙◌, length-set, List, Bool, None, [], true, false, length, replicate}
+use Rattle.bt_history.specs.declared.rules.TheConstants.{MOST_LEVEL}
 use Rattle.bt_tables.specs.Showing.{Dealings}
 use Rattle.bt_tables.specs.Tables.{join_row}
 use Rattle.bt_tables.proofs.Showing.{showing_edit, worker_within}
@@ -26,7 +27,7 @@ pub returns : goal.returns
 returns c =
     let o = c.self.inside in
     let lw = worker_within o.rows.items o.shows _ c.args.worker c.self.view_is c.self.invariant c.requires in
-    let now : Dealings → Dealings = λ r. record r { joined = true; late = false; told = None; is_open = false; asked = []; due = [] } in
+    let now : Dealings → Dealings = λ r. record r { joined = true; late = false; told = None; reach = MOST_LEVEL; is_open = false; asked = []; due = [] } in
     let flags : List Bool → List Bool = λ flags. replicate (length flags) false in
     rw (← c.self.view_is, c.clear.ensures, c.join.ensures)
     (showing_edit o.rows.items o.shows c.args.worker c.index_mut.result.now now flags join_row c.self.invariant lw c.index_mut.ensures.value

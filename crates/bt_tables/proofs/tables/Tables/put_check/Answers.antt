@@ -19,7 +19,7 @@ pub returns-in-Had : goal.returns-in-Had
 returns-in-Had c =
     let o = c.self.inside in
     rw (← c.self.view_is, c.in-Had.is) (ap (λ (pieces : List PieceState). with_pieces (setting_of o.torrent.value.layout o.workers o.rules)
-    o.in_order o.peers pieces) c.apply.ensures)
+    o.order_from o.peers pieces) c.apply.ensures)
 
 pub returns-in_default : goal.returns-in_default
 returns-in_default c =
