@@ -76,6 +76,13 @@ static int have(void) {
     for (uint32_t piece = 0; piece < 1000; piece++) well(piecepick_have(picker, 0, piece, &answer));
     return 1000;
 }
+static int lack_and_have(void) {
+    for (uint32_t piece = 0; piece < 1000; piece++) {
+        well(piecepick_lack(picker, 0, piece, &answer));
+        well(piecepick_have(picker, 0, piece, &answer));
+    }
+    return 1000;
+}
 static int ask_and_release(void) {
     for (int i = 0; i < 1000; i++) {
         well(piecepick_next(picker, 0, (uint64_t)i * 0x9e3779b97f4a7c15u, &answer));
@@ -99,6 +106,10 @@ static int depth(void) {
     for (uint32_t i = 0; i < 1000; i++) well(piecepick_depth(picker, 3, 5 + (i & 1), &answer));
     return 1000;
 }
+static int reach(void) {
+    for (uint32_t i = 0; i < 1000; i++) well(piecepick_reach(picker, 3, i & 1 ? 7 : 4, &answer));
+    return 1000;
+}
 static int set_level(void) {
     for (uint32_t i = 0; i < 1000; i++) well(piecepick_set_level(picker, i, 5, &answer));
     for (uint32_t i = 0; i < 1000; i++) well(piecepick_set_level(picker, i, 4, &answer));
@@ -117,9 +128,19 @@ static int in_order(void) {
     well(piecepick_set_in_order(picker, 0, &answer));
     return 2;
 }
+static int in_order_from(void) {
+    well(piecepick_set_in_order_from(picker, 5, &answer));
+    well(piecepick_set_in_order_from(picker, 8, &answer));
+    return 2;
+}
 static int epoch(void) {
     uint64_t number = 0;
     for (int i = 0; i < 1000; i++) well(piecepick_epoch(picker, &number));
+    return 1000;
+}
+static int rule(void) {
+    uint32_t number = 0;
+    for (uint32_t i = 0; i < 1000; i++) well(piecepick_rule(picker, i, 0, &number));
     return 1000;
 }
 static int is_had(void) {
@@ -160,9 +181,10 @@ static const struct {
     int (*make)(void);
 } CALLS[] = {
     {"join, leave of a peer that shows nothing", come_and_go}, {"bits, the first ones", bits}, {"haves that tell nothing new", haves}, {"have that tells nothing new", have},
+    {"lack, and the have behind it", lack_and_have},
     {"next with a request, and its release", ask_and_release}, {"next, PIPE_FULL", full}, {"choke, unchoke with nothing asked", choke}, {"depth", depth},
-    {"set_level, from 4 to 5 or back", set_level}, {"set_levels that change nothing", set_levels}, {"want that changes nothing", want},
-    {"set_in_order", in_order}, {"epoch", epoch}, {"is_had", is_had},
+    {"reach", reach}, {"set_level, from 4 to 5 or back", set_level}, {"set_levels that change nothing", set_levels}, {"want that changes nothing", want},
+    {"set_in_order", in_order}, {"set_in_order_from", in_order_from}, {"epoch", epoch}, {"rule", rule}, {"is_had", is_had},
 };
 
 static void measure(uint32_t count) {

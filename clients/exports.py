@@ -1,6 +1,7 @@
 #!/usr/bin/env python3
 """Compares the library's exports with its header, and with the Python package where it is there: names, and the types and names of
-parameters and results; the fields of structs; and the numbers of statuses, kinds of answers, reasons, of what is kept, and of the interface.
+parameters and results; the fields of structs; and the numbers of statuses, kinds of answers, reasons, rules, of what is kept, and of the
+interface.
 
 usage: exports.py        (in the repository; nothing needs to be built)
 
@@ -19,6 +20,7 @@ from pathlib import Path
 HERE = Path(__file__).resolve().parent
 SOURCES = HERE.parent / "crates" / "bt_c" / "src"
 REASONS = SOURCES.parent.parent / "bt_history/src/call.rt"
+RULES = REASONS.parent / "pick_rule.rt"
 HEADER = HERE / "piecepick.h"
 NATIVE = HERE / "python" / "piecepick" / "_native.py"
 PREFIX = "piecepick_"
@@ -74,8 +76,8 @@ RENAMED = {
 RENAMED_FIELDS = {"len": "length"}
 MOST_METAINFO = 10
 
-# The enums of the header, and the letter that each puts before its names.
-LETTERS = {"Status": "E_", "Kind": "K_", "Reason": "R_", "Keeps": "KEEPS_"}
+# The enums of the header, and the letters that each puts before its names.
+LETTERS = {"Status": "E_", "Kind": "K_", "Reason": "R_", "PickRule": "RULE_", "Keeps": "KEEPS_"}
 # The structs, and where the crate has them.
 STRUCTS = {"Answer": "answer.rt", "Digest": "digest.rt", "Options": "options.rt"}
 # A struct that the header's own functions take, and no export.
@@ -184,7 +186,7 @@ def arms(path: Path, pattern: str) -> list[tuple[str, str]]:
 
 
 def numbers() -> dict[str, Numbers]:
-    """The numbers that the crate gives statuses, kinds and reasons, and that it takes for what is kept."""
+    """The numbers that the crate gives statuses, kinds, reasons and rules, and that it takes for what is kept."""
     meta = arms(SOURCES.parents[1] / "bt_meta" / "src" / "fault.rt", r"\bMetaFault::(\w+)(?:\([^)]*\))? => (\d+),")
     status = {"OK": 0} | {snake(name): int(number) for name, number in arms(SOURCES / "fault.rt", r"\bFault::(\w+) => (\d+),")}
     status |= {snake(name): 100 + int(number) for name, number in meta if int(number) <= MOST_METAINFO}
@@ -202,16 +204,17 @@ def numbers() -> dict[str, Numbers]:
         "Status": status,
         "Kind": {"NONE": 0} | {snake(name): int(number) for name, number in kinds.items()},
         "Reason": {"NONE": 0} | {snake(name): int(number) for name, number in arms(REASONS, r"\bReason::(\w+) => (\d+),")},
+        "PickRule": {snake(name): int(number) for name, number in arms(RULES, r"\bPickRule::(\w+) => (\d+),")},
         "Keeps": {snake(name): int(number) for number, name in arms(SOURCES / "options.rt", r"\b(\d+) => Some\(Keeping::(\w+)\)")},
     }
 
 
 def header_numbers() -> dict[str, Numbers]:
-    """Those that the header has, in its four enums."""
+    """Those that the header has, in its five enums."""
     bodies = re.findall(r"^(?:typedef )?enum (\w*) ?\{([^}]*)\} ?(\w*);", header(), flags=re.MULTILINE)
     found: dict[str, Numbers] = {}
     for name, body, again in bodies:
-        enum = name.removeprefix(PREFIX).capitalize() if name else "Keeps"
+        enum = "".join(word.capitalize() for word in name.removeprefix(PREFIX).split("_")) if name else "Keeps"
         members = re.findall(r"PIECEPICK_(\w+) = (\d+)", body)
         if name != again or enum not in LETTERS or len(members) != body.count("="):
             raise Unread(f"piecepick.h: the enum {name or 'without a name'}")

@@ -103,8 +103,17 @@ typedef enum piecepick_reason {
     PIECEPICK_R_NOT_WAITING = 8, PIECEPICK_R_STALE = 9,
     PIECEPICK_R_NOT_ASKED = 10,    /* the block isn't asked of the peer */
     PIECEPICK_R_WRONG_DEPTH = 11,  /* a depth of 0, or beyond `deepest` */
-    PIECEPICK_R_WRONG_LEVEL = 12   /* a level above 7 */
+    PIECEPICK_R_WRONG_LEVEL = 12   /* a level or a reach above 7, or an order from a level above 8 */
 } piecepick_reason;
+
+/* The rule by which a block was requested: piecepick_rule tells it. */
+typedef enum piecepick_pick_rule {
+    PIECEPICK_RULE_IN_ORDER = 1, /* pieces of its level come in rising order, begun or not */
+    PIECEPICK_RULE_BEGUN = 2,    /* its piece had begun, and goes on */
+    PIECEPICK_RULE_RAREST = 3,   /* its piece begins, as one that fewest peers show */
+    PIECEPICK_RULE_RANDOM = 4,   /* its piece begins at random: fewer than `random` are had, too few to tell which are rare */
+    PIECEPICK_RULE_ENDGAME = 5   /* another peer is asked for it too */
+} piecepick_pick_rule;
 
 /* The block is told by CANCEL and REQUEST alone, the reason by REFUSED. `interesting` is 1 at NOTED where the peer has a wanted piece that isn't
    had. All else is 0. */
@@ -163,6 +172,10 @@ PIECEPICK_MUST piecepick_status piecepick_bits(piecepick_picker *picker, uint32_
 /* The peer has these pieces too, at any time, spelled as in a `bitfield` message: a second `bitfield` came, or `have all` (BEP 6). What it had
    before stays, so `have none` needs no call. */
 PIECEPICK_MUST piecepick_status piecepick_haves(piecepick_picker *picker, uint32_t worker, const uint8_t *flags, size_t flags_len, piecepick_answer *answer);
+/* The peer has this piece no more (`lt_donthave`, BEP 54), until a later call shows it again. Each block of it that is asked of the peer is asked
+   of it no more, as by piecepick_release, and no cancel follows. What is held stays held. A piece that the peer doesn't show is no error: the
+   epoch rises, and a bitfield would come too late. NOTED, or REFUSED by NOT_JOINED. */
+PIECEPICK_MUST piecepick_status piecepick_lack(piecepick_picker *picker, uint32_t worker, uint32_t piece, piecepick_answer *answer);
 /* A block came. A picker that keeps nothing reads none of the bytes, and the caller writes them at STORED and COMPLETED alone; another one keeps
    a copy. */
 PIECEPICK_MUST piecepick_status piecepick_arrived(piecepick_picker *picker, uint32_t worker, uint32_t piece, uint32_t begin, const uint8_t *bytes,
@@ -173,6 +186,11 @@ PIECEPICK_MUST piecepick_status piecepick_release(piecepick_picker *picker, uint
 /* From now on `depth` blocks may be asked of the peer at a time, until another number is told or the worker's next peer joins. What is asked
    stays asked. QUIET, or REFUSED by NOT_JOINED or WRONG_DEPTH. */
 PIECEPICK_MUST piecepick_status piecepick_depth(piecepick_picker *picker, uint32_t worker, uint32_t depth, piecepick_answer *answer);
+/* From now on only blocks of this level, 0 to 7, and of lower ones are requested of the peer, in endgame too. It holds until another level is
+   told or the worker's next peer joins, which begins with 7: all levels. So a slow peer gets nothing urgent. With 0 nothing is requested of it,
+   and the answer is IDLE while it shows a wanted piece that isn't had. What is asked stays asked. QUIET, or REFUSED by NOT_JOINED or
+   WRONG_LEVEL. */
+PIECEPICK_MUST piecepick_status piecepick_reach(piecepick_picker *picker, uint32_t worker, uint32_t level, piecepick_answer *answer);
 /* What to say to the peer next: send what it answers while it is CANCEL or REQUEST. The word is the caller's randomness. */
 PIECEPICK_MUST piecepick_status piecepick_next(piecepick_picker *picker, uint32_t worker, uint64_t word, piecepick_answer *answer);
 
@@ -180,12 +198,16 @@ PIECEPICK_MUST piecepick_status piecepick_next(piecepick_picker *picker, uint32_
    then. QUIET. BITS_LENGTH, SPARE_BITS, MEMORY. */
 PIECEPICK_MUST piecepick_status piecepick_want(piecepick_picker *picker, const uint8_t *flags, size_t flags_len, piecepick_answer *answer);
 /* The piece has this level from now on: 0 isn't downloaded, and of 1 to 7 a higher one comes before a lower one. Each piece has level 4 until
-   another is told. QUIET, or REFUSED by WRONG_LEVEL. PIECE; at all three MEMORY where a journal is kept. */
+   another is told. QUIET, or REFUSED by WRONG_LEVEL. PIECE; at all four MEMORY where a journal is kept. */
 PIECEPICK_MUST piecepick_status piecepick_set_level(piecepick_picker *picker, uint32_t piece, uint32_t level, piecepick_answer *answer);
 /* The same for each piece, a byte each. QUIET, or REFUSED by WRONG_COUNT or WRONG_LEVEL. */
 PIECEPICK_MUST piecepick_status piecepick_set_levels(piecepick_picker *picker, const uint8_t *levels, size_t levels_len, piecepick_answer *answer);
 /* The pieces of one level come in rising order from now on; or, where `rising` is 0, the rarest first again. QUIET. */
 PIECEPICK_MUST piecepick_status piecepick_set_in_order(piecepick_picker *picker, uint32_t rising, piecepick_answer *answer);
+/* Pieces of this level and of higher ones come in rising order from now on, and those of lower levels the rarest first. With 0 all come in
+   order, with 8 none. So a window before a reader comes in order, and the rest stays rarest first. It takes the place of what
+   piecepick_set_in_order told, and the other way round: that one tells 0, or 8 where `rising` is 0. QUIET, or REFUSED by WRONG_LEVEL. */
+PIECEPICK_MUST piecepick_status piecepick_set_in_order_from(piecepick_picker *picker, uint32_t level, piecepick_answer *answer);
 
 /* KEEPS_NOTHING: the piece is full, and this is the SHA-1 of its blocks as they were stored. HAD or FAILED. KEEPS, PIECE, NOT_WAITING. */
 PIECEPICK_MUST piecepick_status piecepick_settle(piecepick_picker *picker, uint32_t piece, const piecepick_digest *digest, piecepick_answer *answer);
@@ -210,7 +232,8 @@ PIECEPICK_MUST piecepick_status piecepick_pieces(piecepick_picker *picker, uint3
 PIECEPICK_MUST piecepick_status piecepick_workers(piecepick_picker *picker, uint32_t *number);
 PIECEPICK_MUST piecepick_status piecepick_is_complete(piecepick_picker *picker, uint32_t *number); /* each piece is had */
 PIECEPICK_MUST piecepick_status piecepick_has_wanted(piecepick_picker *picker, uint32_t *number);  /* each wanted piece is had */
-PIECEPICK_MUST piecepick_status piecepick_is_in_order(piecepick_picker *picker, uint32_t *number);
+PIECEPICK_MUST piecepick_status piecepick_is_in_order(piecepick_picker *picker, uint32_t *number); /* all pieces come in rising order */
+PIECEPICK_MUST piecepick_status piecepick_order_from(piecepick_picker *picker, uint32_t *number);  /* from which level on they do, 0 to 8 */
 /* A number that rises when a peer whose answer was IDLE or NOTHING_LEFT may have another one, though its own worker told nothing. While it is
    the same, it needn't be asked again. */
 PIECEPICK_MUST piecepick_status piecepick_epoch(piecepick_picker *picker, uint64_t *number);
@@ -224,6 +247,10 @@ PIECEPICK_MUST piecepick_status piecepick_blocks(piecepick_picker *picker, uint3
 /* The worker whose peer brought a block that is held; `index` counts the piece's blocks from its front. PIECE, BLOCK, NOT_HELD. Ask it of a
    piece whose bytes have another hash, before it is settled. */
 PIECEPICK_MUST piecepick_status piecepick_sender(piecepick_picker *picker, uint32_t piece, uint32_t index, uint32_t *worker);
+/* The rule by which a block was requested, a piecepick_pick_rule: for logs, and for a user who asks why. `index` is its `begin` / 16384. Ask it of
+   the block of a REQUEST before the next call that tells something, which may change it. Of any other block the number means nothing. PIECE,
+   BLOCK. */
+PIECEPICK_MUST piecepick_status piecepick_rule(piecepick_picker *picker, uint32_t piece, uint32_t index, uint32_t *number);
 /* How many blocks are asked of the worker's peer, and each by its place from 0, the oldest request first, told as a REQUEST. WORKER, PLACE. */
 PIECEPICK_MUST piecepick_status piecepick_outstanding(piecepick_picker *picker, uint32_t worker, uint32_t *number);
 PIECEPICK_MUST piecepick_status piecepick_outstanding_at(piecepick_picker *picker, uint32_t worker, uint32_t place, piecepick_answer *answer);
@@ -430,9 +457,20 @@ static inline const char *piecepick_reason_text(piecepick_reason reason) {
     case PIECEPICK_R_STALE: return "the bytes that were hashed are no longer those held";
     case PIECEPICK_R_NOT_ASKED: return "the block isn't asked of the peer";
     case PIECEPICK_R_WRONG_DEPTH: return "a depth of 0, or beyond the deepest";
-    case PIECEPICK_R_WRONG_LEVEL: return "a level above 7";
+    case PIECEPICK_R_WRONG_LEVEL: return "a level or a reach above 7, or an order from a level above 8";
     }
     return "no reason of this interface";
+}
+
+static inline const char *piecepick_rule_text(piecepick_pick_rule rule) {
+    switch (rule) {
+    case PIECEPICK_RULE_IN_ORDER: return "in order";
+    case PIECEPICK_RULE_BEGUN: return "its piece had begun";
+    case PIECEPICK_RULE_RAREST: return "its piece is one of the rarest";
+    case PIECEPICK_RULE_RANDOM: return "its piece begins at random";
+    case PIECEPICK_RULE_ENDGAME: return "endgame";
+    }
+    return "no rule of this interface";
 }
 
 #ifdef __cplusplus

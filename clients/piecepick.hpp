@@ -20,6 +20,7 @@ namespace piecepick {
 
 using Answer = piecepick_answer;
 using Digest = piecepick_digest;
+using PickRule = piecepick_pick_rule;
 
 /* The usual options, to be changed where others are needed. */
 struct Options : piecepick_options {
@@ -166,8 +167,10 @@ public:
     Answer have(std::uint32_t worker, std::uint32_t piece) { return answer(piecepick_have, worker, piece); }
     Answer bits(std::uint32_t worker, Bytes payload) { return answer(piecepick_bits, worker, payload.data(), payload.size()); }
     Answer haves(std::uint32_t worker, Bytes flags) { return answer(piecepick_haves, worker, flags.data(), flags.size()); }
+    Answer lack(std::uint32_t worker, std::uint32_t piece) { return answer(piecepick_lack, worker, piece); }
     Answer release(std::uint32_t worker, std::uint32_t piece, std::uint32_t begin) { return answer(piecepick_release, worker, piece, begin); }
     Answer depth(std::uint32_t worker, std::uint32_t blocks) { return answer(piecepick_depth, worker, blocks); }
+    Answer reach(std::uint32_t worker, std::uint32_t level) { return answer(piecepick_reach, worker, level); }
     [[nodiscard]] Answer arrived(std::uint32_t worker, std::uint32_t piece, std::uint32_t begin, Bytes bytes)
     {
         return answer(piecepick_arrived, worker, piece, begin, bytes.data(), bytes.size());
@@ -179,6 +182,7 @@ public:
     Answer set_level(std::uint32_t piece, std::uint32_t level) { return answer(piecepick_set_level, piece, level); }
     Answer set_levels(Bytes levels) { return answer(piecepick_set_levels, levels.data(), levels.size()); }
     Answer set_in_order(bool rising) { return answer(piecepick_set_in_order, std::uint32_t{rising}); }
+    Answer set_in_order_from(std::uint32_t level) { return answer(piecepick_set_in_order_from, level); }
 
     /* Full pieces: by a digest, by a job, or here and now. */
     [[nodiscard]] Answer settle(std::uint32_t piece, const Digest &digest) { return answer(piecepick_settle, piece, &digest); }
@@ -198,6 +202,7 @@ public:
     [[nodiscard]] bool is_complete() { return number(piecepick_is_complete) != 0; }
     [[nodiscard]] bool has_wanted() { return number(piecepick_has_wanted) != 0; }
     [[nodiscard]] bool is_in_order() { return number(piecepick_is_in_order) != 0; }
+    [[nodiscard]] std::uint32_t order_from() { return number(piecepick_order_from); }
     [[nodiscard]] std::uint64_t epoch() { return number<std::uint64_t>(piecepick_epoch); }
     [[nodiscard]] bool is_had(std::uint32_t piece) { return number(piecepick_is_had, piece) != 0; }
     [[nodiscard]] bool is_waiting(std::uint32_t piece) { return number(piecepick_is_waiting, piece) != 0; }
@@ -206,6 +211,7 @@ public:
     [[nodiscard]] std::uint32_t piece_length(std::uint32_t piece) { return number(piecepick_piece_length, piece); }
     [[nodiscard]] std::uint32_t blocks(std::uint32_t piece) { return number(piecepick_blocks, piece); }
     [[nodiscard]] std::uint32_t sender(std::uint32_t piece, std::uint32_t index) { return number(piecepick_sender, piece, index); }
+    [[nodiscard]] PickRule rule(std::uint32_t piece, std::uint32_t index) { return static_cast<PickRule>(number(piecepick_rule, piece, index)); }
     [[nodiscard]] std::uint32_t outstanding(std::uint32_t worker) { return number(piecepick_outstanding, worker); }
     [[nodiscard]] Answer outstanding_at(std::uint32_t worker, std::uint32_t place) { return answer(piecepick_outstanding_at, worker, place); }
 

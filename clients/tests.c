@@ -251,24 +251,30 @@ static piecepick_kind bring_whole(piecepick_picker *picker, uint32_t keeps, uint
 
 static uint64_t mixed(uint64_t sum, uint64_t number) { return (sum ^ number) * 0x100000001b3u; }
 
-static uint64_t picture(piecepick_picker *picker)
+/* But for the epoch. */
+static uint64_t still_picture(piecepick_picker *picker)
 {
     typedef piecepick_status question(piecepick_picker * picker, uint32_t piece, uint32_t * number);
     static question *const QUESTIONS[] = {piecepick_is_had, piecepick_is_waiting, piecepick_level, piecepick_availability};
-    uint64_t sum = 0xcbf29ce484222325u, epoch;
+    uint64_t sum = 0xcbf29ce484222325u;
     uint32_t number, workers, count;
     piecepick_answer answer;
-    EQUAL(piecepick_epoch(picker, &epoch), PIECEPICK_OK);
-    sum = mixed(sum, epoch);
     EQUAL(piecepick_is_in_order(picker, &number), PIECEPICK_OK);
+    sum = mixed(sum, number);
+    EQUAL(piecepick_order_from(picker, &number), PIECEPICK_OK);
     sum = mixed(sum, number);
     for (uint32_t piece = 0; piece < pieces; piece++) {
         for (size_t at = 0; at < sizeof QUESTIONS / sizeof *QUESTIONS; at++) {
             EQUAL(QUESTIONS[at](picker, piece, &number), PIECEPICK_OK);
             sum = mixed(sum, number);
         }
-        for (uint32_t index = 0; index < blocks_of(piece); index++)
+        for (uint32_t index = 0; index < blocks_of(piece); index++) {
             sum = mixed(sum, (uint64_t)piecepick_sender(picker, piece, index, &number) << 32 | number);
+            /* A number at any block, though it means something only of the one that was just requested. */
+            EQUAL(piecepick_rule(picker, piece, index, &number), PIECEPICK_OK);
+            EQUAL(number >= PIECEPICK_RULE_IN_ORDER && number <= PIECEPICK_RULE_ENDGAME, 1);
+            sum = mixed(sum, number);
+        }
     }
     EQUAL(piecepick_workers(picker, &workers), PIECEPICK_OK);
     for (uint32_t worker = 0; worker < workers; worker++) {
@@ -279,6 +285,13 @@ static uint64_t picture(piecepick_picker *picker)
         }
     }
     return sum;
+}
+
+static uint64_t picture(piecepick_picker *picker)
+{
+    uint64_t epoch;
+    EQUAL(piecepick_epoch(picker, &epoch), PIECEPICK_OK);
+    return mixed(still_picture(picker), epoch);
 }
 
 /* ---- Opening. */
@@ -584,6 +597,7 @@ static void try_torrent(const char *infohash, const char *name)
             NUMBER(piecepick_is_complete(picker, &number), 0);
             NUMBER(piecepick_has_wanted(picker, &number), 0);
             NUMBER(piecepick_is_in_order(picker, &number), 0);
+            NUMBER(piecepick_order_from(picker, &number), 8);
             piecepick_close(&picker);
         }
     told("what the torrent is, of a file and of parts");
@@ -606,6 +620,11 @@ static void try_texts(void)
         for (size_t other = 0; other < at; other++) EQUAL(strcmp(texts[at], texts[other]) == 0, 0);
     for (int reason = 0; reason < 16; reason++)
         EQUAL(strcmp(piecepick_reason_text((piecepick_reason)reason), "no reason of this interface") == 0, reason > 12);
+    for (int rule = 0; rule < 8; rule++) {
+        const char *text = piecepick_rule_text((piecepick_pick_rule)rule);
+        EQUAL(strcmp(text, "no rule of this interface") == 0, rule < 1 || rule > 5);
+        for (int other = 1; other < rule && rule <= 5; other++) EQUAL(strcmp(text, piecepick_rule_text((piecepick_pick_rule)other)) == 0, 0);
+    }
     told("texts");
 }
 
@@ -619,12 +638,15 @@ typedef piecepick_status by_flags(piecepick_picker *picker, const uint8_t *flags
 BY_NUMBER(bits_of, piecepick_bits(picker, at, all, flags_len, answer))
 BY_NUMBER(haves_of, piecepick_haves(picker, at, all, flags_len, answer))
 BY_NUMBER(have_of, piecepick_have(picker, at, 0, answer))
+BY_NUMBER(lack_of, piecepick_lack(picker, at, 0, answer))
 BY_NUMBER(arrived_of, piecepick_arrived(picker, at, 0, 0, content, BLOCK, answer))
 BY_NUMBER(release_of, piecepick_release(picker, at, 0, 0, answer))
 BY_NUMBER(depth_of, piecepick_depth(picker, at, 7, answer))
+BY_NUMBER(reach_of, piecepick_reach(picker, at, 4, answer))
 BY_NUMBER(next_of, piecepick_next(picker, at, 1, answer))
 BY_NUMBER(outstanding_of, piecepick_outstanding_at(picker, at, 0, answer))
 BY_NUMBER(have_at, piecepick_have(picker, 0, at, answer))
+BY_NUMBER(lack_at, piecepick_lack(picker, 0, at, answer))
 BY_NUMBER(arrived_at, piecepick_arrived(picker, 0, at, 0, content, BLOCK, answer))
 BY_NUMBER(release_at, piecepick_release(picker, 0, at, 0, answer))
 BY_NUMBER(level_at, piecepick_set_level(picker, at, 4, answer))
@@ -648,11 +670,11 @@ static piecepick_status settle_at(piecepick_picker *picker, uint32_t piece, piec
 
 /* The first are refused where no peer has joined. `join` isn't, and of the last one asks only. */
 static by_number *const AT_WORKER[] = {
-    piecepick_leave, piecepick_choke, piecepick_unchoke, bits_of, haves_of, have_of, arrived_of, release_of, depth_of, next_of,
+    piecepick_leave, piecepick_choke, piecepick_unchoke, bits_of, haves_of, have_of, lack_of, arrived_of, release_of, depth_of, reach_of, next_of,
     piecepick_join, outstanding_of,
 };
-enum { NEED_A_PEER = 10, AT_WORKERS = 12 };
-static by_number *const AT_PIECE[] = {have_at, arrived_at, release_at, level_at};
+enum { NEED_A_PEER = 12, AT_WORKERS = 14 };
+static by_number *const AT_PIECE[] = {have_at, lack_at, arrived_at, release_at, level_at};
 static by_flags *const WITH_FLAGS[] = {bits_by, haves_by, piecepick_want};
 
 static void no_worker(piecepick_picker *picker, uint32_t keeps, uint32_t worker)
@@ -662,9 +684,11 @@ static void no_worker(piecepick_picker *picker, uint32_t keeps, uint32_t worker)
     for (size_t at = 0; at < AT_WORKERS; at++) NO_ANSWER(AT_WORKER[at](picker, worker, &answer), PIECEPICK_E_WORKER);
     NO_NUMBER(piecepick_outstanding(picker, worker, &number), PIECEPICK_E_WORKER);
     NO_ANSWER(restore_of(picker, worker, &answer), keeps == PIECEPICK_KEEPS_NOTHING ? PIECEPICK_E_WORKER : PIECEPICK_E_KEEPS);
-    /* The worker comes before the piece and the flags. */
+    /* The worker comes before the piece, the flags and the level. */
     NO_ANSWER(piecepick_have(picker, worker, pieces, &answer), PIECEPICK_E_WORKER);
+    NO_ANSWER(piecepick_lack(picker, worker, pieces, &answer), PIECEPICK_E_WORKER);
     NO_ANSWER(piecepick_bits(picker, worker, all, 0, &answer), PIECEPICK_E_WORKER);
+    NO_ANSWER(piecepick_reach(picker, worker, 8, &answer), PIECEPICK_E_WORKER);
 }
 
 static void no_piece(piecepick_picker *picker, uint32_t keeps, uint32_t piece)
@@ -684,6 +708,8 @@ static void no_piece(piecepick_picker *picker, uint32_t keeps, uint32_t piece)
     NO_NUMBER(piecepick_blocks(picker, piece, &number), PIECEPICK_E_PIECE);
     NO_NUMBER(piecepick_sender(picker, piece, 0, &number), PIECEPICK_E_PIECE);
     NO_NUMBER(piecepick_sender(picker, piece, MORE, &number), PIECEPICK_E_PIECE);
+    NO_NUMBER(piecepick_rule(picker, piece, 0, &number), PIECEPICK_E_PIECE);
+    NO_NUMBER(piecepick_rule(picker, piece, MORE, &number), PIECEPICK_E_PIECE);
     SPOIL(digest);
     EQUAL(piecepick_piece_hash(picker, piece, &digest), PIECEPICK_E_PIECE);
     EQUAL(digest.bytes[0] == 0xa5 && digest.bytes[19] == 0xa5, 1);
@@ -727,6 +753,8 @@ static void try_statuses(uint32_t keeps)
     }
     /* Where no peer has joined. */
     for (size_t at = 0; at < NEED_A_PEER; at++) REFUSED(AT_WORKER[at](picker, 1, &answer), PIECEPICK_R_NOT_JOINED);
+    REFUSED(piecepick_reach(picker, 1, 8, &answer), PIECEPICK_R_NOT_JOINED);
+    NO_ANSWER(piecepick_lack(picker, 1, pieces, &answer), PIECEPICK_E_PIECE);
     if (is_nothing) REFUSED(restore_of(picker, 1, &answer), PIECEPICK_R_NOT_JOINED);
     else NO_ANSWER(restore_of(picker, 1, &answer), PIECEPICK_E_KEEPS);
     NUMBER(piecepick_outstanding(picker, 1, &number), 0);
@@ -744,6 +772,9 @@ static void try_statuses(uint32_t keeps)
     NO_NUMBER(piecepick_sender(picker, 1, blocks_of(1), &number), PIECEPICK_E_BLOCK);
     NO_NUMBER(piecepick_sender(picker, pieces - 1, blocks_of(pieces - 1), &number), PIECEPICK_E_BLOCK);
     NO_NUMBER(piecepick_sender(picker, 1, MORE, &number), PIECEPICK_E_BLOCK);
+    NO_NUMBER(piecepick_rule(picker, 1, blocks_of(1), &number), PIECEPICK_E_BLOCK);
+    NO_NUMBER(piecepick_rule(picker, pieces - 1, blocks_of(pieces - 1), &number), PIECEPICK_E_BLOCK);
+    NO_NUMBER(piecepick_rule(picker, 1, MORE, &number), PIECEPICK_E_BLOCK);
     EQUAL(piecepick_hash4(content, 0, content, 0, content, 0, content, 0, room, 79), PIECEPICK_E_LENGTH);
     EQUAL(piecepick_hash4(content, 0, content, 0, content, 0, content, 0, room, 81), PIECEPICK_E_LENGTH);
     /* Refusals change nothing either. */
@@ -752,9 +783,15 @@ static void try_statuses(uint32_t keeps)
     REFUSED(piecepick_depth(picker, 0, 0, &answer), PIECEPICK_R_WRONG_DEPTH);
     REFUSED(piecepick_depth(picker, 0, 501, &answer), PIECEPICK_R_WRONG_DEPTH);
     REFUSED(piecepick_depth(picker, 0, MORE, &answer), PIECEPICK_R_WRONG_DEPTH);
+    REFUSED(piecepick_reach(picker, 0, 8, &answer), PIECEPICK_R_WRONG_LEVEL);
+    REFUSED(piecepick_reach(picker, 0, 260, &answer), PIECEPICK_R_WRONG_LEVEL);
+    REFUSED(piecepick_reach(picker, 0, MORE, &answer), PIECEPICK_R_WRONG_LEVEL);
     REFUSED(piecepick_set_level(picker, 0, 8, &answer), PIECEPICK_R_WRONG_LEVEL);
     REFUSED(piecepick_set_level(picker, 0, 260, &answer), PIECEPICK_R_WRONG_LEVEL);
     REFUSED(piecepick_set_level(picker, 0, MORE, &answer), PIECEPICK_R_WRONG_LEVEL);
+    REFUSED(piecepick_set_in_order_from(picker, 9, &answer), PIECEPICK_R_WRONG_LEVEL);
+    REFUSED(piecepick_set_in_order_from(picker, 260, &answer), PIECEPICK_R_WRONG_LEVEL);
+    REFUSED(piecepick_set_in_order_from(picker, MORE, &answer), PIECEPICK_R_WRONG_LEVEL);
     REFUSED(piecepick_set_levels(picker, none, pieces - 1, &answer), PIECEPICK_R_WRONG_COUNT);
     REFUSED(piecepick_set_levels(picker, none, pieces + 1, &answer), PIECEPICK_R_WRONG_COUNT);
     REFUSED(piecepick_set_levels(picker, none, 0, &answer), PIECEPICK_R_WRONG_COUNT);
@@ -921,6 +958,105 @@ static void try_levels(uint32_t keeps)
     piecepick_close(&picker);
 }
 
+/* From which level on pieces come in order, and whether all of them do. */
+static void orders_from(piecepick_picker *picker, uint32_t level)
+{
+    uint32_t number;
+    NUMBER(piecepick_order_from(picker, &number), level);
+    NUMBER(piecepick_is_in_order(picker, &number), level < 2);
+}
+
+/* The blocks of this piece are requested next, one behind the other. */
+static void asks_piece(piecepick_picker *picker, uint32_t worker, uint64_t word, uint32_t piece)
+{
+    piecepick_answer answer;
+    for (uint32_t begin = 0; begin < length_of(piece); begin += BLOCK)
+        BLOCKS(piecepick_next(picker, worker, word, &answer), PIECEPICK_K_REQUEST, piece, begin);
+}
+
+/* A reader is at the last pieces. Peer 0 has all, and peer 1 has pieces 0, 1, 6 and 7: the others are rarer. */
+static piecepick_picker *open_with_reader(uint32_t keeps)
+{
+    static const uint8_t LEVELS[] = {4, 4, 4, 4, 4, 4, 5, 5, 5, 7}, SHOWN[] = {0xc3, 0};
+    piecepick_options options = PIECEPICK_OPTIONS;
+    piecepick_picker *picker;
+    piecepick_answer answer;
+    options.keeps = keeps;
+    options.workers = 2;
+    options.depth = 64;
+    options.random = 0;
+    picker = open_by(&options);
+    orders_from(picker, 8);
+    QUIET(piecepick_set_in_order_from(picker, 5, &answer)); /* nobody has joined yet */
+    orders_from(picker, 5);
+    QUIET(piecepick_set_levels(picker, LEVELS, pieces, &answer));
+    come(picker, 0);
+    come_with(picker, 1, SHOWN);
+    return picker;
+}
+
+/* The window before a reader comes in order, and the rest the rarest first. */
+static void try_windows(uint32_t keeps)
+{
+    piecepick_picker *picker = open_with_reader(keeps);
+    piecepick_answer answer;
+    BLOCKS(piecepick_next(picker, 0, 4, &answer), PIECEPICK_K_REQUEST, 9, 0);
+    for (uint32_t piece = 6; piece < 9; piece++) asks_piece(picker, 0, 4, piece); /* though the last of these is the rarest */
+    BLOCKS(piecepick_next(picker, 0, 4, &answer), PIECEPICK_K_REQUEST, 4, 0);     /* not 0, which is before it and less rare */
+    QUIET(piecepick_set_in_order_from(picker, 4, &answer));
+    orders_from(picker, 4);
+    BLOCKS(piecepick_next(picker, 0, 4, &answer), PIECEPICK_K_REQUEST, 0, 0);
+    /* With 7 the highest level alone is in order, with 8 none. */
+    NOTED(piecepick_have(picker, 1, 2, &answer), 1); /* so 3 is rarer than 2 */
+    QUIET(piecepick_set_level(picker, 2, 7, &answer));
+    QUIET(piecepick_set_level(picker, 3, 7, &answer));
+    QUIET(piecepick_set_in_order_from(picker, 8, &answer));
+    orders_from(picker, 8);
+    BLOCKS(piecepick_next(picker, 0, 4, &answer), PIECEPICK_K_REQUEST, 3, 0);
+    QUIET(piecepick_set_in_order_from(picker, 7, &answer));
+    orders_from(picker, 7);
+    asks_piece(picker, 0, 4, 2);
+    BLOCKS(piecepick_next(picker, 0, 4, &answer), PIECEPICK_K_REQUEST, 3, BLOCK);
+    BLOCKS(piecepick_next(picker, 0, 4, &answer), PIECEPICK_K_REQUEST, 4, BLOCK); /* below it the rarest again */
+    REFUSED(piecepick_set_in_order_from(picker, 9, &answer), PIECEPICK_R_WRONG_LEVEL);
+    orders_from(picker, 7);
+    if (keeps == PIECEPICK_KEEPS_JOURNAL) EQUAL(piecepick_audit(picker), PIECEPICK_OK);
+    piecepick_close(&picker);
+}
+
+/* Two calls tell an order, and the newest of either holds. */
+static void try_orders(uint32_t keeps)
+{
+    piecepick_picker *picker = open_with_reader(keeps);
+    piecepick_answer answer;
+    QUIET(piecepick_set_in_order(picker, 0, &answer));
+    orders_from(picker, 8);
+    asks_piece(picker, 0, 4, 9);
+    BLOCKS(piecepick_next(picker, 0, 4, &answer), PIECEPICK_K_REQUEST, 8, 0);
+    QUIET(piecepick_set_in_order_from(picker, 5, &answer));
+    orders_from(picker, 5);
+    for (uint32_t piece = 6; piece < 8; piece++) asks_piece(picker, 0, 4, piece);
+    BLOCKS(piecepick_next(picker, 0, 4, &answer), PIECEPICK_K_REQUEST, 8, BLOCK);
+    BLOCKS(piecepick_next(picker, 0, 4, &answer), PIECEPICK_K_REQUEST, 4, 0);
+    QUIET(piecepick_set_in_order(picker, 1, &answer));
+    orders_from(picker, 0);
+    BLOCKS(piecepick_next(picker, 0, 4, &answer), PIECEPICK_K_REQUEST, 0, 0);
+    QUIET(piecepick_set_in_order_from(picker, 8, &answer));
+    orders_from(picker, 8);
+    BLOCKS(piecepick_next(picker, 0, 4, &answer), PIECEPICK_K_REQUEST, 4, BLOCK);
+    QUIET(piecepick_set_in_order_from(picker, 1, &answer));
+    orders_from(picker, 1);
+    BLOCKS(piecepick_next(picker, 0, 4, &answer), PIECEPICK_K_REQUEST, 0, BLOCK);
+    QUIET(piecepick_set_in_order(picker, 0, &answer));
+    orders_from(picker, 8);
+    BLOCKS(piecepick_next(picker, 0, 4, &answer), PIECEPICK_K_REQUEST, 5, 0);
+    QUIET(piecepick_set_in_order_from(picker, 0, &answer));
+    orders_from(picker, 0);
+    BLOCKS(piecepick_next(picker, 0, 4, &answer), PIECEPICK_K_REQUEST, 1, 0);
+    if (keeps == PIECEPICK_KEEPS_JOURNAL) EQUAL(piecepick_audit(picker), PIECEPICK_OK);
+    piecepick_close(&picker);
+}
+
 static const uint8_t two[MOST_PIECES / 8] = {0xc0}; /* flags: the first two pieces */
 
 /* With one open piece allowed: worker 1 has two pieces, and 0 has all. */
@@ -994,6 +1130,19 @@ static uint32_t asks_all(piecepick_picker *picker, uint32_t worker, piecepick_ki
     }
     EQUAL(answer.kind, last);
     return asked;
+}
+
+/* How many blocks of the piece are in flight at the worker's peer. */
+static uint32_t in_flight_of(piecepick_picker *picker, uint32_t worker, uint32_t piece)
+{
+    piecepick_answer answer;
+    uint32_t count, found = 0;
+    EQUAL(piecepick_outstanding(picker, worker, &count), PIECEPICK_OK);
+    for (uint32_t place = 0; place < count; place++) {
+        EQUAL(piecepick_outstanding_at(picker, worker, place, &answer), PIECEPICK_OK);
+        found += answer.piece == piece;
+    }
+    return found;
 }
 
 static void try_endgame(uint32_t keeps)
@@ -1096,6 +1245,276 @@ static void try_shown(uint32_t keeps)
     }
 }
 
+/* Four pieces are wanted, each of another level. A slow peer gets nothing urgent: no block beyond its reach is requested of it. */
+static const uint8_t URGENT[] = {7, 5, 4, 2, 0, 0, 0, 0, 0, 0};
+
+static void try_reach(uint32_t keeps)
+{
+    piecepick_picker *picker = open_for(keeps, 2);
+    piecepick_answer answer;
+    uint32_t number;
+    QUIET(piecepick_set_levels(picker, URGENT, pieces, &answer));
+    come(picker, 0);
+    QUIET(piecepick_depth(picker, 0, 64, &answer));
+    QUIET(piecepick_reach(picker, 0, 4, &answer));
+    for (uint32_t piece = 2; piece < 4; piece++) asks_piece(picker, 0, 0, piece);
+    GETS(piecepick_next(picker, 0, 0, &answer), PIECEPICK_K_IDLE);
+    QUIET(piecepick_reach(picker, 0, 6, &answer));
+    asks_piece(picker, 0, 0, 1);
+    GETS(piecepick_next(picker, 0, 0, &answer), PIECEPICK_K_IDLE);
+    QUIET(piecepick_reach(picker, 0, 7, &answer));
+    BLOCKS(piecepick_next(picker, 0, 0, &answer), PIECEPICK_K_REQUEST, 0, 0);
+    /* What is in flight stays so. */
+    QUIET(piecepick_reach(picker, 0, 0, &answer));
+    NUMBER(piecepick_outstanding(picker, 0, &number), 7);
+    GETS(piecepick_next(picker, 0, 0, &answer), PIECEPICK_K_IDLE);
+    /* A piece that is raised or lowered is beyond the reach or within it by its newest level. */
+    QUIET(piecepick_reach(picker, 0, 4, &answer));
+    QUIET(piecepick_set_level(picker, 6, 5, &answer));
+    GETS(piecepick_next(picker, 0, 0, &answer), PIECEPICK_K_IDLE);
+    QUIET(piecepick_set_level(picker, 6, 4, &answer));
+    asks_piece(picker, 0, 0, 6);
+    GETS(piecepick_next(picker, 0, 0, &answer), PIECEPICK_K_IDLE);
+    /* Another peer has a reach of its own. */
+    come(picker, 1);
+    BLOCKS(piecepick_next(picker, 1, 0, &answer), PIECEPICK_K_REQUEST, 0, BLOCK);
+    if (keeps == PIECEPICK_KEEPS_JOURNAL) EQUAL(piecepick_audit(picker), PIECEPICK_OK);
+    piecepick_close(&picker);
+}
+
+/* A reach holds until the worker's next peer joins. It is no word of the peer, so a bitfield may follow. */
+static void try_reaches_gone(uint32_t keeps)
+{
+    piecepick_picker *picker = open_for(keeps, 1);
+    piecepick_answer answer;
+    QUIET(piecepick_set_levels(picker, URGENT, pieces, &answer));
+    REFUSED(piecepick_reach(picker, 0, 7, &answer), PIECEPICK_R_NOT_JOINED);
+    GETS(piecepick_join(picker, 0, &answer), PIECEPICK_K_JOINED);
+    QUIET(piecepick_reach(picker, 0, 1, &answer));
+    NOTED(piecepick_bits(picker, 0, all, flags_len, &answer), 1);
+    GETS(piecepick_next(picker, 0, 0, &answer), PIECEPICK_K_CHOKED);
+    for (int turn = 0; turn < 2; turn++) { /* a choke ends no reach */
+        QUIET(piecepick_unchoke(picker, 0, &answer));
+        GETS(piecepick_next(picker, 0, 0, &answer), PIECEPICK_K_IDLE);
+        REFUSED(piecepick_reach(picker, 0, 8, &answer), PIECEPICK_R_WRONG_LEVEL);
+        GETS(piecepick_next(picker, 0, 0, &answer), PIECEPICK_K_IDLE);
+        QUIET(piecepick_choke(picker, 0, &answer));
+    }
+    QUIET(piecepick_leave(picker, 0, &answer));
+    come(picker, 0);
+    asks_piece(picker, 0, 0, 0);
+    QUIET(piecepick_reach(picker, 0, 0, &answer));
+    GETS(piecepick_next(picker, 0, 0, &answer), PIECEPICK_K_IDLE);
+    QUIET(piecepick_want(picker, none, flags_len, &answer));
+    GETS(piecepick_next(picker, 0, 0, &answer), PIECEPICK_K_NOTHING_LEFT);
+    if (keeps == PIECEPICK_KEEPS_JOURNAL) EQUAL(piecepick_audit(picker), PIECEPICK_OK);
+    piecepick_close(&picker);
+}
+
+/* In endgame no block beyond a peer's reach is requested again of it. A cancel is told whatever its reach is. */
+static void try_reaches_in_endgame(uint32_t keeps)
+{
+    piecepick_picker *picker = open_for(keeps, 2);
+    piecepick_answer answer;
+    QUIET(piecepick_set_levels(picker, URGENT, pieces, &answer));
+    come(picker, 0);
+    come(picker, 1);
+    for (uint32_t worker = 0; worker < 2; worker++) {
+        QUIET(piecepick_depth(picker, worker, 64, &answer));
+        QUIET(piecepick_reach(picker, worker, 4, &answer));
+    }
+    EQUAL(asks_all(picker, 0, PIECEPICK_K_IDLE), 4);
+    EQUAL(asks_all(picker, 1, PIECEPICK_K_IDLE), 0); /* endgame waits for the two pieces that are beyond both */
+    QUIET(piecepick_reach(picker, 0, 7, &answer));
+    EQUAL(asks_all(picker, 0, PIECEPICK_K_IDLE), 4);
+    EQUAL(asks_all(picker, 1, PIECEPICK_K_IDLE), 4);
+    EQUAL(in_flight_of(picker, 1, 2) + in_flight_of(picker, 1, 3), 4);
+    QUIET(piecepick_reach(picker, 1, 5, &answer));
+    EQUAL(asks_all(picker, 1, PIECEPICK_K_IDLE), 2);
+    EQUAL(in_flight_of(picker, 1, 1), 2);
+    QUIET(piecepick_reach(picker, 1, 0, &answer));
+    EQUAL(bring(picker, 0, 1, 0, 0), PIECEPICK_K_STORED);
+    BLOCKS(piecepick_next(picker, 1, 0, &answer), PIECEPICK_K_CANCEL, 1, 0);
+    GETS(piecepick_next(picker, 1, 0, &answer), PIECEPICK_K_IDLE);
+    if (keeps == PIECEPICK_KEEPS_JOURNAL) EQUAL(piecepick_audit(picker), PIECEPICK_OK);
+    piecepick_close(&picker);
+}
+
+/* ---- A peer that drops a piece. */
+
+/* It shows the piece no more, and what was in flight there of it any peer may be asked for again. */
+static void try_lacks(uint32_t keeps)
+{
+    piecepick_options options = PIECEPICK_OPTIONS;
+    piecepick_picker *picker;
+    piecepick_answer answer;
+    uint32_t number;
+    options.keeps = keeps;
+    options.workers = 2;
+    options.askers = 1; /* no endgame: the other peer is asked for what was freed alone */
+    picker = open_by(&options);
+    come_with(picker, 0, two);
+    come_with(picker, 1, two);
+    EQUAL(asks_all(picker, 0, PIECEPICK_K_IDLE), 4);
+    EQUAL(asks_all(picker, 1, PIECEPICK_K_IDLE), 0);
+    EQUAL(bring(picker, 0, 0, 0, 0), PIECEPICK_K_STORED);
+    NOTED(piecepick_lack(picker, 0, 0, &answer), 1);
+    NUMBER(piecepick_availability(picker, 0, &number), 1);
+    NUMBER(piecepick_availability(picker, 1, &number), 2);
+    NUMBER(piecepick_outstanding(picker, 0, &number), 2);
+    EQUAL(in_flight_of(picker, 0, 1), 2);
+    REFUSED(piecepick_release(picker, 0, 0, BLOCK, &answer), PIECEPICK_R_NOT_ASKED);
+    GETS(piecepick_next(picker, 0, 3, &answer), PIECEPICK_K_IDLE); /* no cancel */
+    NUMBER(piecepick_sender(picker, 0, 0, &number), 0);            /* what it brought stays held */
+    BLOCKS(piecepick_next(picker, 1, 3, &answer), PIECEPICK_K_REQUEST, 0, BLOCK);
+    GETS(piecepick_next(picker, 1, 3, &answer), PIECEPICK_K_IDLE);
+    /* A have takes it back. */
+    NOTED(piecepick_have(picker, 0, 0, &answer), 1);
+    NUMBER(piecepick_availability(picker, 0, &number), 2);
+    GETS(piecepick_next(picker, 0, 3, &answer), PIECEPICK_K_IDLE); /* the other peer has the block in flight */
+    QUIET(piecepick_release(picker, 1, 0, BLOCK, &answer));
+    BLOCKS(piecepick_next(picker, 0, 3, &answer), PIECEPICK_K_REQUEST, 0, BLOCK);
+    /* The peer drops the piece once more, and its block comes all the same: it is stored, and cancelled at the other peer. */
+    NOTED(piecepick_lack(picker, 0, 0, &answer), 1);
+    BLOCKS(piecepick_next(picker, 1, 3, &answer), PIECEPICK_K_REQUEST, 0, BLOCK);
+    EQUAL(bring(picker, 0, 0, BLOCK, 0), PIECEPICK_K_COMPLETED);
+    BLOCKS(piecepick_next(picker, 1, 3, &answer), PIECEPICK_K_CANCEL, 0, BLOCK);
+    EQUAL(settle(picker, keeps, 0, 0), PIECEPICK_K_HAD);
+    /* Nothing is left at it. */
+    NOTED(piecepick_lack(picker, 0, 1, &answer), 0);
+    NUMBER(piecepick_outstanding(picker, 0, &number), 0);
+    GETS(piecepick_next(picker, 0, 3, &answer), PIECEPICK_K_NOTHING_LEFT);
+    asks_piece(picker, 1, 3, 1);
+    /* A piece that is had is of no interest, dropped or not. The set of a `haves` takes back what was dropped. */
+    NOTED(piecepick_have(picker, 0, 0, &answer), 0);
+    NOTED(piecepick_lack(picker, 0, 0, &answer), 0);
+    NUMBER(piecepick_is_had(picker, 0, &number), 1);
+    NOTED(piecepick_haves(picker, 0, two, flags_len, &answer), 1);
+    NUMBER(piecepick_availability(picker, 0, &number), 2);
+    NUMBER(piecepick_availability(picker, 1, &number), 2);
+    if (keeps == PIECEPICK_KEEPS_JOURNAL) EQUAL(piecepick_audit(picker), PIECEPICK_OK);
+    piecepick_close(&picker);
+}
+
+/* A peer may drop what it never showed. Nothing changes, but that a bitfield comes too late. */
+static void try_lacks_of_nothing(uint32_t keeps)
+{
+    piecepick_picker *picker = open_for(keeps, 2);
+    piecepick_answer answer;
+    uint32_t number;
+    uint64_t before;
+    come_with(picker, 1, two);
+    GETS(piecepick_join(picker, 0, &answer), PIECEPICK_K_JOINED);
+    before = still_picture(picker);
+    NOTED(piecepick_lack(picker, 0, 1, &answer), 0);
+    EQUAL(still_picture(picker), before);
+    REFUSED(piecepick_bits(picker, 0, all, flags_len, &answer), PIECEPICK_R_LATE_BITS);
+    NOTED(piecepick_haves(picker, 0, two, flags_len, &answer), 1);
+    QUIET(piecepick_unchoke(picker, 0, &answer));
+    EQUAL(asks_all(picker, 0, PIECEPICK_K_IDLE), 4);
+    before = still_picture(picker);
+    for (uint32_t piece = 2; piece < pieces; piece++) NOTED(piecepick_lack(picker, 0, piece, &answer), 1);
+    EQUAL(still_picture(picker), before);
+    /* Twice is as once. */
+    NOTED(piecepick_lack(picker, 0, 1, &answer), 1);
+    before = still_picture(picker);
+    NOTED(piecepick_lack(picker, 0, 1, &answer), 1);
+    EQUAL(still_picture(picker), before);
+    NUMBER(piecepick_availability(picker, 1, &number), 1);
+    /* It is of this peer alone: the worker's next one shows what it shows. */
+    QUIET(piecepick_leave(picker, 0, &answer));
+    REFUSED(piecepick_lack(picker, 0, 1, &answer), PIECEPICK_R_NOT_JOINED);
+    come_with(picker, 0, two);
+    NUMBER(piecepick_availability(picker, 1, &number), 2);
+    if (keeps == PIECEPICK_KEEPS_JOURNAL) EQUAL(piecepick_audit(picker), PIECEPICK_OK);
+    piecepick_close(&picker);
+}
+
+/* In endgame the other peer's requests stay, and a third peer may be asked in place of the one that dropped the piece. */
+static void try_lacks_in_endgame(uint32_t keeps)
+{
+    piecepick_picker *picker = open_for(keeps, 3);
+    piecepick_answer answer;
+    uint32_t number;
+    for (uint32_t worker = 0; worker < 3; worker++) come_with(picker, worker, two);
+    for (uint32_t worker = 0; worker < 3; worker++) EQUAL(asks_all(picker, worker, PIECEPICK_K_IDLE), worker < 2 ? 4 : 0);
+    NOTED(piecepick_lack(picker, 0, 0, &answer), 1);
+    EQUAL(in_flight_of(picker, 0, 0), 0);
+    EQUAL(in_flight_of(picker, 1, 0), 2);
+    for (uint32_t worker = 0; worker < 2; worker++) GETS(piecepick_next(picker, worker, 3, &answer), PIECEPICK_K_IDLE);
+    asks_piece(picker, 2, 3, 0);
+    GETS(piecepick_next(picker, 2, 3, &answer), PIECEPICK_K_IDLE);
+    /* A cancel that is due stays due. */
+    EQUAL(bring(picker, 1, 1, 0, 0), PIECEPICK_K_STORED);
+    NOTED(piecepick_lack(picker, 0, 1, &answer), 0);
+    NUMBER(piecepick_outstanding(picker, 0, &number), 0);
+    BLOCKS(piecepick_next(picker, 0, 3, &answer), PIECEPICK_K_CANCEL, 1, 0);
+    GETS(piecepick_next(picker, 0, 3, &answer), PIECEPICK_K_NOTHING_LEFT);
+    BLOCKS(piecepick_next(picker, 2, 3, &answer), PIECEPICK_K_REQUEST, 1, BLOCK);
+    GETS(piecepick_next(picker, 2, 3, &answer), PIECEPICK_K_IDLE);
+    if (keeps == PIECEPICK_KEEPS_JOURNAL) EQUAL(piecepick_audit(picker), PIECEPICK_OK);
+    piecepick_close(&picker);
+}
+
+/* ---- By which rule a block was requested. */
+
+static void asks_by(piecepick_picker *picker, uint32_t worker, uint64_t word, uint32_t piece, uint32_t begin, piecepick_pick_rule rule)
+{
+    piecepick_answer answer;
+    uint32_t number;
+    BLOCKS(piecepick_next(picker, worker, word, &answer), PIECEPICK_K_REQUEST, piece, begin);
+    NUMBER(piecepick_rule(picker, piece, begin / BLOCK, &number), rule);
+}
+
+/* Peer 0 has all, and peer 1 has the first two pieces: the others are rarer. */
+static void try_rules(uint32_t keeps)
+{
+    piecepick_picker *picker = open_for(keeps, 2);
+    piecepick_answer answer;
+    come(picker, 0);
+    come_with(picker, 1, two);
+    QUIET(piecepick_depth(picker, 0, 64, &answer));
+    asks_by(picker, 0, 1, 1, 0, PIECEPICK_RULE_RANDOM); /* though others are rarer */
+    asks_by(picker, 0, 1, 1, BLOCK, PIECEPICK_RULE_BEGUN);
+    EQUAL(bring_whole(picker, keeps, 0, 1), PIECEPICK_K_HAD);
+    asks_by(picker, 0, 1, 2, 0, PIECEPICK_RULE_RAREST);
+    QUIET(piecepick_release(picker, 0, 2, 0, &answer)); /* then the piece is unbegun again */
+    asks_by(picker, 0, 1, 2, 0, PIECEPICK_RULE_RAREST);
+    asks_by(picker, 0, 1, 2, BLOCK, PIECEPICK_RULE_BEGUN);
+    asks_by(picker, 1, 1, 0, 0, PIECEPICK_RULE_RAREST); /* the rarest of those that this peer has */
+    /* A piece goes on by what is held, too. */
+    EQUAL(bring(picker, 0, 3, BLOCK, 0), PIECEPICK_K_STORED);
+    asks_by(picker, 0, 1, 3, 0, PIECEPICK_RULE_BEGUN);
+    /* In order, whether the piece has begun or not. */
+    QUIET(piecepick_set_in_order(picker, 1, &answer));
+    asks_by(picker, 0, 7, 0, BLOCK, PIECEPICK_RULE_IN_ORDER);
+    asks_by(picker, 0, 7, 4, 0, PIECEPICK_RULE_IN_ORDER);
+    QUIET(piecepick_set_in_order(picker, 0, &answer));
+    asks_by(picker, 0, 7, 4, BLOCK, PIECEPICK_RULE_BEGUN);
+    /* Of two levels the higher one comes in order. */
+    QUIET(piecepick_set_in_order_from(picker, 5, &answer));
+    QUIET(piecepick_set_level(picker, 8, 5, &answer));
+    asks_by(picker, 0, 5, 8, 0, PIECEPICK_RULE_IN_ORDER);
+    asks_by(picker, 0, 5, 8, BLOCK, PIECEPICK_RULE_IN_ORDER);
+    for (uint32_t piece = 5; piece < 8; piece++) {
+        asks_by(picker, 0, piece, piece, 0, PIECEPICK_RULE_RAREST);
+        asks_by(picker, 0, piece, piece, BLOCK, PIECEPICK_RULE_BEGUN);
+    }
+    asks_by(picker, 0, 0, 9, 0, PIECEPICK_RULE_RAREST); /* a piece of one block */
+    /* In endgame, also where pieces come in order. */
+    asks_by(picker, 0, 0, 0, 0, PIECEPICK_RULE_ENDGAME);
+    GETS(piecepick_next(picker, 0, 0, &answer), PIECEPICK_K_IDLE);
+    QUIET(piecepick_set_in_order(picker, 1, &answer));
+    asks_by(picker, 1, 0, 0, BLOCK, PIECEPICK_RULE_ENDGAME);
+    GETS(piecepick_next(picker, 1, 0, &answer), PIECEPICK_K_IDLE);
+    /* What is freed is requested by the rules of before, though endgame was there. */
+    QUIET(piecepick_choke(picker, 0, &answer));
+    QUIET(piecepick_release(picker, 1, 0, BLOCK, &answer));
+    asks_by(picker, 1, 0, 0, BLOCK, PIECEPICK_RULE_IN_ORDER);
+    if (keeps == PIECEPICK_KEEPS_JOURNAL) EQUAL(piecepick_audit(picker), PIECEPICK_OK);
+    piecepick_close(&picker);
+}
+
 /* ---- When a peer is worth another question. */
 
 static uint64_t epoch(piecepick_picker *picker)
@@ -1134,6 +1553,10 @@ static void try_epochs(uint32_t keeps)
     STAYS(QUIET(piecepick_depth(picker, 0, 64, &answer)));
     STAYS(QUIET(piecepick_set_in_order(picker, 1, &answer)));
     STAYS(QUIET(piecepick_set_in_order(picker, 0, &answer)));
+    STAYS(QUIET(piecepick_set_in_order_from(picker, 5, &answer)));
+    STAYS(QUIET(piecepick_set_in_order_from(picker, 8, &answer)));
+    STAYS(QUIET(piecepick_reach(picker, 0, 3, &answer)));
+    STAYS(QUIET(piecepick_reach(picker, 0, 7, &answer)));
     /* Two blocks of piece 0 are asked of the first peer, so the second one has nothing. */
     for (uint32_t index = 0; index < 2; index++) {
         STAYS(EQUAL(piecepick_next(picker, 0, 1, &answer), PIECEPICK_OK));
@@ -1150,9 +1573,23 @@ static void try_epochs(uint32_t keeps)
     STAYS(REFUSED(piecepick_leave(picker, 2, &answer), PIECEPICK_R_NOT_JOINED));
     STAYS(REFUSED(piecepick_join(picker, 0, &answer), PIECEPICK_R_ALREADY_JOINED));
     STAYS(REFUSED(piecepick_release(picker, 1, 0, 0, &answer), PIECEPICK_R_NOT_ASKED));
+    STAYS(REFUSED(piecepick_lack(picker, 2, 0, &answer), PIECEPICK_R_NOT_JOINED));
     STAYS(REFUSED(piecepick_set_level(picker, 0, 8, &answer), PIECEPICK_R_WRONG_LEVEL));
+    STAYS(REFUSED(piecepick_reach(picker, 0, 8, &answer), PIECEPICK_R_WRONG_LEVEL));
+    STAYS(REFUSED(piecepick_set_in_order_from(picker, 9, &answer), PIECEPICK_R_WRONG_LEVEL));
     STAYS(NO_ANSWER(piecepick_choke(picker, 3, &answer), PIECEPICK_E_WORKER));
+    STAYS(NO_ANSWER(piecepick_lack(picker, 3, 0, &answer), PIECEPICK_E_WORKER));
+    STAYS(NO_ANSWER(piecepick_lack(picker, 0, pieces, &answer), PIECEPICK_E_PIECE));
     STAYS(NUMBER(piecepick_is_had(picker, 0, &number), 0));
+    STAYS(EQUAL(piecepick_rule(picker, 0, 0, &number), PIECEPICK_OK));
+    /* The first peer drops the piece, which frees both blocks. Then it has the piece again, and they are asked of it again. */
+    RISES(NOTED(piecepick_lack(picker, 0, 0, &answer), 1));
+    STAYS(BLOCKS(piecepick_next(picker, 1, 1, &answer), PIECEPICK_K_REQUEST, 0, 0));
+    RISES(QUIET(piecepick_release(picker, 1, 0, 0, &answer)));
+    STAYS(NOTED(piecepick_have(picker, 0, 0, &answer), 1));
+    for (uint32_t index = 0; index < 2; index++)
+        STAYS(BLOCKS(piecepick_next(picker, 0, 0, &answer), PIECEPICK_K_REQUEST, 0, index * BLOCK));
+    STAYS(GETS(piecepick_next(picker, 1, 1, &answer), PIECEPICK_K_IDLE));
     /* A choke of the first peer frees both blocks for the second one. */
     RISES(QUIET(piecepick_choke(picker, 0, &answer)));
     STAYS(EQUAL(piecepick_next(picker, 1, 1, &answer), PIECEPICK_OK));
@@ -1200,9 +1637,55 @@ static void try_epochs(uint32_t keeps)
     EQUAL(asks_all(picker, 1, PIECEPICK_K_IDLE), 4);
     if (keeps == PIECEPICK_KEEPS_JOURNAL) EQUAL(piecepick_audit(picker), PIECEPICK_OK);
     piecepick_close(&picker);
+    /* Endgame waits for a piece that a third peer alone has, until that peer drops it. */
+    picker = open_for(keeps, 3);
+    come_with(picker, 0, two);
+    come_with(picker, 1, two);
+    GETS(piecepick_join(picker, 2, &answer), PIECEPICK_K_JOINED);
+    NOTED(piecepick_have(picker, 2, 5, &answer), 1);
+    EQUAL(asks_all(picker, 0, PIECEPICK_K_IDLE), 4);
+    EQUAL(asks_all(picker, 1, PIECEPICK_K_IDLE), 0);
+    RISES(NOTED(piecepick_lack(picker, 2, 5, &answer), 0));
+    EQUAL(asks_all(picker, 1, PIECEPICK_K_IDLE), 4);
+    if (keeps == PIECEPICK_KEEPS_JOURNAL) EQUAL(piecepick_audit(picker), PIECEPICK_OK);
+    piecepick_close(&picker);
 }
 
-/* Calls at random. A peer that had nothing to be asked for has nothing while its own worker tells nothing, and the epoch stays. */
+/* At how many of the peers the block is in flight. */
+static uint32_t askers_of(piecepick_picker *picker, uint32_t peers, uint32_t piece, uint32_t begin)
+{
+    piecepick_answer answer;
+    uint32_t count, found = 0;
+    for (uint32_t peer = 0; peer < peers; peer++) {
+        EQUAL(piecepick_outstanding(picker, peer, &count), PIECEPICK_OK);
+        for (uint32_t place = 0; place < count; place++) {
+            EQUAL(piecepick_outstanding_at(picker, peer, place, &answer), PIECEPICK_OK);
+            found += answer.piece == piece && answer.begin == begin;
+        }
+    }
+    return found;
+}
+
+/* The rule of the block that was requested right now, by what else the picker tells. So many pieces come at random. */
+static piecepick_pick_rule rule_of(piecepick_picker *picker, uint32_t peers, uint32_t random, uint32_t piece, uint32_t begin)
+{
+    uint32_t level, from, number, touched = 0, had = 0;
+    if (askers_of(picker, peers, piece, begin) > 1) return PIECEPICK_RULE_ENDGAME;
+    EQUAL(piecepick_level(picker, piece, &level), PIECEPICK_OK);
+    EQUAL(piecepick_order_from(picker, &from), PIECEPICK_OK);
+    if (from <= level) return PIECEPICK_RULE_IN_ORDER;
+    for (uint32_t index = 0; index < blocks_of(piece); index++)
+        touched += piecepick_sender(picker, piece, index, &number) == PIECEPICK_OK || askers_of(picker, peers, piece, index * BLOCK) > 0;
+    if (touched > 1) return PIECEPICK_RULE_BEGUN;
+    for (uint32_t other = 0; other < pieces; other++) {
+        EQUAL(piecepick_is_had(picker, other, &number), PIECEPICK_OK);
+        had += number;
+    }
+    return had < random ? PIECEPICK_RULE_RANDOM : PIECEPICK_RULE_RAREST;
+}
+
+/* Calls at random. A peer that had nothing to be asked for has nothing while its own worker tells nothing, and the epoch stays. Each request
+   tells its rule. */
 static void try_epochs_at_random(uint32_t keeps)
 {
     enum { PEERS = 4, STEPS = 20000 };
@@ -1212,7 +1695,7 @@ static void try_epochs_at_random(uint32_t keeps)
     uint64_t state = 1, idle_at[PEERS] = {0};
     uint32_t complete = 1, number;
     int is_idle[PEERS] = {0}, is_wrong[MOST_PIECES] = {0};
-    long again = 0;
+    long again = 0, by[PIECEPICK_RULE_ENDGAME + 1] = {0};
     options.keeps = keeps;
     options.workers = PEERS;
     options.depth = 5;
@@ -1246,7 +1729,9 @@ static void try_epochs_at_random(uint32_t keeps)
         else if (action < 4) status = piecepick_leave(picker, worker, &answer);
         else if (action < 6) status = piecepick_choke(picker, worker, &answer);
         else if (action < 9) status = piecepick_unchoke(picker, worker, &answer);
-        else if (action < 16) status = piecepick_have(picker, worker, piece, &answer);
+        else if (action < 14) status = piecepick_have(picker, worker, piece, &answer);
+        else if (action < 15) status = piecepick_lack(picker, worker, piece, &answer);
+        else if (action < 16) status = piecepick_reach(picker, worker, level, &answer);
         else if (action < 17) status = piecepick_haves(picker, worker, all, flags_len, &answer);
         else if (action < 18) status = piecepick_depth(picker, worker, level + 1, &answer);
         else if (action < 20) status = piecepick_release(picker, worker, piece, begin, &answer);
@@ -1254,6 +1739,11 @@ static void try_epochs_at_random(uint32_t keeps)
             status = piecepick_next(picker, worker, state, &answer);
             is_idle[worker] = answer.kind == PIECEPICK_K_IDLE || answer.kind == PIECEPICK_K_NOTHING_LEFT;
             if (is_idle[worker]) idle_at[worker] = epoch(picker);
+            if (answer.kind == PIECEPICK_K_REQUEST) {
+                NUMBER(piecepick_rule(picker, answer.piece, answer.begin / BLOCK, &number),
+                       rule_of(picker, PEERS, options.random, answer.piece, answer.begin));
+                by[number]++;
+            }
         } else if (action < 60) {
             wrong = begin + BLOCK >= length_of(piece) && level < 3;
             uint8_t block[BLOCK];
@@ -1269,6 +1759,7 @@ static void try_epochs_at_random(uint32_t keeps)
             /* Some last blocks were wrong. */
             if (number) EQUAL(settle(picker, keeps, piece, is_wrong[piece]), is_wrong[piece] ? PIECEPICK_K_FAILED : PIECEPICK_K_HAD);
             else if (action < 61) status = piecepick_set_level(picker, piece, level, &answer);
+            else if (action < 62) status = piecepick_set_in_order_from(picker, level + 1, &answer);
         }
         EQUAL(status, PIECEPICK_OK);
         for (uint32_t peer = 0; peer < PEERS; peer++) {
@@ -1280,6 +1771,7 @@ static void try_epochs_at_random(uint32_t keeps)
         EQUAL(piecepick_is_complete(picker, &complete), PIECEPICK_OK);
     }
     EQUAL(again > 1000, 1);
+    for (size_t rule = PIECEPICK_RULE_IN_ORDER; rule <= PIECEPICK_RULE_ENDGAME; rule++) EQUAL(by[rule] > 0, 1);
     if (keeps == PIECEPICK_KEEPS_JOURNAL) EQUAL(piecepick_audit(picker), PIECEPICK_OK);
     piecepick_close(&picker);
 }
@@ -1379,19 +1871,6 @@ static void try_copies(uint32_t keeps)
 }
 
 /* ---- Extensions of the protocol, and what a client meets, as docs/CALLS.md has them. */
-
-/* How many blocks of the piece are in flight at the worker's peer. */
-static uint32_t in_flight_of(piecepick_picker *picker, uint32_t worker, uint32_t piece)
-{
-    piecepick_answer answer;
-    uint32_t count, found = 0;
-    EQUAL(piecepick_outstanding(picker, worker, &count), PIECEPICK_OK);
-    for (uint32_t place = 0; place < count; place++) {
-        EQUAL(piecepick_outstanding_at(picker, worker, place, &answer), PIECEPICK_OK);
-        found += answer.piece == piece;
-    }
-    return found;
-}
 
 /* A peer chokes us, and lets us fetch two pieces all the same (BEP 6). A second number stands for it, which shows these alone. Once the peer
    unchokes us, that number shows the rest and the first one leaves, or the other way round. */
@@ -1911,13 +2390,16 @@ static void run(uint32_t keeps)
     AGAIN_IF(is_journal, piecepick_set_levels(picker, levels, pieces, &answer));
     AGAIN_IF(is_journal, piecepick_set_level(picker, 0, 7, &answer));
     AGAIN_IF(is_journal, piecepick_set_in_order(picker, 1, &answer));
+    AGAIN_IF(is_journal, piecepick_set_in_order_from(picker, 5, &answer));
     for (uint32_t worker = 0; worker < 2; worker++) {
         AGAIN_IF(!is_nothing, piecepick_join(picker, worker, &answer));
         AGAIN(piecepick_bits(picker, worker, all, flags_len, &answer));
         AGAIN(piecepick_haves(picker, worker, all, flags_len, &answer));
+        AGAIN_IF(is_journal, piecepick_lack(picker, worker, 1, &answer));
         AGAIN_IF(!is_nothing, piecepick_have(picker, worker, 1, &answer));
         AGAIN_IF(!is_nothing, piecepick_unchoke(picker, worker, &answer));
         AGAIN_IF(!is_nothing, piecepick_depth(picker, worker, 7, &answer));
+        AGAIN_IF(is_journal, piecepick_reach(picker, worker, worker == 0 ? 7 : 4, &answer));
     }
     if (is_nothing) {
         EQUAL(piecepick_join(picker, 2, &answer), PIECEPICK_OK);
@@ -1930,6 +2412,7 @@ static void run(uint32_t keeps)
         AGAIN_IF(!is_nothing, piecepick_next(picker, worker, worker * 77u, &request));
         idle = request.kind == PIECEPICK_K_NOTHING_LEFT ? idle + 1 : 0;
         if (request.kind != PIECEPICK_K_REQUEST) continue;
+        EQUAL(piecepick_rule(picker, request.piece, request.begin / BLOCK, &number), PIECEPICK_OK);
         EQUAL(piecepick_outstanding(picker, worker, &number), PIECEPICK_OK);
         EQUAL(number, 1);
         EQUAL(piecepick_outstanding_at(picker, worker, 0, &answer), PIECEPICK_OK);
@@ -2120,11 +2603,20 @@ int main(int argc, char **argv)
         {"what comes on the wire, and what is asked", try_wire},
         {"pieces, and what is wanted", try_pieces},
         {"levels and order", try_levels},
+        {"a window in order", try_windows},
+        {"two calls that tell an order", try_orders},
         {"open pieces", try_open_pieces},
         {"depths", try_depths},
         {"askers in endgame, and cancels", try_endgame},
         {"how many blocks endgame asks of a peer", try_rush},
         {"an endgame though nobody has a piece", try_shown},
+        {"the reach of a slow peer", try_reach},
+        {"a reach that goes with its peer", try_reaches_gone},
+        {"a reach in endgame", try_reaches_in_endgame},
+        {"a piece that a peer drops", try_lacks},
+        {"a piece that it never had", try_lacks_of_nothing},
+        {"a dropped piece in endgame", try_lacks_in_endgame},
+        {"by which rule a block is requested", try_rules},
         {"epochs", try_epochs},
         {"epochs, in calls at random", try_epochs_at_random},
         {"senders", try_senders},

@@ -153,6 +153,26 @@ int main()
         well = well && picker.next(1, 0).kind == (shown == 1 ? PIECEPICK_K_REQUEST : PIECEPICK_K_IDLE);
         well = well && picker.next(1, 0).kind == PIECEPICK_K_IDLE;
     }
+    /* The first piece is beyond the peer's reach. */
+    Picker slow(16384, 3 * 16384, digests, Options());
+    slow.join(0);
+    slow.bits(0, two);
+    slow.unchoke(0);
+    slow.set_level(0, 7);
+    well = well && slow.reach(0, 4).kind == PIECEPICK_K_QUIET && slow.next(0, 0).piece == 1 && slow.next(0, 0).kind == PIECEPICK_K_IDLE;
+    well = well && slow.order_from() == 8 && slow.set_in_order_from(5).kind == PIECEPICK_K_QUIET && slow.order_from() == 5 && !slow.is_in_order();
+    /* A peer drops the piece that is in flight at it, and another one is asked for it. */
+    Picker dropping(16384, 3 * 16384, digests, Options());
+    for (std::uint32_t worker = 0; worker < 2; worker++) {
+        dropping.join(worker);
+        dropping.bits(worker, two);
+        dropping.unchoke(worker);
+    }
+    well = well && dropping.next(0, 0).piece == 0 && dropping.rule(0, 0) == PIECEPICK_RULE_RANDOM && dropping.lack(0, 0).interesting == 1;
+    well = well && dropping.availability(0) == 1 && dropping.outstanding(0) == 0 && dropping.next(1, 0).piece == 0;
+    well = well && dropping.set_in_order(true).kind == PIECEPICK_K_QUIET && dropping.next(0, 0).piece == 1;
+    well = well && std::string(piecepick_rule_text(dropping.rule(1, 0))) == "in order" && dropping.lack(0, 1).interesting == 0;
+    well = well && throws(PIECEPICK_E_PIECE, [&] { dropping.lack(0, 3); }) && throws(PIECEPICK_E_BLOCK, [&] { (void)dropping.rule(0, 1); });
     first = open();
     return well && !first.is_complete() && throws(PIECEPICK_E_NOT_HAD, [&] { first.read(0, room); }) ? 0 : 1;
 }

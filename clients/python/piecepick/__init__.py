@@ -12,7 +12,7 @@ It is a binding of libpiecepick, whose header piecepick.h says what each call me
 has changed nothing. A call that a rule refuses has the answer REFUSED: that is mostly the peer's fault, and raises nothing.
 """
 
-from ._native import Keeps, Kind, Reason, Status
+from ._native import Keeps, Kind, PickRule, Reason, Status
 from .depth import DepthByRate
 from .picker import Answer, File, InputFault, Job, MemoryFault, Picker, PiecepickError, hash_four, version
 
@@ -27,6 +27,7 @@ __all__ = [
     "Keeps",
     "Kind",
     "MemoryFault",
+    "PickRule",
     "Picker",
     "PiecepickError",
     "Reason",

@@ -87,6 +87,16 @@ class Reason(IntEnum):
     WRONG_LEVEL = 12
 
 
+class PickRule(IntEnum):
+    """The rule by which a block was requested."""
+
+    IN_ORDER = 1
+    BEGUN = 2
+    RAREST = 3
+    RANDOM = 4
+    ENDGAME = 5
+
+
 class Keeps(IntEnum):
     """What a picker keeps of what it is told."""
 
@@ -145,14 +155,17 @@ SIGNATURES: dict[str, tuple[Any, list[Any]]] = {
     "piecepick_have": (c_uint32, [_PICKER, c_uint32, c_uint32, _ANSWER]),
     "piecepick_bits": (c_uint32, [_PICKER, c_uint32, _DATA, c_size_t, _ANSWER]),
     "piecepick_haves": (c_uint32, [_PICKER, c_uint32, _DATA, c_size_t, _ANSWER]),
+    "piecepick_lack": (c_uint32, [_PICKER, c_uint32, c_uint32, _ANSWER]),
     "piecepick_arrived": (c_uint32, [_PICKER, c_uint32, c_uint32, c_uint32, _DATA, c_size_t, _ANSWER]),
     "piecepick_release": (c_uint32, [_PICKER, c_uint32, c_uint32, c_uint32, _ANSWER]),
     "piecepick_depth": (c_uint32, [_PICKER, c_uint32, c_uint32, _ANSWER]),
+    "piecepick_reach": (c_uint32, [_PICKER, c_uint32, c_uint32, _ANSWER]),
     "piecepick_next": (c_uint32, [_PICKER, c_uint32, c_uint64, _ANSWER]),
     "piecepick_want": (c_uint32, [_PICKER, _DATA, c_size_t, _ANSWER]),
     "piecepick_set_level": (c_uint32, [_PICKER, c_uint32, c_uint32, _ANSWER]),
     "piecepick_set_levels": (c_uint32, [_PICKER, _DATA, c_size_t, _ANSWER]),
     "piecepick_set_in_order": (c_uint32, [_PICKER, c_uint32, _ANSWER]),
+    "piecepick_set_in_order_from": (c_uint32, [_PICKER, c_uint32, _ANSWER]),
     "piecepick_settle": (c_uint32, [_PICKER, c_uint32, _DIGEST, _ANSWER]),
     "piecepick_restore": (c_uint32, [_PICKER, c_uint32, c_uint32, _DATA, c_size_t, _DIGEST, _ANSWER]),
     "piecepick_job_take": (c_uint32, [_PICKER, c_uint32, _JOB_AT]),
@@ -165,6 +178,7 @@ SIGNATURES: dict[str, tuple[Any, list[Any]]] = {
     "piecepick_is_complete": (c_uint32, [_PICKER, _NUMBER]),
     "piecepick_has_wanted": (c_uint32, [_PICKER, _NUMBER]),
     "piecepick_is_in_order": (c_uint32, [_PICKER, _NUMBER]),
+    "piecepick_order_from": (c_uint32, [_PICKER, _NUMBER]),
     "piecepick_epoch": (c_uint32, [_PICKER, _WIDE]),
     "piecepick_is_had": (c_uint32, [_PICKER, c_uint32, _NUMBER]),
     "piecepick_is_waiting": (c_uint32, [_PICKER, c_uint32, _NUMBER]),
@@ -173,6 +187,7 @@ SIGNATURES: dict[str, tuple[Any, list[Any]]] = {
     "piecepick_piece_length": (c_uint32, [_PICKER, c_uint32, _NUMBER]),
     "piecepick_blocks": (c_uint32, [_PICKER, c_uint32, _NUMBER]),
     "piecepick_sender": (c_uint32, [_PICKER, c_uint32, c_uint32, _NUMBER]),
+    "piecepick_rule": (c_uint32, [_PICKER, c_uint32, c_uint32, _NUMBER]),
     "piecepick_outstanding": (c_uint32, [_PICKER, c_uint32, _NUMBER]),
     "piecepick_outstanding_at": (c_uint32, [_PICKER, c_uint32, c_uint32, _ANSWER]),
     "piecepick_total": (c_uint32, [_PICKER, _WIDE]),

@@ -14,7 +14,7 @@ from typing import Any, Callable, NamedTuple, NoReturn, Union
 from . import _native
 from ._buffers import lend, lend_writable
 from ._library import LIBRARY
-from ._native import Keeps, Kind, Reason, Status
+from ._native import Keeps, Kind, PickRule, Reason, Status
 
 # Anything else that gives its bytes by the buffer protocol, in one run, is taken too.
 BytesLike = Union[bytes, bytearray, memoryview, mmap.mmap]
@@ -350,6 +350,10 @@ class Picker:
         data, length = lend(flags)
         return self._told(LIBRARY.piecepick_haves, _u32(worker), data, length)
 
+    def lack(self, worker: int, piece: int) -> Answer:
+        """The peer has this piece no more (`lt_donthave`, BEP 54): blocks of it that are asked of the peer are so no more, with no cancel."""
+        return self._told(LIBRARY.piecepick_lack, _u32(worker), _u32(piece))
+
     def arrived(self, worker: int, piece: int, begin: int, block: BytesLike) -> Answer:
         """A `piece` message came. A picker that keeps nothing reads none of the bytes; another one copies them once.
 
@@ -376,6 +380,13 @@ class Picker:
     def depth(self, worker: int, depth: int) -> Answer:
         """From now on so many blocks may be asked of the peer at a time; REFUSED by WRONG_DEPTH beyond `deepest`."""
         return self._told(LIBRARY.piecepick_depth, _u32(worker), _u32(depth))
+
+    def reach(self, worker: int, level: int) -> Answer:
+        """From now on only blocks of this level and of lower ones are requested of the peer: 7 is all, and 0 none. REFUSED by WRONG_LEVEL above 7.
+
+        It goes with the peer. So a slow peer gets nothing urgent.
+        """
+        return self._told(LIBRARY.piecepick_reach, _u32(worker), _u32(level))
 
     def next(self, worker: int, word: int | None = None) -> Answer:
         """What to say to the peer next. Ask until the answer is neither CANCEL nor REQUEST. The word is the randomness."""
@@ -410,6 +421,13 @@ class Picker:
     def set_in_order(self, rising: bool = True) -> Answer:
         """The pieces of one level come in rising order, or the rarest first again."""
         return self._told(LIBRARY.piecepick_set_in_order, int(bool(rising)))
+
+    def set_in_order_from(self, level: int) -> Answer:
+        """Pieces of this level and of higher ones come in rising order, and of lower ones the rarest first. REFUSED by WRONG_LEVEL above 8.
+
+        With 0 all come in order, with 8 none. It takes the place of what `set_in_order` told, and the other way round.
+        """
+        return self._told(LIBRARY.piecepick_set_in_order_from, _u32(level))
 
     # Checks.
 
@@ -454,8 +472,13 @@ class Picker:
 
     @property
     def is_in_order(self) -> bool:
-        """Whether the pieces of one level come in rising order."""
+        """Whether the pieces of one level come in rising order, whichever level that is."""
         return bool(self._count(LIBRARY.piecepick_is_in_order))
+
+    @property
+    def order_from(self) -> int:
+        """The level from which on pieces come in rising order, 0 to 8. At the start it is 8, and none does."""
+        return self._count(LIBRARY.piecepick_order_from)
 
     @property
     def epoch(self) -> int:
@@ -489,6 +512,10 @@ class Picker:
     def sender(self, piece: int, index: int) -> int:
         """The worker whose peer brought a block that is held; `index` counts the piece's blocks from its front."""
         return self._count(LIBRARY.piecepick_sender, _u32(piece), _u32(index))
+
+    def rule(self, piece: int, index: int) -> PickRule:
+        """The rule by which a block was requested: ask it right after its REQUEST. Of any other block it means nothing."""
+        return PickRule(self._count(LIBRARY.piecepick_rule, _u32(piece), _u32(index)))
 
     def outstanding(self, worker: int) -> int:
         """How many blocks are asked of the worker's peer."""

@@ -9,7 +9,7 @@ from typing import Any
 
 from support import ALL, BLOCK, CONTENT, DIGESTS, INFO, METAINFO, PARTS, PIECE, PIECES, SEVERAL, bring, picker, with_peer
 
-from piecepick import Answer, File, InputFault, Keeps, Kind, Picker, PiecepickError, Reason, Status, hash_four, version
+from piecepick import Answer, File, InputFault, Keeps, Kind, Picker, PickRule, PiecepickError, Reason, Status, hash_four, version
 
 STORED = [Kind.STORED, Kind.COMPLETED]
 WITH_INTEREST = Answer(Kind.NOTED, interesting=True)
@@ -139,6 +139,59 @@ class Peers(CallCase):
             self.assertEqual(made.release(0, first.piece, first.begin), refused(Reason.NOT_ASKED))
             self.assertEqual(made.outstanding(0), 1)
 
+    def test_reach(self) -> None:
+        with with_peer() as made:
+            made.set_levels(bytes([7, 5, 4, 2, 0, 0, 0]))
+            self.assertEqual(made.reach(0, 4).kind, Kind.QUIET)
+            self.assertEqual([made.next(0).piece for _ in range(4)], [2, 2, 3, 3])
+            self.assertEqual(made.next(0).kind, Kind.IDLE)
+            self.assertEqual(made.reach(0, 7).kind, Kind.QUIET)
+            self.assertEqual(made.next(0).block, (0, 0, BLOCK))
+            for level in (8, 260, 2**32 - 1):
+                self.assertEqual(made.reach(0, level), refused(Reason.WRONG_LEVEL))
+            self.assertEqual(made.reach(1, 7), refused(Reason.NOT_JOINED))
+            self.assert_status(Status.WORKER, made.reach, 3, 7)
+            self.assertEqual(made.reach(0, 0).kind, Kind.QUIET)
+            self.assertEqual((made.outstanding(0), made.next(0).kind), (5, Kind.IDLE))
+
+    def test_reach_goes_with_its_peer(self) -> None:
+        with with_peer() as made:
+            made.reach(0, 3)
+            self.assertEqual(made.next(0).kind, Kind.IDLE)
+            made.leave(0)
+            made.join(0)
+            made.bits(0, ALL)
+            made.unchoke(0)
+            self.assertEqual(made.next(0).kind, Kind.REQUEST)
+
+    def test_a_dropped_piece_is_asked_of_another_peer(self) -> None:
+        with with_peer() as made:
+            made.want(b"\x80")
+            made.join(1)
+            made.have(1, 0)
+            made.unchoke(1)
+            blocks = [(0, 0, BLOCK), (0, BLOCK, BLOCK)]
+            self.assertEqual([made.next(0).block for _ in blocks], blocks)
+            before = made.epoch
+            self.assertEqual(made.lack(0, 0), Answer(Kind.NOTED))
+            self.assertGreater(made.epoch, before)
+            self.assertEqual((made.outstanding(0), made.availability(0), made.next(0).kind), (0, 1, Kind.NOTHING_LEFT))
+            self.assertEqual([made.next(1).block for _ in blocks], blocks)
+            self.assertEqual(made.have(0, 0), WITH_INTEREST)
+            self.assertEqual(made.availability(0), 2)
+            self.assert_status(Status.WORKER, made.lack, 3, 0)
+            self.assert_status(Status.PIECE, made.lack, 0, PIECES)
+
+    def test_a_piece_that_was_never_shown_may_be_dropped(self) -> None:
+        with picker() as made:
+            self.assertEqual(made.lack(0, 4), refused(Reason.NOT_JOINED))
+            made.join(0)
+            self.assertEqual(made.lack(0, 4), Answer(Kind.NOTED))
+            self.assertEqual(made.bits(0, ALL), refused(Reason.LATE_BITS))
+            self.assertEqual(made.have(0, 2), WITH_INTEREST)
+            self.assertEqual(made.lack(0, 4), WITH_INTEREST)
+            self.assertEqual((made.availability(2), made.availability(4)), (1, 0))
+
     def test_usual_depth(self) -> None:
         with Picker.of_parts(20 * BLOCK, 20 * BLOCK, bytes(20)) as made:
             made.join(0)
@@ -245,6 +298,58 @@ class Pieces(CallCase):
             self.assertEqual(made.next(0).block, (0, 0, BLOCK))
             made.set_in_order(False)
             self.assertFalse(made.is_in_order)
+
+    def test_order_of_some_levels(self) -> None:
+        with with_peer() as made:
+            made.set_levels(bytes([4, 4, 4, 4, 4, 5, 5]))
+            self.assertEqual(made.order_from, 8)
+            self.assertEqual(made.set_in_order_from(5).kind, Kind.QUIET)
+            self.assertEqual((made.order_from, made.is_in_order), (5, False))
+            self.assertEqual([made.next(0, 6).piece for _ in range(4)], [5, 5, 6, 6])
+            # All are as rare here, and the word names the first one of them that isn't in order.
+            self.assertEqual(made.next(0, 3).block, (3, 0, BLOCK))
+            self.assertEqual(made.set_in_order_from(1).kind, Kind.QUIET)
+            self.assertEqual((made.order_from, made.is_in_order), (1, True))
+            self.assertEqual(made.next(0, 3).block, (0, 0, BLOCK))
+            for level in (9, 260, 2**32 - 1):
+                self.assertEqual(made.set_in_order_from(level), refused(Reason.WRONG_LEVEL))
+            self.assertEqual(made.order_from, 1)
+
+    def test_the_newest_order_holds(self) -> None:
+        with picker() as made:
+            for rising, level in ((True, 0), (False, 8)):
+                self.assertEqual(made.set_in_order_from(5).kind, Kind.QUIET)
+                self.assertEqual(made.set_in_order(rising).kind, Kind.QUIET)
+                self.assertEqual((made.order_from, made.is_in_order), (level, rising))
+
+
+class Rules(CallCase):
+    """By which rule a block was requested."""
+
+    def ruled(self, made: Picker, worker: int) -> tuple[int, PickRule]:
+        """The piece of the next request, and its rule."""
+        piece, begin, _ = made.next(worker, 1).block
+        return piece, made.rule(piece, begin // BLOCK)
+
+    def test_each(self) -> None:
+        with Picker(METAINFO) as made:
+            for worker in range(2):
+                made.join(worker)
+                made.bits(worker, ALL)
+                made.unchoke(worker)
+            self.assertEqual(self.ruled(made, 0), (1, PickRule.RANDOM))
+            self.assertEqual(self.ruled(made, 0), (1, PickRule.BEGUN))
+            bring(made, 1, PARTS[1])
+            self.assertIs(made.settle(1, DIGESTS[1]).kind, Kind.HAD)
+            self.assertEqual(self.ruled(made, 0), (2, PickRule.RAREST))
+            made.set_in_order()
+            self.assertEqual([self.ruled(made, 0) for _ in range(2)], [(0, PickRule.IN_ORDER)] * 2)
+            # Both blocks of the one piece that is wanted are in flight at the other peer.
+            made.want(b"\x80")
+            self.assertEqual([self.ruled(made, 1) for _ in range(2)], [(0, PickRule.ENDGAME)] * 2)
+            self.assertIs(type(made.rule(0, 0)), PickRule)
+            self.assert_status(Status.PIECE, made.rule, PIECES, 0)
+            self.assert_status(Status.BLOCK, made.rule, 0, 2)
 
 
 class Nothing(CallCase):

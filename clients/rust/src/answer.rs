@@ -98,7 +98,7 @@ pub enum Reason {
     NotAsked,
     /// A depth of 0, or beyond the deepest.
     WrongDepth,
-    /// A level above 7.
+    /// A level or a reach above 7, or an order from a level above 8.
     WrongLevel,
 }
 
@@ -137,7 +137,48 @@ impl fmt::Display for Reason {
             Reason::Stale => "the bytes that were hashed are no longer those held",
             Reason::NotAsked => "the block isn't asked of the peer",
             Reason::WrongDepth => "a depth of 0, or beyond the deepest",
-            Reason::WrongLevel => "a level above 7",
+            Reason::WrongLevel => "a level or a reach above 7, or an order from a level above 8",
+        })
+    }
+}
+
+/// The rule by which a block was requested: [`rule`](crate::Picker::rule) tells it.
+#[derive(Clone, Copy, Debug, PartialEq, Eq, Hash)]
+pub enum PickRule {
+    /// Pieces of its level come in rising order, begun or not.
+    InOrder,
+    /// Its piece had begun, and goes on.
+    Begun,
+    /// Its piece begins, as one that fewest peers show.
+    Rarest,
+    /// Its piece begins at random: too few are had to tell which are rare.
+    Random,
+    /// Another peer is asked for it too.
+    Endgame,
+}
+
+impl PickRule {
+    /// The rule of a number that the library has told.
+    pub(crate) fn of(number: u32) -> PickRule {
+        match number {
+            1 => PickRule::InOrder,
+            2 => PickRule::Begun,
+            3 => PickRule::Rarest,
+            4 => PickRule::Random,
+            5 => PickRule::Endgame,
+            _ => panic!("libpiecepick told the rule {number}, which its interface hasn't"),
+        }
+    }
+}
+
+impl fmt::Display for PickRule {
+    fn fmt(&self, formatter: &mut fmt::Formatter<'_>) -> fmt::Result {
+        formatter.write_str(match self {
+            PickRule::InOrder => "in order",
+            PickRule::Begun => "its piece had begun",
+            PickRule::Rarest => "its piece is one of the rarest",
+            PickRule::Random => "its piece begins at random",
+            PickRule::Endgame => "endgame",
         })
     }
 }

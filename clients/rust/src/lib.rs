@@ -49,7 +49,7 @@ mod options;
 mod picker;
 pub mod sys;
 
-pub use answer::{Answer, Block, Kind, Reason};
+pub use answer::{Answer, Block, Kind, PickRule, Reason};
 pub use depth::DepthByRate;
 pub use error::Error;
 pub use file::File;

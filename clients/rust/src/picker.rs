@@ -1,6 +1,6 @@
 //! The picker of a download.
 
-use crate::answer::{Answer, Block};
+use crate::answer::{Answer, Block, PickRule};
 use crate::error::{check, Error};
 use crate::file::File;
 use crate::hash::Digest;
@@ -107,6 +107,12 @@ impl Picker {
         self.answer(|picker, answer| unsafe { sys::piecepick_haves(picker, worker, first, length, answer) })
     }
 
+    /// The peer has this piece no more (`lt_donthave`, BEP 54), until a later call shows it again. Blocks of it that are asked of the peer
+    /// are asked of it no more, with no cancel, and any peer may be asked for them.
+    pub fn lack(&mut self, worker: u32, piece: u32) -> Result<Answer, Error> {
+        self.answer(|picker, answer| unsafe { sys::piecepick_lack(picker, worker, piece, answer) })
+    }
+
     /// A block came. A picker that keeps nothing reads none of the bytes; another one keeps a copy.
     ///
     /// Where nothing is kept, write the bytes at `Stored` and `Completed`, and at no other answer: of two copies the first one counts.
@@ -124,6 +130,12 @@ impl Picker {
     /// From now on so many blocks may be asked of the peer at a time, until another number is told or the worker's next peer joins.
     pub fn depth(&mut self, worker: u32, depth: u32) -> Result<Answer, Error> {
         self.answer(|picker, answer| unsafe { sys::piecepick_depth(picker, worker, depth, answer) })
+    }
+
+    /// From now on only blocks of this level and of lower ones are requested of the peer, until another is told or the worker's next peer
+    /// joins. Each peer begins with 7, which is all levels, and with 0 nothing is requested. So a slow peer gets nothing urgent.
+    pub fn reach(&mut self, worker: u32, level: u32) -> Result<Answer, Error> {
+        self.answer(|picker, answer| unsafe { sys::piecepick_reach(picker, worker, level, answer) })
     }
 
     /// What to say to the peer next: send what it answers while it is [`Answer::Cancel`] or [`Answer::Request`]. The word is the
@@ -153,6 +165,12 @@ impl Picker {
     pub fn set_in_order(&mut self, rising: bool) -> Result<Answer, Error> {
         let rising = u32::from(rising);
         self.answer(|picker, answer| unsafe { sys::piecepick_set_in_order(picker, rising, answer) })
+    }
+
+    /// Pieces of this level and of higher ones come in rising order from now on, and those of lower levels the rarest first. With 0 all
+    /// come in order, with 8 none. It takes the place of what [`set_in_order`](Picker::set_in_order) told, and the other way round.
+    pub fn set_in_order_from(&mut self, level: u32) -> Result<Answer, Error> {
+        self.answer(|picker, answer| unsafe { sys::piecepick_set_in_order_from(picker, level, answer) })
     }
 
     /// [`Keeps::Nothing`](crate::Keeps::Nothing): the piece is full, and this is the SHA-1 of its blocks as they were stored.
@@ -209,9 +227,14 @@ impl Picker {
         self.sure(|picker, number| unsafe { sys::piecepick_has_wanted(picker, number) }) == 1
     }
 
-    /// Whether the pieces of one level come in rising order.
+    /// Whether the pieces of one level come in rising order, whichever level that is.
     pub fn is_in_order(&self) -> bool {
         self.sure(|picker, number| unsafe { sys::piecepick_is_in_order(picker, number) }) == 1
+    }
+
+    /// The level from which on pieces come in rising order, 0 to 8. At the start it is 8, and none does.
+    pub fn order_from(&self) -> u32 {
+        self.sure(|picker, number| unsafe { sys::piecepick_order_from(picker, number) })
     }
 
     /// While it is the same, a peer whose answer was [`Answer::Idle`] or [`Answer::NothingLeft`] needn't be asked again, unless its own
@@ -254,6 +277,12 @@ impl Picker {
     /// bytes have another hash, before it is settled.
     pub fn sender(&self, piece: u32, index: u32) -> Result<u32, Error> {
         self.number(|picker, number| unsafe { sys::piecepick_sender(picker, piece, index, number) })
+    }
+
+    /// The rule by which a block was requested; `index` counts the piece's blocks from its front. Ask it of the block of an
+    /// [`Answer::Request`], before the next call that tells something. Of any other block it means nothing.
+    pub fn rule(&self, piece: u32, index: u32) -> Result<PickRule, Error> {
+        Ok(PickRule::of(self.number(|picker, number| unsafe { sys::piecepick_rule(picker, piece, index, number) })?))
     }
 
     /// How many blocks are asked of the worker's peer.

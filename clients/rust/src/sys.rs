@@ -103,6 +103,7 @@ extern "C" {
         flags_len: usize,
         answer: *mut piecepick_answer,
     ) -> piecepick_status;
+    pub fn piecepick_lack(picker: *mut piecepick_picker, worker: u32, piece: u32, answer: *mut piecepick_answer) -> piecepick_status;
     pub fn piecepick_arrived(
         picker: *mut piecepick_picker,
         worker: u32,
@@ -120,6 +121,7 @@ extern "C" {
         answer: *mut piecepick_answer,
     ) -> piecepick_status;
     pub fn piecepick_depth(picker: *mut piecepick_picker, worker: u32, depth: u32, answer: *mut piecepick_answer) -> piecepick_status;
+    pub fn piecepick_reach(picker: *mut piecepick_picker, worker: u32, level: u32, answer: *mut piecepick_answer) -> piecepick_status;
     pub fn piecepick_next(picker: *mut piecepick_picker, worker: u32, word: u64, answer: *mut piecepick_answer) -> piecepick_status;
     pub fn piecepick_want(
         picker: *mut piecepick_picker,
@@ -135,6 +137,7 @@ extern "C" {
         answer: *mut piecepick_answer,
     ) -> piecepick_status;
     pub fn piecepick_set_in_order(picker: *mut piecepick_picker, rising: u32, answer: *mut piecepick_answer) -> piecepick_status;
+    pub fn piecepick_set_in_order_from(picker: *mut piecepick_picker, level: u32, answer: *mut piecepick_answer) -> piecepick_status;
     pub fn piecepick_settle(
         picker: *mut piecepick_picker,
         piece: u32,
@@ -160,6 +163,7 @@ extern "C" {
     pub fn piecepick_is_complete(picker: *mut piecepick_picker, number: *mut u32) -> piecepick_status;
     pub fn piecepick_has_wanted(picker: *mut piecepick_picker, number: *mut u32) -> piecepick_status;
     pub fn piecepick_is_in_order(picker: *mut piecepick_picker, number: *mut u32) -> piecepick_status;
+    pub fn piecepick_order_from(picker: *mut piecepick_picker, number: *mut u32) -> piecepick_status;
     pub fn piecepick_epoch(picker: *mut piecepick_picker, number: *mut u64) -> piecepick_status;
     pub fn piecepick_is_had(picker: *mut piecepick_picker, piece: u32, number: *mut u32) -> piecepick_status;
     pub fn piecepick_is_waiting(picker: *mut piecepick_picker, piece: u32, number: *mut u32) -> piecepick_status;
@@ -168,6 +172,7 @@ extern "C" {
     pub fn piecepick_piece_length(picker: *mut piecepick_picker, piece: u32, number: *mut u32) -> piecepick_status;
     pub fn piecepick_blocks(picker: *mut piecepick_picker, piece: u32, number: *mut u32) -> piecepick_status;
     pub fn piecepick_sender(picker: *mut piecepick_picker, piece: u32, index: u32, worker: *mut u32) -> piecepick_status;
+    pub fn piecepick_rule(picker: *mut piecepick_picker, piece: u32, index: u32, number: *mut u32) -> piecepick_status;
     pub fn piecepick_outstanding(picker: *mut piecepick_picker, worker: u32, number: *mut u32) -> piecepick_status;
     pub fn piecepick_outstanding_at(
         picker: *mut piecepick_picker,

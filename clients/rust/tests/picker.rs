@@ -1,6 +1,6 @@
 //! Each call, at each kind of picker, by a torrent of seven pieces.
 
-use piecepick::{hash4, sys, Answer, Block, Digest, Error, File, Job, Keeps, Kind, Options, Picker, Reason};
+use piecepick::{hash4, sys, Answer, Block, Digest, Error, File, Job, Keeps, Kind, Options, PickRule, Picker, Reason};
 use std::mem::size_of;
 use std::sync::Mutex;
 use std::thread;
@@ -165,6 +165,72 @@ fn blocks_are_asked_and_released() {
 }
 
 #[test]
+fn a_slow_peer_gets_nothing_urgent() {
+    let mut picker = with_peer(Keeps::Nothing);
+    picker.set_levels(&[7, 5, 4, 2, 0, 0, 0]).unwrap();
+    assert_eq!(picker.reach(0, 4), Ok(Answer::Quiet));
+    for number in [2, 2, 3, 3] {
+        let Ok(Answer::Request(block)) = picker.next(0, 1) else { panic!("no request") };
+        assert_eq!(block.piece, number);
+    }
+    assert_eq!(picker.next(0, 1), Ok(Answer::Idle));
+    assert_eq!(picker.reach(0, 7), Ok(Answer::Quiet));
+    assert_eq!(picker.next(0, 1), Ok(Answer::Request(Block { piece: 0, begin: 0, length: BLOCK as u32 })));
+    for level in [8, 260, u32::MAX] {
+        assert_eq!(picker.reach(0, level), Ok(Answer::Refused(Reason::WrongLevel)));
+    }
+    assert_eq!(picker.reach(1, 7), Ok(Answer::Refused(Reason::NotJoined)));
+    assert_eq!(picker.reach(3, 7), Err(Error::Worker));
+    assert_eq!(picker.reach(0, 0), Ok(Answer::Quiet));
+    assert_eq!((picker.outstanding(0), picker.next(0, 1)), (Ok(5), Ok(Answer::Idle)));
+}
+
+#[test]
+fn a_reach_goes_with_its_peer() {
+    let mut picker = with_peer(Keeps::Nothing);
+    picker.reach(0, 3).unwrap();
+    assert_eq!(picker.next(0, 1), Ok(Answer::Idle));
+    picker.leave(0).unwrap();
+    picker.join(0).unwrap();
+    picker.bits(0, &ALL).unwrap();
+    picker.unchoke(0).unwrap();
+    assert_eq!(picker.next(0, 1).unwrap().kind(), Kind::Request);
+}
+
+#[test]
+fn a_dropped_piece_is_asked_of_another_peer() {
+    let mut picker = with_peer(Keeps::Nothing);
+    picker.want(&[0b1000_0000]).unwrap();
+    picker.join(1).unwrap();
+    picker.have(1, 0).unwrap();
+    picker.unchoke(1).unwrap();
+    let blocks = [0, BLOCK as u32].map(|begin| Answer::Request(Block { piece: 0, begin, length: BLOCK as u32 }));
+    assert_eq!(blocks.map(|_| picker.next(0, 1).unwrap()), blocks);
+    let before = picker.epoch();
+    assert_eq!(picker.lack(0, 0), Ok(Answer::Noted { interesting: false }));
+    assert!(picker.epoch() > before);
+    assert_eq!((picker.outstanding(0), picker.availability(0)), (Ok(0), Ok(1)));
+    assert_eq!(picker.next(0, 1), Ok(Answer::NothingLeft));
+    assert_eq!(blocks.map(|_| picker.next(1, 1).unwrap()), blocks);
+    assert_eq!(picker.have(0, 0), Ok(Answer::Noted { interesting: true }));
+    assert_eq!(picker.availability(0), Ok(2));
+    assert_eq!(picker.lack(3, 0), Err(Error::Worker));
+    assert_eq!(picker.lack(0, PIECES), Err(Error::Piece));
+}
+
+#[test]
+fn a_piece_that_was_never_shown_may_be_dropped() {
+    let mut picker = picker(Keeps::Nothing);
+    assert_eq!(picker.lack(0, 4), Ok(Answer::Refused(Reason::NotJoined)));
+    picker.join(0).unwrap();
+    assert_eq!(picker.lack(0, 4), Ok(Answer::Noted { interesting: false }));
+    assert_eq!(picker.bits(0, &ALL), Ok(Answer::Refused(Reason::LateBits)));
+    assert_eq!(picker.have(0, 2), Ok(Answer::Noted { interesting: true }));
+    assert_eq!(picker.lack(0, 4), Ok(Answer::Noted { interesting: true }));
+    assert_eq!((picker.availability(2), picker.availability(4)), (Ok(1), Ok(0)));
+}
+
+#[test]
 fn the_usual_depth_is_sixteen() {
     let mut picker = Picker::open_parts(20 * BLOCK as u32, 20 * BLOCK as u64, &[[0; 20]], Options::new()).unwrap();
     picker.join(0).unwrap();
@@ -252,6 +318,67 @@ fn levels_say_what_comes_first() {
     assert!(picker.is_in_order());
     assert_eq!(picker.set_in_order(false), Ok(Answer::Quiet));
     assert!(!picker.is_in_order());
+}
+
+#[test]
+fn some_levels_come_in_order() {
+    let mut picker = with_peer(Keeps::Nothing);
+    picker.set_levels(&[4, 4, 4, 4, 4, 5, 5]).unwrap();
+    assert_eq!(picker.order_from(), 8);
+    assert_eq!(picker.set_in_order_from(5), Ok(Answer::Quiet));
+    assert_eq!((picker.order_from(), picker.is_in_order()), (5, false));
+    for number in [5, 5, 6, 6] {
+        let Ok(Answer::Request(block)) = picker.next(0, 6) else { panic!("no request") };
+        assert_eq!(block.piece, number);
+    }
+    // All are as rare here, and the word names the first one of them that isn't in order.
+    assert_eq!(picker.next(0, 3), Ok(Answer::Request(Block { piece: 3, begin: 0, length: BLOCK as u32 })));
+    assert_eq!(picker.set_in_order_from(1), Ok(Answer::Quiet));
+    assert_eq!((picker.order_from(), picker.is_in_order()), (1, true));
+    assert_eq!(picker.next(0, 3), Ok(Answer::Request(Block { piece: 0, begin: 0, length: BLOCK as u32 })));
+    for level in [9, 260, u32::MAX] {
+        assert_eq!(picker.set_in_order_from(level), Ok(Answer::Refused(Reason::WrongLevel)));
+    }
+    assert_eq!(picker.order_from(), 1);
+}
+
+#[test]
+fn the_newest_order_holds() {
+    let mut picker = picker(Keeps::Nothing);
+    for (rising, level) in [(true, 0), (false, 8)] {
+        assert_eq!(picker.set_in_order_from(5), Ok(Answer::Quiet));
+        assert_eq!(picker.set_in_order(rising), Ok(Answer::Quiet));
+        assert_eq!((picker.order_from(), picker.is_in_order()), (level, rising));
+    }
+}
+
+/// The piece of the next request, and its rule.
+fn ruled(picker: &mut Picker, worker: u32) -> (u32, PickRule) {
+    let Ok(Answer::Request(block)) = picker.next(worker, 1) else { panic!("no request") };
+    (block.piece, picker.rule(block.piece, block.begin / BLOCK as u32).unwrap())
+}
+
+#[test]
+fn a_request_tells_its_rule() {
+    let content = content();
+    let mut picker = Picker::open_parts(PIECE as u32, content.len() as u64, &digests(&content), Options::new()).unwrap();
+    for worker in 0..2 {
+        picker.join(worker).unwrap();
+        picker.bits(worker, &ALL).unwrap();
+        picker.unchoke(worker).unwrap();
+    }
+    assert_eq!(ruled(&mut picker, 0), (1, PickRule::Random));
+    assert_eq!(ruled(&mut picker, 0), (1, PickRule::Begun));
+    bring(&mut picker, 1, piece(&content, 1));
+    assert_eq!(picker.settle(1, &sha1(piece(&content, 1))), Ok(Answer::Had));
+    assert_eq!(ruled(&mut picker, 0), (2, PickRule::Rarest));
+    picker.set_in_order(true).unwrap();
+    assert_eq!([(); 2].map(|()| ruled(&mut picker, 0)), [(0, PickRule::InOrder); 2]);
+    // Both blocks of the one piece that is wanted are in flight at the other peer.
+    picker.want(&[0b1000_0000]).unwrap();
+    assert_eq!([(); 2].map(|()| ruled(&mut picker, 1)), [(0, PickRule::Endgame); 2]);
+    assert_eq!((picker.rule(PIECES, 0), picker.rule(0, 2)), (Err(Error::Piece), Err(Error::Block)));
+    assert_eq!(PickRule::Endgame.to_string(), "endgame");
 }
 
 #[test]
