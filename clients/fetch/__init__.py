@@ -11,6 +11,7 @@
     swarm, addresses            the loop of sockets, and where peers may be found
     announcing, tracker*        trackers, by HTTP and by UDP
     progress, watch, serving    the progress line, the drawing in the terminal, and the files for a player
+    deadlines                   which peers are too slow for a player
     trace, recorder, picture    the drawing of a whole download
 
 Only `swarm`, `serving` and the trackers use sockets, and `parts` opens the one that listens. Only `content`, `session`, `serving` and

@@ -51,7 +51,7 @@ class Download:
         levels = levels_of(parts.layout, parts.levels)
         self.wanted = [piece for piece, level in enumerate(levels) if level > 0]
         parts.picker.set_levels(levels)
-        parts.picker.set_in_order(self.options.in_order or self.options.serve is not None)
+        parts.picker.set_in_order(self.options.in_order)
         if self.options.serve is not None:
             self._serve(self.options.serve, levels)
         for host, port in self.options.peers:
@@ -68,7 +68,7 @@ class Download:
     def _serve(self, port: int, levels: bytes) -> None:
         """Lets players read. Raises OSError where the port can't be had."""
         gate = Gate(self.parts.content, self.parts.swarm.wake)
-        self.server, self.urgent = Server(port, gate), Urgent(gate, levels)
+        self.server, self.urgent = Server(port, gate), Urgent(gate, self.parts.session, levels, self.options.in_order)
         self.parts.swarm.on_verdict = lambda verdict: gate.came()
         self.server.start()
         self.progress.say(f"players find the files at {self.server.url}")
@@ -84,8 +84,8 @@ class Download:
                 self._save()
             for address in parts.announcer.tick(now, len(session.peers)):
                 parts.swarm.addresses.add(address)
-            if self.urgent and self.urgent.tick():
-                session.reconsider()
+            if self.urgent:
+                self.urgent.tick()
             if self.watch and self.watch.is_due(now):
                 self.watch.draw(session, line(self.state(now)))
             if self.progress.is_due(now):

@@ -9,6 +9,7 @@ from dataclasses import dataclass, field
 from piecepick import DepthByRate
 
 from .blame import Address
+from .deadlines import Pace
 from .rate import Rate
 from .wire import Inbound, Message, spell
 
@@ -16,6 +17,7 @@ FIRST_DEPTH = 64
 MOST_DEPTH = 500
 MOST_LATE = 2000  # requests that are remembered after they were taken back, since their blocks may come
 NO_WORKER = -1
+ALL_LEVELS = 7  # the reach of a peer, until another one is told
 
 
 def milliseconds(now: float) -> int:
@@ -49,6 +51,8 @@ class Peer:
     asked: OrderedDict[tuple[int, int], float] = field(default_factory=OrderedDict)
     late: OrderedDict[tuple[int, int], None] = field(default_factory=OrderedDict)
     by_rate: DepthByRate = field(init=False)
+    pace: Pace = field(default_factory=Pace)
+    reach: int = ALL_LEVELS  # nothing of a higher level is asked of it
     epoch: int = -1  # the picker's, when the peer was asked last; -1 where it is to be asked in any case
     rests_until: float = 0.0
     timeouts: int = 0

@@ -8,20 +8,36 @@ import itertools
 import mimetypes
 import re
 import threading
-from collections.abc import Callable
+from collections.abc import Callable, Iterable
 from html import escape
 from urllib.parse import quote
 
 from .content import Content
+from .deadlines import Deadlines
 from .layout import File, printable
+from .peer import ALL_LEVELS
+from .session import Session
 
 HOST = "127.0.0.1"
-AHEAD = 1 << 23  # bytes before a reader that come first
-LEAST_AHEAD = 2  # pieces
-HIGHEST = 7  # level
+# The levels of what is before a reader, each as far as so many bytes. A film of 8 Mbit/s takes 1 MB a second.
+NEAREST = 2 << 20  # at level 7: two seconds of it, which is what the lines of most peers take
+NEAR = 8 << 20  # at level 6: eight seconds, so that the next pieces of one reader go before what another one needs later
+AHEAD = 32 << 20  # at level 5: half a minute, in which a peer that falls silent is noticed, and others are asked
+WIDTHS = ((5, AHEAD), (6, NEAR), (7, NEAREST))
+LEAST_AHEAD = 2  # pieces at the highest level, where pieces are long
+URGENT = 5  # the least level of what comes in order, and from quick peers alone
+LOOK = 1.0  # seconds between two looks at which peers are quick
 CHUNK = 1 << 18  # bytes
 WAIT = 0.5  # seconds between two looks at whether the program ends
 RANGE = re.compile(r"bytes=(\d*)-(\d*)")
+
+
+def levels_before(pieces: range, piece_length: int) -> dict[int, int]:
+    """The levels of these pieces for a reader that needs the first one next, by how near they are."""
+    levels: dict[int, int] = {}
+    for level, width in WIDTHS:
+        levels.update(dict.fromkeys(pieces[: max(LEAST_AHEAD, width // piece_length)], level))
+    return levels
 
 
 class Gate:
@@ -30,6 +46,7 @@ class Gate:
     def __init__(self, content: Content, wake: Callable[[], None]) -> None:
         self.content, self.wake = content, wake
         self.is_closed = False
+        self.ahead: dict[int, int] = {}  # of each piece before a reader the level; another object after each move
         self._came = threading.Condition()
         self._places: dict[int, range] = {}  # of each reader the pieces that it needs, from the next one on
         self._numbers = itertools.count()
@@ -43,6 +60,7 @@ class Gate:
         with self._came:
             if self._places.get(reader) != pieces:
                 self._places[reader] = pieces
+                self._look_ahead()
                 self.wake()
             while not self.content.has(pieces[0]):
                 if self.is_closed:
@@ -53,7 +71,8 @@ class Gate:
     def leave(self, reader: int) -> None:
         """The reader has what it wanted, or is gone."""
         with self._came:
-            self._places.pop(reader, None)
+            if self._places.pop(reader, None):
+                self._look_ahead()
 
     def came(self) -> None:
         """A piece is had."""
@@ -65,31 +84,80 @@ class Gate:
         self.is_closed = True
         self.came()
 
-    def ahead(self) -> set[int]:
-        """The pieces right before the readers."""
-        count = max(LEAST_AHEAD, AHEAD // self.content.layout.piece_length)
-        with self._came:
-            return {piece for pieces in self._places.values() for piece in pieces[:count]}
+    def _look_ahead(self) -> None:
+        """A piece before several readers has the level for the nearest of them."""
+        ahead: dict[int, int] = {}
+        for pieces in self._places.values():
+            for piece, level in levels_before(pieces, self.content.layout.piece_length).items():
+                ahead[piece] = max(level, ahead.get(piece, 0))
+        self.ahead = ahead
 
 
 class Urgent:
-    """Keeps the pieces before the readers at the highest level, and gives the others their own level back."""
+    """Follows the readers: what is before them comes first, in order, and from peers that bring it in time. All else is as the user said."""
 
-    def __init__(self, gate: Gate, levels: bytes) -> None:
-        self.gate, self.levels = gate, levels
-        self.raised: set[int] = set()
+    def __init__(self, gate: Gate, session: Session, levels: bytes, in_order: bool) -> None:
+        self.gate, self.session, self.levels, self.in_order = gate, session, levels, in_order
+        self.raised: dict[int, int] = {}
+        self.deadlines = Deadlines()
+        self._told = bits_of((piece for piece, level in enumerate(levels) if level >= URGENT), len(session.content.had))
+        self._looked = 0.0
 
-    def tick(self) -> bool:
-        """Follows the readers; whether something changed."""
-        ahead = self.gate.ahead()
-        picker = self.gate.content.picker
-        for piece in self.raised - ahead:
-            picker.set_level(piece, self.levels[piece])
-        for piece in ahead - self.raised:
-            picker.set_level(piece, HIGHEST)
-        changed = ahead != self.raised
+    def tick(self) -> None:
+        """Tells the picker what is another than before."""
+        ahead, before = self.gate.ahead, self.raised
+        comes_or_goes = bool(ahead) != bool(before)  # the first reader, or the last one
+        if comes_or_goes:
+            self._set_order(bool(ahead))
+        if ahead is not before:
+            self._set_levels(ahead)
+        if comes_or_goes or (ahead and self.session.now - self._looked >= LOOK):
+            self._looked = self.session.now
+            self._set_reaches()
+
+    def _set_order(self, has_reader: bool) -> None:
+        """The newest of these two calls holds."""
+        if has_reader:
+            self.session.picker.set_in_order_from(URGENT)
+        else:
+            self.session.picker.set_in_order(self.in_order)
+
+    def _level(self, piece: int) -> int:
+        """The level that a piece has now: its own, or a higher one before a reader."""
+        return max(self.levels[piece], self.raised.get(piece, 0))
+
+    def _set_levels(self, ahead: dict[int, int]) -> None:
+        """Other pieces are before the readers, and those that were get their own level back."""
+        touched = self.raised.keys() | ahead.keys()
+        before = {piece: self._level(piece) for piece in touched}
         self.raised = ahead
-        return changed
+        others = [piece for piece in touched if self._level(piece) != before[piece]]
+        for piece in others:
+            self.session.picker.set_level(piece, self._level(piece))
+        if others:
+            self.session.reconsider()
+
+    def _set_reaches(self) -> None:
+        """Slow peers get nothing urgent while somebody reads."""
+        if self.raised:
+            late = self.deadlines.judge(self.session.lines(), self._missing())
+        else:
+            late, self.deadlines = set(), Deadlines()
+        for peer in self.session.peers.values():
+            self.session.set_reach(peer, URGENT - 1 if peer in late else ALL_LEVELS)
+
+    def _missing(self) -> int:
+        """A bit for each urgent piece that isn't had, as in a `bitfield` message. Some are so by the level that the user told."""
+        had = self.session.content.had
+        return (self._told | bits_of(self.raised, len(had))) & ~int.from_bytes(had, "big")
+
+
+def bits_of(pieces: Iterable[int], length: int) -> int:
+    """The bits of these pieces, of flags that are so many bytes long."""
+    flags = bytearray(length)
+    for piece in pieces:
+        flags[piece >> 3] |= 0x80 >> (piece & 7)
+    return int.from_bytes(flags, "big")
 
 
 class WrongRange(Exception):

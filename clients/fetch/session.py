@@ -10,7 +10,9 @@ from typing import Protocol
 from piecepick import Answer, InputFault, Kind, Reason
 
 from .content import Content, Verdict
-from .peer import NO_WORKER, Peer, milliseconds
+from .deadlines import Line
+from .layout import BLOCK
+from .peer import ALL_LEVELS, NO_WORKER, Peer, milliseconds
 from .uploads import Uploads
 from .wire import Message, WireFault, block_of, numbers_of, spell, spell_bitfield
 
@@ -107,6 +109,7 @@ class Session:
         numbers_of(Message.CHOKE, payload)
         peer.chokes_us = True
         self._take_back_all(peer)
+        peer.pace.fill(False, self.now)
         self.picker.choke(peer.worker)
 
     def _unchoke(self, peer: Peer, payload: memoryview) -> None:
@@ -183,6 +186,7 @@ class Session:
             self.figures.unasked += 1
             return
         peer.down.add(len(data), self.now)
+        peer.pace.came(len(data), self.now)
         peer.by_rate.came(len(data), milliseconds(self.now))
         peer.block_came, peer.timeouts, peer.rests_until = self.now, 0, 0.0
         kind = self.content.arrived(peer.worker, piece, begin, data)
@@ -232,6 +236,7 @@ class Session:
                 self.figures.cancels += 1
                 self.take_back(peer, block)
                 peer.say(Message.CANCEL, *answer.block)
+        peer.pace.fill(answer.kind is Kind.PIPE_FULL, self.now)
         if answer.kind is Kind.NOTHING_LEFT:
             self._lose_interest(peer)
 
@@ -291,13 +296,38 @@ class Session:
             peer.timeouts += 1
             peer.by_rate.timed_out()
             peer.rests_until, peer.epoch = self.now + REST, -1
+            peer.pace.fill(False, self.now)
         return peer.timeouts < MOST_TIMEOUTS
 
     def follow_rate(self, peer: Peer) -> None:
         """The peer's depth follows its rate: up at once, and down by steps. What is asked stays asked."""
+        peer.pace.follow(self.now)
         before = peer.depth
         if peer.by_rate.follow(milliseconds(self.now)) != before:
             self.picker.depth(peer.worker, peer.depth)
+            self.ask(peer)
+
+    def lines(self) -> list[Line]:
+        """Of each peer how long a block takes behind a full line, and what may be asked of it now."""
+        found = []
+        for peer in self.peers.values():
+            is_open = not peer.chokes_us and self.now >= peer.rests_until
+            seconds = peer.pace.seconds(BLOCK * (max(len(peer.asked), peer.depth) + 1))
+            found.append(Line(peer, seconds, int.from_bytes(peer.pieces, "big") if is_open else 0))
+        return found
+
+    def set_reach(self, peer: Peer, level: int) -> None:
+        """No block above this level is asked of the peer from now on, nor stays asked: others may bring it sooner."""
+        before, peer.reach = peer.reach, level
+        if level != before:
+            self.picker.reach(peer.worker, level)
+        beyond = [block for block in peer.asked if self.picker.level(block[0]) > level] if level < ALL_LEVELS else []
+        for piece, begin in beyond:
+            self.figures.cancels += 1
+            self.take_back(peer, (piece, begin))
+            self.picker.release(peer.worker, piece, begin)
+            peer.say(Message.CANCEL, piece, begin, self.layout.block_length(piece, begin // BLOCK))
+        if level > before or beyond:
             self.ask(peer)
 
     def settle(self) -> list[Verdict]:
