@@ -1,6 +1,7 @@
 -- Histories without the later calls are judged as they were before there were these.
 use Rattle.std.proofs.Common.{◌≡◌, ℕ, ◌==◌, ◌<◌, ◌≤◌, Bool, true, false, not, ◌&&◌, ◌||◌, List, [], ◌∷◌, ◌++◌, Option, None, Some, refl, ap, ◌∙◌, arith}
 use Rattle.std.proofs.Common.{append-nil}
+use Rattle.std.proofs.Math.Bool.{or-false}
 use Rattle.std.specs.Prelude.{is_none, if◌then◌else◌, nat_lt}
 use Rattle.std.specs.List.{filter, list_any}
 use Rattle.std.proofs.lemmas.Bool.{and_parts, not-true, lt-ltb}
@@ -24,10 +25,6 @@ use Rattle.bt_history.proofs.Below.{count_short}
 and_true : (x : Bool) → (x && true) ≡ x
 and_true true = refl
 and_true false = refl
-
-or_false : (x : Bool) → (x || false) ≡ x
-or_false true = refl
-or_false false = refl
 
 releases_none : (q : ℕ) (e : Event) (b : Block) → is_release e.action ≡ false → releases (own_call q e) b ≡ false
 releases_none q e b isnt = by_call e.action (counts e.reply && (e.worker == q)) isnt where
@@ -59,11 +56,11 @@ outstanding_as_before (e ∷ h) q never =
 
 -- ---- what is given up
 
-filter_all : (bs : List Block) → filter (λ b. true) bs ≡ bs
+pub filter_all : (bs : List Block) → filter (λ b. true) bs ≡ bs
 filter_all [] = refl
 filter_all (b ∷ bs) = ap (λ (rest : List Block). b ∷ rest) (filter_all bs)
 
-filter_none : (bs : List Block) → filter (λ b. false) bs ≡ []
+pub filter_none : (bs : List Block) → filter (λ b. false) bs ≡ []
 filter_none [] = refl
 filter_none (b ∷ bs) = filter_none bs
 
@@ -76,16 +73,16 @@ module _ (h : History) (w p begin q : ℕ) (b : Block) where
         && ((not (releases (if x then Some (Release p begin) else None) b) && asked h q b)
         || list_any (λ a. same_begin a b) (if◌then◌else◌ {A = List Block} x [] [])))
         ≡ (not (x && same_begin (place_at p begin) b) && asked h q b)
-    by_worker true = or_false _
-    by_worker false = or_false _
+    by_worker true = or-false _
+    by_worker false = or-false _
 
   -- no cancel comes due, and none that is due goes
   pub due_released : due (giving_up w p begin Quiet ∷ h) q b ≡ due h q b
   unfolding due
   due_released = by_worker (w == q) where
     by_worker : (x : Bool) → (not (resets (if x then Some (Release p begin) else None)) && (not (x && false) && (due h q b || false))) ≡ due h q b
-    by_worker true = or_false _
-    by_worker false = or_false _
+    by_worker true = or-false _
+    by_worker false = or-false _
 
   -- what is held stays so
   pub held_released : held (giving_up w p begin Quiet ∷ h) b ≡ held h b

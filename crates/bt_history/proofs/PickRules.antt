@@ -1,6 +1,7 @@
 -- The rule that a request tells is the one that it is by.
 use Rattle.std.proofs.Common.{◌≡◌, ◌≢◌, ◌⊎◌, ℕ, zero, suc, ◌+◌, ◌*◌, ◌==◌, ◌<◌, ◌≤◌, Bool, true, false, not, ◌&&◌, ◌||◌, List, [], ◌∷◌, None, Some, refl, ap, sym, ◌∙◌}
 use Rattle.std.proofs.Common.{arith, ⊎_elim, subst}
+use Rattle.std.proofs.Math.Bool.{or-false}
 use Rattle.std.specs.Prelude.{if◌then◌else◌, nat_lt, is_none}
 use Rattle.std.specs.List.{list_any}
 use Rattle.std.proofs.lemmas.Bool.{and_from, and_left, and_parts, cases_Bool, eq-eqb, eqb-true, false≢true, false_from_ne_true, le-ltb, lt-ltb, ne_eqb, not-false}
@@ -31,10 +32,6 @@ use Rattle.bt_history.proofs.LineLaws.{block_index, some_found}
 use Rattle.bt_history.proofs.NextCases.{next_is, next_request}
 use Rattle.bt_history.proofs.SameBegin.{held_at, same_begin_self}
 
-or_false : (x : Bool) → (x || false) ≡ x
-or_false true = refl
-or_false false = refl
-
 module _ (s : Setting) (h : History) (w word : ℕ) (b : Block) where
   -- the entry
   abbrev e : Event
@@ -48,7 +45,7 @@ module _ (s : Setting) (h : History) (w word : ℕ) (b : Block) where
         && (((true && not (releases (if x then Some (Next word) else None) c)) && asked h r c)
         || list_any (λ a. same_begin a c) (if◌then◌else◌ {A = List Block} x (b ∷ []) [])))
         ≡ (asked h r c || (x && same_begin b c))
-    by_worker true = ap (λ (x : Bool). asked h r c || x) (or_false (same_begin b c))
+    by_worker true = ap (λ (x : Bool). asked h r c || x) (or-false (same_begin b c))
     by_worker false = refl
 
   held_then : (c : Block) → held (e ∷ h) c ≡ held h c
@@ -73,7 +70,7 @@ module _ (s : Setting) (h : History) (w word : ℕ) (b : Block) where
         let own : asked (e ∷ h) w b ≡ true = asked_then w b ∙ or_right (asked h w b) ((w == w) && same_begin b b)
         (and_from (w == w) (same_begin b b) (eq-eqb w w refl) (same_begin_self b)) in
         let at = count_at s.workers (λ r. asked h r b) (λ r. asked (e ∷ h) r b) w lw (λ r lr apart.
-        sym (asked_then r b ∙ ap (λ (x : Bool). asked h r b || (x && same_begin b b)) (ne_eqb w r (λ same. apart (sym same))) ∙ or_false (asked h r b))) in
+        sym (asked_then r b ∙ ap (λ (x : Bool). asked h r b || (x && same_begin b b)) (ne_eqb w r (λ same. apart (sym same))) ∙ or-false (asked h r b))) in
         let zero_w : one_if (asked h w b) ≡ 0 = ap one_if not_asked in
         let one_w : one_if (asked (e ∷ h) w b) ≡ 1 = ap one_if own in
         omega (arith, at, zero_w, one_w)
@@ -87,7 +84,7 @@ module _ (s : Setting) (h : History) (w word : ℕ) (b : Block) where
     touched_there : (c : Block) → same_begin b c ≡ false → held_or_asked s (e ∷ h) c ≡ held_or_asked s h c
     touched_there c other = λ i. held_then c i || any_same s.workers (λ r. asked (e ∷ h) r c) (λ r. asked h r c) (λ r lr.
         asked_then r c ∙ ap (λ (x : Bool). asked h r c || ((w == r) && x)) other ∙ ap (λ (x : Bool). asked h r c || x) (none (w == r))
-        ∙ or_false (asked h r c)) i
+        ∙ or-false (asked h r c)) i
       where
         none : (x : Bool) → (x && false) ≡ false
         none true = refl

@@ -1,6 +1,6 @@
 //! What holds after every legal history, whoever made it: laws of the definitions alone. Each is a function with an empty body
 //! whose contract is the law; a journal that a desk keeps, or that `audit` accepts, meets what they require.
-ghost use Rattle.std.specs.Prelude.{ℕ, if◌then◌else◌, is_some, ◌≡◌, ◌↔◌, ◌≢◌, ◌≤◌, ◌<◌, ◌+◌, ◌∷◌, ◌++◌, ◌==◌, ◌&&◌, not, IsTrue, false};
+ghost use Rattle.std.specs.Prelude.{ℕ, if◌then◌else◌, is_some, ◌≡◌, ◌↔◌, ◌≢◌, ◌≤◌, ◌<◌, ◌+◌, ◌∷◌, ◌++◌, ◌==◌, ◌&&◌, ◌||◌, not, IsTrue, false};
 ghost use Rattle.std.specs.List.{filter};
 ghost use Rattle.sha1.specs.Sha1.{sha1};
 ghost use Rattle.bt_meta.specs.declared.block.Block.{Block};
@@ -223,8 +223,9 @@ pub fn release_frees_one(
     ensures order { order_from (giving_up worker piece begin Reply.Quiet ∷ history_of journal.now) ≡ order_from (history_of journal.now) }
 {}
 
-/// A peer that has a piece no more shows it no more and is asked for none of its blocks, and all else is as it was: what other peers show and are
-/// asked for, which cancels are due, the blocks that are held and the pieces that are complete.
+/// A peer that has a piece no more shows it no more, is asked for none of its blocks, and has told something. All else is as it was: what else is
+/// shown, what else is asked and in which order, which cancels are due, the bytes that are held and who sent them, each peer with its depth and
+/// its reach, which pieces are complete, their levels and their order.
 pub fn lack_takes_one(
     journal: &[Entry],
     worker: u32,
@@ -240,8 +241,20 @@ pub fn lack_takes_one(
     ensures due { due (lacking worker piece (Reply.Noted interests) ∷ history_of journal.now) other block
         ≡ due (history_of journal.now) other block }
     ensures held { held (lacking worker piece (Reply.Noted interests) ∷ history_of journal.now) block ≡ held (history_of journal.now) block }
+    ensures line { outstanding (lacking worker piece (Reply.Noted interests) ∷ history_of journal.now) other
+        ≡ filter (λ b. not ((worker == other) && (piece == b.piece))) (outstanding (history_of journal.now) other) }
+    ensures cancels { dues (lacking worker piece (Reply.Noted interests) ∷ history_of journal.now) other ≡ dues (history_of journal.now) other }
+    ensures bytes { kept (lacking worker piece (Reply.Noted interests) ∷ history_of journal.now) block ≡ kept (history_of journal.now) block }
+    ensures sender { sender (lacking worker piece (Reply.Noted interests) ∷ history_of journal.now) block ≡ sender (history_of journal.now) block }
+    ensures late { late (lacking worker piece (Reply.Noted interests) ∷ history_of journal.now) other ≡ ((worker == other) || late (history_of journal.now) other) }
+    ensures depth { told_depth (lacking worker piece (Reply.Noted interests) ∷ history_of journal.now) other ≡ told_depth (history_of journal.now) other }
+    ensures joined { joined (lacking worker piece (Reply.Noted interests) ∷ history_of journal.now) other ≡ joined (history_of journal.now) other }
+    ensures opened { is_open (lacking worker piece (Reply.Noted interests) ∷ history_of journal.now) other ≡ is_open (history_of journal.now) other }
+    ensures reach { reach (lacking worker piece (Reply.Noted interests) ∷ history_of journal.now) other ≡ reach (history_of journal.now) other }
     ensures had { had (lacking worker piece (Reply.Noted interests) ∷ history_of journal.now) block.piece
         ≡ had (history_of journal.now) block.piece }
+    ensures level { level (lacking worker piece (Reply.Noted interests) ∷ history_of journal.now) block.piece ≡ level (history_of journal.now) block.piece }
+    ensures order { order_from (lacking worker piece (Reply.Noted interests) ∷ history_of journal.now) ≡ order_from (history_of journal.now) }
 {}
 
 /// Where no block was released, what is asked is what it was before there was a release, and so are the lines of all peers.
