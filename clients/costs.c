@@ -91,6 +91,46 @@ static int ask_and_release(void) {
     }
     return 1000;
 }
+/* The requests of forty full pipes are told late. Chokes free them. */
+static int late(void) {
+    enum { FIRST = 10, DEPTH = 16 };
+    static piecepick_answer asked[PEERS][DEPTH];
+    for (uint32_t worker = FIRST; worker < PEERS; worker++)
+        for (int place = 0; place < DEPTH; place++) {
+            well(piecepick_next(picker, worker, worker, &asked[worker][place]));
+            if (asked[worker][place].kind != PIECEPICK_K_REQUEST) exit(1);
+        }
+    double begin = now();
+    for (uint32_t worker = FIRST; worker < PEERS; worker++)
+        for (int place = 0; place < DEPTH; place++)
+            well(piecepick_late(picker, worker, asked[worker][place].piece, asked[worker][place].begin, &answer));
+    double end = now();
+    for (uint32_t worker = FIRST; worker < PEERS; worker++) {
+        well(piecepick_choke(picker, worker, &answer));
+        well(piecepick_unchoke(picker, worker, &answer));
+    }
+    return -(int)((end - begin) / ((PEERS - FIRST) * DEPTH));
+}
+/* The peer has sixteen requests, all of them late, and its depth has room for another one. */
+static int ask_with_late(void) {
+    const uint32_t worker = 5;
+    for (int place = 0; place < 16; place++) {
+        well(piecepick_next(picker, worker, 0, &answer));
+        if (answer.kind != PIECEPICK_K_REQUEST) exit(1);
+        well(piecepick_late(picker, worker, answer.piece, answer.begin, &answer));
+    }
+    well(piecepick_depth(picker, worker, 17, &answer));
+    double begin = now();
+    for (int i = 0; i < 1000; i++) {
+        well(piecepick_next(picker, worker, (uint64_t)i * 0x9e3779b97f4a7c15u, &answer));
+        if (answer.kind != PIECEPICK_K_REQUEST) exit(1);
+        well(piecepick_release(picker, worker, answer.piece, answer.begin, &answer));
+    }
+    double end = now();
+    well(piecepick_choke(picker, worker, &answer));
+    well(piecepick_unchoke(picker, worker, &answer));
+    return -(int)((end - begin) / 1000);
+}
 static int full(void) {
     do well(piecepick_next(picker, 1, 0, &answer)); while (answer.kind == PIECEPICK_K_REQUEST);
     double begin = now();
@@ -182,7 +222,8 @@ static const struct {
 } CALLS[] = {
     {"join, leave of a peer that shows nothing", come_and_go}, {"bits, the first ones", bits}, {"haves that tell nothing new", haves}, {"have that tells nothing new", have},
     {"lack, and the have behind it", lack_and_have},
-    {"next with a request, and its release", ask_and_release}, {"next, PIPE_FULL", full}, {"choke, unchoke with nothing asked", choke}, {"depth", depth},
+    {"next with a request, and its release", ask_and_release}, {"the same of a peer with 16 late requests", ask_with_late}, {"late", late},
+    {"next, PIPE_FULL", full}, {"choke, unchoke with nothing asked", choke}, {"depth", depth},
     {"reach", reach}, {"set_level, from 4 to 5 or back", set_level}, {"set_levels that change nothing", set_levels}, {"want that changes nothing", want},
     {"set_in_order", in_order}, {"set_in_order_from", in_order_from}, {"epoch", epoch}, {"rule", rule}, {"is_had", is_had},
 };

@@ -112,7 +112,8 @@ typedef enum piecepick_pick_rule {
     PIECEPICK_RULE_BEGUN = 2,    /* its piece had begun, and goes on */
     PIECEPICK_RULE_RAREST = 3,   /* its piece begins, as one that fewest peers show */
     PIECEPICK_RULE_RANDOM = 4,   /* its piece begins at random: fewer than `random` are had, too few to tell which are rare */
-    PIECEPICK_RULE_ENDGAME = 5   /* another peer is asked for it too */
+    PIECEPICK_RULE_ENDGAME = 5,  /* another peer is asked for it too, and isn't late */
+    PIECEPICK_RULE_LATE = 6      /* its request to another peer is late: piecepick_late */
 } piecepick_pick_rule;
 
 /* The block is told by CANCEL and REQUEST alone, the reason by REFUSED. `interesting` is 1 at NOTED where the peer has a wanted piece that isn't
@@ -180,9 +181,15 @@ PIECEPICK_MUST piecepick_status piecepick_lack(piecepick_picker *picker, uint32_
    a copy. */
 PIECEPICK_MUST piecepick_status piecepick_arrived(piecepick_picker *picker, uint32_t worker, uint32_t piece, uint32_t begin, const uint8_t *bytes,
                                                   size_t bytes_len, piecepick_answer *answer);
-/* The block that begins `begin` bytes into the piece is asked of the peer no more: the peer rejected it (BEP 6), it took too long, or the
-   request was not sent. Any peer may be asked for it again, and it is kept if it comes after all. QUIET, or REFUSED by NOT_JOINED or NOT_ASKED. */
+/* The block that begins `begin` bytes into the piece is asked of the peer no more: the peer rejected it (BEP 6), or the request was not sent. Any
+   peer may be asked for it again, and it is kept if it comes after all. QUIET, or REFUSED by NOT_JOINED or NOT_ASKED. */
 PIECEPICK_MUST piecepick_status piecepick_release(piecepick_picker *picker, uint32_t worker, uint32_t piece, uint32_t begin, piecepick_answer *answer);
+/* A request takes too long: late. It was rejected, or never sent: release. The block that begins there stays asked of the peer, and counts for its
+   depth. For all other peers it is as if it had been released: one of them may be asked for it at once, before endgame. When another one brings
+   it, a cancel is due at this peer as ever. While the request lasts, this peer isn't asked for the block again, not in endgame either. It may be
+   asked for others of the piece. The mark ends with the request: when the block comes from anybody, or at a choke, a leave, a release or a lack.
+   Told twice it is as once. QUIET, or REFUSED by NOT_JOINED or NOT_ASKED. */
+PIECEPICK_MUST piecepick_status piecepick_late(piecepick_picker *picker, uint32_t worker, uint32_t piece, uint32_t begin, piecepick_answer *answer);
 /* From now on `depth` blocks may be asked of the peer at a time, until another number is told or the worker's next peer joins. What is asked
    stays asked. QUIET, or REFUSED by NOT_JOINED or WRONG_DEPTH. */
 PIECEPICK_MUST piecepick_status piecepick_depth(piecepick_picker *picker, uint32_t worker, uint32_t depth, piecepick_answer *answer);
@@ -350,12 +357,12 @@ static inline void piecepick_depth_by_rate_came(piecepick_depth_by_rate *peer, u
     peer->is_late = 0;
 }
 
-/* A request took too long, and was released. */
+/* A request took too long, and was told late. */
 static inline void piecepick_depth_by_rate_timed_out(piecepick_depth_by_rate *peer) {
     peer->is_begun = peer->is_late = 1;
 }
 
-/* Tell at each request whether another peer is asked for its block too. The depth is at most 6 at once where that is so. */
+/* Tell at each request whether another peer that isn't late is asked for its block too. The depth is at most 6 at once where that is so. */
 static inline void piecepick_depth_by_rate_set_in_endgame(piecepick_depth_by_rate *peer, uint32_t is_in_endgame) {
     peer->is_in_endgame = is_in_endgame;
     if (is_in_endgame && peer->depth > 6) peer->depth = 6;
@@ -469,6 +476,7 @@ static inline const char *piecepick_rule_text(piecepick_pick_rule rule) {
     case PIECEPICK_RULE_RAREST: return "its piece is one of the rarest";
     case PIECEPICK_RULE_RANDOM: return "its piece begins at random";
     case PIECEPICK_RULE_ENDGAME: return "endgame";
+    case PIECEPICK_RULE_LATE: return "another peer is late with it";
     }
     return "no rule of this interface";
 }

@@ -36,9 +36,9 @@ public:
 
     /* Bytes of blocks came. That none came changes nothing. */
     void came(std::uint64_t bytes, std::uint64_t now) noexcept { piecepick_depth_by_rate_came(&peer_, bytes, now); }
-    /* A request took too long, and was released. */
+    /* A request took too long, and was told late. */
     void timed_out() noexcept { piecepick_depth_by_rate_timed_out(&peer_); }
-    /* Tell at each request whether another peer is asked for its block too. */
+    /* Tell at each request whether another peer that isn't late is asked for its block too. */
     void set_in_endgame(bool is_in_endgame) noexcept { piecepick_depth_by_rate_set_in_endgame(&peer_, std::uint32_t{is_in_endgame}); }
     /* The depth now. Ask for it once a second, or at each block. */
     std::uint32_t follow(std::uint64_t now) noexcept { return piecepick_depth_by_rate_follow(&peer_, now); }
@@ -169,6 +169,7 @@ public:
     Answer haves(std::uint32_t worker, Bytes flags) { return answer(piecepick_haves, worker, flags.data(), flags.size()); }
     Answer lack(std::uint32_t worker, std::uint32_t piece) { return answer(piecepick_lack, worker, piece); }
     Answer release(std::uint32_t worker, std::uint32_t piece, std::uint32_t begin) { return answer(piecepick_release, worker, piece, begin); }
+    Answer late(std::uint32_t worker, std::uint32_t piece, std::uint32_t begin) { return answer(piecepick_late, worker, piece, begin); }
     Answer depth(std::uint32_t worker, std::uint32_t blocks) { return answer(piecepick_depth, worker, blocks); }
     Answer reach(std::uint32_t worker, std::uint32_t level) { return answer(piecepick_reach, worker, level); }
     [[nodiscard]] Answer arrived(std::uint32_t worker, std::uint32_t piece, std::uint32_t begin, Bytes bytes)

@@ -272,7 +272,7 @@ static uint64_t still_picture(piecepick_picker *picker)
             sum = mixed(sum, (uint64_t)piecepick_sender(picker, piece, index, &number) << 32 | number);
             /* A number at any block, though it means something only of the one that was just requested. */
             EQUAL(piecepick_rule(picker, piece, index, &number), PIECEPICK_OK);
-            EQUAL(number >= PIECEPICK_RULE_IN_ORDER && number <= PIECEPICK_RULE_ENDGAME, 1);
+            EQUAL(number >= PIECEPICK_RULE_IN_ORDER && number <= PIECEPICK_RULE_LATE, 1);
             sum = mixed(sum, number);
         }
     }
@@ -622,8 +622,8 @@ static void try_texts(void)
         EQUAL(strcmp(piecepick_reason_text((piecepick_reason)reason), "no reason of this interface") == 0, reason > 12);
     for (int rule = 0; rule < 8; rule++) {
         const char *text = piecepick_rule_text((piecepick_pick_rule)rule);
-        EQUAL(strcmp(text, "no rule of this interface") == 0, rule < 1 || rule > 5);
-        for (int other = 1; other < rule && rule <= 5; other++) EQUAL(strcmp(text, piecepick_rule_text((piecepick_pick_rule)other)) == 0, 0);
+        EQUAL(strcmp(text, "no rule of this interface") == 0, rule < 1 || rule > 6);
+        for (int other = 1; other < rule && rule <= 6; other++) EQUAL(strcmp(text, piecepick_rule_text((piecepick_pick_rule)other)) == 0, 0);
     }
     told("texts");
 }
@@ -641,6 +641,7 @@ BY_NUMBER(have_of, piecepick_have(picker, at, 0, answer))
 BY_NUMBER(lack_of, piecepick_lack(picker, at, 0, answer))
 BY_NUMBER(arrived_of, piecepick_arrived(picker, at, 0, 0, content, BLOCK, answer))
 BY_NUMBER(release_of, piecepick_release(picker, at, 0, 0, answer))
+BY_NUMBER(late_of, piecepick_late(picker, at, 0, 0, answer))
 BY_NUMBER(depth_of, piecepick_depth(picker, at, 7, answer))
 BY_NUMBER(reach_of, piecepick_reach(picker, at, 4, answer))
 BY_NUMBER(next_of, piecepick_next(picker, at, 1, answer))
@@ -649,6 +650,7 @@ BY_NUMBER(have_at, piecepick_have(picker, 0, at, answer))
 BY_NUMBER(lack_at, piecepick_lack(picker, 0, at, answer))
 BY_NUMBER(arrived_at, piecepick_arrived(picker, 0, at, 0, content, BLOCK, answer))
 BY_NUMBER(release_at, piecepick_release(picker, 0, at, 0, answer))
+BY_NUMBER(late_at, piecepick_late(picker, 0, at, 0, answer))
 BY_NUMBER(level_at, piecepick_set_level(picker, at, 4, answer))
 #define BY_FLAGS(name, call) \
     static piecepick_status name(piecepick_picker *picker, const uint8_t *flags, size_t len, piecepick_answer *answer) { return call; }
@@ -670,11 +672,11 @@ static piecepick_status settle_at(piecepick_picker *picker, uint32_t piece, piec
 
 /* The first are refused where no peer has joined. `join` isn't, and of the last one asks only. */
 static by_number *const AT_WORKER[] = {
-    piecepick_leave, piecepick_choke, piecepick_unchoke, bits_of, haves_of, have_of, lack_of, arrived_of, release_of, depth_of, reach_of, next_of,
-    piecepick_join, outstanding_of,
+    piecepick_leave, piecepick_choke, piecepick_unchoke, bits_of, haves_of, have_of, lack_of, arrived_of, release_of, late_of, depth_of, reach_of,
+    next_of, piecepick_join, outstanding_of,
 };
-enum { NEED_A_PEER = 12, AT_WORKERS = 14 };
-static by_number *const AT_PIECE[] = {have_at, lack_at, arrived_at, release_at, level_at};
+enum { NEED_A_PEER = 13, AT_WORKERS = 15 };
+static by_number *const AT_PIECE[] = {have_at, lack_at, arrived_at, release_at, late_at, level_at};
 static by_flags *const WITH_FLAGS[] = {bits_by, haves_by, piecepick_want};
 
 static void no_worker(piecepick_picker *picker, uint32_t keeps, uint32_t worker)
@@ -687,6 +689,7 @@ static void no_worker(piecepick_picker *picker, uint32_t keeps, uint32_t worker)
     /* The worker comes before the piece, the flags and the level. */
     NO_ANSWER(piecepick_have(picker, worker, pieces, &answer), PIECEPICK_E_WORKER);
     NO_ANSWER(piecepick_lack(picker, worker, pieces, &answer), PIECEPICK_E_WORKER);
+    NO_ANSWER(piecepick_late(picker, worker, pieces, 0, &answer), PIECEPICK_E_WORKER);
     NO_ANSWER(piecepick_bits(picker, worker, all, 0, &answer), PIECEPICK_E_WORKER);
     NO_ANSWER(piecepick_reach(picker, worker, 8, &answer), PIECEPICK_E_WORKER);
 }
@@ -755,6 +758,7 @@ static void try_statuses(uint32_t keeps)
     for (size_t at = 0; at < NEED_A_PEER; at++) REFUSED(AT_WORKER[at](picker, 1, &answer), PIECEPICK_R_NOT_JOINED);
     REFUSED(piecepick_reach(picker, 1, 8, &answer), PIECEPICK_R_NOT_JOINED);
     NO_ANSWER(piecepick_lack(picker, 1, pieces, &answer), PIECEPICK_E_PIECE);
+    NO_ANSWER(piecepick_late(picker, 1, pieces, 0, &answer), PIECEPICK_E_PIECE);
     if (is_nothing) REFUSED(restore_of(picker, 1, &answer), PIECEPICK_R_NOT_JOINED);
     else NO_ANSWER(restore_of(picker, 1, &answer), PIECEPICK_E_KEEPS);
     NUMBER(piecepick_outstanding(picker, 1, &number), 0);
@@ -804,6 +808,8 @@ static void try_statuses(uint32_t keeps)
     REFUSED(piecepick_arrived(picker, 0, pieces - 1, 0, content, BLOCK, &answer), PIECEPICK_R_WRONG_LENGTH);
     REFUSED(piecepick_release(picker, 0, 0, 1, &answer), PIECEPICK_R_NOT_ASKED);
     REFUSED(piecepick_release(picker, 0, 0, MORE, &answer), PIECEPICK_R_NOT_ASKED);
+    REFUSED(piecepick_late(picker, 0, 0, 1, &answer), PIECEPICK_R_NOT_ASKED);
+    REFUSED(piecepick_late(picker, 0, 0, MORE, &answer), PIECEPICK_R_NOT_ASKED);
     EQUAL(picture(picker), before);
     if (is_journal) EQUAL(piecepick_audit(picker), PIECEPICK_OK);
     piecepick_close(&picker);
@@ -1515,6 +1521,286 @@ static void try_rules(uint32_t keeps)
     piecepick_close(&picker);
 }
 
+/* ---- A request that takes too long. */
+
+/* The block stays in flight at its peer. Another peer is asked for it as if it were in flight nowhere, and not in endgame alone. */
+static void try_late(uint32_t keeps)
+{
+    piecepick_picker *picker = open_for(keeps, 2);
+    piecepick_answer answer;
+    uint32_t number;
+    come(picker, 0);
+    come(picker, 1);
+    asks_by(picker, 0, 0, 0, 0, PIECEPICK_RULE_RANDOM);
+    QUIET(piecepick_late(picker, 0, 0, 0, &answer));
+    NUMBER(piecepick_outstanding(picker, 0, &number), 1);
+    BLOCKS(piecepick_outstanding_at(picker, 0, 0, &answer), PIECEPICK_K_REQUEST, 0, 0);
+    asks_by(picker, 0, 0, 0, BLOCK, PIECEPICK_RULE_RANDOM); /* its own peer gets the other block, which begins the piece anew */
+    asks_by(picker, 1, 0, 0, 0, PIECEPICK_RULE_LATE);
+    asks_by(picker, 1, 0, 1, 0, PIECEPICK_RULE_RANDOM);
+    EQUAL(bring(picker, 1, 0, 0, 0), PIECEPICK_K_STORED);
+    NUMBER(piecepick_outstanding(picker, 0, &number), 1);
+    REFUSED(piecepick_late(picker, 0, 0, 0, &answer), PIECEPICK_R_NOT_ASKED);
+    BLOCKS(piecepick_next(picker, 0, 0, &answer), PIECEPICK_K_CANCEL, 0, 0);
+    asks_by(picker, 0, 0, 1, BLOCK, PIECEPICK_RULE_BEGUN);
+    /* Its own peer brings the block: no cancel is due there, but one at the other peer that was asked for it. */
+    QUIET(piecepick_late(picker, 0, 0, BLOCK, &answer));
+    asks_by(picker, 1, 0, 0, BLOCK, PIECEPICK_RULE_LATE);
+    EQUAL(bring(picker, 0, 0, BLOCK, 0), PIECEPICK_K_COMPLETED);
+    NUMBER(piecepick_sender(picker, 0, 1, &number), 0);
+    BLOCKS(piecepick_next(picker, 1, 0, &answer), PIECEPICK_K_CANCEL, 0, BLOCK);
+    asks_by(picker, 1, 2, 2, 0, PIECEPICK_RULE_RANDOM);
+    asks_by(picker, 0, 2, 2, BLOCK, PIECEPICK_RULE_BEGUN);
+    EQUAL(settle(picker, keeps, 0, 0), PIECEPICK_K_HAD);
+    /* Nobody else was asked for it: no cancel anywhere. */
+    QUIET(piecepick_late(picker, 1, 2, 0, &answer));
+    EQUAL(bring(picker, 1, 2, 0, 0), PIECEPICK_K_STORED);
+    NUMBER(piecepick_outstanding(picker, 1, &number), 1);
+    asks_by(picker, 0, 3, 3, 0, PIECEPICK_RULE_RAREST);
+    asks_by(picker, 1, 3, 3, BLOCK, PIECEPICK_RULE_BEGUN);
+    /* In order the rule is the same. */
+    QUIET(piecepick_set_in_order(picker, 1, &answer));
+    asks_by(picker, 0, 0, 4, 0, PIECEPICK_RULE_IN_ORDER);
+    QUIET(piecepick_late(picker, 0, 4, 0, &answer));
+    asks_by(picker, 0, 0, 4, BLOCK, PIECEPICK_RULE_IN_ORDER);
+    asks_by(picker, 1, 0, 4, 0, PIECEPICK_RULE_LATE);
+    asks_by(picker, 1, 0, 5, 0, PIECEPICK_RULE_IN_ORDER);
+    if (keeps == PIECEPICK_KEEPS_JOURNAL) EQUAL(piecepick_audit(picker), PIECEPICK_OK);
+    piecepick_close(&picker);
+}
+
+/* It counts for the depth of its peer. Told twice it is as once, and one cancel is due. */
+static void try_late_depths(uint32_t keeps)
+{
+    piecepick_picker *picker = open_for(keeps, 2);
+    piecepick_answer answer;
+    uint32_t number;
+    uint64_t before;
+    REFUSED(piecepick_late(picker, 0, 0, 0, &answer), PIECEPICK_R_NOT_JOINED);
+    come(picker, 0);
+    come(picker, 1);
+    REFUSED(piecepick_late(picker, 0, 0, 0, &answer), PIECEPICK_R_NOT_ASKED);
+    QUIET(piecepick_depth(picker, 0, 1, &answer));
+    asks_by(picker, 0, 0, 0, 0, PIECEPICK_RULE_RANDOM);
+    REFUSED(piecepick_late(picker, 1, 0, 0, &answer), PIECEPICK_R_NOT_ASKED); /* another peer is asked for it */
+    REFUSED(piecepick_late(picker, 0, 0, BLOCK, &answer), PIECEPICK_R_NOT_ASKED);
+    QUIET(piecepick_late(picker, 0, 0, 0, &answer));
+    GETS(piecepick_next(picker, 0, 0, &answer), PIECEPICK_K_PIPE_FULL);
+    before = still_picture(picker);
+    QUIET(piecepick_late(picker, 0, 0, 0, &answer));
+    EQUAL(still_picture(picker), before);
+    GETS(piecepick_next(picker, 0, 0, &answer), PIECEPICK_K_PIPE_FULL);
+    QUIET(piecepick_depth(picker, 0, 2, &answer));
+    asks_by(picker, 0, 0, 0, BLOCK, PIECEPICK_RULE_RANDOM);
+    QUIET(piecepick_late(picker, 0, 0, BLOCK, &answer));
+    GETS(piecepick_next(picker, 0, 0, &answer), PIECEPICK_K_PIPE_FULL);
+    QUIET(piecepick_depth(picker, 0, 3, &answer));
+    asks_by(picker, 0, 0, 1, 0, PIECEPICK_RULE_RANDOM);    /* both blocks of piece 0 are late here */
+    asks_by(picker, 1, 0, 1, BLOCK, PIECEPICK_RULE_BEGUN); /* they begin no piece, and this one has begun */
+    asks_by(picker, 1, 0, 0, 0, PIECEPICK_RULE_LATE);
+    EQUAL(bring(picker, 1, 0, 0, 0), PIECEPICK_K_STORED);
+    NUMBER(piecepick_outstanding(picker, 0, &number), 2);
+    BLOCKS(piecepick_next(picker, 0, 0, &answer), PIECEPICK_K_CANCEL, 0, 0);
+    asks_by(picker, 0, 2, 2, 0, PIECEPICK_RULE_RANDOM); /* piece 0 has begun now, and lacks a block that is late here */
+    GETS(piecepick_next(picker, 0, 0, &answer), PIECEPICK_K_PIPE_FULL);
+    REFUSED(piecepick_late(picker, 0, 0, 0, &answer), PIECEPICK_R_NOT_ASKED);
+    if (keeps == PIECEPICK_KEEPS_JOURNAL) EQUAL(piecepick_audit(picker), PIECEPICK_OK);
+    piecepick_close(&picker);
+}
+
+/* A late request ends in each of these ways, and nothing stays of it: either peer may be asked for the block, by the usual rules. */
+static void try_late_ends(uint32_t keeps)
+{
+    enum { RELEASE, LACK, CHOKE, LEAVE, BLOCK_CAME, ENDS };
+    for (int end = 0; end < ENDS; end++)
+        for (uint32_t next = 0; next < 2; next++) {
+            piecepick_picker *picker = open_for(keeps, 2);
+            piecepick_answer answer;
+            uint32_t number;
+            come(picker, 0);
+            come(picker, 1);
+            asks_by(picker, 0, 0, 0, 0, PIECEPICK_RULE_RANDOM);
+            QUIET(piecepick_late(picker, 0, 0, 0, &answer));
+            if (end == RELEASE) {
+                QUIET(piecepick_release(picker, 0, 0, 0, &answer));
+                REFUSED(piecepick_late(picker, 0, 0, 0, &answer), PIECEPICK_R_NOT_ASKED);
+            } else if (end == LACK) {
+                NOTED(piecepick_lack(picker, 0, 0, &answer), 1);
+                NOTED(piecepick_have(picker, 0, 0, &answer), 1);
+            } else if (end == CHOKE) {
+                QUIET(piecepick_choke(picker, 0, &answer));
+                QUIET(piecepick_unchoke(picker, 0, &answer));
+            } else if (end == LEAVE) {
+                QUIET(piecepick_leave(picker, 0, &answer));
+                come(picker, 0);
+            } else {
+                /* It comes from the other peer. Then the piece has another hash, and no block of it is held. */
+                EQUAL(bring(picker, 1, 0, 0, 0), PIECEPICK_K_STORED);
+                EQUAL(bring(picker, 1, 0, BLOCK, 1), PIECEPICK_K_COMPLETED);
+                EQUAL(settle(picker, keeps, 0, 1), PIECEPICK_K_FAILED);
+                BLOCKS(piecepick_next(picker, 0, 0, &answer), PIECEPICK_K_CANCEL, 0, 0);
+            }
+            NUMBER(piecepick_outstanding(picker, 0, &number), 0);
+            asks_by(picker, next, 0, 0, 0, PIECEPICK_RULE_RANDOM);
+            asks_by(picker, 1 - next, 0, 0, BLOCK, PIECEPICK_RULE_BEGUN); /* by the request of the first block, which isn't late */
+            EQUAL(bring(picker, 1, 0, 0, 0), PIECEPICK_K_STORED);
+            if (next == 0) BLOCKS(piecepick_next(picker, 0, 1, &answer), PIECEPICK_K_CANCEL, 0, 0);
+            asks_by(picker, 0, 1, 1, 0, PIECEPICK_RULE_RANDOM);
+            if (keeps == PIECEPICK_KEEPS_JOURNAL) EQUAL(piecepick_audit(picker), PIECEPICK_OK);
+            piecepick_close(&picker);
+        }
+}
+
+/* Endgame waits for a late block as for one that nobody was asked for. It doesn't ask its own peer for it, nor count that peer. */
+static void try_late_in_endgame(uint32_t keeps)
+{
+    piecepick_picker *picker = open_for(keeps, 3);
+    piecepick_answer answer;
+    uint32_t number;
+    for (uint32_t worker = 0; worker < 3; worker++) come_with(picker, worker, two);
+    EQUAL(asks_all(picker, 0, PIECEPICK_K_IDLE), 4);
+    QUIET(piecepick_late(picker, 0, 0, 0, &answer));
+    for (uint32_t place = 0; place < 4; place++) /* it stays the oldest request */
+        BLOCKS(piecepick_outstanding_at(picker, 0, place, &answer), PIECEPICK_K_REQUEST, place / 2, place % 2 * BLOCK);
+    GETS(piecepick_next(picker, 0, 3, &answer), PIECEPICK_K_IDLE);
+    asks_by(picker, 1, 3, 0, 0, PIECEPICK_RULE_LATE); /* the one request that isn't of endgame */
+    for (uint32_t place = 1; place < 4; place++) asks_by(picker, 1, 3, place / 2, place % 2 * BLOCK, PIECEPICK_RULE_ENDGAME);
+    GETS(piecepick_next(picker, 1, 3, &answer), PIECEPICK_K_IDLE);
+    /* It is in flight at two peers, of which one is late: a third one may be asked. */
+    asks_by(picker, 2, 3, 0, 0, PIECEPICK_RULE_ENDGAME);
+    GETS(piecepick_next(picker, 2, 3, &answer), PIECEPICK_K_IDLE);
+    GETS(piecepick_next(picker, 0, 3, &answer), PIECEPICK_K_IDLE);
+    EQUAL(bring(picker, 2, 0, 0, 0), PIECEPICK_K_STORED);
+    for (uint32_t worker = 0; worker < 2; worker++) {
+        BLOCKS(piecepick_next(picker, worker, 3, &answer), PIECEPICK_K_CANCEL, 0, 0);
+        GETS(piecepick_next(picker, worker, 3, &answer), PIECEPICK_K_IDLE);
+    }
+    /* One of two peers gets late in endgame, which goes on. */
+    QUIET(piecepick_late(picker, 0, 0, BLOCK, &answer));
+    GETS(piecepick_next(picker, 0, 3, &answer), PIECEPICK_K_IDLE);
+    asks_by(picker, 2, 3, 0, BLOCK, PIECEPICK_RULE_ENDGAME);
+    GETS(piecepick_next(picker, 2, 3, &answer), PIECEPICK_K_IDLE);
+    /* Both do: a block that no peer has in time ends it, until it is requested. */
+    for (uint32_t worker = 0; worker < 2; worker++) QUIET(piecepick_late(picker, worker, 1, 0, &answer));
+    for (uint32_t worker = 0; worker < 2; worker++) GETS(piecepick_next(picker, worker, 3, &answer), PIECEPICK_K_IDLE);
+    asks_by(picker, 2, 3, 1, 0, PIECEPICK_RULE_LATE);
+    GETS(piecepick_next(picker, 2, 3, &answer), PIECEPICK_K_IDLE);
+    EQUAL(bring(picker, 1, 1, 0, 0), PIECEPICK_K_STORED);
+    for (uint32_t worker = 0; worker < 3; worker += 2) BLOCKS(piecepick_next(picker, worker, 3, &answer), PIECEPICK_K_CANCEL, 1, 0);
+    NUMBER(piecepick_outstanding(picker, 0, &number), 2);
+    NUMBER(piecepick_outstanding(picker, 1, &number), 2);
+    NUMBER(piecepick_outstanding(picker, 2, &number), 1);
+    if (keeps == PIECEPICK_KEEPS_JOURNAL) EQUAL(piecepick_audit(picker), PIECEPICK_OK);
+    piecepick_close(&picker);
+}
+
+/* A peer is late with the last block of all, and there is no other one. */
+static void try_late_last(uint32_t keeps)
+{
+    const uint32_t last = pieces - 1;
+    piecepick_picker *picker = open_for(keeps, 1);
+    piecepick_answer answer;
+    uint32_t number;
+    come(picker, 0);
+    for (uint32_t piece = 0; piece < last; piece++) EQUAL(bring_whole(picker, keeps, 0, piece), PIECEPICK_K_HAD);
+    asks_by(picker, 0, 0, last, 0, PIECEPICK_RULE_RAREST);
+    QUIET(piecepick_late(picker, 0, last, 0, &answer));
+    for (uint64_t word = 0; word < 2; word++) GETS(piecepick_next(picker, 0, word, &answer), PIECEPICK_K_IDLE);
+    EQUAL(bring(picker, 0, last, 0, 0), PIECEPICK_K_COMPLETED);
+    GETS(piecepick_next(picker, 0, 0, &answer), PIECEPICK_K_IDLE);
+    EQUAL(settle(picker, keeps, last, 0), PIECEPICK_K_HAD);
+    GETS(piecepick_next(picker, 0, 0, &answer), PIECEPICK_K_NOTHING_LEFT);
+    NUMBER(piecepick_is_complete(picker, &number), 1);
+    if (keeps == PIECEPICK_KEEPS_JOURNAL) EQUAL(piecepick_audit(picker), PIECEPICK_OK);
+    piecepick_close(&picker);
+}
+
+/* No piece comes at random, and so many may be open. Peer 0 has all pieces, and peer 1 these. */
+static piecepick_picker *open_with_open(uint32_t keeps, uint32_t open, const uint8_t *flags)
+{
+    piecepick_options options = PIECEPICK_OPTIONS;
+    piecepick_picker *picker;
+    options.keeps = keeps;
+    options.workers = 2;
+    options.random = 0;
+    options.open = open;
+    picker = open_by(&options);
+    come(picker, 0);
+    come_with(picker, 1, flags);
+    return picker;
+}
+
+/* What is late makes no piece a begun one, and leaves a begun one open. */
+static void try_late_open_pieces(uint32_t keeps)
+{
+    piecepick_picker *picker = open_with_open(keeps, 0, two);
+    piecepick_answer answer;
+    asks_by(picker, 1, 0, 0, 0, PIECEPICK_RULE_RAREST);
+    QUIET(piecepick_late(picker, 1, 0, 0, &answer));
+    asks_by(picker, 0, 2, 2, 0, PIECEPICK_RULE_RAREST); /* begun pieces come first, and there is none */
+    if (keeps == PIECEPICK_KEEPS_JOURNAL) EQUAL(piecepick_audit(picker), PIECEPICK_OK);
+    piecepick_close(&picker);
+    /* One piece may be open. Of two begun ones the first has no block to request, until its request is late. */
+    picker = open_with_open(keeps, 1, two);
+    EQUAL(bring(picker, 1, 0, 0, 0), PIECEPICK_K_STORED);
+    asks_by(picker, 1, 0, 0, BLOCK, PIECEPICK_RULE_BEGUN);
+    EQUAL(bring(picker, 1, 1, 0, 0), PIECEPICK_K_STORED);
+    asks_by(picker, 0, 2, 2, 0, PIECEPICK_RULE_RAREST);
+    QUIET(piecepick_release(picker, 0, 2, 0, &answer));
+    QUIET(piecepick_late(picker, 1, 0, BLOCK, &answer));
+    asks_by(picker, 0, 2, 0, BLOCK, PIECEPICK_RULE_LATE);
+    if (keeps == PIECEPICK_KEEPS_JOURNAL) EQUAL(piecepick_audit(picker), PIECEPICK_OK);
+    piecepick_close(&picker);
+}
+
+/* A piece whose unrequested blocks are all late at this peer has nothing for it, and keeps no other piece back. */
+static void try_late_keeps_none_back(uint32_t keeps)
+{
+    static const uint8_t second[MOST_PIECES / 8] = {0x40}, but_the_last[MOST_PIECES / 8] = {0xff, 0x80};
+    for (uint32_t open = 0; open < 2; open++) {
+        /* The late block is of the rarest begun piece, and of the first one. */
+        piecepick_picker *picker = open_with_open(keeps, open, second);
+        piecepick_answer answer;
+        QUIET(piecepick_want(picker, two, flags_len, &answer));
+        asks_by(picker, 0, 0, 0, 0, PIECEPICK_RULE_RAREST);
+        asks_by(picker, 0, 0, 0, BLOCK, PIECEPICK_RULE_BEGUN);
+        EQUAL(bring(picker, 1, 1, 0, 0), PIECEPICK_K_STORED);
+        QUIET(piecepick_late(picker, 0, 0, 0, &answer));
+        asks_by(picker, 0, 0, 1, BLOCK, PIECEPICK_RULE_BEGUN);
+        GETS(piecepick_next(picker, 0, 0, &answer), PIECEPICK_K_IDLE);
+        if (keeps == PIECEPICK_KEEPS_JOURNAL) EQUAL(piecepick_audit(picker), PIECEPICK_OK);
+        piecepick_close(&picker);
+        /* It is all of the rarest piece that hasn't begun. */
+        picker = open_with_open(keeps, open, but_the_last);
+        asks_by(picker, 0, 0, pieces - 1, 0, PIECEPICK_RULE_RAREST);
+        QUIET(piecepick_late(picker, 0, pieces - 1, 0, &answer));
+        asks_by(picker, 0, 3, 3, 0, PIECEPICK_RULE_RAREST);
+        asks_by(picker, 0, 4, 3, BLOCK, PIECEPICK_RULE_BEGUN);
+        if (keeps == PIECEPICK_KEEPS_JOURNAL) EQUAL(piecepick_audit(picker), PIECEPICK_OK);
+        piecepick_close(&picker);
+        /* It is all of the first piece, where they come in order. */
+        picker = open_with_open(keeps, open, two);
+        QUIET(piecepick_set_in_order(picker, 1, &answer));
+        for (uint32_t begin = 0; begin < PIECE; begin += BLOCK) {
+            asks_by(picker, 0, 0, 0, begin, PIECEPICK_RULE_IN_ORDER);
+            QUIET(piecepick_late(picker, 0, 0, begin, &answer));
+        }
+        asks_by(picker, 0, 0, 1, 0, PIECEPICK_RULE_IN_ORDER);
+        asks_by(picker, 1, 0, 0, 0, PIECEPICK_RULE_LATE);
+        if (keeps == PIECEPICK_KEEPS_JOURNAL) EQUAL(piecepick_audit(picker), PIECEPICK_OK);
+        piecepick_close(&picker);
+        /* It is the one block of the highest level that is left. */
+        picker = open_with_open(keeps, open, two);
+        QUIET(piecepick_set_level(picker, 4, 7, &answer));
+        asks_by(picker, 0, 0, 4, 0, PIECEPICK_RULE_RAREST);
+        asks_by(picker, 0, 0, 4, BLOCK, PIECEPICK_RULE_BEGUN);
+        QUIET(piecepick_late(picker, 0, 4, 0, &answer));
+        asks_by(picker, 0, 2, 2, 0, PIECEPICK_RULE_RAREST);
+        if (keeps == PIECEPICK_KEEPS_JOURNAL) EQUAL(piecepick_audit(picker), PIECEPICK_OK);
+        piecepick_close(&picker);
+    }
+}
+
 /* ---- When a peer is worth another question. */
 
 static uint64_t epoch(piecepick_picker *picker)
@@ -1573,6 +1859,8 @@ static void try_epochs(uint32_t keeps)
     STAYS(REFUSED(piecepick_leave(picker, 2, &answer), PIECEPICK_R_NOT_JOINED));
     STAYS(REFUSED(piecepick_join(picker, 0, &answer), PIECEPICK_R_ALREADY_JOINED));
     STAYS(REFUSED(piecepick_release(picker, 1, 0, 0, &answer), PIECEPICK_R_NOT_ASKED));
+    STAYS(REFUSED(piecepick_late(picker, 1, 0, 0, &answer), PIECEPICK_R_NOT_ASKED));
+    STAYS(REFUSED(piecepick_late(picker, 2, 0, 0, &answer), PIECEPICK_R_NOT_JOINED));
     STAYS(REFUSED(piecepick_lack(picker, 2, 0, &answer), PIECEPICK_R_NOT_JOINED));
     STAYS(REFUSED(piecepick_set_level(picker, 0, 8, &answer), PIECEPICK_R_WRONG_LEVEL));
     STAYS(REFUSED(piecepick_reach(picker, 0, 8, &answer), PIECEPICK_R_WRONG_LEVEL));
@@ -1580,6 +1868,8 @@ static void try_epochs(uint32_t keeps)
     STAYS(NO_ANSWER(piecepick_choke(picker, 3, &answer), PIECEPICK_E_WORKER));
     STAYS(NO_ANSWER(piecepick_lack(picker, 3, 0, &answer), PIECEPICK_E_WORKER));
     STAYS(NO_ANSWER(piecepick_lack(picker, 0, pieces, &answer), PIECEPICK_E_PIECE));
+    STAYS(NO_ANSWER(piecepick_late(picker, 3, 0, 0, &answer), PIECEPICK_E_WORKER));
+    STAYS(NO_ANSWER(piecepick_late(picker, 0, pieces, 0, &answer), PIECEPICK_E_PIECE));
     STAYS(NUMBER(piecepick_is_had(picker, 0, &number), 0));
     STAYS(EQUAL(piecepick_rule(picker, 0, 0, &number), PIECEPICK_OK));
     /* The first peer drops the piece, which frees both blocks. Then it has the piece again, and they are asked of it again. */
@@ -1590,6 +1880,11 @@ static void try_epochs(uint32_t keeps)
     for (uint32_t index = 0; index < 2; index++)
         STAYS(BLOCKS(piecepick_next(picker, 0, 0, &answer), PIECEPICK_K_REQUEST, 0, index * BLOCK));
     STAYS(GETS(piecepick_next(picker, 1, 1, &answer), PIECEPICK_K_IDLE));
+    /* The first peer is late with one of them, which the second one gets then. */
+    RISES(QUIET(piecepick_late(picker, 0, 0, 0, &answer)));
+    STAYS(BLOCKS(piecepick_next(picker, 1, 1, &answer), PIECEPICK_K_REQUEST, 0, 0));
+    STAYS(GETS(piecepick_next(picker, 1, 1, &answer), PIECEPICK_K_IDLE));
+    RISES(QUIET(piecepick_release(picker, 1, 0, 0, &answer)));
     /* A choke of the first peer frees both blocks for the second one. */
     RISES(QUIET(piecepick_choke(picker, 0, &answer)));
     STAYS(EQUAL(piecepick_next(picker, 1, 1, &answer), PIECEPICK_OK));
@@ -1649,33 +1944,73 @@ static void try_epochs(uint32_t keeps)
     EQUAL(asks_all(picker, 1, PIECEPICK_K_IDLE), 4);
     if (keeps == PIECEPICK_KEEPS_JOURNAL) EQUAL(piecepick_audit(picker), PIECEPICK_OK);
     piecepick_close(&picker);
+    /* Endgame waits for a late block that another peer can't be asked for, until its own peer brings it. */
+    picker = open_for(keeps, 2);
+    come_with(picker, 0, two);
+    GETS(piecepick_join(picker, 1, &answer), PIECEPICK_K_JOINED);
+    NOTED(piecepick_have(picker, 1, 1, &answer), 1);
+    QUIET(piecepick_unchoke(picker, 1, &answer));
+    EQUAL(asks_all(picker, 0, PIECEPICK_K_IDLE), 4);
+    RISES(QUIET(piecepick_late(picker, 0, 0, 0, &answer)));
+    EQUAL(asks_all(picker, 1, PIECEPICK_K_IDLE), 0);
+    RISES(EQUAL(bring(picker, 0, 0, 0, 0), PIECEPICK_K_STORED));
+    EQUAL(asks_all(picker, 1, PIECEPICK_K_IDLE), 2);
+    if (keeps == PIECEPICK_KEEPS_JOURNAL) EQUAL(piecepick_audit(picker), PIECEPICK_OK);
+    piecepick_close(&picker);
 }
 
-/* At how many of the peers the block is in flight. */
-static uint32_t askers_of(piecepick_picker *picker, uint32_t peers, uint32_t piece, uint32_t begin)
+enum { PEERS = 4 };
+/* Which requests were told late, for calls at random: of each peer those of each piece's blocks, as long as they last. */
+static int is_late[PEERS][MOST_PIECES][2];
+
+/* What isn't in flight at its peer any more isn't late there either. */
+static void end_late_requests(piecepick_picker *picker)
 {
+    int lasts[PEERS][MOST_PIECES][2] = {{{0}}};
     piecepick_answer answer;
-    uint32_t count, found = 0;
-    for (uint32_t peer = 0; peer < peers; peer++) {
+    uint32_t count;
+    for (uint32_t peer = 0; peer < PEERS; peer++) {
         EQUAL(piecepick_outstanding(picker, peer, &count), PIECEPICK_OK);
         for (uint32_t place = 0; place < count; place++) {
             EQUAL(piecepick_outstanding_at(picker, peer, place, &answer), PIECEPICK_OK);
-            found += answer.piece == piece && answer.begin == begin;
+            lasts[peer][answer.piece][answer.begin / BLOCK] = is_late[peer][answer.piece][answer.begin / BLOCK];
         }
+    }
+    memcpy(is_late, lasts, sizeof is_late);
+}
+
+/* How often the block is in flight at the peer, which is late with it or isn't. */
+static uint32_t times_at(piecepick_picker *picker, uint32_t peer, int late, uint32_t piece, uint32_t begin)
+{
+    piecepick_answer answer;
+    uint32_t count, found = 0;
+    EQUAL(piecepick_outstanding(picker, peer, &count), PIECEPICK_OK);
+    for (uint32_t place = 0; place < count; place++) {
+        EQUAL(piecepick_outstanding_at(picker, peer, place, &answer), PIECEPICK_OK);
+        found += answer.piece == piece && answer.begin == begin && is_late[peer][piece][begin / BLOCK] == late;
     }
     return found;
 }
 
+/* At how many of the peers it is. */
+static uint32_t askers_of(piecepick_picker *picker, int late, uint32_t piece, uint32_t begin)
+{
+    uint32_t found = 0;
+    for (uint32_t peer = 0; peer < PEERS; peer++) found += times_at(picker, peer, late, piece, begin);
+    return found;
+}
+
 /* The rule of the block that was requested right now, by what else the picker tells. So many pieces come at random. */
-static piecepick_pick_rule rule_of(piecepick_picker *picker, uint32_t peers, uint32_t random, uint32_t piece, uint32_t begin)
+static piecepick_pick_rule rule_of(piecepick_picker *picker, uint32_t random, uint32_t piece, uint32_t begin)
 {
     uint32_t level, from, number, touched = 0, had = 0;
-    if (askers_of(picker, peers, piece, begin) > 1) return PIECEPICK_RULE_ENDGAME;
+    if (askers_of(picker, 0, piece, begin) > 1) return PIECEPICK_RULE_ENDGAME;
+    if (askers_of(picker, 1, piece, begin) > 0) return PIECEPICK_RULE_LATE;
     EQUAL(piecepick_level(picker, piece, &level), PIECEPICK_OK);
     EQUAL(piecepick_order_from(picker, &from), PIECEPICK_OK);
     if (from <= level) return PIECEPICK_RULE_IN_ORDER;
     for (uint32_t index = 0; index < blocks_of(piece); index++)
-        touched += piecepick_sender(picker, piece, index, &number) == PIECEPICK_OK || askers_of(picker, peers, piece, index * BLOCK) > 0;
+        touched += piecepick_sender(picker, piece, index, &number) == PIECEPICK_OK || askers_of(picker, 0, piece, index * BLOCK) > 0;
     if (touched > 1) return PIECEPICK_RULE_BEGUN;
     for (uint32_t other = 0; other < pieces; other++) {
         EQUAL(piecepick_is_had(picker, other, &number), PIECEPICK_OK);
@@ -1685,17 +2020,17 @@ static piecepick_pick_rule rule_of(piecepick_picker *picker, uint32_t peers, uin
 }
 
 /* Calls at random. A peer that had nothing to be asked for has nothing while its own worker tells nothing, and the epoch stays. Each request
-   tells its rule. */
+   tells its rule, and is of a block that wasn't in flight there. */
 static void try_epochs_at_random(uint32_t keeps)
 {
-    enum { PEERS = 4, STEPS = 20000 };
+    enum { STEPS = 20000 };
     piecepick_options options = PIECEPICK_OPTIONS;
     piecepick_picker *picker = NULL;
     piecepick_answer answer;
     uint64_t state = 1, idle_at[PEERS] = {0};
     uint32_t complete = 1, number;
     int is_idle[PEERS] = {0}, is_wrong[MOST_PIECES] = {0};
-    long again = 0, by[PIECEPICK_RULE_ENDGAME + 1] = {0};
+    long again = 0, by[PIECEPICK_RULE_LATE + 1] = {0};
     options.keeps = keeps;
     options.workers = PEERS;
     options.depth = 5;
@@ -1706,6 +2041,7 @@ static void try_epochs_at_random(uint32_t keeps)
             picker = open_by(&options);
             options.rush = 4 - options.rush; /* 1 and 3 by turns */
             memset(is_idle, 0, sizeof is_idle);
+            memset(is_late, 0, sizeof is_late);
         }
         state = state * 6364136223846793005u + 1442695040888963407u;
         uint32_t worker = (uint32_t)(state >> 33) % PEERS, piece = (uint32_t)(state >> 37) % pieces, action = (uint32_t)(state >> 45) % 64;
@@ -1715,19 +2051,19 @@ static void try_epochs_at_random(uint32_t keeps)
         const int was_idle = is_idle[worker];
         /* A block that is given up or comes is mostly one that was asked for. */
         EQUAL(piecepick_outstanding(picker, worker, &number), PIECEPICK_OK);
-        if (number > 0 && action != 42) {
+        if (number > 0 && action != 50) {
             EQUAL(piecepick_outstanding_at(picker, worker, piece % number, &answer), PIECEPICK_OK);
-            if ((action >= 18 && action < 20) || (action > 42 && action < 60)) {
+            if ((action >= 18 && action < 24) || (action > 50 && action < 60)) {
                 piece = answer.piece;
                 begin = answer.begin;
             }
-        } else if (action > 42 && action < 60) {
+        } else if (action > 50 && action < 60) {
             continue;
         }
         is_idle[worker] = 0;
         if (action < 3) status = piecepick_join(picker, worker, &answer);
         else if (action < 4) status = piecepick_leave(picker, worker, &answer);
-        else if (action < 6) status = piecepick_choke(picker, worker, &answer);
+        else if (action < 5) status = piecepick_choke(picker, worker, &answer);
         else if (action < 9) status = piecepick_unchoke(picker, worker, &answer);
         else if (action < 14) status = piecepick_have(picker, worker, piece, &answer);
         else if (action < 15) status = piecepick_lack(picker, worker, piece, &answer);
@@ -1735,13 +2071,17 @@ static void try_epochs_at_random(uint32_t keeps)
         else if (action < 17) status = piecepick_haves(picker, worker, all, flags_len, &answer);
         else if (action < 18) status = piecepick_depth(picker, worker, level + 1, &answer);
         else if (action < 20) status = piecepick_release(picker, worker, piece, begin, &answer);
-        else if (action < 42) {
+        else if (action < 24) {
+            status = piecepick_late(picker, worker, piece, begin, &answer);
+            if (answer.kind == PIECEPICK_K_QUIET) is_late[worker][piece][begin / BLOCK] = 1;
+        } else if (action < 50) {
             status = piecepick_next(picker, worker, state, &answer);
             is_idle[worker] = answer.kind == PIECEPICK_K_IDLE || answer.kind == PIECEPICK_K_NOTHING_LEFT;
             if (is_idle[worker]) idle_at[worker] = epoch(picker);
             if (answer.kind == PIECEPICK_K_REQUEST) {
+                EQUAL(times_at(picker, worker, 0, answer.piece, answer.begin), 1);
                 NUMBER(piecepick_rule(picker, answer.piece, answer.begin / BLOCK, &number),
-                       rule_of(picker, PEERS, options.random, answer.piece, answer.begin));
+                       rule_of(picker, options.random, answer.piece, answer.begin));
                 by[number]++;
             }
         } else if (action < 60) {
@@ -1762,6 +2102,7 @@ static void try_epochs_at_random(uint32_t keeps)
             else if (action < 62) status = piecepick_set_in_order_from(picker, level + 1, &answer);
         }
         EQUAL(status, PIECEPICK_OK);
+        end_late_requests(picker);
         for (uint32_t peer = 0; peer < PEERS; peer++) {
             if (!is_idle[peer] || epoch(picker) != idle_at[peer]) continue;
             EQUAL(piecepick_next(picker, peer, state, &answer), PIECEPICK_OK);
@@ -1771,7 +2112,7 @@ static void try_epochs_at_random(uint32_t keeps)
         EQUAL(piecepick_is_complete(picker, &complete), PIECEPICK_OK);
     }
     EQUAL(again > 1000, 1);
-    for (size_t rule = PIECEPICK_RULE_IN_ORDER; rule <= PIECEPICK_RULE_ENDGAME; rule++) EQUAL(by[rule] > 0, 1);
+    for (size_t rule = PIECEPICK_RULE_IN_ORDER; rule <= PIECEPICK_RULE_LATE; rule++) EQUAL(by[rule] > 0, 1);
     if (keeps == PIECEPICK_KEEPS_JOURNAL) EQUAL(piecepick_audit(picker), PIECEPICK_OK);
     piecepick_close(&picker);
 }
@@ -2417,6 +2758,7 @@ static void run(uint32_t keeps)
         EQUAL(number, 1);
         EQUAL(piecepick_outstanding_at(picker, worker, 0, &answer), PIECEPICK_OK);
         EQUAL(memcmp(&answer, &request, sizeof answer), 0);
+        AGAIN_IF(is_journal, piecepick_late(picker, worker, request.piece, request.begin, &answer));
         const uint8_t *block = bytes_of(request.piece) + request.begin;
         AGAIN_IF(!is_nothing, piecepick_arrived(picker, worker, request.piece, request.begin, block, request.length, &answer));
         if (is_nothing) memcpy(room + (size_t)request.piece * PIECE + request.begin, block, request.length);
@@ -2617,6 +2959,13 @@ int main(int argc, char **argv)
         {"a piece that it never had", try_lacks_of_nothing},
         {"a dropped piece in endgame", try_lacks_in_endgame},
         {"by which rule a block is requested", try_rules},
+        {"a request that takes too long", try_late},
+        {"the depth of a late peer, and late told twice", try_late_depths},
+        {"ends of a late request", try_late_ends},
+        {"a late request in endgame", try_late_in_endgame},
+        {"the last block of all, which is late", try_late_last},
+        {"late blocks of begun pieces", try_late_open_pieces},
+        {"pieces whose blocks are late at their own peer", try_late_keeps_none_back},
         {"epochs", try_epochs},
         {"epochs, in calls at random", try_epochs_at_random},
         {"senders", try_senders},

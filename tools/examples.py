@@ -98,6 +98,10 @@ RULES: dict[str, tuple[int, ...]] = {
     "lacked_is_asked_elsewhere": (3, 1),
     "lack_makes_another_piece_rarest": (5, 0),
     "lack_begins_endgame": (5, 1, 1024, 64, 0, 4096, True),
+    "late_stays_in_the_pipe": (2, 1),
+    "late_in_spite_of_one_asker": (5, 1, 1, 64),
+    "spent_piece_is_passed_by": (5, 0),
+    "spent_open_piece_is_passed_by": (5, 0, 1024, 64, 1),
 }
 
 EXAMPLES: dict[str, tuple[str, int, list[str]]] = {  # name: torrent, workers, lines
@@ -177,6 +181,19 @@ EXAMPLES: dict[str, tuple[str, int, list[str]]] = {  # name: torrent, workers, l
         "0 next 0 = request 0 0 3", "0 next 0 = idle", "0 release 0 0 = quiet", "0 next 0 = request 0 0 3"]),
     "released_arrives_after_all": ("two_blocks", 1, enters(0, "c0") + [
         "0 next 0 = request 0 0 16384", "0 release 0 0 = quiet", "0 block 0 0 X = stored", "0 next 0 = request 0 16384 16384"]),
+    "late_is_asked_elsewhere": ("two_pieces", 2, enters(0, "c0") + enters(1, "80") + [
+        "0 next 0 = request 0 0 3", "1 next 0 = idle", "0 late 0 0 = quiet", "1 next 0 = request 0 0 3", "0 next 0 = request 1 0 3",
+        "1 block 0 0 616263 = completed", "0 next 0 = cancel 0 0 3"]),
+    "late_holds_up_endgame": ("two_pieces", 3, enters(0, "c0") + enters(1, "40") + [
+        "0 next 0 = request 0 0 3", "1 next 1 = request 1 0 3", "0 late 0 0 = quiet", "0 next 0 = idle"] + enters(2, "80") + [
+        "2 next 0 = request 0 0 3", "0 next 0 = request 1 0 3"]),
+    "late_in_spite_of_one_asker": ("one_piece", 3, enters(0, "80") + enters(1, "80") + enters(2, "80") + [
+        "0 next 0 = request 0 0 3", "1 next 0 = idle", "0 late 0 0 = quiet", "1 next 0 = request 0 0 3", "0 late 0 0 = quiet",
+        "2 next 0 = idle", "1 late 0 0 = quiet", "2 next 0 = request 0 0 3"]),
+    "late_no_more": ("two_pieces", 2, enters(0, "c0") + enters(1, "80") + [
+        "0 next 0 = request 0 0 3", "0 late 0 0 = quiet"] + checked(0, 0, "616264", "failed") + [
+        "0 next 0 = request 0 0 3", "1 next 0 = idle", "0 late 0 0 = quiet", "0 choke = quiet", "0 unchoke = quiet",
+        "0 next 0 = request 0 0 3", "1 next 0 = idle"]),
     "depth_of_one": ("many_blocks", 1, enters(0, "80") + [
         "0 depth 1 = quiet", "0 next 0 = request 0 0 16384", "0 next 0 = pipefull"]),
     "deepened": ("many_blocks", 1, FULL_PIPE + [
@@ -335,6 +352,27 @@ EXAMPLES: dict[str, tuple[str, int, list[str]]] = {  # name: torrent, workers, l
     "refusals_of_lack": ("short_last", 2, [
         "0 lack 0 = refused NotJoined", "0 lack 9 = refused NotJoined", "0 join = joined", "0 lack 3 = refused NoSuchPiece",
         "0 bits 80 = noted yes", "0 lack 2 = noted yes", "1 join = joined", "1 lack 2 = noted no", "1 bits e0 = refused LateBits"]),
+    "late_comes_after_all": ("one_piece", 2, enters(0, "80") + enters(1, "80") + [
+        "0 next 0 = request 0 0 3", "0 late 0 0 = quiet", "1 next 0 = request 0 0 3", "0 block 0 0 616263 = completed",
+        "0 next 0 = idle", "1 next 0 = cancel 0 0 3"]),
+    "late_at_a_lone_peer": ("two_blocks", 1, enters(0, "c0") + [
+        "0 next 0 = request 0 0 16384", "0 late 0 0 = quiet", "0 next 0 = request 0 16384 16384", "0 next 1 = request 1 0 16384",
+        "0 next 0 = request 1 16384 16384", "0 next 0 = idle", "0 block 0 0 X = stored"]),
+    "late_stays_in_the_pipe": ("two_blocks", 1, enters(0, "c0") + TWO_ASKED + [
+        "0 late 0 0 = quiet", "0 late 0 16384 = quiet", "0 next 0 = pipefull", "0 release 0 0 = quiet", "0 next 0 = request 0 0 16384"]),
+    "released_once_late": ("one_piece", 1, enters(0, "80") + [
+        "0 next 0 = request 0 0 3", "0 late 0 0 = quiet", "0 next 0 = idle", "0 release 0 0 = quiet", "0 next 0 = request 0 0 3"]),
+    "spent_piece_is_passed_by": ("short_last", 3, enters(0, "e0") + enters(1, "60") + [
+        "0 next 0 = request 0 0 3", "0 late 0 0 = quiet", "0 next 1 = request 1 0 3"] + enters(2, "a0") + [
+        "2 next 2 = request 0 0 3"]),
+    "spent_open_piece_is_passed_by": ("four_pairs", 2, enters(0, "f0") + enters(1, "70") + [
+        "0 next 0 = request 0 0 16384", "0 late 0 0 = quiet", "0 next 0 = request 0 16384 16384", "0 next 2 = request 2 0 16384",
+        "0 next 3 = request 2 16384 16384"]),
+    "refusals_of_late": ("short_last", 2, [
+        "0 late 0 0 = refused NotJoined", "0 join = joined", "0 late 0 0 = refused NotAsked", "0 bits e0 = noted yes",
+        "0 unchoke = quiet", "0 next 0 = request 0 0 3", "0 late 0 1 = refused NotAsked", "0 late 9 0 = refused NotAsked"]
+        + enters(1, "80") + ["1 late 0 0 = refused NotAsked", "0 late 0 0 = quiet", "0 late 0 0 = quiet", "0 release 0 0 = quiet",
+                             "0 late 0 0 = refused NotAsked"]),
 }
 
 WRONG: dict[str, tuple[str, int, str]] = {  # name: example, how many entries of it came before, the wrong entry
@@ -488,6 +526,40 @@ WRONG: dict[str, tuple[str, int, str]] = {  # name: example, how many entries of
     "bitfield_late_by_a_refused_lack": ("refusals_of_lack", 4, "0 bits 80 = refused LateBits"),
     "lack_of_an_unshown_piece_refused": ("refusals_of_lack", 5, "0 lack 2 = refused NoSuchPiece"),
     "bitfield_after_a_lack_taken": ("refusals_of_lack", 8, "1 bits e0 = noted yes"),
+    "idle_though_the_other_peer_is_late": ("late_is_asked_elsewhere", 9, "1 next 0 = idle"),
+    "late_block_asked_again_of_its_own_peer": ("late_is_asked_elsewhere", 10, "0 next 0 = request 0 0 3"),
+    "idle_though_late_with_another_piece": ("late_is_asked_elsewhere", 10, "0 next 0 = idle"),
+    "no_cancel_since_it_was_late": ("late_is_asked_elsewhere", 12, "0 next 0 = idle"),
+    "cancel_of_what_its_own_peer_brought_late": ("late_comes_after_all", 10, "0 next 0 = cancel 0 0 3"),
+    "no_cancel_since_the_late_peer_brought_it": ("late_comes_after_all", 11, "1 next 0 = idle"),
+    "late_block_asked_again_of_a_lone_peer": ("late_at_a_lone_peer", 5, "0 next 0 = request 0 0 16384"),
+    "idle_at_a_lone_peer_with_a_spent_piece": ("late_at_a_lone_peer", 6, "0 next 1 = idle"),
+    "spent_piece_continued": ("late_at_a_lone_peer", 6, "0 next 1 = request 0 0 16384"),
+    "late_block_dropped": ("late_at_a_lone_peer", 9, "0 block 0 0 X = dropped"),
+    "second_peer_asked_though_a_late_block_waits": ("late_holds_up_endgame", 9, "0 next 0 = request 1 0 3"),
+    "nothing_left_though_it_is_late": ("late_holds_up_endgame", 9, "0 next 0 = nothing"),
+    "idle_though_the_late_block_was_given_on": ("late_holds_up_endgame", 14, "0 next 0 = idle"),
+    "late_requests_left_out_of_the_pipe": ("late_stays_in_the_pipe", 8, "0 next 0 = request 1 0 16384"),
+    "released_though_still_in_the_pipe": ("late_stays_in_the_pipe", 10, "0 next 0 = pipefull"),
+    "late_peer_counted_as_an_asker": ("late_in_spite_of_one_asker", 12, "1 next 0 = idle"),
+    "late_twice_refused": ("late_in_spite_of_one_asker", 13, "0 late 0 0 = refused NotAsked"),
+    "late_twice_counted_twice": ("late_in_spite_of_one_asker", 14, "2 next 0 = request 0 0 3"),
+    "late_though_the_block_came": ("late_no_more", 11, "1 next 0 = request 0 0 3"),
+    "late_though_the_peer_choked_us": ("late_no_more", 16, "1 next 0 = request 0 0 3"),
+    "late_block_asked_again_before_its_release": ("released_once_late", 5, "0 next 0 = request 0 0 3"),
+    "idle_though_late_was_released": ("released_once_late", 7, "0 next 0 = idle"),
+    "idle_since_the_rarest_piece_is_spent": ("spent_piece_is_passed_by", 8, "0 next 1 = idle"),
+    "spent_piece_begun_again": ("spent_piece_is_passed_by", 8, "0 next 1 = request 0 0 3"),
+    "piece_spent_for_another_peer_too": ("spent_piece_is_passed_by", 12, "2 next 2 = request 2 0 1"),
+    "piece_with_a_late_block_left": ("spent_open_piece_is_passed_by", 8, "0 next 0 = request 1 0 16384"),
+    "another_piece_begun_for_a_spent_one": ("spent_open_piece_is_passed_by", 10, "0 next 3 = request 3 0 16384"),
+    "late_of_a_stranger_taken": ("refusals_of_late", 0, "0 late 0 0 = quiet"),
+    "late_of_an_unasked_block_taken": ("refusals_of_late", 2, "0 late 0 0 = quiet"),
+    "bitfield_late_by_a_refused_late": ("refusals_of_late", 3, "0 bits e0 = refused LateBits"),
+    "late_at_another_place_taken": ("refusals_of_late", 6, "0 late 0 1 = quiet"),
+    "late_of_no_piece_told_as_such": ("refusals_of_late", 7, "0 late 9 0 = refused NoSuchPiece"),
+    "late_of_another_peers_block_taken": ("refusals_of_late", 11, "1 late 0 0 = quiet"),
+    "late_of_a_released_block_taken": ("refusals_of_late", 15, "0 late 0 0 = quiet"),
 }
 
 WRONG_IN_AUDITS: dict[str, tuple[int, str]] = {  # example: how many entries of it came before, the wrong entry; for the examples that have none above
@@ -552,6 +624,7 @@ def action(words: list[str], pieces: int) -> str:
         case ["lack", piece]: return f"(Lack {piece})"
         case ["depth", depth]: return f"(Depth {depth})"
         case ["release", piece, begin]: return f"(Release {piece} {begin})"
+        case ["late", piece, begin]: return f"(Late {piece} {begin})"
         case ["level", piece, level]: return f"(Level {piece} {level})"
         case ["levels", digits]: return f"(Levels ({items(digits)}))"
         case ["inorderfrom", level]: return f"(InOrderFrom {level})"
@@ -688,12 +761,19 @@ def judge(name: str) -> None:
                 raise SystemExit(f"{name}: after {at} entries `{line}` isn't allowed, but {', '.join(sorted(replies))}")
 
 
-def halves() -> list[tuple[str, list[str]]]:
-    """The names of the examples as two lists with about as many lines each: the prover computes each list by itself."""
+PARTS = ["first_examples", "second_examples", "third_examples", "fourth_examples"]
+
+
+def parts() -> list[tuple[str, list[str]]]:
+    """The names of the examples as lists with about as many lines each: the prover computes each list by itself."""
     lines = {name: len(example[2]) for name, example in EXAMPLES.items()}
-    names = list(EXAMPLES)
-    at = next(at for at in range(len(names)) if 2 * sum(lines[name] for name in names[:at]) >= sum(lines.values()))
-    return [("first_examples", names[:at]), ("later_examples", names[at:])]
+    share = sum(lines.values()) / len(PARTS)
+    found: list[tuple[str, list[str]]] = [(part, []) for part in PARTS]
+    before = 0
+    for name in EXAMPLES:
+        found[int(before // share)][1].append(name)
+        before += lines[name]
+    return found
 
 
 def main() -> None:
@@ -710,9 +790,10 @@ def main() -> None:
         entries = f"({entered([entry(line, torrent) for line in lines])})"
         spec += f"abbrev {name} : Example\n{name} = example {setting(name)}\n    {entries}\n    "
         spec += listed([f"({before}, {entry(line, torrent)})" for _, before, line in wrongs]) + "\n\n"
-    for name, names in halves():
+    for name, names in parts():
         spec += f"abbrev pub {name} : List Example\n{name} =\n    " + "\n    ∷ ".join([*names, "[]"]) + "\n\n"
-    spec += "abbrev pub examples : List Example\nexamples = first_examples ++ later_examples\n"
+    joined = " ++ (".join(PARTS[:-1]) + f" ++ {PARTS[-1]}" + ")" * (len(PARTS) - 2)
+    spec += f"abbrev pub examples : List Example\nexamples = {joined}\n"
     open("crates/bt_history/specs/Examples.antt", "w").write(laid_out(spec.rstrip(), 150) + "\n")
 
 

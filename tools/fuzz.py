@@ -154,6 +154,7 @@ def line(rng: random.Random) -> str:
         lambda: "haves " + rng.choice(["e0", "40", "00", "20", "e1", "e000", ""]),
         lambda: f"depth {rng.choice([0, 1, 1, 2, 3, 64, 65])}", lambda: "depth " + number(rng),
         lambda: f"release {rng.randrange(4)} 0", lambda: f"release {number(rng)} {number(rng)}",
+        lambda: f"late {rng.randrange(4)} 0", lambda: f"late {number(rng)} {number(rng)}",
         lambda: f"level {rng.randrange(4)} {rng.randrange(9)}", lambda: f"level {number(rng)} {number(rng)}",
         lambda: "levels " + rng.choice(["444", "701", "070", "000", "448", "44", "4444", "4x4", ""]),
         lambda: "inorder " + rng.choice(["yes", "yes", "no", "maybe"]),

@@ -1,6 +1,7 @@
 """Random scripts at the library (clients/build.sh), each reply of which is judged by the plain model. `tools/fuzz.py picks --library` plays them.
 
-Their rules also bound the askers of a block in endgame, and let greater depths be told: no script of the program says these.
+Their rules also bound the askers of a block in endgame, and let greater depths be told: no script of the program says these. Of each request
+the rule that the library tells is judged too.
 """
 
 from __future__ import annotations
@@ -13,14 +14,14 @@ from collections.abc import Callable
 
 sys.path.insert(0, os.path.join(os.path.dirname(os.path.dirname(os.path.abspath(__file__))), "clients/python"))
 
-from model import NO_SUCH_PIECE, NOT_WAITING, Model  # noqa: E402
+from model import BLOCK_SIZE, NO_SUCH_PIECE, NOT_WAITING, Block, Model  # noqa: E402
 from picks import Played, Script, Wrong  # noqa: E402
 from piecepick import Answer, Keeps, Kind, Picker, PiecepickError, Status  # noqa: E402
 
 OTHER_WORDS = {Kind.PIPE_FULL: "pipefull", Kind.NOTHING_LEFT: "nothing"}
 # Causes that the library tells by a status, and the program as a refusal.
 STATUSES = {Status.PIECE: NO_SUCH_PIECE, Status.NOT_WAITING: NOT_WAITING}
-WITH_PIECE = ("have", "lack", "block", "settle", "release", "level")
+WITH_PIECE = ("have", "lack", "block", "settle", "release", "late", "level")
 
 
 def words_of(answer: Answer) -> str:
@@ -63,6 +64,14 @@ def reply_to(picker: Picker, model: Model, line: str) -> str:
         return f"refused {STATUSES[error.status]}" if error.status in STATUSES else f"status {error.status.name}"
 
 
+def with_rule(picker: Picker, model: Model, reply: str) -> tuple[str, str]:
+    """A right reply with the rule that it has by the model, and with that which the library tells: a request has one."""
+    if not reply.startswith("request "):
+        return reply, reply
+    block = Block(*map(int, reply.split(" ")[1:]))
+    return f"{reply} by {model.rule_of(block)}", f"{reply} by {int(picker.rule(block.piece, block.begin // BLOCK_SIZE))}"
+
+
 def names_no_piece(model: Model, line: str) -> bool:
     """Whether the line names a piece that there isn't: the library tells that before other causes."""
     _, word, arguments = model.parse(line)
@@ -85,6 +94,8 @@ def play(seed: str, index: int, with_open: bool = False) -> Played:
             given = reply_to(picker, model, line)
             wanted = f"refused {NO_SUCH_PIECE}" if names_no_piece(model, line) else model.play(line, given)
             replies[given.split(" ")[0]] += 1
+            if given == wanted:
+                wanted, given = with_rule(picker, model, given)
             if given != wanted:
                 wrong.append(Wrong(line, wanted, given))
         picker.audit()

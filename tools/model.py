@@ -23,7 +23,7 @@ MOST_PIECE_LENGTH = 2**31
 NOT_JOINED, ALREADY_JOINED, LATE_BITS, WRONG_COUNT, NO_SUCH_PIECE, NO_SUCH_BLOCK = range(1, 7)
 WRONG_LENGTH, NOT_WAITING, STALE, NOT_ASKED, WRONG_DEPTH, WRONG_LEVEL = range(7, 13)
 
-IN_ORDER, BEGUN, RAREST, RANDOM, ENDGAME = range(1, 6)
+IN_ORDER, BEGUN, RAREST, RANDOM, ENDGAME, LATE = range(1, 7)
 
 
 class NotALine(Exception):
@@ -89,11 +89,18 @@ class Peer:
     reach: int = MOST_LEVEL
     shows: set[int] = field(default_factory=set)
     asked: list[Block] = field(default_factory=list)
+    overdue: set[Block] = field(default_factory=set)
     due: list[Block] = field(default_factory=list)
+
+    def give_up(self, blocks: list[Block]) -> None:
+        """These are in flight at it no more."""
+        self.asked = [block for block in self.asked if block not in blocks]
+        self.overdue.difference_update(blocks)
 
     def free(self) -> None:
         """All that is in flight at it is taken back, and so are the cancels that it is owed."""
         self.asked.clear()
+        self.overdue.clear()
         self.due.clear()
 
     def renew(self, joined: bool) -> None:
@@ -119,9 +126,13 @@ class Model:
 
     # ---- what the calls so far say
 
-    def flying(self) -> set[Block]:
-        """The blocks that are in flight at some peer."""
-        return {block for peer in self.peers for block in peer.asked}
+    def expected(self) -> set[Block]:
+        """The blocks that are in flight at some peer that isn't late with them."""
+        return {block for peer in self.peers for block in peer.asked if block not in peer.overdue}
+
+    def askers(self, block: Block) -> int:
+        """At how many peers that aren't late with it the block is in flight."""
+        return sum(block in peer.asked and block not in peer.overdue for peer in self.peers)
 
     def is_full(self, piece: int) -> bool:
         """Whether each block of the piece is held."""
@@ -141,54 +152,55 @@ class Model:
 
     # ---- what is requested next
 
-    def usable(self, peer: Peer, flying: set[Block]) -> list[Block]:
-        """The wanted blocks that the peer has, within its reach, which are neither held nor in flight anywhere; of those just the highest level."""
+    def usable(self, peer: Peer, expected: set[Block]) -> list[Block]:
+        """The wanted blocks that the peer has, within its reach, which are neither held nor expected of anybody; of those just the highest
+        level. A late block is none for the peers at which it is in flight."""
         found = [
             block
             for piece in peer.shows
             if 0 < self.levels[piece] <= peer.reach
             for block in self.blocks[piece]
-            if block not in self.held and block not in flying
+            if block not in self.held and block not in expected and block not in peer.asked
         ]
         highest = max((self.levels[block.piece] for block in found), default=0)
         return [block for block in found if self.levels[block.piece] == highest]
 
-    def begun(self, flying: set[Block]) -> set[int]:
-        """The pieces that aren't complete, and of which a block is held or in flight."""
-        return {block.piece for block in flying.union(self.held)} - self.had
+    def begun(self, expected: set[Block]) -> set[int]:
+        """The pieces that aren't complete, and of which a block is held or expected."""
+        return {block.piece for block in expected.union(self.held)} - self.had
 
-    def open_pieces(self, flying: set[Block]) -> list[int]:
-        """The wanted pieces that have begun, and of which a block is neither held nor in flight."""
-        requested = flying.union(self.held)
-        return [piece for piece in self.begun(flying) if self.levels[piece] > 0 and not requested.issuperset(self.blocks[piece])]
+    def open_pieces(self, expected: set[Block]) -> list[int]:
+        """The wanted pieces that have begun, and of which a block is neither held nor expected."""
+        requested = expected.union(self.held)
+        return [piece for piece in self.begun(expected) if self.levels[piece] > 0 and not requested.issuperset(self.blocks[piece])]
 
     def rarest(self, blocks: list[Block]) -> list[Block]:
         """Those of these blocks whose pieces fewest peers show."""
         fewest = min((self.availability(block.piece) for block in blocks), default=0)
         return [block for block in blocks if self.availability(block.piece) == fewest]
 
-    def chosen(self, usable: list[Block], flying: set[Block]) -> list[Block]:
+    def chosen(self, usable: list[Block], expected: set[Block]) -> list[Block]:
         """Those of these blocks, all of one level, that the rules let be requested."""
         if usable and self.levels[usable[0].piece] >= self.order_from:
             least = min(block.piece for block in usable)
             return [block for block in usable if block.piece == least]
-        begun = self.begun(flying)
+        begun = self.begun(expected)
         going_on = [block for block in usable if block.piece in begun]
         new = [block for block in usable if block.piece not in begun]
         at_random = len(self.had) < self.rules.random
         first = new if at_random else self.rarest(new)
         if self.rules.open == 0:
             return going_on or first
-        if at_random or len(self.open_pieces(flying)) > self.rules.open:
+        if at_random or len(self.open_pieces(expected)) > self.rules.open:
             return self.rarest(going_on) or first
         rarest = self.rarest(usable)
         return [block for block in rarest if block.piece in begun] or rarest
 
-    def doubles(self, peer: Peer, flying: set[Block]) -> list[Block]:
+    def doubles(self, peer: Peer, expected: set[Block]) -> list[Block]:
         """In endgame the blocks that may be requested of one more peer."""
         lacking = [block for blocks in self.blocks for block in blocks if self.levels[block.piece] > 0 and block not in self.held]
         awaited = [block for block in lacking if not self.rules.shown or self.availability(block.piece) > 0]
-        if any(block not in flying for block in awaited) or len(peer.asked) >= self.rules.rush:
+        if any(block not in expected for block in awaited) or len(peer.asked) >= self.rules.rush:
             return []
         return [
             block
@@ -196,7 +208,7 @@ class Model:
             if block.piece in peer.shows
             and self.levels[block.piece] <= peer.reach
             and block not in peer.asked
-            and sum(block in other.asked for other in self.peers) < self.rules.askers
+            and self.askers(block) < self.rules.askers
         ]
 
     def options(self, peer: Peer) -> tuple[str, list[Block]]:
@@ -207,8 +219,8 @@ class Model:
             return "choked", []
         if len(peer.asked) >= (self.rules.depth if peer.depth is None else peer.depth):
             return "pipefull", []
-        flying = self.flying()
-        blocks = self.chosen(self.usable(peer, flying), flying) or self.doubles(peer, flying)
+        expected = self.expected()
+        blocks = self.chosen(self.usable(peer, expected), expected) or self.doubles(peer, expected)
         if blocks:
             return "request", blocks
         return ("idle" if self.is_interesting(peer) else "nothing"), []
@@ -217,7 +229,7 @@ class Model:
         """What is said to the peer next: the oldest cancel, or of the blocks that may be requested the one that the word picks."""
         kind, blocks = self.options(peer)
         if kind == "request":
-            blocks = [self.picked(blocks, self.begun(self.flying()), word)]
+            blocks = [self.picked(blocks, self.begun(self.expected()), word)]
         return f"{kind} {blocks[0]}" if blocks else kind
 
     def picked(self, blocks: list[Block], begun: set[int], word: int) -> Block:
@@ -231,9 +243,11 @@ class Model:
 
     def rule_of(self, block: Block) -> int:
         """The number of the rule by which the block was requested, where the newest reply requested it: the first that applies."""
-        requested = self.flying().union(self.held)
-        if sum(block in peer.asked for peer in self.peers) > 1:
+        requested = self.expected().union(self.held)
+        if self.askers(block) > 1:
             return ENDGAME
+        if any(block in peer.overdue for peer in self.peers):
+            return LATE
         if self.levels[block.piece] >= self.order_from:
             return IN_ORDER
         if len(requested.intersection(self.blocks[block.piece])) > 1:
@@ -308,7 +322,7 @@ class Model:
         self.need(peer.joined, NOT_JOINED)
         self.need(piece < self.pieces, NO_SUCH_PIECE)
         peer.shows.discard(piece)
-        peer.asked = [block for block in peer.asked if block.piece != piece]
+        peer.give_up(self.blocks[piece])
         return self.noted(peer)
 
     def call_choke(self, peer: Peer) -> str:
@@ -335,7 +349,7 @@ class Model:
         self.held[block] = data
         for other in self.peers:
             if block in other.asked:
-                other.asked.remove(block)
+                other.give_up([block])
                 if other is not peer:
                     other.due.append(block)
         return "completed" if self.is_full(piece) else "stored"
@@ -361,12 +375,20 @@ class Model:
         peer.depth = depth
         return "quiet"
 
-    def call_release(self, peer: Peer, piece: int, begin: int) -> str:
+    def asked_at(self, peer: Peer, piece: int, begin: int) -> Block:
+        """The block that begins there, which is in flight at the peer."""
         self.need(peer.joined, NOT_JOINED)
         block = next((block for block in peer.asked if (block.piece, block.begin) == (piece, begin)), None)
         if block is None:
             raise Refused(NOT_ASKED)
-        peer.asked.remove(block)
+        return block
+
+    def call_release(self, peer: Peer, piece: int, begin: int) -> str:
+        peer.give_up([self.asked_at(peer, piece, begin)])
+        return "quiet"
+
+    def call_late(self, peer: Peer, piece: int, begin: int) -> str:
+        peer.overdue.add(self.asked_at(peer, piece, begin))
         return "quiet"
 
     def call_level(self, _peer: Peer, piece: int, level: int) -> str:
@@ -438,7 +460,7 @@ FORMS: dict[str, list[str]] = {
     "join": [], "leave": [], "choke": [], "unchoke": [],
     "bits": ["flags"], "haves": ["flags"], "want": ["flags"],
     "have": ["32"], "lack": ["32"], "settle": ["32"], "depth": ["32"], "next": ["64"],
-    "block": ["32", "32", "bytes"], "release": ["32", "32"],
+    "block": ["32", "32", "bytes"], "release": ["32", "32"], "late": ["32", "32"],
     "level": ["32", "8"], "levels": ["digits"], "inorder": ["yes"], "inorderfrom": ["8"], "reach": ["8"],
 }
 

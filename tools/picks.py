@@ -33,6 +33,7 @@ class Mood(NamedTuple):
     unchoke: int
     rejoin: int
     release: int
+    late: int
     depth: int
     level: int
     want: int
@@ -42,14 +43,16 @@ class Mood(NamedTuple):
 
 
 MOODS = [
-    # a download with all calls, one that completes nothing, two in which much is given up, one of levels, orders and reaches,
-    # and one that is quick
-    Mood(40, 14, 6, 4, 3, 2, 5, 2, 8, 2, 3, 1, 1, 2, 4),
-    Mood(60, 5, 0, 3, 2, 2, 5, 2, 6, 2, 1, 1, 0, 1, 1),
-    Mood(45, 4, 1, 3, 2, 2, 5, 2, 35, 3, 0, 0, 0, 0, 1),
-    Mood(45, 4, 1, 6, 8, 6, 9, 5, 20, 3, 2, 1, 1, 2, 1),
-    Mood(40, 8, 3, 3, 2, 1, 4, 1, 14, 2, 12, 2, 6, 6, 1),
-    Mood(45, 25, 12, 2, 0, 0, 2, 1, 4, 1, 0, 0, 0, 0, 0),
+    # a download with all calls, one that completes nothing, two in which much is given up, two in which much is late, one of levels,
+    # orders and reaches, and one that is quick
+    Mood(40, 14, 6, 4, 3, 2, 5, 2, 8, 6, 2, 3, 1, 1, 2, 4),
+    Mood(60, 5, 0, 3, 2, 2, 5, 2, 6, 4, 2, 1, 1, 0, 1, 1),
+    Mood(45, 4, 1, 3, 2, 2, 5, 2, 35, 0, 3, 0, 0, 0, 0, 1),
+    Mood(45, 4, 1, 6, 8, 6, 9, 5, 20, 4, 3, 2, 1, 1, 2, 1),
+    Mood(45, 4, 1, 2, 1, 1, 3, 1, 3, 35, 3, 1, 0, 0, 0, 1),
+    Mood(40, 9, 4, 3, 1, 1, 3, 1, 5, 25, 4, 3, 1, 2, 2, 1),
+    Mood(40, 8, 3, 3, 2, 1, 4, 1, 14, 8, 2, 12, 2, 6, 6, 1),
+    Mood(45, 25, 12, 2, 0, 0, 2, 1, 4, 3, 1, 0, 0, 0, 0, 0),
 ]
 
 
@@ -72,7 +75,8 @@ class Script:
         askers = rng.choice([1, 1, 2, 2, 3, 4, MOST_WORKERS]) if with_bounds else MOST_WORKERS
         deepest = rng.choice([1, 2, 8, 64, 500]) if with_bounds else MOST_DEPTH
         depth, at_random = rng.choice([1, 2, 3, 5, 5, 8, 64]), rng.randrange(len(self.torrent.hashes) + 1)
-        if with_open and rng.randrange(2):
+        # Which pieces are rare matters once none begins at random.
+        if (with_open or self.mood.late > self.mood.release) and rng.randrange(2):
             at_random = 0
         most_open = rng.choice([0, 1, 1, 1, 2, 2, 3, MOST_OPEN]) if with_open else 0
         rush = rng.choice([0, 1, 1, 2, 2, 3, 4, 16, MOST_TOLD_DEPTH, MOST_TOLD_DEPTH]) if with_open else MOST_TOLD_DEPTH
@@ -201,6 +205,21 @@ class Script:
         for block in some:
             self.say(worker, f"release {block.piece} {block.begin}")
 
+    def say_late(self, worker: int) -> None:
+        peers = self.model.peers
+        busy = [number for number, peer in enumerate(peers) if len(peer.overdue) < len(peer.asked)]
+        if busy and self.rng.randrange(8):
+            worker = self.rng.choice(busy)
+        asked = list(peers[worker].asked)
+        self.rng.shuffle(asked)
+        some = asked[:self.rng.choice([1, 1, 2, len(asked), len(asked)])] if asked and self.rng.randrange(10) else [self.some_block()]
+        for block in some:
+            begin = block.begin if self.rng.randrange(20) else self.rng.choice([block.begin + 1, BLOCK_SIZE, 2**32 - 1])
+            self.say(worker, f"late {block.piece} {begin}")
+        # Then often what its own peer is asked for, which is no late block of its own, and another peer, which may be given one.
+        for number in [worker, self.rng.randrange(len(peers))][:self.rng.randrange(3)]:
+            self.say(number, f"next {self.word()}")
+
     def say_depth(self, worker: int) -> None:
         self.say(worker, f"depth {self.rng.choice([0, 1, 1, 2, 2, 3, 4, 8, 64, 65, 500])}")
 
@@ -227,7 +246,8 @@ class Script:
     def say_stray(self, worker: int) -> None:
         words: list[Callable[[], str]] = [
             lambda: "join", lambda: "leave", lambda: f"block {self.piece()} {self.rng.choice([0, 1, BLOCK_SIZE])} 00",
-            lambda: f"release {self.piece()} {self.rng.choice([0, 1, BLOCK_SIZE])}", lambda: f"settle {self.piece()}",
+            lambda: f"release {self.piece()} {self.rng.choice([0, 1, BLOCK_SIZE])}",
+            lambda: f"late {self.piece()} {self.rng.choice([0, 1, BLOCK_SIZE])}", lambda: f"settle {self.piece()}",
         ]
         self.say(worker, self.rng.choice(words)())
 

@@ -49,6 +49,7 @@ class Peer:
     piece_count: int = 0
 
     asked: OrderedDict[tuple[int, int], float] = field(default_factory=OrderedDict)
+    told_late: dict[tuple[int, int], float] = field(default_factory=dict)  # those of `asked` that the picker was told late of, and when
     late: OrderedDict[tuple[int, int], None] = field(default_factory=OrderedDict)
     by_rate: DepthByRate = field(init=False)
     pace: Pace = field(default_factory=Pace)
@@ -100,6 +101,7 @@ class Peer:
         """A request was taken back; its block may come all the same."""
         if self.asked.pop(block, None) is None:
             return
+        self.told_late.pop(block, None)
         self.late[block] = None
         if len(self.late) > MOST_LATE:
             self.late.popitem(last=False)
@@ -108,6 +110,7 @@ class Peer:
         """Whether the block was asked for at some time; it is asked for no more."""
         if block in self.asked:
             del self.asked[block]
+            self.told_late.pop(block, None)
             return True
         if block in self.late:
             del self.late[block]

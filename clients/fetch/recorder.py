@@ -35,7 +35,7 @@ class Recorder:
         return self._names[peer.address]
 
     def requested(self, peer: Peer, block: tuple[int, int], is_endgame: bool) -> None:
-        """A block is asked of a peer; in endgame another one was asked for it too."""
+        """A block is asked of a peer; in endgame another one is expected to bring it too."""
         piece, begin = block
         now = self._now()
         if piece not in self.trace.shown_by:

@@ -7,7 +7,7 @@ from collections.abc import Callable
 from dataclasses import dataclass
 from typing import Protocol
 
-from piecepick import Answer, InputFault, Kind, Reason
+from piecepick import Answer, InputFault, Kind, PickRule, Reason
 
 from .content import Content, Verdict
 from .deadlines import Line
@@ -16,9 +16,9 @@ from .peer import ALL_LEVELS, NO_WORKER, Peer, milliseconds
 from .uploads import Uploads
 from .wire import Message, WireFault, block_of, numbers_of, spell, spell_bitfield
 
-SILENCE = 15.0  # seconds with no block, after which a silent peer's oldest requests are taken back
-SLOWEST = 60.0  # seconds after which a request is taken back though other blocks come
-REST = 10.0  # seconds in which nothing is asked of a peer that was silent
+SILENCE = 15.0  # seconds with no block, after which a silent peer's oldest requests are late
+SLOWEST = 60.0  # seconds after which a request is late though other blocks come, and after as many more it is taken back
+REST = 10.0  # seconds in which nothing is asked of a peer that is late; if no block comes in them, its late requests are taken back
 REJECT_REST = 1.0  # the same of a peer that rejected a request
 MOST_TIMEOUTS = 6  # rests one after the other, until a peer is let go
 
@@ -27,7 +27,7 @@ class Record(Protocol):
     """Who wants to know what the picker does."""
 
     def requested(self, peer: Peer, block: tuple[int, int], is_endgame: bool) -> None:
-        """A block is asked of a peer; in endgame another one was asked for it too."""
+        """A block is asked of a peer; in endgame another one is expected to bring it too."""
 
     def came(self, peer: Peer, block: tuple[int, int], is_twice: bool) -> None:
         """A block came; it may have been held already."""
@@ -242,15 +242,16 @@ class Session:
 
     def _send_request(self, peer: Peer, block: tuple[int, int], answer: Answer) -> None:
         others = self.asks.get(block, 0)
+        is_endgame = others > 0 and self.picker.rule(answer.piece, answer.begin // BLOCK) is PickRule.ENDGAME
         if self.record:
-            self.record.requested(peer, block, others > 0)
+            self.record.requested(peer, block, is_endgame)
         self.asks[block] = others + 1
         before = peer.depth
-        peer.by_rate.set_in_endgame(others > 0)
+        peer.by_rate.set_in_endgame(is_endgame)
         if peer.depth != before:
             self.picker.depth(peer.worker, peer.depth)
         self.figures.requests += 1
-        self.figures.endgame_requests += others > 0
+        self.figures.endgame_requests += is_endgame
         peer.asked[block] = self.now
         if not peer.is_interested:
             peer.is_interested = True
@@ -283,21 +284,38 @@ class Session:
     # Time passes.
 
     def time_out(self, peer: Peer) -> bool:
-        """Takes back what a peer doesn't bring, one request after the other; whether the peer is worth to be kept."""
+        """Has others asked for what a peer doesn't bring, and later takes it back; whether the peer is worth to be kept."""
+        lost = [
+            block for block, told in peer.told_late.items()
+            if self.now - max(told, peer.block_came) > REST or self.now - told > SLOWEST
+        ]  # fmt: skip
+        for block in lost:
+            self.take_back(peer, block)
+            self.picker.release(peer.worker, *block)
+        if lost:
+            peer.timeouts += 1
+            self._rest(peer)
+        self._tell_late(peer)
+        return peer.timeouts < MOST_TIMEOUTS
+
+    def _tell_late(self, peer: Peer) -> None:
+        """Requests that take too long are late: they stay with the peer, and others may be asked for these blocks."""
         late = [
             block for block, since in peer.asked.items()
-            if self.now - max(since, peer.block_came) > SILENCE or self.now - since > SLOWEST
+            if block not in peer.told_late and (self.now - max(since, peer.block_came) > SILENCE or self.now - since > SLOWEST)
         ]  # fmt: skip
         for block in late:
             self.figures.timeouts += 1
-            self.take_back(peer, block)
-            self.picker.release(peer.worker, *block)
+            peer.told_late[block] = self.now
+            self.picker.late(peer.worker, *block)
         if late:
-            peer.timeouts += 1
             peer.by_rate.timed_out()
-            peer.rests_until, peer.epoch = self.now + REST, -1
-            peer.pace.fill(False, self.now)
-        return peer.timeouts < MOST_TIMEOUTS
+            self._rest(peer)
+
+    def _rest(self, peer: Peer) -> None:
+        """Nothing is asked of the peer for a while, unless a block comes from it."""
+        peer.rests_until, peer.epoch = self.now + REST, -1
+        peer.pace.fill(False, self.now)
 
     def follow_rate(self, peer: Peer) -> None:
         """The peer's depth follows its rate: up at once, and down by steps. What is asked stays asked."""

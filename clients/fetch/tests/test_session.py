@@ -39,16 +39,22 @@ class Asked(Speaking):
         self.session.now += 1.0
         self.session.follow_rate(peer)
 
+    def be_late(self, peer: Peer) -> None:
+        """The peer brings nothing, until what it was asked for is to be taken back."""
+        self.session.now += SILENCE + 1
+        self.assertTrue(self.session.time_out(peer))
+        self.session.now += REST + 1
+
     def test_depth(self) -> None:
         peer = self.joined()
         self.assertEqual(len(peer.asked), FIRST_DEPTH)
         self.assertEqual(self.download.parts.picker.outstanding(peer.worker), FIRST_DEPTH)
 
     def test_time_out(self) -> None:
-        """A silent peer's requests are taken back; then it rests, and others may be asked."""
+        """A silent peer's requests are taken back after they were late; then it rests, and others may be asked."""
         peer = self.joined()
         block = next(iter(peer.asked))
-        self.session.now += SILENCE + 1
+        self.be_late(peer)
         self.assertTrue(self.session.time_out(peer))
         self.assertEqual((len(peer.asked), self.download.parts.picker.outstanding(peer.worker)), (0, 0))
         self.session.ask_idle()
@@ -59,17 +65,34 @@ class Asked(Speaking):
         self.assertIn(block[0], self.download.parts.content.held)
         self.assertGreater(len(peer.asked), 0)
 
+    def test_late(self) -> None:
+        """A silent peer's requests stay with it, and another peer is asked for them; of who brings a block second it is cancelled."""
+        peer = self.joined()
+        block, *others = peer.asked
+        self.session.now += SILENCE + 1
+        self.assertTrue(self.session.time_out(peer))
+        self.assertEqual(len(peer.asked), FIRST_DEPTH)
+        other = self.joined()
+        self.bring_much(other)
+        self.assertLessEqual(set(peer.asked), set(other.asked))
+        self.assertEqual(self.session.figures.endgame_requests, 0)
+        self.bring(peer, block)
+        self.assertNotIn(block, other.asked)
+        self.bring(other, others[0])
+        self.assertNotIn(others[0], peer.asked)
+        self.assertEqual((self.session.figures.twice, self.session.figures.cancels), (0, 2))
+
     def test_rests(self) -> None:
         """After its rest it gets another try with few requests, and after some tries it is let go."""
         peer = self.joined()
         for _ in range(MOST_TIMEOUTS - 1):
-            self.session.now += SILENCE + REST
+            self.be_late(peer)
             self.assertTrue(self.session.time_out(peer))
             self.session.follow_rate(peer)
             self.session.now += REST
             self.session.ask_idle()
             self.assertEqual(len(peer.asked), LEAST_DEPTH)
-        self.session.now += SILENCE + REST
+        self.be_late(peer)
         self.assertFalse(self.session.time_out(peer))
 
     def test_reject(self) -> None:

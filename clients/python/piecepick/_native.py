@@ -95,6 +95,7 @@ class PickRule(IntEnum):
     RAREST = 3
     RANDOM = 4
     ENDGAME = 5
+    LATE = 6
 
 
 class Keeps(IntEnum):
@@ -158,6 +159,7 @@ SIGNATURES: dict[str, tuple[Any, list[Any]]] = {
     "piecepick_lack": (c_uint32, [_PICKER, c_uint32, c_uint32, _ANSWER]),
     "piecepick_arrived": (c_uint32, [_PICKER, c_uint32, c_uint32, c_uint32, _DATA, c_size_t, _ANSWER]),
     "piecepick_release": (c_uint32, [_PICKER, c_uint32, c_uint32, c_uint32, _ANSWER]),
+    "piecepick_late": (c_uint32, [_PICKER, c_uint32, c_uint32, c_uint32, _ANSWER]),
     "piecepick_depth": (c_uint32, [_PICKER, c_uint32, c_uint32, _ANSWER]),
     "piecepick_reach": (c_uint32, [_PICKER, c_uint32, c_uint32, _ANSWER]),
     "piecepick_next": (c_uint32, [_PICKER, c_uint32, c_uint64, _ANSWER]),

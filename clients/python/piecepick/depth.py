@@ -58,11 +58,11 @@ class DepthByRate:
         self._is_begun, self._is_late = True, False
 
     def timed_out(self) -> None:
-        """A request took too long, and was released."""
+        """A request took too long, and was told late."""
         self._is_begun = self._is_late = True
 
     def set_in_endgame(self, is_in_endgame: bool) -> None:
-        """Tell at each request whether another peer is asked for its block too. The depth is at most 6 at once where that is so."""
+        """Tell at each request whether another peer that isn't late is asked for its block too. The depth is at most 6 at once where that is so."""
         self._is_in_endgame = is_in_endgame
         if is_in_endgame:
             self._depth = min(self._depth, _ENDGAME_DEPTH)

@@ -377,6 +377,14 @@ class Picker:
         """The block that begins there, in bytes, is asked of the peer no more; REFUSED by NOT_ASKED where it wasn't."""
         return self._told(LIBRARY.piecepick_release, _u32(worker), _u32(piece), _u32(begin))
 
+    def late(self, worker: int, piece: int, begin: int) -> Answer:
+        """A request takes too long: late. It was rejected, or never sent: `release`. REFUSED by NOT_ASKED as there.
+
+        The block that begins there, in bytes, stays asked of the peer. One of the other peers may be asked for it at once, before endgame. When
+        another one brings it, a cancel is due at this peer. While the request lasts, this peer isn't asked for the block again.
+        """
+        return self._told(LIBRARY.piecepick_late, _u32(worker), _u32(piece), _u32(begin))
+
     def depth(self, worker: int, depth: int) -> Answer:
         """From now on so many blocks may be asked of the peer at a time; REFUSED by WRONG_DEPTH beyond `deepest`."""
         return self._told(LIBRARY.piecepick_depth, _u32(worker), _u32(depth))

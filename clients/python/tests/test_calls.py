@@ -228,6 +228,117 @@ class Peers(CallCase):
             self.assertGreater(made.epoch, before)
 
 
+class Late(CallCase):
+    """A request that takes too long."""
+
+    def begin(self, depth: int = 4) -> Picker:
+        """Two peers that have each piece. The first one is asked for the first block of piece 0, and is late with it."""
+        made = with_peer()
+        self.addCleanup(made.close)
+        made.join(1)
+        made.bits(1, ALL)
+        made.unchoke(1)
+        for worker in range(2):
+            made.depth(worker, depth)
+        self.assert_asked(made, 0, (0, 0), PickRule.RAREST)
+        self.assertEqual(made.late(0, 0, 0), Answer(Kind.QUIET))
+        return made
+
+    def assert_asked(self, made: Picker, worker: int, block: tuple[int, int], rule: PickRule) -> None:
+        """The next request is for this block, by this rule."""
+        piece, begin = block
+        self.assertEqual(made.next(worker, 0).block, (piece, begin, BLOCK))
+        self.assertIs(made.rule(piece, begin // BLOCK), rule)
+
+    def assert_cancelled(self, made: Picker, worker: int, block: tuple[int, int]) -> None:
+        """The next answer is a cancel of this block."""
+        self.assertEqual(made.next(worker, 0), Answer(Kind.CANCEL, *block, BLOCK))
+
+    def test_another_peer_is_asked(self) -> None:
+        made = self.begin()
+        self.assertEqual((made.outstanding(0), made.outstanding_at(0, 0).block), (1, (0, 0, BLOCK)))
+        self.assert_asked(made, 0, (0, BLOCK), PickRule.RAREST)
+        self.assert_asked(made, 1, (0, 0), PickRule.LATE)
+        self.assertIs(made.arrived(1, 0, 0, PARTS[0][:BLOCK]).kind, Kind.STORED)
+        self.assert_cancelled(made, 0, (0, 0))
+        self.assert_asked(made, 0, (1, 0), PickRule.RAREST)
+
+    def test_the_block_comes(self) -> None:
+        made = self.begin()
+        self.assertIs(made.arrived(0, 0, 0, PARTS[0][:BLOCK]).kind, Kind.STORED)
+        self.assertEqual(made.outstanding(0), 0)
+        self.assert_asked(made, 0, (0, BLOCK), PickRule.BEGUN)
+        self.assert_asked(made, 1, (1, 0), PickRule.RAREST)
+
+    def test_it_counts_for_the_depth(self) -> None:
+        made = self.begin(depth=1)
+        self.assertIs(made.next(0).kind, Kind.PIPE_FULL)
+        made.depth(0, 2)
+        self.assert_asked(made, 0, (0, BLOCK), PickRule.RAREST)
+
+    def test_what_is_refused(self) -> None:
+        made = self.begin()
+        self.assertEqual(made.late(2, 0, 0), refused(Reason.NOT_JOINED))
+        for worker, piece, begin in ((1, 0, 0), (0, 0, BLOCK), (0, 0, 1), (0, 1, 0)):
+            self.assertEqual(made.late(worker, piece, begin), refused(Reason.NOT_ASKED))
+        self.assert_status(Status.WORKER, made.late, 3, 0, 0)
+        self.assert_status(Status.PIECE, made.late, 0, PIECES, 0)
+        made.arrived(0, 0, 0, PARTS[0][:BLOCK])
+        self.assertEqual(made.late(0, 0, 0), refused(Reason.NOT_ASKED))
+
+    def test_twice_is_as_once(self) -> None:
+        made = self.begin()
+        self.assertEqual(made.late(0, 0, 0), Answer(Kind.QUIET))
+        self.assertEqual(made.outstanding(0), 1)
+        made.arrived(1, 0, 0, PARTS[0][:BLOCK])
+        self.assert_cancelled(made, 0, (0, 0))
+        self.assert_asked(made, 0, (0, BLOCK), PickRule.BEGUN)
+
+    def test_a_choke_ends_it(self) -> None:
+        for worker in range(2):
+            made = self.begin()
+            made.choke(0)
+            made.unchoke(0)
+            self.assert_asked(made, worker, (0, 0), PickRule.RAREST)
+
+    def test_a_release_ends_it(self) -> None:
+        for worker in range(2):
+            made = self.begin()
+            self.assertEqual(made.release(0, 0, 0), Answer(Kind.QUIET))
+            self.assertEqual(made.late(0, 0, 0), refused(Reason.NOT_ASKED))
+            self.assertEqual(made.outstanding(0), 0)
+            self.assert_asked(made, worker, (0, 0), PickRule.RAREST)
+
+    def test_no_other_peer(self) -> None:
+        with with_peer() as made:
+            for piece in range(PIECES - 1):
+                bring(made, piece, PARTS[piece])
+                made.settle(piece, DIGESTS[piece])
+            last = made.arrived(0, PIECES - 1, BLOCK, PARTS[-1][BLOCK:]).kind, made.next(0).block
+            self.assertEqual(last, (Kind.STORED, (PIECES - 1, 0, BLOCK)))
+            made.late(0, PIECES - 1, 0)
+            self.assertIs(made.next(0).kind, Kind.IDLE)
+            self.assertIs(made.arrived(0, PIECES - 1, 0, PARTS[-1][:BLOCK]).kind, Kind.COMPLETED)
+            self.assertIs(made.settle(PIECES - 1, DIGESTS[-1]).kind, Kind.HAD)
+            self.assertEqual((made.next(0).kind, made.is_complete), (Kind.NOTHING_LEFT, True))
+
+    def test_endgame_is_another_rule(self) -> None:
+        made = self.begin()
+        made.want(b"\x80")
+        self.assert_asked(made, 0, (0, BLOCK), PickRule.RAREST)
+        self.assertIs(made.next(0).kind, Kind.IDLE)
+        self.assert_asked(made, 1, (0, 0), PickRule.LATE)
+        self.assert_asked(made, 1, (0, BLOCK), PickRule.ENDGAME)
+        self.assertEqual([made.next(worker).kind for worker in range(2)], [Kind.IDLE, Kind.IDLE])
+
+    def test_epoch(self) -> None:
+        made = self.begin()
+        self.assert_asked(made, 0, (0, BLOCK), PickRule.RAREST)
+        before = made.epoch
+        made.late(0, 0, BLOCK)
+        self.assertGreater(made.epoch, before)
+
+
 class Endgame(unittest.TestCase):
     """What a second peer is asked for, of twenty pieces of a block each."""
 

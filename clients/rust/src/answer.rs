@@ -153,8 +153,10 @@ pub enum PickRule {
     Rarest,
     /// Its piece begins at random: too few are had to tell which are rare.
     Random,
-    /// Another peer is asked for it too.
+    /// Another peer is asked for it too, and isn't late.
     Endgame,
+    /// Its request to another peer is [`late`](crate::Picker::late).
+    Late,
 }
 
 impl PickRule {
@@ -166,6 +168,7 @@ impl PickRule {
             3 => PickRule::Rarest,
             4 => PickRule::Random,
             5 => PickRule::Endgame,
+            6 => PickRule::Late,
             _ => panic!("libpiecepick told the rule {number}, which its interface hasn't"),
         }
     }
@@ -179,6 +182,7 @@ impl fmt::Display for PickRule {
             PickRule::Rarest => "its piece is one of the rarest",
             PickRule::Random => "its piece begins at random",
             PickRule::Endgame => "endgame",
+            PickRule::Late => "another peer is late with it",
         })
     }
 }

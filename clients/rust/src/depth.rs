@@ -83,13 +83,13 @@ impl DepthByRate {
         self.is_late = false;
     }
 
-    /// A request took too long, and was released.
+    /// A request took too long, and was told late.
     pub fn timed_out(&mut self) {
         self.is_begun = true;
         self.is_late = true;
     }
 
-    /// Tell at each request whether another peer is asked for its block too. The depth is at most 6 at once where that is so.
+    /// Tell at each request whether another peer that isn't late is asked for its block too. The depth is at most 6 at once where that is so.
     pub fn set_in_endgame(&mut self, is_in_endgame: bool) {
         self.is_in_endgame = is_in_endgame;
         if is_in_endgame {

@@ -121,10 +121,19 @@ impl Picker {
         self.answer(|picker, answer| unsafe { sys::piecepick_arrived(picker, worker, piece, begin, first, length, answer) })
     }
 
-    /// The block that begins there is asked of the peer no more: the peer rejected it (BEP 6), it took too long, or the request was not
-    /// sent. Any peer may be asked for it again, and it is kept if it comes after all.
+    /// The block that begins there is asked of the peer no more: the peer rejected it (BEP 6), or the request was not sent. Any peer may be
+    /// asked for it again, and it is kept if it comes after all.
     pub fn release(&mut self, worker: u32, piece: u32, begin: u32) -> Result<Answer, Error> {
         self.answer(|picker, answer| unsafe { sys::piecepick_release(picker, worker, piece, begin, answer) })
+    }
+
+    /// A request takes too long: late. It was rejected, or never sent: [`release`](Picker::release).
+    ///
+    /// The block that begins there stays asked of the peer, and counts for its depth. One of the other peers may be asked for it at once,
+    /// before endgame. When another one brings it, a cancel is due at this peer as ever. While the request lasts, this peer isn't asked for
+    /// the block again.
+    pub fn late(&mut self, worker: u32, piece: u32, begin: u32) -> Result<Answer, Error> {
+        self.answer(|picker, answer| unsafe { sys::piecepick_late(picker, worker, piece, begin, answer) })
     }
 
     /// From now on so many blocks may be asked of the peer at a time, until another number is told or the worker's next peer joins.

@@ -164,6 +164,136 @@ fn blocks_are_asked_and_released() {
     assert_eq!(picker.outstanding(0), Ok(1));
 }
 
+/// Two peers that have each piece. The first one is asked for the first block of piece 0, and is late with it.
+fn with_late(depth: u32) -> Picker {
+    let mut picker = with_peer(Keeps::Nothing);
+    picker.join(1).unwrap();
+    picker.bits(1, &ALL).unwrap();
+    picker.unchoke(1).unwrap();
+    for worker in 0..2 {
+        picker.depth(worker, depth).unwrap();
+    }
+    assert_eq!(asked_by(&mut picker, 0), (0, 0, PickRule::Rarest));
+    assert_eq!(picker.late(0, 0, 0), Ok(Answer::Quiet));
+    picker
+}
+
+/// The place of the next request, and its rule.
+fn asked_by(picker: &mut Picker, worker: u32) -> (u32, usize, PickRule) {
+    let Ok(Answer::Request(block)) = picker.next(worker, 0) else { panic!("no request") };
+    (block.piece, block.begin as usize, picker.rule(block.piece, block.begin / BLOCK as u32).unwrap())
+}
+
+/// The first block of piece 0.
+const FIRST: Block = Block { piece: 0, begin: 0, length: BLOCK as u32 };
+
+#[test]
+fn a_late_block_is_asked_of_another_peer() {
+    let content = content();
+    let mut picker = with_late(4);
+    assert_eq!((picker.outstanding(0), picker.outstanding_at(0, 0)), (Ok(1), Ok(FIRST)));
+    assert_eq!(asked_by(&mut picker, 0), (0, BLOCK, PickRule::Rarest));
+    assert_eq!(asked_by(&mut picker, 1), (0, 0, PickRule::Late));
+    assert_eq!(picker.arrived(1, 0, 0, &content[..BLOCK]), Ok(Answer::Stored));
+    assert_eq!(picker.next(0, 0), Ok(Answer::Cancel(FIRST)));
+    assert_eq!(asked_by(&mut picker, 0), (1, 0, PickRule::Rarest));
+    assert_eq!(PickRule::Late.to_string(), "another peer is late with it");
+}
+
+#[test]
+fn a_late_block_comes_after_all() {
+    let content = content();
+    let mut picker = with_late(4);
+    assert_eq!(picker.arrived(0, 0, 0, &content[..BLOCK]), Ok(Answer::Stored));
+    assert_eq!(picker.outstanding(0), Ok(0));
+    assert_eq!(asked_by(&mut picker, 0), (0, BLOCK, PickRule::Begun));
+    assert_eq!(asked_by(&mut picker, 1), (1, 0, PickRule::Rarest));
+}
+
+#[test]
+fn a_late_block_counts_for_the_depth() {
+    let mut picker = with_late(1);
+    assert_eq!(picker.next(0, 0), Ok(Answer::PipeFull));
+    picker.depth(0, 2).unwrap();
+    assert_eq!(asked_by(&mut picker, 0), (0, BLOCK, PickRule::Rarest));
+}
+
+#[test]
+fn what_is_not_asked_is_not_late() {
+    let content = content();
+    let mut picker = with_late(4);
+    assert_eq!(picker.late(2, 0, 0), Ok(Answer::Refused(Reason::NotJoined)));
+    for (worker, piece, begin) in [(1, 0, 0), (0, 0, BLOCK as u32), (0, 0, 1), (0, 1, 0)] {
+        assert_eq!(picker.late(worker, piece, begin), Ok(Answer::Refused(Reason::NotAsked)));
+    }
+    assert_eq!(picker.late(3, 0, 0), Err(Error::Worker));
+    assert_eq!(picker.late(0, PIECES, 0), Err(Error::Piece));
+    picker.arrived(0, 0, 0, &content[..BLOCK]).unwrap();
+    assert_eq!(picker.late(0, 0, 0), Ok(Answer::Refused(Reason::NotAsked)));
+}
+
+#[test]
+fn late_twice_is_as_once() {
+    let content = content();
+    let mut picker = with_late(4);
+    assert_eq!(picker.late(0, 0, 0), Ok(Answer::Quiet));
+    assert_eq!(picker.outstanding(0), Ok(1));
+    picker.arrived(1, 0, 0, &content[..BLOCK]).unwrap();
+    assert_eq!(picker.next(0, 0), Ok(Answer::Cancel(FIRST)));
+    assert_eq!(asked_by(&mut picker, 0), (0, BLOCK, PickRule::Begun));
+}
+
+#[test]
+fn a_choke_and_a_release_end_a_late_request() {
+    for worker in 0..2 {
+        let mut picker = with_late(4);
+        picker.choke(0).unwrap();
+        picker.unchoke(0).unwrap();
+        assert_eq!(asked_by(&mut picker, worker), (0, 0, PickRule::Rarest));
+        let mut picker = with_late(4);
+        assert_eq!(picker.release(0, 0, 0), Ok(Answer::Quiet));
+        assert_eq!(picker.late(0, 0, 0), Ok(Answer::Refused(Reason::NotAsked)));
+        assert_eq!(picker.outstanding(0), Ok(0));
+        assert_eq!(asked_by(&mut picker, worker), (0, 0, PickRule::Rarest));
+    }
+}
+
+#[test]
+fn the_only_peer_is_late_with_the_last_block() {
+    let content = content();
+    let mut picker = with_peer(Keeps::Nothing);
+    let last = PIECES - 1;
+    for number in 0..last {
+        bring(&mut picker, number, piece(&content, number));
+        assert_eq!(picker.settle(number, &sha1(piece(&content, number))), Ok(Answer::Had));
+    }
+    let bytes = piece(&content, last);
+    assert_eq!(picker.arrived(0, last, BLOCK as u32, &bytes[BLOCK..]), Ok(Answer::Stored));
+    assert_eq!(asked_by(&mut picker, 0), (last, 0, PickRule::Begun));
+    assert_eq!(picker.late(0, last, 0), Ok(Answer::Quiet));
+    assert_eq!(picker.next(0, 0), Ok(Answer::Idle));
+    assert_eq!(picker.arrived(0, last, 0, &bytes[..BLOCK]), Ok(Answer::Completed));
+    assert_eq!(picker.settle(last, &sha1(bytes)), Ok(Answer::Had));
+    assert_eq!((picker.next(0, 0), picker.is_complete()), (Ok(Answer::NothingLeft), true));
+}
+
+#[test]
+fn endgame_waits_for_a_late_block() {
+    let mut picker = with_late(4);
+    picker.want(&[0b1000_0000]).unwrap();
+    let before = picker.epoch();
+    assert_eq!(asked_by(&mut picker, 0), (0, BLOCK, PickRule::Rarest));
+    assert_eq!(picker.next(0, 0), Ok(Answer::Idle));
+    assert_eq!(picker.epoch(), before);
+    assert_eq!(asked_by(&mut picker, 1), (0, 0, PickRule::Late));
+    assert!(picker.epoch() > before);
+    assert_eq!(asked_by(&mut picker, 1), (0, BLOCK, PickRule::Endgame));
+    assert_eq!((picker.next(0, 0), picker.next(1, 0)), (Ok(Answer::Idle), Ok(Answer::Idle)));
+    let before = picker.epoch();
+    assert_eq!(picker.late(1, 0, 0), Ok(Answer::Quiet));
+    assert!(picker.epoch() > before);
+}
+
 #[test]
 fn a_slow_peer_gets_nothing_urgent() {
     let mut picker = with_peer(Keeps::Nothing);

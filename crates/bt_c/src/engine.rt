@@ -64,6 +64,7 @@ fn owned(alloc: Global, told: Told<'_>) -> Result<Call, AllocError>
         Told::Reach(level) => Call::Reach(level),
         Told::InOrderFrom(level) => Call::InOrderFrom(level),
         Told::Lack(piece) => Call::Lack(piece),
+        Told::Late { piece, begin } => Call::Late { piece, begin },
     };
     Ok(call)
 }

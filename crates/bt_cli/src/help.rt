@@ -24,6 +24,7 @@ Lines:
   W depth N                                from now on it may be asked for N blocks at a time, 1 to 64
   W reach L                                it is asked for blocks of level L, 0 to 7, and lower ones alone; 7 as it joins
   W release P BEGIN                        it is asked no more for the block of piece P that begins at byte BEGIN
+  W late P BEGIN                           that request takes too long: it stays, and other peers may be asked for the block
   W level P L                              piece P has level L, 0 to 7: 0 isn't downloaded, and a higher level comes first
   W levels DIGITS                          each piece has the level of its digit, that of the first piece first
   W inorder yes | W inorder no             pieces of one level come in rising order | the rarest first, as at the start

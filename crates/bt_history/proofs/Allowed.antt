@@ -14,13 +14,13 @@ use Rattle.bt_history.specs.declared.event.Action.TheVariants.{Next, Arrived, Se
 use Rattle.bt_history.specs.declared.event.Event.{Event}
 use Rattle.bt_history.specs.Setting.{Setting, some_block, some_block_of, each_block_of, is_block}
 use Rattle.bt_history.specs.History.{History, settles, is_had, is_failed}
-use Rattle.bt_history.specs.Peers.{asked, asked_count, due, depth_of}
-use Rattle.bt_history.specs.Pieces.{held, full, content, had, asked_of_some, asker_count, unasked, wanted, endgame}
+use Rattle.bt_history.specs.Peers.{asked, asked_count, due, depth_of, overdue}
+use Rattle.bt_history.specs.Pieces.{held, full, content, gives, had, asked_of_some, asker_count, unasked, wanted, endgame}
 use Rattle.bt_history.specs.Next.{Answer, Exactly, usable, tops, continues, starts, rises, doubles, rushes, next_answer}
 use Rattle.bt_history.specs.Legal.{same_bytes, first_cause, refusal, answer, answer_unless, arrived_answer, settled_answer, Permits, IsAllowed}
 use Rattle.bt_history.specs.Legal.{causes}
 use Rattle.bt_history.specs.Logs.{answers, answers_next, answers_arrived, call_mark}
-use Rattle.bt_history.proofs.Below.{any_fails}
+use Rattle.bt_history.proofs.Delays.{nobody_asked}
 use Rattle.bt_history.proofs.NextCases.{next_is, next_answers, next_request}
 
 -- the answer to an arrival is one reply
@@ -157,7 +157,9 @@ request_kind s h w b lt kind = ⊎_elim
           × ((asked_of_some s h b ≡ false) ⊎ (rushes s h w ≡ true))
       from_top is =
           let free = unasked_facts s h b (and_parts (unasked s h b) _ (top_usable s h w b is)).0 in
-          (any_fails s.workers (λ q. asked h q b) w free.1 lt, free.0, inl free.1, inl free.1, inl free.1)
+          let in_time = not-true (overdue h w b) (and_parts (gives h w b.piece) _ (and_parts (wanted s h b.piece) _
+          (and_parts (unasked s h b) _ (top_usable s h w b is)).1).1).1 in
+          (nobody_asked s h w b lt free.1 in_time, free.0, inl free.1, inl free.1, inl free.1)
 
 next_facts : (s : Setting) (h : History) (w : ℕ) (b : Block) → w < s.workers → Permits s.torrent (next_answer s h w) (Request b) →
     RequestFacts s h w b

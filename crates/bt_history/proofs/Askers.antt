@@ -8,12 +8,13 @@ use Rattle.bt_history.specs.declared.event.Event.{Event}
 use Rattle.bt_history.specs.Counting.{count_below}
 use Rattle.bt_history.specs.Setting.{Setting}
 use Rattle.bt_history.specs.History.{History, same_begin, requested}
-use Rattle.bt_history.specs.Peers.{asked, asks}
+use Rattle.bt_history.specs.Peers.{asked, asks, expected}
 use Rattle.bt_history.specs.Pieces.{asked_of_some, asker_count}
 use Rattle.bt_history.specs.Legal.{IsLegal, IsAllowed}
 use Rattle.bt_history.proofs.Below.{any_fails, count_at, count_none, count_same, one_if}
 use Rattle.bt_history.proofs.Allowed.{request_facts, worker_below}
-use Rattle.bt_history.proofs.HeldLaws.{asked_at, asked_cases, asking}
+use Rattle.bt_history.proofs.Delays.{expected_at, expected_cases}
+use Rattle.bt_history.proofs.HeldLaws.{asking}
 use Rattle.bt_history.proofs.LineLaws.{Asks, asks_or_none}
 
 -- fewer pass a test that is harder
@@ -32,33 +33,33 @@ count_less (suc n) f g harder =
 
 -- an entry that asks of nobody for the block adds no asker
 none_more : (s : Setting) (h : History) (e : Event) (b : Block) → ((q : ℕ) → asks q e b ≡ false) → asker_count s (e ∷ h) b ≤ asker_count s h b
-none_more s h e b none = count_less s.workers (λ q. asked (e ∷ h) q b) (λ q. asked h q b) (λ q lq is. ⊎_elim
+none_more s h e b none = count_less s.workers (λ q. expected (e ∷ h) q b) (λ q. expected h q b) (λ q lq is. ⊎_elim
     (λ (now : asks q e b ≡ true). absurd (false≢true (sym (none q) ∙ now)))
-    (λ (before : asked h q b ≡ true). before)
-    (asked_cases h e q b is))
+    (λ (before : expected h q b ≡ true). before)
+    (expected_cases h e q b is))
 
 -- an entry adds one at most
 one_more : (s : Setting) (h : History) (e : Event) (b : Block) → e.worker < s.workers → asker_count s (e ∷ h) b ≤ asker_count s h b + 1
 one_more s h e b lw =
-    let new : ℕ → Bool = λ q. asked (e ∷ h) q b in
+    let new : ℕ → Bool = λ q. expected (e ∷ h) q b in
     let others : ℕ → Bool = λ q. if q == e.worker then false else new q in
     let at = count_at s.workers new others e.worker lw
     (λ q lq apart. sym (ap (λ (x : Bool). if x then false else new q) (ne_eqb q e.worker apart))) in
     let most : one_if (new e.worker) ≤ 1 = at_most (new e.worker) in
-    let less = count_less s.workers others (λ q. asked h q b) (λ q lq is. by_worker q (cases_eq q e.worker) is) in
+    let less = count_less s.workers others (λ q. expected h q b) (λ q lq is. by_worker q (cases_eq q e.worker) is) in
     omega (arith, at, most, less)
   where
     at_most : (x : Bool) → one_if x ≤ 1
     at_most true = omega arith
     at_most false = omega arith
 
-    by_worker : (q : ℕ) → (q ≡ e.worker) ⊎ (q ≡ e.worker → ⊥) → (if q == e.worker then false else asked (e ∷ h) q b) ≡ true → asked h q b ≡ true
+    by_worker : (q : ℕ) → (q ≡ e.worker) ⊎ (q ≡ e.worker → ⊥) → (if q == e.worker then false else expected (e ∷ h) q b) ≡ true → expected h q b ≡ true
     by_worker q which is = ⊎_elim
-        (λ (same : q ≡ e.worker). absurd (false≢true (sym (ap (λ (x : Bool). if x then false else asked (e ∷ h) q b) (eq-eqb q e.worker same)) ∙ is)))
+        (λ (same : q ≡ e.worker). absurd (false≢true (sym (ap (λ (x : Bool). if x then false else expected (e ∷ h) q b) (eq-eqb q e.worker same)) ∙ is)))
         (λ (apart : q ≡ e.worker → ⊥). ⊎_elim
         (λ (now : asks q e b ≡ true). absurd (apart (sym (asking q e b now).1.worker)))
-        (λ (before : asked h q b ≡ true). before)
-        (asked_cases h e q b (sym (ap (λ (x : Bool). if x then false else asked (e ∷ h) q b) (ne_eqb q e.worker apart)) ∙ is)))
+        (λ (before : expected h q b ≡ true). before)
+        (expected_cases h e q b (sym (ap (λ (x : Bool). if x then false else expected (e ∷ h) q b) (ne_eqb q e.worker apart)) ∙ is)))
         which
 
 askers_step : (s : Setting) (h : History) (e : Event) (b : Block) → IsAllowed s h e → 1 ≤ s.askers → asker_count s h b ≤ s.askers
@@ -91,10 +92,10 @@ askers_step s h e b allowed some before = ⊎_elim
         let facts = request_facts s h e c allowed asks_c.reply in
         let more = one_more s h e b (worker_below s h e allowed) in
         let same : asker_count s h b ≡ asker_count s h c =
-        count_same s.workers (λ q. asked h q b) (λ q. asked h q c) (λ q lq. asked_at h q c b here) in
+        count_same s.workers (λ q. expected h q b) (λ q. expected h q c) (λ q lq. expected_at h q c b here) in
         ⊎_elim
         (λ (alone : asked_of_some s h c ≡ false).
-        let none : asker_count s h c ≡ 0 = count_none s.workers (λ q. asked h q c) (λ q lq. any_fails s.workers (λ w. asked h w c) q alone lq) in
+        let none : asker_count s h c ≡ 0 = count_none s.workers (λ q. expected h q c) (λ q lq. any_fails s.workers (λ w. expected h w c) q alone lq) in
         omega (arith, more, same, none, some))
         (λ (few : nat_lt (asker_count s h c) s.askers ≡ true).
         let less = ltb-true (asker_count s h c) s.askers few in

@@ -14,7 +14,7 @@ use Rattle.bt_history.specs.Entries.{giving_up}
 use Rattle.bt_history.specs.Setting.{Setting}
 use Rattle.bt_history.specs.History.{History, counts, own_call, same_begin, stored, requested}
 use Rattle.bt_history.specs.Peers.{joined, joined_after, shows, shows_after, is_open, is_open_after, late, late_after, asks, asked, outstanding}
-use Rattle.bt_history.specs.Peers.{due, dues, resets, releases, lasts, reach, reach_after, told_after, told_depth}
+use Rattle.bt_history.specs.Peers.{due, dues, expected, overdue, resets, releases, lasts, reach, reach_after, told_after, told_depth}
 use Rattle.bt_history.specs.Pieces.{held, kept, sender, had, level, order_from, gives, wanted, asker_count}
 use Rattle.bt_history.specs.Next.{doubles}
 use Rattle.bt_history.specs.Legal.{place_at}
@@ -191,7 +191,7 @@ doubles_as_before s h q b lq wide =
         none : (y : Bool) → (y && false) ≡ false
         none true = refl
         none false = refl
-      by_asked false is = and_true _ ∙ (let few = count_short s.workers (λ w. asked h w b) q lq is in
+      by_asked false is = and_true _ ∙ (let few = count_short s.workers (λ w. expected h w b) q lq (ap (λ (y : Bool). y && not (overdue h q b)) is) in
           lt-ltb (asker_count s h b) s.askers (omega (arith, few, wide)))
 
 -- ---- pieces that are added

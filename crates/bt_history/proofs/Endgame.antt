@@ -1,6 +1,6 @@
 -- What endgame waits for, and of whom it asks.
-use Rattle.std.proofs.Common.{◌≡◌, ◌⊎◌, ℕ, ◌==◌, ◌<◌, ◌≤◌, Bool, true, false, not, ◌&&◌, ◌||◌, List, [], ◌∷◌, Option, None, Some, refl, ap, sym, ◌∙◌}
-use Rattle.std.proofs.Common.{arith, ⊎_elim, subst}
+use Rattle.std.proofs.Common.{◌≡◌, ℕ, ◌==◌, ◌<◌, ◌≤◌, Bool, true, false, not, ◌&&◌, ◌||◌, [], ◌∷◌, Option, None, Some, refl, ap, sym, ◌∙◌}
+use Rattle.std.proofs.Common.{arith, ⊎_elim}
 use Rattle.std.specs.Prelude.{if◌then◌else◌, nat_le, nat_lt}
 use Rattle.std.proofs.lemmas.Bool.{and_parts, and_from, eqb-true, false≢true, leb-false, lt-ltb, ltb-true, not-false, or_left, or_right, true≢false}
 use Rattle.bt_meta.specs.declared.block.Block.{Block}
@@ -9,9 +9,10 @@ use Rattle.bt_history.specs.declared.call.Reply.TheVariants.{Request}
 use Rattle.bt_history.specs.declared.event.Action.{Action}
 use Rattle.bt_history.specs.declared.event.Action.TheVariants.{Join, Bits, Have, Choke, Unchoke, Arrived, Leave, Haves, Lack}
 use Rattle.bt_history.specs.declared.event.Event.{Event}
-use Rattle.bt_history.specs.Setting.{Setting, deepest_line, each_block_of, some_block}
+use Rattle.bt_history.specs.Setting.{Setting, deepest_line, some_block}
 use Rattle.bt_history.specs.History.{History, counts, own_call}
-use Rattle.bt_history.specs.Peers.{asked, asked_count, depth_of, due, flag, is_open, joined, joined_after, late, late_after, releases, resets, shows, shows_after}
+use Rattle.bt_history.specs.Peers.{asked, asked_count, depth_of, due, expected, flag, is_open, joined, joined_after, late, late_after, overdue, releases}
+use Rattle.bt_history.specs.Peers.{resets, shows, shows_after}
 use Rattle.bt_history.specs.Pieces.{asked_of_some, availability, awaited, endgame, had, held, held_or_asked, interesting, wanted}
 use Rattle.bt_history.specs.Next.{continues, doubles, next_answer, rises, rushes, tops_in_order, starts, usable}
 use Rattle.bt_history.specs.Before.{endgame_of_all, next_unrushed}
@@ -38,12 +39,13 @@ unrushed_answer s h q legal none =
     let most = depth_bounded s h q legal in
     lt-ltb (asked_count s h q) s.rush (omega (arith, less, most, none)))
 
--- a block that is asked of a peer already is asked only of one that is asked for few
+-- a block that a peer is expected to bring is asked only of one that is asked for few
 pub second_has_few : (s : Setting) (h : History) (e : Event) (other : ℕ) (b : Block) → IsLegal s h → IsAllowed s h e → e.reply ≡ Request b
-    → asked h other b ≡ true → asked_count s h e.worker < s.rush
+    → expected h other b ≡ true → asked_count s h e.worker < s.rush
 second_has_few s h e other b legal allowed is two = ⊎_elim
     (λ (alone : asked_of_some s h b ≡ false).
-    absurd (true≢false (sym two ∙ any_fails s.workers (λ w. asked h w b) other alone (asked_below s h other b legal two))))
+    absurd (true≢false (sym two ∙ any_fails s.workers (λ w. expected h w b) other alone
+    (asked_below s h other b legal (and_parts (asked h other b) (not (overdue h other b)) two).0))))
     (λ (few : rushes s h e.worker ≡ true). ltb-true (asked_count s h e.worker) s.rush few)
     (request_facts s h e b allowed is).rushing
 

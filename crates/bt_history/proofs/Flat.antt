@@ -1,5 +1,5 @@
 -- Histories that give pieces no level and no order are judged as they were before there were these.
-use Rattle.std.proofs.Common.{◌≡◌, ℕ, zero, suc, ◌+◌, ◌==◌, ◌<◌, ◌≤◌, Bool, true, false, not, ◌&&◌, ◌||◌, [], ◌∷◌, None, Some, refl, ap, sym, ◌∙◌, arith}
+use Rattle.std.proofs.Common.{◌≡◌, ℕ, ◌+◌, ◌==◌, ◌≤◌, Bool, true, false, not, ◌&&◌, ◌||◌, [], ◌∷◌, None, Some, refl, ap, sym, ◌∙◌, arith}
 use Rattle.std.proofs.Common.{⊎_elim}
 use Rattle.std.specs.Prelude.{if◌then◌else◌, nat_lt, nat_le}
 use Rattle.std.proofs.lemmas.Bool.{and_parts, and_left, and_right, and_from, or_left, or_right, not-true, eq-eqb, le-leb, cases_Bool}
@@ -11,8 +11,8 @@ use Rattle.bt_history.specs.declared.event.Action.TheVariants.{Want, Level, Leve
 use Rattle.bt_history.specs.declared.rules.TheConstants.{MOST_LEVEL, USUAL_LEVEL}
 use Rattle.bt_history.specs.Setting.{Setting, some_block, some_block_of, each_block_of}
 use Rattle.bt_history.specs.History.{History, counts, counted_call}
-use Rattle.bt_history.specs.Peers.{shows, is_open, asked_count, depth_of, due}
-use Rattle.bt_history.specs.Pieces.{unasked, wanted, chosen, level, level_after, level_if, comes_in_order, gives, order_from, order_after}
+use Rattle.bt_history.specs.Peers.{is_open, asked_count, depth_of, due}
+use Rattle.bt_history.specs.Pieces.{unasked, wanted, chosen, level, level_after, level_if, comes_in_order, offers, order_from, order_after}
 use Rattle.bt_history.specs.Pieces.{begun, unbegun, availability, endgame, interesting, had_count}
 use Rattle.bt_history.specs.Next.{Exactly, CancelOf, RequestOf, usable, tops, is_candidate, is_strict, none_rarer, resumes, continues, starts, rises}
 use Rattle.bt_history.specs.Next.{doubles, rushes, tops_in_order, next_answer}
@@ -86,7 +86,7 @@ module _ (s : Setting) (h : History) (q : ℕ) (never : never_levels h ≡ true)
 
   -- the piece of a usable block is wanted
   usable_wanted : (b : Block) → usable s h q b ≡ true → wanted s h b.piece ≡ true
-  usable_wanted b is = (and_parts (wanted s h b.piece) (gives h q b.piece) (and_parts (unasked s h b) _ is).1).0
+  usable_wanted b is = (and_parts (wanted s h b.piece) _ (and_parts (unasked s h b) _ is).1).0
 
   tops_flat : (b : Block) → tops s h q b ≡ usable s h q b
   tops_flat b = by_usable (usable s h q b) refl where
@@ -123,7 +123,7 @@ module _ (s : Setting) (h : History) (q : ℕ) (never : never_levels h ≡ true)
   candidates_flat = rarer_flat (is_candidate s h q) (λ r is. (and_parts (wanted s h r) _ is).0)
 
   resuming_flat : (p : ℕ) → wanted s h p ≡ true → none_rarer s h (resumes s h q) p ≡ none_rarer_before s h (resumes s h q) p
-  resuming_flat = rarer_flat (resumes s h q) (λ r is. (and_parts (wanted s h r) _ (and_parts _ (shows h q r) is).0).0)
+  resuming_flat = rarer_flat (resumes s h q) (λ r is. (and_parts (wanted s h r) _ (and_parts _ (offers s h q r) is).0).0)
 
   continues_flat : (b : Block) → continues s h q b ≡ continues_before s h q b
   continues_flat b = by_usable (usable s h q b) refl where

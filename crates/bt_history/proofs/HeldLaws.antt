@@ -13,15 +13,15 @@ use Rattle.bt_history.specs.declared.call.Reply.TheVariants.{Had, Failed, Reques
 use Rattle.bt_history.specs.declared.event.Event.{Event}
 use Rattle.bt_history.specs.Setting.{Setting, is_block, each_block, each_block_of}
 use Rattle.bt_history.specs.History.{History, own_call, same_begin, stored, stores, bytes_for, failed, is_failed, is_had, settles, passed, requested}
-use Rattle.bt_history.specs.Peers.{asked, asks, resets, lasts, outstanding}
+use Rattle.bt_history.specs.Peers.{asked, asks, expected, lasts, overdue, resets}
 use Rattle.bt_history.specs.Pieces.{kept, held, content, joined_below, full, had, asked_of_some, held_or_asked, unasked, awaited, endgame, was_endgame}
 use Rattle.bt_history.specs.Legal.{IsLegal, IsAllowed, same_bytes}
 use Rattle.bt_history.proofs.Below.{any_fails, all_at, all_found}
 use Rattle.bt_history.proofs.SameBegin.{held_at}
 use Rattle.bt_history.proofs.Allowed.{request_facts, check_facts, passed_hash, had_reply, failed_reply, worker_below}
 use Rattle.bt_history.proofs.Arrivals.{stored_unheld}
-use Rattle.bt_history.proofs.Lines.{asked_outstanding}
-use Rattle.bt_history.proofs.LineLaws.{block_index, Asks, asks_or_none, place_resized}
+use Rattle.bt_history.proofs.Delays.{expected_at, expected_cases}
+use Rattle.bt_history.proofs.LineLaws.{block_index, Asks, asks_or_none}
 
 -- ---- what an entry leaves
 
@@ -167,22 +167,19 @@ asking q e b is = ⊎_elim
     only true h = refl
     only false h = absurd (cc h)
 
-pub asked_at : (h : History) (q : ℕ) (a b : Block) → same_begin a b ≡ true → asked h q b ≡ asked h q a
-asked_at h q a b same = asked_outstanding h q b ∙ (place_resized (outstanding h q) a b same ∙ sym (asked_outstanding h q a))
-
--- where the newest entry asked b of one peer while it was asked of another, that was in endgame
+-- where the newest entry asked b of one peer while another one was expected to bring it, that was in endgame
 asked_again : (s : Setting) (h : History) (e : Event) (q other : ℕ) (b : Block) → IsAllowed s h e → other < s.workers → (q ≡ other → ⊥)
-    → asks q e b ≡ true → asked (e ∷ h) other b ≡ true → endgame s h ≡ true
+    → asks q e b ≡ true → expected (e ∷ h) other b ≡ true → endgame s h ≡ true
 asked_again s h e q other b allowed lt apart now is =
     let request = asking q e b now in
     let facts = request_facts s h e request.0 allowed request.1.reply in
-    let before : asked h other b ≡ true = ⊎_elim
+    let before : expected h other b ≡ true = ⊎_elim
     (λ (too : asks other e b ≡ true). absurd (apart (sym request.1.worker ∙ (asking other e b too).1.worker)))
-    (λ (old : asked h other b ≡ true). old)
-    (asked_cases h e other b is) in
+    (λ (old : expected h other b ≡ true). old)
+    (expected_cases h e other b is) in
     ⊎_elim
     (λ (alone : asked_of_some s h request.0 ≡ false).
-    absurd (true≢false (sym before ∙ (asked_at h other request.0 b request.2 ∙ any_fails s.workers (λ w. asked h w request.0) other alone lt))))
+    absurd (true≢false (sym before ∙ (expected_at h other request.0 b request.2 ∙ any_fails s.workers (λ w. expected h w request.0) other alone lt))))
     (λ (ending : endgame s h ≡ true). ending)
     facts.alone
 
@@ -195,30 +192,31 @@ asked_below s (e ∷ h) q b legal is = ⊎_elim
     (λ (before : asked h q b ≡ true). asked_below s h q b legal.0 before)
     (asked_cases h e q b is)
 
--- a block asked of two peers tells of an endgame before
+-- a block that two peers are expected to bring tells of an endgame before
 pub doubles_after_endgame : (s : Setting) (h : History) (q other : ℕ) (b : Block) → IsLegal s h → q < s.workers → other < s.workers → (q ≡ other → ⊥)
-    → asked h q b ≡ true → asked h other b ≡ true → was_endgame s h ≡ true
+    → expected h q b ≡ true → expected h other b ≡ true → was_endgame s h ≡ true
 unfolding was_endgame asked
 doubles_after_endgame s [] q other b legal lq lo apart one two = absurd (cc one)
 doubles_after_endgame s (e ∷ h) q other b legal lq lo apart one two = ⊎_elim
     (λ (now : asks q e b ≡ true). or_left (endgame s h) (was_endgame s h) (asked_again s h e q other b legal.1 lo apart now two))
-    (λ (before : asked h q b ≡ true). ⊎_elim
+    (λ (before : expected h q b ≡ true). ⊎_elim
     (λ (now : asks other e b ≡ true). or_left (endgame s h) (was_endgame s h)
     (asked_again s h e other q b legal.1 lq (λ same. apart (sym same)) now one))
-    (λ (too : asked h other b ≡ true). or_right (endgame s h) (was_endgame s h) (doubles_after_endgame s h q other b legal.0 lq lo apart before too))
-    (asked_cases h e other b two))
-    (asked_cases h e q b one)
+    (λ (too : expected h other b ≡ true). or_right (endgame s h) (was_endgame s h) (doubles_after_endgame s h q other b legal.0 lq lo apart before too))
+    (expected_cases h e other b two))
+    (expected_cases h e q b one)
 
 -- ---- a second peer
 
--- a block that is asked of a peer already is asked for again in endgame alone
+-- a block that a peer is expected to bring is asked for again in endgame alone
 pub second_in_endgame : (s : Setting) (h : History) (e : Event) (other : ℕ) (b : Block) → IsLegal s h → IsAllowed s h e → e.reply ≡ Request b
-    → asked h other b ≡ true → endgame s h ≡ true
+    → expected h other b ≡ true → endgame s h ≡ true
 second_in_endgame s h e other b legal allowed is two =
     let facts = request_facts s h e b allowed is in
     ⊎_elim
     (λ (alone : asked_of_some s h b ≡ false).
-    absurd (true≢false (sym two ∙ any_fails s.workers (λ w. asked h w b) other alone (asked_below s h other b legal two))))
+    absurd (true≢false (sym two ∙ any_fails s.workers (λ w. expected h w b) other alone
+    (asked_below s h other b legal (and_parts (asked h other b) (not (overdue h other b)) two).0))))
     (λ (ending : endgame s h ≡ true). ending)
     facts.alone
 

@@ -5,21 +5,22 @@ use Rattle.std.specs.Prelude.{if◌then◌else◌, is_none, is_some, nat_lt, nat
 use Rattle.std.specs.List.{list_any}
 use Rattle.std.proofs.lemmas.Bool.{and_parts, and_from, and_left, and_right, or_parts, or_cases, or_left, or_right, not-true, not-false, eq-eqb}
 use Rattle.std.proofs.lemmas.Bool.{eqb-true, ne_eqb, false≢true, ltb-true, lt-ltb}
+use Rattle.std.proofs.Math.Bool.{and-true}
 use Rattle.bt_meta.specs.declared.block.Block.{Block}
 use Rattle.bt_meta.specs.Layout.{Layout, piece_count, block_count, block}
 use Rattle.bt_history.specs.declared.call.Reply.{Reply}
 use Rattle.bt_history.specs.declared.call.Reply.TheVariants.{Request, Idle, NothingLeft, Refused}
 use Rattle.bt_history.specs.declared.event.Action.{Action}
-use Rattle.bt_history.specs.declared.event.Action.TheVariants.{Join, Choke, Next, Arrived, Settle, Leave, Want, Release, Level, Levels, Lack}
+use Rattle.bt_history.specs.declared.event.Action.TheVariants.{Join, Choke, Next, Arrived, Settle, Leave, Want, Release, Level, Levels, Lack, Late}
 use Rattle.bt_history.specs.declared.event.Event.{Event}
 use Rattle.bt_history.specs.Counting.{any_below, count_below}
 use Rattle.bt_history.specs.Setting.{Setting, some_block, some_block_of, each_block, each_block_of, count_blocks}
 use Rattle.bt_history.specs.History.{History, counts, counted_call, own_call, same_begin, stores, stored, bytes_for, requested, requested_by}
 use Rattle.bt_history.specs.History.{cancelled, cancelled_by, failed, passed, is_failed, is_had, settles}
 use Rattle.bt_history.specs.Peers.{asked, asks, asked_count, resets, releases, lasts, shows, shows_after, is_open, is_open_after, told_depth}
-use Rattle.bt_history.specs.Peers.{told_after, depth_of, due, reach, reach_after}
+use Rattle.bt_history.specs.Peers.{delays, told_after, depth_of, due, expected, overdue, reach, reach_after}
 use Rattle.bt_history.specs.Pieces.{kept, held, had, gives, level, level_after, wanted, interesting, asked_of_some, asker_count, held_or_asked}
-use Rattle.bt_history.specs.Pieces.{unasked, awaited, endgame}
+use Rattle.bt_history.specs.Pieces.{unasked, awaited, endgame, is_late_at_some}
 use Rattle.bt_history.specs.Next.{Exactly, usable, tops, tops_in_order, continues, starts, rises, doubles, rushes, next_answer}
 use Rattle.bt_history.specs.Legal.{IsLegal, IsAllowed, place_at}
 use Rattle.bt_history.specs.Logs.{answers, call_mark}
@@ -28,7 +29,8 @@ use Rattle.bt_history.proofs.Below.{any_fails, any_found, any_witness, all_at, a
 use Rattle.bt_history.proofs.Allowed.{allowed_answers, top_usable, worker_below}
 use Rattle.bt_history.proofs.Askers.{count_less}
 use Rattle.bt_history.proofs.Endgame.{awaited_on}
-use Rattle.bt_history.proofs.HeldLaws.{asked_at, asking}
+use Rattle.bt_history.proofs.Delays.{expected_at, expected_cases, neither_asked, overdue_at, unasked_in_time}
+use Rattle.bt_history.proofs.HeldLaws.{asking}
 use Rattle.bt_history.proofs.NextCases.{next_cases, next_is}
 
 -- ---- an entry that doesn't stir
@@ -40,7 +42,9 @@ record Calm (s : Setting) (h : History) (e : Event) : Type 0 where
   pub fails_none : (p : ℕ) → failed e p ≡ false
   pub passes_none : (p : ℕ) → passed e p ≡ false
   pub levels_same : (p before : ℕ) → level_after (counted_call e) p before ≡ before
-  pub stores_own : (b : Block) → is_some (stored e b) ≡ true → (asked h e.worker b ≡ true) × (asker_count s h b ≡ 1)
+  pub delays_none : (q : ℕ) (b : Block) → delays (own_call q e) b ≡ false
+  pub stores_own : (b : Block) → is_some (stored e b) ≡ true
+      → (expected h e.worker b ≡ true) × (asker_count s h b ≡ 1) × (is_late_at_some s h b ≡ false)
   pub begins_none : (b : Block) → e.reply ≡ Request b → (not (endgame s h) && endgame s (e ∷ h)) ≡ false
 
 calm_resets : (call : Action) (x : Bool) → unsettles call ≡ false → resets (if x then Some call else None) ≡ false
@@ -55,6 +59,11 @@ calm_releases call false b is = refl
 calm_releases (Release p begin) true b is = absurd (cc is)
 calm_releases (Lack p) true b is = absurd (cc is)
 calm_releases call true b is = refl
+
+calm_delays : (call : Action) (x : Bool) (b : Block) → unsettles call ≡ false → delays (if x then Some call else None) b ≡ false
+calm_delays call false b is = refl
+calm_delays (Late p begin) true b is = absurd (cc is)
+calm_delays call true b is = refl
 
 calm_settles : (call : Action) (p : ℕ) → unsettles call ≡ false → settles call p ≡ false
 calm_settles (Settle r bytes) p is = absurd (cc is)
@@ -93,25 +102,33 @@ refused_calm s h e refused = record {
   fails_none = λ p. and_left (is_failed e.reply) _ (refused_says e.reply refused).fails;
   passes_none = λ p. and_left (is_had e.reply) _ (refused_says e.reply refused).passes;
   levels_same = λ p before. ap (λ (x : Bool). level_after (if x then Some e.action else None) p before) refused;
+  delays_none = λ q b. ap (λ (x : Bool). delays (if x && (e.worker == q) then Some e.action else None) b) refused;
   stores_own = λ b is. absurd
       (false≢true (sym (ap (λ (x : Bool). is_some (if x then bytes_for b e.action else None)) (refused_says e.reply refused).stores_none) ∙ is));
   begins_none = λ b is. absurd (false≢true (sym refused ∙ ap counts is));
 }
 
--- a stored block that its own peer alone was asked for
+-- a stored block that its own peer alone was asked for, and wasn't late with
 stored_alone : (s : Setting) (h : History) (e : Event) (b : Block) (call : Action) → stores_beyond s h e call ≡ false
-    → is_some (if stores e.reply then bytes_for b call else None) ≡ true → (asked h e.worker b ≡ true) × (asker_count s h b ≡ 1)
+    → is_some (if stores e.reply then bytes_for b call else None) ≡ true
+    → (expected h e.worker b ≡ true) × (asker_count s h b ≡ 1) × (is_late_at_some s h b ≡ false)
 stored_alone s h e b (Arrived p begin bytes) within is = by_reply (stores e.reply) within is where
   by_place : (x : Bool) → ((p == b.piece) && (begin == b.begin)) ≡ x → asked_alone s h e.worker p begin ≡ true
-      → is_some (if x then Some bytes else None) ≡ true → (asked h e.worker b ≡ true) × (asker_count s h b ≡ 1)
+      → is_some (if x then Some bytes else None) ≡ true
+      → (expected h e.worker b ≡ true) × (asker_count s h b ≡ 1) × (is_late_at_some s h b ≡ false)
   by_place false here alone some = absurd (cc some)
   by_place true here alone some =
-      let parts = and_parts (asked h e.worker (place_at p begin)) (asker_count s h (place_at p begin) == 1) alone in
-      let same : (q : ℕ) → asked h q b ≡ asked h q (place_at p begin) = λ q. asked_at h q (place_at p begin) b here in
-      (same e.worker ∙ parts.0, (λ i. count_below s.workers (λ q. same q i)) ∙ eqb-true (asker_count s h (place_at p begin)) 1 parts.1)
+      let parts = and_parts (expected h e.worker (place_at p begin)) _ alone in
+      let rest = and_parts (asker_count s h (place_at p begin) == 1) (not (is_late_at_some s h (place_at p begin))) parts.1 in
+      let same : (q : ℕ) → expected h q b ≡ expected h q (place_at p begin) = λ q. expected_at h q (place_at p begin) b here in (
+        same e.worker ∙ parts.0,
+        (λ i. count_below s.workers (λ q. same q i)) ∙ eqb-true (asker_count s h (place_at p begin)) 1 rest.0,
+        (λ i. any_below s.workers (λ q. overdue_at h q (place_at p begin) b here i)) ∙ not-true (is_late_at_some s h (place_at p begin)) rest.1,
+      )
 
   by_reply : (x : Bool) → (x && not (asked_alone s h e.worker p begin)) ≡ false
-      → is_some (if x then bytes_for b (Arrived p begin bytes) else None) ≡ true → (asked h e.worker b ≡ true) × (asker_count s h b ≡ 1)
+      → is_some (if x then bytes_for b (Arrived p begin bytes) else None) ≡ true
+      → (expected h e.worker b ≡ true) × (asker_count s h b ≡ 1) × (is_late_at_some s h b ≡ false)
   by_reply false none some = absurd (cc some)
   by_reply true none some = by_place ((p == b.piece) && (begin == b.begin)) refl (not-false (asked_alone s h e.worker p begin) none) some
 stored_alone s h e b call within is = absurd (false≢true (sym (nothing (stores e.reply)) ∙ is)) where
@@ -127,6 +144,7 @@ still_calm s h e settled begun_none within = record {
   fails_none = λ p. and_right (is_failed e.reply) (settles e.action p) (calm_settles e.action p settled);
   passes_none = λ p. and_right (is_had e.reply) (settles e.action p) (calm_settles e.action p settled);
   levels_same = λ p before. calm_levels e.action (counts e.reply) p before settled;
+  delays_none = λ q b. calm_delays e.action (counts e.reply && (e.worker == q)) b settled;
   stores_own = λ b is. stored_alone s h e b e.action within is;
   begins_none = λ b is. sym (ap (λ (r : Reply). is_request r && (not (endgame s h) && endgame s (e ∷ h))) is) ∙ begun_none;
 }
@@ -222,9 +240,24 @@ module _ (s : Setting) (h : History) (e : Event) (allowed : IsAllowed s h e) (st
       asked_now q b ∙ or_left (is_none (stored e b) && asked h q b) (asks q e b)
       (and_from (is_none (stored e b)) (asked h q b) (none_is (stored e b) (unstored_now b lacking)) is)
 
+  -- who is late is so still, but with what is stored
+  overdue_now : (q : ℕ) (b : Block) → overdue (e ∷ h) q b ≡ (is_none (stored e b) && overdue h q b)
+  unfolding overdue
+  overdue_now q b =
+      (λ i. not (still.resets_none q i) && ((is_none (stored e b) && not (still.releases_none q b i))
+      && ((still.delays_none q b i && asked h q b) || overdue h q b)))
+      ∙ ap (λ (x : Bool). x && overdue h q b) (and-true (is_none (stored e b)))
+
+  -- what was expected is expected, if it isn't held now
+  expected_on : (q : ℕ) (b : Block) → held (e ∷ h) b ≡ false → expected h q b ≡ true → expected (e ∷ h) q b ≡ true
+  expected_on q b lacking is =
+      let parts = and_parts (asked h q b) (not (overdue h q b)) is in
+      and_from (asked (e ∷ h) q b) (not (overdue (e ∷ h) q b)) (asked_on q b lacking parts.0)
+      (ap not (overdue_now q b ∙ and_right (is_none (stored e b)) (overdue h q b) (not-true (overdue h q b) parts.1)))
+
   -- a block is asked of no fewer peers, if it isn't held now
   askers_on : (b : Block) → held (e ∷ h) b ≡ false → asker_count s h b ≤ asker_count s (e ∷ h) b
-  askers_on b lacking = count_less s.workers (λ q. asked h q b) (λ q. asked (e ∷ h) q b) (λ q lq is. asked_on q b lacking is)
+  askers_on b lacking = count_less s.workers (λ q. expected h q b) (λ q. expected (e ∷ h) q b) (λ q lq is. expected_on q b lacking is)
 
   wanted_same : (p : ℕ) → wanted s (e ∷ h) p ≡ wanted s h p
   unfolding level
@@ -241,9 +274,9 @@ module _ (s : Setting) (h : History) (e : Event) (allowed : IsAllowed s h e) (st
     by_held true now = or_left (held (e ∷ h) b) (asked_of_some s (e ∷ h) b) now
     by_held false now =
         let some : asked_of_some s h b ≡ true = second (held h b) (asked_of_some s h b) (unheld_before b now) is in
-        let found = any_witness s.workers (λ q. asked h q b) some in
+        let found = any_witness s.workers (λ q. expected h q b) some in
         or_right (held (e ∷ h) b) (asked_of_some s (e ∷ h) b)
-        (any_found s.workers (λ q. asked (e ∷ h) q b) found.0 found.1 (asked_on found.0 b now found.2))
+        (any_found s.workers (λ q. expected (e ∷ h) q b) found.0 found.1 (expected_on found.0 b now found.2))
 
   -- what is held now and wasn't is stored
   newly_held : (b : Block) → held h b ≡ false → held (e ∷ h) b ≡ true → is_some (stored e b) ≡ true
@@ -259,18 +292,18 @@ module _ (s : Setting) (h : History) (e : Event) (allowed : IsAllowed s h e) (st
   fresh_held b none holds =
       let parts = or_parts (held h b) (asked_of_some s h b) none in
       let asked_one = (still.stores_own b (newly_held b parts.0 holds)).0 in
-      false≢true (sym (any_fails s.workers (λ w. asked h w b) e.worker parts.1 (worker_below s h e allowed)) ∙ asked_one)
+      false≢true (sym (any_fails s.workers (λ w. expected h w b) e.worker parts.1 (worker_below s h e allowed)) ∙ asked_one)
 
   -- nor is it asked of somebody, where an endgame came that wasn't: the entry would have begun it
   fresh_asked : endgame s (e ∷ h) ≡ true → endgame s h ≡ false → (b : Block) → held_or_asked s h b ≡ false → asked_of_some s (e ∷ h) b ≡ true → ⊥
   fresh_asked now older b none some =
       let parts = or_parts (held h b) (asked_of_some s h b) none in
-      let found = any_witness s.workers (λ q. asked (e ∷ h) q b) some in
+      let found = any_witness s.workers (λ q. expected (e ∷ h) q b) some in
       let q = found.0 in
-      let before : asked h q b ≡ false = any_fails s.workers (λ w. asked h w b) q parts.1 found.1 in
-      let asks_it : asks q e b ≡ true =
-      second (is_none (stored e b) && asked h q b) (asks q e b) (and_right (is_none (stored e b)) (asked h q b) before)
-      (sym (asked_now q b) ∙ found.2) in
+      let asks_it : asks q e b ≡ true = ⊎_elim
+      (λ (now_asked : asks q e b ≡ true). now_asked)
+      (λ (before : expected h q b ≡ true). absurd (false≢true (sym (any_fails s.workers (λ w. expected h w b) q parts.1 found.1) ∙ before)))
+      (expected_cases h e q b found.2) in
       let request = asking q e b asks_it in
       false≢true (sym (still.begins_none request.0 request.1.reply) ∙ and_from (not (endgame s h)) (endgame s (e ∷ h)) (ap not older) now)
 
@@ -378,8 +411,9 @@ silent s h e q allowed still lq is = ⊎_elim
       cancels_none = λ b. and_left (e.worker == q) (cancelled_by e.reply b) apart;
       stores_none = λ b some.
           let awaited_by = still.stores_own b some in
-          one_alone s.workers (λ w. asked h w b) e.worker q (worker_below s h e allowed) lq
-          (λ same. false≢true (sym apart ∙ eq-eqb e.worker q (sym same))) awaited_by.0 awaited_by.1;
+          neither_asked h q b (one_alone s.workers (λ w. expected h w b) e.worker q (worker_below s h e allowed) lq
+          (λ same. false≢true (sym apart ∙ eq-eqb e.worker q (sym same))) awaited_by.0 awaited_by.1)
+          (any_fails s.workers (λ w. overdue h w b) q awaited_by.2 lq);
     })
     (λ (nothing_to_ask : is_idle e.reply ≡ true).
     let next = idle_next e.action e.reply nothing_to_ask (allowed_answers s h e allowed) in record {
@@ -469,6 +503,12 @@ module _ (s : Setting) (h : History) (e : Event) (q : ℕ) (allowed : IsAllowed 
       by_stored None false none = refl
       by_stored (Some bytes) x none = sym (none refl)
 
+  overdue_same : (b : Block) → overdue (e ∷ h) q b ≡ overdue h q b
+  overdue_same b = overdue_now s h e allowed still q b ∙ by_stored (stored e b) (λ some. unasked_in_time h q b (quiet.stores_none b some)) where
+    by_stored : (o : Option (List ℕ)) → (is_some o ≡ true → overdue h q b ≡ false) → (is_none o && overdue h q b) ≡ overdue h q b
+    by_stored None none = refl
+    by_stored (Some bytes) none = sym (none refl)
+
   due_same : (b : Block) → due (e ∷ h) q b ≡ due h q b
   unfolding due
   due_same b =
@@ -499,10 +539,10 @@ module _ (s : Setting) (h : History) (e : Event) (q : ℕ) (allowed : IsAllowed 
 
   usable_before : (b : Block) → usable s (e ∷ h) q b ≡ true → usable s h q b ≡ true
   usable_before b is =
-      let parts = and_parts (unasked s (e ∷ h) b) (wanted s (e ∷ h) b.piece && gives (e ∷ h) q b.piece) is in
-      and_from (unasked s h b) (wanted s h b.piece && gives h q b.piece)
+      let parts = and_parts (unasked s (e ∷ h) b) _ is in
+      and_from (unasked s h b) _
       (by_touched (held_or_asked s h b) refl (not-true (held_or_asked s (e ∷ h) b) parts.0))
-      (sym (λ i. wanted_same s h e allowed still b.piece i && gives_same b.piece i) ∙ parts.1)
+      (sym (λ i. wanted_same s h e allowed still b.piece i && (gives_same b.piece i && not (overdue_same b i))) ∙ parts.1)
     where
       by_touched : (x : Bool) → held_or_asked s h b ≡ x → held_or_asked s (e ∷ h) b ≡ false → not x ≡ true
       by_touched true was none = absurd (false≢true (sym none ∙ touched_on s h e allowed still b was))

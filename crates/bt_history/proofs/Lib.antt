@@ -4,6 +4,7 @@ pub mod SameBegin
 pub mod Lines
 pub mod NextCases
 pub mod Opening
+pub mod Delays
 pub mod Allowed
 pub mod Arrivals
 pub mod LineLaws
@@ -21,6 +22,7 @@ pub mod Idling
 pub mod Sending
 pub mod Levels
 pub mod Lacking
+pub mod Delaying
 pub mod Reaching
 pub mod PickRules
 pub mod Windows

@@ -20,8 +20,8 @@ use Rattle.bt_history.specs.Peers.{asked, asked_count, outstanding, has_place, A
 use Rattle.bt_history.specs.Peers.{told_depth, told_after, depth_of, depth_so_far}
 use Rattle.bt_history.specs.Legal.{IsLegal}
 use Rattle.bt_history.proofs.Below.{any_found, any_witness, count_at, count_same, count_none, sum_at, sum_same, sum_none, one_if}
-use Rattle.bt_history.proofs.SameBegin.{same_begin_self, same_begin_sym, same_but_len}
-use Rattle.bt_history.proofs.Lines.{any_append, asked_outstanding, due_dues}
+use Rattle.bt_history.proofs.SameBegin.{same_begin_self, same_begin_sym}
+use Rattle.bt_history.proofs.Lines.{any_append, asked_outstanding, due_dues, place_resized}
 use Rattle.bt_history.proofs.Allowed.{request_facts}
 
 -- ---- blocks of the torrent
@@ -363,12 +363,6 @@ lines_room s (e ∷ h) q legal = by_reset (resets (own_call q e)) (asks_or_none 
         most,
       ))
       asking
-
-pub place_resized : (bs : List Block) (a b : Block) → same_begin a b ≡ true → has_place b bs ≡ has_place a bs
-place_resized [] a b same = refl
-place_resized (c ∷ bs) a b same =
-    ap (λ (x : Block). same_begin c x || has_place b bs) (same_but_len a b same)
-    ∙ ap (λ (y : Bool). same_begin c a || y) (place_resized bs a b same)
 
 -- a list of blocks of the torrent has at least as many blocks as have their place in it
 count_listed_most : (t : Layout) (bs : List Block) → AreBlocks t bs → count_blocks t (λ b. has_place b bs) ≤ length bs

@@ -30,7 +30,7 @@ releases_resized (Some (Lack p)) b n = refl
 releases_resized _ b n = refl
 
 -- whether a block stays asked depends on where it begins alone
-lasts_at : (q : ℕ) (e : Event) (a b : Block) → same_begin a b ≡ true → lasts q e a ≡ lasts q e b
+pub lasts_at : (q : ℕ) (e : Event) (a b : Block) → same_begin a b ≡ true → lasts q e a ≡ lasts q e b
 lasts_at q e a b same =
     let released : releases (own_call q e) b ≡ releases (own_call q e) a =
     ap (releases (own_call q e)) (same_but_len a b same) ∙ releases_resized (own_call q e) a b.len in
@@ -49,6 +49,17 @@ asked_outstanding (e ∷ h) q b =
     sym (any_either (resets (own_call q e)) (λ (a : Block). same_begin a b) (filter lasting (outstanding h q) ++ requested q e)
     ∙ ap (λ (x : Bool). not (resets (own_call q e)) && x)
     (any_append (λ (a : Block). same_begin a b) (filter lasting (outstanding h q)) (requested q e) ∙ ap (λ (x : Bool). x || asks q e b) (sym older)))
+
+-- whether a line has a block of a place depends on that alone
+pub place_resized : (bs : List Block) (a b : Block) → same_begin a b ≡ true → has_place b bs ≡ has_place a bs
+place_resized [] a b same = refl
+place_resized (c ∷ bs) a b same =
+    ap (λ (x : Block). same_begin c x || has_place b bs) (same_but_len a b same)
+    ∙ ap (λ (y : Bool). same_begin c a || y) (place_resized bs a b same)
+
+-- and so does whether a block is asked
+pub asked_at : (h : History) (q : ℕ) (a b : Block) → same_begin a b ≡ true → asked h q b ≡ asked h q a
+asked_at h q a b same = asked_outstanding h q b ∙ (place_resized (outstanding h q) a b same ∙ sym (asked_outstanding h q a))
 
 -- an entry that cancels stores nothing
 cancel_stores_nothing : (reply : Reply) (b : Block) → cancelled_by reply b ≡ true → stores reply ≡ false

@@ -1,7 +1,7 @@
 -- What holds of open pieces: how many there are, and which goes on before another one begins.
 use Rattle.std.proofs.Common.{◌≡◌, ◌⊎◌, ℕ, ◌==◌, ◌<◌, ◌≤◌, Bool, true, false, not, ◌&&◌, ◌||◌, refl, ap, sym, ◌∙◌, arith, ⊎_elim, inl, inr, subst}
 use Rattle.std.specs.Prelude.{if◌then◌else◌, nat_le, nat_lt}
-use Rattle.std.proofs.lemmas.Bool.{and_from, and_left, and_parts, cases_Bool, cases_lt, eq-eqb, eqb-true, false≢true, false_from_ne_true, le-leb, leb-true, lt-ltb}
+use Rattle.std.proofs.lemmas.Bool.{and_from, and_parts, cases_Bool, cases_lt, eq-eqb, eqb-true, false≢true, false_from_ne_true, le-leb, leb-true, lt-ltb}
 use Rattle.std.proofs.lemmas.Bool.{ne_eqb, not-true, or_left, or_parts, or_right}
 use Rattle.std.proofs.Math.Bool.{and-true}
 use Rattle.bt_meta.specs.declared.block.Block.{Block}
@@ -10,15 +10,16 @@ use Rattle.bt_history.specs.declared.call.Reply.TheVariants.{Request, Choked, Pi
 use Rattle.bt_history.specs.declared.event.Event.{Event}
 use Rattle.bt_history.specs.Setting.{Setting, is_block, some_block, some_block_of}
 use Rattle.bt_history.specs.History.{History}
-use Rattle.bt_history.specs.Peers.{shows, is_open, asked_count, due, depth_of, reach}
+use Rattle.bt_history.specs.Peers.{shows, is_open, asked_count, due, depth_of, overdue, reach}
 use Rattle.bt_history.specs.Pieces.{availability, begun, endgame, had, had_count, held, held_or_asked, comes_in_order, gives, interesting, is_open_piece, level}
-use Rattle.bt_history.specs.Pieces.{open_count, unasked, unbegun, wanted}
+use Rattle.bt_history.specs.Pieces.{is_spent, offers, open_count, unasked, unbegun, wanted}
 use Rattle.bt_history.specs.Next.{Answer, Exactly, CancelOf, RequestOf, usable, tops, none_rarer, resumes, is_candidate, is_rarest, is_strict}
 use Rattle.bt_history.specs.Next.{goes_first, continues, starts, rises, tops_in_order, doubles, rushes, next_answer}
 use Rattle.bt_history.specs.Before.{continues_strictly, next_strict}
 use Rattle.bt_history.specs.Legal.{IsAllowed, IsLegal, Permits}
 use Rattle.bt_history.proofs.Allowed.{request_next, top_usable}
-use Rattle.bt_history.proofs.Below.{all_at, all_found, any_found, any_witness, least_among}
+use Rattle.bt_history.proofs.Below.{all_at, all_found, any_found, least_among}
+use Rattle.bt_history.proofs.Delays.{left_to_ask, left_unspent}
 use Rattle.bt_history.proofs.Levels.{implied, level_tops, none_in_order}
 use Rattle.bt_history.proofs.HeldLaws.{had_full}
 use Rattle.bt_history.proofs.LineLaws.{block_index, block_is_block, some_found}
@@ -75,20 +76,29 @@ module _ (s : Setting) (h : History) (q : ℕ) where
   -- a usable block is of a level that the peer reaches
   pub usable_near : (c : Block) → usable s h q c ≡ true → nat_le (level h c.piece) (reach h q) ≡ true
   usable_near c fits = (and_parts (shows h q c.piece) (nat_le (level h c.piece) (reach h q))
-      (and_parts (wanted s h c.piece) (gives h q c.piece) (and_parts (unasked s h c) _ fits).1).1).1
+      (and_parts (gives h q c.piece) _ (and_parts (wanted s h c.piece) _ (and_parts (unasked s h c) _ fits).1).1).0).1
 
-  -- a usable block of a begun piece is of an open piece that the peer shows
+  -- a peer offers the piece of a block that is usable
+  pub usable_offered : (c : Block) → is_block s.torrent c ≡ true → usable s h q c ≡ true → offers s h q c.piece ≡ true
+  usable_offered c inside fits =
+      let at = block_index s.torrent c inside in
+      let parts = and_parts (unasked s h c) _ fits in
+      let given = and_parts (gives h q c.piece) (not (overdue h q c)) (and_parts (wanted s h c.piece) _ parts.1).1 in
+      and_from (shows h q c.piece) (not (is_spent s h q c.piece)) (and_parts (shows h q c.piece) _ given.0).0
+      (ap not (left_unspent s h q c.piece at.index at.within (ap (unasked s h) (sym at.is) ∙ parts.0)
+      (ap (overdue h q) (sym at.is) ∙ not-true (overdue h q c) given.1)))
+
+  -- a usable block of a begun piece is of an open piece that the peer offers
   pub usable_resumes : (c : Block) → is_block s.torrent c ≡ true → usable s h q c ≡ true → begun s h c.piece ≡ true → resumes s h q c.piece ≡ true
   usable_resumes c inside fits on =
       let at = block_index s.torrent c inside in
       let parts = and_parts (unasked s h c) _ fits in
-      let rest = and_parts (wanted s h c.piece) (gives h q c.piece) parts.1 in
-      let given = and_parts (shows h q c.piece) (nat_le (level h c.piece) (reach h q)) rest.1 in
-      and_from (is_open_piece s h c.piece) (shows h q c.piece)
+      let rest = and_parts (wanted s h c.piece) _ parts.1 in
+      and_from (is_open_piece s h c.piece) (offers s h q c.piece)
       (and_from (wanted s h c.piece) _ rest.0 (and_from (begun s h c.piece) _ on
       (any_found (block_count s.torrent c.piece) (λ k. unasked s h (block s.torrent c.piece k)) at.index at.within
       (ap (unasked s h) (sym at.is) ∙ parts.0))))
-      given.0
+      (usable_offered c inside fits)
 
   -- where a usable block of a begun piece tops, one of an open piece of its level that fewest peers show goes on
   pub some_continues : (c : Block) → is_block s.torrent c ≡ true → tops s h q c ≡ true → begun s h c.piece ≡ true
@@ -104,14 +114,15 @@ module _ (s : Setting) (h : History) (q : ℕ) where
       let p = found.number in
       let parts = and_parts (resumes s h q p) (level h p == level h c.piece) found.passes in
       let same = eqb-true (level h p) (level h c.piece) parts.1 in
-      let shown = and_parts (is_open_piece s h p) (shows h q p) parts.0 in
+      let shown = and_parts (is_open_piece s h p) (offers s h q p) parts.0 in
+      let offered = and_parts (shows h q p) (not (is_spent s h q p)) shown.1 in
       let wants = and_parts (wanted s h p) _ shown.0 in
       let under_way = and_parts (begun s h p) (some_block_of s.torrent p (unasked s h)) wants.1 in
-      let one = any_witness (block_count s.torrent p) (λ k. unasked s h (block s.torrent p k)) under_way.1 in
+      let one = left_to_ask s h q p under_way.1 (not-true (is_spent s h q p) offered.1) in
       let d = block s.torrent p one.0 in
       let near : nat_le (level h p) (reach h q) ≡ true = ap (λ (n : ℕ). nat_le n (reach h q)) same ∙ (usable_near c (top_usable s h q c top)) in
-      let fits : usable s h q d ≡ true = and_from (unasked s h d) _ one.2 (and_from (wanted s h p) (gives h q p) wants.0
-      (and_from (shows h q p) (nat_le (level h p) (reach h q)) shown.1 near)) in
+      let fits : usable s h q d ≡ true = and_from (unasked s h d) _ one.2 (and_from (wanted s h p) _ wants.0
+      (and_from (gives h q p) (not (overdue h q d)) (and_from (shows h q p) (nat_le (level h p) (reach h q)) offered.0 near) (ap not one.3))) in
       let none : none_rarer s h (resumes s h q) p ≡ true = rarer_none s h (resumes s h q) p (λ r lr is level_is.
       found.least r lr (and_from (resumes s h q r) _ is (eq-eqb (level h r) (level h c.piece) (level_is ∙ same)))) in
       let before : (is_strict s h || is_rarest s h q p) ≡ true = ⊎_elim
@@ -176,15 +187,14 @@ usable_kind : (s : Setting) (h : History) (q : ℕ) (c : Block) → IsLegal s h 
 usable_kind s h q c legal inside fits =
     let at = block_index s.torrent c inside in
     let parts = and_parts (unasked s h c) _ fits in
-    let rest = and_parts (wanted s h c.piece) (gives h q c.piece) parts.1 in
-    let given = and_parts (shows h q c.piece) (nat_le (level h c.piece) (reach h q)) rest.1 in
+    let rest = and_parts (wanted s h c.piece) _ parts.1 in
     let lacking : had h c.piece ≡ false = false_from_ne_true (had h c.piece) (λ was.
     let whole = ap (held h) at.is ∙ had_full s h c.piece at.index legal was at.within in
     false≢true (sym (or_parts (held h c) _ (not-true (held_or_asked s h c) parts.0)).0 ∙ whole)) in
     ⊎_elim
     (λ (touched : some_block_of s.torrent c.piece (held_or_asked s h) ≡ true). inl (and_from (not (had h c.piece)) _ (ap not lacking) touched))
     (λ (fresh : some_block_of s.torrent c.piece (held_or_asked s h) ≡ false).
-    inr (and_from (wanted s h c.piece) _ rest.0 (and_from (shows h q c.piece) _ given.0
+    inr (and_from (wanted s h c.piece) _ rest.0 (and_from (offers s h q c.piece) _ (usable_offered s h q c inside fits)
     (and_from (not (had h c.piece)) _ (ap not lacking) (ap not fresh)))))
     (cases_Bool (some_block_of s.torrent c.piece (held_or_asked s h)))
 

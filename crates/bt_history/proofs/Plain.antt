@@ -20,12 +20,13 @@ use Rattle.bt_history.specs.Next.{Answer, Exactly, CancelOf, RequestOf, usable, 
 use Rattle.bt_history.specs.Legal.{first_cause, no_peer, no_count, refusal, answer, answer_unless, Permits, IsAllowed, IsLegal}
 use Rattle.bt_history.specs.Before.{continues_before, goes_first_before, is_rarest_before, none_rarer_before, starts_before, next_before}
 use Rattle.bt_history.specs.Before.{is_release, never_releases, is_depth, never_deepens, is_haves, never_adds, is_levelling, never_levels}
-use Rattle.bt_history.specs.Before.{is_reach, never_reaches}
+use Rattle.bt_history.specs.Before.{is_delay, is_reach, never_delays, never_reaches}
 use Rattle.bt_history.specs.Before.{shows_before}
 use Rattle.bt_history.specs.Plain.{plain_due, plain_held_or_asked, plain_begun, plain_unbegun, plain_availability, plain_wanted}
 use Rattle.bt_history.specs.Plain.{plain_endgame, plain_lacks, plain_usable, plain_continues, plain_candidate, plain_rarest, plain_starts}
 use Rattle.bt_history.specs.Plain.{plain_doubles, plain_next, plain_refusal, plain_answer, is_plain, IsAllowedBefore, IsLegalBefore}
 use Rattle.bt_history.proofs.Before.{asked_as_before, doubles_as_before, shows_as_before, late_as_before}
+use Rattle.bt_history.proofs.Delays.{asked_undelayed, candidate_as_undelayed, usable_as_undelayed}
 use Rattle.bt_history.proofs.Depths.{depth_as_before}
 use Rattle.bt_history.proofs.Flat.{answer_as_before, chosen_as_before, flat_bounded}
 use Rattle.bt_history.proofs.NextCases.{next_cases, without_test}
@@ -39,6 +40,7 @@ pub record IsPlain (h : History) : Type 0 where
   pub adds : never_adds h ≡ true
   pub levels : never_levels h ≡ true
   pub reaches : never_reaches h ≡ true
+  pub delays : never_delays h ≡ true
 
 -- the rules have nothing that came with a later number: no bound on askers or on whom endgame asks, begun pieces first, and an endgame that
 -- waits for all that is wanted
@@ -50,22 +52,24 @@ pub record AreOld (s : Setting) : Type 0 where
 
 -- of a plain history the newest call is plain, and so are the older ones
 plain_newest : (e : Event) (h : History) → IsPlain (e ∷ h) → is_plain e.action ≡ true
-unfolding never_releases never_deepens never_adds never_levels never_reaches
+unfolding never_releases never_deepens never_adds never_levels never_reaches never_delays
 plain_newest e h plain =
     and_from (not (is_release e.action)) _ (and_parts _ (never_releases h) plain.releases).0
     (and_from (not (is_depth e.action)) _ (and_parts _ (never_deepens h) plain.depths).0
     (and_from (not (is_haves e.action)) _ (and_parts _ (never_adds h) plain.adds).0
-    (and_from (not (is_levelling e.action)) (not (is_reach e.action)) (and_parts _ (never_levels h) plain.levels).0
-    (and_parts _ (never_reaches h) plain.reaches).0)))
+    (and_from (not (is_levelling e.action)) _ (and_parts _ (never_levels h) plain.levels).0
+    (and_from (not (is_reach e.action)) (not (is_delay e.action)) (and_parts _ (never_reaches h) plain.reaches).0
+    (and_parts _ (never_delays h) plain.delays).0))))
 
 plain_older : (e : Event) (h : History) → IsPlain (e ∷ h) → IsPlain h
-unfolding never_releases never_deepens never_adds never_levels never_reaches
+unfolding never_releases never_deepens never_adds never_levels never_reaches never_delays
 plain_older e h plain = record {
   releases = (and_parts (not (is_release e.action)) (never_releases h) plain.releases).1;
   depths = (and_parts (not (is_depth e.action)) (never_deepens h) plain.depths).1;
   adds = (and_parts (not (is_haves e.action)) (never_adds h) plain.adds).1;
   levels = (and_parts (not (is_levelling e.action)) (never_levels h) plain.levels).1;
   reaches = (and_parts (not (is_reach e.action)) (never_reaches h) plain.reaches).1;
+  delays = (and_parts (not (is_delay e.action)) (never_delays h) plain.delays).1;
 }
 
 due_is_plain : (h : History) (q : ℕ) (b : Block) → never_releases h ≡ true → due h q b ≡ plain_due h q b
@@ -80,7 +84,9 @@ module _ (s : Setting) (h : History) (plain : IsPlain h) where
   -- ---- peers, blocks and pieces
 
   some_asked : (b : Block) → held_or_asked s h b ≡ plain_held_or_asked s h b
-  some_asked b = λ i. held h b || any_below s.workers (λ q. asked_as_before h q b plain.releases i)
+  some_asked b =
+      (λ i. held h b || asked_undelayed h plain.delays s b i)
+      ∙ (λ i. held h b || any_below s.workers (λ q. asked_as_before h q b plain.releases i))
 
   begun_plain : (p : ℕ) → begun s h p ≡ plain_begun s h p
   begun_plain p = λ i. not (had h p) && some_block_of s.torrent p (λ b. some_asked b i)
@@ -111,10 +117,12 @@ module _ (s : Setting) (h : History) (plain : IsPlain h) where
   gives_plain q p = gives_full h q p plain.reaches (flat_bounded h p plain.levels) ∙ shows_as_before h q p plain.adds
 
   usable_plain : (q : ℕ) (b : Block) → usable s h q b ≡ plain_usable s h q b
-  usable_plain q b = λ i. not (some_asked b i) && (wanted_plain b.piece i && gives_plain q b.piece i)
+  usable_plain q b =
+      usable_as_undelayed h plain.delays s q b ∙ (λ i. not (some_asked b i) && (wanted_plain b.piece i && gives_plain q b.piece i))
 
   candidate_plain : (q p : ℕ) → is_candidate s h q p ≡ plain_candidate s h q p
-  candidate_plain q p = λ i. wanted_plain p i && (shows_as_before h q p plain.adds i && unbegun_plain p i)
+  candidate_plain q p =
+      candidate_as_undelayed h plain.delays s q p ∙ (λ i. wanted_plain p i && (shows_as_before h q p plain.adds i && unbegun_plain p i))
 
   rarest_plain : (q p : ℕ) → is_rarest_before s h q p ≡ plain_rarest s h q p
   rarest_plain q p = λ i. all_below (piece_count s.torrent) (λ r.

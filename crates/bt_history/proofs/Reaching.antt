@@ -1,17 +1,17 @@
 -- What holds of the reach of a peer.
-use Rattle.std.proofs.Common.{◌≡◌, ◌⊎◌, ℕ, ◌≤◌, Bool, true, false, not, ◌&&◌, [], ◌∷◌, None, Some, refl, ap, ◌∙◌, ⊎_elim, subst}
+use Rattle.std.proofs.Common.{◌≡◌, ℕ, ◌≤◌, Bool, true, false, not, ◌&&◌, [], ◌∷◌, None, Some, refl, ap, ◌∙◌, ⊎_elim, subst}
 use Rattle.std.specs.Prelude.{if◌then◌else◌, ◌==◌, nat_le, nat_lt}
 use Rattle.std.proofs.lemmas.Bool.{and_parts, le-leb, leb-true, not-true}
 use Rattle.std.proofs.Math.Bool.{and-true}
 use Rattle.bt_meta.specs.declared.block.Block.{Block}
 use Rattle.bt_history.specs.declared.call.Reply.TheVariants.{Request}
 use Rattle.bt_history.specs.declared.event.Action.{Action}
-use Rattle.bt_history.specs.declared.event.Action.TheVariants.{Join, Reach}
+use Rattle.bt_history.specs.declared.event.Action.TheVariants.{Reach}
 use Rattle.bt_history.specs.declared.event.Event.{Event}
 use Rattle.bt_history.specs.declared.rules.TheConstants.{MOST_LEVEL}
 use Rattle.bt_history.specs.Setting.{Setting, some_block}
 use Rattle.bt_history.specs.History.{History, counts, own_call}
-use Rattle.bt_history.specs.Peers.{asked, reach, reach_after, shows}
+use Rattle.bt_history.specs.Peers.{asked, overdue, reach, reach_after, shows}
 use Rattle.bt_history.specs.Pieces.{asker_count, endgame, gives, held, level, unasked, wanted}
 use Rattle.bt_history.specs.Next.{Answer, usable, tops, continues, starts, rises, doubles, rushes}
 use Rattle.bt_history.specs.Before.{doubles_unreached, is_reach, never_reaches, usable_unreached}
@@ -43,7 +43,7 @@ gives_full h q p never most =
 
 module _ (s : Setting) (h : History) (q : ℕ) (b : Block) (never : never_reaches h ≡ true) (most : level h b.piece ≤ MOST_LEVEL) where
   pub usable_full : usable s h q b ≡ usable_unreached s h q b
-  usable_full = ap (λ (x : Bool). unasked s h b && (wanted s h b.piece && x)) (gives_full h q b.piece never most)
+  usable_full = ap (λ (x : Bool). unasked s h b && (wanted s h b.piece && (x && not (overdue h q b)))) (gives_full h q b.piece never most)
 
   pub doubles_full : doubles s h q b ≡ doubles_unreached s h q b
   doubles_full = ap (λ (x : Bool). wanted s h b.piece && (x
@@ -57,7 +57,7 @@ module _ (s : Setting) (h : History) (q : ℕ) (b : Block) where
 
   top_near : tops s h q b ≡ true → level h b.piece ≤ reach h q
   top_near top = given_near
-      (and_parts (wanted s h b.piece) (gives h q b.piece) (and_parts (unasked s h b) _ (top_usable s h q b top)).1).1
+      (and_parts (gives h q b.piece) _ (and_parts (wanted s h b.piece) _ (and_parts (unasked s h b) _ (top_usable s h q b top)).1).1).0
 
 -- no block is asked for beyond the reach
 pub request_reached : (s : Setting) (h : History) (e : Event) (b : Block) → IsAllowed s h e → e.reply ≡ Request b

@@ -8,7 +8,7 @@ use Rattle.bt_history.specs.declared.event.Event.{Event}
 use Rattle.bt_history.specs.declared.rules.TheConstants.{MOST_LEVEL}
 use Rattle.bt_history.specs.Setting.{Setting, deepest_line, is_block}
 use Rattle.bt_history.specs.History.{History}
-use Rattle.bt_history.specs.Peers.{asked, asked_count, depth_so_far, due_count, ListsAsked, reach}
+use Rattle.bt_history.specs.Peers.{asked, asked_count, depth_so_far, due_count, expected, ListsAsked, reach}
 use Rattle.bt_history.specs.Pieces.{asker_count, availability, begun, content, full, had, held, level, open_count, sender, unasked, unbegun}
 use Rattle.bt_history.specs.Pieces.{awaited, comes_in_order}
 use Rattle.bt_history.specs.Next.{is_strict, usable}
@@ -23,11 +23,11 @@ pub record Assures (s : Setting) (h : History) : Type 0 where
   pub spared : (q : ℕ) (b : Block) → IsTrue (held h b) → asked h q b ≡ false
   -- a held block has a sender, and no other block has
   pub sent : (b : Block) → is_some (sender h b) ≡ held h b
-  -- a block that another peer is asked for is requested only where no awaited block is unasked
-  pub second : (e : Event) (b : Block) (q : ℕ) → IsAllowed s h e → e.reply ≡ Request b → IsTrue (asked h q b)
+  -- a block that another peer is asked for, and isn't late with, is requested only where no awaited block is unasked
+  pub second : (e : Event) (b : Block) (q : ℕ) → IsAllowed s h e → e.reply ≡ Request b → IsTrue (expected h q b)
       → (c : Block) → IsTrue (is_block s.torrent c) → IsTrue (awaited s h c.piece) → unasked s h c ≡ false
   -- and only of a peer that is asked for few
-  pub rushed : (e : Event) (b : Block) (q : ℕ) → IsAllowed s h e → e.reply ≡ Request b → IsTrue (asked h q b) → asked_count s h e.worker < s.rush
+  pub rushed : (e : Event) (b : Block) (q : ℕ) → IsAllowed s h e → e.reply ≡ Request b → IsTrue (expected h q b) → asked_count s h e.worker < s.rush
   -- no block is requested while one of a higher level could be
   pub higher : (e : Event) (b : Block) → IsAllowed s h e → e.reply ≡ Request b
       → (c : Block) → IsTrue (is_block s.torrent c) → IsTrue (usable s h e.worker c) → level h c.piece ≤ level h b.piece
@@ -49,7 +49,7 @@ pub record Assures (s : Setting) (h : History) : Type 0 where
   pub few : (q : ℕ) → asked_count s h q + due_count s h q ≤ depth_so_far s h q
   -- and no depth is beyond what the rules let be told
   pub bounded : (q : ℕ) → depth_so_far s h q ≤ deepest_line s
-  -- a block is asked of no more peers than the rules say
+  -- a block is asked of no more peers than the rules say, those aside that are late with it
   pub askers : (b : Block) → 1 ≤ s.askers → asker_count s h b ≤ s.askers
   -- no level is above the highest
   pub levels : (p : ℕ) → level h p ≤ MOST_LEVEL

@@ -7,7 +7,7 @@ use Rattle.bt_history.specs.declared.call.Entry.{Entry}
 use Rattle.bt_history.specs.declared.call.Reply.{Reply}
 use Rattle.bt_history.specs.declared.event.Action.{Action}
 use Rattle.bt_history.specs.declared.event.Action.TheVariants.{Join, Bits, Have, Choke, Unchoke, Next, Arrived, Settle, Leave, Want, Haves, Depth}
-use Rattle.bt_history.specs.declared.event.Action.TheVariants.{Release, Level, Levels, InOrder, Reach, InOrderFrom, Lack}
+use Rattle.bt_history.specs.declared.event.Action.TheVariants.{Release, Level, Levels, InOrder, Reach, InOrderFrom, Lack, Late}
 use Rattle.bt_history.specs.declared.event.Event.{Event}
 use Rattle.bt_history.specs.History.{History}
 
@@ -32,6 +32,7 @@ action_of (calls.InOrder rising) = InOrder rising
 action_of (calls.Reach n) = Reach n
 action_of (calls.InOrderFrom n) = InOrderFrom n
 action_of (calls.Lack p) = Lack p
+action_of (calls.Late p begin) = Late p begin
 
 -- the entry that this worker's call with this reply makes
 abbrev pub event : ℕ → Call → Reply → Event
@@ -40,6 +41,10 @@ event w call reply = record { worker = w; action = action_of call; reply = reply
 -- the block that begins there is given up at w
 abbrev pub giving_up : ℕ → ℕ → ℕ → Reply → Event
 giving_up w p begin reply = record { worker = w; action = Release p begin; reply = reply }
+
+-- w's peer is late with the block that begins there
+abbrev pub delaying : ℕ → ℕ → ℕ → Reply → Event
+delaying w p begin reply = record { worker = w; action = Late p begin; reply = reply }
 
 -- w's peer has piece p no more
 abbrev pub lacking : ℕ → ℕ → Reply → Event

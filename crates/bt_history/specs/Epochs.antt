@@ -3,13 +3,13 @@ use Rattle.std.specs.Prelude.{ℕ, ◌+◌, ◌==◌, Bool, true, false, not, �
 use Rattle.bt_history.specs.declared.call.Reply.{Reply}
 use Rattle.bt_history.specs.declared.call.Reply.TheVariants.{Request, Idle, NothingLeft}
 use Rattle.bt_history.specs.declared.event.Action.{Action}
-use Rattle.bt_history.specs.declared.event.Action.TheVariants.{Join, Choke, Arrived, Settle, Leave, Want, Release, Level, Levels, Lack}
+use Rattle.bt_history.specs.declared.event.Action.TheVariants.{Join, Choke, Arrived, Settle, Leave, Want, Release, Level, Levels, Lack, Late}
 use Rattle.bt_history.specs.declared.event.Event.{Event}
 use Rattle.bt_history.specs.Setting.{Setting}
 use Rattle.bt_history.specs.History.{History, counts, stores}
 use Rattle.bt_history.specs.Legal.{place_at}
-use Rattle.bt_history.specs.Peers.{asked}
-use Rattle.bt_history.specs.Pieces.{asker_count, endgame}
+use Rattle.bt_history.specs.Peers.{expected}
+use Rattle.bt_history.specs.Pieces.{asker_count, endgame, is_late_at_some}
 
 -- the reply asks for a block
 abbrev pub is_request : Reply → Bool
@@ -20,9 +20,11 @@ is_request reply = false
 abbrev pub begins_endgame : Setting → History → Event → Bool
 begins_endgame s h e = is_request e.reply && (not (endgame s h) && endgame s (e ∷ h))
 
--- the block that begins there is asked of w, and of nobody else
+-- the block that begins there is asked of w, which isn't late with it, and of nobody else
 abbrev pub asked_alone : Setting → History → ℕ → ℕ → ℕ → Bool
-asked_alone s h w p begin = asked h w (place_at p begin) && (asker_count s h (place_at p begin) == 1)
+asked_alone s h w p begin =
+    expected h w (place_at p begin)
+    && ((asker_count s h (place_at p begin) == 1) && not (is_late_at_some s h (place_at p begin)))
 
 -- the call frees blocks, changes what is wanted, or settles a piece
 abbrev pub unsettles : Action → Bool
@@ -35,6 +37,7 @@ unsettles (Level p n) = true
 unsettles (Levels levels) = true
 unsettles (Settle p bytes) = true
 unsettles (Lack p) = true
+unsettles (Late p begin) = true
 unsettles call = false
 
 -- the call stores a block that its own peer wasn't asked for, or not alone

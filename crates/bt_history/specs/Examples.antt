@@ -9,7 +9,7 @@ use Rattle.bt_history.specs.declared.call.Reply.TheVariants.{Joined, Noted, Quie
 use Rattle.bt_history.specs.declared.call.Reply.TheVariants.{Completed, Dropped, Had, Failed, Refused}
 use Rattle.bt_history.specs.declared.event.Action.{Action}
 use Rattle.bt_history.specs.declared.event.Action.TheVariants.{Join, Bits, Have, Choke, Unchoke, Next, Arrived, Settle, Leave, Want, Haves, Depth}
-use Rattle.bt_history.specs.declared.event.Action.TheVariants.{Release, Level, Levels, InOrder, Reach, InOrderFrom, Lack}
+use Rattle.bt_history.specs.declared.event.Action.TheVariants.{Release, Level, Levels, InOrder, Reach, InOrderFrom, Lack, Late}
 use Rattle.bt_history.specs.declared.event.Event.{Event}
 use Rattle.bt_history.specs.declared.rules.Rules.{Rules}
 use Rattle.bt_history.specs.Setting.{Setting, setting_of, usual_rules}
@@ -549,6 +549,84 @@ released_arrives_after_all = example (setting_of torrent_two_blocks 1 usual_rule
     ∷ entry 0 (Arrived 0 0 (replicate 16384 97)) Stored
     ∷ entry 0 (Next 0) (Request (block_of 0 16384 16384)) ∷ []))
     ((5, entry 0 (Arrived 0 0 (replicate 16384 97)) Dropped) ∷ [])
+
+-- 9: idle though the other peer is late
+-- 10: late block asked again of its own peer
+-- 10: idle though late with another piece
+-- 12: no cancel since it was late
+abbrev late_is_asked_elsewhere : Example
+late_is_asked_elsewhere = example (setting_of torrent_two_pieces 2 usual_rules)
+    (enters 0 (true ∷ true ∷ [])
+    (enters 1 (true ∷ false ∷ [])
+    (entry 0 (Next 0) (Request (block_of 0 0 3))
+    ∷ entry 1 (Next 0) Idle
+    ∷ entry 0 (Late 0 0) Quiet
+    ∷ entry 1 (Next 0) (Request (block_of 0 0 3))
+    ∷ entry 0 (Next 0) (Request (block_of 1 0 3))
+    ∷ entry 1 (Arrived 0 0 (97 ∷ 98 ∷ 99 ∷ [])) Completed
+    ∷ entry 0 (Next 0) (Cancel (block_of 0 0 3)) ∷ [])))
+    ((9, entry 1 (Next 0) Idle)
+    ∷ (10, entry 0 (Next 0) (Request (block_of 0 0 3)))
+    ∷ (10, entry 0 (Next 0) Idle)
+    ∷ (12, entry 0 (Next 0) Idle) ∷ [])
+
+-- 9: second peer asked though a late block waits
+-- 9: nothing left though it is late
+-- 14: idle though the late block was given on
+abbrev late_holds_up_endgame : Example
+late_holds_up_endgame = example (setting_of torrent_two_pieces 3 usual_rules)
+    (enters 0 (true ∷ true ∷ [])
+    (enters 1 (false ∷ true ∷ [])
+    (entry 0 (Next 0) (Request (block_of 0 0 3))
+    ∷ entry 1 (Next 1) (Request (block_of 1 0 3))
+    ∷ entry 0 (Late 0 0) Quiet
+    ∷ entry 0 (Next 0) Idle
+    ∷ enters 2 (true ∷ false ∷ [])
+    (entry 2 (Next 0) (Request (block_of 0 0 3))
+    ∷ entry 0 (Next 0) (Request (block_of 1 0 3)) ∷ []))))
+    ((9, entry 0 (Next 0) (Request (block_of 1 0 3)))
+    ∷ (9, entry 0 (Next 0) NothingLeft)
+    ∷ (14, entry 0 (Next 0) Idle) ∷ [])
+
+-- 12: late peer counted as an asker
+-- 13: late twice refused
+-- 14: late twice counted twice
+abbrev late_in_spite_of_one_asker : Example
+late_in_spite_of_one_asker = example (setting_of torrent_one_piece 3 (bounded_rules 5 1 1 64))
+    (enters 0 (true ∷ [])
+    (enters 1 (true ∷ [])
+    (enters 2 (true ∷ [])
+    (entry 0 (Next 0) (Request (block_of 0 0 3))
+    ∷ entry 1 (Next 0) Idle
+    ∷ entry 0 (Late 0 0) Quiet
+    ∷ entry 1 (Next 0) (Request (block_of 0 0 3))
+    ∷ entry 0 (Late 0 0) Quiet
+    ∷ entry 2 (Next 0) Idle
+    ∷ entry 1 (Late 0 0) Quiet
+    ∷ entry 2 (Next 0) (Request (block_of 0 0 3)) ∷ []))))
+    ((12, entry 1 (Next 0) Idle)
+    ∷ (13, entry 0 (Late 0 0) (Refused NotAsked))
+    ∷ (14, entry 2 (Next 0) (Request (block_of 0 0 3))) ∷ [])
+
+-- 11: late though the block came
+-- 16: late though the peer choked us
+abbrev late_no_more : Example
+late_no_more = example (setting_of torrent_two_pieces 2 usual_rules)
+    (enters 0 (true ∷ true ∷ [])
+    (enters 1 (true ∷ false ∷ [])
+    (entry 0 (Next 0) (Request (block_of 0 0 3))
+    ∷ entry 0 (Late 0 0) Quiet
+    ∷ entry 0 (Arrived 0 0 (97 ∷ 98 ∷ 100 ∷ [])) Completed
+    ∷ entry 0 (Settle 0 (97 ∷ 98 ∷ 100 ∷ [])) Failed
+    ∷ entry 0 (Next 0) (Request (block_of 0 0 3))
+    ∷ entry 1 (Next 0) Idle
+    ∷ entry 0 (Late 0 0) Quiet
+    ∷ entry 0 Choke Quiet
+    ∷ entry 0 Unchoke Quiet
+    ∷ entry 0 (Next 0) (Request (block_of 0 0 3))
+    ∷ entry 1 (Next 0) Idle ∷ [])))
+    ((11, entry 1 (Next 0) (Request (block_of 0 0 3)))
+    ∷ (16, entry 1 (Next 0) (Request (block_of 0 0 3))) ∷ [])
 
 -- 5: second request at a depth of one
 abbrev depth_of_one : Example
@@ -1432,6 +1510,130 @@ refusals_of_lack = example (setting_of torrent_short_last 2 usual_rules)
     ∷ (5, entry 0 (Lack 2) (Refused NoSuchPiece))
     ∷ (8, entry 1 (Bits (true ∷ true ∷ true ∷ [])) (Noted true)) ∷ [])
 
+-- 10: cancel of what its own peer brought late
+-- 11: no cancel since the late peer brought it
+abbrev late_comes_after_all : Example
+late_comes_after_all = example (setting_of torrent_one_piece 2 usual_rules)
+    (enters 0 (true ∷ [])
+    (enters 1 (true ∷ [])
+    (entry 0 (Next 0) (Request (block_of 0 0 3))
+    ∷ entry 0 (Late 0 0) Quiet
+    ∷ entry 1 (Next 0) (Request (block_of 0 0 3))
+    ∷ entry 0 (Arrived 0 0 (97 ∷ 98 ∷ 99 ∷ [])) Completed
+    ∷ entry 0 (Next 0) Idle
+    ∷ entry 1 (Next 0) (Cancel (block_of 0 0 3)) ∷ [])))
+    ((10, entry 0 (Next 0) (Cancel (block_of 0 0 3)))
+    ∷ (11, entry 1 (Next 0) Idle) ∷ [])
+
+-- 5: late block asked again of a lone peer
+-- 6: idle at a lone peer with a spent piece
+-- 6: spent piece continued
+-- 9: late block dropped
+abbrev late_at_a_lone_peer : Example
+late_at_a_lone_peer = example (setting_of torrent_two_blocks 1 usual_rules)
+    (enters 0 (true ∷ true ∷ [])
+    (entry 0 (Next 0) (Request (block_of 0 0 16384))
+    ∷ entry 0 (Late 0 0) Quiet
+    ∷ entry 0 (Next 0) (Request (block_of 0 16384 16384))
+    ∷ entry 0 (Next 1) (Request (block_of 1 0 16384))
+    ∷ entry 0 (Next 0) (Request (block_of 1 16384 16384))
+    ∷ entry 0 (Next 0) Idle
+    ∷ entry 0 (Arrived 0 0 (replicate 16384 97)) Stored ∷ []))
+    ((5, entry 0 (Next 0) (Request (block_of 0 0 16384)))
+    ∷ (6, entry 0 (Next 1) Idle)
+    ∷ (6, entry 0 (Next 1) (Request (block_of 0 0 16384)))
+    ∷ (9, entry 0 (Arrived 0 0 (replicate 16384 97)) Dropped) ∷ [])
+
+-- 8: late requests left out of the pipe
+-- 10: released though still in the pipe
+abbrev late_stays_in_the_pipe : Example
+late_stays_in_the_pipe = example (setting_of torrent_two_blocks 1 (rules 2 1))
+    (enters 0 (true ∷ true ∷ [])
+    (entry 0 (Next 0) (Request (block_of 0 0 16384))
+    ∷ entry 0 (Next 0) (Request (block_of 0 16384 16384))
+    ∷ entry 0 (Next 0) PipeFull
+    ∷ entry 0 (Late 0 0) Quiet
+    ∷ entry 0 (Late 0 16384) Quiet
+    ∷ entry 0 (Next 0) PipeFull
+    ∷ entry 0 (Release 0 0) Quiet
+    ∷ entry 0 (Next 0) (Request (block_of 0 0 16384)) ∷ []))
+    ((8, entry 0 (Next 0) (Request (block_of 1 0 16384)))
+    ∷ (10, entry 0 (Next 0) PipeFull) ∷ [])
+
+-- 5: late block asked again before its release
+-- 7: idle though late was released
+abbrev released_once_late : Example
+released_once_late = example (setting_of torrent_one_piece 1 usual_rules)
+    (enters 0 (true ∷ [])
+    (entry 0 (Next 0) (Request (block_of 0 0 3))
+    ∷ entry 0 (Late 0 0) Quiet
+    ∷ entry 0 (Next 0) Idle
+    ∷ entry 0 (Release 0 0) Quiet
+    ∷ entry 0 (Next 0) (Request (block_of 0 0 3)) ∷ []))
+    ((5, entry 0 (Next 0) (Request (block_of 0 0 3)))
+    ∷ (7, entry 0 (Next 0) Idle) ∷ [])
+
+-- 8: idle since the rarest piece is spent
+-- 8: spent piece begun again
+-- 12: piece spent for another peer too
+abbrev spent_piece_is_passed_by : Example
+spent_piece_is_passed_by = example (setting_of torrent_short_last 3 (rules 5 0))
+    (enters 0 (true ∷ true ∷ true ∷ [])
+    (enters 1 (false ∷ true ∷ true ∷ [])
+    (entry 0 (Next 0) (Request (block_of 0 0 3))
+    ∷ entry 0 (Late 0 0) Quiet
+    ∷ entry 0 (Next 1) (Request (block_of 1 0 3))
+    ∷ enters 2 (true ∷ false ∷ true ∷ [])
+    (entry 2 (Next 2) (Request (block_of 0 0 3)) ∷ []))))
+    ((8, entry 0 (Next 1) Idle)
+    ∷ (8, entry 0 (Next 1) (Request (block_of 0 0 3)))
+    ∷ (12, entry 2 (Next 2) (Request (block_of 2 0 1))) ∷ [])
+
+-- 8: piece with a late block left
+-- 10: another piece begun for a spent one
+abbrev spent_open_piece_is_passed_by : Example
+spent_open_piece_is_passed_by = example (setting_of torrent_four_pairs 2 (open_rules 5 0 1024 64 1))
+    (enters 0 (true ∷ true ∷ true ∷ true ∷ [])
+    (enters 1 (false ∷ true ∷ true ∷ true ∷ [])
+    (entry 0 (Next 0) (Request (block_of 0 0 16384))
+    ∷ entry 0 (Late 0 0) Quiet
+    ∷ entry 0 (Next 0) (Request (block_of 0 16384 16384))
+    ∷ entry 0 (Next 2) (Request (block_of 2 0 16384))
+    ∷ entry 0 (Next 3) (Request (block_of 2 16384 16384)) ∷ [])))
+    ((8, entry 0 (Next 0) (Request (block_of 1 0 16384)))
+    ∷ (10, entry 0 (Next 3) (Request (block_of 3 0 16384))) ∷ [])
+
+-- 0: late of a stranger taken
+-- 2: late of an unasked block taken
+-- 3: bitfield late by a refused late
+-- 6: late at another place taken
+-- 7: late of no piece told as such
+-- 11: late of another peers block taken
+-- 15: late of a released block taken
+abbrev refusals_of_late : Example
+refusals_of_late = example (setting_of torrent_short_last 2 usual_rules)
+    (entry 0 (Late 0 0) (Refused NotJoined)
+    ∷ entry 0 Join Joined
+    ∷ entry 0 (Late 0 0) (Refused NotAsked)
+    ∷ entry 0 (Bits (true ∷ true ∷ true ∷ [])) (Noted true)
+    ∷ entry 0 Unchoke Quiet
+    ∷ entry 0 (Next 0) (Request (block_of 0 0 3))
+    ∷ entry 0 (Late 0 1) (Refused NotAsked)
+    ∷ entry 0 (Late 9 0) (Refused NotAsked)
+    ∷ enters 1 (true ∷ false ∷ false ∷ [])
+    (entry 1 (Late 0 0) (Refused NotAsked)
+    ∷ entry 0 (Late 0 0) Quiet
+    ∷ entry 0 (Late 0 0) Quiet
+    ∷ entry 0 (Release 0 0) Quiet
+    ∷ entry 0 (Late 0 0) (Refused NotAsked) ∷ []))
+    ((0, entry 0 (Late 0 0) Quiet)
+    ∷ (2, entry 0 (Late 0 0) Quiet)
+    ∷ (3, entry 0 (Bits (true ∷ true ∷ true ∷ [])) (Refused LateBits))
+    ∷ (6, entry 0 (Late 0 1) Quiet)
+    ∷ (7, entry 0 (Late 9 0) (Refused NoSuchPiece))
+    ∷ (11, entry 1 (Late 0 0) Quiet)
+    ∷ (15, entry 0 (Late 0 0) Quiet) ∷ [])
+
 abbrev pub first_examples : List Example
 first_examples =
     first_request
@@ -1464,11 +1666,19 @@ first_examples =
     ∷ endgame_of_the_wanted
     ∷ want_before_the_bits
     ∷ asked_stays_asked
-    ∷ released_is_asked_elsewhere
+    ∷ []
+
+abbrev pub second_examples : List Example
+second_examples =
+    released_is_asked_elsewhere
     ∷ released_in_endgame
     ∷ released_piece_is_unbegun
     ∷ released_is_asked_again
     ∷ released_arrives_after_all
+    ∷ late_is_asked_elsewhere
+    ∷ late_holds_up_endgame
+    ∷ late_in_spite_of_one_asker
+    ∷ late_no_more
     ∷ depth_of_one
     ∷ deepened
     ∷ depth_outlasts_a_choke
@@ -1485,12 +1695,12 @@ first_examples =
     ∷ haves_are_counted
     ∷ two_levels
     ∷ raised_in_mid_download
+    ∷ streaming
     ∷ []
 
-abbrev pub later_examples : List Example
-later_examples =
-    streaming
-    ∷ earlier_piece_in_order
+abbrev pub third_examples : List Example
+third_examples =
+    earlier_piece_in_order
     ∷ in_order_told_off
     ∷ peer_of_low_levels
     ∷ unwanted_by_level
@@ -1516,7 +1726,11 @@ later_examples =
     ∷ none_of_the_open_is_shown
     ∷ in_order_however_many_are_open
     ∷ endgame_at_few
-    ∷ endgame_at_none
+    ∷ []
+
+abbrev pub fourth_examples : List Example
+fourth_examples =
+    endgame_at_none
     ∷ unshown_piece_holds_up_endgame
     ∷ endgame_over_what_is_shown
     ∷ shown_piece_holds_up_endgame
@@ -1533,7 +1747,14 @@ later_examples =
     ∷ cancel_outlasts_a_lack
     ∷ lack_begins_endgame
     ∷ refusals_of_lack
+    ∷ late_comes_after_all
+    ∷ late_at_a_lone_peer
+    ∷ late_stays_in_the_pipe
+    ∷ released_once_late
+    ∷ spent_piece_is_passed_by
+    ∷ spent_open_piece_is_passed_by
+    ∷ refusals_of_late
     ∷ []
 
 abbrev pub examples : List Example
-examples = first_examples ++ later_examples
+examples = first_examples ++ (second_examples ++ (third_examples ++ fourth_examples))

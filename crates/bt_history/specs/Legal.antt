@@ -13,7 +13,7 @@ use Rattle.bt_history.specs.declared.call.Reply.{Reply}
 use Rattle.bt_history.specs.declared.call.Reply.TheVariants.{Joined, Noted, Quiet, Cancel, Request, Stored, Completed, Dropped, Had, Failed, Refused}
 use Rattle.bt_history.specs.declared.event.Action.{Action}
 use Rattle.bt_history.specs.declared.event.Action.TheVariants.{Join, Bits, Have, Next, Arrived, Settle, Want, Haves, Depth, Release, Level, Levels}
-use Rattle.bt_history.specs.declared.event.Action.TheVariants.{InOrder, Reach, InOrderFrom, Lack}
+use Rattle.bt_history.specs.declared.event.Action.TheVariants.{InOrder, Reach, InOrderFrom, Lack, Late}
 use Rattle.bt_history.specs.declared.rules.TheConstants.{MOST_LEVEL}
 use Rattle.bt_history.specs.declared.event.Event.{Event}
 use Rattle.bt_history.specs.Setting.{Setting, deepest_told, some_block_of, each_block_of, is_block}
@@ -88,6 +88,7 @@ causes s h w (Want flags) = no_count s flags ∷ []
 causes s h w (Haves flags) = no_peer h w ∷ no_count s flags ∷ []
 causes s h w (Depth n) = no_peer h w ∷ (nat_lt n 1 || nat_lt (deepest_told s) n, WrongDepth) ∷ []
 causes s h w (Release p begin) = no_peer h w ∷ (not (asked h w (place_at p begin)), NotAsked) ∷ []
+causes s h w (Late p begin) = no_peer h w ∷ (not (asked h w (place_at p begin)), NotAsked) ∷ []
 causes s h w (Level p n) = no_piece s p ∷ no_level n ∷ []
 causes s h w (Levels levels) = no_count s levels ∷ no_levels levels ∷ []
 causes s h w (InOrder rising) = []

@@ -4,7 +4,7 @@ use Rattle.std.specs.Prelude.{Option, None, Some, is_some, is_none, slice_index_
 use Rattle.std.specs.List.{filter, list_any}
 use Rattle.bt_meta.specs.declared.block.Block.{Block}
 use Rattle.bt_history.specs.declared.event.Action.{Action}
-use Rattle.bt_history.specs.declared.event.Action.TheVariants.{Join, Bits, Have, Choke, Unchoke, Arrived, Leave, Haves, Depth, Release, Reach, Lack}
+use Rattle.bt_history.specs.declared.event.Action.TheVariants.{Join, Bits, Have, Choke, Unchoke, Arrived, Leave, Haves, Depth, Release, Reach, Lack, Late}
 use Rattle.bt_history.specs.declared.event.Event.{Event}
 use Rattle.bt_history.specs.declared.rules.TheConstants.{MOST_LEVEL}
 use Rattle.bt_history.specs.History.{History, own_call, same_begin, stored, requested, cancelled}
@@ -96,6 +96,21 @@ unfoldable pub asked : History → ℕ → Block → Bool
 asked [] q b = false
 asked (e ∷ h) q b =
     not (resets (own_call q e)) && ((lasts q e b && asked h q b) || asks q e b)
+
+-- the call tells that its own peer is late with block b
+abbrev pub delays : Option Action → Block → Bool
+delays (Some (Late piece begin)) b = (piece == b.piece) && (begin == b.begin)
+delays call b = false
+
+-- q is late with block b: it was told to be while the block was asked of it, and the block is asked of it since
+unfoldable pub overdue : History → ℕ → Block → Bool
+overdue [] q b = false
+overdue (e ∷ h) q b =
+    not (resets (own_call q e)) && (lasts q e b && ((delays (own_call q e) b && asked h q b) || overdue h q b))
+
+-- block b is expected from q: asked of it, and it isn't late with it
+abbrev pub expected : History → ℕ → Block → Bool
+expected h q b = asked h q b && not (overdue h q b)
 
 -- how many blocks are asked of q
 abbrev pub asked_count : Setting → History → ℕ → ℕ

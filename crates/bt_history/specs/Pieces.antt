@@ -9,7 +9,7 @@ use Rattle.bt_history.specs.declared.rules.TheConstants.{MOST_LEVEL, USUAL_LEVEL
 use Rattle.bt_history.specs.Counting.{any_below, count_below}
 use Rattle.bt_history.specs.Setting.{Setting, some_block_of, each_block_of, some_block, each_block}
 use Rattle.bt_history.specs.History.{History, counted_call, stored, failed, passed}
-use Rattle.bt_history.specs.Peers.{flag, joined, shows, asked, reach}
+use Rattle.bt_history.specs.Peers.{flag, joined, shows, expected, overdue, reach}
 
 -- the bytes of block b, if it is held: stored, and its piece has not failed a check since
 unfoldable pub kept : History → Block → Option (List ℕ)
@@ -49,19 +49,23 @@ unfoldable pub had : History → ℕ → Bool
 had [] p = false
 had (e ∷ h) p = passed e p || had h p
 
--- block b is asked of some peer
+-- block b is asked of some peer that isn't late with it
 abbrev pub asked_of_some : Setting → History → Block → Bool
-asked_of_some s h b = any_below s.workers (λ q. asked h q b)
+asked_of_some s h b = any_below s.workers (λ q. expected h q b)
 
--- of how many peers block b is asked
+-- of how many peers block b is asked that aren't late with it
 abbrev pub asker_count : Setting → History → Block → ℕ
-asker_count s h b = count_below s.workers (λ q. asked h q b)
+asker_count s h b = count_below s.workers (λ q. expected h q b)
 
--- block b is held, or asked of some peer
+-- some peer is late with block b
+abbrev pub is_late_at_some : Setting → History → Block → Bool
+is_late_at_some s h b = any_below s.workers (λ q. overdue h q b)
+
+-- block b is held, or asked of some peer that isn't late with it
 abbrev pub held_or_asked : Setting → History → Block → Bool
 held_or_asked s h b = held h b || asked_of_some s h b
 
--- block b is lacking, and no peer is asked for it
+-- block b is lacking, and no peer is asked for it but such as are late with it
 abbrev pub unasked : Setting → History → Block → Bool
 unasked s h b = not (held_or_asked s h b)
 
@@ -131,6 +135,15 @@ comes_in_order h p = nat_le (order_from h) (level h p)
 -- q may be asked for blocks of piece p: it shows the piece, and the level of that isn't beyond its reach
 abbrev pub gives : History → ℕ → ℕ → Bool
 gives h q p = shows h q p && nat_le (level h p) (reach h q)
+
+-- q is late with a block of piece p, and no other one is left to ask of it
+abbrev pub is_spent : Setting → History → ℕ → ℕ → Bool
+is_spent s h q p =
+    some_block_of s.torrent p (overdue h q) && each_block_of s.torrent p (λ b. held_or_asked s h b || overdue h q b)
+
+-- q shows piece p, and isn't late with all that is left to ask of it
+abbrev pub offers : Setting → History → ℕ → ℕ → Bool
+offers s h q p = shows h q p && not (is_spent s h q p)
 
 -- endgame waits for piece p: it is wanted and, where the rules say so, a joined peer shows it
 abbrev pub awaited : Setting → History → ℕ → Bool

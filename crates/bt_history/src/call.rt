@@ -12,7 +12,7 @@ use bytes::Bytes;
 use std::sync::Arc;
 
 /// What a peer's worker tells the picker of its peer, or asks of it. All but `Next`, `Settle`, `Want`, `Depth`, `Release`, `Level`, `Levels`,
-/// `InOrder`, `Reach` and `InOrderFrom` tell what came on the wire (BEP 3, BEP 6, BEP 54).
+/// `InOrder`, `Reach`, `InOrderFrom` and `Late` tell what came on the wire (BEP 3, BEP 6, BEP 54).
 #[derive(Drop)]
 pub enum Call {
     /// The handshakes were exchanged.
@@ -46,8 +46,8 @@ pub enum Call {
     /// From now on so many blocks may be asked of this peer at a time, until another number is told or the worker's next peer joins. What
     /// is asked stays asked: where more is asked than the new number, nothing is asked until enough came.
     Depth(u32),
-    /// The block that begins there, `begin` bytes into the piece, is asked of the peer no more: the peer rejected it (BEP 6), it took too
-    /// long, or the request was not sent. Of other peers it stays asked, no cancel comes due, and any peer may be asked for it again.
+    /// The block that begins there, `begin` bytes into the piece, is asked of the peer no more: the peer rejected it (BEP 6), or the request
+    /// was not sent. Of other peers it stays asked, no cancel comes due, and any peer may be asked for it again.
     Release {
         piece: u32,
         begin: u32,
@@ -71,6 +71,12 @@ pub enum Call {
     /// An `lt_donthave` message (BEP 54): the peer has this piece no more. Blocks of it that were asked of the peer are asked of it no
     /// more, no cancel comes due, and any peer may be asked for them again.
     Lack(u32),
+    /// The request of the block that begins there takes too long. The block stays asked of the peer: it counts for the depth, and a cancel
+    /// comes due if another peer brings it. For all other peers it is as if it were released. Its own isn't asked for it again.
+    Late {
+        piece: u32,
+        begin: u32,
+    },
 }
 
 /// Why a call was refused.
@@ -191,6 +197,10 @@ impl Call {
             Call::Reach(level) => CallMark::Reach(*level),
             Call::InOrderFrom(level) => CallMark::InOrderFrom(*level),
             Call::Lack(piece) => CallMark::Lack(*piece),
+            Call::Late { piece, begin } => CallMark::Late {
+                piece: *piece,
+                begin: *begin,
+            },
         }
     }
 }

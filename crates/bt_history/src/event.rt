@@ -37,6 +37,10 @@ pub enum Action {
     Reach(u8),
     InOrderFrom(u8),
     Lack(u32),
+    Late {
+        piece: u32,
+        begin: u32,
+    },
 }
 
 /// An entry by its plain values.

@@ -8,17 +8,19 @@ ghost use Rattle.bt_meta.specs.Layout.{hash_of};
 ghost use Rattle.bt_history.specs.declared.call.Reply.{Reply};
 ghost use Rattle.bt_history.specs.declared.rules.TheConstants.{MOST_LEVEL};
 ghost use Rattle.bt_history.specs.Setting.{deepest_line, is_block, setting_of};
-ghost use Rattle.bt_history.specs.Entries.{event_of, giving_up, history_of, lacking};
+ghost use Rattle.bt_history.specs.Entries.{delaying, event_of, giving_up, history_of, lacking};
 ghost use Rattle.bt_history.specs.Before.{asked_before, chosen_before, doubles_before, late_before, next_before, outstanding_before, shows_before};
 ghost use Rattle.bt_history.specs.Before.{never_adds, never_deepens, never_levels, never_releases, next_strict, next_unrushed, endgame_of_all};
 ghost use Rattle.bt_history.specs.Before.{doubles_unreached, in_order_before, never_reaches, never_windows, next_unwindowed, usable_unreached};
+ghost use Rattle.bt_history.specs.Before.{any_asker_count, asked_alone_undelayed, asked_of_any, is_candidate_undelayed, never_delays};
+ghost use Rattle.bt_history.specs.Before.{resumes_undelayed, usable_undelayed};
 ghost use Rattle.bt_history.specs.History.{same_begin};
-ghost use Rattle.bt_history.specs.Epochs.{epoch, is_idle, pass_by};
-ghost use Rattle.bt_history.specs.Next.{Exactly, doubles, is_strict, next_answer, usable};
+ghost use Rattle.bt_history.specs.Epochs.{asked_alone, epoch, is_idle, pass_by};
+ghost use Rattle.bt_history.specs.Next.{Exactly, doubles, is_candidate, is_strict, next_answer, resumes, usable};
 ghost use Rattle.bt_history.specs.Peers.{asked, asked_count, depth_of, depth_so_far, due, due_count, late, ListsAsked, outstanding, shows};
-ghost use Rattle.bt_history.specs.Peers.{dues, is_open, joined, reach, told_depth};
+ghost use Rattle.bt_history.specs.Peers.{dues, expected, is_open, joined, overdue, reach, told_depth};
 ghost use Rattle.bt_history.specs.Pieces.{asker_count, held, full, content, had, endgame, unasked, awaited, wanted, was_endgame, sender, chosen};
-ghost use Rattle.bt_history.specs.Pieces.{availability, begun, comes_in_order, kept, level, open_count, order_from, unbegun};
+ghost use Rattle.bt_history.specs.Pieces.{asked_of_some, availability, begun, comes_in_order, kept, level, open_count, order_from, unbegun};
 ghost use Rattle.bt_history.specs.Legal.{IsLegal, place_at};
 ghost use Rattle.bt_history.specs.PickRules.{IsBy, rule_of};
 ghost use Rattle.bt_history.specs.Plain.{IsLegalBefore};
@@ -83,7 +85,7 @@ pub fn had_is_full_and_hashed(
         ≡ hash_of torrent.now.layout piece }
 {}
 
-/// A block that is asked of two peers tells that there was an endgame before.
+/// A block that is asked of two peers, neither of which is late with it, tells that there was an endgame before.
 pub fn doubles_come_of_endgame(
     torrent: &Torrent,
     workers: u32,
@@ -95,14 +97,14 @@ pub fn doubles_come_of_endgame(
 )
     requires legal { IsLegal (setting_of torrent.now.layout workers rules) (history_of journal.now) }
     requires apart { worker ≢ other }
-    requires asked { IsTrue (asked (history_of journal.now) worker block) }
-    requires too { IsTrue (asked (history_of journal.now) other block) }
+    requires expected { IsTrue (expected (history_of journal.now) worker block) }
+    requires too { IsTrue (expected (history_of journal.now) other block) }
     ensures { IsTrue (was_endgame (setting_of torrent.now.layout workers rules) (history_of journal.now)) }
 {}
 
-/// No block is asked of a second peer while an awaited one is unasked: a request of a block that is asked of another peer already comes in
-/// endgame alone, where each awaited block is held or asked of somebody. Each wanted block is awaited, or by the rules each that a joined peer
-/// shows.
+/// No block is asked of a second peer while an awaited one is unasked, unless each peer that is asked for it is late with it. A request of a
+/// block that another peer is asked for and isn't late with comes in endgame alone, where each awaited block is held or asked of somebody. Each
+/// wanted block is awaited, or by the rules each that a joined peer shows.
 pub fn second_peers_wait_for_endgame(
     torrent: &Torrent,
     workers: u32,
@@ -114,14 +116,14 @@ pub fn second_peers_wait_for_endgame(
 )
     requires legal { IsLegal (setting_of torrent.now.layout workers rules) (event_of entry.now ∷ history_of older.now) }
     requires request { entry.now.reply ≡ Reply.Request block }
-    requires asked { IsTrue (asked (history_of older.now) other block) }
+    requires expected { IsTrue (expected (history_of older.now) other block) }
     ensures endgame { IsTrue (endgame (setting_of torrent.now.layout workers rules) (history_of older.now)) }
     ensures none { (lacking : Block) → IsTrue (is_block torrent.now.layout lacking)
         → IsTrue (awaited (setting_of torrent.now.layout workers rules) (history_of older.now) lacking.piece)
         → unasked (setting_of torrent.now.layout workers rules) (history_of older.now) lacking ≡ false }
 {}
 
-/// A block that is asked of another peer already is requested only of a peer that is asked for fewer blocks than the rules say.
+/// A block that another peer is asked for and isn't late with is requested only of a peer that is asked for fewer blocks than the rules say.
 pub fn second_peers_have_few(
     torrent: &Torrent,
     workers: u32,
@@ -133,7 +135,7 @@ pub fn second_peers_have_few(
 )
     requires legal { IsLegal (setting_of torrent.now.layout workers rules) (event_of entry.now ∷ history_of older.now) }
     requires request { entry.now.reply ≡ Reply.Request block }
-    requires asked { IsTrue (asked (history_of older.now) other block) }
+    requires expected { IsTrue (expected (history_of older.now) other block) }
     ensures { asked_count (setting_of torrent.now.layout workers rules) (history_of older.now) entry.now.worker < rules.rush }
 {}
 
@@ -163,7 +165,7 @@ pub fn shown_endgame_is_as_before(torrent: &Torrent, workers: u32, rules: Rules,
         ≡ endgame_of_all (setting_of torrent.now.layout workers rules) (history_of journal.now) }
 {}
 
-/// A block is asked of no more peers than the rules say.
+/// A block is asked of no more peers than the rules say, those aside that are late with it.
 pub fn askers_are_few(
     torrent: &Torrent,
     workers: u32,
@@ -524,6 +526,82 @@ pub fn flat_is_as_before(
         ≡ next_before (setting_of torrent.now.layout workers rules) (history_of journal.now) worker }
 {}
 
+/// A peer that is told to be late with a block it was asked for keeps the request. The block stays asked of it, in its place in the line, and
+/// counts for its depth; its cancel comes due as ever. It isn't expected of the peer any more. All else is as it was: what else is expected,
+/// which cancels are due, the bytes that are held and who sent them, what each peer shows, its depth and its reach, which pieces are complete,
+/// their levels and their order.
+pub fn late_keeps_the_request(
+    journal: &[Entry],
+    worker: u32,
+    piece: u32,
+    begin: u32,
+    other: u32,
+    block: Block,
+)
+    ensures overdue { overdue (delaying worker piece begin Reply.Quiet ∷ history_of journal.now) other block
+        ≡ (((worker == other) && (same_begin (place_at piece begin) block && asked (history_of journal.now) other block))
+        || overdue (history_of journal.now) other block) }
+    ensures asked { asked (delaying worker piece begin Reply.Quiet ∷ history_of journal.now) other block ≡ asked (history_of journal.now) other block }
+    ensures due { due (delaying worker piece begin Reply.Quiet ∷ history_of journal.now) other block ≡ due (history_of journal.now) other block }
+    ensures held { held (delaying worker piece begin Reply.Quiet ∷ history_of journal.now) block ≡ held (history_of journal.now) block }
+    ensures line { outstanding (delaying worker piece begin Reply.Quiet ∷ history_of journal.now) other ≡ outstanding (history_of journal.now) other }
+    ensures cancels { dues (delaying worker piece begin Reply.Quiet ∷ history_of journal.now) other ≡ dues (history_of journal.now) other }
+    ensures bytes { kept (delaying worker piece begin Reply.Quiet ∷ history_of journal.now) block ≡ kept (history_of journal.now) block }
+    ensures sender { sender (delaying worker piece begin Reply.Quiet ∷ history_of journal.now) block ≡ sender (history_of journal.now) block }
+    ensures depth { told_depth (delaying worker piece begin Reply.Quiet ∷ history_of journal.now) other ≡ told_depth (history_of journal.now) other }
+    ensures shows { shows (delaying worker piece begin Reply.Quiet ∷ history_of journal.now) other block.piece
+        ≡ shows (history_of journal.now) other block.piece }
+    ensures joined { joined (delaying worker piece begin Reply.Quiet ∷ history_of journal.now) other ≡ joined (history_of journal.now) other }
+    ensures opened { is_open (delaying worker piece begin Reply.Quiet ∷ history_of journal.now) other ≡ is_open (history_of journal.now) other }
+    ensures late { late (delaying worker piece begin Reply.Quiet ∷ history_of journal.now) other ≡ late (history_of journal.now) other }
+    ensures had { had (delaying worker piece begin Reply.Quiet ∷ history_of journal.now) block.piece ≡ had (history_of journal.now) block.piece }
+    ensures level { level (delaying worker piece begin Reply.Quiet ∷ history_of journal.now) block.piece ≡ level (history_of journal.now) block.piece }
+    ensures reach { reach (delaying worker piece begin Reply.Quiet ∷ history_of journal.now) other ≡ reach (history_of journal.now) other }
+    ensures order { order_from (delaying worker piece begin Reply.Quiet ∷ history_of journal.now) ≡ order_from (history_of journal.now) }
+{}
+
+/// What any other peer is answered after a request was told late is what it is answered after the request was released.
+pub fn late_is_release_for_others(
+    torrent: &Torrent,
+    workers: u32,
+    rules: Rules,
+    journal: &[Entry],
+    worker: u32,
+    piece: u32,
+    begin: u32,
+    other: u32,
+)
+    requires { worker ≢ other }
+    ensures { next_answer (setting_of torrent.now.layout workers rules) (delaying worker piece begin Reply.Quiet ∷ history_of journal.now) other
+        ≡ next_answer (setting_of torrent.now.layout workers rules) (giving_up worker piece begin Reply.Quiet ∷ history_of journal.now) other }
+{}
+
+/// Where no request was told late, nobody is late, and what is asked of a peer is expected of it. What may be asked of a peer is what it was
+/// before a request could be late, and so is which pieces go on or begin, and whether an arrival tells other peers nothing.
+pub fn never_late_is_as_before(
+    torrent: &Torrent,
+    workers: u32,
+    rules: Rules,
+    journal: &[Entry],
+    worker: u32,
+    block: Block,
+)
+    requires { IsTrue (never_delays (history_of journal.now)) }
+    ensures expected { expected (history_of journal.now) worker block ≡ asked (history_of journal.now) worker block }
+    ensures asked { asked_of_some (setting_of torrent.now.layout workers rules) (history_of journal.now) block
+        ≡ asked_of_any (setting_of torrent.now.layout workers rules) (history_of journal.now) block }
+    ensures askers { asker_count (setting_of torrent.now.layout workers rules) (history_of journal.now) block
+        ≡ any_asker_count (setting_of torrent.now.layout workers rules) (history_of journal.now) block }
+    ensures usable { usable (setting_of torrent.now.layout workers rules) (history_of journal.now) worker block
+        ≡ usable_undelayed (setting_of torrent.now.layout workers rules) (history_of journal.now) worker block }
+    ensures resumes { resumes (setting_of torrent.now.layout workers rules) (history_of journal.now) worker block.piece
+        ≡ resumes_undelayed (setting_of torrent.now.layout workers rules) (history_of journal.now) worker block.piece }
+    ensures candidate { is_candidate (setting_of torrent.now.layout workers rules) (history_of journal.now) worker block.piece
+        ≡ is_candidate_undelayed (setting_of torrent.now.layout workers rules) (history_of journal.now) worker block.piece }
+    ensures alone { asked_alone (setting_of torrent.now.layout workers rules) (history_of journal.now) worker block.piece block.begin
+        ≡ asked_alone_undelayed (setting_of torrent.now.layout workers rules) (history_of journal.now) worker block.piece block.begin }
+{}
+
 /// With none of the later calls, bounds on askers and on whom endgame asks that are none, no number of open pieces, and an endgame that waits
 /// for all that is wanted, a history is legal just where it was by the rules as they were.
 pub fn plain_is_as_before(torrent: &Torrent, workers: u32, rules: Rules, journal: &[Entry])
@@ -532,6 +610,7 @@ pub fn plain_is_as_before(torrent: &Torrent, workers: u32, rules: Rules, journal
     requires adds { IsTrue (never_adds (history_of journal.now)) }
     requires levels { IsTrue (never_levels (history_of journal.now)) }
     requires reaches { IsTrue (never_reaches (history_of journal.now)) }
+    requires delays { IsTrue (never_delays (history_of journal.now)) }
     requires wide { workers ≤ rules.askers }
     requires strict { rules.«open» ≡ 0 }
     requires deep { rules.depth ≤ rules.rush }

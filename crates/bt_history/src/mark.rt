@@ -24,6 +24,7 @@ pub enum CallMark {
     Reach(u8),
     InOrderFrom(u8),
     Lack(u32),
+    Late { piece: u32, begin: u32 },
 }
 
 /// What a worker's log keeps of an entry: its place in the journal (the number of older entries), its call and its reply.

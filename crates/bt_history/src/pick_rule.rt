@@ -16,10 +16,12 @@ pub enum PickRule {
     Random,
     /// In endgame it was requested of one peer more.
     Endgame,
+    /// The request to another peer is late.
+    Late,
 }
 
 impl PickRule {
-    /// The number by which the rule is told, 1 to 5.
+    /// The number by which the rule is told, 1 to 6.
     pub fn number(self) -> u8
         ensures { result ≡ rule_number self }
     {
@@ -29,6 +31,7 @@ impl PickRule {
             PickRule::Rarest => 3,
             PickRule::Random => 4,
             PickRule::Endgame => 5,
+            PickRule::Late => 6,
         }
     }
 }

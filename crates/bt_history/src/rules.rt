@@ -37,7 +37,7 @@ pub struct Rules {
     /// In endgame one block is asked of so many peers at most, but always of one; with [`MOST_WORKERS`] or more, of as many as show it.
     pub askers: u32,
     /// The greatest depth that may be told of one peer ([`Call::Depth`]), up to [`MOST_TOLD_DEPTH`]; more counts as that, and with 0 none
-    /// may be told. A picker takes the memory for lines so long when it is made: 24 bytes a peer for each block of depth.
+    /// may be told. A picker takes the memory for lines so long when it is made: 25 bytes a peer for each block of depth.
     pub deepest: u32,
     /// Pieces that may be open, which are wanted and begun and have an unrequested block. While more are, or too few pieces are had, those come
     /// first that fewest peers show. Else a piece that fewest peers show comes first, begun or not. With 0 any begun piece comes first.

@@ -7,13 +7,13 @@ use Rattle.bt_history.specs.declared.call.Reply.TheVariants.{Request}
 use Rattle.bt_history.specs.declared.event.Event.{Event}
 use Rattle.bt_history.specs.Epochs.{asked_alone, begins_endgame, epoch, is_request, stirs, stores_beyond, unsettles}
 use Rattle.bt_meta.specs.declared.block.Block.{Block}
-use Rattle.bt_history.specs.Counting.{count_below}
+use Rattle.bt_history.specs.Counting.{any_below, count_below}
 use Rattle.bt_history.specs.History.{History, counts, same_begin}
 use Rattle.bt_history.specs.Legal.{place_at}
-use Rattle.bt_history.specs.Peers.{asked}
-use Rattle.bt_history.specs.Pieces.{asker_count, endgame}
+use Rattle.bt_history.specs.Peers.{expected, overdue}
+use Rattle.bt_history.specs.Pieces.{asker_count, endgame, is_late_at_some}
 use Rattle.bt_history.specs.Setting.{Setting}
-use Rattle.bt_history.proofs.HeldLaws.{asked_at}
+use Rattle.bt_history.proofs.Delays.{expected_at, overdue_at}
 
 pub epoch_more : (s : Setting) (h : History) (e : Event) (x : Bool) → x ≡ stirs s h e
     → (epoch s h % 2 ^ 64 + (if x then 1 else 0)) % 2 ^ 64 ≡ epoch s (e ∷ h) % 2 ^ 64
@@ -47,12 +47,13 @@ stirs_parts s h e = by_cases (counts e.reply) (is_request e.reply) (unsettles e.
       by_cases false true u b g both = absurd (cc (both refl))
       by_cases false false u b g both = refl
 
--- a block is asked of its peer alone where its place is
+-- a block is expected from its peer alone where its place is
 pub alone_at : (s : Setting) (h : History) (w p begin : ℕ) (b : Block) → same_begin (place_at p begin) b ≡ true
-    → asked_alone s h w p begin ≡ (asked h w b && (asker_count s h b == 1))
+    → asked_alone s h w p begin ≡ (expected h w b && ((asker_count s h b == 1) && not (is_late_at_some s h b)))
 alone_at s h w p begin b at =
-    let same : (q : ℕ) → asked h q (place_at p begin) ≡ asked h q b = λ q. sym (asked_at h q (place_at p begin) b at) in
-    λ i. same w i && (count_below s.workers (λ q. same q i) == 1)
+    let same : (q : ℕ) → expected h q (place_at p begin) ≡ expected h q b = λ q. sym (expected_at h q (place_at p begin) b at) in
+    let both : (q : ℕ) → overdue h q (place_at p begin) ≡ overdue h q b = λ q. sym (overdue_at h q (place_at p begin) b at) in
+    λ i. same w i && ((count_below s.workers (λ q. same q i) == 1) && not (any_below s.workers (λ q. both q i)))
 
 -- after a check the number rises, where it counts
 pub epoch_settled : (s : Setting) (h : History) (e : Event) (number : ℕ) (x : Bool) → number ≡ epoch s h % 2 ^ 64 → unsettles e.action ≡ true

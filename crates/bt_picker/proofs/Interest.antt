@@ -4,11 +4,12 @@ use Rattle.std.proofs.Common.{subst, arith, ⊎_elim}
 use Rattle.std.specs.Prelude.{IfSome, is_some}
 use Rattle.std.proofs.lemmas.Bool.{and_from, and_left, and_parts, and_right, cases_eq, cases_lt, eq-eqb, false≢true, le-ltb, ne_eqb, not-true}
 use Rattle.std.proofs.lemmas.Bool.{or_left}
+use Rattle.bt_meta.specs.declared.block.Block.{Block}
 use Rattle.bt_meta.specs.Layout.{piece_count}
 use Rattle.bt_history.specs.Setting.{Setting, each_block_of, some_block_of}
 use Rattle.bt_history.specs.History.{History}
-use Rattle.bt_history.specs.Peers.{flag, shows}
-use Rattle.bt_history.specs.Pieces.{had, held_or_asked, interesting, lacks, level, wanted}
+use Rattle.bt_history.specs.Peers.{flag, overdue, shows}
+use Rattle.bt_history.specs.Pieces.{had, held_or_asked, interesting, lacks, level, offers, wanted}
 use Rattle.bt_history.specs.declared.event.Action.TheVariants.{Have, Haves}
 use Rattle.bt_history.specs.Legal.{IsLegal, interesting_after}
 use Rattle.bt_history.proofs.Below.{any_fails, any_found, any_same, any_witness}
@@ -19,6 +20,7 @@ use Rattle.bt_tables.specs.declared.piece.Stage.TheVariants.{AskedOut, Open}
 use Rattle.bt_tables.specs.Standings.{group_number, place_of, stage_of_row}
 use Rattle.bt_picker.specs.Tables.{groups_of, piece_of}
 use Rattle.bt_picker.proofs.Levelled.{Covers}
+use Rattle.bt_picker.proofs.Overdue.{spent_with_nothing}
 use Rattle.bt_picker.proofs.Rarest.{at_level}
 use Rattle.bt_picker.proofs.Stages.{begun_stage, candidate_at, candidate_parts, listed_place, place_listed, stage_left}
 use Rattle.bt_picker.proofs.Telling.{wanted_chosen}
@@ -43,12 +45,12 @@ candidate_interests s h q n p lp is =
     let parts = candidate_parts s h q p (at_level s h q n p is).0 in
     lacks_found s h (shows h q) p parts.0 parts.1 parts.2 lp
 
--- and no other piece of the level does
-pub nothing_interests : (s : Setting) (h : History) (q n : ℕ) (asked_out begun : List ℕ)
+-- and no other piece of the level does, where the peer is late with nothing
+pub nothing_interests : (s : Setting) (h : History) (q n : ℕ) (asked_out begun : List ℕ) → ((b : Block) → overdue h q b ≡ false)
     → ListsGroup (groups_of s h) (group_number n AskedOut) asked_out → ListsGroup (groups_of s h) (group_number n Open) begun
     → FindsListed (shows h q) asked_out (length asked_out) None → FindsListed (shows h q) begun (length begun) None
     → FindsLeast (is_candidate_at s h q n) (rank_of s h true) 0 (piece_count s.torrent) None → LacksNone s h q n
-nothing_interests s h q n asked_out begun lists_out lists_open none_out none_open no_candidate p lp same =
+nothing_interests s h q n asked_out begun prompt lists_out lists_open none_out none_open no_candidate p lp same =
     by_cases (wanted s h p) (shows h q p) (had h p) refl refl refl
   where
     unlisted : (stage : Stage) (pieces : List ℕ) → ListsGroup (groups_of s h) (group_number n stage) pieces
@@ -61,7 +63,8 @@ nothing_interests s h q n asked_out begun lists_out lists_open none_out none_ope
         → (t u : Bool) → some_block_of s.torrent p (held_or_asked s h) ≡ t → each_block_of s.torrent p (held_or_asked s h) ≡ u → ⊥
     by_stage wants shown lacks false u touched_is all_is =
         false≢true (sym (no_candidate p (omega arith) lp) ∙ candidate_at s h q n p (and_from (wanted s h p) _ wants
-        (and_from (shows h q p) _ shown (and_from (not (had h p)) _ (ap not lacks) (ap not touched_is)))) same)
+        (and_from (offers s h q p) _ (and_from (shows h q p) _ shown (ap not (spent_with_nothing s h q p prompt)))
+        (and_from (not (had h p)) _ (ap not lacks) (ap not touched_is)))) same)
     by_stage wants shown lacks true true touched_is all_is =
         unlisted AskedOut asked_out lists_out none_out shown (begun_stage s h p true lacks (sym (wanted_chosen s h p lp) ∙ wants) touched_is all_is)
     by_stage wants shown lacks true false touched_is all_is =
@@ -81,13 +84,13 @@ pub found_interests : (s : Setting) (h : History) (q n : ℕ) (found : Option �
 found_interests s h q n None least within some = absurd (false≢true some)
 found_interests s h q n (Some p) least within some = candidate_interests s h q n p within least.0
 
-pub missing_interests : (s : Setting) (h : History) (q n : ℕ) (asked_out begun : List ℕ) (found : Option ℕ)
+pub missing_interests : (s : Setting) (h : History) (q n : ℕ) (asked_out begun : List ℕ) (found : Option ℕ) → ((b : Block) → overdue h q b ≡ false)
     → ListsGroup (groups_of s h) (group_number n AskedOut) asked_out → ListsGroup (groups_of s h) (group_number n Open) begun
     → FindsListed (shows h q) asked_out (length asked_out) None → FindsListed (shows h q) begun (length begun) None
     → FindsLeast (is_candidate_at s h q n) (rank_of s h true) 0 (piece_count s.torrent) found → is_some found ≡ false → LacksNone s h q n
-missing_interests s h q n asked_out begun (Some p) lists_out lists_open none_out none_open least none = absurd (false≢true (sym none))
-missing_interests s h q n asked_out begun None lists_out lists_open none_out none_open least none =
-    nothing_interests s h q n asked_out begun lists_out lists_open none_out none_open least
+missing_interests s h q n asked_out begun (Some p) prompt lists_out lists_open none_out none_open least none = absurd (false≢true (sym none))
+missing_interests s h q n asked_out begun None prompt lists_out lists_open none_out none_open least none =
+    nothing_interests s h q n asked_out begun prompt lists_out lists_open none_out none_open least
 
 -- where no level interests nothing does
 pub no_level_interests : (s : Setting) (h : History) (q slot : ℕ) → Covers s h slot

@@ -1,5 +1,5 @@
 -- The tables after a peer has a piece no more are those of the history with that.
-use Rattle.std.proofs.Common.{◌≡◌, ℕ, ◌+◌, ◌-◌, ◌<◌, ◌==◌, Bool, true, false, not, ◌&&◌, List, [], ◌∷◌, length, refl, ap, sym, ◌∙◌, arith, subst, ⊎_elim}
+use Rattle.std.proofs.Common.{◌≡◌, ℕ, ◌+◌, ◌-◌, ◌<◌, ◌==◌, Bool, true, false, not, ◌&&◌, List, ◌∷◌, refl, ap, sym, ◌∙◌, arith, ⊎_elim}
 use Rattle.std.specs.Prelude.{if◌then◌else◌, slice_set}
 use Rattle.std.specs.List.{filter}
 use Rattle.std.proofs.lemmas.Bool.{cases_eq, eq-eqb, ne_eqb}
@@ -17,19 +17,29 @@ use Rattle.bt_history.specs.Pieces.{availability, had, level}
 use Rattle.bt_history.specs.Legal.{IsAllowed}
 use Rattle.bt_history.specs.Setting.{Setting}
 use Rattle.bt_history.proofs.SameBegin.{same_but_len}
+use Rattle.bt_history.proofs.Lines.{place_resized}
 use Rattle.bt_history.proofs.LineLaws.{apart_filter, blocks_filter, outstanding_apart, outstanding_blocks}
-use Rattle.bt_tables.specs.Tables.{one_if, edit, lack_row, lacked, less_available, lowered_by, of_piece, peer_row, PeerState, PieceState, TablesState}
+use Rattle.bt_tables.specs.Tables.{one_if, edit, lack_row, lacked, less_available, lowered_by, prompt_of_piece, PeerState, PieceState, TablesState}
 use Rattle.bt_tables.proofs.Tabled.{edit_table}
-use Rattle.bt_picker.specs.Tables.{askers, cell_of, peer_of, piece_of, AreTables}
+use Rattle.bt_picker.specs.Tables.{askers, cell_of, overdue_line, peer_of, piece_of, AreTables}
+use Rattle.bt_picker.proofs.Overdue.{expects_row}
 use Rattle.bt_picker.proofs.PeerSteps.{lack_step, shows_length}
 use Rattle.bt_picker.proofs.PieceSteps.{piece_same, piece_with, released_table, row_shows}
 use Rattle.bt_picker.proofs.Entering.{tables_from, one_peer, askers_change, availability_change, counted, peer_row_is}
 
 -- what a line lists of the piece, and what else it lists
-place_of_piece : (p : ℕ) (b : Block) (bs : List Block) → has_place b (of_piece p bs) ≡ ((p == b.piece) && has_place b bs)
-place_of_piece p b bs =
-    any-filter_same (λ (a : Block). same_begin a b) (λ a. p == a.piece) (p == b.piece)
-    (λ a same. ap (λ (c : Block). p == c.piece) (sym (same_but_len a b same))) bs
+place_of_piece : (p : ℕ) (b : Block) (row : PeerState) → has_place b (prompt_of_piece p row) ≡ ((p == b.piece) && expects_row b row)
+place_of_piece p b row =
+    any-filter_same (λ (a : Block). same_begin a b) (λ a. (p == a.piece) && not (has_place a row.overdue)) ((p == b.piece) && not (has_place b row.overdue))
+    (λ a same. λ i. ap (λ (c : Block). p == c.piece) (sym (same_but_len a b same)) i && not (sym (place_resized row.overdue a b same) i)) row.asked
+    ∙ by_parts (p == b.piece) (has_place b row.overdue) (has_place b row.asked)
+  where
+    by_parts : (x late listed : Bool) → ((x && not late) && listed) ≡ (x && (listed && not late))
+    by_parts true true true = refl
+    by_parts true true false = refl
+    by_parts true false true = refl
+    by_parts true false false = refl
+    by_parts false late listed = refl
 
 place_of_others : (p : ℕ) (b : Block) (bs : List Block) → has_place b (filter (λ a. not (p == a.piece)) bs) ≡ (not (p == b.piece) && has_place b bs)
 place_of_others p b bs =
@@ -64,7 +74,7 @@ module _ (t : TablesState) (h : History) (w p : ℕ) (x : Bool) (are : AreTables
   flags = (peer_of s h w).shows
 
   abbrev line : List Block
-  line = of_piece p (outstanding h w)
+  line = prompt_of_piece p (peer_of s h w)
 
   row : lack_row p (peer_of s h w) ≡ peer_of s (e ∷ h) w
   row = lack_step s h w p x lp
@@ -100,23 +110,29 @@ module _ (t : TablesState) (h : History) (w p : ℕ) (x : Bool) (are : AreTables
   -- one peer less is asked for each block of the piece that this one was asked for
   asked_less : (b : Block) → askers s h b - one_if (has_place b line) ≡ askers s (e ∷ h) b
   asked_less b =
-      ap (λ (y : Bool). askers s h b - one_if y) (place_of_piece p b (outstanding h w))
-      ∙ fewer (askers s (e ∷ h) b) (askers s h b) (p == b.piece) (has_place b (outstanding h w))
+      ap (λ (y : Bool). askers s h b - one_if y) (place_of_piece p b (peer_of s h w))
+      ∙ fewer (askers s (e ∷ h) b) (askers s h b) (p == b.piece) (expects_row b (peer_of s h w))
       (askers_change s h e lt refl b
       ∙ ap (λ (y : Bool). askers s h b + one_if y)
-      (ap (λ (r : PeerState). has_place b r.asked) (sym row) ∙ place_of_others p b (outstanding h w)))
+      (ap (expects_row b) (sym row)
+      ∙ ((λ i. place_of_others p b (outstanding h w) i && not (place_of_others p b (overdue_line h w) i))
+      ∙ by_place (p == b.piece) (has_place b (outstanding h w)) (has_place b (overdue_line h w)))))
+    where
+      by_place : (here listed late : Bool) → ((not here && listed) && not (not here && late)) ≡ (not here && (listed && not late))
+      by_place true listed late = refl
+      by_place false listed late = refl
 
   freed : lowered_by line t.pieces ≡ table (piece_count s.torrent) (piece_with s h (availability s h) (λ b. askers s h b - one_if (has_place b line)))
   freed = ap (lowered_by line) are.pieces_are
       ∙ released_table s h (availability s h) (askers s h) line
-      (blocks_filter s.torrent (λ b. p == b.piece) (outstanding h w) (outstanding_blocks s h w are.legal))
-      (apart_filter (λ b. p == b.piece) (outstanding h w) (outstanding_apart s h w are.legal))
+      (blocks_filter s.torrent (λ b. (p == b.piece) && not (has_place b (overdue_line h w))) (outstanding h w) (outstanding_blocks s h w are.legal))
+      (apart_filter (λ b. (p == b.piece) && not (has_place b (overdue_line h w))) (outstanding h w) (outstanding_apart s h w are.legal))
 
   pieces_are : (lacked t w p).pieces ≡ table (piece_count s.torrent) (piece_of s (e ∷ h))
   pieces_are =
       let n = piece_count s.torrent in
       let fewer_asked : Block → ℕ = λ b. askers s h b - one_if (has_place b line) in
-      ap (λ (r : PeerState). edit (lowered_by (of_piece p r.asked) t.pieces) p (less_available (flag r.shows p))) (peer_row_is t h w are lt)
+      ap (λ (r : PeerState). edit (lowered_by (prompt_of_piece p r) t.pieces) p (less_available (flag r.shows p))) (peer_row_is t h w are lt)
       ∙ (ap (λ (rows : List PieceState). edit rows p (less_available (flag flags p))) freed
       ∙ (edit_table n (piece_with s h (availability s h) fewer_asked) (piece_with s h shown fewer_asked) p (less_available (flag flags p)) lp
       (λ i. record {

@@ -1,30 +1,30 @@
 -- Floors by the history: no candidate ranks before; and what a reply tells of it.
 use Rattle.std.proofs.Common.{◌==◌, ◌≡◌, ◌⊎◌, ℕ, ◌-◌, ◌*◌, ◌<◌, ◌≤◌, Bool, true, false, not, ◌&&◌, ◌||◌, refl, ap, sym, ◌∙◌, subst, inl, inr, ⊎_elim}
-use Rattle.std.proofs.Common.{arith, List, length, map, set}
+use Rattle.std.proofs.Common.{arith, List, [], length, map, set}
 use Rattle.std.specs.Prelude.{nat_le, nat_lt, slice_index_or}
-use Rattle.std.proofs.lemmas.Bool.{and_from, and_left, and_parts, cases_eq, eq-eqb, eqb-true, false_from_ne_true, false≢true, le-ltb, or_left}
+use Rattle.std.proofs.lemmas.Bool.{and_from, and_parts, cases_eq, eq-eqb, eqb-true, false_from_ne_true, false≢true, le-leb, le-ltb, or_left}
 use Rattle.std.proofs.lemmas.Bool.{or_right}
 use Rattle.std.proofs.lemmas.List.{get_or-set_other, get_or-set_same}
 use mathlib.Core.Logic.{dite}
 use native.Mathlib.Decide.{ℕ_discrete}
 use Rattle.bt_meta.specs.declared.block.Block.{Block}
-use Rattle.bt_meta.specs.Layout.{Layout, IsLayout, piece_count, block}
+use Rattle.bt_meta.specs.Layout.{Layout, IsLayout, piece_count, block, block_count}
 use Rattle.bt_history.specs.declared.call.Reply.{Reply}
 use Rattle.bt_history.specs.declared.call.Reply.TheVariants.{Request, Idle, NothingLeft}
 use Rattle.bt_history.specs.declared.event.Action.TheVariants.{Have, Next}
 use Rattle.bt_history.specs.declared.event.Event.{Event}
 use Rattle.bt_history.specs.Setting.{Setting, is_block, some_block, some_block_of}
 use Rattle.bt_history.specs.History.{History}
-use Rattle.bt_history.specs.Peers.{joined, reach, shows}
-use Rattle.bt_history.specs.Pieces.{begun, chosen, comes_in_order, had, had_count, held_or_asked, is_open_piece, level, open_count, order_from, unbegun}
-use Rattle.bt_history.specs.Pieces.{wanted}
+use Rattle.bt_history.specs.Peers.{joined, overdue, reach, shows}
+use Rattle.bt_history.specs.Pieces.{begun, chosen, comes_in_order, gives, had, had_count, held_or_asked, is_open_piece, level, open_count, unbegun}
+use Rattle.bt_history.specs.Pieces.{offers, unasked, wanted}
 use Rattle.bt_history.specs.declared.call.Reply.TheVariants as said
 use Rattle.bt_history.specs.Legal.{IsAllowed, IsLegal, Permits, interesting_after}
 use Rattle.bt_history.specs.Next.{continues, goes_first, is_candidate, is_rarest, is_strict, none_rarer, resumes, starts, tops, usable}
 use Rattle.bt_history.proofs.Levels.{higher_first, level_bounded, none_in_order, top_above}
 use Rattle.bt_history.specs.declared.rules.TheConstants.{MOST_LEVEL}
 use Rattle.bt_history.proofs.Allowed.{answered, no_cause, top_usable}
-use Rattle.bt_history.proofs.Below.{count_found, count_most}
+use Rattle.bt_history.proofs.Below.{any_fails, count_found, count_most}
 use Rattle.bt_history.proofs.LineLaws.{block_index, block_is_block, some_found}
 use Rattle.bt_history.proofs.NextCases.{next_cases, next_is, next_request}
 use Rattle.bt_history.proofs.Opening.{rarer_than, usable_resumes}
@@ -36,12 +36,13 @@ use Rattle.bt_picker.specs.Tables.{AreTables, groups_of, peer_of, piece_of}
 use Rattle.bt_tables.specs.Tables.{PeerState, PieceState, TablesState, announced, edit, fresh_peer, fresh_piece, have_row, less_available}
 use Rattle.bt_tables.specs.Tables.{more_available, peer_row, piece_row}
 use Rattle.bt_picker.proofs.Leading.{open_length}
+use Rattle.bt_picker.proofs.Overdue.{none_overdue, spent_with_nothing}
 use Rattle.bt_picker.proofs.Stages.{candidate_parts}
 use Rattle.bt_picker.proofs.Telling.{had_rows, unchosen, untouched_row, wanted_chosen}
-use Rattle.bt_picker.proofs.Scans.{candidate_usable, first_block, lacks_found}
+use Rattle.bt_picker.proofs.Scans.{first_block, lacks_found}
 use Rattle.bt_tables.proofs.Tabled.{edit_read, get_or_is_table, get_or_table, length_edit, map_table}
 
--- ---- a fresh piece that the peer shows is a candidate, and there are no others
+-- ---- a fresh piece that the peer shows is a candidate, where the peer is late with nothing, and there are no others
 
 fresh_is : (s : Setting) (h : History) (p : ℕ) → is_fresh (piece_of s h p)
     ≡ (not (had h p || not (chosen h p)) && not (some_block_of s.torrent p (held_or_asked s h)))
@@ -58,12 +59,13 @@ fresh_unbegun s h p fresh =
     let parts = fresh_parts (had h p) (chosen h p) (some_block_of s.torrent p (held_or_asked s h)) (sym (fresh_is s h p) ∙ fresh) in
     and_from (not (had h p)) _ (ap not parts.0) (ap not parts.2)
 
-fresh_candidate : (s : Setting) (h : History) (q p : ℕ) → p < piece_count s.torrent → shows h q p ≡ true → is_fresh (piece_of s h p) ≡ true →
-    is_candidate s h q p ≡ true
-fresh_candidate s h q p lp shown fresh =
+fresh_candidate : (s : Setting) (h : History) (q p : ℕ) → ((b : Block) → overdue h q b ≡ false) → p < piece_count s.torrent → shows h q p ≡ true
+    → is_fresh (piece_of s h p) ≡ true → is_candidate s h q p ≡ true
+fresh_candidate s h q p prompt lp shown fresh =
     let parts = fresh_parts (had h p) (chosen h p) (some_block_of s.torrent p (held_or_asked s h)) (sym (fresh_is s h p) ∙ fresh) in
     and_from (wanted s h p) _ (wanted_chosen s h p lp ∙ parts.1)
-    (and_from (shows h q p) _ shown (and_from (not (had h p)) _ (ap not parts.0) (ap not parts.2)))
+    (and_from (offers s h q p) _ (and_from (shows h q p) _ shown (ap not (spent_with_nothing s h q p prompt)))
+    (and_from (not (had h p)) _ (ap not parts.0) (ap not parts.2)))
 
 candidate_fresh : (s : Setting) (h : History) (q p : ℕ) → p < piece_count s.torrent → is_candidate s h q p ≡ true →
     (shows h q p ≡ true) × (is_fresh (piece_of s h p) ≡ true)
@@ -89,11 +91,11 @@ module _ (t : TablesState) (h : History) (w : ℕ) (are : AreTables t h) (lw : w
       let low = floor p (subst (λ (m : ℕ). p < m) (sym are.pieces_len) lp) (flag_is p lp ∙ known.0) (ap is_fresh row ∙ known.1) in
       subst (λ (r : PieceState). n ≤ rank_of_row r) row low
 
-  pub before_floor : (n : ℕ) → NoneBefore t.setting h w n → IsFloor t.pieces (peer_row t.peers w) n
-  before_floor n none p lp shown fresh =
+  pub before_floor : (n : ℕ) → ((b : Block) → overdue h w b ≡ false) → NoneBefore t.setting h w n → IsFloor t.pieces (peer_row t.peers w) n
+  before_floor n prompt none p lp shown fresh =
       let within : p < piece_count t.setting.torrent = subst (λ (m : ℕ). p < m) are.pieces_len lp in
       let row = row_is p within in
-      let fits = fresh_candidate t.setting h w p within (sym (flag_is p within) ∙ shown) (ap is_fresh (sym row) ∙ fresh) in
+      let fits = fresh_candidate t.setting h w p prompt within (sym (flag_is p within) ∙ shown) (ap is_fresh (sym row) ∙ fresh) in
       subst (λ (r : PieceState). n ≤ rank_of_row r) (sym row) (none p within fits)
 
 -- before the front no piece may be begun
@@ -105,16 +107,29 @@ front_begins t h n are none q p before lp = false_from_ne_true (is_candidate t.s
 
 -- ---- what a reply to Next tells
 
--- the reach of w is full: it reaches each piece
-abbrev pub ReachesAll : History → ℕ → Type 0
-ReachesAll h w = (p : ℕ) → level h p ≤ reach h w
+-- the reach of w is full, so it reaches each piece, and w is late with nothing
+abbrev pub TakesAll : History → ℕ → Type 0
+TakesAll h w = ((p : ℕ) → level h p ≤ reach h w) × ((b : Block) → overdue h w b ≡ false)
+
+-- a candidate's first block is usable then
+candidate_block : (s : Setting) (h : History) (w p : ℕ) → TakesAll h w → IsLayout s.torrent → p < piece_count s.torrent → is_candidate s h w p ≡ true
+    → (is_block s.torrent (block s.torrent p 0) ≡ true) × (usable s h w (block s.torrent p 0) ≡ true)
+candidate_block s h w p takes layout lp fits =
+    let some = first_block s.torrent p layout lp in
+    let parts = candidate_parts s h w p fits in (
+      block_is_block s.torrent p 0 lp some,
+      and_from (unasked s h (block s.torrent p 0)) _
+          (ap not (any_fails (block_count s.torrent p) (λ k. held_or_asked s h (block s.torrent p k)) 0 parts.3 some))
+          (and_from (wanted s h p) _ parts.0 (and_from (gives h w p) (not (overdue h w (block s.torrent p 0)))
+          (and_from (shows h w p) (nat_le (level h p) (reach h w)) parts.1 (le-leb (level h p) (reach h w) (takes.0 p)))
+          (ap not (takes.1 (block s.torrent p 0))))),
+    )
 
 -- without a usable block there is no candidate
-pub none_usable : (s : Setting) (h : History) (w n : ℕ) → ReachesAll h w → IsLayout s.torrent → some_block s.torrent (usable s h w) ≡ false → NoneBefore s h w n
+pub none_usable : (s : Setting) (h : History) (w n : ℕ) → TakesAll h w → IsLayout s.torrent → some_block s.torrent (usable s h w) ≡ false → NoneBefore s h w n
 none_usable s h w n near layout none p lp fits =
-    let some = first_block s.torrent p layout lp in
-    absurd (false≢true (sym none ∙ some_found s.torrent (usable s h w) (block s.torrent p 0) (block_is_block s.torrent p 0 lp some)
-    (candidate_usable s h w p lp some (near p) fits)))
+    let own = candidate_block s h w p near layout lp fits in
+    absurd (false≢true (sym none ∙ some_found s.torrent (usable s h w) (block s.torrent p 0) own.0 own.1))
 
 -- where nothing is to be asked nothing is usable
 idle_cases : (t : Layout) (has_due opened full rises_one goes_on starts_one doubles_one waits : Bool)
@@ -136,15 +151,8 @@ idle_cases t false true false false false true _ _ cancels risings ons firsts se
 idle_cases t false true false false false true _ _ cancels risings ons firsts seconds reply (inr is) h = absurd (cc (is, h.1))
 idle_cases t false true false false false false _ _ cancels risings ons firsts seconds reply why h = refl
 
--- a candidate's first block is usable
-candidate_block : (s : Setting) (h : History) (w p : ℕ) → ReachesAll h w → IsLayout s.torrent → p < piece_count s.torrent → is_candidate s h w p ≡ true
-    → (is_block s.torrent (block s.torrent p 0) ≡ true) × (usable s h w (block s.torrent p 0) ≡ true)
-candidate_block s h w p near layout lp fits =
-    let some = first_block s.torrent p layout lp in
-    (block_is_block s.torrent p 0 lp some, candidate_usable s h w p lp some (near p) fits)
-
 -- a piece of the highest level that has a candidate, none of which is rarer, ranks before all others
-rarest_first : (s : Setting) (h : History) (w : ℕ) (b : Block) → ReachesAll h w → IsLegal s h → IsLayout s.torrent → s.workers < 65536 → tops s h w b ≡ true
+rarest_first : (s : Setting) (h : History) (w : ℕ) (b : Block) → TakesAll h w → IsLegal s h → IsLayout s.torrent → s.workers < 65536 → tops s h w b ≡ true
     → is_rarest s h w b.piece ≡ true → NoneBefore s h w (rank_at s h b.piece)
 rarest_first s h w b near legal layout few top rare r lr fits =
     let own = candidate_block s h w r near layout lr fits in
@@ -160,7 +168,7 @@ rarest_first s h w b near legal layout few top rare r lr fits =
     (cases_eq (level h r) (level h b.piece))
 
 -- a request tells that no candidate is of a higher level
-level_before : (s : Setting) (h : History) (w word : ℕ) (b : Block) → ReachesAll h w → IsLayout s.torrent
+level_before : (s : Setting) (h : History) (w word : ℕ) (b : Block) → TakesAll h w → IsLayout s.torrent
     → IsAllowed s h (record { worker = w; action = Next word; reply = Request b }) → NoneBefore s h w ((7 - level h b.piece) * 65536)
 level_before s h w word b near layout allowed r lr fits =
     let own = candidate_block s h w r near layout lr fits in
@@ -197,7 +205,7 @@ going_rarest s h w b inside on settled few = by_bound (s.most_open == 0) refl go
       sym (ap (λ (x : Bool). x || is_rarest s h w b.piece) loose)
       ∙ (and_parts (none_rarer s h (resumes s h w) b.piece) (is_strict s h || is_rarest s h w b.piece) first).1
 
-module _ (s : Setting) (h : History) (w word : ℕ) (near : ReachesAll h w) (legal : IsLegal s h) (layout : IsLayout s.torrent) (few : s.workers < 65536) where
+module _ (s : Setting) (h : History) (w word : ℕ) (near : TakesAll h w) (legal : IsLegal s h) (layout : IsLayout s.torrent) (few : s.workers < 65536) where
   -- once enough pieces are had, and while pieces don't come in order, a piece that begins ranks first, and so does one that goes on while no more
   -- are open than may be
   pub asked_first : (b : Block) → IsAllowed s h (record { worker = w; action = Next word; reply = Request b }) →
@@ -248,18 +256,20 @@ few_open t h are found few =
     subst (λ (m : ℕ). m ≤ t.setting.most_open) length_is few.few
 
 -- a peer whose row has a full reach reaches each piece
-reaches_all : (t : TablesState) (h : History) (w : ℕ) → AreTables t h → w < t.setting.workers → (peer_row t.peers w).reach ≡ MOST_LEVEL → ReachesAll h w
-reaches_all t h w are lw full p =
+takes_all : (t : TablesState) (h : History) (w : ℕ) → AreTables t h → w < t.setting.workers → (peer_row t.peers w).reach ≡ MOST_LEVEL
+    → (peer_row t.peers w).overdue ≡ [] → TakesAll h w
+takes_all t h w are lw full prompt =
     let row = get_or_is_table t.peers t.setting.workers (peer_of t.setting h) w (fresh_peer 0 0) are.peers_are lw in
-    let own : reach h w ≡ MOST_LEVEL = sym (ap (λ (r : PeerState). r.reach) row) ∙ full in
-    let most = level_bounded t.setting h p are.legal in
-    omega (arith, own, most)
+    let own : reach h w ≡ MOST_LEVEL = sym (ap (λ (r : PeerState). r.reach) row) ∙ full in (
+      λ p. (let most = level_bounded t.setting h p are.legal in omega (arith, own, most)),
+      λ b. none_overdue h w b (sym (ap (λ (r : PeerState). r.overdue) row) ∙ prompt),
+    )
 
--- what a reply to Next tells is a floor, where the peer's reach is full
+-- what a reply to Next tells is a floor, where the peer's reach is full and it is late with nothing
 pub told_floor : (t : TablesState) (h : History) (w word n : ℕ) (reply : Reply) → AreTables t h →
     IsAllowed t.setting h (record { worker = w; action = Next word; reply = reply })
-    → w < t.setting.workers → (peer_row t.peers w).reach ≡ MOST_LEVEL → TellsFloor t reply n → IsFloor t.pieces (peer_row t.peers w) n
-told_floor t h w word n (Request b) are allowed lw full (inl told) =
+    → w < t.setting.workers → (peer_row t.peers w).reach ≡ MOST_LEVEL → (peer_row t.peers w).overdue ≡ [] → TellsFloor t reply n → IsFloor t.pieces (peer_row t.peers w) n
+told_floor t h w word n (Request b) are allowed lw full prompt (inl told) =
     let s = t.setting in
     let lp : b.piece < piece_count s.torrent = subst (λ (m : ℕ). b.piece < m) are.pieces_len told.0.within in
     let row = row_is t h w are lw b.piece lp in
@@ -270,19 +280,19 @@ told_floor t h w word n (Request b) are allowed lw full (inl told) =
     (λ (fresh : is_fresh (piece_row t.pieces b.piece) ≡ true). inl (fresh_unbegun s h b.piece (ap is_fresh (sym row) ∙ fresh)))
     (λ (some : (found : List ℕ) × FewOpen t found). inr (few_open t h are some.0 some.1))
     told.0.leads in
-    let first = asked_first s h w word (reaches_all t h w are lw full) are.legal are.layout (fewer t h are) b allowed unordered settled leads in
+    let first = asked_first s h w word (takes_all t h w are lw full prompt) are.legal are.layout (fewer t h are) b allowed unordered settled leads in
     let is : n ≡ rank_at s h b.piece = told.1 ∙ ap rank_of_row row in
-    before_floor t h w are lw n (subst (NoneBefore s h w) (sym is) first)
-told_floor t h w word n (Request b) are allowed lw full (inr told) =
+    before_floor t h w are lw n (takes_all t h w are lw full prompt).1 (subst (NoneBefore s h w) (sym is) first)
+told_floor t h w word n (Request b) are allowed lw full prompt (inr told) =
     let s = t.setting in
     let row = row_is t h w are lw b.piece (subst (λ (m : ℕ). b.piece < m) are.pieces_len told.0) in
     let is : n ≡ (7 - level h b.piece) * 65536 = told.1 ∙ ap (λ (r : PieceState). (7 - r.level) * 65536) row in
-    before_floor t h w are lw n (subst (NoneBefore s h w) (sym is) (level_before s h w word b (reaches_all t h w are lw full) are.layout allowed))
-told_floor t h w word n Idle are allowed lw full told = before_floor t h w are lw n
-    (idle_before t.setting h w word (reaches_all t h w are lw full) are.legal are.layout (fewer t h are) n Idle (inl refl) allowed)
-told_floor t h w word n NothingLeft are allowed lw full told = before_floor t h w are lw n
-    (idle_before t.setting h w word (reaches_all t h w are lw full) are.legal are.layout (fewer t h are) n NothingLeft (inr refl) allowed)
-told_floor t h w word n reply are allowed lw full told = absurd told
+    before_floor t h w are lw n (takes_all t h w are lw full prompt).1 (subst (NoneBefore s h w) (sym is) (level_before s h w word b (takes_all t h w are lw full prompt) are.layout allowed))
+told_floor t h w word n Idle are allowed lw full prompt told = before_floor t h w are lw n (takes_all t h w are lw full prompt).1
+    (idle_before t.setting h w word (takes_all t h w are lw full prompt) are.legal are.layout (fewer t h are) n Idle (inl refl) allowed)
+told_floor t h w word n NothingLeft are allowed lw full prompt told = before_floor t h w are lw n (takes_all t h w are lw full prompt).1
+    (idle_before t.setting h w word (takes_all t h w are lw full prompt) are.legal are.layout (fewer t h are) n NothingLeft (inr refl) allowed)
+told_floor t h w word n reply are allowed lw full prompt told = absurd told
 
 -- ---- a peer that shows a had or unwanted piece more
 

@@ -4,14 +4,15 @@ use Rattle.std.proofs.Common.{length, refl, ap, sym, ◌∙◌, subst, arith, �
 use Rattle.std.specs.Prelude.{IfSome, nat_le, nat_lt}
 use Rattle.std.proofs.Math.Nat.{min-eq_left, min-eq_right}
 use Rattle.std.proofs.lemmas.Bool.{and_from, and_parts, cases_Bool, cases_lt, eq-eqb, eqb-true, false≢true, false_from_ne_true, le-leb, leb-false, leb-true}
-use Rattle.std.proofs.lemmas.Bool.{not-true, or_left, or_right}
+use Rattle.std.proofs.lemmas.Bool.{not-false, not-true, or_left, or_right}
 use Rattle.bt_meta.specs.declared.block.Block.{Block}
 use Rattle.bt_meta.specs.Layout.{IsLayout, piece_count, block_count, block}
 use Rattle.bt_history.specs.Setting.{Setting, each_block_of, is_block, some_block, some_block_of}
 use Rattle.bt_history.specs.History.{History}
 use Rattle.bt_history.specs.Legal.{IsLegal}
-use Rattle.bt_history.specs.Peers.{reach, shows}
-use Rattle.bt_history.specs.Pieces.{asked_of_some, begun, chosen, comes_in_order, gives, had, had_count, held, held_or_asked, level, order_from, unasked, unbegun, wanted}
+use Rattle.bt_history.specs.Peers.{overdue, reach, shows}
+use Rattle.bt_history.specs.Pieces.{asked_of_some, begun, chosen, comes_in_order, gives, had, had_count, held, held_or_asked, is_spent, level, offers}
+use Rattle.bt_history.specs.Pieces.{order_from, unasked, unbegun, wanted}
 use Rattle.bt_history.specs.Next.{continues, is_candidate, is_rarest, rises, starts, tops, tops_in_order, usable}
 use Rattle.bt_history.proofs.Below.{all_fails, all_found, any_fails, any_found, any_none, any_witness}
 use Rattle.bt_history.proofs.HeldLaws.{had_full}
@@ -21,31 +22,33 @@ use Rattle.bt_tables.specs.Orders.{at}
 use Rattle.bt_tables.specs.declared.piece.Stage.TheVariants.{Open}
 use Rattle.bt_tables.specs.Standings.{ListsOpen, first_group, group_number, group_of_row, place_of, stage_of_row}
 use Rattle.bt_picker.specs.Search.{FindsLeast, FindsListed, FindsOf, IsLevel, NoneAbove, NoneAt, goes_on, is_candidate_at, lesser_of}
-use Rattle.bt_picker.specs.Search.{rank_of, shows_at}
+use Rattle.bt_picker.specs.Search.{is_left, offers_at, rank_of}
 use Rattle.bt_picker.specs.Tables.{groups_of, piece_of}
 use Rattle.bt_picker.proofs.Rarest.{at_level}
-use Rattle.bt_picker.proofs.Scans.{candidate_usable, first_block, least_is_rarest, none_in_pieces}
+use Rattle.bt_history.proofs.Delays.{left_unspent}
+use Rattle.bt_picker.proofs.Scans.{candidate_left, first_block, least_is_rarest, none_in_pieces, offered_left}
 use Rattle.bt_picker.proofs.Stages.{begun_stage, candidate_at, candidate_parts, candidate_stage, level_chosen, listed_open, open_listed, open_within}
 use Rattle.bt_picker.proofs.Stages.{stage_open}
 use Rattle.bt_tables.proofs.Apart.{place_few}
 use Rattle.bt_tables.specs.declared.piece.TheConstants.{SPAN}
 use Rattle.bt_picker.proofs.Telling.{wanted_chosen}
 
--- a piece of this level that has a block to ask of the peer: it shows the piece, which is wanted, and of which not each block is touched
+-- a piece of this level that has a block to ask of the peer: it shows the piece, which is wanted, and of which a block is left
 pub record Gives (s : Setting) (h : History) (q n p : ℕ) : Type 0 where
   pub within : p < piece_count s.torrent
   pub level_is : level h p ≡ n
   pub shown : shows h q p ≡ true
   pub picked : chosen h p ≡ true
-  pub left : each_block_of s.torrent p (held_or_asked s h) ≡ false
+  pub left : some_block_of s.torrent p (is_left s h q) ≡ true
 
 -- ---- a piece with a usable block
 
-pub usable_parts : (u w v : Bool) → (u && (w && v)) ≡ true → (u ≡ true) × (w ≡ true) × (v ≡ true)
-usable_parts true true true is = (refl, refl, refl)
-usable_parts true true false is = absurd (false≢true is)
-usable_parts true false v is = absurd (false≢true is)
-usable_parts false w v is = absurd (false≢true is)
+pub usable_parts : (u w v o : Bool) → (u && (w && (v && o))) ≡ true → (u ≡ true) × (w ≡ true) × (v ≡ true) × (o ≡ true)
+usable_parts true true true true is = (refl, refl, refl, refl)
+usable_parts true true true false is = absurd (false≢true is)
+usable_parts true true false o is = absurd (false≢true is)
+usable_parts true false v o is = absurd (false≢true is)
+usable_parts false w v o is = absurd (false≢true is)
 
 module _ (s : Setting) (h : History) (q p : ℕ) (legal : IsLegal s h) (lp : p < piece_count s.torrent)
     (some : some_block_of s.torrent p (usable s h q) ≡ true) where
@@ -53,10 +56,15 @@ module _ (s : Setting) (h : History) (q p : ℕ) (legal : IsLegal s h) (lp : p <
   found = (let w = any_witness (block_count s.torrent p) (λ k. usable s h q (block s.torrent p k)) some in (w.0, w.1, w.2))
 
   parts : (unasked s h (block s.torrent p found.0) ≡ true) × (wanted s h p ≡ true) × (gives h q p ≡ true)
-  parts = usable_parts (unasked s h (block s.torrent p found.0)) (wanted s h p) (gives h q p) found.2
+      × (not (overdue h q (block s.torrent p found.0)) ≡ true)
+  parts = usable_parts (unasked s h (block s.torrent p found.0)) (wanted s h p) (gives h q p) (not (overdue h q (block s.torrent p found.0))) found.2
 
   pub usable_shown : shows h q p ≡ true
   usable_shown = (and_parts (shows h q p) (nat_le (level h p) (reach h q)) parts.2).0
+
+  pub usable_offered : offers s h q p ≡ true
+  usable_offered = and_from (shows h q p) (not (is_spent s h q p)) usable_shown (ap not (left_unspent s h q p found.0 found.1 parts.0
+      (not-true (overdue h q (block s.torrent p found.0)) parts.3)))
 
   free : held_or_asked s h (block s.torrent p found.0) ≡ false
   free = not-true (held_or_asked s h (block s.torrent p found.0)) parts.0
@@ -78,7 +86,7 @@ module _ (s : Setting) (h : History) (q p : ℕ) (legal : IsLegal s h) (lp : p <
     by_touch : (x : Bool) → some_block_of s.torrent p (held_or_asked s h) ≡ x
         → ((begun s h p ≡ true) × (stage_of_row (piece_of s h p) ≡ Open)) ⊎ (is_candidate s h q p ≡ true)
     by_touch true is = inl (and_from (not (had h p)) _ (ap not usable_lacks) is, begun_stage s h p false usable_lacks usable_chosen is usable_left)
-    by_touch false is = inr (and_from (wanted s h p) _ parts.1 (and_from (shows h q p) _ usable_shown (and_from (not (had h p)) _ (ap not usable_lacks)
+    by_touch false is = inr (and_from (wanted s h p) _ parts.1 (and_from (offers s h q p) _ usable_offered (and_from (not (had h p)) _ (ap not usable_lacks)
         (ap not is))))
 
   pub usable_block : (k : ℕ) × (k < block_count s.torrent p) × (usable s h q (block s.torrent p k) ≡ true)
@@ -103,7 +111,7 @@ none_at s h q n legal no_more no_start p lp same = false_from_ne_true (some_bloc
 pub beyond_reach : (s : Setting) (h : History) (q n : ℕ) → nat_le n (reach h q) ≡ false → NoneAt s h q n
 beyond_reach s h q n far p lp same = false_from_ne_true (some_block_of s.torrent p (usable s h q)) (λ some.
     let w = any_witness (block_count s.torrent p) (λ k. usable s h q (block s.torrent p k)) some in
-    let known = usable_parts (unasked s h (block s.torrent p w.0)) (wanted s h p) (gives h q p) w.2 in
+    let known = usable_parts (unasked s h (block s.torrent p w.0)) (wanted s h p) (gives h q p) (not (overdue h q (block s.torrent p w.0))) w.2 in
     false≢true (sym far ∙ (ap (λ (m : ℕ). nat_le m (reach h q)) (sym same) ∙ (and_parts (shows h q p) (nat_le (level h p) (reach h q)) known.2).1)))
 
 -- where no piece is in the groups of the open and the unbegun ones of a level
@@ -194,43 +202,31 @@ module _ (s : Setting) (h : History) (q n : ℕ) (above : NoneAbove s h q n) whe
       false≢true (sym none ∙ some_found s.torrent (goes_on s h q n) c (block_is_block s.torrent p k lp lk)
       (and_from (usable s h q c) _ usage (and_from (begun s h p) (level h p == n) under_way (eq-eqb (level h p) n level_is)))))))
 
-  -- block 0 of the candidate that ranks first may be asked for
-  pub candidate_starts : (p : ℕ) (rare : Bool) → n ≤ reach h q → IsLayout s.torrent → rare ≡ not (nat_lt (had_count s h) s.random) → p < piece_count s.torrent
-      → FindsLeast (is_candidate_at s h q n) (rank_of s h rare) 0 (piece_count s.torrent) (Some p)
-      → (is_block s.torrent (block s.torrent p 0) ≡ true) × (usable s h q (block s.torrent p 0) ≡ true) × (level h p ≡ n)
-      × (starts s h q (block s.torrent p 0) ≡ true)
-  candidate_starts p rare near layout rare_is lp found =
-      let some = first_block s.torrent p layout lp in
-      let is = at_level s h q n p found.0 in
-      let fresh = candidate_parts s h q p is.0 in
-      let fits = candidate_usable s h q p lp some (let same = is.1 in omega (arith, near, same)) is.0 in (
-        block_is_block s.torrent p 0 lp some,
-        fits,
-        is.1,
-        and_from (tops s h q (block s.torrent p 0)) _ (tops_at (block s.torrent p 0) fits is.1)
-            (and_from (unbegun s h p) _ (and_from (not (had h p)) _ (ap not fresh.2) (ap not fresh.3))
-            (by_rank rare rare_is (λ r lr fits same. found.1 r (omega arith) lr (candidate_at s h q n r fits (same ∙ is.1))))),
-      )
-    where
-      by_rank : (x : Bool) → x ≡ not (nat_lt (had_count s h) s.random) →
-          ((r : ℕ) → r < piece_count s.torrent → is_candidate s h q r ≡ true → level h r ≡ level h p → rank_of s h x p ≤ rank_of s h x r)
-          → (nat_lt (had_count s h) s.random || is_rarest s h q p) ≡ true
-      by_rank true x_is least = or_right (nat_lt (had_count s h) s.random) (is_rarest s h q p) (least_is_rarest s h q p least)
-      by_rank false x_is least = or_left (nat_lt (had_count s h) s.random) (is_rarest s h q p) (never (nat_lt (had_count s h) s.random) (sym x_is))
-        where
-          never : (x : Bool) → not x ≡ false → x ≡ true
-          never true is = refl
-          never false is = absurd (false≢true (sym is))
-
 -- ---- pieces that give
 
+-- where not each block is held or asked one is unasked
+some_unasked : (s : Setting) (h : History) (p : ℕ) → each_block_of s.torrent p (held_or_asked s h) ≡ false → some_block_of s.torrent p (unasked s h) ≡ true
+some_unasked s h p left = by_left (some_block_of s.torrent p (unasked s h)) refl where
+  by_left : (x : Bool) → some_block_of s.torrent p (unasked s h) ≡ x → x ≡ true
+  by_left true some = refl
+  by_left false none = absurd (false≢true (sym left ∙ all_found (block_count s.torrent p)
+      (λ k. held_or_asked s h (block s.torrent p k)) (λ k lk. not-false (held_or_asked s h (block s.torrent p k))
+      (any_fails (block_count s.torrent p) (λ j. unasked s h (block s.torrent p j)) k none lk))))
+
 module _ (s : Setting) (h : History) (q n p : ℕ) (layout : IsLayout s.torrent) (is : IsLevel n) where
-  -- an open piece that is shown gives
-  pub open_gives : p < piece_count s.torrent → stage_of_row (piece_of s h p) ≡ Open → shows_at h q n p ≡ true → Gives s h q n p
+  -- an open piece that is offered gives
+  pub open_gives : p < piece_count s.torrent → stage_of_row (piece_of s h p) ≡ Open → offers_at s h q n p ≡ true → Gives s h q n p
   open_gives lp stage shown =
       let known = stage_open s h p stage in
-      let at_it = and_parts (shows h q p) (level h p == n) shown in
-      record { within = lp; level_is = eqb-true (level h p) n at_it.1; shown = at_it.0; picked = known.1; left = known.3 }
+      let at_it = and_parts (offers s h q p) (level h p == n) shown in
+      let offered = and_parts (shows h q p) (not (is_spent s h q p)) at_it.0 in
+      record {
+        within = lp;
+        level_is = eqb-true (level h p) n at_it.1;
+        shown = offered.0;
+        picked = known.1;
+        left = offered_left s h q p (some_unasked s h p known.3) (not-true (is_spent s h q p) offered.1);
+      }
 
   -- so does a candidate
   pub candidate_gives : p < piece_count s.torrent → is_candidate_at s h q n p ≡ true → Gives s h q n p
@@ -243,37 +239,67 @@ module _ (s : Setting) (h : History) (q n p : ℕ) (layout : IsLayout s.torrent)
         level_is = level_is.1;
         shown = known.1;
         picked = level_chosen h p n is level_is.1;
-        left = all_fails (block_count s.torrent p) (λ k. held_or_asked s h (block s.torrent p k)) 0 some
-            (any_fails (block_count s.torrent p) (λ k. held_or_asked s h (block s.torrent p k)) 0 known.3 some);
+        left = candidate_left s h q p some level_is.0;
       }
 
--- in a piece that gives an unasked block is found, and it is usable
-pub given : (s : Setting) (h : History) (q n p : ℕ) (found : Option Block) → n ≤ reach h q → Gives s h q n p → FindsOf s.torrent p (unasked s h) found
-    → (b : Block) × (found ≡ Some b) × (is_block s.torrent b ≡ true) × (b.piece ≡ p) × (usable s h q b ≡ true)
-given s h q n p None near has none = absurd (false≢true (sym has.left ∙ all_found (block_count s.torrent p)
-    (λ k. held_or_asked s h (block s.torrent p k)) (λ k lk. touched (held_or_asked s h (block s.torrent p k))
-    (any_fails (block_count s.torrent p) (λ j. unasked s h (block s.torrent p j)) k none lk))))
-  where
-    touched : (x : Bool) → not x ≡ false → x ≡ true
-    touched true is = refl
-    touched false is = absurd (false≢true (sym is))
-given s h q n p (Some b) near has some = (
-  b,
-  refl,
+-- in a piece that gives a block that is left is usable
+pub given_block : (s : Setting) (h : History) (q n p : ℕ) (b : Block) → n ≤ reach h q → Gives s h q n p → FindsOf s.torrent p (is_left s h q) (Some b)
+    → (is_block s.torrent b ≡ true) × (b.piece ≡ p) × (usable s h q b ≡ true)
+given_block s h q n p b near has some = (
   ap (is_block s.torrent) some.2 ∙ block_is_block s.torrent p some.0 has.within some.1,
   ap (λ (c : Block). c.piece) some.2,
-  ap (usable s h q) some.2 ∙ and_from (unasked s h (block s.torrent p some.0)) _ (ap (unasked s h) (sym some.2) ∙ some.3)
-      (and_from (wanted s h p) (gives h q p) (wanted_chosen s h p has.within ∙ has.picked)
+  ap (usable s h q) some.2 ∙ (
+      let parts = and_parts (unasked s h (block s.torrent p some.0)) (not (overdue h q (block s.torrent p some.0)))
+      (ap (is_left s h q) (sym some.2) ∙ some.3) in
+      and_from (unasked s h (block s.torrent p some.0)) _ parts.0
+      (and_from (wanted s h p) _ (wanted_chosen s h p has.within ∙ has.picked)
+      (and_from (gives h q p) (not (overdue h q (block s.torrent p some.0)))
       (and_from (shows h q p) (nat_le (level h p) (reach h q)) has.shown
-      (le-leb (level h p) (reach h q) (let same = has.level_is in omega (arith, near, same))))),
+      (le-leb (level h p) (reach h q) (let same = has.level_is in omega (arith, near, same)))) parts.1))),
 )
+
+-- and one is found
+pub given : (s : Setting) (h : History) (q n p : ℕ) (found : Option Block) → n ≤ reach h q → Gives s h q n p → FindsOf s.torrent p (is_left s h q) found
+    → (b : Block) × (found ≡ Some b) × (is_block s.torrent b ≡ true) × (b.piece ≡ p) × (usable s h q b ≡ true)
+given s h q n p None near has none = absurd (false≢true (sym none ∙ has.left))
+given s h q n p (Some b) near has some = (let known = given_block s h q n p b near has some in (b, refl, known.0, known.1, known.2))
+
+module _ (s : Setting) (h : History) (q n : ℕ) (above : NoneAbove s h q n) where
+  -- the first block left of the candidate that ranks first may be asked for
+  pub candidate_starts : (p : ℕ) (rare : Bool) → n ≤ reach h q → IsLayout s.torrent → rare ≡ not (nat_lt (had_count s h) s.random) → p < piece_count s.torrent
+      → FindsLeast (is_candidate_at s h q n) (rank_of s h rare) 0 (piece_count s.torrent) (Some p) → IsLevel n
+      → (b : Block) → FindsOf s.torrent p (is_left s h q) (Some b)
+      → (is_block s.torrent b ≡ true) × (usable s h q b ≡ true) × (level h b.piece ≡ n) × (starts s h q b ≡ true)
+  candidate_starts p rare near layout rare_is lp found is_level b finds =
+      let is = at_level s h q n p found.0 in
+      let fresh = candidate_parts s h q p is.0 in
+      let known = given_block s h q n p b near (candidate_gives s h q n p layout is_level lp found.0) finds in
+      let same = known.1 in (
+        known.0,
+        known.2,
+        ap (level h) same ∙ is.1,
+        and_from (tops s h q b) _ (tops_at s h q n above b known.2 (ap (level h) same ∙ is.1))
+            (subst (λ (r : ℕ). (unbegun s h r && (nat_lt (had_count s h) s.random || is_rarest s h q r)) ≡ true) (sym same)
+            (and_from (unbegun s h p) _ (and_from (not (had h p)) _ (ap not fresh.2) (ap not fresh.3))
+            (by_rank rare rare_is (λ r lr fits alike. found.1 r (omega arith) lr (candidate_at s h q n r fits (alike ∙ is.1)))))),
+      )
+    where
+      by_rank : (x : Bool) → x ≡ not (nat_lt (had_count s h) s.random) →
+          ((r : ℕ) → r < piece_count s.torrent → is_candidate s h q r ≡ true → level h r ≡ level h p → rank_of s h x p ≤ rank_of s h x r)
+          → (nat_lt (had_count s h) s.random || is_rarest s h q p) ≡ true
+      by_rank true x_is least = or_right (nat_lt (had_count s h) s.random) (is_rarest s h q p) (least_is_rarest s h q p least)
+      by_rank false x_is least = or_left (nat_lt (had_count s h) s.random) (is_rarest s h q p) (never (nat_lt (had_count s h) s.random) (sym x_is))
+        where
+          never : (x : Bool) → not x ≡ false → x ≡ true
+          never true is = refl
+          never false is = absurd (false≢true (sym is))
 
 -- ---- begun pieces
 
 -- a block that goes on is of an open piece that is listed and shown
 goes_on_listed : (s : Setting) (h : History) (q n : ℕ) (pieces : List ℕ) → IsLegal s h → ListsOpen (groups_of s h) pieces → (p k : ℕ)
     → p < piece_count s.torrent → k < block_count s.torrent p → goes_on s h q n (block s.torrent p k) ≡ true
-    → (i : ℕ) × (i < length pieces) × (at pieces i ≡ p) × (shows_at h q n (at pieces i) ≡ true)
+    → (i : ℕ) × (i < length pieces) × (at pieces i ≡ p) × (offers_at s h q n (at pieces i) ≡ true)
 goes_on_listed s h q n pieces legal lists p k lp lk on =
     let parts = and_parts (usable s h q (block s.torrent p k)) _ on in
     let rest = and_parts (begun s h p) (level h p == n) parts.1 in
@@ -285,12 +311,12 @@ goes_on_listed s h q n pieces legal lists p k lp lk on =
       listed.0,
       listed.1,
       listed.2,
-      ap (shows_at h q n) listed.2 ∙ and_from (shows h q p) (level h p == n) (usable_shown s h q p legal lp some) rest.1,
+      ap (offers_at s h q n) listed.2 ∙ and_from (offers s h q p) (level h p == n) (usable_offered s h q p legal lp some) rest.1,
     )
 
--- where no open piece of the level is shown nothing goes on
+-- where no open piece of the level is offered nothing goes on
 pub goes_on_none : (s : Setting) (h : History) (q n : ℕ) (pieces : List ℕ) → IsLegal s h → ListsOpen (groups_of s h) pieces
-    → FindsListed (shows_at h q n) pieces (length pieces) None → some_block s.torrent (goes_on s h q n) ≡ false
+    → FindsListed (offers_at s h q n) pieces (length pieces) None → some_block s.torrent (goes_on s h q n) ≡ false
 goes_on_none s h q n pieces legal lists none = none_in_pieces s.torrent (goes_on s h q n) (λ p lp.
     any_none (block_count s.torrent p) (λ k. goes_on s h q n (block s.torrent p k)) (λ k lk.
     false_from_ne_true (goes_on s h q n (block s.torrent p k)) (λ on.
@@ -302,15 +328,15 @@ goes_on_none s h q n pieces legal lists none = none_in_pieces s.torrent (goes_on
 module _ (s : Setting) (h : History) (q n : ℕ) (pieces : List ℕ) (legal : IsLegal s h) (layout : IsLayout s.torrent) (is : IsLevel n)
     (lists : ListsOpen (groups_of s h) pieces) where
   -- a piece with a usable block is no less than the least open one that is shown, or than the least that may begin
-  no_less : (shown_one fresh : Option ℕ) (m : ℕ) → lesser_of shown_one fresh ≡ Some m → FindsListed (shows_at h q n) pieces (length pieces) shown_one
-      → IfSome shown_one (λ p. (i : ℕ) → i < length pieces → shows_at h q n (at pieces i) ≡ true → p ≤ at pieces i)
+  no_less : (shown_one fresh : Option ℕ) (m : ℕ) → lesser_of shown_one fresh ≡ Some m → FindsListed (offers_at s h q n) pieces (length pieces) shown_one
+      → IfSome shown_one (λ p. (i : ℕ) → i < length pieces → offers_at s h q n (at pieces i) ≡ true → p ≤ at pieces i)
       → FindsLeast (is_candidate_at s h q n) (λ r. r) 0 (piece_count s.torrent) fresh
       → (r : ℕ) → r < piece_count s.torrent → level h r ≡ n → some_block_of s.torrent r (usable s h q) ≡ true → m ≤ r
   no_less shown_one fresh m lesser opens first begins r lr same some = ⊎_elim
       (λ (on : (begun s h r ≡ true) × (stage_of_row (piece_of s h r) ≡ Open)).
       let listed = open_listed s h pieces r lists lr on.1 in
-      let shown : shows_at h q n (at pieces listed.0) ≡ true = ap (shows_at h q n) listed.2
-      ∙ and_from (shows h q r) (level h r == n) (usable_shown s h q r legal lr some) (eq-eqb (level h r) n same) in
+      let shown : offers_at s h q n (at pieces listed.0) ≡ true = ap (offers_at s h q n) listed.2
+      ∙ and_from (offers s h q r) (level h r == n) (usable_offered s h q r legal lr some) (eq-eqb (level h r) n same) in
       by_open shown_one fresh lesser opens first listed shown)
       (λ (may : is_candidate s h q r ≡ true). by_fresh shown_one fresh lesser begins (candidate_at s h q n r may same))
       (usable_piece s h q r legal lr some)
@@ -324,9 +350,9 @@ module _ (s : Setting) (h : History) (q n : ℕ) (pieces : List ℕ) (legal : Is
         value (Some x) = x
         value None = 0
 
-      by_open : (o f : Option ℕ) → lesser_of o f ≡ Some m → FindsListed (shows_at h q n) pieces (length pieces) o
-          → IfSome o (λ p. (i : ℕ) → i < length pieces → shows_at h q n (at pieces i) ≡ true → p ≤ at pieces i)
-          → (listed : (i : ℕ) × (i < length pieces) × (at pieces i ≡ r)) → shows_at h q n (at pieces listed.0) ≡ true → m ≤ r
+      by_open : (o f : Option ℕ) → lesser_of o f ≡ Some m → FindsListed (offers_at s h q n) pieces (length pieces) o
+          → IfSome o (λ p. (i : ℕ) → i < length pieces → offers_at s h q n (at pieces i) ≡ true → p ≤ at pieces i)
+          → (listed : (i : ℕ) × (i < length pieces) × (at pieces i ≡ r)) → offers_at s h q n (at pieces listed.0) ≡ true → m ≤ r
       by_open None f lesser opens first listed shown = absurd (false≢true (sym (opens listed.0 listed.1) ∙ shown))
       by_open (Some p) None lesser opens first listed shown =
           let low = first listed.0 listed.1 shown in
@@ -351,7 +377,7 @@ module _ (s : Setting) (h : History) (q n : ℕ) (pieces : List ℕ) (legal : Is
 
   -- the lesser of both gives
   pub lesser_gives : (shown_one fresh : Option ℕ) (m : ℕ) → lesser_of shown_one fresh ≡ Some m →
-      FindsListed (shows_at h q n) pieces (length pieces) shown_one
+      FindsListed (offers_at s h q n) pieces (length pieces) shown_one
       → FindsLeast (is_candidate_at s h q n) (λ r. r) 0 (piece_count s.torrent) fresh → IfSome fresh (λ p. p < piece_count s.torrent)
       → Gives s h q n m
   lesser_gives shown_one fresh m lesser opens begins within = by_both shown_one fresh lesser opens begins within where
@@ -361,14 +387,14 @@ module _ (s : Setting) (h : History) (q n : ℕ) (pieces : List ℕ) (legal : Is
       value (Some x) = x
       value None = 0
 
-    from_open : (p : ℕ) → FindsListed (shows_at h q n) pieces (length pieces) (Some p) → Gives s h q n p
+    from_open : (p : ℕ) → FindsListed (offers_at s h q n) pieces (length pieces) (Some p) → Gives s h q n p
     from_open p found =
         let i = found.1.0 in
         let lp = subst (λ (r : ℕ). r < piece_count s.torrent) found.1.2 (open_within s h pieces lists i found.1.1) in
         let stage = subst (λ (r : ℕ). stage_of_row (piece_of s h r) ≡ Open) found.1.2 (listed_open s h pieces lists i found.1.1) in
         open_gives s h q n p layout is lp stage found.0
 
-    by_both : (o f : Option ℕ) → lesser_of o f ≡ Some m → FindsListed (shows_at h q n) pieces (length pieces) o
+    by_both : (o f : Option ℕ) → lesser_of o f ≡ Some m → FindsListed (offers_at s h q n) pieces (length pieces) o
         → FindsLeast (is_candidate_at s h q n) (λ r. r) 0 (piece_count s.torrent) f → IfSome f (λ p. p < piece_count s.torrent) → Gives s h q n m
     by_both None None lesser opens begins within = absurd (cc lesser)
     by_both (Some p) None lesser opens begins within = subst (Gives s h q n) (number p m lesser) (from_open p opens)
@@ -381,12 +407,12 @@ module _ (s : Setting) (h : History) (q n : ℕ) (pieces : List ℕ) (legal : Is
         subst (Gives s h q n) (sym same ∙ number (min p k) m lesser) (candidate_gives s h q n k layout is within begins.0)))
         (cases_lt p k)
 
-  -- an unasked block of it rises
+  -- the block of it that was found rises
   pub rises_at : (shown_one fresh : Option ℕ) (m : ℕ) (found : Option Block) → NoneAbove s h q n → n ≤ reach h q → lesser_of shown_one fresh ≡ Some m
-      → FindsListed (shows_at h q n) pieces (length pieces) shown_one
-      → IfSome shown_one (λ p. (i : ℕ) → i < length pieces → shows_at h q n (at pieces i) ≡ true → p ≤ at pieces i)
+      → FindsListed (offers_at s h q n) pieces (length pieces) shown_one
+      → IfSome shown_one (λ p. (i : ℕ) → i < length pieces → offers_at s h q n (at pieces i) ≡ true → p ≤ at pieces i)
       → FindsLeast (is_candidate_at s h q n) (λ r. r) 0 (piece_count s.torrent) fresh → IfSome fresh (λ p. p < piece_count s.torrent)
-      → FindsOf s.torrent m (unasked s h) found
+      → FindsOf s.torrent m (is_left s h q) found
       → (b : Block) × (found ≡ Some b) × (is_block s.torrent b ≡ true) × (rises s h q b ≡ true)
       × (level h b.piece ≡ n)
   rises_at shown_one fresh m found above near lesser opens first begins within finds =
@@ -417,7 +443,7 @@ module _ (s : Setting) (h : History) (q n : ℕ) (pieces : List ℕ) (legal : Is
       )
 
   -- and where there is neither nothing of the level is to be asked
-  pub rises_none : (shown_one fresh : Option ℕ) → lesser_of shown_one fresh ≡ None → FindsListed (shows_at h q n) pieces (length pieces) shown_one
+  pub rises_none : (shown_one fresh : Option ℕ) → lesser_of shown_one fresh ≡ None → FindsListed (offers_at s h q n) pieces (length pieces) shown_one
       → FindsLeast (is_candidate_at s h q n) (λ r. r) 0 (piece_count s.torrent) fresh → NoneAt s h q n
   rises_none None None lesser opens begins =
       none_at s h q n legal (goes_on_none s h q n pieces legal lists opens) (λ p lp. begins p (omega arith) lp)

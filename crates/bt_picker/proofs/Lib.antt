@@ -24,6 +24,7 @@ pub mod Lasting
 pub mod Leading
 pub mod Learning
 pub mod Levelled
+pub mod Overdue
 pub mod PeerSteps
 pub mod Picking
 pub mod PieceSteps

@@ -2,25 +2,27 @@
 use Rattle.std.proofs.Common.{◌≡◌, ◌⊎◌, ℕ, ◌+◌, ◌*◌, ◌%◌, ◌<◌, ◌≤◌, ◌==◌, Bool, true, false, not, ◌&&◌, ◌||◌, Some}
 use Rattle.std.proofs.Common.{refl, ap, sym, ◌∙◌, subst, arith, ⊎_elim}
 use Rattle.std.specs.Prelude.{nat_le, nat_lt}
-use Rattle.std.proofs.lemmas.Bool.{and_from, and_parts, cases_lt, eq-eqb, eqb-true, false≢true, le-ltb, leb-true}
+use Rattle.std.proofs.lemmas.Bool.{and_from, and_parts, cases_lt, eq-eqb, eqb-true, false≢true, le-ltb, leb-true, not-true}
 use Rattle.bt_meta.specs.declared.block.Block.{Block}
 use Rattle.bt_meta.specs.Layout.{IsLayout, block, block_count, block_size, piece_count}
 use Rattle.bt_history.specs.Setting.{Setting, each_block_of, is_block, some_block_of}
 use Rattle.bt_history.specs.History.{History}
 use Rattle.bt_history.specs.Legal.{IsLegal}
 use Rattle.bt_history.specs.Next.{doubles, is_candidate, is_rarest, rises, starts, tops, usable}
-use Rattle.bt_history.specs.Peers.{reach, shows}
-use Rattle.bt_history.specs.Pieces.{availability, begun, endgame, gives, had, had_count, held_or_asked, level, unasked, unbegun, wanted}
+use Rattle.bt_history.specs.Peers.{overdue, reach, shows}
+use Rattle.bt_history.specs.Pieces.{availability, begun, endgame, gives, had, had_count, held_or_asked, is_spent, level, offers, unasked, unbegun, wanted}
 use Rattle.bt_history.specs.Picks.{comes_before, is_first, place_in_round, turn}
 use Rattle.bt_history.proofs.Allowed.{top_usable}
 use Rattle.bt_history.proofs.Below.{all_at, all_found, any_found}
+use Rattle.bt_history.proofs.Delays.{left_unspent}
 use Rattle.bt_history.proofs.Levels.{each_at, implied, top_above}
 use Rattle.bt_history.proofs.LineLaws.{block_index, block_is_block}
-use Rattle.bt_picker.specs.Search.{FindsLeast, NoneAbove, NoneBeforeIn, is_candidate_at, order_of, rank_of}
+use Rattle.bt_picker.specs.Search.{FindsLeast, FindsOf, IsLevel, NoneAbove, NoneBeforeIn, is_candidate_at, is_left, order_of, rank_of}
 use Rattle.bt_picker.proofs.Endings.{doubles_stage}
 use Rattle.bt_picker.proofs.Levelled.{candidate_starts, usable_below, usable_parts}
 use Rattle.bt_picker.proofs.Rarest.{at_level}
 use Rattle.bt_picker.proofs.Rounds.{later_place, order_least}
+use Rattle.bt_picker.proofs.Scans.{first_in_piece}
 use Rattle.bt_picker.proofs.Stages.{candidate_at}
 
 -- ---- a block that comes before no other
@@ -104,33 +106,51 @@ least_first s h word test b passes own others = first_from s h word test b passe
 -- ---- each rule's pick
 
 module _ (s : Setting) (h : History) (q n : ℕ) (above : NoneAbove s h q n) where
-  -- block 0 of the candidate that comes first in order is the first that starts
+  -- the first block left of the candidate that comes first in order is the first that starts
   pub starts_first : (word p : ℕ) (rare : Bool) → n ≤ reach h q → IsLayout s.torrent → rare ≡ not (nat_lt (had_count s h) s.random) → p < piece_count s.torrent
       → FindsLeast (is_candidate_at s h q n) (order_of s h rare (word % piece_count s.torrent)) 0 (piece_count s.torrent) (Some p)
-      → is_first s h word (starts s h q) (block s.torrent p 0) ≡ true
-  starts_first word p rare near layout rare_is lp found =
+      → IsLevel n → (b : Block) → FindsOf s.torrent p (is_left s h q) (Some b) → is_first s h word (starts s h q) b ≡ true
+  starts_first word p rare near layout rare_is lp found is_level b finds =
       let first = word % piece_count s.torrent in
-      let b = block s.torrent p 0 in
-      let own = candidate_starts s h q n above p rare near layout rare_is lp (order_least s h rare first (is_candidate_at s h q n) (Some p) found) in
-      let fresh = and_parts (unbegun s h p) _ (and_parts (tops s h q b) _ own.3).1 in
+      let own = candidate_starts s h q n above p rare near layout rare_is lp
+      (order_least s h rare first (is_candidate_at s h q n) (Some p) found) is_level b finds in
+      let piece_is : b.piece ≡ p = ap (λ (c : Block). c.piece) finds.2 in
+      let fresh = and_parts (unbegun s h b.piece) _ (and_parts (tops s h q b) _ own.3).1 in
       first_from s h word (starts s h q) b own.3 (λ k i lk li too.
       let c = block s.torrent k i in
       let parts = and_parts (tops s h q c) _ too in
       let rest = and_parts (unbegun s h k) _ parts.1 in
       let usage = top_usable s h q c parts.0 in
-      let parts_of = usable_parts (unasked s h c) (wanted s h k) (gives h q k) usage in
+      let parts_of = usable_parts (unasked s h c) (wanted s h k) (gives h q k) (not (overdue h q c)) usage in
+      let unspent = left_unspent s h q k i li parts_of.0 (not-true (overdue h q c) parts_of.3) in
       let shown = (and_parts (shows h q k) (nat_le (level h k) (reach h q)) parts_of.2).0 in
       let low = usable_below s h q n above k lk (any_found (block_count s.torrent k) (λ j. usable s h q (block s.torrent k j)) i li usage) in
       let high = top_above s h q c b parts.0 own.0 own.1 in
       let level_is : level h k ≡ n = omega (arith, low, high, own.2) in
-      let may : is_candidate s h q k ≡ true = and_from (wanted s h k) _ parts_of.1 (and_from (shows h q k) (unbegun s h k) shown rest.0) in
+      let may : is_candidate s h q k ≡ true = and_from (wanted s h k) _ parts_of.1 (and_from (offers s h q k) (unbegun s h k)
+      (and_from (shows h q k) (not (is_spent s h q k)) shown (ap not unspent)) rest.0) in
       let le = found.1 k (omega arith) lk (candidate_at s h q n k may level_is) in
-      let ranks = no_rarer rare rare_is p k (level_is ∙ sym own.2) (at_level s h q n p found.0).0 lp rest.1 in
+      let candidate = at_level s h q n p found.0 in
+      let ranks = no_rarer rare rare_is p k (level_is ∙ sym candidate.1) candidate.0 lp rest.1 in
       let places = later_place (rank_of s h rare p) (rank_of s h rare k) (2 * piece_count s.torrent) _ _ ranks le in
-      let mine = turn_unbegun s h word p (unbegun_isnt s h p fresh.0) in
+      let mine = turn_unbegun s h word p (unbegun_isnt s h p (subst (λ (m : ℕ). unbegun s h m ≡ true) piece_is fresh.0)) in
+      let here : turn s h word b.piece ≡ turn s h word p = ap (turn s h word) piece_is in
       let its = turn_unbegun s h word k (unbegun_isnt s h k rest.0) in
-      not_before s h word c b (omega (arith, level_is, own.2)) (λ same. (omega (arith, places, mine, its), λ equal. omega arith)))
+      not_before s h word c b (omega (arith, level_is, own.2)) (λ same. (
+        omega (arith, places, mine, its, here),
+        λ equal. in_place b finds k i li (sym piece_is ∙ sym equal)
+            (and_from (unasked s h c) (not (overdue h q c)) parts_of.0 parts_of.3),
+      )))
     where
+      -- no block that is left of the piece comes before the one that was found
+      in_place : (b : Block) → FindsOf s.torrent p (is_left s h q) (Some b) → (k i : ℕ) → i < block_count s.torrent k → p ≡ k
+          → is_left s h q (block s.torrent k i) ≡ true → b.begin ≤ block_size * i
+      in_place b finds k i li same left = ⊎_elim
+          (λ (earlier : b.piece < p). absurd (let own = ap (λ (c : Block). c.piece) finds.2 in omega (arith, earlier, own)))
+          (λ (here : (b.piece ≡ p) × (b.begin ≤ block_size * i)). here.1)
+          (first_in_piece s.torrent p (is_left s h q) b finds i (subst (λ (m : ℕ). i < block_count s.torrent m) (sym same) li)
+          (ap (λ (m : ℕ). is_left s h q (block s.torrent m i)) same ∙ left))
+
       -- one that starts ranks no later than another candidate of its level
       no_rarer : (x : Bool) → x ≡ not (nat_lt (had_count s h) s.random) → (r k : ℕ) → level h k ≡ level h r → is_candidate s h q r ≡ true
           → r < piece_count s.torrent → (nat_lt (had_count s h) s.random || is_rarest s h q k) ≡ true → rank_of s h x k ≤ rank_of s h x r
@@ -146,9 +166,9 @@ module _ (s : Setting) (h : History) (q n : ℕ) (above : NoneAbove s h q n) whe
           rarest_then true z is or_is = absurd (false≢true is)
           rarest_then false z is or_is = or_is
 
--- of the blocks of the piece that comes first in order the first unasked one
+-- of the blocks of the piece that comes first in order the first one that is left
 pub rises_first : (s : Setting) (h : History) (q word : ℕ) (b : Block) → is_block s.torrent b ≡ true → rises s h q b ≡ true
-    → NoneBeforeIn s.torrent (unasked s h) b b.piece → is_first s h word (rises s h q) b ≡ true
+    → NoneBeforeIn s.torrent (is_left s h q) b b.piece → is_first s h word (rises s h q) b ≡ true
 rises_first s h q word b inside up least = first_from s h word (rises s h q) b up (λ p k lp lk too.
     let c = block s.torrent p k in
     let c_inside = block_is_block s.torrent p k lp lk in
@@ -161,8 +181,10 @@ rises_first s h q word b inside up least = first_from s h word (rises s h q) b u
     let back = leb-true p b.piece (implied (tops s h q b) _ (each_at s (λ d. not (tops s h q d) || nat_le p d.piece) b other.1 inside) own.0) in
     let same : p ≡ b.piece = omega (arith, forth, back) in
     let equal : turn s h word p ≡ turn s h word b.piece = ap (turn s h word) same in
+    let parts = usable_parts (unasked s h c) (wanted s h p) (gives h q p) (not (overdue h q c)) usage in
     let spot = least k (subst (λ (r : ℕ). k < block_count s.torrent r) same lk)
-    (subst (λ (r : ℕ). unasked s h (block s.torrent r k) ≡ true) same (and_parts (unasked s h c) _ usage).0) in
+    (subst (λ (r : ℕ). is_left s h q (block s.torrent r k) ≡ true) same
+    (and_from (unasked s h c) (not (overdue h q c)) parts.0 parts.3)) in
     not_before s h word c b low (λ levels. (
       omega (arith, equal),
       λ pieces. ⊎_elim

@@ -9,7 +9,7 @@ use Rattle.bt_meta.specs.Layout.{piece_count}
 use Rattle.bt_history.specs.Setting.{Setting}
 use Rattle.bt_history.specs.History.{History}
 use Rattle.bt_history.specs.Peers.{joined, shows}
-use Rattle.bt_history.specs.Pieces.{availability, level}
+use Rattle.bt_history.specs.Pieces.{availability, level, offers}
 use Rattle.bt_history.specs.Legal.{IsLegal}
 use Rattle.bt_history.specs.Next.{is_candidate}
 use Rattle.bt_history.specs.Picks.{place_in_round}
@@ -81,15 +81,15 @@ module _ (s : Setting) (h : History) (q n k : ℕ) (pieces : List ℕ) (legal : 
     (lists : ListsGroup (groups_of s h) (group_number n (Unbegun k)) pieces) where
   -- a candidate that so many peers show is listed
   pub among : (p : ℕ) → p < piece_count s.torrent → is_candidate_at s h q n p ≡ true → min (availability s h p) CROWD ≡ min k CROWD →
-      (shows h q p ≡ true) × ((i : ℕ) × (i < length pieces) × (at pieces i ≡ p))
+      (offers s h q p ≡ true) × ((i : ℕ) × (i < length pieces) × (at pieces i ≡ p))
   among p lp fits same =
       let parts = at_level s h q n p fits in
       let known = candidate_stage s h q p parts.0 in
       let place : place_of (Unbegun (availability s h p)) ≡ place_of (Unbegun k) = omega (arith, same) in
       (known.0, place_listed s h n (Unbegun k) p pieces lists lp parts.1 (ap place_of known.1 ∙ place))
 
-  -- and a listed one that the peer shows is such a candidate
-  pub listed_candidate : (p i : ℕ) → i < length pieces → at pieces i ≡ p → shows h q p ≡ true →
+  -- and a listed one that the peer offers is such a candidate
+  pub listed_candidate : (p i : ℕ) → i < length pieces → at pieces i ≡ p → offers s h q p ≡ true →
       (p < piece_count s.torrent) × (is_candidate_at s h q n p ≡ true) × (min (availability s h p) CROWD ≡ min k CROWD)
   listed_candidate p i li is shown =
       let place = listed_place s h n (Unbegun k) pieces legal is_level (omega arith) lists i li in
@@ -99,23 +99,23 @@ module _ (s : Setting) (h : History) (q n k : ℕ) (pieces : List ℕ) (legal : 
       (lp, candidate_at s h q n p known.0 (subst (λ (m : ℕ). level h m ≡ n) is place.1), known.1)
 
   -- what ranks first of the list ranks first of all candidates that so many peers show
-  pub group_first : (rank : ℕ → ℕ) (found : Option ℕ) → FindsRarest (shows h q) rank pieces (length pieces) found
+  pub group_first : (rank : ℕ → ℕ) (found : Option ℕ) → FindsRarest (offers s h q) rank pieces (length pieces) found
       → FirstWhere (is_candidate_at s h q n) rank (piece_count s.torrent) (λ r. min (availability s h r) CROWD ≡ min k CROWD) found
   group_first rank None none = λ p lp same. false_from_ne_true (is_candidate_at s h q n p) (λ fits.
       let listed = among p lp fits same in
-      false≢true (sym (none listed.1.0 listed.1.1) ∙ (ap (shows h q) listed.1.2 ∙ listed.0)))
+      false≢true (sym (none listed.1.0 listed.1.1) ∙ (ap (offers s h q) listed.1.2 ∙ listed.0)))
   group_first rank (Some p) some =
       let own = listed_candidate p some.1.0 some.1.1 some.1.2 some.0 in (
         own.0,
         own.1,
         λ r lr same fits.
             let listed = among r lr fits same in
-            subst (λ (m : ℕ). rank p ≤ rank m) listed.1.2 (some.2 listed.1.0 listed.1.1 (ap (shows h q) listed.1.2 ∙ listed.0)),
+            subst (λ (m : ℕ). rank p ≤ rank m) listed.1.2 (some.2 listed.1.0 listed.1.1 (ap (offers s h q) listed.1.2 ∙ listed.0)),
       )
 
 module _ (s : Setting) (h : History) (q n k first : ℕ) (pieces : List ℕ) (legal : IsLegal s h) (is_level : IsLevel n) (under : k < CROWD)
     (lists : ListsGroup (groups_of s h) (group_number n (Unbegun k)) pieces) (so_far : NoneRarer s h q n k) where
-  pub rarest_found : (p : ℕ) → FindsRarest (shows h q) (order_of s h false first) pieces (length pieces) (Some p)
+  pub rarest_found : (p : ℕ) → FindsRarest (offers s h q) (order_of s h false first) pieces (length pieces) (Some p)
       → (FindsLeast (is_candidate_at s h q n) (order_of s h true first) 0 (piece_count s.torrent) (Some p)) × (p < piece_count s.torrent)
   rarest_found p some =
       let own = listed_candidate s h q n k pieces legal is_level lists p some.1.0 some.1.1 some.1.2 some.0 in
@@ -139,11 +139,11 @@ module _ (s : Setting) (h : History) (q n k first : ℕ) (pieces : List ℕ) (le
         own.0,
       )
 
-  pub rarest_more : FindsRarest (shows h q) (order_of s h false first) pieces (length pieces) None → NoneRarer s h q n (k + 1)
+  pub rarest_more : FindsRarest (offers s h q) (order_of s h false first) pieces (length pieces) None → NoneRarer s h q n (k + 1)
   rarest_more none p lp fits = ⊎_elim
       (λ (same : availability s h p ≡ k).
       let listed = among s h q n k pieces legal is_level lists p lp fits (ap (λ (m : ℕ). min m CROWD) same) in
-      absurd (false≢true (sym (none listed.1.0 listed.1.1) ∙ (ap (shows h q) listed.1.2 ∙ listed.0))))
+      absurd (false≢true (sym (none listed.1.0 listed.1.1) ∙ (ap (offers s h q) listed.1.2 ∙ listed.0))))
       (λ (apart : availability s h p ≡ k → ⊥). (let low = so_far p lp fits in omega (arith, low, apart)))
       (cases_eq (availability s h p) k)
 
@@ -161,7 +161,7 @@ crowded s h k p all =
 module _ (s : Setting) (h : History) (q n k first : ℕ) (pieces : List ℕ) (legal : IsLegal s h) (is_level : IsLevel n)
     (all : (s.workers < k) ⊎ (CROWD ≤ k)) (lists : ListsGroup (groups_of s h) (group_number n (Unbegun CROWD)) pieces) where
   -- where no candidate is left but the crowd's, the rarest of those is the rarest of all
-  pub crowd_found : NoneRarer s h q n k → (found : Option ℕ) → FindsRarest (shows h q) (order_of s h true first) pieces (length pieces) found
+  pub crowd_found : NoneRarer s h q n k → (found : Option ℕ) → FindsRarest (offers s h q) (order_of s h true first) pieces (length pieces) found
       → (FindsLeast (is_candidate_at s h q n) (order_of s h true first) 0 (piece_count s.torrent) found)
       × IfSome found (λ p. p < piece_count s.torrent)
   crowd_found so_far found some = all_of found (group_first s h q n CROWD pieces legal is_level lists (order_of s h true first) found some)
@@ -183,7 +183,7 @@ module _ (s : Setting) (h : History) (q n k first : ℕ) (pieces : List ℕ) (le
   -- of what was found before the crowd and in it the first in the round is the first of all
   pub crowd_first : (one other : Option ℕ)
       → FirstWhere (is_candidate_at s h q n) (place_in_round (piece_count s.torrent) first) (piece_count s.torrent) (λ r. availability s h r < k) one
-      → FindsRarest (shows h q) (order_of s h false first) pieces (length pieces) other
+      → FindsRarest (offers s h q) (order_of s h false first) pieces (length pieces) other
       → (FindsLeast (is_candidate_at s h q n) (order_of s h false first) 0 (piece_count s.torrent)
       (earlier_of (piece_count s.torrent) first one other))
       × IfSome (earlier_of (piece_count s.torrent) first one other) (λ p. p < piece_count s.torrent)
@@ -199,7 +199,7 @@ module _ (s : Setting) (h : History) (q n k first : ℕ) (pieces : List ℕ) (le
   -- one group more: of what was found before and in it the first in the round is the first of both
   pub group_more : (one other : Option ℕ)
       → FirstWhere (is_candidate_at s h q n) (place_in_round (piece_count s.torrent) first) (piece_count s.torrent) (λ r. availability s h r < k) one
-      → FindsRarest (shows h q) (order_of s h false first) pieces (length pieces) other
+      → FindsRarest (offers s h q) (order_of s h false first) pieces (length pieces) other
       → FirstWhere (is_candidate_at s h q n) (place_in_round (piece_count s.torrent) first) (piece_count s.torrent)
       (λ r. availability s h r < k + 1) (earlier_of (piece_count s.torrent) first one other)
   group_more one other before group =
@@ -216,11 +216,11 @@ module _ (s : Setting) (h : History) (q n k first : ℕ) (pieces : List ℕ) (le
 
 -- a walk over a group finds of its list the piece that comes first in the round
 pub walked : (s : Setting) (h : History) (q g first high : ℕ) (pieces : List ℕ) (p : ℕ) → ListsGroup (groups_of s h) g pieces → high ≤ piece_count s.torrent
-    → FindsFirst (λ r. (at (groups_of s h) r == g) && shows h q r) first high (Some p)
-    → FindsRarest (shows h q) (order_of s h false first) pieces (length pieces) (Some p)
+    → FindsFirst (λ r. (at (groups_of s h) r == g) && offers s h q r) first high (Some p)
+    → FindsRarest (offers s h q) (order_of s h false first) pieces (length pieces) (Some p)
 walked s h q g first high pieces p lists le found =
-    let is_one : ℕ → Bool = λ r. (at (groups_of s h) r == g) && shows h q r in
-    let parts = and_parts (at (groups_of s h) p == g) (shows h q p) found.2 in
+    let is_one : ℕ → Bool = λ r. (at (groups_of s h) r == g) && offers s h q r in
+    let parts = and_parts (at (groups_of s h) p == g) (offers s h q p) found.2 in
     let best = walk_first is_one (piece_count s.torrent) first high p le found in (
       parts.1,
       lists.all p (omega (arith, length_table (piece_count s.torrent) (λ r. group_of_row (piece_of s h r)), best.0))
@@ -228,7 +228,7 @@ walked s h q g first high pieces p lists le found =
       λ i li shown.
           let r = at pieces i in
           let least = best.2 r (group_within s h g pieces lists i li) tt
-          (and_from (at (groups_of s h) r == g) (shows h q r) (eq-eqb (at (groups_of s h) r) g (lists.each i li)) shown) in
+          (and_from (at (groups_of s h) r == g) (offers s h q r) (eq-eqb (at (groups_of s h) r) g (lists.each i li)) shown) in
           omega (arith, least),
     )
 

@@ -7,7 +7,7 @@ use Rattle.bt_meta.specs.Layout.{piece_count}
 use Rattle.bt_history.specs.Setting.{Setting, some_block_of, each_block_of}
 use Rattle.bt_history.specs.History.{History}
 use Rattle.bt_history.specs.Peers.{shows}
-use Rattle.bt_history.specs.Pieces.{had, held_or_asked, availability, chosen, level, wanted}
+use Rattle.bt_history.specs.Pieces.{had, held_or_asked, availability, chosen, is_spent, level, offers, wanted}
 use Rattle.bt_history.specs.Legal.{IsLegal}
 use Rattle.bt_history.specs.Next.{is_candidate}
 use Rattle.bt_history.proofs.Levels.{level_bounded}
@@ -259,24 +259,29 @@ candidate_cases true true false false is = (refl, refl, refl, refl)
 
 pub candidate_parts : (s : Setting) (h : History) (q p : ℕ) → is_candidate s h q p ≡ true
     → (wanted s h p ≡ true) × (shows h q p ≡ true) × (had h p ≡ false) × (some_block_of s.torrent p (held_or_asked s h) ≡ false)
-candidate_parts s h q p is = candidate_cases (wanted s h p) (shows h q p) (had h p) (some_block_of s.torrent p (held_or_asked s h)) is
+candidate_parts s h q p is =
+    let parts = candidate_cases (wanted s h p) (offers s h q p) (had h p) (some_block_of s.torrent p (held_or_asked s h)) is in
+    (parts.0, (and_parts (shows h q p) (not (is_spent s h q p)) parts.1).0, parts.2, parts.3)
+
+pub candidate_offered : (s : Setting) (h : History) (q p : ℕ) → is_candidate s h q p ≡ true → offers s h q p ≡ true
+candidate_offered s h q p is = (candidate_cases (wanted s h p) (offers s h q p) (had h p) (some_block_of s.torrent p (held_or_asked s h)) is).1
 
 -- a candidate is an unbegun piece of the stage that its availability tells
 pub candidate_stage : (s : Setting) (h : History) (q p : ℕ) → is_candidate s h q p ≡ true
-    → (shows h q p ≡ true) × (stage_of_row (piece_of s h p) ≡ Unbegun (availability s h p))
+    → (offers s h q p ≡ true) × (stage_of_row (piece_of s h p) ≡ Unbegun (availability s h p))
 candidate_stage s h q p is =
     let parts = candidate_parts s h q p is in
     let picked : chosen h p ≡ true = (and_parts (nat_lt p (piece_count s.torrent)) (chosen h p) parts.0).1 in
-    (parts.1, unbegun_stage s h p parts.2 picked parts.3)
+    (candidate_offered s h q p is, unbegun_stage s h p parts.2 picked parts.3)
 
--- and each unbegun piece that the peer shows is one
-pub stage_candidate : (s : Setting) (h : History) (q p n : ℕ) → p < piece_count s.torrent → shows h q p ≡ true
+-- and each unbegun piece that the peer offers is one
+pub stage_candidate : (s : Setting) (h : History) (q p n : ℕ) → p < piece_count s.torrent → offers s h q p ≡ true
     → place_of (stage_of_row (piece_of s h p)) ≡ place_of (Unbegun n)
     → (is_candidate s h q p ≡ true) × (min (availability s h p) CROWD ≡ min n CROWD)
 stage_candidate s h q p n lp shown is =
     let parts = stage_unbegun s h p n is in (
       and_from (wanted s h p) _ (wanted_chosen s h p lp ∙ parts.1)
-          (and_from (shows h q p) _ shown (and_from (not (had h p)) _ (ap not parts.0) (ap not parts.2))),
+          (and_from (offers s h q p) _ shown (and_from (not (had h p)) _ (ap not parts.0) (ap not parts.2))),
       parts.3,
     )
 

@@ -1,8 +1,7 @@
 //! Which piece to begin at a peer: rarest first, random first piece, or the least in rising order (Cohen 2003, "Piece selection").
 ghost use Rattle.std.specs.Prelude.{◌≡◌, ◌<◌, ◌≤◌, ◌%◌, ◌==◌, ◌&&◌, ℕ, true, false, length, nat_lt, IfSome};
 ghost use Rattle.bt_meta.specs.Layout.{piece_count};
-ghost use Rattle.bt_history.specs.Peers.{shows};
-ghost use Rattle.bt_history.specs.Pieces.{availability, level};
+ghost use Rattle.bt_history.specs.Pieces.{availability, level, offers};
 ghost use Rattle.bt_history.specs.Next.{is_candidate};
 ghost use Rattle.bt_history.specs.Picks.{place_in_round};
 ghost use Rattle.bt_tables.specs.Orders.{at, ListsGroup};
@@ -26,7 +25,10 @@ impl<'a> Position<'a> {
         requires piece { piece < piece_count self.now.setting.torrent }
         ensures { result ≡ is_candidate self.now.setting self.now.history worker piece }
     {
-        self.is_wanted(piece) && self.shows(worker, piece) && self.is_unbegun(piece)
+        self.is_wanted(piece)
+            && self.shows(worker, piece)
+            && self.is_unbegun(piece)
+            && !self.is_spent(worker, piece)
     }
 
     /// Whether the piece has this level and may be begun at the peer.
@@ -78,7 +80,7 @@ impl<'a> Position<'a> {
                 return Some(piece);
             }
         }
-        self.first_shown(
+        self.first_offered(
             worker,
             self.group(level, Stage::Unbegun(CROWD)),
             true,
@@ -94,23 +96,23 @@ impl<'a> Position<'a> {
         self.floor(worker).saturating_sub(rank(level, 0))
     }
 
-    /// Of these pieces that the peer shows the one that ranks first. By rarity it is asked for the crowd's group alone, which is empty at a desk:
+    /// Of these pieces that the peer offers the one that ranks first. By rarity it is asked for the crowd's group alone, which is empty at a desk:
     /// only the audit of a journal of more workers finds pieces there.
-    fn first_shown(&self, worker: u32, pieces: &[u32], rare: bool, first: u32) -> Option<u32>
+    fn first_offered(&self, worker: u32, pieces: &[u32], rare: bool, first: u32) -> Option<u32>
         requires worker { worker < self.now.setting.workers }
         requires pieces { (i : ℕ) → i < length pieces.now → at pieces.now i < piece_count self.now.setting.torrent }
-        ensures { FindsRarest (shows self.now.history worker) (order_of self.now.setting self.now.history rare first)
+        ensures { FindsRarest (offers self.now.setting self.now.history worker) (order_of self.now.setting self.now.history rare first)
             pieces.now (length pieces.now) result }
     {
         let mut best = None;
         for piece in pieces {
-            best = self.earlier_shown(worker, best, *piece, rare, first);
+            best = self.earlier_offered(worker, best, *piece, rare, first);
         }
         best
     }
 
-    /// The piece, where the peer shows it and it ranks before the one found before.
-    fn earlier_shown(
+    /// The piece, where the peer offers it and it ranks before the one found before.
+    fn earlier_offered(
         &self,
         worker: u32,
         found: Option<u32>,
@@ -121,12 +123,12 @@ impl<'a> Position<'a> {
         requires worker { worker < self.now.setting.workers }
         requires piece { piece < piece_count self.now.setting.torrent }
         requires found { IfSome found (λ p. p < piece_count self.now.setting.torrent) }
-        ensures earlier { IsRarer (shows self.now.history worker) (order_of self.now.setting self.now.history rare first) found piece result }
+        ensures earlier { IsRarer (offers self.now.setting self.now.history worker) (order_of self.now.setting self.now.history rare first) found piece result }
         ensures within { IfSome result (λ p. p < piece_count self.now.setting.torrent) }
     {
         match found {
             Some(best) if !self.ranks_before(piece, best, rare, first) => found,
-            _ if self.shows(worker, piece) => Some(piece),
+            _ if self.offers(worker, piece) => Some(piece),
             _ => found,
         }
     }
@@ -162,13 +164,13 @@ impl<'a> Position<'a> {
         }
     }
 
-    /// Of the pieces of the group that the peer shows the first in a round from `first` on: in a large group it is mostly near. `pieces` are
+    /// Of the pieces of the group that the peer offers the first in a round from `first` on: in a large group it is mostly near. `pieces` are
     /// those of the group.
     fn nearest_of(&self, worker: u32, group: u32, pieces: &[u32], first: u32) -> Option<u32>
         requires worker { worker < self.now.setting.workers }
         requires lists { ListsGroup (groups_of self.now.setting self.now.history) group pieces.now }
         requires first { first ≤ piece_count self.now.setting.torrent }
-        ensures { FindsRarest (shows self.now.history worker) (order_of self.now.setting self.now.history false first)
+        ensures { FindsRarest (offers self.now.setting self.now.history worker) (order_of self.now.setting self.now.history false first)
             pieces.now (length pieces.now) result }
     {
         let most = pieces.len().saturating_mul(WALK) as u64;
@@ -176,19 +178,19 @@ impl<'a> Position<'a> {
         let steps = most.min(u64::from(behind)) as u32;
         match self.walk(worker, group, first, first + steps) {
             Some(piece) => Some(piece),
-            None => self.first_shown(worker, pieces, false, first),
+            None => self.first_offered(worker, pieces, false, first),
         }
     }
 
-    /// The first piece of the group that the peer shows, from `low` up to `high`.
+    /// The first piece of the group that the peer offers, from `low` up to `high`.
     fn walk(&self, worker: u32, group: u32, low: u32, high: u32) -> Option<u32>
         requires worker { worker < self.now.setting.workers }
         requires high { high ≤ piece_count self.now.setting.torrent }
-        ensures { FindsFirst (λ p. (at (groups_of self.now.setting self.now.history) p == group) && shows self.now.history worker p)
+        ensures { FindsFirst (λ p. (at (groups_of self.now.setting self.now.history) p == group) && offers self.now.setting self.now.history worker p)
             low high result }
     {
         for piece in low..high {
-            if self.group_of(piece) == group && self.shows(worker, piece) {
+            if self.group_of(piece) == group && self.offers(worker, piece) {
                 return Some(piece);
             }
         }
@@ -232,7 +234,7 @@ impl<'a> Position<'a> {
         (self.piece_count() as usize).saturating_sub(others) as u32
     }
 
-    /// Of the level's unbegun pieces that the peer shows the first in a round from `first` on.
+    /// Of the level's unbegun pieces that the peer offers the first in a round from `first` on.
     fn nearest_listed(&self, worker: u32, level: u8, first: u32) -> Option<u32>
         requires worker { worker < self.now.setting.workers }
         requires level { IsLevel level }
@@ -246,13 +248,13 @@ impl<'a> Position<'a> {
         let most = self.workers().min(CROWD - 1);
         for shown_by in self.floor_at(worker, level)..most + 1 {
             let pieces = self.group(level, Stage::Unbegun(shown_by));
-            let other = self.first_shown(worker, pieces, false, first);
+            let other = self.first_offered(worker, pieces, false, first);
             nearest = earlier(nearest, other, first);
         }
         let crowd = self.group(level, Stage::Unbegun(CROWD));
         earlier(
             nearest,
-            self.first_shown(worker, crowd, false, first),
+            self.first_offered(worker, crowd, false, first),
             first,
         )
     }

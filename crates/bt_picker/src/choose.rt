@@ -5,14 +5,14 @@ ghost use Rattle.std.specs.Prelude.{nat_le, nat_lt, Option};
 ghost use Rattle.bt_meta.specs.declared.block.Block.{Block};
 ghost use Rattle.bt_meta.specs.Layout.{piece_count, block_count, block};
 ghost use Rattle.bt_history.specs.Setting.{each_block, each_block_of, is_block, some_block, some_block_of};
-ghost use Rattle.bt_history.specs.Peers.{asked, asked_count, depth_of, due, dues, reach, shows};
+ghost use Rattle.bt_history.specs.Peers.{asked, asked_count, depth_of, due, dues, overdue, reach, shows};
 ghost use Rattle.bt_history.specs.Picks.{is_first, leads};
 ghost use Rattle.bt_history.specs.Pieces.{asker_count, endgame, had_count, held, held_or_asked, comes_in_order, gives, interesting, level, open_count, order_from, unasked, wanted};
 ghost use Rattle.bt_history.specs.Next.{continues, doubles, is_rarest, is_strict, next_answer, rises, starts, usable};
 ghost use Rattle.bt_tables.specs.Orders.{at};
 ghost use Rattle.bt_tables.specs.Risings.{Rises};
 ghost use Rattle.bt_picker.specs.Search.{FindsLeast, FindsListed, FindsRarest, Finds, FindsOf, IsLevel, IsPickedBy, IsRuling, LacksNone};
-ghost use Rattle.bt_picker.specs.Search.{MayAsk, NoneAbove, NoneAt, NoneBeforeIn, goes_on, lesser_of, order_of, resumes_at, resuming_order, shows_at};
+ghost use Rattle.bt_picker.specs.Search.{MayAsk, NoneAbove, NoneAt, NoneBeforeIn, goes_on, lesser_of, order_of, is_left, offers_at, resumes_at, resuming_order};
 
 use crate::position::Position;
 use crate::ruling::Ruling;
@@ -21,20 +21,6 @@ use bt_meta::Block;
 use bt_tables::{GROUPS, SPAN, Stage, first_group, group_number};
 
 impl<'a> Position<'a> {
-    /// The first block of the piece that is lacking and that nobody is asked for.
-    #[tactic(auto, using(crate::proofs::Scans::none_unasked))]
-    fn unasked_in(&self, piece: u32) -> Option<Block>
-        requires { piece < piece_count self.now.setting.torrent }
-        ensures { FindsOf self.now.setting.torrent piece (unasked self.now.setting self.now.history) result }
-    {
-        for index in self.piece(piece).first()..self.block_count(piece) {
-            if !self.is_held_or_asked(piece, index) {
-                return Some(self.block(piece, index));
-            }
-        }
-        None
-    }
-
     /// The open piece of this level that goes on at the peer before its others: the least with 0 open ones, else of the rarest the least.
     fn resuming(&self, worker: u32, level: u8) -> Option<u32>
         requires worker { worker < self.now.setting.workers }
@@ -46,19 +32,19 @@ impl<'a> Position<'a> {
         self.attest();
         let pieces = self.open_pieces();
         if self.most_open() == 0 {
-            self.least_shown(worker, level, pieces)
+            self.least_offered(worker, level, pieces)
         } else {
-            self.rarest_shown(worker, level, pieces)
+            self.rarest_offered(worker, level, pieces)
         }
     }
 
-    /// Of these pieces that have this level and that the peer shows the least of those that fewest peers show: they rise, so of several it is the
+    /// Of these pieces that have this level and that the peer offers the least of those that fewest peers show: they rise, so of several it is the
     /// first.
-    fn rarest_shown(&self, worker: u32, level: u8, pieces: &[u32]) -> Option<u32>
+    fn rarest_offered(&self, worker: u32, level: u8, pieces: &[u32]) -> Option<u32>
         requires worker { worker < self.now.setting.workers }
         requires pieces { (i : ℕ) → i < length pieces.now → at pieces.now i < piece_count self.now.setting.torrent }
         requires rise { (i j : ℕ) → Rises pieces.now i j }
-        ensures { FindsRarest (shows_at self.now.history worker level) (order_of self.now.setting self.now.history true 0)
+        ensures { FindsRarest (offers_at self.now.setting self.now.history worker level) (order_of self.now.setting self.now.history true 0)
             pieces.now (length pieces.now) result }
     {
         let mut rarest = None;
@@ -68,7 +54,7 @@ impl<'a> Position<'a> {
             if rarest.is_some() && fewest <= shown_by {
                 continue;
             }
-            if self.shows_at(worker, level, *piece) {
+            if self.offers_at(worker, level, *piece) {
                 rarest = Some(*piece);
                 fewest = shown_by;
             }
@@ -121,7 +107,7 @@ impl<'a> Position<'a> {
         ensures none { IfNone result (NoneAt self.now.setting self.now.history worker level) }
     {
         self.attest();
-        match self.unasked_in(piece) {
+        match self.left_in(worker, piece) {
             Some(block) => Some(Ruling::Continuing(block)),
             None => None,
         }
@@ -147,37 +133,40 @@ impl<'a> Position<'a> {
         let shown_by = self.availability(piece);
         match self.candidate(worker, level, true, word) {
             Some(other) if self.availability(other) < shown_by => {
-                Some(Ruling::Starting(self.block(other, 0)))
+                match self.left_in(worker, other) {
+                    Some(block) => Some(Ruling::Starting(block)),
+                    None => None,
+                }
             }
             _ => self.going_on(worker, level, word, piece),
         }
     }
 
-    /// The least of these pieces that has this level and that the peer shows: they rise, so it is the first.
-    fn least_shown(&self, worker: u32, level: u8, pieces: &[u32]) -> Option<u32>
+    /// The least of these pieces that has this level and that the peer offers: they rise, so it is the first.
+    fn least_offered(&self, worker: u32, level: u8, pieces: &[u32]) -> Option<u32>
         requires worker { worker < self.now.setting.workers }
         requires pieces { (i : ℕ) → i < length pieces.now → at pieces.now i < piece_count self.now.setting.torrent }
         requires rise { (i j : ℕ) → Rises pieces.now i j }
-        ensures listed { FindsListed (shows_at self.now.history worker level) pieces.now (length pieces.now) result }
+        ensures listed { FindsListed (offers_at self.now.setting self.now.history worker level) pieces.now (length pieces.now) result }
         ensures least { IfSome result (λ p.
-            (i : ℕ) → i < length pieces.now → IsTrue (shows_at self.now.history worker level (at pieces.now i)) → p ≤ at pieces.now i) }
+            (i : ℕ) → i < length pieces.now → IsTrue (offers_at self.now.setting self.now.history worker level (at pieces.now i)) → p ≤ at pieces.now i) }
     {
         for piece in pieces {
-            if self.shows_at(worker, level, *piece) {
+            if self.offers_at(worker, level, *piece) {
                 return Some(*piece); // the least
             }
         }
         None
     }
 
-    /// Whether the piece has this level and the peer shows it.
+    /// Whether the piece has this level and the peer offers it.
     #[inline(always)]
-    fn shows_at(&self, worker: u32, level: u8, piece: u32) -> bool
+    fn offers_at(&self, worker: u32, level: u8, piece: u32) -> bool
         requires worker { worker < self.now.setting.workers }
         requires piece { piece < piece_count self.now.setting.torrent }
-        ensures { result ≡ shows_at self.now.history worker level piece }
+        ensures { result ≡ offers_at self.now.setting self.now.history worker level piece }
     {
-        self.shows(worker, piece) && self.level(piece) == level
+        self.shows(worker, piece) && self.level(piece) == level && !self.is_spent(worker, piece)
     }
 
     /// How many pieces are had.
@@ -212,7 +201,7 @@ impl<'a> Position<'a> {
         self.attest();
         let rare = !self.is_random();
         match self.candidate(worker, level, rare, word) {
-            Some(piece) => Some(self.block(piece, 0)),
+            Some(piece) => self.left_in(worker, piece),
             None => None,
         }
     }
@@ -226,13 +215,13 @@ impl<'a> Position<'a> {
         ensures some { IfSome result (λ b. IsTrue (is_block self.now.setting.torrent b)
             × IsTrue (rises self.now.setting self.now.history worker b)) }
         ensures order { IfSome result (λ b. nat_le (order_from self.now.history) level ≡ true → comes_in_order self.now.history b.piece ≡ true) }
-        ensures first { IfSome result (λ b. NoneBeforeIn self.now.setting.torrent (unasked self.now.setting self.now.history) b b.piece) }
+        ensures first { IfSome result (λ b. NoneBeforeIn self.now.setting.torrent (is_left self.now.setting self.now.history worker) b b.piece) }
         ensures none { IfNone result (NoneAt self.now.setting self.now.history worker level) }
     {
         self.attest();
-        let open = self.least_shown(worker, level, self.open_pieces());
+        let open = self.least_offered(worker, level, self.open_pieces());
         match lesser(open, self.least_candidate(worker, level)) {
-            Some(piece) => self.unasked_in(piece),
+            Some(piece) => self.left_in(worker, piece),
             None => None,
         }
     }
@@ -265,6 +254,33 @@ impl<'a> Position<'a> {
         requires { worker < self.now.setting.workers }
         ensures { result ≡ interesting self.now.setting self.now.history worker }
     {
+        if self.peer(worker).has_late() {
+            self.is_interesting_late(worker)
+        } else {
+            self.is_interesting_prompt(worker)
+        }
+    }
+
+    /// The same of a peer that is late with something: a spent piece may be the one that interests.
+    #[tactic(auto, using(crate::proofs::Scans::lacks_found, crate::proofs::Scans::lacks_none))]
+    fn is_interesting_late(&self, worker: u32) -> bool
+        requires { worker < self.now.setting.workers }
+        ensures { result ≡ interesting self.now.setting self.now.history worker }
+    {
+        for piece in 0..self.piece_count() {
+            if self.is_wanted(piece) && self.shows(worker, piece) && !self.had(piece) {
+                return true;
+            }
+        }
+        false
+    }
+
+    /// The same of a peer that is late with nothing.
+    fn is_interesting_prompt(&self, worker: u32) -> bool
+        requires worker { worker < self.now.setting.workers }
+        requires prompt { (b : Block) → overdue self.now.history worker b ≡ false }
+        ensures { result ≡ interesting self.now.setting self.now.history worker }
+    {
         for slot in self.first_slot()..self.last_slot() {
             if self.is_interesting_at(worker, MOST_LEVEL - slot) {
                 return true;
@@ -277,6 +293,7 @@ impl<'a> Position<'a> {
     /// or an unbegun one.
     fn is_interesting_at(&self, worker: u32, level: u8) -> bool
         requires worker { worker < self.now.setting.workers }
+        requires prompt { (b : Block) → overdue self.now.history worker b ≡ false }
         requires level { IsLevel level }
         ensures yes { result ≡ true → interesting self.now.setting self.now.history worker ≡ true }
         ensures no { result ≡ false → LacksNone self.now.setting self.now.history worker level }

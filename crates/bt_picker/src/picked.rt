@@ -24,6 +24,8 @@ impl<'a> Position<'a> {
     {
         if self.asker_count(piece, index) > 1 {
             PickRule::Endgame
+        } else if self.is_late_at_some(piece, index) {
+            PickRule::Late
         } else if self.comes_in_order(self.level(piece)) {
             PickRule::InOrder
         } else if self.touched_count(piece) > 1 {

@@ -7,12 +7,12 @@ ghost use Rattle.std.specs.List.{list_any};
 ghost use Rattle.bt_history.specs.Setting.{deepest_told, is_block, some_block_of};
 ghost use Rattle.bt_history.specs.History.{same_begin};
 ghost use Rattle.bt_history.specs.Legal.{IsLegal};
-ghost use Rattle.bt_history.specs.Peers.{depth_of, joined, late, reach, shows, is_open, outstanding, asked, due, dues, flag};
+ghost use Rattle.bt_history.specs.Peers.{depth_of, joined, expected, late, overdue, reach, shows, is_open, outstanding, asked, due, dues, flag};
 ghost use Rattle.bt_history.specs.Pieces.{asker_count, availability, asked_of_some, begun, full, had, held, held_or_asked, interesting, kept, lacks};
-ghost use Rattle.bt_history.specs.Pieces.{gives, level, order_from, sender, unbegun, wanted};
+ghost use Rattle.bt_history.specs.Pieces.{gives, is_late_at_some, is_spent, level, offers, order_from, sender, unbegun, wanted};
 ghost use Rattle.bt_tables.specs.Orders.{at, ListsGroup};
 ghost use Rattle.bt_tables.specs.Risings.{Rises};
-ghost use Rattle.bt_picker.specs.Search.{NoneBefore, NoneBegins};
+ghost use Rattle.bt_picker.specs.Search.{FindsOf, NoneBefore, NoneBegins, is_left};
 ghost use Rattle.bt_tables.specs.Showing.{dealings};
 ghost use Rattle.bt_tables.specs.Standings.{ListsOpen, apart, cell_kept, group_number, group_of_row};
 ghost use Rattle.bt_picker.specs.Tables.{groups_of, AreTables, cell_of, peer_of, piece_of};
@@ -301,7 +301,7 @@ impl<'a> Position<'a> {
         self.cell(piece, index).sender()
     }
 
-    /// Whether the block is held, or asked of some peer.
+    /// Whether the block is held, or asked of some peer that isn't late with it.
     pub fn is_held_or_asked(&self, piece: u32, index: u32) -> bool
         requires piece { piece < piece_count self.now.setting.torrent }
         requires index { index < block_count self.now.setting.torrent piece }
@@ -310,7 +310,7 @@ impl<'a> Position<'a> {
         self.cell(piece, index).is_touched()
     }
 
-    /// Of how many peers the block is asked.
+    /// Of how many peers the block is asked that aren't late with it.
     pub fn asker_count(&self, piece: u32, index: u32) -> u32
         requires piece { piece < piece_count self.now.setting.torrent }
         requires index { index < block_count self.now.setting.torrent piece }
@@ -335,6 +335,121 @@ impl<'a> Position<'a> {
         ensures { result ≡ asked self.now.history worker block.now }
     {
         contains_place(self.outstanding(worker), block)
+    }
+
+    /// Whether the block is asked of the worker's peer, and the peer isn't late with it.
+    pub fn expects(&self, worker: u32, block: &Block) -> bool
+        requires { worker < self.now.setting.workers }
+        ensures { result ≡ expected self.now.history worker block.now }
+    {
+        self.peer(worker).expects(block.piece, block.begin)
+    }
+
+    /// Whether the worker's peer is late with the block.
+    pub fn is_overdue(&self, worker: u32, piece: u32, index: u32) -> bool
+        requires worker { worker < self.now.setting.workers }
+        requires piece { piece < piece_count self.now.setting.torrent }
+        requires index { index < block_count self.now.setting.torrent piece }
+        ensures { result ≡ overdue self.now.history worker (block self.now.setting.torrent piece index) }
+    {
+        let block = self.block(piece, index);
+        self.peer(worker).is_late_with(block.piece, block.begin)
+    }
+
+    /// Whether some peer is late with the block.
+    pub fn is_late_at_some(&self, piece: u32, index: u32) -> bool
+        requires piece { piece < piece_count self.now.setting.torrent }
+        requires index { index < block_count self.now.setting.torrent piece }
+        ensures { result ≡ is_late_at_some self.now.setting self.now.history (block self.now.setting.torrent piece index) }
+    {
+        let block = self.block(piece, index);
+        self.tables.is_late_at_some(block.piece, block.begin)
+    }
+
+    /// Whether the worker's peer is late with a block of the piece.
+    #[tactic(auto, using(crate::proofs::Scans::none_overdue))]
+    fn is_late_in(&self, worker: u32, piece: u32) -> bool
+        requires worker { worker < self.now.setting.workers }
+        requires piece { piece < piece_count self.now.setting.torrent }
+        ensures { result ≡ some_block_of self.now.setting.torrent piece (overdue self.now.history worker) }
+    {
+        for index in 0..self.block_count(piece) {
+            if self.is_overdue(worker, piece, index) {
+                return true;
+            }
+        }
+        false
+    }
+
+    /// The first block of the piece that is lacking and that nobody is asked for, but for such as the worker's peer is late with.
+    #[tactic(auto, using(crate::proofs::Scans::none_left))]
+    pub(crate) fn left_in(&self, worker: u32, piece: u32) -> Option<Block>
+        requires worker { worker < self.now.setting.workers }
+        requires piece { piece < piece_count self.now.setting.torrent }
+        ensures { FindsOf self.now.setting.torrent piece (is_left self.now.setting self.now.history worker) result }
+    {
+        for index in self.piece(piece).first()..self.block_count(piece) {
+            if self.is_left(worker, piece, index) {
+                return Some(self.block(piece, index));
+            }
+        }
+        None
+    }
+
+    /// Whether the block is lacking, nobody is asked for it, and the worker's peer isn't late with it.
+    #[inline(always)]
+    pub(crate) fn is_left(&self, worker: u32, piece: u32, index: u32) -> bool
+        requires worker { worker < self.now.setting.workers }
+        requires piece { piece < piece_count self.now.setting.torrent }
+        requires index { index < block_count self.now.setting.torrent piece }
+        ensures { result ≡ is_left self.now.setting self.now.history worker (block self.now.setting.torrent piece index) }
+    {
+        !self.is_held_or_asked(piece, index) && !self.is_overdue_at(worker, piece, index)
+    }
+
+    /// The same of a peer that mostly is late with nothing.
+    #[inline(always)]
+    #[tactic(auto, using(crate::proofs::Overdue::late_with_nothing))]
+    fn is_overdue_at(&self, worker: u32, piece: u32, index: u32) -> bool
+        requires worker { worker < self.now.setting.workers }
+        requires piece { piece < piece_count self.now.setting.torrent }
+        requires index { index < block_count self.now.setting.torrent piece }
+        ensures { result ≡ overdue self.now.history worker (block self.now.setting.torrent piece index) }
+    {
+        self.peer(worker).has_late() && self.is_overdue(worker, piece, index)
+    }
+
+    /// Whether the worker's peer is late with a block of the piece, and no other one is left to ask of it.
+    #[inline(always)]
+    pub(crate) fn is_spent(&self, worker: u32, piece: u32) -> bool
+        requires worker { worker < self.now.setting.workers }
+        requires piece { piece < piece_count self.now.setting.torrent }
+        ensures { result ≡ is_spent self.now.setting self.now.history worker piece }
+    {
+        self.peer(worker).has_late() && self.is_spent_of(worker, piece)
+    }
+
+    /// The same of a peer that is late with something.
+    #[tactic(auto, using(crate::proofs::Scans::none_left_spent))]
+    fn is_spent_of(&self, worker: u32, piece: u32) -> bool
+        requires worker { worker < self.now.setting.workers }
+        requires piece { piece < piece_count self.now.setting.torrent }
+        ensures { result ≡ is_spent self.now.setting self.now.history worker piece }
+    {
+        match self.left_in(worker, piece) {
+            Some(_) => false,
+            None => self.is_late_in(worker, piece),
+        }
+    }
+
+    /// Whether the worker's peer shows the piece, and isn't late with all that is left to ask of it.
+    #[inline(always)]
+    pub(crate) fn offers(&self, worker: u32, piece: u32) -> bool
+        requires worker { worker < self.now.setting.workers }
+        requires piece { piece < piece_count self.now.setting.torrent }
+        ensures { result ≡ offers self.now.setting self.now.history worker piece }
+    {
+        self.shows(worker, piece) && !self.is_spent(worker, piece)
     }
 
     /// Whether a cancel of the block is due at the worker's peer.

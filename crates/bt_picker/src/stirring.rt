@@ -1,10 +1,11 @@
 //! Whether an entry may change what is answered to a peer that had nothing to be asked for.
 
-ghost use Rattle.std.specs.Prelude.{◌≡◌, ◌<◌, ◌==◌, ◌&&◌, ◌||◌, true};
-ghost use Rattle.bt_meta.specs.Layout.{piece_count};
+ghost use Rattle.std.specs.Prelude.{◌≡◌, ◌<◌, ◌==◌, ◌&&◌, ◌||◌, not, true};
+ghost use Rattle.bt_meta.specs.Layout.{block, block_count, piece_count};
 ghost use Rattle.bt_history.specs.Epochs.{asked_alone, stores_beyond, unsettles};
 ghost use Rattle.bt_history.specs.History.{counts};
 ghost use Rattle.bt_history.specs.Legal.{IsAllowed};
+ghost use Rattle.bt_history.specs.Pieces.{asker_count, is_late_at_some};
 ghost use Rattle.bt_history.specs.Setting.{some_block_of};
 ghost use Rattle.bt_picker.specs.Told.{action_told, telling};
 
@@ -13,7 +14,7 @@ use crate::told::Told;
 use bt_history::Reply;
 
 impl<'a> Position<'a> {
-    /// Whether the block that begins there is asked of the worker's peer, and of no other.
+    /// Whether the block that begins there is asked of the worker's peer, which isn't late with it, and of no other.
     fn is_asked_alone(&self, worker: u32, piece: u32, begin: u32) -> bool
         requires worker { worker < self.now.setting.workers }
         requires piece { piece < piece_count self.now.setting.torrent }
@@ -21,7 +22,17 @@ impl<'a> Position<'a> {
         ensures { result ≡ asked_alone self.now.setting self.now.history worker piece begin }
     {
         let index = self.index_at(piece, begin);
-        self.asks(worker, &self.block(piece, index)) && self.asker_count(piece, index) == 1
+        self.expects(worker, &self.block(piece, index)) && self.has_lone_asker(piece, index)
+    }
+
+    /// Whether the block is expected from just one peer, and none is late with it.
+    fn has_lone_asker(&self, piece: u32, index: u32) -> bool
+        requires piece { piece < piece_count self.now.setting.torrent }
+        requires index { index < block_count self.now.setting.torrent piece }
+        ensures { result ≡ ((asker_count self.now.setting self.now.history (block self.now.setting.torrent piece index) == 1)
+            && not (is_late_at_some self.now.setting self.now.history (block self.now.setting.torrent piece index))) }
+    {
+        self.asker_count(piece, index) == 1 && !self.is_late_at_some(piece, index)
     }
 
     /// Whether a block is stored of which not its own peer alone was asked.

@@ -58,6 +58,11 @@ pub enum Told<'a> {
     InOrderFrom(u8),
     /// The peer has this piece no more.
     Lack(u32),
+    /// The request of the block that begins so many bytes into the piece takes too long.
+    Late {
+        piece: u32,
+        begin: u32,
+    },
 }
 
 impl<'a> Told<'a> {
@@ -74,7 +79,8 @@ impl<'a> Told<'a> {
             | Told::Release { .. }
             | Told::Level { .. }
             | Told::Levels(_)
-            | Told::Lack(_) => true,
+            | Told::Lack(_)
+            | Told::Late { .. } => true,
             _ => false,
         }
     }
@@ -125,6 +131,10 @@ pub fn lend(call: &Call) -> Lent<'_>
         Call::Reach(level) => Told::Reach(*level),
         Call::InOrderFrom(level) => Told::InOrderFrom(*level),
         Call::Lack(piece) => Told::Lack(*piece),
+        Call::Late { piece, begin } => Told::Late {
+            piece: *piece,
+            begin: *begin,
+        },
     };
     Lent::Told(told)
 }

@@ -4,12 +4,13 @@ use Rattle.std.proofs.Common.{take, refl, ap, sym, ◌∙◌, arith, ⊎_elim}
 use Rattle.std.specs.Prelude.{IfNone, IfSome, None, Option, Some, if◌then◌else◌, is_some, slice_index_or}
 use Rattle.std.specs.List.{filter, list_any, remove}
 use Rattle.std.proofs.lemmas.Bool.{and_from, and_parts, cases_Bool, cases_eq, eq-eqb, eqb-true, false≢true, ne_eqb, or_from, or_parts, or_right}
+use Rattle.std.proofs.Math.Bool.{and-true}
 use Rattle.std.proofs.lemmas.List.{append-nil, get_or_default}
 use Rattle.bt_meta.specs.declared.block.Block.{Block}
 use Rattle.bt_history.specs.Counting.{count_below, table}
 use Rattle.bt_history.specs.History.{same_begin}
 use Rattle.bt_history.specs.Peers.{AreApart, has_place}
-use Rattle.bt_tables.specs.Tables.{one_if, PeerState, asks_at, edit, fresh_peer, peer_row, without_block}
+use Rattle.bt_tables.specs.Tables.{one_if, PeerState, asks_at, edit, expects_at, fresh_peer, is_late_at, peer_row, without_block}
 use Rattle.bt_tables.proofs.Tabled.{get_or_edit_other, get_or_edit_same, length_edit, table_from}
 
 -- ---- counts
@@ -53,7 +54,7 @@ filter_none test (b ∷ bs) none = by_test (test b) none (filter_none test bs) w
   by_test true is rest = absurd (cc is)
   by_test false is rest = rest is
 
-filter_all : (test : Block → Bool) (bs : List Block) → list_any test bs ≡ false → filter (λ b. not (test b)) bs ≡ bs
+pub filter_all : (test : Block → Bool) (bs : List Block) → list_any test bs ≡ false → filter (λ b. not (test b)) bs ≡ bs
 filter_all test [] none = refl
 filter_all test (b ∷ bs) none = by_test (test b) none (filter_all test bs) where
   by_test : (x : Bool) → (x || list_any test bs) ≡ false → (list_any test bs ≡ false → filter (λ a. not (test a)) bs ≡ bs) →
@@ -61,33 +62,45 @@ filter_all test (b ∷ bs) none = by_test (test b) none (filter_all test bs) whe
   by_test true is rest = absurd (cc is)
   by_test false is rest = ap (λ (l : List Block). b ∷ l) (rest is)
 
-unasked_row : (piece begin : ℕ) (row : PeerState) → asks_at piece begin row ≡ false → without_block piece begin false row ≡ row
-unasked_row piece begin row none =
+unasked_row : (piece begin : ℕ) (row : PeerState) → asks_at piece begin row ≡ false → is_late_at piece begin row ≡ false
+    → without_block piece begin false row ≡ row
+unasked_row piece begin row none late =
     let test : Block → Bool = λ b. (piece == b.piece) && (begin == b.begin) in
     λ i. record row {
       asked = filter_all test row.asked none i;
+      overdue = filter_all test row.overdue late i;
       due = (ap (λ (bs : List Block). row.due ++ bs) (filter_none test row.asked none) ∙ append-nil row.due) i;
     }
 
 -- ---- the rows
 
-pub forgotten : (peers : List PeerState) (w piece begin askers : ℕ) → w < length peers
-    → askers ≡ count_below (length peers) (λ q. asks_at piece begin (peer_row peers q)) → askers ≤ one_if (asks_at piece begin (peer_row peers w))
+-- where no other peer than its own is expected to bring a block, the row of one that is late with nothing stays
+pub others_spared : (peers : List PeerState) (w piece begin askers : ℕ) → w < length peers
+    → askers ≡ count_below (length peers) (λ r. expects_at piece begin (peer_row peers r)) → askers ≤ one_if (expects_at piece begin (peer_row peers w))
+    → (q : ℕ) → q < length peers → q ≢ w → (peer_row peers q).overdue ≡ []
+    → without_block piece begin false (peer_row peers q) ≡ peer_row peers q
+others_spared peers w piece begin askers lw counted few q lq apart prompt =
+    let at : Block → Bool = λ b. (piece == b.piece) && (begin == b.begin) in
+    let in_time : is_late_at piece begin (peer_row peers q) ≡ false = ap (list_any at) prompt in
+    let none = count_alone (length peers) (λ r. expects_at piece begin (peer_row peers r)) w q lw (omega (arith, few, counted)) lq apart in
+    unasked_row piece begin (peer_row peers q)
+    (sym (and-true (asks_at piece begin (peer_row peers q))) ∙ (ap (λ (x : Bool). asks_at piece begin (peer_row peers q) && not x) (sym in_time) ∙ none))
+    in_time
+
+pub forgotten : (peers : List PeerState) (w piece begin : ℕ) → w < length peers
+    → ((q : ℕ) → q < length peers → q ≢ w → without_block piece begin false (peer_row peers q) ≡ peer_row peers q)
     → edit peers w (without_block piece begin true) ≡ table (length peers) (λ q. without_block piece begin (w == q) (peer_row peers q))
-forgotten peers w piece begin askers lw counted few =
+forgotten peers w piece begin lw spared =
     let f : ℕ → PeerState = λ q. without_block piece begin (w == q) (peer_row peers q) in
     let change = without_block piece begin true in
-    let most : count_below (length peers) (λ q. asks_at piece begin (peer_row peers q)) ≤ one_if (asks_at piece begin (peer_row peers w)) =
-    omega (arith, few, counted) in
     table_from (length peers) f (edit peers w change) (length_edit peers w change) (λ k d lt. ⊎_elim
     (λ (here : k ≡ w).
     ap (λ (j : ℕ). get_or (edit peers w change) j d) here ∙ (get_or_edit_same peers w change d lw
     ∙ (ap change (get_or_default peers w d (fresh_peer 0 0) lw)
     ∙ (ap (λ (x : Bool). without_block piece begin x (peer_row peers w)) (sym (eq-eqb w w refl)) ∙ ap f (sym here)))))
     (λ (apart : k ≡ w → ⊥).
-    let none = count_alone (length peers) (λ q. asks_at piece begin (peer_row peers q)) w k lw most lt apart in
     get_or_edit_other peers w k change d apart ∙ (get_or_default peers k d (fresh_peer 0 0) lt
-    ∙ (sym (unasked_row piece begin (peer_row peers k) none)
+    ∙ (sym (spared k lt apart)
     ∙ ap (λ (x : Bool). without_block piece begin x (peer_row peers k)) (sym (ne_eqb w k (λ e. apart (sym e)))))))
     (cases_eq k w))
 
@@ -113,7 +126,7 @@ module _ (piece begin : ℕ) where
       (eq-eqb c.begin b.begin (sym (eqb-true begin c.begin second.1) ∙ eqb-true begin b.begin first.1))
 
   -- no other block of a line begins where this one does
-  no_other : (b : Block) (bs : List Block) → begins b ≡ true → has_place b bs ≡ false → list_any begins bs ≡ false
+  pub no_other : (b : Block) (bs : List Block) → begins b ≡ true → has_place b bs ≡ false → list_any begins bs ≡ false
   no_other b [] here none = refl
   no_other b (c ∷ bs) here none =
       let parts = or_parts (same_begin c b) (has_place b bs) none in

@@ -2,6 +2,7 @@ pub mod Tabled
 pub mod Added
 pub mod Changes
 pub mod Forgetting
+pub mod Flagged
 pub mod Counted
 pub mod Resting
 pub mod Rowed

@@ -1,9 +1,11 @@
 -- The rows of the peers beside the pieces that they show: what is read of both, and what a change of one leaves of the other.
-use Rattle.std.proofs.Common.{◌≡◌, ℕ, zero, suc, ◌<◌, Bool, false, List, [], ◌∷◌, length, get_or, set, replicate, refl, ap, sym, ◌∙◌, arith}
+use Rattle.std.proofs.Common.{◌≡◌, ℕ, zero, suc, ◌<◌, Bool, true, false, List, [], ◌∷◌, length, get_or, set, replicate, refl, ap, sym, ◌∙◌, arith, ⊎_elim}
+use Rattle.std.proofs.lemmas.Bool.{cases_eq, true≢false}
+use Rattle.std.proofs.lemmas.List.{get_or-set_other, get_or-set_same, length-set}
 use Rattle.bt_history.specs.Counting.{table}
 use Rattle.bt_tables.specs.declared.peer.Dealing.{Dealing}
-use Rattle.bt_tables.specs.declared.peer.Dealing.TheVariants.{Heard}
-use Rattle.bt_tables.specs.Showing.{Dealings, dealings, flags_at, showing, showing_rows, noted}
+use Rattle.bt_tables.specs.declared.peer.Dealing.TheVariants.{Choke, Heard}
+use Rattle.bt_tables.specs.Showing.{ArePeers, Dealings, dealings, flags_at, showing, showing_rows, noted}
 use Rattle.bt_tables.specs.Tables.{PeerState, edit, fresh_peer, peer_row, noted_row}
 use Rattle.bt_tables.proofs.Tabled.{edit_none, get_or_table, length_table, table_from}
 
@@ -72,6 +74,43 @@ showing_fresh n room pieces rows shows is are =
 pub worker_within : (rows : List Dealings) (shows : List (List Bool)) (peers : List PeerState) (w : ℕ) → showing_rows rows shows ≡ peers
     → length shows ≡ length rows → w < length peers → w < length rows
 worker_within rows shows peers w is len lw = omega (arith, lw, len, ap length is, length_showing rows shows len)
+
+-- peers of which one that was late with nothing isn't late now, either
+pub peers_kept : (rows : List Dealings) (shows after : List (List Bool)) (delayed : Bool) (w : ℕ) (row now : Dealings)
+    → ArePeers rows shows delayed → length after ≡ length shows → w < length rows → row ≡ get_or rows w row
+    → (row.overdue ≡ [] → now.overdue ≡ []) → ArePeers (set rows w now) after delayed
+peers_kept rows shows after delayed w row now are len lw read stays = record {
+  each = len ∙ (are.each ∙ sym (length-set rows w now));
+  prompt = λ never v d lv. ⊎_elim
+      (λ (here : v ≡ w).
+      ap (λ (k : ℕ). (get_or (set rows w now) k d).overdue) here
+      ∙ (ap (λ (r : Dealings). r.overdue) (get_or-set_same rows w now d lw)
+      ∙ stays (ap (λ (r : Dealings). r.overdue) read ∙ are.prompt never w row lw)))
+      (λ (apart : v ≡ w → ⊥).
+      ap (λ (r : Dealings). r.overdue) (get_or-set_other rows w v now d apart)
+      ∙ are.prompt never v d (omega (arith, lv, length-set rows w now)))
+      (cases_eq v w);
+}
+
+-- and peers that one was told to be late of
+pub peers_delayed : (rows : List Dealings) (shows : List (List Bool)) (delayed : Bool) (w : ℕ) (now : Dealings) → ArePeers rows shows delayed
+    → ArePeers (set rows w now) shows true
+peers_delayed rows shows delayed w now are = record {
+  each = are.each ∙ sym (length-set rows w now);
+  prompt = λ never. absurd (true≢false never);
+}
+
+-- the row of a peer, where nobody was told to be late
+pub row_prompt : (rows : List Dealings) (shows : List (List Bool)) (delayed : Bool) (w : ℕ) → ArePeers rows shows delayed → delayed ≡ false
+    → w < length rows → (peer_row (showing_rows rows shows) w).overdue ≡ []
+row_prompt rows shows delayed w are never lw =
+    ap (λ (row : PeerState). row.overdue) (showing_at rows shows w (dealings (fresh_peer 0 0)) (fresh_peer 0 0) are.each lw)
+    ∙ are.prompt never w (dealings (fresh_peer 0 0)) lw
+
+-- what comes to pass with a peer makes it late with nothing
+pub noted_prompt : (dealing : Dealing) (row : Dealings) → row.overdue ≡ [] → (noted dealing row).overdue ≡ []
+noted_prompt Choke row none = refl
+noted_prompt dealing row none = none
 
 -- what comes to pass with a peer leaves what it shows
 pub noted_shown : (dealing : Dealing) (flags : List Bool) (row : Dealings) → showing flags (noted dealing row) ≡ noted_row dealing (showing flags row)

@@ -162,6 +162,17 @@ rows_edit ys n i g f change d is lt at =
     sym (edit_read ys i change (get_or ys i d) d within refl)
     ∙ rows_more ys n i g f (change (get_or ys i d)) is lt (ap change (rows_read ys n i g f d is lt) ∙ at)
 
+-- and one that stays as it is
+pub rows_skip : {A : Type 0} (ys : List A) (n i : ℕ) (g f : ℕ → A) → ys ≡ table n (upto i g f) → f i ≡ g i → ys ≡ table n (upto (i + 1) g f)
+rows_skip ys n i g f is same = is ∙ same_table n (upto i g f) (upto (i + 1) g f) (λ k lk. ⊎_elim
+    (λ (here : k ≡ i).
+    upto_above i g f k (omega (arith, here)) ∙ (ap f here ∙ (same ∙ (ap g (sym here) ∙ sym (upto_below (i + 1) g f k (omega (arith, here)))))))
+    (λ (apart : k ≡ i → ⊥). ⊎_elim
+    (λ (below : k < i). upto_below i g f k below ∙ sym (upto_below (i + 1) g f k (omega (arith, below))))
+    (λ (above : i ≤ k). upto_above i g f k above ∙ sym (upto_above (i + 1) g f k (omega (arith, above, apart))))
+    (cases_lt k i))
+    (cases_eq k i))
+
 -- a change that leaves the element as it is
 pub edit_unmoved : {A : Type 0} (xs : List A) (i : ℕ) (f : A → A) (d : A) → i < length xs → f (get_or xs i d) ≡ get_or xs i d → edit xs i f ≡ xs
 edit_unmoved [] i f d lt same = absurd (omega arith)

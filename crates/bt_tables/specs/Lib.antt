@@ -1,4 +1,5 @@
 pub mod Tables
+pub mod Delays
 pub mod Standings
 pub mod Rows
 pub mod Floors

@@ -1,6 +1,6 @@
 -- What is kept of the peers, with the pieces that they show in a table of their own. No public clause of the picker cites this module.
 use Rattle.std.specs.List.{filter}
-use Rattle.std.specs.Prelude.{Option, Some, ℕ, ◌<◌, Bool, true, false, not, List, [], ◌∷◌, length, map, slice_index_or}
+use Rattle.std.specs.Prelude.{Option, Some, ℕ, ◌<◌, ◌≡◌, Bool, true, false, not, List, [], ◌∷◌, length, map, slice_index_or}
 use Rattle.bt_meta.specs.declared.block.Block.{Block}
 use Rattle.bt_meta.specs.WireBits.{IsPayload, flags_of}
 use Rattle.bt_history.specs.History.{same_begin}
@@ -18,6 +18,7 @@ pub record Dealings : Type 0 where
   pub reach : ℕ
   pub is_open : Bool
   pub asked : List Block
+  pub overdue : List Block
   pub due : List Block
 
 -- the row without the pieces that the peer shows
@@ -30,13 +31,14 @@ dealings row = record {
   reach = row.reach;
   is_open = row.is_open;
   asked = row.asked;
+  overdue = row.overdue;
   due = row.due;
 }
 
 -- what is kept of a peer after what came to pass with it
 abbrev pub noted : Dealing → Dealings → Dealings
 noted Heard row = record row { late = true }
-noted Choke row = record row { late = true; is_open = false; asked = []; due = [] }
+noted Choke row = record row { late = true; is_open = false; asked = []; overdue = []; due = [] }
 noted Unchoke row = record row { late = true; is_open = true }
 noted (Depth n) row = record row { told = Some n }
 noted (Reach n) row = record row { reach = n }
@@ -53,6 +55,7 @@ showing flags row = record {
   is_open = row.is_open;
   shows = flags;
   asked = row.asked;
+  overdue = row.overdue;
   due = row.due;
 }
 
@@ -61,6 +64,15 @@ abbrev pub showing_rows : List Dealings → List (List Bool) → List PeerState
 showing_rows [] shows = []
 showing_rows (row ∷ rows) [] = []
 showing_rows (row ∷ rows) (flags ∷ shows) = showing flags row ∷ showing_rows rows shows
+
+-- no peer is late with a block
+abbrev pub NoneLate : List Dealings → Type 0
+NoneLate rows = (worker : ℕ) (row : Dealings) → worker < length rows → (slice_index_or rows worker row).overdue ≡ []
+
+-- what is kept of all peers: the pieces that each shows, and no peer is late unless one was told to be
+pub record ArePeers (rows : List Dealings) (shows : List (List Bool)) (delayed : Bool) : Type 0 where
+  pub each : length shows ≡ length rows
+  pub prompt : delayed ≡ false → NoneLate rows
 
 -- the pieces that the worker's peer shows
 abbrev pub flags_at : List (List Bool) → ℕ → List Bool

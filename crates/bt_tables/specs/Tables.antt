@@ -34,6 +34,7 @@ pub record PeerState : Type 0 where
   pub is_open : Bool
   pub shows : List Bool
   pub asked : List Block
+  pub overdue : List Block
   pub due : List Block
 
 -- the row of a peer that told nothing
@@ -47,6 +48,7 @@ fresh_peer room pieces = record {
   is_open = false;
   shows = replicate pieces false;
   asked = [];
+  overdue = [];
   due = [];
 }
 
@@ -60,6 +62,7 @@ join_row row = record row {
   is_open = false;
   shows = replicate (length row.shows) false;
   asked = [];
+  overdue = [];
   due = [];
 }
 
@@ -77,11 +80,12 @@ lack_row piece row = record row {
   late = true;
   shows = slice_set row.shows piece false;
   asked = filter (λ b. not (piece == b.piece)) row.asked;
+  overdue = filter (λ b. not (piece == b.piece)) row.overdue;
 }
 
 -- after Choke
 abbrev pub choke_row : PeerState → PeerState
-choke_row row = record row { late = true; is_open = false; asked = []; due = [] }
+choke_row row = record row { late = true; is_open = false; asked = []; overdue = []; due = [] }
 
 -- after Unchoke
 abbrev pub unchoke_row : PeerState → PeerState
@@ -123,19 +127,31 @@ leave_row row = record row {
   is_open = false;
   shows = replicate (length row.shows) false;
   asked = [];
+  overdue = [];
   due = [];
 }
+
+-- after Late, where the block at this place is asked of the peer
+abbrev pub delay_row : ℕ → ℕ → PeerState → PeerState
+delay_row piece begin row = record row {
+  overdue = filter (λ b. ((piece == b.piece) && (begin == b.begin)) || has_place b row.overdue) row.asked;
+}
+
+-- the blocks that the peer is asked for and isn't late with
+abbrev pub prompt_line : PeerState → List Block
+prompt_line row = filter (λ b. not (has_place b row.overdue)) row.asked
 
 -- the row once the block at this place was stored: asked of the peer no more, and a cancel is due if another peer brought it
 abbrev pub without_block : ℕ → ℕ → Bool → PeerState → PeerState
 without_block piece begin own row = record row {
   asked = filter (λ b. not ((piece == b.piece) && (begin == b.begin))) row.asked;
+  overdue = filter (λ b. not ((piece == b.piece) && (begin == b.begin))) row.overdue;
   due = row.due ++ (if own then [] else filter (λ b. (piece == b.piece) && (begin == b.begin)) row.asked);
 }
 
 -- ---- a piece's row
 
--- what is kept of a block: the worker whose peer brought it, if it is held, and of how many peers it is asked
+-- what is kept of a block: the worker whose peer brought it, if it is held, and of how many peers it is asked that aren't late with it
 pub record CellState : Type 0 where
   pub sender : Option ℕ
   pub askers : ℕ
@@ -270,24 +286,37 @@ with_peer t w change = record t { peers = edit t.peers w change }
 
 -- what was asked of the worker's peer is freed
 abbrev pub released : TablesState → ℕ → TablesState
-released t w = record t { pieces = lowered_by (peer_row t.peers w).asked t.pieces }
+released t w = record t { pieces = lowered_by (prompt_line (peer_row t.peers w)) t.pieces }
 
--- the blocks of the line that are of the piece
-abbrev pub of_piece : ℕ → List Block → List Block
-of_piece piece line = filter (λ b. piece == b.piece) line
+-- the blocks of the piece that the peer is asked for and isn't late with
+abbrev pub prompt_of_piece : ℕ → PeerState → List Block
+prompt_of_piece piece row = filter (λ b. (piece == b.piece) && not (has_place b row.overdue)) row.asked
 
 -- the worker's peer shows the piece no more, and is asked for none of its blocks
 abbrev pub lacked : TablesState → ℕ → ℕ → TablesState
 lacked t w piece =
     with_peer (record t {
-      pieces = edit (lowered_by (of_piece piece (peer_row t.peers w).asked) t.pieces) piece
+      pieces = edit (lowered_by (prompt_of_piece piece (peer_row t.peers w)) t.pieces) piece
           (less_available (slice_index_or (peer_row t.peers w).shows piece false));
     }) w (lack_row piece)
 
--- the block that begins there is asked of the worker's peer no more, and no cancel comes due
+-- the peer is late with the block at this place
+abbrev pub is_late_at : ℕ → ℕ → PeerState → Bool
+is_late_at piece begin row = list_any (λ b. (piece == b.piece) && (begin == b.begin)) row.overdue
+
+-- the block that begins there is expected from the worker's peer no more: where that was late with it, it wasn't before
+abbrev pub unexpected : TablesState → ℕ → ℕ → ℕ → TablesState
+unexpected t w piece begin = record t {
+  pieces = if is_late_at piece begin (peer_row t.peers w) then t.pieces else lowered (place_at piece begin) t.pieces;
+}
+
+-- the block is asked of the worker's peer no more, and no cancel comes due
 abbrev pub given_up : TablesState → ℕ → ℕ → ℕ → TablesState
-given_up t w piece begin =
-    with_peer (record t { pieces = lowered (place_at piece begin) t.pieces }) w (without_block piece begin true)
+given_up t w piece begin = with_peer (unexpected t w piece begin) w (without_block piece begin true)
+
+-- the worker's peer is late with the block
+abbrev pub delayed : TablesState → ℕ → ℕ → ℕ → TablesState
+delayed t w piece begin = with_peer (unexpected t w piece begin) w (delay_row piece begin)
 
 -- a peer that showed the pieces of the one list shows those of the other in their place
 abbrev pub recounted : List PieceState → List Bool → List Bool → List PieceState
@@ -350,11 +379,15 @@ after_check t piece reply = record t {
 abbrev pub asks_at : ℕ → ℕ → PeerState → Bool
 asks_at piece begin row = list_any (λ b. (piece == b.piece) && (begin == b.begin)) row.asked
 
--- as many peers are asked for the block as its cell says
+-- and the peer isn't late with it
+abbrev pub expects_at : ℕ → ℕ → PeerState → Bool
+expects_at piece begin row = asks_at piece begin row && not (is_late_at piece begin row)
+
+-- as many peers are asked for the block, and aren't late with it, as its cell says
 abbrev pub AreAskers : TablesState → ℕ → ℕ → Type 0
 AreAskers t piece index =
     (slice_index_or (piece_row t.pieces piece).blocks index empty_cell).askers
-    ≡ count_below (length t.peers) (λ q. asks_at piece (block_size * index) (peer_row t.peers q))
+    ≡ count_below (length t.peers) (λ q. expects_at piece (block_size * index) (peer_row t.peers q))
 
 -- each piece has the level that the function gives it
 abbrev pub levelled_by : (ℕ → ℕ) → List PieceState → List PieceState

@@ -9,6 +9,7 @@ mod cell;
 mod counts;
 mod floors;
 mod haves;
+mod line;
 mod order;
 mod peer;
 mod peers;
@@ -23,6 +24,7 @@ mod sweep;
 mod tables;
 
 pub use cell::{Cell, HELD};
+pub use line::Line;
 pub use order::Order;
 pub use peer::{Dealing, Peer};
 pub use piece::{

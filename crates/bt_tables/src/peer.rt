@@ -1,14 +1,15 @@
 //! The row of a peer, beside the pieces that it shows.
 
-ghost use Rattle.std.specs.Prelude.{◌≡◌, ◌<◌, ◌≤◌, ◌+◌, ◌==◌, ◌&&◌, ◌∷◌, ◌++◌, [], true, false, not, length, slice_index_or, take, vec_capacity};
-ghost use Rattle.std.specs.Prelude.{IfNone, IfOk, IfSome, None, Some, if◌then◌else◌};
+ghost use Rattle.std.specs.Prelude.{◌≡◌, ◌<◌, ◌≤◌, ◌+◌, ◌==◌, ◌&&◌, ◌||◌, ◌∷◌, ◌++◌, [], true, false, not, length, nat_lt, vec_capacity};
+ghost use Rattle.std.specs.Prelude.{IfOk, None, Some, if◌then◌else◌};
 ghost use Rattle.bt_meta.specs.declared.block.Block.{Block};
 ghost use Rattle.std.specs.List.{filter, list_any};
 ghost use Rattle.bt_history.specs.History.{same_begin};
-ghost use Rattle.bt_history.specs.Peers.{AreApart, has_place};
+ghost use Rattle.bt_history.specs.Peers.{has_place};
 ghost use Rattle.bt_tables.specs.Showing.{Dealings, dealings, noted};
 ghost use Rattle.bt_tables.specs.Tables.{fresh_peer};
 
+use crate::line::Line;
 use bt_history::MOST_LEVEL;
 use bt_meta::Block;
 use std::alloc::{AllocError, Global};
@@ -33,22 +34,21 @@ pub enum Dealing {
 
 /// What is kept of a peer: the newest that it told of itself, and two lines of blocks. The pieces that it shows stand apart (`Shows`).
 ///
-/// `asked` has the blocks asked of the peer, the oldest request first, since that is the order in which they will come. `due` has those
-/// whose cancel is due at it, the one that came due first in front, since that one is sent first. A block that another peer brings moves from
-/// the one to the other, so together they never hold more than the greatest depth that held. In neither is a block that the peer itself
-/// brought, that it was never asked for, or that a choke, a departure or a release freed. The rows stand by the worker's number, also those
-/// of peers that never joined.
+/// `asked` has the blocks asked of the peer, the oldest request first, since that is the order in which they will come, and knows which of
+/// them are late. `due` has those whose cancel is due at it, the one that came due first in front, since that one is sent first. A block
+/// that another peer brings moves from the one to the other, so together they never hold more than the greatest depth that held. In neither
+/// is a block that the peer itself brought, that it was never asked for, or that a choke, a departure or a release freed. The rows stand by
+/// the worker's number, also those of peers that never joined.
 ///
-/// Room for two lines of the greatest depth that can hold is taken with the row, 24 bytes for each block of it, so that no call takes
-/// memory. It stands apart from the row, which so is little more than a cache line.
+/// Room for two lines of the greatest depth that can hold is taken with the row, 25 bytes for each block of it, so that no call takes
+/// memory. It stands apart from the row.
 pub struct Peer {
-    room: u32,
     joined: bool,
     late: bool,
     told: Option<u32>,
     reach: u8,
     unchoked: bool,
-    asked: Vec<Block>,
+    asked: Line,
     due: Vec<Block>,
 }
 
@@ -56,7 +56,6 @@ pub struct Peer {
 impl Drop for Peer {
     fn drop(self) {
         let Peer {
-            room: _,
             joined: _,
             late: _,
             told: _,
@@ -70,23 +69,23 @@ impl Drop for Peer {
 
 impl Model for Peer {
     ghost use Rattle.std.specs.Prelude.{◌≤◌, vec_capacity};
-    ghost use Rattle.bt_history.specs.Peers.{AreApart};
     ghost use Rattle.bt_tables.specs.Showing.{Dealings};
 
     ghost Value = { Dealings };
 
     ghost view = { λ p. record {
-      room = p.room;
+      room = p.asked.room;
       joined = p.joined;
       late = p.late;
       told = p.told;
       reach = p.reach;
       is_open = p.unchoked;
-      asked = p.asked.items;
+      asked = p.asked.asked;
+      overdue = p.asked.overdue;
       due = p.due.items;
     } };
 
-    ghost invariant = { λ p. (p.room ≤ vec_capacity p.asked) × (p.room ≤ vec_capacity p.due) × AreApart p.asked.items };
+    ghost invariant = { λ p. p.asked.room ≤ vec_capacity p.due };
 }
 
 impl Peer {
@@ -95,13 +94,12 @@ impl Peer {
         ensures { IfOk result (λ peer. peer ≡ dealings (fresh_peer room 0)) }
     {
         Ok(Peer {
-            room,
             joined: false,
             late: false,
             told: None,
             reach: MOST_LEVEL,
             unchoked: false,
-            asked: Vec::with_capacity(alloc, room as usize)?,
+            asked: Line::new(alloc, room)?,
             due: Vec::with_capacity(alloc, room as usize)?,
         })
     }
@@ -143,7 +141,15 @@ impl Peer {
     pub fn asked(&self) -> &[Block]
         ensures { result.now ≡ self.now.asked }
     {
-        self.asked.as_slice()
+        self.asked.blocks()
+    }
+
+    /// The line of what is asked of the peer, which tells what of it is late.
+    pub fn line(&self) -> &Line
+        ensures asked { result.now.asked ≡ self.now.asked }
+        ensures overdue { result.now.overdue ≡ self.now.overdue }
+    {
+        &self.asked
     }
 
     pub fn due(&self) -> &[Block]
@@ -156,12 +162,35 @@ impl Peer {
     pub fn asks(&self, piece: u32, begin: u32) -> bool
         ensures { result ≡ list_any (λ b. (piece == b.piece) && (begin == b.begin)) self.now.asked }
     {
-        place_in(&self.asked, piece, begin).is_some()
+        self.asked.has(piece, begin)
+    }
+
+    /// Whether the block that begins there is asked of the peer, and the peer isn't late with it.
+    pub fn expects(&self, piece: u32, begin: u32) -> bool
+        ensures { result ≡ (list_any (λ b. (piece == b.piece) && (begin == b.begin)) self.now.asked
+            && not (list_any (λ b. (piece == b.piece) && (begin == b.begin)) self.now.overdue)) }
+    {
+        self.asked.expects(piece, begin)
+    }
+
+    /// Whether the peer is late with the block that begins there.
+    pub fn is_late_with(&self, piece: u32, begin: u32) -> bool
+        ensures { result ≡ list_any (λ b. (piece == b.piece) && (begin == b.begin)) self.now.overdue }
+    {
+        self.asked.is_late(piece, begin)
+    }
+
+    /// Whether the peer is late with a block.
+    #[inline(always)]
+    pub fn has_late(&self) -> bool
+        ensures { result ≡ nat_lt 0 (length self.now.overdue) }
+    {
+        self.asked.has_late()
     }
 
     /// The peer joins: what an earlier one told or was asked is gone.
     pub fn join(&mut self)
-        ensures { self.new ≡ record self.old { joined = true; late = false; told = None; reach = MOST_LEVEL; is_open = false; asked = []; due = [] } }
+        ensures { self.new ≡ record self.old { joined = true; late = false; told = None; reach = MOST_LEVEL; is_open = false; asked = []; overdue = []; due = [] } }
     {
         self.joined = true;
         self.late = false;
@@ -172,7 +201,7 @@ impl Peer {
 
     /// The peer leaves.
     pub fn leave(&mut self)
-        ensures { self.new ≡ record self.old { joined = false; is_open = false; asked = []; due = [] } }
+        ensures { self.new ≡ record self.old { joined = false; is_open = false; asked = []; overdue = []; due = [] } }
     {
         self.joined = false;
         self.reset();
@@ -180,7 +209,7 @@ impl Peer {
 
     /// Takes back all that was asked of the peer, and with it the cancels that it is owed.
     fn reset(&mut self)
-        ensures { self.new ≡ record self.old { is_open = false; asked = []; due = [] } }
+        ensures { self.new ≡ record self.old { is_open = false; asked = []; overdue = []; due = [] } }
     {
         self.unchoked = false;
         self.asked.clear();
@@ -209,10 +238,14 @@ impl Peer {
 
     /// The peer has the piece no more: none of its blocks is asked of the peer.
     pub fn lack(&mut self, piece: u32)
-        ensures { self.new ≡ record self.old { late = true; asked = filter (λ b. not (piece == b.piece)) self.old.asked } }
+        ensures { self.new ≡ record self.old {
+          late = true;
+          asked = filter (λ b. not (piece == b.piece)) self.old.asked;
+          overdue = filter (λ b. not (piece == b.piece)) self.old.overdue;
+        } }
     {
         self.late = true;
-        self.asked.retain(|b| piece != b.piece);
+        self.asked.remove_piece(piece);
     }
 
     /// The block is asked of the peer now.
@@ -221,7 +254,16 @@ impl Peer {
         requires new { has_place block self.old.asked ≡ false }
         ensures { self.new ≡ record self.old { asked = self.old.asked ++ block ∷ [] } }
     {
-        self.asked.push_reserved(block);
+        self.asked.push(block);
+    }
+
+    /// The peer is late with the block that begins there, if it is asked for it.
+    pub fn delay(&mut self, piece: u32, begin: u32)
+        ensures { self.new ≡ record self.old {
+          overdue = filter (λ b. ((piece == b.piece) && (begin == b.begin)) || has_place b self.old.overdue) self.old.asked;
+        } }
+    {
+        self.asked.delay(piece, begin);
     }
 
     /// The cancel of the block that begins there is told.
@@ -238,30 +280,13 @@ impl Peer {
         requires { length self.old.asked + length self.old.due ≤ self.old.room }
         ensures { self.new ≡ record self.old {
           asked = filter (λ b. not ((piece == b.piece) && (begin == b.begin))) self.old.asked;
+          overdue = filter (λ b. not ((piece == b.piece) && (begin == b.begin))) self.old.overdue;
           due = self.old.due ++ (if own then [] else filter (λ b. (piece == b.piece) && (begin == b.begin)) self.old.asked);
         } }
     {
-        let Some(index) = place_in(&self.asked, piece, begin) else {
-            return;
-        };
-        let block = self.asked.remove(index); // most often the first, as blocks come in the order of their requests
-        if !own {
-            self.due.push_reserved(block);
+        match self.asked.take(piece, begin) {
+            Some(block) if !own => self.due.push_reserved(block),
+            _ => {}
         }
     }
-}
-
-/// Where in the line the first block stands that begins there, if one does.
-fn place_in(line: &[Block], piece: u32, begin: u32) -> Option<usize>
-    ensures some { IfSome result (λ i. (i < length line.now)
-        × (list_any (λ b. (piece == b.piece) && (begin == b.begin)) (take i line.now) ≡ false)
-        × ((d : Block) → ((piece == (slice_index_or line.now i d).piece) && (begin == (slice_index_or line.now i d).begin)) ≡ true)) }
-    ensures none { IfNone result (list_any (λ b. (piece == b.piece) && (begin == b.begin)) line.now ≡ false) }
-{
-    for (index, block) in line.iter().enumerate() {
-        if piece == block.piece && begin == block.begin {
-            return Some(index);
-        }
-    }
-    None
 }

@@ -1,11 +1,11 @@
 //! The rows of all peers.
 
-ghost use Rattle.std.specs.Prelude.{◌≡◌, ◌<◌, ◌≤◌, ◌+◌, ◌==◌, ℕ, false, length, slice_index_or, IfOk, EachIndex};
+ghost use Rattle.std.specs.Prelude.{◌≡◌, ◌≢◌, ◌<◌, ◌≤◌, ◌+◌, ◌==◌, [], ℕ, false, length, slice_index_or, IfOk, EachIndex};
 ghost use Rattle.bt_meta.specs.WireBits.{FindsFirst};
-ghost use Rattle.bt_history.specs.Counting.{count_below, table};
+ghost use Rattle.bt_history.specs.Counting.{any_below, count_below, table};
 ghost use Rattle.bt_history.specs.Peers.{has_place};
 ghost use Rattle.bt_tables.specs.Showing.{dealings};
-ghost use Rattle.bt_tables.specs.Tables.{asks_at, bits_row, noted_row, edit, fresh_peer, have_row, join_row, lack_row, leave_row};
+ghost use Rattle.bt_tables.specs.Tables.{bits_row, delay_row, expects_at, is_late_at, noted_row, edit, fresh_peer, have_row, join_row, lack_row, leave_row};
 ghost use Rattle.bt_tables.specs.Tables.{HasShortLines, peer_row, request_row, without_block};
 
 use crate::peer::{Dealing, Peer};
@@ -15,10 +15,11 @@ use std::alloc::{AllocError, Global};
 use std::marker::Model;
 
 /// A row for each worker's peer, by the worker's number, and the pieces that each shows, which stand in a table of their own. Contracts
-/// see the rows with these pieces in them.
+/// see the rows with these pieces in them. Once a peer was told to be late, a stored block may be asked of peers that its cell doesn't count.
 pub struct Peers {
     rows: Vec<Peer>,
     shows: Shows,
+    delayed: bool,
 }
 
 /// The end of all rows is one call for whoever owns them.
@@ -27,20 +28,21 @@ impl Drop for Peers {
         let Peers {
             rows: _rows,
             shows: _shows,
+            delayed: _,
         } = self;
     }
 }
 
 impl Model for Peers {
-    ghost use Rattle.std.specs.Prelude.{List, ◌≡◌, length};
-    ghost use Rattle.bt_tables.specs.Showing.{showing_rows};
+    ghost use Rattle.std.specs.Prelude.{List};
+    ghost use Rattle.bt_tables.specs.Showing.{ArePeers, showing_rows};
     ghost use Rattle.bt_tables.specs.Tables.{PeerState};
 
     ghost Value = { List PeerState };
 
     ghost view = { λ p. showing_rows p.rows.items p.shows };
 
-    ghost invariant = { λ p. length p.shows ≡ length p.rows.items };
+    ghost invariant = { λ p. ArePeers p.rows.items p.shows p.delayed };
 }
 
 impl Peers {
@@ -51,6 +53,7 @@ impl Peers {
         Ok(Peers {
             rows: new_rows(alloc, workers, room)?,
             shows: Shows::new(alloc, workers, pieces)?,
+            delayed: false,
         })
     }
 
@@ -161,6 +164,34 @@ impl Peers {
         self.rows[worker as usize].ask(block);
     }
 
+    /// The peer is late with the block that begins there, if it is asked for it.
+    pub fn delay(&mut self, worker: u32, piece: u32, begin: u32)
+        requires { worker < length self.old }
+        ensures { self.new ≡ edit self.old worker (delay_row piece begin) }
+    {
+        self.delayed = true;
+        self.rows[worker as usize].delay(piece, begin);
+    }
+
+    /// Whether a peer is late with the block that begins there.
+    pub fn is_late_at_some(&self, piece: u32, begin: u32) -> bool
+        ensures { result ≡ any_below (length self.now) (λ q. is_late_at piece begin (peer_row self.now q)) }
+    {
+        self.delayed && self.finds_late(piece, begin)
+    }
+
+    /// Whether one of the rows is of a peer that is late with the block that begins there.
+    fn finds_late(&self, piece: u32, begin: u32) -> bool
+        ensures { result ≡ any_below (length self.now) (λ q. is_late_at piece begin (peer_row self.now q)) }
+    {
+        for index in 0..self.len() {
+            if self.row(index).is_late_with(piece, begin) {
+                return true;
+            }
+        }
+        false
+    }
+
     /// The block that begins there was stored, brought by this peer or by another; with `own` it is as well one that is given up.
     pub fn forget_at(&mut self, worker: u32, piece: u32, begin: u32, own: bool)
         requires worker { worker < length self.old }
@@ -170,16 +201,18 @@ impl Peers {
         self.rows[worker as usize].forget(piece, begin, own);
     }
 
-    /// The block that begins there was stored, brought by the worker's own peer, where so many peers are asked for it: the own row alone
-    /// is told, where no other peer is.
+    /// The block that begins there was stored, brought by the worker's own peer, where so many peers are asked for it and aren't late with
+    /// it. Where no other peer is, the own row alone is told, and those of peers that are late with something.
     pub fn forget(&mut self, worker: u32, piece: u32, begin: u32, askers: u32)
         requires worker { worker < length self.old }
-        requires askers { askers ≡ count_below (length self.old) (λ q. asks_at piece begin (peer_row self.old q)) }
+        requires askers { askers ≡ count_below (length self.old) (λ q. expects_at piece begin (peer_row self.old q)) }
         requires room { EachIndex self.old (λ q. HasShortLines (peer_row self.old q)) }
         ensures { self.new ≡ table (length self.old) (λ q. without_block piece begin (worker == q) (peer_row self.old q)) }
     {
-        if askers > u32::from(self.row(worker).asks(piece, begin)) {
+        if askers > u32::from(self.row(worker).expects(piece, begin)) {
             self.forget_everywhere(worker, piece, begin);
+        } else if self.delayed {
+            self.forget_late(worker, piece, begin);
         } else {
             self.forget_at(worker, piece, begin, true);
         }
@@ -192,6 +225,31 @@ impl Peers {
     {
         for index in 0..self.len() {
             self.forget_at(index, piece, begin, worker == index);
+        }
+    }
+
+    /// Tells the own row and those of peers that are late with something that the block was stored. No other peer is asked for it.
+    fn forget_late(&mut self, worker: u32, piece: u32, begin: u32)
+        requires room { EachIndex self.old (λ q. HasShortLines (peer_row self.old q)) }
+        requires others { (q : ℕ) → q < length self.old → q ≢ worker → (peer_row self.old q).overdue ≡ []
+            → without_block piece begin false (peer_row self.old q) ≡ peer_row self.old q }
+        ensures { self.new ≡ table (length self.old) (λ q. without_block piece begin (worker == q) (peer_row self.old q)) }
+    {
+        for index in 0..self.len() {
+            self.forget_late_at(index, piece, begin, worker == index);
+        }
+    }
+
+    /// The same of one row, where it is the own one, or its peer is late with something.
+    fn forget_late_at(&mut self, worker: u32, piece: u32, begin: u32, own: bool)
+        requires worker { worker < length self.old }
+        requires room { HasShortLines (peer_row self.old worker) }
+        requires other { own ≡ false → (peer_row self.old worker).overdue ≡ []
+            → without_block piece begin false (peer_row self.old worker) ≡ peer_row self.old worker }
+        ensures { self.new ≡ edit self.old worker (without_block piece begin own) }
+    {
+        if own || self.row(worker).has_late() {
+            self.forget_at(worker, piece, begin, own);
         }
     }
 }

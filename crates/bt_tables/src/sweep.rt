@@ -1,12 +1,15 @@
 //! What goes over all pieces of a bitfield that comes or goes, or over all blocks of a line.
 
-ghost use Rattle.std.specs.Prelude.{◌≡◌, ◌<◌, ◌+◌, ◌^◌, ◌==◌, [], false, if◌then◌else◌, true, length, slice_index_or, unwrap_or};
+ghost use Rattle.std.specs.Prelude.{◌≡◌, ◌<◌, ◌+◌, ◌^◌, ◌==◌, ◌&&◌, [], false, if◌then◌else◌, not, true, length, slice_index_or, unwrap_or};
+ghost use Rattle.std.specs.List.{filter};
 ghost use Rattle.std.specs.Option.{option_copied};
+ghost use Rattle.bt_history.specs.Peers.{has_place};
 ghost use Rattle.bt_tables.specs.Floors.{AreFloors};
 ghost use Rattle.bt_tables.specs.Tables.{AreCounted, edit, hidden_rows, less_available, lowered, lowered_by, more_available, peer_row, piece_row};
-ghost use Rattle.bt_tables.specs.Tables.{level_row, levelled_by, of_piece, recounted, shown_rows, wanted_level};
+ghost use Rattle.bt_tables.specs.Tables.{level_row, levelled_by, recounted, shown_rows, wanted_level};
 
 use crate::floors::Floors;
+use crate::line::Line;
 use crate::peers::Peers;
 use crate::piece::Change;
 use crate::pieces::Pieces;
@@ -135,14 +138,25 @@ fn has(flags: &Bitfield, piece: u32) -> bool
     piece < flags.count() && flags.has(piece)
 }
 
-/// Frees the blocks of the line: one peer less is asked for each.
-pub fn lower_all(pieces: &mut Pieces, floors: &mut Floors, peers: &Peers, line: &[Block])
+/// Frees the blocks of the line that the peer isn't late with: one peer less is asked for each.
+pub fn lower_all(pieces: &mut Pieces, floors: &mut Floors, peers: &Peers, line: &Line)
     requires { AreFloors floors.old peers.now pieces.old }
-    ensures pieces { pieces.new ≡ lowered_by line.now pieces.old }
+    ensures pieces { pieces.new ≡ lowered_by (filter (λ b. not (has_place b line.now.overdue)) line.now.asked) pieces.old }
     ensures floors { AreFloors floors.new peers.now pieces.new }
 {
-    for block in line {
-        lower(pieces, floors, peers, *block);
+    for (index, block) in line.blocks().iter().enumerate() {
+        lower_unless(pieces, floors, peers, *block, line.is_late_at(index));
+    }
+}
+
+/// One peer less is asked for the block, unless that is late with it.
+fn lower_unless(pieces: &mut Pieces, floors: &mut Floors, peers: &Peers, block: Block, late: bool)
+    requires { AreFloors floors.old peers.now pieces.old }
+    ensures pieces { pieces.new ≡ (if not late then lowered block pieces.old else pieces.old) }
+    ensures floors { AreFloors floors.new peers.now pieces.new }
+{
+    if !late {
+        lower(pieces, floors, peers, block);
     }
 }
 
@@ -158,12 +172,12 @@ pub fn lower(pieces: &mut Pieces, floors: &mut Floors, peers: &Peers, block: Blo
     }
 }
 
-/// Frees those blocks of the line that are of the piece. No floor is told of it.
-pub fn lower_piece(pieces: &mut Pieces, line: &[Block], piece: u32)
-    ensures { pieces.new ≡ lowered_by (of_piece piece line.now) pieces.old }
+/// Frees those blocks of the line that are of the piece and that the peer isn't late with. No floor is told of it.
+pub fn lower_piece(pieces: &mut Pieces, line: &Line, piece: u32)
+    ensures { pieces.new ≡ lowered_by (filter (λ b. (piece == b.piece) && not (has_place b line.now.overdue)) line.now.asked) pieces.old }
 {
-    for block in line {
-        lower_if(pieces, *block, piece == block.piece);
+    for (index, block) in line.blocks().iter().enumerate() {
+        lower_if(pieces, *block, line.is_prompt_of(index, piece));
     }
 }
 

@@ -12,11 +12,11 @@ ghost use Rattle.bt_tables.specs.Standings.{ListsOpen, TellsRest, apart, group_n
 ghost use Rattle.bt_history.specs.Setting.{deepest_line, setting_of};
 ghost use Rattle.bt_history.specs.History.{stores};
 ghost use Rattle.bt_meta.specs.declared.block.Block.{Block};
-ghost use Rattle.bt_history.specs.Counting.{table};
+ghost use Rattle.bt_history.specs.Counting.{any_below, table};
 ghost use Rattle.bt_tables.specs.Floors.{AsksRarest, FewOpen, IsFloor, NoneFresh, RequestTells, TellsFloor, is_fresh};
 ghost use Rattle.bt_tables.specs.Tables.{AreAskers, AreCounted, HasBlock, HasRoomFor, HasShortLines, bits_row, leave_row, TablesState, after_arrival};
 ghost use Rattle.bt_tables.specs.Tables.{after_check, after_next, announced, given_up, edit, failed_row, fresh_peer, fresh_piece, join_row};
-ghost use Rattle.bt_tables.specs.Tables.{choke_row, lacked, noted_row, joint, levelled, ordered, peer_row, piece_row, released, relevelled, reshown};
+ghost use Rattle.bt_tables.specs.Tables.{choke_row, delayed, is_late_at, unexpected, lacked, noted_row, joint, levelled, ordered, peer_row, piece_row, released, relevelled, reshown};
 ghost use Rattle.bt_tables.specs.Tables.{wanted_level, with_block, with_peer};
 ghost use Rattle.bt_history.specs.declared.rules.TheConstants.{MOST_LEVEL};
 ghost use Rattle.std.specs.Prelude.{nat_le};
@@ -155,6 +155,13 @@ impl Tables {
         self.peers.shows(worker, piece)
     }
 
+    /// Whether a peer is late with the block that begins there.
+    pub fn is_late_at_some(&self, piece: u32, begin: u32) -> bool
+        ensures { result ≡ any_below (length self.now.peers) (λ q. is_late_at piece begin (peer_row self.now.peers q)) }
+    {
+        self.peers.is_late_at_some(piece, begin)
+    }
+
     /// The row of the piece.
     pub fn piece(&self, piece: u32) -> Piece<'_>
         requires { piece < length self.now.pieces }
@@ -291,14 +298,16 @@ impl Tables {
         }
     }
 
-    /// Notes the floor that the reply to Next tells. Beyond the peer's reach there may be pieces that it shows, so nothing is told of them.
+    /// Notes the floor that the reply to Next tells. Beyond the peer's reach there may be pieces that it shows, and where it is late such as are
+    /// not asked of it, so nothing is told then.
     pub fn learn(&mut self, worker: u32, reply: Reply)
         requires worker { worker < length self.old.peers }
-        requires told { (peer_row self.old.peers worker).reach ≡ MOST_LEVEL → (n : ℕ) → TellsFloor self.old reply n
+        requires told { (peer_row self.old.peers worker).reach ≡ MOST_LEVEL → (peer_row self.old.peers worker).overdue ≡ [] → (n : ℕ) → TellsFloor self.old reply n
             → IsFloor self.old.pieces (peer_row self.old.peers worker) n }
         ensures { self.new ≡ self.old }
     {
-        if self.peers.row(worker).reach() != MOST_LEVEL {
+        let row = self.peers.row(worker);
+        if row.reach() != MOST_LEVEL || row.has_late() {
             return;
         }
         if let Some(floor) = self.floor_told(reply) {
@@ -327,7 +336,7 @@ impl Tables {
         requires { worker < length self.old.peers }
         ensures { self.new ≡ released self.old worker }
     {
-        let line = self.peers.row(worker).asked();
+        let line = self.peers.row(worker).line();
         lower_all(&mut self.pieces, &mut self.floors, &self.peers, line);
     }
 
@@ -375,13 +384,33 @@ impl Tables {
         requires room { HasShortLines (peer_row self.old.peers worker) }
         ensures { self.new ≡ given_up self.old worker piece begin }
     {
+        self.free(worker, piece, begin);
+        self.peers.forget_at(worker, piece, begin, true);
+    }
+
+    /// Late: the worker's peer, which is asked for the block that begins there, is late with it.
+    pub fn put_late(&mut self, worker: u32, piece: u32, begin: u32)
+        requires { worker < length self.old.peers }
+        ensures { self.new ≡ delayed self.old worker piece begin }
+    {
+        self.free(worker, piece, begin);
+        self.peers.delay(worker, piece, begin);
+    }
+
+    /// The block that begins there, which is asked of the peer, is expected from it no more.
+    fn free(&mut self, worker: u32, piece: u32, begin: u32)
+        requires { worker < length self.old.peers }
+        ensures { self.new ≡ unexpected self.old worker piece begin }
+    {
+        if self.peers.row(worker).is_late_with(piece, begin) {
+            return;
+        }
         let block = Block {
             piece,
             begin,
             len: 0,
         };
         lower(&mut self.pieces, &mut self.floors, &self.peers, block);
-        self.peers.forget_at(worker, piece, begin, true);
     }
 
     /// Lack: the peer has the piece no more, and blocks of it that were asked of the peer are free.
@@ -391,7 +420,7 @@ impl Tables {
         requires shown { piece < length (peer_row self.old.peers worker).shows }
         ensures { self.new ≡ lacked self.old worker piece }
     {
-        lower_piece(&mut self.pieces, self.peers.row(worker).asked(), piece);
+        lower_piece(&mut self.pieces, self.peers.row(worker).line(), piece);
         self.pieces.withdraw(piece, self.peers.shows(worker, piece));
         self.peers.lack(worker, piece);
         self.floors.clear(); // the piece may be unbegun again, and fewer peers show it

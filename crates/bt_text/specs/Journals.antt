@@ -5,7 +5,7 @@ use Rattle.hex.specs.Hex.{encode_lower}
 use Rattle.bt_meta.specs.WireBits.{IsSpelled}
 use Rattle.bt_history.specs.declared.event.Action.{Action}
 use Rattle.bt_history.specs.declared.event.Action.TheVariants.{Join, Bits, Have, Choke, Unchoke, Next, Arrived, Settle, Leave, Want, Haves, Depth}
-use Rattle.bt_history.specs.declared.event.Action.TheVariants.{Release, Level, Levels, InOrder, Reach, InOrderFrom, Lack}
+use Rattle.bt_history.specs.declared.event.Action.TheVariants.{Release, Level, Levels, InOrder, Reach, InOrderFrom, Lack, Late}
 use Rattle.bt_history.specs.declared.event.Event.{Event}
 use Rattle.bt_text.specs.Texts.{reply_text}
 
@@ -13,9 +13,9 @@ use Rattle.bt_text.specs.Texts.{reply_text}
 abbrev pub arrived_text : ℕ → ℕ → ℕ → List ℕ
 arrived_text piece begin len = codes "block " ++ (decimal piece ++ (codes " " ++ (decimal begin ++ (codes " " ++ decimal len))))
 
--- the text of a block that is given up: its piece, and where it begins
-abbrev pub released_text : ℕ → ℕ → List ℕ
-released_text piece begin = codes "release " ++ (decimal piece ++ (codes " " ++ decimal begin))
+-- the text of what is told of a request: the word, the piece of its block, and where that begins
+abbrev pub request_text : List ℕ → ℕ → ℕ → List ℕ
+request_text word piece begin = word ++ (decimal piece ++ (codes " " ++ decimal begin))
 
 -- the text of a piece's level
 abbrev pub level_text : ℕ → ℕ → List ℕ
@@ -43,7 +43,7 @@ IsCallText Leave text = text ≡ codes "leave"
 IsCallText (Want flags) text = (wire : List ℕ) × (IsSpelled flags wire × (text ≡ codes "want " ++ encode_lower wire))
 IsCallText (Haves flags) text = (wire : List ℕ) × (IsSpelled flags wire × (text ≡ codes "haves " ++ encode_lower wire))
 IsCallText (Depth n) text = text ≡ codes "depth " ++ decimal n
-IsCallText (Release p begin) text = text ≡ released_text p begin
+IsCallText (Release p begin) text = text ≡ request_text (codes "release ") p begin
 IsCallText (Level p n) text = text ≡ level_text p n
 IsCallText (Levels levels) text = text ≡ codes "levels " ++ level_digits levels
 IsCallText (InOrder true) text = text ≡ codes "inorder yes"
@@ -51,6 +51,7 @@ IsCallText (InOrder false) text = text ≡ codes "inorder no"
 IsCallText (Reach n) text = text ≡ codes "reach " ++ decimal n
 IsCallText (InOrderFrom n) text = text ≡ codes "inorderfrom " ++ decimal n
 IsCallText (Lack p) text = text ≡ codes "lack " ++ decimal p
+IsCallText (Late p begin) text = text ≡ request_text (codes "late ") p begin
 
 -- the line of an entry: the worker, the call and the reply
 pub record IsJournalLine (e : Event) (text : List ℕ) : Type 0 where

@@ -3,7 +3,7 @@ use Rattle.std.specs.Prelude.{ℕ, Bool, List, [], ◌∷◌, Option, Some, None
 use Rattle.std.specs.Str.{bytes_eq}
 use Rattle.bt_history.specs.Entries.{action_of}
 use Rattle.bt_history.specs.declared.event.Action.{Action}
-use Rattle.bt_history.specs.declared.event.Action.TheVariants.{Join, Choke, Unchoke, Leave, Have, Next, Depth, Levels, InOrder, Reach, InOrderFrom, Lack, Release, Level, Arrived}
+use Rattle.bt_history.specs.declared.event.Action.TheVariants.{Join, Choke, Unchoke, Leave, Have, Next, Depth, Levels, InOrder, Reach, InOrderFrom, Lack, Release, Late, Level, Arrived}
 use Rattle.bt_text.specs.declared.script.line.Command.{Command}
 use Rattle.bt_text.specs.declared.script.line.Command.TheVariants as commands
 use Rattle.bt_text.specs.declared.script.line.Line.{Line}
@@ -63,6 +63,11 @@ abbrev pub release_of : Option ℕ → Option ℕ → Option Order
 release_of (Some piece) (Some begin) = Some (makes (Release piece begin))
 release_of piece begin = None
 
+-- what takes too long: the piece, and where the block begins in it
+abbrev pub late_of : Option ℕ → Option ℕ → Option Order
+late_of (Some piece) (Some begin) = Some (makes (Late piece begin))
+late_of piece begin = None
+
 -- the level of a piece
 abbrev pub level_of : Option ℕ → Option ℕ → Option Order
 level_of (Some piece) (Some n) = Some (makes (Level piece n))
@@ -72,8 +77,9 @@ level_of piece n = None
 abbrev pub pair_command : List ℕ → List ℕ → List ℕ → Option Order
 pair_command word piece second =
     if bytes_eq word (codes "release") then release_of (small_number_in piece) (small_number_in second)
+    else (if bytes_eq word (codes "late") then late_of (small_number_in piece) (small_number_in second)
     else (if bytes_eq word (codes "level") then level_of (small_number_in piece) (byte_in second)
-    else None)
+    else None))
 
 -- a block: its piece, where it begins in it, and its bytes
 abbrev pub block_of : Option ℕ → Option ℕ → Option (List ℕ) → Option Order

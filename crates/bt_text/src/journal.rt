@@ -5,7 +5,7 @@ ghost use Rattle.std.specs.Io.KnownBytes.{Appends};
 ghost use Rattle.hex.specs.Hex.{encode_lower};
 ghost use Rattle.bt_meta.specs.WireBits.{IsSpelled};
 ghost use Rattle.bt_history.specs.Entries.{action_of, event_of};
-ghost use Rattle.bt_text.specs.Journals.{arrived_text, released_text, level_text, level_digit, level_digits};
+ghost use Rattle.bt_text.specs.Journals.{arrived_text, request_text, level_text, level_digit, level_digits};
 ghost use Rattle.bt_text.specs.Journals.{AreJournalLines, IsCallText, IsJournalLine};
 
 use crate::printing::{print, print_number, print_numbered, print_said};
@@ -63,7 +63,7 @@ fn print_call<O: Sink>(out: &mut O, call: &Call) -> Result<(), DeviceFault>
         Call::Want(flags) => print_bits(out, "want ", flags),
         Call::Haves(flags) => print_bits(out, "haves ", flags),
         Call::Depth(depth) => print_numbered(out, "depth ", u64::from(*depth)),
-        Call::Release { piece, begin } => print_released(out, *piece, *begin),
+        Call::Release { piece, begin } => print_request(out, "release ", *piece, *begin),
         Call::Level { piece, level } => print_level(out, *piece, *level),
         Call::Levels(levels) => print_levels(out, levels.as_slice()),
         Call::InOrder(true) => print(out, "inorder yes"),
@@ -71,15 +71,22 @@ fn print_call<O: Sink>(out: &mut O, call: &Call) -> Result<(), DeviceFault>
         Call::Reach(level) => print_numbered(out, "reach ", u64::from(*level)),
         Call::InOrderFrom(level) => print_numbered(out, "inorderfrom ", u64::from(*level)),
         Call::Lack(piece) => print_numbered(out, "lack ", u64::from(*piece)),
+        Call::Late { piece, begin } => print_request(out, "late ", *piece, *begin),
     }
 }
 
-/// What is asked of the peer no more: the piece, and where the block begins.
-fn print_released<O: Sink>(out: &mut O, piece: u32, begin: u32) -> Result<(), DeviceFault>
-    ensures ok { OnOk result (Appends (O.written out.old) (O.written out.new) (released_text piece begin)) }
+/// Prints the word, and the request that it is told of: the piece, and where the block begins.
+fn print_request<O: Sink>(
+    out: &mut O,
+    word: &str,
+    piece: u32,
+    begin: u32,
+) -> Result<(), DeviceFault>
+    ensures ok { OnOk result (Appends (O.written out.old) (O.written out.new) (request_text word.now piece begin)) }
     ensures err { OnErr result (O.failed out.new ≡ true) }
 {
-    print_numbered(out, "release ", u64::from(piece))?;
+    print(out, word)?;
+    print_number(out, u64::from(piece))?;
     print_numbered(out, " ", u64::from(begin))
 }
 

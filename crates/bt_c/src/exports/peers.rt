@@ -232,8 +232,7 @@ pub extern "C" fn piecepick_next(
     tell(call(alloc, picker, worker, Told::Next(word)), answer)
 }
 
-/// The block that begins `begin` bytes into the piece is asked of the peer no more: the peer rejected it (BEP 6), it took too long, or the
-/// request was not sent.
+/// The block that begins `begin` bytes into the piece is asked of the peer no more: the peer rejected it (BEP 6), or the request was not sent.
 #[unsafe(no_mangle)]
 pub extern "C" fn piecepick_release(
     alloc: Global,
@@ -247,6 +246,24 @@ pub extern "C" fn piecepick_release(
         picker.old.held picker.new.held result answer.new }
 {
     let told = Told::Release { piece, begin };
+    tell(call_at(alloc, picker, worker, piece, told), answer)
+}
+
+/// The request of the block that begins `begin` bytes into the piece takes too long. It stays asked of the peer, and other peers may be asked
+/// for it.
+#[unsafe(no_mangle)]
+pub extern "C" fn piecepick_late(
+    alloc: Global,
+    picker: &mut PickerHandle,
+    worker: u32,
+    piece: u32,
+    begin: u32,
+    answer: &mut Answer,
+) -> u32
+    ensures { Tells (λ h e o. MakesAt h e worker piece (actions.Late piece begin) o)
+        picker.old.held picker.new.held result answer.new }
+{
+    let told = Told::Late { piece, begin };
     tell(call_at(alloc, picker, worker, piece, told), answer)
 }
 

@@ -5,7 +5,7 @@
 //! is asked that is asked for one again, and 1 where endgame waits for what is shown alone, else 0. Then come its lines, and behind `but`, each
 //! behind the number of lines that come before, those that mustn't come. Between two examples stands an empty line.
 
-pub const COUNT: u32 = 95;
+pub const COUNT: u32 = 106;
 
 pub const EXAMPLES: &str = "\
 first request
@@ -562,6 +562,100 @@ released arrives after all
 0 next 0 = request 0 16384 16384
 but
 5 0 block 0 0 whole = dropped
+
+late is asked elsewhere
+3 6 abc abc
+2 5 1 1024 64 0 4096 0
+0 join = joined
+0 bits c0 = noted yes
+0 unchoke = quiet
+1 join = joined
+1 bits 80 = noted yes
+1 unchoke = quiet
+0 next 0 = request 0 0 3
+1 next 0 = idle
+0 late 0 0 = quiet
+1 next 0 = request 0 0 3
+0 next 0 = request 1 0 3
+1 block 0 0 abc = completed
+0 next 0 = cancel 0 0 3
+but
+9 1 next 0 = idle
+10 0 next 0 = request 0 0 3
+10 0 next 0 = idle
+12 0 next 0 = idle
+
+late holds up endgame
+3 6 abc abc
+3 5 1 1024 64 0 4096 0
+0 join = joined
+0 bits c0 = noted yes
+0 unchoke = quiet
+1 join = joined
+1 bits 40 = noted yes
+1 unchoke = quiet
+0 next 0 = request 0 0 3
+1 next 1 = request 1 0 3
+0 late 0 0 = quiet
+0 next 0 = idle
+2 join = joined
+2 bits 80 = noted yes
+2 unchoke = quiet
+2 next 0 = request 0 0 3
+0 next 0 = request 1 0 3
+but
+9 0 next 0 = request 1 0 3
+9 0 next 0 = nothing
+14 0 next 0 = idle
+
+late in spite of one asker
+3 3 abc
+3 5 1 1 64 0 4096 0
+0 join = joined
+0 bits 80 = noted yes
+0 unchoke = quiet
+1 join = joined
+1 bits 80 = noted yes
+1 unchoke = quiet
+2 join = joined
+2 bits 80 = noted yes
+2 unchoke = quiet
+0 next 0 = request 0 0 3
+1 next 0 = idle
+0 late 0 0 = quiet
+1 next 0 = request 0 0 3
+0 late 0 0 = quiet
+2 next 0 = idle
+1 late 0 0 = quiet
+2 next 0 = request 0 0 3
+but
+12 1 next 0 = idle
+13 0 late 0 0 = refused NotAsked
+14 2 next 0 = request 0 0 3
+
+late no more
+3 6 abc abc
+2 5 1 1024 64 0 4096 0
+0 join = joined
+0 bits c0 = noted yes
+0 unchoke = quiet
+1 join = joined
+1 bits 80 = noted yes
+1 unchoke = quiet
+0 next 0 = request 0 0 3
+0 late 0 0 = quiet
+0 block 0 0 abd = completed
+0 settle 0 abd = failed
+0 next 0 = request 0 0 3
+1 next 0 = idle
+0 late 0 0 = quiet
+0 choke = quiet
+0 unchoke = quiet
+0 next 0 = request 0 0 3
+1 next 0 = idle
+but
+11 1 next 0 = request 0 0 3
+16 1 next 0 = request 0 0 3
 
 depth of one
 1000000 1000000 million
@@ -1634,4 +1728,142 @@ but
 3 0 lack 3 = noted no
 4 0 bits 80 = refused LateBits
 5 0 lack 2 = refused NoSuchPiece
-8 1 bits e0 = noted yes";
+8 1 bits e0 = noted yes
+
+late comes after all
+3 3 abc
+2 5 1 1024 64 0 4096 0
+0 join = joined
+0 bits 80 = noted yes
+0 unchoke = quiet
+1 join = joined
+1 bits 80 = noted yes
+1 unchoke = quiet
+0 next 0 = request 0 0 3
+0 late 0 0 = quiet
+1 next 0 = request 0 0 3
+0 block 0 0 abc = completed
+0 next 0 = idle
+1 next 0 = cancel 0 0 3
+but
+10 0 next 0 = cancel 0 0 3
+11 1 next 0 = idle
+
+late at a lone peer
+32768 65536 abc abc
+1 5 1 1024 64 0 4096 0
+0 join = joined
+0 bits c0 = noted yes
+0 unchoke = quiet
+0 next 0 = request 0 0 16384
+0 late 0 0 = quiet
+0 next 0 = request 0 16384 16384
+0 next 1 = request 1 0 16384
+0 next 0 = request 1 16384 16384
+0 next 0 = idle
+0 block 0 0 whole = stored
+but
+5 0 next 0 = request 0 0 16384
+6 0 next 1 = idle
+6 0 next 1 = request 0 0 16384
+9 0 block 0 0 whole = dropped
+
+late stays in the pipe
+32768 65536 abc abc
+1 2 1 1024 64 0 4096 0
+0 join = joined
+0 bits c0 = noted yes
+0 unchoke = quiet
+0 next 0 = request 0 0 16384
+0 next 0 = request 0 16384 16384
+0 next 0 = pipefull
+0 late 0 0 = quiet
+0 late 0 16384 = quiet
+0 next 0 = pipefull
+0 release 0 0 = quiet
+0 next 0 = request 0 0 16384
+but
+8 0 next 0 = request 1 0 16384
+10 0 next 0 = pipefull
+
+released once late
+3 3 abc
+1 5 1 1024 64 0 4096 0
+0 join = joined
+0 bits 80 = noted yes
+0 unchoke = quiet
+0 next 0 = request 0 0 3
+0 late 0 0 = quiet
+0 next 0 = idle
+0 release 0 0 = quiet
+0 next 0 = request 0 0 3
+but
+5 0 next 0 = request 0 0 3
+7 0 next 0 = idle
+
+spent piece is passed by
+3 7 abc abc a
+3 5 0 1024 64 0 4096 0
+0 join = joined
+0 bits e0 = noted yes
+0 unchoke = quiet
+1 join = joined
+1 bits 60 = noted yes
+1 unchoke = quiet
+0 next 0 = request 0 0 3
+0 late 0 0 = quiet
+0 next 1 = request 1 0 3
+2 join = joined
+2 bits a0 = noted yes
+2 unchoke = quiet
+2 next 2 = request 0 0 3
+but
+8 0 next 1 = idle
+8 0 next 1 = request 0 0 3
+12 2 next 2 = request 2 0 1
+
+spent open piece is passed by
+32768 131072 abc abc abc abc
+2 5 0 1024 64 1 4096 0
+0 join = joined
+0 bits f0 = noted yes
+0 unchoke = quiet
+1 join = joined
+1 bits 70 = noted yes
+1 unchoke = quiet
+0 next 0 = request 0 0 16384
+0 late 0 0 = quiet
+0 next 0 = request 0 16384 16384
+0 next 2 = request 2 0 16384
+0 next 3 = request 2 16384 16384
+but
+8 0 next 0 = request 1 0 16384
+10 0 next 3 = request 3 0 16384
+
+refusals of late
+3 7 abc abc a
+2 5 1 1024 64 0 4096 0
+0 late 0 0 = refused NotJoined
+0 join = joined
+0 late 0 0 = refused NotAsked
+0 bits e0 = noted yes
+0 unchoke = quiet
+0 next 0 = request 0 0 3
+0 late 0 1 = refused NotAsked
+0 late 9 0 = refused NotAsked
+1 join = joined
+1 bits 80 = noted yes
+1 unchoke = quiet
+1 late 0 0 = refused NotAsked
+0 late 0 0 = quiet
+0 late 0 0 = quiet
+0 release 0 0 = quiet
+0 late 0 0 = refused NotAsked
+but
+0 0 late 0 0 = quiet
+2 0 late 0 0 = quiet
+3 0 bits e0 = refused LateBits
+6 0 late 0 1 = quiet
+7 0 late 9 0 = refused NoSuchPiece
+11 1 late 0 0 = quiet
+15 0 late 0 0 = quiet";

@@ -100,7 +100,7 @@ fn any_block(rng: &mut Lcg64Xsh32) -> Block {
 
 /// What the peer sends or its worker tells next, given what is asked of it.
 fn from_wire(alloc: Global, rng: &mut Lcg64Xsh32, asked: &[Block]) -> Result<Call, Fail> {
-    match one_of(rng, 74) {
+    match one_of(rng, 78) {
         6..=10 => Ok(Call::Bits(any_flags(alloc, rng)?)),
         11 => Ok(Call::Bits(Bitfield::empty(alloc, 3)?)),
         36..=38 => Ok(Call::Haves(any_flags(alloc, rng)?)),
@@ -119,11 +119,13 @@ fn plain_call(rng: &mut Lcg64Xsh32, asked: &[Block], case: u32) -> Call {
         16..=21 => Call::Unchoke,
         22..=29 => any_arrival(rng),
         30..=35 => last_arrival(rng, asked),
-        40..=42 => first_release(asked),
-        43 => any_release(rng),
+        40..=42 => release(first_asked(asked)),
+        43 => release(any_block(rng)),
         44..=45 => Call::Depth([0, 1, 3, 7, 65][one_of(rng, 5) as usize]),
         46..=47 => Call::Reach([0, 3, 4, 5, 7, 7, 8, 255][one_of(rng, 8) as usize]),
         48..=49 => Call::Lack(one_of(rng, 5)),
+        50..=52 => delay(first_asked(asked)),
+        53 => delay(any_block(rng)),
         _ => Call::Next(rng.next_u64()),
     }
 }
@@ -141,20 +143,29 @@ fn last_arrival(rng: &mut Lcg64Xsh32, asked: &[Block]) -> Call {
     }
 }
 
-/// The block that was asked first is asked of the peer no more.
-fn first_release(asked: &[Block]) -> Call {
+/// The block that was asked first, or one that isn't asked, where none is.
+fn first_asked(asked: &[Block]) -> Block {
     match asked.first() {
-        Some(block) => release(*block),
-        None => Call::Release { piece: 0, begin: 0 },
+        Some(block) => *block,
+        None => Block {
+            piece: 0,
+            begin: 0,
+            len: 16384,
+        },
     }
 }
 
-fn any_release(rng: &mut Lcg64Xsh32) -> Call {
-    release(any_block(rng))
-}
-
+/// The block is asked of the peer no more.
 fn release(block: Block) -> Call {
     Call::Release {
+        piece: block.piece,
+        begin: block.begin,
+    }
+}
+
+/// The request of the block takes too long.
+fn delay(block: Block) -> Call {
+    Call::Late {
         piece: block.piece,
         begin: block.begin,
     }

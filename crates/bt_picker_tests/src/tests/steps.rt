@@ -143,6 +143,10 @@ fn plain_call(rt: &impl Abort, name: &str, words: &mut Split<'static, char>) -> 
             piece: next_number(rt, words),
             begin: next_number(rt, words),
         },
+        "late" => Call::Late {
+            piece: next_number(rt, words),
+            begin: next_number(rt, words),
+        },
         "level" => Call::Level {
             piece: next_number(rt, words),
             level: next_level(rt, words),

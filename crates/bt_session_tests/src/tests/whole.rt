@@ -40,6 +40,7 @@ fn word(call: &Call) -> &'static str {
         Call::Reach(_) => "reach",
         Call::InOrderFrom(_) => "inorderfrom",
         Call::Lack(_) => "lack",
+        Call::Late { .. } => "late",
     }
 }
 
@@ -48,7 +49,9 @@ pub fn tell(entry: &Entry, said: &mut String) -> Result<(), AllocError> {
     said.push_str(word(&entry.call))?;
     match &entry.call {
         Call::Have(piece) => write!(said, " {piece}")?,
-        Call::Arrived { piece, begin, .. } | Call::Release { piece, begin } => {
+        Call::Arrived { piece, begin, .. }
+        | Call::Release { piece, begin }
+        | Call::Late { piece, begin } => {
             write!(said, " {piece} {begin}")?;
         }
         Call::Depth(depth) => write!(said, " {depth}")?,

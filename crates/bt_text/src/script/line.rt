@@ -120,6 +120,11 @@ fn pair_command(word: &[u8], piece: &[u8], second: &[u8]) -> Result<Command, Lin
             piece: small_number(piece)?,
             begin: small_number(second)?,
         }))
+    } else if is(word, "late") {
+        Ok(Command::Make(Call::Late {
+            piece: small_number(piece)?,
+            begin: small_number(second)?,
+        }))
     } else if is(word, "level") {
         Ok(Command::Make(Call::Level {
             piece: small_number(piece)?,

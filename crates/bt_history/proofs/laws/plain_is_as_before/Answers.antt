@@ -8,4 +8,11 @@ returns c =
     legal_plain (setting_of c.args.torrent.now.layout c.args.workers c.args.rules)
     (record { wide = c.requires.wide; strict = c.requires.strict; deep = c.requires.deep; all = c.requires.all })
     (history_of c.args.journal.now)
-    (record { releases = c.requires.releases; depths = c.requires.depths; adds = c.requires.adds; levels = c.requires.levels; reaches = c.requires.reaches })
+    (record {
+      releases = c.requires.releases;
+      depths = c.requires.depths;
+      adds = c.requires.adds;
+      levels = c.requires.levels;
+      reaches = c.requires.reaches;
+      delays = c.requires.delays;
+    })

@@ -8,7 +8,7 @@ returns c =
     let s = setting_of c.args.torrent.now.layout c.args.workers c.args.rules in
     let h = history_of c.args.older.now in
     let ending = second_in_endgame s h (event_of c.args.entry.now) c.args.other c.args.block c.requires.legal.0 c.requires.legal.1
-    c.requires.request c.requires.asked in
+    c.requires.request c.requires.expected in
     record {
       endgame = ending;
       none = λ lacking. endgame_asks_all s h lacking ending;

@@ -11,9 +11,9 @@ use Rattle.bt_picker.proofs.Learning.{told_floor, unnoted_floor}
 use Rattle.bt_picker.proofs.entries.put.Goals as goal
 
 pub learn-requires-clause-told : goal.learn-requires-clause-told
-learn-requires-clause-told c full n told =
+learn-requires-clause-told c full prompt n told =
     told_floor _ _ c.args.worker c.in-Next.field-0 n c.args.reply c.requires.are (rw c.in-Next.is at c.requires.allowed)
-    (worker_below _ _ _ c.requires.allowed) full told
+    (worker_below _ _ _ c.requires.allowed) full prompt told
 
 pub note_interest-requires-clause-worker : goal.note_interest-requires-clause-worker
 note_interest-requires-clause-worker c =

@@ -128,6 +128,26 @@ pub const EXAMPLES: &[Example] = &[
             1 next 0 = cancel 0 0 3",
     },
     Example {
+        name: "a request that takes too long",
+        torrent: "torrent 3 6 2 a9993e364706816aba3e25717850c26c9cd0d89d a9993e364706816aba3e25717850c26c9cd0d89d",
+        lines: "0 join = joined\n\
+            0 bits c0 = noted yes\n\
+            0 unchoke = quiet\n\
+            1 join = joined\n\
+            1 bits 80 = noted yes\n\
+            1 unchoke = quiet\n\
+            0 next 0 = request 0 0 3\n\
+            1 next 0 = idle\n\
+            1 late 0 0 = refused 10\n\
+            0 late 0 0 = quiet\n\
+            1 next 0 = request 0 0 3\n\
+            0 late 0 0 = quiet\n\
+            0 next 0 = request 1 0 3\n\
+            1 block 0 0 616263 = completed\n\
+            0 next 0 = cancel 0 0 3\n\
+            0 late 0 0 = refused 10",
+    },
+    Example {
         name: "a depth of one peer",
         torrent: "torrent 1000000 1000000 2 34aa973cd4c4daa4f61eeb2bdbad27316534016f",
         lines: "0 depth 2 = refused 1\n\

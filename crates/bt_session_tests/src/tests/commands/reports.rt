@@ -44,7 +44,7 @@ fn lines_of_bits(alloc: Global) -> Result<(), Fail> {
     is_line(alloc, call, Reply::Noted(true), b"7 haves 20 = noted yes\n")
 }
 
-/// Checks the line of a block that is given up, and that of a depth.
+/// Checks the lines of a block that is given up, of one that takes too long, and of a depth.
 fn lines_of_what_is_asked(alloc: Global) -> Result<(), Fail> {
     let call = Call::Release {
         piece: 2,
@@ -52,6 +52,11 @@ fn lines_of_what_is_asked(alloc: Global) -> Result<(), Fail> {
     };
     let reply = Reply::Refused(Reason::NotAsked);
     is_line(alloc, call, reply, b"7 release 2 16384 = refused 10\n")?;
+    let call = Call::Late {
+        piece: 2,
+        begin: 16384,
+    };
+    is_line(alloc, call, Reply::Quiet, b"7 late 2 16384 = quiet\n")?;
     let reply = Reply::Refused(Reason::WrongDepth);
     is_line(alloc, Call::Depth(65), reply, b"7 depth 65 = refused 11\n")
 }

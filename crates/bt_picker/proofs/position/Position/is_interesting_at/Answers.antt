@@ -35,5 +35,6 @@ returns-clause-yes c is =
 pub returns-clause-no : goal.returns-clause-no
 returns-clause-no c is =
     let d = c.args.self.now in
-    missing_interests d.setting d.history c.args.worker c.args.level c.group.result.now c.group-2.result.now c.rarest.result c.group.ensures
+    missing_interests d.setting d.history c.args.worker c.args.level c.group.result.now c.group-2.result.now c.rarest.result
+    c.requires.prompt c.group.ensures
     c.group-2.ensures c.in_default.ensures c.in_default-some_shown.ensures c.rarest.ensures.least (sym c.is_some.ensures ∙ is)

@@ -38,8 +38,8 @@ loop-shown_by-preserved c =
     rarest_more d.setting d.history c.args.worker c.args.level k c.args.first c.group-pieces.result.now c.attest.ensures.legal c.requires.level
     under c.group-pieces.ensures c.loop-shown_by.invariant c.in_default.ensures
 
-pub first_shown-requires-clause-pieces : goal.first_shown-requires-clause-pieces
-first_shown-requires-clause-pieces c =
+pub first_offered-requires-clause-pieces : goal.first_offered-requires-clause-pieces
+first_offered-requires-clause-pieces c =
     let d = c.args.self.now in
     group_within d.setting d.history _ c.group.result.now c.group.ensures
 
@@ -49,16 +49,16 @@ returns-clause-first c =
     let k = c.loop-shown_by.shown_by in
     let past = past_them d.setting.workers _ _ k c.workers.ensures c.min-most.ensures c.loop-shown_by-test.false in
     (crowd_found d.setting d.history c.args.worker c.args.level k c.args.first c.group.result.now c.attest.ensures.legal c.requires.level past
-    c.group.ensures c.loop-shown_by.invariant c.first_shown.result c.first_shown.ensures).0
+    c.group.ensures c.loop-shown_by.invariant c.first_offered.result c.first_offered.ensures).0
 
 pub returns-clause-least : goal.returns-clause-least
 returns-clause-least c =
     let d = c.args.self.now in
     let k = c.loop-shown_by.shown_by in
     let past = past_them d.setting.workers _ _ k c.workers.ensures c.min-most.ensures c.loop-shown_by-test.false in
-    order_least d.setting d.history true c.args.first (is_candidate_at d.setting d.history c.args.worker c.args.level) c.first_shown.result
+    order_least d.setting d.history true c.args.first (is_candidate_at d.setting d.history c.args.worker c.args.level) c.first_offered.result
     (crowd_found d.setting d.history c.args.worker c.args.level k c.args.first c.group.result.now c.attest.ensures.legal c.requires.level past
-    c.group.ensures c.loop-shown_by.invariant c.first_shown.result c.first_shown.ensures).0
+    c.group.ensures c.loop-shown_by.invariant c.first_offered.result c.first_offered.ensures).0
 
 pub returns-clause-within : goal.returns-clause-within
 returns-clause-within c =
@@ -66,4 +66,4 @@ returns-clause-within c =
     let k = c.loop-shown_by.shown_by in
     let past = past_them d.setting.workers _ _ k c.workers.ensures c.min-most.ensures c.loop-shown_by-test.false in
     (crowd_found d.setting d.history c.args.worker c.args.level k c.args.first c.group.result.now c.attest.ensures.legal c.requires.level past
-    c.group.ensures c.loop-shown_by.invariant c.first_shown.result c.first_shown.ensures).1
+    c.group.ensures c.loop-shown_by.invariant c.first_offered.result c.first_offered.ensures).1

@@ -6,13 +6,13 @@ use Rattle.bt_tables.proofs.peers.Peers.first_shown.Goals as goal
 pub first_from-requires : goal.first_from-requires
 first_from-requires c =
     let o = c.self.inside in
-    let lw = worker_within o.rows.items o.shows _ c.args.worker c.self.view_is c.self.invariant c.requires in
-    omega (arith, lw, c.self.invariant)
+    let lw = worker_within o.rows.items o.shows _ c.args.worker c.self.view_is c.self.invariant.each c.requires in
+    omega (arith, lw, c.self.invariant.each)
 
 pub returns : goal.returns
 returns c =
     let o = c.self.inside in
-    let lw = worker_within o.rows.items o.shows _ c.args.worker c.self.view_is c.self.invariant c.requires in
+    let lw = worker_within o.rows.items o.shows _ c.args.worker c.self.view_is c.self.invariant.each c.requires in
     rw (← c.self.view_is)
     (subst (λ (flags : List Bool). FindsFirst (λ (p : ℕ). get_or flags p false) c.args.piece c.first_from.result)
-    (sym (flags_of_row o.rows.items o.shows c.args.worker c.self.invariant lw)) c.first_from.ensures)
+    (sym (flags_of_row o.rows.items o.shows c.args.worker c.self.invariant.each lw)) c.first_from.ensures)

@@ -5,4 +5,4 @@ use Rattle.bt_tables.proofs.peers.Peers.len.Goals as goal
 pub returns : goal.returns
 returns c =
     let o = c.self.inside in
-    c.len.ensures ∙ (sym (length_showing o.rows.items o.shows c.self.invariant) ∙ ap length c.self.view_is)
+    c.len.ensures ∙ (sym (length_showing o.rows.items o.shows c.self.invariant.each) ∙ ap length c.self.view_is)

@@ -6,7 +6,7 @@ use Rattle.bt_tables.proofs.peers.Peers.pieces.Goals as goal
 pub returns : goal.returns
 returns c worker lt =
     let o = c.self.inside in
-    let lw = worker_within o.rows.items o.shows _ worker c.self.view_is c.self.invariant lt in
+    let lw = worker_within o.rows.items o.shows _ worker c.self.view_is c.self.invariant.each lt in
     ap (λ (rows : List PeerState). length (peer_row rows worker).shows) (sym c.self.view_is)
-    ∙ (ap (λ (flags : List Bool). length flags) (flags_of_row o.rows.items o.shows worker c.self.invariant lw)
-    ∙ c.pieces.ensures worker (omega (arith, lw, c.self.invariant)))
+    ∙ (ap (λ (flags : List Bool). length flags) (flags_of_row o.rows.items o.shows worker c.self.invariant.each lw)
+    ∙ c.pieces.ensures worker (omega (arith, lw, c.self.invariant.each)))

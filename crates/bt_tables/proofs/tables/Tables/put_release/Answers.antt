@@ -1,10 +1,10 @@
-use Rattle.std.proofs.Common.{true, refl}
-use Rattle.bt_tables.specs.Tables.{without_block}
+use Rattle.std.proofs.Common.{ap, arith, length, refl, true, ◌∙◌}
+use Rattle.bt_tables.specs.Tables.{TablesState, without_block}
 use Rattle.bt_tables.proofs.FloorSteps.{kept_peer}
 use Rattle.bt_tables.proofs.tables.Tables.put_release.Goals as goal
 
 pub invariant_of-self : goal.invariant_of-self
 invariant_of-self c =
-    let lw = rw (← c.self.view_is) at c.requires.worker in
+    let same = ap (λ (t : TablesState). length t.peers) (c.self.view_is ∙ c.free.ensures) in
     rw c.forget_at.ensures
-    (kept_peer _ _ _ c.args.worker (without_block c.args.piece c.args.begin true) c.lower.ensures.floors lw (λ row. refl))
+    (kept_peer _ _ _ c.args.worker (without_block c.args.piece c.args.begin true) c.self.invariant (omega (arith, same, c.requires.worker)) (λ row. refl))

@@ -1,0 +1,318 @@
+-- What an entry that tells a request late leaves as it was, and what any other peer is answered then.
+use Rattle.std.proofs.Common.{◌≡◌, ℕ, ◌==◌, Bool, true, false, not, ◌&&◌, ◌||◌, List, [], ◌∷◌, ◌++◌, Option, None, Some, append-nil, refl, ap, sym, ◌∙◌}
+use Rattle.std.proofs.Math.Bool.{or-false}
+use Rattle.std.specs.Prelude.{if◌then◌else◌, nat_le, nat_lt, unwrap_or}
+use Rattle.std.specs.List.{filter, list_any}
+use Rattle.bt_meta.specs.declared.block.Block.{Block}
+use Rattle.bt_meta.specs.Layout.{piece_count}
+use Rattle.bt_history.specs.declared.call.Reply.TheVariants.{Quiet, Choked, PipeFull, Idle, NothingLeft}
+use Rattle.bt_history.specs.declared.event.Action.{Action}
+use Rattle.bt_history.specs.declared.event.Action.TheVariants.{Late, Release}
+use Rattle.bt_history.specs.Counting.{all_below, any_below, count_below}
+use Rattle.bt_history.specs.Entries.{delaying, giving_up}
+use Rattle.bt_history.specs.Setting.{Setting, count_blocks, each_block, each_block_of, some_block, some_block_of}
+use Rattle.bt_history.specs.History.{History, same_begin}
+use Rattle.bt_history.specs.Legal.{place_at}
+use Rattle.bt_history.specs.Next.{CancelOf, Exactly, RequestOf, continues, doubles, goes_first, is_candidate, is_rarest, is_strict, next_answer}
+use Rattle.bt_history.specs.Next.{none_rarer, resumes, rises, starts, tops, tops_in_order, usable}
+use Rattle.bt_history.specs.Peers.{asked, asked_count, delays, depth_of, due, dues, expected, is_open, is_open_after, joined, joined_after, late, late_after}
+use Rattle.bt_history.specs.Peers.{outstanding, overdue, reach, reach_after, releases, resets, shows, shows_after, told_after, told_depth}
+use Rattle.bt_history.specs.Pieces.{asker_count, availability, awaited, begun, endgame, had, had_count, held, held_or_asked, interesting}
+use Rattle.bt_history.specs.Pieces.{is_open_piece, kept, level, offers, order_from, sender, unbegun, wanted}
+use Rattle.bt_history.proofs.Before.{asked_released, due_released, filter_all, filter_none, joined_released, open_released, reach_released, shows_released}
+use Rattle.bt_history.proofs.Before.{told_released}
+
+module _ (h : History) (w p begin q : ℕ) where
+  -- the call, if it is q's own
+  own : Bool → Option Action
+  own x = if x then Some (Late p begin) else None
+
+  -- the peer is late with the block, if that was asked of it, and with all else as it was
+  pub overdue_delayed : (b : Block) → overdue (delaying w p begin Quiet ∷ h) q b
+      ≡ (((w == q) && (same_begin (place_at p begin) b && asked h q b)) || overdue h q b)
+  unfolding overdue own
+  overdue_delayed b = by_worker (w == q) where
+    by_worker : (x : Bool) → (not (resets (own x)) && ((true && not (releases (own x) b)) && ((delays (own x) b && asked h q b) || overdue h q b)))
+        ≡ ((x && (same_begin (place_at p begin) b && asked h q b)) || overdue h q b)
+    by_worker true = refl
+    by_worker false = refl
+
+  -- all that was asked is asked
+  pub asked_delayed : (b : Block) → asked (delaying w p begin Quiet ∷ h) q b ≡ asked h q b
+  unfolding asked own
+  asked_delayed b = by_worker (w == q) where
+    by_worker : (x : Bool) → (not (resets (own x)) && (((true && not (releases (own x) b)) && asked h q b)
+        || list_any (λ a. same_begin a b) (if◌then◌else◌ {A = List Block} x [] []))) ≡ asked h q b
+    by_worker true = or-false _
+    by_worker false = or-false _
+
+  pub due_delayed : (b : Block) → due (delaying w p begin Quiet ∷ h) q b ≡ due h q b
+  unfolding due own
+  due_delayed b = by_worker (w == q) where
+    by_worker : (x : Bool) → (not (resets (own x)) && (not (x && false) && (due h q b || false))) ≡ due h q b
+    by_worker true = or-false _
+    by_worker false = or-false _
+
+  pub held_delayed : (b : Block) → held (delaying w p begin Quiet ∷ h) b ≡ held h b
+  unfolding kept
+  held_delayed b = refl
+
+  pub kept_delayed : (b : Block) → kept (delaying w p begin Quiet ∷ h) b ≡ kept h b
+  unfolding kept
+  kept_delayed b = refl
+
+  pub sender_delayed : (b : Block) → sender (delaying w p begin Quiet ∷ h) b ≡ sender h b
+  unfolding sender
+  sender_delayed b = refl
+
+  pub line_delayed : outstanding (delaying w p begin Quiet ∷ h) q ≡ outstanding h q
+  unfolding outstanding own
+  line_delayed = by_worker (w == q) where
+    by_worker : (x : Bool) → (if resets (own x) then [] else filter (λ b. true && not (releases (own x) b)) (outstanding h q)
+        ++ (if◌then◌else◌ {A = List Block} x [] [])) ≡ outstanding h q
+    by_worker true = append-nil _ ∙ filter_all (outstanding h q)
+    by_worker false = append-nil _ ∙ filter_all (outstanding h q)
+
+  pub dues_delayed : dues (delaying w p begin Quiet ∷ h) q ≡ dues h q
+  unfolding dues own
+  dues_delayed = by_worker (w == q) where
+    by_worker : (x : Bool) → (if resets (own x) then [] else filter (λ b. not (x && false)) (dues h q)
+        ++ (if x then [] else filter (λ b. false) (outstanding h q))) ≡ dues h q
+    by_worker true = append-nil _ ∙ filter_all (dues h q)
+    by_worker false = (λ i. filter_all (dues h q) i ++ filter_none (outstanding h q) i) ∙ append-nil _
+
+  pub told_delayed : told_depth (delaying w p begin Quiet ∷ h) q ≡ told_depth h q
+  unfolding told_depth own
+  told_delayed = by_worker (w == q) where
+    by_worker : (x : Bool) → told_after (own x) (told_depth h q) ≡ told_depth h q
+    by_worker true = refl
+    by_worker false = refl
+
+  pub shows_delayed : (r : ℕ) → shows (delaying w p begin Quiet ∷ h) q r ≡ shows h q r
+  unfolding shows own
+  shows_delayed r = by_worker (w == q) where
+    by_worker : (x : Bool) → shows_after (own x) r (shows h q r) ≡ shows h q r
+    by_worker true = refl
+    by_worker false = refl
+
+  pub joined_delayed : joined (delaying w p begin Quiet ∷ h) q ≡ joined h q
+  unfolding joined own
+  joined_delayed = by_worker (w == q) where
+    by_worker : (x : Bool) → joined_after (own x) (joined h q) ≡ joined h q
+    by_worker true = refl
+    by_worker false = refl
+
+  pub open_delayed : is_open (delaying w p begin Quiet ∷ h) q ≡ is_open h q
+  unfolding is_open own
+  open_delayed = by_worker (w == q) where
+    by_worker : (x : Bool) → is_open_after (own x) (is_open h q) ≡ is_open h q
+    by_worker true = refl
+    by_worker false = refl
+
+  pub late_delayed : late (delaying w p begin Quiet ∷ h) q ≡ late h q
+  unfolding late own
+  late_delayed = by_worker (w == q) where
+    by_worker : (x : Bool) → late_after (own x) (late h q) ≡ late h q
+    by_worker true = refl
+    by_worker false = refl
+
+  pub reach_delayed : reach (delaying w p begin Quiet ∷ h) q ≡ reach h q
+  unfolding reach own
+  reach_delayed = by_worker (w == q) where
+    by_worker : (x : Bool) → reach_after (own x) (reach h q) ≡ reach h q
+    by_worker true = refl
+    by_worker false = refl
+
+  pub had_delayed : (r : ℕ) → had (delaying w p begin Quiet ∷ h) r ≡ had h r
+  unfolding had
+  had_delayed r = refl
+
+  pub level_delayed : (r : ℕ) → level (delaying w p begin Quiet ∷ h) r ≡ level h r
+  unfolding level
+  level_delayed r = refl
+
+  pub order_delayed : order_from (delaying w p begin Quiet ∷ h) ≡ order_from h
+  unfolding order_from
+  order_delayed = refl
+
+  -- ---- beside a release
+
+  -- a released block is late at nobody
+  overdue_released : (b : Block) → overdue (giving_up w p begin Quiet ∷ h) q b ≡ (not ((w == q) && same_begin (place_at p begin) b) && overdue h q b)
+  unfolding overdue
+  overdue_released b = by_worker (w == q) where
+    by_worker : (x : Bool) → (not (resets (if x then Some (Release p begin) else None)) && ((true && not (releases (if x then Some (Release p begin) else None) b))
+        && ((delays (if x then Some (Release p begin) else None) b && asked h q b) || overdue h q b)))
+        ≡ (not (x && same_begin (place_at p begin) b) && overdue h q b)
+    by_worker true = refl
+    by_worker false = refl
+
+  -- what is late is expected no more than what is released
+  pub expected_alike : (b : Block) → expected (delaying w p begin Quiet ∷ h) q b ≡ expected (giving_up w p begin Quiet ∷ h) q b
+  expected_alike b =
+      (λ i. asked_delayed b i && not (overdue_delayed b i))
+      ∙ by_worker (w == q) (same_begin (place_at p begin) b) (asked h q b) (overdue h q b)
+      ∙ sym (λ i. asked_released h w p begin q b i && not (overdue_released b i))
+    where
+      by_worker : (x y asks was : Bool) → (asks && not ((x && (y && asks)) || was)) ≡ ((not (x && y) && asks) && not (not (x && y) && was))
+      by_worker true true true was = refl
+      by_worker true true false was = refl
+      by_worker true false true was = refl
+      by_worker true false false was = refl
+      by_worker false y true was = refl
+      by_worker false y false was = refl
+
+  pub shows_alike : (r : ℕ) → shows (delaying w p begin Quiet ∷ h) q r ≡ shows (giving_up w p begin Quiet ∷ h) q r
+  shows_alike r = shows_delayed r ∙ sym (shows_released h w p begin q r)
+
+  pub joined_alike : joined (delaying w p begin Quiet ∷ h) q ≡ joined (giving_up w p begin Quiet ∷ h) q
+  joined_alike = joined_delayed ∙ sym (joined_released h w p begin q)
+
+-- ---- what another peer is answered
+
+module _ (s : Setting) (h : History) (w p begin q : ℕ) (apart : (w == q) ≡ false) where
+  abbrev one : History
+  one = delaying w p begin Quiet ∷ h
+
+  abbrev two : History
+  two = giving_up w p begin Quiet ∷ h
+
+  asked_same : (b : Block) → asked one q b ≡ asked two q b
+  asked_same b = asked_delayed h w p begin q b ∙ sym (asked_released h w p begin q b
+      ∙ ap (λ (x : Bool). not (x && same_begin (place_at p begin) b) && asked h q b) apart)
+
+  overdue_same : (b : Block) → overdue one q b ≡ overdue two q b
+  overdue_same b =
+      overdue_delayed h w p begin q b
+      ∙ ap (λ (x : Bool). (x && (same_begin (place_at p begin) b && asked h q b)) || overdue h q b) apart
+      ∙ sym (overdue_released h w p begin q b
+      ∙ ap (λ (x : Bool). not (x && same_begin (place_at p begin) b) && overdue h q b) apart)
+
+  due_same : (b : Block) → due one q b ≡ due two q b
+  due_same b = due_delayed h w p begin q b ∙ sym (due_released h w p begin q b)
+
+  open_same : is_open one q ≡ is_open two q
+  open_same = open_delayed h w p begin q ∙ sym (open_released h w p begin q)
+
+  reach_same : reach one q ≡ reach two q
+  reach_same = reach_delayed h w p begin q ∙ sym (reach_released h w p begin q)
+
+  depth_same : depth_of s one q ≡ depth_of s two q
+  depth_same = ap (λ (o : Option ℕ). unwrap_or o s.depth) (told_delayed h w p begin q ∙ sym (told_released h w p begin q))
+
+  count_same : asked_count s one q ≡ asked_count s two q
+  count_same = λ i. count_blocks s.torrent (λ b. asked_same b i)
+
+  held_same : (b : Block) → held one b ≡ held two b
+  unfolding kept
+  held_same b = refl
+
+  had_same : (r : ℕ) → had one r ≡ had two r
+  unfolding had
+  had_same r = refl
+
+  level_same : (r : ℕ) → level one r ≡ level two r
+  unfolding level
+  level_same r = refl
+
+  order_same : order_from one ≡ order_from two
+  unfolding order_from
+  order_same = refl
+
+  touched_same : (b : Block) → held_or_asked s one b ≡ held_or_asked s two b
+  touched_same b = λ i. held_same b i || any_below s.workers (λ r. expected_alike h w p begin r b i)
+
+  askers_same : (b : Block) → asker_count s one b ≡ asker_count s two b
+  askers_same b = λ i. count_below s.workers (λ r. expected_alike h w p begin r b i)
+
+  wanted_same : (r : ℕ) → wanted s one r ≡ wanted s two r
+  wanted_same r = λ i. nat_lt r (piece_count s.torrent) && nat_lt 0 (level_same r i)
+
+  available_same : (r : ℕ) → availability s one r ≡ availability s two r
+  available_same r = λ i. count_below s.workers (λ v. joined_alike h w p begin v i && shows_alike h w p begin v r i)
+
+  begun_same : (r : ℕ) → begun s one r ≡ begun s two r
+  begun_same r = λ i. not (had_same r i) && some_block_of s.torrent r (λ b. touched_same b i)
+
+  unbegun_same : (r : ℕ) → unbegun s one r ≡ unbegun s two r
+  unbegun_same r = λ i. not (had_same r i) && not (some_block_of s.torrent r (λ b. touched_same b i))
+
+  open_piece_same : (r : ℕ) → is_open_piece s one r ≡ is_open_piece s two r
+  open_piece_same r = λ i. wanted_same r i && (begun_same r i && some_block_of s.torrent r (λ b. not (touched_same b i)))
+
+  had_count_same : had_count s one ≡ had_count s two
+  had_count_same = λ i. count_below (piece_count s.torrent) (λ r. had_same r i)
+
+  strict_same : is_strict s one ≡ is_strict s two
+  strict_same = λ i. nat_lt s.most_open (count_below (piece_count s.torrent) (λ r. open_piece_same r i)) || nat_lt (had_count_same i) s.random
+
+  offers_same : (r : ℕ) → offers s one q r ≡ offers s two q r
+  offers_same r = λ i. shows_alike h w p begin q r i && not (some_block_of s.torrent r (λ b. overdue_same b i)
+      && each_block_of s.torrent r (λ b. touched_same b i || overdue_same b i))
+
+  usable_same : (b : Block) → usable s one q b ≡ usable s two q b
+  usable_same b = λ i. not (touched_same b i) && (wanted_same b.piece i
+      && ((shows_alike h w p begin q b.piece i && nat_le (level_same b.piece i) (reach_same i)) && not (overdue_same b i)))
+
+  tops_same : (b : Block) → tops s one q b ≡ tops s two q b
+  tops_same b = λ i. usable_same b i
+      && each_block s.torrent (λ c. not (usable_same c i) || nat_le (level_same c.piece i) (level_same b.piece i))
+
+  ordered_same : (b : Block) → tops_in_order s one q b ≡ tops_in_order s two q b
+  ordered_same b = λ i. tops_same b i && nat_le (order_same i) (level_same b.piece i)
+
+  rises_same : (b : Block) → rises s one q b ≡ rises s two q b
+  rises_same b = λ i. tops_same b i && each_block s.torrent (λ c. not (tops_same c i) || nat_le b.piece c.piece)
+
+  rarer_same : (f g : ℕ → Bool) → ((r : ℕ) → f r ≡ g r) → (r : ℕ) → none_rarer s one f r ≡ none_rarer s two g r
+  rarer_same f g same r = λ i. all_below (piece_count s.torrent) (λ v.
+      not (same v i && (level_same v i == level_same r i)) || nat_le (available_same r i) (available_same v i))
+
+  resumes_same : (r : ℕ) → resumes s one q r ≡ resumes s two q r
+  resumes_same r = λ i. open_piece_same r i && offers_same r i
+
+  candidate_same : (r : ℕ) → is_candidate s one q r ≡ is_candidate s two q r
+  candidate_same r = λ i. wanted_same r i && (offers_same r i && unbegun_same r i)
+
+  rarest_same : (r : ℕ) → is_rarest s one q r ≡ is_rarest s two q r
+  rarest_same = rarer_same (is_candidate s one q) (is_candidate s two q) candidate_same
+
+  first_same : (r : ℕ) → goes_first s one q r ≡ goes_first s two q r
+  first_same r = λ i. (s.most_open == 0)
+      || (rarer_same (resumes s one q) (resumes s two q) resumes_same r i && (strict_same i || rarest_same r i))
+
+  continues_same : (b : Block) → continues s one q b ≡ continues s two q b
+  continues_same b = λ i. tops_same b i && (begun_same b.piece i && first_same b.piece i)
+
+  starts_same : (b : Block) → starts s one q b ≡ starts s two q b
+  starts_same b = λ i. tops_same b i && (unbegun_same b.piece i && (nat_lt (had_count_same i) s.random || rarest_same b.piece i))
+
+  doubles_same : (b : Block) → doubles s one q b ≡ doubles s two q b
+  doubles_same b = λ i. wanted_same b.piece i
+      && ((shows_alike h w p begin q b.piece i && nat_le (level_same b.piece i) (reach_same i))
+      && (not (held_same b i) && (nat_lt (askers_same b i) s.askers && not (asked_same b i))))
+
+  awaited_same : (r : ℕ) → awaited s one r ≡ awaited s two r
+  awaited_same r = λ i. wanted_same r i && (not s.shown || nat_lt 0 (available_same r i))
+
+  endgame_same : endgame s one ≡ endgame s two
+  endgame_same = λ i.
+      each_block s.torrent (λ b. not (awaited_same b.piece i) || touched_same b i)
+      && some_block s.torrent (λ b. wanted_same b.piece i && not (held_same b i))
+
+  interesting_same : interesting s one q ≡ interesting s two q
+  interesting_same = λ i. any_below (piece_count s.torrent) (λ r.
+      wanted_same r i && (shows_alike h w p begin q r i && not (had_same r i)))
+
+  pub answer_same : next_answer s one q ≡ next_answer s two q
+  unfolding next_answer
+  answer_same = λ i.
+      if some_block s.torrent (λ b. due_same b i) then CancelOf (λ b. due_same b i)
+      else if not (open_same i) then Exactly Choked
+      else if nat_le (depth_same i) (count_same i) then Exactly PipeFull
+      else if some_block s.torrent (λ b. ordered_same b i) then RequestOf (λ b. rises_same b i)
+      else if some_block s.torrent (λ b. continues_same b i) then RequestOf (λ b. continues_same b i)
+      else if some_block s.torrent (λ b. usable_same b i) then RequestOf (λ b. starts_same b i)
+      else if nat_lt (count_same i) s.rush && (endgame_same i && some_block s.torrent (λ b. doubles_same b i)) then RequestOf (λ b. doubles_same b i)
+      else if interesting_same i then Exactly Idle
+      else Exactly NothingLeft

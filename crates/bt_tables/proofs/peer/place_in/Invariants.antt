@@ -1,7 +1,0 @@
-use Rattle.std.proofs.Common.{◌≡◌, ◌==◌, ◌&&◌, take, false}
-use Rattle.std.specs.List.{list_any}
-use Rattle.bt_meta.specs.declared.block.Block.{Block}
-use Rattle.bt_tables.proofs.peer.place_in.Given as goal
-
-abbrev pub invariant-loop-index : goal.invariant-loop-index
-invariant-loop-index l = list_any (λ (b : Block). (l.piece == b.piece) && (l.begin == b.begin)) (take l.index l.line) ≡ false
