@@ -1,23 +1,18 @@
 -- Histories without the later calls are judged as they were before there were these.
-use Rattle.std.proofs.Common.{◌≡◌, ℕ, ◌==◌, ◌<◌, ◌≤◌, Bool, true, false, not, ◌&&◌, ◌||◌, List, [], ◌∷◌, ◌++◌, Option, None, Some, refl, ap, ◌∙◌, arith}
-use Rattle.std.proofs.Common.{append-nil}
-use Rattle.std.proofs.Math.Bool.{or-false}
+use Rattle.std.proofs.Common.{◌≡◌, ℕ, ◌==◌, ◌<◌, ◌≤◌, Bool, true, false, not, ◌&&◌, ◌||◌, [], ◌∷◌, ◌++◌, None, Some, refl, ap, ◌∙◌, arith}
 use Rattle.std.specs.Prelude.{is_none, if◌then◌else◌, nat_lt}
-use Rattle.std.specs.List.{filter, list_any}
+use Rattle.std.specs.List.{filter}
 use Rattle.std.proofs.lemmas.Bool.{and_parts, not-true, lt-ltb}
 use Rattle.bt_meta.specs.declared.block.Block.{Block}
-use Rattle.bt_history.specs.declared.call.Reply.TheVariants.{Quiet}
 use Rattle.bt_history.specs.declared.event.Action.{Action}
 use Rattle.bt_history.specs.declared.event.Action.TheVariants.{Haves, Lack, Release}
 use Rattle.bt_history.specs.declared.event.Event.{Event}
-use Rattle.bt_history.specs.Entries.{giving_up}
 use Rattle.bt_history.specs.Setting.{Setting}
-use Rattle.bt_history.specs.History.{History, counts, own_call, same_begin, stored, requested}
-use Rattle.bt_history.specs.Peers.{joined, joined_after, shows, shows_after, is_open, is_open_after, late, late_after, asks, asked, outstanding}
-use Rattle.bt_history.specs.Peers.{due, dues, expected, overdue, resets, releases, lasts, reach, reach_after, told_after, told_depth}
-use Rattle.bt_history.specs.Pieces.{held, kept, sender, had, level, order_from, gives, wanted, asker_count}
+use Rattle.bt_history.specs.History.{History, counts, own_call, stored, requested}
+use Rattle.bt_history.specs.Peers.{shows, shows_after, late, late_after, asks, asked, outstanding}
+use Rattle.bt_history.specs.Peers.{expected, overdue, resets, releases, lasts}
+use Rattle.bt_history.specs.Pieces.{held, gives, wanted, asker_count}
 use Rattle.bt_history.specs.Next.{doubles}
-use Rattle.bt_history.specs.Legal.{place_at}
 use Rattle.bt_history.specs.Before.{asked_before, outstanding_before, is_release, never_releases, doubles_before, shows_before, shows_then}
 use Rattle.bt_history.specs.Before.{late_before, late_then, is_haves, never_adds}
 use Rattle.bt_history.proofs.Below.{count_short}
@@ -53,131 +48,6 @@ outstanding_as_before (e ∷ h) q never =
     let isnt = not-true (is_release e.action) parts.0 in
     λ i. if resets (own_call q e) then []
     else filter (λ b. lasts_unless q e b isnt i) (outstanding_as_before h q parts.1 i) ++ requested q e
-
--- ---- what is given up
-
-pub filter_all : (bs : List Block) → filter (λ b. true) bs ≡ bs
-filter_all [] = refl
-filter_all (b ∷ bs) = ap (λ (rest : List Block). b ∷ rest) (filter_all bs)
-
-pub filter_none : (bs : List Block) → filter (λ b. false) bs ≡ []
-filter_none [] = refl
-filter_none (b ∷ bs) = filter_none bs
-
-module _ (h : History) (w p begin q : ℕ) (b : Block) where
-  -- the block at this place is asked of w no more, and all else is asked as it was
-  pub asked_released : asked (giving_up w p begin Quiet ∷ h) q b ≡ (not ((w == q) && same_begin (place_at p begin) b) && asked h q b)
-  unfolding asked
-  asked_released = by_worker (w == q) where
-    by_worker : (x : Bool) → (not (resets (if x then Some (Release p begin) else None))
-        && ((not (releases (if x then Some (Release p begin) else None) b) && asked h q b)
-        || list_any (λ a. same_begin a b) (if◌then◌else◌ {A = List Block} x [] [])))
-        ≡ (not (x && same_begin (place_at p begin) b) && asked h q b)
-    by_worker true = or-false _
-    by_worker false = or-false _
-
-  -- no cancel comes due, and none that is due goes
-  pub due_released : due (giving_up w p begin Quiet ∷ h) q b ≡ due h q b
-  unfolding due
-  due_released = by_worker (w == q) where
-    by_worker : (x : Bool) → (not (resets (if x then Some (Release p begin) else None)) && (not (x && false) && (due h q b || false))) ≡ due h q b
-    by_worker true = or-false _
-    by_worker false = or-false _
-
-  -- what is held stays so
-  pub held_released : held (giving_up w p begin Quiet ∷ h) b ≡ held h b
-  unfolding kept
-  held_released = refl
-
-  pub kept_released : kept (giving_up w p begin Quiet ∷ h) b ≡ kept h b
-  unfolding kept
-  kept_released = refl
-
-  pub sender_released : sender (giving_up w p begin Quiet ∷ h) b ≡ sender h b
-  unfolding sender
-  sender_released = refl
-
--- what the history says of peer q stays so, but for what is asked of it
-module _ (h : History) (w p begin q : ℕ) where
-  -- the call, if it is q's own
-  own : Bool → Option Action
-  own x = if x then Some (Release p begin) else None
-
-  pub told_released : told_depth (giving_up w p begin Quiet ∷ h) q ≡ told_depth h q
-  unfolding told_depth own
-  told_released = by_worker (w == q) where
-    by_worker : (x : Bool) → told_after (own x) (told_depth h q) ≡ told_depth h q
-    by_worker true = refl
-    by_worker false = refl
-
-  pub shows_released : (r : ℕ) → shows (giving_up w p begin Quiet ∷ h) q r ≡ shows h q r
-  unfolding shows own
-  shows_released r = by_worker (w == q) where
-    by_worker : (x : Bool) → shows_after (own x) r (shows h q r) ≡ shows h q r
-    by_worker true = refl
-    by_worker false = refl
-
-  pub joined_released : joined (giving_up w p begin Quiet ∷ h) q ≡ joined h q
-  unfolding joined own
-  joined_released = by_worker (w == q) where
-    by_worker : (x : Bool) → joined_after (own x) (joined h q) ≡ joined h q
-    by_worker true = refl
-    by_worker false = refl
-
-  pub open_released : is_open (giving_up w p begin Quiet ∷ h) q ≡ is_open h q
-  unfolding is_open own
-  open_released = by_worker (w == q) where
-    by_worker : (x : Bool) → is_open_after (own x) (is_open h q) ≡ is_open h q
-    by_worker true = refl
-    by_worker false = refl
-
-  pub late_released : late (giving_up w p begin Quiet ∷ h) q ≡ late h q
-  unfolding late own
-  late_released = by_worker (w == q) where
-    by_worker : (x : Bool) → late_after (own x) (late h q) ≡ late h q
-    by_worker true = refl
-    by_worker false = refl
-
-  pub reach_released : reach (giving_up w p begin Quiet ∷ h) q ≡ reach h q
-  unfolding reach own
-  reach_released = by_worker (w == q) where
-    by_worker : (x : Bool) → reach_after (own x) (reach h q) ≡ reach h q
-    by_worker true = refl
-    by_worker false = refl
-
-  -- its line lacks the block, and is in the same order
-  pub line_released : outstanding (giving_up w p begin Quiet ∷ h) q
-      ≡ filter (λ b. not ((w == q) && same_begin (place_at p begin) b)) (outstanding h q)
-  unfolding outstanding own
-  line_released = by_worker (w == q) where
-    by_worker : (x : Bool) → (if resets (own x) then [] else filter (λ b. not (releases (own x) b)) (outstanding h q)
-        ++ (if◌then◌else◌ {A = List Block} x [] []))
-        ≡ filter (λ b. not (x && same_begin (place_at p begin) b)) (outstanding h q)
-    by_worker true = append-nil _
-    by_worker false = append-nil _
-
-  -- and so are its cancels
-  pub dues_released : dues (giving_up w p begin Quiet ∷ h) q ≡ dues h q
-  unfolding dues own
-  dues_released = by_worker (w == q) where
-    by_worker : (x : Bool) → (if resets (own x) then [] else filter (λ b. not (x && false)) (dues h q)
-        ++ (if x then [] else filter (λ b. false) (outstanding h q))) ≡ dues h q
-    by_worker true = append-nil _ ∙ filter_all (dues h q)
-    by_worker false = (λ i. filter_all (dues h q) i ++ filter_none (outstanding h q) i) ∙ append-nil _
-
--- what it says of piece r stays so
-module _ (h : History) (w p begin r : ℕ) where
-  pub had_released : had (giving_up w p begin Quiet ∷ h) r ≡ had h r
-  unfolding had
-  had_released = refl
-
-  pub level_released : level (giving_up w p begin Quiet ∷ h) r ≡ level h r
-  unfolding level
-  level_released = refl
-
-  pub order_released : order_from (giving_up w p begin Quiet ∷ h) ≡ order_from h
-  unfolding order_from
-  order_released = refl
 
 -- ---- a bound on askers
 

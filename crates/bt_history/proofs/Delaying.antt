@@ -1,12 +1,9 @@
--- What an entry that tells a request late leaves as it was, and what any other peer is answered then.
-use Rattle.std.proofs.Common.{◌≡◌, ℕ, ◌==◌, Bool, true, false, not, ◌&&◌, ◌||◌, List, [], ◌∷◌, ◌++◌, Option, None, Some, append-nil, refl, ap, sym, ◌∙◌}
-use Rattle.std.proofs.Math.Bool.{or-false}
+-- What any other peer is answered after a request was told late: what it is answered after a release.
+use Rattle.std.proofs.Common.{◌≡◌, ℕ, ◌==◌, Bool, true, false, not, ◌&&◌, ◌||◌, ◌∷◌, Option, refl, ap, sym, ◌∙◌}
 use Rattle.std.specs.Prelude.{if◌then◌else◌, nat_le, nat_lt, unwrap_or}
-use Rattle.std.specs.List.{filter, list_any}
 use Rattle.bt_meta.specs.declared.block.Block.{Block}
 use Rattle.bt_meta.specs.Layout.{piece_count}
 use Rattle.bt_history.specs.declared.call.Reply.TheVariants.{Quiet, Choked, PipeFull, Idle, NothingLeft}
-use Rattle.bt_history.specs.declared.event.Action.{Action}
 use Rattle.bt_history.specs.declared.event.Action.TheVariants.{Late, Release}
 use Rattle.bt_history.specs.Counting.{all_below, any_below, count_below}
 use Rattle.bt_history.specs.Entries.{delaying, giving_up}
@@ -15,144 +12,26 @@ use Rattle.bt_history.specs.History.{History, same_begin}
 use Rattle.bt_history.specs.Legal.{place_at}
 use Rattle.bt_history.specs.Next.{CancelOf, Exactly, RequestOf, continues, doubles, goes_first, is_candidate, is_rarest, is_strict, next_answer}
 use Rattle.bt_history.specs.Next.{none_rarer, resumes, rises, starts, tops, tops_in_order, usable}
-use Rattle.bt_history.specs.Peers.{asked, asked_count, delays, depth_of, due, dues, expected, is_open, is_open_after, joined, joined_after, late, late_after}
-use Rattle.bt_history.specs.Peers.{outstanding, overdue, reach, reach_after, releases, resets, shows, shows_after, told_after, told_depth}
+use Rattle.bt_history.specs.Peers.{asked, asked_count, depth_of, due, expected, is_open, joined}
+use Rattle.bt_history.specs.Peers.{overdue, reach, shows, told_depth}
 use Rattle.bt_history.specs.Pieces.{asker_count, availability, awaited, begun, endgame, had, had_count, held, held_or_asked, interesting}
-use Rattle.bt_history.specs.Pieces.{is_open_piece, kept, level, offers, order_from, sender, unbegun, wanted}
-use Rattle.bt_history.proofs.Before.{asked_released, due_released, filter_all, filter_none, joined_released, open_released, reach_released, shows_released}
-use Rattle.bt_history.proofs.Before.{told_released}
+use Rattle.bt_history.specs.Pieces.{is_open_piece, kept, level, offers, order_from, unbegun, wanted}
+use Rattle.bt_history.proofs.TakingBack.{Stays, asked_delayed, asked_released, overdue_delayed, overdue_released, shows_on, stays}
 
 module _ (h : History) (w p begin q : ℕ) where
-  -- the call, if it is q's own
-  own : Bool → Option Action
-  own x = if x then Some (Late p begin) else None
+  -- what both leave of the peer
+  kept_by_late : Stays h q (w == q) (Late p begin)
+  kept_by_late = stays h q (w == q) (Late p begin) refl
 
-  -- the peer is late with the block, if that was asked of it, and with all else as it was
-  pub overdue_delayed : (b : Block) → overdue (delaying w p begin Quiet ∷ h) q b
-      ≡ (((w == q) && (same_begin (place_at p begin) b && asked h q b)) || overdue h q b)
-  unfolding overdue own
-  overdue_delayed b = by_worker (w == q) where
-    by_worker : (x : Bool) → (not (resets (own x)) && ((true && not (releases (own x) b)) && ((delays (own x) b && asked h q b) || overdue h q b)))
-        ≡ ((x && (same_begin (place_at p begin) b && asked h q b)) || overdue h q b)
-    by_worker true = refl
-    by_worker false = refl
-
-  -- all that was asked is asked
-  pub asked_delayed : (b : Block) → asked (delaying w p begin Quiet ∷ h) q b ≡ asked h q b
-  unfolding asked own
-  asked_delayed b = by_worker (w == q) where
-    by_worker : (x : Bool) → (not (resets (own x)) && (((true && not (releases (own x) b)) && asked h q b)
-        || list_any (λ a. same_begin a b) (if◌then◌else◌ {A = List Block} x [] []))) ≡ asked h q b
-    by_worker true = or-false _
-    by_worker false = or-false _
-
-  pub due_delayed : (b : Block) → due (delaying w p begin Quiet ∷ h) q b ≡ due h q b
-  unfolding due own
-  due_delayed b = by_worker (w == q) where
-    by_worker : (x : Bool) → (not (resets (own x)) && (not (x && false) && (due h q b || false))) ≡ due h q b
-    by_worker true = or-false _
-    by_worker false = or-false _
-
-  pub held_delayed : (b : Block) → held (delaying w p begin Quiet ∷ h) b ≡ held h b
-  unfolding kept
-  held_delayed b = refl
-
-  pub kept_delayed : (b : Block) → kept (delaying w p begin Quiet ∷ h) b ≡ kept h b
-  unfolding kept
-  kept_delayed b = refl
-
-  pub sender_delayed : (b : Block) → sender (delaying w p begin Quiet ∷ h) b ≡ sender h b
-  unfolding sender
-  sender_delayed b = refl
-
-  pub line_delayed : outstanding (delaying w p begin Quiet ∷ h) q ≡ outstanding h q
-  unfolding outstanding own
-  line_delayed = by_worker (w == q) where
-    by_worker : (x : Bool) → (if resets (own x) then [] else filter (λ b. true && not (releases (own x) b)) (outstanding h q)
-        ++ (if◌then◌else◌ {A = List Block} x [] [])) ≡ outstanding h q
-    by_worker true = append-nil _ ∙ filter_all (outstanding h q)
-    by_worker false = append-nil _ ∙ filter_all (outstanding h q)
-
-  pub dues_delayed : dues (delaying w p begin Quiet ∷ h) q ≡ dues h q
-  unfolding dues own
-  dues_delayed = by_worker (w == q) where
-    by_worker : (x : Bool) → (if resets (own x) then [] else filter (λ b. not (x && false)) (dues h q)
-        ++ (if x then [] else filter (λ b. false) (outstanding h q))) ≡ dues h q
-    by_worker true = append-nil _ ∙ filter_all (dues h q)
-    by_worker false = (λ i. filter_all (dues h q) i ++ filter_none (outstanding h q) i) ∙ append-nil _
-
-  pub told_delayed : told_depth (delaying w p begin Quiet ∷ h) q ≡ told_depth h q
-  unfolding told_depth own
-  told_delayed = by_worker (w == q) where
-    by_worker : (x : Bool) → told_after (own x) (told_depth h q) ≡ told_depth h q
-    by_worker true = refl
-    by_worker false = refl
-
-  pub shows_delayed : (r : ℕ) → shows (delaying w p begin Quiet ∷ h) q r ≡ shows h q r
-  unfolding shows own
-  shows_delayed r = by_worker (w == q) where
-    by_worker : (x : Bool) → shows_after (own x) r (shows h q r) ≡ shows h q r
-    by_worker true = refl
-    by_worker false = refl
-
-  pub joined_delayed : joined (delaying w p begin Quiet ∷ h) q ≡ joined h q
-  unfolding joined own
-  joined_delayed = by_worker (w == q) where
-    by_worker : (x : Bool) → joined_after (own x) (joined h q) ≡ joined h q
-    by_worker true = refl
-    by_worker false = refl
-
-  pub open_delayed : is_open (delaying w p begin Quiet ∷ h) q ≡ is_open h q
-  unfolding is_open own
-  open_delayed = by_worker (w == q) where
-    by_worker : (x : Bool) → is_open_after (own x) (is_open h q) ≡ is_open h q
-    by_worker true = refl
-    by_worker false = refl
-
-  pub late_delayed : late (delaying w p begin Quiet ∷ h) q ≡ late h q
-  unfolding late own
-  late_delayed = by_worker (w == q) where
-    by_worker : (x : Bool) → late_after (own x) (late h q) ≡ late h q
-    by_worker true = refl
-    by_worker false = refl
-
-  pub reach_delayed : reach (delaying w p begin Quiet ∷ h) q ≡ reach h q
-  unfolding reach own
-  reach_delayed = by_worker (w == q) where
-    by_worker : (x : Bool) → reach_after (own x) (reach h q) ≡ reach h q
-    by_worker true = refl
-    by_worker false = refl
-
-  pub had_delayed : (r : ℕ) → had (delaying w p begin Quiet ∷ h) r ≡ had h r
-  unfolding had
-  had_delayed r = refl
-
-  pub level_delayed : (r : ℕ) → level (delaying w p begin Quiet ∷ h) r ≡ level h r
-  unfolding level
-  level_delayed r = refl
-
-  pub order_delayed : order_from (delaying w p begin Quiet ∷ h) ≡ order_from h
-  unfolding order_from
-  order_delayed = refl
-
-  -- ---- beside a release
-
-  -- a released block is late at nobody
-  overdue_released : (b : Block) → overdue (giving_up w p begin Quiet ∷ h) q b ≡ (not ((w == q) && same_begin (place_at p begin) b) && overdue h q b)
-  unfolding overdue
-  overdue_released b = by_worker (w == q) where
-    by_worker : (x : Bool) → (not (resets (if x then Some (Release p begin) else None)) && ((true && not (releases (if x then Some (Release p begin) else None) b))
-        && ((delays (if x then Some (Release p begin) else None) b && asked h q b) || overdue h q b)))
-        ≡ (not (x && same_begin (place_at p begin) b) && overdue h q b)
-    by_worker true = refl
-    by_worker false = refl
+  kept_by_release : Stays h q (w == q) (Release p begin)
+  kept_by_release = stays h q (w == q) (Release p begin) refl
 
   -- what is late is expected no more than what is released
   pub expected_alike : (b : Block) → expected (delaying w p begin Quiet ∷ h) q b ≡ expected (giving_up w p begin Quiet ∷ h) q b
   expected_alike b =
-      (λ i. asked_delayed b i && not (overdue_delayed b i))
+      (λ i. asked_delayed h w p begin q b i && not (overdue_delayed h w p begin q b i))
       ∙ by_worker (w == q) (same_begin (place_at p begin) b) (asked h q b) (overdue h q b)
-      ∙ sym (λ i. asked_released h w p begin q b i && not (overdue_released b i))
+      ∙ sym (λ i. asked_released h w p begin q b i && not (overdue_released h w p begin q b i))
     where
       by_worker : (x y asks was : Bool) → (asks && not ((x && (y && asks)) || was)) ≡ ((not (x && y) && asks) && not (not (x && y) && was))
       by_worker true true true was = refl
@@ -163,10 +42,12 @@ module _ (h : History) (w p begin q : ℕ) where
       by_worker false y false was = refl
 
   pub shows_alike : (r : ℕ) → shows (delaying w p begin Quiet ∷ h) q r ≡ shows (giving_up w p begin Quiet ∷ h) q r
-  shows_alike r = shows_delayed r ∙ sym (shows_released h w p begin q r)
+  unfolding shows
+  shows_alike r = shows_on (w == q) (Late p begin) r _ refl ∙ sym (shows_on (w == q) (Release p begin) r _ refl)
 
   pub joined_alike : joined (delaying w p begin Quiet ∷ h) q ≡ joined (giving_up w p begin Quiet ∷ h) q
-  joined_alike = joined_delayed ∙ sym (joined_released h w p begin q)
+  unfolding joined
+  joined_alike = kept_by_late.joined ∙ sym kept_by_release.joined
 
 -- ---- what another peer is answered
 
@@ -189,16 +70,20 @@ module _ (s : Setting) (h : History) (w p begin q : ℕ) (apart : (w == q) ≡ f
       ∙ ap (λ (x : Bool). not (x && same_begin (place_at p begin) b) && overdue h q b) apart)
 
   due_same : (b : Block) → due one q b ≡ due two q b
-  due_same b = due_delayed h w p begin q b ∙ sym (due_released h w p begin q b)
+  unfolding due
+  due_same b = (kept_by_late h w p begin q).due b ∙ sym ((kept_by_release h w p begin q).due b)
 
   open_same : is_open one q ≡ is_open two q
-  open_same = open_delayed h w p begin q ∙ sym (open_released h w p begin q)
+  unfolding is_open
+  open_same = (kept_by_late h w p begin q).opened ∙ sym (kept_by_release h w p begin q).opened
 
   reach_same : reach one q ≡ reach two q
-  reach_same = reach_delayed h w p begin q ∙ sym (reach_released h w p begin q)
+  unfolding reach
+  reach_same = (kept_by_late h w p begin q).reach ∙ sym (kept_by_release h w p begin q).reach
 
   depth_same : depth_of s one q ≡ depth_of s two q
-  depth_same = ap (λ (o : Option ℕ). unwrap_or o s.depth) (told_delayed h w p begin q ∙ sym (told_released h w p begin q))
+  unfolding told_depth
+  depth_same = ap (λ (o : Option ℕ). unwrap_or o s.depth) ((kept_by_late h w p begin q).depth ∙ sym (kept_by_release h w p begin q).depth)
 
   count_same : asked_count s one q ≡ asked_count s two q
   count_same = λ i. count_blocks s.torrent (λ b. asked_same b i)

@@ -20,8 +20,8 @@ pub mod Depths
 pub mod Endgame
 pub mod Idling
 pub mod Sending
+pub mod TakingBack
 pub mod Levels
-pub mod Lacking
 pub mod Delaying
 pub mod Reaching
 pub mod PickRules

@@ -1,23 +1,28 @@
-use Rattle.bt_history.proofs.Lacking.{asked_lacked, due_lacked, dues_lacked, had_lacked, held_lacked, joined_lacked, kept_lacked, late_lacked}
-use Rattle.bt_history.proofs.Lacking.{level_lacked, line_lacked, open_lacked, order_lacked, reach_lacked, sender_lacked, shows_lacked, told_lacked}
+use Rattle.std.proofs.Common.{◌==◌, refl}
+use Rattle.bt_history.specs.declared.event.Action.TheVariants.{Lack}
+use Rattle.bt_history.specs.Peers.{due, dues, is_open, joined, reach, told_depth}
+use Rattle.bt_history.specs.Pieces.{had, kept, level, order_from, sender}
+use Rattle.bt_history.proofs.TakingBack.{asked_lacked, late_lacked, line_lacked, shows_lacked, stays}
 use Rattle.bt_history.proofs.laws.lack_takes_one.Goals as goal
 
 pub returns : goal.returns
-returns c = record {
-  shows = shows_lacked _ c.args.worker c.args.piece c.args.other c.args.interests c.args.block.piece;
-  asked = asked_lacked _ c.args.worker c.args.piece c.args.other c.args.interests c.args.block;
-  due = due_lacked _ c.args.worker c.args.piece c.args.other c.args.interests c.args.block;
-  held = held_lacked _ c.args.worker c.args.piece c.args.other c.args.interests c.args.block;
-  line = line_lacked _ c.args.worker c.args.piece c.args.other c.args.interests;
-  cancels = dues_lacked _ c.args.worker c.args.piece c.args.other c.args.interests;
-  bytes = kept_lacked _ c.args.worker c.args.piece c.args.other c.args.interests c.args.block;
-  sender = sender_lacked _ c.args.worker c.args.piece c.args.other c.args.interests c.args.block;
-  late = late_lacked _ c.args.worker c.args.piece c.args.other c.args.interests;
-  depth = told_lacked _ c.args.worker c.args.piece c.args.other c.args.interests;
-  joined = joined_lacked _ c.args.worker c.args.piece c.args.other c.args.interests;
-  opened = open_lacked _ c.args.worker c.args.piece c.args.other c.args.interests;
-  reach = reach_lacked _ c.args.worker c.args.piece c.args.other c.args.interests;
-  had = had_lacked _ c.args.worker c.args.piece c.args.other c.args.interests c.args.block.piece;
-  level = level_lacked _ c.args.worker c.args.piece c.args.other c.args.interests c.args.block.piece;
-  order = order_lacked _ c.args.worker c.args.piece c.args.other c.args.interests;
-}
+unfolding due dues had is_open joined kept level order_from reach sender told_depth
+returns c =
+    let same = stays _ c.args.other (c.args.worker == c.args.other) (Lack c.args.piece) refl in record {
+      shows = shows_lacked _ c.args.worker c.args.piece c.args.other c.args.interests c.args.block.piece;
+      asked = asked_lacked _ c.args.worker c.args.piece c.args.other c.args.interests c.args.block;
+      line = line_lacked _ c.args.worker c.args.piece c.args.other c.args.interests;
+      late = late_lacked _ c.args.worker c.args.piece c.args.other c.args.interests;
+      due = same.due c.args.block;
+      cancels = same.cancels;
+      depth = same.depth;
+      joined = same.joined;
+      opened = same.opened;
+      reach = same.reach;
+      held = refl;
+      bytes = refl;
+      sender = refl;
+      had = refl;
+      level = refl;
+      order = refl;
+    }

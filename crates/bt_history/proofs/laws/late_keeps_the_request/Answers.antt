@@ -1,25 +1,29 @@
-use Rattle.bt_history.proofs.Delaying.{asked_delayed, due_delayed, dues_delayed, had_delayed, held_delayed, joined_delayed, kept_delayed, late_delayed}
-use Rattle.bt_history.proofs.Delaying.{level_delayed, line_delayed, open_delayed, order_delayed, overdue_delayed, reach_delayed, sender_delayed, shows_delayed}
-use Rattle.bt_history.proofs.Delaying.{told_delayed}
+use Rattle.std.proofs.Common.{◌==◌, refl}
+use Rattle.bt_history.specs.declared.event.Action.TheVariants.{Late}
+use Rattle.bt_history.specs.Peers.{due, dues, is_open, joined, late, reach, shows, told_depth}
+use Rattle.bt_history.specs.Pieces.{had, kept, level, order_from, sender}
+use Rattle.bt_history.proofs.TakingBack.{asked_delayed, late_on, line_delayed, overdue_delayed, shows_on, stays}
 use Rattle.bt_history.proofs.laws.late_keeps_the_request.Goals as goal
 
 pub returns : goal.returns
-returns c = record {
-  overdue = overdue_delayed _ c.args.worker c.args.piece c.args.begin c.args.other c.args.block;
-  asked = asked_delayed _ c.args.worker c.args.piece c.args.begin c.args.other c.args.block;
-  due = due_delayed _ c.args.worker c.args.piece c.args.begin c.args.other c.args.block;
-  held = held_delayed _ c.args.worker c.args.piece c.args.begin c.args.other c.args.block;
-  line = line_delayed _ c.args.worker c.args.piece c.args.begin c.args.other;
-  cancels = dues_delayed _ c.args.worker c.args.piece c.args.begin c.args.other;
-  bytes = kept_delayed _ c.args.worker c.args.piece c.args.begin c.args.other c.args.block;
-  sender = sender_delayed _ c.args.worker c.args.piece c.args.begin c.args.other c.args.block;
-  depth = told_delayed _ c.args.worker c.args.piece c.args.begin c.args.other;
-  shows = shows_delayed _ c.args.worker c.args.piece c.args.begin c.args.other c.args.block.piece;
-  joined = joined_delayed _ c.args.worker c.args.piece c.args.begin c.args.other;
-  opened = open_delayed _ c.args.worker c.args.piece c.args.begin c.args.other;
-  late = late_delayed _ c.args.worker c.args.piece c.args.begin c.args.other;
-  had = had_delayed _ c.args.worker c.args.piece c.args.begin c.args.other c.args.block.piece;
-  level = level_delayed _ c.args.worker c.args.piece c.args.begin c.args.other c.args.block.piece;
-  reach = reach_delayed _ c.args.worker c.args.piece c.args.begin c.args.other;
-  order = order_delayed _ c.args.worker c.args.piece c.args.begin c.args.other;
-}
+unfolding due dues had is_open joined kept late level order_from reach sender shows told_depth
+returns c =
+    let same = stays _ c.args.other (c.args.worker == c.args.other) (Late c.args.piece c.args.begin) refl in record {
+      overdue = overdue_delayed _ c.args.worker c.args.piece c.args.begin c.args.other c.args.block;
+      asked = asked_delayed _ c.args.worker c.args.piece c.args.begin c.args.other c.args.block;
+      line = line_delayed _ c.args.worker c.args.piece c.args.begin c.args.other;
+      shows = shows_on (c.args.worker == c.args.other) (Late c.args.piece c.args.begin) c.args.block.piece _ refl;
+      late = late_on (c.args.worker == c.args.other) (Late c.args.piece c.args.begin) _ refl;
+      due = same.due c.args.block;
+      cancels = same.cancels;
+      depth = same.depth;
+      joined = same.joined;
+      opened = same.opened;
+      reach = same.reach;
+      held = refl;
+      bytes = refl;
+      sender = refl;
+      had = refl;
+      level = refl;
+      order = refl;
+    }

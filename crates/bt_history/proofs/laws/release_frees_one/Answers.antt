@@ -1,24 +1,28 @@
-use Rattle.bt_history.proofs.Before.{asked_released, due_released, held_released, kept_released, sender_released, line_released, dues_released}
-use Rattle.bt_history.proofs.Before.{told_released, shows_released, joined_released, open_released, late_released, had_released, level_released}
-use Rattle.bt_history.proofs.Before.{order_released, reach_released}
+use Rattle.std.proofs.Common.{◌==◌, refl}
+use Rattle.bt_history.specs.declared.event.Action.TheVariants.{Release}
+use Rattle.bt_history.specs.Peers.{due, dues, is_open, joined, late, reach, shows, told_depth}
+use Rattle.bt_history.specs.Pieces.{had, kept, level, order_from, sender}
+use Rattle.bt_history.proofs.TakingBack.{asked_released, late_on, line_released, shows_on, stays}
 use Rattle.bt_history.proofs.laws.release_frees_one.Goals as goal
 
 pub returns : goal.returns
-returns c = record {
-  asked = asked_released _ c.args.worker c.args.piece c.args.begin c.args.other c.args.block;
-  due = due_released _ c.args.worker c.args.piece c.args.begin c.args.other c.args.block;
-  held = held_released _ c.args.worker c.args.piece c.args.begin c.args.other c.args.block;
-  line = line_released _ c.args.worker c.args.piece c.args.begin c.args.other;
-  cancels = dues_released _ c.args.worker c.args.piece c.args.begin c.args.other;
-  bytes = kept_released _ c.args.worker c.args.piece c.args.begin c.args.other c.args.block;
-  sender = sender_released _ c.args.worker c.args.piece c.args.begin c.args.other c.args.block;
-  depth = told_released _ c.args.worker c.args.piece c.args.begin c.args.other;
-  shows = shows_released _ c.args.worker c.args.piece c.args.begin c.args.other c.args.block.piece;
-  joined = joined_released _ c.args.worker c.args.piece c.args.begin c.args.other;
-  opened = open_released _ c.args.worker c.args.piece c.args.begin c.args.other;
-  late = late_released _ c.args.worker c.args.piece c.args.begin c.args.other;
-  reach = reach_released _ c.args.worker c.args.piece c.args.begin c.args.other;
-  had = had_released _ c.args.worker c.args.piece c.args.begin c.args.block.piece;
-  level = level_released _ c.args.worker c.args.piece c.args.begin c.args.block.piece;
-  order = order_released _ c.args.worker c.args.piece c.args.begin c.args.block.piece;
-}
+unfolding due dues had is_open joined kept late level order_from reach sender shows told_depth
+returns c =
+    let same = stays _ c.args.other (c.args.worker == c.args.other) (Release c.args.piece c.args.begin) refl in record {
+      asked = asked_released _ c.args.worker c.args.piece c.args.begin c.args.other c.args.block;
+      line = line_released _ c.args.worker c.args.piece c.args.begin c.args.other;
+      shows = shows_on (c.args.worker == c.args.other) (Release c.args.piece c.args.begin) c.args.block.piece _ refl;
+      late = late_on (c.args.worker == c.args.other) (Release c.args.piece c.args.begin) _ refl;
+      due = same.due c.args.block;
+      cancels = same.cancels;
+      depth = same.depth;
+      joined = same.joined;
+      opened = same.opened;
+      reach = same.reach;
+      held = refl;
+      bytes = refl;
+      sender = refl;
+      had = refl;
+      level = refl;
+      order = refl;
+    }
